@@ -1,0 +1,10 @@
+pub mod Access
+pub mod Crash
+pub mod Faults
+pub mod Image
+pub mod Lists
+pub mod Name
+pub mod Outcomes
+pub mod Spans
+pub mod Users
+pub mod View

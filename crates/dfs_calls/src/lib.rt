@@ -1,0 +1,15 @@
+//! What is asked of the file service and what it replies, as plain data: calls, replies, the entries of a history, and
+//! the parts of a file that travel.
+#![tactic(auto)]
+
+mod call;
+mod entry;
+mod part;
+mod place;
+mod reply;
+
+pub use call::Call;
+pub use entry::{Entry, Loss};
+pub use part::{DirEntry, Piece, Status};
+pub use place::{Place, Which};
+pub use reply::{Facts, Refusal, Reply};
