@@ -3,7 +3,7 @@ use dfs_base::{AccessList, Items, Name, NoMemory, OpenKind, Plain, ServerId, Use
 
 /// What a host asks of the service. Positions and lengths are in bytes. The first eight change names, lists, lengths
 /// and filesets, and are always decided by a server.
-#[derive(Debug, Drop)]
+#[derive(Drop)]
 pub enum Call {
     /// Makes a fileset of so many objects with an empty root, of an owner and the owner's first group.
     NewFileset {

@@ -12,7 +12,7 @@ pub enum Which {
 }
 
 /// Where an object is found: a fileset of a server, and the names from its root.
-#[derive(Debug, Drop)]
+#[derive(Drop)]
 pub struct Place {
     /// The server that the fileset is at.
     pub server: ServerId,

@@ -1,0 +1,6 @@
+pub mod File
+pub mod Laws
+pub mod Memory
+pub mod Paste
+pub mod Replay
+pub mod Tearing

@@ -1,0 +1,8 @@
+-- What a write may leave, all of it.
+use Rattle.std.specs.Prelude.{ℕ, List}
+use Rattle.dfs_base.specs.Image.{Torn}
+use Rattle.dfs_base.specs.View.{View}
+
+-- a crash may leave any bytes in a range of whatever it could leave before
+abbrev pub MayTear : ℕ → ℕ → View → View → Type 0
+MayTear at len old new = (c d : List ℕ) → old.may_leave d → Torn at len d c → new.may_leave c
