@@ -97,3 +97,28 @@ fn ids(rt: HostRuntime) {
     assert_eq!(rt; cell, NoMemory);
     assert_eq!(rt; passes.len(), 1);
 }
+
+// Opens of two hosts, each way round.
+#[test]
+fn open_kinds(rt: HostRuntime) {
+    for (a, b, wanted) in [
+        (OpenKind::Reading, OpenKind::Reading, false),
+        (OpenKind::Reading, OpenKind::Writing, false),
+        (OpenKind::Reading, OpenKind::Executing, false),
+        (OpenKind::Reading, OpenKind::Shared, false),
+        (OpenKind::Reading, OpenKind::Exclusive, true),
+        (OpenKind::Writing, OpenKind::Writing, false),
+        (OpenKind::Writing, OpenKind::Executing, true),
+        (OpenKind::Writing, OpenKind::Shared, true),
+        (OpenKind::Writing, OpenKind::Exclusive, true),
+        (OpenKind::Executing, OpenKind::Executing, false),
+        (OpenKind::Executing, OpenKind::Shared, false),
+        (OpenKind::Executing, OpenKind::Exclusive, true),
+        (OpenKind::Shared, OpenKind::Shared, false),
+        (OpenKind::Shared, OpenKind::Exclusive, true),
+        (OpenKind::Exclusive, OpenKind::Exclusive, true),
+    ] {
+        assert_eq!(rt; a.conflicts(b), wanted);
+        assert_eq!(rt; b.conflicts(a), wanted);
+    }
+}

@@ -1,9 +1,11 @@
 pub mod Access
 pub mod Crash
 pub mod Faults
+pub mod Ids
 pub mod Image
 pub mod Lists
 pub mod Name
+pub mod Opens
 pub mod Outcomes
 pub mod Spans
 pub mod Users

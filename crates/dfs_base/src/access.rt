@@ -10,6 +10,7 @@ use crate::plain::Plain;
 use crate::rights::Rights;
 use std::alloc::Global;
 use std::marker::Model;
+use thiserror::Error;
 
 /// Whom an entry of an access list speaks of.
 #[derive(Debug, Drop, PartialEq)]
@@ -143,11 +144,13 @@ impl Model for AccessList {
 }
 
 /// Why entries are no access list.
-#[derive(Clone, Copy, Debug, PartialEq, Eq)]
+#[derive(Clone, Copy, Debug, PartialEq, Eq, Error)]
 pub enum ListRefused {
-    /// There are more than 16 entries, an entry of the object lacks, or one stands twice.
+    /// There are more than `LIST_ENTRIES_MAX` entries, an entry of the object lacks, or one stands twice.
+    #[error("no access list")]
     BadList,
     /// Memory ran out.
+    #[error("memory ran out")]
     Memory,
 }
 

@@ -1,9 +1,11 @@
 //! The plain errors that several layers share.
 
 use std::alloc::{AllocError, AllocFailed};
+use thiserror::Error;
 
 /// A call ran out of memory, which is its only error.
-#[derive(Clone, Copy, Debug, PartialEq, Eq)]
+#[derive(Clone, Copy, Debug, PartialEq, Eq, Error)]
+#[error("memory ran out")]
 pub struct NoMemory;
 
 impl From<AllocError> for NoMemory {
@@ -19,7 +21,8 @@ impl<T: Drop> From<AllocFailed<T>> for NoMemory {
 }
 
 /// The outside did not do what was asked of it, and its count of faults has risen.
-#[derive(Clone, Copy, Debug, PartialEq, Eq)]
+#[derive(Clone, Copy, Debug, PartialEq, Eq, Error)]
+#[error("the outside failed")]
 pub struct Failed;
 
 /// A shared thing was not closed: it and the passes to it are handed back as they were.

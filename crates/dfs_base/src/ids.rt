@@ -1,6 +1,9 @@
 //! The numbers by which nodes, filesets and files are named (Kazar et al., "DEcorum File System Architectural
 //! Overview", 1990; Chutani et al., "The Episode File System", 1992).
 
+ghost use Rattle.std.specs.Prelude.{◌≡◌};
+ghost use Rattle.dfs_base.specs.Opens.{opens_conflict};
+
 use crate::errors::NoMemory;
 use crate::plain::Plain;
 
@@ -46,7 +49,7 @@ pub struct Fid {
     pub unique: u32,
 }
 
-/// How a file is opened.
+/// How a file is opened. Opens of two hosts conflict as `conflicts` says (the table is this project's own).
 #[derive(Clone, Copy, Debug, PartialEq, Eq)]
 pub enum OpenKind {
     /// For reading.
@@ -59,6 +62,21 @@ pub enum OpenKind {
     Shared,
     /// For writing, while nobody else has it open.
     Exclusive,
+}
+
+impl OpenKind {
+    /// Whether two hosts can't have one file open so: exclusive conflicts with each kind, and writing with executing and
+    /// shared.
+    pub fn conflicts(self, other: OpenKind) -> bool
+        ensures { result ≡ opens_conflict self other }
+    {
+        match (self, other) {
+            (OpenKind::Exclusive, _) | (_, OpenKind::Exclusive) => true,
+            (OpenKind::Writing, OpenKind::Executing | OpenKind::Shared) => true,
+            (OpenKind::Executing | OpenKind::Shared, OpenKind::Writing) => true,
+            _ => false,
+        }
+    }
 }
 
 impl Plain for HostId {

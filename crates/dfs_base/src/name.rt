@@ -8,6 +8,7 @@ use crate::limits::NAME_BYTES_MAX;
 use crate::plain::Plain;
 use std::alloc::{AllocError, Global};
 use std::marker::Model;
+use thiserror::Error;
 
 /// The name of a user, a group, a fileset, an entry of a directory or a label: 1 to 60 bytes,
 /// without `/` and without the byte 0. Contracts see it as its bytes.
@@ -30,11 +31,13 @@ impl Model for Name {
 }
 
 /// Why bytes are no name.
-#[derive(Clone, Copy, Debug, PartialEq, Eq)]
+#[derive(Clone, Copy, Debug, PartialEq, Eq, Error)]
 pub enum NameRefused {
-    /// There are none or more than 60 of them, or a `/` or a 0 is among them.
+    /// There are none or more than `NAME_BYTES_MAX` of them, or a `/` or a 0 is among them.
+    #[error("no name")]
     BadName,
     /// Memory ran out.
+    #[error("memory ran out")]
     Memory,
 }
 

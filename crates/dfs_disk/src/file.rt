@@ -11,13 +11,16 @@ use std::io;
 use std::os::unix::fs::FileExt;
 use std::path::Path;
 use std::rt::Files;
+use thiserror::Error;
 
 /// Why a file could not be opened as a disk.
-#[derive(Clone, Copy, Debug, PartialEq, Eq)]
+#[derive(Clone, Copy, Debug, PartialEq, Eq, Error)]
 pub enum FileRefused {
     /// The system refused it.
+    #[error("the system refused the file")]
     Failed,
     /// Memory ran out.
+    #[error("memory ran out")]
     Memory,
 }
 

@@ -4,14 +4,17 @@ ghost use Rattle.dfs_io.specs.Whole.{IsAppendedInPart, IsRestOf};
 ghost use Rattle.dfs_io.specs.declared.whole.ReadRefused.TheVariants.{Memory};
 
 use dfs_base::{Failed, Sink, Source};
-use std::alloc::{AllocError, AllocFailed, Global};
+use std::alloc::{AllocError, Global};
+use thiserror::Error;
 
 /// Why an input wasn't read.
-#[derive(Clone, Copy, Debug, PartialEq, Eq)]
+#[derive(Clone, Copy, Debug, PartialEq, Eq, Error)]
 pub enum ReadRefused {
     /// The source failed.
+    #[error("the source failed")]
     Failed,
-    /// No memory was left.
+    /// Memory ran out.
+    #[error("memory ran out")]
     Memory,
 }
 

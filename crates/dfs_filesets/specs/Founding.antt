@@ -1,0 +1,62 @@
+-- How filesets come about.
+use Rattle.std.specs.Prelude.{ℕ, ◌-◌, true, false, List, [], ◌∷◌, map, replicate, Some, None, Result}
+use Rattle.std.specs.Option.{option_map}
+use Rattle.dfs_base.specs.Outcomes.{and_then}
+use Rattle.dfs_base.specs.declared.access.AccessEntry.{AccessEntry}
+use Rattle.dfs_base.specs.declared.access.Who.TheVariants.{UserObj, GroupObj, OtherObj}
+use Rattle.dfs_base.specs.declared.ids.FilesetId.{FilesetId}
+use Rattle.dfs_base.specs.declared.ids.ServerId.{ServerId}
+use Rattle.dfs_base.specs.declared.user.User.{User}
+use Rattle.dfs_calls.specs.declared.reply.Refusal.{Refusal}
+use Rattle.dfs_calls.specs.declared.reply.Refusal.TheVariants.{ReadOnly}
+use Rattle.dfs_objects.specs.declared.content.Content.TheVariants.{Dir}
+use Rattle.dfs_objects.specs.declared.content.Anode.{Anode}
+use Rattle.dfs_objects.specs.Objects.{object_kept}
+use Rattle.dfs_filesets.specs.declared.fileset.Fileset.{Fileset}
+use Rattle.dfs_filesets.specs.Checks.{unless, permission}
+use Rattle.dfs_filesets.specs.Rights.{control_right}
+use Rattle.dfs_filesets.specs.Creation.{owned}
+use Rattle.dfs_filesets.specs.Walk.{target}
+
+-- the three entries that each access list has: rights of the owner, of the group and of others
+abbrev pub three_entries : ℕ → ℕ → ℕ → List AccessEntry
+three_entries owner group other =
+    record { who = UserObj; rights = owner } ∷ record { who = GroupObj; rights = group } ∷ record { who = OtherObj; rights = other } ∷ []
+
+-- the lists of a new root: its own and that of new directories are rwxcid, rx, rx; that of new files is rwxc, r, r
+abbrev pub root_lists : List (List AccessEntry)
+root_lists = three_entries 63 5 5 ∷ three_entries 15 1 1 ∷ three_entries 63 5 5 ∷ []
+
+-- an anode that was never used
+abbrev pub unused_anode : Anode
+unused_anode = record { unique = 0; object = None }
+
+-- the anodes of a new fileset: an empty root, and then unused ones
+abbrev pub new_anodes : User → ℕ → List Anode
+new_anodes owner objects =
+    record { unique = 1; object = Some (owned owner (Dir [] root_lists)) } ∷ replicate (objects - 1) unused_anode
+
+-- a new fileset of so many objects
+unfoldable pub new_fileset : ServerId → FilesetId → List ℕ → ℕ → User → Fileset
+new_fileset server id name objects owner = record {
+  server = server;
+  id = id;
+  name = name;
+  read_only = false;
+  objects = objects;
+  anodes = new_anodes owner objects;
+}
+
+-- the checks of a clone on its source alone: ReadOnly (it is a clone itself); Denied (control) on the root
+unfoldable pub clone_check : Fileset → User → Result (Unit {0}) Refusal
+clone_check fileset user =
+    unless fileset.read_only ReadOnly (
+    and_then (target fileset user []) (λ (anode, root). permission root user control_right))
+
+-- what a clone holds at an anode; the unique number stays, also where nothing stands
+abbrev pub anode_kept : Anode → Anode
+anode_kept anode = record anode { object = option_map object_kept anode.object }
+
+-- a clone: a read-only copy of all objects under another id and name, in which what was present is kept
+unfoldable pub cloned : Fileset → FilesetId → List ℕ → Fileset
+cloned fileset id name = record fileset { id = id; name = name; read_only = true; anodes = map anode_kept fileset.anodes }

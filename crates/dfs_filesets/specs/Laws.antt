@@ -1,0 +1,90 @@
+-- Laws of filesets.
+use Rattle.std.specs.Prelude.{◌≡◌, ◌≢◌, ◌<◌, ◌≤◌, ◌⊎◌, ℕ, ◌+◌, ◌-◌, ◌==◌, Bool, true, false, ◌&&◌, not, List, [], length, Ok}
+use Rattle.std.specs.Option.{option_map_or}
+use Rattle.dfs_base.specs.Image.{byte_at}
+use Rattle.dfs_base.specs.declared.ids.Fid.{Fid}
+use Rattle.dfs_base.specs.declared.ids.FilesetId.{FilesetId}
+use Rattle.dfs_base.specs.declared.ids.HostId.{HostId}
+use Rattle.dfs_base.specs.declared.ids.ServerId.{ServerId}
+use Rattle.dfs_base.specs.declared.limits.TheConstants.{OBJECTS_MAX}
+use Rattle.dfs_base.specs.declared.user.User.{User}
+use Rattle.dfs_calls.specs.declared.call.Call.{Call}
+use Rattle.dfs_calls.specs.declared.reply.Refusal.{Refusal}
+use Rattle.dfs_calls.specs.declared.reply.Reply.TheVariants.{Refused}
+use Rattle.dfs_objects.specs.Files.{content_bytes}
+use Rattle.dfs_objects.specs.Objects.{is_dir}
+use Rattle.dfs_filesets.specs.declared.fileset.Fileset.{Fileset}
+use Rattle.dfs_filesets.specs.Changing.{write_target, write_answer}
+use Rattle.dfs_filesets.specs.Founding.{new_fileset, cloned}
+use Rattle.dfs_filesets.specs.Promises.{promise, clone_promise}
+use Rattle.dfs_filesets.specs.Rows.{fileset_answer}
+use Rattle.dfs_filesets.specs.Walk.{object_at, unique_at}
+use Rattle.dfs_filesets.specs.WellFormed.{IsWellFormed}
+
+-- the bytes that readers see of what stands at an anode
+abbrev pub bytes_at : Fileset → ℕ → List ℕ
+bytes_at fileset anode = option_map_or (λ object. content_bytes object.content) (object_at fileset.anodes anode) []
+
+-- whether a fid names a file that is there
+abbrev pub is_file_at : Fileset → Fid → Bool
+is_file_at fileset fid =
+    (unique_at fileset.anodes fid.anode == fid.unique)
+    && option_map_or (λ object. not (is_dir object.content)) (object_at fileset.anodes fid.anode) false
+
+-- a refused call changes nothing
+abbrev pub RefusedChangesNothing : Type 0
+RefusedChangesNothing =
+    (fileset : Fileset) (in_use : Fid → Bool) (host : HostId) (user : User) (call : Call) (refusal : Refusal) →
+    (fileset_answer fileset in_use host user call).reply ≡ Refused refusal →
+    (fileset_answer fileset in_use host user call).fileset ≡ fileset
+
+-- what no call of the table changes
+pub record IsSameFileset (old new : Fileset) : Type 0 where
+  pub server : new.server ≡ old.server
+  pub id : new.id ≡ old.id
+  pub name : new.name ≡ old.name
+  pub read_only : new.read_only ≡ old.read_only
+  pub objects : new.objects ≡ old.objects
+
+-- a fileset stays the one that it is
+abbrev pub StaysItself : Type 0
+StaysItself =
+    (fileset : Fileset) (in_use : Fid → Bool) (host : HostId) (user : User) (call : Call) →
+    IsSameFileset fileset (fileset_answer fileset in_use host user call).fileset
+
+-- a well formed fileset stays so
+abbrev pub StaysWellFormed : Type 0
+StaysWellFormed =
+    (fileset : Fileset) (in_use : Fid → Bool) (host : HostId) (user : User) (call : Call) →
+    IsWellFormed fileset → IsWellFormed (fileset_answer fileset in_use host user call).fileset
+
+-- a new fileset of 1 object or more is well formed, and so is a clone of a well formed one
+pub record StartsWellFormed : Type 0 where
+  pub new : (server : ServerId) (id : FilesetId) (name : List ℕ) (objects : ℕ) (owner : User) → 1 ≤ objects → objects ≤ OBJECTS_MAX →
+      IsWellFormed (new_fileset server id name objects owner)
+  pub clone : (fileset : Fileset) (id : FilesetId) (name : List ℕ) → IsWellFormed fileset → IsWellFormed (cloned fileset id name)
+
+-- a file that is locked or open stays
+abbrev pub UsedFileStays : Type 0
+UsedFileStays =
+    (fileset : Fileset) (in_use : Fid → Bool) (host : HostId) (user : User) (call : Call) (fid : Fid) → IsWellFormed fileset →
+    fid.fileset ≡ fileset.id → in_use fid ≡ true → is_file_at fileset fid ≡ true →
+    is_file_at (fileset_answer fileset in_use host user call).fileset fid ≡ true
+
+-- A write changes one object. Its span then shows the written bytes, and each byte that readers saw outside of it is as
+-- before.
+pub record WriteChangesItsSpan : Type 0 where
+  pub others : (fileset : Fileset) (host : HostId) (user : User) (path : List (List ℕ)) (from : ℕ) (bytes : List ℕ) (anode other : ℕ) →
+      write_target fileset user path (from + length bytes) ≡ Ok anode → other ≢ anode →
+      object_at (write_answer fileset host user path from bytes).fileset.anodes other ≡ object_at fileset.anodes other
+  pub inside : (fileset : Fileset) (host : HostId) (user : User) (path : List (List ℕ)) (from : ℕ) (bytes : List ℕ) (anode at : ℕ) →
+      write_target fileset user path (from + length bytes) ≡ Ok anode → from ≤ at → at < from + length bytes →
+      byte_at (bytes_at (write_answer fileset host user path from bytes).fileset anode) at ≡ byte_at bytes (at - from)
+  pub outside : (fileset : Fileset) (host : HostId) (user : User) (path : List (List ℕ)) (from : ℕ) (bytes : List ℕ) (anode at : ℕ) →
+      at < length (bytes_at fileset anode) → (at < from) ⊎ (from + length bytes ≤ at) →
+      byte_at (bytes_at (write_answer fileset host user path from bytes).fileset anode) at ≡ byte_at (bytes_at fileset anode) at
+
+-- a clone shows the bytes that its source shows, and is promised what that was to be promised for it
+pub record CloneShowsSource : Type 0 where
+  pub bytes : (fileset : Fileset) (id : FilesetId) (name : List ℕ) (anode : ℕ) → bytes_at (cloned fileset id name) anode ≡ bytes_at fileset anode
+  pub blocks : (fileset : Fileset) (id : FilesetId) (name : List ℕ) → promise (cloned fileset id name) ≡ clone_promise fileset

@@ -1,0 +1,16 @@
+pub mod Answers
+pub mod Changing
+pub mod Checks
+pub mod Creation
+pub mod Founding
+pub mod Laws
+pub mod Promises
+pub mod Removal
+pub mod Renaming
+pub mod Rights
+pub mod Rows
+pub mod Telling
+pub mod Updates
+pub mod Uses
+pub mod Walk
+pub mod WellFormed

@@ -1,0 +1,56 @@
+ghost use Rattle.std.specs.Prelude.{◌≡◌, ◌-◌, slice_get, slice_set};
+ghost use Rattle.std.specs.Borrow.{LendsIf, sem};
+ghost use Rattle.std.specs.Option.{option_copied, option_copied_mut};
+ghost use Rattle.dfs_filesets.specs.contracts.fileset.Fileset.{the_row};
+ghost use Rattle.dfs_objects.specs.contracts.content.Anode.{the_row as anode_row};
+ghost use Rattle.dfs_filesets.specs.Updates.{with_anode};
+ghost use Rattle.dfs_filesets.specs.Walk.{object_at};
+
+use dfs_base::{FilesetId, Items, Name, ServerId};
+use dfs_objects::{Anode, Object};
+
+/// A fileset: a tree of objects, which stand at anodes (Chutani et al., "The Episode File System", 1992). No function
+/// here requires that it is well formed; the laws say that a well formed one stays so.
+#[derive(Drop)]
+pub struct Fileset {
+    /// The server that it is at.
+    pub server: ServerId,
+    /// Its number.
+    pub id: FilesetId,
+    /// Its name, which no other fileset of the server has.
+    pub name: Name,
+    /// Whether it is a clone.
+    pub read_only: bool,
+    /// How many objects it may have, its root counted, at most `OBJECTS_MAX`.
+    pub objects: u32,
+    /// As many anodes, which are counted from 1; the first is the root directory.
+    pub anodes: Items<Anode>,
+}
+
+impl Fileset {
+    // What stands at an anode.
+    pub(crate) fn object_at(&self, anode: u32) -> Option<&Object>
+        ensures { option_copied result ≡ object_at self.now.anodes anode }
+    {
+        if anode == 0 {
+            return None;
+        }
+        match self.anodes.at(anode as usize - 1) {
+            Some(anode) => anode.object.as_ref(),
+            None => None,
+        }
+    }
+
+    // The anode of this number, to be changed in place.
+    pub(crate) fn anode_mut(&mut self, anode: u32) -> Option<&mut Anode>
+        ensures* writes_back { sem 𝓛 (LendsIf the_row anode_row self.entry result (with_anode self.entry.now anode) self.entry.now) }
+        ensures value { option_copied_mut result ≡ slice_get self.old.anodes (anode - 1) }
+    {
+        let index = anode.saturating_sub(1) as usize;
+        if index < self.anodes.len() {
+            Some(self.anodes.get_mut(index))
+        } else {
+            None
+        }
+    }
+}

@@ -1,0 +1,22 @@
+//! Filesets of the file service: where paths lead, what a fileset answers to each call that it decides alone, the blocks
+//! that it is promised, and its clones.
+#![tactic(auto)]
+
+mod answer;
+mod changing;
+mod checks;
+mod creating;
+mod fileset;
+mod founding;
+pub mod laws;
+mod outcome;
+mod promise;
+mod removing;
+mod renaming;
+mod telling;
+mod using;
+mod walk;
+
+pub use fileset::Fileset;
+pub use promise::OBJECT_BLOCKS;
+pub use removing::InUse;

@@ -1,0 +1,10 @@
+pub mod Files
+pub mod Changes
+pub mod Spans
+pub mod Stores
+pub mod Losses
+pub mod Entries
+pub mod Objects
+pub mod Shown
+pub mod Sound
+pub mod Laws

@@ -1,0 +1,28 @@
+-- When the content of an object is well formed.
+use Rattle.std.specs.Prelude.{◌==◌, nat_lt, nat_le, Bool, true, ◌&&◌, List, [], ◌∷◌, length}
+use Rattle.std.specs.List.{list_all}
+use Rattle.dfs_base.specs.Name.{is_before}
+use Rattle.dfs_base.specs.declared.limits.TheConstants.{FILE_BYTES_MAX}
+use Rattle.dfs_calls.specs.declared.part.DirEntry.{DirEntry}
+use Rattle.dfs_objects.specs.declared.content.Unsaved.{Unsaved}
+use Rattle.dfs_objects.specs.declared.content.Content.{Content}
+use Rattle.dfs_objects.specs.declared.content.Content.TheVariants.{Dir, File}
+use Rattle.dfs_objects.specs.Files.{present_length}
+
+-- whether the names of entries rise, so that no two are the same
+abbrev pub names_rise : List DirEntry → Bool
+names_rise [] = true
+names_rise (entry ∷ entries) = list_all (λ other. is_before entry.name other.name) entries && names_rise entries
+
+-- whether unsaved bytes stand at rising positions, so that each position has at most one
+abbrev pub positions_rise : List Unsaved → Bool
+positions_rise [] = true
+positions_rise (byte ∷ bytes) = list_all (λ other. nat_lt byte.at other.at) bytes && positions_rise bytes
+
+-- Whether the content of an object is well formed. In a directory names rise, and it has three lists. A file has at most
+-- so many bytes, kept and present, and its unsaved bytes stand at rising positions among these.
+abbrev pub is_sound : Content → Bool
+is_sound (Dir entries lists) = names_rise entries && (length lists == 3)
+is_sound (File list kept unsaved len) =
+    nat_le (length kept) FILE_BYTES_MAX && nat_le (present_length kept len) FILE_BYTES_MAX
+    && positions_rise unsaved && list_all (λ byte. nat_lt byte.at FILE_BYTES_MAX) unsaved

@@ -1,0 +1,11 @@
+pub mod Mapped
+pub mod Levels
+pub mod Refusals
+pub mod Followed
+pub mod Inserted
+pub mod Kept
+pub mod Rows
+pub mod Leaves
+pub mod Spans
+pub mod Clones
+pub mod Worked

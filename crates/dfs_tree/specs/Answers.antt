@@ -1,0 +1,69 @@
+-- What a tree answers to each call of a host.
+use Rattle.std.specs.Prelude.{ℕ, List, slice_get, slice_set, Option, Some, None, Result, Err}
+use Rattle.dfs_base.specs.Outcomes.{either}
+use Rattle.dfs_base.specs.declared.ids.HostId.{HostId}
+use Rattle.dfs_base.specs.declared.user.User.{User}
+use Rattle.dfs_calls.specs.declared.call.Call.{Call}
+use Rattle.dfs_calls.specs.declared.call.Call.TheVariants.{NewFileset, Create, MakeDir, Remove, Rename, Truncate, SetAcl, CloneFileset, Read, Write, List as ListNames, Stat, GetAcl, Sync, Lock, Unlock, OpenFile, CloseFile}
+use Rattle.dfs_calls.specs.declared.reply.Refusal.{Refusal}
+use Rattle.dfs_calls.specs.declared.reply.Refusal.TheVariants.{NoFileset, Denied}
+use Rattle.dfs_filesets.specs.declared.fileset.Fileset.{Fileset}
+use Rattle.dfs_filesets.specs.Answers.{Answered}
+use Rattle.dfs_filesets.specs.Rows.{fileset_answer}
+use Rattle.dfs_tree.specs.declared.tree.Tree.{Tree}
+use Rattle.dfs_calls.specs.Rosters.{user_of}
+use Rattle.dfs_tree.specs.Finding.{Answer, refuse, fileset_place, move_place}
+use Rattle.dfs_tree.specs.Founding.{new_fileset_answer, clone_answer}
+use Rattle.dfs_tree.specs.Uses.{is_used}
+use Rattle.dfs_tree.specs.Locks.{lock_answer, unlock_answer}
+use Rattle.dfs_tree.specs.Opens.{open_answer, close_answer}
+
+-- what the user does for whom a host acts; a host that isn't declared acts for nobody, who has no rights
+abbrev pub for_user : Tree → Option User → (User → Answer) → Answer
+for_user tree None act = refuse tree (Denied 0)
+for_user tree (Some user) act = act user
+
+-- a tree in which one fileset answered
+abbrev pub with_answered : Tree → ℕ → Answered → Answer
+with_answered tree place answered = record { reply = answered.reply; tree = record tree { filesets = slice_set tree.filesets place answered.fileset } }
+
+abbrev pub answer_at : Tree → ℕ → Option Fileset → (Fileset → Answered) → Answer
+answer_at tree place None ask = refuse tree NoFileset
+answer_at tree place (Some fileset) ask = with_answered tree place (ask fileset)
+
+-- the fileset that decides a call alone
+abbrev pub deciding_place : List Fileset → Call → Result ℕ Refusal
+deciding_place filesets (Create place) = fileset_place filesets place.server place.fileset
+deciding_place filesets (MakeDir place) = fileset_place filesets place.server place.fileset
+deciding_place filesets (Remove place) = fileset_place filesets place.server place.fileset
+deciding_place filesets (Rename from to) = move_place filesets from to
+deciding_place filesets (Truncate place len) = fileset_place filesets place.server place.fileset
+deciding_place filesets (SetAcl place which list) = fileset_place filesets place.server place.fileset
+deciding_place filesets (Read place from len) = fileset_place filesets place.server place.fileset
+deciding_place filesets (Write place from bytes) = fileset_place filesets place.server place.fileset
+deciding_place filesets (ListNames place) = fileset_place filesets place.server place.fileset
+deciding_place filesets (Stat place) = fileset_place filesets place.server place.fileset
+deciding_place filesets (GetAcl place which) = fileset_place filesets place.server place.fileset
+deciding_place filesets (Sync place) = fileset_place filesets place.server place.fileset
+deciding_place filesets _ = Err NoFileset
+
+-- a call that one fileset decides
+unfoldable pub fileset_row : Tree → HostId → User → Call → Answer
+fileset_row tree host user call =
+    either (deciding_place tree.filesets call)
+    (λ place. answer_at tree place (slice_get tree.filesets place) (λ fileset. fileset_answer fileset (is_used tree.locks tree.opens) host user call))
+    (refuse tree)
+
+-- a call of a user at a host
+unfoldable pub answer_for : Tree → HostId → Call → User → Answer
+answer_for tree host (NewFileset server name objects owner) user = new_fileset_answer tree server name objects owner
+answer_for tree host (CloneFileset server fileset new) user = clone_answer tree user server fileset new
+answer_for tree host (Lock label place writing from len) user = lock_answer tree host user label place writing from len
+answer_for tree host (Unlock label) user = unlock_answer tree host label
+answer_for tree host (OpenFile label place kind) user = open_answer tree host user label place kind
+answer_for tree host (CloseFile label) user = close_answer tree host label
+answer_for tree host call user = fileset_row tree host user call
+
+-- the answer to a call of a host
+unfoldable pub answer_to : Tree → HostId → Call → Answer
+answer_to tree host call = for_user tree (user_of tree.roster host) (answer_for tree host call)

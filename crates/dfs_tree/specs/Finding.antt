@@ -1,0 +1,62 @@
+-- Where filesets stand in the list, and what a tree answers.
+use Rattle.std.specs.Prelude.{ℕ, ◌==◌, nat_lt, Bool, ◌&&◌, not, is_some, List, length, Option, Some, None, unwrap_or, Result, Ok, Err}
+use Rattle.std.specs.List.{find, position}
+use Rattle.dfs_base.specs.Name.{same_name}
+use Rattle.dfs_base.specs.Outcomes.{and_then}
+use Rattle.dfs_base.specs.declared.ids.ServerId.{ServerId}
+use Rattle.dfs_base.specs.declared.ids.FilesetId.{FilesetId}
+use Rattle.dfs_calls.specs.declared.place.Place.{Place}
+use Rattle.dfs_calls.specs.declared.reply.Refusal.{Refusal}
+use Rattle.dfs_calls.specs.declared.reply.Refusal.TheVariants.{NoFileset, CrossFileset}
+use Rattle.dfs_calls.specs.declared.reply.Reply.{Reply}
+use Rattle.dfs_calls.specs.declared.reply.Reply.TheVariants.{Refused}
+use Rattle.dfs_filesets.specs.declared.fileset.Fileset.{Fileset}
+use Rattle.dfs_filesets.specs.Checks.{unless}
+use Rattle.dfs_tree.specs.declared.tree.Tree.{Tree}
+
+-- what a tree answers to a call: the reply, and the tree after it
+pub record Answer : Type 0 where
+  pub reply : Reply
+  pub tree : Tree
+
+-- a refused call changes nothing
+abbrev pub refuse : Tree → Refusal → Answer
+refuse tree refusal = record { reply = Refused refusal; tree = tree }
+
+-- whether this is the fileset of a server with a name
+abbrev pub is_named : ServerId → List ℕ → Fileset → Bool
+is_named server name fileset = (fileset.server.0 == server.0) && same_name fileset.name name
+
+-- whether this is the fileset with an id
+abbrev pub has_id : FilesetId → Fileset → Bool
+has_id id fileset = fileset.id.0 == id.0
+
+abbrev pub found_or : {A : Type 0} → Option A → Refusal → Result A Refusal
+found_or None refusal = Err refusal
+found_or (Some value) refusal = Ok value
+
+-- where the fileset of a server with a name stands in the list
+abbrev pub fileset_place : List Fileset → ServerId → List ℕ → Result ℕ Refusal
+fileset_place filesets server name = found_or (position (is_named server name) filesets) NoFileset
+
+-- the fileset of a server with a name
+abbrev pub fileset_named : List Fileset → ServerId → List ℕ → Result Fileset Refusal
+fileset_named filesets server name = found_or (find (is_named server name) filesets) NoFileset
+
+-- whether a server has a fileset with a name
+abbrev pub is_taken : List Fileset → ServerId → List ℕ → Bool
+is_taken filesets server name = is_some (position (is_named server name) filesets)
+
+-- whether two places are in one fileset
+abbrev pub same_fileset : Place → Place → Bool
+same_fileset from to = (from.server.0 == to.server.0) && same_name from.fileset to.fileset
+
+-- the fileset in which an object moves: that of the place from which, which has to be that to which
+abbrev pub move_place : List Fileset → Place → Place → Result ℕ Refusal
+move_place filesets from to =
+    and_then (fileset_place filesets from.server from.fileset) (λ place.
+    unless (not (same_fileset from to)) CrossFileset (Ok place))
+
+-- where a fileset goes in the list: before the first with a greater id
+abbrev pub id_place : List Fileset → FilesetId → ℕ
+id_place filesets id = unwrap_or (position (λ fileset. nat_lt id.0 fileset.id.0) filesets) (length filesets)

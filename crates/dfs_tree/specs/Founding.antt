@@ -1,0 +1,88 @@
+-- How filesets come about.
+use Rattle.std.specs.Prelude.{ℕ, ◌+◌, ◌-◌, ◌*◌, ◌==◌, nat_lt, nat_le, if◌then◌else◌, List, [], ◌∷◌, insert, map, slice_get, slice_set, Option, None, Result, Ok}
+use Rattle.std.specs.List.{count_by}
+use Rattle.dfs_base.specs.Outcomes.{and_then, either}
+use Rattle.dfs_base.specs.declared.ids.ServerId.{ServerId}
+use Rattle.dfs_base.specs.declared.ids.FilesetId.{FilesetId}
+use Rattle.dfs_base.specs.declared.limits.TheConstants.{FILESETS_MAX, FILESET_NUMBER_MAX}
+use Rattle.dfs_base.specs.declared.user.User.{User}
+use Rattle.dfs_calls.specs.declared.reply.Refusal.{Refusal}
+use Rattle.dfs_calls.specs.declared.reply.Refusal.TheVariants.{Exists, TooMany, NoRoom}
+use Rattle.dfs_calls.specs.declared.reply.Reply.TheVariants.{Ok as Done}
+use Rattle.dfs_filesets.specs.declared.fileset.Fileset.{Fileset}
+use Rattle.dfs_filesets.specs.Checks.{unless}
+use Rattle.dfs_filesets.specs.Promises.{promise, new_promise, clone_promise}
+use Rattle.dfs_filesets.specs.Founding.{new_fileset, clone_check, cloned}
+use Rattle.dfs_calls.specs.declared.roster.Roster.{Roster}
+use Rattle.dfs_tree.specs.declared.tree.Tree.{Tree}
+use Rattle.dfs_tree.specs.declared.tree.ServerRoom.{ServerRoom}
+use Rattle.dfs_tree.specs.Finding.{Answer, refuse, found_or, fileset_named, is_taken, id_place}
+
+-- the blocks that the filesets of a server are promised
+abbrev pub promised : ServerId → List Fileset → ℕ
+promised server [] = 0
+promised server (fileset ∷ filesets) = (if fileset.server.0 == server.0 then promise fileset else 0) + promised server filesets
+
+-- how many filesets a server has
+abbrev pub fileset_count : ServerId → List Fileset → ℕ
+fileset_count server filesets = count_by (λ fileset. fileset.server.0 == server.0) filesets
+
+-- what a server has for further filesets; servers are counted from 1
+abbrev pub room_of : List ServerRoom → ServerId → Option ServerRoom
+room_of rooms server = if server.0 == 0 then None else slice_get rooms (server.0 - 1)
+
+-- a server's room for a fileset more that is promised so many blocks: TooMany (filesets, or numbers of filesets); NoRoom
+abbrev pub room_for : Tree → ServerId → ℕ → Result ServerRoom Refusal
+room_for tree server blocks =
+    unless (nat_le FILESETS_MAX (fileset_count server tree.filesets)) TooMany (
+    and_then (found_or (room_of tree.servers server) TooMany) (λ room.
+    unless (nat_lt FILESET_NUMBER_MAX room.next) TooMany (
+    unless (nat_lt room.capacity (promised server tree.filesets + blocks)) NoRoom (
+    Ok room))))
+
+-- the id of a server's next fileset
+abbrev pub next_id : ServerId → ServerRoom → FilesetId
+next_id server room = record { 0 = server.0 * 65536 + room.next }
+
+-- a tree with a fileset more, for which its server gave a number
+abbrev pub with_fileset : Tree → ServerId → ServerRoom → Fileset → Tree
+with_fileset tree server room fileset = record tree {
+  servers = slice_set tree.servers (server.0 - 1) (record room { next = room.next + 1 });
+  filesets = insert tree.filesets (id_place tree.filesets fileset.id) fileset;
+}
+
+-- NewFileset: Exists; TooMany; NoRoom
+unfoldable pub new_fileset_target : Tree → ServerId → List ℕ → ℕ → Result ServerRoom Refusal
+new_fileset_target tree server name objects =
+    unless (is_taken tree.filesets server name) Exists (room_for tree server (new_promise objects))
+
+-- NewFileset: a fileset with an empty root
+unfoldable pub new_fileset_answer : Tree → ServerId → List ℕ → ℕ → User → Answer
+new_fileset_answer tree server name objects owner =
+    either (new_fileset_target tree server name objects)
+    (λ room. record { reply = Done; tree = with_fileset tree server room (new_fileset server (next_id server room) name objects owner) })
+    (refuse tree)
+
+-- CloneFileset: NoFileset; ReadOnly; Denied (control of the root); Exists; TooMany; NoRoom
+unfoldable pub clone_target : Tree → User → ServerId → List ℕ → List ℕ → Result (Fileset × ServerRoom) Refusal
+clone_target tree user server source new =
+    and_then (fileset_named tree.filesets server source) (λ fileset.
+    and_then (clone_check fileset user) (λ _.
+    unless (is_taken tree.filesets server new) Exists (
+    and_then (room_for tree server (clone_promise fileset)) (λ room.
+    Ok (fileset, room)))))
+
+-- CloneFileset: a read-only copy
+unfoldable pub clone_answer : Tree → User → ServerId → List ℕ → List ℕ → Answer
+clone_answer tree user server source new =
+    either (clone_target tree user server source new)
+    (λ (fileset, room). record { reply = Done; tree = with_fileset tree server room (cloned fileset (next_id server room) new) })
+    (refuse tree)
+
+-- what a server of this capacity has before its first fileset
+abbrev pub new_room : ℕ → ServerRoom
+new_room capacity = record { capacity = capacity; next = 1 }
+
+-- the tree of a roster, without filesets
+abbrev pub new_tree : Roster → Tree
+new_tree roster = record { roster = roster; servers = map new_room roster.capacity; filesets = []; locks = []; opens = [] }

@@ -1,0 +1,30 @@
+-- Histories of a tree.
+use Rattle.std.specs.Prelude.{◌≡◌, IsTrue, List, [], ◌∷◌}
+use Rattle.dfs_calls.specs.declared.entry.Entry.{Entry}
+use Rattle.dfs_calls.specs.declared.entry.Entry.TheVariants.{Call, Stored, Down}
+use Rattle.dfs_tree.specs.declared.tree.Tree.{Tree}
+use Rattle.dfs_tree.specs.Answers.{answer_to}
+use Rattle.dfs_tree.specs.Stores.{may_store, stored_tree}
+use Rattle.dfs_tree.specs.Losses.{down_tree}
+
+-- an entry that may come next: the reply to a call is the tree's answer, and a host stores what it may
+abbrev pub IsLegal : Tree → Entry → Type 0
+IsLegal tree (Call host k call reply) = reply ≡ (answer_to tree host call).reply
+IsLegal tree (Stored host fid spans stored) = IsTrue (may_store tree host fid spans stored)
+IsLegal tree (Down host server) = Unit {0}
+
+-- the tree after an entry
+abbrev pub after_entry : Tree → Entry → Tree
+after_entry tree (Call host k call reply) = (answer_to tree host call).tree
+after_entry tree (Stored host fid spans stored) = stored_tree tree host fid spans stored
+after_entry tree (Down host server) = down_tree tree host server
+
+-- a history that may happen from a tree on
+abbrev pub IsHistory : Tree → List Entry → Type 0
+IsHistory tree [] = Unit {0}
+IsHistory tree (entry ∷ entries) = IsLegal tree entry × IsHistory (after_entry tree entry) entries
+
+-- the tree after a history
+abbrev pub after_history : Tree → List Entry → Tree
+after_history tree [] = tree
+after_history tree (entry ∷ entries) = after_history (after_entry tree entry) entries

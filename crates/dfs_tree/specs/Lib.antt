@@ -1,0 +1,13 @@
+pub mod Finding
+pub mod Founding
+pub mod Uses
+pub mod Locks
+pub mod Opens
+pub mod Answers
+pub mod Stores
+pub mod Losses
+pub mod Histories
+pub mod WellFormed
+pub mod Effects
+pub mod Laws
+pub mod Worked

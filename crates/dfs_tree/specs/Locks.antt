@@ -1,0 +1,80 @@
+-- Locks.
+use Rattle.std.specs.Prelude.{ℕ, ◌+◌, ◌==◌, nat_lt, nat_le, Bool, ◌&&◌, ◌||◌, not, if◌then◌else◌, List, length, insert, filter, unwrap_or, Result, Ok}
+use Rattle.std.specs.List.{list_any, position, count_by}
+use Rattle.dfs_base.specs.Outcomes.{and_then, either}
+use Rattle.dfs_base.specs.Spans.{overlap}
+use Rattle.dfs_base.specs.declared.ids.HostId.{HostId}
+use Rattle.dfs_base.specs.declared.ids.Fid.{Fid}
+use Rattle.dfs_base.specs.declared.span.Span.{Span}
+use Rattle.dfs_base.specs.declared.user.User.{User}
+use Rattle.dfs_base.specs.declared.limits.TheConstants.{LABELS_MAX, FILE_BYTES_MAX}
+use Rattle.dfs_calls.specs.declared.place.Place.{Place}
+use Rattle.dfs_calls.specs.declared.reply.Refusal.{Refusal}
+use Rattle.dfs_calls.specs.declared.reply.Refusal.TheVariants.{AlreadyLocked, NotLocked, TooMany, TooBig, Locked}
+use Rattle.dfs_calls.specs.declared.reply.Reply.TheVariants.{Ok as Done}
+use Rattle.dfs_objects.specs.Spans.{span_between}
+use Rattle.dfs_filesets.specs.Checks.{unless}
+use Rattle.dfs_filesets.specs.Uses.{lock_target}
+use Rattle.dfs_tree.specs.declared.tree.Tree.{Tree}
+use Rattle.dfs_tree.specs.declared.tree.LockUse.{LockUse}
+use Rattle.dfs_tree.specs.Finding.{Answer, refuse, fileset_named}
+use Rattle.dfs_base.specs.Ids.{same_fid}
+use Rattle.dfs_tree.specs.Uses.{same_label, label_before}
+
+-- whether this is a host's lock with a label
+abbrev pub is_lock : HostId → List ℕ → LockUse → Bool
+is_lock host label lock = same_label lock.host lock.label host label
+
+abbrev pub has_lock : List LockUse → HostId → List ℕ → Bool
+has_lock locks host label = list_any (is_lock host label) locks
+
+-- how many locks a host has
+abbrev pub lock_count : List LockUse → HostId → ℕ
+lock_count locks host = count_by (λ lock. lock.host.0 == host.0) locks
+
+-- whether a lock is on a file and overlaps a span
+abbrev pub covers : Fid → Span → LockUse → Bool
+covers fid span lock = same_fid lock.fid fid && overlap lock.span span
+
+-- whether a host has a lock there itself
+abbrev pub is_own_locked : List LockUse → HostId → Fid → Span → Bool
+is_own_locked locks host fid span = list_any (λ lock. (lock.host.0 == host.0) && covers fid span lock) locks
+
+-- whether another host has a lock there, one of both for writing
+abbrev pub is_excluded : List LockUse → HostId → Fid → Span → Bool → Bool
+is_excluded locks host fid span writing =
+    list_any (λ lock. not (lock.host.0 == host.0) && covers fid span lock && (lock.writing || writing)) locks
+
+-- Lock: AlreadyLocked (label); TooMany; NoFileset; walk; IsDir; ReadOnly; Denied; TooBig; AlreadyLocked (overlap); Locked
+unfoldable pub lock_check : Tree → HostId → User → List ℕ → Place → Bool → ℕ → ℕ → Result (Fid × Span) Refusal
+lock_check tree host user label place writing from len =
+    let span = span_between from (from + len) in
+    unless (has_lock tree.locks host label) AlreadyLocked (
+    unless (nat_le LABELS_MAX (lock_count tree.locks host)) TooMany (
+    and_then (fileset_named tree.filesets place.server place.fileset) (λ fileset.
+    and_then (lock_target fileset user place.path writing) (λ fid.
+    unless (nat_lt FILE_BYTES_MAX (from + len)) TooBig (
+    unless (is_own_locked tree.locks host fid span) AlreadyLocked (
+    unless (is_excluded tree.locks host fid span writing) Locked (
+    Ok (fid, span))))))))
+
+-- where a lock goes: before the first that comes after it
+abbrev pub lock_place : List LockUse → HostId → List ℕ → ℕ
+lock_place locks host label = unwrap_or (position (λ lock. label_before host label lock.host lock.label) locks) (length locks)
+
+-- a tree with a lock more
+abbrev pub with_lock : Tree → LockUse → Tree
+with_lock tree lock = record tree { locks = insert tree.locks (lock_place tree.locks lock.host lock.label) lock }
+
+-- Lock: in use under the label
+unfoldable pub lock_answer : Tree → HostId → User → List ℕ → Place → Bool → ℕ → ℕ → Answer
+lock_answer tree host user label place writing from len =
+    either (lock_check tree host user label place writing from len)
+    (λ (fid, span). record { reply = Done; tree = with_lock tree (record { host = host; label = label; fid = fid; writing = writing; span = span }) })
+    (refuse tree)
+
+-- Unlock: NotLocked. No longer in use
+unfoldable pub unlock_answer : Tree → HostId → List ℕ → Answer
+unlock_answer tree host label =
+    if not (has_lock tree.locks host label) then refuse tree NotLocked
+    else record { reply = Done; tree = record tree { locks = filter (λ lock. not (is_lock host label lock)) tree.locks } }

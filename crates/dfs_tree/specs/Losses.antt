@@ -1,0 +1,95 @@
+-- What a host that is down takes away, and what is lost thereby.
+use Rattle.std.specs.Prelude.{ℕ, zero, suc, ◌+◌, ◌==◌, Bool, false, ◌&&◌, not, if◌then◌else◌, List, [], ◌∷◌, ◌++◌, length, map, filter, insert, slice_get, Some, None, unwrap_or}
+use Rattle.std.specs.List.{list_any, flat_map, position}
+use Rattle.std.specs.Option.{option_map_or}
+use Rattle.dfs_base.specs.Name.{is_before}
+use Rattle.dfs_base.specs.declared.ids.HostId.{HostId}
+use Rattle.dfs_base.specs.declared.ids.ServerId.{ServerId}
+use Rattle.dfs_base.specs.declared.ids.FilesetId.{FilesetId}
+use Rattle.dfs_base.specs.declared.span.Span.{Span}
+use Rattle.dfs_calls.specs.declared.entry.Loss.{Loss}
+use Rattle.dfs_calls.specs.declared.part.DirEntry.{DirEntry}
+use Rattle.dfs_objects.specs.declared.content.Content.{Content}
+use Rattle.dfs_objects.specs.declared.content.Content.TheVariants.{Dir, File}
+use Rattle.dfs_objects.specs.declared.content.Object.{Object}
+use Rattle.dfs_objects.specs.declared.content.Anode.{Anode}
+use Rattle.dfs_objects.specs.Changes.{anode_changed, content_forgotten}
+use Rattle.dfs_objects.specs.Stores.{own_length_of}
+use Rattle.dfs_objects.specs.Losses.{own_spans}
+use Rattle.dfs_filesets.specs.declared.fileset.Fileset.{Fileset}
+use Rattle.dfs_filesets.specs.Walk.{object_at}
+use Rattle.dfs_tree.specs.declared.tree.Tree.{Tree}
+use Rattle.dfs_tree.specs.Finding.{has_id}
+
+-- a fileset without a host's unsaved changes
+abbrev pub fileset_forgotten : HostId → Fileset → Fileset
+fileset_forgotten host fileset = record fileset { anodes = map (anode_changed (content_forgotten host)) fileset.anodes }
+
+-- whether the fileset with an id is at a server
+abbrev pub is_at : List Fileset → ServerId → FilesetId → Bool
+is_at filesets server id = list_any (λ fileset. has_id id fileset && (fileset.server.0 == server.0)) filesets
+
+-- a tree without a host's unsaved changes, locks and opens on the filesets of a server
+unfoldable pub down_tree : Tree → HostId → ServerId → Tree
+down_tree tree host server = record tree {
+  filesets = map (λ fileset. if fileset.server.0 == server.0 then fileset_forgotten host fileset else fileset) tree.filesets;
+  locks = filter (λ lock. not ((lock.host.0 == host.0) && is_at tree.filesets server lock.fid.fileset)) tree.locks;
+  opens = filter (λ opened. not ((opened.host.0 == host.0) && is_at tree.filesets server opened.fid.fileset)) tree.opens;
+}
+
+-- the loss of bytes
+abbrev pub span_loss : HostId → ServerId → List (List ℕ) → Span → Loss
+span_loss host server path span = record { host = host; server = server; path = path; span = Some span; length = None }
+
+-- the loss of a length
+abbrev pub length_loss : HostId → ServerId → List (List ℕ) → ℕ → Loss
+length_loss host server path len = record { host = host; server = server; path = path; span = None; length = Some len }
+
+-- what is lost of one file: the spans in which the host's unsaved bytes stand together, and then its unsaved length
+abbrev pub file_losses : HostId → ServerId → List (List ℕ) → Content → List Loss
+file_losses host server path content =
+    map (span_loss host server path) (own_spans host content)
+    ++ option_map_or (λ len. length_loss host server path len ∷ []) (own_length_of host content) []
+
+-- the entries of a directory, and none of a file
+abbrev pub entries_in : Content → List DirEntry
+entries_in (Dir entries lists) = entries
+entries_in (File list kept unsaved len) = []
+
+-- What is lost of an object and of those below it, down to so many levels; a directory's entries come in the order of
+-- their names.
+abbrev pub losses_below : ℕ → List Anode → HostId → ServerId → List (List ℕ) → Object → List Loss
+losses_below zero anodes host server path object = []
+losses_below (suc levels) anodes host server path object =
+    file_losses host server path object.content
+    ++ flat_map (λ entry. option_map_or (losses_below levels anodes host server (path ++ entry.name ∷ [])) (object_at anodes entry.anode) []) (entries_in object.content)
+
+-- what is lost in a fileset; there are no more levels than anodes
+abbrev pub fileset_losses : HostId → ServerId → Fileset → List Loss
+fileset_losses host server fileset =
+    option_map_or (losses_below (length fileset.anodes) fileset.anodes host server (fileset.name ∷ [])) (object_at fileset.anodes 1) []
+
+-- whether a name comes before that of the fileset at a place of the list
+abbrev pub is_before_at : List Fileset → List ℕ → ℕ → Bool
+is_before_at filesets name place = option_map_or (λ fileset. is_before name fileset.name) (slice_get filesets place) false
+
+-- where a fileset goes among places of filesets in the order of their names: before the first with a greater name
+abbrev pub name_place : List Fileset → List ℕ → List ℕ → ℕ
+name_place filesets places name = unwrap_or (position (is_before_at filesets name) places) (length places)
+
+-- the places of a server's filesets from one on, put in turn among others in the order of their names
+abbrev pub places_among : List Fileset → ServerId → List ℕ → ℕ → List Fileset → List ℕ
+places_among filesets server places place [] = places
+places_among filesets server places place (fileset ∷ rest) =
+    places_among filesets server
+    (if fileset.server.0 == server.0 then insert places (name_place filesets places fileset.name) place else places)
+    (place + 1) rest
+
+-- the places of a server's filesets, in the order of their names
+abbrev pub places_by_name : List Fileset → ServerId → List ℕ
+places_by_name filesets server = places_among filesets server [] 0 filesets
+
+-- what is lost where a server learns that a host is down: by fileset, by path, and by position
+unfoldable pub losses_of : Tree → HostId → ServerId → List Loss
+losses_of tree host server =
+    flat_map (λ place. option_map_or (fileset_losses host server) (slice_get tree.filesets place) []) (places_by_name tree.filesets server)

@@ -1,0 +1,68 @@
+-- Open files.
+use Rattle.std.specs.Prelude.{ℕ, ◌==◌, nat_le, Bool, ◌&&◌, not, if◌then◌else◌, List, length, insert, filter, unwrap_or, Result, Ok}
+use Rattle.std.specs.List.{list_any, position, count_by}
+use Rattle.dfs_base.specs.Outcomes.{and_then, either}
+use Rattle.dfs_base.specs.declared.ids.HostId.{HostId}
+use Rattle.dfs_base.specs.declared.ids.Fid.{Fid}
+use Rattle.dfs_base.specs.declared.ids.OpenKind.{OpenKind}
+use Rattle.dfs_base.specs.Opens.{opens_conflict}
+use Rattle.dfs_base.specs.declared.user.User.{User}
+use Rattle.dfs_base.specs.declared.limits.TheConstants.{LABELS_MAX}
+use Rattle.dfs_calls.specs.declared.place.Place.{Place}
+use Rattle.dfs_calls.specs.declared.reply.Refusal.{Refusal}
+use Rattle.dfs_calls.specs.declared.reply.Refusal.TheVariants.{AlreadyOpened, NotOpened, TooMany, OpenConflict}
+use Rattle.dfs_calls.specs.declared.reply.Reply.TheVariants.{Ok as Done}
+use Rattle.dfs_filesets.specs.Checks.{unless}
+use Rattle.dfs_filesets.specs.Uses.{open_target}
+use Rattle.dfs_tree.specs.declared.tree.Tree.{Tree}
+use Rattle.dfs_tree.specs.declared.tree.OpenUse.{OpenUse}
+use Rattle.dfs_tree.specs.Finding.{Answer, refuse, fileset_named}
+use Rattle.dfs_base.specs.Ids.{same_fid}
+use Rattle.dfs_tree.specs.Uses.{same_label, label_before}
+
+-- whether this is a host's open file with a label
+abbrev pub is_open : HostId → List ℕ → OpenUse → Bool
+is_open host label opened = same_label opened.host opened.label host label
+
+abbrev pub has_open : List OpenUse → HostId → List ℕ → Bool
+has_open opens host label = list_any (is_open host label) opens
+
+-- how many open files a host has
+abbrev pub open_count : List OpenUse → HostId → ℕ
+open_count opens host = count_by (λ opened. opened.host.0 == host.0) opens
+
+-- whether another host has a file open so that an open of this kind is excluded
+abbrev pub is_barred : List OpenUse → HostId → Fid → OpenKind → Bool
+is_barred opens host fid kind =
+    list_any (λ opened. not (opened.host.0 == host.0) && same_fid opened.fid fid && opens_conflict opened.kind kind) opens
+
+-- OpenFile: AlreadyOpened; TooMany; NoFileset; walk; IsDir; ReadOnly; Denied; OpenConflict
+unfoldable pub open_check : Tree → HostId → User → List ℕ → Place → OpenKind → Result Fid Refusal
+open_check tree host user label place kind =
+    unless (has_open tree.opens host label) AlreadyOpened (
+    unless (nat_le LABELS_MAX (open_count tree.opens host)) TooMany (
+    and_then (fileset_named tree.filesets place.server place.fileset) (λ fileset.
+    and_then (open_target fileset user place.path kind) (λ fid.
+    unless (is_barred tree.opens host fid kind) OpenConflict (
+    Ok fid)))))
+
+-- where an open file goes: before the first that comes after it
+abbrev pub open_place : List OpenUse → HostId → List ℕ → ℕ
+open_place opens host label = unwrap_or (position (λ opened. label_before host label opened.host opened.label) opens) (length opens)
+
+-- a tree with an open file more
+abbrev pub with_open : Tree → OpenUse → Tree
+with_open tree opened = record tree { opens = insert tree.opens (open_place tree.opens opened.host opened.label) opened }
+
+-- OpenFile: in use under the label
+unfoldable pub open_answer : Tree → HostId → User → List ℕ → Place → OpenKind → Answer
+open_answer tree host user label place kind =
+    either (open_check tree host user label place kind)
+    (λ fid. record { reply = Done; tree = with_open tree (record { host = host; label = label; fid = fid; kind = kind }) })
+    (refuse tree)
+
+-- CloseFile: NotOpened. No longer in use
+unfoldable pub close_answer : Tree → HostId → List ℕ → Answer
+close_answer tree host label =
+    if not (has_open tree.opens host label) then refuse tree NotOpened
+    else record { reply = Done; tree = record tree { opens = filter (λ opened. not (is_open host label opened)) tree.opens } }

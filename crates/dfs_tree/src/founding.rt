@@ -1,0 +1,177 @@
+//! New filesets and clones.
+ghost use Rattle.std.specs.Prelude.{ℕ, ◌≡◌, ◌+◌, ◌-◌, ◌^◌, ◌≤◌, ◌<◌, min, Ok, Err, IfOk, OnOk, OnErr, MatchResult};
+ghost use Rattle.dfs_base.specs.declared.limits.TheConstants.{FILESET_NUMBER_MAX};
+ghost use Rattle.dfs_filesets.specs.Promises.{new_promise};
+ghost use Rattle.dfs_tree.specs.Founding.{promised, fileset_count, room_of, room_for, next_id, with_fileset, new_fileset_target, new_fileset_answer, clone_target, clone_answer};
+
+use crate::finding::{fileset_named, id_place, is_taken};
+use crate::tree::{ServerRoom, Tree};
+use dfs_base::{
+    FILESET_NUMBER_MAX, FILESETS_MAX, FilesetId, Items, Name, NoMemory, ServerId, User,
+};
+use dfs_calls::{Refusal, Reply};
+use dfs_filesets::{Fileset, OBJECT_BLOCKS};
+
+impl Tree {
+    /// Makes a fileset of so many objects with an empty root.
+    #[tactic(auto, unfolding(crate::specs::Founding::new_fileset_answer))]
+    pub(crate) fn new_fileset(
+        &mut self,
+        server: ServerId,
+        name: &Name,
+        objects: u32,
+        owner: &User,
+    ) -> Result<Reply, NoMemory>
+        ensures reply { IfOk result (λ reply. reply ≡ (new_fileset_answer self.old server name.now objects owner.now).reply) }
+        ensures tree { OnOk result (self.new ≡ (new_fileset_answer self.old server name.now objects owner.now).tree) }
+        ensures err { OnErr result (self.new ≡ self.old) }
+    {
+        let room = match self.new_fileset_target(server, name, objects) {
+            Ok(room) => room,
+            Err(refusal) => return Ok(Reply::Refused(refusal)),
+        };
+        let id = next_id(server, room);
+        let alloc = self.filesets.alloc();
+        let fileset = Fileset::new(alloc, server, id, name, objects, owner)?;
+        self.add_fileset(server, room, fileset)?;
+        Ok(Reply::Ok)
+    }
+
+    /// Makes a read-only copy of a fileset.
+    #[tactic(auto, unfolding(crate::specs::Founding::clone_answer))]
+    pub(crate) fn clone_fileset(
+        &mut self,
+        user: &User,
+        server: ServerId,
+        source: &Name,
+        new: &Name,
+    ) -> Result<Reply, NoMemory>
+        ensures reply { IfOk result (λ reply. reply ≡ (clone_answer self.old user.now server source.now new.now).reply) }
+        ensures tree { OnOk result (self.new ≡ (clone_answer self.old user.now server source.now new.now).tree) }
+        ensures err { OnErr result (self.new ≡ self.old) }
+    {
+        let (source, room) = match self.clone_target(user, server, source, new) {
+            Ok(found) => found,
+            Err(refusal) => return Ok(Reply::Refused(refusal)),
+        };
+        let clone = source.cloned(next_id(server, room), new)?;
+        self.add_fileset(server, room, clone)?;
+        Ok(Reply::Ok)
+    }
+
+    #[tactic(auto, unfolding(crate::specs::Founding::new_fileset_target))]
+    fn new_fileset_target(
+        &self,
+        server: ServerId,
+        name: &Name,
+        objects: u32,
+    ) -> Result<ServerRoom, Refusal>
+        ensures value { result ≡ new_fileset_target self.now server name.now objects }
+        ensures number { IfOk result (λ room. room.next ≤ FILESET_NUMBER_MAX) }
+    {
+        if is_taken(&self.filesets, server, name) {
+            return Err(Refusal::Exists);
+        }
+        self.room_for(server, OBJECT_BLOCKS * u64::from(objects))
+    }
+
+    #[tactic(auto, unfolding(crate::specs::Founding::clone_target))]
+    fn clone_target(
+        &self,
+        user: &User,
+        server: ServerId,
+        source: &Name,
+        new: &Name,
+    ) -> Result<(&Fileset, ServerRoom), Refusal>
+        ensures value { MatchResult result (λ found. clone_target self.now user.now server source.now new.now ≡ Ok (found.0.now, found.1)) (λ refusal. clone_target self.now user.now server source.now new.now ≡ Err refusal) }
+        ensures number { IfOk result (λ found. found.1.next ≤ FILESET_NUMBER_MAX) }
+    {
+        let fileset = fileset_named(&self.filesets, server, source)?;
+        fileset.clone_check(user)?;
+        if is_taken(&self.filesets, server, new) {
+            return Err(Refusal::Exists);
+        }
+        let room = self.room_for(server, fileset.clone_promise())?;
+        Ok((fileset, room))
+    }
+
+    // A server's room for a fileset more that is promised so many blocks, or the last number of 64 bits for more.
+    fn room_for(&self, server: ServerId, blocks: u64) -> Result<ServerRoom, Refusal>
+        ensures value { (more : ℕ) → blocks ≡ min more (2 ^ 64 - 1) → result ≡ room_for self.now server more }
+        ensures number { IfOk result (λ room. room.next ≤ FILESET_NUMBER_MAX) }
+    {
+        if FILESETS_MAX <= fileset_count(&self.filesets, server) {
+            return Err(Refusal::TooMany);
+        }
+        let Some(room) = self.room_of(server) else {
+            return Err(Refusal::TooMany);
+        };
+        if FILESET_NUMBER_MAX < room.next {
+            return Err(Refusal::TooMany);
+        }
+        if u64::from(room.capacity) < promised(&self.filesets, server).saturating_add(blocks) {
+            return Err(Refusal::NoRoom);
+        }
+        Ok(room)
+    }
+
+    fn room_of(&self, server: ServerId) -> Option<ServerRoom>
+        ensures { result ≡ room_of self.now.servers server }
+    {
+        if server.0 == 0 {
+            return None;
+        }
+        self.servers.at(server.0 as usize - 1).copied()
+    }
+
+    // Adds a fileset, for which its server gave a number.
+    fn add_fileset(
+        &mut self,
+        server: ServerId,
+        room: ServerRoom,
+        fileset: Fileset,
+    ) -> Result<(), NoMemory>
+        requires { room.next ≤ FILESET_NUMBER_MAX }
+        ensures ok { OnOk result (self.new ≡ with_fileset self.old server room fileset) }
+        ensures err { OnErr result (self.new ≡ self.old) }
+    {
+        let place = id_place(&self.filesets, fileset.id);
+        self.filesets.insert(place, fileset)?;
+        let next = room.next + 1;
+        let server = server.0.saturating_sub(1) as usize;
+        self.servers.put(server, ServerRoom { next, ..room });
+        Ok(())
+    }
+}
+
+// The id of a server's next fileset.
+fn next_id(server: ServerId, room: ServerRoom) -> FilesetId
+    requires { room.next ≤ FILESET_NUMBER_MAX }
+    ensures { result ≡ next_id server room }
+{
+    FilesetId(u32::from(server.0) * 65_536 + room.next)
+}
+
+// How many filesets a server has.
+fn fileset_count(filesets: &Items<Fileset>, server: ServerId) -> usize
+    ensures { result ≡ fileset_count server filesets.now }
+{
+    filesets
+        .as_slice()
+        .iter()
+        .filter(|fileset| fileset.server == server)
+        .count()
+}
+
+// The blocks that the filesets of a server are promised, at most the last number of 64 bits.
+fn promised(filesets: &Items<Fileset>, server: ServerId) -> u64
+    ensures { result ≡ min (promised server filesets.now) (2 ^ 64 - 1) }
+{
+    let mut blocks = 0u64;
+    for fileset in filesets.as_slice() {
+        if fileset.server == server {
+            blocks = blocks.saturating_add(fileset.promise());
+        }
+    }
+    blocks
+}

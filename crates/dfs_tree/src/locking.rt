@@ -1,0 +1,190 @@
+ghost use Rattle.std.specs.Prelude.{◌≡◌, ◌==◌, nat_eq, ◌<◌, ◌≤◌, not, filter, length, IfSome, IfOk, OnOk, OnErr};
+ghost use Rattle.std.specs.List.{position};
+ghost use Rattle.dfs_base.specs.Ids.{same_fid};
+ghost use Rattle.dfs_tree.specs.Uses.{label_before};
+ghost use Rattle.dfs_tree.specs.Locks.{is_lock, has_lock, lock_count, covers, is_own_locked, is_excluded, lock_check, lock_place, with_lock, lock_answer, unlock_answer};
+
+use crate::finding::fileset_named;
+use crate::tree::{LockUse, Tree};
+use crate::uses::{label_before, same_label};
+use dfs_base::{FILE_BYTES_MAX, Fid, HostId, Items, LABELS_MAX, Name, NoMemory, Plain, Span, User};
+use dfs_calls::{Place, Refusal, Reply};
+use dfs_objects::span_between;
+
+/// The bytes that a lock is asked for.
+#[derive(Clone, Copy)]
+pub(crate) struct Range {
+    pub(crate) from: u32,
+    pub(crate) len: u32,
+}
+
+impl Tree {
+    /// Locks bytes of a file under a label.
+    #[tactic(auto, unfolding(crate::specs::Locks::lock_answer))]
+    pub(crate) fn lock(
+        &mut self,
+        host: HostId,
+        user: &User,
+        label: &Name,
+        place: &Place,
+        writing: bool,
+        range: Range,
+    ) -> Result<Reply, NoMemory>
+        ensures reply { IfOk result (λ reply. reply ≡ (lock_answer self.old host user.now label.now place.now writing range.from range.len).reply) }
+        ensures tree { OnOk result (self.new ≡ (lock_answer self.old host user.now label.now place.now writing range.from range.len).tree) }
+        ensures err { OnErr result (self.new ≡ self.old) }
+    {
+        let (fid, span) = match self.lock_check(host, user, label, place, writing, range) {
+            Ok(found) => found,
+            Err(refusal) => return Ok(Reply::Refused(refusal)),
+        };
+        self.add_lock(LockUse {
+            host,
+            label: label.copy()?,
+            fid,
+            writing,
+            span,
+        })?;
+        Ok(Reply::Ok)
+    }
+
+    /// Ends the lock of a host with a label.
+    #[tactic(auto, unfolding(crate::specs::Locks::unlock_answer))]
+    pub(crate) fn unlock(&mut self, host: HostId, label: &Name) -> Reply
+        ensures reply { result ≡ (unlock_answer self.old host label.now).reply }
+        ensures tree { self.new ≡ (unlock_answer self.old host label.now).tree }
+    {
+        if !has_lock(&self.locks, host, label) {
+            return Reply::Refused(Refusal::NotLocked);
+        }
+        drop_lock(&mut self.locks, host, label);
+        Reply::Ok
+    }
+
+    // The checks of a lock, in their order: the file, and the bytes of it.
+    #[tactic(auto, unfolding(crate::specs::Locks::lock_check))]
+    fn lock_check(
+        &self,
+        host: HostId,
+        user: &User,
+        label: &Name,
+        place: &Place,
+        writing: bool,
+        range: Range,
+    ) -> Result<(Fid, Span), Refusal>
+        ensures { result ≡ lock_check self.now host user.now label.now place.now writing range.from range.len }
+    {
+        if has_lock(&self.locks, host, label) {
+            return Err(Refusal::AlreadyLocked);
+        }
+        if LABELS_MAX <= lock_count(&self.locks, host) {
+            return Err(Refusal::TooMany);
+        }
+        let fileset = fileset_named(&self.filesets, place.server, &place.fileset)?;
+        let fid = fileset.lock_target(user, place.path.as_slice(), writing)?;
+        let (from, end) = (
+            u64::from(range.from),
+            u64::from(range.from) + u64::from(range.len),
+        );
+        if u64::from(FILE_BYTES_MAX) < end {
+            return Err(Refusal::TooBig);
+        }
+        let span = span_between(from, end);
+        if is_own_locked(&self.locks, host, fid, span) {
+            return Err(Refusal::AlreadyLocked);
+        }
+        if is_excluded(&self.locks, host, fid, span, writing) {
+            return Err(Refusal::Locked);
+        }
+        Ok((fid, span))
+    }
+
+    fn add_lock(&mut self, lock: LockUse) -> Result<(), NoMemory>
+        ensures ok { OnOk result (self.new ≡ with_lock self.old lock) }
+        ensures err { OnErr result (self.new ≡ self.old) }
+    {
+        let place = lock_place(&self.locks, lock.host, &lock.label);
+        self.locks.insert(place, lock)
+    }
+}
+
+fn is_lock(lock: &LockUse, host: HostId, label: &Name) -> bool
+    ensures { result ≡ is_lock host label.now lock.now }
+{
+    same_label(lock.host, &lock.label, host, label)
+}
+
+fn has_lock(locks: &Items<LockUse>, host: HostId, label: &Name) -> bool
+    ensures { result ≡ has_lock locks.now host label.now }
+{
+    locks
+        .as_slice()
+        .iter()
+        .any(|lock| is_lock(lock, host, label))
+}
+
+// Lets a host's lock with a label go.
+fn drop_lock(locks: &mut Items<LockUse>, host: HostId, label: &Name)
+    ensures { locks.new ≡ filter (λ lock. not (is_lock host label.now lock)) locks.old }
+{
+    locks.retain(|lock| !is_lock(lock, host, label));
+}
+
+// How many locks a host has.
+fn lock_count(locks: &Items<LockUse>, host: HostId) -> usize
+    ensures { result ≡ lock_count locks.now host }
+{
+    locks
+        .as_slice()
+        .iter()
+        .filter(|lock| lock.host == host)
+        .count()
+}
+
+// Whether a lock is on a file and overlaps a span.
+fn covers(lock: &LockUse, fid: Fid, span: Span) -> bool
+    ensures { result ≡ covers fid span lock.now }
+{
+    lock.fid == fid && lock.span.overlaps(span)
+}
+
+// Whether a host has a lock there itself.
+fn is_own_locked(locks: &Items<LockUse>, host: HostId, fid: Fid, span: Span) -> bool
+    ensures { result ≡ is_own_locked locks.now host fid span }
+{
+    locks
+        .as_slice()
+        .iter()
+        .any(|lock| lock.host == host && covers(lock, fid, span))
+}
+
+// Whether another host has a lock there, one of both for writing.
+fn is_excluded(locks: &Items<LockUse>, host: HostId, fid: Fid, span: Span, writing: bool) -> bool
+    ensures { result ≡ is_excluded locks.now host fid span writing }
+{
+    locks.as_slice().iter().any(|lock| lock.host != host
+        && covers(lock, fid, span)
+        && (lock.writing || writing))
+}
+
+// The first lock that comes after a host's label.
+fn first_after(locks: &Items<LockUse>, host: HostId, label: &Name) -> Option<usize>
+    ensures value { result ≡ position (λ lock. label_before host label.now lock.host lock.label) locks.now }
+    ensures within { IfSome result (λ place. place < length locks.now) }
+{
+    locks
+        .as_slice()
+        .iter()
+        .position(|lock| label_before(host, label, lock.host, &lock.label))
+}
+
+// Where a lock goes.
+fn lock_place(locks: &Items<LockUse>, host: HostId, label: &Name) -> usize
+    ensures value { result ≡ lock_place locks.now host label.now }
+    ensures within { result ≤ length locks.now }
+{
+    match first_after(locks, host, label) {
+        Some(place) => place,
+        None => locks.len(),
+    }
+}

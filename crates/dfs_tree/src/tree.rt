@@ -1,0 +1,89 @@
+ghost use Rattle.std.specs.Prelude.{◌≡◌, [], map, IfOk, OnOk};
+ghost use Rattle.dfs_tree.specs.Founding.{new_room, new_tree};
+
+use dfs_base::{Fid, HostId, Items, Name, NoMemory, OpenKind, Plain, Span};
+use dfs_calls::Roster;
+use dfs_filesets::Fileset;
+
+/// What a server has for further filesets.
+#[derive(Clone, Copy)]
+pub struct ServerRoom {
+    /// The blocks that it offers to promises.
+    pub capacity: u32,
+    /// The number of its next fileset, from 1.
+    pub next: u32,
+}
+
+/// A lock in use.
+#[derive(Drop)]
+pub struct LockUse {
+    /// The host that has it.
+    pub host: HostId,
+    /// The host's label of it.
+    pub label: Name,
+    /// The file.
+    pub fid: Fid,
+    /// Whether it is for writing, so that it excludes all others of its bytes.
+    pub writing: bool,
+    /// The bytes that are locked.
+    pub span: Span,
+}
+
+/// An open file.
+#[derive(Drop)]
+pub struct OpenUse {
+    /// The host that has it open.
+    pub host: HostId,
+    /// The host's label of it.
+    pub label: Name,
+    /// The file.
+    pub fid: Fid,
+    /// How it is open.
+    pub kind: OpenKind,
+}
+
+/// The file tree of the whole service (Kazar et al., "DEcorum File System Architectural Overview", 1990; Chutani et al.,
+/// "The Episode File System", 1992).
+#[derive(Drop)]
+pub struct Tree {
+    /// Who takes part.
+    pub roster: Roster,
+    /// What each server has for further filesets, from the first server on.
+    pub servers: Items<ServerRoom>,
+    /// The filesets, in the order of their ids.
+    pub filesets: Items<Fileset>,
+    /// The locks in use, by host and then by label.
+    pub locks: Items<LockUse>,
+    /// The open files, by host and then by label.
+    pub opens: Items<OpenUse>,
+}
+
+impl Tree {
+    /// The tree of a roster, in which there is no fileset.
+    pub fn new(roster: &Roster) -> Result<Tree, NoMemory>
+        ensures { IfOk result (λ tree. tree ≡ new_tree roster.now) }
+    {
+        let alloc = roster.users.alloc();
+        Ok(Tree {
+            roster: roster.copy()?,
+            servers: rooms(&roster.capacity)?,
+            filesets: Items::new(alloc),
+            locks: Items::new(alloc),
+            opens: Items::new(alloc),
+        })
+    }
+}
+
+// What servers of these capacities have before their first filesets.
+fn rooms(capacity: &Items<u32>) -> Result<Items<ServerRoom>, NoMemory>
+    ensures { IfOk result (λ rooms. rooms ≡ map new_room capacity.now) }
+{
+    let mut rooms = Items::new(capacity.alloc());
+    for capacity in capacity.as_slice() {
+        rooms.push(ServerRoom {
+            capacity: *capacity,
+            next: 1,
+        })?;
+    }
+    Ok(rooms)
+}
