@@ -1,0 +1,4 @@
+pub mod Grants
+pub mod Laws
+pub mod Managers
+pub mod Wants

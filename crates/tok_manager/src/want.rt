@@ -1,0 +1,110 @@
+ghost use Rattle.std.specs.Prelude.{◌≡◌, not, option_map};
+ghost use Rattle.std.specs.List.{list_any, find, filter};
+ghost use Rattle.std.specs.Option.{option_copied};
+ghost use Rattle.tok_types.specs.Conflicts.{any_conflict};
+ghost use Rattle.tok_manager.specs.Wants.{wants_conflict, is_ahead, first_ahead, without_want, not_wants_of};
+
+use dfs_base::{HostId, Items, NoMemory, Plain};
+use tok_types::{Need, Token};
+
+/// What a host asks for: a token for each of its needs, all at once. One want has at most `NEEDS_MAX` needs. A want
+/// without needs conflicts with nothing.
+#[derive(Drop)]
+pub struct Want {
+    /// Chosen by whoever asks; later wants have greater numbers.
+    pub number: u64,
+    pub host: HostId,
+    pub needs: Items<Need>,
+}
+
+/// The answer to a want that is asked.
+#[derive(Drop)]
+pub enum Asked {
+    /// The want is granted: a token for each of its needs, in their order.
+    Granted(Items<Token>),
+    /// The want is queued.
+    Waits {
+        /// The granted tokens of other hosts that conflict with it, but for those that are pinned.
+        revoke: Items<Token>,
+        /// The number of the first queued want that conflicts with it.
+        behind: Option<u64>,
+    },
+}
+
+/// The decision on a queued want, with its number. The want leaves the queue.
+#[derive(Drop)]
+pub enum Ready {
+    /// The want is granted: a token for each of its needs, in their order.
+    Granted(u64, Items<Token>),
+    /// This pinned token conflicts with the want.
+    Refused(u64, Token),
+}
+
+impl Plain for Want {
+    fn copy(&self) -> Result<Want, NoMemory> {
+        Ok(Want {
+            number: self.number,
+            host: self.host,
+            needs: self.needs.copy()?,
+        })
+    }
+}
+
+impl Plain for Asked {
+    fn copy(&self) -> Result<Asked, NoMemory> {
+        match self {
+            Asked::Granted(tokens) => Ok(Asked::Granted(tokens.copy()?)),
+            Asked::Waits { revoke, behind } => Ok(Asked::Waits {
+                revoke: revoke.copy()?,
+                behind: *behind,
+            }),
+        }
+    }
+}
+
+impl Plain for Ready {
+    fn copy(&self) -> Result<Ready, NoMemory> {
+        match self {
+            Ready::Granted(number, tokens) => Ok(Ready::Granted(*number, tokens.copy()?)),
+            Ready::Refused(number, token) => Ok(Ready::Refused(*number, *token)),
+        }
+    }
+}
+
+impl Want {
+    /// Whether another want was asked before this one and conflicts with it.
+    pub(crate) fn is_behind(&self, other: &Want) -> bool
+        ensures { result ≡ is_ahead self.now other.now }
+    {
+        other.number < self.number
+            && self.host != other.host
+            && needs_conflict(self.needs.as_slice(), other.needs.as_slice())
+    }
+}
+
+/// The first of the queued wants that was asked before this one and conflicts with it.
+pub(crate) fn first_ahead<'a>(queue: &'a [Want], want: &Want) -> Option<&'a Want>
+    ensures { option_copied result ≡ first_ahead queue.now want.now }
+{
+    queue.iter().find(|other| want.is_behind(other))
+}
+
+fn needs_conflict(needs: &[Need], others: &[Need]) -> bool
+    ensures { result ≡ list_any (λ need. any_conflict need others.now) needs.now }
+{
+    needs.iter().any(|need| need.conflicts_any(others))
+}
+
+/// Takes the want of a number out of the queue.
+pub(crate) fn drop_want(queue: &mut Items<Want>, number: u64)
+    ensures { queue.new ≡ without_want queue.old number }
+{
+    queue.retain(|want| want.number != number);
+}
+
+/// Takes the wants of a host out of the queue.
+pub(crate) fn drop_wants_of(queue: &mut Items<Want>, host: HostId)
+    ensures { queue.new ≡ not_wants_of queue.old host }
+{
+    queue.retain(|want| want.host != host);
+}

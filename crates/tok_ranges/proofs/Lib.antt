@@ -1,0 +1,5 @@
+pub mod Apart
+pub mod Covering
+pub mod Cutting
+pub mod Joining
+pub mod Missing

@@ -1,0 +1,47 @@
+-- Which tokens conflict.
+use Rattle.std.specs.Prelude.{Bool, true, false, ◌==◌, ◌&&◌, ◌||◌, not, List}
+use Rattle.std.specs.List.{list_any}
+use Rattle.dfs_base.specs.Spans.{overlap}
+use Rattle.dfs_base.specs.Opens.{opens_conflict}
+use Rattle.dfs_base.specs.Ids.{same_fid}
+use Rattle.dfs_base.specs.declared.ids.Fid.{Fid}
+use Rattle.dfs_base.specs.declared.ids.HostId.{HostId}
+use Rattle.dfs_base.specs.declared.ids.OpenKind.{OpenKind}
+use Rattle.dfs_base.specs.declared.ids.OpenKind.TheVariants.{Writing, Executing, Shared, Exclusive}
+use Rattle.tok_types.specs.declared.token.Kind.{Kind}
+use Rattle.tok_types.specs.declared.token.Kind.TheVariants.{Bytes, Status, Lock, Opening}
+use Rattle.tok_types.specs.declared.token.Need.{Need}
+use Rattle.tok_types.specs.declared.token.Token.{Token}
+use Rattle.tok_types.specs.declared.token.TokenId.{TokenId}
+
+-- whether two tokens have one number
+abbrev pub same_id : TokenId → TokenId → Bool
+same_id a b = (a.server.0 == b.server.0) && (a.epoch == b.epoch) && (a.seq == b.seq)
+
+-- whether two hosts cannot both have these of one object
+abbrev pub kinds_conflict : Kind → Kind → Bool
+kinds_conflict (Bytes update span) (Bytes other_update other_span) = (update || other_update) && overlap span other_span
+kinds_conflict (Status update) (Status other_update) = update || other_update
+kinds_conflict (Lock writing span) (Lock other_writing other_span) = (writing || other_writing) && overlap span other_span
+kinds_conflict (Opening kind) (Opening other) = opens_conflict kind other
+kinds_conflict _ _ = false
+
+-- whether two hosts' needs cannot both be met
+abbrev pub needs_conflict : Need → Need → Bool
+needs_conflict a b = same_fid a.fid b.fid && kinds_conflict a.kind b.kind
+
+-- the need that a token meets
+abbrev pub need_of : Token → Need
+need_of token = record { fid = token.fid; kind = token.kind }
+
+-- whether two tokens conflict
+abbrev pub conflict : Token → Token → Bool
+conflict a b = not (a.host.0 == b.host.0) && needs_conflict (need_of a) (need_of b)
+
+-- whether a host's need conflicts with one of those of another host
+abbrev pub any_conflict : Need → List Need → Bool
+any_conflict need others = list_any (λ other. needs_conflict need other) others
+
+-- whether a token is in the way of a host's needs: it is another host's, and conflicts with one of them
+abbrev pub blocks : HostId → List Need → Token → Bool
+blocks host needs token = not (token.host.0 == host.0) && any_conflict (need_of token) needs
