@@ -1,0 +1,131 @@
+ghost use Rattle.std.specs.Prelude.{◌≡◌, ◌≤◌, length, OnOk};
+ghost use Rattle.script_words.specs.Lines.{lines_of};
+ghost use Rattle.std.specs.Prelude.{Result};
+ghost use Rattle.script_lines.specs.declared.context.Context.{Context as ContextOf};
+ghost use Rattle.run_script.specs.declared.refused.ScriptRefused.{ScriptRefused as ScriptRefusedOf};
+ghost use Rattle.script_lines.specs.Judge.{nothing_said};
+ghost use Rattle.dfs_base.specs.declared.limits.TheConstants.{SCRIPT_LINES_MAX};
+ghost use Rattle.run_script.specs.Laws.{LaterLinesChangeNothing};
+ghost use Rattle.run_script.specs.Scripts.{Reads, Leaves, next_judged, judged_from, limited, ended_by, script_before_walk, script_of};
+
+use crate::refused::ScriptRefused;
+use crate::walk::stuck_at;
+use dfs_base::SCRIPT_LINES_MAX;
+use script_lines::{Context, Script};
+use script_words::{BadWhy, Fault, next_line};
+use std::alloc::Global;
+
+// The number of the first line that is too many.
+const LINE_TOO_MANY: u32 = SCRIPT_LINES_MAX as u32 + 1;
+
+// What all lines say, or the first that is refused.
+#[tactic(auto, unfolding(script_words::specs::Lines::lines_of))]
+fn judge(alloc: Global, bytes: &[u8], disks: u32) -> Result<Context, ScriptRefused>
+    ensures { Reads result (judged_from nothing_said disks 1 (lines_of bytes.now)) }
+{
+    let mut context = Context::new(alloc);
+    let mut rest = bytes;
+    let mut number = 1;
+    while !rest.is_empty() {
+        let (line, after) = next_line(rest);
+        if number >= LINE_TOO_MANY {
+            return Err(ScriptRefused::BadLine(LINE_TOO_MANY, BadWhy::Lines));
+        }
+        take_next(&mut context, disks, number, line, after, alloc)?;
+        rest = after;
+        number += 1;
+    }
+    Ok(context)
+}
+
+// Takes a line, and at the last header the names of the clones after it.
+#[tactic(auto, unfolding(crate::specs::Scripts::next_judged))]
+fn take_next(
+    context: &mut Context,
+    disks: u32,
+    number: u32,
+    line: &[u8],
+    after: &[u8],
+    alloc: Global,
+) -> Result<(), ScriptRefused>
+    ensures { Leaves result context.new (next_judged context.old disks number line.now (lines_of after.now)) }
+{
+    let begun = context.begun;
+    match context.take_line(alloc, disks, number, line) {
+        Ok(()) => (),
+        Err(Fault::Bad(why)) => return Err(ScriptRefused::BadLine(number, why)),
+        Err(Fault::Memory) => return Err(ScriptRefused::Memory),
+    }
+    if context.begun && !begun {
+        context.place_clones(alloc, after)?;
+    }
+    Ok(())
+}
+
+// How many lines there are.
+#[tactic(auto, unfolding(script_words::specs::Lines::lines_of))]
+fn count_lines(bytes: &[u8]) -> usize
+    ensures { result ≡ length (lines_of bytes.now) }
+{
+    let mut rest = bytes;
+    let mut count = 0;
+    while !rest.is_empty() {
+        let (_, after) = next_line(rest);
+        rest = after;
+        count += 1;
+    }
+    count
+}
+
+// Too many lines come before all other causes but too many disks.
+fn limited(lines: usize, judged: Result<Context, ScriptRefused>) -> Result<Context, ScriptRefused>
+    ensures value { (read : Result ContextOf ScriptRefusedOf) → Reads judged read → Reads result (limited lines read) }
+    ensures few { OnOk result (lines ≤ SCRIPT_LINES_MAX) }
+{
+    if lines <= SCRIPT_LINES_MAX {
+        return judged;
+    }
+    match judged {
+        Err(ScriptRefused::BadLine(number, BadWhy::Disks)) => {
+            Err(ScriptRefused::BadLine(number, BadWhy::Disks))
+        }
+        Err(ScriptRefused::Memory) => Err(ScriptRefused::Memory),
+        _ => Err(ScriptRefused::BadLine(LINE_TOO_MANY, BadWhy::Lines)),
+    }
+}
+
+// The script of these bytes, but for the walk along its awaits.
+#[tactic(auto, unfolding(crate::specs::Scripts::script_before_walk))]
+fn read_lines(alloc: Global, bytes: &[u8], disks: u32) -> Result<Script, ScriptRefused>
+    ensures { Reads result (script_before_walk bytes.now disks) }
+{
+    let lines = count_lines(bytes);
+    let context = limited(lines, judge(alloc, bytes, disks))?;
+    if !context.begun {
+        return Err(ScriptRefused::BadLine(lines as u32 + 1, BadWhy::Order));
+    }
+    Ok(context.script)
+}
+
+/// The script that these bytes say, for a service with so many disks, or why they are refused: exactly what `script_of` says,
+/// unless memory ran out.
+///
+/// The first refused line decides. In it faults of line length, bytes and quotes come first, then the words from left to
+/// right, then too few or too many words. More than `SCRIPT_LINES_MAX` lines come before all causes but `Disks`. Rules
+/// about the whole script come last: `begin` missing, and then lines that wait for one another (`Stuck`).
+#[tactic(auto, unfolding(crate::specs::Scripts::script_of))]
+pub fn read_script(alloc: Global, bytes: &[u8], disks: u32) -> Result<Script, ScriptRefused>
+    ensures { Reads result (script_of bytes.now disks) }
+{
+    let script = read_lines(alloc, bytes, disks)?;
+    match stuck_at(alloc, &script.lines)? {
+        Some(number) => Err(ScriptRefused::Stuck(number)),
+        None => Ok(script),
+    }
+}
+
+/// Law: lines after a refused one don't change why it is refused, but by the names that clones among them place. (That there
+/// are too many lines, or that `begin` is missing, is judged above this, of the whole script.)
+pub fn later_lines_change_nothing()
+    ensures { LaterLinesChangeNothing }
+{}

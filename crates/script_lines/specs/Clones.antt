@@ -1,0 +1,91 @@
+use Rattle.std.specs.Prelude.{◌≡◌, ℕ, zero, suc, ◌&&◌, Bool, true, false, if◌then◌else◌, List, [], ◌∷◌, ◌++◌, length, Option, Some, None, Result, Ok, Err, codes}
+use Rattle.std.specs.List.{find}
+use Rattle.dfs_base.specs.Name.{is_name, same_name}
+use Rattle.dfs_base.specs.declared.ids.ServerId.{ServerId}
+use Rattle.dfs_base.specs.declared.ids.Node.{Node}
+use Rattle.dfs_base.specs.declared.ids.Node.TheVariants.{Host}
+use Rattle.script_words.specs.Words.{words_of_line}
+use Rattle.script_words.specs.Fields.{is_word, node_of}
+use Rattle.script_lines.specs.Context.{find_placed, server_of}
+use Rattle.script_lines.specs.declared.context.Context.{Context}
+use Rattle.script_lines.specs.declared.context.Placed.{Placed}
+use Rattle.script_lines.specs.declared.clones.CloneLine.{CloneLine}
+use Rattle.script_words.specs.declared.fault.BadWhy.{BadWhy}
+
+-- whether a word is the node of a host
+abbrev pub is_host : Option Node → Bool
+is_host (Some (Host host)) = true
+is_host _ = false
+
+-- a name, where it is one
+abbrev pub name_if : List ℕ → Option (List ℕ)
+name_if bytes = if is_name bytes then Some bytes else None
+
+-- a clone of a source
+abbrev pub clone_by : Option (List ℕ) → Option (List ℕ) → Option CloneLine
+clone_by (Some source) (Some new) = Some (record { source = source; new = new })
+clone_by _ _ = None
+
+-- the clone that four words ask for, whatever else is wrong with them
+unfoldable pub clone_of : List (List ℕ) → Option CloneLine
+clone_of (node ∷ verb ∷ source ∷ new ∷ []) =
+    if is_host (node_of node) && is_word verb (codes "clone") then clone_by (name_if source) (name_if new) else None
+clone_of _ = None
+
+-- the clone of a line whose words can be read
+abbrev pub clone_said : Result (List (List ℕ)) BadWhy → Option CloneLine
+clone_said (Ok words) = clone_of words
+clone_said (Err why) = None
+
+-- the clone that a line asks for
+unfoldable pub clone_in : List ℕ → Option CloneLine
+clone_in line = clone_said (words_of_line line)
+
+-- a line that clones no fileset
+abbrev pub ClonesNothing : List ℕ → Type 0
+ClonesNothing line = clone_in line ≡ None
+
+-- these clones and one more
+abbrev pub with_clone : List CloneLine → Option CloneLine → List CloneLine
+with_clone clones None = clones
+with_clone clones (Some clone) = clones ++ clone ∷ []
+
+-- the clones of lines, after these
+abbrev pub clones_from : List CloneLine → List (List ℕ) → List CloneLine
+clones_from clones [] = clones
+clones_from clones (line ∷ lines) = clones_from (with_clone clones (clone_in line)) lines
+
+-- the first clone with this name
+abbrev pub find_clone : List CloneLine → List ℕ → Option CloneLine
+find_clone clones name = find (λ clone. same_name clone.new name) clones
+
+-- the server where it is placed, else another
+abbrev pub found_server : Option Placed → Option ServerId → Option ServerId
+found_server (Some found) other = Some found.server
+found_server None other = other
+
+-- the server of the source
+abbrev pub by_source : Option CloneLine → (List ℕ → Option ServerId) → Option ServerId
+by_source None next = None
+by_source (Some clone) next = next clone.source
+
+-- the server of a name: it is placed, or the first clone of it has a source that is, by at most so many steps
+abbrev pub place_by : ℕ → List Placed → List CloneLine → List ℕ → Option ServerId
+place_by zero placed clones name = server_of placed name
+place_by (suc steps) placed clones name =
+    found_server (find_placed placed name) (by_source (find_clone clones name) (λ source. place_by steps placed clones source))
+
+-- one more that is placed
+abbrev pub placed_also : List Placed → List ℕ → Option ServerId → List Placed
+placed_also placed name None = placed
+placed_also placed name (Some server) = placed ++ record { name = name; server = server } ∷ []
+
+-- each clone places its name, where its source is placed
+abbrev pub placed_from : List CloneLine → List Placed → List CloneLine → List Placed
+placed_from clones placed [] = placed
+placed_from clones placed (clone ∷ more) = placed_from clones (placed_also placed clone.new (place_by (length clones) placed clones clone.new)) more
+
+-- the names of all clones among these lines are placed
+unfoldable pub with_clones : Context → List (List ℕ) → Context
+with_clones context lines =
+    record context { placed = placed_from (clones_from [] lines) context.placed (clones_from [] lines) }

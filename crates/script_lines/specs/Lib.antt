@@ -1,0 +1,6 @@
+pub mod Context
+pub mod Deeds
+pub mod Plan
+pub mod Headers
+pub mod Judge
+pub mod Clones

@@ -1,0 +1,129 @@
+ghost use Rattle.std.specs.Prelude.{◌≡◌};
+ghost use Rattle.script_words.specs.Outcome.{Gives, Becomes};
+ghost use Rattle.script_lines.specs.Plan.{plan_deed_of, kind_of, node_named, is_pair, flag_at, plan_at, plan_line};
+
+use crate::context::Context;
+use crate::script::{NUMBER_MAX, PlanDeed, PlanLine};
+use dfs_base::{Name, Node};
+use script_words::{
+    BadWhy, Fault, Words, end_at, is_word, known, label_at, node_of, small_at, unless, word_at,
+};
+
+#[tactic(auto, unfolding(crate::specs::Plan::plan_deed_of))]
+fn plan_deed_of(word: &[u8]) -> Option<PlanDeed>
+    ensures { result ≡ plan_deed_of word.now }
+{
+    if is_word(word, b"drop") {
+        Some(PlanDeed::Drop)
+    } else if is_word(word, b"hold") {
+        Some(PlanDeed::Hold)
+    } else if is_word(word, b"again") {
+        Some(PlanDeed::Again)
+    } else {
+        None
+    }
+}
+
+// The number of a message's kind.
+#[tactic(auto, unfolding(crate::specs::Plan::kind_of))]
+fn kind_of(word: &[u8]) -> Option<u8>
+    ensures { result ≡ kind_of word.now }
+{
+    if is_word(word, b"hello") {
+        Some(1)
+    } else if is_word(word, b"fetch") {
+        Some(2)
+    } else if is_word(word, b"grant") {
+        Some(3)
+    } else if is_word(word, b"change") {
+        Some(4)
+    } else if is_word(word, b"done") {
+        Some(5)
+    } else if is_word(word, b"revoke") {
+        Some(6)
+    } else if is_word(word, b"returned") {
+        Some(7)
+    } else if is_word(word, b"kept") {
+        Some(8)
+    } else if is_word(word, b"giveback") {
+        Some(9)
+    } else if is_word(word, b"gone") {
+        Some(10)
+    } else if is_word(word, b"reclaim") {
+        Some(11)
+    } else if is_word(word, b"reclaimed") {
+        Some(12)
+    } else if is_word(word, b"restarted") {
+        Some(13)
+    } else if is_word(word, b"bye") {
+        Some(15)
+    } else {
+        None
+    }
+}
+
+#[tactic(auto, unfolding(crate::specs::Plan::node_named))]
+fn node_named(words: &Words, i: usize) -> Result<Node, Fault>
+    ensures { Gives result (node_named words.now i) }
+{
+    known(node_of(word_at(words, i)?.as_slice()))
+}
+
+// Whether these are one host and one server.
+fn is_pair(from: Node, to: Node) -> bool
+    ensures { result ≡ is_pair from to }
+{
+    match (from, to) {
+        (Node::Host(_), Node::Server(_)) => true,
+        (Node::Server(_), Node::Host(_)) => true,
+        _ => false,
+    }
+}
+
+// The flag that ends a line which has one.
+#[tactic(auto, unfolding(crate::specs::Plan::flag_at))]
+fn flag_at(deed: PlanDeed, words: &Words) -> Result<Option<Name>, Fault>
+    ensures { Gives result (flag_at deed words.now) }
+{
+    if matches!(deed, PlanDeed::Drop) {
+        end_at(words, 6)?;
+        return Ok(None);
+    }
+    let flag = label_at(words, 6)?;
+    end_at(words, 7)?;
+    Ok(Some(flag))
+}
+
+impl Context {
+    #[tactic(auto, unfolding(crate::specs::Plan::plan_at))]
+    fn plan_at(&self, words: &Words) -> Result<PlanLine, Fault>
+        ensures { Gives result (plan_at self.now.script words.now) }
+    {
+        let deed = known(plan_deed_of(word_at(words, 1)?.as_slice()))?;
+        let from = self.node_declared(node_named(words, 2)?)?;
+        let to = node_named(words, 3)?;
+        unless(!is_pair(from, to), BadWhy::Word)?;
+        self.node_declared(to)?;
+        let kind = known(kind_of(word_at(words, 4)?.as_slice()))?;
+        let n = small_at(words, 5, 1, NUMBER_MAX)?;
+        let flag = flag_at(deed, words)?;
+        Ok(PlanLine {
+            deed,
+            from,
+            to,
+            kind,
+            n,
+            flag,
+        })
+    }
+
+    /// Takes the header that tells what befalls a message.
+    #[tactic(auto, unfolding(crate::specs::Plan::plan_line))]
+    pub(crate) fn plan_line(&mut self, words: &Words) -> Result<(), Fault>
+        ensures { Becomes result self.new (plan_line self.old words.now) }
+    {
+        let plan = self.plan_at(words)?;
+        self.script.plan.push(plan)?;
+        Ok(())
+    }
+}

@@ -1,0 +1,6 @@
+pub mod Outcome
+pub mod Lines
+pub mod Words
+pub mod Spelling
+pub mod Fields
+pub mod Lists
