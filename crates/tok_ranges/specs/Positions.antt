@@ -1,6 +1,5 @@
 -- Sets of positions, as lists of spans.
-use Rattle.std.specs.Prelude.{◌≡◌, ◌≤◌, ◌<◌, ◌+◌, ℕ, Bool, IsTrue, ◌&&◌, ◌||◌, not, nat_le, nat_lt, List, [], ◌∷◌}
-use Rattle.std.specs.List.{list_any}
+use Rattle.std.specs.Prelude.{◌≡◌, ◌≤◌, ◌<◌, ◌+◌, ℕ, IsTrue, ◌&&◌, ◌||◌, not, nat_le, nat_lt, List, [], ◌∷◌}
 use Rattle.dfs_base.specs.declared.limits.TheConstants.{FILE_BYTES_MAX}
 use Rattle.dfs_base.specs.Spans.{has_byte, in_spans}
 use Rattle.dfs_base.specs.declared.span.Span.{Span}

@@ -1,13 +1,10 @@
 -- Which tokens conflict.
-use Rattle.std.specs.Prelude.{Bool, true, false, ◌==◌, ◌&&◌, ◌||◌, not, List}
+use Rattle.std.specs.Prelude.{Bool, false, ◌==◌, ◌&&◌, ◌||◌, not, List}
 use Rattle.std.specs.List.{list_any}
 use Rattle.dfs_base.specs.Spans.{overlap}
 use Rattle.dfs_base.specs.Opens.{opens_conflict}
 use Rattle.dfs_base.specs.Ids.{same_fid}
-use Rattle.dfs_base.specs.declared.ids.Fid.{Fid}
 use Rattle.dfs_base.specs.declared.ids.HostId.{HostId}
-use Rattle.dfs_base.specs.declared.ids.OpenKind.{OpenKind}
-use Rattle.dfs_base.specs.declared.ids.OpenKind.TheVariants.{Writing, Executing, Shared, Exclusive}
 use Rattle.tok_types.specs.declared.token.Kind.{Kind}
 use Rattle.tok_types.specs.declared.token.Kind.TheVariants.{Bytes, Status, Lock, Opening}
 use Rattle.tok_types.specs.declared.token.Need.{Need}

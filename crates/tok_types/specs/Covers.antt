@@ -1,5 +1,5 @@
 -- What tokens cover.
-use Rattle.std.specs.Prelude.{◌≤◌, ◌<◌, ℕ, Bool, true, false, IsTrue, ◌==◌, ◌&&◌, ◌||◌, not, nat_le, nat_lt, List}
+use Rattle.std.specs.Prelude.{◌≤◌, ◌<◌, ℕ, Bool, true, false, IsTrue, ◌==◌, ◌&&◌, ◌||◌, not, List}
 use Rattle.std.specs.Bool.{beq}
 use Rattle.std.specs.List.{list_any}
 use Rattle.dfs_base.specs.declared.ids.Fid.{Fid}
