@@ -6,7 +6,7 @@ ghost use Rattle.dfs_objects.specs.contracts.content.Anode.{the_row as anode_row
 ghost use Rattle.dfs_filesets.specs.Updates.{with_anode};
 ghost use Rattle.dfs_filesets.specs.Walk.{object_at};
 
-use dfs_base::{FilesetId, Items, Name, ServerId};
+use dfs_base::{FilesetId, Items, Name, NoMemory, Plain, ServerId};
 use dfs_objects::{Anode, Object};
 
 /// A fileset: a tree of objects, which stand at anodes (Chutani et al., "The Episode File System", 1992). No function
@@ -52,5 +52,18 @@ impl Fileset {
         } else {
             None
         }
+    }
+}
+
+impl Plain for Fileset {
+    fn copy(&self) -> Result<Fileset, NoMemory> {
+        Ok(Fileset {
+            server: self.server,
+            id: self.id,
+            name: self.name.copy()?,
+            read_only: self.read_only,
+            objects: self.objects,
+            anodes: self.anodes.copy()?,
+        })
     }
 }

@@ -1,4 +1,4 @@
-use dfs_base::{AccessList, HostId, Items, Name};
+use dfs_base::{AccessList, HostId, Items, Name, NoMemory, Plain};
 use dfs_calls::DirEntry;
 
 /// A byte of a file that a host has written and not stored yet.
@@ -63,4 +63,51 @@ pub struct Anode {
     pub unique: u32,
     /// The object of the present use.
     pub object: Option<Object>,
+}
+
+impl Plain for Unsaved {
+    fn copy(&self) -> Result<Unsaved, NoMemory> {
+        Ok(*self)
+    }
+}
+
+impl Plain for Content {
+    fn copy(&self) -> Result<Content, NoMemory> {
+        Ok(match self {
+            Content::Dir { entries, lists } => Content::Dir {
+                entries: entries.copy()?,
+                lists: lists.copy()?,
+            },
+            Content::File {
+                list,
+                kept,
+                unsaved,
+                length,
+            } => Content::File {
+                list: list.copy()?,
+                kept: kept.copy()?,
+                unsaved: unsaved.copy()?,
+                length: *length,
+            },
+        })
+    }
+}
+
+impl Plain for Object {
+    fn copy(&self) -> Result<Object, NoMemory> {
+        Ok(Object {
+            owner: self.owner.copy()?,
+            group: self.group.copy()?,
+            content: self.content.copy()?,
+        })
+    }
+}
+
+impl Plain for Anode {
+    fn copy(&self) -> Result<Anode, NoMemory> {
+        Ok(Anode {
+            unique: self.unique,
+            object: self.object.copy()?,
+        })
+    }
 }

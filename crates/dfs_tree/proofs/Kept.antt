@@ -63,7 +63,8 @@ use Rattle.dfs_tree.specs.Answers.{for_user, answer_at, deciding_place, fileset_
 use Rattle.dfs_tree.specs.Stores.{content_in, may_store, place_with_id, stored_tree}
 use Rattle.dfs_tree.specs.Losses.{fileset_forgotten, down_tree}
 use Rattle.dfs_tree.specs.Histories.{IsLegal, after_entry}
-use Rattle.dfs_tree.specs.WellFormed.{ids_rise, is_declared, is_given, is_between, AreWellFormed, names_file, IsWellFormed, keeps_limits, keeps_limit, is_limited}
+use Rattle.dfs_tree.specs.WellFormed.{ids_rise, is_declared, is_given, AreWellFormed, names_file, IsWellFormed, is_limited}
+use Rattle.dfs_calls.specs.Limits.{is_between, keeps_limits, keeps_limit}
 use Rattle.dfs_tree.proofs.Followed.{Follows, follows_itself, set_follows, changed_follows, map_follows, well_formed_followed}
 use Rattle.dfs_tree.proofs.Inserted.{IsFresh, all_insert, position_or_end, found_there, ordered_insert, named_insert, not_taken, formed_insert, names_insert, declared_by_room, fresh_id, given_after, given_now}
 

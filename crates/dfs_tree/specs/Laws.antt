@@ -28,7 +28,8 @@ use Rattle.dfs_tree.specs.Finding.{has_id, fileset_named}
 use Rattle.dfs_tree.specs.Histories.{IsLegal, after_entry, IsHistory, after_history}
 use Rattle.dfs_tree.specs.Stores.{content_at}
 use Rattle.dfs_tree.specs.Effects.{file_after}
-use Rattle.dfs_tree.specs.WellFormed.{IsWellFormed, keeps_limits, is_limited}
+use Rattle.dfs_calls.specs.Limits.{keeps_limits}
+use Rattle.dfs_tree.specs.WellFormed.{IsWellFormed, is_limited}
 
 -- a refused call changes nothing
 abbrev pub RefusedChangesNothing : Type 0

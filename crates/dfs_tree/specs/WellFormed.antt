@@ -1,35 +1,20 @@
 -- When a tree is well formed.
-use Rattle.std.specs.Prelude.{◌≡◌, ℕ, ◌/◌, ◌%◌, nat_lt, nat_le, Bool, true, false, ◌&&◌, not, List, [], ◌∷◌, length}
+use Rattle.std.specs.Prelude.{◌≡◌, ℕ, ◌/◌, ◌%◌, nat_lt, Bool, true, false, ◌&&◌, not, List, [], ◌∷◌, length}
 use Rattle.std.specs.List.{list_any, list_all, find}
 use Rattle.std.specs.Option.{option_map_or}
 use Rattle.dfs_base.specs.declared.ids.Fid.{Fid}
 use Rattle.dfs_base.specs.declared.ids.FilesetId.{FilesetId}
 use Rattle.dfs_base.specs.declared.ids.ServerId.{ServerId}
-use Rattle.dfs_base.specs.declared.limits.TheConstants.{SERVERS_MAX, HOSTS_MAX, GROUPS_MAX, CAPACITY_MIN, CAPACITY_MAX, CACHED_TOKENS_MIN, CACHED_TOKENS_MAX, OBJECTS_MAX}
-use Rattle.dfs_calls.specs.declared.call.Call.{Call as CallOf}
-use Rattle.dfs_calls.specs.declared.call.Call.TheVariants.{NewFileset}
 use Rattle.dfs_calls.specs.declared.entry.Entry.{Entry}
 use Rattle.dfs_calls.specs.declared.entry.Entry.TheVariants.{Call}
 use Rattle.dfs_filesets.specs.declared.fileset.Fileset.{Fileset}
 use Rattle.dfs_filesets.specs.WellFormed.{IsWellFormed as IsWellFormedFileset}
 use Rattle.dfs_filesets.specs.Laws.{is_file_at}
-use Rattle.dfs_calls.specs.declared.roster.Roster.{Roster}
+use Rattle.dfs_calls.specs.Limits.{is_between, keeps_limits, keeps_limit}
 use Rattle.dfs_tree.specs.declared.tree.Tree.{Tree}
 use Rattle.dfs_tree.specs.declared.tree.ServerRoom.{ServerRoom}
 use Rattle.dfs_tree.specs.Finding.{is_named, has_id}
 use Rattle.dfs_tree.specs.Founding.{room_of}
-
--- whether a number lies between two others
-abbrev pub is_between : ℕ → ℕ → ℕ → Bool
-is_between least most n = nat_le least n && nat_le n most
-
--- whether a roster keeps the limits of the service
-abbrev pub keeps_limits : Roster → Bool
-keeps_limits roster =
-    is_between 1 SERVERS_MAX (length roster.capacity) && nat_le (length roster.hosts) HOSTS_MAX
-    && list_all (is_between CAPACITY_MIN CAPACITY_MAX) roster.capacity
-    && list_all (λ user. is_between 1 GROUPS_MAX (length user.groups)) roster.users
-    && list_all (λ line. nat_lt line.user (length roster.users) && is_between CACHED_TOKENS_MIN CACHED_TOKENS_MAX line.limit) roster.hosts
 
 -- whether the ids of filesets rise
 abbrev pub ids_rise : List Fileset → Bool
@@ -73,11 +58,6 @@ pub record IsWellFormed (tree : Tree) : Type 0 where
   -- each lock and each open is on a file that is there
   pub locks : list_all (λ lock. names_file tree.filesets lock.fid) tree.locks ≡ true
   pub opens : list_all (λ opened. names_file tree.filesets opened.fid) tree.opens ≡ true
-
--- whether a call keeps its limit: a new fileset has at least one object, and at most so many
-abbrev pub keeps_limit : CallOf → Bool
-keeps_limit (NewFileset server name objects owner) = is_between 1 OBJECTS_MAX objects
-keeps_limit _ = true
 
 -- whether an entry keeps the limits of the service
 abbrev pub is_limited : Entry → Bool

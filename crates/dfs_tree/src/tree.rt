@@ -58,6 +58,47 @@ pub struct Tree {
     pub opens: Items<OpenUse>,
 }
 
+impl Plain for ServerRoom {
+    fn copy(&self) -> Result<ServerRoom, NoMemory> {
+        Ok(*self)
+    }
+}
+
+impl Plain for LockUse {
+    fn copy(&self) -> Result<LockUse, NoMemory> {
+        Ok(LockUse {
+            host: self.host,
+            label: self.label.copy()?,
+            fid: self.fid,
+            writing: self.writing,
+            span: self.span,
+        })
+    }
+}
+
+impl Plain for OpenUse {
+    fn copy(&self) -> Result<OpenUse, NoMemory> {
+        Ok(OpenUse {
+            host: self.host,
+            label: self.label.copy()?,
+            fid: self.fid,
+            kind: self.kind,
+        })
+    }
+}
+
+impl Plain for Tree {
+    fn copy(&self) -> Result<Tree, NoMemory> {
+        Ok(Tree {
+            roster: self.roster.copy()?,
+            servers: self.servers.copy()?,
+            filesets: self.filesets.copy()?,
+            locks: self.locks.copy()?,
+            opens: self.opens.copy()?,
+        })
+    }
+}
+
 impl Tree {
     /// The tree of a roster, in which there is no fileset.
     pub fn new(roster: &Roster) -> Result<Tree, NoMemory>

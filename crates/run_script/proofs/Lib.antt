@@ -1,2 +1,6 @@
 mod Rounds
 mod Later
+pub mod Ahead
+pub mod Passes
+pub mod Sound
+pub mod Stuck

@@ -1,9 +1,13 @@
--- What the cause of a refused line depends on.
-use Rattle.std.specs.Prelude.{◌≡◌, ℕ, List, ◌++◌, Err}
+-- What the cause of a refused line depends on, and what is the same in every order of lines.
+use Rattle.std.specs.Prelude.{◌≡◌, ℕ, List, [], ◌++◌, ◌↔◌, None, Err}
 use Rattle.std.specs.List.{AllByRecursion}
 use Rattle.script_lines.specs.Clones.{ClonesNothing}
 use Rattle.script_lines.specs.declared.context.Context.{Context}
 use Rattle.run_script.specs.Scripts.{judged_from}
+use Rattle.dfs_base.specs.declared.ids.Node.{Node}
+use Rattle.script_lines.specs.declared.script.Line.{Line}
+use Rattle.run_script.specs.Walk.{stuck_at}
+use Rattle.run_script.specs.Orders.{IsBegun, IsOrder, AllStand}
 use Rattle.run_script.specs.declared.refused.ScriptRefused.{ScriptRefused}
 
 -- lines after a refused one don't change why it is refused, but by the names that clones among them place
@@ -13,3 +17,23 @@ LaterLinesChangeNothing =
     → AllByRecursion ClonesNothing more
     → judged_from context disks number lines ≡ Err refusal
     → judged_from context disks number (lines ++ more) ≡ Err refusal
+
+-- whatever the order in which lines go, each node has the same left when none can go on
+abbrev pub OrdersLeaveTheSame : Type 0
+OrdersLeaveTheSame =
+    (lines went other : List Line) (left rest : Node → List Line)
+    → IsBegun lines went left → IsBegun lines other rest
+    → AllStand went left → AllStand other rest
+    → (node : Node) → left node ≡ rest node
+
+-- lines that aren't stuck all go, in every order
+abbrev pub AllLinesGo : Type 0
+AllLinesGo =
+    (lines went : List Line) (left : Node → List Line)
+    → stuck_at lines ≡ None
+    → IsBegun lines went left → AllStand went left
+    → (node : Node) → left node ≡ []
+
+-- lines are stuck exactly where they go in no order
+abbrev pub StuckWithoutOrder : Type 0
+StuckWithoutOrder = (lines : List Line) → (stuck_at lines ≡ None) ↔ ((order : List Line) × IsOrder lines order)

@@ -1,3 +1,4 @@
 pub mod Walk
+pub mod Orders
 pub mod Scripts
 pub mod Laws

@@ -1,17 +1,12 @@
-use Rattle.std.specs.Prelude.{ℕ, zero, suc, ◌==◌, Bool, true, false, if◌then◌else◌, List, [], ◌∷◌, ◌++◌, length, slice_get, Option, Some, None}
+use Rattle.std.specs.Prelude.{ℕ, zero, suc, ◌==◌, Bool, true, if◌then◌else◌, List, [], ◌∷◌, ◌++◌, length, slice_get, Option, Some, None}
 use Rattle.std.specs.List.{list_any}
 use Rattle.dfs_base.specs.Name.{is_among}
 use Rattle.dfs_base.specs.declared.ids.Node.{Node}
-use Rattle.dfs_base.specs.declared.ids.Node.TheVariants.{Host, Server}
+use Rattle.script_lines.specs.Sound.{same_node}
 use Rattle.script_lines.specs.declared.script.Line.{Line}
 use Rattle.script_lines.specs.declared.script.Deed.{Deed}
 use Rattle.script_lines.specs.declared.script.Deed.TheVariants.{Raise, Await}
 use Rattle.run_script.specs.declared.walk.Walk.{Walk}
-
-abbrev pub same_node : Node → Node → Bool
-same_node (Host a) (Host b) = a.0 == b.0
-same_node (Server a) (Server b) = a.0 == b.0
-same_node _ _ = false
 
 abbrev pub is_blocked : List Node → Node → Bool
 is_blocked blocked node = list_any (λ other. same_node other node) blocked

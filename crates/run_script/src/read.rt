@@ -1,11 +1,12 @@
-ghost use Rattle.std.specs.Prelude.{◌≡◌, ◌≤◌, length, OnOk};
+ghost use Rattle.std.specs.Prelude.{◌≡◌, ◌≤◌, length, None, IfOk, OnOk};
 ghost use Rattle.script_words.specs.Lines.{lines_of};
 ghost use Rattle.std.specs.Prelude.{Result};
 ghost use Rattle.script_lines.specs.declared.context.Context.{Context as ContextOf};
 ghost use Rattle.run_script.specs.declared.refused.ScriptRefused.{ScriptRefused as ScriptRefusedOf};
 ghost use Rattle.script_lines.specs.Judge.{nothing_said};
+ghost use Rattle.script_lines.specs.Sound.{IsSound};
+ghost use Rattle.run_script.specs.Walk.{stuck_at};
 ghost use Rattle.dfs_base.specs.declared.limits.TheConstants.{SCRIPT_LINES_MAX};
-ghost use Rattle.run_script.specs.Laws.{LaterLinesChangeNothing};
 ghost use Rattle.run_script.specs.Scripts.{Reads, Leaves, next_judged, judged_from, limited, ended_by, script_before_walk, script_of};
 
 use crate::refused::ScriptRefused;
@@ -113,9 +114,13 @@ fn read_lines(alloc: Global, bytes: &[u8], disks: u32) -> Result<Script, ScriptR
 /// The first refused line decides. In it faults of line length, bytes and quotes come first, then the words from left to
 /// right, then too few or too many words. More than `SCRIPT_LINES_MAX` lines come before all causes but `Disks`. Rules
 /// about the whole script come last: `begin` missing, and then lines that wait for one another (`Stuck`).
+///
+/// What is read keeps the limits of the service (`IsSound`), and its lines don't wait for one another.
 #[tactic(auto, unfolding(crate::specs::Scripts::script_of))]
 pub fn read_script(alloc: Global, bytes: &[u8], disks: u32) -> Result<Script, ScriptRefused>
-    ensures { Reads result (script_of bytes.now disks) }
+    ensures value { Reads result (script_of bytes.now disks) }
+    ensures sound { IfOk result (λ script. IsSound script) }
+    ensures goes { IfOk result (λ script. stuck_at script.lines ≡ None) }
 {
     let script = read_lines(alloc, bytes, disks)?;
     match stuck_at(alloc, &script.lines)? {
@@ -123,9 +128,3 @@ pub fn read_script(alloc: Global, bytes: &[u8], disks: u32) -> Result<Script, Sc
         None => Ok(script),
     }
 }
-
-/// Law: lines after a refused one don't change why it is refused, but by the names that clones among them place. (That there
-/// are too many lines, or that `begin` is missing, is judged above this, of the whole script.)
-pub fn later_lines_change_nothing()
-    ensures { LaterLinesChangeNothing }
-{}

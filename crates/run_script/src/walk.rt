@@ -1,5 +1,6 @@
 ghost use Rattle.std.specs.Prelude.{◌≡◌, [], length, slice_get, OnOk, IfOk};
-ghost use Rattle.run_script.specs.Walk.{same_node, is_blocked, can_go, stepped, walk_of, pass_from, count_up, rounds, first_number, stuck_at};
+ghost use Rattle.script_lines.specs.Sound.{same_node};
+ghost use Rattle.run_script.specs.Walk.{is_blocked, can_go, stepped, walk_of, pass_from, count_up, rounds, first_number, stuck_at};
 
 use dfs_base::{Items, Name, NoMemory, Node, Plain};
 use script_lines::{Deed, Line};
@@ -17,7 +18,8 @@ pub(crate) struct Walk {
     pub blocked: Items<Node>,
 }
 
-fn same_node(a: Node, b: Node) -> bool
+/// Whether two nodes are the same.
+pub fn same_node(a: Node, b: Node) -> bool
     ensures { result ≡ same_node a b }
 {
     match (a, b) {
@@ -36,7 +38,8 @@ fn is_blocked(blocked: &Items<Node>, node: Node) -> bool
         .any(|other| same_node(*other, node))
 }
 
-fn can_go(flags: &Items<Name>, deed: &Deed) -> bool
+/// Whether a line with this deed can go once these flags are raised: an await when its flag is among them, and any other at once.
+pub fn can_go(flags: &Items<Name>, deed: &Deed) -> bool
     ensures { result ≡ can_go flags.now deed.now }
 {
     match deed {

@@ -1,4 +1,4 @@
-use Rattle.std.specs.Prelude.{◌≡◌, ℕ, zero, suc, ◌&&◌, Bool, true, false, if◌then◌else◌, List, [], ◌∷◌, ◌++◌, length, Option, Some, None, Result, Ok, Err, codes}
+use Rattle.std.specs.Prelude.{◌≡◌, ℕ, zero, suc, ◌&&◌, Bool, true, false, if◌then◌else◌, List, [], ◌∷◌, ◌++◌, Option, Some, None, Result, Ok, Err, codes}
 use Rattle.std.specs.List.{find}
 use Rattle.dfs_base.specs.Name.{is_name, same_name}
 use Rattle.dfs_base.specs.declared.ids.ServerId.{ServerId}
@@ -80,12 +80,20 @@ abbrev pub placed_also : List Placed → List ℕ → Option ServerId → List P
 placed_also placed name None = placed
 placed_also placed name (Some server) = placed ++ record { name = name; server = server } ∷ []
 
--- each clone places its name, where its source is placed
-abbrev pub placed_from : List CloneLine → List Placed → List CloneLine → List Placed
-placed_from clones placed [] = placed
-placed_from clones placed (clone ∷ more) = placed_from clones (placed_also placed clone.new (place_by (length clones) placed clones clone.new)) more
+-- these, and the name of each clone that has a server
+abbrev pub placed_from : (List ℕ → Option ServerId) → List Placed → List CloneLine → List Placed
+placed_from server placed [] = placed
+placed_from server placed (clone ∷ clones) = placed_from server (placed_also placed clone.new (server clone.new)) clones
+
+-- more steps than a script has lines
+unfoldable pub most_steps : ℕ
+most_steps = 16384
+
+-- the names that clones place, each where its source is placed
+abbrev pub placed_by : List Placed → List CloneLine → List Placed
+placed_by placed clones = placed_from (place_by most_steps placed clones) [] clones
 
 -- the names of all clones among these lines are placed
 unfoldable pub with_clones : Context → List (List ℕ) → Context
 with_clones context lines =
-    record context { placed = placed_from (clones_from [] lines) context.placed (clones_from [] lines) }
+    record context { placed = context.placed ++ placed_by context.placed (clones_from [] lines) }

@@ -4,3 +4,5 @@ pub mod Plan
 pub mod Headers
 pub mod Judge
 pub mod Clones
+pub mod Ways
+pub mod Sound

@@ -50,6 +50,13 @@ is_pair (Host _) (Server _) = true
 is_pair (Server _) (Host _) = true
 is_pair _ _ = false
 
+-- who receives: with the sender one host and one server, and then declared
+unfoldable pub receiver_at : Script → Node → List (List ℕ) → Result Node BadWhy
+receiver_at script from words = do
+  to ← node_named words 3
+  _ ← unless (not (is_pair from to)) Word
+  node_declared script to
+
 -- a message that is dropped has no flag
 abbrev pub is_drop : PlanDeed → Bool
 is_drop Drop = true
@@ -73,9 +80,7 @@ plan_at script words = do
   deed ← found Word (plan_deed_of deed_word)
   from_node ← node_named words 2
   from ← node_declared script from_node
-  to ← node_named words 3
-  _ ← unless (not (is_pair from to)) Word
-  _ ← node_declared script to
+  to ← receiver_at script from words
   kind_word ← word_at words 4
   kind ← found Word (kind_of kind_word)
   n ← number_at 1 NUMBER_MAX words 5

@@ -1,13 +1,19 @@
-ghost use Rattle.std.specs.Prelude.{◌≡◌, [], length, OnOk, IfOk};
+ghost use Rattle.std.specs.Prelude.{◌≡◌, [], slice_get, position, OnOk, IfOk};
 ghost use Rattle.std.specs.Option.{option_copied};
+ghost use Rattle.dfs_base.specs.Name.{same_name};
 ghost use Rattle.script_words.specs.Lines.{lines_of};
 ghost use Rattle.script_words.specs.Fields.{node_of};
-ghost use Rattle.script_lines.specs.Clones.{is_host, name_if, clone_of, clone_in, clones_from, find_clone, place_by, placed_from, with_clones};
+ghost use Rattle.script_lines.specs.Clones.{is_host, name_if, clone_of, clone_in, clones_from, place_by, most_steps, placed_by, with_clones};
+ghost use Rattle.script_lines.specs.declared.clones.TheConstants.{DOUBLINGS};
+ghost use Rattle.script_lines.specs.Ways.{way_of, way_from, goes_on, way_in, all_lead, steps_after, doubled, server_at_end};
 
 use crate::context::{Context, Placed, find_placed};
 use dfs_base::{Items, Name, NameRefused, NoMemory, Node, Plain, ServerId};
 use script_words::{Fault, is_word, next_line, node_of, words_of_line};
 use std::alloc::Global;
+
+/// How often steps are doubled: at last they are more than a script has lines.
+const DOUBLINGS: usize = 14;
 
 /// A line that clones a fileset.
 #[derive(Drop)]
@@ -83,45 +89,149 @@ fn clones_of(alloc: Global, bytes: &[u8]) -> Result<Items<CloneLine>, NoMemory>
     Ok(clones)
 }
 
-fn find_clone<'a>(clones: &'a Items<CloneLine>, name: &Name) -> Option<&'a CloneLine>
-    ensures { option_copied result ≡ find_clone clones.now name.now }
-{
-    clones.as_slice().iter().find(|clone| clone.new == *name)
+/// Where a name leads.
+#[derive(Clone, Copy, Drop)]
+pub(crate) enum Way {
+    /// It is placed at a server.
+    At(ServerId),
+    /// To the source of this clone.
+    Source(usize),
+    /// It is placed nowhere.
+    Nowhere,
 }
 
-// The server of a name that filesets or clones place.
-#[tactic(auto, using(crate::proofs::Places::place_step))]
-fn place_by(placed: &Items<Placed>, clones: &Items<CloneLine>, name: &Name) -> Option<ServerId>
-    ensures { result ≡ place_by (length clones.now) placed.now clones.now name.now }
+fn position_of(clones: &[CloneLine], name: &Name) -> Option<usize>
+    ensures { result ≡ position (λ clone. same_name clone.new name.now) clones.now }
 {
-    let mut name = name;
-    let steps = clones.len();
-    for step in 0..steps {
-        if let Some(found) = find_placed(placed, name) {
-            return Some(found.server);
-        }
-        match find_clone(clones, name) {
-            Some(clone) => name = &clone.source,
-            None => return None,
-        }
+    clones.iter().position(|clone| clone.new == *name)
+}
+
+// One step from a name.
+#[tactic(auto, unfolding(crate::specs::Ways::way_of))]
+fn way_of(placed: &Items<Placed>, clones: &Items<CloneLine>, name: &Name) -> Way
+    ensures { result ≡ way_of placed.now clones.now name.now }
+{
+    if let Some(found) = find_placed(placed, name) {
+        return Way::At(found.server);
     }
-    match find_placed(placed, name) {
-        Some(found) => Some(found.server),
-        None => None,
+    match position_of(clones.as_slice(), name) {
+        Some(clone) => Way::Source(clone),
+        None => Way::Nowhere,
     }
 }
 
-// Each clone places its name, where its source is placed.
-fn settle(placed: &mut Items<Placed>, clones: &Items<CloneLine>) -> Result<(), NoMemory>
-    ensures { OnOk result (placed.new ≡ placed_from clones.now placed.old clones.now) }
+// One step from the source of a clone.
+fn way_from(placed: &Items<Placed>, clones: &Items<CloneLine>, clone: usize) -> Way
+    ensures { result ≡ way_from placed.now clones.now (slice_get clones.now clone) }
 {
+    match clones.at(clone) {
+        Some(clone) => way_of(placed, clones, &clone.source),
+        None => Way::Nowhere,
+    }
+}
+
+// A way, and on from where it leads by a list of ways.
+fn goes_on(way: Way, ways: &Items<Way>) -> Way
+    ensures { result ≡ goes_on way (way_in ways.now) }
+{
+    match way {
+        Way::Source(clone) => way_in(ways, clone),
+        way => way,
+    }
+}
+
+fn way_in(ways: &Items<Way>, clone: usize) -> Way
+    ensures { result ≡ way_in ways.now clone }
+{
+    match ways.at(clone) {
+        Some(way) => *way,
+        None => Way::Nowhere,
+    }
+}
+
+#[tactic(auto, using(crate::proofs::Places::ways_start, crate::proofs::Places::ways_more, crate::proofs::Places::ways_end))]
+fn first_ways(
+    alloc: Global,
+    placed: &Items<Placed>,
+    clones: &Items<CloneLine>,
+) -> Result<Items<Way>, NoMemory>
+    ensures { IfOk result (λ ways. ways ≡ all_lead 0 placed.now clones.now) }
+{
+    let mut ways = Items::new(alloc);
+    for clone in 0..clones.len() {
+        ways.push(way_from(placed, clones, clone))?;
+    }
+    Ok(ways)
+}
+
+// Twice as many steps.
+#[tactic(auto, using(crate::proofs::Places::doubled_start, crate::proofs::Places::doubled_more, crate::proofs::Places::doubled_end))]
+fn doubled(alloc: Global, ways: &Items<Way>) -> Result<Items<Way>, NoMemory>
+    ensures { IfOk result (λ more. more ≡ doubled ways.now) }
+{
+    let mut more = Items::new(alloc);
+    for clone in 0..ways.len() {
+        more.push(goes_on(way_in(ways, clone), ways))?;
+    }
+    Ok(more)
+}
+
+// Where the source of each clone leads, by more steps than a script has lines.
+#[tactic(auto, using(crate::proofs::Places::doubled_leads))]
+fn all_ways(
+    alloc: Global,
+    placed: &Items<Placed>,
+    clones: &Items<CloneLine>,
+) -> Result<Items<Way>, NoMemory>
+    ensures { IfOk result (λ ways. ways ≡ all_lead (steps_after DOUBLINGS) placed.now clones.now) }
+{
+    let mut ways = first_ways(alloc, placed, clones)?;
+    for round in 0..DOUBLINGS {
+        ways = doubled(alloc, &ways)?;
+    }
+    Ok(ways)
+}
+
+fn server_at_end(way: Way) -> Option<ServerId>
+    ensures { result ≡ server_at_end way }
+{
+    match way {
+        Way::At(server) => Some(server),
+        _ => None,
+    }
+}
+
+// The server of a name.
+#[tactic(auto, using(crate::proofs::Places::place_is))]
+fn server_by(
+    placed: &Items<Placed>,
+    clones: &Items<CloneLine>,
+    ways: &Items<Way>,
+    name: &Name,
+) -> Option<ServerId>
+    requires { ways.now ≡ all_lead (steps_after DOUBLINGS) placed.now clones.now }
+    ensures { result ≡ place_by most_steps placed.now clones.now name.now }
+{
+    server_at_end(goes_on(way_of(placed, clones, name), ways))
+}
+
+// The names that clones place, each where its source is placed.
+fn placed_by(
+    alloc: Global,
+    placed: &Items<Placed>,
+    clones: &Items<CloneLine>,
+) -> Result<Items<Placed>, NoMemory>
+    ensures { IfOk result (λ more. more ≡ placed_by placed.now clones.now) }
+{
+    let ways = all_ways(alloc, placed, clones)?;
+    let mut more = Items::new(alloc);
     for clone in clones.as_slice() {
-        if let Some(server) = place_by(placed, clones, &clone.new) {
+        if let Some(server) = server_by(placed, clones, &ways, &clone.new) {
             let name = clone.new.copy()?;
-            placed.push(Placed { name, server })?;
+            more.push(Placed { name, server })?;
         }
     }
-    Ok(())
+    Ok(more)
 }
 
 impl Context {
@@ -132,6 +242,7 @@ impl Context {
         ensures { OnOk result (self.new ≡ with_clones self.old (lines_of bytes.now)) }
     {
         let clones = clones_of(alloc, bytes)?;
-        settle(&mut self.placed, &clones)
+        let more = placed_by(alloc, &self.placed, &clones)?;
+        self.placed.append(more)
     }
 }

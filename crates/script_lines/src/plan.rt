@@ -1,6 +1,6 @@
 ghost use Rattle.std.specs.Prelude.{◌≡◌};
 ghost use Rattle.script_words.specs.Outcome.{Gives, Becomes};
-ghost use Rattle.script_lines.specs.Plan.{plan_deed_of, kind_of, node_named, is_pair, flag_at, plan_at, plan_line};
+ghost use Rattle.script_lines.specs.Plan.{plan_deed_of, kind_of, node_named, is_pair, receiver_at, flag_at, plan_at, plan_line};
 
 use crate::context::Context;
 use crate::script::{NUMBER_MAX, PlanDeed, PlanLine};
@@ -95,15 +95,23 @@ fn flag_at(deed: PlanDeed, words: &Words) -> Result<Option<Name>, Fault>
 }
 
 impl Context {
+    // Who receives: with the sender one host and one server, and then declared.
+    #[tactic(auto, unfolding(crate::specs::Plan::receiver_at))]
+    fn receiver_at(&self, from: Node, words: &Words) -> Result<Node, Fault>
+        ensures { Gives result (receiver_at self.now.script from words.now) }
+    {
+        let to = node_named(words, 3)?;
+        unless(!is_pair(from, to), BadWhy::Word)?;
+        self.node_declared(to)
+    }
+
     #[tactic(auto, unfolding(crate::specs::Plan::plan_at))]
     fn plan_at(&self, words: &Words) -> Result<PlanLine, Fault>
         ensures { Gives result (plan_at self.now.script words.now) }
     {
         let deed = known(plan_deed_of(word_at(words, 1)?.as_slice()))?;
         let from = self.node_declared(node_named(words, 2)?)?;
-        let to = node_named(words, 3)?;
-        unless(!is_pair(from, to), BadWhy::Word)?;
-        self.node_declared(to)?;
+        let to = self.receiver_at(from, words)?;
         let kind = known(kind_of(word_at(words, 4)?.as_slice()))?;
         let n = small_at(words, 5, 1, NUMBER_MAX)?;
         let flag = flag_at(deed, words)?;

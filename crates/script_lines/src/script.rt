@@ -1,4 +1,4 @@
-use dfs_base::{Items, Name, Node};
+use dfs_base::{Items, Name, NoMemory, Node, Plain};
 use dfs_calls::{Call, Roster};
 
 /// The greatest position, length or count that a line can have, where nothing else is said.
@@ -89,4 +89,52 @@ pub struct Script {
     pub net: Option<Net>,
     /// What the nodes do, in the order of the lines.
     pub lines: Items<Line>,
+}
+
+impl Plain for Deed {
+    fn copy(&self) -> Result<Deed, NoMemory> {
+        Ok(match self {
+            Deed::Call(call) => Deed::Call(call.copy()?),
+            Deed::Raise(flag) => Deed::Raise(flag.copy()?),
+            Deed::Await(flag) => Deed::Await(flag.copy()?),
+            Deed::Stop => Deed::Stop,
+            Deed::Restart => Deed::Restart,
+        })
+    }
+}
+
+impl Plain for Line {
+    fn copy(&self) -> Result<Line, NoMemory> {
+        Ok(Line {
+            number: self.number,
+            node: self.node,
+            deed: self.deed.copy()?,
+        })
+    }
+}
+
+impl Plain for PlanLine {
+    fn copy(&self) -> Result<PlanLine, NoMemory> {
+        Ok(PlanLine {
+            deed: self.deed,
+            from: self.from,
+            to: self.to,
+            kind: self.kind,
+            n: self.n,
+            flag: self.flag.copy()?,
+        })
+    }
+}
+
+impl Plain for Script {
+    fn copy(&self) -> Result<Script, NoMemory> {
+        Ok(Script {
+            servers: self.servers,
+            roster: self.roster.copy()?,
+            setup: self.setup.copy()?,
+            plan: self.plan.copy()?,
+            net: self.net,
+            lines: self.lines.copy()?,
+        })
+    }
 }

@@ -1,0 +1,9 @@
+pub mod Lists
+pub mod Contents
+pub mod Kept
+pub mod Apart
+pub mod Stored
+pub mod Histories
+pub mod Between
+pub mod Reached
+pub mod Downs

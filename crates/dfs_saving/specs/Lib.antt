@@ -1,0 +1,4 @@
+pub mod Unsaved
+pub mod Stores
+pub mod Saving
+pub mod Laws

@@ -1,0 +1,75 @@
+//! Where a place leads, whoever asks.
+ghost use Rattle.std.specs.Prelude.{◌≡◌};
+ghost use Rattle.std.specs.List.{find};
+ghost use Rattle.std.specs.Option.{option_copied};
+ghost use Rattle.dfs_filesets.specs.Walk.{object_at, unique_at};
+ghost use Rattle.dfs_filesets.specs.WellFormed.{entry_at, leads};
+ghost use Rattle.dfs_tree.specs.Finding.{is_named};
+
+use dfs_base::{Items, Name, ServerId};
+use dfs_calls::{DirEntry, Place};
+use dfs_filesets::Fileset;
+use dfs_objects::{Anode, Object, entry_named};
+
+fn is_named(fileset: &Fileset, server: ServerId, name: &Name) -> bool
+    ensures { result ≡ is_named server name.now fileset.now }
+{
+    fileset.server == server && fileset.name == *name
+}
+
+/// The fileset that a place names.
+pub(crate) fn fileset_of<'a>(filesets: &'a [Fileset], place: &Place) -> Option<&'a Fileset>
+    ensures { option_copied result ≡ find (is_named place.now.server place.now.fileset) filesets.now }
+{
+    filesets
+        .iter()
+        .find(|fileset| is_named(fileset, place.server, &place.fileset))
+}
+
+/// What stands at an anode.
+pub(crate) fn object_at(anodes: &Items<Anode>, anode: u32) -> Option<&Object>
+    ensures { option_copied result ≡ object_at anodes.now anode }
+{
+    if anode == 0 {
+        return None;
+    }
+    match anodes.at(anode as usize - 1) {
+        Some(anode) => anode.object.as_ref(),
+        None => None,
+    }
+}
+
+/// How often an anode has been used.
+pub(crate) fn unique_at(anodes: &Items<Anode>, anode: u32) -> u32
+    ensures { result ≡ unique_at anodes.now anode }
+{
+    match anodes.at(anode.saturating_sub(1) as usize) {
+        Some(anode) => anode.unique,
+        None => 0,
+    }
+}
+
+// The entry of a name in the directory at an anode.
+fn entry_at<'a>(anodes: &'a Items<Anode>, at: u32, name: &Name) -> Option<&'a DirEntry>
+    ensures { option_copied result ≡ entry_at anodes.now at name.now }
+{
+    let object = object_at(anodes, at)?;
+    match object.entries() {
+        Ok(entries) => entry_named(entries, name),
+        Err(_) => None,
+    }
+}
+
+/// The anode to which a path leads from the root.
+pub(crate) fn leads(anodes: &Items<Anode>, path: &[Name]) -> Option<u32>
+    ensures { result ≡ leads anodes.now 1 path.now }
+{
+    let mut at = 1;
+    for name in path {
+        match entry_at(anodes, at, name) {
+            Some(entry) => at = entry.anode,
+            None => return None,
+        }
+    }
+    Some(at)
+}

@@ -1,0 +1,104 @@
+//! How unsaved changes are stored, or lost, so that a history of the tree stays legal. Before a host writes, what others
+//! changed in the file is stored, as it is where their tokens are revoked (Kazar et al., "DEcorum File System Architectural
+//! Overview", 1990).
+ghost use Rattle.std.specs.Prelude.{◌≡◌, true, IfOk, OnOk};
+ghost use Rattle.dfs_tree.specs.WellFormed.{IsWellFormed};
+ghost use Rattle.dfs_tree.specs.Histories.{after_entry, after_history};
+ghost use Rattle.dfs_saving.specs.Unsaved.{all_contents, is_by_one};
+ghost use Rattle.dfs_saving.specs.Saving.{downs_from, StoresAll, StoresOthers, DownsAll};
+
+use crate::stores::{others_store_at, own_stores};
+use dfs_base::{HostId, Items, NoMemory, ServerId};
+use dfs_calls::{Entry, Place};
+use dfs_tree::Tree;
+use std::alloc::Global;
+
+/// Stores all that a host has unsaved, file by file, and tells the entries by which it did: one for each file in which the
+/// host has something unsaved. The tree has to be well formed, and what each file has unsaved has to be one host's.
+/// After `NoMemory` only some of it may be stored.
+pub fn store_all(tree: &mut Tree, host: HostId) -> Result<Items<Entry>, NoMemory>
+    requires formed { IsWellFormed tree.old }
+    requires apart { all_contents is_by_one tree.old ≡ true }
+    ensures { IfOk result (λ entries. StoresAll host tree.old entries tree.new) }
+{
+    let entries = own_stores(tree, host)?;
+    follow(tree, entries.as_slice())?;
+    Ok(entries)
+}
+
+/// Stores what another host has unsaved of the file that a place names, whoever may go there, and tells the entry by which
+/// it did: none where there is no such host or file. Then the host can write there alone. The tree has to be well formed,
+/// and what each file has unsaved has to be one host's. After `NoMemory` it may be stored or not.
+pub fn store_others(tree: &mut Tree, host: HostId, place: &Place) -> Result<Items<Entry>, NoMemory>
+    requires formed { IsWellFormed tree.old }
+    requires apart { all_contents is_by_one tree.old ≡ true }
+    ensures { IfOk result (λ entries. StoresOthers host place.now tree.old entries tree.new) }
+{
+    let mut entries = Items::new(tree.filesets.alloc());
+    if let Some(entry) = others_store_at(tree, host, place)? {
+        entries.push(entry)?;
+    }
+    follow(tree, entries.as_slice())?;
+    Ok(entries)
+}
+
+/// Lets each server learn that a host is down, in their order: what the host hadn't stored is lost. Tells the entries, one
+/// for each server. The tree has to be well formed, and what each file has unsaved has to be one host's. After `NoMemory`
+/// only some servers may have learnt it.
+pub fn down_all(tree: &mut Tree, host: HostId) -> Result<Items<Entry>, NoMemory>
+    requires formed { IsWellFormed tree.old }
+    requires apart { all_contents is_by_one tree.old ≡ true }
+    ensures { IfOk result (λ entries. DownsAll host tree.old entries tree.new) }
+{
+    let servers = tree.roster.capacity.len() as u8;
+    let entries = downs(tree.filesets.alloc(), host, servers)?;
+    follow(tree, entries.as_slice())?;
+    Ok(entries)
+}
+
+// A host is down at so many servers.
+fn downs(alloc: Global, host: HostId, servers: u8) -> Result<Items<Entry>, NoMemory>
+    ensures { IfOk result (λ entries. entries ≡ downs_from host 1 servers) }
+{
+    let mut entries = Items::new(alloc);
+    for server in 0..servers {
+        let server = ServerId(server + 1);
+        entries.push(Entry::Down { host, server })?;
+    }
+    Ok(entries)
+}
+
+// Makes a tree what it is after these entries.
+fn follow(tree: &mut Tree, entries: &[Entry]) -> Result<(), NoMemory>
+    ensures { OnOk result (tree.new ≡ after_history tree.old entries.now) }
+{
+    for entry in entries {
+        follow_entry(tree, entry)?;
+    }
+    Ok(())
+}
+
+fn follow_entry(tree: &mut Tree, entry: &Entry) -> Result<(), NoMemory>
+    ensures { OnOk result (tree.new ≡ after_entry tree.old entry.now) }
+{
+    match entry {
+        Entry::Call {
+            host,
+            k: _,
+            call,
+            reply: _,
+        } => {
+            tree.answer(*host, call)?;
+        }
+        Entry::Stored {
+            host,
+            fid,
+            spans,
+            length,
+        } => tree.stored(*host, *fid, spans.as_slice(), *length)?,
+        Entry::Down { host, server } => {
+            tree.down(*host, *server)?;
+        }
+    }
+    Ok(())
+}

@@ -1,0 +1,5 @@
+pub mod Calls
+pub mod Seats
+pub mod Uses
+pub mod Played
+pub mod Underway

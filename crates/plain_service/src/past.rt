@@ -1,0 +1,127 @@
+ghost use Rattle.std.specs.Prelude.{◌≡◌, ◌+◌, true, IfOk, OnOk};
+ghost use Rattle.dfs_calls.specs.Limits.{keeps_limit};
+ghost use Rattle.dfs_tree.specs.WellFormed.{IsWellFormed};
+ghost use Rattle.dfs_saving.specs.Unsaved.{all_contents, is_by_one};
+ghost use Rattle.plain_service.specs.Uses.{is_done};
+ghost use Rattle.plain_service.specs.Underway.{Makes, MakesWay, GoesDown, Saves, Ends, IsLast};
+
+use crate::uses::Use;
+use dfs_base::{HostId, Items, NoMemory};
+use dfs_calls::{Call, Entry, Reply};
+use dfs_saving::{down_all, store_all, store_others};
+use dfs_tree::Tree;
+
+/// What happened so far, and the tree that it led to.
+#[derive(Drop)]
+pub(crate) struct Past {
+    pub tree: Tree,
+    pub history: Items<Entry>,
+}
+
+impl Past {
+    /// A host makes a call, which has this number. What other hosts have unsaved of a file that it writes is stored before.
+    /// Tells whether the call was done.
+    pub fn make(&mut self, host: HostId, k: u32, call: Call) -> Result<bool, NoMemory>
+        requires formed { IsWellFormed self.old.tree }
+        requires apart { all_contents is_by_one self.old.tree ≡ true }
+        requires limit { keeps_limit call ≡ true }
+        ensures { IfOk result (λ done. Makes host k call done self.old self.new) }
+    {
+        self.store_for(host, &call)?;
+        let reply = self.tree.answer(host, &call)?;
+        let done = is_done(&reply);
+        self.history.push(Entry::Call {
+            host,
+            k,
+            call,
+            reply,
+        })?;
+        Ok(done)
+    }
+
+    // Before a write what other hosts have unsaved of the file is stored.
+    fn store_for(&mut self, host: HostId, call: &Call) -> Result<(), NoMemory>
+        requires formed { IsWellFormed self.old.tree }
+        requires apart { all_contents is_by_one self.old.tree ≡ true }
+        ensures { OnOk result (MakesWay host call.now self.old self.new) }
+    {
+        if let Call::Write { place, .. } = call {
+            let stored = store_others(&mut self.tree, host, place)?;
+            self.history.append(stored)?;
+        }
+        Ok(())
+    }
+
+    /// A host is down at every server.
+    pub fn go_down(&mut self, host: HostId) -> Result<(), NoMemory>
+        requires formed { IsWellFormed self.old.tree }
+        requires apart { all_contents is_by_one self.old.tree ≡ true }
+        ensures { OnOk result (GoesDown host self.old self.new) }
+    {
+        let downs = down_all(&mut self.tree, host)?;
+        self.history.append(downs)?;
+        Ok(())
+    }
+
+    /// A host stores all that it has unsaved.
+    pub fn save(&mut self, host: HostId) -> Result<(), NoMemory>
+        requires formed { IsWellFormed self.old.tree }
+        requires apart { all_contents is_by_one self.old.tree ≡ true }
+        ensures { OnOk result (Saves host self.old self.new) }
+    {
+        let stored = store_all(&mut self.tree, host)?;
+        self.history.append(stored)?;
+        Ok(())
+    }
+
+    /// After its last line a host that made so many calls ends what it has in use, unless it stopped, and stores all.
+    pub fn end(
+        &mut self,
+        host: HostId,
+        calls: u32,
+        stopped: bool,
+        uses: &Items<Use>,
+    ) -> Result<(), NoMemory>
+        requires formed { IsWellFormed self.old.tree }
+        requires apart { all_contents is_by_one self.old.tree ≡ true }
+        ensures { OnOk result (IsLast host calls stopped uses.now self.old self.new) }
+    {
+        if stopped {
+            self.save(host)?;
+            return Ok(());
+        }
+        self.end_uses(host, calls, uses)?;
+        self.save(host)?;
+        Ok(())
+    }
+
+    // A host that made so many calls ends what it has in use.
+    fn end_uses(&mut self, host: HostId, calls: u32, uses: &Items<Use>) -> Result<(), NoMemory>
+        requires formed { IsWellFormed self.old.tree }
+        requires apart { all_contents is_by_one self.old.tree ≡ true }
+        ensures { OnOk result (Ends host calls uses.now self.old self.new) }
+    {
+        let mut k = calls;
+        for used in uses.as_slice() {
+            k = number_after(k)?;
+            self.make(host, k, used.ending()?)?;
+        }
+        Ok(())
+    }
+}
+
+/// The next number of a call. More calls than have a number don't fit into memory.
+pub(crate) fn number_after(k: u32) -> Result<u32, NoMemory>
+    ensures { IfOk result (λ next. next ≡ k + 1) }
+{
+    match k.checked_add(1) {
+        Some(next) => Ok(next),
+        None => Err(NoMemory),
+    }
+}
+
+fn is_done(reply: &Reply) -> bool
+    ensures { result ≡ is_done reply.now }
+{
+    matches!(reply, Reply::Ok)
+}

@@ -1,0 +1,93 @@
+-- What a run tells: replies, losses and filesets, each in the order of the output.
+use Rattle.std.specs.Prelude.{ℕ, ◌+◌, ◌==◌, ◌&&◌, nat_le, Bool, true, false, if◌then◌else◌, List, [], ◌∷◌, ◌++◌, count_by, filter, flat_map}
+use Rattle.std.specs.List.{range_with_len}
+use Rattle.dfs_base.specs.declared.ids.Node.{Node}
+use Rattle.dfs_base.specs.declared.ids.Node.TheVariants.{Host, Server}
+use Rattle.dfs_base.specs.declared.limits.TheConstants.{HOSTS_MAX, SERVERS_MAX}
+use Rattle.dfs_calls.specs.declared.entry.Entry.{Entry}
+use Rattle.dfs_calls.specs.declared.entry.Entry.TheVariants.{Call, Stored, Down}
+use Rattle.dfs_calls.specs.declared.entry.Loss.{Loss}
+use Rattle.dfs_filesets.specs.declared.fileset.Fileset.{Fileset}
+use Rattle.dfs_tree.specs.declared.tree.Tree.{Tree}
+use Rattle.dfs_tree.specs.Histories.{after_entry, after_history}
+use Rattle.dfs_tree.specs.Losses.{losses_of}
+use Rattle.script_lines.specs.declared.script.Deed.{Deed}
+use Rattle.script_lines.specs.declared.script.Deed.TheVariants as deeds
+use Rattle.script_lines.specs.declared.script.Line.{Line}
+use Rattle.script_lines.specs.declared.script.Script.{Script}
+use Rattle.run_print.specs.declared.report.Answer.{Answer}
+use Rattle.run_print.specs.declared.report.Report.{Report}
+
+-- the numbers of the hosts, from that of the setup host on, and of the servers
+abbrev pub all_hosts : List ℕ
+all_hosts = range_with_len 0 (HOSTS_MAX + 1)
+
+abbrev pub all_servers : List ℕ
+all_servers = range_with_len 1 SERVERS_MAX
+
+-- whether a node is a host
+abbrev pub is_host : ℕ → Node → Bool
+is_host host (Host id) = id.0 == host
+is_host host (Server id) = false
+
+-- whether a deed is a call
+abbrev pub is_call : Deed → Bool
+is_call (deeds.Call call) = true
+is_call _ = false
+
+-- the lines of a script that are calls of a host; those of the setup host make the filesets
+abbrev pub is_call_of : ℕ → Line → Bool
+is_call_of host line = is_host host line.node && is_call line.deed
+
+unfoldable pub call_lines : Script → ℕ → ℕ
+call_lines script host = if host == 0 then count_by (is_call_of host) script.setup else count_by (is_call_of host) script.lines
+
+-- the reply to a call of a host, where a line of the script made it: calls that are implied come after those
+unfoldable pub answer_in : ℕ → ℕ → Entry → List Answer
+answer_in host calls (Call by k call reply) =
+    if (by.0 == host) && nat_le k calls then record { host = by; k = k; reply = reply } ∷ [] else []
+answer_in host calls (Stored by fid spans len) = []
+answer_in host calls (Down by server) = []
+
+abbrev pub answers_to : Script → List Entry → ℕ → List Answer
+answers_to script history host = flat_map (answer_in host (call_lines script host)) history
+
+-- the replies, by host
+unfoldable pub answers_of : Script → List Entry → List Answer
+answers_of script history = flat_map (answers_to script history) all_hosts
+
+-- what is lost at an entry
+abbrev pub lost_at : Tree → Entry → List Loss
+lost_at tree (Call host k call reply) = []
+lost_at tree (Stored host fid spans len) = []
+lost_at tree (Down host server) = losses_of tree host server
+
+-- the losses of a history as they come
+abbrev pub lost_in : Tree → List Entry → List Loss
+lost_in tree [] = []
+lost_in tree (entry ∷ entries) = lost_at tree entry ++ lost_in (after_entry tree entry) entries
+
+-- the losses of a host at a server
+abbrev pub lost_by : List Loss → ℕ → ℕ → List Loss
+lost_by losses host server = filter (λ loss. (loss.host.0 == host) && (loss.server.0 == server)) losses
+
+-- Losses by host, and then by server. A host is down at a server once, and what is lost then is in the order of paths, of
+-- each file the spans in their order, and then the length.
+unfoldable pub by_host : List Loss → List Loss
+by_host losses = flat_map (λ host. flat_map (lost_by losses host) all_servers) all_hosts
+
+-- the filesets of a server
+abbrev pub filesets_at : List Fileset → ℕ → List Fileset
+filesets_at filesets server = filter (λ fileset. fileset.server.0 == server) filesets
+
+-- Filesets by server, and then by id: in the order of ids the tree has them.
+unfoldable pub by_server : List Fileset → List Fileset
+by_server filesets = flat_map (filesets_at filesets) all_servers
+
+-- what a run tells: the replies, the losses, and the last tree
+unfoldable pub report_of : Script → Tree → List Entry → Report
+report_of script start history = record {
+  answers = answers_of script history;
+  losses = by_host (lost_in start history);
+  tree = after_history start history;
+}

@@ -1,0 +1,13 @@
+//! The output of a run: each reply, loss and fileset, as text and as one line of JSON.
+#![tactic(auto)]
+
+mod access;
+mod dump;
+mod print;
+mod replies;
+mod report;
+mod summary;
+mod texts;
+
+pub use print::text_of;
+pub use summary::json_of;

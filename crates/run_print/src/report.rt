@@ -1,0 +1,224 @@
+//! What a run tells: replies, losses and filesets, each in the order of the output.
+ghost use Rattle.std.specs.Prelude.{◌≡◌, ◌++◌, count_by, flat_map, IfOk, OnOk};
+ghost use Rattle.dfs_tree.specs.Histories.{after_entry, after_history};
+ghost use Rattle.run_print.specs.Reports.{all_servers, is_host, is_call, is_call_of, call_lines, answer_in, answers_of, lost_at, lost_in, lost_by, by_host, report_of};
+
+use dfs_base::{HOSTS_MAX, HostId, Items, NoMemory, Node, Plain, SERVERS_MAX};
+use dfs_calls::{Entry, Loss, Reply};
+use dfs_tree::Tree;
+use script_lines::{Deed, Line, Script};
+use std::alloc::Global;
+
+/// The reply to a line of a script.
+#[derive(Drop)]
+pub(crate) struct Answer {
+    /// The host that called.
+    pub host: HostId,
+    /// Which of its calls it was, from 1.
+    pub k: u32,
+    /// The reply.
+    pub reply: Reply,
+}
+
+/// What a run tells.
+#[derive(Drop)]
+pub(crate) struct Report {
+    /// The replies to the lines of the script, by host.
+    pub answers: Items<Answer>,
+    /// The losses, by host, server, path and position.
+    pub losses: Items<Loss>,
+    /// The last tree.
+    pub tree: Tree,
+}
+
+/// What a run of a script from a tree on with a history tells.
+#[tactic(auto, unfolding(crate::specs::Reports::report_of))]
+pub(crate) fn report_of(
+    alloc: Global,
+    script: &Script,
+    start: &Tree,
+    history: &[Entry],
+) -> Result<Report, NoMemory>
+    ensures { IfOk result (λ report. report ≡ report_of script.now start.now history.now) }
+{
+    let mut tree = start.copy()?;
+    let lost = follow(alloc, &mut tree, history)?;
+    Ok(Report {
+        answers: answers_of(alloc, script, history)?,
+        losses: by_host(&lost)?,
+        tree,
+    })
+}
+
+// The replies to the lines of a script, by host.
+#[tactic(auto, unfolding(crate::specs::Reports::answers_of))]
+fn answers_of(alloc: Global, script: &Script, history: &[Entry]) -> Result<Items<Answer>, NoMemory>
+    ensures { IfOk result (λ answers. answers ≡ answers_of script.now history.now) }
+{
+    let mut answers = Items::new(alloc);
+    for host in 0..HOSTS_MAX + 1 {
+        push_answers(&mut answers, host, call_lines(script, host), history)?;
+    }
+    Ok(answers)
+}
+
+fn push_answers(
+    answers: &mut Items<Answer>,
+    host: u8,
+    calls: usize,
+    history: &[Entry],
+) -> Result<(), NoMemory>
+    ensures { OnOk result (answers.new ≡ answers.old ++ flat_map (answer_in host calls) history.now) }
+{
+    for entry in history {
+        push_answer(answers, host, calls, entry)?;
+    }
+    Ok(())
+}
+
+#[tactic(auto, unfolding(crate::specs::Reports::answer_in))]
+fn push_answer(
+    answers: &mut Items<Answer>,
+    host: u8,
+    calls: usize,
+    entry: &Entry,
+) -> Result<(), NoMemory>
+    ensures { OnOk result (answers.new ≡ answers.old ++ answer_in host calls entry.now) }
+{
+    if let Entry::Call {
+        host: by,
+        k,
+        call: _,
+        reply,
+    } = entry
+    {
+        if by.0 == host && *k as usize <= calls {
+            answers.push(Answer {
+                host: *by,
+                k: *k,
+                reply: reply.copy()?,
+            })?;
+        }
+    }
+    Ok(())
+}
+
+// How many lines of a script are calls of a host; those of the setup host make the filesets.
+#[tactic(auto, unfolding(crate::specs::Reports::call_lines))]
+fn call_lines(script: &Script, host: u8) -> usize
+    ensures { result ≡ call_lines script.now host }
+{
+    if host == 0 {
+        count_calls(&script.setup, host)
+    } else {
+        count_calls(&script.lines, host)
+    }
+}
+
+fn count_calls(lines: &Items<Line>, host: u8) -> usize
+    ensures { result ≡ count_by (is_call_of host) lines.now }
+{
+    lines
+        .as_slice()
+        .iter()
+        .filter(|line| is_call_of(host, line))
+        .count()
+}
+
+fn is_call_of(host: u8, line: &Line) -> bool
+    ensures { result ≡ is_call_of host line.now }
+{
+    is_host(host, line.node) && is_call(&line.deed)
+}
+
+fn is_host(host: u8, node: Node) -> bool
+    ensures { result ≡ is_host host node }
+{
+    match node {
+        Node::Host(id) => id.0 == host,
+        Node::Server(_) => false,
+    }
+}
+
+fn is_call(deed: &Deed) -> bool
+    ensures { result ≡ is_call deed.now }
+{
+    matches!(deed, Deed::Call(_))
+}
+
+// Goes through a history. Gives the losses as they come, and leaves the last tree.
+fn follow(alloc: Global, tree: &mut Tree, history: &[Entry]) -> Result<Items<Loss>, NoMemory>
+    ensures losses { IfOk result (λ losses. losses ≡ lost_in tree.old history.now) }
+    ensures tree { OnOk result (tree.new ≡ after_history tree.old history.now) }
+{
+    let mut losses = Items::new(alloc);
+    for entry in history {
+        losses.append(follow_entry(alloc, tree, entry)?)?;
+    }
+    Ok(losses)
+}
+
+fn follow_entry(alloc: Global, tree: &mut Tree, entry: &Entry) -> Result<Items<Loss>, NoMemory>
+    ensures losses { IfOk result (λ losses. losses ≡ lost_at tree.old entry.now) }
+    ensures tree { OnOk result (tree.new ≡ after_entry tree.old entry.now) }
+{
+    match entry {
+        Entry::Call {
+            host,
+            k: _,
+            call,
+            reply: _,
+        } => {
+            let _ = tree.answer(*host, call)?;
+        }
+        Entry::Stored {
+            host,
+            fid,
+            spans,
+            length,
+        } => tree.stored(*host, *fid, spans.as_slice(), *length)?,
+        Entry::Down { host, server } => return tree.down(*host, *server),
+    }
+    Ok(Items::new(alloc))
+}
+
+// Losses by host, and then by server.
+#[tactic(auto, unfolding(crate::specs::Reports::by_host))]
+fn by_host(losses: &Items<Loss>) -> Result<Items<Loss>, NoMemory>
+    ensures { IfOk result (λ ordered. ordered ≡ by_host losses.now) }
+{
+    let mut ordered = Items::new(losses.alloc());
+    for host in 0..HOSTS_MAX + 1 {
+        push_host_losses(&mut ordered, losses, host)?;
+    }
+    Ok(ordered)
+}
+
+fn push_host_losses(
+    ordered: &mut Items<Loss>,
+    losses: &Items<Loss>,
+    host: u8,
+) -> Result<(), NoMemory>
+    ensures { OnOk result (ordered.new ≡ ordered.old ++ flat_map (lost_by losses.now host) all_servers) }
+{
+    for server in 1..SERVERS_MAX + 1 {
+        push_losses_at(ordered, losses, host, server)?;
+    }
+    Ok(())
+}
+
+fn push_losses_at(
+    ordered: &mut Items<Loss>,
+    losses: &Items<Loss>,
+    host: u8,
+    server: u8,
+) -> Result<(), NoMemory>
+    ensures { OnOk result (ordered.new ≡ ordered.old ++ lost_by losses.now host server) }
+{
+    for loss in losses.as_slice() {
+        if loss.host.0 == host && loss.server.0 == server {
+            ordered.push(loss.copy()?)?;
+        }
+    }
+    Ok(())
+}

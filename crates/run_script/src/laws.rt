@@ -1,0 +1,22 @@
+ghost use Rattle.run_script.specs.Laws.{LaterLinesChangeNothing, OrdersLeaveTheSame, AllLinesGo, StuckWithoutOrder};
+
+/// Law: lines after a refused one don't change why it is refused, but by the names that clones among them place. (That there
+/// are too many lines, or that `begin` is missing, is judged above this, of the whole script.)
+pub fn later_lines_change_nothing()
+    ensures { LaterLinesChangeNothing }
+{}
+
+/// Law: whatever the order in which lines go, each node has the same left when none can go on.
+pub fn orders_leave_the_same()
+    ensures { OrdersLeaveTheSame }
+{}
+
+/// Law: lines that aren't stuck all go, in every order.
+pub fn all_lines_go()
+    ensures { AllLinesGo }
+{}
+
+/// Law: lines are stuck exactly where they go in no order.
+pub fn stuck_without_order()
+    ensures { StuckWithoutOrder }
+{}

@@ -1,0 +1,7 @@
+//! The words of the command line of the file service's program. The grammar is this project's own.
+#![tactic(auto)]
+
+mod command;
+mod parts;
+
+pub use command::{Command, command_of};
