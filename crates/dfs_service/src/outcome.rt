@@ -1,0 +1,90 @@
+ghost use Rattle.std.specs.Prelude.{◌≡◌};
+ghost use Rattle.dfs_service.specs.Outcomes.{code_of};
+
+use dfs_base::Items;
+use dfs_calls::{Entry, Roster};
+use dfs_tree::Tree;
+use script_lines::Script;
+use std::alloc::Global;
+
+/// How a run ended.
+#[derive(Clone, Copy, Debug, PartialEq, Eq)]
+pub enum Status {
+    /// The script ran, and the sink got the whole output.
+    Done,
+    /// The words aren't in the grammar.
+    NoCommand,
+    /// The bytes that were read are no script.
+    NoScript,
+    /// The source failed.
+    NoInput,
+    /// The script ran, and the sink failed, which got a part of the output, from its front.
+    NoOutput,
+    /// Memory ran out.
+    NoMemory,
+}
+
+impl Status {
+    /// The number with which the program ends.
+    pub fn code(self) -> u8
+        ensures { result ≡ code_of self }
+    {
+        match self {
+            Status::Done => 0,
+            Status::NoCommand => 1,
+            Status::NoScript => 2,
+            Status::NoInput => 3,
+            Status::NoOutput => 4,
+            Status::NoMemory => 7,
+        }
+    }
+}
+
+/// What became of a run.
+#[derive(Drop)]
+pub struct Outcome {
+    /// How it ended. Where it isn't `Done` or `NoOutput` nothing ran, and the other fields are empty.
+    pub status: Status,
+    /// The tree before the run.
+    pub start: Tree,
+    /// What happened, in order.
+    pub history: Items<Entry>,
+    /// The places of the script's lines, from 0, in the order in which they went.
+    pub order: Items<usize>,
+    /// The script.
+    pub lines: Script,
+}
+
+// An outcome without a run.
+pub(crate) fn without_run(alloc: Global, status: Status) -> Outcome
+    ensures { result.status ≡ status }
+{
+    Outcome {
+        status,
+        start: Tree {
+            roster: no_roster(alloc),
+            servers: Items::new(alloc),
+            filesets: Items::new(alloc),
+            locks: Items::new(alloc),
+            opens: Items::new(alloc),
+        },
+        history: Items::new(alloc),
+        order: Items::new(alloc),
+        lines: Script {
+            servers: 0,
+            roster: no_roster(alloc),
+            setup: Items::new(alloc),
+            plan: Items::new(alloc),
+            net: None,
+            lines: Items::new(alloc),
+        },
+    }
+}
+
+fn no_roster(alloc: Global) -> Roster {
+    Roster {
+        users: Items::new(alloc),
+        hosts: Items::new(alloc),
+        capacity: Items::new(alloc),
+    }
+}
