@@ -1,0 +1,9 @@
+pub mod Bytes
+pub mod Entries
+pub mod Left
+pub mod Pages
+pub mod Slots
+pub mod Steps
+pub mod Switch
+pub mod Until
+pub mod Words

@@ -1,0 +1,105 @@
+-- The pages under a log's entries. A page is named by its number among the metadata pages.
+use Rattle.std.specs.Prelude.{◌≡◌, ◌≤◌, ◌<◌, ℕ, Some, zero, suc, List, [], ◌∷◌, length, Bool, false, ◌==◌, ◌&&◌, ◌||◌, not, if◌then◌else◌}
+use Rattle.dfs_base.specs.Image.{byte_at}
+use Rattle.ep_layout.specs.declared.half.Half.{Half}
+use Rattle.ep_layout.specs.declared.entry.Entry.{Entry}
+use Rattle.ep_layout.specs.declared.superblock.Superblock.{Superblock}
+use Rattle.ep_layout.specs.declared.entry.Entry.TheVariants.{Update, End}
+use Rattle.ep_layout.specs.Places.{in_place, entry_start, pages_of, SameBlocks, SameFront}
+use Rattle.ep_layout.specs.Entry.{entries}
+use Rattle.ep_layout.specs.Half.{used_half, HasLog}
+
+-- a page after the updates
+abbrev pub redone : List Entry → (ℕ → List ℕ) → ℕ → List ℕ
+redone [] pages p = pages p
+redone (Update transaction page old new ∷ rest) pages p = redone rest (λ (q : ℕ). if page == q then new else pages q) p
+redone (End transaction ∷ rest) pages p = redone rest pages p
+
+-- whether a transaction has an end entry
+abbrev pub is_ended : ℕ → List Entry → Bool
+is_ended transaction [] = false
+is_ended transaction (Update other page old new ∷ rest) = is_ended transaction rest
+is_ended transaction (End other ∷ rest) = (other == transaction) || is_ended transaction rest
+
+-- a page after the updates without an end among `all` are undone, the last of them first
+abbrev pub undone : List Entry → List Entry → (ℕ → List ℕ) → ℕ → List ℕ
+undone all [] pages p = pages p
+undone all (Update transaction page old new ∷ rest) pages p = if (page == p) && not (is_ended transaction all) then old else undone all rest pages p
+undone all (End transaction ∷ rest) pages p = undone all rest pages p
+
+-- what recovery makes of a page
+unfoldable pub recovered : List Entry → (ℕ → List ℕ) → ℕ → List ℕ
+recovered held pages p = undone held held (redone held pages) p
+
+-- the metadata pages of a log's bytes, after redo and undo
+unfoldable pub pages_in : Half → List ℕ → ℕ → List ℕ
+pages_in half image p = recovered (entries half image) (in_place image) p
+
+-- the entries of the first k transactions
+unfoldable pub firsts : ℕ → List Entry → List Entry
+firsts zero held = []
+firsts (suc k) [] = []
+firsts (suc k) (Update transaction page old new ∷ rest) = Update transaction page old new ∷ firsts (suc k) rest
+firsts (suc k) (End transaction ∷ rest) = End transaction ∷ firsts k rest
+
+-- how many transactions end
+abbrev pub ends_in : List Entry → ℕ
+ends_in [] = 0
+ends_in (Update transaction page old new ∷ rest) = ends_in rest
+ends_in (End transaction ∷ rest) = suc (ends_in rest)
+
+-- Whole transactions behind `at` earlier entries. Each is named by the place of its first entry, and its updates
+-- hold as old values the pages before it. `before` are the pages before the transaction at hand, `now` those after
+-- the entries so far, and `first` is its name.
+abbrev pub AreWholeFrom : (before now : ℕ → List ℕ) (first at : ℕ) → List Entry → Type 0
+AreWholeFrom before now first at [] = first ≡ at
+AreWholeFrom before now first at (Update transaction page old new ∷ rest) =
+    (transaction ≡ first) × (old ≡ before page) × AreWholeFrom before (λ (q : ℕ). if page == q then new else now q) first (suc at) rest
+AreWholeFrom before now first at (End transaction ∷ rest) = (transaction ≡ first) × AreWholeFrom now now (suc at) (suc at) rest
+
+abbrev pub AreWhole : (ℕ → List ℕ) → ℕ → List Entry → Type 0
+AreWhole pages at held = AreWholeFrom pages pages at at held
+
+-- forced transactions, and behind them those that ended since, are whole
+pub record HasWhole (held news : List Entry) (image : List ℕ) : Type 0 where
+  pub forced : AreWhole (λ (q : ℕ). in_place image q) 0 held
+  pub ended : AreWhole (λ (q : ℕ). redone held (in_place image) q) (length held) news
+
+-- A crash left the superblock, the used half, and the pages after the first k of the transactions that ended since the last
+-- force. Where it left any of them, it left the blocks as they read.
+pub record LeftFirst (half : Half) (held news : List Entry) (image c : List ℕ) (k : ℕ) : Type 0 where
+  pub front : SameFront image c
+  pub used : used_half half.pages c ≡ Some half
+  pub some_of : k ≤ ends_in news
+  pub pages : (p : ℕ) → p < half.pages → pages_in half c p ≡ redone (firsts k news) (λ (q : ℕ). redone held (in_place image) q) p
+  pub blocks : 0 < k → SameBlocks half.pages image c
+
+-- the same, and the blocks of one of the images that a crash before could leave
+abbrev pub HasFirst : Half → List Entry → List Entry → List ℕ → (List ℕ → Type 0) → List ℕ → Type 0
+HasFirst half held news image may_leave c = (k : ℕ) × LeftFirst half held news image c k × (d : List ℕ) × may_leave d × SameBlocks half.pages d c
+
+-- whether an update names a page
+abbrev pub is_named : ℕ → List Entry → Bool
+is_named p [] = false
+is_named p (Update transaction page old new ∷ rest) = (page == p) || is_named p rest
+is_named p (End transaction ∷ rest) = is_named p rest
+
+-- images that differ at most in metadata pages that these entries name
+pub record SameButNamed (held : List Entry) (old new : List ℕ) : Type 0 where
+  pub log : (at : ℕ) → at < 6292992 → byte_at new at ≡ byte_at old at
+  pub pages : (p : ℕ) → is_named p held ≡ false → in_place new p ≡ in_place old p
+
+-- The bytes of a disk are a log with this superblock, these are its pages after redo and undo, and its blocks are those of
+-- an image.
+pub record HasPages (superblock : Superblock) (known : ℕ → List ℕ) (image c : List ℕ) : Type 0 where
+  pub half : Half
+  pub log : HasLog superblock half c
+  pub pages : (p : ℕ) → p < pages_of superblock.blocks → pages_in half c p ≡ known p
+  pub blocks : SameBlocks (pages_of superblock.blocks) image c
+
+-- images that differ at most in the headers, in the other half, and in pages that the entries name
+pub record IsBeside (half : Half) (held : List Entry) (old new : List ℕ) : Type 0 where
+  pub front : SameFront old new
+  pub entries : (at : ℕ) → entry_start half.start 0 ≤ at → at < entry_start half.start 2048 → byte_at new at ≡ byte_at old at
+  pub pages : (p : ℕ) → p < half.pages → is_named p held ≡ false → in_place new p ≡ in_place old p
+  pub blocks : SameBlocks half.pages old new
