@@ -1,11 +1,20 @@
-use Rattle.std.proofs.Common.{◌≡◌, ℕ, ◌+◌, ◌<◌, Bool, true, false, not, ◌||◌, cond, filter, List, [], ◌∷◌, ◌++◌, take, drop, map, length, get_or, drop-cons, add-one, refl, sym, arith, codes, append_assoc, append-nil}
+use Rattle.std.proofs.Common.{◌≡◌, ℕ, Bool, true, false, not, ◌||◌, cond, filter, List, [], ◌∷◌, ◌++◌, take, drop, refl, sym, arith, codes, append_assoc, append-nil}
 use Rattle.std.specs.Cmp.Lexicographic.{same_text}
 use Rattle.std.proofs.lemmas.Grind.{common_steps}
 use Rattle.std.proofs.lemmas.List.{map-append}
 use Rattle.dfs_base.specs.Name.{same_name}
 use Rattle.script_words.specs.Fields.{is_word}
 use Rattle.run_words.specs.declared.parts.Parts.{Parts}
-use Rattle.run_words.specs.Parts.{joined, is_json, is_workers, parts_of, with_parts}
+use Rattle.run_words.specs.Parts.{joined, is_json, is_workers, parts_of}
+
+-- parts and further ones
+abbrev pub with_parts : Parts → Parts → Parts
+with_parts parts more =
+    record {
+      json = parts.json ++ more.json;
+      workers = parts.workers ++ more.workers;
+      others = parts.others ++ more.others;
+    }
 
 workers_no_json : (word : List ℕ) → is_workers word ≡ true → is_json word ≡ false
 unfolding is_word
@@ -30,7 +39,7 @@ add_other a word h k = simp (h, k, append-nil)
 filter_first : (test : List ℕ → Bool) (word : List ℕ) (rest : List (List ℕ)) → filter test (word ∷ rest) ≡ filter test (word ∷ []) ++ filter test rest
 filter_first test word rest = elim (test word) as (λ v. cond v (word ∷ filter test rest) (filter test rest) ≡ cond v (word ∷ []) [] ++ filter test rest) [ true ↦ refl | false ↦ refl ]
 
-joined_other : (word : List ℕ) (rest : List (List ℕ)) → is_word word (codes "--workers") ≡ false → joined (word ∷ rest) ≡ word ∷ joined rest
+pub joined_other : (word : List ℕ) (rest : List (List ℕ)) → is_word word (codes "--workers") ≡ false → joined (word ∷ rest) ≡ word ∷ joined rest
 joined_other word [] h = refl
 joined_other word (next ∷ rest) h = rw h refl
 
@@ -46,15 +55,6 @@ parts_pair a value rest = simp append_assoc
 pub parts_none : (a : Parts) → with_parts a (parts_of []) ≡ a
 unfolding parts_of
 parts_none a = simp append-nil
-
--- the words that are still to come, where the last one was `--workers`, and where it was not
-abbrev pub awaited : Bool → List (List ℕ) → List (List ℕ)
-awaited true words = codes "--workers" ∷ words
-awaited false words = words
-
--- the text of the next word, and those after it
-pub texts_next : {X : Type 0} (text : X → List ℕ) (words : List X) (i : ℕ) (word : X) → i < length words → word ≡ get_or words i word → map text (drop i words) ≡ text word ∷ map text (drop (i + 1) words)
-texts_next text words i word h e = rw (add-one, drop-cons words i word) (rw (← e) refl)
 
 -- a word that is another is the same text
 pub is_text : (word text : List ℕ) → is_word word text ≡ true → word ≡ text

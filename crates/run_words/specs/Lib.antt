@@ -1,2 +1,4 @@
 pub mod Parts
+pub mod Plain
+pub mod Told
 pub mod Command

@@ -25,12 +25,3 @@ parts_of words =
       workers = map (drop 10) (filter is_workers (joined words));
       others = filter (λ word. not (is_json word || is_workers word)) (joined words);
     }
-
--- parts and further ones
-abbrev pub with_parts : Parts → Parts → Parts
-with_parts parts more =
-    record {
-      json = parts.json ++ more.json;
-      workers = parts.workers ++ more.workers;
-      others = parts.others ++ more.others;
-    }

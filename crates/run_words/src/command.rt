@@ -1,9 +1,11 @@
-ghost use Rattle.std.specs.Prelude.{◌≡◌, ◌≤◌, map, IfOk, IfSome};
+ghost use Rattle.std.specs.Prelude.{◌≡◌, ◌≤◌, true, ◌∷◌, map, IfOk, IfSome};
 ghost use Rattle.std.specs.String.{string_bytes};
 ghost use Rattle.script_words.specs.Outcome.{Gives};
+ghost use Rattle.run_words.specs.Plain.{are_plain};
 ghost use Rattle.run_words.specs.Command.{IsWithin, workers_of, run_of, gen_of, read, command_of};
 
 use crate::parts::{Parts, parts_of};
+use crate::plain::are_plain;
 use dfs_base::{HOSTS_MAX, NoMemory, WORKERS_MAX};
 use run_gen::CALLS_MAX;
 use script_words::{BadWhy, Fault, Words, end_at, is_word, number_at, small_at};
@@ -73,18 +75,15 @@ fn gen_of(parts: &Parts) -> Result<Command, Fault>
 }
 
 #[tactic(auto, unfolding(crate::specs::Command::read))]
-fn read(alloc: Global, words: &[String]) -> Result<Command, Fault>
-    ensures value { Gives result (read (map string_bytes words.now)) }
+fn read(alloc: Global, first: &[u8], words: &[String]) -> Result<Command, Fault>
+    requires { are_plain (map string_bytes words.now) ≡ true }
+    ensures value { Gives result (read (first.now ∷ map string_bytes words.now)) }
     ensures within { IfOk result IsWithin }
 {
-    let Some((first, rest)) = words.split_first() else {
-        return Err(Fault::Bad(BadWhy::Word));
-    };
-    let first = first.as_bytes();
     if is_word(first, b"run") {
-        run_of(&parts_of(alloc, rest)?)
+        run_of(&parts_of(alloc, words)?)
     } else if is_word(first, b"gen") {
-        gen_of(&parts_of(alloc, rest)?)
+        gen_of(&parts_of(alloc, words)?)
     } else {
         Err(Fault::Bad(BadWhy::Word))
     }
@@ -97,11 +96,18 @@ fn read(alloc: Global, words: &[String]) -> Result<Command, Fault>
 ///
 /// Numbers are decimal digits without zeros at the front. N is 1 to `WORKERS_MAX`, and 1 where it isn't said; SEED fits 64
 /// bits; HOSTS is 1 to `HOSTS_MAX` and CALLS 1 to `CALLS_MAX`. The grammar is this project's own.
+#[tactic(auto, unfolding(crate::specs::Command::read), using(crate::proofs::Refused::not_plain))]
 pub fn command_of(alloc: Global, words: &[String]) -> Result<Option<Command>, NoMemory>
     ensures value { IfOk result (λ command. command ≡ command_of (map string_bytes words.now)) }
     ensures within { IfOk result (λ command. IfSome command IsWithin) }
 {
-    match read(alloc, words) {
+    let Some((first, rest)) = words.split_first() else {
+        return Ok(None);
+    };
+    if !are_plain(rest) {
+        return Ok(None);
+    }
+    match read(alloc, first.as_bytes(), rest) {
         Ok(command) => Ok(Some(command)),
         Err(Fault::Bad(_)) => Ok(None),
         Err(Fault::Memory) => Err(NoMemory),

@@ -3,5 +3,6 @@
 
 mod command;
 mod parts;
+mod plain;
 
 pub use command::{Command, command_of};

@@ -1,25 +1,26 @@
-use Rattle.std.proofs.Common.{rules, ◌≡◌, codes, arith}
+use Rattle.std.proofs.Common.{rules, ◌≡◌, ap, ◌∙◌, map, codes}
 use Rattle.std.specs.String.{string_bytes}
-use Rattle.std.proofs.lemmas.Grind.{common_steps}
-use Rattle.run_words.proofs.Steps.{parts_first, parts_pair, parts_none, texts_next, is_text}
+use Rattle.clap.specs.Simple.{app_of, is_simple, matches_of}
+use Rattle.clap.specs.Matches.{found_of}
+use Rattle.clap.specs.Walk.{rows_of}
+use Rattle.clap.specs.Takes.{takes}
+use Rattle.run_words.specs.Told.{told, values_at}
+use Rattle.run_words.proofs.Walked.{vals}
+use Rattle.run_words.proofs.Taken.{plain_taken, plain_parts}
 use Rattle.run_words.proofs.parts.parts_of.Goals as goal
-use Rattle.run_words.proofs.parts.parts_of.Goals.{then-awaits+in_ok-from_slice+in_ok-push, else-awaits+then-is_word, else-awaits+else-is_word+in_ok-add}
-use Rattle.run_words.proofs.parts.parts_of.Goals.{then-awaits-2+in_ok-add-2, else-awaits-2}
 
-pub loop-word-preserved : goal.loop-word-preserved
-loop-word-preserved c =
-    elim c.if-awaits.branch [
-      | then-awaits+in_ok-from_slice+in_ok-push w ↦ grind (arith, common_steps, texts_next string_bytes c.args.words.now c.loop-word.word-index c.word-item.result (search rules) (search rules), parts_pair)
-      | else-awaits+then-is_word w ↦
-          let next = texts_next string_bytes c.args.words.now c.loop-word.word-index c.word-item.result (search rules) (search rules) in
-          let text : string_bytes c.word-item.result ≡ codes "--workers" = is_text _ _ (search rules) in
-          rw (w.parts-is, w.awaits-is) (rw (w.if-awaits.false, next, text) at c.loop-word.invariant)
-      | else-awaits+else-is_word+in_ok-add w ↦ grind (arith, common_steps, texts_next string_bytes c.args.words.now c.loop-word.word-index c.word-item.result (search rules) (search rules), parts_first)
-    ]
+pub unreachable-requires : goal.unreachable-requires
+unreachable-requires c =
+    let known : app_of c.in_ok-told.field-0 ≡ told = search rules in
+    let kind = c.in-Err.ensures.passes (ap (λ a. takes a (map string_bytes c.args.words.now)) known ∙ plain_taken (map string_bytes c.args.words.now) c.requires) in
+    c.in_default.not-OutOfMemory (c.kind.ensures ∙ kind)
 
-pub returns : goal.returns
-returns c =
-    elim c.if-awaits-2.branch [
-      | then-awaits-2+in_ok-add-2 w ↦ grind (arith, common_steps)
-      | else-awaits-2 w ↦ grind (arith, common_steps, parts_none)
-    ]
+pub returns-in_ok-texts_of-in-Ok-3 : goal.returns-in_ok-texts_of-in-Ok-3
+returns-in_ok-texts_of-in-Ok-3 c =
+    let words = map string_bytes c.args.words.now in
+    let known : app_of c.in_ok-told.field-0 ≡ told = search rules in
+    let rows : rows_of (found_of c.in-Ok.matches) ≡ matches_of told words = (c.in-Ok.ensures.matches (ap is_simple known)).0 ∙ ap (λ a. matches_of a words) known in
+    let json : c.in_ok-texts_of-in-Ok.field-0 ≡ values_at (codes "json") (rows_of (found_of c.in-Ok.matches)) = search rules in
+    let workers : c.in_ok-texts_of-in-Ok-2.field-0 ≡ values_at (codes "workers") (rows_of (found_of c.in-Ok.matches)) = search rules in
+    let others : c.in_ok-texts_of-in-Ok-3.field-0 ≡ values_at (codes "others") (rows_of (found_of c.in-Ok.matches)) = search rules in
+    rw (json, workers, others) (ap vals rows ∙ plain_parts words c.requires)
