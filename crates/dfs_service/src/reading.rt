@@ -44,7 +44,10 @@ pub(crate) fn script_for<R: Source>(
     match command {
         Command::Run { .. } => read(alloc, source),
         Command::Gen {
-            seed, hosts, calls, ..
+            seed,
+            hosts,
+            calls,
+            ..
         } => match generate(alloc, seed, hosts, calls) {
             Ok(script) => Ok(script),
             Err(NoMemory) => Err(NotRead::Memory),

@@ -68,12 +68,7 @@ fn run_command<R: Source, K: Sink>(
 }
 
 // Runs a script, and writes what came of it.
-fn run_script<K: Sink>(
-    alloc: Global,
-    command: Command,
-    script: Script,
-    sink: &mut K,
-) -> Outcome
+fn run_script<K: Sink>(alloc: Global, command: Command, script: Script, sink: &mut K) -> Outcome
     requires sound { IsSound script }
     requires goes { stuck_at script.lines ≡ None }
     ensures ran { RanSo K.tells (K.got sink.old) (K.got sink.new) (K.faults sink.old) (K.faults sink.new) command script result }
