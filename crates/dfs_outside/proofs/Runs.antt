@@ -81,3 +81,10 @@ changes_settled {old = old} step settled run = record {
 -- a crash during the run leaves what a crash at its start could leave, or what has P
 pub during : {P : List ℕ → Type 0} {old new : View} → LeavesOnly P old new → (c : List ℕ) → new.left_since old.moment c → old.may_leave c ⊎ P c
 during {old = old} run c left = ⊎_elim (λ earlier. inl (old.only_now c earlier)) (λ has. inr has) (run.each old.moment c (omega arith) left)
+
+-- a change leaves what has P, where each outcome of before has it after the step
+pub changes_leave : {P : List ℕ → Type 0} {step : List ℕ → List ℕ → Type 0} {old new : View} → ChangesBy step old new → ((c : List ℕ) → After step old.may_leave c → P c) → LeavesOnly P old new
+changes_leave run so = record {
+  later = run.later;
+  each = λ t c le left. ⊎_elim (λ earlier. inl earlier) (λ changed. inr (so c changed)) (run.since t c le left);
+}

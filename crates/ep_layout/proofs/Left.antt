@@ -1,20 +1,21 @@
 -- What a crash in a force leaves.
-use Rattle.std.proofs.Common.{◌≡◌, ◌<◌, ◌≤◌, ◌⊎◌, ℕ, ◌+◌, List, ◌++◌, length, take, inl, inr, ⊎_elim, sym, ◌∙◌, arith}
+use Rattle.std.proofs.Common.{◌≡◌, ◌<◌, ◌≤◌, ◌⊎◌, ℕ, ◌+◌, List, ◌++◌, length, take, inl, inr, refl, sym, ◌∙◌, subst, arith, Some}
 use Rattle.std.specs.Prelude.{◌==◌}
 use Rattle.dfs_base.specs.Image.{byte_at}
-use Rattle.dfs_base.specs.View.{View}
-use Rattle.dfs_base.specs.Crash.{After, ChangesBy}
-use Rattle.dfs_outside.specs.Runs.{LeavesOnly}
+use Rattle.dfs_base.specs.Crash.{After}
 use Rattle.dfs_outside.proofs.Image.{bytes_from-same}
 use Rattle.ep_layout.specs.declared.entry.Entry.{Entry}
 use Rattle.ep_layout.specs.declared.half.Half.{Half}
-use Rattle.ep_layout.specs.Places.{half_start, entry_start, page_start, in_place, pages_end, SameButBlocks}
+use Rattle.ep_layout.specs.declared.superblock.Superblock.{Superblock}
+use Rattle.ep_layout.specs.Places.{half_start, entry_start, page_start, in_place, pages_end, pages_of, SameButBlocks, SameFront}
+use Rattle.ep_layout.specs.Superblock.{IsSuperblock}
 use Rattle.ep_layout.specs.Entry.{StandFrom, AreOpen, HasEntries, SameButBodies, SameButGates}
-use Rattle.ep_layout.specs.Half.{used_of, used_half, IsLog}
+use Rattle.ep_layout.specs.Half.{used_of, used_half, IsLog, HasLog}
 use Rattle.ep_layout.specs.Pages.{recovered, pages_in, firsts, HasWhole, HasFirst}
 use Rattle.ep_layout.proofs.Bytes.{number-same}
 use Rattle.ep_layout.proofs.Entries.{stands_still, held_entries, unseen, first_new, all_new}
 use Rattle.ep_layout.proofs.Slots.{same_bodies}
+use Rattle.ep_layout.proofs.Words.{superblock_same}
 use Rattle.ep_layout.proofs.Pages.{whole_recovered, first_recovered, recovered_at}
 
 -- images with the same two headers
@@ -43,7 +44,7 @@ pub start_low : (half : Half) → (half.start ≡ half_start 0) ⊎ (half.start 
 start_low half (inl e) = omega arith
 start_low half (inr e) = omega arith
 
-start_high : (half : Half) → (half.start ≡ half_start 0) ⊎ (half.start ≡ half_start 1) → 512 ≤ half.start
+pub start_high : (half : Half) → (half.start ≡ half_start 0) ⊎ (half.start ≡ half_start 1) → 512 ≤ half.start
 start_high half (inl e) = omega arith
 start_high half (inr e) = omega arith
 
@@ -51,13 +52,6 @@ headers_bodies : (half : Half) (n m : ℕ) (old new : List ℕ) → n + m ≤ 20
     → ((k : ℕ) → k < entry_start half.start n → byte_at new k ≡ byte_at old k) → ((k : ℕ) → entry_start half.start (n + m) ≤ k → byte_at new k ≡ byte_at old k) → SameHeaders old new
 headers_bodies half n m old new room (inl e) below above = record { zeroth = λ k from up_to. below k (omega arith); first = λ k from up_to. above k (omega arith) }
 headers_bodies half n m old new room (inr e) below above = record { zeroth = λ k from up_to. below k (omega arith); first = λ k from up_to. below k (omega arith) }
-
--- a change that leaves what has P
-pub changes_leave : {P : List ℕ → Type 0} {step : List ℕ → List ℕ → Type 0} {old new : View} → ChangesBy step old new → ((c : List ℕ) → After step old.may_leave c → P c) → LeavesOnly P old new
-changes_leave run so = record {
-  later = run.later;
-  each = λ t c le left. ⊎_elim (λ earlier. inl earlier) (λ changed. inr (so c changed)) (run.since t c le left);
-}
 
 pub page_same : (pages p : ℕ) (old new : List ℕ) → p < pages → ((k : ℕ) → 6292992 ≤ k → k < pages_end pages → byte_at new k ≡ byte_at old k) → in_place new p ≡ in_place old p
 page_same pages p old new lt same = bytes_from-same new old (page_start p) 512 (λ k from below. same k (omega arith) (omega arith))
@@ -69,11 +63,14 @@ module _ (half : Half) (held news : List Entry) (image : List ℕ) (room : lengt
   high : 512 ≤ half.start
   high = start_high half log.place
 
+  log_left : (superblock : Superblock) → half.pages ≡ pages_of superblock.blocks → IsSuperblock superblock image → (c : List ℕ) → SameFront image c → used_half half.pages c ≡ Some half → HasLog superblock half c
+  log_left superblock many is c front used = record { front = superblock_same superblock image c front is; used = subst (λ (n : ℕ). used_half n c ≡ Some half) many used }
+
   -- entries behind closed gates don't count
-  pub behind_gates : (may_leave : List ℕ → Type 0) → ((d : List ℕ) → may_leave d → SameButBlocks half.pages image d)
-      → (c : List ℕ) → After (SameButBodies half.start (length held) (length news)) may_leave c → HasFirst half held news image may_leave c
+  pub behind_gates : (superblock : Superblock) → half.pages ≡ pages_of superblock.blocks → IsSuperblock superblock image → (may_leave : List ℕ → Type 0) → ((d : List ℕ) → may_leave d → SameButBlocks half.pages image d)
+      → (c : List ℕ) → After (SameButBodies half.start (length held) (length news)) may_leave c → HasFirst superblock held news image may_leave c
   unfolding pages_in firsts
-  behind_gates may_leave settled c changed =
+  behind_gates superblock many is may_leave settled c changed =
       let d = changed.0 in
       let step = changed.2 in
       let at_d : HasEntries half held d = entries_stay half held image d low (omega arith) (λ at below. settled d changed.1 at (omega arith)) log.entries in
@@ -81,23 +78,26 @@ module _ (half : Half) (held news : List Entry) (image : List ℕ) (room : lengt
       let headers = headers_bodies half (length held) (length news) d c room log.place step.below step.above in
       let headers_d : SameHeaders image d = record { zeroth = λ k from below. settled d changed.1 k (omega arith); first = λ k from below. settled d changed.1 k (omega arith) } in (
         0,
-        record {
-          front = λ k lt. step.below k (let l = high in omega arith) ∙ settled d changed.1 k (omega arith);
-          used = used_same half.pages d c headers ∙ used_same half.pages image d headers_d ∙ log.used;
-          some_of = omega arith;
-          pages = λ p lt.
-              let here : in_place c p ≡ in_place image p = page_same half.pages p d c lt (λ k from below. step.above k (let l = low in omega arith)) ∙ page_same half.pages p image d lt (λ k from below. settled d changed.1 k below) in
-              (λ j. recovered (held_entries half held c (omega arith) at_c j) (in_place c) p) ∙ recovered_at held (in_place c) (in_place image) p here ∙ whole_recovered held (in_place image) p whole.forced;
-          blocks = λ some. absurd (omega arith);
-        },
         d,
         changed.1,
-        λ k from. step.above k (let l = low in omega arith),
+        record {
+          some_of = omega arith;
+          log = record {
+            half = half;
+            log = log_left superblock many is c (λ k lt. step.below k (let l = high in omega arith) ∙ settled d changed.1 k (omega arith)) (used_same half.pages d c headers ∙ used_same half.pages image d headers_d ∙ log.used);
+            pages = λ p lt.
+                let here : in_place c p ≡ in_place image p = page_same half.pages p d c (omega arith) (λ k from below. step.above k (let l = low in omega arith)) ∙ page_same half.pages p image d (omega arith) (λ k from below. settled d changed.1 k below) in
+                (λ j. recovered (held_entries half held c (omega arith) at_c j) (in_place c) p) ∙ recovered_at held (in_place c) (in_place image) p here ∙ whole_recovered held (in_place image) p whole.forced;
+            blocks = λ k from. step.above k (let l = low in omega arith);
+          };
+          blocks = λ some. absurd (omega arith);
+        },
       )
 
   -- between two forces a crash leaves none of the transactions that ended since
-  pub between : (may_leave : List ℕ → Type 0) → ((d : List ℕ) → may_leave d → SameButBlocks half.pages image d) → (c : List ℕ) → may_leave c → HasFirst half held news image may_leave c
-  between may_leave settled c left = behind_gates may_leave settled c (c, left, same_bodies half.start (length held) (length news) c)
+  pub between : (superblock : Superblock) → half.pages ≡ pages_of superblock.blocks → IsSuperblock superblock image → (may_leave : List ℕ → Type 0) → ((d : List ℕ) → may_leave d → SameButBlocks half.pages image d)
+      → (c : List ℕ) → may_leave c → HasFirst superblock held news image may_leave c
+  between superblock many is may_leave settled c left = behind_gates superblock many is may_leave settled c (c, left, same_bodies half.start (length held) (length news) c)
 
   module _ (staged : List ℕ) (step : SameButBodies half.start (length held) (length news) image staged) (stand : StandFrom half (length held) news staged)
       (c : List ℕ) (gates : SameButGates half.start (length held) (length news) staged c) where
@@ -110,24 +110,26 @@ module _ (half : Half) (held news : List Entry) (image : List ℕ) (room : lengt
         (λ k lt. gates.below k lt ∙ step.below k lt) (λ k le. gates.above k le ∙ step.above k le)
 
     -- whichever gates are open, the first of the ended transactions are there
-    pub at_gates : (may_leave : List ℕ → Type 0) → may_leave image → HasFirst half held news image may_leave c
+    pub at_gates : (superblock : Superblock) → half.pages ≡ pages_of superblock.blocks → IsSuperblock superblock image → (may_leave : List ℕ → Type 0) → may_leave image → HasFirst superblock held news image may_leave c
     unfolding pages_in
-    at_gates may_leave reads =
+    at_gates superblock many is may_leave reads =
         let some = first_new half held news image room log.entries staged step stand c gates in
         let left = first_recovered held news (λ (q : ℕ). in_place image q) some.0 whole.forced whole.ended in (
           left.0,
-          record {
-            front = λ k lt. let l = high in gates.below k (omega arith) ∙ step.below k (omega arith);
-            used = used_same half.pages image c headers_stay ∙ log.used;
-            some_of = left.1;
-            pages = λ p lt.
-                let here : in_place c p ≡ in_place image p = page_same half.pages p image c lt (λ k from below. above k from) in
-                (λ j. recovered (some.2 j) (in_place c) p) ∙ recovered_at (held ++ take some.0 news) (in_place c) (in_place image) p here ∙ left.2 p;
-            blocks = λ k at from. above at (omega arith);
-          },
           image,
           reads,
-          λ at from. above at (omega arith),
+          record {
+            some_of = left.1;
+            log = record {
+              half = half;
+              log = log_left superblock many is c (λ k lt. let l = high in gates.below k (omega arith) ∙ step.below k (omega arith)) (used_same half.pages image c headers_stay ∙ log.used);
+              pages = λ p lt.
+                  let here : in_place c p ≡ in_place image p = page_same half.pages p image c (omega arith) (λ k from below. above k from) in
+                  (λ j. recovered (some.2 j) (in_place c) p) ∙ recovered_at (held ++ take some.0 news) (in_place c) (in_place image) p here ∙ left.2 p;
+              blocks = λ at from. above at (omega arith);
+            };
+            blocks = λ some at from. refl;
+          },
         )
 
     -- with all of them open the log has all entries

@@ -5,5 +5,6 @@ pub mod Pages
 pub mod Slots
 pub mod Steps
 pub mod Switch
+pub mod Unique
 pub mod Until
 pub mod Words

@@ -9,7 +9,7 @@ use Rattle.ep_layout.specs.declared.half.Header.{Header}
 use Rattle.ep_layout.specs.Places.{in_place}
 use Rattle.ep_layout.specs.Entry.{gate_at}
 use Rattle.ep_layout.specs.Half.{used_of, half_of}
-use Rattle.ep_layout.specs.Pages.{redone, recovered, pages_in, is_named, SameButNamed, AreWhole}
+use Rattle.ep_layout.specs.Pages.{redone, recovered, pages_in, is_named}
 use Rattle.ep_layout.proofs.Entries.{held_entries}
 use Rattle.ep_layout.proofs.Pages.{redone_at, undone_at}
 
@@ -26,14 +26,6 @@ redone_named (Update t page old new ∷ held) a b p named =
         → redone held (λ (q : ℕ). if page == q then new else a q) p ≡ redone held (λ (q : ℕ). if page == q then new else b q) p
     by true is named later same = same ((λ j. if is j then new else a p) ∙ (λ j. if sym is j then new else b p))
     by false is named later same = later named
-
--- pages that the entries name may be torn in place
-pub named_torn : (held : List Entry) (old new : List ℕ) → AreWhole (in_place old) 0 held → SameButNamed held old new → (p : ℕ) → redone held (in_place new) p ≡ redone held (in_place old) p
-named_torn held old new whole same p = by (is_named p held) refl
-  where
-    by : (named : Bool) → is_named p held ≡ named → redone held (in_place new) p ≡ redone held (in_place old) p
-    by true is = redone_named held (in_place new) (in_place old) p is
-    by false is = redone_at held (in_place new) (in_place old) p (same.pages p is)
 
 -- The used half: the other one is closed or has a lower generation. So where it is closed its generation may be torn.
 module _ (pages : ℕ) (zeroth first : Header) where

@@ -3,16 +3,16 @@ use Rattle.std.proofs.Common.{◌≡◌, ◌≢◌, ◌<◌, ◌≤◌, ℕ, ◌
 use Rattle.std.specs.Prelude.{Bool, true, false, ◌==◌}
 use Rattle.std.proofs.lemmas.Bool.Decides.{nat_tests}
 use Rattle.dfs_base.specs.Image.{byte_at, Torn}
-use Rattle.dfs_outside.proofs.Image.{bytes_from-same}
 use Rattle.ep_layout.specs.declared.half.Half.{Half}
 use Rattle.ep_layout.specs.declared.superblock.Superblock.{Superblock}
 use Rattle.ep_layout.specs.Numbers.{number_at}
-use Rattle.ep_layout.specs.Places.{in_place, pages_of, SameFront, SameBlocks}
+use Rattle.ep_layout.specs.Places.{in_place, pages_of, SameBlocks}
 use Rattle.ep_layout.specs.Superblock.{IsSuperblock}
 use Rattle.ep_layout.specs.Entry.{gate_at, entries}
 use Rattle.ep_layout.specs.Half.{used_half, header_at, IsAhead, AreSides}
 use Rattle.ep_layout.specs.Pages.{recovered, pages_in, is_named, HasPages, IsBeside}
 use Rattle.ep_layout.proofs.Bytes.{number-same}
+use Rattle.ep_layout.proofs.Words.{superblock_same}
 use Rattle.ep_layout.proofs.Entries.{entries_same}
 use Rattle.ep_layout.proofs.Pages.{recovered_at}
 use Rattle.ep_layout.proofs.Steps.{recovered_named, zeroth_used, first_used, none_held}
@@ -22,21 +22,6 @@ test_yes a is = grind (arith, nat_tests)
 
 test_no : (a : ℕ) → a ≢ 1 → (a == 1) ≡ false
 test_no a other = grind (arith, nat_tests)
-
--- the superblock is all in the first page
-pub superblock_stays : (superblock : Superblock) (old new : List ℕ) → SameFront old new → IsSuperblock superblock old → IsSuperblock superblock new
-superblock_stays superblock old new same is = record {
-  named = record {
-    gate = same 0 (omega arith) ∙ is.named.gate;
-    name = bytes_from-same new old 1 8 (λ k from below. same k (omega arith)) ∙ is.named.name;
-    format = number-same 4 12 12 new old (λ j lt. same (12 + j) (omega arith)) ∙ is.named.format;
-  };
-  blocks = number-same 4 16 16 new old (λ j lt. same (16 + j) (omega arith)) ∙ is.blocks;
-  some_blocks = is.some_blocks;
-  few_blocks = is.few_blocks;
-  server = same 20 (omega arith) ∙ is.server;
-  unnamed = λ k free. same k (⊎_elim (λ low. omega (arith, low)) (λ high. omega (arith, high)) free) ∙ is.unnamed k free;
-}
 
 -- the half that is ahead is the used one, on either side
 pub ahead_used : (half : Half) (other : ℕ) (image : List ℕ) → AreSides half.start other → IsAhead half other image → used_half half.pages image ≡ Some half
@@ -59,7 +44,7 @@ pub ahead_pages : (superblock : Superblock) (half : Half) (other : ℕ) (old new
 unfolding pages_in
 ahead_pages superblock half other old new many is sides ahead beside = record {
   half = half;
-  log = record { front = superblock_stays superblock old new beside.front is; used = subst (λ (n : ℕ). used_half n new ≡ Some half) many (ahead_used half other new sides ahead) };
+  log = record { front = superblock_same superblock old new beside.front is; used = subst (λ (n : ℕ). used_half n new ≡ Some half) many (ahead_used half other new sides ahead) };
   pages = λ p lt. (λ j. recovered (entries_same half old new beside.entries j) (in_place new) p) ∙ by p (omega arith) (is_named p (entries half old)) refl;
   blocks = subst (λ (n : ℕ). SameBlocks n old new) many beside.blocks;
 }

@@ -4,12 +4,15 @@ use Rattle.std.specs.Prelude.{Bool, true, false, ◌==◌, ◌&&◌, ◌||◌, i
 use Rattle.std.proofs.lemmas.Bool.Decides.{nat_tests}
 use Rattle.std.proofs.lemmas.List.{get_or-take, get_or-drop}
 use Rattle.dfs_base.specs.Image.{byte_at, bytes_from, Torn, Holds}
-use Rattle.dfs_outside.proofs.Image.{bytes_from-is, bytes_from-before, get_or-bytes_from}
+use Rattle.dfs_outside.proofs.Image.{bytes_from-is, bytes_from-before, bytes_from-same, get_or-bytes_from}
 use Rattle.ep_layout.specs.declared.entry.Entry.{Entry}
 use Rattle.ep_layout.specs.declared.entry.Entry.TheVariants.{Update, End}
 use Rattle.ep_layout.specs.declared.half.Half.{Half}
 use Rattle.ep_layout.specs.declared.superblock.Superblock.{Superblock}
 use Rattle.ep_layout.specs.Numbers.{number_at}
+use Rattle.ep_layout.specs.Places.{SameFront}
+use Rattle.ep_layout.specs.declared.half.Header.{Header}
+use Rattle.ep_layout.specs.Half.{header_from}
 use Rattle.ep_layout.specs.Superblock.{layout_name, IsSuperblock}
 use Rattle.ep_layout.specs.Entry.{entry_of, Spells, Fits, kind_of, page_named, transaction_of, old_of, new_of}
 use Rattle.ep_layout.proofs.Bytes.{number-same}
@@ -159,3 +162,32 @@ spelled_superblock superblock zeros a b c d e blank a_torn a_is b_torn b_is c_to
 -- a number in bytes that were read
 pub number_in : (n at from m : ℕ) (image : List ℕ) → at + n ≤ m → number_at n at (bytes_from image from m) ≡ number_at n (from + at) image
 number_in n at from m image le = number-same n at (from + at) (bytes_from image from m) image (λ j lt. get_or-bytes_from image from m (at + j) (omega arith) ∙ (let e : from + (at + j) ≡ from + at + j = omega arith in ap (byte_at image) e))
+
+-- the superblock is all in the first page
+pub superblock_same : (superblock : Superblock) (old new : List ℕ) → SameFront old new → IsSuperblock superblock old → IsSuperblock superblock new
+superblock_same superblock old new same is = record {
+  named = record {
+    gate = same 0 (omega arith) ∙ is.named.gate;
+    name = bytes_from-same new old 1 8 (λ k from below. same k (omega arith)) ∙ is.named.name;
+    format = number-same 4 12 12 new old (λ j lt. same (12 + j) (omega arith)) ∙ is.named.format;
+  };
+  blocks = number-same 4 16 16 new old (λ j lt. same (16 + j) (omega arith)) ∙ is.blocks;
+  some_blocks = is.some_blocks;
+  few_blocks = is.few_blocks;
+  server = same 20 (omega arith) ∙ is.server;
+  unnamed = λ k free. same k (⊎_elim (λ low. omega (arith, low)) (λ high. omega (arith, high)) free) ∙ is.unnamed k free;
+}
+
+-- the first page as it is read
+pub front_read : (superblock : Superblock) (image : List ℕ) → IsSuperblock superblock (bytes_from image 0 512) → IsSuperblock superblock image
+front_read superblock image is = superblock_same superblock (bytes_from image 0 512) image (λ k lt. let e : 0 + k ≡ k = omega arith in ap (byte_at image) (sym e) ∙ sym (get_or-bytes_from image 0 512 k lt)) is
+
+pub front_reads : (superblock : Superblock) (image : List ℕ) → IsSuperblock superblock image → IsSuperblock superblock (bytes_from image 0 512)
+front_reads superblock image is = superblock_same superblock image (bytes_from image 0 512) (λ k lt. let e : 0 + k ≡ k = omega arith in get_or-bytes_from image 0 512 k lt ∙ ap (byte_at image) e) is
+
+-- a header as it is read
+pub header_read : (header : Header) (image : List ℕ) (start : ℕ) → header.is_open ≡ (byte_at (bytes_from image start 16) 0 == 1) → header.generation ≡ number_at 8 8 (bytes_from image start 16) → header ≡ header_from image start
+header_read header image start opened generation =
+    let gate : byte_at (bytes_from image start 16) 0 ≡ byte_at image start = get_or-bytes_from image start 16 0 (omega arith) ∙ (let e : start + 0 ≡ start = omega arith in ap (byte_at image) e) in
+    let number = number_in 8 8 start 16 image (omega arith) in
+    λ j. record { is_open = (opened ∙ (λ i. gate i == 1)) j; generation = (generation ∙ number) j }

@@ -10,9 +10,13 @@ use Rattle.ep_layout.specs.declared.half.Half.{Half}
 use Rattle.ep_layout.specs.declared.half.Header.{Header}
 use Rattle.ep_layout.specs.declared.superblock.Superblock.{Superblock}
 
--- the header of a half
+-- the header of the half that starts there
+abbrev pub header_from : List ℕ → ℕ → Header
+header_from image start = record { is_open = byte_at image start == 1; generation = number_at 8 (start + 8) image }
+
+-- the header of half 0 or half 1
 abbrev pub header_at : List ℕ → ℕ → Header
-header_at image h = record { is_open = byte_at image (half_start h) == 1; generation = number_at 8 (half_start h + 8) image }
+header_at image h = header_from image (half_start h)
 
 -- half 0 or half 1 of a generation
 abbrev pub half_of : ℕ → ℕ → ℕ → Half
@@ -30,6 +34,10 @@ used_of pages zeroth first =
     else Some (half_of pages 0 zeroth.generation))
     else if first.is_open then Some (half_of pages 1 first.generation)
     else None
+
+-- one of the two halves, before so many metadata pages
+abbrev pub IsPlaced : ℕ → Half → Type 0
+IsPlaced pages half = (half.pages ≡ pages) × ((half.start ≡ half_start 0) ⊎ (half.start ≡ half_start 1))
 
 -- the used half of a disk's bytes
 unfoldable pub used_half : ℕ → List ℕ → Option Half

@@ -1,5 +1,5 @@
 -- The pages under a log's entries. A page is named by its number among the metadata pages.
-use Rattle.std.specs.Prelude.{◌≡◌, ◌≤◌, ◌<◌, ℕ, Some, zero, suc, List, [], ◌∷◌, length, Bool, false, ◌==◌, ◌&&◌, ◌||◌, not, if◌then◌else◌}
+use Rattle.std.specs.Prelude.{◌≡◌, ◌≤◌, ◌<◌, ℕ, zero, suc, List, [], ◌∷◌, length, Bool, false, ◌==◌, ◌&&◌, ◌||◌, not, if◌then◌else◌}
 use Rattle.dfs_base.specs.Image.{byte_at}
 use Rattle.ep_layout.specs.declared.half.Half.{Half}
 use Rattle.ep_layout.specs.declared.entry.Entry.{Entry}
@@ -7,7 +7,7 @@ use Rattle.ep_layout.specs.declared.superblock.Superblock.{Superblock}
 use Rattle.ep_layout.specs.declared.entry.Entry.TheVariants.{Update, End}
 use Rattle.ep_layout.specs.Places.{in_place, entry_start, pages_of, SameBlocks, SameFront}
 use Rattle.ep_layout.specs.Entry.{entries}
-use Rattle.ep_layout.specs.Half.{used_half, HasLog}
+use Rattle.ep_layout.specs.Half.{HasLog}
 
 -- a page after the updates
 abbrev pub redone : List Entry → (ℕ → List ℕ) → ℕ → List ℕ
@@ -65,18 +65,24 @@ pub record HasWhole (held news : List Entry) (image : List ℕ) : Type 0 where
   pub forced : AreWhole (λ (q : ℕ). in_place image q) 0 held
   pub ended : AreWhole (λ (q : ℕ). redone held (in_place image) q) (length held) news
 
--- A crash left the superblock, the used half, and the pages after the first k of the transactions that ended since the last
--- force. Where it left any of them, it left the blocks as they read.
-pub record LeftFirst (half : Half) (held news : List Entry) (image c : List ℕ) (k : ℕ) : Type 0 where
-  pub front : SameFront image c
-  pub used : used_half half.pages c ≡ Some half
-  pub some_of : k ≤ ends_in news
-  pub pages : (p : ℕ) → p < half.pages → pages_in half c p ≡ redone (firsts k news) (λ (q : ℕ). redone held (in_place image) q) p
-  pub blocks : 0 < k → SameBlocks half.pages image c
+-- The bytes of a disk are a log with this superblock, these are its pages after redo and undo, and its blocks are those of
+-- an image.
+pub record HasPages (superblock : Superblock) (known : ℕ → List ℕ) (image c : List ℕ) : Type 0 where
+  pub half : Half
+  pub log : HasLog superblock half c
+  pub pages : (p : ℕ) → p < pages_of superblock.blocks → pages_in half c p ≡ known p
+  pub blocks : SameBlocks (pages_of superblock.blocks) image c
 
--- the same, and the blocks of one of the images that a crash before could leave
-abbrev pub HasFirst : Half → List Entry → List Entry → List ℕ → (List ℕ → Type 0) → List ℕ → Type 0
-HasFirst half held news image may_leave c = (k : ℕ) × LeftFirst half held news image c k × (d : List ℕ) × may_leave d × SameBlocks half.pages d c
+-- A crash left a log: its pages are those after the first k of the transactions that ended since the last force, and its
+-- blocks are those of an image d. Where it left any of these transactions, they are the blocks as they read.
+pub record LeftFirst (superblock : Superblock) (held news : List Entry) (image d c : List ℕ) (k : ℕ) : Type 0 where
+  pub some_of : k ≤ ends_in news
+  pub log : HasPages superblock (λ (p : ℕ). redone (firsts k news) (λ (q : ℕ). redone held (in_place image) q) p) d c
+  pub blocks : 0 < k → SameBlocks (pages_of superblock.blocks) image d
+
+-- the same, where d is one of the images that a crash before could leave
+abbrev pub HasFirst : Superblock → List Entry → List Entry → List ℕ → (List ℕ → Type 0) → List ℕ → Type 0
+HasFirst superblock held news image may_leave c = (k : ℕ) × (d : List ℕ) × may_leave d × LeftFirst superblock held news image d c k
 
 -- whether an update names a page
 abbrev pub is_named : ℕ → List Entry → Bool
@@ -88,14 +94,7 @@ is_named p (End transaction ∷ rest) = is_named p rest
 pub record SameButNamed (held : List Entry) (old new : List ℕ) : Type 0 where
   pub log : (at : ℕ) → at < 6292992 → byte_at new at ≡ byte_at old at
   pub pages : (p : ℕ) → is_named p held ≡ false → in_place new p ≡ in_place old p
-
--- The bytes of a disk are a log with this superblock, these are its pages after redo and undo, and its blocks are those of
--- an image.
-pub record HasPages (superblock : Superblock) (known : ℕ → List ℕ) (image c : List ℕ) : Type 0 where
-  pub half : Half
-  pub log : HasLog superblock half c
-  pub pages : (p : ℕ) → p < pages_of superblock.blocks → pages_in half c p ≡ known p
-  pub blocks : SameBlocks (pages_of superblock.blocks) image c
+  pub blocks : (n : ℕ) → ((p : ℕ) → n ≤ p → is_named p held ≡ false) → SameBlocks n old new
 
 -- images that differ at most in the headers, in the other half, and in pages that the entries name
 pub record IsBeside (half : Half) (held : List Entry) (old new : List ℕ) : Type 0 where

@@ -1,7 +1,7 @@
 // Entries of the log and their bytes.
-ghost use Rattle.std.specs.Prelude.{◌≡◌, ◌+◌, ◌≤◌, length};
+ghost use Rattle.std.specs.Prelude.{◌≡◌, ◌+◌, ◌≤◌, IfSome, length};
 ghost use Rattle.dfs_base.specs.Image.{bytes_from};
-ghost use Rattle.ep_layout.specs.Entry.{entry_of, Spells, kind_of, page_named, transaction_of, old_of, new_of};
+ghost use Rattle.ep_layout.specs.Entry.{entry_of, Fits, Spells, kind_of, page_named, transaction_of, old_of, new_of};
 
 use crate::half::Half;
 use crate::numbers::{put_bytes, put_u32, put_u64, u32_at, u64_at};
@@ -35,7 +35,8 @@ const END: u8 = 2;
 
 /// The entry in these bytes of a half, where it counts.
 pub fn read_entry(half: &Half, bytes: &[u8; ENTRY]) -> Option<Entry>
-    ensures { result ≡ entry_of half.now bytes.now }
+    ensures entry { result ≡ entry_of half.now bytes.now }
+    ensures fits { IfSome result (λ entry. Fits half.now entry) }
 {
     if bytes[0] != OPEN || u64_at(bytes, 8) != half.generation {
         return None;

@@ -1,7 +1,7 @@
-ghost use Rattle.std.specs.Prelude.{◌≡◌, ◌+◌, ◌==◌, length};
+ghost use Rattle.std.specs.Prelude.{◌≡◌, ◌+◌, ◌==◌, IfSome, length};
 ghost use Rattle.dfs_base.specs.Image.{byte_at};
 ghost use Rattle.ep_layout.specs.Numbers.{number_at};
-ghost use Rattle.ep_layout.specs.Half.{used_of};
+ghost use Rattle.ep_layout.specs.Half.{used_of, IsPlaced};
 
 use crate::numbers::u64_at;
 use crate::places::{HALF_STARTS, OPEN};
@@ -35,7 +35,8 @@ pub fn read_header(bytes: &[u8; 16]) -> Header
 
 /// The half that is used, by the two headers: the one that is open, or of two the one of the higher generation.
 pub fn used_half(pages: u32, zeroth: Header, first: Header) -> Option<Half>
-    ensures { result ≡ used_of pages zeroth first }
+    ensures used { result ≡ used_of pages zeroth first }
+    ensures placed { IfSome result (λ half. IsPlaced pages half) }
 {
     let low = Half {
         start: HALF_STARTS[0],

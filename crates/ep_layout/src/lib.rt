@@ -12,6 +12,6 @@ mod superblock;
 
 pub use entry::{ENTRIES, ENTRY, Entry, entry_bytes, read_entry};
 pub use half::{Half, Header, read_header, used_half};
-pub use numbers::{put_bytes, put_u32, put_u64, u32_at, u64_at};
+pub use numbers::{put_bytes, put_u16, put_u32, put_u64, u16_at, u32_at, u64_at};
 pub use places::{CLOSED, HALF_STARTS, OPEN, PAGE, PAGES_START, pages_of};
 pub use superblock::{BLOCKS_MAX, Superblock, read_superblock, superblock_bytes};

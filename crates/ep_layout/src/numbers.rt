@@ -4,6 +4,14 @@ ghost use Rattle.ep_layout.specs.Numbers.{number_at};
 
 use byteorder::{BigEndian, ByteOrder};
 
+/// The number in the 2 bytes from `at` on, the highest first.
+pub fn u16_at(bytes: &[u8], at: usize) -> u16
+    requires { at + 2 ≤ length bytes.now }
+    ensures { result ≡ number_at 2 at bytes.now }
+{
+    BigEndian::read_u16(&bytes[at..])
+}
+
 /// The number in the 4 bytes from `at` on, the highest first.
 pub fn u32_at(bytes: &[u8], at: usize) -> u32
     requires { at + 4 ≤ length bytes.now }
@@ -18,6 +26,17 @@ pub fn u64_at(bytes: &[u8], at: usize) -> u64
     ensures { result ≡ number_at 8 at bytes.now }
 {
     BigEndian::read_u64(&bytes[at..])
+}
+
+/// Writes a number into the 2 bytes from `at` on, the highest first.
+pub fn put_u16(bytes: &mut [u8], at: usize, number: u16)
+    requires { at + 2 ≤ length bytes.old }
+    ensures number { number_at 2 at bytes.new ≡ number }
+    ensures rest { Torn at 2 bytes.old bytes.new }
+{
+    let mut piece = [0; 2];
+    BigEndian::write_u16(&mut piece, number);
+    put_bytes(bytes, at, &piece);
 }
 
 /// Writes a number into the 4 bytes from `at` on, the highest first.

@@ -1,0 +1,127 @@
+-- What each step of a format leaves.
+use Rattle.std.proofs.Common.{◌≡◌, ◌≢◌, ◌<◌, ◌≤◌, ◌⊎◌, ℕ, zero, suc, ◌+◌, List, [], ◌∷◌, length, take, drop, inl, inr, ⊎_elim, refl, sym, ◌∙◌, ap, arith, get_or, Some}
+use Rattle.std.specs.Prelude.{Bool, true, false, ◌==◌}
+use Rattle.std.proofs.lemmas.Bool.{cases_lt}
+use Rattle.std.proofs.lemmas.Bool.Decides.{nat_tests}
+use Rattle.std.proofs.lemmas.List.{get_or-take, get_or-drop, length-take-le, length-drop}
+use Rattle.dfs_base.specs.Image.{byte_at, Torn, Holds}
+use Rattle.dfs_outside.proofs.Image.{bytes_from-same, get_or-bytes_from}
+use Rattle.ep_layout.specs.declared.half.Header.{Header}
+use Rattle.ep_layout.specs.declared.superblock.Superblock.{Superblock}
+use Rattle.ep_layout.specs.Numbers.{number_at}
+use Rattle.ep_layout.specs.Places.{entry_start, page_start, in_place, pages_of}
+use Rattle.ep_layout.specs.Superblock.{IsSuperblock, IsBlank}
+use Rattle.ep_layout.specs.Entry.{SameButGates}
+use Rattle.ep_layout.specs.Half.{header_from, header_at, half_of, used_half, HasNoLog}
+use Rattle.ep_layout.proofs.Bytes.{number-same}
+use Rattle.ep_layout.proofs.Words.{superblock_same}
+use Rattle.ep_layout.proofs.Steps.{zeroth_used}
+use Rattle.ep_log.specs.Format.{KeepsGate, HasHeaders, SameButHeaders, SameLog, HasFront, SameButFront, IsPrepared, first_half, IsStaged, IsLeftOfFormat}
+use Rattle.ep_log.specs.Recovered.{blank_page}
+use Rattle.ep_log.specs.Switch.{ClosesGates}
+
+pub then_gate : (a b c : List ℕ) → KeepsGate a b → KeepsGate b c → KeepsGate a c
+then_gate a b c one two = two ∙ one
+
+pub keeps_gate : (a : List ℕ) → KeepsGate a a
+keeps_gate a = refl
+
+-- a byte of a piece that was written
+held_byte : (at j : ℕ) (piece image : List ℕ) → j < length piece → Holds at piece image → byte_at image (at + j) ≡ byte_at piece j
+held_byte at j piece image lt holds = sym (get_or-bytes_from image at (length piece) j lt) ∙ ap (λ (l : List ℕ). get_or l j 0) holds.inside
+
+-- the superblock behind its gate
+pub front_written : (superblock : Superblock) (page image : List ℕ) (m : ℕ) → IsSuperblock superblock page → length page ≡ 512 → m ≡ 511 → Holds 1 (take m (drop 1 page)) image → HasFront superblock image
+front_written superblock page image m is size many holds c gate same = superblock_same superblock page c each is
+  where
+    rest : length (take m (drop 1 page)) ≡ 511
+    rest = let e = length-drop 1 page in length-take-le m (drop 1 page) (omega arith) ∙ many
+
+    each : (at : ℕ) → at < 512 → byte_at c at ≡ byte_at page at
+    each zero lt = gate ∙ sym is.named.gate
+    each (suc k) lt =
+        let e : suc k ≡ 1 + k = omega arith in
+        same (suc k) (omega arith) (omega arith) ∙ ap (byte_at image) e ∙ held_byte 1 k (take m (drop 1 page)) image (let f = rest in omega arith) holds
+        ∙ get_or-take m (drop 1 page) k 0 (omega arith) ∙ get_or-drop 1 page k 0 ∙ ap (byte_at page) (sym e)
+
+-- the two headers
+pub headers_written : (first bytes a b : List ℕ) → length bytes ≡ 16 → 0 < length first → byte_at first 0 ≡ 0 → byte_at bytes 0 ≡ 1 → number_at 8 8 bytes ≡ 1 → Holds 3146752 first a → Torn 512 (length bytes) a b → Holds 512 bytes b → HasHeaders b
+headers_written first bytes a b size some shut opened number first_holds torn holds = record {
+  zeroth =
+      let gate : byte_at b 512 ≡ 1 = held_byte 512 0 bytes b (omega arith) holds ∙ opened in
+      let generation : number_at 8 520 b ≡ 1 = number-same 8 520 8 b bytes (λ j lt. (let e : 520 + j ≡ 512 + (8 + j) = omega arith in ap (byte_at b) e) ∙ held_byte 512 (8 + j) bytes b (omega arith) holds) ∙ number in
+      λ j. record { is_open = gate j == 1; generation = generation j };
+  first = λ is. let e = held_byte 3146752 0 first a some first_holds in let f = torn.after 3146752 (omega arith) in absurd (omega (arith, e, f, is, shut));
+}
+
+-- a page that is zero
+pub zeros_more : (n : ℕ) (a b : List ℕ) → ((p : ℕ) → p < n → in_place b p ≡ in_place a p) → in_place b n ≡ blank_page → ((p : ℕ) → p < n → in_place a p ≡ blank_page) → (p : ℕ) → p < n + 1 → in_place b p ≡ blank_page
+zeros_more n a b others here done p lt = by (cases_lt p n)
+  where
+    by : (p < n) ⊎ (n ≤ p) → in_place b p ≡ blank_page
+    by (inl below) = others p below ∙ done p below
+    by (inr le) = let e : p ≡ n = omega arith in ap (in_place b) e ∙ here
+
+pub gates_keep : (start : ℕ) (a b : List ℕ) → SameButGates start 0 2048 a b → KeepsGate a b
+gates_keep start a b same = same.below 0 (omega arith)
+
+headers_still : (a b : List ℕ) → SameLog a b → HasHeaders a → HasHeaders b
+headers_still a b same has = record {
+  zeroth = (λ j. record { is_open = same 512 (omega arith) j == 1; generation = number-same 8 520 520 b a (λ i lt. same (520 + i) (omega arith)) j }) ∙ has.zeroth;
+  first = λ is. has.first (sym (same 3146752 (omega arith)) ∙ is);
+}
+
+-- both halves and the pages
+pub is_prepared : (pages : ℕ) (a b c d : List ℕ) → ClosesGates 512 0 2048 a → SameButGates 3146752 0 2048 a b → SameButHeaders b c → HasHeaders c → SameLog c d → ((p : ℕ) → p < pages → in_place d p ≡ blank_page) → IsPrepared pages d
+is_prepared pages a b c d shut gates headers has log zeros = record {
+  headers = headers_still c d log has;
+  closed = λ i from below is. shut i from below
+      (sym (gates.below (entry_start 512 i) (omega arith)) ∙ sym (headers (entry_start 512 i) (inr (inl (omega arith, omega arith)))) ∙ sym (log (entry_start 512 i) (omega arith)) ∙ is);
+  zeros = zeros;
+}
+
+used_first : (pages : ℕ) (c : List ℕ) → header_from c 512 ≡ record { is_open = true; generation = 1 } → (byte_at c 3146752 == 1) ≡ false → used_half pages c ≡ Some (half_of pages 0 1)
+unfolding used_half
+used_first pages c zeroth shut =
+    zeroth_used pages (header_at c 0) (header_at c 1) (ap (λ (h : Header). h.is_open) zeroth) (inl shut) ∙ (λ j. Some (half_of pages 0 (ap (λ (h : Header). h.generation) zeroth j)))
+
+-- all but the gate of the superblock
+pub is_staged : (superblock : Superblock) (a b d : List ℕ) → IsPrepared (pages_of superblock.blocks) a → SameButFront a b → HasFront superblock b → d ≡ b → IsStaged superblock d
+is_staged superblock a b d prepared same front is c torn gate = record {
+  front = front c gate (λ at from below. torn.after at (omega arith) ∙ ap (λ (l : List ℕ). byte_at l at) is);
+  log = record {
+    place = inl refl;
+    used = used;
+    entries = record { stand = λ k lt. absurd (omega arith); opened = λ k lt. absurd (omega arith); closed = λ i from below o. prepared.closed i from below (sym (behind (entry_start 512 i) (omega arith)) ∙ o) };
+  };
+  pages = λ p lt. bytes_from-same c a (page_start p) 512 (λ k from below. behind k (omega arith)) ∙ prepared.zeros p lt;
+}
+  where
+    behind : (at : ℕ) → 512 ≤ at → byte_at c at ≡ byte_at a at
+    behind at le = torn.after at (omega arith) ∙ ap (λ (l : List ℕ). byte_at l at) is ∙ same at (inr le)
+
+    zeroth : header_from c 512 ≡ record { is_open = true; generation = 1 }
+    zeroth = (λ j. record { is_open = behind 512 (omega arith) j == 1; generation = number-same 8 520 520 c a (λ i lt. behind (520 + i) (omega arith)) j }) ∙ prepared.headers.zeroth
+
+    shut : (byte_at c 3146752 == 1) ≡ false
+    shut = let e : byte_at c 3146752 ≢ 1 = λ o. prepared.headers.first (sym (behind 3146752 (omega arith)) ∙ o) in grind (arith, nat_tests)
+
+    used : used_half (pages_of superblock.blocks) c ≡ Some (first_half superblock)
+    used = used_first (pages_of superblock.blocks) c zeroth shut
+
+-- a crash that leaves the gate closed leaves no log
+pub no_log : (c : List ℕ) → byte_at c 0 ≢ 1 → HasNoLog 0 c
+no_log c shut = inl (refl, λ superblock is. shut is.named.gate)
+
+-- the gate of a blank disk is closed
+pub blank_gate : (image : List ℕ) → IsBlank image → byte_at image 0 ≢ 1
+blank_gate [] blank is = absurd (omega arith)
+blank_gate (x ∷ image) blank is =
+    ⊎_elim (λ empty. absurd (omega arith)) (λ rest. ⊎_elim (λ zeros. absurd (let e = zeros 0 (omega arith) in omega arith)) (λ named. named.0 is) rest) blank
+
+pub at_gate : (superblock : Superblock) (image c : List ℕ) → IsStaged superblock image → Torn 0 1 image c → IsLeftOfFormat superblock c
+at_gate superblock image c staged torn = by (byte_at c 0 == 1) refl
+  where
+    by : (b : Bool) → (byte_at c 0 == 1) ≡ b → IsLeftOfFormat superblock c
+    by true is = inr (staged c torn (grind (arith, nat_tests, is)))
+    by false is = inl (no_log c (λ e. absurd (grind (arith, nat_tests, is, e))))

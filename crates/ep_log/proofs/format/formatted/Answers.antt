@@ -1,0 +1,43 @@
+use Rattle.std.proofs.Common.{◌∙◌, List, ℕ, ap, sym, inl, refl, replicate, Option, None}
+use Rattle.dfs_base.specs.Image.{byte_at}
+use Rattle.dfs_outside.proofs.Image.{byte_at-holds}
+use Rattle.dfs_outside.proofs.Runs.{then, weaker, quiet, changes_settled}
+use Rattle.ep_layout.specs.Half.{half_of}
+use Rattle.ep_log.specs.Format.{first_half}
+use Rattle.ep_log.specs.State.{fresh_state}
+use Rattle.ep_log.proofs.Calls.{sound_as}
+use Rattle.ep_log.proofs.Fresh.{fresh_sound}
+use Rattle.ep_log.proofs.Formatting.{no_log, blank_gate, at_gate}
+use Rattle.ep_log.proofs.format.formatted.Goals as goal
+
+pub returns-in_err-stage-clause-crash : goal.returns-in_err-stage-clause-crash
+returns-in_err-stage-clause-crash g c = λ told blank.
+    let same = c.sync.ensures.quiet.image in
+    then (quiet _ c.sync.ensures.quiet)
+    (weaker (changes_settled _ c.in_ok-sync.ensures.durable c.stage.ensures.crash) (λ d kept. inl (no_log d (λ is. blank_gate _ blank (sym (kept ∙ ap (λ (l : List ℕ). byte_at l 0) same) ∙ is)))))
+
+pub returns-in_err-write_through-clause-crash : goal.returns-in_err-write_through-clause-crash
+returns-in_err-write_through-clause-crash g c = λ told blank.
+    let same = c.sync.ensures.quiet.image in
+    then (then (quiet _ c.sync.ensures.quiet)
+    (weaker (changes_settled _ c.in_ok-sync.ensures.durable c.stage.ensures.crash) (λ d kept. inl (no_log d (λ is. blank_gate _ blank (sym (kept ∙ ap (λ (l : List ℕ). byte_at l 0) same) ∙ is))))))
+    (weaker c.write_through.ensures.crash (λ d torn. at_gate _ _ d (c.in_ok-stage.ensures.staged told) torn))
+
+pub returns-clause-crash : goal.returns-clause-crash
+returns-clause-crash g c = λ told blank.
+    let same = c.sync.ensures.quiet.image in
+    then (then (quiet _ c.sync.ensures.quiet)
+    (weaker (changes_settled _ c.in_ok-sync.ensures.durable c.stage.ensures.crash) (λ d kept. inl (no_log d (λ is. blank_gate _ blank (sym (kept ∙ ap (λ (l : List ℕ). byte_at l 0) same) ∙ is))))))
+    (weaker c.write_through.ensures.crash (λ d torn. at_gate _ _ d (c.in_ok-stage.ensures.staged told) torn))
+
+pub returns-clause-formatted : goal.returns-clause-formatted
+returns-clause-formatted g c = λ told. c.in_ok-stage.ensures.staged told _ (c.write_through.ensures.torn told) (byte_at-holds _ _ _ (c.in_ok-write_through.ensures.written told))
+
+pub returns-clause-sound : goal.returns-clause-sound
+returns-clause-sound g c =
+    let formatted = λ (told : g.D.Disk.tells). c.in_ok-stage.ensures.staged told _ (c.write_through.ensures.torn told) (byte_at-holds _ _ _ (c.in_ok-write_through.ensures.written told)) in
+    let superblock = c.args.superblock in
+    sound_as _ _ _ _ (fresh_state superblock (first_half superblock)) _
+    (c.in_ok-kept.ensures.pages ∙ ap (λ (n : ℕ). replicate {A = Option (List ℕ)} n None) c.pages_of.ensures)
+    (c.in_ok-kept.ensures.state ∙ ap (λ (n : ℕ). fresh_state superblock (half_of n 0 1)) c.pages_of.ensures)
+    (fresh_sound _ _ superblock (first_half superblock) (inl refl) c.requires.few_blocks refl (λ told. (formatted told).front) (λ told. (formatted told).log) c.in_ok-write_through.ensures.settled)

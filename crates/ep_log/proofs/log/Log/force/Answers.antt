@@ -1,0 +1,23 @@
+use Rattle.std.proofs.Common.{◌≡◌, List, length, refl, subst, arith}
+use Rattle.ep_layout.specs.declared.entry.Entry.{Entry}
+use Rattle.ep_layout.specs.Half.{IsLog}
+use Rattle.ep_log.specs.Log.{state_in}
+use Rattle.ep_log.specs.State.{State, forced_all}
+use Rattle.ep_log.proofs.Under.{page_stays}
+use Rattle.ep_log.proofs.Calls.{sound_as, force_sound}
+use Rattle.ep_log.proofs.log.Log.force.Goals as goal
+
+pub returns-in_err-append-clause-pages : goal.returns-in_err-append-clause-pages
+returns-in_err-append-clause-pages g c = λ told p. page_stays _ _ (c.append.ensures.rest told) _ _ p
+
+pub returns-clause-pages : goal.returns-clause-pages
+returns-clause-pages g c = λ told p. page_stays _ _ (c.append.ensures.rest told) _ _ p
+
+pub returns-clause-sound : goal.returns-clause-sound
+returns-clause-sound g c =
+    let kept = c.args.self.now.kept in
+    let size : c.len-self.result ≡ length kept.entries.items = omega arith in
+    let state : State = state_in kept in
+    sound_as _ _ _ _ (forced_all state) _ refl (λ j. record state { forced = size j })
+    (force_sound _ _ _ state c.requires.sound _ c.append.ensures.front c.append.ensures.rest
+    (λ told. subst (λ (l : List Entry). IsLog kept.half l (g.D.Disk.view c.append.new.disk).image) c.deref.ensures.value (c.in_ok-append.ensures.log told)) c.in_ok-append.ensures.settled)

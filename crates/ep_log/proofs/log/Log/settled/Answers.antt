@@ -1,0 +1,22 @@
+use Rattle.std.proofs.Common.{◌∙◌, ◌-◌, List, ℕ, length, take, drop, ap, get_or}
+use Rattle.ep_log.proofs.Pieces.{piece_is}
+use Rattle.ep_log.proofs.Putting.{settled_read}
+use Rattle.ep_log.proofs.Reading.{sound_read}
+use Rattle.ep_log.proofs.log.Log.settled.Goals as goal
+
+pub returns-in_err-fetch-clause-sound : goal.returns-in_err-fetch-clause-sound
+returns-in_err-fetch-clause-sound g c = sound_read _ _ _ _ _ _ c.fetch.ensures.quiet c.fetch.ensures.size c.fetch.ensures.pages c.requires.sound
+
+pub returns-clause-sound : goal.returns-clause-sound
+returns-clause-sound g c = sound_read _ _ _ _ _ _ c.fetch.ensures.quiet c.fetch.ensures.size c.fetch.ensures.pages c.requires.sound
+
+pub returns-clause-bytes : goal.returns-clause-bytes
+returns-clause-bytes g c = λ told k lt.
+    let kept = c.args.self.now.kept in
+    let image = (g.D.Disk.view c.args.self.now.disk).image in
+    ap (λ (l : List ℕ). get_or l k 0) c.copy_from_slice.ensures.after
+    ∙ settled_read kept.entries.items _ _ kept.forced image c.fetch.new.out c.redo.new.out c.or_all.new.out c.args.page k
+    (λ j. take kept.forced (c.deref.ensures.value j))
+    ((λ j. take (length (c.deref-2.ensures.value j) - kept.forced) (drop kept.forced (c.deref-2.ensures.value j))) ∙ piece_is kept.entries.items kept.forced c.requires.sound.steady.forced_le)
+    (c.in_ok-fetch.ensures.bytes told)
+    c.redo.ensures (c.or_all.ensures k lt)

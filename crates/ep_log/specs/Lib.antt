@@ -1,0 +1,11 @@
+pub mod Append
+pub mod Begin
+pub mod Blame
+pub mod Format
+pub mod Log
+pub mod Mount
+pub mod Pages
+pub mod Puts
+pub mod Recovered
+pub mod State
+pub mod Switch

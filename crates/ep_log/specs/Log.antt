@@ -1,0 +1,31 @@
+-- What contracts see of a log.
+use Rattle.std.specs.Prelude.{ℕ}
+use Rattle.dfs_base.specs.View.{View}
+use Rattle.ep_log.specs.State.{State, IsSound}
+use Rattle.ep_log.specs.declared.kept.Kept.{Kept}
+use Rattle.ep_log.specs.declared.kept.Tx.{Tx}
+use Rattle.ep_log.specs.declared.log.Log.{Log}
+
+abbrev pub state_in : Kept → State
+state_in kept = record {
+  superblock = kept.superblock;
+  half = kept.half;
+  entries = kept.entries.items;
+  forced = kept.forced;
+  puts = kept.puts.items;
+  reservations = kept.reservations;
+  reserved = kept.reserved;
+}
+
+abbrev pub disk_of : {D : Type 0} → Log D → D
+disk_of log = log.disk
+
+abbrev pub state_of : {D : Type 0} → Log D → State
+state_of log = state_in log.kept
+
+abbrev pub slot_of : Tx → ℕ
+slot_of tx = tx.slot
+
+-- a log that has not failed
+abbrev pub IsSoundLog : {D : Type 0} → Type 0 → (D → View) → Log D → Type 0
+IsSoundLog tells view log = IsSound tells (view log.disk) log.kept.pages (state_of log)
