@@ -2,4 +2,16 @@
 #![tactic(auto)]
 
 #[cfg(test)]
+mod changes;
+#[cfg(test)]
 mod disks;
+#[cfg(test)]
+mod layout;
+#[cfg(test)]
+mod logs;
+#[cfg(test)]
+mod space;
+#[cfg(test)]
+mod stops;
+#[cfg(test)]
+mod watch;

@@ -1,0 +1,5 @@
+use Rattle.episode_tests.specs.Only.{IsIdle}
+use Rattle.episode_tests.proofs.logs.batch.Given as goal
+
+abbrev pub invariant-loop-i : goal.invariant-loop-i
+invariant-loop-i g l = IsIdle g.D.Disk.tells g.D.Disk.view l.log
