@@ -52,8 +52,8 @@ impl Plain for Entry {
             } => Entry::Call {
                 host: *host,
                 k: *k,
-                call: call.copy()?,
                 reply: reply.copy()?,
+                call: call.copy()?,
             },
             Entry::Stored {
                 host,

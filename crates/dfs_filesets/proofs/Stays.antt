@@ -11,7 +11,6 @@ use Rattle.dfs_calls.specs.declared.call.Call.TheVariants.{Create, MakeDir, Remo
 use Rattle.dfs_calls.specs.declared.part.DirEntry.{DirEntry}
 use Rattle.dfs_calls.specs.declared.place.Which.{Which}
 use Rattle.dfs_objects.specs.declared.content.Content.{Content}
-use Rattle.dfs_objects.specs.declared.content.Content.TheVariants.{Dir}
 use Rattle.dfs_objects.specs.declared.content.Object.{Object}
 use Rattle.dfs_objects.specs.declared.content.Anode.{Anode}
 use Rattle.dfs_objects.specs.Changes.{anode_freed, content_written, content_truncated}
@@ -36,7 +35,6 @@ use Rattle.dfs_filesets.specs.WellFormed.{IsWellFormed}
 use Rattle.dfs_filesets.proofs.Alike.{HasSameEntries, AreAlike, same_there, same_kind}
 use Rattle.dfs_filesets.proofs.Kin.{AreKin, kin_changed}
 use Rattle.dfs_filesets.proofs.Made as Made
-use Rattle.dfs_filesets.proofs.Found.{none_some}
 use Rattle.dfs_filesets.proofs.Made.{IsNew}
 use Rattle.dfs_filesets.proofs.Removed as Removed
 use Rattle.dfs_filesets.proofs.Renamed as Renamed

@@ -28,19 +28,6 @@ pub struct Fileset {
 }
 
 impl Fileset {
-    // What stands at an anode.
-    pub(crate) fn object_at(&self, anode: u32) -> Option<&Object>
-        ensures { option_copied result ≡ object_at self.now.anodes anode }
-    {
-        if anode == 0 {
-            return None;
-        }
-        match self.anodes.at(anode as usize - 1) {
-            Some(anode) => anode.object.as_ref(),
-            None => None,
-        }
-    }
-
     // The anode of this number, to be changed in place.
     pub(crate) fn anode_mut(&mut self, anode: u32) -> Option<&mut Anode>
         ensures* writes_back { sem 𝓛 (LendsIf the_row anode_row self.entry result (with_anode self.entry.now anode) self.entry.now) }
@@ -52,6 +39,19 @@ impl Fileset {
         } else {
             None
         }
+    }
+}
+
+/// What stands at an anode, which are counted from 1: none where it is free, or where there is none of this number.
+pub fn object_at(anodes: &Items<Anode>, anode: u32) -> Option<&Object>
+    ensures { option_copied result ≡ object_at anodes.now anode }
+{
+    if anode == 0 {
+        return None;
+    }
+    match anodes.at(anode as usize - 1) {
+        Some(anode) => anode.object.as_ref(),
+        None => None,
     }
 }
 

@@ -17,6 +17,6 @@ mod telling;
 mod using;
 mod walk;
 
-pub use fileset::Fileset;
+pub use fileset::{Fileset, object_at};
 pub use promise::OBJECT_BLOCKS;
 pub use removing::InUse;

@@ -7,7 +7,7 @@ ghost use Rattle.dfs_filesets.specs.Removal.{has_entries, remove_target, remove_
 ghost use Rattle.dfs_filesets.specs.Updates.{changed, updated};
 
 use crate::checks::split_path;
-use crate::fileset::Fileset;
+use crate::fileset::{Fileset, object_at};
 use crate::outcome::NotDone;
 use dfs_base::{Fid, Name, User};
 use dfs_calls::{Refusal, Reply};
@@ -57,7 +57,7 @@ impl Fileset {
         }
         let (name, front) = split_path(path, Refusal::InUse)?;
         let (parent, entry) = self.entry_target(user, front, name)?;
-        let Some(object) = self.object_at(entry.anode) else {
+        let Some(object) = object_at(&self.anodes, entry.anode) else {
             return Err(Refusal::NoEntry);
         };
         if has_entries(object) {

@@ -3,7 +3,7 @@ ghost use Rattle.dfs_filesets.specs.Answers.{FindsAt};
 ghost use Rattle.dfs_filesets.specs.Walk.{step, walk, passes, target, file_target, permitted_file, parent_target, insert_target, entry_target};
 
 use crate::checks::permission;
-use crate::fileset::Fileset;
+use crate::fileset::{Fileset, object_at};
 use dfs_base::{Items, Name, Rights, User};
 use dfs_calls::{DirEntry, Refusal};
 use dfs_objects::{Object, entry_named};
@@ -28,7 +28,7 @@ impl Fileset {
     fn step(&self, user: &User, at: u32, name: &Name) -> Result<u32, Refusal>
         ensures { result ≡ step self.now.anodes user.now at name.now }
     {
-        let Some(object) = self.object_at(at) else {
+        let Some(object) = object_at(&self.anodes, at) else {
             return Err(Refusal::NoEntry);
         };
         let entries = object.entered(user)?;
@@ -61,7 +61,7 @@ impl Fileset {
         ensures { FindsAt result (target self.now user.now path.now) }
     {
         let anode = self.walk(user, path)?;
-        match self.object_at(anode) {
+        match object_at(&self.anodes, anode) {
             Some(object) => Ok((anode, object)),
             None => Err(Refusal::NoEntry),
         }

@@ -1,5 +1,6 @@
 pub mod Files
 pub mod Changes
+pub mod Cuts
 pub mod Spans
 pub mod Stores
 pub mod Losses

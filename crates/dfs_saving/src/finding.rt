@@ -2,13 +2,13 @@
 ghost use Rattle.std.specs.Prelude.{◌≡◌};
 ghost use Rattle.std.specs.List.{find};
 ghost use Rattle.std.specs.Option.{option_copied};
-ghost use Rattle.dfs_filesets.specs.Walk.{object_at, unique_at};
+ghost use Rattle.dfs_filesets.specs.Walk.{unique_at};
 ghost use Rattle.dfs_filesets.specs.WellFormed.{entry_at, leads};
 ghost use Rattle.dfs_tree.specs.Finding.{is_named};
 
 use dfs_base::{Items, Name, ServerId};
 use dfs_calls::{DirEntry, Place};
-use dfs_filesets::Fileset;
+use dfs_filesets::{Fileset, object_at};
 use dfs_objects::{Anode, Object, entry_named};
 
 fn is_named(fileset: &Fileset, server: ServerId, name: &Name) -> bool
@@ -24,19 +24,6 @@ pub(crate) fn fileset_of<'a>(filesets: &'a [Fileset], place: &Place) -> Option<&
     filesets
         .iter()
         .find(|fileset| is_named(fileset, place.server, &place.fileset))
-}
-
-/// What stands at an anode.
-pub(crate) fn object_at(anodes: &Items<Anode>, anode: u32) -> Option<&Object>
-    ensures { option_copied result ≡ object_at anodes.now anode }
-{
-    if anode == 0 {
-        return None;
-    }
-    match anodes.at(anode as usize - 1) {
-        Some(anode) => anode.object.as_ref(),
-        None => None,
-    }
 }
 
 /// How often an anode has been used.

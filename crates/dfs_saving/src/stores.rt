@@ -4,10 +4,10 @@ ghost use Rattle.dfs_tree.specs.WellFormed.{IsWellFormed};
 ghost use Rattle.dfs_saving.specs.Unsaved.{writer_of};
 ghost use Rattle.dfs_saving.specs.Stores.{store_of, own_store, others_store, anode_store, fileset_stores, own_stores, others_store_in, others_store_at};
 
-use crate::finding::{fileset_of, leads, object_at, unique_at};
+use crate::finding::{fileset_of, leads, unique_at};
 use dfs_base::{Fid, HostId, Items, Name, NoMemory};
 use dfs_calls::{Entry, Place};
-use dfs_filesets::Fileset;
+use dfs_filesets::{Fileset, object_at};
 use dfs_objects::{Anode, Content, Object};
 use dfs_tree::Tree;
 

@@ -1,14 +1,13 @@
 //! What is lost where a server learns that a host is down.
 ghost use Rattle.std.specs.Prelude.{◌≡◌, ◌<◌, ◌≤◌, ◌++◌, [], ◌∷◌, map, flat_map, length, slice_get, IfOk, IfSome, OnOk};
 ghost use Rattle.std.specs.List.{position};
-ghost use Rattle.std.specs.Option.{option_copied, option_map_or};
-ghost use Rattle.dfs_filesets.specs.Walk.{object_at};
+ghost use Rattle.std.specs.Option.{option_map_or};
 ghost use Rattle.dfs_tree.specs.Losses.{span_loss, file_losses, losses_below, fileset_losses, is_before_at, name_place, places_by_name, losses_of};
 
 use crate::tree::Tree;
 use dfs_base::{HostId, Items, Name, NoMemory, Plain, ServerId, Span};
 use dfs_calls::Loss;
-use dfs_filesets::Fileset;
+use dfs_filesets::{Fileset, object_at};
 use dfs_objects::{Anode, Content, Object};
 
 /// A host that a server learns is down.
@@ -101,18 +100,6 @@ fn push_fileset_losses(
         )?;
     }
     Ok(())
-}
-
-fn object_at(anodes: &Items<Anode>, anode: u32) -> Option<&Object>
-    ensures { option_copied result ≡ object_at anodes.now anode }
-{
-    if anode == 0 {
-        return None;
-    }
-    match anodes.at(anode as usize - 1) {
-        Some(anode) => anode.object.as_ref(),
-        None => None,
-    }
 }
 
 // What is lost of an object and of those below it, down to so many levels.

@@ -21,13 +21,14 @@ use Rattle.dfs_calls.specs.declared.reply.Reply.{Reply}
 use Rattle.dfs_tree.specs.declared.tree.Tree.{Tree}
 use Rattle.dfs_saving.specs.Unsaved.{all_contents, has_saved, is_write_by}
 use Rattle.dfs_saving.specs.Saving.{downs_from}
+use Rattle.script_lines.specs.Asks.{call_lines}
 use Rattle.script_lines.specs.Sound.{is_of, same_node}
 use Rattle.plain_service.specs.Seats.{lines_at}
 use Rattle.script_lines.specs.declared.script.Deed.{Deed}
 use Rattle.script_lines.specs.declared.script.Deed.TheVariants.{Call, Stop}
 use Rattle.script_lines.specs.declared.script.Line.{Line}
 use Rattle.script_lines.specs.declared.script.Script.{Script}
-use Rattle.plain_service.specs.Calls.{Asked, asked_by, calls_of, own_calls, call_count, is_asked}
+use Rattle.plain_service.specs.Calls.{Asked, asked_by, calls_of, own_calls, is_asked}
 use Rattle.plain_service.specs.Uses.{uses_from}
 use Rattle.plain_service.specs.Played.{calls_in, is_own, are_numbered, is_implied, stops, stops_at, last_calls, is_down, downs_of, downs_by}
 use Rattle.plain_service.specs.Underway.{is_store, is_hers, is_above, next_from, GoesOn, Saves, IsOpen, IsAtDesk, IsClosed, IsUnderway, AreCounted, HasCalled, HasStopped, HasLeft, IsLast, EndsUnless, HasActed, GoesAlong, AreNew, new_desk, desk_called, desk_stopped, desk_left}
@@ -183,7 +184,7 @@ asked_now script done rest line host call reply n d c =
     let all : own_calls host (done ++ line ∷ rest) ≡ own_calls host done ++ (own_calls host (line ∷ []) ++ own_calls host rest) = own_append host done (line ∷ rest) ∙ ap (λ l. own_calls host done ++ l) (own_append host (line ∷ []) rest) in
     let a = length-append (own_calls host done) (own_calls host (line ∷ []) ++ own_calls host rest) in
     let b = length-append (own_calls host (line ∷ [])) (own_calls host rest) in
-    let e : call_count script host ≡ length (own_calls host done ++ (own_calls host (line ∷ []) ++ own_calls host rest)) = c host ∙ ap length all in
+    let e : call_lines script host.0 ≡ length (own_calls host done ++ (own_calls host (line ∷ []) ++ own_calls host rest)) = c host ∙ ap length all in
     le_true _ _ (omega arith)
 
 -- stores are no calls of a script, nor losses
@@ -318,7 +319,7 @@ acted_none script start done rest line play asks downs stop u = record {
     own host = ap (filter (λ asked. asked.host.0 == host.0)) asks
 
 -- the calls by which a host ends what it had in use
-ends_asked : (script : Script) (host : HostId) (n : ℕ) (entries : List Entry) → call_count script host ≡ n → list_all (is_hers host) entries ≡ true → list_all (is_above n) entries ≡ true →
+ends_asked : (script : Script) (host : HostId) (n : ℕ) (entries : List Entry) → call_lines script host.0 ≡ n → list_all (is_hers host) entries ≡ true → list_all (is_above n) entries ≡ true →
     (filter (is_asked script) entries ≡ []) × (calls_in (filter (is_implied script host) entries) ≡ calls_in entries)
 ends_asked script host n [] e h a = (refl, refl)
 ends_asked script host n (Called caller k call reply ∷ entries) e h a =
@@ -326,8 +327,8 @@ ends_asked script host n (Called caller k call reply ∷ entries) e h a =
     let same : caller ≡ host = ap (λ n. record { 0 = n }) (eqb-true caller.0 host.0 own) in
     let above : nat_lt n k ≡ true = fst_true _ _ a in
     let more : n < k = grind (arith, common_steps, above) in
-    let count : call_count script caller ≡ n = rw same e in
-    let no : nat_le k (call_count script caller) ≡ false = lt_false k (call_count script caller) (omega arith) in
+    let count : call_lines script caller.0 ≡ n = rw same e in
+    let no : nat_le k (call_lines script caller.0) ≡ false = lt_false k (call_lines script caller.0) (omega arith) in
     let (p, q) = ends_asked script host n entries e (snd_true _ _ h) (snd_true _ _ a) in
     (rw no p, rw (no, own) (ap (λ l. record { host = caller; call = call } ∷ l) q))
 ends_asked script host n (Stored by fid spans len ∷ entries) e h a = ends_asked script host n entries e h a
@@ -444,7 +445,7 @@ own_by host (line ∷ lines) = own_append host (line ∷ []) lines ∙ by (is_of
         let two : filter (is_of (Host host)) (line ∷ lines) ≡ filter (is_of (Host host)) lines = rw e refl in
         rw (one, two) k
 
-no_more_calls : (script : Script) (done rest : List Line) (host : HostId) → AreCounted script (done ++ rest) → filter (is_of (Host host)) rest ≡ [] → call_count script host ≡ length (own_calls host done)
+no_more_calls : (script : Script) (done rest : List Line) (host : HostId) → AreCounted script (done ++ rest) → filter (is_of (Host host)) rest ≡ [] → call_lines script host.0 ≡ length (own_calls host done)
 no_more_calls script done rest host c k =
     let none : own_calls host rest ≡ [] = own_by host rest ∙ ap calls_of k in
     c host ∙ ap length (own_append host done rest ∙ (rw none (append-nil (own_calls host done))))
@@ -476,7 +477,7 @@ left_end script start done rest host line before after n counted u h k = by h.de
         let o : IsOpen script done before.past.history host h.desk = at.going left in
         let s : Saves host last.between after.past = last.saves in
         let entries : List Entry = q.entries ++ s.stored in
-        let count : call_count script host ≡ h.desk.calls = no_more_calls script done rest host counted k ∙ sym o.calls in
+        let count : call_lines script host.0 ≡ h.desk.calls = no_more_calls script done rest host counted k ∙ sym o.calls in
         let (p, r) = ends_asked script host h.desk.calls q.entries count q.hers q.above in
         left_last script start done rest host line before after entries h n u k (goes_append before.past last.between after.past q.entries s.stored q.goes s.goes)
         (filter-append (is_asked script) q.entries s.stored ∙ rw (p, asked_stores script s.stored s.stores) refl)

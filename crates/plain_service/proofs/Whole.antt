@@ -1,9 +1,11 @@
 -- A run from its first line to its last.
-use Rattle.std.proofs.Common.{◌≡◌, ℕ, ◌+◌, ◌≤◌, nat_le, ◌&&◌, true, false, not, List, [], ◌++◌, length, refl, sym, ap, subst, ◌∙◌, arith, rules, length-append}
-use Rattle.std.specs.Prelude.{filter}
+use Rattle.std.proofs.Common.{◌≡◌, ℕ, ◌+◌, ◌≤◌, Bool, nat_le, ◌&&◌, true, false, not, List, [], ◌++◌, length, refl, sym, ap, subst, ◌∙◌, arith, rules, length-append}
+use Rattle.std.specs.Prelude.{◌==◌, ◌∷◌, if◌then◌else◌, cond, filter, count_by}
 use Rattle.std.specs.List.{list_all}
 use Rattle.std.proofs.lemmas.Grind.{common_steps}
 use Rattle.std.proofs.lemmas.List.{append-nil}
+use Rattle.std.proofs.lemmas.List.Recursion.{is_count_by}
+use Rattle.dfs_base.specs.declared.ids.HostId.{HostId}
 use Rattle.std.proofs.lemmas.List.Elements.{filter-append}
 use Rattle.dfs_base.specs.declared.ids.Node.{Node}
 use Rattle.dfs_base.specs.declared.ids.Node.TheVariants.{Host, Server}
@@ -17,13 +19,14 @@ use Rattle.dfs_tree.specs.Histories.{after_history}
 use Rattle.dfs_tree.proofs.Kept.{formed_start}
 use Rattle.dfs_saving.specs.Unsaved.{all_contents, has_saved, is_by_one}
 use Rattle.dfs_saving.proofs.Apart.{starts_without, saved_is_at_rest}
+use Rattle.script_lines.specs.Asks.{is_host, is_call, is_call_of, call_lines}
 use Rattle.script_lines.specs.Sound.{is_of, is_sound_line, is_sound_deed, is_sound_call, makes_fileset, is_server, is_setup_line, is_setup_call, IsSound}
 use Rattle.script_lines.specs.declared.script.Deed.{Deed}
-use Rattle.script_lines.specs.declared.script.Deed.TheVariants.{Call}
+use Rattle.script_lines.specs.declared.script.Deed.TheVariants.{Call, Raise, Await, Stop, Restart}
 use Rattle.script_lines.specs.declared.script.Line.{Line}
 use Rattle.script_lines.specs.declared.script.Script.{Script}
 use Rattle.run_script.specs.Orders.{IsOrder}
-use Rattle.plain_service.specs.Calls.{calls_of, own_calls}
+use Rattle.plain_service.specs.Calls.{Asked, asked_by, calls_of, own_calls}
 use Rattle.plain_service.specs.Played.{IsPlayed}
 use Rattle.plain_service.specs.Seats.{is_seated, lines_at}
 use Rattle.plain_service.specs.Underway.{IsUnderway, IsFit, AreCounted, GoesAlong, IsNew, may_go, keeps_deed}
@@ -73,10 +76,32 @@ pub lines_seated : (script : Script) → IsSound script → list_all (λ line. i
 lines_seated script s = all_so may_go (λ line. is_seated line.node) (λ line h. fst_true _ _ h) script.lines (lines_may script s)
 
 -- in any order a host is asked for as many calls
+-- the calls that lines ask a host for, counted
+one_asked : (host : HostId) (node : Node) (deed : Deed) → length (filter (λ asked. asked.host.0 == host.0) (asked_by node deed)) ≡ cond (is_host host.0 node && is_call deed) 1 0
+one_asked host (Host id) (Call call) = let asked : Asked = record { host = id; call = call } in elim (id.0 == host.0) as (λ v. length (if v then asked ∷ [] else []) ≡ cond (v && true) 1 0) [ true ↦ refl | false ↦ refl ]
+one_asked host (Host id) (Raise flag) = elim (id.0 == host.0) as (λ v. ◌≡◌ {A = ℕ} 0 (cond (v && false) 1 0)) [ true ↦ refl | false ↦ refl ]
+one_asked host (Host id) (Await flag) = elim (id.0 == host.0) as (λ v. ◌≡◌ {A = ℕ} 0 (cond (v && false) 1 0)) [ true ↦ refl | false ↦ refl ]
+one_asked host (Host id) Stop = elim (id.0 == host.0) as (λ v. ◌≡◌ {A = ℕ} 0 (cond (v && false) 1 0)) [ true ↦ refl | false ↦ refl ]
+one_asked host (Host id) Restart = elim (id.0 == host.0) as (λ v. ◌≡◌ {A = ℕ} 0 (cond (v && false) 1 0)) [ true ↦ refl | false ↦ refl ]
+one_asked host (Server id) deed = refl
+
+one_more : (b : Bool) (n : ℕ) → cond b 1 0 + n ≡ cond b (1 + n) n
+one_more true n = refl
+one_more false n = omega arith
+
+counted_calls : (host : HostId) (lines : List Line) → count_by (is_call_of host.0) lines ≡ length (own_calls host lines)
+counted_calls host lines = sym (is_count_by (λ l. length (own_calls host l)) (is_call_of host.0) refl step lines)
+  where
+    step : (line : Line) (rest : List Line) → length (own_calls host (line ∷ rest)) ≡ cond (is_call_of host.0 line) (1 + length (own_calls host rest)) (length (own_calls host rest))
+    step line rest =
+        ap length (filter-append _ (asked_by line.node line.deed) (calls_of rest)) ∙ length-append (filter (λ asked. asked.host.0 == host.0) (asked_by line.node line.deed)) (own_calls host rest)
+        ∙ ap (λ n. n + length (own_calls host rest)) (one_asked host line.node line.deed) ∙ one_more (is_call_of host.0 line) (length (own_calls host rest))
+
 counted_order : (script : Script) (order : List Line) → IsOrder script.lines order → AreCounted script (script.setup ++ order)
+unfolding call_lines
 counted_order script order o host =
     let same : own_calls host order ≡ own_calls host script.lines = own_by host order ∙ (ap calls_of (o.each (Host host)) ∙ sym (own_by host script.lines)) in
-    ap length (own_append host script.setup script.lines ∙ (ap (λ l. own_calls host script.setup ++ l) (sym same) ∙ sym (own_append host script.setup order)))
+    counted_calls host (script.setup ++ script.lines) ∙ ap length (own_append host script.setup script.lines ∙ (ap (λ l. own_calls host script.setup ++ l) (sym same) ∙ sym (own_append host script.setup order)))
 
 -- before the first line
 pub fit_first : (script : Script) (start : Tree) (play : Play) → IsSound script → start ≡ new_tree script.roster → IsNew script start play → IsFit play

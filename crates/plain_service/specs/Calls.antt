@@ -1,5 +1,5 @@
 -- The calls that the lines of a script ask for.
-use Rattle.std.specs.Prelude.{ℕ, ◌==◌, nat_le, Bool, false, List, [], ◌∷◌, ◌++◌, length, filter}
+use Rattle.std.specs.Prelude.{◌==◌, nat_le, Bool, false, List, [], ◌∷◌, filter}
 use Rattle.std.specs.List.{flat_map}
 use Rattle.dfs_base.specs.declared.ids.HostId.{HostId}
 use Rattle.dfs_base.specs.declared.ids.Node.{Node}
@@ -7,6 +7,7 @@ use Rattle.dfs_base.specs.declared.ids.Node.TheVariants.{Host}
 use Rattle.dfs_calls.specs.declared.call.Call.{Call as CallOf}
 use Rattle.dfs_calls.specs.declared.entry.Entry.{Entry}
 use Rattle.dfs_calls.specs.declared.entry.Entry.TheVariants.{Call as Called}
+use Rattle.script_lines.specs.Asks.{call_lines}
 use Rattle.script_lines.specs.declared.script.Deed.{Deed}
 use Rattle.script_lines.specs.declared.script.Deed.TheVariants.{Call}
 use Rattle.script_lines.specs.declared.script.Line.{Line}
@@ -30,11 +31,7 @@ calls_of lines = flat_map (λ line. asked_by line.node line.deed) lines
 abbrev pub own_calls : HostId → List Line → List Asked
 own_calls host lines = filter (λ asked. asked.host.0 == host.0) (calls_of lines)
 
--- how many calls a script asks a host for
-abbrev pub call_count : Script → HostId → ℕ
-call_count script host = length (own_calls host (script.setup ++ script.lines))
-
 -- whether an entry is a call that a script asks for; those that a host makes by itself at its end have greater numbers
 abbrev pub is_asked : Script → Entry → Bool
-is_asked script (Called host k call reply) = nat_le k (call_count script host)
+is_asked script (Called host k call reply) = nat_le k (call_lines script host.0)
 is_asked script _ = false

@@ -18,15 +18,17 @@ use Rattle.script_lines.specs.declared.script.Deed.{Deed}
 use Rattle.script_lines.specs.declared.script.Deed.TheVariants.{Call as CallDeed, Stop as StopDeed}
 use Rattle.script_lines.specs.declared.script.Line.{Line}
 use Rattle.script_lines.specs.declared.script.Script.{Script}
+use Rattle.script_lines.specs.Asks.{call_lines}
 use Rattle.script_lines.specs.Sound.{is_of}
 use Rattle.plain_service.specs.Seats.{is_seated}
-use Rattle.plain_service.specs.Calls.{Asked, calls_of, own_calls, call_count, is_asked}
+use Rattle.plain_service.specs.Calls.{Asked, calls_of, own_calls, is_asked}
 use Rattle.plain_service.specs.Uses.{is_done, uses_from, used_if, ending}
 use Rattle.plain_service.specs.Played.{calls_in, is_own, next_number, are_numbered, is_implied, stops, last_calls, is_down, downs_of}
 use Rattle.plain_service.specs.declared.uses.Use.{Use}
 use Rattle.plain_service.specs.declared.past.Past.{Past}
 use Rattle.plain_service.specs.declared.play.Desk.{Desk}
 use Rattle.plain_service.specs.declared.play.Play.{Play}
+use Rattle.plain_service.specs.declared.played.Played.{Played}
 
 -- whether an entry says what became kept
 abbrev pub is_store : Entry → Bool
@@ -145,7 +147,7 @@ pub record IsUnderway (script : Script) (start : Tree) (done rest : List Line) (
 
 -- how many calls a script asks each host for
 abbrev pub AreCounted : Script → List Line → Type 0
-AreCounted script lines = (host : HostId) → call_count script host ≡ length (own_calls host lines)
+AreCounted script lines = (host : HostId) → call_lines script host.0 ≡ length (own_calls host lines)
 
 -- the next line of a host can go
 pub record IsFit (play : Play) : Type 0 where
@@ -216,6 +218,12 @@ may_go line = is_seated line.node && keeps_deed line.deed
 abbrev pub GoesAlong : List Line → Play → Play → Type 0
 GoesAlong lines before after = (script : Script) (start : Tree) (done rest : List Line) → AreCounted script (done ++ (lines ++ rest)) → IsUnderway script start done (lines ++ rest) before → IsUnderway script start (done ++ lines) rest after
 
+-- a run came on by the lines that make the filesets, and then by these
+pub record GoesOver (script : Script) (lines : List Line) (before after : Play) : Type 0 where
+  pub between : Play
+  pub setup : GoesAlong script.setup before between
+  pub rest : GoesAlong lines between after
+
 -- how many lines of a script are a host's
 abbrev pub line_count : Script → HostId → ℕ
 line_count script host = length (filter (is_of (Host host)) script.setup) + length (filter (is_of (Host host)) script.lines)
@@ -234,3 +242,7 @@ pub record IsNew (script : Script) (start : Tree) (play : Play) : Type 0 where
   pub history : play.past.history ≡ []
   pub desks : length play.desks ≡ HOSTS_MAX + 1
   pub each : AreNew script play.desks
+
+-- a script that went so
+abbrev pub played_so : Tree → List Entry → List ℕ → Played
+played_so start history order = record { start = start; history = history; order = order }

@@ -1,13 +1,18 @@
-ghost use Rattle.std.specs.Prelude.{◌≡◌, ◌+◌, true, IfOk, OnOk};
+ghost use Rattle.std.specs.Prelude.{◌≡◌, ◌+◌, ℕ, List, true, None, IfOk, IfSome, OnOk};
+ghost use Rattle.dfs_base.specs.declared.ids.HostId.{HostId as TheHost};
+ghost use Rattle.dfs_calls.specs.declared.call.Call.TheVariants.{Write};
+ghost use Rattle.dfs_calls.specs.declared.entry.Entry.TheVariants.{Call as Called};
+ghost use Rattle.dfs_calls.specs.declared.reply.Reply.{Reply as ReplyOf};
+ghost use Rattle.dfs_tree.specs.declared.tree.Tree.{Tree as TreeOf};
 ghost use Rattle.dfs_calls.specs.Limits.{keeps_limit};
 ghost use Rattle.dfs_tree.specs.WellFormed.{IsWellFormed};
-ghost use Rattle.dfs_saving.specs.Unsaved.{all_contents, is_by_one};
-ghost use Rattle.plain_service.specs.Uses.{is_done};
+ghost use Rattle.dfs_saving.specs.Unsaved.{all_contents, is_by_one, writes_alone};
+ghost use Rattle.plain_service.specs.Uses.{is_done, ending};
 ghost use Rattle.plain_service.specs.Underway.{Makes, MakesWay, GoesDown, Saves, Ends, IsLast};
 
 use crate::uses::Use;
-use dfs_base::{HostId, Items, NoMemory};
-use dfs_calls::{Call, Entry, Reply};
+use dfs_base::{HostId, Items, NoMemory, Plain};
+use dfs_calls::{Call, Entry, Place, Reply};
 use dfs_saving::{down_all, store_all, store_others};
 use dfs_tree::Tree;
 
@@ -21,19 +26,19 @@ pub(crate) struct Past {
 impl Past {
     /// A host makes a call, which has this number. What other hosts have unsaved of a file that it writes is stored before.
     /// Tells whether the call was done.
-    pub fn make(&mut self, host: HostId, k: u32, call: Call) -> Result<bool, NoMemory>
+    pub fn make(&mut self, host: HostId, k: u32, call: &Call) -> Result<bool, NoMemory>
         requires formed { IsWellFormed self.old.tree }
         requires apart { all_contents is_by_one self.old.tree ≡ true }
-        requires limit { keeps_limit call ≡ true }
-        ensures { IfOk result (λ done. Makes host k call done self.old self.new) }
+        requires limit { keeps_limit call.now ≡ true }
+        ensures { IfOk result (λ done. Makes host k call.now done self.old self.new) }
     {
-        self.store_for(host, &call)?;
-        let reply = self.tree.answer(host, &call)?;
+        self.store_for(host, call)?;
+        let reply = self.tree.answer(host, call)?;
         let done = is_done(&reply);
         self.history.push(Entry::Call {
             host,
             k,
-            call,
+            call: call.copy()?,
             reply,
         })?;
         Ok(done)
@@ -45,7 +50,7 @@ impl Past {
         requires apart { all_contents is_by_one self.old.tree ≡ true }
         ensures { OnOk result (MakesWay host call.now self.old self.new) }
     {
-        if let Call::Write { place, .. } = call {
+        if let Some(place) = written_by(call) {
             let stored = store_others(&mut self.tree, host, place)?;
             self.history.append(stored)?;
         }
@@ -95,6 +100,16 @@ impl Past {
         Ok(())
     }
 
+    // A host ends a use by a call of this number.
+    fn end_use(&mut self, host: HostId, k: u32, used: &Use) -> Result<bool, NoMemory>
+        requires formed { IsWellFormed self.old.tree }
+        requires apart { all_contents is_by_one self.old.tree ≡ true }
+        ensures { IfOk result (λ done. Makes host k (ending used.now) done self.old self.new) }
+    {
+        let call = used.ending()?;
+        self.make(host, k, &call)
+    }
+
     // A host that made so many calls ends what it has in use.
     fn end_uses(&mut self, host: HostId, calls: u32, uses: &Items<Use>) -> Result<(), NoMemory>
         requires formed { IsWellFormed self.old.tree }
@@ -104,9 +119,20 @@ impl Past {
         let mut k = calls;
         for used in uses.as_slice() {
             k = number_after(k)?;
-            self.make(host, k, used.ending()?)?;
+            self.end_use(host, k, used)?;
         }
         Ok(())
+    }
+}
+
+// The place that a call writes.
+fn written_by(call: &Call) -> Option<&Place>
+    ensures some { IfSome result (λ place. (from : ℕ) × (bytes : List ℕ) × (call.now ≡ Write place.now from bytes)) }
+    ensures none { result ≡ None → (tree : TreeOf) (host : TheHost) (k : ℕ) (reply : ReplyOf) → writes_alone tree (Called host k call.now reply) ≡ true }
+{
+    match call {
+        Call::Write { place, .. } => Some(place),
+        _ => None,
     }
 }
 

@@ -6,12 +6,12 @@ ghost use Rattle.dfs_base.specs.declared.ids.Node.TheVariants.{Host};
 ghost use Rattle.dfs_tree.specs.declared.tree.Tree.{Tree as TreeOf};
 ghost use Rattle.script_lines.specs.Sound.{is_of};
 ghost use Rattle.plain_service.specs.Seats.{lines_at};
-ghost use Rattle.plain_service.specs.Underway.{IsFit, HasCalled, HasStopped, HasLeft, HasActed, GoesAlong, IsNew, keeps_deed, may_go, new_desk, line_count};
+ghost use Rattle.plain_service.specs.Underway.{IsFit, HasCalled, HasStopped, HasLeft, HasActed, GoesAlong, GoesOver, IsNew, keeps_deed, may_go, new_desk, line_count};
 
 use crate::past::{Past, number_after};
 use crate::uses::{Use, note};
 use dfs_base::{HOSTS_MAX, HostId, Items, NoMemory, Node, Plain};
-use dfs_calls::Call;
+use dfs_calls::{Call, Entry};
 use dfs_tree::Tree;
 use run_script::same_node;
 use script_lines::{Deed, Line, Script};
@@ -58,8 +58,26 @@ impl Play {
         })
     }
 
-    /// The lines that make the filesets go, one after the other.
-    pub fn go_through(&mut self, lines: &Items<Line>) -> Result<(), NoMemory>
+    /// All lines go: those that make the filesets, and then those at these places, in their order.
+    pub fn go_all(&mut self, script: &Script, order: &Items<usize>) -> Result<(), NoMemory>
+        requires fit { IsFit self.old }
+        requires setup { list_all may_go script.now.setup ≡ true }
+        requires lines { list_all may_go script.now.lines ≡ true }
+        ensures { OnOk result (GoesOver script.now (lines_at script.now.lines order.now) self.old self.new) }
+    {
+        self.go_through(&script.setup)?;
+        self.follow(&script.lines, order)
+    }
+
+    /// What happened.
+    pub fn into_history(self) -> Items<Entry>
+        ensures { result ≡ self.past.history }
+    {
+        self.past.history
+    }
+
+    // The lines that make the filesets go, one after the other.
+    fn go_through(&mut self, lines: &Items<Line>) -> Result<(), NoMemory>
         requires fit { IsFit self.old }
         requires lines { list_all may_go lines.now ≡ true }
         ensures goes { OnOk result (GoesAlong lines.now self.old self.new) }
@@ -71,8 +89,8 @@ impl Play {
         Ok(())
     }
 
-    /// The lines at these places go, in their order.
-    pub fn follow(&mut self, lines: &Items<Line>, places: &Items<usize>) -> Result<(), NoMemory>
+    // The lines at these places go, in their order.
+    fn follow(&mut self, lines: &Items<Line>, places: &Items<usize>) -> Result<(), NoMemory>
         requires fit { IsFit self.old }
         requires lines { list_all may_go lines.now ≡ true }
         ensures { OnOk result (GoesAlong (lines_at lines.now places.now) self.old self.new) }
@@ -138,7 +156,7 @@ impl Play {
     {
         let desk = self.desks.get_mut(host.0 as usize);
         desk.calls = number_after(desk.calls)?;
-        if self.past.make(host, desk.calls, call.copy()?)? {
+        if self.past.make(host, desk.calls, call)? {
             note(&mut desk.uses, call)?;
         }
         Ok(())

@@ -2,6 +2,7 @@ pub mod Texts
 pub mod Access
 pub mod Replies
 pub mod Dump
+pub mod Kept
 pub mod Reports
 pub mod Printed
 pub mod Summary

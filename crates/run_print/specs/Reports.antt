@@ -1,8 +1,6 @@
 -- What a run tells: replies, losses and filesets, each in the order of the output.
-use Rattle.std.specs.Prelude.{ℕ, ◌+◌, ◌==◌, ◌&&◌, nat_le, Bool, true, false, if◌then◌else◌, List, [], ◌∷◌, ◌++◌, count_by, filter, flat_map}
+use Rattle.std.specs.Prelude.{ℕ, ◌+◌, ◌==◌, ◌&&◌, nat_le, if◌then◌else◌, List, [], ◌∷◌, ◌++◌, filter, flat_map}
 use Rattle.std.specs.List.{range_with_len}
-use Rattle.dfs_base.specs.declared.ids.Node.{Node}
-use Rattle.dfs_base.specs.declared.ids.Node.TheVariants.{Host, Server}
 use Rattle.dfs_base.specs.declared.limits.TheConstants.{HOSTS_MAX, SERVERS_MAX}
 use Rattle.dfs_calls.specs.declared.entry.Entry.{Entry}
 use Rattle.dfs_calls.specs.declared.entry.Entry.TheVariants.{Call, Stored, Down}
@@ -11,9 +9,7 @@ use Rattle.dfs_filesets.specs.declared.fileset.Fileset.{Fileset}
 use Rattle.dfs_tree.specs.declared.tree.Tree.{Tree}
 use Rattle.dfs_tree.specs.Histories.{after_entry, after_history}
 use Rattle.dfs_tree.specs.Losses.{losses_of}
-use Rattle.script_lines.specs.declared.script.Deed.{Deed}
-use Rattle.script_lines.specs.declared.script.Deed.TheVariants as deeds
-use Rattle.script_lines.specs.declared.script.Line.{Line}
+use Rattle.script_lines.specs.Asks.{call_lines}
 use Rattle.script_lines.specs.declared.script.Script.{Script}
 use Rattle.run_print.specs.declared.report.Answer.{Answer}
 use Rattle.run_print.specs.declared.report.Report.{Report}
@@ -24,23 +20,6 @@ all_hosts = range_with_len 0 (HOSTS_MAX + 1)
 
 abbrev pub all_servers : List ℕ
 all_servers = range_with_len 1 SERVERS_MAX
-
--- whether a node is a host
-abbrev pub is_host : ℕ → Node → Bool
-is_host host (Host id) = id.0 == host
-is_host host (Server id) = false
-
--- whether a deed is a call
-abbrev pub is_call : Deed → Bool
-is_call (deeds.Call call) = true
-is_call _ = false
-
--- the lines of a script that are calls of a host; those of the setup host make the filesets
-abbrev pub is_call_of : ℕ → Line → Bool
-is_call_of host line = is_host host line.node && is_call line.deed
-
-unfoldable pub call_lines : Script → ℕ → ℕ
-call_lines script host = if host == 0 then count_by (is_call_of host) script.setup else count_by (is_call_of host) script.lines
 
 -- the reply to a call of a host, where a line of the script made it: calls that are implied come after those
 unfoldable pub answer_in : ℕ → ℕ → Entry → List Answer

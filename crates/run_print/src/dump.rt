@@ -1,13 +1,13 @@
 //! How filesets are written, object by object.
 ghost use Rattle.std.specs.Prelude.{◌≡◌, ◌++◌, ◌∷◌, [], flat_map, OnOk, IfOk};
-ghost use Rattle.std.specs.Option.{option_copied, option_map_or};
-ghost use Rattle.dfs_filesets.specs.Walk.{object_at};
+ghost use Rattle.std.specs.Option.{option_map_or};
 ghost use Rattle.run_print.specs.Dump.{before_zero, run_line, runs_of, list_line, nth_list_line, head_line, dir_lists, object_lines, lines_below, mode_text, fileset_head, fileset_lines};
+ghost use Rattle.run_print.specs.Kept.{content_lines};
 
 use crate::access::push_list;
 use crate::texts::{push_number, push_quoted, push_word};
 use dfs_base::{AccessList, Items, Name, NoMemory};
-use dfs_filesets::Fileset;
+use dfs_filesets::{Fileset, object_at};
 use dfs_objects::{Anode, Content, Object};
 
 /// Adds the lines of a fileset: of the fileset itself, of its root, and of each directory's entries behind it.
@@ -40,19 +40,6 @@ fn mode_text(read_only: bool) -> &'static [u8]
     ensures { result.now ≡ mode_text read_only }
 {
     if read_only { b" ro " } else { b" rw " }
-}
-
-// What stands at an anode.
-fn object_at(anodes: &Items<Anode>, anode: u32) -> Option<&Object>
-    ensures { option_copied result ≡ object_at anodes.now anode }
-{
-    if anode == 0 {
-        return None;
-    }
-    match anodes.at(anode as usize - 1) {
-        Some(anode) => anode.object.as_ref(),
-        None => None,
-    }
 }
 
 // The path of a name in a directory.
@@ -91,11 +78,24 @@ fn push_below(
     Ok(())
 }
 
-#[tactic(auto, unfolding(crate::specs::Dump::object_lines))]
+#[tactic(auto, using(crate::proofs::Kept::kept_lines))]
 fn push_object(out: &mut Items<u8>, path: &[u8], object: &Object) -> Result<(), NoMemory>
     ensures { OnOk result (out.new ≡ out.old ++ object_lines path.now object.now) }
 {
-    match &object.kept_copy()?.content {
+    let kept = object.kept_copy()?;
+    push_content(out, path, object, &kept.content)
+}
+
+// The lines of an object that contains this, a file its kept bytes alone.
+fn push_content(
+    out: &mut Items<u8>,
+    path: &[u8],
+    object: &Object,
+    content: &Content,
+) -> Result<(), NoMemory>
+    ensures { OnOk result (out.new ≡ out.old ++ content_lines path.now object.now content.now) }
+{
+    match content {
         Content::Dir { entries, lists } => {
             push_head(out, b"dir ", path, entries.len(), object)?;
             push_dir_lists(out, lists)

@@ -1,10 +1,12 @@
 //! What a run tells: replies, losses and filesets, each in the order of the output.
-ghost use Rattle.std.specs.Prelude.{◌≡◌, ◌++◌, count_by, flat_map, IfOk, OnOk};
+ghost use Rattle.std.specs.Prelude.{◌≡◌, ◌≤◌, ◌++◌, count_by, flat_map, IfOk, OnOk};
+ghost use Rattle.dfs_tree.specs.Answers.{answer_to};
 ghost use Rattle.dfs_tree.specs.Histories.{after_entry, after_history};
-ghost use Rattle.run_print.specs.Reports.{all_servers, is_host, is_call, is_call_of, call_lines, answer_in, answers_of, lost_at, lost_in, lost_by, by_host, report_of};
+ghost use Rattle.script_lines.specs.Asks.{is_host, is_call, is_call_of, call_lines};
+ghost use Rattle.run_print.specs.Reports.{all_servers, answer_in, answers_of, lost_at, lost_in, lost_by, by_host, report_of};
 
 use dfs_base::{HOSTS_MAX, HostId, Items, NoMemory, Node, Plain, SERVERS_MAX};
-use dfs_calls::{Entry, Loss, Reply};
+use dfs_calls::{Call, Entry, Loss, Reply};
 use dfs_tree::Tree;
 use script_lines::{Deed, Line, Script};
 use std::alloc::Global;
@@ -41,13 +43,23 @@ pub(crate) fn report_of(
 ) -> Result<Report, NoMemory>
     ensures { IfOk result (λ report. report ≡ report_of script.now start.now history.now) }
 {
+    let answers = answers_of(alloc, script, history)?;
     let mut tree = start.copy()?;
-    let lost = follow(alloc, &mut tree, history)?;
+    let losses = losses_along(alloc, &mut tree, history)?;
     Ok(Report {
-        answers: answers_of(alloc, script, history)?,
-        losses: by_host(&lost)?,
+        answers,
+        losses,
         tree,
     })
+}
+
+// Goes through a history. Gives the losses by host, and leaves the last tree.
+fn losses_along(alloc: Global, tree: &mut Tree, history: &[Entry]) -> Result<Items<Loss>, NoMemory>
+    ensures losses { IfOk result (λ losses. losses ≡ by_host (lost_in tree.old history.now)) }
+    ensures tree { OnOk result (tree.new ≡ after_history tree.old history.now) }
+{
+    let lost = follow(alloc, tree, history)?;
+    by_host(&lost)
 }
 
 // The replies to the lines of a script, by host.
@@ -103,20 +115,17 @@ fn push_answer(
     Ok(())
 }
 
-// How many lines of a script are calls of a host; those of the setup host make the filesets.
-#[tactic(auto, unfolding(crate::specs::Reports::call_lines))]
+// How many lines of a script ask a host for a call; those that ask the setup host make the filesets.
+#[tactic(auto, unfolding(script_lines::specs::Asks::call_lines))]
 fn call_lines(script: &Script, host: u8) -> usize
     ensures { result ≡ call_lines script.now host }
 {
-    if host == 0 {
-        count_calls(&script.setup, host)
-    } else {
-        count_calls(&script.lines, host)
-    }
+    count_calls(&script.setup, host) + count_calls(&script.lines, host)
 }
 
 fn count_calls(lines: &Items<Line>, host: u8) -> usize
-    ensures { result ≡ count_by (is_call_of host) lines.now }
+    ensures count { result ≡ count_by (is_call_of host) lines.now }
+    ensures bound { result ≤ 9223372036854775807 }
 {
     lines
         .as_slice()
@@ -168,9 +177,7 @@ fn follow_entry(alloc: Global, tree: &mut Tree, entry: &Entry) -> Result<Items<L
             k: _,
             call,
             reply: _,
-        } => {
-            let _ = tree.answer(*host, call)?;
-        }
+        } => follow_call(tree, *host, call)?,
         Entry::Stored {
             host,
             fid,
@@ -180,6 +187,17 @@ fn follow_entry(alloc: Global, tree: &mut Tree, entry: &Entry) -> Result<Items<L
         Entry::Down { host, server } => return tree.down(*host, *server),
     }
     Ok(Items::new(alloc))
+}
+
+// Makes the tree what it is after a call. A read, of which there may be many, leaves it as it is.
+#[tactic(auto, using(crate::proofs::Reading::read_stays))]
+fn follow_call(tree: &mut Tree, host: HostId, call: &Call) -> Result<(), NoMemory>
+    ensures { OnOk result (tree.new ≡ (answer_to tree.old host call.now).tree) }
+{
+    if !matches!(call, Call::Read { .. }) {
+        tree.answer(host, call)?;
+    }
+    Ok(())
 }
 
 // Losses by host, and then by server.

@@ -20,11 +20,24 @@ use std::alloc::Global;
 const LINE_TOO_MANY: u32 = SCRIPT_LINES_MAX as u32 + 1;
 
 // What all lines say, or the first that is refused.
-#[tactic(auto, unfolding(script_words::specs::Lines::lines_of))]
 fn judge(alloc: Global, bytes: &[u8], disks: u32) -> Result<Context, ScriptRefused>
     ensures { Reads result (judged_from nothing_said disks 1 (lines_of bytes.now)) }
 {
     let mut context = Context::new(alloc);
+    take_all(&mut context, alloc, bytes, disks)?;
+    Ok(context)
+}
+
+// Takes all lines, from the first on.
+#[tactic(auto, unfolding(script_words::specs::Lines::lines_of))]
+fn take_all(
+    context: &mut Context,
+    alloc: Global,
+    bytes: &[u8],
+    disks: u32,
+) -> Result<(), ScriptRefused>
+    ensures { Leaves result context.new (judged_from context.old disks 1 (lines_of bytes.now)) }
+{
     let mut rest = bytes;
     let mut number = 1;
     while !rest.is_empty() {
@@ -32,11 +45,11 @@ fn judge(alloc: Global, bytes: &[u8], disks: u32) -> Result<Context, ScriptRefus
         if number >= LINE_TOO_MANY {
             return Err(ScriptRefused::BadLine(LINE_TOO_MANY, BadWhy::Lines));
         }
-        take_next(&mut context, disks, number, line, after, alloc)?;
+        take_next(context, disks, number, line, after, alloc)?;
         rest = after;
         number += 1;
     }
-    Ok(context)
+    Ok(())
 }
 
 // Takes a line, and at the last header the names of the clones after it.

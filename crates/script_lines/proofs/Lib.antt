@@ -1,3 +1,5 @@
 mod Places
+mod Ends
 pub mod Cloned
+pub mod Locks
 pub mod Kept

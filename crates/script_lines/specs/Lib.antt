@@ -1,8 +1,10 @@
 pub mod Context
 pub mod Deeds
+pub mod Locks
 pub mod Plan
 pub mod Headers
 pub mod Judge
 pub mod Clones
 pub mod Ways
 pub mod Sound
+pub mod Asks

@@ -7,7 +7,7 @@ ghost use Rattle.script_lines.specs.Clones.{is_host, name_if, clone_of, clone_in
 ghost use Rattle.script_lines.specs.declared.clones.TheConstants.{DOUBLINGS};
 ghost use Rattle.script_lines.specs.Ways.{way_of, way_from, goes_on, way_in, all_lead, steps_after, doubled, server_at_end};
 
-use crate::context::{Context, Placed, find_placed};
+use crate::context::{Context, Placed, find_placed, is_same};
 use dfs_base::{Items, Name, NameRefused, NoMemory, Node, Plain, ServerId};
 use script_words::{Fault, is_word, next_line, node_of, words_of_line};
 use std::alloc::Global;
@@ -103,7 +103,7 @@ pub(crate) enum Way {
 fn position_of(clones: &[CloneLine], name: &Name) -> Option<usize>
     ensures { result ≡ position (λ clone. same_name clone.new name.now) clones.now }
 {
-    clones.iter().position(|clone| clone.new == *name)
+    clones.iter().position(|clone| is_same(&clone.new, name))
 }
 
 // One step from a name.

@@ -1,5 +1,6 @@
-ghost use Rattle.std.specs.Prelude.{◌≡◌, IfSome, ◌<◌, length};
+ghost use Rattle.std.specs.Prelude.{◌≡◌, true, IfSome, ◌<◌, length};
 ghost use Rattle.std.specs.Option.{option_copied};
+ghost use Rattle.dfs_base.specs.Name.{same_name};
 ghost use Rattle.script_words.specs.Outcome.{Gives};
 ghost use Rattle.script_lines.specs.Context.{find_placed, server_of, is_elsewhere, has_stopped, user_place, place_of, place_at, host_named, server_named, node_declared};
 
@@ -122,11 +123,30 @@ fn position_of(users: &[User], name: &Name) -> Option<usize>
     users.iter().position(|user| user.name == *name)
 }
 
+/// Whether two names are the same. Names that are numbered begin alike, so their ends are compared first.
+#[tactic(auto, using(crate::proofs::Ends::ends_tell))]
+pub(crate) fn is_same(a: &Name, b: &Name) -> bool
+    ensures { result ≡ same_name a.now b.now }
+{
+    end_alike(a.as_bytes(), b.as_bytes()) && *a == *b
+}
+
+// Whether these are as long and have the same last two bytes; so it is where they are the same.
+fn end_alike(a: &[u8], b: &[u8]) -> bool
+    ensures { a.now ≡ b.now → result ≡ true }
+{
+    let len = a.len();
+    len == b.len() && (len < 2 || (a[len - 1] == b[len - 1] && a[len - 2] == b[len - 2]))
+}
+
 /// Where the fileset with this name is placed.
 pub(crate) fn find_placed<'a>(placed: &'a Items<Placed>, name: &Name) -> Option<&'a Placed>
     ensures { option_copied result ≡ find_placed placed.now name.now }
 {
-    placed.as_slice().iter().find(|other| other.name == *name)
+    placed
+        .as_slice()
+        .iter()
+        .find(|other| is_same(&other.name, name))
 }
 
 /// A host's number, declared or not; `Word` where the word is none.

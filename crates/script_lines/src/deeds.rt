@@ -1,5 +1,6 @@
 ghost use Rattle.std.specs.Prelude.{◌≡◌};
 ghost use Rattle.script_words.specs.Outcome.{Gives};
+ghost use Rattle.script_lines.specs.Locks.{lock_part, last_kind};
 ghost use Rattle.script_lines.specs.Deeds.{raise_deed, verb_of, open_kind_of, lock_mode_of, which_of, which_at, only_place, rename_call, truncate_call, clone_call, read_call, write_call, lock_call, open_call, getacl_call, setacl_call, only_label, call_by, host_deed, server_deed, deed_of};
 
 use crate::context::Context;
@@ -143,6 +144,36 @@ fn which_at(words: &Words, i: usize) -> Result<Which, Fault>
     known(which_of(word_at(words, i)?.as_slice()))
 }
 
+/// What a lock covers, and how.
+#[derive(Clone, Copy)]
+pub(crate) struct LockPart {
+    pub writing: bool,
+    pub from: u32,
+    pub len: u32,
+}
+
+// What a lock covers, in the words behind its place; no more words follow.
+#[tactic(auto, unfolding(crate::specs::Locks::lock_part))]
+fn lock_part(words: &Words) -> Result<LockPart, Fault>
+    ensures { Gives result (lock_part words.now) }
+{
+    let writing = known(lock_mode_of(word_at(words, 4)?.as_slice()))?;
+    let from = small_at(words, 5, 0, NUMBER_MAX)?;
+    let len = small_at(words, 6, 1, NUMBER_MAX)?;
+    end_at(words, 7)?;
+    Ok(LockPart { writing, from, len })
+}
+
+// How a file is opened, in the word behind its place; no more words follow.
+#[tactic(auto, unfolding(crate::specs::Locks::last_kind))]
+fn last_kind(words: &Words) -> Result<OpenKind, Fault>
+    ensures { Gives result (last_kind words.now) }
+{
+    let kind = known(open_kind_of(word_at(words, 4)?.as_slice()))?;
+    end_at(words, 5)?;
+    Ok(kind)
+}
+
 // The label of a line that has no more words.
 #[tactic(auto, unfolding(crate::specs::Deeds::only_label))]
 fn only_label(words: &Words) -> Result<Name, Fault>
@@ -233,16 +264,13 @@ impl Context {
     {
         let label = label_at(words, 2)?;
         let place = self.place_at(words, 3)?;
-        let writing = known(lock_mode_of(word_at(words, 4)?.as_slice()))?;
-        let from = small_at(words, 5, 0, NUMBER_MAX)?;
-        let len = small_at(words, 6, 1, NUMBER_MAX)?;
-        end_at(words, 7)?;
+        let part = lock_part(words)?;
         Ok(Call::Lock {
             label,
             place,
-            writing,
-            from,
-            len,
+            writing: part.writing,
+            from: part.from,
+            len: part.len,
         })
     }
 
@@ -252,8 +280,7 @@ impl Context {
     {
         let label = label_at(words, 2)?;
         let place = self.place_at(words, 3)?;
-        let kind = known(open_kind_of(word_at(words, 4)?.as_slice()))?;
-        end_at(words, 5)?;
+        let kind = last_kind(words)?;
         Ok(Call::OpenFile { label, place, kind })
     }
 

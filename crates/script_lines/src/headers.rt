@@ -1,14 +1,14 @@
-ghost use Rattle.std.specs.Prelude.{◌≡◌};
+ghost use Rattle.std.specs.Prelude.{◌≡◌, OnOk};
 ghost use Rattle.std.specs.Option.{option_copied};
 ghost use Rattle.script_words.specs.Outcome.{Gives, GivesBy, Becomes};
-ghost use Rattle.script_lines.specs.Headers.{header_of, groups_at, limit_at, user_named, is_capped, has_fileset_at, server_at, owner_at, servers_line, user_line, host_line, capacity_line, fileset_line, net_line, begin_line, header_by, header_line};
+ghost use Rattle.script_lines.specs.Headers.{header_of, groups_at, limit_at, user_named, is_capped, has_fileset_at, server_at, owner_at, setup_line, with_fileset, servers_line, user_line, host_line, capacity_line, fileset_line, net_line, begin_line, header_by, header_line};
 
 use crate::context::{Context, Placed, host_named, server_named};
 use crate::script::{Deed, Line, NET_MAX, Net};
 use dfs_base::{
     CACHED_TOKENS_DEFAULT, CACHED_TOKENS_MAX, CACHED_TOKENS_MIN, CAPACITY_DEFAULT, CAPACITY_MAX,
-    CAPACITY_MIN, GROUPS_MAX, HostId, Items, Name, Node, OBJECTS_MAX, Plain, SERVERS_MAX, ServerId,
-    User,
+    CAPACITY_MIN, GROUPS_MAX, HostId, Items, Name, NoMemory, Node, OBJECTS_MAX, Plain, SERVERS_MAX,
+    ServerId, User,
 };
 use dfs_calls::{Call, HostLine};
 use script_words::{
@@ -96,6 +96,22 @@ fn has_fileset_at(placed: &Items<Placed>, server: ServerId) -> bool
         .any(|other| other.server.0 == server.0)
 }
 
+// The call of the setup host that makes a fileset.
+fn setup_line(number: u32, server: ServerId, name: Name, objects: u32, owner: User) -> Line
+    ensures { result ≡ setup_line number server name objects owner }
+{
+    Line {
+        number,
+        node: Node::Host(HostId::SETUP),
+        deed: Deed::Call(Call::NewFileset {
+            server,
+            name,
+            objects,
+            owner,
+        }),
+    }
+}
+
 impl Context {
     #[tactic(auto, unfolding(crate::specs::Headers::server_at))]
     fn server_at(&self, words: &Words, i: usize) -> Result<ServerId, Fault>
@@ -141,8 +157,8 @@ impl Context {
             host.0 as usize != self.script.roster.hosts.len().saturating_add(1),
             BadWhy::Repeated,
         )?;
-        let name = name_at(words, 2)?;
-        let Some(place) = self.user_place(&name) else {
+        let place = self.user_place(&name_at(words, 2)?);
+        let Some(place) = place else {
             return Err(Fault::Bad(BadWhy::Undeclared));
         };
         let limit = limit_at(words)?;
@@ -181,19 +197,28 @@ impl Context {
         let objects = small_at(words, 3, 1, OBJECTS_MAX)?;
         let owner = self.owner_at(words)?;
         end_at(words, 5)?;
-        let node = Node::Host(HostId::SETUP);
+        self.add_fileset(number, server, name, objects, owner)?;
+        Ok(())
+    }
+
+    // Adds a fileset: where it is placed, and the call that makes it.
+    fn add_fileset(
+        &mut self,
+        number: u32,
+        server: ServerId,
+        name: Name,
+        objects: u32,
+        owner: User,
+    ) -> Result<(), NoMemory>
+        ensures { OnOk result (self.new ≡ with_fileset self.old (setup_line number server name objects owner) name server) }
+    {
+        let placed = name.copy()?;
         self.placed.push(Placed {
-            name: name.copy()?,
+            name: placed,
             server,
         })?;
-        let deed = Deed::Call(Call::NewFileset {
-            server,
-            name,
-            objects,
-            owner,
-        });
-        self.script.setup.push(Line { number, node, deed })?;
-        Ok(())
+        let setup = setup_line(number, server, name, objects, owner);
+        self.script.setup.push(setup)
     }
 
     #[tactic(auto, unfolding(crate::specs::Headers::owner_at))]

@@ -1,6 +1,6 @@
 ghost use Rattle.std.specs.Prelude.{◌≡◌, OnOk, IfOk};
 ghost use Rattle.script_words.specs.Outcome.{Gives, Becomes};
-ghost use Rattle.script_lines.specs.Judge.{nothing_said, node_stopped, node_at, noted, deed_line, taken, line_judged};
+ghost use Rattle.script_lines.specs.Judge.{nothing_said, node_stopped, node_at, noted, with_line, deed_line, taken, line_judged};
 
 use crate::context::Context;
 use crate::headers::header_of;
@@ -57,14 +57,14 @@ impl Context {
         Ok(node)
     }
 
-    // What a deed changes for later lines.
-    fn note(&mut self, node: Node, deed: &Deed) -> Result<(), NoMemory>
-        ensures { OnOk result (self.new ≡ noted self.old node deed.now) }
+    // What the deed of a line changes for later ones.
+    fn note(&mut self, line: &Line) -> Result<(), NoMemory>
+        ensures { OnOk result (self.new ≡ noted self.old line.now.node line.now.deed) }
     {
-        match deed {
+        match &line.deed {
             Deed::Raise(flag) => self.raised.push(flag.copy()?)?,
             Deed::Stop => {
-                if let Node::Host(host) = node {
+                if let Node::Host(host) = line.node {
                     self.stopped.push(host)?;
                 }
             }
@@ -73,14 +73,23 @@ impl Context {
         Ok(())
     }
 
+    // Adds a line, and what its deed changes for later ones. The line is handed on before an error is looked at, so that
+    // no path drops it, which would cost the prover much.
+    fn add_line(&mut self, line: Line) -> Result<(), NoMemory>
+        ensures { OnOk result (self.new ≡ with_line (noted self.old line.node line.deed) line) }
+    {
+        let noted = self.note(&line);
+        self.script.lines.push(line)?;
+        noted
+    }
+
     #[tactic(auto, unfolding(crate::specs::Judge::deed_line))]
     fn deed_line(&mut self, number: u32, words: &Words) -> Result<(), Fault>
         ensures { Becomes result self.new (deed_line self.old number words.now) }
     {
         let node = self.node_at(words)?;
         let deed = self.deed_of(node, words)?;
-        self.note(node, &deed)?;
-        self.script.lines.push(Line { number, node, deed })?;
+        self.add_line(Line { number, node, deed })?;
         Ok(())
     }
 

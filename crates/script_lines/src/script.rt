@@ -125,16 +125,3 @@ impl Plain for PlanLine {
         })
     }
 }
-
-impl Plain for Script {
-    fn copy(&self) -> Result<Script, NoMemory> {
-        Ok(Script {
-            servers: self.servers,
-            roster: self.roster.copy()?,
-            setup: self.setup.copy()?,
-            plan: self.plan.copy()?,
-            net: self.net,
-            lines: self.lines.copy()?,
-        })
-    }
-}
