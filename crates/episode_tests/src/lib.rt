@@ -10,6 +10,8 @@ mod layout;
 #[cfg(test)]
 mod logs;
 #[cfg(test)]
+mod nodes;
+#[cfg(test)]
 mod space;
 #[cfg(test)]
 mod stops;

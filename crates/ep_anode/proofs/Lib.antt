@@ -1,0 +1,15 @@
+pub mod Pointers
+pub mod Counting
+pub mod Putting
+pub mod Laying
+pub mod Moving
+pub mod Taking
+pub mod Cells
+pub mod Reading
+pub mod Laid
+pub mod Saving
+pub mod Anodes
+pub mod Plain
+pub mod Copied
+pub mod Free
+pub mod Apart

@@ -1,0 +1,23 @@
+use Rattle.std.proofs.Common.{◌≡◌, ◌≤◌, ◌+◌, ◌<◌, ℕ}
+use Rattle.ep_log.specs.Log.{disk_of, state_of, slot_of, IsSoundLog}
+use Rattle.ep_anode.specs.Node.{pointer_of, names, SameFacts}
+use Rattle.ep_anode.specs.Room.{are_counts, free_blocks, blocks_copied, PutsPages}
+use Rattle.ep_anode.specs.Changes.{WroteLoose}
+use Rattle.ep_anode.proofs.Copied.{CopiedBelow}
+use Rattle.ep_anode.proofs.copying.copy_all.Given as goal
+
+abbrev pub invariant-loop-w : goal.invariant-loop-w
+invariant-loop-w g l =
+    let start = g.D.Disk.view (disk_of l.initial.log) in
+    let now = g.D.Disk.view (disk_of l.log) in
+    record {
+      sound : IsSoundLog g.D.Disk.tells g.D.Disk.view l.log;
+      tx : l.tx ≡ l.initial.tx;
+      puts : PutsPages are_counts (slot_of l.initial.tx) (state_of l.initial.log) (state_of l.log);
+      facts : SameFacts l.initial.copy l.copy;
+      none : (v : ℕ) → l.w ≤ v → v < 68 → pointer_of l.copy v ≡ 0;
+      copied : g.D.Disk.tells → CopiedBelow l.w l.source l.initial.copy (state_of l.initial.log) start.image l.copy (state_of l.log) now.image;
+      room : g.D.Disk.tells → free_blocks (state_of l.initial.log) start.image ≤ free_blocks (state_of l.log) now.image + blocks_copied l.w;
+      wrote : g.D.Disk.tells → WroteLoose (names l.initial.copy) (state_of l.initial.log) start now;
+      counted : start.faults ≤ now.faults;
+    }

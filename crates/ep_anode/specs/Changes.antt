@@ -1,0 +1,86 @@
+-- What a call on an anode leaves as it was, where the disk is told.
+use Rattle.std.specs.Prelude.{◌≡◌, ◌≤◌, ◌<◌, ◌==◌, ℕ, ◌+◌, ◌*◌, List, if◌then◌else◌}
+use Rattle.std.proofs.Common.{get_or}
+use Rattle.dfs_base.specs.Image.{byte_at}
+use Rattle.dfs_base.specs.View.{View}
+use Rattle.dfs_base.specs.Crash.{ChangesBy}
+use Rattle.ep_layout.specs.Places.{block_start, pages_of, SameButBlocks}
+use Rattle.ep_log.specs.Puts.{page_of}
+use Rattle.ep_log.specs.State.{State}
+use Rattle.ep_space.specs.Counts.{count_now, count_settled, IsFree}
+use Rattle.ep_anode.specs.Anode.{Anode, anode_of, anode_in, content_at, over, IsTidy}
+use Rattle.ep_anode.specs.Node.{pointer_at, cell, names, no_names, node_in}
+use Rattle.ep_anode.specs.Room.{one}
+use Rattle.ep_anode.specs.declared.node.Node.{Node}
+
+-- No pointers but so many name a block now, and none in whatever a crash may leave.
+pub record IsLoose (named : ℕ → ℕ) (state : State) (image : List ℕ) (block : ℕ) : Type 0 where
+  pub there : block < state.superblock.blocks
+  pub now : count_now state image block ≤ named block
+  pub settled : count_settled state image block ≡ 0
+
+-- the same bytes of a block
+abbrev pub SameBlock : ℕ → List ℕ → List ℕ → ℕ → Type 0
+SameBlock blocks old new block = (k : ℕ) → k < 1024 → byte_at new (block_start (pages_of blocks) block + k) ≡ byte_at old (block_start (pages_of blocks) block + k)
+
+-- images that differ at most in the bytes of loose blocks
+pub record WritesLoose (named : ℕ → ℕ) (state : State) (image old new : List ℕ) : Type 0 where
+  pub front : SameButBlocks (pages_of state.superblock.blocks) old new
+  pub blocks : (block : ℕ) → block < state.superblock.blocks → (IsLoose named state image block → ⊥) → SameBlock state.superblock.blocks old new block
+
+-- A run wrote loose blocks alone, as they read and in whatever a crash leaves.
+pub record WroteLoose (named : ℕ → ℕ) (state : State) (old new : View) : Type 0 where
+  pub reads : WritesLoose named state old.image old.image new.image
+  pub crash : ChangesBy (WritesLoose named state old.image) old new
+
+-- the counts move with the pointers that were dropped and set
+pub record Moves (dropped set : ℕ → ℕ) (old : State) (before : List ℕ) (new : State) (after : List ℕ) : Type 0 where
+  pub counts : (block : ℕ) → block < old.superblock.blocks → count_now new after block + dropped block ≡ count_now old before block + set block
+  pub settled : (block : ℕ) → block < old.superblock.blocks → count_settled new after block ≡ count_settled old before block
+  pub pages : (p : ℕ) → p < 1058 → page_of new.entries new.puts after p ≡ page_of old.entries old.puts before p
+
+-- the same, but for the page of the anode
+pub record Turns (page : ℕ) (dropped set : ℕ → ℕ) (old : State) (before : List ℕ) (new : State) (after : List ℕ) : Type 0 where
+  pub counts : (block : ℕ) → block < old.superblock.blocks → count_now new after block + dropped block ≡ count_now old before block + set block
+  pub settled : (block : ℕ) → block < old.superblock.blocks → count_settled new after block ≡ count_settled old before block
+  pub pages : (p : ℕ) → p < 1058 → (p ≡ page → ⊥) → page_of new.entries new.puts after p ≡ page_of old.entries old.puts before p
+
+-- so many pointers at least are counted for each block
+abbrev pub AreCounted : (ℕ → ℕ) → State → List ℕ → Type 0
+AreCounted named state image = (block : ℕ) → block < state.superblock.blocks → named block ≤ count_now state image block
+
+-- a block that was free was taken and written
+pub record IsTaken (block : ℕ) (bytes : List ℕ) (old : State) (before : List ℕ) (new : State) (after : List ℕ) : Type 0 where
+  pub free : IsFree old before block
+  pub moves : Moves (λ other. 0) (λ other. one (block + 1 == other + 1)) old before new after
+  pub holds : (k : ℕ) → k < 1024 → byte_at after (block_start (pages_of old.superblock.blocks) block + k) ≡ get_or bytes k 0
+  pub others : (other : ℕ) → (other ≡ block → ⊥) → SameBlock old.superblock.blocks before after other
+
+-- A pointer of an anode has bytes of its own: its block was given up, and all other pointers have the same bytes.
+pub record Replaced (w : ℕ) (bytes : ℕ → ℕ) (node : Node) (old : State) (before : List ℕ) (changed : Node) (new : State) (after : List ℕ) : Type 0 where
+  pub moves : Moves (names node) (names changed) old before new after
+  pub cells : (v k : ℕ) → v < 68 → k < 1024 → cell after changed v k ≡ (if v == w then bytes k else cell before node v k)
+
+-- A piece was laid over an anode's bytes, of which those before one stay. The lists are the same.
+pub record Laid (kept from : ℕ) (piece : List ℕ) (node : Node) (old : State) (before : List ℕ) (changed : Node) (new : State) (after : List ℕ) : Type 0 where
+  pub moves : Moves (names node) (names changed) old before new after
+  pub cells : (i k : ℕ) → i < 64 → k < 1024 → cell after changed (pointer_at i) k ≡ over from piece (λ m. content_at before node kept m) (1024 * i + k)
+  pub lists : (v k : ℕ) → v < 3 → k < 1024 → cell after changed v k ≡ cell before node v k
+
+-- An anode was put in its page: it is read there, with the same bytes under its pointers.
+pub record Saved (page : ℕ) (node : Node) (old : State) (before : List ℕ) (changed : Node) (new : State) (after : List ℕ) : Type 0 where
+  pub turns : Turns page (names node) (names changed) old before new after
+  pub there : node_in new after page ≡ changed
+  pub cells : (v k : ℕ) → v < 68 → (v ≡ 15 → ⊥) → k < 1024 → cell after changed v k ≡ cell before node v k
+
+-- An anode in a page changed, the one that stood there being told by its pointers and the bytes under them. The counts of
+-- blocks moved with its pointers, and all other pages of filesets are the same.
+pub record Turned (page : ℕ) (update : Anode → Anode) (node : Node) (old : State) (before : List ℕ) (new : State) (after : List ℕ) : Type 0 where
+  pub turns : Turns page (names node) (names (node_in new after page)) old before new after
+  pub anode : anode_in new after page ≡ update (anode_of before node)
+  pub tidy : IsTidy before node → IsTidy after (node_in new after page)
+
+-- An anode was made in a page that had none. Its blocks are counted anew, and all other pages of filesets are the same.
+pub record Made (page : ℕ) (anode : Anode) (old : State) (before : List ℕ) (new : State) (after : List ℕ) : Type 0 where
+  pub turns : Turns page no_names (names (node_in new after page)) old before new after
+  pub anode_is : anode_in new after page ≡ anode

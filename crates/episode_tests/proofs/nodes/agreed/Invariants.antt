@@ -1,0 +1,5 @@
+use Rattle.episode_tests.specs.Only.{IsIdle}
+use Rattle.episode_tests.proofs.nodes.agreed.Given as goal
+
+abbrev pub invariant-loop-i : goal.invariant-loop-i
+invariant-loop-i g l = record { idle : IsIdle g.D.Disk.tells g.D.Disk.view l.log }
