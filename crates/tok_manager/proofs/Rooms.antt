@@ -1,5 +1,6 @@
 -- That the sequence numbers suffice.
-use Rattle.std.proofs.Common.{◌≡◌, ◌≤◌, ◌<◌, ℕ, ◌+◌, ◌^◌, Bool, true, false, List, [], ◌∷◌, ◌++◌, length, length-append, Some, inl, inr, subst, ap, ◌∙◌, refl, arith}
+use Rattle.std.proofs.Common.{◌≡◌, ◌≤◌, ◌<◌, ℕ, ◌+◌, ◌^◌, Bool, true, false, List, [], ◌∷◌, ◌++◌, length, length-append}
+use Rattle.std.proofs.Common.{Some, inl, inr, subst, ap, ◌∙◌, refl, arith}
 use Rattle.std.specs.Prelude.{All}
 use Rattle.std.specs.List.{find, filter}
 use Rattle.std.proofs.lemmas.Bool.{cases_Bool}
@@ -29,10 +30,15 @@ found_passes q (y ∷ ys) x e = grind (arith, cases_Bool (q y), found_passes q y
 fewer : {X : Type 0} (p : X → Bool) (xs : List X) → length (filter p xs) ≤ length xs
 fewer p [] = omega arith
 fewer p (x ∷ xs) =
-    elim (cases_Bool (p x)) [ inl passes ↦ rw passes (omega (arith, fewer p xs)) | inr fails ↦ rw fails (omega (arith, fewer p xs)) ]
+    elim (cases_Bool (p x)) [
+      | inl passes ↦ rw passes (omega (arith, fewer p xs))
+      | inr fails ↦
+          rw fails (omega (arith, fewer p xs))
+    ]
 
 -- without what was found there is less
-pub shorter : {X : Type 0} (q p : X → Bool) (xs : List X) (x : X) → find q xs ≡ Some x → p x ≡ false → length (filter p xs) + 1 ≤ length xs
+pub shorter : {X : Type 0} (q p : X → Bool) (xs : List X) (x : X) → find q xs ≡ Some x → p x ≡ false →
+    length (filter p xs) + 1 ≤ length xs
 shorter q p [] x e h = cc
 shorter q p (y ∷ ys) x e h =
     elim (cases_Bool (q y)) [
@@ -44,11 +50,17 @@ shorter q p (y ∷ ys) x e h =
     ]
 
 -- a want is granted at once
-pub room_at_once : (last asked : ℕ) (queue : List Want) (n : ℕ) → asked < 2 ^ 44 → n ≤ NEEDS_MAX → HasRoom last asked queue → HasRoom (last + n) (asked + 1) queue
-room_at_once last asked queue n few small h = record { few = omega arith; small = h.small; room = omega (arith, h.room) }
+pub room_at_once : (last asked : ℕ) (queue : List Want) (n : ℕ) → asked < 2 ^ 44 → n ≤ NEEDS_MAX →
+    HasRoom last asked queue → HasRoom (last + n) (asked + 1) queue
+room_at_once last asked queue n few small h = record {
+  few = omega arith;
+  small = h.small;
+  room = omega (arith, h.room);
+}
 
 -- a want is queued
-pub room_queued : (last asked : ℕ) (queue : List Want) (want : Want) → asked < 2 ^ 44 → length want.needs ≤ NEEDS_MAX → HasRoom last asked queue → HasRoom last (asked + 1) (queue ++ want ∷ [])
+pub room_queued : (last asked : ℕ) (queue : List Want) (want : Want) → asked < 2 ^ 44 → length want.needs ≤ NEEDS_MAX →
+    HasRoom last asked queue → HasRoom last (asked + 1) (queue ++ want ∷ [])
 room_queued last asked queue want few small h =
     record {
       few = omega arith;
@@ -57,20 +69,39 @@ room_queued last asked queue want few small h =
     }
 
 -- wants leave the queue
-pub room_filter : (last asked : ℕ) (queue : List Want) (p : Want → Bool) → HasRoom last asked queue → HasRoom last asked (filter p queue)
+pub room_filter : (last asked : ℕ) (queue : List Want) (p : Want → Bool) → HasRoom last asked queue →
+    HasRoom last asked (filter p queue)
 room_filter last asked queue p h =
-    record { few = h.few; small = All-filter p (λ want. length want.needs ≤ NEEDS_MAX) queue h.small; room = omega (arith, h.room, fewer p queue) }
+    record {
+      few = h.few;
+      small = All-filter p (λ want. length want.needs ≤ NEEDS_MAX) queue h.small;
+      room = omega (arith, h.room, fewer p queue);
+    }
 
 -- a queued want is granted
-pub room_later : (last asked : ℕ) (queue : List Want) (q p : Want → Bool) (want : Want) → find q queue ≡ Some want → p want ≡ false → HasRoom last asked queue → HasRoom (last + length want.needs) asked (filter p queue)
+pub room_later : (last asked : ℕ) (queue : List Want) (q p : Want → Bool) (want : Want) → find q queue ≡ Some want →
+    p want ≡ false → HasRoom last asked queue → HasRoom (last + length want.needs) asked (filter p queue)
 room_later last asked queue q p want e out h =
     record {
       few = h.few;
       small = All-filter p (λ other. length other.needs ≤ NEEDS_MAX) queue h.small;
-      room = omega (arith, h.room, shorter q p queue want e out, all_found (λ other. length other.needs ≤ NEEDS_MAX) q queue want e h.small);
+      room = omega (
+        arith,
+        h.room,
+        shorter q p queue want e out,
+        all_found (λ other. length other.needs ≤ NEEDS_MAX) q
+            queue want e h.small,
+      );
     }
 
 -- its tokens find their numbers
-pub room_enough : (last asked : ℕ) (queue : List Want) (q : Want → Bool) (want : Want) → find q queue ≡ Some want → HasRoom last asked queue → last + length want.needs < 18446744073709551616
+pub room_enough : (last asked : ℕ) (queue : List Want) (q : Want → Bool) (want : Want) → find q queue ≡ Some want →
+    HasRoom last asked queue → last + length want.needs < 18446744073709551616
 room_enough last asked queue q want e h =
-    omega (arith, h.few, h.room, shorter q (λ other. false) queue want e refl, all_found (λ other. length other.needs ≤ NEEDS_MAX) q queue want e h.small)
+    omega (
+      arith,
+      h.few,
+      h.room,
+      shorter q (λ other. false) queue want e refl,
+      all_found (λ other. length other.needs ≤ NEEDS_MAX) q queue want e h.small,
+    )

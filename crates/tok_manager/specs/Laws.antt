@@ -1,5 +1,6 @@
 -- What holds of every token manager.
-use Rattle.std.specs.Prelude.{◌≡◌, ◌≤◌, ◌<◌, ℕ, ◌+◌, ◌*◌, ◌^◌, Bool, true, false, ◌&&◌, nat_lt, nat_le, List, length, Option, Some, None, All, AllPairs}
+use Rattle.std.specs.Prelude.{◌≡◌, ◌≤◌, ◌<◌, ℕ, ◌+◌, ◌*◌, ◌^◌, Bool, true, false, ◌&&◌, nat_lt, nat_le, List, length}
+use Rattle.std.specs.Prelude.{Option, Some, None, All, AllPairs}
 use Rattle.std.specs.List.{AllZip}
 use Rattle.dfs_base.specs.declared.limits.TheConstants.{NEEDS_MAX}
 use Rattle.tok_types.specs.declared.token.Token.{Token}

@@ -1,5 +1,6 @@
 -- What a token manager is seen as, its answers, and what they leave.
-use Rattle.std.specs.Prelude.{ℕ, ◌+◌, Bool, ◌&&◌, ◌||◌, not, is_some, is_none, if◌then◌else◌, List, [], ◌∷◌, ◌++◌, Option, Some, None}
+use Rattle.std.specs.Prelude.{ℕ, ◌+◌, Bool, ◌&&◌, ◌||◌, not, is_some, is_none, if◌then◌else◌, List, [], ◌∷◌, ◌++◌}
+use Rattle.std.specs.Prelude.{Option, Some, None}
 use Rattle.std.specs.List.{find}
 use Rattle.std.specs.Option.{option_map}
 use Rattle.dfs_base.specs.declared.ids.HostId.{HostId}
@@ -13,7 +14,8 @@ use Rattle.tok_manager.specs.declared.want.Asked.{Asked}
 use Rattle.tok_manager.specs.declared.want.Asked.TheVariants.{Granted, Waits}
 use Rattle.tok_manager.specs.declared.want.Ready.{Ready}
 use Rattle.tok_manager.specs.declared.want.Ready.TheVariants.{Granted as GrantedLater, Refused}
-use Rattle.tok_manager.specs.Grants.{is_blocked, pinned_in_the_way, to_revoke, with_grant, holds, can_keep, with_pin, without_token, without_host}
+use Rattle.tok_manager.specs.Grants.{is_blocked, pinned_in_the_way, to_revoke, with_grant, holds, can_keep, with_pin}
+use Rattle.tok_manager.specs.Grants.{without_token, without_host}
 use Rattle.tok_manager.specs.Wants.{first_ahead, without_want, not_wants_of}
 
 pub record Manager : Type 0 where

@@ -1,17 +1,13 @@
 -- Queued wants.
 use Rattle.std.specs.Prelude.{ℕ, Bool, ◌==◌, ◌&&◌, not, nat_lt, List, Option}
-use Rattle.std.specs.List.{list_any, find, filter}
+use Rattle.std.specs.List.{find, filter}
 use Rattle.dfs_base.specs.declared.ids.HostId.{HostId}
-use Rattle.tok_types.specs.Conflicts.{any_conflict}
+use Rattle.tok_types.specs.Conflicts.{wants_conflict}
 use Rattle.tok_manager.specs.declared.want.Want.{Want}
-
--- whether two wants are of two hosts, and a need of one conflicts with a need of the other
-abbrev pub wants_conflict : Want → Want → Bool
-wants_conflict want other = not (want.host.0 == other.host.0) && list_any (λ need. any_conflict need other.needs) want.needs
 
 -- whether a want has to wait for another: that one was asked earlier and conflicts
 abbrev pub is_ahead : Want → Want → Bool
-is_ahead want other = nat_lt other.number want.number && wants_conflict want other
+is_ahead want other = nat_lt other.number want.number && wants_conflict want.host want.needs other.host other.needs
 
 -- the first queued want that a want has to wait for
 abbrev pub first_ahead : List Want → Want → Option Want

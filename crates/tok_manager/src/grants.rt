@@ -3,12 +3,15 @@ ghost use Rattle.std.specs.List.{find, list_any};
 ghost use Rattle.std.specs.Option.{option_copied};
 ghost use Rattle.tok_types.specs.Conflicts.{same_id, blocks};
 ghost use Rattle.tok_table.specs.Tables.{next_tokens, tokens_from};
-ghost use Rattle.tok_manager.specs.Grants.{is_pinned, holds, can_keep, is_lock_or_open, pinned_in_the_way, is_blocked, to_revoke, note_of, with_grant, with_pin, pinned_note, without_token, without_host, notes_without, notes_not_of};
+ghost use Rattle.tok_manager.specs.Grants.{is_pinned, is_pinned_ahead, holds, can_keep, is_lock_or_open};
+ghost use Rattle.tok_manager.specs.Grants.{pinned_in_the_way, is_blocked, to_revoke, note_of, notes_of, with_grant};
+ghost use Rattle.tok_manager.specs.Grants.{with_pin};
+ghost use Rattle.tok_manager.specs.Grants.{pinned_note, without_token, without_host, notes_without, notes_not_of};
 
 use crate::want::Want;
 use dfs_base::{HostId, Items, NoMemory};
 use std::alloc::Global;
-use tok_table::TokenTable;
+use tok_table::{TokenTable, names_file};
 use tok_types::{Kind, Token, TokenId};
 
 /// What is noted of a granted token.
@@ -34,18 +37,24 @@ impl Grants {
     pub fn is_blocked(&self, want: &Want) -> bool
         ensures { result ≡ is_blocked self.now want.now }
     {
-        self.table
-            .tokens()
-            .iter()
-            .any(|token| token.blocks(want.host, want.needs.as_slice()))
+        self.table.is_in_the_way(want.host, want.needs.as_slice())
     }
 
-    /// The first pinned token of another host that conflicts with a want.
+    /// The first pinned token of another host that conflicts with a want, file by file in the order of its needs.
     pub fn pinned_in_the_way(&self, want: &Want) -> Option<&Token>
         ensures { option_copied result ≡ pinned_in_the_way self.now want.now }
     {
-        self.table.tokens().iter().find(|token| token.blocks(want.host, want.needs.as_slice())
-            && is_pinned(self.notes.as_slice(), token.id))
+        let needs = want.needs.as_slice();
+        for (index, need) in needs.iter().enumerate() {
+            if names_file(&needs[..index], need.fid) {
+                continue;
+            }
+            let pinned = first_pinned(self.table.of_file(need.fid), self.notes.as_slice(), want);
+            if pinned.is_some() {
+                return pinned;
+            }
+        }
+        None
     }
 
     /// The tokens of other hosts that conflict with a want, but for those that are pinned.
@@ -61,19 +70,20 @@ impl Grants {
     pub fn holds(&self, host: HostId, id: TokenId) -> bool
         ensures { result ≡ holds self.now host id }
     {
-        self.table
-            .tokens()
-            .iter()
-            .any(|token| token.id == id && token.host == host)
+        match self.table.get(id) {
+            Some(token) => token.host == host,
+            None => false,
+        }
     }
 
     /// Whether a host can keep this token: it has it, and it is a lock or open token.
     pub fn can_keep(&self, host: HostId, id: TokenId) -> bool
         ensures { result ≡ can_keep self.now host id }
     {
-        self.table.tokens().iter().any(|token| token.id == id
-            && token.host == host
-            && is_lock_or_open(token.kind))
+        match self.table.get(id) {
+            Some(token) => token.host == host && is_lock_or_open(token.kind),
+            None => false,
+        }
     }
 
     /// Grants a token for each need of a want.
@@ -122,6 +132,14 @@ impl Grants {
     }
 }
 
+/// The first of these tokens that is pinned, of another host, and conflicts with a want.
+fn first_pinned<'a>(tokens: &'a [Token], notes: &[Note], want: &Want) -> Option<&'a Token>
+    ensures { option_copied result ≡ find (is_pinned_ahead notes.now want.now) tokens.now }
+{
+    tokens.iter().find(|token| token.blocks(want.host, want.needs.as_slice())
+        && is_pinned(notes, token.id))
+}
+
 fn is_lock_or_open(kind: Kind) -> bool
     ensures { result ≡ is_lock_or_open kind }
 {
@@ -168,7 +186,7 @@ fn drop_notes_of(notes: &mut Items<Note>, host: HostId)
 /// A note of each token that a want is granted, behind a last number.
 fn notes_from(alloc: Global, last: TokenId, want: &Want) -> Result<Items<Note>, NoMemory>
     requires { last.seq + length want.now.needs < 2 ^ 64 }
-    ensures { IfOk result (λ notes. notes ≡ map (note_of want.now) (tokens_from last.server last.epoch last.seq want.now.host want.now.needs)) }
+    ensures { IfOk result (λ notes. notes ≡ notes_of last want.now) }
 {
     let mut notes = Items::new(alloc);
     let mut id = last;

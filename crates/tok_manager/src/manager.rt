@@ -2,7 +2,8 @@ ghost use Rattle.std.specs.Prelude.{◌≡◌, ◌≤◌, ◌<◌, ◌^◌, None
 ghost use Rattle.std.specs.List.{find};
 ghost use Rattle.std.specs.Option.{option_copied, option_map};
 ghost use Rattle.tok_manager.specs.Grants.{holds, can_keep};
-ghost use Rattle.tok_manager.specs.Managers.{Manager, new_manager, ask_answer, after_ask, can_decide, ready_answer, after_ready, after_returned, after_kept, after_down, after_given_up};
+ghost use Rattle.tok_manager.specs.Managers.{Manager, new_manager, ask_answer, after_ask, can_decide, ready_answer};
+ghost use Rattle.tok_manager.specs.Managers.{after_ready, after_returned, after_kept, after_down, after_given_up};
 ghost use Rattle.tok_manager.specs.Laws.{KeepsLaws};
 
 use crate::grants::Grants;
@@ -14,9 +15,10 @@ use tok_table::TokenTable;
 use tok_types::TokenId;
 
 /// The tokens that a server has granted, and the wants that wait for tokens, in the order in which they were asked.
-/// Granted tokens of two hosts never conflict. A want waits for the tokens of other hosts and for the earlier wants that
-/// conflict with it, so that none passes an earlier one; as only tokens on one object conflict, wants of two filesets
-/// never wait for each other. A token that its host keeps, because it is in use, is pinned until it is returned.
+/// Granted tokens of two hosts never conflict. A want waits for the tokens of other hosts and for the earlier wants
+/// that conflict with it, so that none passes an earlier one; as only tokens on one object conflict, wants of two
+/// filesets never wait for each other. A token that its host keeps, because it is in use, is pinned until it is
+/// returned.
 #[derive(Drop)]
 pub struct TokenManager {
     grants: Grants,

@@ -1,11 +1,10 @@
 ghost use Rattle.std.specs.Prelude.{◌≡◌, not, option_map};
-ghost use Rattle.std.specs.List.{list_any, find, filter};
+ghost use Rattle.std.specs.List.{find};
 ghost use Rattle.std.specs.Option.{option_copied};
-ghost use Rattle.tok_types.specs.Conflicts.{any_conflict};
-ghost use Rattle.tok_manager.specs.Wants.{wants_conflict, is_ahead, first_ahead, without_want, not_wants_of};
+ghost use Rattle.tok_manager.specs.Wants.{is_ahead, first_ahead, without_want, not_wants_of};
 
 use dfs_base::{HostId, Items, NoMemory, Plain};
-use tok_types::{Need, Token};
+use tok_types::{Need, Token, wants_conflict};
 
 /// What a host asks for: a token for each of its needs, all at once. One want has at most `NEEDS_MAX` needs. A want
 /// without needs conflicts with nothing.
@@ -76,9 +75,9 @@ impl Want {
     pub(crate) fn is_behind(&self, other: &Want) -> bool
         ensures { result ≡ is_ahead self.now other.now }
     {
+        let needs = self.needs.as_slice();
         other.number < self.number
-            && self.host != other.host
-            && needs_conflict(self.needs.as_slice(), other.needs.as_slice())
+            && wants_conflict(self.host, needs, other.host, other.needs.as_slice())
     }
 }
 
@@ -87,12 +86,6 @@ pub(crate) fn first_ahead<'a>(queue: &'a [Want], want: &Want) -> Option<&'a Want
     ensures { option_copied result ≡ first_ahead queue.now want.now }
 {
     queue.iter().find(|other| want.is_behind(other))
-}
-
-fn needs_conflict(needs: &[Need], others: &[Need]) -> bool
-    ensures { result ≡ list_any (λ need. any_conflict need others.now) needs.now }
-{
-    needs.iter().any(|need| need.conflicts_any(others))
 }
 
 /// Takes the want of a number out of the queue.

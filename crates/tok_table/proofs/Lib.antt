@@ -1,1 +1,5 @@
 pub mod Sound
+pub mod Placing
+pub mod Shelving
+pub mod Running
+pub mod Nearby

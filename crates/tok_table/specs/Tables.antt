@@ -1,9 +1,12 @@
 -- What a table of tokens is seen as, and how it changes.
-use Rattle.std.specs.Prelude.{◌≡◌, ℕ, ◌+◌, Bool, false, ◌==◌, ◌&&◌, ◌||◌, not, nat_lt, nat_le, List, [], ◌∷◌, ◌++◌, length, AllPairs}
+use Rattle.std.specs.Prelude.{◌≡◌, ℕ, ◌+◌, Bool, false, ◌==◌, ◌&&◌, ◌||◌, not, if◌then◌else◌, nat_lt, nat_le, List, []}
+use Rattle.std.specs.Prelude.{◌∷◌, ◌++◌, length, AllPairs}
 use Rattle.std.specs.List.{list_any, filter, AllPass}
+use Rattle.dfs_base.specs.Ids.{same_fid}
+use Rattle.dfs_base.specs.declared.ids.Fid.{Fid}
 use Rattle.dfs_base.specs.declared.ids.HostId.{HostId}
 use Rattle.dfs_base.specs.declared.ids.ServerId.{ServerId}
-use Rattle.tok_types.specs.Conflicts.{same_id}
+use Rattle.tok_types.specs.Conflicts.{same_id, blocks}
 use Rattle.tok_types.specs.declared.token.Need.{Need}
 use Rattle.tok_types.specs.declared.token.Token.{Token}
 use Rattle.tok_types.specs.declared.token.TokenId.{TokenId}
@@ -23,7 +26,8 @@ has_id tokens id = list_any (λ token. same_id token.id id) tokens
 -- whether a number can't be given any more: it is of another server, of an earlier epoch, or was given in this one
 abbrev pub is_past : Table → TokenId → Bool
 is_past table id =
-    not (id.server.0 == table.server.0) || nat_lt id.epoch table.epoch || ((id.epoch == table.epoch) && nat_le id.seq table.last)
+    not (id.server.0 == table.server.0) || nat_lt id.epoch table.epoch || ((id.epoch == table.epoch) && nat_le id.seq
+    table.last)
 
 -- no number will be given again, and no two tokens have one
 pub record IsSound (table : Table) : Type 0 where
@@ -33,7 +37,12 @@ pub record IsSound (table : Table) : Type 0 where
 -- the token that is granted for a need, after so many of its epoch
 abbrev pub token_for : ServerId → ℕ → ℕ → HostId → Need → Token
 token_for server epoch last host need =
-    record { id = record { server = server; epoch = epoch; seq = last + 1 }; host = host; fid = need.fid; kind = need.kind }
+    record {
+      id = record { server = server; epoch = epoch; seq = last + 1 };
+      host = host;
+      fid = need.fid;
+      kind = need.kind;
+    }
 
 -- a token for each need, with rising numbers
 abbrev pub tokens_from : ServerId → ℕ → ℕ → HostId → List Need → List Token
@@ -61,6 +70,29 @@ with_tokens table tokens = record table { tokens = tokens }
 -- the tokens but for the one with this number
 abbrev pub without_id : List Token → TokenId → List Token
 without_id tokens id = filter (λ token. not (same_id token.id id)) tokens
+
+-- the tokens of one file
+abbrev pub of_file : List Token → Fid → List Token
+of_file tokens fid = filter (λ token. same_fid token.fid fid) tokens
+
+-- whether one of the needs is of a file
+abbrev pub names_file : List Need → Fid → Bool
+names_file needs fid = list_any (λ need. same_fid need.fid fid) needs
+
+-- the tokens of the files that needs name, file by file, but for those that earlier needs name
+abbrev pub near : List Token → List Need → List Need → List Token
+near tokens earlier [] = []
+near tokens earlier (need ∷ needs) =
+    (if names_file earlier need.fid then [] else of_file tokens need.fid) ++ near tokens (earlier ++ need ∷ []) needs
+
+-- the tokens that are in the way of a host's needs, file by file in the order in which these name the files
+abbrev pub in_the_way : List Token → HostId → List Need → List Token
+in_the_way tokens host needs = filter (blocks host needs) (near tokens [] needs)
+
+-- these are just those of the tokens that pass a test: they have one that passes a further test where there is one
+abbrev pub AreThose : (Token → Bool) → List Token → List Token → Type 0
+AreThose test tokens found = (further : Token → Bool) → list_any further found ≡ list_any (λ t. test t && further t)
+    tokens
 
 -- the tokens of one host, and those of all others
 abbrev pub of_host : List Token → HostId → List Token

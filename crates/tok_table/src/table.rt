@@ -1,32 +1,37 @@
-ghost use Rattle.std.specs.Prelude.{◌≡◌, ◌+◌, ◌<◌, ◌^◌, false, IsTrue, [], ◌∷◌, ◌++◌, length, filter, is_some, All, OnOk, OnErr, IfOk};
+ghost use Rattle.std.specs.Prelude.{◌≡◌, ◌+◌, ◌<◌, ◌^◌, false, IsTrue, [], ◌∷◌, ◌++◌, length, filter, is_some, All};
+ghost use Rattle.std.specs.Prelude.{OnOk, OnErr, IfOk};
 ghost use Rattle.std.specs.List.{find, list_any};
 ghost use Rattle.std.specs.Option.{option_copied};
 ghost use Rattle.tok_types.specs.Conflicts.{same_id, blocks};
-ghost use Rattle.tok_table.specs.Tables.{Table, has_id, is_past, token_for, tokens_from, next_token, next_tokens, granted, with_tokens, without_id, of_host, not_of_host};
+ghost use Rattle.tok_table.specs.Tables.{Table, has_id, next_token, next_tokens, granted, with_tokens, without_id};
+ghost use Rattle.tok_table.specs.Tables.{is_past};
+ghost use Rattle.tok_table.specs.Shelves.{with_token};
+ghost use Rattle.tok_table.specs.Tables.{of_file, names_file, in_the_way, AreThose, of_host, not_of_host};
 
+use crate::shelf::{Kept, Shelf};
 use dfs_base::{Fid, HostId, Items, NoMemory, ServerId};
 use std::alloc::Global;
 use std::marker::Model;
 use tok_types::{Kind, Need, Token, TokenId};
 
-/// The tokens that a server has granted, in the order in which they came, each with a number of its own. Sequence
-/// numbers begin at 1 in each epoch.
+/// The tokens that a server has granted, each with a number of its own, in the order in which they were granted:
+/// those of earlier epochs and of other servers come first, by server, epoch and sequence number, then those of its
+/// present epoch. Sequence numbers begin at 1 in each epoch. The tokens of one file lie together.
 #[derive(Drop)]
 pub struct TokenTable {
-    server: ServerId,
-    epoch: u64,
     last: u64,
-    tokens: Items<Token>,
+    shelf: Shelf,
 }
 
 impl Model for TokenTable {
     ghost use Rattle.tok_table.specs.Tables.{Table, IsSound};
+    ghost use Rattle.tok_table.specs.Shelves.{table_of};
 
     ghost Value = { Table };
 
-    ghost view = { λ t. record { server = t.server; epoch = t.epoch; last = t.last; tokens = t.tokens } };
+    ghost view = { λ t. table_of t.shelf t.last };
 
-    ghost invariant = { λ t. IsSound (record { server = t.server; epoch = t.epoch; last = t.last; tokens = t.tokens }) };
+    ghost invariant = { λ t. IsSound (table_of t.shelf t.last) };
 }
 
 impl TokenTable {
@@ -35,10 +40,8 @@ impl TokenTable {
         ensures { result ≡ record { server = server; epoch = epoch; last = 0; tokens = [] } }
     {
         TokenTable {
-            server,
-            epoch,
             last: 0,
-            tokens: Items::new(alloc),
+            shelf: Shelf::new(alloc, server, epoch),
         }
     }
 
@@ -46,35 +49,48 @@ impl TokenTable {
     pub fn last_id(&self) -> TokenId
         ensures { result ≡ record { server = self.now.server; epoch = self.now.epoch; seq = self.now.last } }
     {
-        TokenId {
-            server: self.server,
-            epoch: self.epoch,
-            seq: self.last,
-        }
+        self.shelf.id_of(self.last)
     }
 
-    /// The tokens. It takes no memory.
-    pub fn tokens(&self) -> &[Token]
-        ensures { result.now ≡ self.now.tokens }
-    {
-        self.tokens.as_slice()
-    }
-
-    /// The token with this number.
-    fn find(&self, id: TokenId) -> Option<&Token>
+    /// The token with this number; None where there is none. It takes no memory.
+    pub fn get(&self, id: TokenId) -> Option<&Token>
         ensures { option_copied result ≡ find (λ token. same_id token.id id) self.now.tokens }
     {
-        self.tokens.as_slice().iter().find(|token| token.id == id)
+        self.shelf.get(id)
     }
 
-    /// The tokens that are in the way of a host's needs: those of other hosts that conflict with one of them.
-    pub fn conflicting(&self, host: HostId, needs: &[Need]) -> Result<Items<Token>, NoMemory>
-        ensures { IfOk result (λ tokens. tokens ≡ filter (blocks host needs.now) self.now.tokens) }
+    /// The tokens of a file, in the order of the table's list; empty where there is none. It takes no memory.
+    pub fn of_file(&self, fid: Fid) -> &[Token]
+        ensures { result.now ≡ of_file self.now.tokens fid }
     {
-        let mut tokens = Items::new(self.tokens.alloc());
-        for token in self.tokens.as_slice() {
-            if token.blocks(host, needs) {
-                tokens.push(*token)?;
+        self.shelf.of_file(fid)
+    }
+
+    /// Whether a token is in the way of a host's needs: one of another host that conflicts with one of them. It takes
+    /// no memory.
+    pub fn is_in_the_way(&self, host: HostId, needs: &[Need]) -> bool
+        ensures { result ≡ list_any (blocks host needs.now) self.now.tokens }
+    {
+        for (index, need) in needs.iter().enumerate() {
+            if !names_file(&needs[..index], need.fid)
+                && blocks_any(self.of_file(need.fid), host, needs)
+            {
+                return true;
+            }
+        }
+        false
+    }
+
+    /// The tokens that are in the way of a host's needs: those of other hosts that conflict with one of them, file by
+    /// file in the order in which the needs name the files.
+    pub fn conflicting(&self, host: HostId, needs: &[Need]) -> Result<Items<Token>, NoMemory>
+        ensures tokens { IfOk result (λ tokens. tokens ≡ in_the_way self.now.tokens host needs.now) }
+        ensures all { IfOk result (λ tokens. AreThose (blocks host needs.now) self.now.tokens tokens) }
+    {
+        let mut tokens = Items::new(self.shelf.alloc());
+        for (index, need) in needs.iter().enumerate() {
+            if !names_file(&needs[..index], need.fid) {
+                push_blocking(&mut tokens, self.of_file(need.fid), host, needs)?;
             }
         }
         Ok(tokens)
@@ -84,13 +100,7 @@ impl TokenTable {
     pub fn of_host(&self, host: HostId) -> Result<Items<Token>, NoMemory>
         ensures { IfOk result (λ tokens. tokens ≡ of_host self.now.tokens host) }
     {
-        let mut tokens = Items::new(self.tokens.alloc());
-        for token in self.tokens.as_slice() {
-            if token.host == host {
-                tokens.push(*token)?;
-            }
-        }
-        Ok(tokens)
+        self.shelf.of_host(host)
     }
 
     /// Grants one token, with the next number.
@@ -101,8 +111,9 @@ impl TokenTable {
         ensures after { OnOk result (self.new ≡ granted self.old host (record { fid = fid; kind = kind } ∷ [])) }
         ensures err { OnErr result (self.new ≡ self.old) }
     {
-        let token = token_for(self.server, self.epoch, self.last, host, Need { fid, kind });
-        self.tokens.push(token)?;
+        let need = Need { fid, kind };
+        let token = self.shelf.token_for(self.last, host, need);
+        self.shelf.push(token)?;
         self.last += 1;
         Ok(token)
     }
@@ -115,21 +126,21 @@ impl TokenTable {
         ensures after { OnOk result (self.new ≡ granted self.old host needs.now) }
         ensures err { OnErr result (self.new ≡ self.old) }
     {
-        let alloc = self.tokens.alloc();
-        let tokens = tokens_from(alloc, self.server, self.epoch, self.last, host, needs)?;
-        self.tokens.extend(tokens.as_slice())?;
+        let tokens = self.shelf.tokens_for(self.last, host, needs)?;
+        self.shelf.push_next(self.last, host, needs)?;
         self.last += needs.len() as u64;
         Ok(tokens)
     }
 
-    /// Puts a token in as it is. Its number isn't there, and won't be given any more.
+    /// Puts a token in as it is, in its place. Its number isn't there, and won't be given any more: it is of another
+    /// server, of an earlier epoch, or was given in this one.
     pub fn insert(&mut self, token: Token) -> Result<(), NoMemory>
         requires absent { has_id self.old.tokens token.id ≡ false }
         requires past { IsTrue (is_past self.old token.id) }
-        ensures after { OnOk result (self.new ≡ with_tokens self.old (self.old.tokens ++ token ∷ [])) }
+        ensures after { OnOk result (self.new ≡ with_token self.old token) }
         ensures err { OnErr result (self.new ≡ self.old) }
     {
-        self.tokens.push(token)?;
+        self.shelf.insert(token)?;
         Ok(())
     }
 
@@ -139,65 +150,44 @@ impl TokenTable {
         ensures there { is_some result ≡ has_id self.old.tokens id }
         ensures after { self.new ≡ with_tokens self.old (without_id self.old.tokens id) }
     {
-        let found = self.find(id).copied();
-        drop_id(&mut self.tokens, id);
-        found
+        self.shelf.drop_id(id)
     }
 
     /// Takes all tokens of a host out. It takes no memory.
     pub fn drop_host(&mut self, host: HostId)
         ensures { self.new ≡ with_tokens self.old (not_of_host self.old.tokens host) }
     {
-        drop_host(&mut self.tokens, host);
+        self.shelf.keep(Kept::OfOthers(host));
     }
 }
 
-fn drop_id(tokens: &mut Items<Token>, id: TokenId)
-    ensures { tokens.new ≡ without_id tokens.old id }
+/// Whether one of the needs is of a file.
+pub fn names_file(needs: &[Need], fid: Fid) -> bool
+    ensures { result ≡ names_file needs.now fid }
 {
-    tokens.retain(|token| token.id != id);
+    needs.iter().any(|need| need.fid == fid)
 }
 
-fn drop_host(tokens: &mut Items<Token>, host: HostId)
-    ensures { tokens.new ≡ not_of_host tokens.old host }
+// Whether one of the tokens is in the way of a host's needs.
+fn blocks_any(tokens: &[Token], host: HostId, needs: &[Need]) -> bool
+    ensures { result ≡ list_any (blocks host needs.now) tokens.now }
 {
-    tokens.retain(|token| token.host != host);
+    tokens.iter().any(|token| token.blocks(host, needs))
 }
 
-/// The token that a server grants for a need, after `last` others of its epoch.
-fn token_for(server: ServerId, epoch: u64, last: u64, host: HostId, need: Need) -> Token
-    requires { last + 1 < 2 ^ 64 }
-    ensures { result ≡ token_for server epoch last host need }
-{
-    Token {
-        id: TokenId {
-            server,
-            epoch,
-            seq: last + 1,
-        },
-        host,
-        fid: need.fid,
-        kind: need.kind,
-    }
-}
-
-/// The tokens that a server grants for needs, after `last` others of its epoch.
-fn tokens_from(
-    alloc: Global,
-    server: ServerId,
-    epoch: u64,
-    last: u64,
+// Adds those of the tokens that are in the way of a host's needs.
+fn push_blocking(
+    found: &mut Items<Token>,
+    tokens: &[Token],
     host: HostId,
     needs: &[Need],
-) -> Result<Items<Token>, NoMemory>
-    requires { last + length needs.now < 2 ^ 64 }
-    ensures { IfOk result (λ tokens. tokens ≡ tokens_from server epoch last host needs.now) }
+) -> Result<(), NoMemory>
+    ensures { OnOk result (found.new ≡ found.old ++ filter (blocks host needs.now) tokens.now) }
 {
-    let mut tokens = Items::new(alloc);
-    let mut given = last;
-    for need in needs {
-        tokens.push(token_for(server, epoch, given, host, *need))?;
-        given += 1;
+    for token in tokens {
+        if token.blocks(host, needs) {
+            found.push(*token)?;
+        }
     }
-    Ok(tokens)
+    Ok(())
 }

@@ -9,7 +9,8 @@ find_passes p [] x e = cc
 find_passes p (y ∷ ys) x e = grind (arith, cases_Bool (p y), find_passes p ys x)
 
 -- it passes each weaker test
-pub any_found : {X : Type 0} (p q : X → Bool) (xs : List X) (x : X) → find p xs ≡ Some x → q x ≡ true → list_any q xs ≡ true
+pub any_found : {X : Type 0} (p q : X → Bool) (xs : List X) (x : X) → find p xs ≡ Some x → q x ≡ true →
+    list_any q xs ≡ true
 any_found p q [] x e h = cc
 any_found p q (y ∷ ys) x e h = grind (arith, cases_Bool (p y), any_found p q ys x, or_left, or_right)
 

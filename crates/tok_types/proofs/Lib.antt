@@ -1,3 +1,4 @@
 pub mod Found
 pub mod Covered
 pub mod Symmetric
+pub mod Wants

@@ -17,9 +17,9 @@ same_id a b = (a.server.0 == b.server.0) && (a.epoch == b.epoch) && (a.seq == b.
 
 -- whether two hosts cannot both have these of one object
 abbrev pub kinds_conflict : Kind → Kind → Bool
-kinds_conflict (Bytes update span) (Bytes other_update other_span) = (update || other_update) && overlap span other_span
-kinds_conflict (Status update) (Status other_update) = update || other_update
-kinds_conflict (Lock writing span) (Lock other_writing other_span) = (writing || other_writing) && overlap span other_span
+kinds_conflict (Bytes update span) (Bytes update' span') = (update || update') && overlap span span'
+kinds_conflict (Status update) (Status update') = update || update'
+kinds_conflict (Lock writing span) (Lock writing' span') = (writing || writing') && overlap span span'
 kinds_conflict (Opening kind) (Opening other) = opens_conflict kind other
 kinds_conflict _ _ = false
 
@@ -38,6 +38,10 @@ conflict a b = not (a.host.0 == b.host.0) && needs_conflict (need_of a) (need_of
 -- whether a host's need conflicts with one of those of another host
 abbrev pub any_conflict : Need → List Need → Bool
 any_conflict need others = list_any (λ other. needs_conflict need other) others
+
+-- whether two wants cannot both be met: they are of two hosts, and a need of one conflicts with a need of the other
+abbrev pub wants_conflict : HostId → List Need → HostId → List Need → Bool
+wants_conflict host needs other others = not (host.0 == other.0) && list_any (λ need. any_conflict need others) needs
 
 -- whether a token is in the way of a host's needs: it is another host's, and conflicts with one of them
 abbrev pub blocks : HostId → List Need → Token → Bool

@@ -1,5 +1,7 @@
 ghost use Rattle.std.specs.Prelude.{◌≡◌};
-ghost use Rattle.tok_types.specs.Conflicts.{kinds_conflict, needs_conflict, any_conflict, conflict, blocks};
+ghost use Rattle.std.specs.List.{list_any};
+ghost use Rattle.tok_types.specs.Conflicts.{kinds_conflict, needs_conflict, any_conflict, wants_conflict};
+ghost use Rattle.tok_types.specs.Conflicts.{conflict, blocks};
 
 use crate::token::{Kind, Need, Token};
 use dfs_base::HostId;
@@ -13,6 +15,22 @@ pub fn conflicts(a: &Token, b: &Token) -> bool
     ensures symmetric { result ≡ conflict b.now a.now }
 {
     a.host != b.host && a.need().conflicts(&b.need())
+}
+
+/// Whether two wants cannot both be met: they are of two hosts, and a need of one conflicts with a need of the other. A
+/// want without needs conflicts with nothing.
+#[tactic(auto, using(crate::proofs::Wants::wants_both))]
+pub fn wants_conflict(host: HostId, needs: &[Need], other: HostId, others: &[Need]) -> bool
+    ensures value { result ≡ wants_conflict host needs.now other others.now }
+    ensures symmetric { result ≡ wants_conflict other others.now host needs.now }
+{
+    host != other && needs_conflict(needs, others)
+}
+
+fn needs_conflict(needs: &[Need], others: &[Need]) -> bool
+    ensures { result ≡ list_any (λ need. any_conflict need others.now) needs.now }
+{
+    needs.iter().any(|need| need.conflicts_any(others))
 }
 
 impl Need {

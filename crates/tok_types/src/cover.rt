@@ -1,7 +1,8 @@
 ghost use Rattle.std.specs.Prelude.{◌≡◌, ◌<◌, ◌↔◌, false, IsTrue, IfSome, IfNone};
 ghost use Rattle.std.specs.List.{list_any, find};
 ghost use Rattle.std.specs.Option.{option_copied};
-ghost use Rattle.tok_types.specs.Covers.{covers_byte, kind_covers_byte, kind_covers, covers_alone, CoversBetween, CoversSpan, Covers};
+ghost use Rattle.tok_types.specs.Covers.{covers_byte, kind_covers_byte, kind_covers, covers_alone, CoversBetween};
+ghost use Rattle.tok_types.specs.Covers.{CoversSpan, Covers};
 
 use crate::token::{Kind, Need, Token};
 use dfs_base::{Fid, Span};

@@ -6,6 +6,6 @@ mod conflict;
 mod cover;
 mod token;
 
-pub use conflict::conflicts;
+pub use conflict::{conflicts, wants_conflict};
 pub use cover::covers;
 pub use token::{Kind, Need, Token, TokenId};

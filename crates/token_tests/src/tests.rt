@@ -344,11 +344,11 @@ fn a_table_grants_and_drops(rt: HostRuntime) -> Result<(), Fail> {
         },
         ..first
     };
-    assert!(rt; !table.tokens().iter().any(|token| token.id == claimed.id));
+    assert_eq!(rt; table.get(claimed.id), None);
     table.insert(claimed)?;
     assert_eq!(rt;
         table.of_host(HostId(1))?.as_slice(),
-        [first, claimed].as_slice()
+        [claimed, first].as_slice()
     );
     let want = [Need {
         fid: FILE,
@@ -356,13 +356,14 @@ fn a_table_grants_and_drops(rt: HostRuntime) -> Result<(), Fail> {
     }];
     assert_eq!(rt;
         table.conflicting(HostId(2), &want)?.as_slice(),
-        [first, claimed].as_slice()
+        [claimed, first].as_slice()
     );
     assert_eq!(rt; table.conflicting(HostId(1), &want)?.len(), 0);
     assert_eq!(rt; table.drop_id(first.id), Some(first));
     assert_eq!(rt; table.drop_id(first.id), None);
     table.drop_host(HostId(2));
-    assert_eq!(rt; table.tokens(), [claimed].as_slice());
+    assert_eq!(rt; table.of_file(claimed.fid), [claimed].as_slice());
+    assert_eq!(rt; table.of_host(HostId(1))?.len(), 1);
     Ok(())
 }
 

@@ -4,7 +4,11 @@ use Rattle.tok_manager.proofs.Rooms.{room_filter}
 use Rattle.tok_manager.proofs.manager.TokenManager.give_up.Goals as goal
 
 pub invariant_of-self : goal.invariant_of-self
-invariant_of-self c = rw c.drop_want.ensures (lawful_filter _ _ _ _ c.self.invariant.0, room_filter _ _ _ _ c.self.invariant.1)
+invariant_of-self c = rw c.drop_want.ensures (
+  lawful_filter _ _ _ _ c.self.invariant.0,
+  room_filter _ _ _ _
+      c.self.invariant.1,
+)
 
 pub returns-clause-lawful : goal.returns-clause-lawful
 unfolding KeepsLaws

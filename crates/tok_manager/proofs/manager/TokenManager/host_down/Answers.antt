@@ -11,4 +11,5 @@ invariant_of-self c =
 pub returns-clause-lawful : goal.returns-clause-lawful
 unfolding KeepsLaws
 returns-clause-lawful c =
-    rw (c.drop_host.ensures, c.drop_wants_of.ensures) (lawful_filter _ _ _ _ (lawful_not_of _ _ _ c.args.host c.self.invariant.0))
+    rw (c.drop_host.ensures, c.drop_wants_of.ensures)
+    (lawful_filter _ _ _ _ (lawful_not_of _ _ _ c.args.host c.self.invariant.0))

@@ -6,13 +6,19 @@ use Rattle.tok_manager.proofs.Sound.{IsSound, sound_ready}
 use Rattle.tok_manager.proofs.manager.TokenManager.next_ready.Goals as goal
 
 pub grant-requires : goal.grant-requires
-grant-requires c = room_enough _ _ _ _ c.in-Some.want.now (sym (rw c.as_slice.ensures at c.in-Some.ensures)) c.self.invariant.1
+grant-requires c = room_enough _ _ _ _ c.in-Some.want.now (sym (rw c.as_slice.ensures at c.in-Some.ensures))
+    c.self.invariant.1
 
 -- the manager after the decision is as the definition says, so it is sound
 pub invariant_of-self-2 : goal.invariant_of-self-2
 unfolding grants_ready queue_ready
 invariant_of-self-2 c =
-    let after : Manager = record { grants = c.match-copied.self-inside.grants; queue = c.drop_want.new.queue; asked = c.match-copied.self-inside.asked; latest = c.match-copied.self-inside.latest } in
+    let after : Manager = record {
+      grants = c.match-copied.self-inside.grants;
+      queue = c.drop_want.new.queue;
+      asked = c.match-copied.self-inside.asked;
+      latest = c.match-copied.self-inside.latest;
+    } in
     let same : after ≡ after_ready c.args.self.now = search rules in
     let before = subst IsSound c.self.view_is (record { lawful = c.self.invariant.0; room = c.self.invariant.1 }) in
     let sound = subst IsSound (sym same) (sound_ready c.args.self.now before) in
@@ -21,7 +27,12 @@ invariant_of-self-2 c =
 pub returns-clause-lawful : goal.returns-clause-lawful
 unfolding KeepsLaws grants_ready queue_ready
 returns-clause-lawful c =
-    let after : Manager = record { grants = c.match-copied.self-inside.grants; queue = c.drop_want.new.queue; asked = c.match-copied.self-inside.asked; latest = c.match-copied.self-inside.latest } in
+    let after : Manager = record {
+      grants = c.match-copied.self-inside.grants;
+      queue = c.drop_want.new.queue;
+      asked = c.match-copied.self-inside.asked;
+      latest = c.match-copied.self-inside.latest;
+    } in
     let same : after ≡ after_ready c.args.self.now = search rules in
     let before = subst IsSound c.self.view_is (record { lawful = c.self.invariant.0; room = c.self.invariant.1 }) in
     let sound = subst IsSound (sym same) (sound_ready c.args.self.now before) in

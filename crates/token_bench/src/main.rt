@@ -1,0 +1,136 @@
+//! Times a token table: for each line `FILES TOKENS` of standard input it grants so many tokens over so many files
+//! and 16 hosts, and then works on one file. It prints how many tokens that file has; with the word `times` it prints
+//! beside it the nanoseconds of a grant and drop, of a search for conflicts, and of a look at what is covered.
+#![tactic(auto)]
+
+ghost use Rattle.std.specs.Prelude.{◌≤◌, ◌<◌, ◌^◌, IfSome};
+
+use dfs_base::{Fid, FilesetId, HostId, NoMemory, ServerId};
+use std::alloc::Global;
+use std::rt::Env;
+use std::time::{Clock, Instant};
+use std::{env, io};
+use tok_table::TokenTable;
+use tok_types::{Kind, Need, covers};
+
+// How often each act is done.
+const ROUNDS: u64 = 1_000;
+
+fn file(anode: u32) -> Fid {
+    Fid {
+        fileset: FilesetId(65_537),
+        anode,
+        unique: 1,
+    }
+}
+
+// How many files, and how many tokens. `None` where the line does not say so, or there is no file.
+fn load(line: &str) -> Option<(u32, u32)>
+    ensures { IfSome result (λ load. 1 ≤ load.0) }
+{
+    let (files, tokens) = line.split_once(' ')?;
+    let files: u32 = files.parse().ok()?;
+    let tokens: u32 = tokens.parse().ok()?;
+    if files == 0 {
+        return None;
+    }
+    Some((files, tokens))
+}
+
+// Grants one token for reading a file's status, while numbers are left.
+fn grant(table: &mut TokenTable, host: HostId, fid: Fid) -> Result<bool, NoMemory> {
+    if table.last_id().seq >= u64::MAX - 1 {
+        return Ok(false);
+    }
+    table.grant(host, fid, Kind::Status { update: false })?;
+    Ok(true)
+}
+
+// So many tokens, spread over so many files and 16 hosts.
+fn filled(alloc: Global, files: u32, tokens: u32) -> Result<TokenTable, NoMemory>
+    requires { 1 ≤ files }
+{
+    let mut table = TokenTable::new(alloc, ServerId(1), 1);
+    for i in 0..tokens {
+        let host = HostId((i / files % 16) as u8);
+        grant(&mut table, host, file(i % files))?;
+    }
+    Ok(table)
+}
+
+// Grants a token on a file and drops it again, so often.
+fn grant_and_drop(table: &mut TokenTable, fid: Fid) -> Result<(), NoMemory> {
+    for _ in 0..ROUNDS {
+        grant(table, HostId(17), fid)?;
+        table.drop_id(table.last_id());
+    }
+    Ok(())
+}
+
+// Searches for the tokens that are in the way of a change of a file's status, so often. It answers how many they are.
+fn search(table: &TokenTable, need: Need) -> Result<usize, NoMemory> {
+    let mut found = 0;
+    for _ in 0..ROUNDS {
+        found = table.conflicting(HostId(17), &[need])?.len();
+    }
+    Ok(found)
+}
+
+// Looks whether a file's tokens cover a change of its status, so often.
+fn look(table: &TokenTable, need: Need) -> bool {
+    let mut covered = false;
+    for _ in 0..ROUNDS {
+        covered = covered || covers(table.of_file(need.fid), &need);
+    }
+    covered
+}
+
+fn nanos<R: Clock>(rt: &R, start: Instant) -> io::Result<u64> {
+    let took = start.elapsed(rt)?;
+    let all = took
+        .as_secs()
+        .wrapping_mul(1_000_000_000)
+        .wrapping_add(u64::from(took.subsec_nanos()));
+    Ok(all / ROUNDS)
+}
+
+fn measure<R: Clock + Print>(rt: &R, table: &mut TokenTable, times: bool) -> io::Result<()> {
+    let need = Need {
+        fid: file(0),
+        kind: Kind::Status { update: true },
+    };
+    let start = Instant::now(rt)?;
+    let granted = grant_and_drop(table, need.fid).is_ok();
+    let grants = nanos(rt, start)?;
+    let start = Instant::now(rt)?;
+    let found = search(table, need).unwrap_or(0);
+    let searches = nanos(rt, start)?;
+    let start = Instant::now(rt)?;
+    let covered = look(table, need);
+    let looks = nanos(rt, start)?;
+    println!(rt; "{found} tokens in the way, granted {granted}, covered {covered}")?;
+    if times {
+        println!(rt; "{grants} {searches} {looks}")?;
+    }
+    Ok(())
+}
+
+fn wants_times(rt: &(impl Env + AllocGlobal)) -> io::Result<bool> {
+    Ok(env::args(rt)?.count() > 1)
+}
+
+fn main(rt: HostRuntime) -> io::Result<()> {
+    let times = wants_times(&rt)?;
+    for line in rt.lines(rt.alloc()) {
+        let line = line?;
+        let Some((files, tokens)) = load(line.as_str()) else {
+            println!(rt; "not a load: {line}")?;
+            continue;
+        };
+        match filled(rt.alloc(), files, tokens) {
+            Ok(mut table) => measure(&rt, &mut table, times)?,
+            Err(NoMemory) => println!(rt; "no memory")?,
+        }
+    }
+    Ok(())
+}
