@@ -24,9 +24,9 @@ pub enum FileRefused {
     Memory,
 }
 
-/// A disk over a file. It tells nothing of its bytes: what a file does with them, and what a crash leaves of them, is not
-/// proved. It counts each call that failed. After a sync that failed every later call fails, since a kernel may drop what it
-/// could not write and answer the next sync well.
+/// A disk over a file. It tells nothing of its bytes: what a file does with them, and what a crash leaves of them, is
+/// not proved. It counts each call that failed. After a sync that failed every later call fails, since a kernel may
+/// drop what it could not write and answer the next sync well.
 #[derive(Drop)]
 pub struct FileDisk {
     file: File,

@@ -6,7 +6,7 @@ ghost use Rattle.dfs_base.specs.View.{IsCounted};
 ghost use Rattle.dfs_base.specs.declared.limits.TheConstants.{DISK_END};
 ghost use Rattle.dfs_outside.specs.Calls.{new_calls, IsCall};
 ghost use Rattle.dfs_disk.specs.Replay.{overwritten, state_after, at_first};
-ghost use Rattle.dfs_disk.specs.Tearing.{MayTear};
+ghost use Rattle.dfs_disk.specs.Tearing.{MayTear, MayLeaveStill};
 ghost use Rattle.dfs_disk.specs.declared.act.Act.TheVariants.{Wrote, Tore, Synced};
 
 use crate::act::Act;
@@ -15,10 +15,10 @@ use dfs_base::{DISK_END, Disk, Failed, Items, NoMemory};
 use dfs_outside::Calls;
 use std::alloc::{AllocError, Global};
 
-/// A disk in memory. It keeps its first bytes and the list of what was done to it, by which it tells what a crash at each
-/// moment may leave: between two syncs each written range may hold any bytes, also where the write failed; after a sync
-/// that succeeds exactly what a read gives. The calls that are listed fail, those behind a limit, and those that find no
-/// memory. A read gives what it gave before a write that failed.
+/// A disk in memory. It keeps its first bytes and the list of what was done to it, by which it tells what a crash at
+/// each moment may leave: between two syncs each written range may hold any bytes, also where the write failed; after
+/// a sync that succeeds exactly what a read gives. The calls that are listed fail, those behind a limit, and those
+/// that find no memory. A read gives what it gave before a write that failed.
 #[derive(Drop)]
 pub struct MemDisk {
     alloc: Global,
@@ -157,6 +157,7 @@ impl Disk for MemDisk {
         ensures quiet { IsQuiet (disk_view self.old) (disk_view self.new) }
         ensures faults { IsCounted result (disk_view self.old) (disk_view self.new) }
         ensures call { IsCall result (disk_calls self.old) (disk_calls self.new) }
+        ensures still { MayLeaveStill (disk_view self.old) (disk_view self.new) }
     {
         self.failed = self.calls.next_fails();
         if self.failed {
@@ -171,6 +172,7 @@ impl Disk for MemDisk {
         ensures quiet { IsQuiet (disk_view self.old) (disk_view self.new) }
         ensures faults { IsCounted result (disk_view self.old) (disk_view self.new) }
         ensures call { IsCall result (disk_calls self.old) (disk_calls self.new) }
+        ensures still { MayLeaveStill (disk_view self.old) (disk_view self.new) }
     {
         self.failed = self.calls.next_fails();
         if self.failed {
@@ -216,6 +218,7 @@ impl Disk for MemDisk {
         ensures quiet { IsQuiet (disk_view self.old) (disk_view self.new) }
         ensures faults { IsCounted result (disk_view self.old) (disk_view self.new) }
         ensures call { IsCall result (disk_calls self.old) (disk_calls self.new) }
+        ensures still { OnErr result (MayLeaveStill (disk_view self.old) (disk_view self.new)) }
     {
         self.failed = self.calls.next_fails();
         if self.failed {

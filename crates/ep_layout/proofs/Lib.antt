@@ -2,6 +2,7 @@ pub mod Bytes
 pub mod Entries
 pub mod Left
 pub mod Pages
+pub mod ServerPage
 pub mod Slots
 pub mod Steps
 pub mod Switch

@@ -10,7 +10,7 @@ use Rattle.ep_layout.specs.Places.{in_place, pages_of, SameBlocks}
 use Rattle.ep_layout.specs.Superblock.{IsSuperblock}
 use Rattle.ep_layout.specs.Entry.{gate_at, entries}
 use Rattle.ep_layout.specs.Half.{used_half, header_at, IsAhead, AreSides}
-use Rattle.ep_layout.specs.Pages.{recovered, pages_in, is_named, HasPages, IsBeside}
+use Rattle.ep_layout.specs.Pages.{recovered, pages_in, is_named, HasPages, IsSameOrNext, IsBeside}
 use Rattle.ep_layout.proofs.Bytes.{number-same}
 use Rattle.ep_layout.proofs.Words.{superblock_same}
 use Rattle.ep_layout.proofs.Entries.{entries_same}
@@ -40,10 +40,11 @@ ahead_used half other image (inr sides) ahead =
 -- While the half is ahead its entries count, whatever the other half holds and whatever stands in the pages that
 -- they name. It holds of any entries.
 pub ahead_pages : (superblock : Superblock) (half : Half) (other : ℕ) (old new : List ℕ) → half.pages ≡ pages_of superblock.blocks → IsSuperblock superblock old → AreSides half.start other → IsAhead half other new
-    → IsBeside half (entries half old) old new → HasPages superblock (λ (p : ℕ). pages_in half old p) old new
+    → IsBeside half (entries half old) old new → HasPages superblock half.generation (λ (p : ℕ). pages_in half old p) old new
 unfolding pages_in
 ahead_pages superblock half other old new many is sides ahead beside = record {
   half = half;
+  follows = inl refl;
   log = record { front = superblock_same superblock old new beside.front is; used = subst (λ (n : ℕ). used_half n new ≡ Some half) many (ahead_used half other new sides ahead) };
   pages = λ p lt. (λ j. recovered (entries_same half old new beside.entries j) (in_place new) p) ∙ by p (omega arith) (is_named p (entries half old)) refl;
   blocks = subst (λ (n : ℕ). SameBlocks n old new) many beside.blocks;
@@ -54,10 +55,11 @@ ahead_pages superblock half other old new many is sides ahead beside = record {
     by p lt false is = recovered_at (entries half old) (in_place new) (in_place old) p (beside.pages p lt is)
 
 -- once the other half is ahead, with all its gates closed, the pages are those in place
-pub switched_pages : (superblock : Superblock) (half : Half) (other : ℕ) (image : List ℕ) → half.pages ≡ pages_of superblock.blocks → IsSuperblock superblock image → AreSides half.start other → IsAhead half other image
-    → ((i : ℕ) → i < 2048 → gate_at half.start image i ≢ 1) → HasPages superblock (λ (p : ℕ). in_place image p) image image
-switched_pages superblock half other image many is sides ahead shut = record {
+pub switched_pages : (superblock : Superblock) (half : Half) (other generation : ℕ) (image : List ℕ) → IsSameOrNext generation half.generation → half.pages ≡ pages_of superblock.blocks → IsSuperblock superblock image → AreSides half.start other → IsAhead half other image
+    → ((i : ℕ) → i < 2048 → gate_at half.start image i ≢ 1) → HasPages superblock generation (λ (p : ℕ). in_place image p) image image
+switched_pages superblock half other generation image follows many is sides ahead shut = record {
   half = half;
+  follows = follows;
   log = record { front = is; used = subst (λ (n : ℕ). used_half n image ≡ Some half) many (ahead_used half other image sides ahead) };
   pages = λ p lt. none_held half image shut p;
   blocks = λ k from. refl;

@@ -13,7 +13,7 @@ use Rattle.ep_layout.specs.Numbers.{number_at}
 use Rattle.ep_layout.specs.Places.{SameFront}
 use Rattle.ep_layout.specs.declared.half.Header.{Header}
 use Rattle.ep_layout.specs.Half.{header_from}
-use Rattle.ep_layout.specs.Superblock.{layout_name, IsSuperblock}
+use Rattle.ep_layout.specs.Superblock.{layout_name, IsSuperblock, IsBlankPage}
 use Rattle.ep_layout.specs.Entry.{entry_of, Spells, Fits, kind_of, page_named, transaction_of, old_of, new_of}
 use Rattle.ep_layout.proofs.Bytes.{number-same}
 
@@ -191,3 +191,15 @@ header_read header image start opened generation =
     let gate : byte_at (bytes_from image start 16) 0 ≡ byte_at image start = get_or-bytes_from image start 16 0 (omega arith) ∙ (let e : start + 0 ≡ start = omega arith in ap (byte_at image) e) in
     let number = number_in 8 8 start 16 image (omega arith) in
     λ j. record { is_open = (opened ∙ (λ i. gate i == 1)) j; generation = (generation ∙ number) j }
+
+-- a blank page as it is read, and where it stands
+blank_same : (old new : List ℕ) → SameFront old new → IsBlankPage old → IsBlankPage new
+blank_same old new same (inl zeros) = inl (λ k lt. same k lt ∙ zeros k lt)
+blank_same old new same (inr named) =
+    inr (λ is. named.0 (sym (same 0 (omega arith)) ∙ is), bytes_from-same new old 1 8 (λ k from below. same k (omega arith)) ∙ named.1)
+
+pub blank_read : (image : List ℕ) → IsBlankPage (bytes_from image 0 512) → IsBlankPage image
+blank_read image is = blank_same (bytes_from image 0 512) image (λ k lt. let e : 0 + k ≡ k = omega arith in ap (byte_at image) (sym e) ∙ sym (get_or-bytes_from image 0 512 k lt)) is
+
+pub blank_reads : (image : List ℕ) → IsBlankPage image → IsBlankPage (bytes_from image 0 512)
+blank_reads image is = blank_same image (bytes_from image 0 512) (λ k lt. let e : 0 + k ≡ k = omega arith in get_or-bytes_from image 0 512 k lt ∙ ap (byte_at image) e) is

@@ -1,5 +1,5 @@
 -- The pages under a log's entries. A page is named by its number among the metadata pages.
-use Rattle.std.specs.Prelude.{◌≡◌, ◌≤◌, ◌<◌, ℕ, zero, suc, List, [], ◌∷◌, length, Bool, false, ◌==◌, ◌&&◌, ◌||◌, not, if◌then◌else◌}
+use Rattle.std.specs.Prelude.{◌≡◌, ◌≤◌, ◌<◌, ◌⊎◌, ℕ, zero, suc, ◌+◌, List, [], ◌∷◌, length, Bool, false, ◌==◌, ◌&&◌, ◌||◌, not, if◌then◌else◌}
 use Rattle.dfs_base.specs.Image.{byte_at}
 use Rattle.ep_layout.specs.declared.half.Half.{Half}
 use Rattle.ep_layout.specs.declared.entry.Entry.{Entry}
@@ -65,24 +65,34 @@ pub record HasWhole (held news : List Entry) (image : List ℕ) : Type 0 where
   pub forced : AreWhole (λ (q : ℕ). in_place image q) 0 held
   pub ended : AreWhole (λ (q : ℕ). redone held (in_place image) q) (length held) news
 
--- The bytes of a disk are a log with this superblock, these are its pages after redo and undo, and its blocks are those of
--- an image.
-pub record HasPages (superblock : Superblock) (known : ℕ → List ℕ) (image c : List ℕ) : Type 0 where
+-- stage k of a page: after the first k of the transactions that ended since the last force
+abbrev pub stage : List Entry → List Entry → List ℕ → ℕ → ℕ → List ℕ
+stage held news image k p = redone (firsts k news) (λ (q : ℕ). redone held (in_place image) q) p
+
+-- a generation is another one, or the next
+abbrev pub IsSameOrNext : ℕ → ℕ → Type 0
+IsSameOrNext old new = (new ≡ old) ⊎ (new ≡ old + 1)
+
+-- The bytes of a disk are a log with this superblock, whose used half is of this generation or the next; these are its
+-- pages after redo and undo, and its blocks are those of an image.
+pub record HasPages (superblock : Superblock) (generation : ℕ) (known : ℕ → List ℕ) (image c : List ℕ) : Type 0 where
   pub half : Half
   pub log : HasLog superblock half c
+  pub follows : IsSameOrNext generation half.generation
   pub pages : (p : ℕ) → p < pages_of superblock.blocks → pages_in half c p ≡ known p
   pub blocks : SameBlocks (pages_of superblock.blocks) image c
 
--- A crash left a log: its pages are those after the first k of the transactions that ended since the last force, and its
--- blocks are those of an image d. Where it left any of these transactions, they are the blocks as they read.
-pub record LeftFirst (superblock : Superblock) (held news : List Entry) (image d c : List ℕ) (k : ℕ) : Type 0 where
+-- A crash left a log in stage k, with the blocks of an image d. Where it left any of the transactions that ended since
+-- the last force, they are the blocks as they read.
+pub record LeftFirst (superblock : Superblock) (generation : ℕ) (held news : List Entry) (image d c : List ℕ) (k : ℕ) : Type 0 where
   pub some_of : k ≤ ends_in news
-  pub log : HasPages superblock (λ (p : ℕ). redone (firsts k news) (λ (q : ℕ). redone held (in_place image) q) p) d c
+  pub log : HasPages superblock generation (stage held news image k) d c
   pub blocks : 0 < k → SameBlocks (pages_of superblock.blocks) image d
 
 -- the same, where d is one of the images that a crash before could leave
-abbrev pub HasFirst : Superblock → List Entry → List Entry → List ℕ → (List ℕ → Type 0) → List ℕ → Type 0
-HasFirst superblock held news image may_leave c = (k : ℕ) × (d : List ℕ) × may_leave d × LeftFirst superblock held news image d c k
+abbrev pub HasFirst : Superblock → ℕ → List Entry → List Entry → List ℕ → (List ℕ → Type 0) → List ℕ → Type 0
+HasFirst superblock generation held news image may_leave c =
+    (k : ℕ) × (d : List ℕ) × may_leave d × LeftFirst superblock generation held news image d c k
 
 -- whether an update names a page
 abbrev pub is_named : ℕ → List Entry → Bool
@@ -90,11 +100,15 @@ is_named p [] = false
 is_named p (Update transaction page old new ∷ rest) = (page == p) || is_named p rest
 is_named p (End transaction ∷ rest) = is_named p rest
 
--- images that differ at most in metadata pages that these entries name
-pub record SameButNamed (held : List Entry) (old new : List ℕ) : Type 0 where
+-- images that differ at most in metadata pages, and not in those that stay
+pub record SameButPages (Stays : ℕ → Type 0) (old new : List ℕ) : Type 0 where
   pub log : (at : ℕ) → at < 6292992 → byte_at new at ≡ byte_at old at
-  pub pages : (p : ℕ) → is_named p held ≡ false → in_place new p ≡ in_place old p
-  pub blocks : (n : ℕ) → ((p : ℕ) → n ≤ p → is_named p held ≡ false) → SameBlocks n old new
+  pub pages : (p : ℕ) → Stays p → in_place new p ≡ in_place old p
+  pub blocks : (n : ℕ) → ((p : ℕ) → n ≤ p → Stays p) → SameBlocks n old new
+
+-- images that differ at most in metadata pages that these entries name
+abbrev pub SameButNamed : List Entry → List ℕ → List ℕ → Type 0
+SameButNamed held old new = SameButPages (λ (p : ℕ). is_named p held ≡ false) old new
 
 -- images that differ at most in the headers, in the other half, and in pages that the entries name
 pub record IsBeside (half : Half) (held : List Entry) (old new : List ℕ) : Type 0 where

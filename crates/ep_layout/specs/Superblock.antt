@@ -27,7 +27,10 @@ pub record IsSuperblock (superblock : Superblock) (image : List ℕ) : Type 0 wh
   pub server : byte_at image 20 ≡ superblock.server
   pub unnamed : (k : ℕ) → IsUnnamed k → byte_at image k ≡ 0
 
--- a disk that nobody formatted, or whose format was stopped: it has no bytes, its first page is zero, or the gate before
--- the layout's name is closed
+-- the first page of such a disk with bytes: it is zero, or the gate before the layout's name is closed
+abbrev pub IsBlankPage : List ℕ → Type 0
+IsBlankPage image = ((k : ℕ) → k < 512 → byte_at image k ≡ 0) ⊎ ((byte_at image 0 ≢ 1) × (bytes_from image 1 8 ≡ layout_name))
+
+-- a disk that nobody formatted, or whose format was stopped
 abbrev pub IsBlank : List ℕ → Type 0
-IsBlank image = (length image ≡ 0) ⊎ ((k : ℕ) → k < 512 → byte_at image k ≡ 0) ⊎ ((byte_at image 0 ≢ 1) × (bytes_from image 1 8 ≡ layout_name))
+IsBlank image = (length image ≡ 0) ⊎ IsBlankPage image

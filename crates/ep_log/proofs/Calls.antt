@@ -12,7 +12,8 @@ use Rattle.ep_layout.proofs.Words.{superblock_same}
 use Rattle.ep_log.specs.Append.{SameRest}
 use Rattle.ep_log.specs.Pages.{HoldsPages}
 use Rattle.ep_log.specs.Puts.{ended_page, run_of}
-use Rattle.ep_log.specs.State.{IsLeft, State, IsOpen, MayPut, free_in, begun, with_put, closed, ended, forced_all, IsSound}
+use Rattle.ep_log.specs.Contents.{IsStage}
+use Rattle.ep_log.specs.State.{State, IsOpen, MayPut, free_in, begun, with_put, closed, ended, forced_all, IsSound}
 use Rattle.ep_log.specs.Begin.{IsBegun}
 use Rattle.ep_log.specs.Blame.{IsDiskOrMemory}
 use Rattle.ep_log.specs.declared.fault.LogFault.{LogFault}
@@ -150,10 +151,10 @@ pub put_fault : {T : Type 0} (result : Result T LogFault) (old new : View) → I
 put_fault (Ok x) old new quiet is = tt
 put_fault (Err e) old new quiet is = subst (λ (fault : LogFault). IsDiskOrMemory fault old new) (sym is) quiet
 
--- between two calls a crash leaves none of the transactions that ended since the last force
-pub sound_left : (tells : Type 0) (view : View) (pages : List (Option (List ℕ))) (state : State) → IsSound tells view pages state → tells → (c : List ℕ) → view.may_leave c → IsLeft state view c
+-- between two calls a crash leaves stage 0
+pub sound_left : (tells : Type 0) (view : View) (pages : List (Option (List ℕ))) (state : State) → IsSound tells view pages state → tells → (c : List ℕ) → view.may_leave c → IsStage (record { state = state; image = view.image }) 0 c
 sound_left tells view pages state sound told c left =
     let disk = sound.steady.on_disk told in
-    between state.half (take state.forced state.entries) (drop state.forced state.entries) view.image
+    (between state.half (take state.forced state.entries) (drop state.forced state.entries) view.image
     (let e = length-take state.forced state.entries in let f = length-drop state.forced state.entries in let g = sound.steady.room in let h = sound.steady.forced_le in omega arith)
-    disk.log disk.whole state.superblock sound.many (sound.front told) view.may_leave disk.settled c left
+    disk.log disk.whole state.superblock sound.many (sound.front told) c (disk.settled c left)).log

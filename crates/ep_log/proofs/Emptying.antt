@@ -6,6 +6,8 @@ use Rattle.std.proofs.lemmas.List.{take_all, take_more, take-append-drop, get_or
 use Rattle.std.proofs.lemmas.Grind.{get_or-set_at}
 use Rattle.std.proofs.lemmas.List.Folds.{sum_by-replicate}
 use Rattle.dfs_base.specs.View.{View}
+use Rattle.ep_layout.specs.declared.half.Half.{Half}
+use Rattle.ep_layout.specs.declared.superblock.Superblock.{Superblock}
 use Rattle.ep_layout.specs.declared.entry.Entry.{Entry}
 use Rattle.ep_layout.specs.declared.entry.Entry.TheVariants.{Update}
 use Rattle.ep_layout.specs.Places.{in_place, pages_of, SameBlocks}
@@ -16,7 +18,8 @@ use Rattle.ep_layout.proofs.Entries.{held_entries}
 use Rattle.ep_layout.proofs.Pages.{whole_recovered, redone-append, firsts_all}
 use Rattle.ep_log.specs.Pages.{AreKept, HoldsPages}
 use Rattle.ep_log.specs.Puts.{overlaid, page_of, count_of, IsOnDisk}
-use Rattle.ep_log.specs.State.{State, HasNoOpen, HasRoom, IsSound, IsLeft, forced_all}
+use Rattle.ep_log.specs.Contents.{IsLeft}
+use Rattle.ep_log.specs.State.{State, HasNoOpen, HasRoom, IsSound, forced_all}
 use Rattle.ep_log.specs.Switch.{other_of, IsUsed}
 use Rattle.ep_log.specs.declared.put.Put.{Put}
 use Rattle.ep_log.proofs.Calls.{kept_in}
@@ -69,7 +72,7 @@ module _ (view : View) (state : State) (disk : IsOnDisk view state.half state.en
 
 -- a log whose pages are as before the force, with the blocks as they read, is one that a crash in a force may leave
 module _ (old : View) (state : State) (disk : IsOnDisk old state.half state.entries state.forced state.puts) (reads : old.may_leave old.image) (none : state.puts ≡ []) (many : state.half.pages ≡ pages_of state.superblock.blocks) where
-  all_firsts : (p : ℕ) → page_of state.entries state.puts old.image p ≡ redone (firsts (ends_in (drop state.forced state.entries)) (drop state.forced state.entries)) (λ (q : ℕ). redone (take state.forced state.entries) (in_place old.image) q) p
+  pub all_firsts : (p : ℕ) → page_of state.entries state.puts old.image p ≡ redone (firsts (ends_in (drop state.forced state.entries)) (drop state.forced state.entries)) (λ (q : ℕ). redone (take state.forced state.entries) (in_place old.image) q) p
   unfolding page_of
   all_firsts p =
       let held = take state.forced state.entries in
@@ -79,7 +82,7 @@ module _ (old : View) (state : State) (disk : IsOnDisk old state.half state.entr
       ∙ redone-append held news (in_place old.image) p
       ∙ ap (λ (l : List Entry). redone l (λ (q : ℕ). redone held (in_place old.image) q) p) (sym (firsts_all news (λ (q : ℕ). redone held (in_place old.image) q) (length held) disk.whole.ended))
 
-  all_left : (image : List ℕ) (now : ℕ → List ℕ) → ((p : ℕ) → now p ≡ page_of state.entries state.puts old.image p) → SameBlocks state.half.pages old.image image → (c : List ℕ) → HasPages state.superblock now image c → IsLeft state old c
+  all_left : (image : List ℕ) (now : ℕ → List ℕ) → ((p : ℕ) → now p ≡ page_of state.entries state.puts old.image p) → SameBlocks state.half.pages old.image image → (c : List ℕ) → HasPages state.superblock state.half.generation now image c → IsLeft (record { state = state; image = old.image }) old c
   all_left image now same blocks c has = (
     ends_in (drop state.forced state.entries),
     old.image,
@@ -89,6 +92,7 @@ module _ (old : View) (state : State) (disk : IsOnDisk old state.half state.entr
       log = record {
         half = has.half;
         log = has.log;
+        follows = has.follows;
         pages = λ p lt. has.pages p lt ∙ same p ∙ all_firsts p;
         blocks = λ at le. has.blocks at le ∙ blocks at (omega (arith, many, le));
       };
@@ -115,10 +119,10 @@ module _ (tells : Type 0) (old mid : View) (pages there : List (Option (List ℕ
   pub pages_known : (p : ℕ) → pages_in forced.half mid.image p ≡ page_of state.entries state.puts old.image p
   pages_known p = pages_redone mid forced (after.steady.on_disk told) all_forced after.steady.room (none_put state forced sound.accounts none is) p ∙ same p
 
-  pub then_left : old.may_leave old.image → SameBlocks state.half.pages old.image mid.image → (c : List ℕ) → HasPages forced.superblock (pages_in forced.half mid.image) mid.image c → IsLeft state old c
+  pub then_left : old.may_leave old.image → SameBlocks state.half.pages old.image mid.image → (c : List ℕ) → HasPages forced.superblock forced.half.generation (pages_in forced.half mid.image) mid.image c → IsLeft (record { state = state; image = old.image }) old c
   then_left reads blocks c has =
       all_left old state (sound.steady.on_disk told) reads (no_puts state sound.accounts none) sound.many mid.image (pages_in forced.half mid.image) pages_known blocks c
-      (subst (λ (s : State). HasPages s.superblock (pages_in forced.half mid.image) mid.image c) is has)
+      (subst (λ (s : State). HasPages s.superblock s.half.generation (pages_in forced.half mid.image) mid.image c) is has)
 
 page_before : (state : State) (view : View) → state.puts ≡ [] → (p : ℕ) → page_of state.entries state.puts view.image p ≡ redone state.entries (in_place view.image) p
 unfolding page_of
@@ -154,3 +158,7 @@ kept_new pages page t old new known kept p bytes is = by (page == p) refl
 pub page_emptied : (image : List ℕ) (p : ℕ) → page_of [] [] image p ≡ in_place image p
 unfolding page_of
 page_emptied image p = refl
+
+-- a half that is used has the entries that stand in it
+pub used_by : {superblock : Superblock} {half : Half} {other : ℕ} {held : List Entry} {image : List ℕ} → IsUsed superblock half other held image → IsUsed superblock half other (entries half image) image
+used_by used = record { many = used.many; front = used.front; ahead = used.ahead; held_there = refl }

@@ -103,7 +103,7 @@ used_ahead pages other half image (inr e) is =
       ahead = ⊎_elim (λ shut. inl (λ o. shut_test _ shut (ap (byte_at image) (sym e.1) ∙ o))) (λ lower. inr (let f = ap (λ (s : ℕ). number_at 8 (s + 8) image) e.1 in omega (arith, f, lower))) a.2;
     }
 
-get_or-same : {A : Type 0} (n k : ℕ) (x : A) → get_or (replicate n x) k x ≡ x
+pub get_or-same : {A : Type 0} (n k : ℕ) (x : A) → get_or (replicate n x) k x ≡ x
 get_or-same zero k x = refl
 get_or-same (suc n) zero x = refl
 get_or-same (suc n) (suc k) x = get_or-same n k x

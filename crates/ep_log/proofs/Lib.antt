@@ -8,9 +8,11 @@ pub mod Under
 pub mod Reading
 pub mod Room
 pub mod Entering
+pub mod Keeping
 pub mod Mounting
 pub mod Recovering
 pub mod Gates
+pub mod Gathered
 pub mod Switching
 pub mod Placed
 pub mod Fresh

@@ -1,6 +1,7 @@
 -- Pages that stand in their places after a checkpoint's first step.
-use Rattle.std.proofs.Common.{◌≡◌, ◌<◌, ◌≤◌, ℕ, zero, suc, ◌+◌, List, [], ◌∷◌, inl, inr, ⊎_elim, refl, sym, ◌∙◌, arith}
-use Rattle.std.specs.Prelude.{Bool, true, false, ◌==◌, ◌&&◌, ◌||◌, not, if◌then◌else◌}
+use Rattle.std.proofs.Common.{length, get_or, Option, Some, None, ◌⊎◌, ◌≡◌, ◌<◌, ◌≤◌, ℕ, suc, ◌+◌, List, [], ◌∷◌, inl, inr, ⊎_elim, refl, sym, ◌∙◌, arith}
+use Rattle.std.specs.Prelude.{Bool, true, false, ◌==◌, ◌&&◌, ◌||◌, not, if◌then◌else◌, IsSome}
+use Rattle.std.proofs.lemmas.Bool.{cases_lt}
 use Rattle.std.proofs.lemmas.Bool.Decides.{nat_tests}
 use Rattle.dfs_base.specs.Image.{byte_at}
 use Rattle.ep_layout.specs.declared.entry.Entry.{Entry}
@@ -10,7 +11,7 @@ use Rattle.ep_layout.specs.declared.superblock.Superblock.{Superblock}
 use Rattle.ep_layout.specs.Places.{in_place, entry_start, pages_of, SameBlocks}
 use Rattle.ep_layout.specs.Entry.{entries}
 use Rattle.ep_layout.specs.Half.{AreSides, IsAhead}
-use Rattle.ep_layout.specs.Pages.{redone, is_ended, undone, recovered, pages_in, is_named, SameButNamed, HasPages, IsBeside}
+use Rattle.ep_layout.specs.Pages.{redone, is_ended, undone, recovered, pages_in, is_named, SameButPages, SameButNamed, HasPages, IsBeside}
 use Rattle.ep_layout.proofs.Bytes.{number-same}
 use Rattle.ep_layout.proofs.Words.{superblock_same}
 use Rattle.ep_layout.proofs.Entries.{entries_same}
@@ -18,7 +19,8 @@ use Rattle.ep_layout.proofs.Pages.{recovered_at}
 use Rattle.ep_layout.proofs.Steps.{recovered_named}
 use Rattle.ep_layout.proofs.Switch.{ahead_pages}
 use Rattle.ep_log.specs.Append.{AllFit}
-use Rattle.ep_log.specs.Recovered.{blank_page, AreNear}
+use Rattle.ep_log.specs.Recovered.{blank_page, AreRecovered}
+use Rattle.ep_log.proofs.Recovering.{wider_pages}
 use Rattle.ep_log.specs.Switch.{IsReady, IsUsed}
 
 or_left : (a b : Bool) → (a || b) ≡ false → a ≡ false
@@ -42,7 +44,7 @@ undone_unnamed all (Update t page old new ∷ held) pages p out =
     (λ j. if or_left (page == p) (is_named p held) out j && not (is_ended t all) then old else undone all held pages p) ∙ undone_unnamed all held pages p (or_right (page == p) (is_named p held) out)
 
 -- recovery leaves a page that no entry names
-recovered_unnamed : (held : List Entry) (pages : ℕ → List ℕ) (p : ℕ) → is_named p held ≡ false → recovered held pages p ≡ pages p
+pub recovered_unnamed : (held : List Entry) (pages : ℕ → List ℕ) (p : ℕ) → is_named p held ≡ false → recovered held pages p ≡ pages p
 unfolding recovered
 recovered_unnamed held pages p out = undone_unnamed held held (redone held pages) p out ∙ redone_unnamed held pages p out
 
@@ -54,13 +56,6 @@ fits_named half (Update t page old new ∷ held) p fits le =
     let lt : page < half.pages = fits 0 (omega arith) in
     let other : (page == p) ≡ false = grind (arith, nat_tests) in
     (λ j. other j || is_named p held) ∙ fits_named half held p (λ k lt. fits (suc k) (omega arith)) le
-
-pub fits_near : (half : Half) (held : List Entry) → half.pages ≤ 131072 → AllFit half held → AreNear held
-fits_near half [] few fits k lt = absurd (omega arith)
-fits_near half (End t ∷ held) few fits zero lt = omega arith
-fits_near half (Update t page old new ∷ held) few fits zero lt = let e : page < half.pages = fits 0 (omega arith) in omega arith
-fits_near half (End t ∷ held) few fits (suc k) lt = fits_near half held few (λ m below. fits (suc m) (omega arith)) k (omega arith)
-fits_near half (Update t page old new ∷ held) few fits (suc k) lt = fits_near half held few (λ m below. fits (suc m) (omega arith)) k (omega arith)
 
 -- the log's own bytes say which half is ahead
 log_ahead : (half : Half) (other : ℕ) (a b : List ℕ) → half.start ≤ 3146752 → other ≤ 3146752 → ((at : ℕ) → at < 6292992 → byte_at b at ≡ byte_at a at) → IsAhead half other a → IsAhead half other b
@@ -92,7 +87,7 @@ module _ (superblock : Superblock) (half : Half) (other : ℕ) (held : List Entr
   }
 
   -- pages that are torn in their places are recovered
-  pub torn_pages : HasPages superblock (pages_in half old) old c
+  pub torn_pages : HasPages superblock half.generation (pages_in half old) old c
   torn_pages = ahead_pages superblock half other old c used.many used.front sides ahead_still beside
 
   entries_still : entries half c ≡ held
@@ -129,10 +124,27 @@ module _ (superblock : Superblock) (half : Half) (other : ℕ) (held : List Entr
 
 -- the same pages and blocks, seen from before
 pub seen_before : (superblock : Superblock) (half : Half) (old mid c : List ℕ) → half.pages ≡ pages_of superblock.blocks → ((p : ℕ) → pages_in half mid p ≡ pages_in half old p) → SameBlocks half.pages old mid
-    → HasPages superblock (pages_in half mid) mid c → HasPages superblock (pages_in half old) old c
+    → HasPages superblock half.generation (pages_in half mid) mid c → HasPages superblock half.generation (pages_in half old) old c
 seen_before superblock half old mid c many pages blocks has = record {
   half = has.half;
   log = has.log;
+  follows = has.follows;
   pages = λ p lt. has.pages p lt ∙ pages p;
   blocks = λ at le. has.blocks at le ∙ blocks at (omega (arith, many, le));
 }
+
+-- a table of what recovery makes of the pages that the entries name, and of no others
+module _ (half : Half) (held : List Entry) (table : List (Option (List ℕ))) (size : length table ≡ half.pages) (fits : AllFit half held) (are : AreRecovered held table) where
+  pub table_named : (old new : List ℕ) → SameButPages (λ (q : ℕ). get_or table q None ≡ None) old new → SameButNamed held old new
+  table_named old new same = wider_pages _ _ old new are.others same
+
+  pub table_written : (c : List ℕ) → ((p : ℕ) (bytes : List ℕ) → get_or table p None ≡ Some bytes → in_place c p ≡ bytes) → (p : ℕ) → is_named p held ≡ true → in_place c p ≡ recovered held (λ (q : ℕ). blank_page) p
+  table_written c written p named = by (cases_lt p half.pages)
+    where
+      found : (o : Option (List ℕ)) → get_or table p None ≡ o → IsSome o → in_place c p ≡ recovered held (λ (q : ℕ). blank_page) p
+      found (Some bytes) is some = written p bytes is ∙ are.kept p bytes is
+      found None is some = absurd (grind (arith, some))
+
+      by : (p < half.pages) ⊎ (half.pages ≤ p) → in_place c p ≡ recovered held (λ (q : ℕ). blank_page) p
+      by (inl lt) = found _ refl (are.named p (omega arith) named)
+      by (inr le) = let out = fits_named half held p fits le in absurd (grind (arith, named, out))

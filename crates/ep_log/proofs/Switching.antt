@@ -65,7 +65,7 @@ module _ (superblock : Superblock) (half : Half) (other : ℕ) (old : List ℕ) 
   }
 
   -- while the half is ahead its log is the disk's
-  pub on_the_way : (c : List ℕ) → SameOutside other old c → IsAhead half other c → HasPages superblock (pages_in half old) old c
+  pub on_the_way : (c : List ℕ) → SameOutside other old c → IsAhead half other c → HasPages superblock half.generation (pages_in half old) old c
   on_the_way c same ahead = ahead_pages superblock half other old c ready.many ready.front sides ahead (beside c same)
 
   swapped : AreSides other half.start
@@ -100,12 +100,13 @@ module _ (superblock : Superblock) (half : Half) (other : ℕ) (old : List ℕ) 
       entries = record { stand = λ k lt. absurd (omega arith); opened = λ k lt. absurd (omega arith); closed = λ i from below. gates_shut i below };
     }
 
-    opened_pages : byte_at c other ≡ 1 → HasPages superblock (pages_in half old) old c
+    opened_pages : byte_at c other ≡ 1 → HasPages superblock half.generation (pages_in half old) old c
     opened_pages is =
-        let there = switched_pages superblock (half_after half other) half.start c ready.many (superblock_same superblock old c (λ at lt. out at (low at lt)) ready.front) swapped (open_ahead is) gates_shut in
+        let there = switched_pages superblock (half_after half other) half.start half.generation c (inr refl) ready.many (superblock_same superblock old c (λ at lt. out at (low at lt)) ready.front) swapped (open_ahead is) gates_shut in
         record {
           half = there.half;
           log = there.log;
+          follows = there.follows;
           pages = λ p lt. there.pages p lt ∙ bytes_from-same c old (page_start p) 512 (λ k from below. out k (high k (omega arith))) ∙ sym (ready.placed p (let e = ready.many in omega arith));
           blocks = λ at from. out at (high at (omega arith));
         }
@@ -117,10 +118,10 @@ module _ (superblock : Superblock) (half : Half) (other : ℕ) (old : List ℕ) 
       ahead = inl not_open;
     }
 
-    pub at_opening : HasPages superblock (pages_in half old) old c
+    pub at_opening : HasPages superblock half.generation (pages_in half old) old c
     at_opening = by (byte_at c other == 1) refl
       where
-        by : (b : Bool) → (byte_at c other == 1) ≡ b → HasPages superblock (pages_in half old) old c
+        by : (b : Bool) → (byte_at c other == 1) ≡ b → HasPages superblock half.generation (pages_in half old) old c
         by true is = opened_pages (grind (arith, nat_tests, is))
         by false is = on_the_way c out (closed_ahead (λ e. absurd (grind (arith, nat_tests, is, e))))
 

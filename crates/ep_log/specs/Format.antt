@@ -4,6 +4,7 @@ use Rattle.dfs_base.specs.Image.{byte_at, Torn}
 use Rattle.ep_layout.specs.declared.half.Half.{Half}
 use Rattle.ep_layout.specs.declared.superblock.Superblock.{Superblock}
 use Rattle.ep_layout.specs.Places.{half_start, in_place, pages_of}
+use Rattle.ep_layout.specs.Server.{IsNewServer}
 use Rattle.ep_layout.specs.Superblock.{IsSuperblock}
 use Rattle.ep_layout.specs.Half.{header_from, half_of, IsLog, HasNoLog}
 use Rattle.ep_log.specs.Recovered.{blank_page}
@@ -34,11 +35,16 @@ HasFront superblock image = (c : List ℕ) → byte_at c 0 ≡ 1 → ((at : ℕ)
 abbrev pub SameButFront : List ℕ → List ℕ → Type 0
 SameButFront old new = (at : ℕ) → (at ≡ 0) ⊎ (512 ≤ at) → byte_at new at ≡ byte_at old at
 
--- half 0 is used and has no entries, and so many pages are zero
+-- of so many pages the first is that of a server without filesets, and the others are zero
+pub record HasNewPages (pages : ℕ) (image : List ℕ) : Type 0 where
+  pub server : IsNewServer (in_place image 0)
+  pub zeros : (p : ℕ) → 1 ≤ p → p < pages → in_place image p ≡ blank_page
+
+-- half 0 is used and has no entries, and the pages are new
 pub record IsPrepared (pages : ℕ) (image : List ℕ) : Type 0 where
   pub headers : HasHeaders image
   pub closed : ClosesGates (half_start 0) 0 2048 image
-  pub zeros : (p : ℕ) → p < pages → in_place image p ≡ blank_page
+  pub new_pages : HasNewPages pages image
 
 abbrev pub superblock_of : ℕ → ℕ → Superblock
 superblock_of server blocks = record { server = server; blocks = blocks }
@@ -47,16 +53,17 @@ superblock_of server blocks = record { server = server; blocks = blocks }
 abbrev pub first_half : Superblock → Half
 first_half superblock = half_of (pages_of superblock.blocks) 0 1
 
--- The bytes of a disk are a log right after a format: it has no entries, and its pages are zero.
+-- The bytes of a disk are a log right after a format: it has no entries, its first page is that of a server without
+-- filesets, and its other pages are zero.
 pub record IsFormatted (superblock : Superblock) (image : List ℕ) : Type 0 where
   pub front : IsSuperblock superblock image
   pub log : IsLog (first_half superblock) [] image
-  pub pages : (p : ℕ) → p < pages_of superblock.blocks → in_place image p ≡ blank_page
+  pub new_pages : HasNewPages (pages_of superblock.blocks) image
 
 -- all of that but for the gate of the superblock
 abbrev pub IsStaged : Superblock → List ℕ → Type 0
 IsStaged superblock image = (c : List ℕ) → Torn 0 1 image c → byte_at c 0 ≡ 1 → IsFormatted superblock c
 
--- a crash in a format left no log, as in a blank disk, or the formatted one
+-- a crash in a format left no log, refused at place 0, or the formatted one
 abbrev pub IsLeftOfFormat : Superblock → List ℕ → Type 0
 IsLeftOfFormat superblock c = HasNoLog 0 c ⊎ IsFormatted superblock c

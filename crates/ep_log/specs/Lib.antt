@@ -1,6 +1,7 @@
 pub mod Append
 pub mod Begin
 pub mod Blame
+pub mod Contents
 pub mod Format
 pub mod Log
 pub mod Mount

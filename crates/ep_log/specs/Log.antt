@@ -1,7 +1,7 @@
 -- What contracts see of a log.
 use Rattle.std.specs.Prelude.{ℕ}
 use Rattle.dfs_base.specs.View.{View}
-use Rattle.ep_log.specs.State.{State, IsSound}
+use Rattle.ep_log.specs.State.{State, IsSound, HasNoOpen}
 use Rattle.ep_log.specs.declared.kept.Kept.{Kept}
 use Rattle.ep_log.specs.declared.kept.Tx.{Tx}
 use Rattle.ep_log.specs.declared.log.Log.{Log}
@@ -29,3 +29,8 @@ slot_of tx = tx.slot
 -- a log that has not failed
 abbrev pub IsSoundLog : {D : Type 0} → Type 0 → (D → View) → Log D → Type 0
 IsSoundLog tells view log = IsSound tells (view log.disk) log.kept.pages (state_of log)
+
+-- and that has no open transaction
+pub record IsIdle {D : Type 0} (tells : Type 0) (view : D → View) (log : Log D) : Type 0 where
+  pub sound : IsSoundLog tells view log
+  pub none_open : HasNoOpen (state_of log)

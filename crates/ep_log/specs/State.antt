@@ -1,5 +1,5 @@
 -- What a log keeps in memory, apart from pages that were read.
-use Rattle.std.specs.Prelude.{◌≡◌, ◌≤◌, ◌<◌, ◌⊎◌, ℕ, ◌+◌, ◌*◌, ◌-◌, List, [], ◌∷◌, ◌++◌, length, take, drop, set, sum, true, replicate, Option}
+use Rattle.std.specs.Prelude.{◌≡◌, ◌≢◌, ◌≤◌, ◌<◌, ◌⊎◌, ℕ, ◌+◌, ◌*◌, ◌-◌, List, [], ◌∷◌, ◌++◌, length, set, sum, true, replicate, Option}
 use Rattle.std.proofs.Common.{get_or}
 use Rattle.dfs_base.specs.View.{View}
 use Rattle.ep_layout.specs.declared.entry.Entry.{Entry}
@@ -7,7 +7,6 @@ use Rattle.ep_layout.specs.declared.half.Half.{Half}
 use Rattle.ep_layout.specs.declared.superblock.Superblock.{Superblock}
 use Rattle.ep_layout.specs.Places.{pages_of}
 use Rattle.ep_layout.specs.Superblock.{IsSuperblock}
-use Rattle.ep_layout.specs.Pages.{HasFirst}
 use Rattle.ep_log.specs.Pages.{HoldsPages}
 use Rattle.ep_log.specs.Puts.{run_of, without, without_page, count_of, is_put, IsOwn, IsSteady}
 use Rattle.ep_log.specs.Switch.{next_half}
@@ -94,8 +93,7 @@ pub record IsSound (tells : Type 0) (view : View) (pages : List (Option (List �
   pub slots : length pages ≡ state.half.pages
   pub kept : tells → HoldsPages pages view.image
 
--- What a crash leaves of a log that has not failed, whichever half is used: the pages after the first of the transactions
--- that ended since the last force, or after none, and the blocks of an image that a crash could leave before or, where it
--- leaves any of them, those that are read.
-abbrev pub IsLeft : State → View → List ℕ → Type 0
-IsLeft state view c = HasFirst state.superblock (take state.forced state.entries) (drop state.forced state.entries) view.image view.may_leave c
+-- a transaction is the only open one, and reserves so many entries
+pub record IsOnly (state : State) (slot reserved : ℕ) : Type 0 where
+  pub reserves : get_or state.reservations slot 0 ≡ reserved
+  pub others : (other : ℕ) → other ≢ slot → get_or state.reservations other 0 ≡ 0

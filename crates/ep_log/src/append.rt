@@ -98,7 +98,7 @@ pub(crate) fn append<D: Disk>(
     ensures rest { D.tells → SameRest (D.view disk.old).image (D.view disk.new).image }
     ensures settled { OnOk result (IsSettled (D.view disk.new)) }
     ensures crash { D.tells → (superblock : Superblock) → half.now.pages ≡ pages_of superblock.blocks → IsSuperblock superblock (D.view disk.old).image →
-        LeavesOnly (HasFirst superblock (take forced all.now) (drop forced all.now) (D.view disk.old).image (D.view disk.old).may_leave) (D.view disk.old) (D.view disk.new) }
+        LeavesOnly (HasFirst superblock half.now.generation (take forced all.now) (drop forced all.now) (D.view disk.old).image (D.view disk.old).may_leave) (D.view disk.old) (D.view disk.new) }
     ensures faults { IsCounted result (D.view disk.old) (D.view disk.new) }
 {
     let news = &all[forced..];

@@ -7,8 +7,8 @@ use std::alloc::AllocError;
 /// Why a call of the log failed.
 #[derive(Clone, Copy, Debug)]
 pub enum LogFault {
-    /// The disk failed, and its count of faults rose. After a force or a checkpoint the log is to be taken apart and mounted
-    /// again.
+    /// The disk failed, and its count of faults rose. After a force or a checkpoint the log is to be taken apart and
+    /// mounted again.
     Failed,
     /// Fewer entries of the log are free than a transaction needs.
     Full {
@@ -17,8 +17,8 @@ pub enum LogFault {
         /// Entries that the transaction needs.
         needed: u64,
     },
-    /// The bytes of the disk are no log that can be mounted. The place, in bytes, tells why: 0 where there is no superblock,
-    /// 512 where no half is used, or where the generation of the used half is the last value of 64 bits.
+    /// The bytes of the disk are no log that can be mounted. The place, in bytes, tells why: 0 where there is no
+    /// superblock, 512 where no half is used, or where the generation of the used half is the last value of 64 bits.
     NotALog(u64),
     /// Memory ran out, before a byte of the disk was changed.
     Memory,

@@ -1,14 +1,17 @@
-// Formats: both halves are closed, all pages are zero, and the gate of the superblock comes last.
-ghost use Rattle.std.specs.Prelude.{◌≡◌, ◌+◌, ◌<◌, ◌≤◌, ℕ, true, false, length, IfOk, IfErr, OnOk};
-ghost use Rattle.dfs_base.specs.Image.{byte_at};
+// Formats: all gates of entries are closed, half 0 is opened, the pages are new, and the gate of the superblock comes
+// last.
+ghost use Rattle.std.specs.Prelude.{◌≡◌, ◌≢◌, ◌+◌, ◌<◌, ◌≤◌, ℕ, true, false, length, IfOk, IfErr, OnOk, OnErr};
+ghost use Rattle.dfs_base.specs.Image.{byte_at, Torn};
 ghost use Rattle.dfs_base.specs.View.{IsCounted};
 ghost use Rattle.dfs_base.specs.Crash.{IsSettled, ChangesBy};
 ghost use Rattle.dfs_outside.specs.Runs.{LeavesOnly};
 ghost use Rattle.ep_layout.specs.Places.{in_place, SameFront};
-ghost use Rattle.ep_layout.specs.Superblock.{IsSuperblock, IsBlank};
+ghost use Rattle.ep_layout.specs.Server.{IsNewServer};
+ghost use Rattle.ep_layout.specs.Superblock.{IsSuperblock};
 ghost use Rattle.ep_log.specs.Blame.{IsBlamed, IsDiskOrMemory};
-ghost use Rattle.ep_log.specs.Format.{KeepsGate, HasHeaders, SameButHeaders, SameLog, HasFront, SameButFront, IsPrepared, IsStaged, IsFormatted, IsLeftOfFormat, first_half};
+ghost use Rattle.ep_log.specs.Format.{KeepsGate, HasHeaders, SameButHeaders, SameLog, HasFront, SameButFront, HasNewPages, IsPrepared, IsStaged, IsFormatted, IsLeftOfFormat, first_half};
 ghost use Rattle.ep_log.specs.Log.{state_in};
+ghost use Rattle.ep_log.specs.Mount.{IsQuietOr};
 ghost use Rattle.ep_log.specs.Recovered.{blank_page};
 ghost use Rattle.ep_log.specs.State.{IsSound, fresh_state};
 
@@ -16,24 +19,40 @@ use crate::fault::LogFault;
 use crate::kept::Kept;
 use crate::switch::{close_gates, piece};
 use dfs_base::{Disk, Failed};
-use dfs_outside::write_through;
+use dfs_outside::{read_byte, write_through};
 use ep_layout::{
-    HALF_STARTS, Half, OPEN, PAGE, PAGES_START, Superblock, pages_of, put_u64, superblock_bytes,
+    CLOSED, HALF_STARTS, Half, OPEN, PAGE, PAGES_START, Superblock, new_server_page, pages_of,
+    put_u64, superblock_bytes,
 };
 use std::alloc::Global;
 
-// Opens half 0 with generation 1, and closes half 1 with generation 0.
+// Writes a gate where it stands otherwise.
+fn set_gate<D: Disk>(disk: &mut D, at: u64, gate: u8) -> Result<(), Failed>
+    requires low { 1 ≤ at }
+    requires high { at ≤ 3146752 }
+    ensures written { D.tells → OnOk result (byte_at (D.view disk.new).image at ≡ gate) }
+    ensures torn { D.tells → OnOk result (Torn at 1 (D.view disk.old).image (D.view disk.new).image) }
+    ensures crash { ChangesBy KeepsGate (D.view disk.old) (D.view disk.new) }
+    ensures blamed { IsBlamed result (D.view disk.old) (D.view disk.new) }
+{
+    if read_byte(disk, at)? == gate {
+        return Ok(());
+    }
+    disk.write_at(at, &[gate])
+}
+
+// Closes half 1, and opens half 0 with generation 1.
 fn write_headers<D: Disk>(disk: &mut D) -> Result<(), Failed>
     ensures written { D.tells → OnOk result (HasHeaders (D.view disk.new).image) }
-    ensures same { D.tells → SameButHeaders (D.view disk.old).image (D.view disk.new).image }
+    ensures same { D.tells → OnOk result (SameButHeaders (D.view disk.old).image (D.view disk.new).image) }
     ensures crash { ChangesBy KeepsGate (D.view disk.old) (D.view disk.new) }
-    ensures faults { IsCounted result (D.view disk.old) (D.view disk.new) }
+    ensures blamed { IsBlamed result (D.view disk.old) (D.view disk.new) }
 {
-    let mut bytes = [0; 16];
-    disk.write_at(HALF_STARTS[1], &bytes)?;
-    bytes[0] = OPEN;
-    put_u64(&mut bytes, 8, 1);
-    disk.write_at(HALF_STARTS[0], &bytes)
+    let mut bytes = [0; 8];
+    put_u64(&mut bytes, 0, 1);
+    set_gate(disk, HALF_STARTS[1], CLOSED)?;
+    disk.write_at(HALF_STARTS[0] + 8, &bytes)?;
+    set_gate(disk, HALF_STARTS[0], OPEN)
 }
 
 fn write_zero<D: Disk>(disk: &mut D, page: u32) -> Result<(), Failed>
@@ -61,6 +80,29 @@ fn write_zeros<D: Disk>(disk: &mut D, pages: u32) -> Result<(), Failed>
     Ok(())
 }
 
+// Writes the server's page.
+fn write_server<D: Disk>(disk: &mut D) -> Result<(), Failed>
+    ensures written { D.tells → OnOk result (IsNewServer (in_place (D.view disk.new).image 0)) }
+    ensures others { D.tells → (p : ℕ) → 1 ≤ p → in_place (D.view disk.new).image p ≡ in_place (D.view disk.old).image p }
+    ensures same { D.tells → SameLog (D.view disk.old).image (D.view disk.new).image }
+    ensures crash { ChangesBy KeepsGate (D.view disk.old) (D.view disk.new) }
+    ensures faults { IsCounted result (D.view disk.old) (D.view disk.new) }
+{
+    disk.write_at(PAGES_START, &new_server_page())
+}
+
+// Writes all metadata pages.
+fn write_new_pages<D: Disk>(disk: &mut D, pages: u32) -> Result<(), Failed>
+    requires { pages ≤ 131072 }
+    ensures written { D.tells → OnOk result (HasNewPages pages (D.view disk.new).image) }
+    ensures same { D.tells → SameLog (D.view disk.old).image (D.view disk.new).image }
+    ensures crash { ChangesBy KeepsGate (D.view disk.old) (D.view disk.new) }
+    ensures blamed { IsBlamed result (D.view disk.old) (D.view disk.new) }
+{
+    write_zeros(disk, pages)?;
+    write_server(disk)
+}
+
 // Writes the superblock but for its gate.
 fn write_front<D: Disk>(disk: &mut D, superblock: Superblock) -> Result<(), Failed>
     requires some_blocks { 1 ≤ superblock.blocks }
@@ -85,7 +127,7 @@ fn prepare<D: Disk>(disk: &mut D, pages: u32, bytes: &mut [u8]) -> Result<(), Fa
     close_gates(disk, HALF_STARTS[0], bytes)?;
     close_gates(disk, HALF_STARTS[1], bytes)?;
     write_headers(disk)?;
-    write_zeros(disk, pages)
+    write_new_pages(disk, pages)
 }
 
 // Writes all but the gate of the superblock, and syncs.
@@ -115,7 +157,8 @@ pub fn formatted<D: Disk>(
     ensures formatted { D.tells → OnOk result (IsFormatted superblock (D.view disk.new).image) }
     ensures state { IfOk result (λ kept. state_in kept ≡ fresh_state superblock (first_half superblock)) }
     ensures settled { OnOk result (IsSettled (D.view disk.new)) }
-    ensures crash { D.tells → IsBlank (D.view disk.old).image → LeavesOnly (IsLeftOfFormat superblock) (D.view disk.old) (D.view disk.new) }
+    ensures crash { D.tells → byte_at (D.view disk.old).image 0 ≢ 1 → LeavesOnly (IsLeftOfFormat superblock) (D.view disk.old) (D.view disk.new) }
+    ensures left { D.tells → byte_at (D.view disk.old).image 0 ≢ 1 → OnErr result (IsQuietOr (IsLeftOfFormat superblock) (D.view disk.old) (D.view disk.new)) }
     ensures counted { (D.view disk.old).faults ≤ (D.view disk.new).faults }
     ensures only { IfErr result (λ fault. IsDiskOrMemory fault (D.view disk.old) (D.view disk.new)) }
 {

@@ -1,8 +1,8 @@
 // What a log keeps in memory, and the calls that need no disk.
-ghost use Rattle.std.specs.Prelude.{◌≡◌, ◌+◌, ◌*◌, ◌<◌, ◌≤◌, ◌∷◌, [], ℕ, List, length, OnOk, OnErr, IfOk, IfErr, None, replicate};
+ghost use Rattle.std.specs.Prelude.{◌≡◌, ◌+◌, ◌*◌, ◌<◌, ◌≤◌, ◌∷◌, [], ℕ, List, length, OnOk, OnErr, IfOk, IfErr, None, true, false, get_or, IsSome, replicate};
 ghost use Rattle.std.specs.Vec.{vec_len, vec_capacity};
 ghost use Rattle.ep_layout.specs.Places.{block_start};
-ghost use Rattle.ep_layout.specs.Pages.{redone};
+ghost use Rattle.ep_layout.specs.Pages.{redone, is_named};
 ghost use Rattle.ep_log.specs.Pages.{AreKept};
 ghost use Rattle.ep_log.specs.declared.fault.LogFault.TheVariants.{Memory as NoMemory};
 
@@ -20,9 +20,9 @@ pub struct Tx {
     pub(crate) slot: usize,
 }
 
-// The entries of the used half, and behind the first `forced` of them those that ended since the last force; what the open
-// transactions put; the entries that they reserved, by slot, and in all; and the pages that were read, each as it stands in
-// its place.
+// The entries of the used half, and behind the first `forced` of them those that ended since the last force; what the
+// open transactions put; the entries that they reserved, by slot, and in all; and the pages that were read, each as
+// it stands in its place.
 #[derive(Drop)]
 pub struct Kept {
     pub superblock: Superblock,
@@ -37,7 +37,7 @@ pub struct Kept {
 }
 
 // A list of equal values.
-fn repeated<T: Copy>(alloc: Global, value: T, n: usize) -> Result<Items<T>, AllocError>
+pub fn repeated<T: Copy>(alloc: Global, value: T, n: usize) -> Result<Items<T>, AllocError>
     ensures { IfOk result (λ values. values ≡ replicate n value) }
 {
     let mut values = Vec::new(alloc);
@@ -49,6 +49,8 @@ fn repeated<T: Copy>(alloc: Global, value: T, n: usize) -> Result<Items<T>, Allo
 fn keep_one(pages: &mut Items<Option<[u8; PAGE]>>, entry: &Entry)
     ensures size { length pages.new ≡ length pages.old }
     ensures kept { (known : ℕ → List ℕ) → AreKept pages.old known → AreKept pages.new (redone (entry.now ∷ []) known) }
+    ensures named { (p : ℕ) → p < length pages.old → is_named p (entry.now ∷ []) ≡ true → IsSome (get_or pages.new p None) }
+    ensures others { (p : ℕ) → is_named p (entry.now ∷ []) ≡ false → get_or pages.new p None ≡ get_or pages.old p None }
 {
     match entry {
         Entry::Update { page, new, .. } => pages.put(*page as usize, Some(*new)),
@@ -57,9 +59,11 @@ fn keep_one(pages: &mut Items<Option<[u8; PAGE]>>, entry: &Entry)
 }
 
 // Keeps the pages that entries name as these leave them.
-fn keep(pages: &mut Items<Option<[u8; PAGE]>>, entries: &[Entry])
+pub fn keep(pages: &mut Items<Option<[u8; PAGE]>>, entries: &[Entry])
     ensures size { length pages.new ≡ length pages.old }
     ensures kept { (known : ℕ → List ℕ) → AreKept pages.old known → AreKept pages.new (redone entries.now known) }
+    ensures named { (p : ℕ) → p < length pages.old → is_named p entries.now ≡ true → IsSome (get_or pages.new p None) }
+    ensures others { (p : ℕ) → is_named p entries.now ≡ false → get_or pages.new p None ≡ get_or pages.old p None }
 {
     for entry in entries {
         keep_one(pages, entry);
@@ -153,8 +157,8 @@ impl Kept {
         release(&mut self.reservations, &mut self.reserved, tx.slot);
     }
 
-    // Starts anew in a half that has no entries, where no transaction is open. The pages that the entries named stand in their
-    // places.
+    // Starts anew in a half that has no entries, where no transaction is open. The pages that the entries named stand
+    // in their places.
     pub fn restart(&mut self, half: Half)
         requires room { HasRoom (state_in self.old) }
         requires none_open { HasNoOpen (state_in self.old) }

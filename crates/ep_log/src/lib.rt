@@ -3,6 +3,7 @@
 //! Old and new values of metadata are logged, as in S. Chutani et al., "The Episode File System", 1992.
 #![tactic(auto)]
 
+mod all_pages;
 mod append;
 mod checkpoint;
 mod fault;
@@ -18,6 +19,8 @@ mod recover;
 mod slots;
 mod switch;
 
+pub use all_pages::settled_pages;
 pub use fault::LogFault;
 pub use kept::Tx;
 pub use log::Log;
+pub use read::{found_superblock, is_blank};

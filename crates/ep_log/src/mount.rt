@@ -1,5 +1,5 @@
 // Mounts: what the bytes of a disk hold is recovered in its places, and the log goes on in its other half.
-ghost use Rattle.std.specs.Prelude.{◌≡◌, ◌<◌, ◌≤◌, IfOk, IfErr, OnOk};
+ghost use Rattle.std.specs.Prelude.{◌≡◌, ◌<◌, ◌≤◌, IfOk, IfErr, OnOk, OnErr};
 ghost use Rattle.dfs_base.specs.Crash.{IsSettled, IsQuiet};
 ghost use Rattle.dfs_outside.specs.Runs.{LeavesOnly};
 ghost use Rattle.ep_layout.specs.Places.{pages_of as pages_for};
@@ -7,17 +7,36 @@ ghost use Rattle.ep_layout.specs.Half.{HasLog, IsPlaced};
 ghost use Rattle.ep_layout.specs.Pages.{pages_in, HasPages};
 ghost use Rattle.ep_log.specs.Log.{state_in};
 ghost use Rattle.ep_log.specs.State.{IsSound, fresh_state};
-ghost use Rattle.ep_log.specs.Mount.{IsMounted, IsMountFault, IsSameLog};
+ghost use Rattle.ep_log.specs.Mount.{IsSettledFault, IsMounted, IsMountFault, IsSameLog, IsQuietOr};
 ghost use Rattle.ep_log.specs.Blame.{IsDiskOrMemory};
 
 use crate::checkpoint::{checkpoint, next_half};
 use crate::fault::LogFault;
 use crate::kept::Kept;
-use crate::read::{read_entries, read_front, read_used};
+use crate::read::{found_superblock, read_entries, read_used};
+use crate::recover::recovered;
 use crate::switch::piece;
 use dfs_base::Disk;
 use ep_layout::{HALF_STARTS, Half, Superblock, pages_of};
 use std::alloc::Global;
+
+// Reads the superblock and the used half of a disk's bytes, which are a log.
+pub fn found_log<D: Disk>(disk: &mut D) -> Result<(Superblock, Half), LogFault>
+    ensures log { D.tells → IfOk result (λ found. HasLog found.0 found.1 (D.view disk.old).image) }
+    ensures blocks { IfOk result (λ found. found.0.blocks ≤ 66560) }
+    ensures placed { IfOk result (λ found. IsPlaced (pages_for found.0.blocks) found.1) }
+    ensures quiet { IsQuiet (D.view disk.old) (D.view disk.new) }
+    ensures counted { (D.view disk.old).faults ≤ (D.view disk.new).faults }
+    ensures only { IfErr result (λ fault. IsSettledFault D.tells fault (D.view disk.old) (D.view disk.new)) }
+{
+    let Some(superblock) = found_superblock(disk)? else {
+        return Err(LogFault::NotALog(0));
+    };
+    let Some(half) = read_used(disk, pages_of(superblock.blocks))? else {
+        return Err(LogFault::NotALog(HALF_STARTS[0]));
+    };
+    Ok((superblock, half))
+}
 
 // Syncs, and reads the superblock and the used half of a disk's bytes, which are a log that can go on.
 fn used_log<D: Disk>(disk: &mut D) -> Result<(Superblock, Half), LogFault>
@@ -31,12 +50,7 @@ fn used_log<D: Disk>(disk: &mut D) -> Result<(Superblock, Half), LogFault>
     ensures only { IfErr result (λ fault. IsMountFault D.tells fault (D.view disk.old) (D.view disk.new)) }
 {
     disk.sync()?;
-    let Some(superblock) = read_front(disk)? else {
-        return Err(LogFault::NotALog(0));
-    };
-    let Some(half) = read_used(disk, pages_of(superblock.blocks))? else {
-        return Err(LogFault::NotALog(HALF_STARTS[0]));
-    };
+    let (superblock, half) = found_log(disk)?;
     if half.generation == u64::MAX {
         return Err(LogFault::NotALog(HALF_STARTS[0]));
     }
@@ -59,15 +73,23 @@ fn recover<D: Disk>(
     ensures mounted { D.tells → IfOk result (λ kept. IsMounted (D.view disk.old).image (D.view disk.new).image (state_in kept)) }
     ensures fresh { IfOk result (λ kept. state_in kept ≡ fresh_state kept.superblock kept.half) }
     ensures settled { OnOk result (IsSettled (D.view disk.new)) }
-    ensures crash { D.tells → LeavesOnly (HasPages superblock.now (pages_in half.now (D.view disk.old).image) (D.view disk.old).image) (D.view disk.old) (D.view disk.new) }
+    ensures crash { D.tells → LeavesOnly (HasPages superblock.now half.now.generation (pages_in half.now (D.view disk.old).image) (D.view disk.old).image) (D.view disk.old) (D.view disk.new) }
     ensures counted { (D.view disk.old).faults ≤ (D.view disk.new).faults }
     ensures only { IfErr result (λ fault. IsDiskOrMemory fault (D.view disk.old) (D.view disk.new)) }
 {
     let entries = read_entries(alloc, disk, half)?;
     let next = next_half(half);
     let kept = Kept::fresh(alloc, *superblock, next)?;
+    let table = recovered(alloc, &entries, half.pages)?;
     let mut bytes = piece(alloc)?;
-    checkpoint(disk, superblock, half, next.start, &entries, &mut bytes)?;
+    checkpoint(
+        disk,
+        superblock,
+        half,
+        next.start,
+        table.as_slice(),
+        &mut bytes,
+    )?;
     Ok(kept)
 }
 
@@ -78,6 +100,7 @@ pub fn mounted<D: Disk>(alloc: Global, disk: &mut D) -> Result<Kept, LogFault>
     ensures fresh { IfOk result (λ kept. state_in kept ≡ fresh_state kept.superblock kept.half) }
     ensures settled { OnOk result (IsSettled (D.view disk.new)) }
     ensures crash { D.tells → LeavesOnly (IsSameLog (D.view disk.old).image) (D.view disk.old) (D.view disk.new) }
+    ensures left { D.tells → OnErr result (IsQuietOr (IsSameLog (D.view disk.old).image) (D.view disk.old) (D.view disk.new)) }
     ensures counted { (D.view disk.old).faults ≤ (D.view disk.new).faults }
     ensures only { IfErr result (λ fault. IsMountFault D.tells fault (D.view disk.old) (D.view disk.new)) }
 {

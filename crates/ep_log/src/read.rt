@@ -1,24 +1,40 @@
 // Reads of a log's words that change nothing.
-ghost use Rattle.std.specs.Prelude.{◌≡◌, ◌≤◌, ◌<◌, IfOk, IfErr, IfSome, MatchOption, length};
+ghost use Rattle.std.specs.Prelude.{◌≡◌, ◌≤◌, ◌<◌, ◌↔◌, IsTrue, IfOk, IfErr, IfSome, MatchOption, length};
 ghost use Rattle.dfs_base.specs.Crash.{IsQuiet};
 ghost use Rattle.dfs_base.specs.View.{IsCounted};
-ghost use Rattle.ep_layout.specs.Superblock.{IsSuperblock};
+ghost use Rattle.ep_layout.specs.Superblock.{IsSuperblock, IsBlank};
 ghost use Rattle.ep_layout.specs.Half.{used_half as used_in, header_from, IsPlaced};
 ghost use Rattle.ep_layout.specs.Entry.{entry_at, entries, Fits};
 ghost use Rattle.ep_layout.specs.declared.superblock.Superblock.{Superblock as TheSuperblock};
 ghost use Rattle.ep_log.specs.Append.{AllFit};
-ghost use Rattle.ep_log.specs.Blame.{IsDiskOrMemory};
+ghost use Rattle.ep_log.specs.Blame.{IsBlamed, IsDiskOrMemory};
 
 use crate::fault::LogFault;
 use dfs_base::{Disk, Failed};
 use ep_layout::{
-    ENTRIES, ENTRY, Entry, HALF_STARTS, Half, Header, PAGE, Superblock, read_entry, read_header,
-    read_superblock, used_half,
+    ENTRIES, ENTRY, Entry, HALF_STARTS, Half, Header, PAGE, Superblock, is_blank_page, read_entry,
+    read_header, read_superblock, used_half,
 };
 use std::alloc::Global;
 
-// The superblock, where there is one.
-pub fn read_front<D: Disk>(disk: &mut D) -> Result<Option<Superblock>, Failed>
+/// Whether a disk is blank: it has no bytes, its first page is zero, or the gate before the layout's name is closed,
+/// as where a format was stopped. The only error is the disk's.
+pub fn is_blank<D: Disk>(disk: &mut D) -> Result<bool, Failed>
+    ensures blank { D.tells → IfOk result (λ blank. IsTrue blank ↔ IsBlank (D.view disk.old).image) }
+    ensures quiet { IsQuiet (D.view disk.old) (D.view disk.new) }
+    ensures blamed { IsBlamed result (D.view disk.old) (D.view disk.new) }
+{
+    if disk.length()? == 0 {
+        return Ok(true);
+    }
+    let mut page = [0; PAGE];
+    disk.read(0, &mut page)?;
+    Ok(is_blank_page(&page))
+}
+
+/// The superblock of a disk as it is found, where there is one: whose aggregate it is, and how many blocks it has.
+/// The only error is the disk's.
+pub fn found_superblock<D: Disk>(disk: &mut D) -> Result<Option<Superblock>, Failed>
     ensures front { D.tells → IfOk result (λ found. MatchOption found
         ((superblock : TheSuperblock) → IsSuperblock superblock (D.view disk.old).image → ⊥)
         (λ superblock. IsSuperblock superblock (D.view disk.old).image)) }

@@ -1,111 +1,118 @@
-// What recovery makes of the pages that a log's entries name, and where it is written.
-ghost use Rattle.std.specs.Prelude.{◌≡◌, ◌<◌, ◌≤◌, ◌∷◌, [], ℕ, List, true, false, length, replicate, OnOk, OnErr};
+// What recovery makes of the pages that a log's entries name, each of them once, and where it is written.
+ghost use Rattle.std.specs.Prelude.{◌≡◌, ◌<◌, ◌≤◌, ◌∷◌, ◌++◌, [], ℕ, List, Option, Some, None, false, length, get_or, IsSome, IfOk, OnOk};
 ghost use Rattle.dfs_base.specs.Crash.{IsSettled, ChangesBy};
-ghost use Rattle.dfs_base.specs.Faults.{RoseBy};
 ghost use Rattle.ep_layout.specs.declared.entry.Entry.{Entry as TheEntry};
 ghost use Rattle.ep_layout.specs.Places.{in_place};
-ghost use Rattle.ep_layout.specs.Entry.{page_named};
-ghost use Rattle.ep_layout.specs.Pages.{is_ended as ends, undone, recovered, is_named, SameButNamed};
+ghost use Rattle.ep_layout.specs.Pages.{undone, is_named, SameButPages};
 ghost use Rattle.ep_log.specs.Blame.{IsBlamed};
-ghost use Rattle.ep_log.specs.Recovered.{AreNear, blank_page};
+ghost use Rattle.ep_log.specs.Pages.{AreKept};
+ghost use Rattle.ep_log.specs.Recovered.{AreEnds, AreRecovered};
 
-use crate::over::redo;
-use dfs_base::{Disk, Failed};
+use crate::kept::{keep, repeated};
+use dfs_base::{Disk, Failed, Items};
 use ep_layout::{Entry, PAGE, PAGES_START};
+use std::alloc::{AllocError, Global};
+use std::collections::BTreeSet;
 
-fn ends_with(entry: &Entry, transaction: u64) -> bool
-    ensures { result ≡ ends transaction (entry.now ∷ []) }
+// Notes the transaction that an entry ends.
+fn note_end(ended: &mut BTreeSet<u64>, entry: &Entry) -> Result<(), AllocError>
+    ensures { OnOk result ((before : List TheEntry) → AreEnds ended.old before → AreEnds ended.new (before ++ entry.now ∷ [])) }
 {
-    match entry {
-        Entry::End { transaction: ended } => *ended == transaction,
-        Entry::Update { .. } => false,
+    if let Entry::End { transaction } = entry {
+        ended.insert(*transaction)?;
     }
+    Ok(())
 }
 
-// Whether a transaction has an end entry.
-fn is_ended(entries: &[Entry], transaction: u64) -> bool
-    ensures { result ≡ ends transaction entries.now }
+// The transactions that have an end entry.
+fn ends_of(alloc: Global, entries: &[Entry]) -> Result<BTreeSet<u64>, AllocError>
+    ensures { IfOk result (λ ended. AreEnds ended entries.now) }
 {
+    let mut ended = BTreeSet::new(alloc);
     for entry in entries {
-        if ends_with(entry, transaction) {
-            return true;
-        }
+        note_end(&mut ended, entry)?;
     }
-    false
+    Ok(ended)
 }
 
-// Takes an update of a page back whose transaction has no end, and answers whether it is one.
-fn undo_one(all: &[Entry], entry: &Entry, page: u32, out: &mut [u8; PAGE]) -> bool
-    ensures undone { result ≡ true → (rest : List TheEntry) (pages : ℕ → List ℕ) → undone all.now (entry.now ∷ rest) pages page ≡ out.new }
-    ensures kept { result ≡ false → out.new ≡ out.old }
-    ensures later { result ≡ false → (rest : List TheEntry) (pages : ℕ → List ℕ) → undone all.now (entry.now ∷ rest) pages page ≡ undone all.now rest pages page }
+// Puts the old value of an update in its page where its transaction has no end.
+fn undo_one(pages: &mut Items<Option<[u8; PAGE]>>, entry: &Entry, ended: &BTreeSet<u64>)
+    ensures size { length pages.new ≡ length pages.old }
+    ensures kept { (all rest : List TheEntry) (known : ℕ → List ℕ) → AreEnds ended.now all →
+        AreKept pages.old (undone all rest known) → AreKept pages.new (undone all (entry.now ∷ rest) known) }
+    ensures held { (p : ℕ) → IsSome (get_or pages.old p None) → IsSome (get_or pages.new p None) }
+    ensures others { (p : ℕ) → is_named p (entry.now ∷ []) ≡ false → get_or pages.new p None ≡ get_or pages.old p None }
 {
     match entry {
         Entry::Update {
             transaction,
-            page: updated,
+            page,
             old,
             ..
         } => {
-            if *updated == page && !is_ended(all, *transaction) {
-                *out = *old;
-                return true;
+            if !ended.contains(transaction) {
+                pages.put(*page as usize, Some(*old));
             }
-            false
         }
-        Entry::End { .. } => false,
+        Entry::End { .. } => {}
     }
 }
 
-// Undoes the updates of a page whose transactions have no end: the first of them has the value before all.
-fn undo(entries: &[Entry], page: u32, out: &mut [u8; PAGE])
-    ensures { out.new ≡ undone entries.now entries.now (λ q. out.old) page }
+// Undoes the updates whose transactions have no end, from the last entry back.
+fn undo(pages: &mut Items<Option<[u8; PAGE]>>, entries: &[Entry], ended: &BTreeSet<u64>)
+    requires { AreEnds ended.now entries.now }
+    ensures size { length pages.new ≡ length pages.old }
+    ensures kept { (known : ℕ → List ℕ) → AreKept pages.old known → AreKept pages.new (undone entries.now entries.now known) }
+    ensures held { (p : ℕ) → IsSome (get_or pages.old p None) → IsSome (get_or pages.new p None) }
+    ensures others { (p : ℕ) → is_named p entries.now ≡ false → get_or pages.new p None ≡ get_or pages.old p None }
 {
-    for entry in entries {
-        if undo_one(entries, entry, page, out) {
-            return;
-        }
+    for i in 0..entries.len() {
+        let last = entries.len() - 1 - i;
+        undo_one(pages, &entries[last], ended);
     }
 }
 
-// A page that the entries name, after redo and undo.
-fn recovered_page(entries: &[Entry], page: u32) -> [u8; PAGE]
-    ensures { result ≡ recovered entries.now (λ q. blank_page) page }
+// What recovery makes of the pages that the entries name, by page, and none for the others.
+pub fn recovered(
+    alloc: Global,
+    entries: &[Entry],
+    pages: u32,
+) -> Result<Items<Option<[u8; PAGE]>>, AllocError>
+    ensures size { IfOk result (λ table. length table ≡ pages) }
+    ensures recovered { IfOk result (λ table. AreRecovered entries.now table) }
 {
-    let mut out = [0; PAGE];
-    redo(entries, page, &mut out);
-    undo(entries, page, &mut out);
-    out
+    let ended = ends_of(alloc, entries)?;
+    let mut table = repeated(alloc, None, pages as usize)?;
+    keep(&mut table, entries);
+    undo(&mut table, entries, &ended);
+    Ok(table)
 }
 
-// Writes the page that an entry names in its place, where it names one.
-fn write_page<D: Disk>(disk: &mut D, all: &[Entry], entry: &Entry) -> Result<(), Failed>
-    requires { page_named entry.now < 131072 }
-    ensures written { D.tells → OnOk result ((p : ℕ) → is_named p (entry.now ∷ []) ≡ true → in_place (D.view disk.new).image p ≡ recovered all.now (λ q. blank_page) p) }
-    ensures same { D.tells → SameButNamed (entry.now ∷ []) (D.view disk.old).image (D.view disk.new).image }
-    ensures crash { ChangesBy (SameButNamed (entry.now ∷ [])) (D.view disk.old) (D.view disk.new) }
+// Writes a page in its place, where there is one.
+fn write_page<D: Disk>(disk: &mut D, place: usize, page: &Option<[u8; PAGE]>) -> Result<(), Failed>
+    requires { place < 131072 }
+    ensures written { D.tells → OnOk result ((bytes : List ℕ) → page.now ≡ Some bytes → in_place (D.view disk.new).image place ≡ bytes) }
+    ensures same { D.tells → SameButPages (λ q. q ≡ place → page.now ≡ None) (D.view disk.old).image (D.view disk.new).image }
+    ensures crash { ChangesBy (SameButPages (λ q. q ≡ place → page.now ≡ None)) (D.view disk.old) (D.view disk.new) }
     ensures blamed { IsBlamed result (D.view disk.old) (D.view disk.new) }
 {
-    match entry {
-        Entry::Update { page, .. } => {
-            let bytes = recovered_page(all, *page);
-            disk.write_at(PAGES_START + 512 * *page as u64, &bytes)
-        }
-        Entry::End { .. } => Ok(()),
+    match page {
+        Some(bytes) => disk.write_at(PAGES_START + 512 * place as u64, bytes),
+        None => Ok(()),
     }
 }
 
-// Writes each page that an entry names in its place, and syncs.
-pub fn write_pages<D: Disk>(disk: &mut D, entries: &[Entry]) -> Result<(), Failed>
-    requires { AreNear entries.now }
-    ensures written { D.tells → OnOk result ((p : ℕ) → is_named p entries.now ≡ true → in_place (D.view disk.new).image p ≡ recovered entries.now (λ q. blank_page) p) }
-    ensures same { D.tells → SameButNamed entries.now (D.view disk.old).image (D.view disk.new).image }
+// Writes each page that there is in its place, and syncs.
+pub fn write_pages<D: Disk>(disk: &mut D, table: &[Option<[u8; PAGE]>]) -> Result<(), Failed>
+    requires { length table.now ≤ 131072 }
+    ensures written { D.tells → OnOk result ((p : ℕ) (bytes : List ℕ) → get_or table.now p None ≡ Some bytes → in_place (D.view disk.new).image p ≡ bytes) }
+    ensures same { D.tells → SameButPages (λ q. get_or table.now q None ≡ None) (D.view disk.old).image (D.view disk.new).image }
     ensures settled { OnOk result (IsSettled (D.view disk.new)) }
-    ensures crash { ChangesBy (SameButNamed entries.now) (D.view disk.old) (D.view disk.new) }
+    ensures crash { ChangesBy (SameButPages (λ q. get_or table.now q None ≡ None)) (D.view disk.old) (D.view disk.new) }
     ensures blamed { IsBlamed result (D.view disk.old) (D.view disk.new) }
 {
-    for entry in entries {
-        write_page(disk, entries, entry)?;
+    for (place, page) in table.iter().enumerate() {
+        write_page(disk, place, page)?;
     }
     disk.sync()
 }

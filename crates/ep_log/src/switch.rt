@@ -152,7 +152,7 @@ pub fn switch<D: Disk>(
     ensures switched { D.tells → OnOk result (IsLog (half_after half.now other) [] (D.view disk.new).image) }
     ensures same { D.tells → SameOutside other (D.view disk.old).image (D.view disk.new).image }
     ensures settled { OnOk result (IsSettled (D.view disk.new)) }
-    ensures crash { D.tells → LeavesOnly (HasPages superblock.now (pages_in half.now (D.view disk.old).image) (D.view disk.old).image) (D.view disk.old) (D.view disk.new) }
+    ensures crash { D.tells → LeavesOnly (HasPages superblock.now half.now.generation (pages_in half.now (D.view disk.old).image) (D.view disk.old).image) (D.view disk.old) (D.view disk.new) }
     ensures blamed { IsBlamed result (D.view disk.old) (D.view disk.new) }
 {
     close_header(disk, half, other)?;

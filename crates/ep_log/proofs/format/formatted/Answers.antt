@@ -1,34 +1,50 @@
-use Rattle.std.proofs.Common.{◌∙◌, List, ℕ, ap, sym, inl, refl, replicate, Option, None}
-use Rattle.dfs_base.specs.Image.{byte_at}
+use Rattle.std.proofs.Common.{◌∙◌, List, ℕ, ap, inl, inr, refl, replicate, Option, None}
 use Rattle.dfs_outside.proofs.Image.{byte_at-holds}
-use Rattle.dfs_outside.proofs.Runs.{then, weaker, quiet, changes_settled}
+use Rattle.dfs_outside.proofs.Runs.{then, weaker, quiet}
 use Rattle.ep_layout.specs.Half.{half_of}
 use Rattle.ep_log.specs.Format.{first_half}
 use Rattle.ep_log.specs.State.{fresh_state}
 use Rattle.ep_log.proofs.Calls.{sound_as}
 use Rattle.ep_log.proofs.Fresh.{fresh_sound}
-use Rattle.ep_log.proofs.Formatting.{no_log, blank_gate, at_gate}
+use Rattle.ep_log.proofs.Formatting.{no_log, at_gate, shut_still, stage_leaves}
+use Rattle.ep_log.proofs.Mounting.{quiet_none, settled_leaves, any_err}
 use Rattle.ep_log.proofs.format.formatted.Goals as goal
 
 pub returns-in_err-stage-clause-crash : goal.returns-in_err-stage-clause-crash
-returns-in_err-stage-clause-crash g c = λ told blank.
-    let same = c.sync.ensures.quiet.image in
-    then (quiet _ c.sync.ensures.quiet)
-    (weaker (changes_settled _ c.in_ok-sync.ensures.durable c.stage.ensures.crash) (λ d kept. inl (no_log d (λ is. blank_gate _ blank (sym (kept ∙ ap (λ (l : List ℕ). byte_at l 0) same) ∙ is)))))
+returns-in_err-stage-clause-crash g c = λ told shut.
+    then (quiet _ c.sync.ensures.quiet) (stage_leaves _ _ _ (shut_still _ _ c.sync.ensures.quiet shut) c.in_ok-sync.ensures.durable c.stage.ensures.crash)
 
 pub returns-in_err-write_through-clause-crash : goal.returns-in_err-write_through-clause-crash
-returns-in_err-write_through-clause-crash g c = λ told blank.
-    let same = c.sync.ensures.quiet.image in
-    then (then (quiet _ c.sync.ensures.quiet)
-    (weaker (changes_settled _ c.in_ok-sync.ensures.durable c.stage.ensures.crash) (λ d kept. inl (no_log d (λ is. blank_gate _ blank (sym (kept ∙ ap (λ (l : List ℕ). byte_at l 0) same) ∙ is))))))
-    (weaker c.write_through.ensures.crash (λ d torn. at_gate _ _ d (c.in_ok-stage.ensures.staged told) torn))
+returns-in_err-write_through-clause-crash g c = λ told shut.
+    then (quiet _ c.sync.ensures.quiet)
+    (then (stage_leaves _ _ _ (shut_still _ _ c.sync.ensures.quiet shut) c.in_ok-sync.ensures.durable c.stage.ensures.crash) (weaker c.write_through.ensures.crash (λ d torn. at_gate _ _ d (c.in_ok-stage.ensures.staged told) torn)))
 
 pub returns-clause-crash : goal.returns-clause-crash
-returns-clause-crash g c = λ told blank.
-    let same = c.sync.ensures.quiet.image in
-    then (then (quiet _ c.sync.ensures.quiet)
-    (weaker (changes_settled _ c.in_ok-sync.ensures.durable c.stage.ensures.crash) (λ d kept. inl (no_log d (λ is. blank_gate _ blank (sym (kept ∙ ap (λ (l : List ℕ). byte_at l 0) same) ∙ is))))))
-    (weaker c.write_through.ensures.crash (λ d torn. at_gate _ _ d (c.in_ok-stage.ensures.staged told) torn))
+returns-clause-crash g c = λ told shut.
+    then (quiet _ c.sync.ensures.quiet)
+    (then (stage_leaves _ _ _ (shut_still _ _ c.sync.ensures.quiet shut) c.in_ok-sync.ensures.durable c.stage.ensures.crash) (weaker c.write_through.ensures.crash (λ d torn. at_gate _ _ d (c.in_ok-stage.ensures.staged told) torn)))
+
+pub returns-in_err-kept-clause-left : goal.returns-in_err-kept-clause-left
+returns-in_err-kept-clause-left g c = λ told shut. any_err c.from_residual.result (inl (quiet_none _))
+
+pub returns-in_err-bytes-clause-left : goal.returns-in_err-bytes-clause-left
+returns-in_err-bytes-clause-left g c = λ told shut. any_err c.from_residual-in_err-bytes.result (inl (quiet_none _))
+
+pub returns-in_err-sync-clause-left : goal.returns-in_err-sync-clause-left
+returns-in_err-sync-clause-left g c = λ told shut. any_err c.from_residual-in_err-sync.result (inl c.sync.ensures.quiet)
+
+pub returns-in_err-stage-clause-left : goal.returns-in_err-stage-clause-left
+returns-in_err-stage-clause-left g c = λ told shut.
+    let still = shut_still _ _ c.sync.ensures.quiet shut in
+    any_err c.from_residual-in_err-stage.result
+    (inr (settled_leaves _ _ _ c.in_ok-sync.ensures.durable (stage_leaves c.args.superblock _ _ still c.in_ok-sync.ensures.durable c.stage.ensures.crash) (inl (no_log _ still))))
+
+pub returns-in_err-write_through-clause-left : goal.returns-in_err-write_through-clause-left
+returns-in_err-write_through-clause-left g c = λ told shut.
+    let still = shut_still _ _ c.sync.ensures.quiet shut in
+    any_err c.from_residual-in_err-write_through.result
+    (inr (settled_leaves _ _ _ c.in_ok-sync.ensures.durable
+    (then (stage_leaves c.args.superblock _ _ still c.in_ok-sync.ensures.durable c.stage.ensures.crash) (weaker c.write_through.ensures.crash (λ d torn. at_gate _ _ d (c.in_ok-stage.ensures.staged told) torn))) (inl (no_log _ still))))
 
 pub returns-clause-formatted : goal.returns-clause-formatted
 returns-clause-formatted g c = λ told. c.in_ok-stage.ensures.staged told _ (c.write_through.ensures.torn told) (byte_at-holds _ _ _ (c.in_ok-write_through.ensures.written told))

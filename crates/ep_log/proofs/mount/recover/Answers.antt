@@ -1,4 +1,7 @@
-use Rattle.std.proofs.Common.{◌∙◌, List, [], ℕ, ap, sym, subst, replicate, Option, None}
+use Rattle.std.proofs.Common.{refl, ◌∙◌, List, [], ℕ, ap, sym, subst, replicate, Option, None}
+use Rattle.ep_layout.specs.declared.entry.Entry.{Entry}
+use Rattle.ep_log.specs.Append.{AllFit}
+use Rattle.ep_log.specs.Recovered.{AreRecovered}
 use Rattle.ep_layout.specs.declared.half.Half.{Half}
 use Rattle.ep_layout.specs.Places.{SameBlocks}
 use Rattle.ep_layout.specs.Superblock.{IsSuperblock}
@@ -20,12 +23,12 @@ checkpoint-requires-clause-used g c = λ told.
     let half = c.args.half.now in
     let same = c.read_entries.ensures.quiet.image in
     let image = (g.D.Disk.view c.read_entries.new.disk).image in
-    subst (λ (next : Half). IsUsed c.args.superblock.now half next.start c.deref.result.now image) (sym c.next_half-next.ensures)
+    subst (λ (next : Half). IsUsed c.args.superblock.now half next.start (entries half image) image) (sym c.next_half-next.ensures)
     (record {
       many = c.requires.placed.0;
       front = subst (λ (l : List ℕ). IsSuperblock c.args.superblock.now l) (sym same) (c.requires.log told).front;
       ahead = used_ahead _ _ half _ (sides_of half c.requires.placed.1) (ap (used_half _) same ∙ (c.requires.log told).used);
-      held_there = ap (entries half) same ∙ sym (c.in_ok-entries.ensures.entries told) ∙ sym c.deref.ensures.value;
+      held_there = refl;
     })
 
 pub returns-clause-sound : goal.returns-clause-sound
@@ -49,3 +52,14 @@ returns-clause-mounted g c = λ told.
     (c.in_ok-kept.ensures.state ∙ ap (fresh_state c.args.superblock.now) c.next_half-next.ensures) (c.requires.log told) c.requires.fresh
     (λ p lt. c.in_ok-checkpoint.ensures.placed told p lt ∙ ap (λ (image : List ℕ). pages_in half image p) same)
     (subst (λ (image : List ℕ). SameBlocks half.pages image (g.D.Disk.view c.checkpoint.new.disk).image) same (c.checkpoint.ensures.blocks told))
+
+pub checkpoint-requires-clause-fits : goal.checkpoint-requires-clause-fits
+checkpoint-requires-clause-fits g c = λ told.
+    let half = c.args.half.now in
+    subst (λ (l : List Entry). AllFit half l) (c.in_ok-entries.ensures.entries told ∙ ap (entries half) (sym c.read_entries.ensures.quiet.image)) c.in_ok-entries.ensures.fits
+
+pub checkpoint-requires-clause-recovered : goal.checkpoint-requires-clause-recovered
+checkpoint-requires-clause-recovered g c = λ told.
+    let half = c.args.half.now in
+    subst (λ (table : List (Option (List ℕ))). AreRecovered (entries half (g.D.Disk.view c.read_entries.new.disk).image) table) (sym c.as_slice.ensures)
+    (subst (λ (l : List Entry). AreRecovered l c.in_ok-table.table) (c.deref.ensures.value ∙ c.in_ok-entries.ensures.entries told ∙ ap (entries half) (sym c.read_entries.ensures.quiet.image)) c.in_ok-table.ensures.recovered)

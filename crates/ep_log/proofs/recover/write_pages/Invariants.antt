@@ -1,19 +1,17 @@
-use Rattle.std.proofs.Common.{◌≡◌, ◌≤◌, ℕ, take}
-use Rattle.std.specs.Prelude.{true}
+use Rattle.std.proofs.Common.{◌≡◌, ◌≤◌, ◌<◌, ℕ, List, get_or, Some, None}
 use Rattle.dfs_base.specs.Crash.{ChangesBy}
 use Rattle.ep_layout.specs.Places.{in_place}
-use Rattle.ep_layout.specs.Pages.{recovered, is_named, SameButNamed}
-use Rattle.ep_log.specs.Recovered.{blank_page}
+use Rattle.ep_layout.specs.Pages.{SameButPages}
 use Rattle.ep_log.proofs.recover.write_pages.Given as goal
 
-abbrev pub invariant-loop-entry : goal.invariant-loop-entry
-invariant-loop-entry g l =
+abbrev pub invariant-loop-place : goal.invariant-loop-place
+invariant-loop-place g l =
     let start = g.D.Disk.view l.initial.disk in
     let now = g.D.Disk.view l.disk in
-    let Same = SameButNamed l.entries in
+    let Same = SameButPages (λ (q : ℕ). get_or l.table q None ≡ None) in
     record {
       same : g.D.Disk.tells → Same start.image now.image;
-      done : g.D.Disk.tells → (p : ℕ) → is_named p (take l.entry-index l.entries) ≡ true → in_place now.image p ≡ recovered l.entries (λ q. blank_page) p;
+      done : g.D.Disk.tells → (p : ℕ) (bytes : List ℕ) → p < l.place → get_or l.table p None ≡ Some bytes → in_place now.image p ≡ bytes;
       changes : ChangesBy Same start now;
       counted : start.faults ≤ now.faults;
     }

@@ -1,12 +1,21 @@
-use Rattle.std.proofs.Common.{◌∙◌, ap}
+use Rattle.std.proofs.Common.{◌∙◌, ap, refl}
+use Rattle.ep_log.specs.Log.{state_in}
 use Rattle.ep_log.specs.State.{State}
 use Rattle.ep_log.specs.Puts.{page_of}
 use Rattle.ep_log.proofs.Calls.{sound_as, end_sound}
 use Rattle.ep_log.proofs.Ended.{page_ended}
+use Rattle.ep_log.proofs.Keeping.{ended_keeps, ended_appends}
 use Rattle.ep_log.proofs.log.Log.end.Goals as goal
 
-pub returns-clause-sound : goal.returns-clause-sound
-returns-clause-sound g c = sound_as _ _ _ _ _ _ c.end.ensures.pages c.end.ensures.state (end_sound _ _ _ _ c.requires.sound c.args.tx.slot c.requires.opened)
+pub returns-clause-keeps : goal.returns-clause-keeps
+returns-clause-keeps g c =
+    ended_keeps _ _ _ _ c.args.tx.slot c.requires.sound (sound_as _ _ _ _ _ _ c.end.ensures.pages c.end.ensures.state (end_sound _ _ _ _ c.requires.sound c.args.tx.slot c.requires.opened)) c.end.ensures.state refl
+
+pub returns-clause-appends : goal.returns-clause-appends
+returns-clause-appends g c = λ told.
+    let view = g.D.Disk.view c.args.self.now.disk in
+    let state : State = state_in c.args.self.now.kept in
+    ended_appends g.D.Disk.tells view c.args.self.now.kept.pages _ state (state_in c.end.new.self) c.args.tx.slot c.requires.sound (sound_as _ _ _ _ _ _ c.end.ensures.pages c.end.ensures.state (end_sound _ _ _ _ c.requires.sound c.args.tx.slot c.requires.opened)) c.end.ensures.state told
 
 pub returns-clause-pages : goal.returns-clause-pages
 returns-clause-pages g c = λ image p.

@@ -1,10 +1,12 @@
-use Rattle.std.proofs.Common.{◌≡◌, List, length, refl, subst, arith}
+use Rattle.std.proofs.Common.{◌≡◌, List, length, refl, sym, subst, arith, ℕ}
 use Rattle.ep_layout.specs.declared.entry.Entry.{Entry}
 use Rattle.ep_layout.specs.Half.{IsLog}
 use Rattle.ep_log.specs.Log.{state_in}
 use Rattle.ep_log.specs.State.{State, forced_all}
 use Rattle.ep_log.proofs.Under.{page_stays}
 use Rattle.ep_log.proofs.Calls.{sound_as, force_sound}
+use Rattle.ep_log.specs.Contents.{KeepsLast}
+use Rattle.ep_log.proofs.Keeping.{forced_last}
 use Rattle.ep_log.proofs.log.Log.force.Goals as goal
 
 pub returns-in_err-append-clause-pages : goal.returns-in_err-append-clause-pages
@@ -21,3 +23,13 @@ returns-clause-sound g c =
     sound_as _ _ _ _ (forced_all state) _ refl (λ j. record state { forced = size j })
     (force_sound _ _ _ state c.requires.sound _ c.append.ensures.front c.append.ensures.rest
     (λ told. subst (λ (l : List Entry). IsLog kept.half l (g.D.Disk.view c.append.new.disk).image) c.deref.ensures.value (c.in_ok-append.ensures.log told)) c.in_ok-append.ensures.settled)
+
+pub returns-clause-stages : goal.returns-clause-stages
+returns-clause-stages g c = λ told.
+    let kept = c.args.self.now.kept in
+    let size : c.len-self.result ≡ length kept.entries.items = omega arith in
+    let state : State = state_in kept in
+    let old = (g.D.Disk.view c.args.self.now.disk).image in
+    let new = (g.D.Disk.view c.append.new.disk).image in
+    subst (λ (n : ℕ). KeepsLast (record { state = state; image = old }) (record { state = record state { forced = n }; image = new })) (sym size)
+    (forced_last old new state (c.requires.sound.steady.on_disk told).whole.ended (c.append.ensures.rest told))

@@ -1,4 +1,4 @@
-use Rattle.std.proofs.Common.{◌∙◌, ℕ, List, ap}
+use Rattle.std.proofs.Common.{refl, rules, ◌∙◌, ℕ, List, ap}
 use Rattle.ep_layout.specs.declared.entry.Entry.{Entry}
 use Rattle.ep_layout.specs.Pages.{redone}
 use Rattle.ep_log.specs.declared.put.Put.{Put}
@@ -7,11 +7,21 @@ use Rattle.ep_log.proofs.Under.{page_read}
 use Rattle.ep_log.proofs.Reading.{sound_read}
 use Rattle.ep_log.proofs.log.Log.page.Goals as goal
 
-pub returns-in_err-fetch-clause-sound : goal.returns-in_err-fetch-clause-sound
-returns-in_err-fetch-clause-sound g c = sound_read _ _ _ _ _ _ c.fetch.ensures.quiet c.fetch.ensures.size c.fetch.ensures.pages c.requires.sound
+pub returns-in_err-fetch-clause-reads : goal.returns-in_err-fetch-clause-reads
+returns-in_err-fetch-clause-reads g c = record {
+  sound = sound_read _ _ _ _ _ _ c.fetch.ensures.quiet c.fetch.ensures.size c.fetch.ensures.pages c.requires.sound;
+  state = refl;
+  quiet = c.fetch.ensures.quiet;
+  blamed = search rules;
+}
 
-pub returns-clause-sound : goal.returns-clause-sound
-returns-clause-sound g c = sound_read _ _ _ _ _ _ c.fetch.ensures.quiet c.fetch.ensures.size c.fetch.ensures.pages c.requires.sound
+pub returns-clause-reads : goal.returns-clause-reads
+returns-clause-reads g c = record {
+  sound = sound_read _ _ _ _ _ _ c.fetch.ensures.quiet c.fetch.ensures.size c.fetch.ensures.pages c.requires.sound;
+  state = refl;
+  quiet = c.fetch.ensures.quiet;
+  blamed = search rules;
+}
 
 pub returns-clause-bytes : goal.returns-clause-bytes
 returns-clause-bytes g c = λ told.

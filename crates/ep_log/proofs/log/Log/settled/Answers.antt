@@ -1,14 +1,26 @@
-use Rattle.std.proofs.Common.{◌∙◌, ◌-◌, List, ℕ, length, take, drop, ap, get_or}
+use Rattle.std.proofs.Common.{refl, rules, ◌∙◌, ◌-◌, List, ℕ, length, take, drop, ap, get_or, ◌≡◌, arith}
 use Rattle.ep_log.proofs.Pieces.{piece_is}
 use Rattle.ep_log.proofs.Putting.{settled_read}
 use Rattle.ep_log.proofs.Reading.{sound_read}
+use Rattle.ep_log.specs.Puts.{settled_byte}
+use Rattle.ep_log.proofs.Settled.{settled_covers}
 use Rattle.ep_log.proofs.log.Log.settled.Goals as goal
 
-pub returns-in_err-fetch-clause-sound : goal.returns-in_err-fetch-clause-sound
-returns-in_err-fetch-clause-sound g c = sound_read _ _ _ _ _ _ c.fetch.ensures.quiet c.fetch.ensures.size c.fetch.ensures.pages c.requires.sound
+pub returns-in_err-fetch-clause-reads : goal.returns-in_err-fetch-clause-reads
+returns-in_err-fetch-clause-reads g c = record {
+  sound = sound_read _ _ _ _ _ _ c.fetch.ensures.quiet c.fetch.ensures.size c.fetch.ensures.pages c.requires.sound;
+  state = refl;
+  quiet = c.fetch.ensures.quiet;
+  blamed = search rules;
+}
 
-pub returns-clause-sound : goal.returns-clause-sound
-returns-clause-sound g c = sound_read _ _ _ _ _ _ c.fetch.ensures.quiet c.fetch.ensures.size c.fetch.ensures.pages c.requires.sound
+pub returns-clause-reads : goal.returns-clause-reads
+returns-clause-reads g c = record {
+  sound = sound_read _ _ _ _ _ _ c.fetch.ensures.quiet c.fetch.ensures.size c.fetch.ensures.pages c.requires.sound;
+  state = refl;
+  quiet = c.fetch.ensures.quiet;
+  blamed = search rules;
+}
 
 pub returns-clause-bytes : goal.returns-clause-bytes
 returns-clause-bytes g c = λ told k lt.
@@ -20,3 +32,11 @@ returns-clause-bytes g c = λ told k lt.
     ((λ j. take (length (c.deref-2.ensures.value j) - kept.forced) (drop kept.forced (c.deref-2.ensures.value j))) ∙ piece_is kept.entries.items kept.forced c.requires.sound.steady.forced_le)
     (c.in_ok-fetch.ensures.bytes told)
     c.redo.ensures (c.or_all.ensures k lt)
+
+pub returns-clause-covers : goal.returns-clause-covers
+returns-clause-covers g c = λ told stage k lt.
+    let kept = c.args.self.now.kept in
+    let image = (g.D.Disk.view c.args.self.now.disk).image in
+    let read : get_or c.copy_from_slice.new.self k 0 ≡ settled_byte kept.entries.items kept.forced image c.args.page k = returns-clause-bytes g c told k lt in
+    let over = settled_covers kept.entries.items kept.forced stage image c.args.page k in
+    omega (arith, read, over)
