@@ -8,15 +8,14 @@ use Rattle.dfs_outside.proofs.Image.{bytes_from-same}
 use Rattle.ep_layout.specs.Numbers.{number_at}
 use Rattle.ep_layout.proofs.Bytes.{number-same}
 use Rattle.ep_log.specs.State.{State}
-use Rattle.ep_anode.specs.Node.{pointer_of, pointer_at, byte_under, cell, names, no_names, node_in, HasLength, SameFacts, HasNoBlocks}
+use Rattle.ep_anode.specs.Node.{pointer_of, pointer_at, byte_under, cell, names, node_in, HasLength, SameFacts}
 use Rattle.ep_anode.specs.Anode.{Anode, anode_of, byte_length, bytes_of, length_for, text_at, content_at, over, written, IsTidy, with_list}
-use Rattle.ep_anode.specs.Changes.{IsLoose, WritesLoose, Moves, Turns, Laid, Saved, Turned, Made, WroteLoose, Replaced}
+use Rattle.ep_anode.specs.Changes.{is_shared, IsLoose, WritesLoose, Turns, Laid, Saved, Turned, WroteLoose, Replaced}
 use Rattle.ep_anode.specs.declared.node.Node.{Node}
 use Rattle.ep_anode.proofs.Counting.{same_many}
 use Rattle.ep_anode.proofs.Pointers.{pointer_front, pointer_back, number_apart}
-use Rattle.ep_anode.proofs.Plain.{names_none}
 use Rattle.dfs_outside.proofs.Runs.{wider_changes}
-use Rattle.ep_anode.proofs.Laid.{over_outside, content_high, pointer_in}
+use Rattle.ep_anode.proofs.Laid.{over_inside, over_outside, content_high, pointer_in}
 
 -- the pointers stay where the length changes
 pub length_pointers : (n : ℕ) (old new : Node) → HasLength n old new → (w : ℕ) → pointer_of new w ≡ pointer_of old w
@@ -81,7 +80,7 @@ content_by image node n bytes le cells k = by (nat_lt k n) refl
     by true e = let low : k < n = grind (arith, nat_tests) in let whole : 1024 * (k / 1024) + k % 1024 ≡ k = omega arith in cells (k / 1024) (k % 1024) (omega arith) (omega arith) ∙ ap bytes whole
     by false e = refl
 
--- lengths
+-- a length in bytes is 65,536 at most
 pub length_most : (kind n : ℕ) → byte_length kind n ≤ 65536
 length_most kind n = by (kind == 1)
   where
@@ -89,6 +88,20 @@ length_most kind n = by (kind == 1)
     by true = omega arith
     by false = omega arith
 
+-- the same anode, whose pointers may be others
+pub anode_kept : (before after : List ℕ) (old new : Node) → SameFacts old new → ((v k : ℕ) → v < 3 → k < 1024 → cell after new v k ≡ cell before old v k)
+    → ((i k : ℕ) → i < 64 → 1024 * i < bytes_of old → k < 1024 → cell after new (pointer_at i) k ≡ cell before old (pointer_at i) k) → anode_of after new ≡ anode_of before old
+anode_kept before after old new facts lists bytes =
+    anode_as before after old new (number_at 4 8 old.page) (λ k. content_at before old (bytes_of old) k)
+    (record { low = λ k lt. facts.rest k (inl (omega arith)); high = λ k le. facts.rest k (inr le) })
+    (number-same 4 8 8 new.page old.page (λ j lt. facts.rest (8 + j) (inl (omega arith)))) lists (λ k. by k (nat_lt k (bytes_of old)) refl (length_most (byte_at old.page 0) (number_at 4 8 old.page)))
+  where
+    by : (k : ℕ) → (inside : Bool) → nat_lt k (bytes_of old) ≡ inside → bytes_of old ≤ 65536
+        → (if inside then cell after new (pointer_at (k / 1024)) (k % 1024) else 0) ≡ (if inside then cell before old (pointer_at (k / 1024)) (k % 1024) else 0)
+    by k true e most = let lt : k < bytes_of old = grind (arith, nat_tests) in bytes (k / 1024) (k % 1024) (omega arith) (omega arith) (omega arith)
+    by k false e most = refl
+
+-- lengths
 reached : (kind n end : ℕ) → end ≤ 65536 → end ≤ byte_length kind (max n (length_for kind end))
 reached kind n end le = by (kind == 1)
   where
@@ -194,32 +207,74 @@ module _ (page n kept from : ℕ) (piece : List ℕ) (node laid sized stored : N
       let whole : 1024 * (k / 1024) + k % 1024 ≡ k = omega arith in
       cell_on (pointer_at (k / 1024)) (k % 1024) p.1 p.2 (omega arith) ∙ done.cells (k / 1024) (k % 1024) low (omega arith) ∙ ap (over from piece (λ m. content_at before node kept m)) whole
 
+  pointer_on : (v : ℕ) → v < 68 → v ≢ 15 → pointer_of stored v ≡ pointer_of laid v
+  pointer_on v below apart = saved.pointers v below apart ∙ length_pointers n laid sized has v
+
   tidy_on : ((k : ℕ) → byte_length (byte_at node.page 0) n ≤ k → k < 65536 → k / 1024 ≡ byte_length (byte_at node.page 0) n / 1024 → IsTidy before node → over from piece (λ m. content_at before node kept m) k ≡ 0)
+      → ((i : ℕ) → i < 64 → byte_length (byte_at node.page 0) n ≤ 1024 * i → IsTidy before node → pointer_of laid (pointer_at i) ≡ 0)
       → IsTidy before node → IsTidy after stored
-  tidy_on past tidy = record {
+  tidy_on past gone tidy = record {
     first = λ k some low. beside_on.low k (omega arith) ∙ tidy.first k some low;
     owner = λ k le lt. (let e = beside_on.high 76 (omega arith) in beside_on.high k (omega arith) ∙ tidy.owner k (omega (arith, e, le)) lt);
     group = λ k le lt. (let e = beside_on.high 137 (omega arith) in beside_on.high k (omega arith) ∙ tidy.group k (omega (arith, e, le)) lt);
+    behind = λ k le lt. facts_2.behind k le ∙ (let e = has.map in λ i. byte_at (e i) k) ∙ facts.behind k le ∙ tidy.behind k le lt;
     past = λ k le lt same. cells_on k lt ∙ past k (omega (arith, bytes_on, le)) lt (same ∙ (λ i. bytes_on i / 1024)) tidy;
+    none = λ i lt le. (let p = pointer_in i lt in pointer_on (pointer_at i) p.1 p.2 ∙ gone i lt (omega (arith, bytes_on, le)) tidy);
   }
 
   pub turned_on : (update : Anode → Anode) (content : ℕ → ℕ) → record (anode_of before node) { length = n; content = content } ≡ update (anode_of before node)
       → ((k : ℕ) → (if nat_lt k (byte_length (byte_at node.page 0) n) then over from piece (λ m. content_at before node kept m) k else 0) ≡ content k)
       → ((k : ℕ) → byte_length (byte_at node.page 0) n ≤ k → k < 65536 → k / 1024 ≡ byte_length (byte_at node.page 0) n / 1024 → IsTidy before node → over from piece (λ m. content_at before node kept m) k ≡ 0)
+      → ((i : ℕ) → i < 64 → byte_length (byte_at node.page 0) n ≤ 1024 * i → IsTidy before node → pointer_of laid (pointer_at i) ≡ 0)
       → Turned page update node old before new after
-  turned_on update content is same past = record {
+  turned_on update content is same past gone = record {
     turns = turns_on;
     anode = (λ i. anode_of after (saved.there i))
         ∙ anode_as before after node stored n content beside_on length_on (λ v k below lt. cell_on v k (omega arith) (λ e. absurd (omega (arith, e, below))) lt ∙ done.lists v k below lt)
         (λ k. content_by after stored (byte_length (byte_at node.page 0) n) (over from piece (λ m. content_at before node kept m)) (length_most (byte_at node.page 0) n)
         (λ i j lt low. (let p = pointer_in i lt in cell_on (pointer_at i) j p.1 p.2 low) ∙ done.cells i j lt low) k ∙ same k)
         ∙ is;
-    tidy = λ tidy. subst (λ (x : Node). IsTidy after x) (sym saved.there) (tidy_on past tidy);
+    tidy = λ tidy. subst (λ (x : Node). IsTidy after x) (sym saved.there) (tidy_on past gone tidy);
+    alone = subst (λ (x : Node). is_shared new after x ≡ false) (sym saved.there) saved.alone;
   }
 
 -- past a length that was set
 pub cut_past : (image : List ℕ) (node : Node) (kept last k : ℕ) → kept ≤ last → last ≤ k → over 0 [] (λ m. content_at image node kept m) k ≡ 0
 cut_past image node kept last k le high = over_outside 0 [] (λ m. content_at image node kept m) k (inr (omega arith)) ∙ content_high image node kept k (omega arith)
+
+-- a piece that ends the bytes
+pub ended_far : (kind n end : ℕ) → n ≡ length_for kind end → end ≤ 65536 → end ≤ byte_length kind n
+ended_far kind n end is le = subst (λ (x : ℕ). end ≤ byte_length kind x) (sym is) (by (kind == 1))
+  where
+    by : (dir : Bool) → end ≤ min (if dir then 72 * (if dir then (end + 71) / 72 else end) else (if dir then (end + 71) / 72 else end)) 65536
+    by true = omega arith
+    by false = omega arith
+
+pub ended_past : (image : List ℕ) (node : Node) (kept from : ℕ) (piece : List ℕ) (k : ℕ) → kept ≤ from → from + length piece ≤ k → over from piece (λ m. content_at image node kept m) k ≡ 0
+ended_past image node kept from piece k le high = over_outside from piece (λ m. content_at image node kept m) k (inr high) ∙ content_high image node kept k (omega arith)
+
+pub ended_cut : (image : List ℕ) (node : Node) (bytes kept last from : ℕ) (piece : List ℕ) → kept ≡ min bytes from → from + length piece ≤ last
+    → (k : ℕ) → (if nat_lt k last then over from piece (λ m. content_at image node kept m) k else 0) ≡ (if nat_lt k (from + length piece) then over from piece (λ m. content_at image node bytes m) k else 0)
+ended_cut image node bytes kept last from piece e far k = by (nat_lt k last) refl (nat_lt k (from + length piece)) refl
+  where
+    within : k < from + length piece → (low : Bool) → nat_le from k ≡ low → over from piece (λ m. content_at image node kept m) k ≡ over from piece (λ m. content_at image node bytes m) k
+    within lt true f =
+        let le : from ≤ k = grind (arith, nat_tests) in
+        over_inside from piece (λ m. content_at image node kept m) k le lt ∙ sym (over_inside from piece (λ m. content_at image node bytes m) k le lt)
+    within lt false f =
+        let low : k < from = grind (arith, nat_tests) in
+        over_outside from piece (λ m. content_at image node kept m) k (inl low) ∙ same low (nat_lt k bytes) refl ∙ sym (over_outside from piece (λ m. content_at image node bytes m) k (inl low))
+      where
+        same : k < from → (b : Bool) → nat_lt k bytes ≡ b → content_at image node kept k ≡ content_at image node bytes k
+        same low true b = let lt_2 : k < bytes = grind (arith, nat_tests) in content_cut image node kept bytes k (inr lt_2) (inr (omega (arith, e)))
+        same low false b = let high : bytes ≤ k = grind (arith, nat_tests) in content_cut image node kept bytes k (inl (omega (arith, e))) (inl (omega (arith, e)))
+
+    by : (a : Bool) → nat_lt k last ≡ a → (b : Bool) → nat_lt k (from + length piece) ≡ b
+        → (if a then over from piece (λ m. content_at image node kept m) k else 0) ≡ (if b then over from piece (λ m. content_at image node bytes m) k else 0)
+    by true a true b = let lt : k < from + length piece = grind (arith, nat_tests) in within lt (nat_le from k) refl
+    by true a false b = let high : from + length piece ≤ k = grind (arith, nat_tests) in ended_past image node kept from piece k (omega (arith, e)) high
+    by false a true b = let high : last ≤ k = grind (arith, nat_tests) in let lt : k < from + length piece = grind (arith, nat_tests) in absurd (omega arith)
+    by false a false b = refl
 
 -- a length that a piece needs
 module _ (node laid : Node) (facts : SameFacts node laid) (end : ℕ) where
@@ -272,61 +327,27 @@ module _ (node laid : Node) (facts : SameFacts node laid) (end : ℕ) where
           let test : nat_lt k kept ≡ true = (let below : k < kept = omega (arith, e, lt) in grind (arith, nat_tests)) in
           (λ j. if test j then cell before node (pointer_at (k / 1024)) (k % 1024) else 0) ∙ tidy.past k (omega (arith, size, high)) lt (block ∙ (λ i. sym size i / 1024))
 
--- a copy that was put in a page
-module _ (page : ℕ) (source empty copy stored : Node) (old mid new : State) (before middle after : List ℕ) (blocks : mid.superblock.blocks ≡ old.superblock.blocks)
-    (facts : SameFacts source empty) (none : HasNoBlocks empty) (moves : Moves (names empty) (names copy) old before mid middle) (facts_2 : SameFacts empty copy)
-    (cells : (v k : ℕ) → v < 68 → (v ≡ 15 → ⊥) → k < 1024 → cell middle copy v k ≡ cell before source v k) (saved : Saved page copy mid middle stored new after) (facts_3 : SameFacts copy stored) where
-  copy_beside : SameBeside source.page stored.page
-  copy_beside = record {
-    low = λ k lt. facts_3.rest k (inl (omega arith)) ∙ facts_2.rest k (inl (omega arith)) ∙ facts.rest k (inl (omega arith));
-    high = λ k le. facts_3.rest k (inr le) ∙ facts_2.rest k (inr le) ∙ facts.rest k (inr le);
-  }
-
-  copy_length : number_at 4 8 stored.page ≡ number_at 4 8 source.page
-  copy_length = number-same 4 8 8 stored.page source.page (λ j lt. facts_3.rest (8 + j) (inl (omega arith)) ∙ facts_2.rest (8 + j) (inl (omega arith)) ∙ facts.rest (8 + j) (inl (omega arith)))
-
-  copy_cell : (v k : ℕ) → v < 68 → (v ≡ 15 → ⊥) → k < 1024 → cell after stored v k ≡ cell before source v k
-  copy_cell v k below apart lt = saved.cells v k below apart lt ∙ cells v k below apart lt
-
-  copy_bytes : (i k : ℕ) → i < 64 → k < 1024 → cell after stored (pointer_at i) k ≡ cell before source (pointer_at ((1024 * i + k) / 1024)) ((1024 * i + k) % 1024)
-  copy_bytes i k lt low =
-      let p = pointer_in i lt in
-      let a : i ≡ (1024 * i + k) / 1024 = omega arith in
-      let b : k ≡ (1024 * i + k) % 1024 = omega arith in
-      copy_cell (pointer_at i) k p.1 p.2 low ∙ (λ j. cell before source (pointer_at (a j)) (b j))
-
-  pub copy_made : Made page (anode_of before source) old before new after
-  copy_made = record {
-    turns = subst (λ (x : Node). Turns page no_names (names x) old before new after) (sym saved.there) (record {
-      counts = λ b lt. (let e = moves.counts b lt in let f = saved.turns.counts b (omega (arith, blocks, lt)) in let h = names_none empty none b in omega (arith, e, f, h));
-      settled = λ b lt. saved.turns.settled b (omega (arith, blocks, lt)) ∙ moves.settled b lt;
-      pages = λ p low apart. saved.turns.pages p low apart ∙ moves.pages p low;
-    });
-    anode_is = (λ i. anode_of after (saved.there i))
-        ∙ anode_as before after source stored (number_at 4 8 source.page) (λ k. content_at before source (bytes_of source) k) copy_beside copy_length (λ v k below lt. copy_cell v k (omega arith) (λ e. absurd (omega (arith, e, below))) lt)
-        (content_by after stored (bytes_of source) (λ k. cell before source (pointer_at (k / 1024)) (k % 1024)) (length_most (byte_at source.page 0) (number_at 4 8 source.page)) copy_bytes);
-  }
-
-  pub copy_tidy : IsTidy before source → IsTidy after (node_in new after page)
-  copy_tidy tidy = subst (λ (x : Node). IsTidy after x) (sym saved.there) (record {
-    first = λ k some low. copy_beside.low k (omega arith) ∙ tidy.first k some low;
-    owner = λ k le lt. (let e = copy_beside.high 76 (omega arith) in copy_beside.high k (omega arith) ∙ tidy.owner k (omega (arith, e, le)) lt);
-    group = λ k le lt. (let e = copy_beside.high 137 (omega arith) in copy_beside.high k (omega arith) ∙ tidy.group k (omega (arith, e, le)) lt);
-    past = λ k le lt same. copy_past k le lt same;
-  })
+  -- and no pointer is past it
+  pub written_gone : (before : List ℕ) (old mid : State) (middle : List ℕ) (from kept : ℕ) (piece : List ℕ) → end ≡ from + length piece → end ≤ 65536 → (kept ≡ bytes_of node) ⊎ ((kept ≡ 65536) × (end ≤ bytes_of node))
+      → Laid kept from piece node old before laid mid middle → (i : ℕ) → i < 64 → byte_length (byte_at node.page 0) length_needed ≤ 1024 * i → IsTidy before node → pointer_of laid (pointer_at i) ≡ 0
+  written_gone before old mid middle from kept piece is le how done i lt high tidy =
+      let kind = byte_at node.page 0 in
+      let n = number_at 4 8 node.page in
+      let same : byte_length kind length_needed ≡ byte_length kind (max n (length_for kind end)) = (λ j. byte_length kind (length_same j)) in
+      let far = reached kind n end le in
+      let more = no_shorter kind n (length_for kind end) in
+      by how same far more
     where
-      size : bytes_of stored ≡ bytes_of source
-      size = (let e = copy_beside.low 0 (omega arith) in λ i. byte_length (e i) (copy_length i))
-
-      copy_past : (k : ℕ) → bytes_of stored ≤ k → k < 65536 → k / 1024 ≡ bytes_of stored / 1024 → cell after stored (pointer_at (k / 1024)) (k % 1024) ≡ 0
-      copy_past k le lt same =
-          let low : k / 1024 < 64 = omega arith in
-          let p = pointer_in (k / 1024) low in
-          copy_cell (pointer_at (k / 1024)) (k % 1024) p.1 p.2 (omega arith) ∙ tidy.past k (omega (arith, size, le)) lt (same ∙ (λ i. size i / 1024))
+      by : (kept ≡ bytes_of node) ⊎ ((kept ≡ 65536) × (end ≤ bytes_of node)) → byte_length (byte_at node.page 0) length_needed ≡ byte_length (byte_at node.page 0) (max (number_at 4 8 node.page) (length_for (byte_at node.page 0) end))
+          → end ≤ byte_length (byte_at node.page 0) (max (number_at 4 8 node.page) (length_for (byte_at node.page 0) end))
+          → bytes_of node ≤ byte_length (byte_at node.page 0) (max (number_at 4 8 node.page) (length_for (byte_at node.page 0) end)) → pointer_of laid (pointer_at i) ≡ 0
+      by (inl e) same far more = done.past i lt (omega (arith, e, same, more, high)) (omega (arith, is, same, far, high))
+      by (inr (e, low)) same far more = done.same i lt (omega (arith, e, lt)) (omega (arith, is, same, far, high)) ∙ tidy.none i lt (omega (arith, same, more, high))
 
 -- a list that was written
 module _ (page which : ℕ) (bytes : List ℕ) (node changed stored : Node) (old mid new : State) (before middle after : List ℕ) (low : which < 3) (blocks : mid.superblock.blocks ≡ old.superblock.blocks)
-    (replaced : Replaced which (λ k. get_or bytes k 0) node old before changed mid middle) (facts : SameFacts node changed) (saved : Saved page changed mid middle stored new after) (facts_2 : SameFacts changed stored) where
+    (replaced : Replaced which (λ k. get_or bytes k 0) node old before changed mid middle) (facts : SameFacts node changed) (others : (v : ℕ) → v < 68 → v ≢ which → pointer_of changed v ≡ pointer_of node v)
+    (saved : Saved page changed mid middle stored new after) (facts_2 : SameFacts changed stored) where
   list_beside : SameBeside node.page stored.page
   list_beside = record {
     low = λ k lt. facts_2.rest k (inl (omega arith)) ∙ facts.rest k (inl (omega arith));
@@ -359,6 +380,12 @@ module _ (page which : ℕ) (bytes : List ℕ) (node changed stored : Node) (old
       let p = pointer_in (k / 1024) up in
       let first = p.0 in
       list_other (pointer_at (k / 1024)) (k % 1024) p.1 p.2 (λ e. absurd (omega (arith, e, first, low))) (omega arith) ∙ tidy.past k (omega (arith, list_size, le)) lt (same ∙ (λ i. list_size i / 1024))
+
+  list_none : IsTidy before node → (i : ℕ) → i < 64 → bytes_of stored ≤ 1024 * i → pointer_of stored (pointer_at i) ≡ 0
+  list_none tidy i lt le =
+      let p = pointer_in i lt in
+      let first = p.0 in
+      saved.pointers (pointer_at i) p.1 p.2 ∙ others (pointer_at i) p.1 (λ e. absurd (omega (arith, e, first, low))) ∙ tidy.none i lt (omega (arith, list_size, le))
 
   list_here : (w k : ℕ) → (a : Bool) → nat_lt w 3 ≡ a → (b : Bool) → nat_lt k 1024 ≡ b → (mine : Bool) → (w == which) ≡ mine
       → (if a && b then cell after stored w k else 0) ≡ (if mine then (if b then get_or bytes k 0 else 0) else (if a && b then cell before node w k else 0))
@@ -399,8 +426,11 @@ module _ (page which : ℕ) (bytes : List ℕ) (node changed stored : Node) (old
           first = λ k some up. list_beside.low k (omega arith) ∙ tidy.first k some up;
           owner = λ k le lt. (let e = list_beside.high 76 (omega arith) in list_beside.high k (omega arith) ∙ tidy.owner k (omega (arith, e, le)) lt);
           group = λ k le lt. (let e = list_beside.high 137 (omega arith) in list_beside.high k (omega arith) ∙ tidy.group k (omega (arith, e, le)) lt);
+          behind = λ k le lt. facts_2.behind k le ∙ facts.behind k le ∙ tidy.behind k le lt;
           past = list_past tidy;
+          none = λ i lt le. list_none tidy i lt le;
         });
+        alone = subst (λ (x : Node). is_shared new after x ≡ false) (sym saved.there) saved.alone;
       }
 
 -- blocks that are loose for fewer pointers

@@ -8,7 +8,7 @@ use Rattle.ep_log.specs.State.{State}
 use Rattle.ep_space.specs.Counts.{count_now}
 use Rattle.ep_anode.specs.Room.{one, how_many}
 use Rattle.ep_anode.specs.Node.{pointer_of, is_pointer, byte_under, cell, names, no_names, PointsTo}
-use Rattle.ep_anode.specs.Changes.{SameBlock, AreCounted, Moves, IsTaken, Replaced}
+use Rattle.ep_anode.specs.Changes.{is_shared, SameBlock, AreCounted, Moves, IsTaken, Replaced}
 use Rattle.ep_anode.specs.declared.node.Node.{Node}
 use Rattle.ep_anode.proofs.Counting.{many_but, one_of_many}
 
@@ -65,6 +65,10 @@ cell_at image node w block blocks k same points lt =
 pub cell_none : (image : List ℕ) (node : Node) (w k : ℕ) → pointer_of node w ≡ 0 → cell image node w k ≡ 0
 unfolding cell
 cell_none image node w k points = λ i. byte_under node.blocks image (points i) k
+
+-- no block is shared where the indirect block has no pointer
+pub alone_none : (state : State) (image : List ℕ) (node : Node) → pointer_of node 15 ≡ 0 → is_shared state image node ≡ false
+alone_none state image node zero = λ i. is_pointer node.blocks (zero i) && nat_lt 1 (count_now state image (zero i - 1))
 
 -- a block that a pointer names is in use
 pub in_use : (node : Node) (w : ℕ) (state : State) (image : List ℕ) → node.blocks ≡ state.superblock.blocks → AreCounted (names node) state image → w < 68
@@ -135,3 +139,16 @@ module _ (w : ℕ) (node changed : Node) (old : State) (before after : List ℕ)
       here : (k : ℕ) → k < 1024 → cell after changed w k ≡ get_or bytes k 0
       here k low = cell_at after changed w block old.superblock.blocks k (points.blocks ∙ blocks) (points.here ∙ is) taken.free.there
           ∙ ap (λ (l : List ℕ). byte_at l (block_start (pages_of old.superblock.blocks) block + k)) quiet ∙ taken.holds k low
+
+  -- which no other pointer names
+  pub fresh_count : (block : ℕ) (bytes : List ℕ) (mid new : State) (middle : List ℕ) → pointer ≡ block + 1 → IsTaken block bytes old before mid middle → mid.superblock.blocks ≡ old.superblock.blocks
+      → Moves (λ b. one (pointer_of node w == b + 1)) no_names mid middle new after → count_now new after (pointer_of changed w - 1) ≡ 1
+  fresh_count block bytes mid new middle is taken same moves =
+      let there = taken.free.there in
+      let e = taken.moves.counts block there in
+      let free = taken.free.now in
+      let mine = one_same (block + 1) (block + 1) refl in
+      let f = moves.counts block (omega (arith, same, there)) in
+      let at : pointer_of changed w - 1 ≡ block = (let h = points.here in omega (arith, h, is)) in
+      let apart : one (pointer_of node w == block + 1) ≡ 0 = one_other (pointer_of node w) (block + 1) (λ names_it. (let some = named_some node w block lt names_it in let all = counted block there in omega (arith, some, all, free))) in
+      ap (count_now new after) at ∙ omega (arith, e, free, mine, f, apart)

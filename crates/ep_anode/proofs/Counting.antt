@@ -1,5 +1,6 @@
 -- How many numbers pass a test.
-use Rattle.std.proofs.Common.{◌≡◌, ◌≢◌, ◌<◌, ◌≤◌, ◌⊎◌, ℕ, zero, suc, ◌+◌, ◌-◌, refl, sym, ◌∙◌, arith, inl, inr}
+use Rattle.std.proofs.Common.{◌≡◌, ◌≢◌, ◌<◌, ◌≤◌, ◌⊎◌, ℕ, zero, suc, ◌+◌, ◌-◌, refl, sym, ◌∙◌, subst, arith, inl, inr}
+use Rattle.std.proofs.Math.Numerals.{add-one}
 use Rattle.std.specs.Prelude.{Bool, true, false, ◌==◌, ◌||◌, nat_le}
 use Rattle.std.proofs.lemmas.Bool.{cases_eq, cases_lt}
 use Rattle.std.proofs.lemmas.Bool.Decides.{nat_tests}
@@ -86,3 +87,38 @@ above_many from (suc n) = by (nat_le from n) refl (above_many from n)
     by : (above : Bool) → nat_le from n ≡ above → how_many (λ j. nat_le from j) n ≤ n - from → how_many (λ j. nat_le from j) n + one above ≤ suc n - from
     by true e rest = let le : from ≤ n = grind (arith, nat_tests) in omega (arith, rest)
     by false e rest = omega (arith, rest)
+
+-- the first numbers of more
+pub many_upto : (f : ℕ → Bool) (m n : ℕ) → m ≤ n → how_many f m ≤ how_many f n
+unfolding how_many
+many_upto f m zero le = let e : m ≡ 0 = omega arith in subst (λ (x : ℕ). how_many f x ≤ 0) (sym e) (omega arith)
+many_upto f m (suc n) le = by (cases_eq m (suc n)) (λ below. many_upto f m n below)
+  where
+    by : (m ≡ suc n) ⊎ (m ≢ suc n) → (m ≤ n → how_many f m ≤ how_many f n) → how_many f m ≤ how_many f n + one (f n)
+    by (inl e) later = subst (λ (x : ℕ). how_many f x ≤ how_many f n + one (f n)) (sym e) (omega arith)
+    by (inr apart) later = let rest = later (omega arith) in omega (arith, rest)
+
+pub many_next : (f : ℕ → Bool) (m : ℕ) → how_many f (m + 1) ≡ how_many f m + one (f m)
+unfolding how_many
+many_next f m = (λ i. how_many f (add-one m i)) ∙ refl
+
+-- of which none behind some passes
+pub many_rest : (f : ℕ → Bool) (m n : ℕ) → m ≤ n → ((j : ℕ) → m ≤ j → j < n → f j ≡ false) → how_many f n ≡ how_many f m
+unfolding how_many
+many_rest f m zero le none = let e : m ≡ 0 = omega arith in subst (λ (x : ℕ). 0 ≡ how_many f x) (sym e) refl
+many_rest f m (suc n) le none = by (cases_eq m (suc n)) (λ below. many_rest f m n below (λ j low lt. none j low (omega arith)))
+  where
+    by : (m ≡ suc n) ⊎ (m ≢ suc n) → (m ≤ n → how_many f n ≡ how_many f m) → how_many f n + one (f n) ≡ how_many f m
+    by (inl e) later = subst (λ (x : ℕ). how_many f n + one (f n) ≡ how_many f x) (sym e) refl
+    by (inr apart) later =
+        let rest = later (omega arith) in
+        let here : one (f n) ≡ 0 = (let e = none n (omega arith) (omega arith) in λ i. one (e i)) in
+        omega (arith, rest, here)
+
+-- none of which passes
+pub many_none : (f : ℕ → Bool) (i n : ℕ) → how_many f n ≡ 0 → i < n → f i ≡ false
+many_none f i n none lt = by (f i) refl
+  where
+    by : (is : Bool) → f i ≡ is → f i ≡ false
+    by true e = let some = one_of_many f i n lt e in absurd (omega (arith, some, none))
+    by false e = e

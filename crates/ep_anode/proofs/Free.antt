@@ -10,7 +10,7 @@ use Rattle.ep_space.specs.Counts.{count_page, count_now, count_settled, AreUsed}
 use Rattle.ep_space.specs.Faults.{IsTakeFault}
 use Rattle.ep_space.specs.declared.fault.SpaceFault.{SpaceFault}
 use Rattle.ep_space.specs.declared.fault.SpaceFault.TheVariants.{Failed, Full, Memory}
-use Rattle.ep_anode.specs.Room.{one, how_many, free_blocks, blocks_written, blocks_copied}
+use Rattle.ep_anode.specs.Room.{one, how_many, free_blocks, blocks_written}
 use Rattle.ep_anode.specs.Node.{no_names}
 use Rattle.ep_anode.specs.Changes.{Moves, IsTaken}
 use Rattle.ep_anode.proofs.Counting.{many_but, many_le, none_many}
@@ -27,25 +27,25 @@ none_free state image used = none_many (λ b. (count_now state image b == 0) && 
     by b lt true e false f = refl
     by b lt false e settled f = refl
 
--- where pointers are only dropped, no block that was free isn't
-pub free_left : (old new : State) (before after : List ℕ) → new.superblock.blocks ≡ old.superblock.blocks → ((b : ℕ) → b < old.superblock.blocks → count_now new after b ≤ count_now old before b)
+-- where no block that had no pointer has one, none that was free isn't
+pub free_left : (old new : State) (before after : List ℕ) → new.superblock.blocks ≡ old.superblock.blocks → ((b : ℕ) → b < old.superblock.blocks → count_now old before b ≡ 0 → count_now new after b ≡ 0)
     → ((b : ℕ) → b < old.superblock.blocks → count_settled new after b ≡ count_settled old before b) → free_blocks old before ≤ free_blocks new after
 free_left old new before after blocks counts_2 settled_2 =
     subst (λ (n : ℕ). free_blocks old before ≤ how_many (λ b. (count_now new after b == 0) && (count_settled new after b == 0)) n) (sym blocks)
     (many_le (λ b. (count_now old before b == 0) && (count_settled old before b == 0)) (λ b. (count_now new after b == 0) && (count_settled new after b == 0)) old.superblock.blocks
     (λ b lt is. by b (counts_2 b lt) (settled_2 b lt) (count_now old before b == 0) refl is))
   where
-    by : (b : ℕ) → count_now new after b ≤ count_now old before b → count_settled new after b ≡ count_settled old before b → (now : Bool) → (count_now old before b == 0) ≡ now
+    by : (b : ℕ) → (count_now old before b ≡ 0 → count_now new after b ≡ 0) → count_settled new after b ≡ count_settled old before b → (now : Bool) → (count_now old before b == 0) ≡ now
         → (now && (count_settled old before b == 0)) ≡ true → ((count_now new after b == 0) && (count_settled new after b == 0)) ≡ true
     by b counts settled true e is =
         let was : count_now old before b ≡ 0 = grind (arith, nat_tests) in
-        let none : count_now new after b ≡ 0 = omega (arith, counts, was) in
+        let none : count_now new after b ≡ 0 = counts was in
         let test : (count_now new after b == 0) ≡ true = grind (arith, nat_tests) in
         (λ i. test i && (settled i == 0)) ∙ is
     by b counts settled false e is = absurd (grind (arith, is))
 
 pub free_kept : (dropped : ℕ → ℕ) (old new : State) (before after : List ℕ) → new.superblock.blocks ≡ old.superblock.blocks → Moves dropped no_names old before new after → free_blocks old before ≤ free_blocks new after
-free_kept dropped old new before after blocks moves = free_left old new before after blocks (λ b lt. let e = moves.counts b lt in omega (arith, e)) moves.settled
+free_kept dropped old new before after blocks moves = free_left old new before after blocks (λ b lt was. let e = moves.counts b lt in omega (arith, e, was)) moves.settled
 
 -- one block less is free where one was taken
 pub free_taken : (block : ℕ) (bytes : List ℕ) (old new : State) (before after : List ℕ) → new.superblock.blocks ≡ old.superblock.blocks → IsTaken block bytes old before new after → free_blocks old before ≤ free_blocks new after + 1
@@ -85,18 +85,11 @@ written_most kept from n = by (nat_lt (kept / 1024) 64)
     by true = omega arith
     by false = omega arith
 
-pub copied_most : (w : ℕ) → w ≤ 68 → blocks_copied w ≤ 67
-copied_most w le = by (nat_lt 15 w) refl
-  where
-    by : (a : Bool) → nat_lt 15 w ≡ a → w - one a ≤ 67
-    by true e = omega arith
-    by false e = let low : w ≤ 15 = grind (arith, nat_tests) in omega arith
-
 -- a put of a page below those of counts leaves the counts
 pub free_put : (page slot : ℕ) (bytes was : List ℕ) (mid new : State) (middle after : List ℕ) → page < 1058 → new ≡ with_put mid (put_of slot page was bytes)
     → ((image : List ℕ) (p : ℕ) → page_of new.entries new.puts image p ≡ (if page == p then bytes else page_of mid.entries mid.puts image p)) → after ≡ middle → free_blocks mid middle ≤ free_blocks new after
 free_put page slot bytes was mid new middle after low is pages quiet =
-    free_left mid new middle after (λ i. (is i).superblock.blocks) (λ b lt. let e = now b in omega (arith, e)) (λ b lt. ap (λ (l : List ℕ). count_settled new l b) quiet ∙ settled_put mid new slot page was bytes middle b is)
+    free_left mid new middle after (λ i. (is i).superblock.blocks) (λ b lt was. now b ∙ was) (λ b lt. ap (λ (l : List ℕ). count_settled new l b) quiet ∙ settled_put mid new slot page was bytes middle b is)
   where
     now : (b : ℕ) → count_now new after b ≡ count_now mid middle b
     now b = (let apart : (page == count_page b) ≡ false = (let high : page < count_page b = omega arith in grind (arith, nat_tests)) in

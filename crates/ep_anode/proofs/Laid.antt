@@ -4,7 +4,7 @@ use Rattle.std.specs.Prelude.{Bool, true, false, ◌==◌, ◌&&◌, nat_lt, nat
 use Rattle.std.proofs.lemmas.Bool.Decides.{nat_tests}
 use Rattle.std.proofs.lemmas.Bool.{cases_eq}
 use Rattle.ep_log.specs.State.{State}
-use Rattle.ep_anode.specs.Node.{pointer_at, cell, names}
+use Rattle.ep_anode.specs.Node.{pointer_of, pointer_at, cell, names}
 use Rattle.ep_anode.specs.Anode.{content_at, over}
 use Rattle.ep_anode.specs.Changes.{Moves, AreCounted, Replaced, Laid}
 use Rattle.ep_anode.specs.declared.node.Node.{Node}
@@ -93,12 +93,18 @@ pub record LaidBelow (i kept from : ℕ) (piece : List ℕ) (node : Node) (old :
   pub moves : Moves (names node) (names changed) old before new after
   pub done : (j k : ℕ) → j < i → k < 1024 → cell after changed (pointer_at j) k ≡ over from piece (λ m. content_at before node kept m) (1024 * j + k)
   pub left : (v k : ℕ) → v < 68 → k < 1024 → ((j : ℕ) → j < i → v ≢ pointer_at j) → cell after changed v k ≡ cell before node v k
+  pub past : (j : ℕ) → j < i → kept ≤ 1024 * j → from + length piece ≤ 1024 * j → pointer_of changed (pointer_at j) ≡ 0
+  pub same : (j : ℕ) → j < i → 1024 * j + 1024 ≤ kept → from + length piece ≤ 1024 * j → pointer_of changed (pointer_at j) ≡ pointer_of node (pointer_at j)
+  pub rest : (v : ℕ) → v < 68 → ((j : ℕ) → j < i → v ≢ pointer_at j) → pointer_of changed v ≡ pointer_of node v
 
 pub laid_none : (kept from : ℕ) (piece : List ℕ) (node : Node) (old : State) (before : List ℕ) → LaidBelow 0 kept from piece node old before node old before
 laid_none kept from piece node old before = record {
   moves = record { counts = λ b lt. refl; settled = λ b lt. refl; pages = λ p lt. refl };
   done = λ j k none low. absurd (omega arith);
   left = λ v k below low apart. refl;
+  past = λ j none le high. absurd (omega arith);
+  same = λ j none le high. absurd (omega arith);
+  rest = λ v below apart. refl;
 }
 
 pub moves_on : (named named_2 named_3 : ℕ → ℕ) (old mid new : State) (first second last : List ℕ) → mid.superblock.blocks ≡ old.superblock.blocks → Moves named named_2 old first mid second → Moves named_2 named_3 mid second new last → Moves named named_3 old first new last
@@ -114,13 +120,28 @@ still_counted named named_2 old new before after blocks moves counted b lt = let
 pub laid_more : (i kept from : ℕ) (piece : List ℕ) (node : Node) (old : State) (before : List ℕ) (changed : Node) (mid : State) (middle : List ℕ) (last : Node) (new : State) (after : List ℕ) → i < 64
     → mid.superblock.blocks ≡ old.superblock.blocks → LaidBelow i kept from piece node old before changed mid middle
     → Replaced (pointer_at i) (λ k. over from piece (λ m. content_at middle changed kept m) (1024 * i + k)) changed mid middle last new after
+    → ((v : ℕ) → v < 68 → v ≢ pointer_at i → pointer_of last v ≡ pointer_of changed v)
+    → (kept ≤ 1024 * i → from + length piece ≤ 1024 * i → pointer_of last (pointer_at i) ≡ 0)
+    → (1024 * i + 1024 ≤ kept → from + length piece ≤ 1024 * i → pointer_of last (pointer_at i) ≡ pointer_of changed (pointer_at i))
     → LaidBelow (i + 1) kept from piece node old before last new after
-laid_more i kept from piece node old before changed mid middle last new after lt blocks laid replaced = record {
+laid_more i kept from piece node old before changed mid middle last new after lt blocks laid replaced others zero stay = record {
   moves = moves_on (names node) (names changed) (names last) old mid new before middle after blocks laid.moves replaced.moves;
   done = λ j k below low. by j k low below (cases_eq j i);
   left = λ v k below low apart. other v k below low (apart i (omega arith)) ∙ laid.left v k below low (λ j lower. apart j (omega arith));
+  past = λ j below le high. gone j below le high (cases_eq j i);
+  same = λ j below le high. stays_as j below le high (cases_eq j i);
+  rest = λ v below apart. others v below (apart i (omega arith)) ∙ laid.rest v below (λ j lower. apart j (omega arith));
 }
   where
+    gone : (j : ℕ) → j < i + 1 → kept ≤ 1024 * j → from + length piece ≤ 1024 * j → (j ≡ i) ⊎ (j ≢ i) → pointer_of last (pointer_at j) ≡ 0
+    gone j below le high (inr apart) = others (pointer_at j) (pointer_in j (omega arith)).1 (pointer_apart j i apart) ∙ laid.past j (omega arith) le high
+    gone j below le high (inl is) = ap (λ (x : ℕ). pointer_of last (pointer_at x)) is ∙ zero (omega arith) (omega arith)
+
+    stays_as : (j : ℕ) → j < i + 1 → 1024 * j + 1024 ≤ kept → from + length piece ≤ 1024 * j → (j ≡ i) ⊎ (j ≢ i) → pointer_of last (pointer_at j) ≡ pointer_of node (pointer_at j)
+    stays_as j below le high (inr apart) = others (pointer_at j) (pointer_in j (omega arith)).1 (pointer_apart j i apart) ∙ laid.same j (omega arith) le high
+    stays_as j below le high (inl is) =
+        ap (λ (x : ℕ). pointer_of last (pointer_at x)) is ∙ stay (omega arith) (omega arith) ∙ laid.rest (pointer_at i) (pointer_in i lt).1 (λ m lower. pointer_apart i m (omega arith)) ∙ ap (λ (x : ℕ). pointer_of node (pointer_at x)) (sym is)
+
     other : (v k : ℕ) → v < 68 → k < 1024 → v ≢ pointer_at i → cell after last v k ≡ cell middle changed v k
     other v k below low apart = (let e : (v == pointer_at i) ≡ false = grind (arith, nat_tests) in
         replaced.cells v k below low ∙ (λ j. if e j then over from piece (λ m. content_at middle changed kept m) (1024 * i + k) else cell middle changed v k))
@@ -144,4 +165,6 @@ laid_all kept from piece node old before changed new after laid = record {
   moves = laid.moves;
   cells = λ i k lt low. laid.done i k lt low;
   lists = λ v k below low. laid.left v k (omega arith) low (λ j lt. (let e = pointer_in j lt in let f = e.0 in λ is. absurd (omega (arith, f, is))));
+  past = laid.past;
+  same = λ i lt le high. laid.same i lt le high;
 }

@@ -10,6 +10,8 @@ pub mod Laid
 pub mod Saving
 pub mod Anodes
 pub mod Plain
-pub mod Copied
 pub mod Free
 pub mod Apart
+pub mod Sharing
+pub mod Changing
+pub mod Copied

@@ -12,15 +12,16 @@ use Rattle.ep_log.specs.State.{State, with_put, put_of}
 use Rattle.ep_space.specs.Counts.{count_page, count_now, count_settled}
 use Rattle.ep_anode.specs.Node.{pointer_of, pointer_at, map_under, cell, names, no_names, node_in, SameFacts, HasNoBlocks}
 use Rattle.ep_anode.specs.Anode.{anode_of, anode_in, byte_length, text_at, content_at, freed, made, IsPage, IsTidy, IsBare}
-use Rattle.ep_anode.specs.Changes.{Moves, Turns, Turned, Made}
+use Rattle.ep_anode.specs.Changes.{is_shared, Moves, Turns, Turned, Made}
 use Rattle.ep_anode.specs.declared.node.Node.{Node}
 use Rattle.ep_anode.proofs.Counting.{none_many}
 use Rattle.ep_anode.proofs.Pointers.{pointer_front, pointer_back}
-use Rattle.ep_anode.proofs.Cells.{cell_none}
+use Rattle.ep_anode.proofs.Cells.{alone_none, cell_none}
 use Rattle.ep_anode.proofs.Laid.{content_high, pointer_in}
 use Rattle.ep_anode.proofs.Moving.{now_same, settled_put}
+use Rattle.ep_anode.proofs.Sharing.{turns_own}
 
-zero_number : (at : ℕ) (xs : List ℕ) → ((j : ℕ) → j < 4 → byte_at xs (at + j) ≡ 0) → number_at 4 at xs ≡ 0
+pub zero_number : (at : ℕ) (xs : List ℕ) → ((j : ℕ) → j < 4 → byte_at xs (at + j) ≡ 0) → number_at 4 at xs ≡ 0
 unfolding number_at
 zero_number at xs zero = number-same 4 at 0 xs [] (λ j lt. zero j lt)
 
@@ -62,12 +63,14 @@ page_is kind unique owner group first second third last short zeroth rest number
     front k lt = beside_2 k (inl (omega arith)) ∙ beside k (inl lt)
 
 -- an anode without blocks is tidy
-pub tidy_page : (image : List ℕ) (node : Node) (kind unique : ℕ) (owner group : List ℕ) → IsPage kind unique owner group node.page → HasNoBlocks node → IsTidy image node
-tidy_page image node kind unique owner group is none = record {
+pub tidy_page : (image : List ℕ) (node : Node) (kind unique : ℕ) (owner group : List ℕ) → IsPage kind unique owner group node.page → HasNoBlocks node → ((k : ℕ) → k < 1024 → byte_at node.map k ≡ 0) → IsTidy image node
+tidy_page image node kind unique owner group is none zero = record {
   first = is.first;
   owner = λ k le lt. is.owner_rest k (let e = is.owner_size in omega (arith, e, le)) lt;
   group = λ k le lt. is.group_rest k (let e = is.group_size in omega (arith, e, le)) lt;
+  behind = λ k le lt. zero k lt;
   past = λ k le lt e. cell_none image node (pointer_at (k / 1024)) (k % 1024) (none (pointer_at (k / 1024)) (pointer_in (k / 1024) (omega arith)).1);
+  none = λ i lt le. none (pointer_at i) (pointer_in i lt).1;
 }
 
 -- the anode of such a page
@@ -110,12 +113,17 @@ module _ (page slot kind unique : ℕ) (owner group bytes was : List ℕ) (is_pa
   page_here : IsPage kind unique owner group (page_of new.entries new.puts after page)
   page_here = subst (λ (l : List ℕ). IsPage kind unique owner group l) (sym here) is_page
 
+  map_here : (k : ℕ) → k < 1024 → get_or (node_in new after page).map k 0 ≡ 0
+  map_here k lt = (let e = zero_number 72 (page_of new.entries new.puts after page) (λ j below. page_here.zero (72 + j) (omega arith) (omega arith)) in λ i. get_or (map_under new.superblock.blocks after (e i)) k 0) ∙ get_or-replicate 1024 k 0 0 lt
+
   none_here : HasNoBlocks (node_in new after page)
-  none_here = no_blocks (node_in new after page) (λ k le lt. page_here.zero k (omega arith) lt) (λ k lt.
-      (let e = zero_number 72 (page_of new.entries new.puts after page) (λ j below. page_here.zero (72 + j) (omega arith) (omega arith)) in λ i. get_or (map_under new.superblock.blocks after (e i)) k 0) ∙ get_or-replicate 1024 k 0 0 lt)
+  none_here = no_blocks (node_in new after page) (λ k le lt. page_here.zero k (omega arith) lt) map_here
+
+  pub alone_here : is_shared new after (node_in new after page) ≡ false
+  alone_here = alone_none new after (node_in new after page) (none_here 15 (omega arith))
 
   pub bare_here : IsBare after (node_in new after page)
-  bare_here = record { none = none_here; tidy = tidy_page after (node_in new after page) kind unique owner group page_here none_here }
+  bare_here = record { none = none_here; tidy = tidy_page after (node_in new after page) kind unique owner group page_here none_here map_here }
 
   pub put_anode : anode_in new after page ≡ record { kind = kind; unique = unique; length = 0; owner = owner; group = group; lists = λ which k. 0; content = λ k. 0 }
   put_anode = anode_none after (node_in new after page) kind unique owner group page_here none_here
@@ -139,6 +147,7 @@ freed_turned page slot unique node cleared old before mid middle new after bytes
       ∙ (let e = number ∙ number-same 4 4 4 cleared.page node.page (λ j lt. facts.rest (4 + j) (inl (omega arith))) in
       λ i. record { kind = 0; unique = e i; length = 0; owner = []; group = []; lists = λ which k. 0; content = λ k. 0 });
   tidy = λ was_tidy. (bare_here page slot 0 unique [] [] bytes was is_page mid new middle after low is pages quiet).tidy;
+  alone = alone_here page slot 0 unique [] [] bytes was is_page mid new middle after low is pages quiet;
 }
 
 -- and one that was made
@@ -147,7 +156,8 @@ pub made_there : (page slot : ℕ) (dir : Bool) (kind unique : ℕ) (owner group
     → ((image : List ℕ) (p : ℕ) → page_of new.entries new.puts image p ≡ (if page == p then bytes else page_of old.entries old.puts image p)) → after ≡ before
     → Made page (made dir owner group (anode_in old before page)) old before new after
 made_there page slot dir kind unique owner group bytes was old new before after low is_page kind_is number is pages quiet = record {
-  turns = put_turns page slot kind unique owner group bytes was is_page old new before after low is pages quiet no_names no_names old before (record { counts = λ b lt. refl; settled = λ b lt. refl; pages = λ p lt. refl }) (λ b. refl);
+  turns = turns_own page no_names (node_in new after page) old before new after (alone_here page slot kind unique owner group bytes was is_page old new before after low is pages quiet)
+      (put_turns page slot kind unique owner group bytes was is_page old new before after low is pages quiet no_names no_names old before (record { counts = λ b lt. refl; settled = λ b lt. refl; pages = λ p lt. refl }) (λ b. refl));
   anode_is = put_anode page slot kind unique owner group bytes was is_page old new before after low is pages quiet
       ∙ (λ i. record { kind = kind_is i; unique = number i; length = 0; owner = owner; group = group; lists = λ which k. 0; content = λ k. 0 });
 }

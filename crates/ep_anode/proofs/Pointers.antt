@@ -38,6 +38,7 @@ points_front w pointer old page lt is torn = record {
   others = λ v below differs. by v differs (nat_lt v 16) refl;
   map = λ low. refl;
   rest = λ k beside. beside_page k beside;
+  behind = λ k le. refl;
 }
   where
     new : Node
@@ -54,14 +55,15 @@ points_front w pointer old page lt is torn = record {
     beside_page k (inr high) = torn.after k (omega arith)
 
 -- and in the indirect block
-pub points_back : (w pointer : ℕ) (old : Node) (map : List ℕ) → 16 ≤ w → number_at 4 (4 * (w - 16)) map ≡ pointer → Torn (4 * (w - 16)) 4 old.map map →
+pub points_back : (w pointer : ℕ) (old : Node) (map : List ℕ) → 16 ≤ w → w < 68 → number_at 4 (4 * (w - 16)) map ≡ pointer → Torn (4 * (w - 16)) 4 old.map map →
     PointsTo w pointer old (record { blocks = old.blocks; page = old.page; map = map })
-points_back w pointer old map le is torn = record {
+points_back w pointer old map le most is torn = record {
   blocks = refl;
   here = pointer_back _ w le ∙ is;
   others = λ v below differs. by v differs (nat_lt v 16) refl;
   map = λ low. let no : ⊥ = omega arith in absurd no;
   rest = λ k beside. refl;
+  behind = λ k le_2. torn.after k (omega arith);
 }
   where
     by : (v : ℕ) → (v ≡ w → ⊥) → (front : Bool) → nat_lt v 16 ≡ front → pointer_of (record { blocks = old.blocks; page = old.page; map = map }) v ≡ pointer_of old v

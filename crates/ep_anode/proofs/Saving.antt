@@ -1,6 +1,6 @@
 -- An anode that was put in its page.
 use Rattle.std.proofs.Common.{◌≡◌, ◌≢◌, ◌<◌, ℕ, ◌+◌, ◌-◌, List, [], length, get_or, refl, sym, ◌∙◌, ap, subst, arith}
-use Rattle.std.specs.Prelude.{Bool, true, false, ◌==◌, ◌||◌, if◌then◌else◌, nat_le, replicate}
+use Rattle.std.specs.Prelude.{Bool, true, false, ◌==◌, ◌&&◌, ◌||◌, if◌then◌else◌, nat_lt, nat_le, replicate}
 use Rattle.std.proofs.lemmas.Bool.Decides.{nat_tests}
 use Rattle.std.proofs.lemmas.List.{get_or-replicate, length-replicate}
 use Rattle.dfs_base.specs.Image.{byte_at, bytes_from}
@@ -11,8 +11,8 @@ use Rattle.ep_log.specs.Puts.{page_of}
 use Rattle.ep_log.specs.State.{State, MayPut, with_put, put_of}
 use Rattle.ep_space.specs.Counts.{count_page, count_now, count_settled}
 use Rattle.ep_anode.specs.Room.{are_counts, with_counts, MayPutAll, PutsPages}
-use Rattle.ep_anode.specs.Node.{is_pointer, byte_under, map_under, node_of, node_in, cell}
-use Rattle.ep_anode.specs.Changes.{Replaced, Saved}
+use Rattle.ep_anode.specs.Node.{pointer_of, is_pointer, byte_under, map_under, node_of, node_in, cell}
+use Rattle.ep_anode.specs.Changes.{is_shared, Replaced, Saved}
 use Rattle.ep_anode.specs.declared.node.Node.{Node}
 use Rattle.ep_anode.proofs.Putting.{may_one, puts_one}
 use Rattle.ep_anode.proofs.Moving.{now_same, settled_put, puts_then, puts_wider}
@@ -71,10 +71,10 @@ node_there state image page node blocks is size same =
 -- the put of its page
 pub saved : (page slot : ℕ) (node : Node) (old : State) (before : List ℕ) (changed : Node) (mid : State) (middle : List ℕ) (new : State) (after was : List ℕ) → page < 1058
     → node.blocks ≡ old.superblock.blocks → mid.superblock.blocks ≡ old.superblock.blocks → changed.blocks ≡ node.blocks → changed.map ≡ node.map → length node.map ≡ 1024
-    → Replaced 15 (λ k. get_or node.map k 0) node old before changed mid middle → new ≡ with_put mid (put_of slot page was changed.page)
+    → ((v : ℕ) → v < 68 → v ≢ 15 → pointer_of changed v ≡ pointer_of node v) → is_shared mid middle changed ≡ false → Replaced 15 (λ k. get_or node.map k 0) node old before changed mid middle → new ≡ with_put mid (put_of slot page was changed.page)
     → ((image : List ℕ) (p : ℕ) → page_of new.entries new.puts image p ≡ (if page == p then changed.page else page_of mid.entries mid.puts image p)) → after ≡ middle
     → Saved page node old before changed new after
-saved page slot node old before changed mid middle new after was low blocks same_mid same_node same_map size replaced is pages quiet = record {
+saved page slot node old before changed mid middle new after was low blocks same_mid same_node same_map size others alone replaced is pages quiet = record {
   turns = record {
     counts = λ b lt. (let e = replaced.moves.counts b lt in let f = ap (λ (l : List ℕ). count_now new l b) quiet ∙ now_same mid new middle middle b (beside (count_page b) (omega arith)) in omega (arith, e, f));
     settled = λ b lt. ap (λ (l : List ℕ). count_settled new l b) quiet ∙ settled_put mid new slot page was changed.page middle b is ∙ replaced.moves.settled b lt;
@@ -82,10 +82,15 @@ saved page slot node old before changed mid middle new after was low blocks same
   };
   there = node_there new after page changed blocks_new (here after) (ap length same_map ∙ size) (λ k lt. ap (λ (l : List ℕ). cell l changed 15 k) quiet ∙ replaced.cells 15 k (omega arith) lt ∙ (λ i. get_or (sym same_map i) k 0));
   cells = λ v k below apart lt. ap (λ (l : List ℕ). cell l changed v k) quiet ∙ replaced.cells v k below lt ∙ (let e : (v == 15) ≡ false = grind (arith, nat_tests) in λ i. if e i then get_or node.map k 0 else cell before node v k);
+  pointers = others;
+  alone = (λ i. is_pointer changed.blocks (pointer_of changed 15) && nat_lt 1 (same_count (pointer_of changed 15 - 1) i)) ∙ alone;
 }
   where
     beside : (p : ℕ) → page ≢ p → page_of new.entries new.puts middle p ≡ page_of mid.entries mid.puts middle p
     beside p apart = (let e : (page == p) ≡ false = grind (arith, nat_tests) in pages middle p ∙ (λ i. if e i then changed.page else page_of mid.entries mid.puts middle p))
+
+    same_count : (b : ℕ) → count_now new after b ≡ count_now mid middle b
+    same_count b = ap (λ (l : List ℕ). count_now new l b) quiet ∙ now_same mid new middle middle b (beside (count_page b) (omega arith))
 
     here : (image : List ℕ) → page_of new.entries new.puts image page ≡ changed.page
     here image = (let e : (page == page) ≡ true = grind (arith, nat_tests) in pages image page ∙ (λ i. if e i then changed.page else page_of mid.entries mid.puts image page))

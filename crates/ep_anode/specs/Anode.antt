@@ -1,10 +1,11 @@
 -- What an anode is, and how calls change it.
-use Rattle.std.specs.Prelude.{◌≡◌, ◌≤◌, ◌<◌, ℕ, ◌+◌, ◌-◌, ◌*◌, ◌/◌, ◌%◌, ◌==◌, ◌&&◌, max, min, Bool, List, [], length, if◌then◌else◌, nat_lt, nat_le}
+use Rattle.std.specs.Prelude.{◌≡◌, ◌≤◌, ◌<◌, ℕ, ◌+◌, ◌-◌, ◌*◌, ◌/◌, ◌%◌, ◌==◌, ◌&&◌, max, min, Bool, List, [], length, not, if◌then◌else◌, nat_lt, nat_le}
 use Rattle.std.proofs.Common.{get_or}
 use Rattle.dfs_base.specs.Image.{byte_at, bytes_from}
 use Rattle.ep_layout.specs.Numbers.{number_at}
 use Rattle.ep_log.specs.State.{State}
-use Rattle.ep_anode.specs.Node.{pointer_at, cell, node_in, HasNoBlocks}
+use Rattle.ep_anode.specs.Room.{how_many}
+use Rattle.ep_anode.specs.Node.{pointer_of, pointer_at, cell, node_in, HasNoBlocks}
 use Rattle.ep_anode.specs.declared.node.Node.{Node}
 
 -- An anode: its kind (0 free, 1 directory, 2 file); its unique number; its length, of a directory in entries and else in
@@ -82,6 +83,13 @@ with_length n anode = record anode {
   content = λ k. if nat_lt k (byte_length anode.kind n) then anode.content k else 0;
 }
 
+-- an anode whose bytes end with a piece that was written from one on: what stood from there on is gone
+abbrev pub ended : ℕ → List ℕ → Anode → Anode
+ended from piece anode = record anode {
+  length = length_for anode.kind (from + length piece);
+  content = λ k. if nat_lt k (from + length piece) then over from piece anode.content k else 0;
+}
+
 -- an anode with a list in its block
 abbrev pub with_list : ℕ → List ℕ → Anode → Anode
 with_list which bytes anode = record anode { lists = λ w k. if w == which then (if nat_lt k 1024 then get_or bytes k 0 else 0) else anode.lists w k }
@@ -111,12 +119,19 @@ pub record IsPage (kind unique : ℕ) (owner group page : List ℕ) : Type 0 whe
   pub group_is : text_at page 137 ≡ group
   pub group_rest : (k : ℕ) → 138 + length group ≤ k → k < 512 → byte_at page k ≡ 0
 
--- The bytes that no field of an anode names are zero: in its page, and past the end of its bytes in their last block.
+-- The bytes that no field of an anode names are zero: in its page, behind the pointers of its indirect block, and past the end
+-- of its bytes in their last block. No pointer is past that end.
 pub record IsTidy (image : List ℕ) (node : Node) : Type 0 where
   pub first : (k : ℕ) → 1 ≤ k → k < 4 → byte_at node.page k ≡ 0
   pub owner : (k : ℕ) → 77 + byte_at node.page 76 ≤ k → k < 137 → byte_at node.page k ≡ 0
   pub group : (k : ℕ) → 138 + byte_at node.page 137 ≤ k → k < 512 → byte_at node.page k ≡ 0
+  pub behind : (k : ℕ) → 208 ≤ k → k < 1024 → byte_at node.map k ≡ 0
   pub past : (k : ℕ) → bytes_of node ≤ k → k < 65536 → k / 1024 ≡ bytes_of node / 1024 → cell image node (pointer_at (k / 1024)) (k % 1024) ≡ 0
+  pub none : (i : ℕ) → i < 64 → bytes_of node ≤ 1024 * i → pointer_of node (pointer_at i) ≡ 0
+
+-- how many pointers of an anode's indirect block are past the end of its bytes
+abbrev pub names_past : Node → ℕ
+names_past node = how_many (λ j. nat_le (bytes_of node) (1024 * (12 + j)) && not (pointer_of node (16 + j) == 0)) 52
 
 -- an anode without blocks
 pub record IsBare (image : List ℕ) (node : Node) : Type 0 where

@@ -44,6 +44,10 @@ node_in state image p = node_of state.superblock.blocks image (page_of state.ent
 unfoldable pub names : Node → ℕ → ℕ
 names node block = how_many (λ w. pointer_of node w == block + 1) 68
 
+-- and how many of those below one
+unfoldable pub names_below : ℕ → Node → ℕ → ℕ
+names_below n node block = how_many (λ w. pointer_of node w == block + 1) n
+
 -- no pointers
 abbrev pub no_names : ℕ → ℕ
 no_names block = 0
@@ -55,11 +59,13 @@ pub record PointsTo (w pointer : ℕ) (old new : Node) : Type 0 where
   pub others : (v : ℕ) → v < 68 → (v ≡ w → ⊥) → pointer_of new v ≡ pointer_of old v
   pub map : w < 16 → new.map ≡ old.map
   pub rest : (k : ℕ) → (k < 12) ⊎ (76 ≤ k) → byte_at new.page k ≡ byte_at old.page k
+  pub behind : (k : ℕ) → 208 ≤ k → byte_at new.map k ≡ byte_at old.map k
 
 -- all but the pointers is the same
 pub record SameFacts (old new : Node) : Type 0 where
   pub blocks : new.blocks ≡ old.blocks
   pub rest : (k : ℕ) → (k < 12) ⊎ (76 ≤ k) → byte_at new.page k ≡ byte_at old.page k
+  pub behind : (k : ℕ) → 208 ≤ k → byte_at new.map k ≡ byte_at old.map k
 
 -- an anode with another length
 pub record HasLength (n : ℕ) (old new : Node) : Type 0 where

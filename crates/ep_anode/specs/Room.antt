@@ -45,7 +45,3 @@ pub record PutsPages (pages : ℕ → Bool) (slot : ℕ) (old new : State) : Typ
 -- stay: those of the piece, and the block of the end.
 abbrev pub blocks_written : ℕ → ℕ → ℕ → ℕ → ℕ
 blocks_written kept from n i = min i ((from + n + 1023) / 1024) - from / 1024 + one (nat_lt (kept / 1024) i)
-
--- how many blocks are copied under the pointers below w, the one of the indirect block left out
-abbrev pub blocks_copied : ℕ → ℕ
-blocks_copied w = w - one (nat_lt 15 w)

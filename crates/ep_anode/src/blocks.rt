@@ -5,9 +5,9 @@ ghost use Rattle.dfs_base.specs.Crash.{IsQuiet};
 ghost use Rattle.ep_log.specs.Log.{disk_of, state_of, slot_of, IsSoundLog};
 ghost use Rattle.ep_space.specs.Counts.{count_now};
 ghost use Rattle.ep_anode.specs.Room.{one, are_counts, free_blocks, MayPutAll, PutsPages};
-ghost use Rattle.ep_anode.specs.Node.{pointer_of, is_pointer, map_under, names, no_names, node_in, SameFacts, PointsTo};
+ghost use Rattle.ep_anode.specs.Node.{pointer_of, is_pointer, map_under, names, names_below, no_names, node_in, SameFacts, PointsTo};
 ghost use Rattle.ep_anode.specs.Anode.{bytes_of, content_at};
-ghost use Rattle.ep_anode.specs.Changes.{WroteLoose, Moves, AreCounted, IsTaken, Replaced};
+ghost use Rattle.ep_anode.specs.Changes.{WroteLoose, Moves, AreCounted, AreFew, IsTaken, Replaced};
 ghost use Rattle.ep_space.specs.Faults.{IsCountFault, IsTakeFault};
 
 use crate::node::{BLOCK, INDIRECT_AT, Node, pointer_at};
@@ -15,7 +15,7 @@ use crate::parts::{clear_from, copy_part};
 use dfs_base::Disk;
 use ep_layout::{PAGE, u32_at};
 use ep_log::{Log, Tx};
-use ep_space::{SpaceFault, give, take};
+use ep_space::{SpaceFault, give, share, take};
 
 // Fills a block's bytes with those of the block that a pointer names, zero where it names none.
 pub fn read_under<D: Disk>(
@@ -103,6 +103,57 @@ fn give_up<D: Disk>(log: &mut Log<D>, tx: &mut Tx, pointer: u32) -> Result<(), S
     Ok(())
 }
 
+// One more pointer names the block that a pointer names.
+fn share_under<D: Disk>(log: &mut Log<D>, tx: &mut Tx, pointer: u32) -> Result<(), SpaceFault>
+    requires sound { IsSoundLog D.tells D.view log.old }
+    requires may { MayPutAll are_counts (state_of log.old) (slot_of tx.old) }
+    requires named { D.tells → IsTrue (is_pointer (state_of log.old).superblock.blocks pointer) → 1 ≤ count_now (state_of log.old) (D.view (disk_of log.old)).image (pointer - 1) }
+    requires few { D.tells → IsTrue (is_pointer (state_of log.old).superblock.blocks pointer) → count_now (state_of log.old) (D.view (disk_of log.old)).image (pointer - 1) < 65535 }
+    ensures sound { IsSoundLog D.tells D.view log.new }
+    ensures tx { tx.new ≡ tx.old }
+    ensures puts { PutsPages are_counts (slot_of tx.old) (state_of log.old) (state_of log.new) }
+    ensures moves { D.tells → OnOk result (Moves no_names (λ block. one (pointer == block + 1)) (state_of log.old) (D.view (disk_of log.old)).image (state_of log.new) (D.view (disk_of log.new)).image) }
+    ensures quiet { IsQuiet (D.view (disk_of log.old)) (D.view (disk_of log.new)) }
+    ensures counted { (D.view (disk_of log.old)).faults ≤ (D.view (disk_of log.new)).faults }
+    ensures only { IfErr result (λ fault. IsCountFault fault (D.view (disk_of log.old)) (D.view (disk_of log.new))) }
+{
+    if pointer == 0 || log.blocks() < pointer {
+        return Ok(());
+    }
+    share(log, tx, pointer - 1)?;
+    Ok(())
+}
+
+// One more pointer names each of the blocks that pointers from one on up to another name.
+pub fn share_all<D: Disk>(
+    log: &mut Log<D>,
+    tx: &mut Tx,
+    node: &Node,
+    from: u32,
+    to: u32,
+) -> Result<(), SpaceFault>
+    requires sound { IsSoundLog D.tells D.view log.old }
+    requires may { MayPutAll are_counts (state_of log.old) (slot_of tx.old) }
+    requires blocks { node.now.blocks ≡ (state_of log.old).superblock.blocks }
+    requires from { from ≤ to }
+    requires to { to ≤ 68 }
+    requires named { D.tells → AreCounted (names node.now) (state_of log.old) (D.view (disk_of log.old)).image }
+    requires few { D.tells → AreFew (names node.now) (state_of log.old) (D.view (disk_of log.old)).image }
+    ensures sound { IsSoundLog D.tells D.view log.new }
+    ensures tx { tx.new ≡ tx.old }
+    ensures puts { PutsPages are_counts (slot_of tx.old) (state_of log.old) (state_of log.new) }
+    ensures moves { D.tells → OnOk result (Moves (names_below from node.now) (names_below to node.now) (state_of log.old) (D.view (disk_of log.old)).image (state_of log.new) (D.view (disk_of log.new)).image) }
+    ensures room { D.tells → OnOk result (free_blocks (state_of log.old) (D.view (disk_of log.old)).image ≤ free_blocks (state_of log.new) (D.view (disk_of log.new)).image) }
+    ensures quiet { IsQuiet (D.view (disk_of log.old)) (D.view (disk_of log.new)) }
+    ensures counted { (D.view (disk_of log.old)).faults ≤ (D.view (disk_of log.new)).faults }
+    ensures only { IfErr result (λ fault. IsCountFault fault (D.view (disk_of log.old)) (D.view (disk_of log.new))) }
+{
+    for w in from..to {
+        share_under(log, tx, node.pointer(w))?;
+    }
+    Ok(())
+}
+
 // Gives up the block that pointer w names, which names none then.
 pub fn clear<D: Disk>(
     log: &mut Log<D>,
@@ -122,8 +173,10 @@ pub fn clear<D: Disk>(
     ensures replaced { D.tells → OnOk result (Replaced w no_names node.old (state_of log.old) (D.view (disk_of log.old)).image node.new (state_of log.new) (D.view (disk_of log.new)).image) }
     ensures room { D.tells → OnOk result (free_blocks (state_of log.old) (D.view (disk_of log.old)).image ≤ free_blocks (state_of log.new) (D.view (disk_of log.new)).image) }
     ensures wrote { D.tells → WroteLoose (names node.old) (state_of log.old) (D.view (disk_of log.old)) (D.view (disk_of log.new)) }
+    ensures quiet { IsQuiet (D.view (disk_of log.old)) (D.view (disk_of log.new)) }
     ensures map { w < 16 → node.new.map ≡ node.old.map }
     ensures points { OnOk result (PointsTo w 0 node.old node.new) }
+    ensures others { (v : ℕ) → v < 68 → (v ≡ w → ⊥) → pointer_of node.new v ≡ pointer_of node.old v }
     ensures counted { (D.view (disk_of log.old)).faults ≤ (D.view (disk_of log.new)).faults }
     ensures only { IfErr result (λ fault. IsCountFault fault (D.view (disk_of log.old)) (D.view (disk_of log.new))) }
 {
@@ -155,6 +208,7 @@ pub fn replace<D: Disk>(
     ensures wrote { D.tells → WroteLoose (names node.old) (state_of log.old) (D.view (disk_of log.old)) (D.view (disk_of log.new)) }
     ensures map { w < 16 → node.new.map ≡ node.old.map }
     ensures others { (v : ℕ) → v < 68 → (v ≡ w → ⊥) → pointer_of node.new v ≡ pointer_of node.old v }
+    ensures fresh { D.tells → OnOk result (count_now (state_of log.new) (D.view (disk_of log.new)).image (pointer_of node.new w - 1) ≡ 1) }
     ensures counted { (D.view (disk_of log.old)).faults ≤ (D.view (disk_of log.new)).faults }
     ensures only { IfErr result (λ fault. IsTakeFault (D.tells → ⊥) fault (D.view (disk_of log.old)) (D.view (disk_of log.new))) }
 {

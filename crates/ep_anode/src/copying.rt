@@ -1,89 +1,80 @@
-// Copies of anodes.
-ghost use Rattle.std.specs.Prelude.{◌≡◌, ◌<◌, ◌≤◌, ◌==◌, ◌+◌, ℕ, IfErr, OnOk, if◌then◌else◌};
+// Copies of anodes, which name the blocks of their sources.
+ghost use Rattle.std.specs.Prelude.{◌≡◌, ◌<◌, ◌≤◌, ◌+◌, ℕ, IfErr, OnOk, min};
+ghost use Rattle.dfs_base.specs.Crash.{IsQuiet};
+ghost use Rattle.ep_layout.specs.Numbers.{number_at};
 ghost use Rattle.ep_log.specs.Log.{disk_of, state_of, slot_of, IsSoundLog};
-ghost use Rattle.ep_anode.specs.Room.{are_counts, with_counts, free_blocks, blocks_copied, MayPutAll, PutsPages};
-ghost use Rattle.ep_anode.specs.Node.{pointer_of, cell, names, no_names, node_in, SameFacts, HasNoBlocks};
-ghost use Rattle.ep_anode.specs.Changes.{WroteLoose, Moves, AreCounted, Replaced, Made};
-ghost use Rattle.ep_anode.specs.Anode.{anode_of, IsTidy};
-ghost use Rattle.ep_space.specs.Faults.{IsTakeFault};
+ghost use Rattle.ep_anode.specs.Room.{with_counts, free_blocks, MayPutAll, PutsPages};
+ghost use Rattle.ep_anode.specs.Node.{pointer_of, map_under, names, no_names, node_in};
+ghost use Rattle.ep_anode.specs.Changes.{WroteLoose, AreCounted, AreFew, Cloned, Made, SharesBlocks};
+ghost use Rattle.ep_anode.specs.Anode.{anode_of, names_past, IsTidy};
+ghost use Rattle.ep_space.specs.Faults.{IsTakeFault, IsCountFault};
 
-use crate::blocks::{read_under, replace};
-use crate::node::{BLOCK, INDIRECT, Node, POINTERS};
+use crate::blocks::share_all;
+use crate::node::{INDIRECT, MAPPED, Node, POINTERS};
 use crate::writing::save;
 use dfs_base::Disk;
 use ep_log::{Log, Tx};
 use ep_space::SpaceFault;
 
-// Copies the block that pointer w names, but for the indirect block.
-fn copy_block<D: Disk>(
+// Puts an anode in a page that had none: one more pointer names each block that its page names.
+fn put_sharing<D: Disk>(
     log: &mut Log<D>,
     tx: &mut Tx,
-    source: &Node,
-    copy: &mut Node,
-    w: u32,
+    page: u32,
+    copy: &Node,
 ) -> Result<(), SpaceFault>
     requires sound { IsSoundLog D.tells D.view log.old }
-    requires may { MayPutAll are_counts (state_of log.old) (slot_of tx.old) }
-    requires pointer { w < 68 }
-    requires blocks { source.now.blocks ≡ (state_of log.old).superblock.blocks }
-    requires copy_blocks { copy.old.blocks ≡ (state_of log.old).superblock.blocks }
-    requires none { pointer_of copy.old w ≡ 0 }
-    requires named { D.tells → AreCounted (names copy.old) (state_of log.old) (D.view (disk_of log.old)).image }
-    requires room { D.tells → 1 ≤ free_blocks (state_of log.old) (D.view (disk_of log.old)).image }
+    requires may { MayPutAll (with_counts page) (state_of log.old) (slot_of tx.old) }
+    requires page { page < 1058 }
+    requires blocks { copy.now.blocks ≡ (state_of log.old).superblock.blocks }
+    requires map { D.tells → copy.now.map ≡ map_under copy.now.blocks (D.view (disk_of log.old)).image (pointer_of copy.now 15) }
+    requires named { D.tells → AreCounted (names copy.now) (state_of log.old) (D.view (disk_of log.old)).image }
+    requires few { D.tells → AreFew (names copy.now) (state_of log.old) (D.view (disk_of log.old)).image }
     ensures sound { IsSoundLog D.tells D.view log.new }
     ensures tx { tx.new ≡ tx.old }
-    ensures puts { PutsPages are_counts (slot_of tx.old) (state_of log.old) (state_of log.new) }
-    ensures facts { SameFacts copy.old copy.new }
-    ensures others { (v : ℕ) → v < 68 → (v ≡ w → ⊥) → pointer_of copy.new v ≡ pointer_of copy.old v }
-    ensures replaced { D.tells → OnOk result (Replaced w (λ k. if w == 15 then 0 else cell (D.view (disk_of log.old)).image source.now w k)
-        copy.old (state_of log.old) (D.view (disk_of log.old)).image copy.new (state_of log.new) (D.view (disk_of log.new)).image) }
-    ensures room { D.tells → OnOk result (free_blocks (state_of log.old) (D.view (disk_of log.old)).image + blocks_copied w ≤ free_blocks (state_of log.new) (D.view (disk_of log.new)).image + blocks_copied (w + 1)) }
-    ensures wrote { D.tells → WroteLoose (names copy.old) (state_of log.old) (D.view (disk_of log.old)) (D.view (disk_of log.new)) }
+    ensures puts { PutsPages (with_counts page) (slot_of tx.old) (state_of log.old) (state_of log.new) }
+    ensures cloned { D.tells → OnOk result (Cloned page copy.now (state_of log.old) (D.view (disk_of log.old)).image (state_of log.new) (D.view (disk_of log.new)).image) }
+    ensures indirect { D.tells → OnOk result (pointer_of (node_in (state_of log.new) (D.view (disk_of log.new)).image page) 15 ≡ pointer_of copy.now 15) }
+    ensures room { D.tells → OnOk result (free_blocks (state_of log.old) (D.view (disk_of log.old)).image ≤ free_blocks (state_of log.new) (D.view (disk_of log.new)).image) }
+    ensures quiet { IsQuiet (D.view (disk_of log.old)) (D.view (disk_of log.new)) }
     ensures counted { (D.view (disk_of log.old)).faults ≤ (D.view (disk_of log.new)).faults }
-    ensures only { IfErr result (λ fault. IsTakeFault (D.tells → ⊥) fault (D.view (disk_of log.old)) (D.view (disk_of log.new))) }
+    ensures only { IfErr result (λ fault. IsCountFault fault (D.view (disk_of log.old)) (D.view (disk_of log.new))) }
 {
-    let pointer = source.pointer(w);
-    if w == INDIRECT || pointer == 0 {
-        return Ok(());
-    }
-    let mut bytes = [0; BLOCK];
-    read_under(log, pointer, &mut bytes)?;
-    replace(log, tx, copy, w, &bytes)
-}
-
-// Copies all blocks that an anode names, but for the indirect block.
-pub fn copy_all<D: Disk>(
-    log: &mut Log<D>,
-    tx: &mut Tx,
-    source: &Node,
-    copy: &mut Node,
-) -> Result<(), SpaceFault>
-    requires sound { IsSoundLog D.tells D.view log.old }
-    requires may { MayPutAll are_counts (state_of log.old) (slot_of tx.old) }
-    requires blocks { source.now.blocks ≡ (state_of log.old).superblock.blocks }
-    requires copy_blocks { copy.old.blocks ≡ (state_of log.old).superblock.blocks }
-    requires none { HasNoBlocks copy.old }
-    requires named { D.tells → AreCounted (names source.now) (state_of log.old) (D.view (disk_of log.old)).image }
-    requires room { D.tells → 68 ≤ free_blocks (state_of log.old) (D.view (disk_of log.old)).image }
-    ensures sound { IsSoundLog D.tells D.view log.new }
-    ensures tx { tx.new ≡ tx.old }
-    ensures puts { PutsPages are_counts (slot_of tx.old) (state_of log.old) (state_of log.new) }
-    ensures facts { SameFacts copy.old copy.new }
-    ensures cells { D.tells → OnOk result ((v k : ℕ) → v < 68 → (v ≡ 15 → ⊥) → k < 1024 →
-        cell (D.view (disk_of log.new)).image copy.new v k ≡ cell (D.view (disk_of log.old)).image source.now v k) }
-    ensures moves { D.tells → OnOk result (Moves (names copy.old) (names copy.new) (state_of log.old) (D.view (disk_of log.old)).image (state_of log.new) (D.view (disk_of log.new)).image) }
-    ensures room { D.tells → OnOk result (free_blocks (state_of log.old) (D.view (disk_of log.old)).image ≤ free_blocks (state_of log.new) (D.view (disk_of log.new)).image + 67) }
-    ensures wrote { D.tells → WroteLoose (names copy.old) (state_of log.old) (D.view (disk_of log.old)) (D.view (disk_of log.new)) }
-    ensures counted { (D.view (disk_of log.old)).faults ≤ (D.view (disk_of log.new)).faults }
-    ensures only { IfErr result (λ fault. IsTakeFault (D.tells → ⊥) fault (D.view (disk_of log.old)) (D.view (disk_of log.new))) }
-{
-    for w in 0..POINTERS {
-        copy_block(log, tx, source, copy, w)?;
-    }
+    share_all(log, tx, copy, 0, MAPPED)?;
+    log.put(tx, page, &copy.page)?;
     Ok(())
 }
 
-// Puts a copy of an anode in a page.
+// Puts an anode in a page that had none, with an indirect block of its own: one more pointer names each other block that it
+// names.
+fn put_copy<D: Disk>(
+    log: &mut Log<D>,
+    tx: &mut Tx,
+    page: u32,
+    copy: &mut Node,
+) -> Result<(), SpaceFault>
+    requires sound { IsSoundLog D.tells D.view log.old }
+    requires may { MayPutAll (with_counts page) (state_of log.old) (slot_of tx.old) }
+    requires page { page < 1058 }
+    requires blocks { copy.old.blocks ≡ (state_of log.old).superblock.blocks }
+    requires named { D.tells → AreCounted (names copy.old) (state_of log.old) (D.view (disk_of log.old)).image }
+    requires few { D.tells → AreFew (names copy.old) (state_of log.old) (D.view (disk_of log.old)).image }
+    requires room { D.tells → 1 ≤ free_blocks (state_of log.old) (D.view (disk_of log.old)).image }
+    ensures sound { IsSoundLog D.tells D.view log.new }
+    ensures tx { tx.new ≡ tx.old }
+    ensures puts { PutsPages (with_counts page) (slot_of tx.old) (state_of log.old) (state_of log.new) }
+    ensures cloned { D.tells → OnOk result (Cloned page copy.old (state_of log.old) (D.view (disk_of log.old)).image (state_of log.new) (D.view (disk_of log.new)).image) }
+    ensures room { D.tells → OnOk result (free_blocks (state_of log.old) (D.view (disk_of log.old)).image ≤ free_blocks (state_of log.new) (D.view (disk_of log.new)).image + 1) }
+    ensures wrote { D.tells → WroteLoose no_names (state_of log.old) (D.view (disk_of log.old)) (D.view (disk_of log.new)) }
+    ensures counted { (D.view (disk_of log.old)).faults ≤ (D.view (disk_of log.new)).faults }
+    ensures only { IfErr result (λ fault. IsTakeFault (D.tells → ⊥) fault (D.view (disk_of log.old)) (D.view (disk_of log.new))) }
+{
+    copy.set_pointer(INDIRECT, 0);
+    share_all(log, tx, copy, 0, POINTERS)?;
+    save(log, tx, page, copy)
+}
+
+// Puts a copy of an anode in a page that had none.
 pub fn copy_node<D: Disk>(
     log: &mut Log<D>,
     tx: &mut Tx,
@@ -94,19 +85,25 @@ pub fn copy_node<D: Disk>(
     requires may { MayPutAll (with_counts page) (state_of log.old) (slot_of tx.old) }
     requires page { page < 1058 }
     requires blocks { source.now.blocks ≡ (state_of log.old).superblock.blocks }
+    requires map { D.tells → source.now.map ≡ map_under source.now.blocks (D.view (disk_of log.old)).image (pointer_of source.now 15) }
     requires named { D.tells → AreCounted (names source.now) (state_of log.old) (D.view (disk_of log.old)).image }
-    requires room { D.tells → 68 ≤ free_blocks (state_of log.old) (D.view (disk_of log.old)).image }
+    requires few { D.tells → AreFew (names source.now) (state_of log.old) (D.view (disk_of log.old)).image }
+    requires room { D.tells → min 1 (names_past source.now) ≤ free_blocks (state_of log.old) (D.view (disk_of log.old)).image }
     ensures sound { IsSoundLog D.tells D.view log.new }
     ensures tx { tx.new ≡ tx.old }
     ensures puts { PutsPages (with_counts page) (slot_of tx.old) (state_of log.old) (state_of log.new) }
     ensures made { D.tells → OnOk result (Made page (anode_of (D.view (disk_of log.old)).image source.now) (state_of log.old) (D.view (disk_of log.old)).image (state_of log.new) (D.view (disk_of log.new)).image) }
+    ensures shares { D.tells → OnOk result (SharesBlocks source.now (node_in (state_of log.new) (D.view (disk_of log.new)).image page)) }
     ensures tidy { D.tells → IsTidy (D.view (disk_of log.old)).image source.now → OnOk result (IsTidy (D.view (disk_of log.new)).image (node_in (state_of log.new) (D.view (disk_of log.new)).image page)) }
-    ensures room { D.tells → OnOk result (free_blocks (state_of log.old) (D.view (disk_of log.old)).image ≤ free_blocks (state_of log.new) (D.view (disk_of log.new)).image + 68) }
+    ensures room { D.tells → OnOk result (free_blocks (state_of log.old) (D.view (disk_of log.old)).image ≤ free_blocks (state_of log.new) (D.view (disk_of log.new)).image + min 1 (names_past source.now)) }
     ensures wrote { D.tells → WroteLoose no_names (state_of log.old) (D.view (disk_of log.old)) (D.view (disk_of log.new)) }
     ensures counted { (D.view (disk_of log.old)).faults ≤ (D.view (disk_of log.new)).faults }
     ensures only { IfErr result (λ fault. IsTakeFault (D.tells → ⊥) fault (D.view (disk_of log.old)) (D.view (disk_of log.new))) }
 {
-    let mut copy = source.without_blocks();
-    copy_all(log, tx, source, &mut copy)?;
-    save(log, tx, page, &mut copy)
+    let mut copy = source.up_to_length();
+    if source.has_names_past() {
+        return put_copy(log, tx, page, &mut copy);
+    }
+    copy.map = source.map;
+    put_sharing(log, tx, page, &copy)
 }

@@ -10,10 +10,11 @@ mod fault;
 mod lists;
 mod making;
 mod node;
+mod owning;
 mod parts;
 mod writing;
 
-pub use anode::{clone_of, create, cut, read_at, remove, write_at};
+pub use anode::{clone_of, create, cut, length_of, read_at, remove, write_at, write_end};
 pub use fault::NodeFault;
 pub use lists::{read_list, write_list};
 pub use node::BLOCK;

@@ -6,12 +6,13 @@ ghost use Rattle.ep_log.specs.Log.{disk_of, state_of, slot_of, IsSoundLog};
 ghost use Rattle.ep_anode.specs.Room.{with_counts, free_blocks, MayPutAll, PutsPages};
 ghost use Rattle.ep_anode.specs.Node.{names, node_in};
 ghost use Rattle.ep_anode.specs.Anode.{anode_in, with_list};
-ghost use Rattle.ep_anode.specs.Changes.{WroteLoose, Turned, AreCounted};
+ghost use Rattle.ep_anode.specs.Changes.{own_names, WroteLoose, Changed, AreCounted, AreFew};
 ghost use Rattle.ep_anode.specs.Faults.{IsNodeFault};
 
 use crate::blocks::{load, read_under};
 use crate::fault::NodeFault;
 use crate::node::BLOCK;
+use crate::owning::load_own;
 use crate::writing::list_node;
 use dfs_base::Disk;
 use ep_log::{Log, Tx};
@@ -55,17 +56,18 @@ pub fn write_list<D: Disk>(
     requires page { page < 1058 }
     requires which { which < 3 }
     requires named { D.tells → AreCounted (names (node_in (state_of log.old) (D.view (disk_of log.old)).image page)) (state_of log.old) (D.view (disk_of log.old)).image }
+    requires few { D.tells → AreFew (names (node_in (state_of log.old) (D.view (disk_of log.old)).image page)) (state_of log.old) (D.view (disk_of log.old)).image }
     requires room { D.tells → 2 ≤ free_blocks (state_of log.old) (D.view (disk_of log.old)).image }
     ensures sound { IsSoundLog D.tells D.view log.new }
     ensures tx { tx.new ≡ tx.old }
     ensures puts { PutsPages (with_counts page) (slot_of tx.old) (state_of log.old) (state_of log.new) }
-    ensures turned { D.tells → OnOk result (Turned page (with_list which bytes.now) (node_in (state_of log.old) (D.view (disk_of log.old)).image page) (state_of log.old) (D.view (disk_of log.old)).image (state_of log.new) (D.view (disk_of log.new)).image) }
+    ensures changed { D.tells → OnOk result (Changed page (with_list which bytes.now) (state_of log.old) (D.view (disk_of log.old)).image (state_of log.new) (D.view (disk_of log.new)).image) }
     ensures room { D.tells → OnOk result (free_blocks (state_of log.old) (D.view (disk_of log.old)).image ≤ free_blocks (state_of log.new) (D.view (disk_of log.new)).image + 2) }
-    ensures wrote { D.tells → WroteLoose (names (node_in (state_of log.old) (D.view (disk_of log.old)).image page)) (state_of log.old) (D.view (disk_of log.old)) (D.view (disk_of log.new)) }
+    ensures wrote { D.tells → WroteLoose (own_names (state_of log.old) (D.view (disk_of log.old)).image (node_in (state_of log.old) (D.view (disk_of log.old)).image page)) (state_of log.old) (D.view (disk_of log.old)) (D.view (disk_of log.new)) }
     ensures counted { (D.view (disk_of log.old)).faults ≤ (D.view (disk_of log.new)).faults }
     ensures only { IfErr result (λ fault. IsNodeFault fault (D.view (disk_of log.old)) (D.view (disk_of log.new))) }
 {
-    let mut node = load(log, page)?;
+    let mut node = load_own(log, tx, page)?;
     list_node(log, tx, page, &mut node, which as u32, bytes)?;
     Ok(())
 }

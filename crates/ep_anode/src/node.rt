@@ -1,11 +1,11 @@
 // An anode as it stands in its page, with its indirect block.
-ghost use Rattle.std.specs.Prelude.{◌≡◌, ◌<◌, ◌≤◌, ◌+◌, ◌-◌, ◌*◌, length, max};
+ghost use Rattle.std.specs.Prelude.{◌≡◌, ◌≢◌, ◌<◌, ◌≤◌, ◌⊎◌, ◌+◌, ◌-◌, ◌*◌, ◌↔◌, ℕ, IsTrue, length, max};
 ghost use Rattle.dfs_base.specs.Image.{byte_at};
 ghost use Rattle.ep_layout.specs.Numbers.{number_at};
-ghost use Rattle.ep_anode.specs.Node.{pointer_of, pointer_at as pointer_for, PointsTo, HasLength, SameFacts, HasNoBlocks};
-ghost use Rattle.ep_anode.specs.Anode.{bytes_of, byte_length, length_for};
+ghost use Rattle.ep_anode.specs.Node.{pointer_of, pointer_at as pointer_for, PointsTo, HasLength, SameFacts};
+ghost use Rattle.ep_anode.specs.Anode.{bytes_of, byte_length, length_for, names_past};
 
-use ep_layout::{PAGE, put_bytes, put_u32, u32_at};
+use ep_layout::{PAGE, put_u32, u32_at};
 
 /// Bytes of a block.
 pub const BLOCK: usize = 1_024;
@@ -27,12 +27,14 @@ pub const POINTERS: u32 = 68;
 pub const INDIRECT: u32 = 15;
 
 // The first pointer of the indirect block.
-const MAPPED: u32 = 16;
+pub const MAPPED: u32 = 16;
+
+const MAPPED_POINTERS: u32 = 52;
 
 // Where parts of the page stand, in bytes.
 pub const UNIQUE_AT: usize = 4;
 
-const LENGTH_AT: usize = 8;
+pub const LENGTH_AT: usize = 8;
 
 const POINTERS_AT: usize = 12;
 
@@ -83,18 +85,36 @@ impl Node {
         }
     }
 
-    // The same anode without blocks.
-    pub fn without_blocks(&self) -> Node
+    // The same anode without the pointers that are past its length.
+    pub fn up_to_length(&self) -> Node
         ensures facts { SameFacts self.now result }
-        ensures none { HasNoBlocks result }
+        ensures past { (i : ℕ) → i < 64 → bytes_of self.now ≤ 1024 * i → pointer_of result (pointer_for i) ≡ 0 }
+        ensures same { (w : ℕ) → w < 68 → ((i : ℕ) → i < 64 → bytes_of self.now ≤ 1024 * i → w ≢ pointer_for i) → pointer_of result w ≡ pointer_of self.now w }
+        ensures fewer { (w : ℕ) → w < 68 → (pointer_of result w ≡ 0) ⊎ (pointer_of result w ≡ pointer_of self.now w) }
     {
-        let mut page = self.page;
-        put_bytes(&mut page, POINTERS_AT, &[0; 64]);
-        Node {
+        let mut node = Node {
             blocks: self.blocks,
-            page,
-            map: [0; BLOCK],
+            page: self.page,
+            map: self.map,
+        };
+        let first = self.bytes().div_ceil(1_024);
+        for i in first..64 {
+            node.set_pointer(pointer_at(i), 0);
         }
+        node
+    }
+
+    // Whether pointers of the indirect block are past the length.
+    pub fn has_names_past(&self) -> bool
+        ensures { IsTrue result ↔ (0 < names_past self.now) }
+    {
+        let bytes = self.bytes();
+        for j in 0..MAPPED_POINTERS {
+            if bytes <= 1_024 * (12 + j) && self.pointer(MAPPED + j) != 0 {
+                return true;
+            }
+        }
+        false
     }
 
     // So many bytes a length makes, in the anode's own unit.
@@ -115,17 +135,24 @@ impl Node {
         self.bytes_for(u32_at(&self.page, LENGTH_AT))
     }
 
+    // The length that so many bytes need.
+    pub fn length_for(&self, end: u32) -> u32
+        requires { end ≤ 65536 }
+        ensures { result ≡ length_for (byte_at self.now.page 0) end }
+    {
+        if self.page[0] == DIRECTORY {
+            end.div_ceil(ENTRY_BYTES)
+        } else {
+            end
+        }
+    }
+
     // Raises the length to what so many bytes need.
     pub fn reach(&mut self, end: u32)
         requires { end ≤ 65536 }
         ensures { HasLength (max (number_at 4 8 self.old.page) (length_for (byte_at self.old.page 0) end)) self.old self.new }
     {
-        let needed = if self.page[0] == DIRECTORY {
-            end.div_ceil(ENTRY_BYTES)
-        } else {
-            end
-        };
-        let length = u32_at(&self.page, LENGTH_AT).max(needed);
+        let length = u32_at(&self.page, LENGTH_AT).max(self.length_for(end));
         put_u32(&mut self.page, LENGTH_AT, length);
     }
 

@@ -1,11 +1,11 @@
 // Writes to an anode's bytes.
-ghost use Rattle.std.specs.Prelude.{◌/◌, ◌≡◌, ◌<◌, ◌≤◌, ◌+◌, ◌-◌, ◌*◌, IfErr, OnOk, length};
+ghost use Rattle.std.specs.Prelude.{◌/◌, ◌≡◌, ◌<◌, ◌≤◌, ◌+◌, ◌-◌, ◌*◌, ℕ, false, IfErr, OnOk, length};
 ghost use Rattle.std.proofs.Common.{get_or};
 ghost use Rattle.ep_log.specs.Log.{disk_of, state_of, slot_of, IsSoundLog};
 ghost use Rattle.ep_anode.specs.Room.{are_counts, with_counts, free_blocks, blocks_written, MayPutAll, PutsPages};
-ghost use Rattle.ep_anode.specs.Node.{pointer_at as pointer_for, names, SameFacts};
-ghost use Rattle.ep_anode.specs.Anode.{content_at, over, written, with_length, with_list};
-ghost use Rattle.ep_anode.specs.Changes.{WroteLoose, AreCounted, Replaced, Laid, Saved, Turned};
+ghost use Rattle.ep_anode.specs.Node.{pointer_of, pointer_at as pointer_for, names, SameFacts};
+ghost use Rattle.ep_anode.specs.Anode.{content_at, over, written, ended, with_length, with_list};
+ghost use Rattle.ep_anode.specs.Changes.{is_shared, WroteLoose, AreCounted, Replaced, Laid, Saved, Turned};
 ghost use Rattle.ep_space.specs.Faults.{IsTakeFault};
 
 use crate::blocks::{clear, read_part, replace};
@@ -39,6 +39,7 @@ fn write_part<D: Disk>(
     ensures replaced { D.tells → OnOk result (Replaced (pointer_for i) (λ k. over from piece.now (λ m. content_at (D.view (disk_of log.old)).image node.old kept m) (1024 * i + k)) node.old (state_of log.old) (D.view (disk_of log.old)).image node.new (state_of log.new) (D.view (disk_of log.new)).image) }
     ensures room { D.tells → OnOk result (free_blocks (state_of log.old) (D.view (disk_of log.old)).image ≤ free_blocks (state_of log.new) (D.view (disk_of log.new)).image + 1) }
     ensures wrote { D.tells → WroteLoose (names node.old) (state_of log.old) (D.view (disk_of log.old)) (D.view (disk_of log.new)) }
+    ensures others { (v : ℕ) → v < 68 → (v ≡ pointer_for i → ⊥) → pointer_of node.new v ≡ pointer_of node.old v }
     ensures counted { (D.view (disk_of log.old)).faults ≤ (D.view (disk_of log.new)).faults }
     ensures only { IfErr result (λ fault. IsTakeFault (D.tells → ⊥) fault (D.view (disk_of log.old)) (D.view (disk_of log.new))) }
 {
@@ -72,6 +73,9 @@ fn lay_block<D: Disk>(
     ensures replaced { D.tells → OnOk result (Replaced (pointer_for i) (λ k. over from piece.now (λ m. content_at (D.view (disk_of log.old)).image node.old kept m) (1024 * i + k)) node.old (state_of log.old) (D.view (disk_of log.old)).image node.new (state_of log.new) (D.view (disk_of log.new)).image) }
     ensures room { D.tells → OnOk result (free_blocks (state_of log.old) (D.view (disk_of log.old)).image + blocks_written kept from (length piece.now) i ≤ free_blocks (state_of log.new) (D.view (disk_of log.new)).image + blocks_written kept from (length piece.now) (i + 1)) }
     ensures wrote { D.tells → WroteLoose (names node.old) (state_of log.old) (D.view (disk_of log.old)) (D.view (disk_of log.new)) }
+    ensures others { (v : ℕ) → v < 68 → (v ≡ pointer_for i → ⊥) → pointer_of node.new v ≡ pointer_of node.old v }
+    ensures past { kept ≤ 1024 * i → from + length piece.now ≤ 1024 * i → OnOk result (pointer_of node.new (pointer_for i) ≡ 0) }
+    ensures same { 1024 * i + 1024 ≤ kept → from + length piece.now ≤ 1024 * i → pointer_of node.new (pointer_for i) ≡ pointer_of node.old (pointer_for i) }
     ensures counted { (D.view (disk_of log.old)).faults ≤ (D.view (disk_of log.new)).faults }
     ensures only { IfErr result (λ fault. IsTakeFault (D.tells → ⊥) fault (D.view (disk_of log.old)) (D.view (disk_of log.new))) }
 {
@@ -132,6 +136,8 @@ fn write_map<D: Disk>(log: &mut Log<D>, tx: &mut Tx, node: &mut Node) -> Result<
     ensures replaced { D.tells → OnOk result (Replaced 15 (λ k. get_or node.old.map k 0) node.old (state_of log.old) (D.view (disk_of log.old)).image node.new (state_of log.new) (D.view (disk_of log.new)).image) }
     ensures room { D.tells → OnOk result (free_blocks (state_of log.old) (D.view (disk_of log.old)).image ≤ free_blocks (state_of log.new) (D.view (disk_of log.new)).image + 1) }
     ensures wrote { D.tells → WroteLoose (names node.old) (state_of log.old) (D.view (disk_of log.old)) (D.view (disk_of log.new)) }
+    ensures others { (v : ℕ) → v < 68 → (v ≡ 15 → ⊥) → pointer_of node.new v ≡ pointer_of node.old v }
+    ensures alone { D.tells → OnOk result (is_shared (state_of log.new) (D.view (disk_of log.new)).image node.new ≡ false) }
     ensures map { node.new.map ≡ node.old.map }
     ensures counted { (D.view (disk_of log.old)).faults ≤ (D.view (disk_of log.new)).faults }
     ensures only { IfErr result (λ fault. IsTakeFault (D.tells → ⊥) fault (D.view (disk_of log.old)) (D.view (disk_of log.new))) }
@@ -231,6 +237,38 @@ pub fn cut_node<D: Disk>(
 {
     let kept = node.bytes_for(length).min(node.bytes());
     lay(log, tx, node, kept, 0, &[])?;
+    node.set_length(length);
+    save(log, tx, page, node)
+}
+
+// Writes a piece, and ends the bytes with it.
+pub fn end_node<D: Disk>(
+    log: &mut Log<D>,
+    tx: &mut Tx,
+    page: u32,
+    node: &mut Node,
+    from: u32,
+    piece: &[u8],
+) -> Result<(), SpaceFault>
+    requires sound { IsSoundLog D.tells D.view log.old }
+    requires may { MayPutAll (with_counts page) (state_of log.old) (slot_of tx.old) }
+    requires page { page < 1058 }
+    requires within { from + length piece.now ≤ 65536 }
+    requires blocks { node.old.blocks ≡ (state_of log.old).superblock.blocks }
+    requires named { D.tells → AreCounted (names node.old) (state_of log.old) (D.view (disk_of log.old)).image }
+    requires room { D.tells → (from + length piece.now + 1023) / 1024 - from / 1024 + 2 ≤ free_blocks (state_of log.old) (D.view (disk_of log.old)).image }
+    ensures sound { IsSoundLog D.tells D.view log.new }
+    ensures tx { tx.new ≡ tx.old }
+    ensures puts { PutsPages (with_counts page) (slot_of tx.old) (state_of log.old) (state_of log.new) }
+    ensures turned { D.tells → OnOk result (Turned page (ended from piece.now) node.old (state_of log.old) (D.view (disk_of log.old)).image (state_of log.new) (D.view (disk_of log.new)).image) }
+    ensures room { D.tells → OnOk result (free_blocks (state_of log.old) (D.view (disk_of log.old)).image ≤ free_blocks (state_of log.new) (D.view (disk_of log.new)).image + ((from + length piece.now + 1023) / 1024 - from / 1024 + 2)) }
+    ensures wrote { D.tells → WroteLoose (names node.old) (state_of log.old) (D.view (disk_of log.old)) (D.view (disk_of log.new)) }
+    ensures counted { (D.view (disk_of log.old)).faults ≤ (D.view (disk_of log.new)).faults }
+    ensures only { IfErr result (λ fault. IsTakeFault (D.tells → ⊥) fault (D.view (disk_of log.old)) (D.view (disk_of log.new))) }
+{
+    let kept = node.bytes().min(from);
+    lay(log, tx, node, kept, from, piece)?;
+    let length = node.length_for(from + piece.len() as u32);
     node.set_length(length);
     save(log, tx, page, node)
 }

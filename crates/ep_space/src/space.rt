@@ -122,13 +122,13 @@ pub fn take<D: Disk>(log: &mut Log<D>, tx: &mut Tx) -> Result<u32, SpaceFault>
     Ok(block)
 }
 
-/// One more pointer names a block, which 1 to 16 do. The errors are `Failed` and `Memory`, after which nothing is put.
+/// One more pointer names a block, which 1 to 65,534 do. The errors are `Failed` and `Memory`, after which nothing is put.
 pub fn share<D: Disk>(log: &mut Log<D>, tx: &mut Tx, block: u32) -> Result<(), SpaceFault>
     requires sound { IsSoundLog D.tells D.view log.old }
     requires block { block < (state_of log.old).superblock.blocks }
     requires may { MayPut (state_of log.old) (slot_of tx.old) (count_page block) }
     requires shared { D.tells → 1 ≤ count_now (state_of log.old) (D.view (disk_of log.old)).image block }
-    requires few { D.tells → count_now (state_of log.old) (D.view (disk_of log.old)).image block ≤ 16 }
+    requires few { D.tells → count_now (state_of log.old) (D.view (disk_of log.old)).image block < 65535 }
     ensures sound { IsSoundLog D.tells D.view log.new }
     ensures tx { tx.new ≡ tx.old }
     ensures put { OnOk result (HasPut (slot_of tx.old) block (state_of log.old) (state_of log.new)) }

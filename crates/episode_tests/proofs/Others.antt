@@ -9,7 +9,7 @@ use Rattle.ep_layout.specs.declared.superblock.Superblock.{Superblock}
 use Rattle.ep_log.specs.declared.put.Put.{Put}
 use Rattle.ep_log.specs.Puts.{count_of, IsOwn, without_page}
 use Rattle.ep_log.specs.State.{State, MayPut, HasNoOpen, HasRoom, begun, ended, with_put, fresh_state}
-use Rattle.episode_tests.specs.Only.{IsOnly}
+use Rattle.ep_log.specs.State.{IsOnly}
 
 -- one more put counts at most one more
 step_out : (mine : Bool) (x c : ℕ) → x ≤ c + 1 → x ≤ (if mine then c + 1 else c) + 1
@@ -64,7 +64,7 @@ none_put old new slot needed room none is =
     omega (arith, e, f)
 
 -- the only open transaction may put a page where it put fewer than three
-pub may_put : (state : State) (slot page i : ℕ) → HasRoom state → IsOnly state slot → count_of slot state.puts ≤ i → i < 3 → MayPut state slot page
+pub may_put : (state : State) (slot page i : ℕ) → HasRoom state → IsOnly state slot 7 → count_of slot state.puts ≤ i → i < 3 → MayPut state slot page
 may_put state slot page i room only few lt =
     let e = only.reserves in
     (omega (arith, e), own_alone slot page state.puts (λ other apart. none_counted state other room (only.others other apart)), inr (omega (arith, e, few, lt)))
@@ -76,13 +76,13 @@ count_after old new slot i put is few =
     let f = count_put slot put old.puts in
     omega (arith, e, f, few)
 
-pub only_after : (old new : State) (slot : ℕ) (put : Put) → new ≡ with_put old put → IsOnly old slot → IsOnly new slot
+pub only_after : (old new : State) (slot : ℕ) (put : Put) → new ≡ with_put old put → IsOnly old slot 7 → IsOnly new slot 7
 only_after old new slot put is only = record {
   reserves = ap (λ (state : State). get_or state.reservations slot 0) is ∙ only.reserves;
   others = λ other apart. ap (λ (state : State). get_or state.reservations other 0) is ∙ only.others other apart;
 }
 
-pub only_begun : (old new : State) (slot : ℕ) → HasNoOpen old → slot < length old.reservations → new ≡ begun old slot 7 → IsOnly new slot
+pub only_begun : (old new : State) (slot : ℕ) → HasNoOpen old → slot < length old.reservations → new ≡ begun old slot 7 → IsOnly new slot 7
 only_begun old new slot none lt is = record {
   reserves = ap (λ (state : State). get_or state.reservations slot 0) is ∙ get_or-set_same old.reservations slot 7 0 lt;
   others = λ other apart. ap (λ (state : State). get_or state.reservations other 0) is ∙ get_or-set_other old.reservations slot other 7 0 apart ∙ none other;
@@ -93,11 +93,11 @@ set_past xs slot (inl lt) = get_or-set_same xs slot 0 0 lt
 set_past xs slot (inr le) = get_or_past (set xs slot 0) slot 0 (let e = length-set xs slot 0 in omega (arith, e, le))
 
 -- none is open once the only one is closed
-none_closed : (state : State) (slot other : ℕ) → IsOnly state slot → (other ≡ slot) ⊎ (other ≢ slot) → get_or (set state.reservations slot 0) other 0 ≡ 0
+none_closed : (state : State) (slot other : ℕ) → IsOnly state slot 7 → (other ≡ slot) ⊎ (other ≢ slot) → get_or (set state.reservations slot 0) other 0 ≡ 0
 none_closed state slot other only (inl same) = ap (λ (k : ℕ). get_or (set state.reservations slot 0) k 0) same ∙ set_past state.reservations slot (cases_lt slot (length state.reservations))
 none_closed state slot other only (inr apart) = get_or-set_other state.reservations slot other 0 0 apart ∙ only.others other apart
 
-pub none_ended : (old new : State) (slot : ℕ) → IsOnly old slot → new ≡ ended old slot → HasNoOpen new
+pub none_ended : (old new : State) (slot : ℕ) → IsOnly old slot 7 → new ≡ ended old slot → HasNoOpen new
 none_ended old new slot only is = λ other. ap (λ (state : State). get_or state.reservations other 0) is ∙ none_closed old slot other only (cases_eq other slot)
 
 -- nothing is reserved in a new log

@@ -1,7 +1,9 @@
 // What the tests do with a log: transactions that fill pages 1, 2 and 3, and what these pages and block 0 have.
 ghost use Rattle.std.specs.Prelude.{◌≡◌, IfOk, OnOk};
 ghost use Rattle.ep_log.specs.Log.{state_of, slot_of, IsSoundLog};
-ghost use Rattle.episode_tests.specs.Only.{IsIdle, IsOnly, IsRead};
+ghost use Rattle.ep_log.specs.Log.{IsIdle};
+ghost use Rattle.ep_log.specs.State.{IsOnly};
+ghost use Rattle.episode_tests.specs.Only.{IsRead};
 
 use dfs_base::Disk;
 use ep_log::{Log, LogFault, Tx};
@@ -31,7 +33,7 @@ pub fn mounted<D: Disk + Drop>(alloc: Global, disk: D) -> Result<Log<D>, LogFaul
 pub fn begun<D: Disk>(log: &mut Log<D>, fills: [u8; 3]) -> Result<Tx, LogFault>
     requires { IsIdle D.tells D.view log.old }
     ensures sound { OnOk result (IsSoundLog D.tells D.view log.new) }
-    ensures only { IfOk result (λ tx. IsOnly (state_of log.new) (slot_of tx)) }
+    ensures only { IfOk result (λ tx. IsOnly (state_of log.new) (slot_of tx) 7) }
 {
     let mut tx = log.begin(3)?;
     for (i, fill) in fills.iter().enumerate() {

@@ -75,6 +75,19 @@ fn opened(rt: &(impl std::rt::Files<File = std::fs::File> + Abort), name: &str) 
     FileDisk::open_or_make(rt, name).expect(rt, "a file")
 }
 
+// A device that takes no byte and can't be synced: both errors are told, and after the sync's the disk is lost.
+#[test]
+fn a_device_that_refuses_all_fails(rt: HostRuntime) {
+    let mut disk = opened(&rt, "/dev/full");
+    let mut read = [9; 2];
+    assert_eq!(rt; disk.write_at(0, b"x"), Err(Failed));
+    assert_eq!(rt; disk.read(0, &mut read), Ok(()));
+    assert_eq!(rt; read, [0; 2]);
+    assert_eq!(rt; disk.sync(), Err(Failed));
+    assert_eq!(rt; disk.read(0, &mut read), Err(Failed));
+    assert_eq!(rt; disk.length(), Err(Failed));
+}
+
 // The same calls on a file, which is made, and what it has when it is opened again.
 #[test]
 fn a_file_keeps_what_memory_keeps(rt: HostRuntime) {

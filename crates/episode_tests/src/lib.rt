@@ -16,4 +16,6 @@ mod space;
 #[cfg(test)]
 mod stops;
 #[cfg(test)]
+mod tests_log;
+#[cfg(test)]
 mod watch;

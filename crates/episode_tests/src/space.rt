@@ -2,7 +2,8 @@
 ghost use Rattle.std.specs.Prelude.{◌≡◌, IfOk, OnOk};
 ghost use Rattle.ep_log.specs.Log.{state_of, slot_of, IsSoundLog};
 ghost use Rattle.ep_log.specs.Puts.{count_of as puts_of};
-ghost use Rattle.episode_tests.specs.Only.{IsIdle, IsOnly};
+ghost use Rattle.ep_log.specs.Log.{IsIdle};
+ghost use Rattle.ep_log.specs.State.{IsOnly};
 
 use dfs_base::Disk;
 use dfs_disk::MemDisk;
@@ -25,10 +26,10 @@ enum Act {
 // Does an act, where it may be done, and answers the block.
 fn done<D: Disk>(log: &mut Log<D>, tx: &mut Tx, act: Act) -> Result<u32, SpaceFault>
     requires sound { IsSoundLog D.tells D.view log.old }
-    requires only { IsOnly (state_of log.old) (slot_of tx.old) }
+    requires only { IsOnly (state_of log.old) (slot_of tx.old) 7 }
     requires none { puts_of (slot_of tx.old) (state_of log.old).puts ≡ 0 }
     ensures sound { IsSoundLog D.tells D.view log.new }
-    ensures only { IsOnly (state_of log.new) (slot_of tx.new) }
+    ensures only { IsOnly (state_of log.new) (slot_of tx.new) 7 }
 {
     match act {
         Act::Take => match take(log, tx) {

@@ -1,6 +1,6 @@
 // Disks that are stopped at each of their calls, and what is mounted of them.
 ghost use Rattle.std.specs.Prelude.{◌≡◌};
-ghost use Rattle.episode_tests.specs.Only.{IsIdle};
+ghost use Rattle.ep_log.specs.Log.{IsIdle};
 
 use crate::changes::{edited, ended, mounted_contents, placed, started};
 use crate::watch::{Seen, Watched, is_synced, torn, watching};

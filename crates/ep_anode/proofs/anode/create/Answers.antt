@@ -17,7 +17,7 @@ put-requires-clause-may g c =
     let page = c.args.page in
     let many = c.requires.sound.many in
     let low = c.requires.page in
-    subst (λ (s : State). MayPut s (slot_of c.args.tx.now) page) (sym c.page.ensures.state) (may_one (is_page page) (state_of c.args.log.now) (slot_of c.args.tx.now) page c.requires.may (test_same page page refl) (omega (arith, many, low)))
+    subst (λ (s : State). MayPut s (slot_of c.args.tx.now) page) (sym c.page.ensures.reads.state) (may_one (is_page page) (state_of c.args.log.now) (slot_of c.args.tx.now) page c.requires.may (test_same page page refl) (omega (arith, many, low)))
 
 pub returns-clause-puts : goal.returns-clause-puts
 returns-clause-puts g c =
@@ -25,7 +25,7 @@ returns-clause-puts g c =
     let old = state_of c.args.log.now in
     let many = c.requires.sound.many in
     let low = c.requires.page in
-    let same = c.page.ensures.state in
+    let same = c.page.ensures.reads.state in
     puts_one (is_page page) old (state_of c.put.new.self) _ (c.in_ok-put.ensures.put.1 ∙ (λ i. with_put (same i) (put_of (slot_of c.args.tx.now) page c.in_ok-put.ensures.put.0 c.anode_page-new.result))) (test_same page page refl) (omega (arith, many, low))
     (c.requires.may.own page (omega (arith, many, low)) (test_same page page refl))
 
@@ -34,7 +34,7 @@ returns-clause-made g c = λ told.
     let page = c.args.page in
     let old = state_of c.args.log.now in
     let before = (g.D.Disk.view (disk_of c.args.log.now)).image in
-    let same = c.page.ensures.state in
+    let same = c.page.ensures.reads.state in
     let read : number_at 4 4 c.page.new.out ≡ (anode_in old before page).unique = (let e = c.in_ok-page.ensures.bytes told in λ i. number_at 4 4 (e i)) in
     let at = c.u32_at.ensures in
     let added = c.saturating_add-unique.ensures in
@@ -46,7 +46,7 @@ returns-clause-made g c = λ told.
     (elim c.if-dir.branch [ then-dir w ↦ w.kind-is ∙ (λ i. if sym w.if-dir.true i then 1 else 2) | else-dir w ↦ w.kind-is ∙ (λ i. if sym w.if-dir.false i then 1 else 2) ]) number
     (c.in_ok-put.ensures.put.1 ∙ (λ i. with_put (same i) (put_of (slot_of c.args.tx.now) page c.in_ok-put.ensures.put.0 c.anode_page-new.result)))
     (λ image p. c.in_ok-put.ensures.pages image p ∙ (λ i. if page == p then c.anode_page-new.result else page_of (same i).entries (same i).puts image p))
-    (c.put.ensures.quiet.image ∙ c.page.ensures.quiet.image)
+    (c.put.ensures.quiet.image ∙ c.page.ensures.reads.quiet.image)
 
 pub returns-clause-bare : goal.returns-clause-bare
 returns-clause-bare g c = λ told.
@@ -55,8 +55,8 @@ returns-clause-bare g c = λ told.
 
 pub returns-clause-room : goal.returns-clause-room
 returns-clause-room g c = λ told.
-    let same = c.page.ensures.state in
+    let same = c.page.ensures.reads.state in
     free_put c.args.page (slot_of c.args.tx.now) c.anode_page-new.result c.in_ok-put.ensures.put.0 (state_of c.args.log.now) (state_of c.put.new.self) _ _ c.requires.page
     (c.in_ok-put.ensures.put.1 ∙ (λ i. with_put (same i) (put_of (slot_of c.args.tx.now) c.args.page c.in_ok-put.ensures.put.0 c.anode_page-new.result)))
     (λ image p. c.in_ok-put.ensures.pages image p ∙ (λ i. if c.args.page == p then c.anode_page-new.result else page_of (same i).entries (same i).puts image p))
-    (c.put.ensures.quiet.image ∙ c.page.ensures.quiet.image)
+    (c.put.ensures.quiet.image ∙ c.page.ensures.reads.quiet.image)

@@ -4,7 +4,7 @@ use Rattle.ep_log.specs.Log.{disk_of, state_of}
 use Rattle.ep_anode.specs.Room.{one}
 use Rattle.ep_anode.specs.Node.{names, no_names}
 use Rattle.ep_anode.specs.Changes.{Moves}
-use Rattle.ep_anode.proofs.Cells.{may_give, replaced}
+use Rattle.ep_anode.proofs.Cells.{may_give, replaced, fresh_count}
 use Rattle.ep_anode.proofs.Moving.{then_quiet}
 use Rattle.ep_anode.proofs.blocks.replace.Goals as goal
 
@@ -37,3 +37,15 @@ returns-clause-replaced g c = λ told.
     c.in_ok-block.block c.args.bytes.now mid (state_of c.give_up.new.log) middle refl (c.in_ok-block.ensures.taken told) (λ i. (rest i).superblock.blocks)
     (subst (λ (p : ℕ). Moves (λ b. one (p == b + 1)) no_names mid middle (state_of c.give_up.new.log) after) c.pointer.ensures (c.in_ok-give_up.ensures.moves told))
     c.give_up.ensures.quiet.image
+
+pub returns-clause-fresh : goal.returns-clause-fresh
+returns-clause-fresh g c = λ told.
+    let old = state_of c.args.log.now in
+    let mid = state_of c.fresh.new.log in
+    let image = (g.D.Disk.view (disk_of c.args.log.now)).image in
+    let middle = (g.D.Disk.view (disk_of c.fresh.new.log)).image in
+    let after = (g.D.Disk.view (disk_of c.give_up.new.log)).image in
+    let rest = c.fresh.ensures.puts.rest in
+    fresh_count c.args.w c.args.node.now c.set_pointer.new.self old image after c.requires.pointer c.requires.blocks (c.requires.named told) (c.in_ok-block.block + 1) c.set_pointer.ensures
+    c.in_ok-block.block c.args.bytes.now mid (state_of c.give_up.new.log) middle refl (c.in_ok-block.ensures.taken told) (λ i. (rest i).superblock.blocks)
+    (subst (λ (p : ℕ). Moves (λ b. one (p == b + 1)) no_names mid middle (state_of c.give_up.new.log) after) c.pointer.ensures (c.in_ok-give_up.ensures.moves told))

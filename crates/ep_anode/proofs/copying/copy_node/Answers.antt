@@ -1,53 +1,99 @@
-use Rattle.std.proofs.Common.{arith}
+use Rattle.std.proofs.Common.{◌≡◌, ◌<◌, ◌∙◌, ℕ, zero, suc, refl, sym, arith, rules}
+use Rattle.std.specs.Prelude.{Bool, true, false, IsTrue}
 use Rattle.std.proofs.lemmas.Result.{on_ok_weaker}
-use Rattle.ep_log.specs.Log.{state_of, slot_of}
-use Rattle.ep_anode.specs.Node.{names, no_names}
-use Rattle.ep_anode.specs.Room.{are_counts, with_counts}
-use Rattle.ep_anode.proofs.Putting.{may_fewer}
-use Rattle.ep_anode.proofs.Moving.{wrote_more}
-use Rattle.ep_anode.proofs.Laid.{still_counted}
-use Rattle.ep_anode.proofs.Plain.{names_none}
-use Rattle.ep_anode.proofs.Saving.{counts_in}
-use Rattle.ep_anode.proofs.Anodes.{copy_made, copy_tidy, wrote_wider}
+use Rattle.ep_log.specs.Log.{disk_of, state_of}
+use Rattle.ep_anode.specs.Node.{map_under, no_names}
+use Rattle.ep_anode.specs.Anode.{names_past}
+use Rattle.ep_anode.specs.declared.node.Node.{Node}
+use Rattle.ep_anode.proofs.Moving.{wrote_quiet}
+use Rattle.ep_anode.proofs.Copied.{names_fewer, counted_fewer, few_fewer, made_of, shares_of, tidy_of, kept_within, lists_within, indirect_within, whole_front, whole_fewer, whole_gone, whole_kept, whole_facts, on_ok_both}
 use Rattle.ep_anode.proofs.copying.copy_node.Goals as goal
 
-pub copy_all-requires-clause-may : goal.copy_all-requires-clause-may
-copy_all-requires-clause-may g c = may_fewer are_counts (with_counts c.args.page) (state_of c.args.log.now) (slot_of c.args.tx.now) (λ p is. counts_in c.args.page p is) c.requires.may
+pub put_copy-requires-clause-named : goal.put_copy-requires-clause-named
+put_copy-requires-clause-named g c = λ told block lt. let copy = c.up_to_length-copy in counted_fewer c.args.source.now copy.result (state_of c.args.log.now) _ (names_fewer c.args.source.now copy.result copy.ensures.fewer) (c.requires.named told) block lt
 
-pub returns-in_err-copy_all-clause-wrote : goal.returns-in_err-copy_all-clause-wrote
-returns-in_err-copy_all-clause-wrote g c = λ told.
-    let empty = c.without_blocks-copy in
-    wrote_wider (names empty.result) no_names (state_of c.args.log.now) _ _ (λ b. let none = names_none empty.result empty.ensures.none b in omega (arith, none)) (c.copy_all.ensures.wrote told)
+pub put_copy-requires-clause-few : goal.put_copy-requires-clause-few
+put_copy-requires-clause-few g c = λ told block lt. let copy = c.up_to_length-copy in few_fewer c.args.source.now copy.result (state_of c.args.log.now) _ (names_fewer c.args.source.now copy.result copy.ensures.fewer) (c.requires.few told) block lt
 
-pub save-requires-clause-named : goal.save-requires-clause-named
-save-requires-clause-named g c = λ told block lt.
-    let empty = c.without_blocks-copy in
-    let same = c.copy_all.ensures.puts.rest in
-    still_counted (names empty.result) (names c.copy_all.new.copy) (state_of c.args.log.now) (state_of c.copy_all.new.log) _ _ (λ i. (same i).superblock.blocks) (c.in_ok-copy_all.ensures.moves told)
-    (λ b low. let none = names_none empty.result empty.ensures.none b in omega (arith, none)) block lt
+pub returns-then-has_names_past-clause-made : goal.returns-then-has_names_past-clause-made
+returns-then-has_names_past-clause-made g c = λ told.
+    let copy = c.up_to_length-copy in
+    let source = c.args.source.now in
+    on_ok_weaker c.put_copy.result (λ cloned. made_of c.args.page source copy.result (state_of c.args.log.now) (state_of c.put_copy.new.log) _ _ copy.ensures.facts copy.ensures.past (kept_within source copy.result copy.ensures.same) (lists_within source copy.result copy.ensures.same) cloned) (c.put_copy.ensures.cloned told)
 
-pub returns-clause-wrote : goal.returns-clause-wrote
-returns-clause-wrote g c = λ told.
-    let empty = c.without_blocks-copy in
-    let same = c.copy_all.ensures.puts.rest in
-    wrote_wider (names empty.result) no_names (state_of c.args.log.now) _ _ (λ b. let none = names_none empty.result empty.ensures.none b in omega (arith, none))
-    (wrote_more (names empty.result) (names c.copy_all.new.copy) (state_of c.args.log.now) (state_of c.copy_all.new.log) _ _ _ (λ i. (same i).superblock.blocks) (c.in_ok-copy_all.ensures.moves told) (c.copy_all.ensures.wrote told) (c.save.ensures.wrote told))
+pub returns-then-has_names_past-clause-shares : goal.returns-then-has_names_past-clause-shares
+returns-then-has_names_past-clause-shares g c = λ told.
+    let copy = c.up_to_length-copy in
+    let source = c.args.source.now in
+    let past = c.has_names_past.ensures.0 c.if-has_names_past.true in
+    on_ok_weaker c.put_copy.result (λ cloned. shares_of c.args.page source copy.result (state_of c.args.log.now) (state_of c.put_copy.new.log) _ _ copy.ensures.facts copy.ensures.past (kept_within source copy.result copy.ensures.same) (lists_within source copy.result copy.ensures.same) cloned
+    (λ none. absurd (omega (arith, past, none)))) (c.put_copy.ensures.cloned told)
+
+pub returns-then-has_names_past-clause-tidy : goal.returns-then-has_names_past-clause-tidy
+returns-then-has_names_past-clause-tidy g c = λ told tidy.
+    let copy = c.up_to_length-copy in
+    let source = c.args.source.now in
+    on_ok_weaker c.put_copy.result (λ cloned. tidy_of c.args.page source copy.result (state_of c.args.log.now) (state_of c.put_copy.new.log) _ _ copy.ensures.facts copy.ensures.past (kept_within source copy.result copy.ensures.same) (lists_within source copy.result copy.ensures.same) cloned tidy) (c.put_copy.ensures.cloned told)
+
+pub put_sharing-requires-clause-map : goal.put_sharing-requires-clause-map
+put_sharing-requires-clause-map g c = λ told.
+    let copy = c.up_to_length-copy in
+    let source = c.args.source.now in
+    let image = (g.D.Disk.view (disk_of c.args.log.now)).image in
+    let whole : Node = record { blocks = copy.result.blocks; page = copy.result.page; map = source.map } in
+    let same = copy.ensures.facts.blocks in
+    let points = whole_front source copy.result whole refl refl 15 (omega arith) ∙ indirect_within source copy.result copy.ensures.same in
+    c.requires.map told ∙ (λ i. map_under (sym same i) image (sym points i))
+
+pub put_sharing-requires-clause-named : goal.put_sharing-requires-clause-named
+put_sharing-requires-clause-named g c = λ told block lt.
+    let copy = c.up_to_length-copy in
+    let source = c.args.source.now in
+    let whole : Node = record { blocks = copy.result.blocks; page = copy.result.page; map = source.map } in
+    counted_fewer source whole (state_of c.args.log.now) _ (names_fewer source whole (whole_fewer source copy.result whole refl refl copy.ensures.fewer)) (c.requires.named told) block lt
+
+pub put_sharing-requires-clause-few : goal.put_sharing-requires-clause-few
+put_sharing-requires-clause-few g c = λ told block lt.
+    let copy = c.up_to_length-copy in
+    let source = c.args.source.now in
+    let whole : Node = record { blocks = copy.result.blocks; page = copy.result.page; map = source.map } in
+    few_fewer source whole (state_of c.args.log.now) _ (names_fewer source whole (whole_fewer source copy.result whole refl refl copy.ensures.fewer)) (c.requires.few told) block lt
+
+none_past : (b : Bool) (n : ℕ) → b ≡ false → (0 < n → IsTrue b) → n ≡ 0
+none_past true n is past = absurd (grind (arith, is))
+none_past false zero is past = refl
+none_past false (suc n) is past = absurd (search (rules, past))
 
 pub returns-clause-made : goal.returns-clause-made
 returns-clause-made g c = λ told.
-    let empty = c.without_blocks-copy in
-    let same = c.copy_all.ensures.puts.rest in
-    on_ok_weaker c.save.result (λ saved. copy_made c.args.page c.args.source.now empty.result c.copy_all.new.copy c.save.new.node (state_of c.args.log.now) (state_of c.copy_all.new.log) (state_of c.save.new.log) _ _ _ (λ i. (same i).superblock.blocks)
-    empty.ensures.facts empty.ensures.none (c.in_ok-copy_all.ensures.moves told) c.copy_all.ensures.facts (c.in_ok-copy_all.ensures.cells told) saved c.save.ensures.facts) (c.save.ensures.saved told)
+    let copy = c.up_to_length-copy in
+    let source = c.args.source.now in
+    let whole : Node = record { blocks = copy.result.blocks; page = copy.result.page; map = source.map } in
+    let none = none_past c.has_names_past.result (names_past source) c.if-has_names_past.false c.has_names_past.ensures.1 in
+    on_ok_weaker c.put_sharing.result (λ cloned. made_of c.args.page source whole (state_of c.args.log.now) (state_of c.put_sharing.new.log) _ _ (whole_facts source copy.result whole refl refl refl copy.ensures.facts)
+    (whole_gone source copy.result whole refl refl none copy.ensures.past) (whole_kept source copy.result whole refl refl (kept_within source copy.result copy.ensures.same))
+    (λ w lt. whole_front source copy.result whole refl refl w (omega arith) ∙ lists_within source copy.result copy.ensures.same w lt) cloned) (c.put_sharing.ensures.cloned told)
+
+pub returns-clause-shares : goal.returns-clause-shares
+returns-clause-shares g c = λ told.
+    let copy = c.up_to_length-copy in
+    let source = c.args.source.now in
+    let whole : Node = record { blocks = copy.result.blocks; page = copy.result.page; map = source.map } in
+    let none = none_past c.has_names_past.result (names_past source) c.if-has_names_past.false c.has_names_past.ensures.1 in
+    let points = whole_front source copy.result whole refl refl 15 (omega arith) ∙ indirect_within source copy.result copy.ensures.same in
+    on_ok_both c.put_sharing.result (λ cloned indirect. shares_of c.args.page source whole (state_of c.args.log.now) (state_of c.put_sharing.new.log) _ _ (whole_facts source copy.result whole refl refl refl copy.ensures.facts)
+    (whole_gone source copy.result whole refl refl none copy.ensures.past) (whole_kept source copy.result whole refl refl (kept_within source copy.result copy.ensures.same))
+    (λ w lt. whole_front source copy.result whole refl refl w (omega arith) ∙ lists_within source copy.result copy.ensures.same w lt) cloned (λ empty. indirect ∙ points)) (c.put_sharing.ensures.cloned told) (c.put_sharing.ensures.indirect told)
 
 pub returns-clause-tidy : goal.returns-clause-tidy
 returns-clause-tidy g c = λ told tidy.
-    let empty = c.without_blocks-copy in
-    let same = c.copy_all.ensures.puts.rest in
-    on_ok_weaker c.save.result (λ saved. copy_tidy c.args.page c.args.source.now empty.result c.copy_all.new.copy c.save.new.node (state_of c.args.log.now) (state_of c.copy_all.new.log) (state_of c.save.new.log) _ _ _ (λ i. (same i).superblock.blocks)
-    empty.ensures.facts empty.ensures.none (c.in_ok-copy_all.ensures.moves told) c.copy_all.ensures.facts (c.in_ok-copy_all.ensures.cells told) saved c.save.ensures.facts tidy) (c.save.ensures.saved told)
+    let copy = c.up_to_length-copy in
+    let source = c.args.source.now in
+    let whole : Node = record { blocks = copy.result.blocks; page = copy.result.page; map = source.map } in
+    let none = none_past c.has_names_past.result (names_past source) c.if-has_names_past.false c.has_names_past.ensures.1 in
+    on_ok_weaker c.put_sharing.result (λ cloned. tidy_of c.args.page source whole (state_of c.args.log.now) (state_of c.put_sharing.new.log) _ _ (whole_facts source copy.result whole refl refl refl copy.ensures.facts)
+    (whole_gone source copy.result whole refl refl none copy.ensures.past) (whole_kept source copy.result whole refl refl (kept_within source copy.result copy.ensures.same))
+    (λ w lt. whole_front source copy.result whole refl refl w (omega arith) ∙ lists_within source copy.result copy.ensures.same w lt) cloned tidy) (c.put_sharing.ensures.cloned told)
 
-pub returns-clause-room : goal.returns-clause-room
-returns-clause-room g c = λ told.
-    let a = c.in_ok-copy_all.ensures.room told in
-    on_ok_weaker c.save.result (λ b. omega (arith, a, b)) (c.save.ensures.room told)
+pub returns-clause-wrote : goal.returns-clause-wrote
+returns-clause-wrote g c = λ told. wrote_quiet no_names (state_of c.args.log.now) _ _ c.put_sharing.ensures.quiet

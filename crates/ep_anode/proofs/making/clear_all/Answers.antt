@@ -27,7 +27,7 @@ loop-w-preserved g c =
       sound = c.clear.ensures.sound;
       tx = c.clear.ensures.tx ∙ invariant.tx;
       puts = puts_then are_counts (slot_of c.args.tx.now) old mid new invariant.puts (subst (λ (tx : Tx). PutsPages are_counts (slot_of tx) mid new) invariant.tx c.clear.ensures.puts);
-      facts = record { blocks = c.clear.ensures.facts.blocks ∙ invariant.facts.blocks; rest = λ k beside. c.clear.ensures.facts.rest k beside ∙ invariant.facts.rest k beside };
+      facts = record { blocks = c.clear.ensures.facts.blocks ∙ invariant.facts.blocks; rest = λ k beside. c.clear.ensures.facts.rest k beside ∙ invariant.facts.rest k beside; behind = λ k le. c.clear.ensures.facts.behind k le ∙ invariant.facts.behind k le };
       none = λ v lt. by v lt (cases_eq v c.loop-w.w);
       moves = λ told. moves_on (names c.args.node.now) (names c.loop-w.node) (names c.clear.new.node) old mid new _ _ _ (λ i. (same i).superblock.blocks) (invariant.moves told) (c.in_ok-clear.ensures.replaced told).moves;
       room = λ told. let a = invariant.room told in let b = c.in_ok-clear.ensures.room told in omega (arith, a, b);

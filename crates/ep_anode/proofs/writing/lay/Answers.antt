@@ -4,7 +4,7 @@ use Rattle.ep_log.specs.declared.kept.Tx.{Tx}
 use Rattle.ep_anode.specs.Node.{names}
 use Rattle.ep_anode.specs.Room.{are_counts, PutsPages}
 use Rattle.ep_anode.proofs.Moving.{puts_then, wrote_more}
-use Rattle.ep_anode.proofs.Laid.{laid_more}
+use Rattle.ep_anode.proofs.Laid.{laid_more, laid_all}
 use Rattle.ep_anode.proofs.Free.{written_more}
 use Rattle.ep_anode.proofs.writing.lay.Goals as goal
 
@@ -24,8 +24,8 @@ loop-i-preserved g c =
       sound = c.lay_block.ensures.sound;
       tx = c.lay_block.ensures.tx ∙ invariant.tx;
       puts = puts_then are_counts (slot_of c.args.tx.now) old mid new invariant.puts (subst (λ (tx : Tx). PutsPages are_counts (slot_of tx) mid new) invariant.tx c.lay_block.ensures.puts);
-      facts = record { blocks = c.lay_block.ensures.facts.blocks ∙ invariant.facts.blocks; rest = λ k beside. c.lay_block.ensures.facts.rest k beside ∙ invariant.facts.rest k beside };
-      laid = λ told. laid_more c.loop-i.i c.args.kept c.args.from c.args.piece.now c.args.node.now old _ c.loop-i.node mid _ c.lay_block.new.node new _ (search rules) (λ i. (same i).superblock.blocks) (invariant.laid told) (c.in_ok-lay_block.ensures.replaced told);
+      facts = record { blocks = c.lay_block.ensures.facts.blocks ∙ invariant.facts.blocks; rest = λ k beside. c.lay_block.ensures.facts.rest k beside ∙ invariant.facts.rest k beside; behind = λ k le. c.lay_block.ensures.facts.behind k le ∙ invariant.facts.behind k le };
+      laid = λ told. laid_more c.loop-i.i c.args.kept c.args.from c.args.piece.now c.args.node.now old _ c.loop-i.node mid _ c.lay_block.new.node new _ (search rules) (λ i. (same i).superblock.blocks) (invariant.laid told) (c.in_ok-lay_block.ensures.replaced told) c.lay_block.ensures.others c.in_ok-lay_block.ensures.past c.lay_block.ensures.same;
       room = λ told. let a = invariant.room told in let b = c.in_ok-lay_block.ensures.room told in omega (arith, a, b);
       wrote = λ told. wrote_more (names c.args.node.now) (names c.loop-i.node) old mid _ _ _ (λ i. (same i).superblock.blocks) (invariant.laid told).moves (invariant.wrote told) (c.lay_block.ensures.wrote told);
       counted = search rules;
@@ -37,3 +37,6 @@ lay_block-requires-clause-room g c = λ told.
     let b = c.requires.room told in
     let more = written_more c.args.kept c.args.from (length c.args.piece.now) c.loop-i.i 64 (search rules) in
     omega (arith, a, b, more)
+
+pub returns-clause-laid : goal.returns-clause-laid
+returns-clause-laid g c = λ told. laid_all c.args.kept c.args.from c.args.piece.now c.args.node.now (state_of c.args.log.now) _ c.loop-i.node (state_of c.loop-i.log) _ (search rules)

@@ -27,7 +27,7 @@ pub returns-clause-turned : goal.returns-clause-turned
 returns-clause-turned g c = λ told.
     let same = c.replace.ensures.puts.rest in
     on_ok_weaker c.save.result (λ saved. list_turned c.args.page c.args.which c.args.bytes.now c.args.node.now c.replace.new.node c.save.new.node (state_of c.args.log.now) (state_of c.replace.new.log) (state_of c.save.new.log) _ _ _ c.requires.which
-    (λ i. (same i).superblock.blocks) (c.in_ok-replace.ensures.replaced told) c.replace.ensures.facts saved c.save.ensures.facts) (c.save.ensures.saved told)
+    (λ i. (same i).superblock.blocks) (c.in_ok-replace.ensures.replaced told) c.replace.ensures.facts c.replace.ensures.others saved c.save.ensures.facts) (c.save.ensures.saved told)
 
 pub returns-clause-room : goal.returns-clause-room
 returns-clause-room g c = λ told.

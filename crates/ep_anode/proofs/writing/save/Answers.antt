@@ -28,7 +28,7 @@ pub returns-clause-saved : goal.returns-clause-saved
 returns-clause-saved g c = λ told.
     let same = c.write_map.ensures.puts.rest in
     saved c.args.page _ c.args.node.now (state_of c.args.log.now) _ c.write_map.new.node (state_of c.write_map.new.log) _ (state_of c.put.new.self) _ _ c.requires.page
-    c.requires.blocks (λ i. (same i).superblock.blocks) c.write_map.ensures.facts.blocks c.write_map.ensures.map (omega arith) (c.in_ok-write_map.ensures.replaced told)
+    c.requires.blocks (λ i. (same i).superblock.blocks) c.write_map.ensures.facts.blocks c.write_map.ensures.map (omega arith) c.write_map.ensures.others (c.in_ok-write_map.ensures.alone told) (c.in_ok-write_map.ensures.replaced told)
     c.in_ok-put.ensures.put.1 c.in_ok-put.ensures.pages c.put.ensures.quiet.image
 
 pub returns-clause-room : goal.returns-clause-room

@@ -8,7 +8,7 @@ use Rattle.ep_anode.proofs.Putting.{may_fewer}
 use Rattle.ep_anode.proofs.Moving.{wrote_more, moves_as}
 use Rattle.ep_anode.proofs.Laid.{still_counted}
 use Rattle.ep_anode.proofs.Saving.{counts_in}
-use Rattle.ep_anode.proofs.Anodes.{length_pointers, names_same, turned_on, written_is, written_cut, written_past}
+use Rattle.ep_anode.proofs.Anodes.{length_pointers, names_same, turned_on, written_is, written_cut, written_past, written_gone}
 use Rattle.ep_anode.proofs.Free.{written_most}
 use Rattle.ep_anode.proofs.writing.write_node.Goals as goal
 use Rattle.ep_anode.proofs.writing.write_node.Goals.{then-bytes-end, else-bytes-end}
@@ -45,7 +45,8 @@ returns-clause-turned g c = λ told.
     on_ok_weaker c.save.result (λ saved. turned_on c.args.page _ _ _ _ node c.lay.new.node c.reach.new.self c.save.new.node (state_of c.args.log.now) (state_of c.lay.new.log) (state_of c.save.new.log) before _ _
     (λ i. (same i).superblock.blocks) (c.in_ok-lay.ensures.laid told) c.lay.ensures.facts c.reach.ensures saved c.save.ensures.facts
     (written c.args.from c.args.piece.now) (over c.args.from c.args.piece.now (λ k. content_at before node (bytes_of node) k)) (written_is node c.lay.new.node c.lay.ensures.facts _ before c.args.from c.args.piece.now refl c.requires.some) (written_cut node c.lay.new.node c.lay.ensures.facts _ before c.args.from c.if-bytes-end.kept c.args.piece.now refl c.requires.within how)
-    (written_past node c.lay.new.node c.lay.ensures.facts _ before c.args.from c.if-bytes-end.kept c.args.piece.now refl c.requires.within how)) (c.save.ensures.saved told)
+    (written_past node c.lay.new.node c.lay.ensures.facts _ before c.args.from c.if-bytes-end.kept c.args.piece.now refl c.requires.within how)
+    (written_gone node c.lay.new.node c.lay.ensures.facts _ before (state_of c.args.log.now) (state_of c.lay.new.log) _ c.args.from c.if-bytes-end.kept c.args.piece.now refl c.requires.within how (c.in_ok-lay.ensures.laid told))) (c.save.ensures.saved told)
 
 pub returns-clause-room : goal.returns-clause-room
 returns-clause-room g c = λ told.

@@ -16,4 +16,4 @@ returns-clause-count g c = λ told.
     (c.in_ok-page.ensures.bytes told ∙ ap (page_of state.entries state.puts image) c.page_of.ensures)
     (subst (λ (at : ℕ). number_at 2 at c.put_u16.new.bytes ≡ c.args.count) place c.put_u16.ensures.number)
     (subst (λ (at : ℕ). Torn at 2 c.page.new.out c.put_u16.new.bytes) place c.put_u16.ensures.rest)
-    (λ p. c.in_ok-put.ensures.pages image p ∙ (λ j. if c.page_of-2.ensures j == p then c.put_u16.new.bytes else page_of (c.page.ensures.state j).entries (c.page.ensures.state j).puts image p))
+    (λ p. c.in_ok-put.ensures.pages image p ∙ (λ j. if c.page_of-2.ensures j == p then c.put_u16.new.bytes else page_of (c.page.ensures.reads.state j).entries (c.page.ensures.reads.state j).puts image p))

@@ -22,7 +22,7 @@ changed-answer-requires g c =
     let pages : state.half.pages ≤ 1059 = omega (arith, many) in
     record {
       untold = c.requires.untold;
-      sound = c.in_ok-tx-in_default.ensures.sound;
+      sound = c.in_ok-tx-in_default.ensures.keeps.sound;
       only = only_begun state new slot idle.none_open begun.1 begun.3;
       may = λ page. subst (λ (s : State). MayPutAll (with_counts page) s slot) (sym begun.3) (may_begun (with_counts page) state slot 3 begun.1 empty (most_three page state.half.pages pages));
     }

@@ -1,4 +1,4 @@
-use Rattle.episode_tests.specs.Only.{IsIdle}
+use Rattle.ep_log.specs.Log.{IsIdle}
 use Rattle.episode_tests.proofs.nodes.agreed.Given as goal
 
 abbrev pub invariant-loop-i : goal.invariant-loop-i

@@ -1,6 +1,6 @@
 use Rattle.std.proofs.Common.{◌≡◌}
 use Rattle.ep_log.specs.Log.{state_of}
-use Rattle.episode_tests.specs.Only.{IsIdle}
+use Rattle.ep_log.specs.Log.{IsIdle}
 use Rattle.episode_tests.proofs.nodes.used.Given as goal
 
 abbrev pub invariant-loop-block : goal.invariant-loop-block

@@ -1,0 +1,32 @@
+use Rattle.std.proofs.Common.{◌≡◌, ◌∙◌, ℕ, List, sym, subst, arith}
+use Rattle.std.specs.Prelude.{true}
+use Rattle.std.proofs.lemmas.Result.{on_ok_weaker}
+use Rattle.ep_log.specs.Log.{disk_of, state_of}
+use Rattle.ep_log.specs.State.{State}
+use Rattle.ep_anode.specs.Node.{names_below}
+use Rattle.ep_anode.specs.Changes.{is_shared as shared_of, Moves}
+use Rattle.ep_anode.proofs.Sharing.{counted_shared, moves_detached}
+use Rattle.ep_anode.proofs.owning.detach.Goals as goal
+
+pub clear-requires-clause-named : goal.clear-requires-clause-named
+clear-requires-clause-named g c = λ told.
+    let node = c.args.node.now in
+    let same = c.is_shared.ensures.state in
+    let rest = c.share_all.ensures.puts.rest in
+    let before = (g.D.Disk.view (disk_of c.args.log.now)).image in
+    let after = (g.D.Disk.view (disk_of c.share_all.new.log)).image in
+    counted_shared node (state_of c.args.log.now) (state_of c.share_all.new.log) before after (λ i. ((λ j. (rest j).superblock.blocks) ∙ (λ j. (same j).superblock.blocks)) i) (c.requires.named told)
+    (subst (λ (s : State). Moves (names_below 16 node) (names_below 68 node) s before (state_of c.share_all.new.log) after) same
+    (subst (λ (l : List ℕ). Moves (names_below 16 node) (names_below 68 node) (state_of c.is_shared.new.log) l (state_of c.share_all.new.log) after) c.is_shared.ensures.quiet.image (c.in_ok-share_all.ensures.moves told)))
+
+pub returns-clause-moves : goal.returns-clause-moves
+returns-clause-moves g c = λ told.
+    let node = c.args.node.now in
+    let same = c.is_shared.ensures.state in
+    let rest = c.share_all.ensures.puts.rest in
+    let before = (g.D.Disk.view (disk_of c.args.log.now)).image in
+    let after = (g.D.Disk.view (disk_of c.share_all.new.log)).image in
+    let shared : shared_of (state_of c.args.log.now) before node ≡ true = sym (c.in_ok-is_shared.ensures.shared told) ∙ (let e = c.if-not-branch.false in grind (arith, e)) in
+    on_ok_weaker c.clear.result (λ replaced. moves_detached node c.clear.new.node (state_of c.args.log.now) (state_of c.share_all.new.log) (state_of c.clear.new.log) before after _ (λ i. ((λ j. (rest j).superblock.blocks) ∙ (λ j. (same j).superblock.blocks)) i) shared
+    (subst (λ (s : State). Moves (names_below 16 node) (names_below 68 node) s before (state_of c.share_all.new.log) after) same
+    (subst (λ (l : List ℕ). Moves (names_below 16 node) (names_below 68 node) (state_of c.is_shared.new.log) l (state_of c.share_all.new.log) after) c.is_shared.ensures.quiet.image (c.in_ok-share_all.ensures.moves told))) replaced) (c.clear.ensures.replaced told)
