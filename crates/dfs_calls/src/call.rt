@@ -1,8 +1,8 @@
 use crate::place::{Place, Which};
 use dfs_base::{AccessList, Items, Name, NoMemory, OpenKind, Plain, ServerId, User};
 
-/// What a host asks of the service. Positions and lengths are in bytes. The first eight change names, lists, lengths
-/// and filesets, and are always decided by a server.
+/// What a host asks of the service. Positions and lengths are in bytes. The first eight and the last change names,
+/// lists, lengths and filesets, and are always decided by a server.
 #[derive(Drop)]
 pub enum Call {
     /// Makes a fileset of so many objects with an empty root, of an owner and the owner's first group.
@@ -97,6 +97,12 @@ pub enum Call {
     CloseFile {
         label: Name,
     },
+    /// Takes a fileset to another server, with all that it holds; unsaved changes become kept.
+    MoveFileset {
+        server: ServerId,
+        fileset: Name,
+        to: ServerId,
+    },
 }
 
 impl Plain for Call {
@@ -190,6 +196,15 @@ impl Plain for Call {
             },
             Call::CloseFile { label } => Call::CloseFile {
                 label: label.copy()?,
+            },
+            Call::MoveFileset {
+                server,
+                fileset,
+                to,
+            } => Call::MoveFileset {
+                server: *server,
+                fileset: fileset.copy()?,
+                to: *to,
             },
         })
     }

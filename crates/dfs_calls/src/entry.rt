@@ -1,6 +1,6 @@
 use crate::call::Call;
 use crate::reply::Reply;
-use dfs_base::{Fid, HostId, Items, Name, NoMemory, Plain, ServerId, Span};
+use dfs_base::{Fid, FilesetId, HostId, Items, Name, NoMemory, Plain, ServerId, Span};
 
 /// One entry of a history of the file tree.
 #[derive(Drop)]
@@ -23,6 +23,11 @@ pub enum Entry {
     Down {
         host: HostId,
         server: ServerId,
+    },
+    /// A server learnt that a fileset which moved has arrived: the room that it kept for it is free again.
+    Left {
+        server: ServerId,
+        fileset: FilesetId,
     },
 }
 
@@ -69,6 +74,10 @@ impl Plain for Entry {
             Entry::Down { host, server } => Entry::Down {
                 host: *host,
                 server: *server,
+            },
+            Entry::Left { server, fileset } => Entry::Left {
+                server: *server,
+                fileset: *fileset,
             },
         })
     }

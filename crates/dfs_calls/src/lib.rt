@@ -8,6 +8,7 @@ mod part;
 mod place;
 mod reply;
 mod roster;
+mod ship;
 
 pub use call::Call;
 pub use entry::{Entry, Loss};
@@ -15,3 +16,4 @@ pub use part::{DirEntry, Piece, Status};
 pub use place::{Place, Which};
 pub use reply::{Facts, Refusal, Reply};
 pub use roster::{HostLine, Roster};
+pub use ship::{Mover, Record, ShipPart};

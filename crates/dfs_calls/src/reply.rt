@@ -31,7 +31,7 @@ pub enum Refusal {
     InUse,
     /// A directory can't be moved into itself.
     Loop,
-    /// No fileset of this name is at the server.
+    /// No fileset of this name is at the server, and none of this name left it.
     NoFileset,
     /// Both places of a move must be in one fileset.
     CrossFileset,
@@ -43,7 +43,7 @@ pub enum Refusal {
     AlreadyLocked,
     /// The label of an open file is taken.
     AlreadyOpened,
-    /// The fileset is at another server than its own.
+    /// The fileset moved: it is at another server than the place names.
     NotHome,
 }
 

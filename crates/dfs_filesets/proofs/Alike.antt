@@ -67,6 +67,7 @@ well_formed_alike old new w a =
     record {
       count = a.count ∙ w.count ∙ sym a.objects;
       limit = rw a.objects w.limit;
+      first = a.unique 1 ∙ w.first;
       root = same_kind _ _ (a.each 1) ∙ w.root;
       sound = λ at object h. let (was, e, keeps) = before _ _ object (a.each at) h in keeps (w.sound at was e);
       named = λ at name entry h. let used = w.named at name entry (is_old at name entry h) in (same_there _ _ (a.each entry.anode) ∙ used.0, a.unique entry.anode ∙ used.1);

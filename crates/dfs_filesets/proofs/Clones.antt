@@ -7,13 +7,13 @@ use Rattle.dfs_objects.specs.declared.content.Content.{Content}
 use Rattle.dfs_objects.specs.declared.content.Content.TheVariants.{Dir, File}
 use Rattle.dfs_objects.specs.declared.content.Object.{Object}
 use Rattle.dfs_objects.specs.declared.content.Anode.{Anode}
-use Rattle.dfs_objects.specs.Changes.{content_changed, content_kept}
+use Rattle.dfs_objects.specs.Changes.{content_changed, content_as_cloned}
 use Rattle.dfs_objects.specs.Files.{content_bytes, present_length, present_bytes, bytes_over, resized}
-use Rattle.dfs_objects.specs.Objects.{blocks_of, object_kept}
+use Rattle.dfs_objects.specs.Objects.{blocks_of, object_as_cloned}
 use Rattle.dfs_objects.proofs.Observed.{over_length}
 use Rattle.dfs_objects.proofs.Overlays.{over_nothing}
 use Rattle.dfs_filesets.specs.declared.fileset.Fileset.{Fileset}
-use Rattle.dfs_filesets.specs.Founding.{anode_kept, cloned}
+use Rattle.dfs_filesets.specs.Founding.{anode_as_cloned, cloned}
 use Rattle.dfs_filesets.specs.Laws.{bytes_at, CloneShowsSource}
 use Rattle.dfs_filesets.specs.Promises.{promise, clone_promise, anode_blocks}
 use Rattle.dfs_filesets.specs.Walk.{object_at}
@@ -34,31 +34,31 @@ kept_shown xs =
     let all : resized xs (length xs) ≡ xs = rw (none, take_all xs) (append_none xs) in
     sym (over_nothing xs 0 (length xs)) ∙ all
 
-clone_bytes : (content : Content) → content_bytes (content_kept content) ≡ content_bytes content
+pub clone_bytes : (content : Content) → content_bytes (content_as_cloned content) ≡ content_bytes content
 clone_bytes (Dir entries lists) = refl
 clone_bytes (File list kept unsaved len) = kept_shown (present_bytes kept unsaved len)
 
-clone_blocks : (content : Content) → blocks_of (content_kept content) ≡ blocks_of content
+clone_blocks : (content : Content) → blocks_of (content_as_cloned content) ≡ blocks_of content
 clone_blocks (Dir entries lists) = refl
 clone_blocks (File list kept unsaved len) = rw (over_length kept unsaved 0 (present_length kept len)) refl
 
-clone_bytes_there : (o : Option Object) → option_map_or (λ object. content_bytes object.content) (option_map (content_changed content_kept) o) [] ≡ option_map_or (λ object. content_bytes object.content) o []
+clone_bytes_there : (o : Option Object) → option_map_or (λ object. content_bytes object.content) (option_map (content_changed content_as_cloned) o) [] ≡ option_map_or (λ object. content_bytes object.content) o []
 clone_bytes_there None = refl
 clone_bytes_there (Some object) = clone_bytes object.content
 
 clone_shows : (fileset : Fileset) (id : FilesetId) (name : List ℕ) (anode : ℕ) → bytes_at (cloned fileset id name) anode ≡ bytes_at fileset anode
 unfolding cloned
 clone_shows fileset id name anode =
-    ap (λ o. option_map_or (λ object. content_bytes object.content) o []) (mapped_object content_kept fileset.anodes anode) ∙ clone_bytes_there (object_at fileset.anodes anode)
+    ap (λ o. option_map_or (λ object. content_bytes object.content) o []) (mapped_object content_as_cloned fileset.anodes anode) ∙ clone_bytes_there (object_at fileset.anodes anode)
 
-object_blocks : (o : Option Object) → option_map_or (λ object. blocks_of object.content) (option_map object_kept o) 0 ≡ option_map_or (λ object. blocks_of object.content) o 0
+object_blocks : (o : Option Object) → option_map_or (λ object. blocks_of object.content) (option_map object_as_cloned o) 0 ≡ option_map_or (λ object. blocks_of object.content) o 0
 object_blocks None = refl
 object_blocks (Some object) = clone_blocks object.content
 
-clone_promised : (anodes : List Anode) (start : ℕ) → fold (λ a x. a + anode_blocks x) start (map anode_kept anodes) ≡ fold (λ a x. a + anode_blocks x) start anodes
+clone_promised : (anodes : List Anode) (start : ℕ) → fold (λ a x. a + anode_blocks x) start (map anode_as_cloned anodes) ≡ fold (λ a x. a + anode_blocks x) start anodes
 clone_promised [] start = refl
 clone_promised (anode ∷ anodes) start =
-    clone_promised anodes (start + anode_blocks (anode_kept anode)) ∙ ap (λ n. fold (λ a x. a + anode_blocks x) (start + n) anodes) (object_blocks anode.object)
+    clone_promised anodes (start + anode_blocks (anode_as_cloned anode)) ∙ ap (λ n. fold (λ a x. a + anode_blocks x) (start + n) anodes) (object_blocks anode.object)
 
 clone_is_promised : (fileset : Fileset) (id : FilesetId) (name : List ℕ) → promise (cloned fileset id name) ≡ clone_promise fileset
 unfolding cloned

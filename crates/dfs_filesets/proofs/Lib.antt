@@ -6,6 +6,7 @@ pub mod Found
 pub mod Kin
 pub mod Leads
 pub mod Made
+pub mod Moved
 pub mod Mapped
 pub mod Names
 pub mod Observations

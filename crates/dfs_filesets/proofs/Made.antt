@@ -1,5 +1,5 @@
 -- A fileset with a new object stays well formed.
-use Rattle.std.proofs.Common.{◌≡◌, ◌≢◌, ◌≤◌, ℕ, true, false, ◌⊎◌, inl, inr, List, [], ◌∷◌, ◌++◌, length, Some, None, is_some, refl, sym, ap, ◌∙◌, subst, rules}
+use Rattle.std.proofs.Common.{◌≡◌, ◌≢◌, ◌≤◌, ℕ, true, false, ◌⊎◌, inl, inr, List, [], ◌∷◌, ◌++◌, length, Some, None, is_some, refl, sym, ap, ◌∙◌, subst, rules, arith}
 use Rattle.std.specs.Option.{option_and_then}
 use Rattle.std.proofs.lemmas.Bool.Decides.{eqb_tells}
 use Rattle.dfs_base.specs.declared.access.AccessEntry.{AccessEntry}
@@ -180,10 +180,14 @@ module _ (fileset : Fileset) (creation : Creation) (directory : Object) (entries
             (path, leads_more fileset.anodes made.anodes entry_stays path 1 at way)
       ]
 
+  one_not : ◌≢◌ {A = ℕ} 1 0
+  one_not h = absurd (omega (arith, h))
+
   pub well_formed_made : IsWellFormed made
   well_formed_made = record {
     count = length_updated entered creation.entry.anode _ ∙ kin.count ∙ w.count ∙ sym (objects_updated entered creation.entry.anode _ ∙ kin.objects);
     limit = rw (objects_updated entered creation.entry.anode _, kin.objects) w.limit;
+    first = unique_stays 1 one_not (λ e. not_root (sym e)) ∙ w.first;
     root = ap is_dir_there (object_other 1 (λ e. not_root (sym e))) ∙ kin.kind 1 ∙ w.root;
     sound = made_sound;
     named = made_named;

@@ -23,7 +23,7 @@ mapped_object change anodes at =
     mapped_place (anode ∷ anodes) zero = refl
     mapped_place (anode ∷ anodes) (suc i) = mapped_place anodes i
 
-mapped_unique : (change : Content → Content) (anodes : List Anode) (i : ℕ) → option_map_or (λ a. a.unique) (slice_get (map (anode_changed change) anodes) i) 0 ≡ option_map_or (λ a. a.unique) (slice_get anodes i) 0
+pub mapped_unique : (change : Content → Content) (anodes : List Anode) (i : ℕ) → option_map_or (λ a. a.unique) (slice_get (map (anode_changed change) anodes) i) 0 ≡ option_map_or (λ a. a.unique) (slice_get anodes i) 0
 mapped_unique change [] i = refl
 mapped_unique change (anode ∷ anodes) zero = refl
 mapped_unique change (anode ∷ anodes) (suc i) = mapped_unique change anodes i

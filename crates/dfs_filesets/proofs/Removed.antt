@@ -123,6 +123,7 @@ module _ (fileset : Fileset) (from : ℕ) (name : List ℕ) (entry : DirEntry) (
   well_formed_removed = record {
     count = length_updated left entry.anode _ ∙ kin.count ∙ w.count ∙ sym (objects_updated left entry.anode _ ∙ kin.objects);
     limit = rw (objects_updated left entry.anode _, kin.objects) w.limit;
+    first = unique_same 1 ∙ w.first;
     root = after_root;
     sound = λ at there h.
         let (away, e) = object_was at there h in

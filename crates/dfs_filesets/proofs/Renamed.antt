@@ -153,6 +153,7 @@ module _ (fileset : Fileset) (from : ℕ) (name : List ℕ) (entry : DirEntry) (
   well_formed_renamed = record {
     count = kin.count ∙ w.count ∙ sym kin.objects;
     limit = rw kin.objects w.limit;
+    first = kin.unique 1 ∙ w.first;
     root = kin.kind 1 ∙ w.root;
     sound = λ at object h. let (was, f, keeps) = kin.sound at object h in keeps (w.sound at was f);
     named = λ at other e h. elim (entry_was at other e h) as (λ _. IsUsed after.anodes e) [

@@ -18,7 +18,7 @@ use Rattle.dfs_filesets.specs.Walk.{object_at}
 use Rattle.dfs_filesets.specs.WellFormed.{entry_in, entry_at, IsWellFormed}
 use Rattle.dfs_filesets.proofs.Found.{none_some}
 use Rattle.dfs_filesets.proofs.Observations.{object_from}
-use Rattle.dfs_filesets.proofs.StaysWellFormed.{stays_well_formed_cloned}
+use Rattle.dfs_filesets.proofs.StaysWellFormed.{stays_well_formed_cloned, stays_well_formed_moved}
 
 -- nothing stands at an anode that was never used
 unused_there : (n i : ℕ) → option_and_then (λ a. a.object) (slice_get (replicate n unused_anode) i) ≡ None
@@ -73,6 +73,7 @@ unfolding new_fileset
 new_is_well_formed server id name objects owner some few = record {
   count = ap suc (length_unused (objects - 1)) ∙ omega (arith, some);
   limit = few;
+  first = refl;
   root = refl;
   sound = λ at object h.
       let (place, same) = only_root owner objects at object h in
@@ -85,4 +86,4 @@ new_is_well_formed server id name objects owner some few = record {
 }
 
 pub starts_well_formed : StartsWellFormed
-starts_well_formed = record { new = new_is_well_formed; clone = stays_well_formed_cloned }
+starts_well_formed = record { new = new_is_well_formed; clone = stays_well_formed_cloned; moved = stays_well_formed_moved }

@@ -43,11 +43,11 @@ use Rattle.dfs_filesets.proofs.Targets.{write_target_ok, set_access_target_ok, f
 
 -- the fileset
 same_itself : (fileset : Fileset) → IsSameFileset fileset fileset
-same_itself fileset = record { server = refl; id = refl; name = refl; read_only = refl; objects = refl }
+same_itself fileset = record { server = refl; id = refl; name = refl; read_only = refl; objects = refl; moves = refl }
 
 same_updated : (fileset : Fileset) (anode : ℕ) (change : Anode → Anode) → IsSameFileset fileset (updated fileset anode change)
 unfolding updated
-same_updated fileset anode change = record { server = refl; id = refl; name = refl; read_only = refl; objects = refl }
+same_updated fileset anode change = record { server = refl; id = refl; name = refl; read_only = refl; objects = refl; moves = refl }
 
 same_trans : (a b c : Fileset) → IsSameFileset a b → IsSameFileset b c → IsSameFileset a c
 same_trans a b c h k = record {
@@ -56,6 +56,7 @@ same_trans a b c h k = record {
   name = k.name ∙ h.name;
   read_only = k.read_only ∙ h.read_only;
   objects = k.objects ∙ h.objects;
+  moves = k.moves ∙ h.moves;
 }
 
 same_twice : (fileset : Fileset) (first second : ℕ) (change other : Anode → Anode) → IsSameFileset fileset (updated (updated fileset first change) second other)

@@ -4,6 +4,7 @@ use Rattle.dfs_base.specs.declared.access.AccessEntry.{AccessEntry}
 use Rattle.dfs_base.specs.declared.ids.Fid.{Fid}
 use Rattle.dfs_base.specs.declared.ids.FilesetId.{FilesetId}
 use Rattle.dfs_base.specs.declared.ids.HostId.{HostId}
+use Rattle.dfs_base.specs.declared.ids.ServerId.{ServerId}
 use Rattle.dfs_base.specs.declared.span.Span.{Span}
 use Rattle.dfs_base.specs.declared.user.User.{User}
 use Rattle.dfs_calls.specs.declared.call.Call.{Call}
@@ -12,7 +13,7 @@ use Rattle.dfs_calls.specs.declared.place.Which.{Which}
 use Rattle.dfs_calls.specs.declared.reply.Refusal.{Refusal}
 use Rattle.dfs_objects.specs.declared.content.Content.{Content}
 use Rattle.dfs_objects.specs.declared.content.Content.TheVariants.{Dir, File}
-use Rattle.dfs_objects.specs.Changes.{anode_freed, content_written, content_truncated, content_forgotten, content_kept}
+use Rattle.dfs_objects.specs.Changes.{anode_freed, content_written, content_truncated, content_forgotten, content_as_cloned}
 use Rattle.dfs_objects.specs.Entries.{content_without_entry}
 use Rattle.dfs_objects.specs.Objects.{content_with_list}
 use Rattle.dfs_objects.specs.Stores.{content_stored, content_synced, own_length_of}
@@ -24,7 +25,7 @@ use Rattle.dfs_filesets.specs.declared.fileset.Fileset.{Fileset}
 use Rattle.dfs_filesets.specs.Answers.{answered}
 use Rattle.dfs_filesets.specs.Changing.{write_target, write_answer, truncate_answer, sync_answer, set_access_target, set_access_answer}
 use Rattle.dfs_filesets.specs.Creation.{create_target, create_answer}
-use Rattle.dfs_filesets.specs.Founding.{cloned}
+use Rattle.dfs_filesets.specs.Founding.{cloned, moved}
 use Rattle.dfs_filesets.specs.Removal.{remove_target, remove_answer}
 use Rattle.dfs_filesets.specs.Renaming.{rename_target, rename_answer}
 use Rattle.dfs_filesets.specs.Rows.{fileset_answer}
@@ -66,7 +67,7 @@ pub forgotten_entries : (host : HostId) (content : Content) → HasSameEntries c
 forgotten_entries host (Dir entries lists) = record { entries = λ name. refl; kind = refl }
 forgotten_entries host (File list kept unsaved len) = record { entries = λ name. refl; kind = refl }
 
-pub kept_entries : (content : Content) → HasSameEntries content (content_kept content)
+pub kept_entries : (content : Content) → HasSameEntries content (content_as_cloned content)
 kept_entries (Dir entries lists) = record { entries = λ name. refl; kind = refl }
 kept_entries (File list kept unsaved len) = record { entries = λ name. refl; kind = refl }
 
@@ -144,4 +145,9 @@ stays_well_formed fileset in_use host user _ w = w
 -- a clone
 pub stays_well_formed_cloned : (fileset : Fileset) (id : FilesetId) (name : List ℕ) → IsWellFormed fileset → IsWellFormed (cloned fileset id name)
 unfolding cloned
-stays_well_formed_cloned fileset id name w = well_formed_mapped fileset (cloned fileset id name) content_kept w refl refl kept_entries sound_clone
+stays_well_formed_cloned fileset id name w = well_formed_mapped fileset (cloned fileset id name) content_as_cloned w refl refl kept_entries sound_clone
+
+-- one that moved
+pub stays_well_formed_moved : (fileset : Fileset) (to : ServerId) → IsWellFormed fileset → IsWellFormed (moved fileset to)
+unfolding moved
+stays_well_formed_moved fileset to w = well_formed_mapped fileset (moved fileset to) content_as_cloned w refl refl kept_entries sound_clone

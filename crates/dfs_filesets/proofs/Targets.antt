@@ -137,7 +137,7 @@ set_access_target_ok fileset user path which anode h =
     (at.1, subst P (ok_is at.0 anode same) walked.there)
 
 -- a directory that a user may search
-searched_ok : (content : Content) (rights : ℕ) (entries : List DirEntry) → searched content rights ≡ Ok entries → (lists : List (List AccessEntry)) × (content ≡ Dir entries lists)
+pub searched_ok : (content : Content) (rights : ℕ) (entries : List DirEntry) → searched content rights ≡ Ok entries → (lists : List (List AccessEntry)) × (content ≡ Dir entries lists)
 searched_ok (Dir there lists) rights entries h =
     elim (allows rights 4) as (λ t. cond t (Ok there) (Err (Denied 4)) ≡ Ok entries → (ls : List (List AccessEntry)) × (Dir there lists ≡ Dir entries ls))
     [ true ↦ λ k. (lists, ap (λ es. Dir es lists) (ok_is there entries k)) | false ↦ λ k. absurd (search (rules, k)) ] h
@@ -183,7 +183,7 @@ insert_target_ok fileset user front name found h =
     let P : ℕ × Object → Type 0 = λ f. IsOpen fileset user front name f.0 f.1 in
     subst P (ok_is (at.0, at.1) found same) (record { way = parent.way; there = parent.there; entries = at.2; lists = parent.lists; content = parent.content; fresh = nothing_there _ fresh })
 
-entry_or_none_ok : (o : Option DirEntry) (entry : DirEntry) → entry_or_none o ≡ Ok entry → o ≡ Some entry
+pub entry_or_none_ok : (o : Option DirEntry) (entry : DirEntry) → entry_or_none o ≡ Ok entry → o ≡ Some entry
 entry_or_none_ok None entry h = absurd (search (rules, h))
 entry_or_none_ok (Some e) entry h = ap Some (ok_is e entry h)
 
@@ -207,7 +207,7 @@ pub record Steps (anodes : List Anode) (at : ℕ) (name : List ℕ) (next : ℕ)
   pub there : entry_at anodes at name ≡ Some entry
   pub leads_on : entry.anode ≡ next
 
-entered_ok : (o : Option Object) (user : User) (entries : List DirEntry) → entered_at o user ≡ Ok entries → (name : List ℕ) → option_and_then (λ object. entry_in object.content name) o ≡ entry_named entries name
+pub entered_ok : (o : Option Object) (user : User) (entries : List DirEntry) → entered_at o user ≡ Ok entries → (name : List ℕ) → option_and_then (λ object. entry_in object.content name) o ≡ entry_named entries name
 entered_ok None user entries h name = absurd (search (rules, h))
 entered_ok (Some object) user entries h name =
     let (lists, content) = searched_ok object.content (own_rights object user) entries h in

@@ -1,5 +1,5 @@
 -- How filesets come about.
-use Rattle.std.specs.Prelude.{ℕ, ◌-◌, true, false, List, [], ◌∷◌, map, replicate, Some, None, Result}
+use Rattle.std.specs.Prelude.{ℕ, ◌+◌, ◌-◌, true, false, List, [], ◌∷◌, map, replicate, Some, None, Result}
 use Rattle.std.specs.Option.{option_map}
 use Rattle.dfs_base.specs.Outcomes.{and_then}
 use Rattle.dfs_base.specs.declared.access.AccessEntry.{AccessEntry}
@@ -11,7 +11,7 @@ use Rattle.dfs_calls.specs.declared.reply.Refusal.{Refusal}
 use Rattle.dfs_calls.specs.declared.reply.Refusal.TheVariants.{ReadOnly}
 use Rattle.dfs_objects.specs.declared.content.Content.TheVariants.{Dir}
 use Rattle.dfs_objects.specs.declared.content.Anode.{Anode}
-use Rattle.dfs_objects.specs.Objects.{object_kept}
+use Rattle.dfs_objects.specs.Objects.{object_as_cloned}
 use Rattle.dfs_filesets.specs.declared.fileset.Fileset.{Fileset}
 use Rattle.dfs_filesets.specs.Checks.{unless, permission}
 use Rattle.dfs_filesets.specs.Rights.{control_right}
@@ -44,19 +44,24 @@ new_fileset server id name objects owner = record {
   name = name;
   read_only = false;
   objects = objects;
+  moves = 0;
   anodes = new_anodes owner objects;
 }
 
--- the checks of a clone on its source alone: ReadOnly (it is a clone itself); Denied (control) on the root
-unfoldable pub clone_check : Fileset → User → Result (Unit {0}) Refusal
-clone_check fileset user =
+-- the checks of a clone or a move on the fileset alone: ReadOnly (it is a clone); Denied (control) on the root
+unfoldable pub control_check : Fileset → User → Result (Unit {0}) Refusal
+control_check fileset user =
     unless fileset.read_only ReadOnly (
     and_then (target fileset user []) (λ (anode, root). permission root user control_right))
 
 -- what a clone holds at an anode; the unique number stays, also where nothing stands
-abbrev pub anode_kept : Anode → Anode
-anode_kept anode = record anode { object = option_map object_kept anode.object }
+abbrev pub anode_as_cloned : Anode → Anode
+anode_as_cloned anode = record anode { object = option_map object_as_cloned anode.object }
 
 -- a clone: a read-only copy of all objects under another id and name, in which what was present is kept
 unfoldable pub cloned : Fileset → FilesetId → List ℕ → Fileset
-cloned fileset id name = record fileset { id = id; name = name; read_only = true; anodes = map anode_kept fileset.anodes }
+cloned fileset id name = record fileset { id = id; name = name; read_only = true; moves = 0; anodes = map anode_as_cloned fileset.anodes }
+
+-- a fileset at another server, with one move more, in which what was present is kept
+unfoldable pub moved : Fileset → ServerId → Fileset
+moved fileset to = record fileset { server = to; moves = fileset.moves + 1; anodes = map anode_as_cloned fileset.anodes }

@@ -1,6 +1,6 @@
 -- Laws of filesets.
-use Rattle.std.specs.Prelude.{◌≡◌, ◌≢◌, ◌<◌, ◌≤◌, ◌⊎◌, ℕ, ◌+◌, ◌-◌, ◌==◌, Bool, true, false, ◌&&◌, not, List, [], length, Ok}
-use Rattle.std.specs.Option.{option_map_or}
+use Rattle.std.specs.Prelude.{◌≡◌, ◌≢◌, ◌<◌, ◌≤◌, ◌⊎◌, ℕ, ◌+◌, ◌-◌, ◌==◌, Bool, true, false, ◌&&◌, not, List, [], ◌∷◌, length, Ok}
+use Rattle.std.specs.Option.{option_map, option_map_or}
 use Rattle.dfs_base.specs.Image.{byte_at}
 use Rattle.dfs_base.specs.declared.ids.Fid.{Fid}
 use Rattle.dfs_base.specs.declared.ids.FilesetId.{FilesetId}
@@ -8,18 +8,23 @@ use Rattle.dfs_base.specs.declared.ids.HostId.{HostId}
 use Rattle.dfs_base.specs.declared.ids.ServerId.{ServerId}
 use Rattle.dfs_base.specs.declared.limits.TheConstants.{OBJECTS_MAX}
 use Rattle.dfs_base.specs.declared.user.User.{User}
+use Rattle.dfs_base.specs.declared.access.AccessEntry.{AccessEntry}
 use Rattle.dfs_calls.specs.declared.call.Call.{Call}
+use Rattle.dfs_calls.specs.declared.part.DirEntry.{DirEntry}
 use Rattle.dfs_calls.specs.declared.reply.Refusal.{Refusal}
 use Rattle.dfs_calls.specs.declared.reply.Reply.TheVariants.{Refused}
+use Rattle.dfs_objects.specs.declared.content.Content.{Content}
+use Rattle.dfs_objects.specs.declared.content.Content.TheVariants.{Dir, File}
+use Rattle.dfs_objects.specs.declared.content.Object.{Object}
 use Rattle.dfs_objects.specs.Files.{content_bytes}
 use Rattle.dfs_objects.specs.Objects.{is_dir}
 use Rattle.dfs_filesets.specs.declared.fileset.Fileset.{Fileset}
 use Rattle.dfs_filesets.specs.Changing.{write_target, write_answer}
-use Rattle.dfs_filesets.specs.Founding.{new_fileset, cloned}
+use Rattle.dfs_filesets.specs.Founding.{new_fileset, cloned, moved}
 use Rattle.dfs_filesets.specs.Promises.{promise, clone_promise}
 use Rattle.dfs_filesets.specs.Rows.{fileset_answer}
 use Rattle.dfs_filesets.specs.Walk.{object_at, unique_at}
-use Rattle.dfs_filesets.specs.WellFormed.{IsWellFormed}
+use Rattle.dfs_filesets.specs.WellFormed.{is_at_rest, IsWellFormed}
 
 -- the bytes that readers see of what stands at an anode
 abbrev pub bytes_at : Fileset → ℕ → List ℕ
@@ -45,6 +50,7 @@ pub record IsSameFileset (old new : Fileset) : Type 0 where
   pub name : new.name ≡ old.name
   pub read_only : new.read_only ≡ old.read_only
   pub objects : new.objects ≡ old.objects
+  pub moves : new.moves ≡ old.moves
 
 -- a fileset stays the one that it is
 abbrev pub StaysItself : Type 0
@@ -58,11 +64,12 @@ StaysWellFormed =
     (fileset : Fileset) (in_use : Fid → Bool) (host : HostId) (user : User) (call : Call) →
     IsWellFormed fileset → IsWellFormed (fileset_answer fileset in_use host user call).fileset
 
--- a new fileset of 1 object or more is well formed, and so is a clone of a well formed one
+-- a new fileset of 1 object or more is well formed, and so are a clone of a well formed one, and one that moved
 pub record StartsWellFormed : Type 0 where
   pub new : (server : ServerId) (id : FilesetId) (name : List ℕ) (objects : ℕ) (owner : User) → 1 ≤ objects → objects ≤ OBJECTS_MAX →
       IsWellFormed (new_fileset server id name objects owner)
   pub clone : (fileset : Fileset) (id : FilesetId) (name : List ℕ) → IsWellFormed fileset → IsWellFormed (cloned fileset id name)
+  pub moved : (fileset : Fileset) (to : ServerId) → IsWellFormed fileset → IsWellFormed (moved fileset to)
 
 -- a file that is locked or open stays
 abbrev pub UsedFileStays : Type 0
@@ -88,3 +95,51 @@ pub record WriteChangesItsSpan : Type 0 where
 pub record CloneShowsSource : Type 0 where
   pub bytes : (fileset : Fileset) (id : FilesetId) (name : List ℕ) (anode : ℕ) → bytes_at (cloned fileset id name) anode ≡ bytes_at fileset anode
   pub blocks : (fileset : Fileset) (id : FilesetId) (name : List ℕ) → promise (cloned fileset id name) ≡ clone_promise fileset
+
+-- what is present of an object: all that readers see of it
+pub record Present : Type 0 where
+  pub dir : Bool
+  pub owner : List ℕ
+  pub group : List ℕ
+  pub lists : List (List AccessEntry)
+  pub entries : List DirEntry
+  pub bytes : List ℕ
+
+-- the access lists
+abbrev pub lists_in : Content → List (List AccessEntry)
+lists_in (Dir entries lists) = lists
+lists_in (File list kept unsaved len) = list ∷ []
+
+-- the entries of a directory, and none of a file
+abbrev pub entries_in : Content → List DirEntry
+entries_in (Dir entries lists) = entries
+entries_in (File list kept unsaved len) = []
+
+abbrev pub present : Object → Present
+present object = record {
+  dir = is_dir object.content;
+  owner = object.owner;
+  group = object.group;
+  lists = lists_in object.content;
+  entries = entries_in object.content;
+  bytes = content_bytes object.content;
+}
+
+-- A fileset that moved shows each object as it was present, in the same use of the same anode, and has nothing unsaved. It
+-- is the same one at another server, and its moves count.
+pub record MovedIsTheSame : Type 0 where
+  pub objects : (fileset : Fileset) (to : ServerId) (anode : ℕ) →
+      option_map present (object_at (moved fileset to).anodes anode) ≡ option_map present (object_at fileset.anodes anode)
+  pub uses : (fileset : Fileset) (to : ServerId) (anode : ℕ) → unique_at (moved fileset to).anodes anode ≡ unique_at fileset.anodes anode
+  pub rest : (fileset : Fileset) (to : ServerId) → is_at_rest (moved fileset to) ≡ true
+  pub server : (fileset : Fileset) (to : ServerId) → (moved fileset to).server ≡ to
+  pub moves : (fileset : Fileset) (to : ServerId) → (moved fileset to).moves ≡ fileset.moves + 1
+  pub same : (fileset : Fileset) (to : ServerId) → (moved fileset to).id ≡ fileset.id
+  pub name : (fileset : Fileset) (to : ServerId) → (moved fileset to).name ≡ fileset.name
+  pub read_only : (fileset : Fileset) (to : ServerId) → (moved fileset to).read_only ≡ fileset.read_only
+  pub limit : (fileset : Fileset) (to : ServerId) → (moved fileset to).objects ≡ fileset.objects
+
+-- a clone has never moved, and nothing in it is unsaved
+pub record ClonesAreNew : Type 0 where
+  pub moves : (fileset : Fileset) (id : FilesetId) (name : List ℕ) → (cloned fileset id name).moves ≡ 0
+  pub rest : (fileset : Fileset) (id : FilesetId) (name : List ℕ) → is_at_rest (cloned fileset id name) ≡ true

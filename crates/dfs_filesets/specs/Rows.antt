@@ -4,7 +4,7 @@ use Rattle.dfs_base.specs.declared.ids.Fid.{Fid}
 use Rattle.dfs_base.specs.declared.ids.HostId.{HostId}
 use Rattle.dfs_base.specs.declared.user.User.{User}
 use Rattle.dfs_calls.specs.declared.call.Call.{Call}
-use Rattle.dfs_calls.specs.declared.call.Call.TheVariants.{Create, MakeDir, Remove, Rename, Truncate, SetAcl, Read, Write, List as ListNames, Stat, GetAcl, Sync}
+use Rattle.dfs_calls.specs.declared.call.Call.TheVariants.{NewFileset, Create, MakeDir, Remove, Rename, Truncate, SetAcl, CloneFileset, Read, Write, List as ListNames, Stat, GetAcl, Sync, Lock, Unlock, OpenFile, CloseFile, MoveFileset}
 use Rattle.dfs_calls.specs.declared.reply.Refusal.TheVariants.{NoFileset}
 use Rattle.dfs_filesets.specs.declared.creating.NewObject.TheVariants.{EmptyFile, EmptyDirectory}
 use Rattle.dfs_filesets.specs.declared.fileset.Fileset.{Fileset}
@@ -30,4 +30,10 @@ fileset_answer fileset in_use host user (ListNames place) = unchanged fileset (l
 fileset_answer fileset in_use host user (Stat place) = unchanged fileset (stat_reply fileset user place.path)
 fileset_answer fileset in_use host user (GetAcl place which) = unchanged fileset (access_reply fileset user place.path which)
 fileset_answer fileset in_use host user (Sync place) = sync_answer fileset host user place.path
-fileset_answer fileset in_use host user _ = refused fileset NoFileset
+fileset_answer fileset in_use host user (NewFileset server name objects owner) = refused fileset NoFileset
+fileset_answer fileset in_use host user (CloneFileset server source new) = refused fileset NoFileset
+fileset_answer fileset in_use host user (MoveFileset server name to) = refused fileset NoFileset
+fileset_answer fileset in_use host user (Lock label place writing from len) = refused fileset NoFileset
+fileset_answer fileset in_use host user (Unlock label) = refused fileset NoFileset
+fileset_answer fileset in_use host user (OpenFile label place kind) = refused fileset NoFileset
+fileset_answer fileset in_use host user (CloseFile label) = refused fileset NoFileset

@@ -1,5 +1,6 @@
 -- When a fileset is well formed.
-use Rattle.std.specs.Prelude.{◌≡◌, ◌≢◌, ◌≤◌, ℕ, true, false, List, [], ◌∷◌, length, Option, Some, None, is_some}
+use Rattle.std.specs.Prelude.{◌≡◌, ◌≢◌, ◌≤◌, ℕ, Bool, true, false, List, [], ◌∷◌, length, Option, Some, None, is_some}
+use Rattle.std.specs.List.{list_all}
 use Rattle.std.specs.Option.{option_and_then, option_map_or}
 use Rattle.dfs_base.specs.declared.limits.TheConstants.{OBJECTS_MAX}
 use Rattle.dfs_calls.specs.declared.part.DirEntry.{DirEntry}
@@ -36,7 +37,8 @@ pub record IsWellFormed (fileset : Fileset) : Type 0 where
   -- it has all its anodes, and no more than a fileset may have
   pub count : length fileset.anodes ≡ fileset.objects
   pub limit : fileset.objects ≤ OBJECTS_MAX
-  -- the first is a directory
+  -- the first is in its first use, and a directory
+  pub first : unique_at fileset.anodes 1 ≡ 1
   pub root : option_map_or (λ object. is_dir object.content) (object_at fileset.anodes 1) false ≡ true
   -- each object is well formed by itself
   pub sound : (at : ℕ) (object : Object) → object_at fileset.anodes at ≡ Some object → is_sound object.content ≡ true
@@ -49,3 +51,13 @@ pub record IsWellFormed (fileset : Fileset) : Type 0 where
   -- some path leads to each object
   pub reached : (at : ℕ) (object : Object) → object_at fileset.anodes at ≡ Some object →
       (path : List (List ℕ)) × (leads fileset.anodes 1 path ≡ Some at)
+
+-- whether nothing of an object is unsaved
+abbrev pub is_settled : Content → Bool
+is_settled (Dir entries lists) = true
+is_settled (File list kept [] None) = true
+is_settled (File list kept unsaved len) = false
+
+-- whether nothing in a fileset is unsaved
+abbrev pub is_at_rest : Fileset → Bool
+is_at_rest fileset = list_all (λ anode. option_map_or (λ object. is_settled object.content) anode.object true) fileset.anodes

@@ -12,7 +12,7 @@ use dfs_calls::{Call, Refusal, Reply};
 impl Fileset {
     /// Answers a call whose places are in this fileset, of a user at a host, while some objects are locked or open.
     /// `Reply::Refused` tells the first check in the call's row that fails; a refused call changes nothing. A call that
-    /// is on no place of one fileset, as `NewFileset` or `Unlock`, is refused with `NoFileset`. `NoMemory` comes where
+    /// one fileset doesn't decide, as `NewFileset`, `Lock` or `Unlock`, is refused with `NoFileset`. `NoMemory` comes where
     /// memory runs out, and leaves the fileset as it was.
     ///
     /// The objects, rights and calls are after Kazar et al., "DEcorum File System Architectural Overview", 1990; which
@@ -82,7 +82,13 @@ impl Fileset {
             Call::Stat { place } => self.stat(user, place.path.as_slice()),
             Call::GetAcl { place, which } => self.access(user, place.path.as_slice(), *which),
             Call::Sync { place } => self.sync(host, user, place.path.as_slice()),
-            _ => Err(NotDone::Refused(Refusal::NoFileset)),
+            Call::NewFileset { .. }
+            | Call::CloneFileset { .. }
+            | Call::MoveFileset { .. }
+            | Call::Lock { .. }
+            | Call::Unlock { .. }
+            | Call::OpenFile { .. }
+            | Call::CloseFile { .. } => Err(NotDone::Refused(Refusal::NoFileset)),
         }
     }
 }

@@ -15,7 +15,7 @@ use std::alloc::Global;
 
 /// What is made.
 #[derive(Clone, Copy)]
-pub(crate) enum NewObject {
+pub enum NewObject {
     /// A file without bytes.
     EmptyFile,
     /// A directory without entries.
@@ -24,16 +24,21 @@ pub(crate) enum NewObject {
 
 /// An anode that takes a new object, and the number of that use.
 #[derive(Clone, Copy)]
-pub(crate) struct Vacancy {
+pub struct Vacancy {
+    /// The anode.
     pub anode: u32,
+    /// The unique number of the new object.
     pub unique: u32,
 }
 
 /// A new object, its entry, and the anode of the directory that the entry goes to.
 #[derive(Drop)]
-pub(crate) struct Creation {
+pub struct Creation {
+    /// The anode of the directory.
     pub parent: u32,
+    /// The entry.
     pub entry: DirEntry,
+    /// The new object.
     pub object: Object,
 }
 

@@ -9,6 +9,9 @@ ghost use Rattle.dfs_filesets.specs.Walk.{object_at};
 use dfs_base::{FilesetId, Items, Name, NoMemory, Plain, ServerId};
 use dfs_objects::{Anode, Object};
 
+/// How often a fileset can move; the limit is this project's own.
+pub const MOVES_MAX: u32 = 4_294_967_295;
+
 /// A fileset: a tree of objects, which stand at anodes (Chutani et al., "The Episode File System", 1992). No function
 /// here requires that it is well formed; the laws say that a well formed one stays so.
 #[derive(Drop)]
@@ -23,7 +26,9 @@ pub struct Fileset {
     pub read_only: bool,
     /// How many objects it may have, its root counted, at most `OBJECTS_MAX`.
     pub objects: u32,
-    /// As many anodes, which are counted from 1; the first is the root directory.
+    /// How often it has moved from one server to another, at most `MOVES_MAX`.
+    pub moves: u32,
+    /// As many anodes as it may have objects, which are counted from 1; the first is the root directory.
     pub anodes: Items<Anode>,
 }
 
@@ -63,6 +68,7 @@ impl Plain for Fileset {
             name: self.name.copy()?,
             read_only: self.read_only,
             objects: self.objects,
+            moves: self.moves,
             anodes: self.anodes.copy()?,
         })
     }

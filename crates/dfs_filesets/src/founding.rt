@@ -1,6 +1,7 @@
-//! New filesets and clones.
-ghost use Rattle.std.specs.Prelude.{◌≡◌, ◌-◌, ◌++◌, replicate, IfOk, OnOk};
-ghost use Rattle.dfs_filesets.specs.Founding.{three_entries, root_lists, unused_anode, new_anodes, new_fileset, clone_check, anode_kept, cloned};
+//! New filesets, clones, and filesets that move.
+ghost use Rattle.std.specs.Prelude.{◌≡◌, ◌<◌, ◌-◌, ◌++◌, map, replicate, IfOk, OnOk};
+ghost use Rattle.dfs_filesets.specs.Founding.{three_entries, root_lists, unused_anode, new_anodes, new_fileset, control_check, anode_as_cloned, cloned, moved};
+ghost use Rattle.dfs_filesets.specs.declared.fileset.TheConstants.{MOVES_MAX};
 
 use crate::checks::permission;
 use crate::fileset::Fileset;
@@ -33,15 +34,16 @@ impl Fileset {
             name: name.copy()?,
             read_only: false,
             objects,
+            moves: 0,
             anodes: new_anodes(alloc, owner, objects)?,
         })
     }
 
-    /// Whether a user may clone the fileset, by this project's own rule: `ReadOnly` where it is a clone itself, and
+    /// Whether a user may clone or move the fileset, by this project's own rule: `ReadOnly` where it is a clone, and
     /// `Denied` where the user lacks control of its root.
-    #[tactic(auto, unfolding(crate::specs::Founding::clone_check))]
-    pub fn clone_check(&self, user: &User) -> Result<(), Refusal>
-        ensures { result ≡ clone_check self.now user.now }
+    #[tactic(auto, unfolding(crate::specs::Founding::control_check))]
+    pub fn control_check(&self, user: &User) -> Result<(), Refusal>
+        ensures { result ≡ control_check self.now user.now }
     {
         if self.read_only {
             return Err(Refusal::ReadOnly);
@@ -56,27 +58,53 @@ impl Fileset {
     pub fn cloned(&self, id: FilesetId, name: &Name) -> Result<Fileset, NoMemory>
         ensures { IfOk result (λ clone. clone ≡ cloned self.now id name.now) }
     {
-        let mut anodes = Items::new(self.anodes.alloc());
-        for anode in self.anodes.as_slice() {
-            anodes.push(anode_kept(anode)?)?;
-        }
         Ok(Fileset {
             server: self.server,
             id,
             name: name.copy()?,
             read_only: true,
             objects: self.objects,
-            anodes,
+            moves: 0,
+            anodes: anodes_as_cloned(&self.anodes)?,
+        })
+    }
+
+    /// The fileset at another server, with one move more: what readers see now is kept. `NoMemory` comes where memory
+    /// runs out.
+    #[tactic(auto, unfolding(crate::specs::Founding::moved))]
+    pub fn moved(&self, to: ServerId) -> Result<Fileset, NoMemory>
+        requires { self.now.moves < MOVES_MAX }
+        ensures { IfOk result (λ fileset. fileset ≡ moved self.now to) }
+    {
+        Ok(Fileset {
+            server: to,
+            id: self.id,
+            name: self.name.copy()?,
+            read_only: self.read_only,
+            objects: self.objects,
+            moves: self.moves + 1,
+            anodes: anodes_as_cloned(&self.anodes)?,
         })
     }
 }
 
+// What a clone holds at these anodes.
+fn anodes_as_cloned(anodes: &Items<Anode>) -> Result<Items<Anode>, NoMemory>
+    ensures { IfOk result (λ copies. copies ≡ map anode_as_cloned anodes.now) }
+{
+    let mut copies = Items::new(anodes.alloc());
+    for anode in anodes.as_slice() {
+        copies.push(anode_as_cloned(anode)?)?;
+    }
+    Ok(copies)
+}
+
 // What a clone holds at an anode.
-fn anode_kept(anode: &Anode) -> Result<Anode, NoMemory>
-    ensures { IfOk result (λ copy. copy ≡ anode_kept anode.now) }
+fn anode_as_cloned(anode: &Anode) -> Result<Anode, NoMemory>
+    ensures { IfOk result (λ copy. copy ≡ anode_as_cloned anode.now) }
 {
     let object = match &anode.object {
-        Some(object) => Some(object.kept_copy()?),
+        Some(object) => Some(object.as_cloned()?),
         None => None,
     };
     Ok(Anode {

@@ -17,6 +17,8 @@ mod telling;
 mod using;
 mod walk;
 
-pub use fileset::{Fileset, object_at};
+pub use creating::{Creation, NewObject, Vacancy};
+pub use fileset::{Fileset, MOVES_MAX, object_at};
 pub use promise::OBJECT_BLOCKS;
 pub use removing::InUse;
+pub use renaming::Move;

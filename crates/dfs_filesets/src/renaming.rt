@@ -10,10 +10,14 @@ use dfs_calls::{DirEntry, Refusal, Reply};
 
 /// An entry on its way from the directory at one anode, and its name there, to the one at another.
 #[derive(Drop)]
-pub(crate) struct Move {
+pub struct Move {
+    /// The anode of the directory that it leaves.
     pub from: u32,
+    /// Its name there.
     pub name: Name,
+    /// The anode of the directory that it goes to.
     pub to: u32,
+    /// The entry with its name in that directory.
     pub entry: DirEntry,
 }
 

@@ -15,7 +15,7 @@ use Rattle.dfs_objects.specs.declared.content.Unsaved.{Unsaved}
 use Rattle.dfs_objects.specs.declared.content.UnsavedLength.{UnsavedLength}
 use Rattle.dfs_objects.specs.declared.content.Content.TheVariants.{File}
 use Rattle.dfs_objects.specs.Files.{present_length, present_bytes, unsaved_at, byte_over, bytes_over, resized, content_bytes}
-use Rattle.dfs_objects.specs.Changes.{written, unsaved_after, content_written, content_truncated, content_forgotten, content_kept}
+use Rattle.dfs_objects.specs.Changes.{written, unsaved_after, content_written, content_truncated, content_forgotten, content_as_cloned}
 use Rattle.dfs_objects.specs.Stores.{is_stored, content_stored, content_synced, own_length}
 use Rattle.dfs_objects.specs.Sound.{positions_rise}
 use Rattle.dfs_objects.specs.Spans.{whole}
@@ -198,7 +198,7 @@ present_shown list kept unsaved len at = over_get kept unsaved (present_length k
 
 -- a clone holds what readers see
 pub shown_in_clone : (list : List AccessEntry) (kept : List ℕ) (unsaved : List Unsaved) (len : Option UnsavedLength) (at : ℕ) →
-    shown (content_kept (File list kept unsaved len)) at ≡ shown_kept (present_length kept len) at (shown (File list kept unsaved len) at)
+    shown (content_as_cloned (File list kept unsaved len)) at ≡ shown_kept (present_length kept len) at (shown (File list kept unsaved len) at)
 shown_in_clone list kept unsaved len at =
     ap (λ b. let here : Shown = record { kept = b; unsaved = None } in here) (over_get kept unsaved (present_length kept len) at)
 

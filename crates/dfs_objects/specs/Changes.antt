@@ -65,6 +65,6 @@ content_forgotten host (File list kept unsaved len) =
     File list kept (filter (λ byte. not (byte.writer.0 == host.0)) unsaved) (length_forgotten host len)
 
 -- what a clone holds: a file's kept bytes are the present ones
-abbrev pub content_kept : Content → Content
-content_kept (Dir entries lists) = Dir entries lists
-content_kept (File list kept unsaved len) = File list (present_bytes kept unsaved len) [] None
+abbrev pub content_as_cloned : Content → Content
+content_as_cloned (Dir entries lists) = Dir entries lists
+content_as_cloned (File list kept unsaved len) = File list (present_bytes kept unsaved len) [] None

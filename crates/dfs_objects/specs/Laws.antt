@@ -9,7 +9,7 @@ use Rattle.dfs_base.specs.declared.span.Span.{Span}
 use Rattle.dfs_objects.specs.declared.content.Unsaved.{Unsaved}
 use Rattle.dfs_objects.specs.declared.content.Content.{Content}
 use Rattle.dfs_objects.specs.declared.content.Content.TheVariants.{Dir, File}
-use Rattle.dfs_objects.specs.Changes.{content_written, content_truncated, content_forgotten, content_kept}
+use Rattle.dfs_objects.specs.Changes.{content_written, content_truncated, content_forgotten, content_as_cloned}
 use Rattle.dfs_objects.specs.Files.{content_bytes}
 use Rattle.dfs_objects.specs.Objects.{is_dir, told_length}
 use Rattle.dfs_objects.specs.Shown.{shown, shown_written, shown_kept, shown_stored, shown_forgotten}
@@ -61,7 +61,7 @@ ForgetShows = (host : HostId) (content : Content) (at : ℕ) → is_dir content 
 
 -- a clone holds the bytes that readers see, and nothing in it is unsaved
 abbrev pub CloneHoldsPresent : Type 0
-CloneHoldsPresent = (content : Content) → content_bytes (content_kept content) ≡ content_bytes content
+CloneHoldsPresent = (content : Content) → content_bytes (content_as_cloned content) ≡ content_bytes content
 
 -- whether an unsaved byte is a host's
 abbrev pub is_own : HostId → Option Unsaved → Bool

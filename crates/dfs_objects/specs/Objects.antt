@@ -14,7 +14,7 @@ use Rattle.dfs_objects.specs.declared.content.Content.{Content}
 use Rattle.dfs_objects.specs.declared.content.Content.TheVariants.{Dir, File}
 use Rattle.dfs_objects.specs.declared.content.Object.{Object}
 use Rattle.dfs_objects.specs.Files.{present_length}
-use Rattle.dfs_objects.specs.Changes.{content_kept, content_changed}
+use Rattle.dfs_objects.specs.Changes.{content_as_cloned, content_changed}
 
 -- whether it is a directory
 abbrev pub is_dir : Content → Bool
@@ -90,5 +90,5 @@ blocks_of (Dir entries lists) = 9
 blocks_of (File list kept unsaved len) = 4 + (present_length kept len + 1023) / BLOCK_BYTES
 
 -- what a clone holds of an object
-abbrev pub object_kept : Object → Object
-object_kept object = content_changed content_kept object
+abbrev pub object_as_cloned : Object → Object
+object_as_cloned object = content_changed content_as_cloned object

@@ -25,6 +25,23 @@ impl Object {
     }
 }
 
+impl Object {
+    /// The bytes of a file as its readers see them, and none of a directory. `NoMemory` comes where memory runs out.
+    pub fn bytes(&self) -> Result<Items<u8>, NoMemory>
+        ensures { IfOk result (λ bytes. bytes ≡ content_bytes self.now.content) }
+    {
+        match &self.content {
+            Content::Dir { entries, lists: _ } => Ok(Items::new(entries.alloc())),
+            Content::File {
+                list: _,
+                kept,
+                unsaved,
+                length,
+            } => present_bytes(kept, unsaved, length),
+        }
+    }
+}
+
 /// The length in bytes of a file as its readers see it.
 pub(crate) fn present_length(kept: &Items<u8>, length: &Option<UnsavedLength>) -> usize
     ensures { result ≡ present_length kept.now length.now }

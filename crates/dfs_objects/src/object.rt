@@ -1,6 +1,6 @@
 ghost use Rattle.std.specs.Prelude.{◌≡◌, Ok, Err, IfOk, MatchResult};
-ghost use Rattle.dfs_objects.specs.Objects.{is_dir, entries_of, own_rights, entered, told_length, facts_of, list_index, access_of, blocks_of, object_kept};
-ghost use Rattle.dfs_objects.specs.Changes.{content_kept};
+ghost use Rattle.dfs_objects.specs.Objects.{is_dir, entries_of, own_rights, entered, told_length, facts_of, list_index, access_of, blocks_of, object_as_cloned};
+ghost use Rattle.dfs_objects.specs.Changes.{content_as_cloned};
 
 use crate::bytes::{present_bytes, present_length};
 use crate::content::{Content, Object};
@@ -110,13 +110,13 @@ impl Object {
     }
 
     /// What a clone holds of the object: in a file the present bytes are kept.
-    pub fn kept_copy(&self) -> Result<Object, NoMemory>
-        ensures { IfOk result (λ copy. copy ≡ object_kept self.now) }
+    pub fn as_cloned(&self) -> Result<Object, NoMemory>
+        ensures { IfOk result (λ copy. copy ≡ object_as_cloned self.now) }
     {
         Ok(Object {
             owner: self.owner.copy()?,
             group: self.group.copy()?,
-            content: self.content.kept_copy()?,
+            content: self.content.as_cloned()?,
         })
     }
 }
@@ -137,8 +137,8 @@ impl Content {
         }
     }
 
-    fn kept_copy(&self) -> Result<Content, NoMemory>
-        ensures { IfOk result (λ copy. copy ≡ content_kept self.now) }
+    fn as_cloned(&self) -> Result<Content, NoMemory>
+        ensures { IfOk result (λ copy. copy ≡ content_as_cloned self.now) }
     {
         match self {
             Content::Dir { entries, lists } => Ok(Content::Dir {

@@ -7,12 +7,13 @@ use Rattle.std.proofs.lemmas.Grind.{common_steps}
 use Rattle.dfs_base.specs.Outcomes.{either}
 use Rattle.dfs_base.specs.declared.ids.HostId.{HostId}
 use Rattle.dfs_base.specs.declared.ids.ServerId.{ServerId}
+use Rattle.dfs_base.specs.declared.ids.FilesetId.{FilesetId}
 use Rattle.dfs_base.specs.declared.ids.Fid.{Fid}
 use Rattle.dfs_base.specs.declared.span.Span.{Span}
 use Rattle.dfs_base.specs.declared.user.User.{User}
 use Rattle.dfs_calls.specs.declared.call.Call.{Call as CallOf}
-use Rattle.dfs_calls.specs.declared.call.Call.TheVariants.{NewFileset, Create, MakeDir, Remove, Rename, Truncate, SetAcl, CloneFileset, Read, Write, List as ListNames, Stat, GetAcl, Sync, Lock, Unlock, OpenFile, CloseFile}
-use Rattle.dfs_calls.specs.declared.entry.Entry.TheVariants.{Call, Stored, Down}
+use Rattle.dfs_calls.specs.declared.call.Call.TheVariants.{NewFileset, Create, MakeDir, Remove, Rename, Truncate, SetAcl, CloneFileset, Read, Write, List as ListNames, Stat, GetAcl, Sync, Lock, Unlock, OpenFile, CloseFile, MoveFileset}
+use Rattle.dfs_calls.specs.declared.entry.Entry.TheVariants.{Call, Stored, Down, Left}
 use Rattle.dfs_calls.specs.declared.reply.Refusal.{Refusal}
 use Rattle.dfs_calls.specs.Rosters.{user_of}
 use Rattle.dfs_objects.specs.declared.content.Content.{Content}
@@ -29,8 +30,9 @@ use Rattle.dfs_filesets.specs.Walk.{object_at, unique_at}
 use Rattle.dfs_tree.specs.declared.tree.Tree.{Tree}
 use Rattle.dfs_tree.specs.Answers.{for_user, answer_at, deciding_place, fileset_row, answer_for, answer_to}
 use Rattle.dfs_tree.specs.Finding.{Answer, refuse}
+use Rattle.dfs_tree.specs.Moving.{move_target, move_answer, left_tree}
 use Rattle.dfs_tree.specs.Founding.{new_fileset_target, new_fileset_answer, clone_target, clone_answer}
-use Rattle.dfs_tree.specs.Laws.{is_settled, is_at_rest}
+use Rattle.dfs_filesets.specs.WellFormed.{is_settled, is_at_rest}
 use Rattle.dfs_tree.specs.Locks.{lock_answer, lock_check, unlock_answer, has_lock}
 use Rattle.dfs_tree.specs.Losses.{down_tree}
 use Rattle.dfs_tree.specs.Opens.{open_answer, open_check, close_answer, has_open}
@@ -40,7 +42,7 @@ use Rattle.dfs_tree.proofs.Kept.{tested_object, fileset_with_id}
 use Rattle.dfs_saving.specs.Unsaved.{anode_content, fileset_contents, has_saved, is_only_by, is_by_one, content_named, writes_alone, is_write_by}
 use Rattle.dfs_saving.specs.Laws.{StaysApart, StaysSaved, SavedIsAtRest, StartsWithout, RosterStays}
 use Rattle.dfs_saving.proofs.Contents.{saved_written, saved_stored, saved_truncated, saved_clone, saved_listed, saved_forgotten, one_stored, one_synced, one_truncated, one_clone, one_listed, one_written, one_forgotten}
-use Rattle.dfs_saving.proofs.Kept.{IsKept, CallKeeps, same_there, kept_call, kept_store, kept_down}
+use Rattle.dfs_saving.proofs.Kept.{IsKept, CallKeeps, same_there, kept_call, kept_store, kept_down, kept_left}
 
 -- one host's in each file
 one_kept : IsKept is_by_one
@@ -71,6 +73,7 @@ stays_apart tree (Stored host fid spans stored) legal h alone =
     let same = same_there fileset.anodes fid.anode known a object stands there e in
     one_stored host spans stored object.content (subst (λ o. is_storable host spans stored o.content ≡ true) same storable) m) h
 stays_apart tree (Down host server) legal h alone = kept_down is_by_one one_kept tree host server h
+stays_apart tree (Left server id) legal h alone = kept_left is_by_one tree server id h
 
 -- nothing of a host
 saved_kept : (host : HostId) → IsKept (has_saved host)
@@ -92,6 +95,7 @@ pub stays_saved : StaysSaved
 stays_saved tree (Call writer k call reply) host h other = kept_call (has_saved host) (saved_kept host) tree writer call (saved_call tree host writer k call reply other) h
 stays_saved tree (Stored writer fid spans stored) host h other = kept_store (has_saved host) tree writer fid spans stored (λ fileset a object at there e m. saved_stored host writer spans stored object.content m) h
 stays_saved tree (Down writer server) host h other = kept_down (has_saved host) (saved_kept host) tree writer server h
+stays_saved tree (Left server id) host h other = kept_left (has_saved host) tree server id h
 
 -- a host is itself
 not_itself : (host : HostId) → not (host.0 == host.0) ≡ true → ⊥
@@ -130,7 +134,7 @@ roster_at tree place (Some fileset) host user call = refl
 
 roster_row : (tree : Tree) (host : HostId) (user : User) (call : CallOf) → (fileset_row tree host user call).tree.roster ≡ tree.roster
 unfolding fileset_row
-roster_row tree host user call = placed (deciding_place tree.filesets call)
+roster_row tree host user call = placed (deciding_place tree call)
   where
     placed : (found : Result ℕ Refusal) →
         (either found (λ place. answer_at tree place (slice_get tree.filesets place) (λ fileset. fileset_answer fileset (is_used tree.locks tree.opens) host user call)) (refuse tree)).tree.roster ≡ tree.roster
@@ -147,9 +151,10 @@ roster_or tree true a b h k = h
 roster_or tree false a b h k = k
 
 roster_for : (tree : Tree) (host : HostId) (call : CallOf) (user : User) → (answer_for tree host call user).tree.roster ≡ tree.roster
-unfolding answer_for new_fileset_answer clone_answer lock_answer unlock_answer open_answer close_answer
+unfolding answer_for new_fileset_answer clone_answer move_answer lock_answer unlock_answer open_answer close_answer
 roster_for tree host (NewFileset server name objects owner) user = roster_checked tree (new_fileset_target tree server name objects) _ (λ room. refl)
 roster_for tree host (CloneFileset server source new) user = roster_checked tree (clone_target tree user server source new) _ (λ found. refl)
+roster_for tree host (MoveFileset server name to) user = roster_checked tree (move_target tree user server name to) _ (λ found. refl)
 roster_for tree host (Lock label place writing from len) user = roster_checked tree (lock_check tree host user label place writing from len) _ (λ found. refl)
 roster_for tree host (Unlock label) user = roster_or tree (not (has_lock tree.locks host label)) _ _ refl refl
 roster_for tree host (OpenFile label place kind) user = roster_checked tree (open_check tree host user label place kind) _ (λ found. refl)
@@ -183,7 +188,12 @@ roster_down : (tree : Tree) (host : HostId) (server : ServerId) → (down_tree t
 unfolding down_tree
 roster_down tree host server = refl
 
+roster_left : (tree : Tree) (server : ServerId) (id : FilesetId) → (left_tree tree server id).roster ≡ tree.roster
+unfolding left_tree
+roster_left tree server id = refl
+
 pub roster_stays : RosterStays
 roster_stays tree (Call host k call reply) = roster_answer tree host call
 roster_stays tree (Stored host fid spans stored) = roster_stored tree host fid spans stored
 roster_stays tree (Down host server) = roster_down tree host server
+roster_stays tree (Left server id) = roster_left tree server id

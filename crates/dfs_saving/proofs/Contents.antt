@@ -12,7 +12,7 @@ use Rattle.dfs_objects.specs.declared.content.UnsavedLength.{UnsavedLength}
 use Rattle.dfs_objects.specs.declared.content.Content.{Content}
 use Rattle.dfs_objects.specs.declared.content.Content.TheVariants.{Dir, File}
 use Rattle.dfs_objects.specs.Files.{present_length, bytes_over}
-use Rattle.dfs_objects.specs.Changes.{written, unsaved_after, content_written, content_truncated, content_forgotten, content_kept, length_forgotten}
+use Rattle.dfs_objects.specs.Changes.{written, unsaved_after, content_written, content_truncated, content_forgotten, content_as_cloned, length_forgotten}
 use Rattle.dfs_objects.specs.Stores.{is_stored, length_left, content_stored, content_synced, own_length, is_storable, is_storable_length}
 use Rattle.dfs_objects.specs.Objects.{content_with_list}
 use Rattle.dfs_objects.specs.Spans.{whole}
@@ -103,7 +103,7 @@ pub saved_truncated : (host : HostId) (size : ℕ) (content : Content) → has_s
 saved_truncated host size (Dir entries lists) = refl
 saved_truncated host size (File list kept unsaved len) = refl
 
-pub saved_clone : (host : HostId) (content : Content) → has_saved host (content_kept content) ≡ true
+pub saved_clone : (host : HostId) (content : Content) → has_saved host (content_as_cloned content) ≡ true
 saved_clone host (Dir entries lists) = refl
 saved_clone host (File list kept unsaved len) = refl
 
@@ -243,7 +243,7 @@ pub one_truncated : (size : ℕ) (content : Content) → is_by_one (content_trun
 one_truncated size (Dir entries lists) = refl
 one_truncated size (File list kept unsaved len) = refl
 
-pub one_clone : (content : Content) → is_by_one (content_kept content) ≡ true
+pub one_clone : (content : Content) → is_by_one (content_as_cloned content) ≡ true
 one_clone (Dir entries lists) = refl
 one_clone (File list kept unsaved len) = refl
 

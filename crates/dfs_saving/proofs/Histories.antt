@@ -3,7 +3,7 @@ use Rattle.std.proofs.Common.{◌≡◌, Bool, true, false, List, [], ◌∷◌,
 use Rattle.std.specs.List.{list_all}
 use Rattle.dfs_base.specs.declared.ids.HostId.{HostId}
 use Rattle.dfs_calls.specs.declared.entry.Entry.{Entry}
-use Rattle.dfs_calls.specs.declared.entry.Entry.TheVariants.{Call, Stored, Down}
+use Rattle.dfs_calls.specs.declared.entry.Entry.TheVariants.{Call, Stored, Down, Left}
 use Rattle.dfs_objects.proofs.Observed.{and_left, and_right}
 use Rattle.dfs_tree.specs.declared.tree.Tree.{Tree}
 use Rattle.dfs_tree.specs.Histories.{after_entry, IsHistory, after_history}
@@ -18,21 +18,25 @@ abbrev pub is_no_call : Entry → Bool
 is_no_call (Call host k call reply) = false
 is_no_call (Stored host fid spans stored) = true
 is_no_call (Down host server) = true
+is_no_call (Left server id) = true
 
 no_call_limited : (entry : Entry) → is_no_call entry ≡ true → is_limited entry ≡ true
 no_call_limited (Call host k call reply) h = absurd (search (rules, h))
 no_call_limited (Stored host fid spans stored) h = refl
 no_call_limited (Down host server) h = refl
+no_call_limited (Left server id) h = refl
 
 no_call_alone : (tree : Tree) (entry : Entry) → is_no_call entry ≡ true → writes_alone tree entry ≡ true
 no_call_alone tree (Call host k call reply) h = absurd (search (rules, h))
 no_call_alone tree (Stored host fid spans stored) h = refl
 no_call_alone tree (Down host server) h = refl
+no_call_alone tree (Left server id) h = refl
 
 no_call_no_write : (host : HostId) (entry : Entry) → is_no_call entry ≡ true → is_write_by host entry ≡ false
 no_call_no_write host (Call writer k call reply) h = absurd (search (rules, h))
 no_call_no_write host (Stored writer fid spans stored) h = refl
 no_call_no_write host (Down writer server) h = refl
+no_call_no_write host (Left server id) h = refl
 
 -- two histories, one after the other
 pub history_append : (tree : Tree) (first second : List Entry) → IsHistory tree first → IsHistory (after_history tree first) second → IsHistory tree (first ++ second)

@@ -7,13 +7,14 @@ use Rattle.dfs_base.specs.Outcomes.{and_then, either}
 use Rattle.dfs_base.specs.declared.access.AccessEntry.{AccessEntry}
 use Rattle.dfs_base.specs.declared.ids.HostId.{HostId}
 use Rattle.dfs_base.specs.declared.ids.ServerId.{ServerId}
+use Rattle.dfs_base.specs.declared.ids.FilesetId.{FilesetId}
 use Rattle.dfs_base.specs.declared.ids.Fid.{Fid}
 use Rattle.dfs_base.specs.declared.ids.OpenKind.{OpenKind}
 use Rattle.dfs_base.specs.declared.limits.TheConstants.{FILE_BYTES_MAX}
 use Rattle.dfs_base.specs.declared.span.Span.{Span}
 use Rattle.dfs_base.specs.declared.user.User.{User}
 use Rattle.dfs_calls.specs.declared.call.Call.{Call as CallOf}
-use Rattle.dfs_calls.specs.declared.call.Call.TheVariants.{NewFileset, Create, MakeDir, Remove, Rename, Truncate, SetAcl, CloneFileset, Read, Write, List as ListNames, Stat, GetAcl, Sync, Lock, Unlock, OpenFile, CloseFile}
+use Rattle.dfs_calls.specs.declared.call.Call.TheVariants.{NewFileset, Create, MakeDir, Remove, Rename, Truncate, SetAcl, CloneFileset, Read, Write, List as ListNames, Stat, GetAcl, Sync, Lock, Unlock, OpenFile, CloseFile, MoveFileset}
 use Rattle.dfs_calls.specs.declared.part.DirEntry.{DirEntry}
 use Rattle.dfs_calls.specs.declared.place.Place.{Place}
 use Rattle.dfs_calls.specs.declared.place.Which.{Which}
@@ -25,7 +26,7 @@ use Rattle.dfs_objects.specs.declared.content.Content.{Content}
 use Rattle.dfs_objects.specs.declared.content.Content.TheVariants.{Dir, File}
 use Rattle.dfs_objects.specs.declared.content.Object.{Object}
 use Rattle.dfs_objects.specs.declared.content.Anode.{Anode}
-use Rattle.dfs_objects.specs.Changes.{content_changed, anode_changed, anode_freed, content_written, content_truncated, content_forgotten, content_kept}
+use Rattle.dfs_objects.specs.Changes.{content_changed, anode_changed, anode_freed, content_written, content_truncated, content_forgotten, content_as_cloned}
 use Rattle.dfs_objects.specs.Entries.{content_with_entry, content_without_entry}
 use Rattle.dfs_objects.specs.Objects.{access_of, content_with_list}
 use Rattle.dfs_objects.specs.Stores.{content_stored, content_synced}
@@ -35,8 +36,7 @@ use Rattle.dfs_filesets.specs.Answers.{Answered}
 use Rattle.dfs_filesets.specs.Changing.{write_target, write_answer, truncate_answer, sync_answer, set_access_target, set_access_answer}
 use Rattle.dfs_filesets.specs.Checks.{split_path}
 use Rattle.dfs_filesets.specs.Creation.{occupied, owned, vacancy, new_entry, new_content, new_object, create_target, create_answer}
-use Rattle.dfs_filesets.specs.Founding.{unused_anode, new_fileset, anode_kept, clone_check, cloned}
-use Rattle.dfs_filesets.specs.Promises.{clone_promise}
+use Rattle.dfs_filesets.specs.Founding.{unused_anode, new_fileset, anode_as_cloned, cloned, moved}
 use Rattle.dfs_filesets.specs.Removal.{remove_target, remove_answer}
 use Rattle.dfs_filesets.specs.Renaming.{rename_target, rename_answer}
 use Rattle.dfs_filesets.specs.Rights.{write_right}
@@ -51,17 +51,18 @@ use Rattle.dfs_filesets.proofs.Targets.{then_ok, unless_ok, ok_is, permitted_fil
 use Rattle.dfs_calls.specs.Rosters.{user_of}
 use Rattle.dfs_tree.specs.declared.tree.Tree.{Tree}
 use Rattle.dfs_tree.specs.declared.tree.ServerRoom.{ServerRoom}
-use Rattle.dfs_tree.specs.Finding.{Answer, refuse, is_named, found_or, fileset_named, is_taken, fileset_place, id_place}
-use Rattle.dfs_tree.specs.Founding.{room_for, next_id, with_fileset, new_fileset_target, new_fileset_answer, clone_target, clone_answer}
+use Rattle.dfs_tree.specs.Finding.{Answer, refuse, leads_to, found_or, fileset_named, fileset_place, id_place}
+use Rattle.dfs_tree.specs.Founding.{next_id, with_fileset, new_fileset_target, new_fileset_answer, clone_target, clone_answer}
 use Rattle.dfs_tree.specs.Uses.{is_used}
 use Rattle.dfs_tree.specs.Locks.{lock_answer, lock_check, with_lock, unlock_answer, has_lock}
 use Rattle.dfs_tree.specs.Opens.{open_answer, open_check, with_open, close_answer, has_open}
 use Rattle.dfs_tree.specs.Answers.{for_user, answer_at, deciding_place, fileset_row, answer_for, answer_to}
 use Rattle.dfs_tree.specs.Stores.{place_with_id, stored_tree}
 use Rattle.dfs_tree.specs.Losses.{fileset_forgotten, down_tree}
+use Rattle.dfs_tree.specs.Moving.{with_moved, move_target, move_answer, left_tree}
+use Rattle.dfs_tree.proofs.Kept.{cloned_so, named_is, move_ok}
 use Rattle.dfs_tree.proofs.Inserted.{all_insert}
-use Rattle.dfs_tree.proofs.Kept.{find_all}
-use Rattle.dfs_tree.proofs.Leaves.{get_all, place_found}
+use Rattle.dfs_tree.proofs.Places.{find_all, get_all, place_found}
 use Rattle.dfs_saving.specs.Unsaved.{anode_content, fileset_contents, all_contents, content_led_to, content_named}
 use Rattle.dfs_saving.proofs.Lists.{all_changed, all_set, all_mapped, all_replicate}
 
@@ -72,7 +73,7 @@ pub record IsKept (test : Content → Bool) : Type 0 where
   pub truncated : (size : ℕ) (content : Content) → test content ≡ true → test (content_truncated size content) ≡ true
   pub synced : (host : HostId) (content : Content) → test content ≡ true → test (content_synced host content) ≡ true
   pub listed : (which : Which) (access : List AccessEntry) (content : Content) → test content ≡ true → test (content_with_list which access content) ≡ true
-  pub clone : (content : Content) → test content ≡ true → test (content_kept content) ≡ true
+  pub clone : (content : Content) → test content ≡ true → test (content_as_cloned content) ≡ true
   pub forgotten : (host : HostId) (content : Content) → test content ≡ true → test (content_forgotten host content) ≡ true
 
 -- one content changed
@@ -254,11 +255,12 @@ place_is p xs i x =
       | false ↦ λ h. absurd (search (rules, h))
     ]
 
-named_there : (tree : Tree) (place : Place) (at : ℕ) (fileset : Fileset) → fileset_place tree.filesets place.server place.fileset ≡ Ok at → Some fileset ≡ slice_get tree.filesets at → content_named tree place ≡ content_led_to fileset place.path
+named_there : (tree : Tree) (place : Place) (at : ℕ) (fileset : Fileset) → fileset_place tree place.server place.fileset ≡ Ok at → Some fileset ≡ slice_get tree.filesets at → content_named tree place ≡ content_led_to fileset place.path
+unfolding fileset_place fileset_named
 named_there tree place at fileset h there =
-    ap (λ o. either (found_or o NoFileset) (λ f. content_led_to f place.path) (λ refusal. None)) (place_is (is_named place.server place.fileset) tree.filesets at fileset h there)
+    ap (λ o. either (found_or o NoFileset) (λ f. content_led_to f place.path) (λ refusal. None)) (place_is (leads_to tree place.server place.fileset) tree.filesets at fileset h there)
 
-call_there : (test : Content → Bool) (tree : Tree) (host : HostId) (call : CallOf) (at : ℕ) (fileset : Fileset) → deciding_place tree.filesets call ≡ Ok at → Some fileset ≡ slice_get tree.filesets at → CallKeeps test (content_named tree) host call →
+call_there : (test : Content → Bool) (tree : Tree) (host : HostId) (call : CallOf) (at : ℕ) (fileset : Fileset) → deciding_place tree call ≡ Ok at → Some fileset ≡ slice_get tree.filesets at → CallKeeps test (content_named tree) host call →
     CallKeeps test (λ place. content_led_to fileset place.path) host call
 call_there test tree host (Write place from bytes) at fileset h there k = λ content e m. k content (named_there tree place at fileset h there ∙ e) m
 call_there test tree host _ at fileset h there k = tt
@@ -270,7 +272,7 @@ kept_at test tree place None ask e k h = h
 kept_at test tree place (Some fileset) ask e k h =
     all_set (fileset_contents test) tree.filesets place (ask fileset).fileset (k fileset refl (get_all (fileset_contents test) tree.filesets place fileset e h)) h
 
-kept_place : (test : Content → Bool) → IsKept test → (tree : Tree) (found : Result ℕ Refusal) (host : HostId) (user : User) (call : CallOf) → deciding_place tree.filesets call ≡ found → CallKeeps test (content_named tree) host call → all_contents test tree ≡ true →
+kept_place : (test : Content → Bool) → IsKept test → (tree : Tree) (found : Result ℕ Refusal) (host : HostId) (user : User) (call : CallOf) → deciding_place tree call ≡ found → CallKeeps test (content_named tree) host call → all_contents test tree ≡ true →
     all_contents test (either found (λ place. answer_at tree place (slice_get tree.filesets place) (λ fileset. fileset_answer fileset (is_used tree.locks tree.opens) host user call)) (refuse tree)).tree ≡ true
 kept_place test kept tree (Err why) host user call e k h = h
 kept_place test kept tree (Ok place) host user call e k h =
@@ -279,7 +281,7 @@ kept_place test kept tree (Ok place) host user call e k h =
 
 kept_fileset_row : (test : Content → Bool) → IsKept test → (tree : Tree) (host : HostId) (user : User) (call : CallOf) → CallKeeps test (content_named tree) host call → all_contents test tree ≡ true → all_contents test (fileset_row tree host user call).tree ≡ true
 unfolding fileset_row
-kept_fileset_row test kept tree host user call k h = kept_place test kept tree (deciding_place tree.filesets call) host user call refl k h
+kept_fileset_row test kept tree host user call k h = kept_place test kept tree (deciding_place tree call) host user call refl k h
 
 -- a fileset more
 kept_with : (test : Content → Bool) (tree : Tree) (server : ServerId) (room : ServerRoom) (new : Fileset) → fileset_contents test new ≡ true → all_contents test tree ≡ true → all_contents test (with_fileset tree server room new) ≡ true
@@ -292,26 +294,27 @@ kept_new test kept tree server name objects owner (Err why) h = h
 kept_new test kept tree server name objects owner (Ok room) h =
     kept_with test tree server room (new_fileset server (next_id server room) name objects owner) (and_both _ _ (kept.dir _ _) (all_replicate (anode_content test) (objects - 1) unused_anode refl)) h
 
-kept_anode : (test : Content → Bool) → IsKept test → (anode : Anode) → anode_content test anode ≡ true → anode_content test (anode_kept anode) ≡ true
-kept_anode test kept anode h = kept_object test content_kept anode.object (λ object e m. kept.clone object.content m) h
+kept_anode : (test : Content → Bool) → IsKept test → (anode : Anode) → anode_content test anode ≡ true → anode_content test (anode_as_cloned anode) ≡ true
+kept_anode test kept anode h = kept_object test content_as_cloned anode.object (λ object e m. kept.clone object.content m) h
 
 kept_cloned : (test : Content → Bool) → IsKept test → (tree : Tree) (user : User) (server : ServerId) (source new : List ℕ) (checked : Result (Fileset × ServerRoom) Refusal) → checked ≡ clone_target tree user server source new → all_contents test tree ≡ true →
     all_contents test (either checked (λ (fileset, room). let answer : Answer = record { reply = Done; tree = with_fileset tree server room (cloned fileset (next_id server room) new) } in answer) (refuse tree)).tree ≡ true
-unfolding clone_target cloned
+unfolding cloned
 kept_cloned test kept tree user server source new (Err why) e h = h
 kept_cloned test kept tree user server source new (Ok found) e h =
-    let (fileset, f, h1) = then_ok (fileset_named tree.filesets server source) _ found (sym e) in
-    let (allowed, c, h2) = then_ok (clone_check fileset user) _ found h1 in
-    let (free, h3) = unless_ok (is_taken tree.filesets server new) Exists _ found h2 in
-    let (room, g, h4) = then_ok (room_for tree server (clone_promise fileset)) _ found h3 in
-    let same : (fileset, room) ≡ found = ok_is (fileset, room) found h4 in
-    let source_kept : fileset_contents test fileset ≡ true = find_all (is_named server source) (fileset_contents test) tree.filesets fileset (named_found (find (is_named server source) tree.filesets) fileset f) h in
-    let P : Fileset × ServerRoom → Type 0 = λ x. all_contents test (with_fileset tree server x.1 (cloned x.0 (next_id server x.1) new)) ≡ true in
-    subst P same (kept_with test tree server room (cloned fileset (next_id server room) new) (all_mapped (anode_content test) (anode_content test) anode_kept (kept_anode test kept) fileset.anodes source_kept) h)
-  where
-    named_found : (o : Option Fileset) (fileset : Fileset) → found_or o NoFileset ≡ Ok fileset → o ≡ Some fileset
-    named_found None fileset h = absurd (search (rules, h))
-    named_found (Some x) fileset h = ap Some (ok_is x fileset h)
+    let so = cloned_so tree user server source new found (sym e) in
+    let source_kept : fileset_contents test found.0 ≡ true = find_all (leads_to tree server source) (fileset_contents test) tree.filesets found.0 (named_is tree server source found.0 so.from) h in
+    kept_with test tree server found.1 (cloned found.0 (next_id server found.1) new) (all_mapped (anode_content test) (anode_content test) anode_as_cloned (kept_anode test kept) found.0.anodes source_kept) h
+
+-- a fileset that moves
+kept_moved : (test : Content → Bool) → IsKept test → (tree : Tree) (user : User) (server : ServerId) (name : List ℕ) (to : ServerId) (checked : Result (ℕ × Fileset) Refusal) → checked ≡ move_target tree user server name to → all_contents test tree ≡ true →
+    all_contents test (either checked (λ (place, fileset). let answer : Answer = record { reply = Done; tree = with_moved tree place fileset to } in answer) (refuse tree)).tree ≡ true
+unfolding moved
+kept_moved test kept tree user server name to (Err why) e h = h
+kept_moved test kept tree user server name to (Ok found) e h =
+    let there = (move_ok tree user server name to found (sym e)).1.there in
+    let source_kept : fileset_contents test found.1 ≡ true = get_all (fileset_contents test) tree.filesets found.0 found.1 there h in
+    all_set (fileset_contents test) tree.filesets found.0 (moved found.1 to) (all_mapped (anode_content test) (anode_content test) anode_as_cloned (kept_anode test kept) found.1.anodes source_kept) h
 
 -- calls that leave the filesets
 kept_same : (test : Content → Bool) (tree : Tree) (answer : Answer) → answer.tree.filesets ≡ tree.filesets → all_contents test tree ≡ true → all_contents test answer.tree ≡ true
@@ -350,9 +353,10 @@ close_leaves tree host label = ap_cond (has_open tree.opens host label) _ _ refl
     ap_cond false a b h k = h
 
 kept_for : (test : Content → Bool) → IsKept test → (tree : Tree) (host : HostId) (call : CallOf) (user : User) → CallKeeps test (content_named tree) host call → all_contents test tree ≡ true → all_contents test (answer_for tree host call user).tree ≡ true
-unfolding answer_for new_fileset_answer clone_answer
+unfolding answer_for new_fileset_answer clone_answer move_answer
 kept_for test kept tree host (NewFileset server name objects owner) user k h = kept_new test kept tree server name objects owner (new_fileset_target tree server name objects) h
 kept_for test kept tree host (CloneFileset server source new) user k h = kept_cloned test kept tree user server source new (clone_target tree user server source new) refl h
+kept_for test kept tree host (MoveFileset server name to) user k h = kept_moved test kept tree user server name to (move_target tree user server name to) refl h
 kept_for test kept tree host (Lock label place writing from len) user k h = kept_same test tree (lock_answer tree host user label place writing from len) (lock_leaves tree host user label place writing from len) h
 kept_for test kept tree host (Unlock label) user k h = kept_same test tree (unlock_answer tree host label) (unlock_leaves tree host label) h
 kept_for test kept tree host (OpenFile label place kind) user k h = kept_same test tree (open_answer tree host user label place kind) (open_leaves tree host user label place kind) h
@@ -397,6 +401,11 @@ fileset_mapped test other change k anodes h = all_mapped (anode_content test) (a
     object_mapped : (o : Option Object) → option_map_or (λ object. test object.content) o true ≡ true → option_map_or (λ object. other object.content) (option_map (content_changed change) o) true ≡ true
     object_mapped None m = refl
     object_mapped (Some object) m = k object.content m
+
+-- a server learns that a fileset has arrived
+pub kept_left : (test : Content → Bool) (tree : Tree) (server : ServerId) (id : FilesetId) → all_contents test tree ≡ true → all_contents test (left_tree tree server id) ≡ true
+unfolding left_tree
+kept_left test tree server id h = h
 
 pub kept_down : (test : Content → Bool) → IsKept test → (tree : Tree) (host : HostId) (server : ServerId) → all_contents test tree ≡ true → all_contents test (down_tree tree host server) ≡ true
 unfolding down_tree

@@ -1,16 +1,17 @@
 -- What is reached where a host stores all, where others store, and where a host is down.
-use Rattle.std.proofs.Common.{◌≡◌, ◌≢◌, ℕ, zero, suc, ◌+◌, ◌-◌, ◌<◌, ◌==◌, nat_lt, Bool, true, false, not, cond, List, [], ◌∷◌, ◌++◌, length, get_or, Option, Some, None, refl, sym, ap, ◌∙◌, subst, arith, rules}
+use Rattle.std.proofs.Common.{◌≡◌, ◌≢◌, ℕ, zero, suc, ◌+◌, ◌-◌, ◌<◌, ◌==◌, nat_lt, Bool, true, false, ◌||◌, not, cond, List, [], ◌∷◌, ◌++◌, length, get_or, Option, Some, None, refl, sym, ap, ◌∙◌, subst, arith, rules}
 use Rattle.std.specs.Prelude.{slice_get, flat_map, if◌then◌else◌}
-use Rattle.std.specs.List.{find, list_all, prefix_len}
+use Rattle.std.specs.List.{find, list_any, list_all, prefix_len}
 use Rattle.std.specs.Option.{option_map, option_map_or, option_and_then}
 use Rattle.std.proofs.lemmas.Grind.{common_steps}
 use Rattle.dfs_base.specs.Lists.{changed_at}
 use Rattle.dfs_base.specs.Outcomes.{either}
 use Rattle.dfs_base.specs.declared.ids.HostId.{HostId}
 use Rattle.dfs_base.specs.declared.ids.FilesetId.{FilesetId}
+use Rattle.dfs_base.specs.declared.ids.ServerId.{ServerId}
 use Rattle.dfs_base.specs.declared.ids.Fid.{Fid}
 use Rattle.dfs_calls.specs.declared.entry.Entry.{Entry}
-use Rattle.dfs_calls.specs.declared.entry.Entry.TheVariants.{Stored, Down}
+use Rattle.dfs_calls.specs.declared.entry.Entry.TheVariants.{Stored, Down, Left}
 use Rattle.dfs_calls.specs.declared.place.Place.{Place}
 use Rattle.dfs_calls.specs.declared.reply.Refusal.TheVariants.{NoFileset}
 use Rattle.dfs_objects.specs.declared.content.Content.{Content}
@@ -32,14 +33,14 @@ use Rattle.dfs_filesets.proofs.Leads.{some_then, leads_more}
 use Rattle.dfs_filesets.proofs.Observations.{object_from, object_not_zero, object_changed_to}
 use Rattle.dfs_filesets.proofs.StaysWellFormed.{stored_entries}
 use Rattle.dfs_tree.specs.declared.tree.Tree.{Tree}
-use Rattle.dfs_tree.specs.Finding.{is_named, has_id, found_or}
+use Rattle.dfs_tree.specs.Finding.{is_named, is_here, has_this_id, leads_to as finds, has_id, found_or, fileset_named}
+use Rattle.dfs_tree.specs.Away.{away_id}
 use Rattle.dfs_tree.specs.Histories.{IsLegal, after_entry, IsHistory, after_history}
 use Rattle.dfs_tree.specs.Stores.{content_in, stored_tree}
 use Rattle.dfs_tree.specs.WellFormed.{ids_rise, AreWellFormed, IsWellFormed}
 use Rattle.dfs_tree.proofs.Followed.{same_fid_itself}
 use Rattle.dfs_tree.proofs.Inserted.{position_or_end}
-use Rattle.dfs_tree.proofs.Kept.{find_all}
-use Rattle.dfs_tree.proofs.Leaves.{get_all, found_passes}
+use Rattle.dfs_tree.proofs.Places.{find_all, get_all, found_passes}
 use Rattle.dfs_saving.specs.Unsaved.{anode_content, fileset_contents, all_contents, has_saved, is_only_by, writer_of, is_by_one, content_led_to, content_named, is_alone_at}
 use Rattle.dfs_saving.specs.Stores.{store_of, own_store, others_store, listed, anode_store, anodes_stores, fileset_stores, own_stores, others_store_in, others_store_at}
 use Rattle.dfs_saving.specs.Saving.{is_store_of, fid_named, is_store_at, StoresAll, StoresOthers}
@@ -257,6 +258,7 @@ all_flat p f k (x ∷ xs) = all_append p (f x) (flat_map f xs) (k x) (all_flat p
 store_no_call : (test : HostId → Bool) (entry : Entry) → is_store_of test entry ≡ true → is_no_call entry ≡ true
 store_no_call test (Stored host fid spans len) h = refl
 store_no_call test (Down host server) h = refl
+store_no_call test (Left server id) h = refl
 store_no_call test _ h = absurd (search (rules, h))
 
 own_no_calls : (host : HostId) (id : FilesetId) (at : ℕ) (anodes : List Anode) → list_all is_no_call (anodes_stores host id at anodes) ≡ true
@@ -334,19 +336,47 @@ same_entry old new alike at name = same (object_at old.anodes at) (object_at new
     same (Some a) None h = absurd h
     same (Some a) (Some b) h = h.0.entries name
 
-changed_named : (place : Place) (fileset : Fileset) (at : ℕ) (change : Content → Content) → is_named place.server place.fileset (changed fileset at change) ≡ is_named place.server place.fileset fileset
+changed_id : (o : Option FilesetId) (fileset : Fileset) (at : ℕ) (change : Content → Content) → has_this_id o (changed fileset at change) ≡ has_this_id o fileset
 unfolding updated
-changed_named place fileset at change = refl
+changed_id None fileset at change = refl
+changed_id (Some id) fileset at change = refl
+
+changed_name : (server : ServerId) (name : List ℕ) (fileset : Fileset) (at : ℕ) (change : Content → Content) → is_named server name (changed fileset at change) ≡ is_named server name fileset
+unfolding updated
+changed_name server name fileset at change = refl
+
+changed_named : (tree : Tree) (place : Place) (fileset : Fileset) (at : ℕ) (change : Content → Content) → finds tree place.server place.fileset (changed fileset at change) ≡ finds tree place.server place.fileset fileset
+changed_named tree place fileset at change = by_name (is_here tree.filesets place.server place.fileset)
+  where
+    by_name : (b : Bool) → cond b (is_named place.server place.fileset) (has_this_id (away_id tree.away place.server place.fileset)) (changed fileset at change)
+        ≡ cond b (is_named place.server place.fileset) (has_this_id (away_id tree.away place.server place.fileset)) fileset
+    by_name true = changed_name place.server place.fileset fileset at change
+    by_name false = changed_id (away_id tree.away place.server place.fileset) fileset at change
+
+-- a name leads to the same fileset after a store
+any_append : {X : Type 0} (p : X → Bool) (before : List X) (old new : X) (after : List X) → p new ≡ p old → list_any p (before ++ new ∷ after) ≡ list_any p (before ++ old ∷ after)
+any_append p [] old new after h = ap (λ t. t || list_any p after) h
+any_append p (x ∷ before) old new after h = ap (λ t. p x || t) (any_append p before old new after h)
+
+stored_away : (tree : Tree) (writer : HostId) (fid : Fid) (content : Content) → (after_entry tree (store_of writer fid content)).away ≡ tree.away
+unfolding stored_tree
+stored_away tree writer fid content = refl
+
+finds_same : (old new : Tree) (place : Place) → new.away ≡ old.away → is_here new.filesets place.server place.fileset ≡ is_here old.filesets place.server place.fileset → finds new place.server place.fileset ≡ finds old place.server place.fileset
+finds_same old new place a h =
+    ap (λ t. cond t (is_named place.server place.fileset) (has_this_id (away_id new.away place.server place.fileset))) h
+    ∙ ap (λ records. cond (is_here old.filesets place.server place.fileset) (is_named place.server place.fileset) (has_this_id (away_id records place.server place.fileset))) a
 
 -- the fid of an anode
 abbrev fid_in : Fileset → ℕ → Fid
 fid_in fileset at = record { fileset = fileset.id; anode = at; unique = unique_at fileset.anodes at }
 
-others_take : (host : HostId) (place : Place) (tree : Tree) → IsWellFormed tree → all_contents is_by_one tree ≡ true → (fileset : Fileset) → find (is_named place.server place.fileset) tree.filesets ≡ Some fileset →
+others_take : (host : HostId) (place : Place) (tree : Tree) → IsWellFormed tree → all_contents is_by_one tree ≡ true → (fileset : Fileset) → find (finds tree place.server place.fileset) tree.filesets ≡ Some fileset →
     (at : ℕ) → leads fileset.anodes 1 place.path ≡ Some at → (object : Object) → object_at fileset.anodes at ≡ Some object → (writer : HostId) → writer_of object.content ≡ Some writer → (writer.0 == host.0) ≡ false →
     OthersSave host place tree (Some (store_of writer (record { fileset = fileset.id; anode = at; unique = unique_at fileset.anodes at }) object.content))
+unfolding fileset_named
 others_take host place tree w one fileset found at way object there writer f other =
-    let p : Fileset → Bool = is_named place.server place.fileset in
+    let p : Fileset → Bool = finds tree place.server place.fileset in
     let stands = found_between p tree.filesets fileset found in
     let change : Content → Content = all_stored writer object in
     let new : Fileset = changed fileset at change in
@@ -361,9 +391,15 @@ others_take host place tree w one fileset found at way object there writer f oth
     = ap (λ o. either (found_or o NoFileset) (λ f. option_map (λ n. fid_in f n) (leads f.anodes 1 place.path)) (λ refusal. None)) found ∙ ap (λ o. option_map (λ n. fid_in fileset n) o) way in
     let after : Tree = after_entry tree (store_of writer fid object.content) in
     let left : after.filesets ≡ stands.before ++ new ∷ stands.after = store_leaves tree stands.before fileset stands.after at object writer writes (unique_at fileset.anodes at) in
-    let found_after : find p after.filesets ≡ Some new = ap (find p) left ∙ first_found p stands.before new stands.after stands.none (changed_named place fileset at change ∙ found_passes p tree.filesets fileset found) in
+    let found_after : find p after.filesets ≡ Some new = ap (find p) left ∙ first_found p stands.before new stands.after stands.none (changed_named tree place fileset at change ∙ found_passes p tree.filesets fileset found) in
+    let here : is_here after.filesets place.server place.fileset ≡ is_here tree.filesets place.server place.fileset
+    = ap (list_any (is_named place.server place.fileset)) left
+    ∙ any_append (is_named place.server place.fileset) stands.before fileset new stands.after (changed_name place.server place.fileset fileset at change)
+    ∙ ap (list_any (is_named place.server place.fileset)) (sym stands.whole) in
+    let finds_after : find (finds after place.server place.fileset) after.filesets ≡ Some new
+    = ap (λ q. find q after.filesets) (finds_same tree after place (stored_away tree writer fid object.content) here) ∙ found_after in
     let named : content_named after place ≡ Some (change object.content)
-    = ap (λ o. either (found_or o NoFileset) (λ f. content_led_to f place.path) (λ refusal. None)) found_after
+    = ap (λ o. either (found_or o NoFileset) (λ f. content_led_to f place.path) (λ refusal. None)) finds_after
     ∙ ap (λ o. option_and_then (λ anode. option_map (λ object. object.content) (object_at new.anodes anode)) o) leads_there
     ∙ ap (λ o. option_map (λ object. object.content) o) (object_changed_to fileset at change object there) in
     record {
@@ -374,18 +410,19 @@ others_take host place tree w one fileset found at way object there writer f oth
     }
 
 others_save : (host : HostId) (place : Place) (tree : Tree) → IsWellFormed tree → all_contents is_by_one tree ≡ true → OthersSave host place tree (others_store_at host place tree)
-others_save host place tree w one = by_fileset (find (is_named place.server place.fileset) tree.filesets) refl
+unfolding fileset_named
+others_save host place tree w one = by_fileset (find (finds tree place.server place.fileset) tree.filesets) refl
   where
     nothing : (named : Option Content) → content_named tree place ≡ named → option_map_or (is_only_by host) named true ≡ true → OthersSave host place tree None
     nothing named e h = record { legal = tt; stores = refl; there = refl; alone = ap (λ o. option_map_or (is_only_by host) o true) e ∙ h }
 
-    led : (fileset : Fileset) → find (is_named place.server place.fileset) tree.filesets ≡ Some fileset → content_named tree place ≡ content_led_to fileset place.path
+    led : (fileset : Fileset) → find (finds tree place.server place.fileset) tree.filesets ≡ Some fileset → content_named tree place ≡ content_led_to fileset place.path
     led fileset e = ap (λ o. either (found_or o NoFileset) (λ f. content_led_to f place.path) (λ refusal. None)) e
 
-    at_anode : (fileset : Fileset) → find (is_named place.server place.fileset) tree.filesets ≡ Some fileset → (at : ℕ) → leads fileset.anodes 1 place.path ≡ Some at → content_named tree place ≡ option_map (λ object. object.content) (object_at fileset.anodes at)
+    at_anode : (fileset : Fileset) → find (finds tree place.server place.fileset) tree.filesets ≡ Some fileset → (at : ℕ) → leads fileset.anodes 1 place.path ≡ Some at → content_named tree place ≡ option_map (λ object. object.content) (object_at fileset.anodes at)
     at_anode fileset e at f = led fileset e ∙ ap (λ o. option_and_then (λ anode. option_map (λ object. object.content) (object_at fileset.anodes anode)) o) f
 
-    by_writer : (fileset : Fileset) → find (is_named place.server place.fileset) tree.filesets ≡ Some fileset → (at : ℕ) → leads fileset.anodes 1 place.path ≡ Some at → (object : Object) → object_at fileset.anodes at ≡ Some object →
+    by_writer : (fileset : Fileset) → find (finds tree place.server place.fileset) tree.filesets ≡ Some fileset → (at : ℕ) → leads fileset.anodes 1 place.path ≡ Some at → (object : Object) → object_at fileset.anodes at ≡ Some object →
         (writer : Option HostId) → writer_of object.content ≡ writer →
         OthersSave host place tree (option_and_then (λ w. if w.0 == host.0 then None else Some (store_of w (record { fileset = fileset.id; anode = at; unique = unique_at fileset.anodes at }) object.content)) writer)
     by_writer fileset e at f object g None m = nothing (Some object.content) (at_anode fileset e at f ∙ ap (λ o. option_map (λ object. object.content) o) g) (none_only host object.content m)
@@ -393,23 +430,23 @@ others_save host place tree w one = by_fileset (find (is_named place.server plac
         elim (writer.0 == host.0) as (λ t. (writer.0 == host.0) ≡ t →
         OthersSave host place tree (if t then None else Some (store_of writer (record { fileset = fileset.id; anode = at; unique = unique_at fileset.anodes at }) object.content))) [
           | true ↦ λ same.
-              let its : fileset_contents is_by_one fileset ≡ true = find_all (is_named place.server place.fileset) (fileset_contents is_by_one) tree.filesets fileset e one in
+              let its : fileset_contents is_by_one fileset ≡ true = find_all (finds tree place.server place.fileset) (fileset_contents is_by_one) tree.filesets fileset e one in
               let only : is_only_by host object.content ≡ true = writer_only host object.content (m ∙ ap Some (same_host writer host same)) (contents_at is_by_one fileset.anodes at object its g) in
               nothing (Some object.content) (at_anode fileset e at f ∙ ap (λ o. option_map (λ object. object.content) o) g) only
           | false ↦ λ other. others_take host place tree w one fileset e at f object g writer m other
         ] refl
 
-    by_object : (fileset : Fileset) → find (is_named place.server place.fileset) tree.filesets ≡ Some fileset → (at : ℕ) → leads fileset.anodes 1 place.path ≡ Some at → (o : Option Object) → object_at fileset.anodes at ≡ o →
+    by_object : (fileset : Fileset) → find (finds tree place.server place.fileset) tree.filesets ≡ Some fileset → (at : ℕ) → leads fileset.anodes 1 place.path ≡ Some at → (o : Option Object) → object_at fileset.anodes at ≡ o →
         OthersSave host place tree (option_and_then (others_store host (record { fileset = fileset.id; anode = at; unique = unique_at fileset.anodes at })) o)
     by_object fileset e at f None g = nothing None (at_anode fileset e at f ∙ ap (λ o. option_map (λ object. object.content) o) g) refl
     by_object fileset e at f (Some object) g = by_writer fileset e at f object g (writer_of object.content) refl
 
-    by_anode : (fileset : Fileset) → find (is_named place.server place.fileset) tree.filesets ≡ Some fileset → (o : Option ℕ) → leads fileset.anodes 1 place.path ≡ o →
+    by_anode : (fileset : Fileset) → find (finds tree place.server place.fileset) tree.filesets ≡ Some fileset → (o : Option ℕ) → leads fileset.anodes 1 place.path ≡ o →
         OthersSave host place tree (option_and_then (λ at. option_and_then (others_store host (record { fileset = fileset.id; anode = at; unique = unique_at fileset.anodes at })) (object_at fileset.anodes at)) o)
     by_anode fileset e None f = nothing None (led fileset e ∙ ap (λ o. option_and_then (λ anode. option_map (λ object. object.content) (object_at fileset.anodes anode)) o) f) refl
     by_anode fileset e (Some at) f = by_object fileset e at f (object_at fileset.anodes at) refl
 
-    by_fileset : (o : Option Fileset) → find (is_named place.server place.fileset) tree.filesets ≡ o → OthersSave host place tree (either (found_or o NoFileset) (others_store_in host place.path) (λ refusal. None))
+    by_fileset : (o : Option Fileset) → find (finds tree place.server place.fileset) tree.filesets ≡ o → OthersSave host place tree (either (found_or o NoFileset) (others_store_in host place.path) (λ refusal. None))
     by_fileset None e = nothing None (ap (λ o. either (found_or o NoFileset) (λ f. content_led_to f place.path) (λ refusal. None)) e) refl
     by_fileset (Some fileset) e = by_anode fileset e (leads fileset.anodes 1 place.path) refl
 

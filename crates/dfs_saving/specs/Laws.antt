@@ -8,7 +8,7 @@ use Rattle.dfs_objects.specs.declared.content.Content.{Content}
 use Rattle.dfs_tree.specs.declared.tree.Tree.{Tree}
 use Rattle.dfs_tree.specs.Founding.{new_tree}
 use Rattle.dfs_tree.specs.Histories.{IsLegal, after_entry}
-use Rattle.dfs_tree.specs.Laws.{is_at_rest}
+use Rattle.dfs_filesets.specs.WellFormed.{is_at_rest}
 use Rattle.dfs_saving.specs.Unsaved.{all_contents, has_saved, is_by_one, writes_alone, is_write_by}
 
 -- what each file has unsaved stays one host's under each legal entry, where a write isn't to a file in which another host

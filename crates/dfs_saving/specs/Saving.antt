@@ -31,7 +31,7 @@ is_store_of test _ = false
 -- the fid of the object to which the path of a place leads, whoever asks
 abbrev pub fid_named : Tree → Place → Option Fid
 fid_named tree place =
-    either (fileset_named tree.filesets place.server place.fileset)
+    either (fileset_named tree place.server place.fileset)
     (λ fileset.
     option_map (λ at. record { fileset = fileset.id; anode = at; unique = unique_at fileset.anodes at })
     (leads fileset.anodes 1 place.path))

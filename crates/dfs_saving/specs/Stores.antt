@@ -67,4 +67,4 @@ others_store_in host path fileset =
 -- and of the object that a place names
 abbrev pub others_store_at : HostId → Place → Tree → Option Entry
 others_store_at host place tree =
-    either (fileset_named tree.filesets place.server place.fileset) (others_store_in host place.path) (λ refusal. None)
+    either (fileset_named tree place.server place.fileset) (others_store_in host place.path) (λ refusal. None)

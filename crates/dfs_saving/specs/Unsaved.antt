@@ -69,7 +69,7 @@ content_led_to fileset path =
 -- the content of the object to which the path of a place leads, whoever asks
 abbrev pub content_named : Tree → Place → Option Content
 content_named tree place =
-    either (fileset_named tree.filesets place.server place.fileset) (λ fileset. content_led_to fileset place.path) (λ refusal. None)
+    either (fileset_named tree place.server place.fileset) (λ fileset. content_led_to fileset place.path) (λ refusal. None)
 
 -- whether all that is unsaved at a place, where there is something, is a host's
 abbrev pub is_alone_at : HostId → Tree → Place → Bool

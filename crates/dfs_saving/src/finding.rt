@@ -1,30 +1,13 @@
-//! Where a place leads, whoever asks.
+//! Where a path leads, whoever asks.
 ghost use Rattle.std.specs.Prelude.{◌≡◌};
-ghost use Rattle.std.specs.List.{find};
 ghost use Rattle.std.specs.Option.{option_copied};
 ghost use Rattle.dfs_filesets.specs.Walk.{unique_at};
 ghost use Rattle.dfs_filesets.specs.WellFormed.{entry_at, leads};
-ghost use Rattle.dfs_tree.specs.Finding.{is_named};
 
-use dfs_base::{Items, Name, ServerId};
-use dfs_calls::{DirEntry, Place};
-use dfs_filesets::{Fileset, object_at};
+use dfs_base::{Items, Name};
+use dfs_calls::DirEntry;
+use dfs_filesets::object_at;
 use dfs_objects::{Anode, Object, entry_named};
-
-fn is_named(fileset: &Fileset, server: ServerId, name: &Name) -> bool
-    ensures { result ≡ is_named server name.now fileset.now }
-{
-    fileset.server == server && fileset.name == *name
-}
-
-/// The fileset that a place names.
-pub(crate) fn fileset_of<'a>(filesets: &'a [Fileset], place: &Place) -> Option<&'a Fileset>
-    ensures { option_copied result ≡ find (is_named place.now.server place.now.fileset) filesets.now }
-{
-    filesets
-        .iter()
-        .find(|fileset| is_named(fileset, place.server, &place.fileset))
-}
 
 /// How often an anode has been used.
 pub(crate) fn unique_at(anodes: &Items<Anode>, anode: u32) -> u32

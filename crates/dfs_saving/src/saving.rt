@@ -3,7 +3,7 @@
 //! Overview", 1990).
 ghost use Rattle.std.specs.Prelude.{◌≡◌, true, IfOk, OnOk};
 ghost use Rattle.dfs_tree.specs.WellFormed.{IsWellFormed};
-ghost use Rattle.dfs_tree.specs.Histories.{after_entry, after_history};
+ghost use Rattle.dfs_tree.specs.Histories.{after_history};
 ghost use Rattle.dfs_saving.specs.Unsaved.{all_contents, is_by_one};
 ghost use Rattle.dfs_saving.specs.Saving.{downs_from, StoresAll, StoresOthers, DownsAll};
 
@@ -73,32 +73,7 @@ fn follow(tree: &mut Tree, entries: &[Entry]) -> Result<(), NoMemory>
     ensures { OnOk result (tree.new ≡ after_history tree.old entries.now) }
 {
     for entry in entries {
-        follow_entry(tree, entry)?;
-    }
-    Ok(())
-}
-
-fn follow_entry(tree: &mut Tree, entry: &Entry) -> Result<(), NoMemory>
-    ensures { OnOk result (tree.new ≡ after_entry tree.old entry.now) }
-{
-    match entry {
-        Entry::Call {
-            host,
-            k: _,
-            call,
-            reply: _,
-        } => {
-            tree.answer(*host, call)?;
-        }
-        Entry::Stored {
-            host,
-            fid,
-            spans,
-            length,
-        } => tree.stored(*host, *fid, spans.as_slice(), *length)?,
-        Entry::Down { host, server } => {
-            tree.down(*host, *server)?;
-        }
+        tree.follow(entry)?;
     }
     Ok(())
 }

@@ -4,7 +4,7 @@ ghost use Rattle.dfs_tree.specs.WellFormed.{IsWellFormed};
 ghost use Rattle.dfs_saving.specs.Unsaved.{writer_of};
 ghost use Rattle.dfs_saving.specs.Stores.{store_of, own_store, others_store, anode_store, fileset_stores, own_stores, others_store_in, others_store_at};
 
-use crate::finding::{fileset_of, leads, unique_at};
+use crate::finding::{leads, unique_at};
 use dfs_base::{Fid, HostId, Items, Name, NoMemory};
 use dfs_calls::{Entry, Place};
 use dfs_filesets::{Fileset, object_at};
@@ -68,9 +68,9 @@ pub(crate) fn others_store_at(
 ) -> Result<Option<Entry>, NoMemory>
     ensures { IfOk result (λ entry. entry ≡ others_store_at host place.now tree.now) }
 {
-    match fileset_of(tree.filesets.as_slice(), place) {
-        Some(fileset) => others_store_in(fileset, host, place.path.as_slice()),
-        None => Ok(None),
+    match tree.fileset_named(place.server, &place.fileset) {
+        Ok(fileset) => others_store_in(fileset, host, place.path.as_slice()),
+        Err(_) => Ok(None),
     }
 }
 

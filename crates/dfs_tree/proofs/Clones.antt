@@ -1,6 +1,6 @@
 -- Clones stay as they are.
-use Rattle.std.proofs.Common.{◌≡◌, ℕ, zero, suc, ◌-◌, ◌==◌, nat_le, Bool, true, false, not, cond, List, [], ◌∷◌, length, insert, Option, Some, None, Result, Ok, Err, refl, sym, ap, ◌∙◌, subst, arith, inl, inr, rules}
-use Rattle.std.specs.Prelude.{slice_get, slice_set, map, if◌then◌else◌}
+use Rattle.std.proofs.Common.{◌≡◌, ℕ, zero, suc, ◌-◌, ◌==◌, Bool, true, false, not, cond, List, [], ◌∷◌, insert, Option, Some, None, Result, Ok, Err, refl, sym, ap, ◌∙◌, subst, arith, inl, inr, rules}
+use Rattle.std.specs.Prelude.{slice_get, slice_set, if◌then◌else◌}
 use Rattle.std.specs.List.{find, list_all}
 use Rattle.std.specs.Option.{option_map, option_map_or, option_and_then}
 use Rattle.std.proofs.lemmas.Grind.{common_steps}
@@ -14,46 +14,33 @@ use Rattle.dfs_base.specs.declared.ids.Fid.{Fid}
 use Rattle.dfs_base.specs.declared.span.Span.{Span}
 use Rattle.dfs_base.specs.declared.user.User.{User}
 use Rattle.dfs_calls.specs.declared.call.Call.{Call as CallOf}
-use Rattle.dfs_calls.specs.declared.call.Call.TheVariants.{NewFileset, Create, MakeDir, Remove, Rename, Truncate, SetAcl, CloneFileset, Read, Write, List as ListNames, Stat, GetAcl, Sync, Lock, Unlock, OpenFile, CloseFile}
+use Rattle.dfs_calls.specs.declared.call.Call.TheVariants.{NewFileset, Create, MakeDir, Remove, Rename, Truncate, SetAcl, CloneFileset, Read, Write, List as ListNames, Stat, GetAcl, Sync, Lock, Unlock, OpenFile, CloseFile, MoveFileset}
 use Rattle.dfs_calls.specs.declared.entry.Entry.{Entry}
-use Rattle.dfs_calls.specs.declared.entry.Entry.TheVariants.{Call, Stored, Down}
+use Rattle.dfs_calls.specs.declared.entry.Entry.TheVariants.{Call, Stored, Down, Left}
 use Rattle.dfs_calls.specs.declared.reply.Refusal.{Refusal}
-use Rattle.dfs_calls.specs.declared.reply.Refusal.TheVariants.{ReadOnly}
 use Rattle.dfs_calls.specs.declared.reply.Reply.TheVariants.{Ok as Done}
 use Rattle.dfs_objects.specs.declared.content.Content.{Content}
-use Rattle.dfs_objects.specs.declared.content.Content.TheVariants.{Dir, File}
-use Rattle.dfs_objects.specs.declared.content.Object.{Object}
-use Rattle.dfs_objects.specs.declared.content.Anode.{Anode}
-use Rattle.dfs_objects.specs.Changes.{content_changed, anode_changed, content_forgotten, content_kept}
-use Rattle.dfs_objects.specs.Files.{bytes_over}
-use Rattle.dfs_objects.specs.Stores.{content_stored, content_synced, is_storable}
-use Rattle.dfs_objects.proofs.Lawful.{over_itself}
+use Rattle.dfs_objects.specs.Stores.{content_stored, is_storable}
 use Rattle.dfs_objects.proofs.Observed.{and_left, and_right}
-use Rattle.dfs_objects.proofs.Rising.{and_both}
 use Rattle.dfs_filesets.specs.declared.fileset.Fileset.{Fileset}
-use Rattle.dfs_filesets.specs.Answers.{answered}
-use Rattle.dfs_filesets.specs.Changing.{write_target, write_answer, truncate_answer, sync_answer, set_access_target, set_access_answer}
-use Rattle.dfs_filesets.specs.Checks.{unless}
-use Rattle.dfs_filesets.specs.Creation.{create_target, create_answer}
-use Rattle.dfs_filesets.specs.Founding.{anode_kept, cloned, clone_check}
-use Rattle.dfs_filesets.specs.Removal.{remove_target, remove_answer}
-use Rattle.dfs_filesets.specs.Renaming.{rename_target, rename_answer}
+use Rattle.dfs_filesets.specs.Founding.{cloned, moved}
 use Rattle.dfs_filesets.specs.Rows.{fileset_answer}
-use Rattle.dfs_filesets.specs.Updates.{updated, changed}
-use Rattle.dfs_filesets.specs.Walk.{object_at, unique_at, file_target}
+use Rattle.dfs_filesets.specs.Updates.{changed}
+use Rattle.dfs_filesets.specs.Walk.{object_at, unique_at}
 use Rattle.dfs_filesets.proofs.Clones.{clone_shows_source}
 use Rattle.dfs_tree.specs.declared.tree.Tree.{Tree}
 use Rattle.dfs_calls.specs.declared.reply.Refusal.TheVariants.{Exists}
 use Rattle.dfs_filesets.specs.Founding.{new_fileset}
-use Rattle.dfs_filesets.specs.Promises.{new_promise, clone_promise}
+use Rattle.dfs_filesets.specs.Promises.{new_promise}
 use Rattle.dfs_filesets.proofs.Observations.{object_from, object_not_zero}
 use Rattle.dfs_filesets.proofs.Stays.{stays_itself}
-use Rattle.dfs_filesets.proofs.Targets.{then_ok, unless_ok, ok_is}
+use Rattle.dfs_filesets.proofs.Targets.{unless_ok}
 use Rattle.dfs_filesets.proofs.Updates.{found_changed}
 use Rattle.dfs_tree.specs.declared.tree.ServerRoom.{ServerRoom}
 use Rattle.dfs_calls.specs.Rosters.{user_of}
 use Rattle.dfs_tree.specs.Finding.{Answer, refuse, has_id, fileset_named, is_taken, id_place}
 use Rattle.dfs_tree.specs.Founding.{room_for, next_id, with_fileset, new_fileset_target, new_fileset_answer, clone_target, clone_answer}
+use Rattle.dfs_tree.specs.Moving.{with_moved, move_target, move_answer, left_tree}
 use Rattle.dfs_tree.specs.Uses.{is_used}
 use Rattle.dfs_tree.specs.Locks.{lock_answer, lock_check, unlock_answer, has_lock}
 use Rattle.dfs_tree.specs.Opens.{open_answer, open_check, close_answer, has_open}
@@ -64,108 +51,12 @@ use Rattle.dfs_tree.specs.Histories.{IsLegal, after_entry, IsHistory, after_hist
 use Rattle.dfs_tree.specs.WellFormed.{IsWellFormed, is_limited}
 use Rattle.dfs_tree.proofs.Refusals.{set_same}
 use Rattle.dfs_tree.proofs.Inserted.{IsFresh, find_insert, fresh_id, position_or_end}
-use Rattle.dfs_tree.proofs.Kept.{find_all, room_ok, tested_object, formed_entry}
-use Rattle.dfs_tree.proofs.Leaves.{find_at_place, find_put_other, find_map, same_after, place_found}
-use Rattle.dfs_tree.specs.Laws.{is_settled, is_at_rest, ClonesStay}
-
--- a settled content is changed by nothing that makes changes kept, or lets them go
-settled_synced : (host : HostId) (content : Content) → is_settled content ≡ true → content_synced host content ≡ content
-settled_synced host (Dir entries lists) h = refl
-settled_synced host (File list kept [] None) h = ap (λ bytes. File list bytes [] None) (over_itself kept)
-settled_synced host (File list kept [] (Some len)) h = absurd (search (rules, h))
-settled_synced host (File list kept (byte ∷ unsaved) len) h = absurd (search (rules, h))
-
-settled_forgotten : (host : HostId) (content : Content) → is_settled content ≡ true → content_forgotten host content ≡ content
-settled_forgotten host (Dir entries lists) h = refl
-settled_forgotten host (File list kept [] None) h = refl
-settled_forgotten host (File list kept [] (Some len)) h = absurd (search (rules, h))
-settled_forgotten host (File list kept (byte ∷ unsaved) len) h = absurd (search (rules, h))
-
-settled_stored : (host : HostId) (spans : List Span) (stored : Option ℕ) (content : Content) → is_settled content ≡ true → is_storable host spans stored content ≡ true → content_stored host spans stored content ≡ content
-settled_stored host spans stored (Dir entries lists) h k = refl
-settled_stored host spans None (File list kept [] None) h k = ap (λ bytes. File list bytes [] None) (over_itself kept)
-settled_stored host spans (Some n) (File list kept [] None) h k =
-    let length_fits = and_left _ _ k in
-    let low : nat_le (length kept) n ≡ true = and_left _ _ (and_left _ _ length_fits) in
-    let high : nat_le n (length kept) ≡ true = and_right _ _ (and_left _ _ length_fits) in
-    let same : n ≡ length kept = grind (arith, common_steps, low, high) in
-    ap (λ end. File list (bytes_over kept [] 0 end) [] None) same ∙ ap (λ bytes. File list bytes [] None) (over_itself kept)
-settled_stored host spans stored (File list kept [] (Some len)) h k = absurd (search (rules, h))
-settled_stored host spans stored (File list kept (byte ∷ unsaved) len) h k = absurd (search (rules, h))
-
--- whether what stands at an anode is settled
-abbrev settled_at : Anode → Bool
-settled_at anode = option_map_or (λ object. is_settled object.content) anode.object true
-
-same_object : (o : Option Object) (change : Content → Content) → ((content : Content) → is_settled content ≡ true → change content ≡ content) → option_map_or (λ object. is_settled object.content) o true ≡ true → option_map (content_changed change) o ≡ o
-same_object None change k h = refl
-same_object (Some object) change k h = ap (λ content. Some (record object { content = content })) (k object.content h)
-
-same_anode : (anode : Anode) (change : Content → Content) → ((content : Content) → is_settled content ≡ true → change content ≡ content) → settled_at anode ≡ true → anode_changed change anode ≡ anode
-same_anode anode change k h = ap (λ o. record anode { object = o }) (same_object anode.object change k h)
-
-same_changed : {X : Type 0} (q : X → Bool) (f : X → X) → ((x : X) → q x ≡ true → f x ≡ x) → (xs : List X) (i : ℕ) → list_all q xs ≡ true → changed_at xs i f ≡ xs
-same_changed q f k [] i h = refl
-same_changed q f k (x ∷ xs) zero h = ap (λ y. y ∷ xs) (k x (and_left _ _ h))
-same_changed q f k (x ∷ xs) (suc i) h = ap (λ ys. x ∷ ys) (same_changed q f k xs i (and_right _ _ h))
-
-same_mapped : {X : Type 0} (q : X → Bool) (f : X → X) → ((x : X) → q x ≡ true → f x ≡ x) → (xs : List X) → list_all q xs ≡ true → map f xs ≡ xs
-same_mapped q f k [] h = refl
-same_mapped q f k (x ∷ xs) h = ap (λ y. y ∷ map f xs) (k x (and_left _ _ h)) ∙ ap (λ ys. x ∷ ys) (same_mapped q f k xs (and_right _ _ h))
-
-rest_changed : (fileset : Fileset) (anode : ℕ) (change : Content → Content) → ((content : Content) → is_settled content ≡ true → change content ≡ content) → is_at_rest fileset ≡ true → changed fileset anode change ≡ fileset
-unfolding updated
-rest_changed fileset anode change k h = ap (λ anodes. record fileset { anodes = anodes }) (same_changed settled_at (anode_changed change) (λ a s. same_anode a change k s) fileset.anodes (anode - 1) h)
-
-rest_forgotten : (host : HostId) (fileset : Fileset) → is_at_rest fileset ≡ true → fileset_forgotten host fileset ≡ fileset
-rest_forgotten host fileset h = ap (λ anodes. record fileset { anodes = anodes }) (same_mapped settled_at (anode_changed (content_forgotten host)) (λ a s. same_anode a (content_forgotten host) (settled_forgotten host) s) fileset.anodes h)
-
--- a row of a clone
-row_refused : {A : Type 0} (fileset : Fileset) (read_only : Bool) (next : Result A Refusal) (effect : A → Fileset) → read_only ≡ true → (answered fileset (unless read_only ReadOnly next) effect).fileset ≡ fileset
-row_refused fileset true next effect h = refl
-row_refused fileset false next effect h = absurd (search (rules, h))
-
-row_synced : (fileset : Fileset) (host : HostId) (checked : Result (ℕ × Object) Refusal) → is_at_rest fileset ≡ true → (answered fileset checked (λ (anode, object). changed fileset anode (content_synced host))).fileset ≡ fileset
-row_synced fileset host (Err why) h = refl
-row_synced fileset host (Ok found) h = rest_changed fileset found.0 (content_synced host) (settled_synced host) h
-
-row_rests : (fileset : Fileset) (in_use : Fid → Bool) (host : HostId) (user : User) (call : CallOf) → fileset.read_only ≡ true → is_at_rest fileset ≡ true → (fileset_answer fileset in_use host user call).fileset ≡ fileset
-unfolding fileset_answer create_answer remove_answer rename_answer truncate_answer set_access_answer write_answer sync_answer create_target remove_target rename_target write_target set_access_target
-row_rests fileset in_use host user (Create place) r h = row_refused fileset fileset.read_only _ _ r
-row_rests fileset in_use host user (MakeDir place) r h = row_refused fileset fileset.read_only _ _ r
-row_rests fileset in_use host user (Remove place) r h = row_refused fileset fileset.read_only _ _ r
-row_rests fileset in_use host user (Rename from to) r h = row_refused fileset fileset.read_only _ _ r
-row_rests fileset in_use host user (Truncate place len) r h = row_refused fileset fileset.read_only _ _ r
-row_rests fileset in_use host user (SetAcl place which list) r h = row_refused fileset fileset.read_only _ _ r
-row_rests fileset in_use host user (Write place from bytes) r h = row_refused fileset fileset.read_only _ _ r
-row_rests fileset in_use host user (Sync place) r h = row_synced fileset host (file_target fileset user place.path) h
-row_rests fileset in_use host user (Read place from len) r h = refl
-row_rests fileset in_use host user (ListNames place) r h = refl
-row_rests fileset in_use host user (Stat place) r h = refl
-row_rests fileset in_use host user (GetAcl place which) r h = refl
-row_rests fileset in_use host user (NewFileset server name objects owner) r h = refl
-row_rests fileset in_use host user (CloneFileset server source new) r h = refl
-row_rests fileset in_use host user (Lock label place writing from len) r h = refl
-row_rests fileset in_use host user (Unlock label) r h = refl
-row_rests fileset in_use host user (OpenFile label place kind) r h = refl
-row_rests fileset in_use host user (CloseFile label) r h = refl
-
--- nothing in a clone is unsaved
-kept_settled : (content : Content) → is_settled (content_kept content) ≡ true
-kept_settled (Dir entries lists) = refl
-kept_settled (File list kept unsaved len) = refl
-
-kept_at : (o : Option Object) → option_map_or (λ object. is_settled object.content) (option_map (content_changed content_kept) o) true ≡ true
-kept_at None = refl
-kept_at (Some object) = kept_settled object.content
-
-kept_all : (anodes : List Anode) → list_all settled_at (map anode_kept anodes) ≡ true
-kept_all [] = refl
-kept_all (anode ∷ anodes) = and_both _ _ (kept_at anode.object) (kept_all anodes)
-
-cloned_rests : (fileset : Fileset) (id : FilesetId) (new : List ℕ) → is_at_rest (cloned fileset id new) ≡ true
-unfolding cloned
-cloned_rests fileset id new = kept_all fileset.anodes
+use Rattle.dfs_tree.proofs.Places.{find_all, find_at_place, find_put_other, find_map, place_found, same_after}
+use Rattle.dfs_tree.proofs.Kept.{room_ok, cloned_so, move_ok, tested_object, formed_entry}
+use Rattle.dfs_filesets.specs.WellFormed.{is_at_rest}
+use Rattle.dfs_filesets.proofs.Moved.{cloned_rests}
+use Rattle.dfs_tree.specs.Laws.{ClonesStay}
+use Rattle.dfs_tree.proofs.Resting.{settled_stored, rest_forgotten, row_rests, rest_stored, settled_there, same_id}
 
 -- a call that one fileset decides
 abbrev Holds : List Fileset → Fileset → Type 0
@@ -195,7 +86,7 @@ rests_place tree (Ok place) host user call clone w h r q = rests_at tree place (
 
 rests_row : (tree : Tree) (host : HostId) (user : User) (call : CallOf) (clone : Fileset) → IsWellFormed tree → Holds tree.filesets clone → clone.read_only ≡ true → is_at_rest clone ≡ true → Holds (fileset_row tree host user call).tree.filesets clone
 unfolding fileset_row
-rests_row tree host user call clone w h r q = rests_place tree (deciding_place tree.filesets call) host user call clone w h r q
+rests_row tree host user call clone w h r q = rests_place tree (deciding_place tree call) host user call clone w h r q
 
 -- a fileset more
 other_number : (a b : ℕ) → not (a == b) ≡ true → (b == a) ≡ false
@@ -212,32 +103,40 @@ rests_new : (tree : Tree) (server : ServerId) (name : List ℕ) (objects : ℕ) 
 unfolding new_fileset_target new_fileset
 rests_new tree server name objects owner clone (Err why) w e h = h
 rests_new tree server name objects owner clone (Ok room) w e h =
-    let (free, k) = unless_ok (is_taken tree.filesets server name) Exists (room_for tree server (new_promise objects)) room (sym e) in
-    let (r, n) = room_ok tree server (new_promise objects) room k in
-    rests_insert tree.filesets _ (new_fileset server (next_id server room) name objects owner) clone (fresh_id tree.servers server room tree.filesets n r w.given) h
+    let (free, k) = unless_ok (is_taken tree server name) Exists (room_for tree server (new_promise objects)) room (sym e) in
+    let is_room = room_ok tree server (new_promise objects) room k in
+    rests_insert tree.filesets _ (new_fileset server (next_id server room) name objects owner) clone (fresh_id tree.servers server room tree.filesets is_room.number is_room.there w.given) h
 
--- what a clone that is made rests on
-pub record IsCloned (tree : Tree) (server : ServerId) (source : List ℕ) (found : Fileset × ServerRoom) : Type 0 where
-  pub from : fileset_named tree.filesets server source ≡ Ok found.0
-  pub fresh : IsFresh tree.filesets (next_id server found.1)
-
-cloned_so : (tree : Tree) (user : User) (server : ServerId) (source new : List ℕ) (found : Fileset × ServerRoom) → IsWellFormed tree → clone_target tree user server source new ≡ Ok found → IsCloned tree server source found
-unfolding clone_target
-cloned_so tree user server source new found w e =
-    let (fileset, f, h1) = then_ok (fileset_named tree.filesets server source) _ found e in
-    let (allowed, c, h2) = then_ok (clone_check fileset user) _ found h1 in
-    let (free, h3) = unless_ok (is_taken tree.filesets server new) Exists _ found h2 in
-    let (room, g, h4) = then_ok (room_for tree server (clone_promise fileset)) _ found h3 in
-    let same : (fileset, room) ≡ found = ok_is (fileset, room) found h4 in
-    let (r, n) = room_ok tree server (clone_promise fileset) room g in
-    record { from = f ∙ ap (λ x. Ok x.0) same; fresh = subst (λ x. IsFresh tree.filesets (next_id server x)) (ap (λ x. x.1) same) (fresh_id tree.servers server room tree.filesets n r w.given) }
+-- the number of a clone is given to no other fileset
+pub clone_fresh : (tree : Tree) (user : User) (server : ServerId) (source new : List ℕ) (found : Fileset × ServerRoom) → IsWellFormed tree → clone_target tree user server source new ≡ Ok found → IsFresh tree.filesets (next_id server found.1)
+clone_fresh tree user server source new found w e =
+    let room = (cloned_so tree user server source new found e).room in fresh_id tree.servers server found.1 tree.filesets room.number room.there w.given
 
 rests_clone : (tree : Tree) (user : User) (server : ServerId) (source new : List ℕ) (clone : Fileset) (checked : Result (Fileset × ServerRoom) Refusal) → IsWellFormed tree → checked ≡ clone_target tree user server source new → Holds tree.filesets clone →
     Holds (either checked (λ (fileset, room). let answer : Answer = record { reply = Done; tree = with_fileset tree server room (cloned fileset (next_id server room) new) } in answer) (refuse tree)).tree.filesets clone
 unfolding cloned
 rests_clone tree user server source new clone (Err why) w e h = h
 rests_clone tree user server source new clone (Ok found) w e h =
-    rests_insert tree.filesets _ (cloned found.0 (next_id server found.1) new) clone (cloned_so tree user server source new found w (sym e)).fresh h
+    rests_insert tree.filesets _ (cloned found.0 (next_id server found.1) new) clone (clone_fresh tree user server source new found w (sym e)) h
+
+-- a fileset that moved
+moved_id : (fileset : Fileset) (to : ServerId) → (moved fileset to).id ≡ fileset.id
+unfolding moved
+moved_id fileset to = refl
+
+rests_move : (tree : Tree) (user : User) (server : ServerId) (name : List ℕ) (to : ServerId) (clone : Fileset) (checked : Result (ℕ × Fileset) Refusal) → IsWellFormed tree → checked ≡ move_target tree user server name to → Holds tree.filesets clone → clone.read_only ≡ true →
+    Holds (either checked (λ (place, fileset). let answer : Answer = record { reply = Done; tree = with_moved tree place fileset to } in answer) (refuse tree)).tree.filesets clone
+rests_move tree user server name to clone (Err why) w e h r = h
+rests_move tree user server name to clone (Ok found) w e h r = by_id (has_id clone.id found.1) refl
+  where
+    by_id : (b : Bool) → has_id clone.id found.1 ≡ b → Holds (slice_set tree.filesets found.0 (moved found.1 to)) clone
+    by_id true its =
+        let moves = (move_ok tree user server name to found (sym e)).1 in
+        let there = find_at_place clone.id tree.filesets found.0 found.1 moves.there w.ordered its in
+        let same : found.1 ≡ clone = cc in
+        let wrong : true ≡ false = sym r ∙ sym (ap (λ f. f.read_only) same) ∙ moves.writable in absurd (search (rules, wrong))
+    by_id false other =
+        find_put_other clone.id tree.filesets found.0 found.1 (moved found.1 to) (move_ok tree user server name to found (sym e)).1.there (moved_id found.1 to) other ∙ h
 
 -- a use more, or less
 rests_either : {A : Type 0} (tree : Tree) (clone : Fileset) (checked : Result A Refusal) (effect : A → Tree) → ((found : A) → (effect found).filesets ≡ tree.filesets) → Holds tree.filesets clone →
@@ -250,9 +149,10 @@ rests_cond true tree after why clone k h = ap (λ filesets. find (has_id clone.i
 rests_cond false tree after why clone k h = h
 
 rests_for : (tree : Tree) (host : HostId) (call : CallOf) (clone : Fileset) (user : User) → IsWellFormed tree → Holds tree.filesets clone → clone.read_only ≡ true → is_at_rest clone ≡ true → Holds (answer_for tree host call user).tree.filesets clone
-unfolding answer_for new_fileset_answer clone_answer lock_answer unlock_answer open_answer close_answer
+unfolding answer_for new_fileset_answer clone_answer move_answer lock_answer unlock_answer open_answer close_answer
 rests_for tree host (NewFileset server name objects owner) clone user w h r q = rests_new tree server name objects owner clone (new_fileset_target tree server name objects) w refl h
 rests_for tree host (CloneFileset server source new) clone user w h r q = rests_clone tree user server source new clone (clone_target tree user server source new) w refl h
+rests_for tree host (MoveFileset server name to) clone user w h r q = rests_move tree user server name to clone (move_target tree user server name to) w refl h r
 rests_for tree host (Lock label place writing from len) clone user w h r q = rests_either tree clone (lock_check tree host user label place writing from len) _ (λ found. refl) h
 rests_for tree host (Unlock label) clone user w h r q = rests_cond (has_lock tree.locks host label) tree _ _ clone refl h
 rests_for tree host (OpenFile label place kind) clone user w h r q = rests_either tree clone (open_check tree host user label place kind) _ (λ found. refl) h
@@ -279,28 +179,6 @@ unfolding answer_to
 rests_call tree host call clone w h r q = rests_user tree (user_of tree.roster host) host call clone w h r q
 
 -- a host stores
-same_place : (anodes : List Anode) (i : ℕ) (change : Content → Content) (object : Object) → option_and_then (λ a. a.object) (slice_get anodes i) ≡ Some object → change object.content ≡ object.content → changed_at anodes i (anode_changed change) ≡ anodes
-same_place [] i change object h k = refl
-same_place (x ∷ xs) zero change object h k =
-    let same : option_map (content_changed change) x.object ≡ x.object = ap (option_map (content_changed change)) h ∙ ap (λ content. Some (record object { content = content })) k ∙ sym h in
-    ap (λ o. record x { object = o } ∷ xs) same
-same_place (x ∷ xs) (suc i) change object h k = ap (λ ys. x ∷ ys) (same_place xs i change object h k)
-
-rest_stored : (fileset : Fileset) (anode : ℕ) (change : Content → Content) (object : Object) → object_at fileset.anodes anode ≡ Some object → change object.content ≡ object.content → changed fileset anode change ≡ fileset
-unfolding updated
-rest_stored fileset anode change object h k =
-    ap (λ anodes. record fileset { anodes = anodes }) (same_place fileset.anodes (anode - 1) change object (sym (object_from fileset.anodes anode (object_not_zero fileset.anodes anode object h)) ∙ h) k)
-
--- what stands at an anode of a fileset at rest is settled
-settled_there : (anodes : List Anode) (i : ℕ) (object : Object) → list_all settled_at anodes ≡ true → option_and_then (λ a. a.object) (slice_get anodes i) ≡ Some object → is_settled object.content ≡ true
-settled_there [] i object q h = absurd (search (rules, h))
-settled_there (x ∷ xs) zero object q h = subst (λ o. option_map_or (λ object. is_settled object.content) o true ≡ true) h (and_left _ _ q)
-settled_there (x ∷ xs) (suc i) object q h = settled_there xs i object (and_right _ _ q) h
-
-same_id : (fileset : Fileset) (anode : ℕ) (change : Content → Content) → (changed fileset anode change).id ≡ fileset.id
-unfolding updated
-same_id fileset anode change = refl
-
 rests_store_at : (tree : Tree) (place : ℕ) (found : Option Fileset) (host : HostId) (fid : Fid) (spans : List Span) (len : Option ℕ) (clone : Fileset) → found ≡ slice_get tree.filesets place → IsWellFormed tree →
     option_map_or (is_storable host spans len) (option_and_then (λ fileset. content_in fileset fid) found) false ≡ true → Holds tree.filesets clone → is_at_rest clone ≡ true →
     Holds (changed_at tree.filesets place (λ fileset. changed fileset fid.anode (content_stored host spans len))) clone
@@ -336,10 +214,15 @@ rests_down tree host server clone h q =
     ∙ ap (λ o. option_map (λ fileset. if fileset.server.0 == server.0 then fileset_forgotten host fileset else fileset) o) h
     ∙ ap Some (elim (clone.server.0 == server.0) as (λ t. (if t then fileset_forgotten host clone else clone) ≡ clone) [ true ↦ rest_forgotten host clone q | false ↦ refl ])
 
+rests_left : (tree : Tree) (server : ServerId) (id : FilesetId) (clone : Fileset) → Holds tree.filesets clone → Holds (left_tree tree server id).filesets clone
+unfolding left_tree
+rests_left tree server id clone h = h
+
 rests_entry : (tree : Tree) (entry : Entry) (clone : Fileset) → IsWellFormed tree → IsLegal tree entry → Holds tree.filesets clone → clone.read_only ≡ true → is_at_rest clone ≡ true → Holds (after_entry tree entry).filesets clone
 rests_entry tree (Call host k call reply) clone w legal h r q = rests_call tree host call clone w h r q
 rests_entry tree (Stored host fid spans len) clone w legal h r q = rests_store tree host fid spans len clone w legal h q
 rests_entry tree (Down host server) clone w legal h r q = rests_down tree host server clone h q
+rests_entry tree (Left server id) clone w legal h r q = rests_left tree server id clone h
 
 stays : (tree : Tree) (entries : List Entry) (clone : Fileset) → IsWellFormed tree → IsHistory tree entries → list_all is_limited entries ≡ true → Holds tree.filesets clone → clone.read_only ≡ true → is_at_rest clone ≡ true → Holds (after_history tree entries).filesets clone
 stays tree [] clone w legal l h r q = h
@@ -359,7 +242,7 @@ find_inserted p new (suc i) (x ∷ xs) h k =
     opposite false h = refl
 
 abbrev Made : Tree → ServerId → List ℕ → List ℕ → Answer → Type 0
-Made tree server source new answer = (fileset : Fileset) × (id : FilesetId) × (fileset_named tree.filesets server source ≡ Ok fileset) × (find (has_id id) answer.tree.filesets ≡ Some (cloned fileset id new))
+Made tree server source new answer = (fileset : Fileset) × (id : FilesetId) × (fileset_named tree server source ≡ Ok fileset) × (find (has_id id) answer.tree.filesets ≡ Some (cloned fileset id new))
 
 made_by : (tree : Tree) (user : User) (server : ServerId) (source new : List ℕ) (checked : Result (Fileset × ServerRoom) Refusal) → IsWellFormed tree → checked ≡ clone_target tree user server source new →
     (either checked (λ (fileset, room). let answer : Answer = record { reply = Done; tree = with_fileset tree server room (cloned fileset (next_id server room) new) } in answer) (refuse tree)).reply ≡ Done →
@@ -367,10 +250,10 @@ made_by : (tree : Tree) (user : User) (server : ServerId) (source new : List ℕ
 unfolding cloned
 made_by tree user server source new (Err why) w e h = absurd (search (rules, h))
 made_by tree user server source new (Ok found) w e h =
-    let so = cloned_so tree user server source new found w (sym e) in
+    let so = cloned_so tree user server source new found (sym e) in
     let id = next_id server found.1 in
     let here : (id.0 == id.0) ≡ true = grind (arith, common_steps) in
-    (found.0, id, so.from, find_inserted (has_id id) (cloned found.0 id new) (id_place tree.filesets id) tree.filesets here so.fresh)
+    (found.0, id, so.from, find_inserted (has_id id) (cloned found.0 id new) (id_place tree.filesets id) tree.filesets here (clone_fresh tree user server source new found w (sym e)))
 
 made_user : (tree : Tree) (found : Option User) (host : HostId) (server : ServerId) (source new : List ℕ) → IsWellFormed tree → (for_user tree found (answer_for tree host (CloneFileset server source new))).reply ≡ Done →
     Made tree server source new (for_user tree found (answer_for tree host (CloneFileset server source new)))

@@ -1,6 +1,6 @@
 -- Filesets, locks and opens that were put into their lists.
-use Rattle.std.proofs.Common.{◌≡◌, ◌≢◌, ℕ, zero, suc, ◌+◌, ◌-◌, ◌/◌, ◌%◌, ◌<◌, ◌≤◌, ◌==◌, nat_lt, nat_le, Bool, true, false, ◌&&◌, ◌||◌, not, cond, List, [], ◌∷◌, length, insert, Some, None, is_some, unwrap_or, refl, sym, ap, ◌∙◌, subst, arith, inl, inr, rules}
-use Rattle.std.specs.Prelude.{slice_get, slice_set}
+use Rattle.std.proofs.Common.{◌≡◌, ◌≢◌, ℕ, zero, suc, ◌+◌, ◌-◌, ◌/◌, ◌%◌, ◌<◌, ◌≤◌, ◌==◌, nat_lt, nat_le, Bool, true, false, ◌&&◌, ◌||◌, not, cond, List, [], ◌∷◌, length, insert, Some, None, unwrap_or, refl, sym, ap, ◌∙◌, subst, arith, inl, inr, rules}
+use Rattle.std.specs.Prelude.{slice_get, slice_set, if◌then◌else◌}
 use Rattle.std.specs.List.{find, list_any, list_all, position, prefix_len}
 use Rattle.std.specs.Option.{option_map_or}
 use Rattle.std.specs.Ordering.{is_eq, ordering_reverse, nat_cmp}
@@ -24,9 +24,14 @@ use Rattle.dfs_filesets.specs.declared.fileset.Fileset.{Fileset}
 use Rattle.dfs_filesets.specs.WellFormed.{IsWellFormed as IsWellFormedFileset}
 use Rattle.dfs_filesets.specs.Laws.{is_file_at}
 use Rattle.dfs_tree.specs.declared.tree.ServerRoom.{ServerRoom}
-use Rattle.dfs_tree.specs.Finding.{is_named, has_id, is_taken, id_place}
-use Rattle.dfs_tree.specs.Founding.{room_of, next_id}
-use Rattle.dfs_tree.specs.WellFormed.{ids_rise, names_differ, is_declared, is_given, AreWellFormed, names_file}
+use Rattle.dfs_tree.specs.Finding.{is_named, has_id, id_place}
+use Rattle.dfs_tree.specs.Away.{is_away_named}
+use Rattle.dfs_tree.proofs.Places.{not_true}
+use Rattle.dfs_tree.proofs.Totals.{total, sum_total, total_insert}
+use Rattle.dfs_filesets.specs.Promises.{promise}
+use Rattle.dfs_tree.specs.declared.tree.Away.{Away}
+use Rattle.dfs_tree.specs.Founding.{room_of, next_id, promised, away_promise, away_promised, fileset_count}
+use Rattle.dfs_tree.specs.WellFormed.{ids_rise, names_differ, is_declared, is_given, AreWellFormed, is_elsewhere, names_file}
 
 -- what holds of one and of all others
 pub all_insert : {X : Type 0} (p : X → Bool) (x : X) (i : ℕ) (xs : List X) → p x ≡ true → list_all p xs ≡ true → list_all p (insert xs i x) ≡ true
@@ -34,19 +39,19 @@ all_insert p x zero xs h k = and_both _ _ h k
 all_insert p x (suc i) [] h k = and_both _ _ h refl
 all_insert p x (suc i) (y ∷ ys) h k = and_both _ _ (and_left _ _ k) (all_insert p x i ys h (and_right _ _ k))
 
-or_both : (a b : Bool) → a ≡ false → b ≡ false → (a || b) ≡ false
+pub or_both : (a b : Bool) → a ≡ false → b ≡ false → (a || b) ≡ false
 or_both a b h k = rw (h, k) refl
 
-or_first : (a b : Bool) → (a || b) ≡ false → a ≡ false
+pub or_first : (a b : Bool) → (a || b) ≡ false → a ≡ false
 or_first true b h = h
 or_first false b h = refl
 
-or_second : (a b : Bool) → (a || b) ≡ false → b ≡ false
+pub or_second : (a b : Bool) → (a || b) ≡ false → b ≡ false
 or_second true b h = absurd (search (rules, h))
 or_second false b h = h
 
 -- what holds of none
-any_insert : {X : Type 0} (p : X → Bool) (x : X) (i : ℕ) (xs : List X) → p x ≡ false → list_any p xs ≡ false → list_any p (insert xs i x) ≡ false
+pub any_insert : {X : Type 0} (p : X → Bool) (x : X) (i : ℕ) (xs : List X) → p x ≡ false → list_any p xs ≡ false → list_any p (insert xs i x) ≡ false
 any_insert p x zero xs h k = or_both _ _ h k
 any_insert p x (suc i) [] h k = or_both _ _ h refl
 any_insert p x (suc i) (y ∷ ys) h k = or_both _ _ (or_first _ _ k) (any_insert p x i ys h (or_second _ _ k))
@@ -83,7 +88,7 @@ found_there p (y ∷ ys) x =
 abbrev pub IsFresh : List Fileset → FilesetId → Type 0
 IsFresh filesets id = list_all (λ fileset. not (fileset.id.0 == id.0)) filesets ≡ true
 
-not_same : (a b : ℕ) → not (a == b) ≡ true → a ≢ b
+pub not_same : (a b : ℕ) → not (a == b) ≡ true → a ≢ b
 not_same a b h k = let e : (a == b) ≡ true = grind (arith, common_steps, k) in let wrong : not true ≡ true = subst (λ t. not t ≡ true) e h in search (rules, wrong)
 
 -- ids still rise
@@ -117,13 +122,13 @@ is_eq_reverse Greater = refl
 pub same_name_sym : (a b : List ℕ) → same_name a b ≡ same_name b a
 same_name_sym a b = sym (is_eq-slice_cmp a b) ∙ ap is_eq (nat_list_cmp_total.antisymm a b) ∙ is_eq_reverse (slice_cmp nat_cmp b a) ∙ is_eq-slice_cmp b a
 
-eq_sym : (a b : ℕ) → (a == b) ≡ (b == a)
+pub eq_sym : (a b : ℕ) → (a == b) ≡ (b == a)
 eq_sym a b = elim (eqb_tells a b) as (λ _. (a == b) ≡ (b == a)) [
   | inl (e, k) ↦ let f : (b == a) ≡ true = grind (arith, common_steps, k) in rw (e, f) refl
   | inr (e, k) ↦ let f : (b == a) ≡ false = grind (arith, common_steps, k) in rw (e, f) refl
 ]
 
-named_sym : (a b : Fileset) → is_named a.server a.name b ≡ is_named b.server b.name a
+pub named_sym : (a b : Fileset) → is_named a.server a.name b ≡ is_named b.server b.name a
 named_sym a b = ap (λ t. t && same_name b.name a.name) (eq_sym b.server.0 a.server.0) ∙ ap (λ t. (a.server.0 == b.server.0) && t) (same_name_sym b.name a.name)
 
 -- names still differ
@@ -139,17 +144,15 @@ named_insert new (suc i) (x ∷ xs) h k =
     not_false true h = absurd (search (rules, h))
     not_false false h = refl
 
--- a name that isn't taken is no fileset's
-none_any : {X : Type 0} (p : X → Bool) (xs : List X) → length xs ≤ prefix_len (λ x. not (p x)) xs → list_any p xs ≡ false
-none_any p [] = λ h. refl
-none_any p (x ∷ xs) =
-    elim (p x) as (λ t. suc (length xs) ≤ cond (not t) (1 + prefix_len (λ x. not (p x)) xs) 0 → (t || list_any p xs) ≡ false)
-    [ true ↦ λ h. absurd (omega (arith, h)) | false ↦ λ h. none_any p xs (omega (arith, h)) ]
+-- a fileset has the name of a record exactly where the record has that of the fileset
+pub away_sym : (fileset : Fileset) (away : Away) → is_named away.server away.name fileset ≡ is_away_named fileset.server fileset.name away
+away_sym fileset away = ap (λ t. t && same_name fileset.name away.name) (eq_sym fileset.server.0 away.server.0) ∙ ap (λ t. (away.server.0 == fileset.server.0) && t) (same_name_sym fileset.name away.name)
 
-pub not_taken : (filesets : List Fileset) (server : ServerId) (name : List ℕ) → is_taken filesets server name ≡ false → list_any (is_named server name) filesets ≡ false
-not_taken filesets server name =
-    elim (leb_tells (suc (prefix_len (λ f. not (is_named server name f)) filesets)) (length filesets)) as (λ _. is_some (cond (nat_lt (prefix_len (λ f. not (is_named server name f)) filesets) (length filesets)) (Some (prefix_len (λ f. not (is_named server name f)) filesets)) None) ≡ false → list_any (is_named server name) filesets ≡ false)
-    [ inl (e, h) ↦ rw e (λ wrong. absurd (search (rules, wrong))) | inr (e, h) ↦ λ _. none_any (is_named server name) filesets (omega (arith, h)) ]
+-- no fileset has the name of a record
+pub free_insert : (new : Fileset) (i : ℕ) (filesets : List Fileset) (away : Away) → not (is_away_named new.server new.name away) ≡ true →
+    not (list_any (is_named away.server away.name) filesets) ≡ true → not (list_any (is_named away.server away.name) (insert filesets i new)) ≡ true
+free_insert new i filesets away other free =
+    ap not (any_insert (is_named away.server away.name) new i filesets (away_sym new away ∙ not_true _ other) (not_true _ free))
 
 -- all are well formed
 pub formed_insert : (new : Fileset) (i : ℕ) (filesets : List Fileset) → IsWellFormedFileset new → AreWellFormed filesets → AreWellFormed (insert filesets i new)
@@ -157,25 +160,60 @@ formed_insert new zero filesets h k = (h, k)
 formed_insert new (suc i) [] h k = (h, tt)
 formed_insert new (suc i) (x ∷ xs) h k = (k.0, formed_insert new i xs h k.1)
 
--- the files that are named are there
-other_id : (filesets : List Fileset) (id : FilesetId) (fid : Fid) → IsFresh filesets id → names_file filesets fid ≡ true → (id.0 == fid.fileset.0) ≡ false
-other_id [] id fid f = λ h. absurd (search (rules, h))
-other_id (x ∷ xs) id fid f =
-    elim (eqb_tells x.id.0 fid.fileset.0) as (λ _. names_file (x ∷ xs) fid ≡ true → (id.0 == fid.fileset.0) ≡ false) [
-      | inl (e, k) ↦ λ h. let other : x.id.0 ≢ id.0 = not_same _ _ (and_left _ _ f) in let apart : id.0 ≢ fid.fileset.0 = λ s. other (k ∙ sym s) in grind (arith, common_steps, apart)
-      | inr (e, k) ↦ rw e (λ h. other_id xs id fid (and_right _ _ f) h)
+-- what is told of a fileset that is there
+other_id : (test : Fileset → Bool) (filesets : List Fileset) (id sought : FilesetId) → IsFresh filesets id → option_map_or test (find (has_id sought) filesets) false ≡ true → (id.0 == sought.0) ≡ false
+other_id test [] id sought f = λ h. absurd (search (rules, h))
+other_id test (x ∷ xs) id sought f =
+    elim (eqb_tells x.id.0 sought.0) as (λ _. option_map_or test (find (has_id sought) (x ∷ xs)) false ≡ true → (id.0 == sought.0) ≡ false) [
+      | inl (e, k) ↦ λ h. let other : x.id.0 ≢ id.0 = not_same _ _ (and_left _ _ f) in let apart : id.0 ≢ sought.0 = λ s. other (k ∙ sym s) in grind (arith, common_steps, apart)
+      | inr (e, k) ↦ rw e (λ h. other_id test xs id sought (and_right _ _ f) h)
     ]
 
+pub told_insert : (test : Fileset → Bool) (new : Fileset) (i : ℕ) (filesets : List Fileset) (sought : FilesetId) → IsFresh filesets new.id → option_map_or test (find (has_id sought) filesets) false ≡ true →
+    find (has_id sought) (insert filesets i new) ≡ find (has_id sought) filesets
+told_insert test new i filesets sought f h = find_insert (has_id sought) new i filesets (other_id test filesets new.id sought f h)
+
+-- the files that are named are there
 pub names_insert : (new : Fileset) (i : ℕ) (filesets : List Fileset) (fid : Fid) → IsFresh filesets new.id → names_file filesets fid ≡ true → names_file (insert filesets i new) fid ≡ true
-names_insert new i filesets fid f h = ap (λ o. option_map_or (λ fileset. is_file_at fileset fid) o false) (find_insert (has_id fid.fileset) new i filesets (other_id filesets new.id fid f h)) ∙ h
+names_insert new i filesets fid f h = ap (λ o. option_map_or (λ fileset. is_file_at fileset fid) o false) (told_insert (λ fileset. is_file_at fileset fid) new i filesets fid.fileset f h) ∙ h
+
+-- and the filesets that records tell of
+pub elsewhere_insert : (new : Fileset) (i : ℕ) (filesets : List Fileset) (away : Away) → IsFresh filesets new.id → is_elsewhere filesets away ≡ true → is_elsewhere (insert filesets i new) away ≡ true
+elsewhere_insert new i filesets away f h =
+    let test : Fileset → Bool = λ fileset. not (fileset.server.0 == away.server.0) && same_name fileset.name away.name in
+    ap (λ o. option_map_or test o false) (told_insert test new i filesets away.fileset f h) ∙ h
+
+-- how many filesets a server has, and what they are promised
+pub count_insert : (new : Fileset) (i : ℕ) (filesets : List Fileset) (server : ServerId) → fileset_count server (insert filesets i new) ≡ cond (new.server.0 == server.0) 1 0 + fileset_count server filesets
+count_insert new i filesets server =
+    let one : Fileset → ℕ = λ fileset. cond (fileset.server.0 == server.0) 1 0 in
+    sum_total one (insert filesets i new) ∙ total_insert one new i filesets ∙ ap (λ n. one new + n) (sym (sum_total one filesets))
+
+pub promised_total : (server : ServerId) (filesets : List Fileset) → promised server filesets ≡ total (λ fileset. if fileset.server.0 == server.0 then promise fileset else 0) filesets
+promised_total server [] = refl
+promised_total server (x ∷ xs) = ap (λ n. (if x.server.0 == server.0 then promise x else 0) + n) (promised_total server xs)
+
+pub promised_insert : (new : Fileset) (i : ℕ) (filesets : List Fileset) (server : ServerId) → promised server (insert filesets i new) ≡ (if new.server.0 == server.0 then promise new else 0) + promised server filesets
+promised_insert new i filesets server =
+    let blocks : Fileset → ℕ = λ fileset. if fileset.server.0 == server.0 then promise fileset else 0 in
+    promised_total server (insert filesets i new) ∙ total_insert blocks new i filesets ∙ ap (λ n. blocks new + n) (sym (promised_total server filesets))
+
+pub away_promised_insert : (new : Fileset) (i : ℕ) (filesets : List Fileset) (records : List Away) (server : ServerId) → IsFresh filesets new.id → list_all (is_elsewhere filesets) records ≡ true →
+    away_promised server (insert filesets i new) records ≡ away_promised server filesets records
+away_promised_insert new i filesets [] server f h = refl
+away_promised_insert new i filesets (away ∷ records) server f h =
+    let test : Fileset → Bool = λ fileset. not (fileset.server.0 == away.server.0) && same_name fileset.name away.name in
+    ap (λ o. (if away.server.0 == server.0 then (if away.room_kept then option_map_or promise o 0 else 0) else 0) + away_promised server (insert filesets i new) records)
+    (told_insert test new i filesets away.fileset f (and_left _ _ h))
+    ∙ ap (λ n. (if away.server.0 == server.0 then away_promise filesets away else 0) + n) (away_promised_insert new i filesets records server f (and_right _ _ h))
 
 -- what a server has after one of its numbers was given
-set_here : (rooms : List ServerRoom) (i : ℕ) (old room : ServerRoom) → slice_get rooms i ≡ Some old → slice_get (slice_set rooms i room) i ≡ Some room
+pub set_here : (rooms : List ServerRoom) (i : ℕ) (old room : ServerRoom) → slice_get rooms i ≡ Some old → slice_get (slice_set rooms i room) i ≡ Some room
 set_here [] i old room h = absurd (search (rules, h))
 set_here (x ∷ xs) zero old room h = refl
 set_here (x ∷ xs) (suc i) old room h = set_here xs i old room h
 
-set_other : (rooms : List ServerRoom) (i j : ℕ) (room : ServerRoom) → j ≢ i → slice_get (slice_set rooms i room) j ≡ slice_get rooms j
+pub set_other : (rooms : List ServerRoom) (i j : ℕ) (room : ServerRoom) → j ≢ i → slice_get (slice_set rooms i room) j ≡ slice_get rooms j
 set_other [] i j room h = refl
 set_other (x ∷ xs) zero zero room h = absurd (h refl)
 set_other (x ∷ xs) zero (suc j) room h = refl
@@ -183,7 +221,7 @@ set_other (x ∷ xs) (suc i) zero room h = refl
 set_other (x ∷ xs) (suc i) (suc j) room h = set_other xs i j room (λ e. h (ap suc e))
 
 -- the room of a server that is there
-room_within : (rooms : List ServerRoom) (server : ServerId) (room : ServerRoom) → room_of rooms server ≡ Some room → (server.0 ≢ 0) × (slice_get rooms (server.0 - 1) ≡ Some room)
+pub room_within : (rooms : List ServerRoom) (server : ServerId) (room : ServerRoom) → room_of rooms server ≡ Some room → (server.0 ≢ 0) × (slice_get rooms (server.0 - 1) ≡ Some room)
 room_within rooms server room =
     elim (eqb_tells server.0 0) as (λ _. room_of rooms server ≡ Some room → (server.0 ≢ 0) × (slice_get rooms (server.0 - 1) ≡ Some room))
     [ inl (e, k) ↦ rw e (λ h. absurd (search (rules, h))) | inr (e, k) ↦ rw e (λ h. (k, h)) ]

@@ -7,7 +7,8 @@ use Rattle.dfs_base.specs.declared.ids.ServerId.{ServerId}
 use Rattle.dfs_objects.specs.declared.content.Object.{Object}
 use Rattle.dfs_objects.specs.declared.content.Anode.{Anode}
 use Rattle.dfs_filesets.specs.Walk.{object_at}
-use Rattle.dfs_tree.specs.Losses.{file_losses, losses_below, entries_in}
+use Rattle.dfs_tree.specs.Losses.{file_losses, losses_below}
+use Rattle.dfs_filesets.specs.Laws.{entries_in}
 
 -- with one level at least
 pub losses_more : (levels : ℕ) (anodes : List Anode) (host : HostId) (server : ServerId) (path : List (List ℕ)) (object : Object) → levels ≢ 0 →

@@ -1,11 +1,14 @@
 pub mod Mapped
 pub mod Levels
 pub mod Refusals
+pub mod Totals
+pub mod Resting
+pub mod Places
+pub mod Led
 pub mod Followed
 pub mod Inserted
+pub mod AfterMove
 pub mod Kept
-pub mod Rows
-pub mod Leaves
-pub mod Spans
 pub mod Clones
+pub mod Moves
 pub mod Worked

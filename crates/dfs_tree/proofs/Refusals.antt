@@ -5,7 +5,7 @@ use Rattle.dfs_base.specs.Outcomes.{either}
 use Rattle.dfs_base.specs.declared.ids.HostId.{HostId}
 use Rattle.dfs_base.specs.declared.user.User.{User}
 use Rattle.dfs_calls.specs.declared.call.Call.{Call}
-use Rattle.dfs_calls.specs.declared.call.Call.TheVariants.{NewFileset, Create, MakeDir, Remove, Rename, Truncate, SetAcl, CloneFileset, Read, Write, List as ListNames, Stat, GetAcl, Sync, Lock, Unlock, OpenFile, CloseFile}
+use Rattle.dfs_calls.specs.declared.call.Call.TheVariants.{NewFileset, Create, MakeDir, Remove, Rename, Truncate, SetAcl, CloneFileset, Read, Write, List as ListNames, Stat, GetAcl, Sync, Lock, Unlock, OpenFile, CloseFile, MoveFileset}
 use Rattle.dfs_calls.specs.declared.reply.Refusal.{Refusal}
 use Rattle.dfs_calls.specs.declared.reply.Reply.TheVariants.{Ok as Done, Refused}
 use Rattle.dfs_filesets.specs.declared.fileset.Fileset.{Fileset}
@@ -16,6 +16,7 @@ use Rattle.dfs_tree.specs.declared.tree.Tree.{Tree}
 use Rattle.dfs_calls.specs.Rosters.{user_of}
 use Rattle.dfs_tree.specs.Finding.{Answer, refuse}
 use Rattle.dfs_tree.specs.Founding.{new_fileset_answer, new_fileset_target, clone_answer, clone_target}
+use Rattle.dfs_tree.specs.Moving.{move_answer, move_target}
 use Rattle.dfs_tree.specs.Uses.{is_used}
 use Rattle.dfs_tree.specs.Locks.{lock_answer, lock_check, unlock_answer, has_lock}
 use Rattle.dfs_tree.specs.Opens.{open_answer, open_check, close_answer, has_open}
@@ -51,7 +52,7 @@ refused_fileset_row : (tree : Tree) (host : HostId) (user : User) (call : Call) 
     (fileset_row tree host user call).reply ≡ Refused refusal → (fileset_row tree host user call).tree ≡ tree
 unfolding fileset_row
 refused_fileset_row tree host user call refusal h =
-    refused_place tree (deciding_place tree.filesets call) (λ fileset. fileset_answer fileset (is_used tree.locks tree.opens) host user call) refusal
+    refused_place tree (deciding_place tree call) (λ fileset. fileset_answer fileset (is_used tree.locks tree.opens) host user call) refusal
     (λ fileset k. refused_changes_nothing fileset (is_used tree.locks tree.opens) host user call refusal k) h
 
 -- a row of the tree itself
@@ -69,9 +70,10 @@ refused_unless true tree after why refusal h = done_refuses refusal h
 refused_unless false tree after why refusal h = refl
 
 refused_for : (tree : Tree) (host : HostId) (call : Call) (user : User) (refusal : Refusal) → (answer_for tree host call user).reply ≡ Refused refusal → (answer_for tree host call user).tree ≡ tree
-unfolding answer_for new_fileset_answer clone_answer lock_answer unlock_answer open_answer close_answer
+unfolding answer_for new_fileset_answer clone_answer move_answer lock_answer unlock_answer open_answer close_answer
 refused_for tree host (NewFileset server name objects owner) user refusal h = refused_either tree (new_fileset_target tree server name objects) _ refusal h
 refused_for tree host (CloneFileset server source new) user refusal h = refused_either tree (clone_target tree user server source new) _ refusal h
+refused_for tree host (MoveFileset server name to) user refusal h = refused_either tree (move_target tree user server name to) _ refusal h
 refused_for tree host (Lock label place writing from len) user refusal h = refused_either tree (lock_check tree host user label place writing from len) _ refusal h
 refused_for tree host (Unlock label) user refusal h = refused_unless (has_lock tree.locks host label) tree _ _ refusal h
 refused_for tree host (OpenFile label place kind) user refusal h = refused_either tree (open_check tree host user label place kind) _ refusal h

@@ -2,7 +2,7 @@
 use Rattle.std.specs.Prelude.{refl}
 use Rattle.dfs_filesets.specs.Changing.{write_target, write_answer, truncate_answer, sync_answer, set_access_target, set_access_answer}
 use Rattle.dfs_filesets.specs.Creation.{create_target, create_answer}
-use Rattle.dfs_filesets.specs.Founding.{new_fileset, clone_check, cloned}
+use Rattle.dfs_filesets.specs.Founding.{new_fileset, control_check, cloned}
 use Rattle.dfs_filesets.specs.Removal.{remove_target, remove_answer}
 use Rattle.dfs_filesets.specs.Renaming.{rename_target, rename_answer}
 use Rattle.dfs_filesets.specs.Rows.{fileset_answer}
@@ -11,14 +11,15 @@ use Rattle.dfs_filesets.specs.Updates.{updated}
 use Rattle.dfs_filesets.specs.Uses.{use_target}
 use Rattle.dfs_filesets.specs.Walk.{step, target, file_target, permitted_file, parent_target, insert_target, entry_target}
 use Rattle.dfs_tree.specs.Answers.{fileset_row, answer_for, answer_to}
-use Rattle.dfs_tree.specs.Founding.{new_fileset_target, new_fileset_answer, clone_target, clone_answer}
+use Rattle.dfs_tree.specs.Finding.{fileset_place, fileset_named}
+use Rattle.dfs_tree.specs.Founding.{room_for, new_fileset_target, new_fileset_answer, clone_source, clone_target, clone_answer}
 use Rattle.dfs_tree.specs.Locks.{lock_check, lock_answer, unlock_answer}
 use Rattle.dfs_tree.specs.Losses.{losses_of}
 use Rattle.dfs_tree.specs.Opens.{open_check, open_answer, close_answer}
 use Rattle.dfs_tree.specs.Worked.{WorkedReplies}
 
 pub worked_replies : WorkedReplies
-unfolding answer_to answer_for fileset_row fileset_answer new_fileset_answer new_fileset_target new_fileset clone_answer clone_target clone_check cloned lock_answer lock_check unlock_answer open_answer open_check close_answer use_target losses_of create_answer create_target remove_answer remove_target rename_answer rename_target write_answer write_target truncate_answer sync_answer set_access_answer set_access_target access_reply read_reply list_reply list_target stat_reply updated step target file_target permitted_file parent_target insert_target entry_target
+unfolding answer_to answer_for room_for fileset_place fileset_named fileset_row fileset_answer new_fileset_answer new_fileset_target new_fileset clone_answer clone_target clone_source control_check cloned lock_answer lock_check unlock_answer open_answer open_check close_answer use_target losses_of create_answer create_target remove_answer remove_target rename_answer rename_target write_answer write_target truncate_answer sync_answer set_access_answer set_access_target access_reply read_reply list_reply list_target stat_reply updated step target file_target permitted_file parent_target insert_target entry_target
 worked_replies = record {
   read_back = refl;
   gap = refl;

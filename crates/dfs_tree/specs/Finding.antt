@@ -1,6 +1,6 @@
 -- Where filesets stand in the list, and what a tree answers.
-use Rattle.std.specs.Prelude.{ℕ, ◌==◌, nat_lt, Bool, ◌&&◌, not, is_some, List, length, Option, Some, None, unwrap_or, Result, Ok, Err}
-use Rattle.std.specs.List.{find, position}
+use Rattle.std.specs.Prelude.{ℕ, ◌==◌, nat_lt, Bool, false, ◌&&◌, ◌||◌, not, if◌then◌else◌, List, length, Option, Some, None, unwrap_or, Result, Ok, Err}
+use Rattle.std.specs.List.{find, list_any, position}
 use Rattle.dfs_base.specs.Name.{same_name}
 use Rattle.dfs_base.specs.Outcomes.{and_then}
 use Rattle.dfs_base.specs.declared.ids.ServerId.{ServerId}
@@ -13,6 +13,7 @@ use Rattle.dfs_calls.specs.declared.reply.Reply.TheVariants.{Refused}
 use Rattle.dfs_filesets.specs.declared.fileset.Fileset.{Fileset}
 use Rattle.dfs_filesets.specs.Checks.{unless}
 use Rattle.dfs_tree.specs.declared.tree.Tree.{Tree}
+use Rattle.dfs_tree.specs.Away.{is_away_named, away_id}
 
 -- what a tree answers to a call: the reply, and the tree after it
 pub record Answer : Type 0 where
@@ -35,26 +36,41 @@ abbrev pub found_or : {A : Type 0} → Option A → Refusal → Result A Refusal
 found_or None refusal = Err refusal
 found_or (Some value) refusal = Ok value
 
+-- whether a server has a fileset with a name
+abbrev pub is_here : List Fileset → ServerId → List ℕ → Bool
+is_here filesets server name = list_any (is_named server name) filesets
+
+-- whether a fileset has an id, where there is one
+abbrev pub has_this_id : Option FilesetId → Fileset → Bool
+has_this_id None fileset = false
+has_this_id (Some id) fileset = has_id id fileset
+
+-- The fileset that a server and a name lead to: the one of that name at the server, or, where there is none, the one that
+-- the server's record of that name tells of.
+abbrev pub leads_to : Tree → ServerId → List ℕ → Fileset → Bool
+leads_to tree server name =
+    if is_here tree.filesets server name then is_named server name else has_this_id (away_id tree.away server name)
+
 -- where the fileset of a server with a name stands in the list
-abbrev pub fileset_place : List Fileset → ServerId → List ℕ → Result ℕ Refusal
-fileset_place filesets server name = found_or (position (is_named server name) filesets) NoFileset
+unfoldable pub fileset_place : Tree → ServerId → List ℕ → Result ℕ Refusal
+fileset_place tree server name = found_or (position (leads_to tree server name) tree.filesets) NoFileset
 
 -- the fileset of a server with a name
-abbrev pub fileset_named : List Fileset → ServerId → List ℕ → Result Fileset Refusal
-fileset_named filesets server name = found_or (find (is_named server name) filesets) NoFileset
+unfoldable pub fileset_named : Tree → ServerId → List ℕ → Result Fileset Refusal
+fileset_named tree server name = found_or (find (leads_to tree server name) tree.filesets) NoFileset
 
--- whether a server has a fileset with a name
-abbrev pub is_taken : List Fileset → ServerId → List ℕ → Bool
-is_taken filesets server name = is_some (position (is_named server name) filesets)
+-- whether a server has a fileset, or a record of one, with a name
+abbrev pub is_taken : Tree → ServerId → List ℕ → Bool
+is_taken tree server name = is_here tree.filesets server name || list_any (is_away_named server name) tree.away
 
 -- whether two places are in one fileset
 abbrev pub same_fileset : Place → Place → Bool
 same_fileset from to = (from.server.0 == to.server.0) && same_name from.fileset to.fileset
 
 -- the fileset in which an object moves: that of the place from which, which has to be that to which
-abbrev pub move_place : List Fileset → Place → Place → Result ℕ Refusal
-move_place filesets from to =
-    and_then (fileset_place filesets from.server from.fileset) (λ place.
+abbrev pub move_place : Tree → Place → Place → Result ℕ Refusal
+move_place tree from to =
+    and_then (fileset_place tree from.server from.fileset) (λ place.
     unless (not (same_fileset from to)) CrossFileset (Ok place))
 
 -- where a fileset goes in the list: before the first with a greater id

@@ -1,23 +1,28 @@
 -- Histories of a tree.
 use Rattle.std.specs.Prelude.{◌≡◌, IsTrue, List, [], ◌∷◌}
 use Rattle.dfs_calls.specs.declared.entry.Entry.{Entry}
-use Rattle.dfs_calls.specs.declared.entry.Entry.TheVariants.{Call, Stored, Down}
+use Rattle.dfs_calls.specs.declared.entry.Entry.TheVariants.{Call, Stored, Down, Left}
 use Rattle.dfs_tree.specs.declared.tree.Tree.{Tree}
 use Rattle.dfs_tree.specs.Answers.{answer_to}
 use Rattle.dfs_tree.specs.Stores.{may_store, stored_tree}
 use Rattle.dfs_tree.specs.Losses.{down_tree}
+use Rattle.dfs_tree.specs.Away.{is_room_kept}
+use Rattle.dfs_tree.specs.Moving.{left_tree}
 
--- an entry that may come next: the reply to a call is the tree's answer, and a host stores what it may
+-- an entry that may come next: the reply to a call is the tree's answer, a host stores what it may, and a server that keeps
+-- room for a fileset learns that it has arrived elsewhere
 abbrev pub IsLegal : Tree → Entry → Type 0
 IsLegal tree (Call host k call reply) = reply ≡ (answer_to tree host call).reply
 IsLegal tree (Stored host fid spans stored) = IsTrue (may_store tree host fid spans stored)
 IsLegal tree (Down host server) = Unit {0}
+IsLegal tree (Left server id) = IsTrue (is_room_kept tree.away server id)
 
 -- the tree after an entry
 abbrev pub after_entry : Tree → Entry → Tree
 after_entry tree (Call host k call reply) = (answer_to tree host call).tree
 after_entry tree (Stored host fid spans stored) = stored_tree tree host fid spans stored
 after_entry tree (Down host server) = down_tree tree host server
+after_entry tree (Left server id) = left_tree tree server id
 
 -- a history that may happen from a tree on
 abbrev pub IsHistory : Tree → List Entry → Type 0

@@ -1,5 +1,7 @@
+pub mod Away
 pub mod Finding
 pub mod Founding
+pub mod Moving
 pub mod Uses
 pub mod Locks
 pub mod Opens
@@ -8,6 +10,6 @@ pub mod Stores
 pub mod Losses
 pub mod Histories
 pub mod WellFormed
-pub mod Effects
 pub mod Laws
+pub mod MoveLaws
 pub mod Worked

@@ -51,7 +51,7 @@ lock_check tree host user label place writing from len =
     let span = span_between from (from + len) in
     unless (has_lock tree.locks host label) AlreadyLocked (
     unless (nat_le LABELS_MAX (lock_count tree.locks host)) TooMany (
-    and_then (fileset_named tree.filesets place.server place.fileset) (λ fileset.
+    and_then (fileset_named tree place.server place.fileset) (λ fileset.
     and_then (lock_target fileset user place.path writing) (λ fid.
     unless (nat_lt FILE_BYTES_MAX (from + len)) TooBig (
     unless (is_own_locked tree.locks host fid span) AlreadyLocked (

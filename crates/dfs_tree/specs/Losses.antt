@@ -8,15 +8,14 @@ use Rattle.dfs_base.specs.declared.ids.ServerId.{ServerId}
 use Rattle.dfs_base.specs.declared.ids.FilesetId.{FilesetId}
 use Rattle.dfs_base.specs.declared.span.Span.{Span}
 use Rattle.dfs_calls.specs.declared.entry.Loss.{Loss}
-use Rattle.dfs_calls.specs.declared.part.DirEntry.{DirEntry}
 use Rattle.dfs_objects.specs.declared.content.Content.{Content}
-use Rattle.dfs_objects.specs.declared.content.Content.TheVariants.{Dir, File}
 use Rattle.dfs_objects.specs.declared.content.Object.{Object}
 use Rattle.dfs_objects.specs.declared.content.Anode.{Anode}
 use Rattle.dfs_objects.specs.Changes.{anode_changed, content_forgotten}
 use Rattle.dfs_objects.specs.Stores.{own_length_of}
 use Rattle.dfs_objects.specs.Losses.{own_spans}
 use Rattle.dfs_filesets.specs.declared.fileset.Fileset.{Fileset}
+use Rattle.dfs_filesets.specs.Laws.{entries_in}
 use Rattle.dfs_filesets.specs.Walk.{object_at}
 use Rattle.dfs_tree.specs.declared.tree.Tree.{Tree}
 use Rattle.dfs_tree.specs.Finding.{has_id}
@@ -50,11 +49,6 @@ abbrev pub file_losses : HostId → ServerId → List (List ℕ) → Content →
 file_losses host server path content =
     map (span_loss host server path) (own_spans host content)
     ++ option_map_or (λ len. length_loss host server path len ∷ []) (own_length_of host content) []
-
--- the entries of a directory, and none of a file
-abbrev pub entries_in : Content → List DirEntry
-entries_in (Dir entries lists) = entries
-entries_in (File list kept unsaved len) = []
 
 -- What is lost of an object and of those below it, down to so many levels; a directory's entries come in the order of
 -- their names.

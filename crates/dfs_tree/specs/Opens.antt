@@ -41,7 +41,7 @@ unfoldable pub open_check : Tree → HostId → User → List ℕ → Place → 
 open_check tree host user label place kind =
     unless (has_open tree.opens host label) AlreadyOpened (
     unless (nat_le LABELS_MAX (open_count tree.opens host)) TooMany (
-    and_then (fileset_named tree.filesets place.server place.fileset) (λ fileset.
+    and_then (fileset_named tree place.server place.fileset) (λ fileset.
     and_then (open_target fileset user place.path kind) (λ fid.
     unless (is_barred tree.opens host fid kind) OpenConflict (
     Ok fid)))))

@@ -1,13 +1,11 @@
 ghost use Rattle.std.specs.Prelude.{◌≡◌, ◌<◌, length, IfOk, OnOk, OnErr};
 ghost use Rattle.dfs_tree.specs.Answers.{deciding_place, fileset_row, answer_for, answer_to};
 
-use crate::finding::{fileset_place, move_place};
 use crate::locking::Range;
 use crate::tree::Tree;
 use crate::uses::Uses;
-use dfs_base::{HostId, Items, NoMemory, Rights, User};
+use dfs_base::{HostId, NoMemory, Rights, User};
 use dfs_calls::{Call, Refusal, Reply};
-use dfs_filesets::Fileset;
 
 impl Tree {
     /// Answers a call of a host. A refused call changes nothing, and so does want of memory. A host that isn't declared
@@ -42,6 +40,11 @@ impl Tree {
                 fileset,
                 new,
             } => self.clone_fileset(user, *server, fileset, new),
+            Call::MoveFileset {
+                server,
+                fileset,
+                to,
+            } => self.move_fileset(user, *server, fileset, *to),
             Call::Lock {
                 label,
                 place,
@@ -58,7 +61,18 @@ impl Tree {
             Call::Unlock { label } => Ok(self.unlock(host, label)),
             Call::OpenFile { label, place, kind } => self.open(host, user, label, place, *kind),
             Call::CloseFile { label } => Ok(self.close(host, label)),
-            _ => self.ask_fileset(host, user, call),
+            Call::Create { .. }
+            | Call::MakeDir { .. }
+            | Call::Remove { .. }
+            | Call::Rename { .. }
+            | Call::Truncate { .. }
+            | Call::SetAcl { .. }
+            | Call::Read { .. }
+            | Call::Write { .. }
+            | Call::List { .. }
+            | Call::Stat { .. }
+            | Call::GetAcl { .. }
+            | Call::Sync { .. } => self.ask_fileset(host, user, call),
         }
     }
 
@@ -69,7 +83,7 @@ impl Tree {
         ensures tree { OnOk result (self.new ≡ (fileset_row self.old host user.now call.now).tree) }
         ensures err { OnErr result (self.new ≡ self.old) }
     {
-        let place = match deciding_place(&self.filesets, call) {
+        let place = match self.deciding_place(call) {
             Ok(place) => place,
             Err(refusal) => return Ok(Reply::Refused(refusal)),
         };
@@ -79,26 +93,32 @@ impl Tree {
         };
         self.filesets.get_mut(place).answer(&uses, host, user, call)
     }
-}
 
-// The place of the fileset that decides a call alone.
-fn deciding_place(filesets: &Items<Fileset>, call: &Call) -> Result<usize, Refusal>
-    ensures value { result ≡ deciding_place filesets.now call.now }
-    ensures within { IfOk result (λ place. place < length filesets.now) }
-{
-    match call {
-        Call::Create { place }
-        | Call::MakeDir { place }
-        | Call::Remove { place }
-        | Call::Truncate { place, .. }
-        | Call::SetAcl { place, .. }
-        | Call::Read { place, .. }
-        | Call::Write { place, .. }
-        | Call::List { place }
-        | Call::Stat { place }
-        | Call::GetAcl { place, .. }
-        | Call::Sync { place } => fileset_place(filesets, place.server, &place.fileset),
-        Call::Rename { from, to } => move_place(filesets, from, to),
-        _ => Err(Refusal::NoFileset),
+    // The place of the fileset that decides a call alone.
+    fn deciding_place(&self, call: &Call) -> Result<usize, Refusal>
+        ensures value { result ≡ deciding_place self.now call.now }
+        ensures within { IfOk result (λ place. place < length self.now.filesets) }
+    {
+        match call {
+            Call::Create { place }
+            | Call::MakeDir { place }
+            | Call::Remove { place }
+            | Call::Truncate { place, .. }
+            | Call::SetAcl { place, .. }
+            | Call::Read { place, .. }
+            | Call::Write { place, .. }
+            | Call::List { place }
+            | Call::Stat { place }
+            | Call::GetAcl { place, .. }
+            | Call::Sync { place } => self.fileset_place(place.server, &place.fileset),
+            Call::Rename { from, to } => self.move_place(from, to),
+            Call::NewFileset { .. }
+            | Call::CloneFileset { .. }
+            | Call::MoveFileset { .. }
+            | Call::Lock { .. }
+            | Call::Unlock { .. }
+            | Call::OpenFile { .. }
+            | Call::CloseFile { .. } => Err(Refusal::NoFileset),
+        }
     }
 }

@@ -1,11 +1,11 @@
 //! New filesets and clones.
-ghost use Rattle.std.specs.Prelude.{ℕ, ◌≡◌, ◌+◌, ◌-◌, ◌^◌, ◌≤◌, ◌<◌, min, Ok, Err, IfOk, OnOk, OnErr, MatchResult};
-ghost use Rattle.dfs_base.specs.declared.limits.TheConstants.{FILESET_NUMBER_MAX};
+ghost use Rattle.std.specs.Prelude.{ℕ, nat_le, ◌≡◌, ◌+◌, ◌-◌, ◌^◌, ◌≤◌, ◌<◌, min, Ok, Err, IfOk, OnOk, OnErr, MatchResult};
+ghost use Rattle.dfs_base.specs.declared.limits.TheConstants.{FILESETS_MAX, FILESET_NUMBER_MAX};
 ghost use Rattle.dfs_filesets.specs.Promises.{new_promise};
-ghost use Rattle.dfs_tree.specs.Founding.{promised, fileset_count, room_of, room_for, next_id, with_fileset, new_fileset_target, new_fileset_answer, clone_target, clone_answer};
+ghost use Rattle.dfs_tree.specs.Founding.{promised, away_promise, away_promised, promised_at, fileset_count, away_count, count_at, room_of, slot_for, blocks_for, room_for, next_id, with_fileset, new_fileset_target, new_fileset_answer, clone_source, clone_target, clone_answer};
 
-use crate::finding::{fileset_named, id_place, is_taken};
-use crate::tree::{ServerRoom, Tree};
+use crate::finding::{find_with_id, id_place};
+use crate::tree::{Away, ServerRoom, Tree};
 use dfs_base::{
     FILESET_NUMBER_MAX, FILESETS_MAX, FilesetId, Items, Name, NoMemory, ServerId, User,
 };
@@ -69,7 +69,7 @@ impl Tree {
         ensures value { result ≡ new_fileset_target self.now server name.now objects }
         ensures number { IfOk result (λ room. room.next ≤ FILESET_NUMBER_MAX) }
     {
-        if is_taken(&self.filesets, server, name) {
+        if self.is_taken(server, name) {
             return Err(Refusal::Exists);
         }
         self.room_for(server, OBJECT_BLOCKS * u64::from(objects))
@@ -86,33 +86,92 @@ impl Tree {
         ensures value { MatchResult result (λ found. clone_target self.now user.now server source.now new.now ≡ Ok (found.0.now, found.1)) (λ refusal. clone_target self.now user.now server source.now new.now ≡ Err refusal) }
         ensures number { IfOk result (λ found. found.1.next ≤ FILESET_NUMBER_MAX) }
     {
-        let fileset = fileset_named(&self.filesets, server, source)?;
-        fileset.clone_check(user)?;
-        if is_taken(&self.filesets, server, new) {
+        let fileset = self.clone_source(user, server, source)?;
+        if self.is_taken(server, new) {
             return Err(Refusal::Exists);
         }
         let room = self.room_for(server, fileset.clone_promise())?;
         Ok((fileset, room))
     }
 
+    // The fileset that a user may clone.
+    #[tactic(auto, unfolding(crate::specs::Founding::clone_source))]
+    fn clone_source(
+        &self,
+        user: &User,
+        server: ServerId,
+        source: &Name,
+    ) -> Result<&Fileset, Refusal>
+        ensures { MatchResult result (λ fileset. clone_source self.now user.now server source.now ≡ Ok fileset.now) (λ refusal. clone_source self.now user.now server source.now ≡ Err refusal) }
+    {
+        let fileset = self.fileset_named(server, source)?;
+        if fileset.server != server {
+            return Err(Refusal::NotHome);
+        }
+        fileset.control_check(user)?;
+        Ok(fileset)
+    }
+
     // A server's room for a fileset more that is promised so many blocks, or the last number of 64 bits for more.
+    #[tactic(auto, unfolding(crate::specs::Founding::room_for))]
     fn room_for(&self, server: ServerId, blocks: u64) -> Result<ServerRoom, Refusal>
         ensures value { (more : ℕ) → blocks ≡ min more (2 ^ 64 - 1) → result ≡ room_for self.now server more }
         ensures number { IfOk result (λ room. room.next ≤ FILESET_NUMBER_MAX) }
     {
-        if FILESETS_MAX <= fileset_count(&self.filesets, server) {
-            return Err(Refusal::TooMany);
-        }
-        let Some(room) = self.room_of(server) else {
-            return Err(Refusal::TooMany);
-        };
+        let room = self.slot_for(server, false)?;
         if FILESET_NUMBER_MAX < room.next {
             return Err(Refusal::TooMany);
         }
-        if u64::from(room.capacity) < promised(&self.filesets, server).saturating_add(blocks) {
+        self.blocks_for(server, room, blocks)
+    }
+
+    /// A server's room, where it may have a fileset more, of which it may have a record already.
+    pub(crate) fn slot_for(
+        &self,
+        server: ServerId,
+        is_recorded: bool,
+    ) -> Result<ServerRoom, Refusal>
+        ensures { result ≡ slot_for self.now server is_recorded }
+    {
+        if !is_recorded && self.is_full(server) {
+            return Err(Refusal::TooMany);
+        }
+        match self.room_of(server) {
+            Some(room) => Ok(room),
+            None => Err(Refusal::TooMany),
+        }
+    }
+
+    /// Whether a server with this room may promise so many blocks more, or the last number of 64 bits for more.
+    pub(crate) fn blocks_for(
+        &self,
+        server: ServerId,
+        room: ServerRoom,
+        blocks: u64,
+    ) -> Result<ServerRoom, Refusal>
+        ensures value { (more : ℕ) → blocks ≡ min more (2 ^ 64 - 1) → result ≡ blocks_for self.now server room more }
+        ensures same { IfOk result (λ found. found ≡ room) }
+    {
+        if u64::from(room.capacity) < self.promised_at(server).saturating_add(blocks) {
             return Err(Refusal::NoRoom);
         }
         Ok(room)
+    }
+
+    // Whether a server has as many filesets and records as it may have.
+    fn is_full(&self, server: ServerId) -> bool
+        ensures { result ≡ nat_le FILESETS_MAX (count_at self.now server) }
+    {
+        let records = away_count(&self.away, server);
+        FILESETS_MAX <= fileset_count(&self.filesets, server).saturating_add(records)
+    }
+
+    // The blocks that a server has promised, at most the last number of 64 bits.
+    fn promised_at(&self, server: ServerId) -> u64
+        ensures { result ≡ min (promised_at self.now server) (2 ^ 64 - 1) }
+    {
+        let records = away_promised(&self.away, &self.filesets, server);
+        promised(&self.filesets, server).saturating_add(records)
     }
 
     fn room_of(&self, server: ServerId) -> Option<ServerRoom>
@@ -161,6 +220,43 @@ fn fileset_count(filesets: &Items<Fileset>, server: ServerId) -> usize
         .iter()
         .filter(|fileset| fileset.server == server)
         .count()
+}
+
+// How many records of filesets that moved away a server has.
+fn away_count(records: &Items<Away>, server: ServerId) -> usize
+    ensures { result ≡ away_count server records.now }
+{
+    records
+        .as_slice()
+        .iter()
+        .filter(|away| away.server == server)
+        .count()
+}
+
+// The blocks that are promised to a record, at most the last number of 64 bits.
+fn away_promise(away: &Away, filesets: &Items<Fileset>) -> u64
+    ensures { result ≡ min (away_promise filesets.now away.now) (2 ^ 64 - 1) }
+{
+    if !away.room_kept {
+        return 0;
+    }
+    match find_with_id(filesets.as_slice(), away.fileset) {
+        Some(fileset) => fileset.promise(),
+        None => 0,
+    }
+}
+
+// The blocks that are promised to the records of a server, at most the last number of 64 bits.
+fn away_promised(records: &Items<Away>, filesets: &Items<Fileset>, server: ServerId) -> u64
+    ensures { result ≡ min (away_promised server filesets.now records.now) (2 ^ 64 - 1) }
+{
+    let mut blocks = 0u64;
+    for away in records.as_slice() {
+        if away.server == server {
+            blocks = blocks.saturating_add(away_promise(away, filesets));
+        }
+    }
+    blocks
 }
 
 // The blocks that the filesets of a server are promised, at most the last number of 64 bits.

@@ -1,5 +1,6 @@
 //! What makes the definitions of trees believable: each function does nothing, and what it ensures is a law.
-ghost use Rattle.dfs_tree.specs.Laws.{RefusedChangesNothing, StartsWellFormed, StaysWellFormed, FilesChangeSo, WriteChangesItsSpan, ClonesStay};
+ghost use Rattle.dfs_tree.specs.Laws.{RefusedChangesNothing, StartsWellFormed, StaysWellFormed, ClonesStay};
+ghost use Rattle.dfs_tree.specs.MoveLaws.{FilesetsAreOnce, MovesAreWhole, MovesCount};
 ghost use Rattle.dfs_tree.specs.Worked.{WorkedReplies};
 
 /// A refused call changes nothing.
@@ -14,17 +15,6 @@ pub fn well_formed_law()
     ensures entry { StaysWellFormed }
 {}
 
-/// What each legal entry leaves of each file of a well formed tree. What that shows at a position is told by the laws of
-/// `dfs_objects`.
-pub fn file_law()
-    ensures { FilesChangeSo }
-{}
-
-/// A write changes no byte that readers see outside its span, and no other file.
-pub fn write_law()
-    ensures { WriteChangesItsSpan }
-{}
-
 /// A clone shows what its source showed, and no later entry changes it.
 pub fn clone_law()
     ensures { ClonesStay }
@@ -33,4 +23,13 @@ pub fn clone_law()
 /// What small trees reply to some calls, and what is lost of one: each by computing the definitions.
 pub fn worked_law()
     ensures { WorkedReplies }
+{}
+
+/// A fileset is at one server, whatever the history. A move takes it to another server whole, so that its name still leads
+/// to it there, and leaves all others; its number of moves rises by one at a move, and never falls. What a fileset that
+/// moved shows is told by the laws of `dfs_filesets`.
+pub fn move_law()
+    ensures once { FilesetsAreOnce }
+    ensures whole { MovesAreWhole }
+    ensures count { MovesCount }
 {}

@@ -5,14 +5,16 @@
 mod answer;
 mod down;
 mod finding;
+mod following;
 mod founding;
 mod laws;
 mod locking;
 mod losses;
+mod moving;
 mod opening;
 mod storing;
 mod tree;
 mod uses;
 
-pub use laws::{clone_law, file_law, refusal_law, well_formed_law, worked_law, write_law};
-pub use tree::{LockUse, OpenUse, ServerRoom, Tree};
+pub use laws::{clone_law, move_law, refusal_law, well_formed_law, worked_law};
+pub use tree::{Away, LockUse, OpenUse, ServerRoom, Tree};

@@ -4,7 +4,6 @@ ghost use Rattle.dfs_base.specs.Ids.{same_fid};
 ghost use Rattle.dfs_tree.specs.Uses.{label_before};
 ghost use Rattle.dfs_tree.specs.Locks.{is_lock, has_lock, lock_count, covers, is_own_locked, is_excluded, lock_check, lock_place, with_lock, lock_answer, unlock_answer};
 
-use crate::finding::fileset_named;
 use crate::tree::{LockUse, Tree};
 use crate::uses::{label_before, same_label};
 use dfs_base::{FILE_BYTES_MAX, Fid, HostId, Items, LABELS_MAX, Name, NoMemory, Plain, Span, User};
@@ -80,7 +79,7 @@ impl Tree {
         if LABELS_MAX <= lock_count(&self.locks, host) {
             return Err(Refusal::TooMany);
         }
-        let fileset = fileset_named(&self.filesets, place.server, &place.fileset)?;
+        let fileset = self.fileset_named(place.server, &place.fileset)?;
         let fid = fileset.lock_target(user, place.path.as_slice(), writing)?;
         let (from, end) = (
             u64::from(range.from),

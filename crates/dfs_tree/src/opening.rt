@@ -3,7 +3,6 @@ ghost use Rattle.std.specs.List.{position};
 ghost use Rattle.dfs_tree.specs.Uses.{label_before};
 ghost use Rattle.dfs_tree.specs.Opens.{is_open, has_open, open_count, is_barred, open_check, open_place, with_open, open_answer, close_answer};
 
-use crate::finding::fileset_named;
 use crate::tree::{OpenUse, Tree};
 use crate::uses::{label_before, same_label};
 use dfs_base::{Fid, HostId, Items, LABELS_MAX, Name, NoMemory, OpenKind, Plain, User};
@@ -68,7 +67,7 @@ impl Tree {
         if LABELS_MAX <= open_count(&self.opens, host) {
             return Err(Refusal::TooMany);
         }
-        let fileset = fileset_named(&self.filesets, place.server, &place.fileset)?;
+        let fileset = self.fileset_named(place.server, &place.fileset)?;
         let fid = fileset.open_target(user, place.path.as_slice(), kind)?;
         if is_barred(&self.opens, host, fid, kind) {
             return Err(Refusal::OpenConflict);

@@ -1,9 +1,10 @@
 ghost use Rattle.std.specs.Prelude.{◌≡◌, [], map, IfOk, OnOk};
 ghost use Rattle.dfs_tree.specs.Founding.{new_room, new_tree};
 
-use dfs_base::{Fid, HostId, Items, Name, NoMemory, OpenKind, Plain, Span};
+use dfs_base::{Fid, FilesetId, HostId, Items, Name, NoMemory, OpenKind, Plain, ServerId, Span};
 use dfs_calls::Roster;
 use dfs_filesets::Fileset;
+use std::alloc::Global;
 
 /// What a server has for further filesets.
 #[derive(Clone, Copy)]
@@ -42,6 +43,22 @@ pub struct OpenUse {
     pub kind: OpenKind,
 }
 
+/// What a server notes of a fileset that moved away from it. A call with a place there still finds the fileset.
+#[derive(Drop)]
+pub struct Away {
+    /// The server.
+    pub server: ServerId,
+    /// The fileset.
+    pub fileset: FilesetId,
+    /// The fileset's name.
+    pub name: Name,
+    /// The server that it moved to from here. It may have moved on since.
+    pub to: ServerId,
+    /// Whether the blocks that the fileset is promised are still kept for it here: until the server learns that it has
+    /// arrived.
+    pub room_kept: bool,
+}
+
 /// The file tree of the whole service (Kazar et al., "DEcorum File System Architectural Overview", 1990; Chutani et al.,
 /// "The Episode File System", 1992).
 #[derive(Drop)]
@@ -52,6 +69,8 @@ pub struct Tree {
     pub servers: Items<ServerRoom>,
     /// The filesets, in the order of their ids.
     pub filesets: Items<Fileset>,
+    /// The records of filesets that moved away, by server and then by id; a server has at most one of a fileset.
+    pub away: Items<Away>,
     /// The locks in use, by host and then by label.
     pub locks: Items<LockUse>,
     /// The open files, by host and then by label.
@@ -87,12 +106,25 @@ impl Plain for OpenUse {
     }
 }
 
+impl Plain for Away {
+    fn copy(&self) -> Result<Away, NoMemory> {
+        Ok(Away {
+            server: self.server,
+            fileset: self.fileset,
+            name: self.name.copy()?,
+            to: self.to,
+            room_kept: self.room_kept,
+        })
+    }
+}
+
 impl Plain for Tree {
     fn copy(&self) -> Result<Tree, NoMemory> {
         Ok(Tree {
             roster: self.roster.copy()?,
             servers: self.servers.copy()?,
             filesets: self.filesets.copy()?,
+            away: self.away.copy()?,
             locks: self.locks.copy()?,
             opens: self.opens.copy()?,
         })
@@ -100,15 +132,15 @@ impl Plain for Tree {
 }
 
 impl Tree {
-    /// The tree of a roster, in which there is no fileset.
-    pub fn new(roster: &Roster) -> Result<Tree, NoMemory>
+    /// The tree of a roster, in which there is no fileset. `NoMemory` comes where memory runs out.
+    pub fn new(alloc: Global, roster: &Roster) -> Result<Tree, NoMemory>
         ensures { IfOk result (λ tree. tree ≡ new_tree roster.now) }
     {
-        let alloc = roster.users.alloc();
         Ok(Tree {
             roster: roster.copy()?,
-            servers: rooms(&roster.capacity)?,
+            servers: rooms(alloc, &roster.capacity)?,
             filesets: Items::new(alloc),
+            away: Items::new(alloc),
             locks: Items::new(alloc),
             opens: Items::new(alloc),
         })
@@ -116,10 +148,10 @@ impl Tree {
 }
 
 // What servers of these capacities have before their first filesets.
-fn rooms(capacity: &Items<u32>) -> Result<Items<ServerRoom>, NoMemory>
+fn rooms(alloc: Global, capacity: &Items<u32>) -> Result<Items<ServerRoom>, NoMemory>
     ensures { IfOk result (λ rooms. rooms ≡ map new_room capacity.now) }
 {
-    let mut rooms = Items::new(capacity.alloc());
+    let mut rooms = Items::new(alloc);
     for capacity in capacity.as_slice() {
         rooms.push(ServerRoom {
             capacity: *capacity,

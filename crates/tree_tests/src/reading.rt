@@ -69,6 +69,7 @@ impl<'a> Words<'a> {
             "truncate" => self.truncate()?,
             "setacl" => self.set_access()?,
             "clone" => self.clone_fileset()?,
+            "move" => self.move_fileset()?,
             "read" => self.read()?,
             "write" => self.write()?,
             "list" => Call::List {
@@ -143,6 +144,17 @@ impl<'a> Words<'a> {
             server,
             fileset,
             new,
+        })
+    }
+
+    fn move_fileset(&mut self) -> Result<Call> {
+        let server = self.server()?;
+        let fileset = self.name()?;
+        let to = self.server()?;
+        Ok(Call::MoveFileset {
+            server,
+            fileset,
+            to,
         })
     }
 

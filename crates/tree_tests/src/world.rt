@@ -4,7 +4,7 @@ use crate::reading::{Words, server, user};
 use crate::telling::{losses_text, reply_text};
 use anyhow::{Context, Result, bail};
 use dfs_base::{Fid, FilesetId, HostId, Items, ServerId, Span};
-use dfs_calls::{HostLine, Roster};
+use dfs_calls::{Entry, HostLine, Reply, Roster};
 use dfs_tree::Tree;
 use std::alloc::Global;
 
@@ -35,16 +35,19 @@ impl World {
         };
         Ok(World {
             alloc,
-            tree: Tree::new(&roster)?,
+            tree: Tree::new(alloc, &roster)?,
         })
     }
 
-    /// What is told to a row: the reply to a call; `stored`, what became kept; `down`, the losses.
+    /// What is told to a row: the reply to a call; `ok` where something became kept, or where a fileset has arrived; and
+    /// where a host is down, the losses.
     pub fn told(&mut self, row: &str) -> Result<String> {
         let mut words = Words::new(self.alloc, row);
         match words.next() {
             "stored" => self.stored(&mut words),
             "down" => self.down(&mut words),
+            "left" => self.left(&mut words),
+            "at" => self.at(&mut words),
             text => {
                 let host = host(text)?;
                 let call = words.call()?;
@@ -66,8 +69,35 @@ impl World {
         };
         let span = span(words.number()?, words.number()?)?;
         let length = words.next().parse::<u32>().ok();
-        self.tree.stored(host, fid, &[span], length)?;
+        self.tree.follow(&Entry::Stored {
+            host,
+            fid,
+            spans: Items::from_slice(self.alloc, &[span])?,
+            length,
+        })?;
         Ok(String::from_str(self.alloc, "ok")?)
+    }
+
+    // `left SERVER SERVER FILESET`, the fileset by the server that made it and its number there
+    fn left(&mut self, words: &mut Words) -> Result<String> {
+        let at = server(words.next())?;
+        let maker = server(words.next())?;
+        let number = words.number()?;
+        self.tree.left(at, fileset_id(maker, number));
+        Ok(String::from_str(self.alloc, "ok")?)
+    }
+
+    // `at SERVER FILESET`: the server where it is now, and how often it has moved
+    fn at(&self, words: &mut Words) -> Result<String> {
+        let server = server(words.next())?;
+        let name = words.name()?;
+        match self.tree.fileset_named(server, &name) {
+            Ok(fileset) => {
+                let (at, moves) = (fileset.server.0, fileset.moves);
+                Ok(format!(in self.alloc; "s{at} {moves}")?)
+            }
+            Err(refusal) => reply_text(self.alloc, &Reply::Refused(refusal)),
+        }
     }
 
     fn down(&mut self, words: &mut Words) -> Result<String> {
