@@ -1,0 +1,9 @@
+pub mod Steps
+pub mod Contents
+pub mod Objects
+pub mod RowFates
+pub mod TreeFates
+pub mod Stores
+pub mod Uniques
+pub mod Promised
+pub mod Writes
