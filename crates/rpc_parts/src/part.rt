@@ -1,0 +1,109 @@
+ghost use Rattle.std.specs.Prelude.{◌≡◌, ◌++◌, ℕ, List, OnOk};
+ghost use Rattle.rpc_parts.specs.Spelled.{Spelled, items};
+ghost use Rattle.rpc_parts.specs.Words.{short, short_at, long, long_at};
+ghost use Rattle.rpc_parts.specs.Reading.{Reading, Gives, items_at};
+
+use crate::number::{push_number, whole_at};
+use dfs_base::{Items, NoMemory};
+use std::alloc::{AllocError, Global};
+
+/// Why a part was not read.
+#[derive(Clone, Copy)]
+pub enum Stopped {
+    /// The bytes begin no spelling of it. So many of them are left at the first byte after which none goes on.
+    Bad(usize),
+    /// Memory ran out.
+    Memory,
+}
+
+impl From<NoMemory> for Stopped {
+    ghost use Rattle.rpc_parts.specs.declared.part.Stopped.TheVariants.{Memory};
+
+    ghost from_gives = { λ _ e. e ≡ Memory };
+
+    fn from(_error: NoMemory) -> Stopped {
+        Stopped::Memory
+    }
+}
+
+/// A part of messages.
+pub trait Part: Drop {
+    /// How it is written.
+    ghost spelled: { Self → Spelled };
+
+    /// How it is read.
+    ghost reading: { List ℕ → Reading Self };
+
+    /// Writes it at the end.
+    fn write(&self, out: &mut Items<u8>) -> Result<(), NoMemory>
+        ensures { OnOk result (out.new ≡ out.old ++ (spelled self.now).bytes) };
+
+    /// Reads it at the front. The bytes behind it are left.
+    fn read(alloc: Global, bytes: &[u8]) -> Result<(Self, &[u8]), Stopped>
+        ensures { Gives (λ x. (x.0, x.1.now)) result (reading bytes.now) };
+}
+
+/// Reads so many parts. Memory is taken as they come.
+pub fn items_at<T: Part>(
+    alloc: Global,
+    count: u64,
+    bytes: &[u8],
+) -> Result<(Items<T>, &[u8]), Stopped>
+    ensures { Gives (λ x. (x.0, x.1.now)) result (items_at T.reading count bytes.now) }
+{
+    let mut items = Items::new(alloc);
+    let mut rest = bytes;
+    for _ in 0..count {
+        let (item, behind) = T::read(alloc, rest)?;
+        items.push(item)?;
+        rest = behind;
+    }
+    Ok((items, rest))
+}
+
+/// Writes parts, one behind another.
+#[tactic(auto, unfolding(crate::specs::Spelled::items))]
+pub fn write_items<T: Part>(parts: &[T], out: &mut Items<u8>) -> Result<(), NoMemory>
+    ensures { OnOk result (out.new ≡ out.old ++ (items T.spelled parts.now).bytes) }
+{
+    for part in parts {
+        part.write(out)?;
+    }
+    Ok(())
+}
+
+/// Reads a list with a count of two bytes.
+#[tactic(auto, unfolding(crate::specs::Reading::counted_at))]
+pub fn short_at<T: Part>(alloc: Global, bytes: &[u8]) -> Result<(Items<T>, &[u8]), Stopped>
+    ensures { Gives (λ x. (x.0, x.1.now)) result (short_at T.reading bytes.now) }
+{
+    let (count, rest) = whole_at(bytes, 2)?;
+    items_at(alloc, count, rest)
+}
+
+/// Writes a list with a count of two bytes.
+#[tactic(auto, unfolding(crate::specs::Spelled::number))]
+pub fn write_short<T: Part>(items: &Items<T>, out: &mut Items<u8>) -> Result<(), NoMemory>
+    ensures { OnOk result (out.new ≡ out.old ++ (short T.spelled items.now).bytes) }
+{
+    push_number(out, 2, items.len() as u64)?;
+    write_items(items.as_slice(), out)
+}
+
+/// Reads a list with a count of eight bytes.
+#[tactic(auto, unfolding(crate::specs::Reading::counted_at))]
+pub fn long_at<T: Part>(alloc: Global, bytes: &[u8]) -> Result<(Items<T>, &[u8]), Stopped>
+    ensures { Gives (λ x. (x.0, x.1.now)) result (long_at T.reading bytes.now) }
+{
+    let (count, rest) = whole_at(bytes, 8)?;
+    items_at(alloc, count, rest)
+}
+
+/// Writes a list with a count of eight bytes.
+#[tactic(auto, unfolding(crate::specs::Spelled::number))]
+pub fn write_long<T: Part>(items: &Items<T>, out: &mut Items<u8>) -> Result<(), NoMemory>
+    ensures { OnOk result (out.new ≡ out.old ++ (long T.spelled items.now).bytes) }
+{
+    push_number(out, 8, items.len() as u64)?;
+    write_items(items.as_slice(), out)
+}
