@@ -1,4 +1,5 @@
-"""Runs the program on each input three times, and prints the best time, its ratio to another row's, and the greatest memory."""
+"""Runs the program, and a second one where its path is given, on each input five times in turn. Prints the best time of the
+first, its ratio to another row's, to the second program's and to that of `sha256sum` on the same input, and the greatest memory."""
 import os
 import subprocess
 import sys
@@ -7,66 +8,116 @@ import time
 
 HEAD = b"servers 1\nuser u g\nhost c1 u\nfileset home s1 64 u\nbegin\n"
 PROGRAM = sys.argv[1]
+OTHER = sys.argv[2] if len(sys.argv) > 2 else None
+RUNS = 5
 
 
 def writes_and_reads(lines):
     """A script of so many lines: writes and reads within the first 4,096 bytes of one file."""
-    body = [b"c1 create /home/f\n"]
+    yield HEAD + b"c1 create /home/f\n"
     for i in range(lines - 6):
         at = i * 37 % 4000
-        body.append(b"c1 write /home/f %d \"some text %d\"\n" % (at, i) if i % 2 == 0 else b"c1 read /home/f %d 64\n" % at)
-    return HEAD + b"".join(body)
+        yield b"c1 write /home/f %d \"some text %d\"\n" % (at, i) if i % 2 == 0 else b"c1 read /home/f %d 64\n" % at
 
 
 def long_lines():
     """10,000 lines of near 8,192 bytes, which say little: 80 MB."""
-    pad = b" " * 8160
-    return HEAD + b"c1 create /home/f\n" + b"".join(b"c1 read /home/f 0 1" + pad + b"\n" for _ in range(9994))
+    yield HEAD + b"c1 create /home/f\n"
+    for _ in range(9994):
+        yield b"c1 read /home/f 0 1" + b" " * 8160 + b"\n"
+
+
+def escaped(text):
+    """Bytes by their hexadecimal digits, as they stand in quotes."""
+    return b"".join(b"\\x%02x" % byte for byte in text)
+
+
+def escapes_and_paths():
+    """10,000 lines of near 8,000 bytes: writes of 1,000 escaped bytes to deep paths of escaped names, 33 levels down: 80 MB."""
+    path = b'"/home' + (b"/" + escaped(b"n" * 29)) * 33 + b'"'
+    text = b'"' + escaped(bytes(i % 256 for i in range(1000))) + b'"'
+    yield HEAD + b"c1 create /home/f\n"
+    for _ in range(9994):
+        yield b"c1 write " + path + b" 0 " + text + b"\n"
 
 
 def full_files():
     """62 files of 64 KiB each, without a zero byte."""
-    body = []
+    yield HEAD
     for f in range(62):
-        body.append(b"c1 create /home/f%d\n" % f)
+        yield b"c1 create /home/f%d\n" % f
         for piece in range(64):
-            body.append(b"c1 write /home/f%d %d %s\n" % (f, piece * 1024, b"x" * 1024))
-    return HEAD + b"".join(body)
+            yield b"c1 write /home/f%d %d %s\n" % (f, piece * 1024, b"x" * 1024)
+
+
+def reversed_clones():
+    """9,990 lines that clone clones, each before the line that places its source."""
+    yield HEAD
+    for i in range(9989, 0, -1):
+        yield b"c1 clone k%d k%d\n" % (i, i + 1)
+    yield b"c1 clone home k1\n"
+
+
+def seconds(command, source, wanted):
+    """The time of one run, and the memory that it held in MB."""
+    source.seek(0)
+    began = time.monotonic()
+    child = subprocess.Popen(command, stdin=source, stdout=subprocess.DEVNULL)
+    _, status, usage = os.wait4(child.pid, 0)
+    spent = time.monotonic() - began
+    if wanted and status != 0:
+        sys.exit("%s ended with %d" % (" ".join(command), status))
+    return spent, usage.ru_maxrss / 1024
 
 
 def measure(words, script):
-    """The best time of three runs in seconds, and the greatest memory in MB."""
-    best, memory = None, 0
+    """The best times of the program, of the other one and of `sha256sum`, all in turn, the program's greatest memory and the
+    length of the script in MB. A run counts at least the memory of this process, so the script is written line by line."""
+    best = {}
+    memory = 0
+    commands = {"own": [PROGRAM] + words, "sum": ["sha256sum"]}
+    if OTHER:
+        commands["other"] = [OTHER] + words
     with tempfile.TemporaryFile() as source:
-        source.write(script)
-        for _ in range(3):
-            source.seek(0)
-            began = time.monotonic()
-            child = subprocess.Popen([PROGRAM] + words, stdin=source, stdout=subprocess.DEVNULL)
-            _, status, usage = os.wait4(child.pid, 0)
-            spent = time.monotonic() - began
-            if status != 0:
-                sys.exit("%s ended with %d" % (" ".join(words), status))
-            best = spent if best is None else min(best, spent)
-            memory = max(memory, usage.ru_maxrss / 1024)
-    return best, memory
+        source.writelines(script)
+        source.flush()
+        length = source.tell() / 1e6
+        for _ in range(RUNS):
+            for name, command in commands.items():
+                spent, held = seconds(command, source, name == "own")
+                best[name] = min(best.get(name, spent), spent)
+                if name == "own":
+                    memory = max(memory, held)
+    return best, memory, length
 
 
 ROWS = [
-    ("`gen 7 8 100`", ["gen", "7", "8", "100"], lambda: b"", None),
-    ("`gen 7 8 400`", ["gen", "7", "8", "400"], lambda: b"", "`gen 7 8 100`"),
-    ("`gen 7 16 400` (6,400 calls)", ["gen", "7", "16", "400"], lambda: b"", None),
+    ("`gen 7 8 100`", ["gen", "7", "8", "100"], lambda: [], None),
+    ("`gen 7 8 400`", ["gen", "7", "8", "400"], lambda: [], "`gen 7 8 100`"),
+    ("`gen 7 16 400` (6,400 calls)", ["gen", "7", "16", "400"], lambda: [], None),
     ("1,000 lines of writes and reads", ["run"], lambda: writes_and_reads(1000), None),
     ("10,000 lines of writes and reads", ["run"], lambda: writes_and_reads(10000), "1,000 lines of writes and reads"),
-    ("10,000 lines, 80 MB", ["run"], long_lines, None),
+    ("9,990 clone lines in reverse", ["run"], reversed_clones, None),
+    ("10,000 lines, 80 MB of spaces", ["run"], long_lines, None),
+    ("10,000 lines, 80 MB of escapes and deep paths", ["run"], escapes_and_paths, None),
     ("62 files of 64 KiB, written and dumped", ["run"], full_files, None),
 ]
 
-times = {}
-print("| Input | Seconds | Ratio | Peak memory, MB |")
-print("|---|---|---|---|")
-for name, words, script, base in ROWS:
-    spent, memory = measure(words, script())
-    times[name] = spent
-    ratio = "%.1f to %s" % (spent / times[base], base) if base else ""
-    print("| %s | %.3f | %s | %.0f |" % (name, spent, ratio, memory), flush=True)
+
+def main():
+    """Prints the table."""
+    times = {}
+    print("| Input | Script, MB | Seconds | Ratio |" + (" To the other program |" if OTHER else "") + " To `sha256sum` | Peak memory, MB |")
+    print("|---|---|---|---|" + ("---|" if OTHER else "") + "---|---|")
+    for name, words, script, base in ROWS:
+        best, memory, length = measure(words, script())
+        times[name] = best["own"]
+        ratio = "%.1f to %s" % (best["own"] / times[base], base) if base else ""
+        cells = [name, "%.1f" % length, "%.3f" % best["own"], ratio]
+        if OTHER:
+            cells.append("%.2f" % (best["own"] / best["other"]))
+        cells += ["%.2f" % (best["own"] / best["sum"]) if length > 1 else "", "%.0f" % memory]
+        print("| " + " | ".join(cells) + " |", flush=True)
+
+
+main()

@@ -11,7 +11,7 @@ use Rattle.dfs_calls.specs.declared.roster.HostLine.{HostLine}
 use Rattle.dfs_calls.specs.declared.call.Call.TheVariants as calls
 use Rattle.rand_pcg.specs.Lcg.{Lcg}
 use Rattle.script_words.specs.Fields.{host_node}
-use Rattle.script_lines.specs.Sound.{is_of, is_host_deed, is_sound_deed, is_sound_line, is_stop, stops_last, numbers_rise, IsSound}
+use Rattle.script_lines.specs.Sound.{is_of, is_host_deed, is_sound_deed, is_sound_line, is_stop, stops_last, raised_by, raised_in, are_apart, numbers_rise, IsSound}
 use Rattle.script_lines.specs.declared.script.Deed.{Deed}
 use Rattle.script_lines.specs.declared.script.Deed.TheVariants.{Call, Raise, Await, Stop, Restart}
 use Rattle.script_lines.specs.declared.script.Line.{Line}
@@ -127,18 +127,6 @@ roster_kept hosts most =
     let few : nat_le (length (replicate hosts host_line)) HOSTS_MAX ≡ true = le-leb (length (replicate hosts host_line)) 16 (omega (arith, long)) in
     rw few (each_copy (λ (line : HostLine). nat_lt line.user 1 && is_between CACHED_TOKENS_MIN CACHED_TOKENS_MAX line.limit) hosts host_line refl)
 
-pub generated_sound : (seed hosts calls : ℕ) → 1 ≤ hosts → hosts ≤ 16 → calls ≤ 400 → IsSound (generated seed hosts calls)
-unfolding generated
-generated_sound seed hosts calls some most few = record {
-  servers = refl;
-  roster = roster_kept hosts most;
-  setup = refl;
-  lines = subst (λ n. list_all (is_sound_line 1 n) (numbered (hosts + 5) (tasks seed hosts calls)) ≡ true) (sym (length-replicate hosts host_line)) (lines_sound hosts (hosts + 5) (tasks seed hosts calls) (all_good seed hosts calls some));
-  stops = none_stops hosts (hosts + 5) (tasks seed hosts calls) (all_good seed hosts calls some);
-  numbers = and_from (nat_lt 0 (hosts + 3)) (numbers_rise (hosts + 3) (numbered (hosts + 5) (tasks seed hosts calls))) (lt-ltb 0 (hosts + 3) (omega arith)) (lines_rise (hosts + 3) (hosts + 5) (tasks seed hosts calls) (omega arith));
-  count = omega (arith, length-numbered (hosts + 5) (tasks seed hosts calls), tasks_long seed hosts calls some few);
-}
-
 -- a deed that can go and raises no flag
 abbrev pub raises_none : Deed → Bool
 raises_none (Raise flag) = false
@@ -199,3 +187,47 @@ tasks_met number seed hosts calls =
 pub generated_goes : (seed hosts calls : ℕ) → stuck_at (generated seed hosts calls).lines ≡ None
 unfolding generated
 generated_goes seed hosts calls = ordered_goes (numbered (hosts + 5) (tasks seed hosts calls)) (tasks_met (hosts + 5) seed hosts calls)
+
+-- one flag is raised, once
+pub none_raised : (deed : Deed) → raises_none deed ≡ true → raised_by deed ≡ []
+none_raised (Raise flag) h = absurd (cc)
+none_raised (Call call) h = refl
+none_raised (Await flag) h = refl
+none_raised Stop h = refl
+none_raised Restart h = refl
+
+pub steady_raise : (flags : List (List ℕ)) (number : ℕ) (tasks : List Task) (more : List Line) → list_all (λ task. is_steady flags task.deed) tasks ≡ true → raised_in (numbered number tasks ++ more) ≡ raised_in more
+steady_raise flags number [] more h = refl
+steady_raise flags number (task ∷ tasks) more h =
+    let parts = and_parts (is_steady flags task.deed) (list_all (λ (task : Task). is_steady flags task.deed) tasks) h in
+    let own = and_parts (can_go flags task.deed) (raises_none task.deed) parts.0 in
+    rw (none_raised task.deed own.1) (steady_raise flags (number + 1) tasks more parts.1)
+
+pub tasks_raise : (number seed hosts calls : ℕ) → are_apart (raised_in (numbered number (tasks seed hosts calls))) ≡ true
+tasks_raise number seed hosts calls =
+    let made : List Task = create shared_file ∷ creates hosts in
+    let after : ℕ = number + length made in
+    subst (λ all. are_apart (raised_in (numbered number all)) ≡ true) (sym (tasks_split seed hosts calls)) (subst (λ lines. are_apart (raised_in lines) ≡ true) (sym (numbered-append number made (record { node = host_node 1; deed = Raise start } ∷ (awaits hosts ++ all_calls seed hosts calls))))
+    (rw (steady_raise [] number made (numbered after (record { node = host_node 1; deed = Raise start } ∷ (awaits hosts ++ all_calls seed hosts calls))) (creates_steady hosts), rest_raise (after + 1)) refl))
+  where
+    rest_raise : (n : ℕ) → raised_in (numbered n (awaits hosts ++ all_calls seed hosts calls)) ≡ []
+    rest_raise n =
+        rw (← append-nil (numbered n (awaits hosts ++ all_calls seed hosts calls)))
+        (steady_raise (start ∷ []) n (awaits hosts ++ all_calls seed hosts calls) []
+        (rw (list_all-append (λ (task : Task). is_steady (start ∷ []) task.deed) (awaits hosts) (all_calls seed hosts calls))
+        (and_from (list_all (λ (task : Task). is_steady (start ∷ []) task.deed) (awaits hosts)) (list_all (λ (task : Task). is_steady (start ∷ []) task.deed) (all_calls seed hosts calls)) (awaits_steady hosts) (calls_steady seed hosts calls))))
+
+pub generated_sound : (seed hosts calls : ℕ) → 1 ≤ hosts → hosts ≤ 16 → calls ≤ 400 → IsSound (generated seed hosts calls)
+unfolding generated
+generated_sound seed hosts calls some most few = record {
+  servers = refl;
+  roster = roster_kept hosts most;
+  setup = refl;
+  lines = subst (λ n. list_all (is_sound_line 1 n) (numbered (hosts + 5) (tasks seed hosts calls)) ≡ true) (sym (length-replicate hosts host_line)) (lines_sound hosts (hosts + 5) (tasks seed hosts calls) (all_good seed hosts calls some));
+  stops = none_stops hosts (hosts + 5) (tasks seed hosts calls) (all_good seed hosts calls some);
+  flags = tasks_raise (hosts + 5) seed hosts calls;
+  numbers = and_from (nat_lt 0 (hosts + 3)) (numbers_rise (hosts + 3) (numbered (hosts + 5) (tasks seed hosts calls))) (lt-ltb 0 (hosts + 3) (omega arith)) (lines_rise (hosts + 3) (hosts + 5) (tasks seed hosts calls) (omega arith));
+  count = omega (arith, length-numbered (hosts + 5) (tasks seed hosts calls), tasks_long seed hosts calls some few);
+  plan = refl;
+  net = refl;
+}

@@ -5,7 +5,7 @@ use Rattle.std.specs.Option.{option_map_or}
 use Rattle.dfs_objects.specs.declared.content.Object.{Object}
 use Rattle.dfs_objects.specs.declared.content.Anode.{Anode}
 use Rattle.dfs_filesets.specs.Walk.{object_at}
-use Rattle.dfs_tree.specs.Losses.{entries_in}
+use Rattle.dfs_filesets.specs.Laws.{entries_in}
 use Rattle.run_print.specs.Dump.{object_lines, lines_below}
 
 -- with one level at least

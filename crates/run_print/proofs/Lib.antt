@@ -3,3 +3,4 @@ mod Kept
 mod Reading
 pub mod Lines
 pub mod Spelled
+mod Losing

@@ -37,7 +37,7 @@ read_same tree host place from len = by_user (user_of tree.roster host)
     by_user : (user : Option User) → (for_user tree user (answer_for tree host (Read place from len))).tree ≡ tree
     by_user None = refl
     by_user (Some user) =
-        same_by tree (deciding_place tree.filesets (Read place from len)) (λ fileset. fileset_answer fileset (is_used tree.locks tree.opens) host user (Read place from len)) (λ fileset. refl)
+        same_by tree (deciding_place tree (Read place from len)) (λ fileset. fileset_answer fileset (is_used tree.locks tree.opens) host user (Read place from len)) (λ fileset. refl)
 
 pub read_stays : (tree : Tree) (host : HostId) (call : Call) (place : Place) (from len : ℕ) → call ≡ Read place from len → tree ≡ (answer_to tree host call).tree
 read_stays tree host call place from len e = sym (ap (λ asked. (answer_to tree host asked).tree) e ∙ read_same tree host place from len)

@@ -10,7 +10,7 @@ use Rattle.dfs_objects.specs.declared.content.Anode.{Anode}
 use Rattle.dfs_objects.specs.Files.{present_bytes}
 use Rattle.dfs_filesets.specs.declared.fileset.Fileset.{Fileset}
 use Rattle.dfs_filesets.specs.Walk.{object_at}
-use Rattle.dfs_tree.specs.Losses.{entries_in}
+use Rattle.dfs_filesets.specs.Laws.{entries_in}
 use Rattle.run_print.specs.Texts.{quoted, word_text}
 use Rattle.run_print.specs.Access.{list_text}
 

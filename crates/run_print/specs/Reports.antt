@@ -1,9 +1,9 @@
 -- What a run tells: replies, losses and filesets, each in the order of the output.
-use Rattle.std.specs.Prelude.{ℕ, ◌+◌, ◌==◌, ◌&&◌, nat_le, if◌then◌else◌, List, [], ◌∷◌, ◌++◌, filter, flat_map}
+use Rattle.std.specs.Prelude.{ℕ, Bool, true, false, ◌+◌, ◌==◌, ◌&&◌, nat_le, if◌then◌else◌, List, [], ◌∷◌, ◌++◌, filter, flat_map}
 use Rattle.std.specs.List.{range_with_len}
 use Rattle.dfs_base.specs.declared.limits.TheConstants.{HOSTS_MAX, SERVERS_MAX}
 use Rattle.dfs_calls.specs.declared.entry.Entry.{Entry}
-use Rattle.dfs_calls.specs.declared.entry.Entry.TheVariants.{Call, Stored, Down}
+use Rattle.dfs_calls.specs.declared.entry.Entry.TheVariants.{Call, Stored, Down, Left}
 use Rattle.dfs_calls.specs.declared.entry.Loss.{Loss}
 use Rattle.dfs_filesets.specs.declared.fileset.Fileset.{Fileset}
 use Rattle.dfs_tree.specs.declared.tree.Tree.{Tree}
@@ -27,6 +27,7 @@ answer_in host calls (Call by k call reply) =
     if (by.0 == host) && nat_le k calls then record { host = by; k = k; reply = reply } ∷ [] else []
 answer_in host calls (Stored by fid spans len) = []
 answer_in host calls (Down by server) = []
+answer_in host calls (Left server id) = []
 
 abbrev pub answers_to : Script → List Entry → ℕ → List Answer
 answers_to script history host = flat_map (answer_in host (call_lines script host)) history
@@ -35,11 +36,17 @@ answers_to script history host = flat_map (answer_in host (call_lines script hos
 unfoldable pub answers_of : Script → List Entry → List Answer
 answers_of script history = flat_map (answers_to script history) all_hosts
 
+-- whether a server learns that a host is down
+abbrev pub is_down : Entry → Bool
+is_down (Down host server) = true
+is_down _ = false
+
 -- what is lost at an entry
 abbrev pub lost_at : Tree → Entry → List Loss
 lost_at tree (Call host k call reply) = []
 lost_at tree (Stored host fid spans len) = []
 lost_at tree (Down host server) = losses_of tree host server
+lost_at tree (Left server id) = []
 
 -- the losses of a history as they come
 abbrev pub lost_in : Tree → List Entry → List Loss

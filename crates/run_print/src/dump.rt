@@ -78,12 +78,16 @@ fn push_below(
     Ok(())
 }
 
-#[tactic(auto, using(crate::proofs::Kept::kept_lines))]
+// The bytes of a file are shown by a clone of it; a directory is shown as it is.
+#[tactic(auto, using(crate::proofs::Kept::kept_lines, crate::proofs::Kept::dir_lines))]
 fn push_object(out: &mut Items<u8>, path: &[u8], object: &Object) -> Result<(), NoMemory>
     ensures { OnOk result (out.new ≡ out.old ++ object_lines path.now object.now) }
 {
-    let kept = object.kept_copy()?;
-    push_content(out, path, object, &kept.content)
+    if object.is_dir() {
+        return push_content(out, path, object, &object.content);
+    }
+    let shown = object.as_cloned()?;
+    push_content(out, path, object, &shown.content)
 }
 
 // The lines of an object that contains this, a file its kept bytes alone.

@@ -3,6 +3,7 @@ ghost use Rattle.run_print.specs.Texts.{path_of};
 ghost use Rattle.run_print.specs.Dump.{fileset_lines};
 ghost use Rattle.run_print.specs.Reports.{filesets_at, by_server};
 ghost use Rattle.run_print.specs.Printed.{answer_line, span_text, length_text, loss_line, text_of_report, printed};
+ghost use Rattle.dfs_tree.specs.Histories.{after_history};
 
 use crate::dump::push_fileset;
 use crate::replies::push_reply;
@@ -15,7 +16,7 @@ use dfs_tree::Tree;
 use script_lines::Script;
 use std::alloc::Global;
 
-/// The output of a run as text: of a script that was run from the tree `start` on, with this history.
+/// The output of a run as text: of a script that was run from the tree `start` on, with this history, which led to the tree `last`.
 ///
 /// First each reply to a line of the script, `cH K REPLY`, by host and then by the number of the call. Then each loss,
 /// `lost cH sS PATH FROM TO` in bytes or `lost cH sS PATH length N`, by host, server, path and position. Then the filesets
@@ -26,10 +27,12 @@ pub fn text_of(
     script: &Script,
     start: &Tree,
     history: &[Entry],
+    last: &Tree,
 ) -> Result<Items<u8>, NoMemory>
+    requires { last.now ≡ after_history start.now history.now }
     ensures { IfOk result (λ text. text ≡ printed script.now start.now history.now) }
 {
-    let report = report_of(alloc, script, start, history)?;
+    let report = report_of(alloc, script, start, history, last)?;
     text_of_report(alloc, &report)
 }
 

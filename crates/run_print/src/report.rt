@@ -1,14 +1,15 @@
 //! What a run tells: replies, losses and filesets, each in the order of the output.
-ghost use Rattle.std.specs.Prelude.{◌≡◌, ◌≤◌, ◌++◌, count_by, flat_map, IfOk, OnOk};
+ghost use Rattle.std.specs.Prelude.{◌≡◌, ◌++◌, flat_map, IfOk, OnOk};
 ghost use Rattle.dfs_tree.specs.Answers.{answer_to};
 ghost use Rattle.dfs_tree.specs.Histories.{after_entry, after_history};
-ghost use Rattle.script_lines.specs.Asks.{is_host, is_call, is_call_of, call_lines};
-ghost use Rattle.run_print.specs.Reports.{all_servers, answer_in, answers_of, lost_at, lost_in, lost_by, by_host, report_of};
+ghost use Rattle.script_lines.specs.Asks.{call_lines};
+ghost use Rattle.std.specs.List.{list_any};
+ghost use Rattle.run_print.specs.Reports.{is_down, all_servers, answer_in, answers_of, lost_at, lost_in, lost_by, by_host, report_of};
 
-use dfs_base::{HOSTS_MAX, HostId, Items, NoMemory, Node, Plain, SERVERS_MAX};
+use dfs_base::{HOSTS_MAX, HostId, Items, NoMemory, Plain, SERVERS_MAX};
 use dfs_calls::{Call, Entry, Loss, Reply};
 use dfs_tree::Tree;
-use script_lines::{Deed, Line, Script};
+use script_lines::{Script, call_lines};
 use std::alloc::Global;
 
 /// The reply to a line of a script.
@@ -33,19 +34,21 @@ pub(crate) struct Report {
     pub tree: Tree,
 }
 
-/// What a run of a script from a tree on with a history tells.
+/// What a run of a script from a tree on with a history tells, which led to the tree `last`.
 #[tactic(auto, unfolding(crate::specs::Reports::report_of))]
 pub(crate) fn report_of(
     alloc: Global,
     script: &Script,
     start: &Tree,
     history: &[Entry],
+    last: &Tree,
 ) -> Result<Report, NoMemory>
+    requires { last.now ≡ after_history start.now history.now }
     ensures { IfOk result (λ report. report ≡ report_of script.now start.now history.now) }
 {
     let answers = answers_of(alloc, script, history)?;
-    let mut tree = start.copy()?;
-    let losses = losses_along(alloc, &mut tree, history)?;
+    let losses = losses_along(alloc, start, history)?;
+    let tree = last.copy()?;
     Ok(Report {
         answers,
         losses,
@@ -53,13 +56,36 @@ pub(crate) fn report_of(
     })
 }
 
-// Goes through a history. Gives the losses by host, and leaves the last tree.
-fn losses_along(alloc: Global, tree: &mut Tree, history: &[Entry]) -> Result<Items<Loss>, NoMemory>
-    ensures losses { IfOk result (λ losses. losses ≡ by_host (lost_in tree.old history.now)) }
-    ensures tree { OnOk result (tree.new ≡ after_history tree.old history.now) }
+// The losses of a history by host. Where no host is down nothing is lost, and the history isn't gone through.
+#[tactic(auto, using(crate::proofs::Losing::none_lost))]
+fn losses_along(alloc: Global, start: &Tree, history: &[Entry]) -> Result<Items<Loss>, NoMemory>
+    ensures { IfOk result (λ losses. losses ≡ by_host (lost_in start.now history.now)) }
 {
-    let lost = follow(alloc, tree, history)?;
+    if !has_down(history) {
+        return Ok(Items::new(alloc));
+    }
+    let lost = follow_all(alloc, start, history)?;
     by_host(&lost)
+}
+
+fn has_down(history: &[Entry]) -> bool
+    ensures { result ≡ list_any is_down history.now }
+{
+    history.iter().any(|entry| is_down(entry))
+}
+
+fn is_down(entry: &Entry) -> bool
+    ensures { result ≡ is_down entry.now }
+{
+    matches!(entry, Entry::Down { .. })
+}
+
+// The losses of a history as they come.
+fn follow_all(alloc: Global, start: &Tree, history: &[Entry]) -> Result<Items<Loss>, NoMemory>
+    ensures { IfOk result (λ losses. losses ≡ lost_in start.now history.now) }
+{
+    let mut tree = start.copy()?;
+    follow(alloc, &mut tree, history)
 }
 
 // The replies to the lines of a script, by host.
@@ -115,46 +141,6 @@ fn push_answer(
     Ok(())
 }
 
-// How many lines of a script ask a host for a call; those that ask the setup host make the filesets.
-#[tactic(auto, unfolding(script_lines::specs::Asks::call_lines))]
-fn call_lines(script: &Script, host: u8) -> usize
-    ensures { result ≡ call_lines script.now host }
-{
-    count_calls(&script.setup, host) + count_calls(&script.lines, host)
-}
-
-fn count_calls(lines: &Items<Line>, host: u8) -> usize
-    ensures count { result ≡ count_by (is_call_of host) lines.now }
-    ensures bound { result ≤ 9223372036854775807 }
-{
-    lines
-        .as_slice()
-        .iter()
-        .filter(|line| is_call_of(host, line))
-        .count()
-}
-
-fn is_call_of(host: u8, line: &Line) -> bool
-    ensures { result ≡ is_call_of host line.now }
-{
-    is_host(host, line.node) && is_call(&line.deed)
-}
-
-fn is_host(host: u8, node: Node) -> bool
-    ensures { result ≡ is_host host node }
-{
-    match node {
-        Node::Host(id) => id.0 == host,
-        Node::Server(_) => false,
-    }
-}
-
-fn is_call(deed: &Deed) -> bool
-    ensures { result ≡ is_call deed.now }
-{
-    matches!(deed, Deed::Call(_))
-}
-
 // Goes through a history. Gives the losses as they come, and leaves the last tree.
 fn follow(alloc: Global, tree: &mut Tree, history: &[Entry]) -> Result<Items<Loss>, NoMemory>
     ensures losses { IfOk result (λ losses. losses ≡ lost_in tree.old history.now) }
@@ -185,6 +171,7 @@ fn follow_entry(alloc: Global, tree: &mut Tree, entry: &Entry) -> Result<Items<L
             length,
         } => tree.stored(*host, *fid, spans.as_slice(), *length)?,
         Entry::Down { host, server } => return tree.down(*host, *server),
+        Entry::Left { server, fileset } => tree.left(*server, *fileset),
     }
     Ok(Items::new(alloc))
 }

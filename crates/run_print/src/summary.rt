@@ -5,6 +5,7 @@ ghost use Rattle.script_words.specs.Spelling.{spelled_bytes};
 ghost use Rattle.run_print.specs.Reports.{filesets_at, by_server};
 ghost use Rattle.run_print.specs.Summary.{objects_of, is_refused, refused_calls, json_of_report, printed_json};
 ghost use Rattle.run_print.specs.Values.{fileset_value, fileset_values, report_value};
+ghost use Rattle.dfs_tree.specs.Histories.{after_history};
 
 use crate::report::{Answer, Report, report_of};
 use crate::texts::push_spelled;
@@ -18,7 +19,7 @@ use serde_json::{Value, json};
 use std::alloc::Global;
 
 /// The output of a run as one line of JSON, which ends with a line feed: of a script that was run from the tree `start` on,
-/// with this history.
+/// with this history, which led to the tree `last`.
 ///
 /// It has no spaces. It is an object with `calls`, how many replies the text form has; `filesets`, an object for each with
 /// its `name`, as the text form has it between quotes, its number of `objects` and its `server`; `lost`, how many losses the
@@ -28,10 +29,12 @@ pub fn json_of(
     script: &Script,
     start: &Tree,
     history: &[Entry],
+    last: &Tree,
 ) -> Result<Items<u8>, NoMemory>
+    requires { last.now ≡ after_history start.now history.now }
     ensures { IfOk result (λ text. text ≡ printed_json script.now start.now history.now) }
 {
-    let report = report_of(alloc, script, start, history)?;
+    let report = report_of(alloc, script, start, history, last)?;
     json_of_report(alloc, &report)
 }
 

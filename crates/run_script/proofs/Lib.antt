@@ -4,3 +4,4 @@ pub mod Ahead
 pub mod Passes
 pub mod Sound
 pub mod Stuck
+mod Least

@@ -15,6 +15,7 @@ use Rattle.script_lines.specs.Judge.{nothing_said, line_judged}
 use Rattle.script_lines.specs.Clones.{with_clones}
 use Rattle.script_lines.specs.Sound.{IsSound}
 use Rattle.script_lines.proofs.Kept.{IsRosterKept, IsKept, KeepsOn, kept_start, kept_judged, kept_clones}
+use Rattle.script_lines.proofs.Planned.{IsPlanned, planned_start, planned_judged, planned_clones}
 use Rattle.script_lines.specs.declared.context.Context.{Context}
 use Rattle.script_lines.specs.declared.script.Script.{Script}
 use Rattle.run_script.specs.Scripts.{entered, at_line, next_judged, judged_from, too_many, limited, ended_by, script_before_walk, unstuck, script_of}
@@ -29,7 +30,10 @@ then P Q (Err refusal) next q f = tt
 
 -- what is kept after all lines
 abbrev pub IsKeptTo : Context → Type 0
-IsKeptTo context = (number : ℕ) × (number ≤ SCRIPT_LINES_MAX + 1) × IsKept context number
+IsKeptTo context = (number : ℕ) × (number ≤ SCRIPT_LINES_MAX + 1) × IsKept context number × IsPlanned context
+
+abbrev pub GoesOn : ℕ → Context → Type 0
+GoesOn number next = KeepsOn number next × IsPlanned next
 
 pub entered_keeps : (context next : Context) (number : ℕ) (lines : List (List ℕ)) → IsKept next number → IsKept (entered context next lines) number
 entered_keeps context next number lines h = by_begun next.begun refl (not context.begun)
@@ -39,25 +43,32 @@ entered_keeps context next number lines h = by_begun next.begun refl (not contex
     by_begun true b false = h
     by_begun false b new = h
 
-pub next_keeps : (context : Context) (disks number : ℕ) (line : List ℕ) (lines : List (List ℕ)) → IsKept context number → IfOk (next_judged context disks number line lines) (KeepsOn number)
-unfolding next_judged
-next_keeps context disks number line lines h = by_judged (line_judged context disks number line) (kept_judged context disks number line h)
+pub entered_planned : (context next : Context) (lines : List (List ℕ)) → IsPlanned next → IsPlanned (entered context next lines)
+entered_planned context next lines h = by_begun (next.begun && not context.begun)
   where
-    by_judged : (judged : Result Context BadWhy) → IfOk judged (KeepsOn number) → IfOk (at_line number context lines judged) (KeepsOn number)
-    by_judged (Ok next) k = entered_keeps context next (number + 1) lines k
-    by_judged (Err why) k = tt
+    by_begun : (v : Bool) → IsPlanned (cond v (with_clones next lines) next)
+    by_begun true = planned_clones next lines h
+    by_begun false = h
 
-pub judged_keeps : (context : Context) (disks number : ℕ) (lines : List (List ℕ)) → number ≤ SCRIPT_LINES_MAX + 1 → IsKept context number → IfOk (judged_from context disks number lines) IsKeptTo
-judged_keeps context disks number [] most h = (number, most, h)
-judged_keeps context disks number (line ∷ lines) most h =
-    by_number (nat_lt SCRIPT_LINES_MAX number) refl (λ next small k. judged_keeps next disks (number + 1) lines small k)
+pub next_keeps : (context : Context) (disks number : ℕ) (line : List ℕ) (lines : List (List ℕ)) → IsKept context number → IsPlanned context → IfOk (next_judged context disks number line lines) (GoesOn number)
+unfolding next_judged
+next_keeps context disks number line lines h p = by_judged (line_judged context disks number line) (kept_judged context disks number line h) (planned_judged context disks number line p)
   where
-    by_number : (v : Bool) → nat_lt SCRIPT_LINES_MAX number ≡ v → ((next : Context) → number + 1 ≤ SCRIPT_LINES_MAX + 1 → IsKept next (number + 1) → IfOk (judged_from next disks (number + 1) lines) IsKeptTo)
+    by_judged : (judged : Result Context BadWhy) → IfOk judged (KeepsOn number) → IfOk judged IsPlanned → IfOk (at_line number context lines judged) (GoesOn number)
+    by_judged (Ok next) k q = (entered_keeps context next (number + 1) lines k, entered_planned context next lines q)
+    by_judged (Err why) k q = tt
+
+pub judged_keeps : (context : Context) (disks number : ℕ) (lines : List (List ℕ)) → number ≤ SCRIPT_LINES_MAX + 1 → IsKept context number → IsPlanned context → IfOk (judged_from context disks number lines) IsKeptTo
+judged_keeps context disks number [] most h p = (number, most, h, p)
+judged_keeps context disks number (line ∷ lines) most h p =
+    by_number (nat_lt SCRIPT_LINES_MAX number) refl (λ next small k. judged_keeps next disks (number + 1) lines small k.0 k.1)
+  where
+    by_number : (v : Bool) → nat_lt SCRIPT_LINES_MAX number ≡ v → ((next : Context) → number + 1 ≤ SCRIPT_LINES_MAX + 1 → GoesOn number next → IfOk (judged_from next disks (number + 1) lines) IsKeptTo)
         → IfOk (cond v (Err (BadLine (SCRIPT_LINES_MAX + 1) Lines)) (and_then (next_judged context disks number line lines) (λ next. judged_from next disks (number + 1) lines))) IsKeptTo
     by_number true e rest = tt
     by_number false e rest =
         let small : number ≤ 10000 = ltb-false 10000 number e in
-        then IsKeptTo (KeepsOn number) (next_judged context disks number line lines) (λ next. judged_from next disks (number + 1) lines) (next_keeps context disks number line lines h) (λ next k. rest next (omega arith) k)
+        then IsKeptTo (GoesOn number) (next_judged context disks number line lines) (λ next. judged_from next disks (number + 1) lines) (next_keeps context disks number line lines h p) (λ next k. rest next (omega arith) k)
 
 pub too_many_refuses : (P : Context → Type 0) (judged : Result Context ScriptRefused) → IfOk (too_many judged) P
 too_many_refuses P (Err (BadLine number Disks)) = tt
@@ -93,8 +104,11 @@ ended_sound lines context h = by_begun context.begun refl
       setup = h.2.setup_kept;
       lines = h.2.lines_kept;
       stops = h.2.stops;
+      flags = rw h.3.flags at h.3.once;
       numbers = h.2.rise;
       count = omega (arith, h.1, h.2.few);
+      plan = h.3.plans;
+      net = h.3.limits;
     }
     by_begun false b = tt
 
@@ -102,7 +116,7 @@ pub before_walk_sound : (bytes : List ℕ) (disks : ℕ) → IfOk (script_before
 unfolding script_before_walk
 before_walk_sound bytes disks =
     then IsSound IsKeptTo (limited (length (lines_of bytes)) (judged_from nothing_said disks 1 (lines_of bytes))) (λ context. ended_by (length (lines_of bytes)) context)
-    (limited_keeps IsKeptTo (length (lines_of bytes)) (judged_from nothing_said disks 1 (lines_of bytes)) (judged_keeps nothing_said disks 1 (lines_of bytes) (omega arith) kept_start))
+    (limited_keeps IsKeptTo (length (lines_of bytes)) (judged_from nothing_said disks 1 (lines_of bytes)) (judged_keeps nothing_said disks 1 (lines_of bytes) (omega arith) kept_start planned_start))
     (λ context k. ended_sound (length (lines_of bytes)) context k)
 
 -- a script that is read is sound

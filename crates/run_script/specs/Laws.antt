@@ -1,7 +1,8 @@
 -- What the cause of a refused line depends on, and what is the same in every order of lines.
-use Rattle.std.specs.Prelude.{◌≡◌, ℕ, List, [], ◌++◌, ◌↔◌, None, Err}
+use Rattle.std.specs.Prelude.{◌≡◌, ℕ, ◌≤◌, true, List, [], ◌∷◌, ◌++◌, ◌↔◌, Some, None, Err}
 use Rattle.std.specs.List.{AllByRecursion}
 use Rattle.script_lines.specs.Clones.{ClonesNothing}
+use Rattle.script_lines.specs.Sound.{numbers_rise}
 use Rattle.script_lines.specs.declared.context.Context.{Context}
 use Rattle.run_script.specs.Scripts.{judged_from}
 use Rattle.dfs_base.specs.declared.ids.Node.{Node}
@@ -26,6 +27,14 @@ OrdersLeaveTheSame =
     → AllStand went left → AllStand other rest
     → (node : Node) → left node ≡ rest node
 
+-- a node that stands at the line with a number
+pub record StandsAt (left : Node → List Line) (number : ℕ) : Type 0 where
+  pub node : Node
+  pub line : Line
+  pub more : List Line
+  pub stands : left node ≡ line ∷ more
+  pub is : line.number ≡ number
+
 -- lines that aren't stuck all go, in every order
 abbrev pub AllLinesGo : Type 0
 AllLinesGo =
@@ -33,6 +42,15 @@ AllLinesGo =
     → stuck_at lines ≡ None
     → IsBegun lines went left → AllStand went left
     → (node : Node) → left node ≡ []
+
+-- where lines are stuck, whatever the order in which they went, that is told by the least number of a line at which a node stands
+abbrev pub StuckNamesLeast : Type 0
+StuckNamesLeast =
+    (lines went : List Line) (left : Node → List Line) (number : ℕ)
+    → numbers_rise 0 lines ≡ true
+    → IsBegun lines went left → AllStand went left
+    → stuck_at lines ≡ Some number
+    → StandsAt left number × ((node : Node) (line : Line) (more : List Line) → left node ≡ line ∷ more → number ≤ line.number)
 
 -- lines are stuck exactly where they go in no order
 abbrev pub StuckWithoutOrder : Type 0

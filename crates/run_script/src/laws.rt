@@ -1,4 +1,4 @@
-ghost use Rattle.run_script.specs.Laws.{LaterLinesChangeNothing, OrdersLeaveTheSame, AllLinesGo, StuckWithoutOrder};
+ghost use Rattle.run_script.specs.Laws.{LaterLinesChangeNothing, OrdersLeaveTheSame, AllLinesGo, StuckWithoutOrder, StuckNamesLeast};
 
 /// Law: lines after a refused one don't change why it is refused, but by the names that clones among them place. (That there
 /// are too many lines, or that `begin` is missing, is judged above this, of the whole script.)
@@ -19,4 +19,10 @@ pub fn all_lines_go()
 /// Law: lines are stuck exactly where they go in no order.
 pub fn stuck_without_order()
     ensures { StuckWithoutOrder }
+{}
+
+/// Law: where lines are stuck, whatever the order in which they went, that is told by the least number of a line at which a
+/// node stands.
+pub fn stuck_names_least()
+    ensures { StuckNamesLeast }
 {}

@@ -1,9 +1,8 @@
 ghost use Rattle.std.specs.Prelude.{◌≡◌, [], length, slice_get, OnOk, IfOk};
-ghost use Rattle.script_lines.specs.Sound.{same_node};
 ghost use Rattle.run_script.specs.Walk.{is_blocked, can_go, stepped, walk_of, pass_from, count_up, rounds, first_number, stuck_at};
 
 use dfs_base::{Items, Name, NoMemory, Node, Plain};
-use script_lines::{Deed, Line};
+use script_lines::{Deed, Line, same_node};
 use script_words::is_among;
 use std::alloc::Global;
 
@@ -16,17 +15,6 @@ pub(crate) struct Walk {
     pub left: Items<usize>,
     /// The nodes that stand at one of these.
     pub blocked: Items<Node>,
-}
-
-/// Whether two nodes are the same.
-pub fn same_node(a: Node, b: Node) -> bool
-    ensures { result ≡ same_node a b }
-{
-    match (a, b) {
-        (Node::Host(a), Node::Host(b)) => a.0 == b.0,
-        (Node::Server(a), Node::Server(b)) => a.0 == b.0,
-        _ => false,
-    }
 }
 
 fn is_blocked(blocked: &Items<Node>, node: Node) -> bool

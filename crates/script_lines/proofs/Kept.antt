@@ -24,12 +24,12 @@ use Rattle.script_words.specs.Outcome.{◌>>=◌, found, unless}
 use Rattle.script_words.specs.Words.{is_in, words_of_line}
 use Rattle.script_words.specs.Fields.{word_at, end_at, named, name_at, label_at, text_at, at_least, value_from, starts_with_zero, number_up_to, number_at, host_node, server_node, numbered, node_of, all_named, names_of}
 use Rattle.script_words.specs.Lists.{list_at}
-use Rattle.script_lines.specs.Context.{find_placed, server_of, has_stopped, user_place, place_at_server, place_of, place_at, is_declared, node_declared, only_host, host_named, only_server, server_named, is_elsewhere}
-use Rattle.script_lines.specs.Deeds.{verb_of, which_at, only_label, only_place, rename_call, truncate_call, getacl_call, setacl_call, read_call, write_call, lock_mode_of, lock_call, open_kind_of, open_call, clone_call, call_by, raise_deed, host_deed, server_deed, node_deed, deed_of}
+use Rattle.script_lines.specs.Context.{find_placed, server_of, has_stopped, user_place, place_at_server, place_of, place_at, is_declared, node_declared, only_host, host_named, only_server, server_named, server_at, is_elsewhere}
+use Rattle.script_lines.specs.Deeds.{is_mixed, move_call, verb_of, which_at, only_label, only_place, rename_call, truncate_call, getacl_call, setacl_call, read_call, write_call, lock_mode_of, lock_call, open_kind_of, open_call, clone_call, call_by, raise_deed, host_deed, server_deed, node_deed, deed_of}
 use Rattle.script_lines.specs.Plan.{plan_at, plan_line}
-use Rattle.script_lines.specs.Headers.{header_of, servers_line, groups_at, user_line, limit_at, host_line, server_at, is_capped, has_fileset_at, capacity_line, user_named, owner_at, setup_line, fileset_line, net_line, begin_line, header_by, is_servers, header_line}
+use Rattle.script_lines.specs.Headers.{header_of, servers_line, groups_at, user_line, limit_at, host_line, is_capped, has_fileset_at, capacity_line, user_named, owner_at, setup_line, fileset_line, net_line, begin_line, header_by, is_servers, header_line}
 use Rattle.script_lines.specs.Judge.{nothing_said, node_stopped, node_at, noted, with_line, line_of, deed_line, taken, line_judged}
-use Rattle.script_lines.specs.Clones.{placed_also, placed_from, placed_by, most_steps, place_by, by_source, found_server, find_clone, clones_from, with_clones}
+use Rattle.script_lines.specs.Clones.{placed_also, placed_from, placed_by, places, place_by, most_steps, clone_place, by_source, found_server, clones_from, with_clones}
 use Rattle.script_lines.specs.Sound.{same_node, is_of, is_server, is_sound_call, makes_fileset, is_host_deed, is_server_deed, is_sound_deed, is_sound_line, is_setup_line, is_stop, stops_last, numbers_rise}
 use Rattle.script_lines.specs.declared.context.Context.{Context}
 use Rattle.script_lines.specs.declared.context.Placed.{Placed}
@@ -295,6 +295,17 @@ call_is servers placed verbs.Raise words h = tt
 call_is servers placed verbs.Await words h = tt
 call_is servers placed verbs.Stop words h = tt
 call_is servers placed verbs.Restart words h = tt
+call_is servers placed verbs.Move words h = tt
+
+pub move_is : (script : Script) (disks : ℕ) (placed : List Placed) (words : List (List ℕ)) → list_all (λ p. is_server script.servers p.server) placed ≡ true → IfOk (move_call script disks placed words) (IsLineCall script.servers)
+unfolding move_call
+move_is script disks placed words h =
+    after (IsLineCall script.servers) (name_at words 2) _ (λ fileset.
+    then (IsLineCall script.servers) (λ server. is_server script.servers server ≡ true) (found Undeclared (server_of placed fileset)) _
+    (where_found (λ server. is_server script.servers server ≡ true) Undeclared (server_of placed fileset) (fileset_is script.servers placed fileset h)) (λ server k.
+    then (IsLineCall script.servers) (λ to. is_server script.servers to ≡ true) (server_at script words 3) _ (server_is script words 3) (λ to l.
+    after (IsLineCall script.servers) (unless (is_mixed script.servers disks) Disks) _ (λ _.
+    after (IsLineCall script.servers) (end_at words 4) _ (λ _. and_from (is_server script.servers server && is_server script.servers to) true (and_from (is_server script.servers server) (is_server script.servers to) k l) refl)))))
 
 -- deeds of hosts and servers
 pub raise_is : (P : Deed → Type 0) (raised words : List (List ℕ)) → ((flag : List ℕ) → P (Raise flag)) → IfOk (raise_deed raised words) P
@@ -307,29 +318,30 @@ raise_is P raised words f =
 pub host_call_is : (servers : ℕ) (placed : List Placed) (verb : Verb) (words : List (List ℕ)) → list_all (λ p. is_server servers p.server) placed ≡ true → IfOk (call_by placed verb words >>= (λ call. Ok (Call call))) (λ deed. is_host_deed servers deed ≡ true)
 host_call_is servers placed verb words h = then (λ deed. is_host_deed servers deed ≡ true) (IsLineCall servers) (call_by placed verb words) _ (call_is servers placed verb words h) (λ call k. k)
 
-pub host_deed_is : (servers : ℕ) (placed : List Placed) (raised : List (List ℕ)) (verb : Verb) (words : List (List ℕ)) → list_all (λ p. is_server servers p.server) placed ≡ true → IfOk (host_deed placed raised verb words) (λ deed. is_host_deed servers deed ≡ true)
+pub host_deed_is : (script : Script) (disks : ℕ) (placed : List Placed) (raised : List (List ℕ)) (verb : Verb) (words : List (List ℕ)) → list_all (λ p. is_server script.servers p.server) placed ≡ true → IfOk (host_deed script disks placed raised verb words) (λ deed. is_host_deed script.servers deed ≡ true)
 unfolding host_deed
-host_deed_is servers placed raised verbs.Raise words h = raise_is (λ deed. is_host_deed servers deed ≡ true) raised words (λ flag. refl)
-host_deed_is servers placed raised verbs.Await words h = after (λ deed. is_host_deed servers deed ≡ true) (only_label words) _ (λ flag. refl)
-host_deed_is servers placed raised verbs.Stop words h = after (λ deed. is_host_deed servers deed ≡ true) (end_at words 2) _ (λ _. refl)
-host_deed_is servers placed raised verbs.Create words h = host_call_is servers placed verbs.Create words h
-host_deed_is servers placed raised verbs.MakeDir words h = host_call_is servers placed verbs.MakeDir words h
-host_deed_is servers placed raised verbs.Remove words h = host_call_is servers placed verbs.Remove words h
-host_deed_is servers placed raised verbs.Rename words h = host_call_is servers placed verbs.Rename words h
-host_deed_is servers placed raised verbs.Truncate words h = host_call_is servers placed verbs.Truncate words h
-host_deed_is servers placed raised verbs.SetAcl words h = host_call_is servers placed verbs.SetAcl words h
-host_deed_is servers placed raised verbs.GetAcl words h = host_call_is servers placed verbs.GetAcl words h
-host_deed_is servers placed raised verbs.CloneFileset words h = host_call_is servers placed verbs.CloneFileset words h
-host_deed_is servers placed raised verbs.Read words h = host_call_is servers placed verbs.Read words h
-host_deed_is servers placed raised verbs.Write words h = host_call_is servers placed verbs.Write words h
-host_deed_is servers placed raised verbs.List words h = host_call_is servers placed verbs.List words h
-host_deed_is servers placed raised verbs.Stat words h = host_call_is servers placed verbs.Stat words h
-host_deed_is servers placed raised verbs.Sync words h = host_call_is servers placed verbs.Sync words h
-host_deed_is servers placed raised verbs.Unlock words h = host_call_is servers placed verbs.Unlock words h
-host_deed_is servers placed raised verbs.CloseFile words h = host_call_is servers placed verbs.CloseFile words h
-host_deed_is servers placed raised verbs.Lock words h = host_call_is servers placed verbs.Lock words h
-host_deed_is servers placed raised verbs.OpenFile words h = host_call_is servers placed verbs.OpenFile words h
-host_deed_is servers placed raised verbs.Restart words h = host_call_is servers placed verbs.Restart words h
+host_deed_is script disks placed raised verbs.Raise words h = raise_is (λ deed. is_host_deed script.servers deed ≡ true) raised words (λ flag. refl)
+host_deed_is script disks placed raised verbs.Await words h = after (λ deed. is_host_deed script.servers deed ≡ true) (only_label words) _ (λ flag. refl)
+host_deed_is script disks placed raised verbs.Stop words h = after (λ deed. is_host_deed script.servers deed ≡ true) (end_at words 2) _ (λ _. refl)
+host_deed_is script disks placed raised verbs.Create words h = host_call_is script.servers placed verbs.Create words h
+host_deed_is script disks placed raised verbs.MakeDir words h = host_call_is script.servers placed verbs.MakeDir words h
+host_deed_is script disks placed raised verbs.Remove words h = host_call_is script.servers placed verbs.Remove words h
+host_deed_is script disks placed raised verbs.Rename words h = host_call_is script.servers placed verbs.Rename words h
+host_deed_is script disks placed raised verbs.Truncate words h = host_call_is script.servers placed verbs.Truncate words h
+host_deed_is script disks placed raised verbs.SetAcl words h = host_call_is script.servers placed verbs.SetAcl words h
+host_deed_is script disks placed raised verbs.GetAcl words h = host_call_is script.servers placed verbs.GetAcl words h
+host_deed_is script disks placed raised verbs.CloneFileset words h = host_call_is script.servers placed verbs.CloneFileset words h
+host_deed_is script disks placed raised verbs.Read words h = host_call_is script.servers placed verbs.Read words h
+host_deed_is script disks placed raised verbs.Write words h = host_call_is script.servers placed verbs.Write words h
+host_deed_is script disks placed raised verbs.List words h = host_call_is script.servers placed verbs.List words h
+host_deed_is script disks placed raised verbs.Stat words h = host_call_is script.servers placed verbs.Stat words h
+host_deed_is script disks placed raised verbs.Sync words h = host_call_is script.servers placed verbs.Sync words h
+host_deed_is script disks placed raised verbs.Unlock words h = host_call_is script.servers placed verbs.Unlock words h
+host_deed_is script disks placed raised verbs.CloseFile words h = host_call_is script.servers placed verbs.CloseFile words h
+host_deed_is script disks placed raised verbs.Lock words h = host_call_is script.servers placed verbs.Lock words h
+host_deed_is script disks placed raised verbs.OpenFile words h = host_call_is script.servers placed verbs.OpenFile words h
+host_deed_is script disks placed raised verbs.Restart words h = host_call_is script.servers placed verbs.Restart words h
+host_deed_is script disks placed raised verbs.Move words h = then (λ deed. is_host_deed script.servers deed ≡ true) (IsLineCall script.servers) (move_call script disks placed words) _ (move_is script disks placed words h) (λ call k. k)
 
 pub server_deed_is : (raised : List (List ℕ)) (verb : Verb) (words : List (List ℕ)) → IfOk (server_deed raised verb words) (λ deed. is_server_deed deed ≡ true)
 unfolding server_deed
@@ -339,17 +351,17 @@ server_deed_is raised verbs.Restart words = after (λ deed. is_server_deed deed 
 server_deed_is raised _ words = tt
 
 -- the deed of a declared node
-pub deed_is : (servers hosts : ℕ) (placed : List Placed) (raised : List (List ℕ)) (node : Node) (words : List (List ℕ)) → list_all (λ p. is_server servers p.server) placed ≡ true → is_node servers hosts node ≡ true → IfOk (deed_of placed raised node words) (λ deed. is_sound_deed servers hosts node deed ≡ true)
+pub deed_is : (script : Script) (disks hosts : ℕ) (placed : List Placed) (raised : List (List ℕ)) (node : Node) (words : List (List ℕ)) → list_all (λ p. is_server script.servers p.server) placed ≡ true → is_node script.servers hosts node ≡ true → IfOk (deed_of script disks placed raised node words) (λ deed. is_sound_deed script.servers hosts node deed ≡ true)
 unfolding deed_of
-deed_is servers hosts placed raised node words h n =
-    after (λ deed. is_sound_deed servers hosts node deed ≡ true) (word_at words 1) _ (λ word.
-    after (λ deed. is_sound_deed servers hosts node deed ≡ true) (found Word (verb_of word)) _ (λ verb. by_node node n verb))
+deed_is script disks hosts placed raised node words h n =
+    after (λ deed. is_sound_deed script.servers hosts node deed ≡ true) (word_at words 1) _ (λ word.
+    after (λ deed. is_sound_deed script.servers hosts node deed ≡ true) (found Word (verb_of word)) _ (λ verb. by_node node n verb))
   where
-    by_node : (node : Node) → is_node servers hosts node ≡ true → (verb : Verb) → IfOk (node_deed placed raised node verb words) (λ deed. is_sound_deed servers hosts node deed ≡ true)
-    by_node (Host host) n verb = ok_more (λ deed. is_host_deed servers deed ≡ true) (λ deed. is_sound_deed servers hosts (Host host) deed ≡ true) (host_deed placed raised verb words)
-        (λ deed k. and_from (is_between 1 hosts host.0) (is_host_deed servers deed) n k) (host_deed_is servers placed raised verb words h)
-    by_node (Server server) n verb = ok_more (λ deed. is_server_deed deed ≡ true) (λ deed. is_sound_deed servers hosts (Server server) deed ≡ true) (server_deed raised verb words)
-        (λ deed k. and_from (is_server servers server) (is_server_deed deed) n k) (server_deed_is raised verb words)
+    by_node : (node : Node) → is_node script.servers hosts node ≡ true → (verb : Verb) → IfOk (node_deed script disks placed raised node verb words) (λ deed. is_sound_deed script.servers hosts node deed ≡ true)
+    by_node (Host host) n verb = ok_more (λ deed. is_host_deed script.servers deed ≡ true) (λ deed. is_sound_deed script.servers hosts (Host host) deed ≡ true) (host_deed script disks placed raised verb words)
+        (λ deed k. and_from (is_between 1 hosts host.0) (is_host_deed script.servers deed) n k) (host_deed_is script disks placed raised verb words h)
+    by_node (Server server) n verb = ok_more (λ deed. is_server_deed deed ≡ true) (λ deed. is_sound_deed script.servers hosts (Server server) deed ≡ true) (server_deed raised verb words)
+        (λ deed k. and_from (is_server script.servers server) (is_server_deed deed) n k) (server_deed_is raised verb words)
 
 -- what the roster keeps
 pub record IsRosterKept (roster : Roster) (servers : ℕ) : Type 0 where
@@ -782,11 +794,11 @@ kept_noted context number node deed b h f s = by_deed node deed f s
         (rw (list_any-append (λ (other : HostId). other.0 == host.0) context.stopped (host ∷ [])) (or_right (has_stopped context.stopped host) _ (or_left (host.0 == host.0) _ (eq-eqb host.0 host.0 refl)))))
     by_deed (Server server) Stop f s = let wrong = (and_parts (is_server context.script.servers server) false s).1 in absurd (cc)
 
-pub kept_deed_line : (context : Context) (number : ℕ) (words : List (List ℕ)) → context.begun ≡ true → IsKept context number → IfOk (deed_line context number words) (KeepsOn number)
+pub kept_deed_line : (context : Context) (disks number : ℕ) (words : List (List ℕ)) → context.begun ≡ true → IsKept context number → IfOk (deed_line context disks number words) (KeepsOn number)
 unfolding deed_line
-kept_deed_line context number words b h =
+kept_deed_line context disks number words b h =
     then (KeepsOn number) (λ node. (is_node context.script.servers (length context.script.roster.hosts) node ≡ true) × (node_stopped context.stopped node ≡ false)) (node_at context words) _ (node_at_is context words) (λ node k.
-    then (KeepsOn number) (λ deed. is_sound_deed context.script.servers (length context.script.roster.hosts) node deed ≡ true) (deed_of context.placed context.raised node words) _ (deed_is context.script.servers (length context.script.roster.hosts) context.placed context.raised node words h.placed_kept k.0) (λ deed s.
+    then (KeepsOn number) (λ deed. is_sound_deed context.script.servers (length context.script.roster.hosts) node deed ≡ true) (deed_of context.script disks context.placed context.raised node words) _ (deed_is context.script disks (length context.script.roster.hosts) context.placed context.raised node words h.placed_kept k.0) (λ deed s.
     kept_noted context number node deed b h k.1 s))
 
 -- each line keeps it
@@ -794,11 +806,11 @@ pub kept_taken : (context : Context) (disks number : ℕ) (words : List (List �
 unfolding taken
 kept_taken context disks number words h = by_words (length words == 0)
   where
-    by_begun : (v : Bool) → context.begun ≡ v → IfOk (cond v (deed_line context number words) (header_line context disks number words)) (KeepsOn number)
-    by_begun true b = kept_deed_line context number words b h
+    by_begun : (v : Bool) → context.begun ≡ v → IfOk (cond v (deed_line context disks number words) (header_line context disks number words)) (KeepsOn number)
+    by_begun true b = kept_deed_line context disks number words b h
     by_begun false b = kept_header_line context disks number words b h
 
-    by_words : (v : Bool) → IfOk (cond v (Ok context) (cond context.begun (deed_line context number words) (header_line context disks number words))) (KeepsOn number)
+    by_words : (v : Bool) → IfOk (cond v (Ok context) (cond context.begun (deed_line context disks number words) (header_line context disks number words))) (KeepsOn number)
     by_words true = kept_on context.script.roster context.script.servers context.script.setup context.script.lines context.placed context.stopped context.begun number h
     by_words false = by_begun context.begun refl
 
@@ -809,13 +821,14 @@ kept_judged context disks number line h = after (KeepsOn number) (words_of_line 
 -- and so do the names of clones
 pub clone_at : (servers steps : ℕ) (placed : List Placed) (clones : List CloneLine) (name : List ℕ) → list_all (λ p. is_server servers p.server) placed ≡ true → IfSome (place_by steps placed clones name) (λ server. is_server servers server ≡ true)
 clone_at servers zero placed clones name h = fileset_is servers placed name h
-clone_at servers (suc steps) placed clones name h = by_found (find_placed placed name) (found_all (λ (p : Placed). is_server servers p.server) (λ other. same_name other.name name) placed h) (by_clone (find_clone clones name) (λ source. clone_at servers steps placed clones source h))
+clone_at servers (suc steps) placed clones name h = by_found (find_placed placed name) (found_all (λ (p : Placed). is_server servers p.server) (λ other. same_name other.name name) placed h) (by_clone (find (places (λ source. place_by steps placed clones source) name) clones) (λ source. clone_at servers steps placed clones source h))
   where
     by_clone : (option : Option CloneLine) → ((source : List ℕ) → IfSome (place_by steps placed clones source) (λ server. is_server servers server ≡ true)) → IfSome (by_source option (λ source. place_by steps placed clones source)) (λ server. is_server servers server ≡ true)
     by_clone None f = tt
     by_clone (Some clone) f = f clone.source
 
-    by_found : (option : Option Placed) → IfSome option (λ p. is_server servers p.server ≡ true) → IfSome (by_source (find_clone clones name) (λ source. place_by steps placed clones source)) (λ server. is_server servers server ≡ true) → IfSome (found_server option (by_source (find_clone clones name) (λ source. place_by steps placed clones source))) (λ server. is_server servers server ≡ true)
+    by_found : (option : Option Placed) → IfSome option (λ p. is_server servers p.server ≡ true) → IfSome (by_source (find (places (λ source. place_by steps placed clones source) name) clones) (λ source. place_by steps placed clones source)) (λ server. is_server servers server ≡ true)
+        → IfSome (found_server option (by_source (find (places (λ source. place_by steps placed clones source) name) clones) (λ source. place_by steps placed clones source))) (λ server. is_server servers server ≡ true)
     by_found None k l = l
     by_found (Some p) k l = k
 
@@ -836,7 +849,7 @@ kept_clones context number lines b h = record {
   headers = h.headers;
   placed_kept = rw (list_all-append (λ (p : Placed). is_server context.script.servers p.server) context.placed (placed_by context.placed (clones_from [] lines)))
       (and_from (list_all (λ (p : Placed). is_server context.script.servers p.server) context.placed) (list_all (λ (p : Placed). is_server context.script.servers p.server) (placed_by context.placed (clones_from [] lines))) h.placed_kept
-      (clones_at context.script.servers (place_by most_steps context.placed (clones_from [] lines)) [] (clones_from [] lines)
+      (clones_at context.script.servers (clone_place context.placed (clones_from [] lines)) [] (clones_from [] lines)
       (λ name. clone_at context.script.servers most_steps context.placed (clones_from [] lines) name h.placed_kept) refl));
   setup_kept = h.setup_kept;
   lines_kept = h.lines_kept;

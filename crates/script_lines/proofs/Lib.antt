@@ -1,5 +1,9 @@
+mod Asked
 mod Places
+mod Circles
+mod Leading
 mod Ends
 pub mod Cloned
 pub mod Locks
 pub mod Kept
+pub mod Planned

@@ -1,111 +1,65 @@
--- Where the sources of clones lead is what places their names.
-use Rattle.std.proofs.Common.{◌≡◌, ℕ, zero, suc, ◌+◌, ◌<◌, ◌≤◌, List, [], ◌∷◌, ◌++◌, length, map, Bool, true, false, cond, nat_lt, slice_get, find, position, Option, Some, None, unwrap_or, option_and_then, option_map, refl, sym, ap, ◌∙◌, arith, add-one}
-use Rattle.std.specs.List.{range_with_len, position_or_len}
+-- The table of servers tells where clones are placed.
+use Rattle.std.proofs.Common.{◌≡◌, ◌≢◌, ℕ, zero, suc, ◌+◌, ◌-◌, ◌<◌, ◌≤◌, List, [], ◌∷◌, length, map, replicate, Bool, true, false, ◌&&◌, cond, nat_lt, get_or, slice_get, slice_set, find, position, Option, Some, None, is_some, unwrap_or, option_map, option_and_then, refl, sym, ap, ◌∙◌, arith, add-one}
+use Rattle.std.specs.List.{position_or_len}
+use Rattle.std.specs.Cmp.Lexicographic.{same_text}
 use Rattle.std.proofs.lemmas.Bool.{ltb-true, ltb-false}
 use Rattle.std.proofs.lemmas.List.Folds.{find_at}
-use Rattle.std.proofs.lemmas.List.FromFn.{map-range_with_len_more, length-map-range_with_len}
-use Rattle.std.proofs.lemmas.Option.{slice_get_past}
+use Rattle.std.proofs.lemmas.Grind.{get_or-set_at}
+use Rattle.std.proofs.lemmas.List.{get_or-set_other, length-replicate, length-set, length-map}
+use Rattle.std.proofs.lemmas.List.Quantifiers.{position-Some}
+use Rattle.std.proofs.lemmas.Option.{slice_get_past, unwrap_or-slice_get}
 use Rattle.dfs_base.specs.Name.{same_name}
-use Rattle.script_lines.specs.Context.{find_placed}
-use Rattle.script_lines.specs.Clones.{find_clone, found_server, by_source, place_by, most_steps}
-use Rattle.script_lines.specs.Ways.{way_by, way_of, way_from, goes_on, leads, all_lead, steps_after, way_in, doubled, server_at_end}
-use Rattle.script_lines.specs.declared.clones.TheConstants.{DOUBLINGS}
+use Rattle.dfs_base.specs.declared.ids.ServerId.{ServerId}
+use Rattle.script_lines.specs.Context.{find_placed, server_of}
+use Rattle.script_lines.specs.Clones.{found_server, by_source, places, place_by, most_steps, clone_place}
+use Rattle.script_lines.specs.Ways.{way_by, way_of, route_of, routes_of, server_in, server_by, first_of, put_first, stage_from, unknown, stage, stages}
 use Rattle.script_lines.specs.declared.clones.CloneLine.{CloneLine}
+use Rattle.script_lines.specs.declared.clones.Route.{Route}
 use Rattle.script_lines.specs.declared.clones.Way.{Way}
-use Rattle.script_lines.specs.declared.clones.Way.TheVariants.{At, Source, Nowhere}
+use Rattle.script_lines.specs.declared.clones.Way.TheVariants.{At, Clone, Nowhere}
 use Rattle.script_lines.specs.declared.context.Placed.{Placed}
 
--- lists that are made by places
-pub made_at : {X : Type 0} (make : ℕ → X) (a n i : ℕ) → i < n → slice_get (map make (range_with_len a n)) i ≡ Some (make (a + i))
-made_at make a zero i h = absurd (omega arith)
-made_at make a (suc n) zero h = ap (λ k. Some (make k)) (omega arith)
-made_at make a (suc n) (suc i) h = let e : (a + 1) + i ≡ a + suc i = omega arith in made_at make (a + 1) n i (omega arith) ∙ ap (λ k. Some (make k)) e
+-- after a stage that changes nothing no other does
+pub stage_more : (n : ℕ) (routes : List Route) → stages (n + 1) routes ≡ stage routes (stages n routes)
+stage_more n routes = rw add-one refl
 
--- the first steps, as far as they are made
-unfoldable pub ways_to : ℕ → List Placed → List CloneLine → ℕ → List Way
-ways_to steps placed clones n = map (leads steps placed clones) (range_with_len 0 n)
-
-pub ways_start : (placed : List Placed) (clones : List CloneLine) → ways_to 0 placed clones 0 ≡ []
-unfolding ways_to
-ways_start placed clones = refl
-
-pub ways_more : (placed : List Placed) (clones : List CloneLine) (n : ℕ) → ways_to 0 placed clones n ++ way_from placed clones (slice_get clones n) ∷ [] ≡ ways_to 0 placed clones (n + 1)
-unfolding ways_to
-ways_more placed clones n = sym (map-range_with_len_more (leads 0 placed clones) 0 n n (omega arith))
-
-pub ways_end : (placed : List Placed) (clones : List CloneLine) (n : ℕ) → n ≡ length clones → ways_to 0 placed clones n ≡ all_lead 0 placed clones
-unfolding ways_to all_lead
-ways_end placed clones n e = ap (λ k. map (leads 0 placed clones) (range_with_len 0 k)) e
-
--- doubling, as far as it is done
-unfoldable pub doubled_to : List Way → ℕ → List Way
-doubled_to ways n = map (λ clone. goes_on (way_in ways clone) (way_in ways)) (range_with_len 0 n)
-
-pub doubled_start : (ways : List Way) → doubled_to ways 0 ≡ []
-unfolding doubled_to
-doubled_start ways = refl
-
-pub doubled_more : (ways : List Way) (n : ℕ) → doubled_to ways n ++ goes_on (way_in ways n) (way_in ways) ∷ [] ≡ doubled_to ways (n + 1)
-unfolding doubled_to
-doubled_more ways n = sym (map-range_with_len_more (λ clone. goes_on (way_in ways clone) (way_in ways)) 0 n n (omega arith))
-
-pub doubled_end : (ways : List Way) (n : ℕ) → n ≡ length ways → doubled_to ways n ≡ doubled ways
-unfolding doubled_to doubled
-doubled_end ways n e = ap (λ k. map (λ clone. goes_on (way_in ways clone) (way_in ways)) (range_with_len 0 k)) e
-
--- past the clones nothing leads anywhere
-pub leads_past : (steps : ℕ) (placed : List Placed) (clones : List CloneLine) (clone : ℕ) → length clones ≤ clone → leads steps placed clones clone ≡ Nowhere
-leads_past zero placed clones clone h = ap (way_from placed clones) (slice_get_past clones clone h)
-leads_past (suc steps) placed clones clone h = ap (λ o. goes_on (way_from placed clones o) (leads steps placed clones)) (slice_get_past clones clone h)
-
--- so a list of ways tells them all
-pub way_told : (steps : ℕ) (placed : List Placed) (clones : List CloneLine) (clone : ℕ) → way_in (all_lead steps placed clones) clone ≡ leads steps placed clones clone
-unfolding all_lead
-way_told steps placed clones clone = by_test (nat_lt clone (length clones)) refl
+pub stays_settled : (n round : ℕ) (routes : List Route) → round < n → stage routes (stages round routes) ≡ stages round routes → stages n routes ≡ stages round routes
+stays_settled zero round routes h e = absurd (omega arith)
+stays_settled (suc n) round routes h e = by_test (nat_lt round n) refl (λ less. stays_settled n round routes less e)
   where
-    by_test : (v : Bool) → nat_lt clone (length clones) ≡ v → way_in (all_lead steps placed clones) clone ≡ leads steps placed clones clone
-    by_test true e = ap (λ o. unwrap_or o Nowhere) (made_at (leads steps placed clones) 0 (length clones) clone (ltb-true clone (length clones) e)) ∙ ap (leads steps placed clones) (omega arith)
-    by_test false e =
-        let past : length clones ≤ clone = ltb-false clone (length clones) e in
-        let long = length-map-range_with_len (leads steps placed clones) 0 (length clones) in
-        ap (λ o. unwrap_or o Nowhere) (slice_get_past (all_lead steps placed clones) clone (omega (arith, long))) ∙ sym (leads_past steps placed clones clone past)
+    by_test : (v : Bool) → nat_lt round n ≡ v → (round < n → stages n routes ≡ stages round routes) → stage routes (stages n routes) ≡ stages round routes
+    by_test true k rest = ap (stage routes) (rest (ltb-true round n k)) ∙ e
+    by_test false k rest = let most = ltb-false round n k in let same : n ≡ round = omega arith in rw same e
 
--- steps and further steps
-pub same_on : (way : Way) (next also : ℕ → Way) → ((clone : ℕ) → next clone ≡ also clone) → goes_on way next ≡ goes_on way also
-same_on (At server) next also h = refl
-same_on (Source clone) next also h = h clone
-same_on Nowhere next also h = refl
+-- places in a table
+pub in_set : (table : List (Option ServerId)) (place : ℕ) (server : Option ServerId) → place < length table → server_in (slice_set table place server) place ≡ server
+in_set table place server h = unwrap_or-slice_get (slice_set table place server) place None ∙ get_or-set_at table place place server None refl h
 
-pub on_and_on : (way : Way) (next also : ℕ → Way) → goes_on (goes_on way next) also ≡ goes_on way (λ clone. goes_on (next clone) also)
-on_and_on (At server) next also = refl
-on_and_on (Source clone) next also = refl
-on_and_on Nowhere next also = refl
+pub in_other : (table : List (Option ServerId)) (place other : ℕ) (server : Option ServerId) → other ≢ place → server_in (slice_set table place server) other ≡ server_in table other
+in_other table place other server h = unwrap_or-slice_get (slice_set table place server) other None ∙ get_or-set_other table place other server None h ∙ sym (unwrap_or-slice_get table other None)
 
-pub leads_add : (a b : ℕ) (placed : List Placed) (clones : List CloneLine) (clone : ℕ) → leads (a + b + 1) placed clones clone ≡ goes_on (leads a placed clones clone) (leads b placed clones)
-leads_add zero b placed clones clone = let e : 0 + b + 1 ≡ suc b = omega arith in ap (λ k. leads k placed clones clone) e
-leads_add (suc a) b placed clones clone =
-    let e : suc a + b + 1 ≡ suc (a + b + 1) = omega arith in
-    ap (λ k. leads k placed clones clone) e
-    ∙ same_on (way_from placed clones (slice_get clones clone)) (leads (a + b + 1) placed clones) (λ next. goes_on (leads a placed clones next) (leads b placed clones)) (λ next. leads_add a b placed clones next)
-    ∙ sym (on_and_on (way_from placed clones (slice_get clones clone)) (leads a placed clones) (leads b placed clones))
+pub in_unknown : (n place : ℕ) → server_in (unknown n) place ≡ None
+in_unknown zero place = refl
+in_unknown (suc n) zero = refl
+in_unknown (suc n) (suc place) = in_unknown n place
 
-pub each_same : {X : Type 0} (f g : ℕ → X) (xs : List ℕ) → ((x : ℕ) → f x ≡ g x) → map f xs ≡ map g xs
-each_same f g [] h = refl
-each_same f g (x ∷ xs) h = ap (λ y. y ∷ map f xs) (h x) ∙ ap (λ ys. g x ∷ ys) (each_same f g xs h)
+pub put_long : (table : List (Option ServerId)) (way : Way) (server : Option ServerId) → length (put_first table way server) ≡ length table
+put_long table (At s) server = refl
+put_long table (Clone place) server = length-set table place (first_of (server_in table place) server)
+put_long table Nowhere server = refl
 
-pub doubled_leads : (round : ℕ) (placed : List Placed) (clones : List CloneLine) → doubled (all_lead (steps_after round) placed clones) ≡ all_lead (steps_after (round + 1)) placed clones
-unfolding doubled all_lead
-doubled_leads round placed clones =
-    let k : ℕ = steps_after round in
-    let e : steps_after (round + 1) ≡ k + k + 1 = rw add-one refl in
-    let long : length (all_lead k placed clones) ≡ length clones = length-map-range_with_len (leads k placed clones) 0 (length clones) in
-    ap (λ n. map (λ clone. goes_on (way_in (all_lead k placed clones) clone) (way_in (all_lead k placed clones))) (range_with_len 0 n)) long
-    ∙ each_same (λ clone. goes_on (way_in (all_lead k placed clones) clone) (way_in (all_lead k placed clones))) (leads (k + k + 1) placed clones) (range_with_len 0 (length clones))
-    (λ clone. same_on (way_in (all_lead k placed clones) clone) (way_in (all_lead k placed clones)) (leads k placed clones) (way_told k placed clones)
-    ∙ ap (λ w. goes_on w (leads k placed clones)) (way_told k placed clones clone) ∙ sym (leads_add k k placed clones clone))
-    ∙ ap (λ n. map (leads n placed clones) (range_with_len 0 (length clones))) (sym e)
+-- the first of three
+pub first_none : (server : Option ServerId) → first_of server None ≡ server
+first_none None = refl
+first_none (Some s) = refl
 
--- the server at the end
+pub first_next : (server next : Option ServerId) (clone : CloneLine) (found : Option CloneLine) (by : List ℕ → Option ServerId) → by clone.source ≡ next
+    → first_of (first_of server next) (by_source found by) ≡ first_of server (by_source (cond (is_some (by clone.source)) (Some clone) found) by)
+first_next (Some s) next clone found by e = refl
+first_next None (Some s) clone found by e = rw e (sym e)
+first_next None None clone found by e = rw e refl
+
+-- names by places
 pub find_by_place : {X : Type 0} (test : X → Bool) (xs : List X) → find test xs ≡ option_and_then (λ i. slice_get xs i) (position test xs)
 find_by_place test xs = by_test (nat_lt (position_or_len test xs) (length xs)) refl
   where
@@ -113,48 +67,95 @@ find_by_place test xs = by_test (nat_lt (position_or_len test xs) (length xs)) r
     by_test true e = find_at test xs
     by_test false e = find_at test xs ∙ slice_get_past xs (position_or_len test xs) (ltb-false (position_or_len test xs) (length xs) e)
 
-pub server_now : (found : Option Placed) (clone : Option ℕ) → option_map (λ p. p.server) found ≡ server_at_end (way_by found clone)
-server_now (Some found) clone = refl
-server_now None (Some clone) = refl
-server_now None None = refl
+pub finds_less : {X : Type 0} (test also : X → Bool) (xs : List X) → find test xs ≡ None → find (λ x. test x && also x) xs ≡ None
+finds_less test also [] e = refl
+finds_less test also (x ∷ xs) e = by_test (test x) e (finds_less test also xs)
+  where
+    by_test : (v : Bool) → cond v (Some x) (find test xs) ≡ None → (find test xs ≡ None → find (λ x. test x && also x) xs ≡ None) → cond (v && also x) (Some x) (find (λ x. test x && also x) xs) ≡ None
+    by_test true k rest = absurd (cc)
+    by_test false k rest = rest k
 
--- the server of a name, by the ways of the sources
-abbrev pub LeadsAlike : ℕ → List Placed → List CloneLine → Type 0
-LeadsAlike steps placed clones = (clone : ℕ) → by_source (slice_get clones clone) (λ source. place_by steps placed clones source) ≡ server_at_end (leads steps placed clones clone)
+abbrev pub place_of : List CloneLine → List ℕ → Option ℕ
+place_of clones name = position (λ clone. same_name clone.new name) clones
 
-pub place_goes_on : (steps : ℕ) (placed : List Placed) (clones : List CloneLine) (name : List ℕ) → LeadsAlike steps placed clones → place_by (suc steps) placed clones name ≡ server_at_end (goes_on (way_of placed clones name) (leads steps placed clones))
+pub other_place : (clones : List CloneLine) (a b : List ℕ) (p q : ℕ) → place_of clones a ≡ Some p → place_of clones b ≡ Some q → same_name b a ≡ false → p ≢ q
+other_place clones a b p q e f differ same =
+    let d : CloneLine = record { source = []; new = [] } in
+    let at_p = (position-Some (λ (clone : CloneLine). same_name clone.new a) clones p d e).1 in
+    let at_q = (position-Some (λ (clone : CloneLine). same_name clone.new b) clones q d f).1 in
+    let moved : same_name (get_or clones p d).new b ≡ true = rw same at_q in
+    let is_b : (get_or clones p d).new ≡ b = same_text (get_or clones p d).new b (sym moved) in
+    let wrong : same_name b a ≡ true = rw is_b at at_p in
+    absurd (cc)
+
+-- what a stage tells of a name that no header places
+pub stage_tells : (placed : List Placed) (clones : List CloneLine) (server : List ℕ → Option ServerId) (old table : List (Option ServerId)) (rest : List CloneLine) (name : List ℕ) (p : ℕ)
+    → ((source : List ℕ) → server_by old (way_of placed clones source) ≡ server source)
+    → find_placed placed name ≡ None → place_of clones name ≡ Some p → p < length table
+    → server_in (stage_from old table (map (route_of placed clones) rest)) p ≡ first_of (server_in table p) (by_source (find (places server name) rest) server)
 unfolding way_of
-place_goes_on steps placed clones name alike = by_found (find_placed placed name)
+stage_tells placed clones server old table [] name p told free at within = sym (first_none (server_in table p))
+stage_tells placed clones server old table (clone ∷ rest) name p told free at within =
+    stage_tells placed clones server old (put_first table (way_of placed clones clone.new) (server_by old (way_of placed clones clone.source))) rest name p told free at (rw (put_long table (way_of placed clones clone.new) (server_by old (way_of placed clones clone.source))) within)
+    ∙ by_name (same_name clone.new name) refl
   where
-    by_place : (place : Option ℕ) → by_source (option_and_then (λ i. slice_get clones i) place) (λ source. place_by steps placed clones source) ≡ server_at_end (goes_on (way_by None place) (leads steps placed clones))
-    by_place None = refl
-    by_place (Some clone) = alike clone
+    mine : same_name clone.new name ≡ true → server_in (put_first table (way_of placed clones clone.new) (server_by old (way_of placed clones clone.source))) p ≡ first_of (server_in table p) (server_by old (way_of placed clones clone.source))
+    mine e =
+        let is_name : clone.new ≡ name = same_text clone.new name (sym e) in
+        rw (is_name, free, at) (in_set table p (first_of (server_in table p) (server_by old (way_of placed clones clone.source))) within)
 
-    by_found : (found : Option Placed) → found_server found (by_source (find_clone clones name) (λ source. place_by steps placed clones source)) ≡ server_at_end (goes_on (way_by found (position (λ clone. same_name clone.new name) clones)) (leads steps placed clones))
-    by_found (Some found) = refl
-    by_found None = ap (λ o. by_source o (λ source. place_by steps placed clones source)) (find_by_place (λ (clone : CloneLine). same_name clone.new name) clones) ∙ by_place (position (λ (clone : CloneLine). same_name clone.new name) clones)
+    others : same_name clone.new name ≡ false → (found : Option Placed) (place : Option ℕ) → place_of clones clone.new ≡ place → server_in (put_first table (way_by found place) (server_by old (way_of placed clones clone.source))) p ≡ server_in table p
+    others e (Some found) place k = refl
+    others e None None k = refl
+    others e None (Some q) k = in_other table q p (first_of (server_in table q) (server_by old (way_of placed clones clone.source))) (other_place clones name clone.new p q at k e)
 
-pub leads_alike : (steps : ℕ) (placed : List Placed) (clones : List CloneLine) → LeadsAlike steps placed clones
-unfolding way_of
-leads_alike zero placed clones clone = by_clone (slice_get clones clone)
+    by_name : (v : Bool) → same_name clone.new name ≡ v → first_of (server_in (put_first table (way_of placed clones clone.new) (server_by old (way_of placed clones clone.source))) p) (by_source (find (places server name) rest) server) ≡ first_of (server_in table p) (by_source (cond (v && is_some (server clone.source)) (Some clone) (find (places server name) rest)) server)
+    by_name true e = rw (mine e) (first_next (server_in table p) (server_by old (way_of placed clones clone.source)) clone (find (places server name) rest) server (sym (told clone.source)))
+    by_name false e = ap (λ s. first_of s (by_source (find (places server name) rest) server)) (others e (find_placed placed clone.new) (place_of clones clone.new) refl)
+
+unknown_long : (n : ℕ) → length (unknown n) ≡ n
+unknown_long n = length-replicate n None
+
+pub routes_long : (placed : List Placed) (clones : List CloneLine) → length (routes_of placed clones) ≡ length clones
+unfolding routes_of
+routes_long placed clones = length-map clones (route_of placed clones)
+
+-- the table tells the server of each name
+pub table_tells : (n : ℕ) (placed : List Placed) (clones : List CloneLine) (name : List ℕ) → server_by (stages n (routes_of placed clones)) (way_of placed clones name) ≡ place_by n placed clones name
+unfolding way_of stage routes_of
+table_tells zero placed clones name = by_found (find_placed placed name) (place_of clones name)
   where
-    by_clone : (option : Option CloneLine) → by_source option (λ source. place_by zero placed clones source) ≡ server_at_end (way_from placed clones option)
-    by_clone None = refl
-    by_clone (Some c) = server_now (find_placed placed c.source) (position (λ (clone : CloneLine). same_name clone.new c.source) clones)
-leads_alike (suc steps) placed clones clone = by_clone (slice_get clones clone) (λ name. place_goes_on steps placed clones name (leads_alike steps placed clones))
+    by_found : (found : Option Placed) (place : Option ℕ) → server_by (unknown (length (routes_of placed clones))) (way_by found place) ≡ option_map (λ p. p.server) found
+    by_found (Some found) place = refl
+    by_found None (Some place) = in_unknown (length (routes_of placed clones)) place
+    by_found None None = refl
+table_tells (suc n) placed clones name = by_found (find_placed placed name) refl (place_of clones name) refl (λ source. table_tells n placed clones source)
   where
-    by_clone : (option : Option CloneLine) → ((name : List ℕ) → place_by (suc steps) placed clones name ≡ server_at_end (goes_on (way_of placed clones name) (leads steps placed clones))) → by_source option (λ source. place_by (suc steps) placed clones source) ≡ server_at_end (goes_on (way_from placed clones option) (leads steps placed clones))
-    by_clone None f = refl
-    by_clone (Some c) f = f c.source
+    Told : Type 0
+    Told = (source : List ℕ) → server_by (stages n (routes_of placed clones)) (way_of placed clones source) ≡ place_by n placed clones source
 
-pub place_by_ways : (steps most : ℕ) (placed : List Placed) (clones : List CloneLine) (name : List ℕ) → most ≡ suc steps → server_at_end (goes_on (way_of placed clones name) (way_in (all_lead steps placed clones))) ≡ place_by most placed clones name
-place_by_ways steps most placed clones name e =
-    ap server_at_end (same_on (way_of placed clones name) (way_in (all_lead steps placed clones)) (leads steps placed clones) (way_told steps placed clones))
-    ∙ sym (ap (λ n. place_by n placed clones name) e ∙ place_goes_on steps placed clones name (leads_alike steps placed clones))
+    by_stage : (p : ℕ) → find_placed placed name ≡ None → place_of clones name ≡ Some p → Told → server_in (stage (routes_of placed clones) (stages n (routes_of placed clones))) p ≡ by_source (find (places (λ source. place_by n placed clones source) name) clones) (λ source. place_by n placed clones source)
+    by_stage p free at told =
+        let here = (position-Some (λ (clone : CloneLine). same_name clone.new name) clones p (record { source = []; new = [] }) at).0 in
+        let long = unknown_long (length (routes_of placed clones)) in
+        let many = routes_long placed clones in
+        stage_tells placed clones (λ source. place_by n placed clones source) (stages n (routes_of placed clones)) (unknown (length (routes_of placed clones))) clones name p told free at (omega (arith, long, many, here))
+        ∙ ap (λ s. first_of s (by_source (find (places (λ source. place_by n placed clones source) name) clones) (λ source. place_by n placed clones source))) (in_unknown (length (routes_of placed clones)) p)
 
-pub enough_steps : most_steps ≡ suc (steps_after DOUBLINGS)
+    by_found : (found : Option Placed) → find_placed placed name ≡ found → (place : Option ℕ) → place_of clones name ≡ place → Told → server_by (stages (suc n) (routes_of placed clones)) (way_by found place) ≡ found_server found (by_source (find (places (λ source. place_by n placed clones source) name) clones) (λ source. place_by n placed clones source))
+    by_found (Some found) e place f told = refl
+    by_found None e (Some p) f told = by_stage p e f told
+    by_found None e None f told =
+        let none : find (λ (clone : CloneLine). same_name clone.new name) clones ≡ None = find_by_place (λ (clone : CloneLine). same_name clone.new name) clones ∙ ap (option_and_then (λ i. slice_get clones i)) f in
+        sym (ap (λ o. by_source o (λ source. place_by n placed clones source)) (finds_less (λ (clone : CloneLine). same_name clone.new name) (λ (clone : CloneLine). is_some (place_by n placed clones clone.source)) clones none))
+
+pub place_told : (placed : List Placed) (clones : List CloneLine) (table : List (Option ServerId)) (name : List ℕ) → table ≡ stages most_steps (routes_of placed clones) → server_by table (way_of placed clones name) ≡ clone_place placed clones name
+place_told placed clones table name e = ap (λ t. server_by t (way_of placed clones name)) e ∙ table_tells most_steps placed clones name
+
+pub steps_are : (n : ℕ) (routes : List Route) → n ≡ 16384 → stages n routes ≡ stages most_steps routes
 unfolding most_steps
-enough_steps = refl
+steps_are n routes e = ap (λ k. stages k routes) e
 
-pub place_is : (placed : List Placed) (clones : List CloneLine) (ways : List Way) (name : List ℕ) → ways ≡ all_lead (steps_after DOUBLINGS) placed clones → server_at_end (goes_on (way_of placed clones name) (way_in ways)) ≡ place_by most_steps placed clones name
-place_is placed clones ways name e = ap (λ w. server_at_end (goes_on (way_of placed clones name) (way_in w))) e ∙ place_by_ways (steps_after DOUBLINGS) most_steps placed clones name enough_steps
+pub settled_then : (round : ℕ) (routes : List Route) (table : List (Option ServerId)) → round < 16384 → table ≡ stages round routes → stage routes table ≡ table → table ≡ stages most_steps routes
+unfolding most_steps
+settled_then round routes table less e same = e ∙ sym (stays_settled 16384 round routes less (ap (stage routes) (sym e) ∙ (same ∙ e)))

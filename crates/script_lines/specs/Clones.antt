@@ -1,4 +1,4 @@
-use Rattle.std.specs.Prelude.{◌≡◌, ℕ, zero, suc, ◌&&◌, Bool, true, false, if◌then◌else◌, List, [], ◌∷◌, ◌++◌, Option, Some, None, Result, Ok, Err, codes}
+use Rattle.std.specs.Prelude.{◌≡◌, ℕ, zero, suc, ◌&&◌, Bool, true, false, if◌then◌else◌, List, [], ◌∷◌, ◌++◌, length, Option, Some, None, is_some, Result, Ok, Err, codes}
 use Rattle.std.specs.List.{find}
 use Rattle.dfs_base.specs.Name.{is_name, same_name}
 use Rattle.dfs_base.specs.declared.ids.ServerId.{ServerId}
@@ -55,10 +55,6 @@ abbrev pub clones_from : List CloneLine → List (List ℕ) → List CloneLine
 clones_from clones [] = clones
 clones_from clones (line ∷ lines) = clones_from (with_clone clones (clone_in line)) lines
 
--- the first clone with this name
-abbrev pub find_clone : List CloneLine → List ℕ → Option CloneLine
-find_clone clones name = find (λ clone. same_name clone.new name) clones
-
 -- the server where it is placed, else another
 abbrev pub found_server : Option Placed → Option ServerId → Option ServerId
 found_server (Some found) other = Some found.server
@@ -66,14 +62,28 @@ found_server None other = other
 
 -- the server of the source
 abbrev pub by_source : Option CloneLine → (List ℕ → Option ServerId) → Option ServerId
-by_source None next = None
-by_source (Some clone) next = next clone.source
+by_source None server = None
+by_source (Some clone) server = server clone.source
 
--- the server of a name: it is placed, or the first clone of it has a source that is, by at most so many steps
+-- whether a clone is of this name, and its source has a server
+abbrev pub places : (List ℕ → Option ServerId) → List ℕ → CloneLine → Bool
+places server name clone = same_name clone.new name && is_some (server clone.source)
+
+-- the server of a name by at most so many steps: that of its header, else that of the source of the first clone of it whose
+-- source has one by fewer steps
 abbrev pub place_by : ℕ → List Placed → List CloneLine → List ℕ → Option ServerId
 place_by zero placed clones name = server_of placed name
 place_by (suc steps) placed clones name =
-    found_server (find_placed placed name) (by_source (find_clone clones name) (λ source. place_by steps placed clones source))
+    found_server (find_placed placed name)
+    (by_source (find (places (λ source. place_by steps placed clones source) name) clones) (λ source. place_by steps placed clones source))
+
+-- more steps than a script has lines
+unfoldable pub most_steps : ℕ
+most_steps = 16384
+
+-- the server of a name
+abbrev pub clone_place : List Placed → List CloneLine → List ℕ → Option ServerId
+clone_place placed clones name = place_by most_steps placed clones name
 
 -- one more that is placed
 abbrev pub placed_also : List Placed → List ℕ → Option ServerId → List Placed
@@ -85,13 +95,9 @@ abbrev pub placed_from : (List ℕ → Option ServerId) → List Placed → List
 placed_from server placed [] = placed
 placed_from server placed (clone ∷ clones) = placed_from server (placed_also placed clone.new (server clone.new)) clones
 
--- more steps than a script has lines
-unfoldable pub most_steps : ℕ
-most_steps = 16384
-
 -- the names that clones place, each where its source is placed
 abbrev pub placed_by : List Placed → List CloneLine → List Placed
-placed_by placed clones = placed_from (place_by most_steps placed clones) [] clones
+placed_by placed clones = placed_from (clone_place placed clones) [] clones
 
 -- the names of all clones among these lines are placed
 unfoldable pub with_clones : Context → List (List ℕ) → Context

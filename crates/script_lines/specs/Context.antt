@@ -82,3 +82,10 @@ server_named words i = do
 abbrev pub is_elsewhere : Option ServerId → ServerId → Bool
 is_elsewhere None server = false
 is_elsewhere (Some other) server = not (other.0 == server.0)
+
+-- a server that is declared
+unfoldable pub server_at : Script → List (List ℕ) → ℕ → Result ServerId BadWhy
+server_at script words i = do
+  server ← server_named words i
+  _ ← node_declared script (Server server)
+  Ok server

@@ -1,4 +1,4 @@
-use Rattle.std.specs.Prelude.{ℕ, Bool, true, false, if◌then◌else◌, List, Option, Some, None, Result, Ok, Err, codes}
+use Rattle.std.specs.Prelude.{ℕ, ◌&&◌, nat_lt, Bool, true, false, if◌then◌else◌, List, Option, Some, None, Result, Ok, Err, codes}
 use Rattle.dfs_base.specs.Name.{is_among}
 use Rattle.dfs_base.specs.declared.ids.Node.{Node}
 use Rattle.dfs_base.specs.declared.ids.Node.TheVariants.{Host, Server}
@@ -12,15 +12,16 @@ use Rattle.dfs_calls.specs.declared.call.Call.TheVariants as calls
 use Rattle.script_words.specs.Outcome.{◌>>=◌, found, unless}
 use Rattle.script_words.specs.Fields.{word_at, end_at, name_at, label_at, number_at, text_at, is_word}
 use Rattle.script_words.specs.Lists.{list_at}
-use Rattle.script_lines.specs.Context.{server_of, is_elsewhere, place_at}
+use Rattle.script_lines.specs.Context.{server_of, server_at, is_elsewhere, place_at}
 use Rattle.script_lines.specs.declared.context.Placed.{Placed}
 use Rattle.script_lines.specs.declared.script.TheConstants.{NUMBER_MAX}
+use Rattle.script_lines.specs.declared.script.Script.{Script}
 use Rattle.script_lines.specs.declared.script.Deed.{Deed}
 use Rattle.script_lines.specs.declared.script.Deed.TheVariants as deeds
 use Rattle.script_lines.specs.declared.deeds.Verb.{Verb}
 use Rattle.script_lines.specs.declared.deeds.Verb.TheVariants as verbs
 use Rattle.script_words.specs.declared.fault.BadWhy.{BadWhy}
-use Rattle.script_words.specs.declared.fault.BadWhy.TheVariants.{Word, Undeclared, Repeated}
+use Rattle.script_words.specs.declared.fault.BadWhy.TheVariants.{Word, Undeclared, Repeated, Disks}
 
 -- what the second word of a line asks for
 unfoldable pub verb_of : List ℕ → Option Verb
@@ -45,7 +46,8 @@ verb_of word =
     else (if is_word word (codes "raise") then Some verbs.Raise
     else (if is_word word (codes "await") then Some verbs.Await
     else (if is_word word (codes "stop") then Some verbs.Stop
-    else (if is_word word (codes "restart") then Some verbs.Restart else None))))))))))))))))))))
+    else (if is_word word (codes "restart") then Some verbs.Restart
+    else (if is_word word (codes "move") then Some verbs.Move else None)))))))))))))))))))))
 
 -- how a file is opened
 unfoldable pub open_kind_of : List ℕ → Option OpenKind
@@ -163,6 +165,20 @@ clone_call placed words = do
   _ ← end_at words 4
   Ok (calls.CloneFileset server fileset new)
 
+-- whether some of so many servers have a disk and some have none: disk k is server k's
+abbrev pub is_mixed : ℕ → ℕ → Bool
+is_mixed servers disks = nat_lt 0 disks && nat_lt disks servers
+
+-- a fileset goes to a declared server, where each server has a disk, or none
+unfoldable pub move_call : Script → ℕ → List Placed → List (List ℕ) → Result Call BadWhy
+move_call script disks placed words = do
+  fileset ← name_at words 2
+  server ← found Undeclared (server_of placed fileset)
+  to ← server_at script words 3
+  _ ← unless (is_mixed script.servers disks) Disks
+  _ ← end_at words 4
+  Ok (calls.MoveFileset server fileset to)
+
 -- the call of a host that a word asks for
 unfoldable pub call_by : List Placed → Verb → List (List ℕ) → Result Call BadWhy
 call_by placed verbs.Create words = only_place placed words >>= (λ place. Ok (calls.Create place))
@@ -193,11 +209,12 @@ raise_deed raised words = do
   Ok (deeds.Raise flag)
 
 -- what a host does
-unfoldable pub host_deed : List Placed → List (List ℕ) → Verb → List (List ℕ) → Result Deed BadWhy
-host_deed placed raised verbs.Raise words = raise_deed raised words
-host_deed placed raised verbs.Await words = only_label words >>= (λ flag. Ok (deeds.Await flag))
-host_deed placed raised verbs.Stop words = end_at words 2 >>= (λ _. Ok deeds.Stop)
-host_deed placed raised verb words = call_by placed verb words >>= (λ call. Ok (deeds.Call call))
+unfoldable pub host_deed : Script → ℕ → List Placed → List (List ℕ) → Verb → List (List ℕ) → Result Deed BadWhy
+host_deed script disks placed raised verbs.Raise words = raise_deed raised words
+host_deed script disks placed raised verbs.Await words = only_label words >>= (λ flag. Ok (deeds.Await flag))
+host_deed script disks placed raised verbs.Stop words = end_at words 2 >>= (λ _. Ok deeds.Stop)
+host_deed script disks placed raised verbs.Move words = move_call script disks placed words >>= (λ call. Ok (deeds.Call call))
+host_deed script disks placed raised verb words = call_by placed verb words >>= (λ call. Ok (deeds.Call call))
 
 -- what a server does
 unfoldable pub server_deed : List (List ℕ) → Verb → List (List ℕ) → Result Deed BadWhy
@@ -207,13 +224,13 @@ server_deed raised verbs.Restart words = end_at words 2 >>= (λ _. Ok deeds.Rest
 server_deed raised _ words = Err Word
 
 -- what a node does
-abbrev pub node_deed : List Placed → List (List ℕ) → Node → Verb → List (List ℕ) → Result Deed BadWhy
-node_deed placed raised (Host _) verb words = host_deed placed raised verb words
-node_deed placed raised (Server _) verb words = server_deed raised verb words
+abbrev pub node_deed : Script → ℕ → List Placed → List (List ℕ) → Node → Verb → List (List ℕ) → Result Deed BadWhy
+node_deed script disks placed raised (Host _) verb words = host_deed script disks placed raised verb words
+node_deed script disks placed raised (Server _) verb words = server_deed raised verb words
 
 -- the deed of a node's line
-unfoldable pub deed_of : List Placed → List (List ℕ) → Node → List (List ℕ) → Result Deed BadWhy
-deed_of placed raised node words = do
+unfoldable pub deed_of : Script → ℕ → List Placed → List (List ℕ) → Node → List (List ℕ) → Result Deed BadWhy
+deed_of script disks placed raised node words = do
   word ← word_at words 1
   verb ← found Word (verb_of word)
-  node_deed placed raised node verb words
+  node_deed script disks placed raised node verb words

@@ -8,7 +8,7 @@ use Rattle.dfs_base.specs.declared.ids.Node.TheVariants as nodes
 use Rattle.dfs_calls.specs.declared.call.Call.TheVariants as calls
 use Rattle.script_words.specs.Outcome.{◌>>=◌, found, unless}
 use Rattle.script_words.specs.Fields.{word_at, end_at, name_at, number_at, is_word, all_named, host_node}
-use Rattle.script_lines.specs.Context.{server_of, user_place, node_declared, host_named, server_named, is_elsewhere}
+use Rattle.script_lines.specs.Context.{server_of, user_place, host_named, server_at, is_elsewhere}
 use Rattle.script_lines.specs.Plan.{plan_line}
 use Rattle.script_lines.specs.declared.context.Context.{Context}
 use Rattle.script_lines.specs.declared.context.Placed.{Placed}
@@ -93,13 +93,6 @@ host_line context words = do
   limit ← limit_at words
   _ ← end_at words 4
   Ok (with_host context user limit)
-
--- a server that is declared
-unfoldable pub server_at : Script → List (List ℕ) → ℕ → Result ServerId BadWhy
-server_at script words i = do
-  server ← server_named words i
-  _ ← node_declared script (nodes.Server server)
-  Ok server
 
 -- whether a line gave its capacity, and whether it has a fileset
 abbrev pub is_capped : List ServerId → ServerId → Bool

@@ -62,17 +62,17 @@ abbrev pub line_of : ℕ → Node → Deed → Line
 line_of number node deed = record { number = number; node = node; deed = deed }
 
 -- a line after `begin`: its node, then its deed
-unfoldable pub deed_line : Context → ℕ → List (List ℕ) → Result Context BadWhy
-deed_line context number words = do
+unfoldable pub deed_line : Context → ℕ → ℕ → List (List ℕ) → Result Context BadWhy
+deed_line context disks number words = do
   node ← node_at context words
-  deed ← deed_of context.placed context.raised node words
+  deed ← deed_of context.script disks context.placed context.raised node words
   Ok (with_line (noted context node deed) (line_of number node deed))
 
 -- a line without words changes nothing
 unfoldable pub taken : Context → ℕ → ℕ → List (List ℕ) → Result Context BadWhy
 taken context disks number words =
     if length words == 0 then Ok context
-    else (if context.begun then deed_line context number words else header_line context disks number words)
+    else (if context.begun then deed_line context disks number words else header_line context disks number words)
 
 -- what has been said after a line
 unfoldable pub line_judged : Context → ℕ → ℕ → List ℕ → Result Context BadWhy

@@ -6,5 +6,7 @@ pub mod Headers
 pub mod Judge
 pub mod Clones
 pub mod Ways
+pub mod Leads
 pub mod Sound
 pub mod Asks
+pub mod Laws

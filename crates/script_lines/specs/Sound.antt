@@ -1,6 +1,7 @@
 -- What every script keeps that was read or generated.
-use Rattle.std.specs.Prelude.{◌≡◌, ℕ, ◌==◌, ◌≤◌, ◌+◌, ◌&&◌, Bool, true, false, not, nat_lt, List, [], ◌∷◌, ◌++◌, length}
+use Rattle.std.specs.Prelude.{◌≡◌, ℕ, ◌==◌, ◌≤◌, ◌+◌, ◌&&◌, Bool, true, false, not, nat_lt, nat_le, List, [], ◌∷◌, ◌++◌, length, flat_map, Option, Some, None, is_some}
 use Rattle.std.specs.List.{list_all, list_any}
+use Rattle.dfs_base.specs.Name.{is_among}
 use Rattle.dfs_base.specs.declared.limits.TheConstants.{GROUPS_MAX, OBJECTS_MAX, SCRIPT_LINES_MAX}
 use Rattle.dfs_base.specs.declared.ids.ServerId.{ServerId}
 use Rattle.dfs_base.specs.declared.ids.Node.{Node}
@@ -10,7 +11,12 @@ use Rattle.dfs_calls.specs.declared.call.Call.{Call as CallOf}
 use Rattle.dfs_calls.specs.declared.call.Call.TheVariants as calls
 use Rattle.script_lines.specs.declared.script.Line.{Line}
 use Rattle.script_lines.specs.declared.script.Deed.{Deed}
-use Rattle.script_lines.specs.declared.script.Deed.TheVariants.{Call, Stop, Restart}
+use Rattle.script_lines.specs.declared.script.Deed.TheVariants.{Call, Raise, Stop, Restart}
+use Rattle.script_lines.specs.declared.script.Net.{Net}
+use Rattle.script_lines.specs.declared.script.PlanDeed.{PlanDeed}
+use Rattle.script_lines.specs.declared.script.PlanDeed.TheVariants.{Drop, Hold, Again}
+use Rattle.script_lines.specs.declared.script.PlanLine.{PlanLine}
+use Rattle.script_lines.specs.declared.script.TheConstants.{NET_MAX, NUMBER_MAX}
 use Rattle.script_lines.specs.declared.script.Script.{Script}
 
 -- whether two nodes are the same
@@ -48,6 +54,7 @@ is_sound_call servers (calls.Lock label place writing from len) = is_server serv
 is_sound_call servers (calls.Unlock label) = true
 is_sound_call servers (calls.OpenFile label place kind) = is_server servers place.server
 is_sound_call servers (calls.CloseFile label) = true
+is_sound_call servers (calls.MoveFileset server fileset to) = is_server servers server && is_server servers to
 
 -- whether a call makes a fileset
 abbrev pub makes_fileset : CallOf → Bool
@@ -97,6 +104,46 @@ abbrev pub numbers_rise : ℕ → List Line → Bool
 numbers_rise number [] = true
 numbers_rise number (line ∷ lines) = nat_lt number line.number && numbers_rise line.number lines
 
+-- whether two nodes are a declared host and a declared server, in either order
+abbrev pub are_ends : ℕ → ℕ → Node → Node → Bool
+are_ends servers hosts (Host host) (Server server) = is_between 1 hosts host.0 && is_server servers server
+are_ends servers hosts (Server server) (Host host) = is_between 1 hosts host.0 && is_server servers server
+are_ends servers hosts _ _ = false
+
+-- whether a message can be of the kind with this number: 14 says that a host is down, of which no line speaks
+abbrev pub is_kind : ℕ → Bool
+is_kind kind = is_between 1 15 kind && not (kind == 14)
+
+-- whether a message has a flag exactly where it isn't dropped
+abbrev pub is_flagged : PlanDeed → Option (List ℕ) → Bool
+is_flagged Drop flag = not (is_some flag)
+is_flagged Hold flag = is_some flag
+is_flagged Again flag = is_some flag
+
+-- whether a line of the plan is of a message between a declared host and a declared server
+abbrev pub is_sound_plan : ℕ → ℕ → PlanLine → Bool
+is_sound_plan servers hosts line =
+    are_ends servers hosts line.from line.to && is_kind line.kind && is_between 1 NUMBER_MAX line.n
+    && is_flagged line.deed line.flag
+
+-- whether a net, where there is one, keeps its limits
+abbrev pub is_sound_net : Option Net → Bool
+is_sound_net None = true
+is_sound_net (Some net) = nat_le net.losses NET_MAX && nat_le net.repeats NET_MAX && nat_le net.delays NET_MAX
+
+-- the flags that lines raise
+abbrev pub raised_by : Deed → List (List ℕ)
+raised_by (Raise flag) = flag ∷ []
+raised_by _ = []
+
+abbrev pub raised_in : List Line → List (List ℕ)
+raised_in lines = flat_map (λ line. raised_by line.deed) lines
+
+-- whether no name is among those behind it
+abbrev pub are_apart : List (List ℕ) → Bool
+are_apart [] = true
+are_apart (name ∷ names) = not (is_among names name) && are_apart names
+
 -- what every script keeps
 pub record IsSound (script : Script) : Type 0 where
   pub servers : script.servers ≡ length script.roster.capacity
@@ -104,5 +151,8 @@ pub record IsSound (script : Script) : Type 0 where
   pub setup : list_all (is_setup_line script.servers) script.setup ≡ true
   pub lines : list_all (is_sound_line script.servers (length script.roster.hosts)) script.lines ≡ true
   pub stops : stops_last script.lines ≡ true
+  pub flags : are_apart (raised_in script.lines) ≡ true
   pub numbers : numbers_rise 0 (script.setup ++ script.lines) ≡ true
   pub count : length script.setup + length script.lines ≤ SCRIPT_LINES_MAX
+  pub plan : list_all (is_sound_plan script.servers (length script.roster.hosts)) script.plan ≡ true
+  pub net : is_sound_net script.net ≡ true

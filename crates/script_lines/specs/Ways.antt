@@ -1,58 +1,62 @@
--- Where the sources of clones lead, by more and more steps.
-use Rattle.std.specs.Prelude.{ℕ, zero, suc, ◌+◌, List, length, map, slice_get, position, Option, Some, None, unwrap_or}
-use Rattle.std.specs.List.{range_with_len}
+-- The servers of the names that clones make, by a table of them that grows stage by stage.
+use Rattle.std.specs.Prelude.{ℕ, zero, suc, List, [], ◌∷◌, length, map, replicate, slice_get, slice_set, position, Option, Some, None, unwrap_or}
 use Rattle.dfs_base.specs.Name.{same_name}
 use Rattle.dfs_base.specs.declared.ids.ServerId.{ServerId}
 use Rattle.script_lines.specs.Context.{find_placed}
 use Rattle.script_lines.specs.declared.context.Placed.{Placed}
 use Rattle.script_lines.specs.declared.clones.CloneLine.{CloneLine}
 use Rattle.script_lines.specs.declared.clones.Way.{Way}
-use Rattle.script_lines.specs.declared.clones.Way.TheVariants.{At, Source, Nowhere}
+use Rattle.script_lines.specs.declared.clones.Way.TheVariants.{At, Clone, Nowhere}
+use Rattle.script_lines.specs.declared.clones.Route.{Route}
 
--- one step from a name: it is placed, or it is that of a clone
+-- where a name leads: it is placed, or it is that of clones, the first of which stands here
 abbrev pub way_by : Option Placed → Option ℕ → Way
 way_by (Some found) clone = At found.server
-way_by None (Some clone) = Source clone
+way_by None (Some clone) = Clone clone
 way_by None None = Nowhere
 
 unfoldable pub way_of : List Placed → List CloneLine → List ℕ → Way
 way_of placed clones name = way_by (find_placed placed name) (position (λ clone. same_name clone.new name) clones)
 
--- one step from the source of a clone
-abbrev pub way_from : List Placed → List CloneLine → Option CloneLine → Way
-way_from placed clones None = Nowhere
-way_from placed clones (Some clone) = way_of placed clones clone.source
+-- where the new name and the source of a clone lead
+abbrev pub route_of : List Placed → List CloneLine → CloneLine → Route
+route_of placed clones clone = record { name = way_of placed clones clone.new; source = way_of placed clones clone.source }
 
--- a way that goes on from the source of a clone
-abbrev pub goes_on : Way → (ℕ → Way) → Way
-goes_on (At server) next = At server
-goes_on (Source clone) next = next clone
-goes_on Nowhere next = Nowhere
+unfoldable pub routes_of : List Placed → List CloneLine → List Route
+routes_of placed clones = map (route_of placed clones) clones
 
--- where the source of a clone leads by one step and so many further ones
-abbrev pub leads : ℕ → List Placed → List CloneLine → ℕ → Way
-leads zero placed clones clone = way_from placed clones (slice_get clones clone)
-leads (suc steps) placed clones clone = goes_on (way_from placed clones (slice_get clones clone)) (leads steps placed clones)
-
--- the same of all clones
-unfoldable pub all_lead : ℕ → List Placed → List CloneLine → List Way
-all_lead steps placed clones = map (leads steps placed clones) (range_with_len 0 (length clones))
-
--- how many further steps are known after so many doublings
-abbrev pub steps_after : ℕ → ℕ
-steps_after zero = 0
-steps_after (suc rounds) = steps_after rounds + steps_after rounds + 1
-
--- the way of a clone in a list of them
-abbrev pub way_in : List Way → ℕ → Way
-way_in ways clone = unwrap_or (slice_get ways clone) Nowhere
-
--- twice as many steps
-unfoldable pub doubled : List Way → List Way
-doubled ways = map (λ clone. goes_on (way_in ways clone) (way_in ways)) (range_with_len 0 (length ways))
+-- the server at a place of a table
+abbrev pub server_in : List (Option ServerId) → ℕ → Option ServerId
+server_in table place = unwrap_or (slice_get table place) None
 
 -- the server to which a way leads
-abbrev pub server_at_end : Way → Option ServerId
-server_at_end (At server) = Some server
-server_at_end (Source clone) = None
-server_at_end Nowhere = None
+abbrev pub server_by : List (Option ServerId) → Way → Option ServerId
+server_by table (At server) = Some server
+server_by table (Clone place) = server_in table place
+server_by table Nowhere = None
+
+-- the first of two that is there
+abbrev pub first_of : Option ServerId → Option ServerId → Option ServerId
+first_of (Some server) other = Some server
+first_of None other = other
+
+-- a table in which the first clone of a name that has a server decides
+abbrev pub put_first : List (Option ServerId) → Way → Option ServerId → List (Option ServerId)
+put_first table (Clone place) server = slice_set table place (first_of (server_in table place) server)
+put_first table _ server = table
+
+abbrev pub stage_from : List (Option ServerId) → List (Option ServerId) → List Route → List (Option ServerId)
+stage_from old table [] = table
+stage_from old table (route ∷ routes) = stage_from old (put_first table route.name (server_by old route.source)) routes
+
+-- a table without servers
+abbrev pub unknown : ℕ → List (Option ServerId)
+unknown n = replicate n None
+
+-- what is known after a stage, and after so many
+unfoldable pub stage : List Route → List (Option ServerId) → List (Option ServerId)
+stage routes old = stage_from old (unknown (length routes)) routes
+
+abbrev pub stages : ℕ → List Route → List (Option ServerId)
+stages zero routes = unknown (length routes)
+stages (suc n) routes = stage routes (stages n routes)

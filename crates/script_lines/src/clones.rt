@@ -1,19 +1,15 @@
-ghost use Rattle.std.specs.Prelude.{◌≡◌, [], slice_get, position, OnOk, IfOk};
-ghost use Rattle.std.specs.Option.{option_copied};
+ghost use Rattle.std.specs.Prelude.{◌≡◌, [], true, length, position, OnOk, IfOk};
 ghost use Rattle.dfs_base.specs.Name.{same_name};
 ghost use Rattle.script_words.specs.Lines.{lines_of};
 ghost use Rattle.script_words.specs.Fields.{node_of};
-ghost use Rattle.script_lines.specs.Clones.{is_host, name_if, clone_of, clone_in, clones_from, place_by, most_steps, placed_by, with_clones};
-ghost use Rattle.script_lines.specs.declared.clones.TheConstants.{DOUBLINGS};
-ghost use Rattle.script_lines.specs.Ways.{way_of, way_from, goes_on, way_in, all_lead, steps_after, doubled, server_at_end};
+ghost use Rattle.script_lines.specs.Clones.{is_host, name_if, clone_of, clone_in, clones_from, most_steps, clone_place, placed_by, with_clones};
+ghost use Rattle.script_lines.specs.Ways.{way_of, route_of, routes_of, server_in, server_by, first_of, put_first, unknown, stage, stages};
 
 use crate::context::{Context, Placed, find_placed, is_same};
+use crate::leads::placed_at_once;
 use dfs_base::{Items, Name, NameRefused, NoMemory, Node, Plain, ServerId};
-use script_words::{Fault, is_word, next_line, node_of, words_of_line};
+use script_words::{is_word, next_line, node_of, words_asking};
 use std::alloc::Global;
-
-/// How often steps are doubled: at last they are more than a script has lines.
-const DOUBLINGS: usize = 14;
 
 /// A line that clones a fileset.
 #[derive(Drop)]
@@ -62,14 +58,14 @@ fn clone_of(alloc: Global, words: &[Items<u8>]) -> Result<Option<CloneLine>, NoM
     }
 }
 
-#[tactic(auto, unfolding(crate::specs::Clones::clone_in))]
+// Of a line that clones nothing two words are read.
+#[tactic(auto, using(crate::proofs::Asked::clone_asked, crate::proofs::Asked::nothing_asked))]
 fn clone_in(alloc: Global, line: &[u8]) -> Result<Option<CloneLine>, NoMemory>
     ensures { IfOk result (λ clone. clone ≡ clone_in line.now) }
 {
-    match words_of_line(alloc, line) {
-        Ok(words) => clone_of(alloc, words.as_slice()),
-        Err(Fault::Bad(_)) => Ok(None),
-        Err(Fault::Memory) => Err(NoMemory),
+    match words_asking(alloc, line, b"clone")? {
+        Some(words) => clone_of(alloc, words.as_slice()),
+        None => Ok(None),
     }
 }
 
@@ -94,10 +90,19 @@ fn clones_of(alloc: Global, bytes: &[u8]) -> Result<Items<CloneLine>, NoMemory>
 pub(crate) enum Way {
     /// It is placed at a server.
     At(ServerId),
-    /// To the source of this clone.
-    Source(usize),
+    /// It is that of clones, the first of which stands here.
+    Clone(usize),
     /// It is placed nowhere.
     Nowhere,
+}
+
+/// Where the names of a clone lead.
+#[derive(Clone, Copy, Drop)]
+pub(crate) struct Route {
+    /// The name of the clone.
+    pub name: Way,
+    /// Its source.
+    pub source: Way,
 }
 
 fn position_of(clones: &[CloneLine], name: &Name) -> Option<usize>
@@ -106,127 +111,164 @@ fn position_of(clones: &[CloneLine], name: &Name) -> Option<usize>
     clones.iter().position(|clone| is_same(&clone.new, name))
 }
 
-// One step from a name.
 #[tactic(auto, unfolding(crate::specs::Ways::way_of))]
-fn way_of(placed: &Items<Placed>, clones: &Items<CloneLine>, name: &Name) -> Way
+pub(crate) fn way_of(placed: &Items<Placed>, clones: &Items<CloneLine>, name: &Name) -> Way
     ensures { result ≡ way_of placed.now clones.now name.now }
 {
     if let Some(found) = find_placed(placed, name) {
         return Way::At(found.server);
     }
     match position_of(clones.as_slice(), name) {
-        Some(clone) => Way::Source(clone),
+        Some(clone) => Way::Clone(clone),
         None => Way::Nowhere,
     }
 }
 
-// One step from the source of a clone.
-fn way_from(placed: &Items<Placed>, clones: &Items<CloneLine>, clone: usize) -> Way
-    ensures { result ≡ way_from placed.now clones.now (slice_get clones.now clone) }
+fn route_of(placed: &Items<Placed>, clones: &Items<CloneLine>, clone: &CloneLine) -> Route
+    ensures { result ≡ route_of placed.now clones.now clone.now }
 {
-    match clones.at(clone) {
-        Some(clone) => way_of(placed, clones, &clone.source),
-        None => Way::Nowhere,
+    Route {
+        name: way_of(placed, clones, &clone.new),
+        source: way_of(placed, clones, &clone.source),
     }
 }
 
-// A way, and on from where it leads by a list of ways.
-fn goes_on(way: Way, ways: &Items<Way>) -> Way
-    ensures { result ≡ goes_on way (way_in ways.now) }
-{
-    match way {
-        Way::Source(clone) => way_in(ways, clone),
-        way => way,
-    }
-}
-
-fn way_in(ways: &Items<Way>, clone: usize) -> Way
-    ensures { result ≡ way_in ways.now clone }
-{
-    match ways.at(clone) {
-        Some(way) => *way,
-        None => Way::Nowhere,
-    }
-}
-
-#[tactic(auto, using(crate::proofs::Places::ways_start, crate::proofs::Places::ways_more, crate::proofs::Places::ways_end))]
-fn first_ways(
+#[tactic(auto, unfolding(crate::specs::Ways::routes_of))]
+fn routes_of(
     alloc: Global,
     placed: &Items<Placed>,
     clones: &Items<CloneLine>,
-) -> Result<Items<Way>, NoMemory>
-    ensures { IfOk result (λ ways. ways ≡ all_lead 0 placed.now clones.now) }
+) -> Result<Items<Route>, NoMemory>
+    ensures { IfOk result (λ routes. routes ≡ routes_of placed.now clones.now) }
 {
-    let mut ways = Items::new(alloc);
-    for clone in 0..clones.len() {
-        ways.push(way_from(placed, clones, clone))?;
+    let mut routes = Items::new(alloc);
+    for clone in clones.as_slice() {
+        routes.push(route_of(placed, clones, clone))?;
     }
-    Ok(ways)
+    Ok(routes)
 }
 
-// Twice as many steps.
-#[tactic(auto, using(crate::proofs::Places::doubled_start, crate::proofs::Places::doubled_more, crate::proofs::Places::doubled_end))]
-fn doubled(alloc: Global, ways: &Items<Way>) -> Result<Items<Way>, NoMemory>
-    ensures { IfOk result (λ more. more ≡ doubled ways.now) }
+fn server_in(table: &Items<Option<ServerId>>, place: usize) -> Option<ServerId>
+    ensures { result ≡ server_in table.now place }
 {
-    let mut more = Items::new(alloc);
-    for clone in 0..ways.len() {
-        more.push(goes_on(way_in(ways, clone), ways))?;
+    match table.at(place) {
+        Some(server) => *server,
+        None => None,
     }
-    Ok(more)
 }
 
-// Where the source of each clone leads, by more steps than a script has lines.
-#[tactic(auto, using(crate::proofs::Places::doubled_leads))]
-fn all_ways(
-    alloc: Global,
-    placed: &Items<Placed>,
-    clones: &Items<CloneLine>,
-) -> Result<Items<Way>, NoMemory>
-    ensures { IfOk result (λ ways. ways ≡ all_lead (steps_after DOUBLINGS) placed.now clones.now) }
-{
-    let mut ways = first_ways(alloc, placed, clones)?;
-    for round in 0..DOUBLINGS {
-        ways = doubled(alloc, &ways)?;
-    }
-    Ok(ways)
-}
-
-fn server_at_end(way: Way) -> Option<ServerId>
-    ensures { result ≡ server_at_end way }
+fn server_by(table: &Items<Option<ServerId>>, way: Way) -> Option<ServerId>
+    ensures { result ≡ server_by table.now way }
 {
     match way {
         Way::At(server) => Some(server),
-        _ => None,
+        Way::Clone(place) => server_in(table, place),
+        Way::Nowhere => None,
     }
 }
 
-// The server of a name.
-#[tactic(auto, using(crate::proofs::Places::place_is))]
-fn server_by(
-    placed: &Items<Placed>,
-    clones: &Items<CloneLine>,
-    ways: &Items<Way>,
-    name: &Name,
-) -> Option<ServerId>
-    requires { ways.now ≡ all_lead (steps_after DOUBLINGS) placed.now clones.now }
-    ensures { result ≡ place_by most_steps placed.now clones.now name.now }
+fn first_of(server: Option<ServerId>, other: Option<ServerId>) -> Option<ServerId>
+    ensures { result ≡ first_of server other }
 {
-    server_at_end(goes_on(way_of(placed, clones, name), ways))
+    match server {
+        Some(server) => Some(server),
+        None => other,
+    }
 }
 
-// The names that clones place, each where its source is placed.
-fn placed_by(
+// The first clone of a name that has a server decides.
+fn put_first(table: &mut Items<Option<ServerId>>, name: Way, server: Option<ServerId>)
+    ensures { table.new ≡ put_first table.old name server }
+{
+    if let Way::Clone(place) = name {
+        let first = first_of(server_in(table, place), server);
+        table.put(place, first);
+    }
+}
+
+// A table without servers.
+fn unknown(alloc: Global, n: usize) -> Result<Items<Option<ServerId>>, NoMemory>
+    ensures { IfOk result (λ table. table ≡ unknown n) }
+{
+    let mut table = Vec::new(alloc);
+    table.resize(n, None)?;
+    Ok(Items::from_vec(table))
+}
+
+#[tactic(auto, unfolding(crate::specs::Ways::stage))]
+fn stage(
+    alloc: Global,
+    routes: &Items<Route>,
+    old: &Items<Option<ServerId>>,
+) -> Result<Items<Option<ServerId>>, NoMemory>
+    ensures { IfOk result (λ table. table ≡ stage routes.now old.now) }
+{
+    let mut table = unknown(alloc, routes.len())?;
+    for route in routes.as_slice() {
+        put_first(&mut table, route.name, server_by(old, route.source));
+    }
+    Ok(table)
+}
+
+fn is_same_table(a: &Items<Option<ServerId>>, b: &Items<Option<ServerId>>) -> bool
+    ensures { result ≡ true → a.now ≡ b.now }
+{
+    *a == *b
+}
+
+// What is known after more stages than a script has lines. After one that changes nothing no other does.
+#[tactic(auto, using(crate::proofs::Places::settled_then, crate::proofs::Places::stage_more, crate::proofs::Places::steps_are))]
+fn settled(alloc: Global, routes: &Items<Route>) -> Result<Items<Option<ServerId>>, NoMemory>
+    ensures { IfOk result (λ table. table ≡ stages most_steps routes.now) }
+{
+    let mut table = unknown(alloc, routes.len())?;
+    for round in 0..16_384usize {
+        let next = stage(alloc, routes, &table)?;
+        if is_same_table(&next, &table) {
+            return Ok(table);
+        }
+        table = next;
+    }
+    Ok(table)
+}
+
+// The server of each name, stage by stage.
+fn servers_of(
+    alloc: Global,
+    placed: &Items<Placed>,
+    clones: &Items<CloneLine>,
+) -> Result<Items<Option<ServerId>>, NoMemory>
+    ensures { IfOk result (λ table. table ≡ stages most_steps (routes_of placed.now clones.now)) }
+{
+    let routes = routes_of(alloc, placed, clones)?;
+    settled(alloc, &routes)
+}
+
+#[tactic(auto, using(crate::proofs::Places::place_told))]
+fn server_of_name(
+    placed: &Items<Placed>,
+    clones: &Items<CloneLine>,
+    table: &Items<Option<ServerId>>,
+    name: &Name,
+) -> Option<ServerId>
+    requires { table.now ≡ stages most_steps (routes_of placed.now clones.now) }
+    ensures { result ≡ clone_place placed.now clones.now name.now }
+{
+    server_by(table, way_of(placed, clones, name))
+}
+
+// The names that clones place, stage by stage.
+fn placed_by_stages(
     alloc: Global,
     placed: &Items<Placed>,
     clones: &Items<CloneLine>,
 ) -> Result<Items<Placed>, NoMemory>
     ensures { IfOk result (λ more. more ≡ placed_by placed.now clones.now) }
 {
-    let ways = all_ways(alloc, placed, clones)?;
+    let table = servers_of(alloc, placed, clones)?;
     let mut more = Items::new(alloc);
     for clone in clones.as_slice() {
-        if let Some(server) = server_by(placed, clones, &ways, &clone.new) {
+        if let Some(server) = server_of_name(placed, clones, &table, &clone.new) {
             let name = clone.new.copy()?;
             more.push(Placed { name, server })?;
         }
@@ -234,9 +276,24 @@ fn placed_by(
     Ok(more)
 }
 
+// The names that clones place, each where its source is placed. Where the first clone of each name leads to a server no
+// stages are needed.
+fn placed_by(
+    alloc: Global,
+    placed: &Items<Placed>,
+    clones: &Items<CloneLine>,
+) -> Result<Items<Placed>, NoMemory>
+    ensures { IfOk result (λ more. more ≡ placed_by placed.now clones.now) }
+{
+    match placed_at_once(alloc, placed, clones)? {
+        Some(more) => Ok(more),
+        None => placed_by_stages(alloc, placed, clones),
+    }
+}
+
 impl Context {
-    /// Places the names of all clones among these lines, which come after the headers. Lines that place each other in a circle
-    /// place nothing.
+    /// Places the names of all clones among these lines, which come after the headers: each where its header is, else where the
+    /// source of the first clone of it is whose source is placed. Lines that place each other in a circle place nothing.
     #[tactic(auto, unfolding(crate::specs::Clones::with_clones))]
     pub fn place_clones(&mut self, alloc: Global, bytes: &[u8]) -> Result<(), NoMemory>
         ensures { OnOk result (self.new ≡ with_clones self.old (lines_of bytes.now)) }

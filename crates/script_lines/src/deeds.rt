@@ -1,7 +1,7 @@
 ghost use Rattle.std.specs.Prelude.{◌≡◌};
 ghost use Rattle.script_words.specs.Outcome.{Gives};
 ghost use Rattle.script_lines.specs.Locks.{lock_part, last_kind};
-ghost use Rattle.script_lines.specs.Deeds.{raise_deed, verb_of, open_kind_of, lock_mode_of, which_of, which_at, only_place, rename_call, truncate_call, clone_call, read_call, write_call, lock_call, open_call, getacl_call, setacl_call, only_label, call_by, host_deed, server_deed, deed_of};
+ghost use Rattle.script_lines.specs.Deeds.{raise_deed, verb_of, open_kind_of, lock_mode_of, which_of, which_at, only_place, rename_call, truncate_call, clone_call, read_call, write_call, lock_call, open_call, getacl_call, setacl_call, only_label, is_mixed, move_call, call_by, host_deed, server_deed, deed_of};
 
 use crate::context::Context;
 use crate::script::{Deed, NUMBER_MAX};
@@ -36,6 +36,7 @@ pub(crate) enum Verb {
     Await,
     Stop,
     Restart,
+    Move,
 }
 
 #[tactic(auto, unfolding(crate::specs::Deeds::verb_of))]
@@ -84,6 +85,8 @@ fn verb_of(word: &[u8]) -> Option<Verb>
         Some(Verb::Stop)
     } else if is_word(word, b"restart") {
         Some(Verb::Restart)
+    } else if is_word(word, b"move") {
+        Some(Verb::Move)
     } else {
         None
     }
@@ -142,6 +145,13 @@ fn which_at(words: &Words, i: usize) -> Result<Which, Fault>
     ensures { Gives result (which_at words.now i) }
 {
     known(which_of(word_at(words, i)?.as_slice()))
+}
+
+// Whether some servers have a disk and some have none, where there are so many.
+fn is_mixed(servers: u32, disks: u32) -> bool
+    ensures { result ≡ is_mixed servers disks }
+{
+    0 < disks && disks < servers
 }
 
 /// What a lock covers, and how.
@@ -303,6 +313,25 @@ impl Context {
         })
     }
 
+    // A fileset goes to a declared server, where each server has a disk, or none.
+    #[tactic(auto, unfolding(crate::specs::Deeds::move_call))]
+    fn move_call(&self, disks: u32, words: &Words) -> Result<Call, Fault>
+        ensures { Gives result (move_call self.now.script disks self.now.placed words.now) }
+    {
+        let fileset = name_at(words, 2)?;
+        let Some(server) = self.server_of(&fileset) else {
+            return Err(Fault::Bad(BadWhy::Undeclared));
+        };
+        let to = self.server_at(words, 3)?;
+        unless(is_mixed(self.script.servers, disks), BadWhy::Disks)?;
+        end_at(words, 4)?;
+        Ok(Call::MoveFileset {
+            server,
+            fileset,
+            to,
+        })
+    }
+
     #[tactic(auto, unfolding(crate::specs::Deeds::call_by))]
     fn call_by(&self, verb: Verb, words: &Words) -> Result<Call, Fault>
         ensures { Gives result (call_by self.now.placed verb words.now) }
@@ -356,8 +385,8 @@ impl Context {
     }
 
     #[tactic(auto, unfolding(crate::specs::Deeds::host_deed))]
-    fn host_deed(&self, verb: Verb, words: &Words) -> Result<Deed, Fault>
-        ensures { Gives result (host_deed self.now.placed self.now.raised verb words.now) }
+    fn host_deed(&self, disks: u32, verb: Verb, words: &Words) -> Result<Deed, Fault>
+        ensures { Gives result (host_deed self.now.script disks self.now.placed self.now.raised verb words.now) }
     {
         match verb {
             Verb::Raise => self.raise_deed(words),
@@ -366,6 +395,7 @@ impl Context {
                 end_at(words, 2)?;
                 Ok(Deed::Stop)
             }
+            Verb::Move => Ok(Deed::Call(self.move_call(disks, words)?)),
             _ => Ok(Deed::Call(self.call_by(verb, words)?)),
         }
     }
@@ -387,12 +417,12 @@ impl Context {
 
     /// The deed of a node's line, in its words from the second on. `Word` where the second word is no deed of such a node.
     #[tactic(auto, unfolding(crate::specs::Deeds::deed_of))]
-    pub(crate) fn deed_of(&self, node: Node, words: &Words) -> Result<Deed, Fault>
-        ensures { Gives result (deed_of self.now.placed self.now.raised node words.now) }
+    pub(crate) fn deed_of(&self, disks: u32, node: Node, words: &Words) -> Result<Deed, Fault>
+        ensures { Gives result (deed_of self.now.script disks self.now.placed self.now.raised node words.now) }
     {
         let verb = known(verb_of(word_at(words, 1)?.as_slice()))?;
         match node {
-            Node::Host(_) => self.host_deed(verb, words),
+            Node::Host(_) => self.host_deed(disks, verb, words),
             Node::Server(_) => self.server_deed(verb, words),
         }
     }

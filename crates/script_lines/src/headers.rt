@@ -1,7 +1,8 @@
 ghost use Rattle.std.specs.Prelude.{◌≡◌, OnOk};
 ghost use Rattle.std.specs.Option.{option_copied};
 ghost use Rattle.script_words.specs.Outcome.{Gives, GivesBy, Becomes};
-ghost use Rattle.script_lines.specs.Headers.{header_of, groups_at, limit_at, user_named, is_capped, has_fileset_at, server_at, owner_at, setup_line, with_fileset, servers_line, user_line, host_line, capacity_line, fileset_line, net_line, begin_line, header_by, header_line};
+ghost use Rattle.script_lines.specs.Context.{server_at};
+ghost use Rattle.script_lines.specs.Headers.{header_of, groups_at, limit_at, user_named, is_capped, has_fileset_at, owner_at, setup_line, with_fileset, servers_line, user_line, host_line, capacity_line, fileset_line, net_line, begin_line, header_by, header_line};
 
 use crate::context::{Context, Placed, host_named, server_named};
 use crate::script::{Deed, Line, NET_MAX, Net};
@@ -113,8 +114,9 @@ fn setup_line(number: u32, server: ServerId, name: Name, objects: u32, owner: Us
 }
 
 impl Context {
-    #[tactic(auto, unfolding(crate::specs::Headers::server_at))]
-    fn server_at(&self, words: &Words, i: usize) -> Result<ServerId, Fault>
+    /// A server that is declared. `Word` where the word is none, `Undeclared` where it isn't.
+    #[tactic(auto, unfolding(crate::specs::Context::server_at))]
+    pub(crate) fn server_at(&self, words: &Words, i: usize) -> Result<ServerId, Fault>
         ensures { Gives result (server_at self.now.script words.now i) }
     {
         let server = server_named(words, i)?;

@@ -84,11 +84,11 @@ impl Context {
     }
 
     #[tactic(auto, unfolding(crate::specs::Judge::deed_line))]
-    fn deed_line(&mut self, number: u32, words: &Words) -> Result<(), Fault>
-        ensures { Becomes result self.new (deed_line self.old number words.now) }
+    fn deed_line(&mut self, disks: u32, number: u32, words: &Words) -> Result<(), Fault>
+        ensures { Becomes result self.new (deed_line self.old disks number words.now) }
     {
         let node = self.node_at(words)?;
-        let deed = self.deed_of(node, words)?;
+        let deed = self.deed_of(disks, node, words)?;
         self.add_line(Line { number, node, deed })?;
         Ok(())
     }
@@ -101,7 +101,7 @@ impl Context {
             return Ok(());
         }
         if self.begun {
-            self.deed_line(number, words)
+            self.deed_line(disks, number, words)
         } else {
             self.header_line(disks, number, words)
         }

@@ -2,13 +2,18 @@
 //! nodes of the service follow them. The grammar is this project's own.
 #![tactic(auto)]
 
+mod asks;
 mod clones;
 mod context;
 mod deeds;
 mod headers;
 mod judge;
+mod laws;
+mod leads;
 mod plan;
 mod script;
 
+pub use asks::{call_lines, same_node};
 pub use context::Context;
+pub use laws::{chains_place, circles_place_nothing, first_clone_places};
 pub use script::{Deed, Line, NET_MAX, NUMBER_MAX, Net, PlanDeed, PlanLine, Script};

@@ -1,2 +1,5 @@
 pub mod Splits
 pub mod Spelled
+pub mod Reading
+mod Asking
+mod Parts

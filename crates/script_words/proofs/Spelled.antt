@@ -2,7 +2,7 @@ use Rattle.std.proofs.Common.{◌≡◌, ℕ, ◌<◌, ◌/◌, ◌%◌, List, [
 use Rattle.std.specs.List.{AllByRecursion}
 use Rattle.std.proofs.lemmas.Grind.{common_steps}
 use Rattle.script_words.specs.Words.{hex_digit, words_from, words_of}
-use Rattle.script_words.specs.declared.words.Mode.TheVariants.{Between, Quoted}
+use Rattle.script_words.specs.Words.Mode.{Between, Quoted}
 use Rattle.script_words.specs.Spelling.{hex_of, spelled_byte, spelled_bytes, spelled, IsByte, AreWords, WordsAreReadBack}
 
 pub hex_back : (n : ℕ) → n < 16 → hex_digit (hex_of n) ≡ Some n

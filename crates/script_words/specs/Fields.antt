@@ -6,7 +6,7 @@ use Rattle.script_words.specs.declared.fields.TheConstants.{LABEL_BYTES_MAX}
 use Rattle.dfs_base.specs.declared.ids.Node.{Node}
 use Rattle.dfs_base.specs.declared.ids.Node.TheVariants.{Host, Server}
 use Rattle.script_words.specs.Outcome.{◌>>=◌, found}
-use Rattle.script_words.specs.Words.{is_in}
+use Rattle.script_words.specs.Words.{is_in, words_of_line}
 use Rattle.script_words.specs.declared.fault.BadWhy.{BadWhy}
 use Rattle.script_words.specs.declared.fault.BadWhy.TheVariants.{Text, Word, Number, BadName}
 
@@ -97,6 +97,19 @@ node_of (letter ∷ digits) =
 -- whether a word is this one
 unfoldable pub is_word : List ℕ → List ℕ → Bool
 is_word word text = same_name word text
+
+-- whether the second of these words is this one
+abbrev pub asks : List ℕ → List (List ℕ) → Bool
+asks verb (node ∷ word ∷ words) = is_word word verb
+asks verb _ = false
+
+-- the words of a line whose second word is this one
+abbrev pub asking : List ℕ → Result (List (List ℕ)) BadWhy → Option (List (List ℕ))
+asking verb (Ok words) = if asks verb words then Some words else None
+asking verb (Err why) = None
+
+unfoldable pub words_asking : List ℕ → List ℕ → Option (List (List ℕ))
+words_asking line verb = asking verb (words_of_line line)
 
 -- the parts of bytes between separators, after these and a part of these bytes that isn't ended
 abbrev pub parts_from : ℕ → List (List ℕ) → List ℕ → List ℕ → List (List ℕ)

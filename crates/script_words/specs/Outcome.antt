@@ -38,3 +38,8 @@ unless false why = Ok tt
 abbrev pub Becomes : {X : Type 0} → Result (Unit {0}) Fault → X → Result X BadWhy → Type 0
 Becomes (Ok _) left read = read ≡ Ok left
 Becomes (Err fault) left read = Fails fault read
+
+-- what a step returned leaves to be read what there was, unless memory ran out
+abbrev pub Onward : {X Y : Type 0} → (X → Result Y BadWhy) → Result X Fault → Result Y BadWhy → Type 0
+Onward left (Ok rest) read = read ≡ left rest
+Onward left (Err fault) read = Fails fault read

@@ -3,10 +3,24 @@ use Rattle.dfs_base.specs.declared.limits.TheConstants.{LINE_BYTES_MAX}
 use Rattle.script_words.specs.Lines.{without_end, content, says_nothing}
 use Rattle.script_words.specs.declared.fault.BadWhy.{BadWhy}
 use Rattle.script_words.specs.declared.fault.BadWhy.TheVariants.{Long, Text}
-use Rattle.script_words.specs.declared.words.Mode.{Mode}
-use Rattle.script_words.specs.declared.words.Mode.TheVariants.{Between, Plain, Quoted, Escape, Hex, HalfHex, Closed}
-use Rattle.script_words.specs.declared.words.Turn.{Turn}
-use Rattle.script_words.specs.declared.words.Turn.TheVariants.{Go, Add, End}
+use Rattle.script_words.specs.declared.words.Reader.{Reader}
+
+-- where in a line a reader of words stands: between two words, in one without quotes or in quotes, after a backslash, after
+-- its 'x', after the first digit behind that, with its value, or after the quote that ends a word
+pub data Mode : Type 0 where
+  Between : Mode
+  Plain : Mode
+  Quoted : Mode
+  Escape : Mode
+  Hex : Mode
+  HalfHex : ℕ → Mode
+  Closed : Mode
+
+-- what a byte does: it adds nothing to a word, or this byte, or the word ends
+pub data Turn : Type 0 where
+  Go : Mode → Turn
+  Add : ℕ → Mode → Turn
+  End : Turn
 
 -- whether a number lies between two, both counted
 abbrev pub is_in : ℕ → ℕ → ℕ → Bool
@@ -70,3 +84,7 @@ unfoldable pub words_of_line : List ℕ → Result (List (List ℕ)) BadWhy
 words_of_line line =
     if nat_lt LINE_BYTES_MAX (length (without_end 10 line)) then Err Long
     else (if says_nothing (content line) then Ok [] else words_of (content line))
+
+-- the same of a reader's words so far
+abbrev pub said : Reader → Mode → List ℕ → Result (List (List ℕ)) BadWhy
+said reader mode text = words_from reader.words reader.word mode text

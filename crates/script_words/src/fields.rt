@@ -1,9 +1,10 @@
-ghost use Rattle.std.specs.Prelude.{◌≡◌, ◌≤◌, [], IfOk, IfSome};
+ghost use Rattle.std.specs.Prelude.{◌≡◌, ◌≤◌, [], length, IfOk, IfSome};
 ghost use Rattle.dfs_base.specs.Name.{is_among};
 ghost use Rattle.script_words.specs.declared.fault.BadWhy.TheVariants.{Word};
 ghost use Rattle.script_words.specs.Outcome.{Gives, GivesBy, found, unless};
 ghost use Rattle.std.specs.List.{list_all};
 ghost use Rattle.script_words.specs.Fields.{is_label, is_label_byte, starts_with_zero, value_from, number_up_to, node_of, is_word, parts_of, all_named, names_of, word_at, end_at, named, name_at, label_at, number_at, text_at};
+ghost use Rattle.script_words.specs.Reading.{part_len};
 
 use crate::fault::{BadWhy, Fault};
 use dfs_base::{
@@ -201,9 +202,40 @@ pub fn names_of(alloc: Global, path: &[u8]) -> Result<Items<Name>, Fault>
     ensures { Gives result (names_of path.now) }
 {
     match path {
-        [b'/', rest @ ..] => all_named(alloc, parts_of(alloc, rest, b'/')?.as_slice()),
+        [b'/', rest @ ..] => named_parts(alloc, rest, b'/'),
         _ => Err(Fault::Bad(BadWhy::BadName)),
     }
+}
+
+// The names that the parts between separators are; `BadName` where one is none.
+#[tactic(auto, using(crate::proofs::Parts::first_part, crate::proofs::Parts::last_part))]
+fn named_parts(alloc: Global, bytes: &[u8], separator: u8) -> Result<Items<Name>, Fault>
+    ensures { Gives result (all_named [] (parts_of separator bytes.now)) }
+{
+    let mut names = Items::new(alloc);
+    let mut rest = bytes;
+    let mut len = part_len(rest, separator);
+    while len < rest.len() {
+        let (part, behind) = rest.split_at(len);
+        names.push(named(alloc, part)?)?;
+        rest = behind.split_at(1).1;
+        len = part_len(rest, separator);
+    }
+    names.push(named(alloc, rest)?)?;
+    Ok(names)
+}
+
+// How many bytes stand before a separator, or are all.
+fn part_len(bytes: &[u8], separator: u8) -> usize
+    ensures value { result ≡ part_len separator bytes.now }
+    ensures within { result ≤ length bytes.now }
+{
+    for (i, byte) in bytes.iter().enumerate() {
+        if *byte == separator {
+            return i;
+        }
+    }
+    bytes.len()
 }
 
 /// The parts of bytes between separators, one more than there are separators.

@@ -15,4 +15,4 @@ pub use fields::{
 };
 pub use lines::next_line;
 pub use lists::list_at;
-pub use words::{words_are_read_back, words_of_line};
+pub use words::{words_are_read_back, words_asking, words_of_line};

@@ -1,42 +1,26 @@
-ghost use Rattle.std.specs.Prelude.{◌≡◌, [], OnOk, OnErr};
-ghost use Rattle.script_words.specs.Outcome.{Gives};
+ghost use Rattle.std.specs.Prelude.{◌≡◌, ◌<◌, ◌≤◌, [], true, false, None, length, IfOk, IfSome, OnOk};
+ghost use Rattle.script_words.specs.Outcome.{Gives, Onward};
 ghost use Rattle.script_words.specs.Lines.{without_end, content, says_nothing};
 ghost use Rattle.script_words.specs.Spelling.{WordsAreReadBack};
-ghost use Rattle.script_words.specs.Words.{hex_digit, turn_by, words_from, words_of, words_of_line};
+ghost use Rattle.script_words.specs.Words.{hex_digit, said, words_of, words_of_line};
+ghost use Rattle.script_words.specs.Words.Mode.{Between, Quoted, Escape, Closed};
+ghost use Rattle.script_words.specs.Fields.{asks, asking, words_asking};
+ghost use Rattle.script_words.specs.Reading.{is_text, space_len, plain_len, quoted_len, escape_at, begins_plain, begins_run};
 
 use crate::fault::{BadWhy, Fault};
+use crate::fields::is_word;
 use crate::lines::{content, says_nothing, without_end};
-use dfs_base::{Items, LINE_BYTES_MAX};
+use dfs_base::{Items, LINE_BYTES_MAX, NoMemory};
 use std::alloc::Global;
+use std::mem;
 
-/// Where in a line a reader of words stands.
-#[derive(Clone, Copy)]
-pub(crate) enum Mode {
-    /// Between two words.
-    Between,
-    /// In a word without quotes.
-    Plain,
-    /// In a word in quotes.
-    Quoted,
-    /// After a backslash.
-    Escape,
-    /// After `\x`.
-    Hex,
-    /// After the first digit of an `\x`, with its value.
-    HalfHex(u8),
-    /// After the quote that ends a word.
-    Closed,
-}
-
-/// What a byte does.
-#[derive(Clone, Copy)]
-pub(crate) enum Turn {
-    /// It adds nothing to a word.
-    Go(Mode),
-    /// A byte of the word.
-    Add(u8, Mode),
-    /// The word ends.
-    End,
+/// Words that are read, one after the other.
+#[derive(Drop)]
+pub(crate) struct Reader {
+    /// The words that have ended.
+    pub words: Items<Items<u8>>,
+    /// What the next one means so far.
+    pub word: Items<u8>,
 }
 
 fn hex_digit(byte: u8) -> Option<u8>
@@ -50,45 +34,168 @@ fn hex_digit(byte: u8) -> Option<u8>
     }
 }
 
-// What a byte does in each mode; none where it may not stand there.
-fn turn_by(mode: Mode, byte: u8) -> Option<Turn>
-    ensures { result ≡ turn_by mode byte }
+// How many bytes at the front are spaces.
+fn space_len(text: &[u8]) -> usize
+    ensures value { result ≡ space_len text.now }
+    ensures within { result ≤ length text.now }
 {
-    match mode {
-        Mode::Between => match byte {
-            b' ' => Some(Turn::Go(Mode::Between)),
-            b'"' => Some(Turn::Go(Mode::Quoted)),
-            33..=126 => Some(Turn::Add(byte, Mode::Plain)),
+    for (i, byte) in text.iter().enumerate() {
+        if *byte != b' ' {
+            return i;
+        }
+    }
+    text.len()
+}
+
+// How many bytes at the front stand for themselves outside quotes.
+fn plain_len(text: &[u8]) -> usize
+    ensures value { result ≡ plain_len text.now }
+    ensures within { result ≤ length text.now }
+{
+    for (i, byte) in text.iter().enumerate() {
+        if *byte < 33 || 126 < *byte {
+            return i;
+        }
+    }
+    text.len()
+}
+
+// Whether a byte stands for itself in quotes.
+fn is_text(byte: u8) -> bool
+    ensures { result ≡ is_text byte }
+{
+    32 <= byte && byte <= 126 && byte != b'"' && byte != b'\\'
+}
+
+// How many bytes at the front stand for themselves in quotes.
+fn quoted_len(text: &[u8]) -> usize
+    ensures value { result ≡ quoted_len text.now }
+    ensures within { result ≤ length text.now }
+{
+    for (i, byte) in text.iter().enumerate() {
+        if !is_text(*byte) {
+            return i;
+        }
+    }
+    text.len()
+}
+
+// What follows a backslash means, and how many bytes it has.
+fn escape_at(text: &[u8]) -> Option<(u8, usize)>
+    ensures value { result ≡ escape_at text.now }
+    ensures within { IfSome result (λ (meant, used). used ≤ length text.now) }
+{
+    match text {
+        [b'"', ..] => Some((b'"', 1)),
+        [b'\\', ..] => Some((b'\\', 1)),
+        [b'x', high, low, ..] => match (hex_digit(*high), hex_digit(*low)) {
+            (Some(high), Some(low)) => Some(((high % 16) * 16 + low, 3)),
             _ => None,
         },
-        Mode::Plain => match byte {
-            b' ' => Some(Turn::End),
-            33..=126 => Some(Turn::Add(byte, Mode::Plain)),
-            _ => None,
-        },
-        Mode::Quoted => match byte {
-            b'"' => Some(Turn::Go(Mode::Closed)),
-            b'\\' => Some(Turn::Go(Mode::Escape)),
-            32..=126 => Some(Turn::Add(byte, Mode::Quoted)),
-            _ => None,
-        },
-        Mode::Escape => match byte {
-            b'"' | b'\\' => Some(Turn::Add(byte, Mode::Quoted)),
-            b'x' => Some(Turn::Go(Mode::Hex)),
-            _ => None,
-        },
-        Mode::Hex => match hex_digit(byte) {
-            Some(digit) => Some(Turn::Go(Mode::HalfHex(digit))),
-            None => None,
-        },
-        Mode::HalfHex(high) => match hex_digit(byte) {
-            Some(digit) => Some(Turn::Add((high % 16) * 16 + digit, Mode::Quoted)),
-            None => None,
-        },
-        Mode::Closed => match byte {
-            b' ' => Some(Turn::End),
-            _ => None,
-        },
+        _ => None,
+    }
+}
+
+impl Reader {
+    // Reads a word without quotes, up to the byte behind it.
+    #[tactic(auto, using(crate::proofs::Reading::plain_reads, crate::proofs::Reading::plain_fails))]
+    fn plain<'a>(&mut self, text: &'a [u8]) -> Result<&'a [u8], Fault>
+        requires new { self.old.word ≡ [] }
+        requires begins { begins_plain text.now ≡ true }
+        ensures reads { Onward (λ rest. said self.new Closed rest.now) result (said self.old Between text.now) }
+        ensures less { IfOk result (λ rest. length rest.now < length text.now) }
+    {
+        let len = plain_len(text);
+        if len == 0 {
+            return Err(Fault::Bad(BadWhy::Text));
+        }
+        let (front, rest) = text.split_at(len);
+        self.word.extend(front)?;
+        Ok(rest)
+    }
+
+    // Reads the bytes at the front that stand for themselves in quotes, of which there has to be one.
+    #[tactic(auto, using(crate::proofs::Reading::run_reads, crate::proofs::Reading::run_fails))]
+    fn run<'a>(&mut self, text: &'a [u8]) -> Result<&'a [u8], Fault>
+        requires begins { begins_run text.now ≡ true }
+        ensures reads { Onward (λ rest. said self.new Quoted rest.now) result (said self.old Quoted text.now) }
+        ensures less { IfOk result (λ rest. length rest.now < length text.now) }
+    {
+        let len = quoted_len(text);
+        if len == 0 {
+            return Err(Fault::Bad(BadWhy::Text));
+        }
+        let (front, rest) = text.split_at(len);
+        self.word.extend(front)?;
+        Ok(rest)
+    }
+
+    // Reads what follows a backslash.
+    #[tactic(auto, using(crate::proofs::Reading::escape_reads, crate::proofs::Reading::escape_fails))]
+    fn escape<'a>(&mut self, text: &'a [u8]) -> Result<&'a [u8], Fault>
+        ensures reads { Onward (λ rest. said self.new Quoted rest.now) result (said self.old Escape text.now) }
+        ensures less { IfOk result (λ rest. length rest.now ≤ length text.now) }
+    {
+        let Some((meant, used)) = escape_at(text) else {
+            return Err(Fault::Bad(BadWhy::Text));
+        };
+        self.word.push(meant)?;
+        Ok(text.split_at(used).1)
+    }
+
+    // Reads a word in quotes, from behind its first quote on and past its last one.
+    fn quoted<'a>(&mut self, text: &'a [u8]) -> Result<&'a [u8], Fault>
+        ensures reads { Onward (λ rest. said self.new Closed rest.now) result (said self.old Quoted text.now) }
+        ensures less { IfOk result (λ rest. length rest.now ≤ length text.now) }
+    {
+        let mut rest = text;
+        while let Some((byte, after)) = rest.split_first() {
+            match *byte {
+                b'"' => return Ok(after),
+                b'\\' => rest = self.escape(after)?,
+                _ => rest = self.run(rest)?,
+            }
+        }
+        Err(Fault::Bad(BadWhy::Text))
+    }
+
+    // Ends the word, behind which a space or nothing must stand.
+    fn end<'a>(&mut self, text: &'a [u8]) -> Result<&'a [u8], Fault>
+        ensures reads { Onward (λ rest. said self.new Between rest.now) result (said self.old Closed text.now) }
+        ensures new { OnOk result (self.new.word ≡ []) }
+        ensures less { IfOk result (λ rest. length rest.now ≤ length text.now) }
+    {
+        let rest = match text {
+            [] => text,
+            [b' ', rest @ ..] => rest,
+            _ => return Err(Fault::Bad(BadWhy::Text)),
+        };
+        let alloc = self.words.alloc();
+        let word = mem::replace(&mut self.word, Items::new(alloc));
+        self.words.push(word)?;
+        Ok(rest)
+    }
+
+    // Reads spaces, or a word and the space behind it.
+    #[tactic(auto, using(crate::proofs::Reading::spaces_read))]
+    fn next<'a>(&mut self, text: &'a [u8]) -> Result<&'a [u8], Fault>
+        requires new { self.old.word ≡ [] }
+        requires some { 0 < length text.now }
+        ensures reads { Onward (λ rest. said self.new Between rest.now) result (said self.old Between text.now) }
+        ensures new { OnOk result (self.new.word ≡ []) }
+        ensures less { IfOk result (λ rest. length rest.now < length text.now) }
+    {
+        match text {
+            [b' ', ..] => Ok(text.split_at(space_len(text)).1),
+            [b'"', rest @ ..] => {
+                let rest = self.quoted(rest)?;
+                self.end(rest)
+            }
+            _ => {
+                let rest = self.plain(text)?;
+                self.end(rest)
+            }
+        }
     }
 }
 
@@ -97,32 +204,15 @@ fn turn_by(mode: Mode, byte: u8) -> Option<Turn>
 fn words_of(alloc: Global, text: &[u8]) -> Result<Items<Items<u8>>, Fault>
     ensures { Gives result (words_of text.now) }
 {
-    let mut words = Items::new(alloc);
-    let mut word = Items::new(alloc);
-    let mut mode = Mode::Between;
-    for byte in text {
-        match turn_by(mode, *byte) {
-            Some(Turn::Go(next)) => mode = next,
-            Some(Turn::Add(meant, next)) => {
-                word.push(meant)?;
-                mode = next;
-            }
-            Some(Turn::End) => {
-                words.push(word)?;
-                word = Items::new(alloc);
-                mode = Mode::Between;
-            }
-            None => return Err(Fault::Bad(BadWhy::Text)),
-        }
+    let mut reader = Reader {
+        words: Items::new(alloc),
+        word: Items::new(alloc),
+    };
+    let mut rest = text;
+    while !rest.is_empty() {
+        rest = reader.next(rest)?;
     }
-    match mode {
-        Mode::Between => Ok(words),
-        Mode::Plain | Mode::Closed => {
-            words.push(word)?;
-            Ok(words)
-        }
-        _ => Err(Fault::Bad(BadWhy::Text)),
-    }
+    Ok(reader.words)
 }
 
 /// The words of a line, which may end in a line feed, as the bytes that they mean; none where the line says nothing:
@@ -143,6 +233,56 @@ pub fn words_of_line(alloc: Global, line: &[u8]) -> Result<Items<Items<u8>>, Fau
         Ok(Items::new(alloc))
     } else {
         words_of(alloc, text)
+    }
+}
+
+// Whether the second word of a text may be this one. Two words are read.
+#[tactic(auto, using(crate::proofs::Asking::asks_later), unfolding(crate::specs::Words::words_of))]
+fn may_ask(alloc: Global, text: &[u8], verb: &[u8]) -> Result<bool, NoMemory>
+    ensures { IfOk result (λ may. may ≡ false → asking verb.now (words_of text.now) ≡ None) }
+{
+    let mut reader = Reader {
+        words: Items::new(alloc),
+        word: Items::new(alloc),
+    };
+    let mut rest = text;
+    while !rest.is_empty() && reader.words.len() < 2 {
+        match reader.next(rest) {
+            Ok(after) => rest = after,
+            Err(Fault::Bad(_)) => return Ok(false),
+            Err(Fault::Memory) => return Err(NoMemory),
+        }
+    }
+    Ok(asks(&reader.words, verb))
+}
+
+// Whether the second of these words is this one.
+fn asks(words: &Items<Items<u8>>, verb: &[u8]) -> bool
+    ensures { result ≡ asks verb.now words.now }
+{
+    match words.as_slice() {
+        [_, word, ..] => is_word(word.as_slice(), verb),
+        _ => false,
+    }
+}
+
+/// The words of a line whose second word is this one; none of any other line, of which two words are read, nor of one that
+/// `words_of_line` refuses.
+#[tactic(auto, unfolding(crate::specs::Fields::words_asking, crate::specs::Words::words_of_line))]
+pub fn words_asking(
+    alloc: Global,
+    line: &[u8],
+    verb: &[u8],
+) -> Result<Option<Items<Items<u8>>>, NoMemory>
+    ensures { IfOk result (λ words. words ≡ words_asking line.now verb.now) }
+{
+    if !may_ask(alloc, content(line), verb)? {
+        return Ok(None);
+    }
+    match words_of_line(alloc, line) {
+        Ok(words) if asks(&words, verb) => Ok(Some(words)),
+        Ok(_) | Err(Fault::Bad(_)) => Ok(None),
+        Err(Fault::Memory) => Err(NoMemory),
     }
 }
 

@@ -1,7 +1,10 @@
-use Rattle.std.proofs.Common.{◌≡◌, [], drop}
-use Rattle.script_words.specs.Words.{words_from}
-use Rattle.script_words.specs.declared.words.Mode.TheVariants.{Between}
+use Rattle.std.proofs.Common.{◌≡◌, [], length}
+use Rattle.script_words.specs.Words.{words_from, said}
+use Rattle.script_words.specs.Words.Mode.{Between}
 use Rattle.script_words.proofs.words.words_of.Given as goal
 
-abbrev pub invariant-loop-byte : goal.invariant-loop-byte
-invariant-loop-byte l = words_from l.words l.word l.mode (drop l.byte-index l.text) ≡ words_from [] [] Between l.text
+abbrev pub invariant-loop-rest : goal.invariant-loop-rest
+invariant-loop-rest l = (said l.reader Between l.rest ≡ words_from [] [] Between l.text) × (l.reader.word ≡ [])
+
+abbrev pub decreases-loop-rest : goal.decreases-loop-rest
+decreases-loop-rest l = length l.rest

@@ -1,6 +1,6 @@
 use Rattle.std.proofs.Common.{◌≡◌}
-use Rattle.script_lines.proofs.Places.{ways_to}
-use Rattle.script_lines.proofs.clones.first_ways.Given as goal
+use Rattle.script_lines.proofs.Leading.{ways_to}
+use Rattle.script_lines.proofs.leads.first_ways.Given as goal
 
 abbrev pub invariant-loop-clone : goal.invariant-loop-clone
 invariant-loop-clone l = l.ways ≡ ways_to 0 l.placed l.clones l.clone
