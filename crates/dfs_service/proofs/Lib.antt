@@ -1,1 +1,4 @@
+pub mod Starts
 pub mod Readings
+pub mod Told
+pub mod Ran

@@ -1,22 +1,42 @@
 -- What was read for a command.
-use Rattle.std.proofs.Common.{◌≡◌, ℕ, Bool, List, take, Result, Ok, Err, refl, sym, ap}
-use Rattle.std.specs.Prelude.{IfOk}
+use Rattle.std.proofs.Common.{◌≡◌, ℕ, true, List, take, Some, Result, Ok, Err, refl, sym, ap, ◌∙◌}
+use Rattle.std.specs.Prelude.{IsErrOf}
 use Rattle.dfs_base.specs.declared.limits.TheConstants.{SCRIPT_BYTES}
 use Rattle.script_lines.specs.declared.script.Script.{Script}
 use Rattle.run_gen.specs.Workload.{generated}
-use Rattle.run_words.specs.declared.command.Command.TheVariants.{Run, Gen}
-use Rattle.run_words.specs.declared.command.Command.{Command}
-use Rattle.dfs_service.specs.Outcomes.{script_for, HasRead, HasReadScript}
-use Rattle.dfs_service.specs.declared.reading.NotRead.{NotRead}
+use Rattle.run_script.specs.Scripts.{script_of, Refuses}
+use Rattle.run_script.specs.declared.refused.ScriptRefused.TheVariants.{BadLine, Stuck, Memory}
+use Rattle.run_script.specs.declared.refused.ScriptRefused.{ScriptRefused}
+use Rattle.command_words.specs.declared.command.Command.TheVariants.{Run, Gen}
+use Rattle.command_words.specs.declared.command.Command.{Command}
+use Rattle.dfs_service.specs.Scripts.{script_for, is_reading, not_read, IsRead, IsCause}
+use Rattle.dfs_service.specs.declared.script.NotRead.{NotRead}
+use Rattle.dfs_service.specs.declared.script.NotRead.TheVariants.{Input}
+use Rattle.dfs_service.specs.World.{Shown}
 
-ran_read : (told : Type 0) (had : List ℕ) (command : Command) (json : Bool) (workers : ℕ) (script : Script) → command ≡ Run json workers → HasReadScript told had script → HasRead told had command script
+reads_so : (command : Command) (bytes : List ℕ) → is_reading (Some command) ≡ true → script_for command bytes ≡ script_of bytes 0
 unfolding script_for
-ran_read told had command json workers script e h = rw e (record { bytes = h.bytes; read = h.read; says = h.says })
+reads_so (Run json workers) bytes h = refl
+reads_so (Gen seed hosts calls workers) bytes h = cc
 
-pub run_read : (told : Type 0) (had : List ℕ) (command : Command) (json : Bool) (workers : ℕ) (read : Result Script NotRead) → command ≡ Run json workers → IfOk read (λ script. HasReadScript told had script) → IfOk read (λ script. HasRead told had command script)
-run_read told had command json workers (Ok script) e h = ran_read told had command json workers script e h
-run_read told had command json workers (Err why) e h = h
+-- what the bytes of a source are for a command that reads them
+pub was_read : (told : Type 0) (before : Shown told) (command : Command) (bytes : List ℕ) (read : Result Script ScriptRefused) → is_reading (Some command) ≡ true →
+    (told → bytes ≡ take SCRIPT_BYTES before.bytes) → script_of bytes 0 ≡ read → IsRead before command read
+was_read told before command bytes read h had e = record { bytes = bytes; had = had; says = reads_so command bytes h ∙ e }
 
-pub gen_read : (told : Type 0) (had : List ℕ) (command : Command) (seed hosts calls workers : ℕ) (script : Script) → command ≡ Gen seed hosts calls workers → script ≡ generated seed hosts calls → HasRead told had command script
+-- why bytes that were read are refused
+pub cause_read : (told : Type 0) (before : Shown told) (command : Command) (bytes : List ℕ) (why : ScriptRefused) (made : NotRead) → is_reading (Some command) ≡ true →
+    (told → bytes ≡ take SCRIPT_BYTES before.bytes) → Refuses why (script_of bytes 0) → made ≡ not_read why → IsCause before command made
+cause_read told before command bytes (BadLine number bad) made h had r e = rw e (was_read told before command bytes (Err (BadLine number bad)) h had r)
+cause_read told before command bytes (Stuck number) made h had r e = rw e (was_read told before command bytes (Err (Stuck number)) h had r)
+cause_read told before command bytes Memory made h had r e = rw e tt
+
+pub never_input : (why : ScriptRefused) (made : NotRead) → made ≡ not_read why → IsErrOf {T = Script} (Err made) Input → ⊥
+never_input (BadLine number bad) made e h = cc
+never_input (Stuck number) made e h = cc
+never_input Memory made e h = cc
+
+-- a generated script needs no bytes
+pub was_made : (told : Type 0) (before : Shown told) (command : Command) (seed hosts calls workers : ℕ) (script : Script) → command ≡ Gen seed hosts calls workers → script ≡ generated seed hosts calls → IsRead before command (Ok script)
 unfolding script_for
-gen_read told had command seed hosts calls workers script e g = rw e (record { bytes = take SCRIPT_BYTES had; read = λ _. refl; says = ap (λ s. Ok s) (sym g) })
+was_made told before command seed hosts calls workers script e g = rw e (record { bytes = take SCRIPT_BYTES before.bytes; had = λ _. refl; says = ap (λ s. Ok s) (sym g) })

@@ -1,10 +1,15 @@
-//! The top call: what the command words ask for, from the bytes of a source to the bytes of a sink.
+//! The top call: what the command words ask for, from the bytes of a source to the bytes of a sink. It runs in stages: the
+//! words, the script, the engine, the output.
 #![tactic(auto)]
 
+mod engine;
+mod laws;
 mod lines;
 mod outcome;
-mod reading;
+mod output;
+mod script;
 mod top;
 
+pub use laws::{losses_law, replies_law};
 pub use outcome::{Outcome, Status};
 pub use top::run;

@@ -1,9 +1,10 @@
-ghost use Rattle.std.specs.Prelude.{◌≡◌};
-ghost use Rattle.dfs_service.specs.Outcomes.{code_of};
+ghost use Rattle.std.specs.Prelude.{◌≡◌, []};
+ghost use Rattle.dfs_service.specs.Outcomes.{code_of, IsEmpty};
 
 use dfs_base::Items;
-use dfs_calls::{Entry, Roster};
+use dfs_calls::Roster;
 use dfs_tree::Tree;
+use plain_service::Played;
 use script_lines::Script;
 use std::alloc::Global;
 
@@ -45,31 +46,25 @@ impl Status {
 pub struct Outcome {
     /// How it ended. Where it isn't `Done` or `NoOutput` nothing ran, and the other fields are empty.
     pub status: Status,
-    /// The tree before the run.
-    pub start: Tree,
-    /// What happened, in order.
-    pub history: Items<Entry>,
-    /// The places of the script's lines, from 0, in the order in which they went.
-    pub order: Items<usize>,
+    /// How the script went.
+    pub played: Played,
     /// The script.
     pub lines: Script,
 }
 
 // An outcome without a run.
 pub(crate) fn without_run(alloc: Global, status: Status) -> Outcome
-    ensures { result.status ≡ status }
+    ensures status { result.status ≡ status }
+    ensures empty { IsEmpty result }
 {
     Outcome {
         status,
-        start: Tree {
-            roster: no_roster(alloc),
-            servers: Items::new(alloc),
-            filesets: Items::new(alloc),
-            locks: Items::new(alloc),
-            opens: Items::new(alloc),
+        played: Played {
+            start: no_tree(alloc),
+            history: Items::new(alloc),
+            last: no_tree(alloc),
+            order: Items::new(alloc),
         },
-        history: Items::new(alloc),
-        order: Items::new(alloc),
         lines: Script {
             servers: 0,
             roster: no_roster(alloc),
@@ -78,6 +73,19 @@ pub(crate) fn without_run(alloc: Global, status: Status) -> Outcome
             net: None,
             lines: Items::new(alloc),
         },
+    }
+}
+
+fn no_tree(alloc: Global) -> Tree
+    ensures { result.filesets ≡ [] }
+{
+    Tree {
+        roster: no_roster(alloc),
+        servers: Items::new(alloc),
+        filesets: Items::new(alloc),
+        locks: Items::new(alloc),
+        opens: Items::new(alloc),
+        away: Items::new(alloc),
     }
 }
 

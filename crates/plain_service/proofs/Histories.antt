@@ -1,19 +1,19 @@
 -- What entries change of what is told of a history.
-use Rattle.std.proofs.Common.{◌≡◌, ℕ, zero, suc, ◌+◌, ◌==◌, ◌&&◌, not, Bool, true, false, List, [], ◌∷◌, ◌++◌, refl, sym, subst}
+use Rattle.std.proofs.Common.{◌≡◌, ℕ, zero, suc, ◌+◌, ◌==◌, ◌&&◌, not, Bool, true, false, List, [], ◌∷◌, ◌++◌, refl, sym, ap, subst}
 use Rattle.std.specs.Prelude.{filter, if◌then◌else◌}
 use Rattle.std.specs.List.{list_all}
 use Rattle.std.proofs.lemmas.Grind.{flat_map-append}
 use Rattle.dfs_base.specs.declared.ids.HostId.{HostId}
 use Rattle.dfs_calls.specs.declared.entry.Entry.{Entry}
-use Rattle.dfs_calls.specs.declared.entry.Entry.TheVariants.{Call as Called, Stored, Down}
+use Rattle.dfs_calls.specs.declared.entry.Entry.TheVariants.{Call as Called, Stored, Down, Left}
 use Rattle.dfs_saving.proofs.Lists.{filter_none}
 use Rattle.dfs_saving.specs.Saving.{downs_from}
 use Rattle.script_lines.specs.declared.script.Script.{Script}
-use Rattle.plain_service.specs.Calls.{is_asked}
+use Rattle.plain_service.specs.Calls.{Asks, Falls, is_asked, falls_from, acts_in}
 use Rattle.plain_service.specs.declared.uses.Use.{Use}
 use Rattle.plain_service.specs.Uses.{used_by, uses_from}
-use Rattle.plain_service.specs.Played.{calls_in, is_own, has_number, next_number, are_numbered, is_implied, is_down}
-use Rattle.plain_service.specs.Underway.{is_store, next_from}
+use Rattle.plain_service.specs.Played.{calls_in, is_own, has_number, next_number, are_numbered, is_implied}
+use Rattle.plain_service.specs.Underway.{is_down, is_aside, next_from}
 
 -- both parts of a test
 pub fst_true : (a b : Bool) → (a && b) ≡ true → a ≡ true
@@ -60,6 +60,7 @@ number_stays host k (Called caller n call reply) h = let e : (caller.0 == host.0
     flipped false h = refl
 number_stays host k (Stored by fid spans len) h = (refl, refl)
 number_stays host k (Down by server) h = (refl, refl)
+number_stays host k (Left server id) h = (refl, refl)
 
 uses_stay : (host : HostId) (uses : List Use) (entry : Entry) → is_foreign host entry ≡ true → used_by host uses entry ≡ uses
 uses_stay host uses (Called caller n call reply) h = let e : (caller.0 == host.0) ≡ false = flipped _ h in rw e refl
@@ -69,6 +70,7 @@ uses_stay host uses (Called caller n call reply) h = let e : (caller.0 == host.0
     flipped false h = refl
 uses_stay host uses (Stored by fid spans len) h = refl
 uses_stay host uses (Down by server) h = refl
+uses_stay host uses (Left server id) h = refl
 
 pub next_foreign : (host : HostId) (k : ℕ) (entries : List Entry) → list_all (is_foreign host) entries ≡ true → next_from host k entries ≡ k
 next_foreign host k [] h = refl
@@ -94,26 +96,29 @@ implied_foreign script host entries h = filter_none (is_foreign host) (is_implie
     by false b k = refl
 
 -- entries that say what became kept
-pub stores_foreign : (host : HostId) (entries : List Entry) → list_all is_store entries ≡ true → list_all (is_foreign host) entries ≡ true
-stores_foreign host = all_so is_store (is_foreign host) by
+pub stores_foreign : (host : HostId) (entries : List Entry) → list_all is_aside entries ≡ true → list_all (is_foreign host) entries ≡ true
+stores_foreign host = all_so is_aside (is_foreign host) by
   where
-    by : (entry : Entry) → is_store entry ≡ true → is_foreign host entry ≡ true
+    by : (entry : Entry) → is_aside entry ≡ true → is_foreign host entry ≡ true
     by (Called caller n call reply) h = cc
     by (Stored other fid spans len) h = refl
     by (Down other server) h = refl
+    by (Left server id) h = refl
 
-pub stores_no : (test : Entry → Bool) → ((host : HostId) → (entry : Entry) → is_store entry ≡ true → test entry ≡ false) → (entries : List Entry) → list_all is_store entries ≡ true → filter test entries ≡ []
-stores_no test f entries h = filter_none is_store test (f (record { 0 = 0 })) entries h
+pub stores_no : (test : Entry → Bool) → ((host : HostId) → (entry : Entry) → is_aside entry ≡ true → test entry ≡ false) → (entries : List Entry) → list_all is_aside entries ≡ true → filter test entries ≡ []
+stores_no test f entries h = filter_none is_aside test (f (record { 0 = 0 })) entries h
 
-pub asked_store : (script : Script) (entry : Entry) → is_store entry ≡ true → is_asked script entry ≡ false
+pub asked_store : (script : Script) (entry : Entry) → is_aside entry ≡ true → is_asked script entry ≡ false
 asked_store script (Called caller n call reply) h = cc
 asked_store script (Stored other fid spans len) h = refl
 asked_store script (Down other server) h = cc
+asked_store script (Left server id) h = refl
 
-pub down_store : (entry : Entry) → is_store entry ≡ true → is_down entry ≡ false
+pub down_store : (entry : Entry) → is_aside entry ≡ true → is_down entry ≡ false
 down_store (Called caller n call reply) h = cc
 down_store (Stored other fid spans len) h = refl
 down_store (Down other server) h = cc
+down_store (Left server id) h = refl
 
 -- entries that say that a host is down
 abbrev pub is_down_entry : Entry → Bool
@@ -130,6 +135,7 @@ downs_foreign host = all_so is_down (is_foreign host) by
     by (Called caller n call reply) h = cc
     by (Stored other fid spans len) h = refl
     by (Down other server) h = refl
+    by (Left server id) h = refl
 
 pub downs_asked : (script : Script) (entries : List Entry) → list_all is_down entries ≡ true → filter (is_asked script) entries ≡ []
 downs_asked script entries h = filter_none is_down (is_asked script) by entries h
@@ -138,3 +144,24 @@ downs_asked script entries h = filter_none is_down (is_asked script) by entries 
     by (Called caller n call reply) h = cc
     by (Stored other fid spans len) h = cc
     by (Down other server) h = refl
+    by (Left server id) h = refl
+
+-- what entries bring about
+pub acts_append : (script : Script) (a b : List Entry) → acts_in script (a ++ b) ≡ acts_in script a ++ acts_in script b
+acts_append script a b = flat_map-append _ a b
+
+pub acts_none : (script : Script) (entries : List Entry) → filter (is_asked script) entries ≡ [] → filter is_down entries ≡ [] → acts_in script entries ≡ []
+acts_none script [] h k = refl
+acts_none script (Called caller n call reply ∷ entries) h k = by (is_asked script (Called caller n call reply)) refl h (λ g. acts_none script entries g k)
+  where
+    by : (v : Bool) → is_asked script (Called caller n call reply) ≡ v → (if v then Called caller n call reply ∷ filter (is_asked script) entries else filter (is_asked script) entries) ≡ [] →
+        (filter (is_asked script) entries ≡ [] → acts_in script entries ≡ []) → (if v then Asks caller call ∷ [] else []) ++ acts_in script entries ≡ []
+    by true e g more = cc
+    by false e g more = more g
+acts_none script (Stored by fid spans len ∷ entries) h k = acts_none script entries h k
+acts_none script (Down by server ∷ entries) h k = cc
+acts_none script (Left server id ∷ entries) h k = acts_none script entries h k
+
+pub acts_downs : (script : Script) (host : HostId) (server n : ℕ) → acts_in script (downs_from host server n) ≡ falls_from host server n
+acts_downs script host server zero = refl
+acts_downs script host server (suc n) = ap (λ acts. Falls host (record { 0 = server }) ∷ acts) (acts_downs script host (server + 1) n)

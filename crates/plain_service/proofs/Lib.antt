@@ -1,6 +1,10 @@
+pub mod Places
 pub mod Seats
 pub mod Histories
 pub mod Goes
+pub mod Arrivals
 pub mod Ending
 pub mod Steps
 pub mod Whole
+pub mod Each
+pub mod Last

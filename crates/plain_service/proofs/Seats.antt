@@ -1,6 +1,7 @@
 -- Where each node stands while lines go.
-use Rattle.std.proofs.Common.{◌≡◌, ◌≢◌, ℕ, zero, suc, ◌+◌, ◌-◌, ◌<◌, ◌≤◌, nat_le, ◌&&◌, Bool, true, false, List, [], ◌∷◌, ◌++◌, length, drop, get_or, set, Option, Some, None, refl, sym, ap, subst, append_assoc, ◌∙◌, arith, rules, ◌⊎◌, inl, inr}
-use Rattle.std.specs.Prelude.{filter, slice_get}
+use Rattle.std.proofs.Common.{◌≡◌, ◌≢◌, ℕ, zero, suc, ◌+◌, ◌-◌, ◌<◌, ◌≤◌, nat_le, nat_lt, ◌&&◌, not, Bool, true, false, List, [], ◌∷◌, ◌++◌, length, drop, get_or, set, Option, Some, None, refl, sym, ap, subst, append_assoc, ◌∙◌, arith, rules, ◌⊎◌, inl, inr}
+use Rattle.std.specs.Prelude.{filter, slice_get, IsPermutation}
+use Rattle.std.proofs.lemmas.List.Sorted.{IsPermutation-refl, IsPermutation-trans, IsPermutation-append_right}
 use Rattle.std.specs.List.{list_all}
 use Rattle.std.proofs.lemmas.Bool.{eqb-true, eq-eqb}
 use Rattle.std.proofs.lemmas.Bool.Decides.{eqb_tells}
@@ -17,10 +18,11 @@ use Rattle.script_lines.specs.declared.script.Line.{Line}
 use Rattle.script_lines.specs.Sound.{same_node, is_of}
 use Rattle.run_script.specs.Walk.{can_go}
 use Rattle.run_script.specs.Orders.{IsOrder, flags_of, flags_met, flags_from, flags_after, stands, AllStand}
-use Rattle.plain_service.specs.Seats.{seat_of, is_seated, next_of, lines_at, left_at, to_go, is_head, AreHeads, AreAtFirst, AreFirst, IsStanding, can_go_at, is_ready}
+use Rattle.plain_service.specs.Seats.{seat_of, is_seated, next_of, lines_at, left_at, to_go, is_head, all_places, has_gone, places_left, AreHeads, AreAtFirst, AreFirst, IsStanding, can_go_at, is_ready}
 use Rattle.plain_service.specs.declared.order.Order.{Order}
 use Rattle.run_script.specs.Walk.{stuck_at}
 use Rattle.run_script.proofs.Passes.{all_go}
+use Rattle.plain_service.proofs.Places.{lt_true, lt_false, lt_tells, none_between, filter_range, none_in_range, one_less}
 
 pub same_eq : (a b : Node) → same_node a b ≡ true → a ≡ b
 same_eq (Host a) (Host b) h = ap (λ n. Host (record { 0 = n })) (eqb-true a.0 b.0 h)
@@ -58,6 +60,11 @@ first_left lines node place line h e = rw (drop_line lines place line h) (filter
 pub drop_end : (lines : List Line) → drop (length lines) lines ≡ []
 drop_end [] = refl
 drop_end (line ∷ lines) = drop_end lines
+
+pub place_line : (lines : List Line) (place : ℕ) → place < length lines → (line : Line) × (slice_get lines place ≡ Some line)
+place_line [] place h = absurd (omega arith)
+place_line (line ∷ lines) zero h = (line, refl)
+place_line (line ∷ lines) (suc place) h = place_line lines place (omega arith)
 
 pub line_within : (lines : List Line) (place : ℕ) (line : Line) → slice_get lines place ≡ Some line → place < length lines
 line_within [] place line h = cc
@@ -208,11 +215,45 @@ each_by lines went next place new line node h t e k f (inl q) =
     subst (λ other. filter (is_of other) (lines_at lines (went ++ place ∷ [])) ++ left_at lines (set next (seat_of line.node) new) other ≡ filter (is_of other) lines) q (each_same lines went next place new line (h line.node) t e k f)
 each_by lines went next place new line node h t e k f (inr d) = each_other lines went next place new line node (h node) t k d
 
+-- what else has gone is the same
+gone_else : (lines : List Line) (next : List ℕ) (place new k : ℕ) (line : Line) → is_seated line.node ≡ true → slice_get next (seat_of line.node) ≡ Some place → slice_get lines place ≡ Some line →
+    filter (is_of line.node) (drop new lines) ≡ filter (is_of line.node) (drop (place + 1) lines) → place < new → k ≢ place → has_gone lines next k ≡ has_gone lines (set next (seat_of line.node) new) k
+gone_else lines next place new k line t e l f n d = by (slice_get lines k) refl
+  where
+    own : (other : Line) → slice_get lines k ≡ Some other → is_of line.node other ≡ true → (k < place) ⊎ (place ≤ k) → (k < new) ⊎ (new ≤ k) → nat_lt k place ≡ nat_lt k new
+    own other g s (inl a) b = let c : k < new = omega arith in lt_true k place a ∙ sym (lt_true k new c)
+    own other g s (inr a) (inl b) = let no : is_of line.node other ≡ false = none_between (is_of line.node) lines (place + 1) new k other f (omega arith) b g in cc
+    own other g s (inr a) (inr b) = lt_false k place a ∙ sym (lt_false k new b)
+
+    to : (other : Line) → slice_get lines k ≡ Some other → (line.node ≡ other.node) ⊎ (same_node line.node other.node ≡ false) → nat_lt k (next_of lines next other.node) ≡ nat_lt k (next_of lines (set next (seat_of line.node) new) other.node)
+    to other g (inl q) =
+        let here : is_of line.node other ≡ true = subst (λ node. same_node node line.node ≡ true) q (same_self line.node) in
+        subst (λ node. nat_lt k (next_of lines next node) ≡ nat_lt k (next_of lines (set next (seat_of line.node) new) node)) q
+        (rw (next_was lines next line.node place t e, next_here lines next line.node place new t e) (own other g here (lt_tells k place) (lt_tells k new)))
+    to other g (inr q) = ap (nat_lt k) (sym (next_other lines next line.node other.node new t q))
+
+    by : (found : Option Line) → slice_get lines k ≡ found → has_gone lines next k ≡ has_gone lines (set next (seat_of line.node) new) k
+    by None g = rw g refl
+    by (Some other) g = rw g (to other g (node_tells line.node other.node))
+
+-- one place less is left
+places_on : (lines : List Line) (went next : List ℕ) (place new : ℕ) (line : Line) → IsPermutation (all_places lines) (went ++ places_left lines next) →
+    is_seated line.node ≡ true → slice_get next (seat_of line.node) ≡ Some place → slice_get lines place ≡ Some line →
+    filter (is_of line.node) (drop new lines) ≡ filter (is_of line.node) (drop (place + 1) lines) → place < new →
+    IsPermutation (all_places lines) ((went ++ place ∷ []) ++ places_left lines (set next (seat_of line.node) new))
+places_on lines went next place new line p t e l f n =
+    let after : List ℕ = set next (seat_of line.node) new in
+    let was : not (has_gone lines next place) ≡ true = rw (l, next_was lines next line.node place t e, lt_false place place (omega arith)) refl in
+    let now : not (has_gone lines after place) ≡ false = rw (l, next_here lines next line.node place new t e, lt_true place new n) refl in
+    let one : IsPermutation (places_left lines next) (place ∷ places_left lines after) =
+    one_less (λ place. not (has_gone lines next place)) (λ place. not (has_gone lines after place)) place 0 (length lines) (omega arith) (let w = line_within lines place line l in omega arith) was now (λ k d. ap not (gone_else lines next place new k line t e l f n d)) in
+    rw (append_assoc went (place ∷ []) (places_left lines after)) (IsPermutation-trans _ _ _ p (IsPermutation-append_right went _ _ one))
+
 -- a node makes its next line
 pub gone_on : (lines : List Line) (order : Order) (seat place new : ℕ) (line : Line) → IsStanding lines order → slice_get order.next seat ≡ Some place → slice_get lines place ≡ Some line →
-    can_go order.flags line.deed ≡ true → filter (is_of line.node) (drop new lines) ≡ filter (is_of line.node) (drop (place + 1) lines) → is_head lines line.node new ≡ true →
+    can_go order.flags line.deed ≡ true → filter (is_of line.node) (drop new lines) ≡ filter (is_of line.node) (drop (place + 1) lines) → is_head lines line.node new ≡ true → place + 1 ≤ new →
     IsStanding lines (record { went = order.went ++ place ∷ []; next = set order.next seat new; flags = flags_after order.flags line.deed })
-gone_on lines order seat place new line h e k g f n =
+gone_on lines order seat place new line h e k g f n w =
     let (s, t) = seat_known lines order.next seat place line h.heads e k in
     let e' : slice_get order.next (seat_of line.node) ≡ Some place = rw s e in
     let goes : can_go (flags_of (lines_at lines order.went)) line.deed ≡ true = subst (λ flags. can_go flags line.deed ≡ true) h.flags g in
@@ -226,15 +267,16 @@ gone_on lines order seat place new line h e k g f n =
         head = λ node u. head_by lines order.next place new line node t e' n (h.heads.head node u) (node_tells line.node node);
       };
       flags = rw (lines_more lines order.went place line k) (ap (λ flags. flags_after flags line.deed) h.flags ∙ sym (flags_more [] (lines_at lines order.went) line));
+      places = places_on lines order.went order.next place new line h.places t e' k f (omega arith);
     })
 
 goes_at : (lines : List Line) (flags : List (List ℕ)) (place : ℕ) (line : Line) → slice_get lines place ≡ Some line → can_go_at lines flags place ≡ true → can_go flags line.deed ≡ true
 goes_at lines flags place line h k = sym (rw h refl) ∙ k
 
 pub gone_to : (lines : List Line) (order : Order) (seat place new : ℕ) (line : Line) (went next : List ℕ) (flags : List (List ℕ)) → IsStanding lines order → slice_get order.next seat ≡ Some place →
-    slice_get lines place ≡ Some line → can_go_at lines order.flags place ≡ true → filter (is_of line.node) (drop new lines) ≡ filter (is_of line.node) (drop (place + 1) lines) → is_head lines line.node new ≡ true →
+    slice_get lines place ≡ Some line → can_go_at lines order.flags place ≡ true → filter (is_of line.node) (drop new lines) ≡ filter (is_of line.node) (drop (place + 1) lines) → is_head lines line.node new ≡ true → place + 1 ≤ new →
     went ≡ order.went ++ place ∷ [] → next ≡ set order.next seat new → flags ≡ flags_after order.flags line.deed → IsStanding lines (record { went = went; next = next; flags = flags })
-gone_to lines order seat place new line went next flags h e k g f n a b c = rw (a, b, c) (gone_on lines order seat place new line h e k (goes_at lines order.flags place line k g) f n)
+gone_to lines order seat place new line went next flags h e k g f n w a b c = rw (a, b, c) (gone_on lines order seat place new line h e k (goes_at lines order.flags place line k g) f n w)
 
 -- then there is less to go
 pub less_to_go : (lines : List Line) (next : List ℕ) (seat place new : ℕ) → slice_get next seat ≡ Some place → place < length lines → place < new → to_go lines (set next seat new) < to_go lines next
@@ -329,16 +371,48 @@ no_lines (line ∷ lines) node h t = filter_no (is_of node) line lines (other (n
     other (inl q) = let e : is_seated node ≡ true = rw (← q) (both_left _ _ h) in cc
     other (inr d) = d
 
+-- before the first line all are left
+first_left_all : (lines : List Line) (next : List ℕ) → list_all (λ line. is_seated line.node) lines ≡ true → AreFirst lines next → places_left lines next ≡ all_places lines
+first_left_all lines next h f = filter_range (λ place. not (has_gone lines next place)) 0 (length lines) (λ place a b. let (line, l) = place_line lines place (omega arith) in by place line l (lt_tells place (next_of lines next line.node)))
+  where
+    seated_at : (lines : List Line) (place : ℕ) (line : Line) → list_all (λ line. is_seated line.node) lines ≡ true → slice_get lines place ≡ Some line → is_seated line.node ≡ true
+    seated_at [] place line h l = cc
+    seated_at (first ∷ lines) zero line h l = let q : first ≡ line = cc in subst (λ one. is_seated one.node ≡ true) q (both_left _ _ h)
+    seated_at (first ∷ lines) (suc place) line h l = seated_at lines place line (both_right _ _ h) l
+
+    by : (place : ℕ) (line : Line) → slice_get lines place ≡ Some line → (place < next_of lines next line.node) ⊎ (next_of lines next line.node ≤ place) → not (has_gone lines next place) ≡ true
+    by place line l (inl w) = let no : is_of line.node line ≡ false = none_between (is_of line.node) lines 0 (next_of lines next line.node) place line (f.all line.node (seated_at lines place line h l)) (omega arith) w l in let yes = same_self line.node in cc
+    by place line l (inr w) = rw (l, lt_false place (next_of lines next line.node) w) refl
+
+-- where all nodes have none left, none is left
+none_left : (lines : List Line) (next : List ℕ) → ((node : Node) → left_at lines next node ≡ []) → places_left lines next ≡ []
+none_left lines next h = none_in_range (λ place. not (has_gone lines next place)) 0 (length lines) (λ place a b. let (line, l) = place_line lines place (omega arith) in by place line l (lt_tells place (next_of lines next line.node)))
+  where
+    by : (place : ℕ) (line : Line) → slice_get lines place ≡ Some line → (place < next_of lines next line.node) ⊎ (next_of lines next line.node ≤ place) → not (has_gone lines next place) ≡ false
+    by place line l (inl w) = rw (l, lt_true place (next_of lines next line.node) w) refl
+    by place line l (inr w) =
+        let end : filter (is_of line.node) (drop (length lines) lines) ≡ filter (is_of line.node) (drop (next_of lines next line.node) lines) = ap (filter (is_of line.node)) (drop_end lines) ∙ sym (h line.node) in
+        let no : is_of line.node line ≡ false = none_between (is_of line.node) lines (next_of lines next line.node) (length lines) place line end w (line_within lines place line l) l in
+        let yes = same_self line.node in
+        cc
+
 pub started : (lines : List Line) (next : List ℕ) → list_all (λ line. is_seated line.node) lines ≡ true → AreFirst lines next → IsStanding lines (record { went = []; next = next; flags = [] })
 started lines next h f = record {
   begun = record { each = λ node. by node (is_seated node) refl; met = refl };
   heads = f.heads;
   flags = refl;
+  places = rw (first_left_all lines next h f) (IsPermutation-refl (all_places lines));
 }
   where
     by : (node : Node) (b : Bool) → is_seated node ≡ b → left_at lines next node ≡ filter (is_of node) lines
     by node true t = f.all node t
     by node false t = let n : next_of lines next node ≡ length lines = rw t refl in rw (n, drop_end lines) (sym (no_lines lines node h t))
+
+-- all places have gone where no node is ready
+pub all_went : (lines : List Line) (order : Order) → stuck_at lines ≡ None → IsStanding lines order → ((seat : ℕ) → is_ready lines order seat ≡ false) → IsPermutation (all_places lines) order.went
+all_went lines order n h r =
+    let none : places_left lines order.next ≡ [] = none_left lines order.next (all_go lines (lines_at lines order.went) (left_at lines order.next) n h.begun (all_stand lines order h r)) in
+    subst (IsPermutation (all_places lines)) (ap (λ left. order.went ++ left) none ∙ append-nil order.went) h.places
 
 -- all lines have gone where no node is ready
 pub all_gone : (lines : List Line) (order : Order) → stuck_at lines ≡ None → IsStanding lines order → ((seat : ℕ) → is_ready lines order seat ≡ false) → IsOrder lines (lines_at lines order.went)
@@ -350,4 +424,4 @@ all_gone lines order n h r = record {
 pub less_by : (lines : List Line) (next after : List ℕ) (seat place new : ℕ) (line : Line) → slice_get next seat ≡ Some place → slice_get lines place ≡ Some line → place + 1 ≤ new → after ≡ set next seat new → to_go lines after < to_go lines next
 less_by lines next after seat place new line h k l e = rw e (less_to_go lines next seat place new h (line_within lines place line k) (omega arith))
 
-pub ruleset steps = (started, all_gone, all_first, first_none, first_more, host_seated, server_seated, skip_at, drop_end, head_at, head_end, none_behind, line_within)
+pub ruleset steps = (started, all_gone, all_went, all_first, first_none, first_more, host_seated, server_seated, skip_at, drop_end, head_at, head_end, none_behind, line_within)

@@ -16,7 +16,7 @@ use Rattle.dfs_base.specs.declared.ids.Node.TheVariants.{Host, Server}
 use Rattle.dfs_calls.specs.declared.call.Call.{Call as CallOf}
 use Rattle.dfs_calls.specs.declared.call.Call.TheVariants.{Write}
 use Rattle.dfs_calls.specs.declared.entry.Entry.{Entry}
-use Rattle.dfs_calls.specs.declared.entry.Entry.TheVariants.{Call as Called, Stored, Down}
+use Rattle.dfs_calls.specs.declared.entry.Entry.TheVariants.{Call as Called, Stored, Down, Left}
 use Rattle.dfs_calls.specs.declared.reply.Reply.{Reply}
 use Rattle.dfs_tree.specs.declared.tree.Tree.{Tree}
 use Rattle.dfs_saving.specs.Unsaved.{all_contents, has_saved, is_write_by}
@@ -28,18 +28,18 @@ use Rattle.script_lines.specs.declared.script.Deed.{Deed}
 use Rattle.script_lines.specs.declared.script.Deed.TheVariants.{Call, Stop}
 use Rattle.script_lines.specs.declared.script.Line.{Line}
 use Rattle.script_lines.specs.declared.script.Script.{Script}
-use Rattle.plain_service.specs.Calls.{Asked, asked_by, calls_of, own_calls, is_asked}
+use Rattle.plain_service.specs.Calls.{Asks, Asked, asked_by, calls_of, own_calls, is_asked, falls_from, acts_by, acts_of, acts_in}
 use Rattle.plain_service.specs.Uses.{uses_from}
-use Rattle.plain_service.specs.Played.{calls_in, is_own, are_numbered, is_implied, stops, stops_at, last_calls, is_down, downs_of, downs_by}
-use Rattle.plain_service.specs.Underway.{is_store, is_hers, is_above, next_from, GoesOn, Saves, IsOpen, IsAtDesk, IsClosed, IsUnderway, AreCounted, HasCalled, HasStopped, HasLeft, IsLast, EndsUnless, HasActed, GoesAlong, AreNew, new_desk, desk_called, desk_stopped, desk_left}
+use Rattle.plain_service.specs.Played.{calls_in, is_own, are_numbered, is_implied, stops, stops_at, last_calls}
+use Rattle.plain_service.specs.Underway.{is_down, is_aside, is_hers, is_above, next_from, GoesOn, Saves, IsOpen, IsAtDesk, IsClosed, IsUnderway, AreCounted, HasCalled, HasStopped, HasLeft, IsLast, EndsUnless, HasActed, GoesAlong, AreNew, new_desk, desk_called, desk_stopped, desk_left}
 use Rattle.plain_service.specs.declared.past.Past.{Past}
 use Rattle.plain_service.specs.declared.play.Desk.{Desk}
 use Rattle.plain_service.specs.declared.play.Play.{Play}
-use Rattle.plain_service.proofs.Histories.{fst_true, snd_true, both_true, all_so, is_foreign, calls_append, next_append, numbered_append, uses_append, next_foreign, numbered_foreign, uses_foreign, implied_foreign, stores_foreign, asked_store, down_store, downs_down, downs_foreign, downs_asked}
+use Rattle.plain_service.proofs.Histories.{fst_true, snd_true, both_true, all_so, is_foreign, next_append, numbered_append, uses_append, next_foreign, numbered_foreign, uses_foreign, implied_foreign, stores_foreign, asked_store, down_store, downs_down, downs_foreign, acts_append, acts_none, acts_downs}
 use Rattle.plain_service.proofs.Seats.{place_here, place_other, get_more}
 use Rattle.plain_service.proofs.Goes.{steady_on, goes_append, goes_nowhere}
 use Rattle.plain_service.proofs.Ending.{all_append, take_next}
-use Rattle.dfs_saving.proofs.Lists.{filter_none, filter_all}
+use Rattle.dfs_saving.proofs.Lists.{filter_none}
 
 -- what a host is asked for by two lots of lines
 pub own_append : (host : HostId) (a b : List Line) → own_calls host (a ++ b) ≡ own_calls host a ++ own_calls host b
@@ -119,18 +119,17 @@ each_desk P desks host old new w p f other desk h = by (host_tells host other)
 
 -- what one host does changes nothing for the others
 pub come_on : (script : Script) (start : Tree) (done now rest left : List Line) (entries : List Entry) (host : HostId) (old new : Desk) (before after : Play) → IsUnderway script start done rest before → GoesOn before.past entries after.past →
-    calls_of now ≡ calls_of done ++ calls_in (filter (is_asked script) entries) → downs_of (length script.roster.capacity) now ≡ downs_of (length script.roster.capacity) done ++ filter is_down entries →
+    acts_of (length script.roster.capacity) now ≡ acts_of (length script.roster.capacity) done ++ acts_in script entries →
     are_numbered host (next_from host 1 before.past.history) entries ≡ true → ((other : HostId) → Differ host other → list_all (is_foreign other) entries ≡ true) →
     slice_get before.desks host.0 ≡ Some old → after.desks ≡ set before.desks host.0 new → IsAtDesk script now left (before.past.history ++ entries) host new →
     ((other : HostId) (desk : Desk) → Differ host other → IsAtDesk script done rest before.past.history other desk → IsAtDesk script now left (before.past.history ++ entries) other desk) →
     ((other : HostId) → Differ host other → filter (is_of (Host other)) left ≡ [] → (filter (is_of (Host other)) rest ≡ []) × (IsClosed script done before.past other → IsClosed script now after.past other)) →
     (filter (is_of (Host host)) left ≡ [] → IsClosed script now after.past host) →
     IsUnderway script start now left after
-come_on script start done now rest left entries host old new before after u g asks downs numbers foreign was desks own others closed ended = record {
+come_on script start done now rest left entries host old new before after u g acts numbers foreign was desks own others closed ended = record {
   steady = steady_on script start before.past after.past entries u.steady g;
-  asked = ap (λ l. calls_in (filter (is_asked script) l)) g.history ∙ (ap calls_in (filter-append (is_asked script) before.past.history entries) ∙ (calls_append (filter (is_asked script) before.past.history) (filter (is_asked script) entries) ∙ (ap (λ l. l ++ calls_in (filter (is_asked script) entries)) u.asked ∙ sym asks)));
+  acts = ap (acts_in script) g.history ∙ (acts_append script before.past.history entries ∙ (ap (λ l. l ++ acts_in script entries) u.acts ∙ sym acts));
   numbered = λ other. subst (λ l. are_numbered other 1 l ≡ true) (sym g.history) (numbered_append other 1 before.past.history entries (u.numbered other) (by other (host_tells host other)));
-  downs = ap (filter is_down) g.history ∙ (filter-append is_down before.past.history entries ∙ (ap (λ l. l ++ filter is_down entries) u.downs ∙ sym downs));
   desks = rw desks (length-set before.desks host.0 new ∙ u.desks);
   desk = subst (λ l. (other : HostId) (desk : Desk) → slice_get l other.0 ≡ Some desk → IsAtDesk script now left after.past.history other desk) (sym desks)
       (subst (λ l. (other : HostId) (desk : Desk) → slice_get (set before.desks host.0 new) other.0 ≡ Some desk → IsAtDesk script now left l other desk) (sym g.history)
@@ -161,11 +160,8 @@ still_left A host line rest n e = let k = has_left host line rest n in let z = a
 others_left : (host other : HostId) (line : Line) (rest : List Line) → line.node ≡ Host host → Differ host other → filter (is_of (Host other)) (line ∷ rest) ≡ filter (is_of (Host other)) rest
 others_left host other line rest n d = rw (n, d) refl
 
-calls_more : (done : List Line) (line : Line) → calls_of (done ++ line ∷ []) ≡ calls_of done ++ calls_of (line ∷ [])
-calls_more done line = flat_map-append _ done (line ∷ [])
-
-downs_more : (servers : ℕ) (done : List Line) (line : Line) → downs_of servers (done ++ line ∷ []) ≡ downs_of servers done ++ downs_of servers (line ∷ [])
-downs_more servers done line = flat_map-append _ done (line ∷ [])
+acts_more : (servers : ℕ) (done : List Line) (line : Line) → acts_of servers (done ++ line ∷ []) ≡ acts_of servers done ++ acts_of servers (line ∷ [])
+acts_more servers done line = flat_map-append _ done (line ∷ [])
 
 own_differs : (host other : HostId) (k : ℕ) (call : CallOf) (reply : Reply) → Differ host other → is_foreign other (Called host k call reply) ≡ true
 own_differs host other k call reply d = rw d refl
@@ -188,11 +184,11 @@ asked_now script done rest line host call reply n d c =
     le_true _ _ (omega arith)
 
 -- stores are no calls of a script, nor losses
-asked_stores : (script : Script) (entries : List Entry) → list_all is_store entries ≡ true → filter (is_asked script) entries ≡ []
-asked_stores script entries h = filter_none is_store (is_asked script) (asked_store script) entries h
+asked_stores : (script : Script) (entries : List Entry) → list_all is_aside entries ≡ true → filter (is_asked script) entries ≡ []
+asked_stores script entries h = filter_none is_aside (is_asked script) (asked_store script) entries h
 
-down_stores : (entries : List Entry) → list_all is_store entries ≡ true → filter is_down entries ≡ []
-down_stores entries h = filter_none is_store is_down down_store entries h
+down_stores : (entries : List Entry) → list_all is_aside entries ≡ true → filter is_down entries ≡ []
+down_stores entries h = filter_none is_aside is_down down_store entries h
 
 -- a call of a host is no write of another
 writes_not : (host other : HostId) (k : ℕ) (call : CallOf) (reply : Reply) → Differ host other → is_write_by other (Called host k call reply) ≡ false
@@ -206,36 +202,37 @@ acted_call script start done rest host call line before after n d counted u h =
     let desk = h.desk in
     let m = h.makes in
     let made : Entry = Called host (desk.calls + 1) call m.reply in
-    let entries : List Entry = m.stored ++ made ∷ [] in
+    let entries : List Entry = m.stored ++ made ∷ m.left in
     let history = before.past.history in
     let at : IsAtDesk script done (line ∷ rest) history host desk = u.desk host desk h.was in
     let left : 0 < desk.left = (let k = has_left host line rest n in let l = at.left in omega arith) in
     let o : IsOpen script done history host desk = at.going left in
-    let asks : calls_of (line ∷ []) ≡ record { host = host; call = call } ∷ [] = rw (n, d) refl in
+    let asks : acts_of (length script.roster.capacity) (line ∷ []) ≡ Asks host call ∷ [] = rw (n, d) refl in
     let own_asks : own_calls host (line ∷ []) ≡ record { host = host; call = call } ∷ [] = rw (n, d, eq-eqb host.0 host.0 refl) refl in
     let asked : is_asked script made ≡ true = subst (λ k. is_asked script (Called host (k + 1) call m.reply) ≡ true) (sym o.calls) (asked_now script done rest line host call m.reply n d counted) in
     let own : is_own host made ≡ true = eq-eqb host.0 host.0 refl in
-    let kept : filter (is_asked script) entries ≡ made ∷ [] = filter-append (is_asked script) m.stored (made ∷ []) ∙ rw (asked_stores script m.stored m.stores, asked) refl in
+    let kept : filter (is_asked script) entries ≡ made ∷ [] = filter-append (is_asked script) m.stored (made ∷ m.left) ∙ rw (asked_stores script m.stored m.stores, asked, asked_stores script m.left m.lefts) refl in
     let none : list_all (is_foreign host) m.stored ≡ true = stores_foreign host m.stored m.stores in
+    let behind : list_all (is_foreign host) m.left ≡ true = stores_foreign host m.left m.lefts in
     let implied : is_implied script host made ≡ false = rw (own, asked) refl in
+    let told : acts_in script entries ≡ Asks host call ∷ [] = acts_append script m.stored (made ∷ m.left) ∙ rw (acts_none script m.stored (asked_stores script m.stored m.stores) (down_stores m.stored m.stores), asked, acts_none script m.left (asked_stores script m.left m.lefts) (down_stores m.left m.lefts)) refl in
     come_on script start done (done ++ line ∷ []) (line ∷ rest) (line ∷ rest) entries host desk (desk_called desk h.done call) before after u m.goes
-    (calls_more done line ∙ ap (λ l. calls_of done ++ l) (asks ∙ sym (ap calls_in kept)))
-    (downs_more (length script.roster.capacity) done line ∙ ap (λ l. downs_of (length script.roster.capacity) done ++ l) (rw (n, d) (sym (filter-append is_down m.stored (made ∷ []) ∙ rw (down_stores m.stored m.stores) refl))))
-    (rw o.next (numbered_append host (desk.calls + 1) m.stored (made ∷ []) (numbered_foreign host (desk.calls + 1) m.stored none) (rw (next_foreign host (desk.calls + 1) m.stored none, own, eq-eqb (desk.calls + 1) (desk.calls + 1) refl) refl)))
-    (λ other e. all_append (is_foreign other) m.stored (made ∷ []) (stores_foreign other m.stored m.stores) (both_true _ _ (own_differs host other (desk.calls + 1) call m.reply e) refl))
+    (acts_more (length script.roster.capacity) done line ∙ ap (λ l. acts_of (length script.roster.capacity) done ++ l) (asks ∙ sym told))
+    (rw o.next (numbered_append host (desk.calls + 1) m.stored (made ∷ m.left) (numbered_foreign host (desk.calls + 1) m.stored none) (rw (next_foreign host (desk.calls + 1) m.stored none, own, eq-eqb (desk.calls + 1) (desk.calls + 1) refl) (numbered_foreign host (desk.calls + 1 + 1) m.left behind))))
+    (λ other e. all_append (is_foreign other) m.stored (made ∷ m.left) (stores_foreign other m.stored m.stores) (both_true _ _ (own_differs host other (desk.calls + 1) call m.reply e) (stores_foreign other m.left m.lefts)))
     h.was h.desks
     (record {
       left = at.left;
       stopped = at.stopped ∙ sym (stops_append host done (line ∷ []) ∙ rw (n, d, eq-eqb host.0 host.0 refl) (or_false (stops host done)));
       going = λ _. record {
         calls = (let e = own_append host done (line ∷ []) in let l = length-append (own_calls host done) (own_calls host (line ∷ [])) in let q = o.calls in let z = ap length own_asks in let y = ap length e in omega arith);
-        next = next_append host 1 history entries ∙ rw (o.next, next_append host (desk.calls + 1) m.stored (made ∷ []), next_foreign host (desk.calls + 1) m.stored none, own) refl;
+        next = next_append host 1 history entries ∙ rw (o.next, next_append host (desk.calls + 1) m.stored (made ∷ m.left), next_foreign host (desk.calls + 1) m.stored none, own) (next_foreign host (desk.calls + 1 + 1) m.left behind);
         uses = sym (ap (uses_from host []) (filter-append (is_asked script) history entries) ∙ (uses_append host [] (filter (is_asked script) history) (filter (is_asked script) entries) ∙ rw (kept, ← o.uses, eq-eqb host.0 host.0 refl, ← m.told) refl));
-        implied = filter-append (is_implied script host) history entries ∙ (rw (o.implied) (filter-append (is_implied script host) m.stored (made ∷ []) ∙ rw (implied_foreign script host m.stored none, implied) refl));
+        implied = filter-append (is_implied script host) history entries ∙ (rw (o.implied) (filter-append (is_implied script host) m.stored (made ∷ m.left) ∙ rw (implied_foreign script host m.stored none, implied) (implied_foreign script host m.left behind)));
       };
     })
-    (λ other k e. others_desk script done (line ∷ rest) history entries host other line k n e (all_append (is_foreign other) m.stored (made ∷ []) (stores_foreign other m.stored m.stores) (both_true _ _ (own_differs host other (desk.calls + 1) call m.reply e) refl)))
-    (λ other e k. (k, others_closed script done before.past after.past entries host other line n e (all_append (is_foreign other) m.stored (made ∷ []) (stores_foreign other m.stored m.stores) (both_true _ _ (own_differs host other (desk.calls + 1) call m.reply e) refl)) m.goes (m.saved other (no_write_of other e))))
+    (λ other k e. others_desk script done (line ∷ rest) history entries host other line k n e (all_append (is_foreign other) m.stored (made ∷ m.left) (stores_foreign other m.stored m.stores) (both_true _ _ (own_differs host other (desk.calls + 1) call m.reply e) (stores_foreign other m.left m.lefts))))
+    (λ other e k. (k, others_closed script done before.past after.past entries host other line n e (all_append (is_foreign other) m.stored (made ∷ m.left) (stores_foreign other m.stored m.stores) (both_true _ _ (own_differs host other (desk.calls + 1) call m.reply e) (stores_foreign other m.left m.lefts))) m.goes (m.saved other (no_write_of other e))))
     (λ e. still_left _ host line rest n e)
   where
     or_false : (a : Bool) → (a || false) ≡ a
@@ -260,11 +257,9 @@ acted_stop script start done rest host line before after n d u h =
     let o : IsOpen script done history host desk = at.going left in
     let none : list_all (is_foreign host) entries ≡ true = downs_foreign host entries all in
     let own_asks : own_calls host (line ∷ []) ≡ [] = rw (n, d) refl in
-    let asks : calls_of (line ∷ []) ≡ [] = rw (n, d) refl in
-    let lost : downs_of servers (line ∷ []) ≡ entries = rw (n, d) (append-nil entries) in
+    let falls : acts_of servers (line ∷ []) ≡ falls_from host 1 servers = rw (n, d) (append-nil (falls_from host 1 servers)) in
     come_on script start done (done ++ line ∷ []) (line ∷ rest) (line ∷ rest) entries host desk (desk_stopped desk) before after u goes
-    (calls_more done line ∙ ap (λ l. calls_of done ++ l) (asks ∙ sym (ap calls_in (downs_asked script entries all))))
-    (downs_more servers done line ∙ ap (λ l. downs_of servers done ++ l) (lost ∙ sym (filter_all is_down is_down (λ entry e. e) entries all)))
+    (acts_more servers done line ∙ ap (λ l. acts_of servers done ++ l) (falls ∙ sym (acts_downs script host 1 servers)))
     (numbered_foreign host (next_from host 1 history) entries none)
     (λ other e. downs_foreign other entries all)
     h.was h.desks
@@ -287,13 +282,12 @@ acted_stop script start done rest host line before after n d u h =
     or_true false = refl
 
 -- a line that no host is asked anything by
-pub acted_none : (script : Script) (start : Tree) (done rest : List Line) (line : Line) (play : Play) → calls_of (line ∷ []) ≡ [] → downs_of (length script.roster.capacity) (line ∷ []) ≡ [] → ((host : HostId) → stops host (line ∷ []) ≡ false) →
+pub acted_none : (script : Script) (start : Tree) (done rest : List Line) (line : Line) (play : Play) → calls_of (line ∷ []) ≡ [] → acts_of (length script.roster.capacity) (line ∷ []) ≡ [] → ((host : HostId) → stops host (line ∷ []) ≡ false) →
     IsUnderway script start done rest play → IsUnderway script start (done ++ line ∷ []) rest play
-acted_none script start done rest line play asks downs stop u = record {
+acted_none script start done rest line play asks acts stop u = record {
   steady = u.steady;
-  asked = u.asked ∙ sym (calls_more done line ∙ (rw asks (append-nil (calls_of done))));
+  acts = u.acts ∙ sym (acts_more (length script.roster.capacity) done line ∙ (rw acts (append-nil (acts_of (length script.roster.capacity) done))));
   numbered = u.numbered;
-  downs = u.downs ∙ sym (downs_more (length script.roster.capacity) done line ∙ (rw downs (append-nil (downs_of (length script.roster.capacity) done))));
   desks = u.desks;
   desk = λ host desk h. let at : IsAtDesk script done rest play.past.history host desk = u.desk host desk h in record {
     left = at.left;
@@ -333,6 +327,7 @@ ends_asked script host n (Called caller k call reply ∷ entries) e h a =
     (rw no p, rw (no, own) (ap (λ l. record { host = caller; call = call } ∷ l) q))
 ends_asked script host n (Stored by fid spans len ∷ entries) e h a = ends_asked script host n entries e h a
 ends_asked script host n (Down by server ∷ entries) e h a = cc
+ends_asked script host n (Left server id ∷ entries) e h a = ends_asked script host n entries e h a
 
 ends_down : (host : HostId) (entries : List Entry) → list_all (is_hers host) entries ≡ true → filter is_down entries ≡ []
 ends_down host entries h = filter_none (is_hers host) is_down by entries h
@@ -341,6 +336,7 @@ ends_down host entries h = filter_none (is_hers host) is_down by entries h
     by (Called caller k call reply) e = refl
     by (Stored other fid spans len) e = refl
     by (Down other server) e = cc
+    by (Left server id) e = refl
 
 ends_foreign : (host other : HostId) → Differ host other → (entries : List Entry) → list_all (is_hers host) entries ≡ true → list_all (is_foreign other) entries ≡ true
 ends_foreign host other d = all_so (is_hers host) (is_foreign other) by
@@ -349,6 +345,7 @@ ends_foreign host other d = all_so (is_hers host) (is_foreign other) by
     by (Called caller k call reply) e = let q = eqb-true caller.0 host.0 e in rw (q, d) refl
     by (Stored writer fid spans len) e = refl
     by (Down down server) e = refl
+    by (Left server id) e = refl
 
 -- what is told of a host's desk while it has lines left stays when it has one less left
 desk_on : (script : Script) (done rest : List Line) (history : List Entry) (host other : HostId) (line : Line) (desk : Desk) → line.node ≡ Host host → Differ host other → IsAtDesk script done (line ∷ rest) history other desk → IsAtDesk script done rest history other desk
@@ -385,8 +382,8 @@ left_more script start done rest host line before after n u h k =
     let at : IsAtDesk script done (line ∷ rest) before.past.history host desk = u.desk host desk h.was in
     let count : desk.left - 1 ≡ length (filter (is_of (Host host)) rest) = (let l = at.left in let m = has_left host line rest n in omega arith) in
     let same : after.past ≡ before.past = h.more (omega arith) in
-    let goes : GoesOn before.past [] after.past = subst (λ past. GoesOn before.past [] past) (sym same) (goes_nowhere before.past u.steady.formed u.steady.apart) in
-    come_on script start done done (line ∷ rest) rest [] host desk (desk_left desk) before after u goes (sym (append-nil _)) (sym (append-nil _)) refl (λ other d. refl) h.was h.desks
+    let goes : GoesOn before.past [] after.past = subst (λ past. GoesOn before.past [] past) (sym same) (goes_nowhere before.past u.steady.formed u.steady.apart u.steady.rooms) in
+    come_on script start done done (line ∷ rest) rest [] host desk (desk_left desk) before after u goes (sym (append-nil _)) refl (λ other d. refl) h.was h.desks
     (desk_foreign script done rest before.past.history [] host (desk_left desk) refl (record { left = count; stopped = at.stopped; going = λ _. let o : IsOpen script done before.past.history host desk = at.going (omega arith) in record { calls = o.calls; next = o.next; uses = o.uses; implied = o.implied } }))
     (λ other d e a. desk_foreign script done rest before.past.history [] other d refl (desk_on script done rest before.past.history host other line d n e a))
     (λ other e w. (others_left host other line rest n e ∙ w, closed_foreign script done before.past after.past [] other refl goes (subst (λ past. all_contents (has_saved other) before.past.tree ≡ true → all_contents (has_saved other) past.tree ≡ true) (sym same) (λ s. s))))
@@ -406,7 +403,7 @@ left_last script start done rest host line before after entries h n u k goes ask
     let count : desk.left - 1 ≡ length (filter (is_of (Host host)) rest) = (let l = at.left in let m = has_left host line rest n in omega arith) in
     let zero : length (filter (is_of (Host host)) rest) ≡ 0 = ap length k in
     let kept : filter (is_asked script) after.past.history ≡ filter (is_asked script) history = ap (filter (is_asked script)) goes.history ∙ (filter-append (is_asked script) history entries ∙ (rw asked (append-nil _))) in
-    come_on script start done done (line ∷ rest) rest entries host desk (desk_left desk) before after u goes (sym (rw asked (append-nil _))) (sym (rw down (append-nil _))) numbered foreign h.was h.desks
+    come_on script start done done (line ∷ rest) rest entries host desk (desk_left desk) before after u goes (sym (rw (acts_none script entries asked down) (append-nil _))) numbered foreign h.was h.desks
     (record { left = count; stopped = at.stopped; going = λ w. absurd (omega arith) })
     (λ other d e a. desk_foreign script done rest history entries other d (foreign other e) (desk_on script done rest history host other line d n e a))
     (λ other e w. (others_left host other line rest n e ∙ w, closed_foreign script done before.past after.past entries other (foreign other e) goes (saved other)))
@@ -501,9 +498,8 @@ left_on script start done rest host line before after n counted u h = by (filter
 pub left_server : (script : Script) (start : Tree) (done rest : List Line) (server : ServerId) (line : Line) (play : Play) → line.node ≡ Server server → IsUnderway script start done (line ∷ rest) play → IsUnderway script start done rest play
 left_server script start done rest server line play n u = record {
   steady = u.steady;
-  asked = u.asked;
+  acts = u.acts;
   numbered = u.numbered;
-  downs = u.downs;
   desks = u.desks;
   desk = λ host desk h. let at : IsAtDesk script done (line ∷ rest) play.past.history host desk = u.desk host desk h in record { left = at.left ∙ ap length (same host); stopped = at.stopped; going = at.going };
   closed = λ host e. u.closed host (same host ∙ e);
@@ -535,7 +531,7 @@ gone_server server line play n script start done rest c u =
     by : (deed : Deed) → asked_by (Server server) deed ++ [] ≡ []
     by deed = refl
 
-    down : (deed : Deed) → downs_by (length script.roster.capacity) (Server server) deed ++ [] ≡ []
+    down : (deed : Deed) → acts_by (length script.roster.capacity) (Server server) deed ++ [] ≡ []
     down deed = refl
 
 pub along_none : (play : Play) → GoesAlong [] play play

@@ -1,7 +1,8 @@
 -- A run from its first line to its last.
 use Rattle.std.proofs.Common.{◌≡◌, ℕ, ◌+◌, ◌≤◌, Bool, nat_le, ◌&&◌, true, false, not, List, [], ◌++◌, length, refl, sym, ap, subst, ◌∙◌, arith, rules, length-append}
-use Rattle.std.specs.Prelude.{◌==◌, ◌∷◌, if◌then◌else◌, cond, filter, count_by}
+use Rattle.std.specs.Prelude.{◌==◌, ◌∷◌, if◌then◌else◌, cond, filter, count_by, IsPermutation, Option, Some, None}
 use Rattle.std.specs.List.{list_all}
+use Rattle.std.specs.Option.{option_map_or}
 use Rattle.std.proofs.lemmas.Grind.{common_steps}
 use Rattle.std.proofs.lemmas.List.{append-nil}
 use Rattle.std.proofs.lemmas.List.Recursion.{is_count_by}
@@ -14,11 +15,13 @@ use Rattle.dfs_calls.specs.Limits.{keeps_limit}
 use Rattle.dfs_calls.specs.declared.call.Call.{Call as CallOf}
 use Rattle.dfs_calls.specs.declared.call.Call.TheVariants.{NewFileset}
 use Rattle.dfs_tree.specs.declared.tree.Tree.{Tree}
-use Rattle.dfs_tree.specs.Founding.{new_tree}
+use Rattle.dfs_filesets.specs.WellFormed.{is_settled, is_at_rest}
+use Rattle.dfs_objects.specs.declared.content.Content.{Content}
+use Rattle.dfs_objects.specs.declared.content.Content.TheVariants.{Dir, File}
+use Rattle.dfs_objects.specs.declared.content.Object.{Object}
 use Rattle.dfs_tree.specs.Histories.{after_history}
-use Rattle.dfs_tree.proofs.Kept.{formed_start}
-use Rattle.dfs_saving.specs.Unsaved.{all_contents, has_saved, is_by_one}
-use Rattle.dfs_saving.proofs.Apart.{starts_without, saved_is_at_rest}
+use Rattle.dfs_saving.specs.Unsaved.{all_contents, anode_content, fileset_contents, has_saved, is_by_one}
+use Rattle.dfs_saving.proofs.Apart.{saved_is_at_rest}
 use Rattle.script_lines.specs.Asks.{is_host, is_call, is_call_of, call_lines}
 use Rattle.script_lines.specs.Sound.{is_of, is_sound_line, is_sound_deed, is_sound_call, makes_fileset, is_server, is_setup_line, is_setup_call, IsSound}
 use Rattle.script_lines.specs.declared.script.Deed.{Deed}
@@ -27,9 +30,9 @@ use Rattle.script_lines.specs.declared.script.Line.{Line}
 use Rattle.script_lines.specs.declared.script.Script.{Script}
 use Rattle.run_script.specs.Orders.{IsOrder}
 use Rattle.plain_service.specs.Calls.{Asked, asked_by, calls_of, own_calls}
-use Rattle.plain_service.specs.Played.{IsPlayed}
-use Rattle.plain_service.specs.Seats.{is_seated, lines_at}
-use Rattle.plain_service.specs.Underway.{IsUnderway, IsFit, AreCounted, GoesAlong, IsNew, may_go, keeps_deed}
+use Rattle.plain_service.specs.Played.{IsStart, IsPlayed}
+use Rattle.plain_service.specs.Seats.{is_seated, lines_at, all_places}
+use Rattle.plain_service.specs.Underway.{IsUnderway, IsFit, AreCounted, GoesAlong, IsNew, may_go, keeps_deed, played_so}
 use Rattle.plain_service.specs.declared.play.Play.{Play}
 use Rattle.plain_service.proofs.Histories.{fst_true, snd_true, both_true, all_so}
 use Rattle.plain_service.proofs.Seats.{same_eq}
@@ -103,40 +106,63 @@ counted_order script order o host =
     let same : own_calls host order ≡ own_calls host script.lines = own_by host order ∙ (ap calls_of (o.each (Host host)) ∙ sym (own_by host script.lines)) in
     counted_calls host (script.setup ++ script.lines) ∙ ap length (own_append host script.setup script.lines ∙ (ap (λ l. own_calls host script.setup ++ l) (sym same) ∙ sym (own_append host script.setup order)))
 
--- before the first line
-pub fit_first : (script : Script) (start : Tree) (play : Play) → IsSound script → start ≡ new_tree script.roster → IsNew script start play → IsFit play
-fit_first script start play s e n = record { desks = n.desks; formed = rw (n.tree, e) (formed_start script.roster s.roster); apart = rw (n.tree, e) (starts_without script.roster is_by_one) }
+-- where nothing is unsaved
+settled_by_one : (content : Content) → is_settled content ≡ true → is_by_one content ≡ true
+settled_by_one (Dir entries lists) h = refl
+settled_by_one (File list kept [] None) h = refl
+settled_by_one (File list kept [] (Some len)) h = cc
+settled_by_one (File list kept (byte ∷ unsaved) len) h = cc
 
-underway_first : (script : Script) (start : Tree) (order : List Line) (play : Play) → IsSound script → IsOrder script.lines order → start ≡ new_tree script.roster → IsNew script start play → IsUnderway script start [] (script.setup ++ order) play
-underway_first script start order play s o e n = record {
-  steady = record { legal = rw n.history tt; tree = n.tree ∙ sym (ap (after_history start) n.history); formed = rw (n.tree, e) (formed_start script.roster s.roster); apart = rw (n.tree, e) (starts_without script.roster is_by_one); roster = rw (n.tree, e) refl };
-  asked = rw n.history refl;
+settled_saved : (host : HostId) (content : Content) → is_settled content ≡ true → has_saved host content ≡ true
+settled_saved host (Dir entries lists) h = refl
+settled_saved host (File list kept [] None) h = refl
+settled_saved host (File list kept [] (Some len)) h = cc
+settled_saved host (File list kept (byte ∷ unsaved) len) h = cc
+
+rest_all : (test : Content → Bool) → ((content : Content) → is_settled content ≡ true → test content ≡ true) → (tree : Tree) → list_all is_at_rest tree.filesets ≡ true → all_contents test tree ≡ true
+rest_all test f tree h = all_so is_at_rest (fileset_contents test) (λ fileset k. all_so (λ anode. option_map_or (λ object. is_settled object.content) anode.object true) (anode_content test) (λ anode m. by anode.object m) fileset.anodes k) tree.filesets h
+  where
+    by : (object : Option Object) → option_map_or (λ object. is_settled object.content) object true ≡ true → option_map_or (λ object. test object.content) object true ≡ true
+    by None m = refl
+    by (Some object) m = f object.content m
+
+-- before the first line
+pub fit_first : (script : Script) (start : Tree) (play : Play) → IsStart script.roster start → IsNew script start play → IsFit play
+fit_first script start play e n = record { desks = n.desks; formed = rw n.tree e.formed; apart = rw n.tree (rest_all is_by_one settled_by_one start e.rest); rooms = rw n.tree e.rooms }
+
+underway_first : (script : Script) (start : Tree) (order : List Line) (play : Play) → IsOrder script.lines order → IsStart script.roster start → IsNew script start play → IsUnderway script start [] (script.setup ++ order) play
+underway_first script start order play o e n = record {
+  steady = record { legal = rw n.history tt; tree = n.tree ∙ sym (ap (after_history start) n.history); formed = rw n.tree e.formed; apart = rw n.tree (rest_all is_by_one settled_by_one start e.rest); lefts = rw n.history refl; rooms = rw n.tree e.rooms; roster = rw n.tree e.roster };
+  acts = rw n.history refl;
   numbered = λ host. rw n.history refl;
-  downs = rw n.history refl;
   desks = n.desks;
   desk = λ host desk h. rw (n.each host desk h) (record {
     left = sym (ap length (filter-append (is_of (Host host)) script.setup order) ∙ (length-append (filter (is_of (Host host)) script.setup) (filter (is_of (Host host)) order) ∙ ap (λ l. length (filter (is_of (Host host)) script.setup) + length l) (o.each (Host host))));
     stopped = refl;
     going = λ _. record { calls = refl; next = rw n.history refl; uses = rw n.history refl; implied = rw n.history refl };
   });
-  closed = λ host _. record { implied = rw n.history refl; saved = rw (n.tree, e) (starts_without script.roster (has_saved host)) };
+  closed = λ host _. record { implied = rw n.history refl; saved = rw n.tree (rest_all (has_saved host) (settled_saved host) start e.rest) };
 }
 
 -- after the last line
-pub all_played : (script : Script) (start : Tree) (places : List ℕ) (first between last : Play) → IsSound script → IsOrder script.lines (lines_at script.lines places) → start ≡ new_tree script.roster → IsNew script start first →
-    GoesAlong script.setup first between → GoesAlong (lines_at script.lines places) between last → IsPlayed script (record { start = start; history = last.past.history; order = places })
-all_played script start places first between last s o e n a b =
+pub all_played : (script : Script) (start : Tree) (places : List ℕ) (first between last : Play) → IsPermutation (all_places script.lines) places → IsOrder script.lines (lines_at script.lines places) → IsStart script.roster start → IsNew script start first →
+    GoesAlong script.setup first between → GoesAlong (lines_at script.lines places) between last → IsPlayed script (played_so start last.past places)
+all_played script start places first between last p o e n a b =
     let order : List Line = lines_at script.lines places in
     let c : AreCounted script (script.setup ++ order) = counted_order script order o in
-    let mid : IsUnderway script start script.setup order between = a script start [] order c (underway_first script start order first s o e n) in
+    let mid : IsUnderway script start script.setup order between = a script start [] order c (underway_first script start order first o e n) in
     let done : IsUnderway script start (script.setup ++ order) [] last =
     b script start script.setup [] (subst (λ l. AreCounted script (script.setup ++ l)) (sym (append-nil order)) c) (subst (λ l. IsUnderway script start script.setup l between) (sym (append-nil order)) mid) in
     record {
       start = e;
       legal = done.steady.legal;
+      places = p;
       order = o;
-      done = record { asked = done.asked; numbered = done.numbered; implied = λ host. (done.closed host refl).implied; downs = done.downs };
-      saved = saved_is_at_rest (after_history start last.past.history) (λ host. subst (λ tree. all_contents (has_saved host) tree ≡ true) done.steady.tree (done.closed host refl).saved);
+      done = record { acts = done.acts; numbered = done.numbered; implied = λ host. (done.closed host refl).implied };
+      last = done.steady.tree;
+      lefts = done.steady.lefts;
+      rooms = done.steady.rooms;
+      saved = saved_is_at_rest last.past.tree (λ host. (done.closed host refl).saved);
     }
 
 pub ruleset whole = (lines_may, setup_may, lines_seated, fit_first, all_played)

@@ -3,3 +3,4 @@ pub mod Seats
 pub mod Uses
 pub mod Played
 pub mod Underway
+pub mod Laws

@@ -1,24 +1,26 @@
 -- What a run of a script on the file tree is.
-use Rattle.std.specs.Prelude.{◌≡◌, ℕ, ◌+◌, ◌==◌, ◌&&◌, not, Bool, true, false, if◌then◌else◌, List, [], ◌∷◌, ◌++◌, length, map, filter}
+use Rattle.std.specs.Prelude.{◌≡◌, ℕ, ◌+◌, ◌==◌, ◌&&◌, not, Bool, true, false, if◌then◌else◌, List, [], ◌∷◌, ◌++◌, length, map, filter, IsPermutation}
 use Rattle.std.specs.List.{flat_map, list_any, list_all}
 use Rattle.dfs_base.specs.declared.ids.HostId.{HostId}
-use Rattle.dfs_base.specs.declared.ids.Node.{Node}
 use Rattle.dfs_base.specs.declared.ids.Node.TheVariants.{Host}
 use Rattle.dfs_calls.specs.declared.entry.Entry.{Entry}
-use Rattle.dfs_calls.specs.declared.entry.Entry.TheVariants.{Call as Called, Down}
-use Rattle.dfs_tree.specs.Founding.{new_tree}
+use Rattle.dfs_calls.specs.declared.entry.Entry.TheVariants.{Call as Called, Stored, Down, Left}
+use Rattle.dfs_calls.specs.declared.call.Call.{Call as CallOf}
+use Rattle.dfs_calls.specs.declared.call.Call.TheVariants.{MoveFileset}
+use Rattle.dfs_calls.specs.declared.reply.Reply.{Reply}
+use Rattle.dfs_calls.specs.declared.reply.Reply.TheVariants.{Ok as Done}
+use Rattle.dfs_calls.specs.declared.roster.Roster.{Roster}
+use Rattle.dfs_tree.specs.declared.tree.Tree.{Tree}
+use Rattle.dfs_tree.specs.WellFormed.{IsWellFormed}
 use Rattle.dfs_tree.specs.Histories.{IsHistory, after_history}
-use Rattle.dfs_tree.specs.Laws.{is_at_rest}
-use Rattle.dfs_saving.specs.Saving.{downs_from}
-use Rattle.script_lines.specs.declared.script.Deed.{Deed}
-use Rattle.script_lines.specs.declared.script.Deed.TheVariants.{Stop}
+use Rattle.dfs_filesets.specs.WellFormed.{is_at_rest}
 use Rattle.script_lines.specs.declared.script.Line.{Line}
 use Rattle.script_lines.specs.declared.script.Script.{Script}
 use Rattle.script_lines.specs.Sound.{is_of, is_stop}
 use Rattle.run_script.specs.Orders.{IsOrder}
-use Rattle.plain_service.specs.Calls.{Asked, calls_of, is_asked}
+use Rattle.plain_service.specs.Calls.{Asked, is_asked, acts_of, acts_in}
 use Rattle.plain_service.specs.Uses.{uses_from, ending}
-use Rattle.plain_service.specs.Seats.{lines_at}
+use Rattle.plain_service.specs.Seats.{lines_at, all_places}
 use Rattle.plain_service.specs.declared.played.Played.{Played}
 
 -- the call of an entry
@@ -67,34 +69,52 @@ endings script host history = map (λ used. record { host = host; call = ending 
 abbrev pub last_calls : Script → List Line → HostId → List Entry → List Asked
 last_calls script lines host history = if stops host lines then [] else endings script host history
 
--- whether an entry says that a host is down
-abbrev pub is_down : Entry → Bool
-is_down (Down host server) = true
-is_down _ = false
-
--- where a host stops it is down at each of so many servers
-abbrev pub downs_by : ℕ → Node → Deed → List Entry
-downs_by servers (Host host) Stop = downs_from host 1 servers
-downs_by servers _ _ = []
-
-abbrev pub downs_of : ℕ → List Line → List Entry
-downs_of servers lines = flat_map (λ line. downs_by servers line.node line.deed) lines
-
--- A history is what hosts do by lines that go in this order. The calls that lines ask for are made in this order, each once.
--- The calls of each host are numbered from 1; after those that its lines ask for it makes, unless it stopped, the calls that
--- end what it has in use. Where it stopped it is down at each server.
+-- A history is what hosts do by lines that go in this order. What the lines bring about comes in this order, each once: the
+-- calls that they ask for, and, where a host stops, that it is down at each server. The calls of each host are numbered from
+-- 1; after those that its lines ask for it makes, unless it stopped, the calls that end what it has in use.
 pub record IsDoneBy (script : Script) (lines : List Line) (history : List Entry) : Type 0 where
-  pub asked : calls_in (filter (is_asked script) history) ≡ calls_of lines
+  pub acts : acts_in script history ≡ acts_of (length script.roster.capacity) lines
   pub numbered : (host : HostId) → are_numbered host 1 history ≡ true
   pub implied : (host : HostId) → calls_in (filter (is_implied script host) history) ≡ last_calls script lines host history
-  pub downs : filter is_down history ≡ downs_of (length script.roster.capacity) lines
 
--- A script was run on the file tree: it starts without filesets; what happened is legal; first come the lines that make the
--- filesets, and then all others in an order in which each node's lines stay in theirs and each that awaits a flag comes after
--- the one that raised it; and in the end nothing is unsaved.
+-- whether a call moved a fileset
+abbrev pub has_moved : CallOf → Reply → Bool
+has_moved (MoveFileset server fileset to) Done = true
+has_moved _ _ = false
+
+-- whether, from where one is due or not, a server learns that a fileset has arrived directly behind each move, and nowhere else
+abbrev pub lefts_stand : Bool → List Entry → Bool
+lefts_stand due [] = not due
+lefts_stand due (Left server id ∷ entries) = due && lefts_stand false entries
+lefts_stand due (Called host k call reply ∷ entries) = not due && lefts_stand (has_moved call reply) entries
+lefts_stand due (Stored host fid spans len ∷ entries) = not due && lefts_stand false entries
+lefts_stand due (Down host server ∷ entries) = not due && lefts_stand false entries
+
+-- whether no server keeps room for a fileset that left it
+abbrev pub rooms_free : Tree → Bool
+rooms_free tree = list_all (λ away. not away.room_kept) tree.away
+
+-- A tree from which a script can be run: it is well formed and has the script's roster, nothing is unsaved, nothing is
+-- in use, and no server keeps room for a fileset that left it.
+pub record IsStart (given : Roster) (tree : Tree) : Type 0 where
+  pub formed : IsWellFormed tree
+  pub roster : tree.roster ≡ given
+  pub rest : list_all is_at_rest tree.filesets ≡ true
+  pub locks : tree.locks ≡ []
+  pub opens : tree.opens ≡ []
+  pub rooms : rooms_free tree ≡ true
+
+-- A script was run on the file tree: what happened is legal; first come the lines that make the filesets, and then all others,
+-- each once, in an order in which each node's lines stay in theirs and each that awaits a flag comes after the one that raised
+-- it; a server learns that a fileset has arrived directly behind the move; and in the end nothing is unsaved, and no server keeps
+-- room for a fileset that left it.
 pub record IsPlayed (script : Script) (played : Played) : Type 0 where
-  pub start : played.start ≡ new_tree script.roster
+  pub start : IsStart script.roster played.start
   pub legal : IsHistory played.start played.history
+  pub places : IsPermutation (all_places script.lines) played.order
   pub order : IsOrder script.lines (lines_at script.lines played.order)
   pub done : IsDoneBy script (script.setup ++ lines_at script.lines played.order) played.history
-  pub saved : list_all is_at_rest (after_history played.start played.history).filesets ≡ true
+  pub last : played.last ≡ after_history played.start played.history
+  pub lefts : lefts_stand false played.history ≡ true
+  pub saved : list_all is_at_rest played.last.filesets ≡ true
+  pub rooms : rooms_free played.last ≡ true

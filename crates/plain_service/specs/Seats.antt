@@ -1,6 +1,6 @@
 -- Where each node stands while the lines of a script go.
-use Rattle.std.specs.Prelude.{◌≡◌, ℕ, ◌+◌, ◌-◌, nat_le, ◌&&◌, Bool, true, false, List, [], ◌∷◌, length, drop, filter, slice_get, Some, unwrap_or, if◌then◌else◌}
-use Rattle.std.specs.List.{flat_map}
+use Rattle.std.specs.Prelude.{◌≡◌, ℕ, ◌+◌, ◌-◌, nat_le, nat_lt, ◌&&◌, not, Bool, true, false, List, [], ◌∷◌, ◌++◌, length, drop, filter, IsPermutation, slice_get, Some, unwrap_or, if◌then◌else◌}
+use Rattle.std.specs.List.{flat_map, range_with_len}
 use Rattle.std.specs.Option.{option_map_or}
 use Rattle.dfs_base.specs.declared.ids.Node.{Node}
 use Rattle.dfs_base.specs.declared.ids.Node.TheVariants.{Host, Server}
@@ -24,6 +24,10 @@ is_seated (Server server) = nat_le 1 server.0 && nat_le server.0 SERVERS_MAX
 -- the lines at places
 abbrev pub lines_at : List Line → List ℕ → List Line
 lines_at lines places = flat_map (λ place. option_map_or (λ line. line ∷ []) (slice_get lines place) []) places
+
+-- the places of lines, from 0
+abbrev pub all_places : List Line → List ℕ
+all_places lines = range_with_len 0 (length lines)
 
 -- the place of a node's next line; nodes without a seat have none
 abbrev pub next_of : List Line → List ℕ → Node → ℕ
@@ -57,11 +61,20 @@ pub record AreFirst (lines : List Line) (next : List ℕ) : Type 0 where
   pub heads : AreHeads lines next
   pub all : (node : Node) → is_seated node ≡ true → left_at lines next node ≡ filter (is_of node) lines
 
+-- whether the line at a place has gone, where each node's next line is at these
+abbrev pub has_gone : List Line → List ℕ → ℕ → Bool
+has_gone lines next place = option_map_or (λ line. nat_lt place (next_of lines next line.node)) (slice_get lines place) true
+
+-- the places of the lines that have not
+abbrev pub places_left : List Line → List ℕ → List ℕ
+places_left lines next = filter (λ place. not (has_gone lines next place)) (all_places lines)
+
 -- lines have gone in an order that their awaits allow, and each node stands at its next line
 pub record IsStanding (lines : List Line) (order : Order) : Type 0 where
   pub begun : IsBegun lines (lines_at lines order.went) (left_at lines order.next)
   pub heads : AreHeads lines order.next
   pub flags : order.flags ≡ flags_of (lines_at lines order.went)
+  pub places : IsPermutation (all_places lines) (order.went ++ places_left lines order.next)
 
 -- whether there is a line at a place that can go
 abbrev pub can_go_at : List Line → List (List ℕ) → ℕ → Bool

@@ -1,17 +1,21 @@
 -- How far a run has come.
-use Rattle.std.specs.Prelude.{◌≡◌, ◌<◌, ℕ, ◌+◌, ◌-◌, nat_lt, ◌&&◌, ◌||◌, Bool, true, false, List, [], ◌∷◌, ◌++◌, length, map, filter, slice_get, slice_set, Some}
-use Rattle.std.specs.List.{list_all}
+use Rattle.std.specs.Prelude.{◌≡◌, ◌<◌, ℕ, ◌+◌, ◌-◌, nat_lt, ◌&&◌, ◌||◌, Bool, true, false, List, [], ◌∷◌, ◌++◌, length, map, filter, slice_get, slice_set, Option, Some, None}
+use Rattle.std.specs.List.{list_all, find}
+use Rattle.std.specs.Option.{option_map}
 use Rattle.dfs_base.specs.declared.ids.HostId.{HostId}
+use Rattle.dfs_base.specs.declared.ids.ServerId.{ServerId}
+use Rattle.dfs_base.specs.declared.ids.FilesetId.{FilesetId}
 use Rattle.dfs_base.specs.declared.ids.Node.TheVariants.{Host}
 use Rattle.dfs_base.specs.declared.limits.TheConstants.{HOSTS_MAX}
 use Rattle.dfs_calls.specs.Limits.{keeps_limit}
 use Rattle.dfs_calls.specs.declared.call.Call.{Call}
 use Rattle.dfs_calls.specs.declared.entry.Entry.{Entry}
-use Rattle.dfs_calls.specs.declared.entry.Entry.TheVariants.{Call as Called, Stored}
+use Rattle.dfs_calls.specs.declared.entry.Entry.TheVariants.{Call as Called, Stored, Down, Left}
 use Rattle.dfs_calls.specs.declared.reply.Reply.{Reply}
 use Rattle.dfs_tree.specs.declared.tree.Tree.{Tree}
 use Rattle.dfs_tree.specs.Histories.{IsHistory, after_history}
 use Rattle.dfs_tree.specs.WellFormed.{IsWellFormed}
+use Rattle.dfs_tree.specs.Moving.{left_tree}
 use Rattle.dfs_saving.specs.Unsaved.{all_contents, has_saved, is_by_one, is_write_by, writes_alone}
 use Rattle.dfs_saving.specs.Saving.{downs_from}
 use Rattle.script_lines.specs.declared.script.Deed.{Deed}
@@ -21,19 +25,25 @@ use Rattle.script_lines.specs.declared.script.Script.{Script}
 use Rattle.script_lines.specs.Asks.{call_lines}
 use Rattle.script_lines.specs.Sound.{is_of}
 use Rattle.plain_service.specs.Seats.{is_seated}
-use Rattle.plain_service.specs.Calls.{Asked, calls_of, own_calls, is_asked}
+use Rattle.plain_service.specs.Calls.{Asked, own_calls, is_asked, acts_of, acts_in}
 use Rattle.plain_service.specs.Uses.{is_done, uses_from, used_if, ending}
-use Rattle.plain_service.specs.Played.{calls_in, is_own, next_number, are_numbered, is_implied, stops, last_calls, is_down, downs_of}
+use Rattle.plain_service.specs.Played.{calls_in, is_own, next_number, are_numbered, is_implied, stops, last_calls, lefts_stand, rooms_free}
 use Rattle.plain_service.specs.declared.uses.Use.{Use}
 use Rattle.plain_service.specs.declared.past.Past.{Past}
 use Rattle.plain_service.specs.declared.play.Desk.{Desk}
 use Rattle.plain_service.specs.declared.play.Play.{Play}
 use Rattle.plain_service.specs.declared.played.Played.{Played}
 
--- whether an entry says what became kept
-abbrev pub is_store : Entry → Bool
-is_store (Stored host fid spans len) = true
-is_store _ = false
+-- whether an entry says that a host is down
+abbrev pub is_down : Entry → Bool
+is_down (Down host server) = true
+is_down _ = false
+
+-- whether an entry says what became kept, or that a server learnt that a fileset has arrived
+abbrev pub is_aside : Entry → Bool
+is_aside (Stored host fid spans len) = true
+is_aside (Left server id) = true
+is_aside _ = false
 
 -- entries that may come next lead from a tree to another well formed one, in which what each file has unsaved is one host's
 pub record Leads (before : Tree) (entries : List Entry) (after : Tree) : Type 0 where
@@ -43,28 +53,44 @@ pub record Leads (before : Tree) (entries : List Entry) (after : Tree) : Type 0 
   pub apart : all_contents is_by_one after ≡ true
   pub roster : after.roster ≡ before.roster
 
--- entries came next, each of which may
+-- entries came next, each of which may; no server keeps room then
 pub record GoesOn (before : Past) (entries : List Entry) (after : Past) : Type 0 where
   pub history : after.history ≡ before.history ++ entries
   pub leads : Leads before.tree entries after.tree
+  pub lefts : lefts_stand false entries ≡ true
+  pub rooms : rooms_free after.tree ≡ true
 
 -- a host that has saved all still has
 abbrev pub StillSaved : HostId → Past → Past → Type 0
 StillSaved host before after = all_contents (has_saved host) before.tree ≡ true → all_contents (has_saved host) after.tree ≡ true
 
--- a host made its next call; whatever became kept did so before
+-- the first server that keeps room for a fileset that left it, and the fileset
+abbrev pub kept_room : Tree → Option (ServerId × FilesetId)
+kept_room tree = option_map (λ away. (away.server, away.fileset)) (find (λ away. away.room_kept) tree.away)
+
+-- that server learns that the fileset has arrived
+abbrev pub arrived_by : Past → Option (ServerId × FilesetId) → Past
+arrived_by past None = past
+arrived_by past (Some found) = record { tree = left_tree past.tree found.0 found.1; history = past.history ++ Left found.0 found.1 ∷ [] }
+
+abbrev pub arrived : Past → Past
+arrived past = arrived_by past (kept_room past.tree)
+
+-- a host made its next call; whatever became kept did so before, and where it moved a fileset a server learnt it
 pub record Makes (host : HostId) (k : ℕ) (call : Call) (done : Bool) (before after : Past) : Type 0 where
   pub stored : List Entry
   pub reply : Reply
-  pub stores : list_all is_store stored ≡ true
-  pub goes : GoesOn before (stored ++ Called host k call reply ∷ []) after
+  pub left : List Entry
+  pub stores : list_all is_aside stored ≡ true
+  pub lefts : list_all is_aside left ≡ true
+  pub goes : GoesOn before (stored ++ Called host k call reply ∷ left) after
   pub told : done ≡ is_done reply
   pub saved : (other : HostId) → is_write_by other (Called host k call reply) ≡ false → StillSaved other before after
 
 -- before a write of a host nobody else has anything unsaved of the file
 pub record MakesWay (host : HostId) (call : Call) (before after : Past) : Type 0 where
   pub stored : List Entry
-  pub stores : list_all is_store stored ≡ true
+  pub stores : list_all is_aside stored ≡ true
   pub goes : GoesOn before stored after
   pub alone : (k : ℕ) (reply : Reply) → writes_alone after.tree (Called host k call reply) ≡ true
   pub saved : (other : HostId) → StillSaved other before after
@@ -77,7 +103,7 @@ pub record GoesDown (host : HostId) (before after : Past) : Type 0 where
 -- a host stored all
 pub record Saves (host : HostId) (before after : Past) : Type 0 where
   pub stored : List Entry
-  pub stores : list_all is_store stored ≡ true
+  pub stores : list_all is_aside stored ≡ true
   pub goes : GoesOn before stored after
   pub all : all_contents (has_saved host) after.tree ≡ true
   pub saved : (other : HostId) → StillSaved other before after
@@ -89,7 +115,7 @@ next_from host k (entry ∷ entries) = next_from host (next_number host k entry)
 
 -- whether an entry is a host's, or says what became kept
 abbrev pub is_hers : HostId → Entry → Bool
-is_hers host entry = is_store entry || is_own host entry
+is_hers host entry = is_aside entry || is_own host entry
 
 -- whether the number of a call is above one
 abbrev pub is_above : ℕ → Entry → Bool
@@ -116,6 +142,8 @@ pub record IsSteady (script : Script) (start : Tree) (past : Past) : Type 0 wher
   pub tree : past.tree ≡ after_history start past.history
   pub formed : IsWellFormed past.tree
   pub apart : all_contents is_by_one past.tree ≡ true
+  pub lefts : lefts_stand false past.history ≡ true
+  pub rooms : rooms_free past.tree ≡ true
   pub roster : past.tree.roster ≡ script.roster
 
 -- a host that has lines left has made the calls of its lines so far
@@ -138,9 +166,8 @@ pub record IsClosed (script : Script) (done : List Line) (past : Past) (host : H
 -- some lines are done, and the rest is left
 pub record IsUnderway (script : Script) (start : Tree) (done rest : List Line) (play : Play) : Type 0 where
   pub steady : IsSteady script start play.past
-  pub asked : calls_in (filter (is_asked script) play.past.history) ≡ calls_of done
+  pub acts : acts_in script play.past.history ≡ acts_of (length script.roster.capacity) done
   pub numbered : (host : HostId) → are_numbered host 1 play.past.history ≡ true
-  pub downs : filter is_down play.past.history ≡ downs_of (length script.roster.capacity) done
   pub desks : length play.desks ≡ HOSTS_MAX + 1
   pub desk : (host : HostId) (desk : Desk) → slice_get play.desks host.0 ≡ Some desk → IsAtDesk script done rest play.past.history host desk
   pub closed : (host : HostId) → filter (is_of (Host host)) rest ≡ [] → IsClosed script done play.past host
@@ -154,6 +181,7 @@ pub record IsFit (play : Play) : Type 0 where
   pub desks : length play.desks ≡ HOSTS_MAX + 1
   pub formed : IsWellFormed play.past.tree
   pub apart : all_contents is_by_one play.past.tree ≡ true
+  pub rooms : rooms_free play.past.tree ≡ true
 
 -- what is known of a host after a call of its lines
 abbrev pub desk_called : Desk → Bool → Call → Desk
@@ -244,5 +272,5 @@ pub record IsNew (script : Script) (start : Tree) (play : Play) : Type 0 where
   pub each : AreNew script play.desks
 
 -- a script that went so
-abbrev pub played_so : Tree → List Entry → List ℕ → Played
-played_so start history order = record { start = start; history = history; order = order }
+abbrev pub played_so : Tree → Past → List ℕ → Played
+played_so start past order = record { start = start; history = past.history; last = past.tree; order = order }

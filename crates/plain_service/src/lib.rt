@@ -2,6 +2,7 @@
 //! stored and lost in between. It has no messages and no caches; it says what the service must answer in that order.
 #![tactic(auto)]
 
+mod laws;
 mod order;
 mod past;
 mod play;
@@ -9,6 +10,7 @@ mod played;
 mod service;
 mod uses;
 
+pub use laws::{calls_law, down_law};
 pub use played::Played;
 pub use service::serve;
 pub use uses::Use;

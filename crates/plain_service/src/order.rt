@@ -1,9 +1,9 @@
-ghost use Rattle.std.specs.Prelude.{◌≡◌, ◌<◌, ◌≤◌, ℕ, true, false, Some, None, filter, drop, length, slice_get, IfOk, IfSome, OnOk};
+ghost use Rattle.std.specs.Prelude.{◌≡◌, ◌<◌, ◌≤◌, ℕ, true, false, Some, None, filter, drop, length, slice_get, IsPermutation, IfOk, IfSome, OnOk};
 ghost use Rattle.std.specs.List.{list_all};
 ghost use Rattle.script_lines.specs.Sound.{is_of};
 ghost use Rattle.run_script.specs.Walk.{can_go, stuck_at};
 ghost use Rattle.run_script.specs.Orders.{IsOrder, AllStand, flags_after};
-ghost use Rattle.plain_service.specs.Seats.{seat_of, is_seated, is_head, lines_at, left_at, to_go, AreFirst, IsStanding, can_go_at, is_ready};
+ghost use Rattle.plain_service.specs.Seats.{seat_of, is_seated, is_head, lines_at, left_at, to_go, all_places, AreFirst, IsStanding, can_go_at, is_ready};
 
 use dfs_base::{HOSTS_MAX, HostId, Items, Name, NoMemory, Node, Plain, SERVERS_MAX, ServerId};
 use run_script::{can_go, same_node};
@@ -27,7 +27,8 @@ struct Order {
 pub(crate) fn order_of(alloc: Global, lines: &Items<Line>) -> Result<Items<usize>, NoMemory>
     requires seated { list_all (λ line. is_seated line.node) lines.now ≡ true }
     requires free { stuck_at lines.now ≡ None }
-    ensures { IfOk result (λ places. IsOrder lines.now (lines_at lines.now places)) }
+    ensures order { IfOk result (λ places. IsOrder lines.now (lines_at lines.now places)) }
+    ensures places { IfOk result (IsPermutation (all_places lines.now)) }
 {
     let mut order = Order::new(alloc, lines)?;
     while let Some((seat, place)) = order.ready(lines) {

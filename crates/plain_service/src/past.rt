@@ -7,11 +7,12 @@ ghost use Rattle.dfs_tree.specs.declared.tree.Tree.{Tree as TreeOf};
 ghost use Rattle.dfs_calls.specs.Limits.{keeps_limit};
 ghost use Rattle.dfs_tree.specs.WellFormed.{IsWellFormed};
 ghost use Rattle.dfs_saving.specs.Unsaved.{all_contents, is_by_one, writes_alone};
+ghost use Rattle.plain_service.specs.Played.{rooms_free};
 ghost use Rattle.plain_service.specs.Uses.{is_done, ending};
-ghost use Rattle.plain_service.specs.Underway.{Makes, MakesWay, GoesDown, Saves, Ends, IsLast};
+ghost use Rattle.plain_service.specs.Underway.{arrived, kept_room, Makes, MakesWay, GoesDown, Saves, Ends, IsLast};
 
 use crate::uses::Use;
-use dfs_base::{HostId, Items, NoMemory, Plain};
+use dfs_base::{FilesetId, HostId, Items, NoMemory, Plain, ServerId};
 use dfs_calls::{Call, Entry, Place, Reply};
 use dfs_saving::{down_all, store_all, store_others};
 use dfs_tree::Tree;
@@ -29,6 +30,7 @@ impl Past {
     pub fn make(&mut self, host: HostId, k: u32, call: &Call) -> Result<bool, NoMemory>
         requires formed { IsWellFormed self.old.tree }
         requires apart { all_contents is_by_one self.old.tree ≡ true }
+        requires rooms { rooms_free self.old.tree ≡ true }
         requires limit { keeps_limit call.now ≡ true }
         ensures { IfOk result (λ done. Makes host k call.now done self.old self.new) }
     {
@@ -41,13 +43,26 @@ impl Past {
             call: call.copy()?,
             reply,
         })?;
+        self.arrive()?;
         Ok(done)
+    }
+
+    // Where a server keeps room for a fileset that left it, it learns that the fileset has arrived.
+    fn arrive(&mut self) -> Result<(), NoMemory>
+        ensures { OnOk result (self.new ≡ arrived self.old) }
+    {
+        if let Some((server, fileset)) = kept_room(&self.tree) {
+            self.history.push(Entry::Left { server, fileset })?;
+            self.tree.left(server, fileset);
+        }
+        Ok(())
     }
 
     // Before a write what other hosts have unsaved of the file is stored.
     fn store_for(&mut self, host: HostId, call: &Call) -> Result<(), NoMemory>
         requires formed { IsWellFormed self.old.tree }
         requires apart { all_contents is_by_one self.old.tree ≡ true }
+        requires rooms { rooms_free self.old.tree ≡ true }
         ensures { OnOk result (MakesWay host call.now self.old self.new) }
     {
         if let Some(place) = written_by(call) {
@@ -61,6 +76,7 @@ impl Past {
     pub fn go_down(&mut self, host: HostId) -> Result<(), NoMemory>
         requires formed { IsWellFormed self.old.tree }
         requires apart { all_contents is_by_one self.old.tree ≡ true }
+        requires rooms { rooms_free self.old.tree ≡ true }
         ensures { OnOk result (GoesDown host self.old self.new) }
     {
         let downs = down_all(&mut self.tree, host)?;
@@ -72,6 +88,7 @@ impl Past {
     pub fn save(&mut self, host: HostId) -> Result<(), NoMemory>
         requires formed { IsWellFormed self.old.tree }
         requires apart { all_contents is_by_one self.old.tree ≡ true }
+        requires rooms { rooms_free self.old.tree ≡ true }
         ensures { OnOk result (Saves host self.old self.new) }
     {
         let stored = store_all(&mut self.tree, host)?;
@@ -89,6 +106,7 @@ impl Past {
     ) -> Result<(), NoMemory>
         requires formed { IsWellFormed self.old.tree }
         requires apart { all_contents is_by_one self.old.tree ≡ true }
+        requires rooms { rooms_free self.old.tree ≡ true }
         ensures { OnOk result (IsLast host calls stopped uses.now self.old self.new) }
     {
         if stopped {
@@ -104,6 +122,7 @@ impl Past {
     fn end_use(&mut self, host: HostId, k: u32, used: &Use) -> Result<bool, NoMemory>
         requires formed { IsWellFormed self.old.tree }
         requires apart { all_contents is_by_one self.old.tree ≡ true }
+        requires rooms { rooms_free self.old.tree ≡ true }
         ensures { IfOk result (λ done. Makes host k (ending used.now) done self.old self.new) }
     {
         let call = used.ending()?;
@@ -114,6 +133,7 @@ impl Past {
     fn end_uses(&mut self, host: HostId, calls: u32, uses: &Items<Use>) -> Result<(), NoMemory>
         requires formed { IsWellFormed self.old.tree }
         requires apart { all_contents is_by_one self.old.tree ≡ true }
+        requires rooms { rooms_free self.old.tree ≡ true }
         ensures { OnOk result (Ends host calls uses.now self.old self.new) }
     {
         let mut k = calls;
@@ -123,6 +143,17 @@ impl Past {
         }
         Ok(())
     }
+}
+
+// The first server that keeps room for a fileset that left it, and the fileset.
+fn kept_room(tree: &Tree) -> Option<(ServerId, FilesetId)>
+    ensures { result ≡ kept_room tree.now }
+{
+    tree.away
+        .as_slice()
+        .iter()
+        .find(|away| away.room_kept)
+        .map(|away| (away.server, away.fileset))
 }
 
 // The place that a call writes.

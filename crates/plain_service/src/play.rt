@@ -11,7 +11,7 @@ ghost use Rattle.plain_service.specs.Underway.{IsFit, HasCalled, HasStopped, Has
 use crate::past::{Past, number_after};
 use crate::uses::{Use, note};
 use dfs_base::{HOSTS_MAX, HostId, Items, NoMemory, Node, Plain};
-use dfs_calls::{Call, Entry};
+use dfs_calls::Call;
 use dfs_tree::Tree;
 use run_script::same_node;
 use script_lines::{Deed, Line, Script};
@@ -69,11 +69,11 @@ impl Play {
         self.follow(&script.lines, order)
     }
 
-    /// What happened.
-    pub fn into_history(self) -> Items<Entry>
-        ensures { result ≡ self.past.history }
+    /// What happened, and the tree that it led to.
+    pub fn into_past(self) -> Past
+        ensures { result ≡ self.past }
     {
-        self.past.history
+        self.past
     }
 
     // The lines that make the filesets go, one after the other.

@@ -8,7 +8,7 @@ returns-in_ok-raise-clause-standing c =
     let w : c.args.place < length c.args.lines.now = omega arith in
     gone_to c.args.lines.now c.args.self.now c.args.seat c.args.place c.next_place.result c.get-line.result.now _ _ _ c.requires.standing c.requires.place
     (slice_get_read c.args.lines.now _ c.args.place c.get-line.result.now refl w c.get-line.ensures) c.requires.ready
-    c.next_place.ensures.same c.next_place.ensures.head c.in_ok-push.ensures.ok c.put.ensures c.in_ok-raise.ensures
+    c.next_place.ensures.same c.next_place.ensures.head c.next_place.ensures.after c.in_ok-push.ensures.ok c.put.ensures c.in_ok-raise.ensures
 
 pub returns-in_ok-raise-clause-fewer : goal.returns-in_ok-raise-clause-fewer
 returns-in_ok-raise-clause-fewer c =

@@ -1,0 +1,55 @@
+use Rattle.std.specs.Prelude.{ℕ, ◌^◌, ◌-◌, ◌≤◌, ◌==◌, if◌then◌else◌, List, [], ◌∷◌, length, Option, Result, Ok, Err, codes}
+use Rattle.std.specs.Result.{result_ok}
+use Rattle.dfs_base.specs.declared.limits.TheConstants.{HOSTS_MAX, WORKERS_MAX}
+use Rattle.script_words.specs.Outcome.{◌>>=◌}
+use Rattle.script_words.specs.Fields.{is_word, number_at, end_at}
+use Rattle.script_words.specs.declared.fault.BadWhy.{BadWhy}
+use Rattle.script_words.specs.declared.fault.BadWhy.TheVariants.{Word}
+use Rattle.run_gen.specs.declared.script.TheConstants.{CALLS_MAX}
+use Rattle.command_words.specs.declared.parts.Parts.{Parts}
+use Rattle.command_words.specs.declared.command.Command.{Command}
+use Rattle.command_words.specs.declared.command.Command.TheVariants.{Run, Gen}
+use Rattle.command_words.specs.Parts.{parts_of}
+
+-- how many workers there are: one, where nothing is said
+unfoldable pub workers_of : List (List ℕ) → Result ℕ BadWhy
+workers_of [] = Ok 1
+workers_of said = do
+  _ ← end_at said 1
+  number_at 1 WORKERS_MAX said 0
+
+-- `run` with at most one `--json`
+unfoldable pub run_of : Parts → Result Command BadWhy
+run_of parts = do
+  _ ← end_at parts.others 0
+  _ ← end_at parts.json 1
+  workers ← workers_of parts.workers
+  Ok (Run (length parts.json == 1) workers)
+
+-- `gen SEED HOSTS CALLS`
+unfoldable pub gen_of : Parts → Result Command BadWhy
+gen_of parts = do
+  _ ← end_at parts.json 0
+  _ ← end_at parts.others 3
+  seed ← number_at 0 (2 ^ 64 - 1) parts.others 0
+  hosts ← number_at 1 HOSTS_MAX parts.others 1
+  calls ← number_at 1 CALLS_MAX parts.others 2
+  workers ← workers_of parts.workers
+  Ok (Gen seed hosts calls workers)
+
+-- `run` or `gen` comes first
+unfoldable pub read : List (List ℕ) → Result Command BadWhy
+read [] = Err Word
+read (first ∷ words) =
+    if is_word first (codes "run") then run_of (parts_of words)
+    else (if is_word first (codes "gen") then gen_of (parts_of words) else Err Word)
+
+-- the command that words ask for, where they are in the grammar
+abbrev pub command_of : List (List ℕ) → Option Command
+command_of words = result_ok (read words)
+
+-- what the numbers of a command keep
+abbrev pub IsWithin : Command → Type 0
+IsWithin (Run json workers) = (1 ≤ workers) × (workers ≤ WORKERS_MAX)
+IsWithin (Gen seed hosts calls workers) =
+    (1 ≤ hosts) × (hosts ≤ HOSTS_MAX) × (1 ≤ calls) × (calls ≤ CALLS_MAX) × (1 ≤ workers) × (workers ≤ WORKERS_MAX)

@@ -1,0 +1,35 @@
+-- What is written of a run.
+use Rattle.std.specs.Prelude.{◌≡◌, ◌⊎◌, ℕ, Bool, true, if◌then◌else◌, List, ◌++◌}
+use Rattle.dfs_base.specs.Faults.{RoseBy}
+use Rattle.dfs_io.specs.Whole.{IsAppendedInPart}
+use Rattle.script_lines.specs.declared.script.Script.{Script}
+use Rattle.run_print.specs.Printed.{printed}
+use Rattle.run_print.specs.Summary.{printed_json}
+use Rattle.command_words.specs.declared.command.Command.{Command}
+use Rattle.command_words.specs.declared.command.Command.TheVariants.{Run, Gen}
+use Rattle.plain_service.specs.declared.played.Played.{Played}
+use Rattle.dfs_service.specs.declared.outcome.Status.{Status}
+use Rattle.dfs_service.specs.declared.outcome.Status.TheVariants.{Done, NoOutput, NoMemory}
+use Rattle.dfs_service.specs.World.{Shown}
+
+-- whether a command writes JSON
+abbrev pub is_json : Command → Bool
+is_json (Run json workers) = json
+is_json (Gen seed hosts calls workers) = true
+
+-- the output of a run
+abbrev pub output_of : Command → Script → Played → List ℕ
+output_of command script played =
+    if is_json command then printed_json script played.start played.history else printed script played.start played.history
+
+-- a line was written: the whole of it, or, where the sink failed, a part of it, from its front
+abbrev pub Wrote : {told : Type 0} → List ℕ → Shown told → Shown told → Type 0
+Wrote line before after =
+    (after.bytes ≡ before.bytes ++ line) ⊎ (IsAppendedInPart before.bytes line after.bytes × RoseBy 1 before.faults after.faults)
+
+-- the output of a run was written, by the status: the whole of it; a part of it, from its front, where the sink failed; nothing
+pub record HasPrinted {told : Type 0} (output : List ℕ) (status : Status) (before after : Shown told) : Type 0 where
+  pub all : told → status ≡ Done → after.bytes ≡ before.bytes ++ output
+  pub part : told → status ≡ NoOutput → IsAppendedInPart before.bytes output after.bytes
+  pub nothing : told → status ≡ NoMemory → after.bytes ≡ before.bytes
+  pub failed : status ≡ NoOutput → RoseBy 1 before.faults after.faults

@@ -1,0 +1,67 @@
+//! The last stage: what came of a run is written, or why there was none.
+ghost use Rattle.std.specs.Prelude.{◌≡◌, IfOk};
+ghost use Rattle.dfs_tree.specs.Histories.{after_history};
+ghost use Rattle.dfs_service.specs.declared.outcome.Status.TheVariants.{NoScript};
+ghost use Rattle.dfs_service.specs.Lines.{refusal_line};
+ghost use Rattle.dfs_service.specs.Outcomes.{IsEmpty, RefusedSo};
+ghost use Rattle.dfs_service.specs.Output.{is_json, output_of, Wrote};
+ghost use Rattle.dfs_service.specs.World.{shown};
+
+use crate::lines::refusal_line;
+use crate::outcome::{Outcome, Status, without_run};
+use command_words::Command;
+use dfs_base::{Items, NoMemory, Sink};
+use dfs_io::write_all;
+use plain_service::Played;
+use run_print::{json_of, text_of};
+use run_script::ScriptRefused;
+use script_lines::Script;
+use std::alloc::Global;
+
+/// The output of a script that went so.
+pub(crate) fn output_of(
+    alloc: Global,
+    command: Command,
+    script: &Script,
+    played: &Played,
+) -> Result<Items<u8>, NoMemory>
+    requires { played.now.last ≡ after_history played.now.start played.now.history }
+    ensures { IfOk result (λ output. output ≡ output_of command script.now played.now) }
+{
+    let history = played.history.as_slice();
+    if is_json(command) {
+        json_of(alloc, script, &played.start, history, &played.last)
+    } else {
+        text_of(alloc, script, &played.start, history, &played.last)
+    }
+}
+
+fn is_json(command: Command) -> bool
+    ensures { result ≡ is_json command }
+{
+    match command {
+        Command::Run { json, .. } => json,
+        Command::Gen { .. } => true,
+    }
+}
+
+/// Writes why a script is refused.
+pub(crate) fn refuse_script<K: Sink>(alloc: Global, why: ScriptRefused, sink: &mut K) -> Outcome
+    ensures refused { RefusedSo NoScript (refusal_line why) result (shown K.tells (K.got sink.old) (K.faults sink.old)) (shown K.tells (K.got sink.new) (K.faults sink.new)) }
+{
+    match refusal_line(alloc, why) {
+        Ok(line) => refuse(alloc, Status::NoScript, line.as_slice(), sink),
+        Err(NoMemory) => without_run(alloc, Status::NoMemory),
+    }
+}
+
+/// Writes a line, and ends without a run.
+pub(crate) fn refuse<K: Sink>(alloc: Global, status: Status, line: &[u8], sink: &mut K) -> Outcome
+    ensures status { result.status ≡ status }
+    ensures empty { IsEmpty result }
+    ensures wrote { K.tells → Wrote line.now (shown K.tells (K.got sink.old) (K.faults sink.old)) (shown K.tells (K.got sink.new) (K.faults sink.new)) }
+{
+    match write_all(sink, line) {
+        Ok(()) | Err(_) => without_run(alloc, status),
+    }
+}

@@ -1,0 +1,90 @@
+//! The second stage: the script that a command runs.
+ghost use Rattle.std.specs.Prelude.{◌≡◌, true, false, take, Some, None, Ok, IfOk, IfErr, IsErrOf};
+ghost use Rattle.dfs_base.specs.Faults.{RoseBy};
+ghost use Rattle.dfs_base.specs.declared.limits.TheConstants.{SCRIPT_BYTES};
+ghost use Rattle.script_lines.specs.Sound.{IsSound};
+ghost use Rattle.run_script.specs.Walk.{stuck_at};
+ghost use Rattle.run_script.specs.Scripts.{script_of};
+ghost use Rattle.command_words.specs.Command.{IsWithin};
+ghost use Rattle.command_words.specs.declared.command.Command.TheVariants.{Run};
+ghost use Rattle.dfs_service.specs.Scripts.{IsRead, IsCause, is_reading, not_read};
+ghost use Rattle.dfs_service.specs.World.{shown};
+
+use command_words::Command;
+use dfs_base::{NoMemory, SCRIPT_BYTES, Source};
+use dfs_io::{ReadRefused, read_all};
+use run_gen::generate;
+use run_script::{ScriptRefused, read_script};
+use script_lines::Script;
+use std::alloc::Global;
+
+/// Why there is no script.
+#[derive(Clone, Copy)]
+pub(crate) enum NotRead {
+    /// The source failed.
+    Input,
+    /// The bytes are no script.
+    Script(ScriptRefused),
+    /// Memory ran out.
+    Memory,
+}
+
+/// The script that a command runs.
+#[tactic(auto, unfolding(crate::specs::Scripts::script_for))]
+pub(crate) fn script_for<R: Source>(
+    alloc: Global,
+    command: Command,
+    source: &mut R,
+) -> Result<Script, NotRead>
+    requires within { IsWithin command }
+    ensures sound { IfOk result (λ script. IsSound script) }
+    ensures goes { IfOk result (λ script. stuck_at script.lines ≡ None) }
+    ensures read { IfOk result (λ script. IsRead (shown R.tells (R.left source.old) (R.faults source.old)) command (Ok script)) }
+    ensures cause { IfErr result (IsCause (shown R.tells (R.left source.old) (R.faults source.old)) command) }
+    ensures input { IsErrOf result NotRead.Input → RoseBy 1 (R.faults source.old) (R.faults source.new) }
+    ensures untouched { is_reading (Some command) ≡ false → source.new ≡ source.old }
+{
+    match command {
+        Command::Run { .. } => read(alloc, command, source),
+        Command::Gen {
+            seed,
+            hosts,
+            calls,
+            ..
+        } => match generate(alloc, seed, hosts, calls) {
+            Ok(script) => Ok(script),
+            Err(NoMemory) => Err(NotRead::Memory),
+        },
+    }
+}
+
+// Reads the script of a command that reads one.
+#[tactic(auto, unfolding(crate::specs::Scripts::script_for))]
+fn read<R: Source>(alloc: Global, command: Command, source: &mut R) -> Result<Script, NotRead>
+    requires { is_reading (Some command) ≡ true }
+    ensures sound { IfOk result (λ script. IsSound script) }
+    ensures goes { IfOk result (λ script. stuck_at script.lines ≡ None) }
+    ensures read { IfOk result (λ script. IsRead (shown R.tells (R.left source.old) (R.faults source.old)) command (Ok script)) }
+    ensures cause { IfErr result (IsCause (shown R.tells (R.left source.old) (R.faults source.old)) command) }
+    ensures input { IsErrOf result NotRead.Input → RoseBy 1 (R.faults source.old) (R.faults source.new) }
+{
+    let bytes = match read_all(alloc, source, SCRIPT_BYTES) {
+        Ok(bytes) => bytes,
+        Err(ReadRefused::Failed) => return Err(NotRead::Input),
+        Err(ReadRefused::Memory) => return Err(NotRead::Memory),
+    };
+    match read_script(alloc, bytes.as_slice(), 0) {
+        Ok(script) => Ok(script),
+        Err(why) => Err(not_read(why)),
+    }
+}
+
+// Why there is no script where the bytes are refused.
+fn not_read(why: ScriptRefused) -> NotRead
+    ensures { result ≡ not_read why }
+{
+    match why {
+        ScriptRefused::Memory => NotRead::Memory,
+        ScriptRefused::BadLine(..) | ScriptRefused::Stuck(..) => NotRead::Script(why),
+    }
+}

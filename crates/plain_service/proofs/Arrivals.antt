@@ -1,0 +1,264 @@
+-- How a server learns that a fileset which left it has arrived.
+use Rattle.std.proofs.Common.{◌≡◌, ℕ, zero, suc, ◌==◌, ◌&&◌, ◌||◌, not, Bool, true, false, List, [], ◌∷◌, ◌++◌, Option, Some, None, Result, Ok, Err, refl, sym, ap, subst, append_assoc, ◌∙◌, cond, ◌⊎◌, inl, inr, rules}
+use Rattle.std.specs.Prelude.{filter, insert, map, slice_get, if◌then◌else◌}
+use Rattle.std.specs.List.{list_all, list_any, find}
+use Rattle.std.specs.Option.{option_map}
+use Rattle.std.proofs.lemmas.Bool.{eqb-true, eq-eqb}
+use Rattle.dfs_base.specs.Outcomes.{either}
+use Rattle.dfs_base.specs.declared.ids.HostId.{HostId}
+use Rattle.dfs_base.specs.declared.ids.ServerId.{ServerId}
+use Rattle.dfs_base.specs.declared.ids.FilesetId.{FilesetId}
+use Rattle.dfs_base.specs.declared.user.User.{User}
+use Rattle.dfs_calls.specs.Limits.{keeps_limit}
+use Rattle.dfs_calls.specs.declared.call.Call.{Call as CallOf}
+use Rattle.dfs_calls.specs.declared.call.Call.TheVariants.{NewFileset, Create, MakeDir, Remove, Rename, Truncate, SetAcl, CloneFileset, Read, Write, List as ListNames, Stat, GetAcl, Sync, Lock, Unlock, OpenFile, CloseFile, MoveFileset}
+use Rattle.dfs_calls.specs.declared.entry.Entry.{Entry}
+use Rattle.dfs_calls.specs.declared.entry.Entry.TheVariants.{Call as Called, Left}
+use Rattle.dfs_calls.specs.declared.reply.Refusal.{Refusal}
+use Rattle.dfs_calls.specs.declared.reply.Reply.{Reply}
+use Rattle.dfs_calls.specs.declared.reply.Reply.TheVariants.{Ok as Done, Refused}
+use Rattle.dfs_filesets.specs.Rows.{fileset_answer}
+use Rattle.dfs_filesets.specs.declared.fileset.Fileset.{Fileset}
+use Rattle.dfs_saving.specs.Unsaved.{all_contents, is_by_one, is_write_by}
+use Rattle.dfs_saving.proofs.Apart.{stays_apart, roster_stays}
+use Rattle.dfs_tree.specs.Answers.{answer_to, answer_for, answer_at, fileset_row, for_user, deciding_place}
+use Rattle.dfs_tree.specs.Away.{is_away, is_room_kept, with_away, without_away, away_place, room_freed}
+use Rattle.dfs_tree.specs.Finding.{Answer, refuse}
+use Rattle.dfs_tree.specs.Uses.{is_used}
+use Rattle.dfs_calls.specs.Rosters.{user_of}
+use Rattle.dfs_tree.specs.Founding.{new_fileset_answer, new_fileset_target, clone_answer, clone_target}
+use Rattle.dfs_tree.specs.Histories.{after_entry}
+use Rattle.dfs_tree.specs.Locks.{lock_answer, lock_check, unlock_answer, has_lock}
+use Rattle.dfs_tree.specs.Moving.{move_answer, move_target, left_by, with_moved, left_tree}
+use Rattle.dfs_tree.specs.Opens.{open_answer, open_check, close_answer, has_open}
+use Rattle.dfs_tree.specs.WellFormed.{IsWellFormed}
+use Rattle.dfs_tree.specs.declared.tree.Away.{Away}
+use Rattle.dfs_tree.specs.declared.tree.Tree.{Tree}
+use Rattle.dfs_tree.proofs.Kept.{formed_entry, move_ok}
+use Rattle.plain_service.specs.Played.{has_moved, lefts_stand, rooms_free}
+use Rattle.plain_service.specs.Uses.{is_done}
+use Rattle.plain_service.specs.Underway.{is_aside, Leads, MakesWay, Makes, kept_room, arrived, arrived_by}
+use Rattle.plain_service.specs.declared.past.Past.{Past}
+use Rattle.plain_service.proofs.Goes.{leads_append, leads_call, made_with}
+use Rattle.plain_service.proofs.Histories.{fst_true, snd_true, both_true}
+
+-- whether a record keeps no room
+abbrev is_free : Away → Bool
+is_free away = not away.room_kept
+
+-- one record keeps room, and no other
+record OneKept (records : List Away) (server : ServerId) (id : FilesetId) : Type 0 where
+  some : list_any (λ away. away.room_kept) records ≡ true
+  all : list_all (λ away. is_free away || is_away server id away) records ≡ true
+
+all_filter : {X : Type 0} (p test : X → Bool) (xs : List X) → list_all p xs ≡ true → list_all p (filter test xs) ≡ true
+all_filter p test [] h = refl
+all_filter p test (x ∷ xs) h = by (test x) (all_filter p test xs (snd_true _ _ h))
+  where
+    by : (v : Bool) → list_all p (filter test xs) ≡ true → list_all p (if v then x ∷ filter test xs else filter test xs) ≡ true
+    by true m = both_true _ _ (fst_true _ _ h) m
+    by false m = m
+
+all_insert : {X : Type 0} (p : X → Bool) (xs : List X) (i : ℕ) (x : X) → p x ≡ true → list_all p xs ≡ true → list_all p (insert xs i x) ≡ true
+all_insert p xs zero x h k = both_true _ _ h k
+all_insert p [] (suc i) x h k = both_true _ _ h refl
+all_insert p (y ∷ xs) (suc i) x h k = both_true _ _ (fst_true _ _ k) (all_insert p xs i x h (snd_true _ _ k))
+
+or_true : (a b : Bool) → b ≡ true → (a || b) ≡ true
+or_true true b h = refl
+or_true false b h = h
+
+some_filter : {X : Type 0} (p test : X → Bool) (x : X) (xs : List X) → p x ≡ true → test x ≡ true → list_any p (filter test (x ∷ xs)) ≡ true
+some_filter p test x xs h k = rw (k, h) refl
+
+some_more : {X : Type 0} (p test : X → Bool) (y : X) (xs : List X) → list_any p (filter test xs) ≡ true → list_any p (filter test (y ∷ xs)) ≡ true
+some_more p test y xs h = by (test y)
+  where
+    by : (v : Bool) → list_any p (if v then y ∷ filter test xs else filter test xs) ≡ true
+    by true = or_true (p y) _ h
+    by false = h
+
+some_insert : {X : Type 0} (p test : X → Bool) (xs : List X) (i : ℕ) (x : X) → p x ≡ true → test x ≡ true → list_any p (filter test (insert xs i x)) ≡ true
+some_insert p test xs zero x h k = some_filter p test x xs h k
+some_insert p test [] (suc i) x h k = some_filter p test x [] h k
+some_insert p test (y ∷ xs) (suc i) x h k = some_more p test y (insert xs i x) (some_insert p test xs i x h k)
+
+all_weaker : {X : Type 0} (p q : X → Bool) → ((x : X) → p x ≡ true → q x ≡ true) → (xs : List X) → list_all p xs ≡ true → list_all q xs ≡ true
+all_weaker p q f [] h = refl
+all_weaker p q f (x ∷ xs) h = both_true _ _ (f x (fst_true _ _ h)) (all_weaker p q f xs (snd_true _ _ h))
+
+is_itself : (server : ServerId) (id : FilesetId) (away : Away) → away.server ≡ server → away.fileset ≡ id → is_away server id away ≡ true
+is_itself server id away e f = rw (e, f) (both_true _ _ (eq-eqb server.0 server.0 refl) (eq-eqb id.0 id.0 refl))
+
+-- a fileset that leaves a server where no room is kept
+one_kept : (records : List Away) (fileset : Fileset) (to : ServerId) → (fileset.server.0 == to.0) ≡ false → list_all is_free records ≡ true →
+    OneKept (without_away (with_away records (left_by fileset to)) to fileset.id) fileset.server fileset.id
+one_kept records fileset to d h =
+    let left : Away = left_by fileset to in
+    let at : ℕ = away_place records left.server left.fileset in
+    record {
+      some = some_insert (λ away. away.room_kept) (λ away. not (is_away to fileset.id away)) records at left refl (rw d refl);
+      all = all_filter _ (λ away. not (is_away to fileset.id away)) (insert records at left)
+          (all_insert (λ away. is_free away || is_away fileset.server fileset.id away) records at left (is_itself fileset.server fileset.id left refl refl)
+          (all_weaker is_free (λ away. is_free away || is_away fileset.server fileset.id away) (λ away k. rw k refl) records h));
+    }
+
+-- what a call makes of the records: nothing, unless it moves a fileset
+abbrev AwayAfter : Tree → CallOf → Answer → Type 0
+AwayAfter tree call answer =
+    ((answer.tree.away ≡ tree.away) × (has_moved call answer.reply ≡ false))
+    ⊎ ((has_moved call answer.reply ≡ true) × ((server : ServerId) × ((id : FilesetId) × OneKept answer.tree.away server id)))
+
+-- the records stay
+away_at : (tree : Tree) (place : ℕ) (found : Option Fileset) (host : HostId) (user : User) (call : CallOf) →
+    (answer_at tree place found (λ fileset. fileset_answer fileset (is_used tree.locks tree.opens) host user call)).tree.away ≡ tree.away
+away_at tree place None host user call = refl
+away_at tree place (Some fileset) host user call = refl
+
+away_row : (tree : Tree) (host : HostId) (user : User) (call : CallOf) → (fileset_row tree host user call).tree.away ≡ tree.away
+unfolding fileset_row
+away_row tree host user call = placed (deciding_place tree call)
+  where
+    placed : (found : Result ℕ Refusal) →
+        (either found (λ place. answer_at tree place (slice_get tree.filesets place) (λ fileset. fileset_answer fileset (is_used tree.locks tree.opens) host user call)) (refuse tree)).tree.away ≡ tree.away
+    placed (Ok place) = away_at tree place (slice_get tree.filesets place) host user call
+    placed (Err why) = refl
+
+away_checked : {A : Type 0} (tree : Tree) (checked : Result A Refusal) (act : A → Answer) → ((found : A) → (act found).tree.away ≡ tree.away) → (either checked act (refuse tree)).tree.away ≡ tree.away
+away_checked tree (Ok found) act k = k found
+away_checked tree (Err why) act k = refl
+
+away_or : (tree : Tree) (t : Bool) (a b : Answer) → a.tree.away ≡ tree.away → b.tree.away ≡ tree.away → (cond t a b).tree.away ≡ tree.away
+away_or tree true a b h k = h
+away_or tree false a b h k = k
+
+away_moved : (tree : Tree) (host : HostId) (user : User) (server : ServerId) (name : List ℕ) (to : ServerId) (checked : Result (ℕ × Fileset) Refusal) → rooms_free tree ≡ true → checked ≡ move_target tree user server name to →
+    AwayAfter tree (MoveFileset server name to) (either checked (λ (place, fileset). let answer : Answer = record { reply = Done; tree = with_moved tree place fileset to } in answer) (refuse tree))
+away_moved tree host user server name to (Err why) r e = inl (refl, refl)
+away_moved tree host user server name to (Ok found) r e =
+    let (placed, move) = move_ok tree user server name to found (sym e) in
+    inr (refl, (found.1.server, (found.1.id, one_kept tree.away found.1 to move.goes r)))
+
+away_for : (tree : Tree) (host : HostId) (call : CallOf) (user : User) → rooms_free tree ≡ true → AwayAfter tree call (answer_for tree host call user)
+unfolding answer_for new_fileset_answer clone_answer move_answer lock_answer unlock_answer open_answer close_answer
+away_for tree host (NewFileset server name objects owner) user r = inl (away_checked tree (new_fileset_target tree server name objects) _ (λ room. refl), refl)
+away_for tree host (CloneFileset server source new) user r = inl (away_checked tree (clone_target tree user server source new) _ (λ found. refl), refl)
+away_for tree host (MoveFileset server name to) user r = away_moved tree host user server name to (move_target tree user server name to) r refl
+away_for tree host (Lock label place writing from len) user r = inl (away_checked tree (lock_check tree host user label place writing from len) _ (λ found. refl), refl)
+away_for tree host (Unlock label) user r = inl (away_or tree (not (has_lock tree.locks host label)) _ _ refl refl, refl)
+away_for tree host (OpenFile label place kind) user r = inl (away_checked tree (open_check tree host user label place kind) _ (λ found. refl), refl)
+away_for tree host (CloseFile label) user r = inl (away_or tree (not (has_open tree.opens host label)) _ _ refl refl, refl)
+away_for tree host (Create place) user r = inl (away_row tree host user (Create place), refl)
+away_for tree host (MakeDir place) user r = inl (away_row tree host user (MakeDir place), refl)
+away_for tree host (Remove place) user r = inl (away_row tree host user (Remove place), refl)
+away_for tree host (Rename from to) user r = inl (away_row tree host user (Rename from to), refl)
+away_for tree host (Truncate place len) user r = inl (away_row tree host user (Truncate place len), refl)
+away_for tree host (SetAcl place which list) user r = inl (away_row tree host user (SetAcl place which list), refl)
+away_for tree host (Read place from len) user r = inl (away_row tree host user (Read place from len), refl)
+away_for tree host (Write place from bytes) user r = inl (away_row tree host user (Write place from bytes), refl)
+away_for tree host (ListNames place) user r = inl (away_row tree host user (ListNames place), refl)
+away_for tree host (Stat place) user r = inl (away_row tree host user (Stat place), refl)
+away_for tree host (GetAcl place which) user r = inl (away_row tree host user (GetAcl place which), refl)
+away_for tree host (Sync place) user r = inl (away_row tree host user (Sync place), refl)
+
+not_moved : (call : CallOf) (refusal : Refusal) → has_moved call (Refused refusal) ≡ false
+not_moved (MoveFileset server name to) refusal = refl
+not_moved call refusal = refl
+
+away_answer : (tree : Tree) (host : HostId) (call : CallOf) → rooms_free tree ≡ true → AwayAfter tree call (answer_to tree host call)
+unfolding answer_to
+away_answer tree host call r = for_found (user_of tree.roster host)
+  where
+    for_found : (found : Option User) → AwayAfter tree call (for_user tree found (answer_for tree host call))
+    for_found None = inl (refl, not_moved call _)
+    for_found (Some user) = away_for tree host call user r
+
+-- the first record that keeps room
+none_kept : (records : List Away) → list_all is_free records ≡ true → find (λ away. away.room_kept) records ≡ None
+none_kept [] h = refl
+none_kept (away ∷ records) h = by away.room_kept (fst_true _ _ h) (none_kept records (snd_true _ _ h))
+  where
+    by : (v : Bool) → not v ≡ true → find (λ away. away.room_kept) records ≡ None → (if v then Some away else find (λ away. away.room_kept) records) ≡ None
+    by true k m = cc
+    by false k m = m
+
+record IsFirst (records : List Away) (server : ServerId) (id : FilesetId) (away : Away) : Type 0 where
+  first : find (λ away. away.room_kept) records ≡ Some away
+  own : is_away server id away ≡ true
+  there : is_room_kept records away.server away.fileset ≡ true
+
+first_kept : (records : List Away) (server : ServerId) (id : FilesetId) → OneKept records server id → (away : Away) × IsFirst records server id away
+first_kept [] server id o = absurd (search (rules, o.some))
+first_kept (away ∷ records) server id o = by away.room_kept refl o.some (λ s. first_kept records server id (record { some = s; all = snd_true _ _ o.all }))
+  where
+    own : away.room_kept ≡ true → is_away server id away ≡ true
+    own k = let q : (not away.room_kept || is_away server id away) ≡ true = fst_true _ _ o.all in rw k at q
+
+    by : (v : Bool) → away.room_kept ≡ v → (v || list_any (λ away. away.room_kept) records) ≡ true → (list_any (λ away. away.room_kept) records ≡ true → (found : Away) × IsFirst records server id found) → (found : Away) × IsFirst (away ∷ records) server id found
+    by true k s more = (away, record { first = rw k refl; own = own k; there = rw (is_itself away.server away.fileset away refl refl, k) refl })
+    by false k s more = let (found, f) = more s in (found, record { first = rw k f.first; own = f.own; there = or_true _ _ f.there })
+
+-- two records of one server and fileset
+same_away : (server : ServerId) (id : FilesetId) (a b : Away) → is_away server id a ≡ true → is_away server id b ≡ true → is_away a.server a.fileset b ≡ true
+same_away server id a b h k =
+    let s : a.server.0 ≡ server.0 = eqb-true _ _ (fst_true _ _ h) in
+    let f : a.fileset.0 ≡ id.0 = eqb-true _ _ (snd_true _ _ h) in
+    rw (s, f) k
+
+freed : (records : List Away) (server : ServerId) (id : FilesetId) (away : Away) → is_away server id away ≡ true → list_all (λ away. is_free away || is_away server id away) records ≡ true → list_all is_free (room_freed records away.server away.fileset) ≡ true
+freed [] server id away o h = refl
+freed (other ∷ records) server id away o h = both_true _ _ (by (is_away away.server away.fileset other) refl) (freed records server id away o (snd_true _ _ h))
+  where
+    kept : (v : Bool) → other.room_kept ≡ v → is_away away.server away.fileset other ≡ false → not v ≡ true
+    kept false k e = refl
+    kept true k e =
+        let q : (not other.room_kept || is_away server id other) ≡ true = fst_true _ _ h in
+        let own : is_away server id other ≡ true = rw k at q in
+        let same : is_away away.server away.fileset other ≡ true = same_away server id away other o own in
+        cc
+
+    by : (v : Bool) → is_away away.server away.fileset other ≡ v → is_free (if v then record other { room_kept = false } else other) ≡ true
+    by true e = refl
+    by false e = kept other.room_kept refl e
+
+left_away : (tree : Tree) (server : ServerId) (id : FilesetId) → (left_tree tree server id).away ≡ room_freed tree.away server id
+unfolding left_tree
+left_away tree server id = refl
+
+-- a server learns that a fileset has arrived
+leads_left : (tree : Tree) (server : ServerId) (id : FilesetId) → IsWellFormed tree → all_contents is_by_one tree ≡ true → is_room_kept tree.away server id ≡ true → Leads tree (Left server id ∷ []) (left_tree tree server id)
+leads_left tree server id f a k = record {
+  legal = (k, tt);
+  tree = refl;
+  formed = formed_entry tree (Left server id) f k refl;
+  apart = stays_apart tree (Left server id) k a refl;
+  roster = roster_stays tree (Left server id);
+}
+
+-- a call after way was made for it
+pub made_by : (host : HostId) (k : ℕ) (call : CallOf) (reply : Reply) (done : Bool) (before between : Past) (history : List Entry) (tree : Tree) (after : Past) → MakesWay host call before between → keeps_limit call ≡ true →
+    reply ≡ (answer_to between.tree host call).reply → tree ≡ (answer_to between.tree host call).tree → history ≡ between.history ++ Called host k call reply ∷ [] → done ≡ is_done reply →
+    after ≡ arrived (record { tree = tree; history = history }) → Makes host k call done before after
+made_by host k call reply done before between history tree after w l e t y d z = by (away_answer between.tree host call w.goes.rooms)
+  where
+    leads : Leads between.tree (Called host k call reply ∷ []) tree
+    leads = leads_call between.tree host k call reply tree w.goes.leads.formed w.goes.leads.apart l e t (w.alone k reply)
+
+    by : AwayAfter between.tree call (answer_to between.tree host call) → Makes host k call done before after
+    by (inl (same, unmoved)) =
+        let free : rooms_free tree ≡ true = rw (t, same) w.goes.rooms in
+        let quiet : has_moved call reply ≡ false = rw e unmoved in
+        let none : kept_room tree ≡ None = ap (option_map (λ away. (away.server, away.fileset))) (none_kept tree.away free) in
+        let here : after ≡ record { tree = tree; history = history } = z ∙ ap (arrived_by (record { tree = tree; history = history })) none in
+        rw here (made_with host k call reply done before between (record { tree = tree; history = history }) [] w leads y (rw quiet refl) free refl (λ other. refl) d)
+    by (inr (done_so, (server, (id, one)))) =
+        let moved : has_moved call reply ≡ true = rw e done_so in
+        let kept : OneKept tree.away server id = rw t one in
+        let (away, first) = first_kept tree.away server id kept in
+        let some : kept_room tree ≡ Some (away.server, away.fileset) = ap (option_map (λ away. (away.server, away.fileset))) first.first in
+        let last : Past = record { tree = left_tree tree away.server away.fileset; history = history ++ Left away.server away.fileset ∷ [] } in
+        let here : after ≡ last = z ∙ ap (arrived_by (record { tree = tree; history = history })) some in
+        let more : Leads tree (Left away.server away.fileset ∷ []) last.tree = leads_left tree away.server away.fileset leads.formed leads.apart first.there in
+        let free : rooms_free last.tree ≡ true = rw (left_away tree away.server away.fileset) (freed tree.away server id away first.own kept.all) in
+        let all : history ++ Left away.server away.fileset ∷ [] ≡ between.history ++ Called host k call reply ∷ Left away.server away.fileset ∷ [] = ap (λ l. l ++ Left away.server away.fileset ∷ []) y ∙ append_assoc between.history (Called host k call reply ∷ []) (Left away.server away.fileset ∷ []) in
+        rw here (made_with host k call reply done before between last (Left away.server away.fileset ∷ []) w (leads_append between.tree tree last.tree (Called host k call reply ∷ []) (Left away.server away.fileset ∷ []) leads more) all (rw moved refl) free refl (λ other. refl) d)

@@ -1,0 +1,25 @@
+-- What a run of a script is for each host.
+use Rattle.std.specs.Prelude.{◌≡◌, List, [], ◌∷◌, ◌++◌, filter}
+use Rattle.dfs_base.specs.declared.ids.HostId.{HostId}
+use Rattle.dfs_base.specs.declared.ids.ServerId.{ServerId}
+use Rattle.dfs_calls.specs.declared.entry.Entry.{Entry}
+use Rattle.dfs_calls.specs.declared.entry.Entry.TheVariants.{Down}
+use Rattle.script_lines.specs.Sound.{IsSound}
+use Rattle.script_lines.specs.declared.script.Script.{Script}
+use Rattle.plain_service.specs.Calls.{own_calls}
+use Rattle.plain_service.specs.Played.{calls_in, is_own, last_calls, IsPlayed}
+use Rattle.plain_service.specs.declared.played.Played.{Played}
+
+-- the calls of each host are those that its lines ask for, in their order, each once, and then the ones that it makes by itself
+abbrev pub CallsFollowLines : Type 0
+CallsFollowLines =
+    (script : Script) (played : Played) (host : HostId) → IsPlayed script played →
+    calls_in (filter (is_own host) played.history)
+    ≡ own_calls host (script.setup ++ script.lines) ++ last_calls script (script.setup ++ script.lines) host played.history
+
+-- a host makes no call after it is down
+abbrev pub DownIsLast : Type 0
+DownIsLast =
+    (script : Script) (played : Played) (host : HostId) (server : ServerId) (before after : List Entry) →
+    IsSound script → IsPlayed script played →
+    played.history ≡ before ++ Down host server ∷ after → filter (is_own host) after ≡ []
