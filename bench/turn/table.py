@@ -17,7 +17,8 @@ def nanos(answer, workers, turns):
 
 def cell(workers, turns):
     rows = "%d %d\n" % (workers, turns)
-    return nanos(subprocess.run([CELL, "times"], input=rows, capture_output=True, text=True, check=True).stdout, workers, turns)
+    ran = subprocess.run([CELL, "times"], input=rows, capture_output=True, text=True, check=True)
+    return nanos(ran.stdout, workers, turns)
 
 
 def mutex(workers, turns):
