@@ -69,7 +69,6 @@ impl<'a> Words<'a> {
             "truncate" => self.truncate()?,
             "setacl" => self.set_access()?,
             "clone" => self.clone_fileset()?,
-            "move" => self.move_fileset()?,
             "read" => self.read()?,
             "write" => self.write()?,
             "list" => Call::List {
@@ -96,8 +95,15 @@ impl<'a> Words<'a> {
             "close" => Call::CloseFile {
                 label: self.name()?,
             },
-            _ => bail!("no call: {word}"),
+            _ => self.move_call(word)?,
         })
+    }
+
+    fn move_call(&mut self, word: &str) -> Result<Call> {
+        match word {
+            "move" => self.move_fileset(),
+            _ => bail!("no call: {word}"),
+        }
     }
 
     fn server(&mut self) -> Result<ServerId> {
