@@ -4,8 +4,10 @@
 #![tactic(auto)]
 
 mod grants;
+mod laws;
 mod manager;
 mod want;
 
+pub use laws::{revoke_law, wait_law};
 pub use manager::TokenManager;
 pub use want::{Asked, Ready, Want};
