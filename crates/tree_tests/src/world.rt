@@ -4,7 +4,7 @@ use crate::reading::{Words, server, user};
 use crate::telling::{losses_text, reply_text};
 use anyhow::{Context, Result, bail};
 use dfs_base::{Fid, FilesetId, HostId, Items, ServerId, Span};
-use dfs_calls::{Entry, HostLine, Reply, Roster};
+use dfs_calls::{HostLine, Reply, Roster};
 use dfs_tree::Tree;
 use std::alloc::Global;
 
@@ -49,12 +49,17 @@ impl World {
             "left" => self.left(&mut words),
             "at" => self.at(&mut words),
             text => {
-                let host = host(text)?;
-                let call = words.call()?;
-                let reply = self.tree.answer(host, &call)?;
+                let reply = self.answered(host(text)?, &mut words)?;
                 reply_text(self.alloc, &reply)
             }
         }
+    }
+
+    fn answered(&mut self, host: HostId, words: &mut Words) -> Result<Reply> {
+        let call = words.call()?;
+        let reply = self.tree.answer(host, &call);
+        drop(call);
+        Ok(reply?)
     }
 
     // `stored HOST SERVER FILESET ANODE UNIQUE FROM TO [LENGTH]`
@@ -69,12 +74,7 @@ impl World {
         };
         let span = span(words.number()?, words.number()?)?;
         let length = words.next().parse::<u32>().ok();
-        self.tree.follow(&Entry::Stored {
-            host,
-            fid,
-            spans: Items::from_slice(self.alloc, &[span])?,
-            length,
-        })?;
+        self.tree.stored(host, fid, &[span], length)?;
         Ok(String::from_str(self.alloc, "ok")?)
     }
 
