@@ -10,8 +10,9 @@ use Rattle.ep_layout.proofs.Bytes.{number-same}
 use Rattle.ep_log.specs.State.{State}
 use Rattle.ep_anode.specs.Node.{pointer_of, pointer_at, byte_under, cell, names, node_in, HasLength, SameFacts}
 use Rattle.ep_anode.specs.Anode.{Anode, anode_of, byte_length, bytes_of, length_for, text_at, content_at, over, written, IsTidy, with_list}
-use Rattle.ep_anode.specs.Changes.{is_shared, IsLoose, WritesLoose, Turns, Laid, Saved, Turned, WroteLoose, Replaced}
+use Rattle.ep_anode.specs.Changes.{is_shared, IsLoose, WritesLoose, Turns, Laid, Saved, Turned, WroteLoose, Replaced, Renews}
 use Rattle.ep_anode.specs.declared.node.Node.{Node}
+use Rattle.ep_anode.proofs.Renewing.{renews_on, renews_as}
 use Rattle.ep_anode.proofs.Counting.{same_many}
 use Rattle.ep_anode.proofs.Pointers.{pointer_front, pointer_back, number_apart}
 use Rattle.dfs_outside.proofs.Runs.{wider_changes}
@@ -229,6 +230,9 @@ module _ (page n kept from : ℕ) (piece : List ℕ) (node laid sized stored : N
       → Turned page update node old before new after
   turned_on update content is same past gone = record {
     turns = turns_on;
+    renews = subst (λ (x : Node). Renews (names node) (names x) old before) (sym saved.there)
+        (renews_on (names node) (names laid) (names stored) old mid before middle blocks done.moves.counts done.renews
+        (renews_as (names sized) (names stored) (names laid) (names stored) mid middle (λ b. sym (same_names b)) (λ b. refl) saved.renews));
     anode = (λ i. anode_of after (saved.there i))
         ∙ anode_as before after node stored n content beside_on length_on (λ v k below lt. cell_on v k (omega arith) (λ e. absurd (omega (arith, e, below))) lt ∙ done.lists v k below lt)
         (λ k. content_by after stored (byte_length (byte_at node.page 0) n) (over from piece (λ m. content_at before node kept m)) (length_most (byte_at node.page 0) n)
@@ -413,6 +417,8 @@ module _ (page which : ℕ) (bytes : List ℕ) (node changed stored : Node) (old
           settled = λ b lt. saved.turns.settled b (omega (arith, blocks, lt)) ∙ replaced.moves.settled b lt;
           pages = λ p up apart. saved.turns.pages p up apart ∙ replaced.moves.pages p up;
         });
+        renews = subst (λ (x : Node). Renews (names node) (names x) old before) (sym saved.there)
+            (renews_on (names node) (names changed) (names stored) old mid before middle blocks replaced.moves.counts replaced.renews saved.renews);
         anode = (λ i. anode_of after (saved.there i)) ∙ (λ i. record {
           kind = kind i;
           unique = unique i;

@@ -52,7 +52,7 @@ module _ (named : ℕ → ℕ) (q : ℕ) (old new : State) (before after : List 
   pub node_stays : node_in new after q ≡ node_in old before q
   node_stays = (λ i. node_of (blocks i) after (page i)) ∙ (λ i. record { blocks = old.superblock.blocks; page = page_of old.entries old.puts before q; map = map_same i })
 
-  cell_stays : (w k : ℕ) → w < 68 → k < 1024 → cell after (node_in old before q) w k ≡ cell before (node_in old before q) w k
+  pub cell_stays : (w k : ℕ) → w < 68 → k < 1024 → cell after (node_in old before q) w k ≡ cell before (node_in old before q) w k
   cell_stays w k below lt = cell_same before after (node_in old before q) (node_in old before q) w k refl refl lt (used_same w below)
 
   pub anode_stays : anode_in new after q ≡ anode_in old before q

@@ -1,5 +1,5 @@
 -- The bytes under an anode's pointers, and how many name a block.
-use Rattle.std.proofs.Common.{◌≡◌, ◌≢◌, ◌<◌, ◌≤◌, ℕ, ◌+◌, ◌-◌, List, get_or, refl, sym, ◌∙◌, ap, subst, arith}
+use Rattle.std.proofs.Common.{◌≡◌, ◌≢◌, ◌<◌, ◌≤◌, ◌⊎◌, ℕ, ◌+◌, ◌-◌, List, get_or, refl, sym, ◌∙◌, ap, subst, inl, inr, arith}
 use Rattle.std.specs.Prelude.{Bool, true, false, ◌==◌, ◌&&◌, IsTrue, nat_lt, nat_le, if◌then◌else◌}
 use Rattle.std.proofs.lemmas.Bool.Decides.{nat_tests}
 use Rattle.dfs_base.specs.Image.{byte_at}
@@ -118,6 +118,7 @@ module _ (w : ℕ) (node changed : Node) (old : State) (before after : List ℕ)
       settled = moves.settled;
       pages = moves.pages;
     };
+    renews = λ b low. inl (let f = named_but node changed w pointer b lt points in let g = one_other pointer (b + 1) (omega (arith, zero)) in omega (arith, f, g));
     cells = cells_by no_names (λ b low used k below. ap (λ (l : List ℕ). byte_at l (block_start (pages_of old.superblock.blocks) b + k)) quiet) (λ k low. cell_none after changed w k (points.here ∙ zero));
   }
 
@@ -130,9 +131,24 @@ module _ (w : ℕ) (node changed : Node) (old : State) (before after : List ℕ)
       settled = λ b low. moves.settled b (omega (arith, same, low)) ∙ taken.moves.settled b low;
       pages = λ p low. moves.pages p low ∙ taken.moves.pages p low;
     };
+    renews = λ b low. renewed b low (pointer == b + 1) refl;
     cells = cells_by (λ k. get_or bytes k 0) (λ b low used k below. ap (λ (l : List ℕ). byte_at l (block_start (pages_of old.superblock.blocks) b + k)) quiet ∙ taken.others b (λ e. unused b e used) k below) (λ k low. here k low);
   }
     where
+      renewed : (b : ℕ) → b < old.superblock.blocks → (mine : Bool) → (pointer == b + 1) ≡ mine → (names changed b ≤ names node b) ⊎ ((count_now old before b ≤ names node b) × (names changed b ≤ 1))
+      renewed b low true e =
+          let same : pointer ≡ b + 1 = grind (arith, nat_tests, e) in
+          let here : block ≡ b = omega (arith, same, is) in
+          let none : count_now old before b ≡ 0 = ap (count_now old before) (sym here) ∙ taken.free.now in
+          let all = counted b low in
+          let f = named_but node changed w pointer b lt points in
+          let m : one (pointer == b + 1) ≡ 1 = (λ i. one (e i)) in
+          inr (omega (arith, none), omega (arith, none, all, f, m))
+      renewed b low false e =
+          let f = named_but node changed w pointer b lt points in
+          let m : one (pointer == b + 1) ≡ 0 = (λ i. one (e i)) in
+          inl (omega (arith, f, m))
+
       unused : (b : ℕ) → b ≡ block → 1 ≤ count_now old before b → ⊥
       unused b e used = (let f = ap (count_now old before) e in let h = taken.free.now in omega (arith, f, h, used))
 

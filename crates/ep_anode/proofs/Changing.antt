@@ -1,5 +1,5 @@
 -- Anodes that were taken up with all their pointers their own, and changed.
-use Rattle.std.proofs.Common.{◌≡◌, ◌≢◌, ◌<◌, ℕ, ◌+◌, ◌/◌, ◌%◌, List, refl, sym, ◌∙◌, ap, subst, inl, inr, arith}
+use Rattle.std.proofs.Common.{◌≡◌, ◌≢◌, ◌<◌, ◌≤◌, ◌⊎◌, ℕ, ◌+◌, ◌/◌, ◌%◌, List, refl, sym, ◌∙◌, ap, subst, inl, inr, arith}
 use Rattle.std.specs.Prelude.{[]}
 use Rattle.dfs_base.specs.View.{View}
 use Rattle.dfs_base.specs.Crash.{IsQuiet}
@@ -9,17 +9,20 @@ use Rattle.ep_log.specs.State.{State}
 use Rattle.ep_anode.specs.Node.{pointer_at, cell, names, node_in}
 use Rattle.ep_anode.specs.Anode.{Anode, anode_of, byte_length, bytes_of, freed, IsTidy, IsBare}
 use Rattle.ep_anode.specs.Room.{are_counts, with_counts, MayPutAll, PutsPages}
-use Rattle.ep_anode.specs.Changes.{WroteLoose, AreCounted, own_names, Moves, Owned, Turned, Changed}
+use Rattle.ep_space.specs.Counts.{count_now}
+use Rattle.ep_anode.specs.Changes.{WroteLoose, AreCounted, own_names, left_names, Moves, Owned, Turned, Changed}
 use Rattle.ep_anode.specs.declared.node.Node.{Node}
 use Rattle.ep_anode.proofs.Cells.{cell_same}
 use Rattle.ep_anode.proofs.Laid.{pointer_in}
+use Rattle.ep_anode.proofs.Plain.{names_none}
 use Rattle.ep_anode.proofs.Sharing.{counted_own, turns_own}
 use Rattle.ep_anode.proofs.Anodes.{anode_kept}
 use Rattle.ep_anode.proofs.Saving.{counts_in}
 use Rattle.ep_anode.proofs.Moving.{puts_then, puts_wider, wrote_more, wrote_quiet}
 
 module _ (page : ℕ) (update : Anode → Anode) (node : Node) (old mid new : State) (before middle after : List ℕ) (blocks : mid.superblock.blocks ≡ old.superblock.blocks) (quiet : middle ≡ before)
-    (owned : Owned (node_in old before page) node) (moves : Moves (own_names old before (node_in old before page)) (names node) old before mid middle) (turned : Turned page update node mid middle new after) where
+    (owned : Owned (node_in old before page) node) (moves : Moves (own_names old before (node_in old before page)) (names node) old before mid middle) (turned : Turned page update node mid middle new after)
+    (left : (b : ℕ) → names node b ≤ left_names old before (node_in old before page) b) where
   stored : Node
   stored = node_in old before page
 
@@ -46,6 +49,12 @@ module _ (page : ℕ) (update : Anode → Anode) (node : Node) (old mid new : St
     none = λ i lt le. (let p = pointer_in i lt in owned.pointers (pointer_at i) p.1 p.2 ∙ tidy.none i lt (omega (arith, bytes_owned, le)));
   }
 
+  renewed_on : (b : ℕ) → b < old.superblock.blocks → (names (node_in new after page) b ≤ names node b) ⊎ ((count_now mid middle b ≤ names node b) × (names (node_in new after page) b ≤ 1))
+      → (names (node_in new after page) b ≤ left_names old before (node_in old before page) b)
+      ⊎ ((count_now old before b ≤ own_names old before (node_in old before page) b) × (names (node_in new after page) b ≤ 1))
+  renewed_on b lt (inl e) = inl (let f = left b in omega (arith, e, f))
+  renewed_on b lt (inr e) = inr ((let m = moves.counts b lt in let f = e.0 in omega (arith, m, f)), e.1)
+
   pub changed_on : Changed page update old before new after
   changed_on = record {
     turns = turns_own page (own_names old before (node_in old before page)) (node_in new after page) old before new after turned.alone (record {
@@ -55,7 +64,7 @@ module _ (page : ℕ) (update : Anode → Anode) (node : Node) (old mid new : St
     });
     anode = turned.anode ∙ ap update anode_owned;
     tidy = λ tidy. turned.tidy (tidy_owned tidy);
-    indirect = inr turned.alone;
+    renewed = inr (record { alone = turned.alone; pointers = λ b lt. renewed_on b lt (turned.renews b (omega (arith, blocks, lt))) });
   }
 
 -- an anode that was freed
@@ -73,7 +82,7 @@ freed_changed page node old mid new before middle after same quiet is named turn
       });
       anode = turned_2.anode ∙ (λ i. record { kind = 0; unique = number_at 4 4 (is i); length = 0; owner = []; group = []; lists = λ which k. 0; content = λ k. 0 });
       tidy = λ tidy. bare.tidy;
-      indirect = inr turned_2.alone;
+      renewed = inr (record { alone = turned_2.alone; pointers = λ b lt. inl (let e = names_none (node_in new after page) bare.none b in omega (arith, e)) });
     }
 
 -- what an anode is taken up with, and then changed

@@ -6,8 +6,9 @@ use Rattle.std.proofs.lemmas.Bool.{cases_eq}
 use Rattle.ep_log.specs.State.{State}
 use Rattle.ep_anode.specs.Node.{pointer_of, pointer_at, cell, names}
 use Rattle.ep_anode.specs.Anode.{content_at, over}
-use Rattle.ep_anode.specs.Changes.{Moves, AreCounted, Replaced, Laid}
+use Rattle.ep_anode.specs.Changes.{Moves, AreCounted, Renews, Replaced, Laid}
 use Rattle.ep_anode.specs.declared.node.Node.{Node}
+use Rattle.ep_anode.proofs.Renewing.{renews_on}
 
 -- a byte under a piece
 pub over_inside : (from : ℕ) (piece : List ℕ) (content : ℕ → ℕ) (k : ℕ) → from ≤ k → k < from + length piece → over from piece content k ≡ get_or piece (k - from) 0
@@ -56,6 +57,7 @@ pub replaced_as : (w : ℕ) (bytes other : ℕ → ℕ) (node : Node) (old : Sta
     → Replaced w bytes node old before changed new after → Replaced w other node old before changed new after
 replaced_as w bytes other node old before changed new after same replaced = record {
   moves = replaced.moves;
+  renews = replaced.renews;
   cells = λ v k below low. replaced.cells v k below low ∙ (λ i. if v == w then same k low i else cell before node v k);
 }
 
@@ -64,6 +66,7 @@ pub stays : (i kept from : ℕ) (piece : List ℕ) (node : Node) (state : State)
     → Replaced (pointer_at i) (λ k. over from piece (λ m. content_at image node kept m) (1024 * i + k)) node state image node state image
 stays i kept from piece node state image same = record {
   moves = record { counts = λ b lt. refl; settled = λ b lt. refl; pages = λ p lt. refl };
+  renews = λ b lt. inl (omega arith);
   cells = λ v k below low. by v k low (v == pointer_at i) refl;
 }
   where
@@ -91,6 +94,7 @@ pointer_apart i j apart = by (nat_lt i 12) refl (nat_lt j 12) refl
 -- Blocks below one are laid, and the other pointers have their bytes.
 pub record LaidBelow (i kept from : ℕ) (piece : List ℕ) (node : Node) (old : State) (before : List ℕ) (changed : Node) (new : State) (after : List ℕ) : Type 0 where
   pub moves : Moves (names node) (names changed) old before new after
+  pub renews : Renews (names node) (names changed) old before
   pub done : (j k : ℕ) → j < i → k < 1024 → cell after changed (pointer_at j) k ≡ over from piece (λ m. content_at before node kept m) (1024 * j + k)
   pub left : (v k : ℕ) → v < 68 → k < 1024 → ((j : ℕ) → j < i → v ≢ pointer_at j) → cell after changed v k ≡ cell before node v k
   pub past : (j : ℕ) → j < i → kept ≤ 1024 * j → from + length piece ≤ 1024 * j → pointer_of changed (pointer_at j) ≡ 0
@@ -100,6 +104,7 @@ pub record LaidBelow (i kept from : ℕ) (piece : List ℕ) (node : Node) (old :
 pub laid_none : (kept from : ℕ) (piece : List ℕ) (node : Node) (old : State) (before : List ℕ) → LaidBelow 0 kept from piece node old before node old before
 laid_none kept from piece node old before = record {
   moves = record { counts = λ b lt. refl; settled = λ b lt. refl; pages = λ p lt. refl };
+  renews = λ b lt. inl (omega arith);
   done = λ j k none low. absurd (omega arith);
   left = λ v k below low apart. refl;
   past = λ j none le high. absurd (omega arith);
@@ -126,6 +131,7 @@ pub laid_more : (i kept from : ℕ) (piece : List ℕ) (node : Node) (old : Stat
     → LaidBelow (i + 1) kept from piece node old before last new after
 laid_more i kept from piece node old before changed mid middle last new after lt blocks laid replaced others zero stay = record {
   moves = moves_on (names node) (names changed) (names last) old mid new before middle after blocks laid.moves replaced.moves;
+  renews = renews_on (names node) (names changed) (names last) old mid before middle blocks laid.moves.counts laid.renews replaced.renews;
   done = λ j k below low. by j k low below (cases_eq j i);
   left = λ v k below low apart. other v k below low (apart i (omega arith)) ∙ laid.left v k below low (λ j lower. apart j (omega arith));
   past = λ j below le high. gone j below le high (cases_eq j i);
@@ -163,6 +169,7 @@ laid_more i kept from piece node old before changed mid middle last new after lt
 pub laid_all : (kept from : ℕ) (piece : List ℕ) (node : Node) (old : State) (before : List ℕ) (changed : Node) (new : State) (after : List ℕ) → LaidBelow 64 kept from piece node old before changed new after → Laid kept from piece node old before changed new after
 laid_all kept from piece node old before changed new after laid = record {
   moves = laid.moves;
+  renews = laid.renews;
   cells = λ i k lt low. laid.done i k lt low;
   lists = λ v k below low. laid.left v k (omega arith) low (λ j lt. (let e = pointer_in j lt in let f = e.0 in λ is. absurd (omega (arith, f, is))));
   past = laid.past;

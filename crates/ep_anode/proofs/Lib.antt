@@ -1,5 +1,6 @@
 pub mod Pointers
 pub mod Counting
+pub mod Renewing
 pub mod Putting
 pub mod Laying
 pub mod Moving

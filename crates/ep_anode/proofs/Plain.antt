@@ -143,6 +143,7 @@ pub freed_turned : (page slot unique : ℕ) (node cleared : Node) (old : State) 
     → Turned page freed node old before new after
 freed_turned page slot unique node cleared old before mid middle new after bytes was low is_page number facts none moves is pages quiet = record {
   turns = put_turns page slot 0 unique [] [] bytes was is_page mid new middle after low is pages quiet (names node) (names cleared) old before moves (names_none cleared none);
+  renews = λ b lt. inl (let e = names_none (node_in new after page) (bare_here page slot 0 unique [] [] bytes was is_page mid new middle after low is pages quiet).none b in omega (arith, e));
   anode = put_anode page slot 0 unique [] [] bytes was is_page mid new middle after low is pages quiet
       ∙ (let e = number ∙ number-same 4 4 4 cleared.page node.page (λ j lt. facts.rest (4 + j) (inl (omega arith))) in
       λ i. record { kind = 0; unique = e i; length = 0; owner = []; group = []; lists = λ which k. 0; content = λ k. 0 });

@@ -80,6 +80,7 @@ saved page slot node old before changed mid middle new after was low blocks same
     settled = λ b lt. ap (λ (l : List ℕ). count_settled new l b) quiet ∙ settled_put mid new slot page was changed.page middle b is ∙ replaced.moves.settled b lt;
     pages = λ p lt apart. ap (λ (l : List ℕ). page_of new.entries new.puts l p) quiet ∙ beside p (λ e. apart (sym e)) ∙ replaced.moves.pages p lt;
   };
+  renews = replaced.renews;
   there = node_there new after page changed blocks_new (here after) (ap length same_map ∙ size) (λ k lt. ap (λ (l : List ℕ). cell l changed 15 k) quiet ∙ replaced.cells 15 k (omega arith) lt ∙ (λ i. get_or (sym same_map i) k 0));
   cells = λ v k below apart lt. ap (λ (l : List ℕ). cell l changed v k) quiet ∙ replaced.cells v k below lt ∙ (let e : (v == 15) ≡ false = grind (arith, nat_tests) in λ i. if e i then get_or node.map k 0 else cell before node v k);
   pointers = others;

@@ -62,6 +62,14 @@ AreFew named state image = (block : ℕ) → block < state.superblock.blocks →
 abbrev pub AreCounted : (ℕ → ℕ) → State → List ℕ → Type 0
 AreCounted named state image = (block : ℕ) → block < state.superblock.blocks → named block ≤ count_now state image block
 
+-- A block is named by no more pointers than were dropped. Or else none but these named it, and one names it now.
+abbrev pub Renews : (ℕ → ℕ) → (ℕ → ℕ) → State → List ℕ → Type 0
+Renews dropped set state image = (block : ℕ) → block < state.superblock.blocks → (set block ≤ dropped block) ⊎ ((count_now state image block ≤ dropped block) × (set block ≤ 1))
+
+-- The pointers that an anode begins a change with: all but the one of an indirect block that is left to others.
+abbrev pub left_names : State → List ℕ → Node → ℕ → ℕ
+left_names state image node block = names node block - (if is_shared state image node then one (pointer_of node 15 == block + 1) else 0)
+
 -- a block that was free was taken and written
 pub record IsTaken (block : ℕ) (bytes : List ℕ) (old : State) (before : List ℕ) (new : State) (after : List ℕ) : Type 0 where
   pub free : IsFree old before block
@@ -72,11 +80,13 @@ pub record IsTaken (block : ℕ) (bytes : List ℕ) (old : State) (before : List
 -- A pointer of an anode has bytes of its own: its block was given up, and all other pointers have the same bytes.
 pub record Replaced (w : ℕ) (bytes : ℕ → ℕ) (node : Node) (old : State) (before : List ℕ) (changed : Node) (new : State) (after : List ℕ) : Type 0 where
   pub moves : Moves (names node) (names changed) old before new after
+  pub renews : Renews (names node) (names changed) old before
   pub cells : (v k : ℕ) → v < 68 → k < 1024 → cell after changed v k ≡ (if v == w then bytes k else cell before node v k)
 
 -- A piece was laid over an anode's bytes, of which those before one stay. The lists are the same.
 pub record Laid (kept from : ℕ) (piece : List ℕ) (node : Node) (old : State) (before : List ℕ) (changed : Node) (new : State) (after : List ℕ) : Type 0 where
   pub moves : Moves (names node) (names changed) old before new after
+  pub renews : Renews (names node) (names changed) old before
   pub cells : (i k : ℕ) → i < 64 → k < 1024 → cell after changed (pointer_at i) k ≡ over from piece (λ m. content_at before node kept m) (1024 * i + k)
   pub lists : (v k : ℕ) → v < 3 → k < 1024 → cell after changed v k ≡ cell before node v k
   pub past : (i : ℕ) → i < 64 → kept ≤ 1024 * i → from + length piece ≤ 1024 * i → pointer_of changed (pointer_at i) ≡ 0
@@ -85,6 +95,7 @@ pub record Laid (kept from : ℕ) (piece : List ℕ) (node : Node) (old : State)
 -- An anode was put in its page: it is read there, with the same bytes under its pointers.
 pub record Saved (page : ℕ) (node : Node) (old : State) (before : List ℕ) (changed : Node) (new : State) (after : List ℕ) : Type 0 where
   pub turns : Turns page (names node) (names changed) old before new after
+  pub renews : Renews (names node) (names changed) old before
   pub there : node_in new after page ≡ changed
   pub cells : (v k : ℕ) → v < 68 → (v ≡ 15 → ⊥) → k < 1024 → cell after changed v k ≡ cell before node v k
   pub pointers : (v : ℕ) → v < 68 → (v ≡ 15 → ⊥) → pointer_of changed v ≡ pointer_of node v
@@ -100,17 +111,26 @@ pub record Owned (stored node : Node) : Type 0 where
 -- An anode that was taken up from a page changed there.
 pub record Turned (page : ℕ) (update : Anode → Anode) (node : Node) (old : State) (before : List ℕ) (new : State) (after : List ℕ) : Type 0 where
   pub turns : Turns page (names node) (names (node_in new after page)) old before new after
+  pub renews : Renews (names node) (names (node_in new after page)) old before
   pub anode : anode_in new after page ≡ update (anode_of before node)
   pub tidy : IsTidy before node → IsTidy after (node_in new after page)
   pub alone : is_shared new after (node_in new after page) ≡ false
 
--- An anode in a page changed. The counts of blocks moved with the pointers that were its own and with those that are. Its
--- indirect block is the one that it had, or no other pointer names it. All other pages of filesets are the same.
+-- The pointers of an anode that changed. No other pointer names its indirect block. It names a block no more often than
+-- before, or else no other anode named the block and one pointer names it now.
+pub record IsRenewed (page : ℕ) (old : State) (before : List ℕ) (new : State) (after : List ℕ) : Type 0 where
+  pub alone : is_shared new after (node_in new after page) ≡ false
+  pub pointers : (block : ℕ) → block < old.superblock.blocks
+      → (names (node_in new after page) block ≤ left_names old before (node_in old before page) block)
+      ⊎ ((count_now old before block ≤ own_names old before (node_in old before page) block) × (names (node_in new after page) block ≤ 1))
+
+-- An anode in a page changed. The counts of blocks moved with the pointers that were its own and with those that are. All
+-- other pages of filesets are the same, and where no pointer changed all pages are.
 pub record Changed (page : ℕ) (update : Anode → Anode) (old : State) (before : List ℕ) (new : State) (after : List ℕ) : Type 0 where
   pub turns : Turns page (own_names old before (node_in old before page)) (own_names new after (node_in new after page)) old before new after
   pub anode : anode_in new after page ≡ update (anode_in old before page)
   pub tidy : IsTidy before (node_in old before page) → IsTidy after (node_in new after page)
-  pub indirect : (pointer_of (node_in new after page) 15 ≡ pointer_of (node_in old before page) 15) ⊎ (is_shared new after (node_in new after page) ≡ false)
+  pub renewed : ((new ≡ old) × (after ≡ before)) ⊎ IsRenewed page old before new after
 
 -- An anode was made in a page that had none. Its own pointers are counted anew, and all other pages of filesets are the same.
 pub record Made (page : ℕ) (anode : Anode) (old : State) (before : List ℕ) (new : State) (after : List ℕ) : Type 0 where

@@ -4,7 +4,7 @@ ghost use Rattle.dfs_base.specs.Crash.{IsQuiet};
 ghost use Rattle.ep_log.specs.Log.{disk_of, state_of, slot_of, IsSoundLog};
 ghost use Rattle.ep_anode.specs.Room.{are_counts, free_blocks, MayPutAll, PutsPages};
 ghost use Rattle.ep_anode.specs.Node.{names, node_in};
-ghost use Rattle.ep_anode.specs.Changes.{is_shared as shared_of, own_names, Moves, AreCounted, AreFew, Owned};
+ghost use Rattle.ep_anode.specs.Changes.{is_shared as shared_of, own_names, left_names, Moves, AreCounted, AreFew, Owned};
 ghost use Rattle.ep_space.specs.Faults.{IsCountFault};
 
 use crate::blocks::{clear, load, share_all};
@@ -44,6 +44,7 @@ fn detach<D: Disk>(log: &mut Log<D>, tx: &mut Tx, node: &mut Node) -> Result<(),
     ensures tx { tx.new ≡ tx.old }
     ensures puts { PutsPages are_counts (slot_of tx.old) (state_of log.old) (state_of log.new) }
     ensures owned { OnOk result (Owned node.old node.new) }
+    ensures left { D.tells → OnOk result ((block : ℕ) → names node.new block ≤ left_names (state_of log.old) (D.view (disk_of log.old)).image node.old block) }
     ensures moves { D.tells → OnOk result (Moves (own_names (state_of log.old) (D.view (disk_of log.old)).image node.old) (names node.new) (state_of log.old) (D.view (disk_of log.old)).image (state_of log.new) (D.view (disk_of log.new)).image) }
     ensures room { D.tells → OnOk result (free_blocks (state_of log.old) (D.view (disk_of log.old)).image ≤ free_blocks (state_of log.new) (D.view (disk_of log.new)).image) }
     ensures quiet { IsQuiet (D.view (disk_of log.old)) (D.view (disk_of log.new)) }
@@ -69,6 +70,7 @@ pub fn load_own<D: Disk>(log: &mut Log<D>, tx: &mut Tx, page: u32) -> Result<Nod
     ensures puts { PutsPages are_counts (slot_of tx.old) (state_of log.old) (state_of log.new) }
     ensures blocks { IfOk result (λ node. node.blocks ≡ (state_of log.old).superblock.blocks) }
     ensures owned { D.tells → IfOk result (λ node. Owned (node_in (state_of log.old) (D.view (disk_of log.old)).image page) node) }
+    ensures left { D.tells → IfOk result (λ node. (block : ℕ) → names node block ≤ left_names (state_of log.old) (D.view (disk_of log.old)).image (node_in (state_of log.old) (D.view (disk_of log.old)).image page) block) }
     ensures moves { D.tells → IfOk result (λ node. Moves (own_names (state_of log.old) (D.view (disk_of log.old)).image (node_in (state_of log.old) (D.view (disk_of log.old)).image page)) (names node) (state_of log.old) (D.view (disk_of log.old)).image (state_of log.new) (D.view (disk_of log.new)).image) }
     ensures room { D.tells → OnOk result (free_blocks (state_of log.old) (D.view (disk_of log.old)).image ≤ free_blocks (state_of log.new) (D.view (disk_of log.new)).image) }
     ensures quiet { IsQuiet (D.view (disk_of log.old)) (D.view (disk_of log.new)) }

@@ -54,4 +54,4 @@ pub returns-clause-changed : goal.returns-clause-changed
 returns-clause-changed g c = λ told.
     let same = c.load_own.ensures.puts.rest in
     changed_on c.args.page (written c.args.from c.args.piece.now) c.in_ok-node.node (state_of c.args.log.now) (state_of c.load_own.new.log) (state_of c.write_node.new.log) _ _ _ (λ i. (same i).superblock.blocks) c.load_own.ensures.quiet.image
-    (c.in_ok-node.ensures.owned told) (c.in_ok-node.ensures.moves told) (c.in_ok-write_node.ensures.turned told)
+    (c.in_ok-node.ensures.owned told) (c.in_ok-node.ensures.moves told) (c.in_ok-write_node.ensures.turned told) (c.in_ok-node.ensures.left told)

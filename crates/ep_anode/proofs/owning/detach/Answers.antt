@@ -1,12 +1,26 @@
-use Rattle.std.proofs.Common.{◌≡◌, ◌∙◌, ℕ, List, sym, subst, arith}
-use Rattle.std.specs.Prelude.{true}
+use Rattle.std.proofs.Common.{◌≡◌, ◌∙◌, ◌+◌, ℕ, List, sym, subst, arith}
+use Rattle.std.specs.Prelude.{true, ◌==◌}
 use Rattle.std.proofs.lemmas.Result.{on_ok_weaker}
 use Rattle.ep_log.specs.Log.{disk_of, state_of}
 use Rattle.ep_log.specs.State.{State}
+use Rattle.ep_anode.specs.Room.{one}
 use Rattle.ep_anode.specs.Node.{names_below}
 use Rattle.ep_anode.specs.Changes.{is_shared as shared_of, Moves}
 use Rattle.ep_anode.proofs.Sharing.{counted_shared, moves_detached}
+use Rattle.ep_anode.proofs.Cells.{named_but, one_other}
+use Rattle.ep_anode.proofs.Renewing.{left_shared}
 use Rattle.ep_anode.proofs.owning.detach.Goals as goal
+
+pub returns-clause-left : goal.returns-clause-left
+returns-clause-left g c = λ told.
+    let node = c.args.node.now in
+    let before = (g.D.Disk.view (disk_of c.args.log.now)).image in
+    let shared : shared_of (state_of c.args.log.now) before node ≡ true = sym (c.in_ok-is_shared.ensures.shared told) ∙ (let e = c.if-not-branch.false in grind (arith, e)) in
+    on_ok_weaker c.clear.result (λ points b.
+    let e = left_shared (state_of c.args.log.now) before node b shared in
+    let f = named_but node c.clear.new.node 15 0 b (omega arith) points in
+    let z : one (0 == b + 1) ≡ 0 = one_other 0 (b + 1) (omega arith) in
+    omega (arith, e, f, z)) c.clear.ensures.points
 
 pub clear-requires-clause-named : goal.clear-requires-clause-named
 clear-requires-clause-named g c = λ told.
