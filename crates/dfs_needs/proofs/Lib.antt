@@ -1,0 +1,12 @@
+pub mod Looking
+pub mod Walking
+pub mod Rows
+pub mod Found
+pub mod Replies
+pub mod Updates
+pub mod Showing
+pub mod Asking
+pub mod Written
+pub mod Present
+pub mod Answers
+pub mod Worked

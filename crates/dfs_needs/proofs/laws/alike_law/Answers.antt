@@ -1,0 +1,18 @@
+use Rattle.std.proofs.Common.{List, sym}
+use Rattle.tok_types.specs.declared.token.Token.{Token}
+use Rattle.dfs_needs.specs.Looks.{View, Look}
+use Rattle.dfs_needs.specs.Calls.{Verdict}
+use Rattle.dfs_needs.specs.Laws.{AreAlike, AgreeUnder}
+use Rattle.dfs_needs.proofs.Looking.{covered_alike, needs_alike, outcome_alike, lack_alike}
+use Rattle.dfs_needs.proofs.laws.alike_law.Goals as goal
+
+alike : (held : List Token) (a b : View) → AgreeUnder held a b → (look : Look Verdict) → AreAlike held a b look
+alike held a b same look = record {
+  covered = covered_alike held a b same look;
+  needs = needs_alike held a b same look;
+  ends = outcome_alike held a b same look;
+  lack = lack_alike held a b same look;
+}
+
+pub returns : goal.returns
+returns c = λ held a b same look. (alike held a b same look, alike held b a (λ fid part covered. sym (same fid part covered)) look)

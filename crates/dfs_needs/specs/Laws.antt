@@ -1,0 +1,141 @@
+-- What the looks of calls are good for.
+use Rattle.std.specs.Prelude.{◌≡◌, ◌==◌, ◌≤◌, ℕ, true, false, if◌then◌else◌, List, filter, map, Option, Some, None, Ok}
+use Rattle.dfs_base.specs.declared.ids.FilesetId.{FilesetId}
+use Rattle.dfs_base.specs.declared.ids.HostId.{HostId}
+use Rattle.dfs_base.specs.declared.ids.Fid.{Fid}
+use Rattle.dfs_base.specs.declared.ids.ServerId.{ServerId}
+use Rattle.dfs_base.specs.declared.limits.TheConstants.{FILE_BYTES_MAX}
+use Rattle.dfs_base.specs.declared.user.User.{User}
+use Rattle.dfs_calls.specs.declared.call.Call.{Call}
+use Rattle.dfs_calls.specs.declared.reply.Refusal.TheVariants.{Locked, OpenConflict}
+use Rattle.dfs_calls.specs.declared.reply.Reply.{Reply}
+use Rattle.dfs_calls.specs.declared.reply.Reply.TheVariants.{Ok as Done, Refused}
+use Rattle.dfs_calls.specs.Rosters.{user_of}
+use Rattle.dfs_filesets.specs.declared.fileset.Fileset.{Fileset}
+use Rattle.dfs_tree.specs.declared.tree.Tree.{Tree}
+use Rattle.dfs_tree.specs.Answers.{answer_to}
+use Rattle.dfs_tree.specs.Finding.{fileset_named}
+use Rattle.dfs_tree.specs.Locks.{is_excluded}
+use Rattle.dfs_tree.specs.Opens.{is_barred}
+use Rattle.dfs_tree.specs.WellFormed.{IsWellFormed}
+use Rattle.tree_laws.specs.Fates.{is_of}
+use Rattle.tree_laws.specs.Parts.{Part, cell_at}
+use Rattle.tree_laws.specs.Parts.Part.{ByteAt}
+use Rattle.tok_types.specs.declared.token.Need.{Need}
+use Rattle.tok_types.specs.declared.token.Token.{Token}
+use Rattle.tok_types.specs.Conflicts.{need_of, any_conflict}
+use Rattle.tok_types.specs.Covers.{Covers}
+use Rattle.dfs_needs.specs.Looks.{View, Look, outcome, kind_for, needs_of, CoverAll, IsCovered, IsFirstLack, tree_view}
+use Rattle.dfs_needs.specs.Shows.{is_update, shows, needs_show, needs_update, can_be}
+use Rattle.dfs_needs.specs.Questions.{Question, fileset_of}
+use Rattle.dfs_needs.specs.Questions.Question.{EnterAt, ChangeIn, ChangeAt}
+use Rattle.dfs_needs.specs.Calls.{Verdict, Own, call_look, reply_of}
+use Rattle.dfs_needs.specs.Calls.Verdict.{Locks, Opens, Asks}
+
+-- Two views agree on the parts that tokens cover.
+abbrev pub AgreeUnder : List Token → View → View → Type 0
+AgreeUnder held a b =
+    (fid : Fid) (part : Part) → Covers held (record { fid = fid; kind = kind_for part }) → a fid part ≡ b fid part
+
+-- What two such views have in common: where a look is covered on one of them, its needs are the same on the other, and
+-- it ends alike.
+pub record AreAlike (held : List Token) (a b : View) (look : Look Verdict) : Type 0 where
+  pub covered : IsCovered held a look → IsCovered held b look
+  pub needs : IsCovered held a look → needs_of a look ≡ needs_of b look
+  pub ends : IsCovered held a look → outcome a look ≡ outcome b look
+  -- where it isn't covered the walk stops at one need on both
+  pub lack : (need : Need) → IsFirstLack held (needs_of a look) need → IsFirstLack held (needs_of b look) need
+
+-- so the need on a view is the need on the tree wherever either is covered, and the verdict is the same
+abbrev pub NeedsAreAlike : Type 0
+NeedsAreAlike =
+    (held : List Token) (a b : View) → AgreeUnder held a b →
+    (look : Look Verdict) → AreAlike held a b look × AreAlike held b a look
+
+-- What a host knows of itself is so in the tree. This is said while none of its labels is on its way to end.
+pub record Knows (own : Own) (host : HostId) (user : User) (tree : Tree) : Type 0 where
+  pub acts_for : user_of tree.roster host ≡ Some user
+  pub locks : own.locks ≡ filter (λ lock. lock.host.0 == host.0) tree.locks
+  pub opens : own.opens ≡ filter (λ opened. opened.host.0 == host.0) tree.opens
+  -- a place is in the fileset that the host has seen under it, wherever that has moved
+  pub seen : (server : ServerId) (name : List ℕ) (id : FilesetId) → own.seen server name ≡ Some id →
+      (fileset : Fileset) × (fileset_named tree server name ≡ Ok fileset) × (fileset.id ≡ id)
+  -- of a file that the host calls clean nothing of its own is unsaved
+  pub clean : (fid : Fid) → own.is_clean fid ≡ true → (part : Part) → is_of host (cell_at tree fid part).unsaved ≡ false
+
+-- the reply of the tree where the call's look ends so: a lock or an open is refused where another host's is in its way
+abbrev pub tree_reply : Tree → HostId → Verdict → Option Reply
+tree_reply tree host (Locks fid writing span) =
+    Some (if is_excluded tree.locks host fid span writing then Refused Locked else Done)
+tree_reply tree host (Opens fid kind) = Some (if is_barred tree.opens host fid kind then Refused OpenConflict else Done)
+tree_reply tree host verdict = reply_of verdict
+
+-- a reply is the one that is told, where one is
+abbrev pub IsTold : Option Reply → Reply → Type 0
+IsTold None reply = Unit {0}
+IsTold (Some told) reply = reply ≡ told
+
+-- the look of a call over a tree ends in the reply of the tree
+abbrev pub LooksEndInReplies : Type 0
+LooksEndInReplies =
+    (tree : Tree) (host : HostId) (user : User) (own : Own) (call : Call) →
+    IsWellFormed tree → Knows own host user tree →
+    IsTold (tree_reply tree host (outcome (tree_view tree) (call_look own host user call)))
+    (answer_to tree host call).reply
+
+-- Where a host stands: it knows itself, and its view agrees with the tree under its tokens.
+pub record Stands
+    (tree : Tree) (host : HostId) (user : User) (own : Own) (held : List Token) (view : View) : Type 0 where
+  pub formed : IsWellFormed tree
+  pub knows : Knows own host user tree
+  pub agrees : AgreeUnder held view (tree_view tree)
+
+-- a call that is answered from such a view is answered as by the tree
+abbrev pub CoveredAnswersAreTheTrees : Type 0
+CoveredAnswersAreTheTrees =
+    (tree : Tree) (host : HostId) (user : User) (own : Own) (held : List Token) (view : View) (call : Call) →
+    Stands tree host user own held view → IsCovered held view (call_look own host user call) →
+    IsTold (tree_reply tree host (outcome view (call_look own host user call))) (answer_to tree host call).reply
+
+-- A question that a host asks of its view is about the call's fileset.
+abbrev pub IsAbout : Own → Call → Question → Type 0
+IsAbout own call (EnterAt server) =
+    (name : List ℕ) × (fileset_of call ≡ Some (server, name)) × (own.seen server name ≡ None)
+IsAbout own call (ChangeIn id) =
+    (server : ServerId) × (name : List ℕ) × (fileset_of call ≡ Some (server, name)) × (own.seen server name ≡ Some id)
+IsAbout own call (ChangeAt server) = fileset_of call ≡ None
+
+abbrev pub QuestionsAreAboutFilesets : Type 0
+QuestionsAreAboutFilesets =
+    (own : Own) (host : HostId) (user : User) (call : Call) (view : View) (question : Question) →
+    outcome view (call_look own host user call) ≡ Asks question → IsAbout own call question
+
+-- What `shows` means to tokens: what covers needs shows what they show, and what is for update of a part is in the way
+-- of whatever shows the part.
+pub record TokensShowParts : Type 0 where
+  -- the need of a part is of a token that shows it
+  pub seen_by : (part : Part) → can_be part ≡ true → shows (kind_for part) part ≡ true
+  -- what covers needs shows what they show, and lets its host change what they are for changing
+  pub covers : (held : List Token) (needs : List Need) (fid : Fid) (part : Part) →
+      CoverAll held needs → needs_show needs fid part ≡ true → needs_show (map need_of held) fid part ≡ true
+  pub covers_update : (held : List Token) (needs : List Need) (fid : Fid) (part : Part) →
+      CoverAll held needs → needs_update needs fid part ≡ true → needs_update (map need_of held) fid part ≡ true
+  -- of two hosts' needs that show a part, one of them for update, each is in the way of the other
+  pub conflict : (need : Need) (needs : List Need) (part : Part) →
+      shows need.kind part ≡ true → needs_update needs need.fid part ≡ true → any_conflict need needs ≡ true
+  pub conflict_update : (need : Need) (needs : List Need) (part : Part) →
+      shows need.kind part ≡ true → is_update need.kind ≡ true → needs_show needs need.fid part ≡ true →
+      any_conflict need needs ≡ true
+
+-- Views agree under tokens where they agree on each part that one of the tokens shows, and where no file has a byte.
+abbrev pub ShownAgree : Type 0
+ShownAgree =
+    (held : List Token) (a b : View) →
+    ((fid : Fid) (part : Part) → needs_show (map need_of held) fid part ≡ true → a fid part ≡ b fid part) →
+    ((fid : Fid) (at : ℕ) → FILE_BYTES_MAX ≤ at → a fid (ByteAt at) ≡ b fid (ByteAt at)) →
+    AgreeUnder held a b
+
+-- a tree shows no byte where no file has one
+abbrev pub NothingBeyond : Type 0
+NothingBeyond =
+    (tree : Tree) (fid : Fid) (at : ℕ) → IsWellFormed tree → FILE_BYTES_MAX ≤ at → tree_view tree fid (ByteAt at) ≡ 0

@@ -1,0 +1,9 @@
+pub mod Looks
+pub mod Shows
+pub mod Walks
+pub mod Questions
+pub mod Calls
+pub mod Updates
+pub mod Laws
+pub mod Present
+pub mod Worked

@@ -1,0 +1,46 @@
+-- What a host asks servers.
+use Rattle.std.specs.Prelude.{ℕ, List, Option, Some, None}
+use Rattle.dfs_base.specs.declared.ids.FilesetId.{FilesetId}
+use Rattle.dfs_base.specs.declared.ids.ServerId.{ServerId}
+use Rattle.dfs_calls.specs.declared.call.Call.{Call}
+use Rattle.dfs_calls.specs.declared.call.Call.TheVariants.{NewFileset, Create, MakeDir, Remove, Rename, Truncate, SetAcl}
+use Rattle.dfs_calls.specs.declared.call.Call.TheVariants.{CloneFileset, Read, Write, List as ListNames, Stat, GetAcl, Sync}
+use Rattle.dfs_calls.specs.declared.call.Call.TheVariants.{Lock, Unlock, OpenFile, CloseFile, MoveFileset}
+
+-- What a host asks of a server about a call.
+pub data Question : Type 0 where
+  -- the number of a fileset that a place at the server names, which the host hasn't seen
+  EnterAt : ServerId → Question
+  -- the call, which is in a fileset that the host has seen, or moves it; the server is the one that it knows to have it
+  ChangeIn : FilesetId → Question
+  -- the call, by which the server has a fileset more
+  ChangeAt : ServerId → Question
+
+-- the fileset under which a question is numbered; 0 is no fileset, and stands for the server itself
+abbrev pub numbered_under : Question → FilesetId
+numbered_under (EnterAt server) = record { 0 = 0 }
+numbered_under (ChangeIn fileset) = fileset
+numbered_under (ChangeAt server) = record { 0 = 0 }
+
+-- The server and the name by which a call says its fileset. A clone is made by the server that is named, and needs no
+-- fileset that the host has seen.
+abbrev pub fileset_of : Call → Option (ServerId × List ℕ)
+fileset_of (NewFileset server name objects owner) = None
+fileset_of (Create place) = Some (place.server, place.fileset)
+fileset_of (MakeDir place) = Some (place.server, place.fileset)
+fileset_of (Remove place) = Some (place.server, place.fileset)
+fileset_of (Rename from to) = Some (from.server, from.fileset)
+fileset_of (Truncate place len) = Some (place.server, place.fileset)
+fileset_of (SetAcl place which list) = Some (place.server, place.fileset)
+fileset_of (CloneFileset server source new) = None
+fileset_of (Read place from len) = Some (place.server, place.fileset)
+fileset_of (Write place from bytes) = Some (place.server, place.fileset)
+fileset_of (ListNames place) = Some (place.server, place.fileset)
+fileset_of (Stat place) = Some (place.server, place.fileset)
+fileset_of (GetAcl place which) = Some (place.server, place.fileset)
+fileset_of (Sync place) = Some (place.server, place.fileset)
+fileset_of (Lock label place writing from len) = Some (place.server, place.fileset)
+fileset_of (Unlock label) = None
+fileset_of (OpenFile label place kind) = Some (place.server, place.fileset)
+fileset_of (CloseFile label) = None
+fileset_of (MoveFileset server name to) = Some (server, name)
