@@ -1,0 +1,94 @@
+-- A server's doings: each step of it, taken apart in order. All lists of doings have the newest first.
+use Rattle.std.specs.Prelude.{◌≡◌, ℕ, suc, ◌==◌, ◌⊎◌, if◌then◌else◌, List, [], ◌∷◌}
+use Rattle.dfs_base.specs.declared.ids.HostId.{HostId}
+use Rattle.dfs_base.specs.declared.ids.ServerId.{ServerId}
+use Rattle.dfs_base.specs.declared.ids.Node.{Node}
+use Rattle.dfs_base.specs.declared.ids.Node.TheVariants.{Host, Server}
+use Rattle.tok_types.specs.declared.token.Token.{Token}
+use Rattle.rpc_types.specs.declared.message.Body.{Body}
+use Rattle.rpc_types.specs.declared.message.Message.{Message}
+use Rattle.world_steps.specs.declared.applied.Admission.{Admission}
+use Rattle.world_steps.specs.declared.applied.Wanted.{Wanted}
+use Rattle.world_steps.specs.declared.applied.Written.{Written}
+use Rattle.world_steps.specs.declared.applied.Applied.{Applied}
+use Rattle.world_steps.specs.declared.applied.Applied.TheVariants.{Wants as IsWanted, Done as IsDone}
+use Rattle.world_steps.specs.declared.step.Cause.{Cause}
+use Rattle.world_steps.specs.declared.step.Cause.TheVariants.{Message as Came, Restart, Flushed}
+use Rattle.world_steps.specs.declared.step.Step.{Step}
+
+pub data Act : Type 0 where
+  -- it starts, or restarts, in this epoch
+  Begins : (epoch : ℕ) → Act
+  -- it takes a message of an epoch and a number of moves from a host, with all that it stores and learns by it
+  Took : HostId → (epoch moves : ℕ) → Body → Act
+  -- what it wrote down is on its disk, so its exporter lets its tokens go
+  Flushes : Act
+  -- a request makes a want, or makes its want anew
+  Wants : Wanted → Act
+  -- it decides a Change and writes it down, with this reply: now the Change has its effect
+  Writes : Written → Act
+  -- it grants a host again the tokens that it claims
+  Admits : HostId → List Token → Act
+  -- it sends a host a message of an epoch and a number of moves
+  Sent : HostId → (epoch moves : ℕ) → Body → Act
+  -- its exporter keeps tokens
+  Reserves : List Token → Act
+
+abbrev pub epoch_after : Act → ℕ → ℕ
+epoch_after (Begins epoch) now = epoch
+epoch_after _ now = now
+
+-- the server's epoch
+abbrev pub epoch : List Act → ℕ
+epoch [] = 0
+epoch (a ∷ past) = epoch_after a (epoch past)
+
+-- it sent the host this, in an epoch, with this number of moves
+abbrev pub SentTo : List Act → HostId → ℕ → ℕ → Body → Type 0
+SentTo [] host e moves body = ⊥
+SentTo (a ∷ past) host e moves body = (a ≡ Sent host e moves body) ⊎ SentTo past host e moves body
+
+-- the cause of a step is taken; a line `restart` raises the epoch by one
+abbrev pub after_cause : Cause → List Act → List Act
+after_cause (Came m) past = Took m.host m.epoch m.moves m.body ∷ past
+after_cause (Restart line) past = Begins (suc (epoch past)) ∷ past
+after_cause Flushed past = Flushes ∷ past
+after_cause _ past = past
+
+-- wants are made and Changes written down, in order; the rest of what is applied belongs to the cause
+abbrev pub after_written : List Applied → List Act → List Act
+after_written [] past = past
+after_written (IsWanted wanted ∷ rest) past = after_written rest (Wants wanted ∷ past)
+after_written (IsDone written ∷ rest) past = after_written rest (Writes written ∷ past)
+after_written (_ ∷ rest) past = after_written rest past
+
+abbrev pub after_admitted : List Admission → List Act → List Act
+after_admitted [] past = past
+after_admitted (c ∷ cs) past = after_admitted cs (Admits c.host c.tokens ∷ past)
+
+abbrev pub after_sent : List Message → List Act → List Act
+after_sent [] past = past
+after_sent (m ∷ ms) past = after_sent ms (Sent m.host m.epoch m.moves m.body ∷ past)
+
+-- where a step of the server has come: wants are made and Changes written down; claims are granted; all is sent
+abbrev pub written_by : Step → List Act → List Act
+written_by step past = after_written step.applied (after_cause step.cause past)
+
+abbrev pub admitted_by : Step → List Act → List Act
+admitted_by step past = after_admitted step.admitted (written_by step past)
+
+abbrev pub sent_by : Step → List Act → List Act
+sent_by step past = after_sent step.sent (admitted_by step past)
+
+-- the doings after a step of the server
+abbrev pub after_step : Step → List Act → List Act
+after_step step past = Reserves step.reserved ∷ sent_by step past
+
+abbrev pub acts_after : ServerId → Node → Step → List Act → List Act
+acts_after server (Host other) step past = past
+acts_after server (Server other) step past = if other.0 == server.0 then after_step step past else past
+
+-- the doings of a server that starts in an epoch
+abbrev pub acts : ℕ → ServerId → List Step → List Act
+acts first server [] = Begins first ∷ []
+acts first server (step ∷ past) = acts_after server step.node step (acts first server past)

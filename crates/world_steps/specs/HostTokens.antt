@@ -1,0 +1,97 @@
+-- A host's rules on tokens: conditions on a step, and on the host's own earlier steps.
+use Rattle.std.specs.Prelude.{◌≡◌, ℕ, ◌<◌, ◌⊎◌, List, ◌∷◌}
+use Rattle.dfs_base.specs.declared.ids.ServerId.{ServerId}
+use Rattle.dfs_base.specs.declared.ids.FilesetId.{FilesetId}
+use Rattle.tok_types.specs.declared.token.TokenId.{TokenId}
+use Rattle.tok_types.specs.declared.token.Token.{Token}
+use Rattle.rpc_types.specs.declared.message.Body.{Body}
+use Rattle.rpc_types.specs.declared.message.Body.TheVariants.{Fetch, Change, Revoke, GiveBack, Reclaim, Down, Bye}
+use Rattle.rpc_types.specs.declared.asking.Fetch.{Fetch as FetchOf}
+use Rattle.rpc_types.specs.declared.asking.Change.{Change as ChangeOf}
+use Rattle.rpc_types.specs.declared.tokens.Revoke.{Revoke as RevokeOf}
+use Rattle.rpc_types.specs.declared.telling.Bring.{Bring}
+use Rattle.rpc_types.specs.declared.giving.Give.{Give}
+use Rattle.rpc_types.specs.declared.giving.Outstanding.{Outstanding}
+use Rattle.rpc_types.specs.declared.giving.Reclaim.{Reclaim as ReclaimOf}
+use Rattle.world_steps.specs.declared.step.Step.{Step}
+use Rattle.world_steps.specs.Lists.{In}
+use Rattle.world_steps.specs.Places.{Place, place}
+use Rattle.world_steps.specs.Epochs.{epoch_at, About}
+use Rattle.world_steps.specs.Sends.{Sends, Returns, Stops, HasStopped, HasSaidBye}
+use Rattle.world_steps.specs.Gives.{number_of, Made, IsKnown, IsOutstanding, Waits, NamesGive}
+use Rattle.world_steps.specs.Tokens.{Drops, Held, AtHand, HoldsId, EverHeld, Leaves, Owns}
+use Rattle.world_steps.specs.Requests.{Asking, Changing}
+use Rattle.world_steps.specs.Floors.{Uses}
+
+-- what a Reclaim may name: tokens that the server issued, in epochs before the host's present one
+abbrev pub IsClaimed : List Step → ServerId → TokenId → Type 0
+IsClaimed past server id = (id.server ≡ server) × (id.epoch < epoch_at past server)
+
+-- the token is in a give-back that isn't known as applied, and that the claim names as outstanding, or that waits
+abbrev pub IsInGive : List Step → ReclaimOf → Token → Type 0
+IsInGive past claim token =
+    (give : Give) × Made past give × (give.fid ≡ token.fid) × In token.id give.ids
+    × (NamesGive claim.numbers give ⊎ Waits past give)
+
+-- A Reclaim to a server is the claim of the moment in which it is sent.
+pub record Claims (past : List Step) (server : ServerId) (claim : ReclaimOf) : Type 0 where
+  -- it names the tokens of that server, and of earlier epochs, that the host holds
+  pub held : (t : Token) → Held past t → IsClaimed past server t.id → In t claim.tokens
+  -- and those of all give-backs that aren't known as applied
+  pub given : (g : Give) (i : TokenId) → Made past g → In i g.ids → IsClaimed past server i → (IsKnown past g → ⊥)
+      → (t : Token) × In t claim.tokens × (t.id ≡ i)
+  -- and no others
+  pub only : (t : Token) → In t claim.tokens
+      → EverHeld past t × IsClaimed past server t.id × (Held past t ⊎ IsInGive past claim t)
+  -- it says of each of their filesets how often it has moved, and which give-back is outstanding
+  pub numbers : (t : Token) → In t claim.tokens → (o : Outstanding) × In o claim.numbers × (o.fileset ≡ t.fid.fileset)
+  pub moves : (o : Outstanding) → In o claim.numbers → o.moves ≡ (place past o.fileset).moves
+  pub gives : (o : Outstanding) → In o claim.numbers → 0 < o.give
+      → (g : Give) × IsOutstanding past g × (number_of g ≡ record { fileset = o.fileset; number = o.give })
+
+-- what a host may do with tokens in a step
+pub record HostTokens (past : List Step) (s : Step) : Type 0 where
+  -- its stop was its last step, and says Down and nothing else
+  pub live : HasStopped past → ⊥
+  pub stops_alone : (v : ServerId) (e n : ℕ) (b : Body) → Stops s → Sends s v e n b → b ≡ Down
+  -- its messages carry its present epoch
+  pub epochs : (v : ServerId) (e n : ℕ) (b : Body) → Sends s v e n b → e ≡ epoch_at (s ∷ past) v
+  -- it takes tokens of the Grant or Done that it uses, and none whose number it holds
+  pub takes : (t : Token) → In t s.taken
+      → (w : Bring) × Uses past s w × In t w.tokens × (t.fid ≡ w.fid) × (HoldsId past t.id → ⊥)
+  -- what its Returneds and give-backs name leaves it; nothing else does but by its stop
+  pub drops : (t : Token) → AtHand s past t → Leaves s t.id → Drops s t
+  pub drops_only : (t : Token) → Drops s t → Leaves s t.id ⊎ Stops s
+  -- a Returned names tokens that it had, or that a Revoke names
+  pub returns : (i : TokenId) → Returns s i
+      → ((t : Token) × AtHand s past t × (t.id ≡ i))
+      ⊎ ((r : RevokeOf) × About past s r.fid.fileset (Revoke r) × In i r.ids)
+  -- and none that is named in a give-back that isn't known as applied
+  pub returns_free : (i : TokenId) (g : Give) → Returns s i → Made (s ∷ past) g → In i g.ids → IsKnown (s ∷ past) g
+  -- a give-back names tokens of its file that it had, and no token stands in two
+  pub makes : (g : Give) (i : TokenId) → In g s.made → In i g.ids
+      → (t : Token) × AtHand s past t × (t.id ≡ i) × (t.fid ≡ g.fid)
+  pub makes_once : (g k : Give) (i : TokenId) → In g s.made → In k s.made → In i g.ids → In i k.ids → g ≡ k
+  -- give-backs are numbered per fileset, from 1, and no number comes twice
+  pub makes_from : (g : Give) → In g s.made → 0 < g.number
+  pub makes_apart : (g k : Give) → In g s.made → In k s.made → number_of g ≡ number_of k → g ≡ k
+  pub makes_new : (g k : Give) → In g s.made → Made past k → k.fid.fileset ≡ g.fid.fileset → k.number < g.number
+  -- a give-back that is sent was made, goes to where its fileset is, and follows none that isn't known as applied
+  pub gives : (g : Give) (v : ServerId) (e n : ℕ) → Sends s v e n (GiveBack g)
+      → Made (s ∷ past) g × (place (s ∷ past) g.fid.fileset ≡ record { server = v; moves = n })
+  pub gives_first : (g k : Give) (v : ServerId) (e n : ℕ) → Sends s v e n (GiveBack g)
+      → Made (s ∷ past) k → k.fid.fileset ≡ g.fid.fileset → k.number < g.number → IsKnown (s ∷ past) k
+  -- what it asks goes to where its fileset is; under fileset 0 it has no moves; and after its Bye it asks for nothing
+  pub fetches : (f : FetchOf) (v : ServerId) (e n : ℕ) → Sends s v e n (Fetch f)
+      → (place (s ∷ past) f.fid.fileset ≡ record { server = v; moves = n }) × ((w : ServerId) → HasSaidBye past w → ⊥)
+  pub changes : (c : ChangeOf) (v : ServerId) (e n : ℕ) → Sends s v e n (Change c)
+      → (((c.fileset.0 ≡ 0) × (n ≡ 0)) ⊎ (place (s ∷ past) c.fileset ≡ record { server = v; moves = n }))
+      × ((w : ServerId) → HasSaidBye past w → ⊥)
+  -- a Reclaim is the claim of the moment
+  pub claims : (v : ServerId) (e n : ℕ) (claim : ReclaimOf) → Sends s v e n (Reclaim claim) → Claims (s ∷ past) v claim
+  -- with its Bye it owns nothing, asks for nothing, and each give-back is known as applied: at any server
+  pub bye_held : (v : ServerId) (e n : ℕ) (t : Token) → Sends s v e n Bye → Owns (s ∷ past) t → ⊥
+  pub bye_gives : (v : ServerId) (e n : ℕ) (g : Give) → Sends s v e n Bye → Made (s ∷ past) g → IsKnown (s ∷ past) g
+  pub bye_asking : (v : ServerId) (e n : ℕ) (fs : FilesetId) (k : ℕ) → Sends s v e n Bye → Asking (s ∷ past) fs k → ⊥
+  pub bye_changing : (v w : ServerId) (e n : ℕ) (fs : FilesetId) (k : ℕ) → Sends s v e n Bye
+      → Changing (s ∷ past) w fs k → ⊥

@@ -1,0 +1,29 @@
+-- At which server a fileset is. A stay of a fileset begins when it comes to a server; it is known by the server and by
+-- how often the fileset has moved. So far a fileset stays where it was made: `place` and `Here` then speak of its first
+-- stay alone.
+use Rattle.std.specs.Prelude.{◌≡◌, ℕ, ◌/◌, List}
+use Rattle.dfs_base.specs.declared.ids.ServerId.{ServerId}
+use Rattle.dfs_base.specs.declared.ids.FilesetId.{FilesetId}
+use Rattle.world_steps.specs.declared.step.Step.{Step}
+use Rattle.world_steps.specs.Acts.{Act}
+
+-- a stay of a fileset
+pub record Place : Type 0 where
+  pub server : ServerId
+  pub moves : ℕ
+
+-- the server at which a fileset was made: the number of a fileset begins with its server's
+unfoldable pub home : FilesetId → ServerId
+home fileset = record { 0 = fileset.0 / 65536 }
+
+-- the first stay of a fileset
+abbrev pub birth : FilesetId → Place
+birth fileset = record { server = home fileset; moves = 0 }
+
+-- where a host takes a fileset to be, after these steps of its own
+abbrev pub place : List Step → FilesetId → Place
+place past fileset = birth fileset
+
+-- the fileset is at the server in this stay, after these doings of the server
+abbrev pub Here : ServerId → List Act → FilesetId → ℕ → Type 0
+Here server past fileset moves = birth fileset ≡ record { server = server; moves = moves }

@@ -1,0 +1,64 @@
+-- What a host sends.
+use Rattle.std.specs.Prelude.{◌≡◌, ℕ, ◌⊎◌, List, [], ◌∷◌}
+use Rattle.dfs_base.specs.declared.ids.ServerId.{ServerId}
+use Rattle.tok_types.specs.declared.token.TokenId.{TokenId}
+use Rattle.rpc_types.specs.declared.message.Body.{Body}
+use Rattle.rpc_types.specs.declared.message.Body.TheVariants.{Hello, Returned, Kept, Down, Bye}
+use Rattle.rpc_types.specs.declared.message.Message.{Message}
+use Rattle.rpc_types.specs.declared.tokens.Named.{Named}
+use Rattle.world_steps.specs.declared.step.Step.{Step}
+use Rattle.world_steps.specs.Lists.{In}
+use Rattle.world_steps.specs.Places.{Place}
+
+-- the step sends a server this, in an epoch, with this number of moves
+abbrev pub Sends : Step → ServerId → ℕ → ℕ → Body → Type 0
+Sends step server epoch moves body =
+    (m : Message) × In m step.sent
+    × (m.server ≡ server) × (m.epoch ≡ epoch) × (m.moves ≡ moves) × (m.body ≡ body)
+
+-- an earlier step sent it
+abbrev pub Said : List Step → ServerId → ℕ → ℕ → Body → Type 0
+Said [] server epoch moves body = ⊥
+Said (step ∷ past) server epoch moves body = Sends step server epoch moves body ⊎ Said past server epoch moves body
+
+-- the step sends this to where a fileset is
+abbrev pub SendsTo : Step → Place → Body → Type 0
+SendsTo step place body = (epoch : ℕ) × Sends step place.server epoch place.moves body
+
+-- a Returned of the step names the token
+abbrev pub Returns : Step → TokenId → Type 0
+Returns step id =
+    (server : ServerId) × (epoch : ℕ) × (moves : ℕ) × (named : Named)
+    × Sends step server epoch moves (Returned named) × In id named.ids
+
+-- a Returned of an earlier step
+abbrev pub HasReturned : List Step → TokenId → Type 0
+HasReturned [] id = ⊥
+HasReturned (step ∷ past) id = Returns step id ⊎ HasReturned past id
+
+-- a Kept of the step names the token
+abbrev pub Keeps : Step → TokenId → Type 0
+Keeps step id =
+    (server : ServerId) × (epoch : ℕ) × (moves : ℕ) × (named : Named)
+    × Sends step server epoch moves (Kept named) × In id named.ids
+
+-- a Kept of an earlier step
+abbrev pub HasKept : List Step → TokenId → Type 0
+HasKept [] id = ⊥
+HasKept (step ∷ past) id = Keeps step id ⊎ HasKept past id
+
+-- the step is the host's stop: it says Down
+abbrev pub Stops : Step → Type 0
+Stops step = (server : ServerId) × (epoch : ℕ) × (moves : ℕ) × Sends step server epoch moves Down
+
+-- the host has stopped
+abbrev pub HasStopped : List Step → Type 0
+HasStopped past = (server : ServerId) × (epoch : ℕ) × (moves : ℕ) × Said past server epoch moves Down
+
+-- it has said Bye to the server
+abbrev pub HasSaidBye : List Step → ServerId → Type 0
+HasSaidBye past server = (epoch : ℕ) × (moves : ℕ) × Said past server epoch moves Bye
+
+-- it has greeted the server
+abbrev pub HasGreeted : List Step → ServerId → Type 0
+HasGreeted past server = (epoch : ℕ) × (moves : ℕ) × Said past server epoch moves Hello

@@ -1,0 +1,78 @@
+-- Lists of steps that meet the rules of tokens.
+use Rattle.std.specs.Prelude.{◌≡◌, ℕ, ◌<◌, List, [], ◌∷◌}
+use Rattle.dfs_base.specs.declared.ids.HostId.{HostId}
+use Rattle.dfs_base.specs.declared.ids.ServerId.{ServerId}
+use Rattle.dfs_base.specs.declared.ids.Node.{Node}
+use Rattle.dfs_base.specs.declared.ids.Node.TheVariants.{Host, Server}
+use Rattle.rpc_types.specs.declared.message.Direction.TheVariants.{ToServer, ToHost}
+use Rattle.rpc_types.specs.declared.message.Message.{Message}
+use Rattle.world_steps.specs.declared.applied.Admission.{Admission}
+use Rattle.world_steps.specs.declared.applied.Applied.{Applied}
+use Rattle.world_steps.specs.declared.applied.Applied.TheVariants.{Wants as IsWanted, Done as IsDone}
+use Rattle.world_steps.specs.declared.step.Cause.TheVariants.{Message as Came}
+use Rattle.world_steps.specs.declared.step.Step.{Step}
+use Rattle.world_steps.specs.Lists.{In}
+use Rattle.world_steps.specs.Nodes.{own}
+use Rattle.world_steps.specs.Sends.{Said}
+use Rattle.world_steps.specs.HostTokens.{HostTokens}
+use Rattle.world_steps.specs.Acts.{Act, SentTo, after_cause, written_by, admitted_by, sent_by, acts}
+use Rattle.world_steps.specs.Acts.Act.{Wants, Writes, Admits, Sent, Reserves}
+use Rattle.world_steps.specs.ServerTokens.{ServerTokens}
+
+-- the server may make each want and write down each Change among what is applied, one after the other
+abbrev pub MayWriteAll : ServerId → List Applied → List Act → Type 0
+MayWriteAll server [] past = Unit {0}
+MayWriteAll server (IsWanted wanted ∷ rest) past =
+    ServerTokens server past (Wants wanted) × MayWriteAll server rest (Wants wanted ∷ past)
+MayWriteAll server (IsDone written ∷ rest) past =
+    ServerTokens server past (Writes written) × MayWriteAll server rest (Writes written ∷ past)
+MayWriteAll server (_ ∷ rest) past = MayWriteAll server rest past
+
+-- the server may grant each of these claims, one after the other
+abbrev pub MayAdmitAll : ServerId → List Admission → List Act → Type 0
+MayAdmitAll server [] past = Unit {0}
+MayAdmitAll server (c ∷ cs) past =
+    ServerTokens server past (Admits c.host c.tokens) × MayAdmitAll server cs (Admits c.host c.tokens ∷ past)
+
+-- the server may send each of these messages, one after the other
+abbrev pub MaySendAll : ServerId → List Message → List Act → Type 0
+MaySendAll server [] past = Unit {0}
+MaySendAll server (m ∷ ms) past =
+    ServerTokens server past (Sent m.host m.epoch m.moves m.body)
+    × MaySendAll server ms (Sent m.host m.epoch m.moves m.body ∷ past)
+
+-- what a server may do with tokens in a step: each of its doings, one after the other, after its earlier ones
+pub record ServerStep (server : ServerId) (past : List Act) (s : Step) : Type 0 where
+  pub writes : MayWriteAll server s.applied (after_cause s.cause past)
+  pub admits : MayAdmitAll server s.admitted (written_by s past)
+  pub sends : MaySendAll server s.sent (admitted_by s past)
+  pub reserves : ServerTokens server (sent_by s past) (Reserves s.reserved)
+
+-- a message that is the cause of a host's step is addressed to it, and its server sent it in an earlier step
+abbrev pub CameToHost : (ServerId → ℕ) → HostId → List Step → Step → Type 0
+CameToHost firsts host past s =
+    (m : Message) → s.cause ≡ Came m
+    → (m.host ≡ host) × (m.direction ≡ ToHost)
+    × SentTo (acts (firsts m.server) m.server past) host m.epoch m.moves m.body
+
+-- a message that is the cause of a server's step is addressed to it, and its host sent it in an earlier step
+abbrev pub CameToServer : ServerId → List Step → Step → Type 0
+CameToServer server past s =
+    (m : Message) → s.cause ≡ Came m
+    → (m.server ≡ server) × (m.direction ≡ ToServer) × Said (own m.host past) server m.epoch m.moves m.body
+
+-- the messages that a node sends are its own
+abbrev pub IsFrom : Node → Message → Type 0
+IsFrom (Host host) m = (m.host ≡ host) × (m.direction ≡ ToServer)
+IsFrom (Server server) m = (m.server ≡ server) × (m.direction ≡ ToHost)
+
+abbrev pub StepMay : (ServerId → ℕ) → Node → List Step → Step → Type 0
+StepMay firsts (Host host) past s = HostTokens (own host past) s × CameToHost firsts host past s
+StepMay firsts (Server server) past s =
+    ServerStep server (acts (firsts server) server past) s × CameToServer server past s
+
+-- Each step meets the rules of its node, and its cause was sent before. `firsts` are the epochs in which servers start.
+abbrev pub IsTokenRun : (ServerId → ℕ) → List Step → Type 0
+IsTokenRun firsts [] = (server : ServerId) → 0 < firsts server
+IsTokenRun firsts (s ∷ past) =
+    IsTokenRun firsts past × StepMay firsts s.node past s × ((m : Message) → In m s.sent → IsFrom s.node m)

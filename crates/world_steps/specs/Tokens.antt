@@ -1,0 +1,45 @@
+-- The tokens that a host has.
+use Rattle.std.specs.Prelude.{◌≡◌, ◌⊎◌, List, [], ◌∷◌}
+use Rattle.tok_types.specs.declared.token.TokenId.{TokenId}
+use Rattle.tok_types.specs.declared.token.Token.{Token}
+use Rattle.world_steps.specs.declared.applied.Leave.{Leave}
+use Rattle.world_steps.specs.declared.step.Step.{Step}
+use Rattle.world_steps.specs.Lists.{In}
+use Rattle.world_steps.specs.Sends.{Returns}
+use Rattle.world_steps.specs.Gives.{Makes}
+
+-- the step drops the token
+abbrev pub Drops : Step → Token → Type 0
+Drops step token = (leave : Leave) × In leave step.dropped × (leave.token ≡ token)
+
+-- the host holds the token: it was taken and hasn't been dropped
+abbrev pub Held : List Step → Token → Type 0
+Held [] token = ⊥
+Held (step ∷ past) token = (In token step.taken ⊎ Held past token) × (Drops step token → ⊥)
+
+-- the token is there once the step has taken what it takes
+abbrev pub AtHand : Step → List Step → Token → Type 0
+AtHand step past token = In token step.taken ⊎ Held past token
+
+-- a token with this number is held
+abbrev pub HoldsId : List Step → TokenId → Type 0
+HoldsId past id = (token : Token) × Held past token × (token.id ≡ id)
+
+-- the token was taken
+abbrev pub EverHeld : List Step → Token → Type 0
+EverHeld [] token = ⊥
+EverHeld (step ∷ past) token = In token step.taken ⊎ EverHeld past token
+
+-- the token leaves for the server: a give-back that the step makes, or a Returned of the step, names it
+abbrev pub Leaves : Step → TokenId → Type 0
+Leaves step id = Makes step id ⊎ Returns step id
+
+-- it left in an earlier step
+abbrev pub Left : List Step → TokenId → Type 0
+Left [] id = ⊥
+Left (step ∷ past) id = Leaves step id ⊎ Left past id
+
+-- the host owns the token: it was taken and hasn't left; it is held, or was held when the host stopped
+abbrev pub Owns : List Step → Token → Type 0
+Owns [] token = ⊥
+Owns (step ∷ past) token = (In token step.taken ⊎ Owns past token) × (Leaves step token.id → ⊥)

@@ -1,0 +1,194 @@
+use dfs_base::{Fid, FilesetId, HostId, Items, NoMemory, Plain, Span};
+use dfs_calls::{Call, Reply};
+use tok_types::{Need, Token};
+
+/// Why a token leaves its host.
+#[derive(Clone, Copy, Debug, PartialEq, Eq)]
+pub enum Why {
+    /// The server asked for it.
+    Revoked,
+    /// The host cached more tokens than it may.
+    Evicted,
+    /// A call of the host asks for it: a Sync, or the last unlock or close of a pinned token.
+    Asked,
+    /// The host's lines have gone.
+    Ended,
+    /// The host stopped.
+    Stopped,
+}
+
+/// A token that leaves its host.
+#[derive(Clone, Copy)]
+pub struct Leave {
+    /// The token.
+    pub token: Token,
+    /// Why it leaves.
+    pub why: Why,
+}
+
+/// The reply to a call of a host.
+#[derive(Drop)]
+pub struct Answer {
+    /// The host.
+    pub host: HostId,
+    /// The number of the call among the host's, from 1.
+    pub k: u32,
+    /// The call.
+    pub call: Call,
+    /// The reply.
+    pub reply: Reply,
+    /// Whether it comes in the step that begins the call.
+    pub first: bool,
+}
+
+/// A Change that a server writes down, with its reply.
+#[derive(Drop)]
+pub struct Written {
+    /// The fileset under which the Change is numbered.
+    pub fileset: FilesetId,
+    /// Its number among the Changes of the host and the fileset.
+    pub number: u64,
+    /// The reply to its call.
+    pub answer: Answer,
+}
+
+/// A request of a host, by the fileset under which it is numbered and its number there.
+#[derive(Clone, Copy, Debug, PartialEq)]
+pub enum Request {
+    /// A Fetch.
+    Fetch {
+        /// The fileset.
+        fileset: FilesetId,
+        /// Its number among the Fetches of the host and the fileset.
+        number: u64,
+    },
+    /// A Change.
+    Change {
+        /// The fileset.
+        fileset: FilesetId,
+        /// Its number among the Changes of the host and the fileset.
+        number: u64,
+    },
+}
+
+/// What a request of a host wants, from now on: a want stands in its server's queue, behind all earlier ones.
+#[derive(Drop)]
+pub struct Wanted {
+    /// The host.
+    pub host: HostId,
+    /// The request.
+    pub request: Request,
+    /// How often the fileset had moved when the request was made.
+    pub moves: u32,
+    /// What is needed before the request can be decided.
+    pub needs: Items<Need>,
+}
+
+/// What a server decided, stored or learnt.
+#[derive(Drop)]
+pub enum Applied {
+    /// Bytes of a give-back became kept in these spans, and its length where it has one.
+    Stored {
+        /// The host whose they were.
+        host: HostId,
+        /// The file.
+        fid: Fid,
+        /// Where its bytes became kept.
+        spans: Items<Span>,
+        /// The length that became kept, in bytes.
+        length: Option<u32>,
+    },
+    /// The reply to the call that a give-back ends.
+    Ends(Answer),
+    /// The host is down.
+    IsDown(HostId),
+    /// A request makes a want, or makes its want anew.
+    Wants(Wanted),
+    /// A Change is decided and written down.
+    Done(Written),
+}
+
+/// Tokens that are granted again to the host that claims them.
+#[derive(Drop)]
+pub struct Admission {
+    /// The host.
+    pub host: HostId,
+    /// The tokens.
+    pub tokens: Items<Token>,
+}
+
+impl Plain for Leave {
+    fn copy(&self) -> Result<Leave, NoMemory> {
+        Ok(*self)
+    }
+}
+
+impl Plain for Request {
+    fn copy(&self) -> Result<Request, NoMemory> {
+        Ok(*self)
+    }
+}
+
+impl Plain for Answer {
+    fn copy(&self) -> Result<Answer, NoMemory> {
+        Ok(Answer {
+            host: self.host,
+            k: self.k,
+            call: self.call.copy()?,
+            reply: self.reply.copy()?,
+            first: self.first,
+        })
+    }
+}
+
+impl Plain for Written {
+    fn copy(&self) -> Result<Written, NoMemory> {
+        Ok(Written {
+            fileset: self.fileset,
+            number: self.number,
+            answer: self.answer.copy()?,
+        })
+    }
+}
+
+impl Plain for Wanted {
+    fn copy(&self) -> Result<Wanted, NoMemory> {
+        Ok(Wanted {
+            host: self.host,
+            request: self.request,
+            moves: self.moves,
+            needs: self.needs.copy()?,
+        })
+    }
+}
+
+impl Plain for Applied {
+    fn copy(&self) -> Result<Applied, NoMemory> {
+        Ok(match self {
+            Applied::Stored {
+                host,
+                fid,
+                spans,
+                length,
+            } => Applied::Stored {
+                host: *host,
+                fid: *fid,
+                spans: spans.copy()?,
+                length: *length,
+            },
+            Applied::Ends(answer) => Applied::Ends(answer.copy()?),
+            Applied::IsDown(host) => Applied::IsDown(*host),
+            Applied::Wants(wanted) => Applied::Wants(wanted.copy()?),
+            Applied::Done(written) => Applied::Done(written.copy()?),
+        })
+    }
+}
+
+impl Plain for Admission {
+    fn copy(&self) -> Result<Admission, NoMemory> {
+        Ok(Admission {
+            host: self.host,
+            tokens: self.tokens.copy()?,
+        })
+    }
+}
