@@ -1,5 +1,6 @@
 use dfs_base::{Fid, FilesetId, HostId, Items, NoMemory, Plain, Span};
 use dfs_calls::{Call, Reply};
+use rpc_types::{Change, Fetch};
 use tok_types::{Need, Token};
 
 /// Why a token leaves its host.
@@ -52,23 +53,13 @@ pub struct Written {
     pub answer: Answer,
 }
 
-/// A request of a host, by the fileset under which it is numbered and its number there.
-#[derive(Clone, Copy, Debug, PartialEq)]
+/// A request of a host, which a server is to decide.
+#[derive(Drop)]
 pub enum Request {
-    /// A Fetch.
-    Fetch {
-        /// The fileset.
-        fileset: FilesetId,
-        /// Its number among the Fetches of the host and the fileset.
-        number: u64,
-    },
-    /// A Change.
-    Change {
-        /// The fileset.
-        fileset: FilesetId,
-        /// Its number among the Changes of the host and the fileset.
-        number: u64,
-    },
+    /// Tokens are asked for.
+    Fetch(Fetch),
+    /// A call is to be decided.
+    Change(Change),
 }
 
 /// What a request of a host wants, from now on: a want stands in its server's queue, behind all earlier ones.
@@ -78,7 +69,7 @@ pub struct Wanted {
     pub host: HostId,
     /// The request.
     pub request: Request,
-    /// How often the fileset had moved when the request was made.
+    /// How often its fileset had moved, as the host knew it.
     pub moves: u32,
     /// What is needed before the request can be decided.
     pub needs: Items<Need>,
@@ -125,7 +116,10 @@ impl Plain for Leave {
 
 impl Plain for Request {
     fn copy(&self) -> Result<Request, NoMemory> {
-        Ok(*self)
+        Ok(match self {
+            Request::Fetch(fetch) => Request::Fetch(fetch.copy()?),
+            Request::Change(change) => Request::Change(change.copy()?),
+        })
     }
 }
 
@@ -155,7 +149,7 @@ impl Plain for Wanted {
     fn copy(&self) -> Result<Wanted, NoMemory> {
         Ok(Wanted {
             host: self.host,
-            request: self.request,
+            request: self.request.copy()?,
             moves: self.moves,
             needs: self.needs.copy()?,
         })
