@@ -1,6 +1,16 @@
 ghost use Rattle.world_steps.specs.Idle.{MayDoNothing};
+ghost use Rattle.world_steps.specs.TokenLaws.{TokensNeverConflict};
 
 /// A step that does nothing meets every rule of tokens: a host's that hasn't stopped, whatever came, and a server's.
 pub fn nothing_is_allowed()
     ensures { MayDoNothing }
+{}
+
+/// In every list of steps that meets the rules of tokens, after each step: no two hosts that haven't stopped hold
+/// conflicting tokens; no two tokens that servers have granted conflict, in a grace period too, nor does one with what an
+/// exporter keeps; a token is granted only where its fileset is; what a host holds is granted once it has reclaimed; no
+/// claim is refused but for tokens that the host no longer has; no give-back is passed over, and what an applied one names
+/// isn't granted; no give-back and no Change of one number takes effect twice.
+pub fn tokens_never_conflict()
+    ensures { TokensNeverConflict }
 {}

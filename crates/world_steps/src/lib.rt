@@ -8,5 +8,5 @@ mod laws;
 mod step;
 
 pub use applied::{Admission, Answer, Applied, Leave, Request, Wanted, Why, Written};
-pub use laws::nothing_is_allowed;
+pub use laws::{nothing_is_allowed, tokens_never_conflict};
 pub use step::{Asked, Cause, Labelled, Step};
