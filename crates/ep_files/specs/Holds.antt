@@ -1,0 +1,65 @@
+-- All anodes of an aggregate at once.
+use Rattle.std.specs.Prelude.{◌≡◌, ◌≢◌, ◌≤◌, ◌<◌, ℕ, zero, suc, ◌+◌, ◌-◌, ◌*◌, ◌%◌, ◌==◌, ◌&&◌, Bool, true, List, if◌then◌else◌, nat_lt, nat_le, take, drop}
+use Rattle.ep_layout.specs.Numbers.{number_at}
+use Rattle.ep_layout.specs.Pages.{stage}
+use Rattle.ep_log.specs.Puts.{page_of}
+use Rattle.ep_log.specs.State.{State}
+use Rattle.ep_space.specs.Counts.{count_page, count_place}
+use Rattle.ep_anode.specs.Anode.{Anode, anode_of, IsTidy}
+use Rattle.ep_anode.specs.Node.{pointer_of, names, names_below, map_under, node_of, HasNoBlocks}
+use Rattle.ep_anode.specs.Room.{how_many}
+
+-- The pages of anodes: the server has two pages, and each slot of a fileset 66, of which the first two aren't anodes'.
+abbrev pub is_anode : ℕ → Bool
+is_anode p = nat_le 2 p && nat_lt p 1058 && nat_le 2 ((p - 2) % 66)
+
+-- the sum over the numbers below one
+unfoldable pub sum_below : (ℕ → ℕ) → ℕ → ℕ
+sum_below f zero = 0
+sum_below f (suc n) = sum_below f n + f n
+
+-- how many of the 16 pointers of a page name a block, and its pointer to an indirect block; of other pages none
+abbrev pub page_names : ℕ → (ℕ → List ℕ) → List ℕ → ℕ → ℕ → ℕ
+page_names blocks pages image block p = if is_anode p then names_below 16 (node_of blocks image (pages p)) block else 0
+
+abbrev pub indirect_of : ℕ → (ℕ → List ℕ) → List ℕ → ℕ → ℕ
+indirect_of blocks pages image p = if is_anode p then pointer_of (node_of blocks image (pages p)) 15 else 0
+
+-- how many of the 52 pointers of an indirect block name a block
+abbrev pub map_names : ℕ → List ℕ → ℕ → ℕ → ℕ
+map_names blocks image block m = how_many (λ j. number_at 4 (4 * j) (map_under blocks image (m + 1)) == block + 1) 52
+
+-- whether a block is the indirect block of an anode
+abbrev pub is_indirect : (ℕ → ℕ) → ℕ → Bool
+is_indirect indirect m = nat_lt 0 (how_many (λ p. indirect p == m + 1) 1058)
+
+-- How many pointers name a block: those in pages, and those in indirect blocks, which are counted once for all anodes that
+-- share one.
+abbrev pub total : (front indirect maps : ℕ → ℕ) → ℕ → ℕ
+total front indirect maps blocks = sum_below front 1058 + sum_below (λ m. if is_indirect indirect m then maps m else 0) blocks
+
+abbrev pub pointers_to : ℕ → (ℕ → List ℕ) → List ℕ → ℕ → ℕ
+pointers_to blocks pages image block = total (page_names blocks pages image block) (indirect_of blocks pages image) (map_names blocks image block) blocks
+
+-- Pages and blocks hold these anodes: the counts are those of the pointers, no anode names a block twice, an indirect block
+-- is named as such alone, all bytes without a meaning are zero, and a free anode has no blocks.
+pub record Holds (anodes : ℕ → Anode) (blocks : ℕ) (pages : ℕ → List ℕ) (image : List ℕ) : Type 0 where
+  pub anode : (p : ℕ) → is_anode p ≡ true → anode_of image (node_of blocks image (pages p)) ≡ anodes p
+  pub counts : (block : ℕ) → block < blocks → number_at 2 (count_place block) (pages (count_page block)) ≡ pointers_to blocks pages image block
+  pub once : (p block : ℕ) → is_anode p ≡ true → block < blocks → names (node_of blocks image (pages p)) block ≤ 1
+  pub apart : (p q w block : ℕ) → is_anode p ≡ true → is_anode q ≡ true → block < blocks → pointer_of (node_of blocks image (pages p)) 15 ≡ block + 1
+      → w < 68 → w ≢ 15 → pointer_of (node_of blocks image (pages q)) w ≡ block + 1 → ⊥
+  pub tidy : (p : ℕ) → is_anode p ≡ true → IsTidy image (node_of blocks image (pages p))
+  pub bare : (p : ℕ) → is_anode p ≡ true → (anodes p).kind ≡ 0 → HasNoBlocks (node_of blocks image (pages p))
+
+-- what a log holds now
+abbrev pub HoldsNow : (ℕ → Anode) → State → List ℕ → Type 0
+HoldsNow anodes state image = Holds anodes state.superblock.blocks (λ p. page_of state.entries state.puts image p) image
+
+-- stage k of a log's pages: after the first k of the transactions that ended since the last force
+abbrev pub stage_of : State → List ℕ → ℕ → ℕ → List ℕ
+stage_of state image k p = stage (take state.forced state.entries) (drop state.forced state.entries) image k p
+
+-- with another anode in a page
+abbrev pub set_at : ℕ → Anode → (ℕ → Anode) → ℕ → Anode
+set_at page anode anodes p = if p == page then anode else anodes p
