@@ -1,0 +1,234 @@
+-- What a Change changes is under its want.
+use Rattle.std.proofs.Common.{◌≡◌, ◌⊎◌, ℕ, ◌==◌, Bool, true, false, ◌&&◌, ◌||◌, cond, List, [], ◌∷◌, ◌++◌, Option, Some, None, Result, Ok, Err, refl, sym, ap, ◌∙◌, subst, inl, inr, rules, arith}
+use Rattle.std.specs.Prelude.{if◌then◌else◌}
+use Rattle.std.proofs.lemmas.Grind.{common_steps}
+use Rattle.std.proofs.lemmas.Bool.Decides.{eqb_tells}
+use Rattle.dfs_base.specs.Ids.{same_fid}
+use Rattle.dfs_base.specs.Outcomes.{and_then, either}
+use Rattle.dfs_base.specs.Spans.{has_byte}
+use Rattle.dfs_base.specs.declared.access.AccessEntry.{AccessEntry}
+use Rattle.dfs_base.specs.declared.ids.Fid.{Fid}
+use Rattle.dfs_base.specs.declared.ids.HostId.{HostId}
+use Rattle.dfs_base.specs.declared.user.User.{User}
+use Rattle.dfs_calls.specs.declared.call.Call.{Call}
+use Rattle.dfs_calls.specs.declared.call.Call.TheVariants.{NewFileset, Create, MakeDir, Remove, Rename, Truncate, SetAcl, CloneFileset, Read, Write, List as ListNames, Stat, GetAcl, Sync, Lock, Unlock, OpenFile, CloseFile, MoveFileset}
+use Rattle.dfs_calls.specs.declared.part.DirEntry.{DirEntry}
+use Rattle.dfs_calls.specs.declared.place.Which.{Which}
+use Rattle.dfs_calls.specs.declared.reply.Refusal.{Refusal}
+use Rattle.dfs_calls.specs.declared.reply.Refusal.TheVariants.{ReadOnly, Exists, InUse, NotEmpty}
+use Rattle.dfs_objects.specs.declared.content.Object.{Object}
+use Rattle.dfs_objects.specs.Spans.{whole}
+use Rattle.dfs_filesets.specs.declared.fileset.Fileset.{Fileset}
+use Rattle.dfs_filesets.specs.Changing.{write_target, set_access_target}
+use Rattle.dfs_filesets.specs.Checks.{unless, split_path}
+use Rattle.dfs_filesets.specs.Creation.{vacancy}
+use Rattle.dfs_filesets.specs.Removal.{has_entries, fid_of, remove_target}
+use Rattle.dfs_filesets.specs.Renaming.{rename_target}
+use Rattle.dfs_filesets.specs.Walk.{object_at, unique_at, found_at, entry_target, insert_target}
+use Rattle.dfs_filesets.proofs.Targets.{then_ok, unless_ok, ok_is, vacancy_ok}
+use Rattle.dfs_tree.specs.Finding.{has_id, same_fileset}
+use Rattle.tree_laws.proofs.Steps.{no_file}
+use Rattle.dfs_wants.specs.Laws.{is_change}
+use Rattle.tok_types.specs.declared.token.Need.{Need}
+use Rattle.tok_types.specs.declared.token.Kind.TheVariants.{Bytes, Status, Lock}
+use Rattle.tree_laws.specs.Parts.Part.{ByteAt, Size, Traits, Entries}
+use Rattle.tree_laws.specs.Fates.{Fate, Cells, after_fate, names_use, if_reached, new_lists, new_nature, creation, create_fate, remove_fate, rename_fate, fate_row}
+use Rattle.tree_laws.specs.Fates.Fate.{Stays, IsCut, IsListed, Turns, Becomes}
+use Rattle.host_laws.specs.Losses.{use_of}
+use Rattle.tree_laws.specs.Parts.{Part, Nature, object_in}
+use Rattle.dfs_wants.specs.Wants.{all_of, every_use_of, want_for, want_in}
+use Rattle.dfs_needs.specs.Shows.{updates, needs_update, can_be}
+
+-- the kinds of all of an object have each of its parts
+all_kinds : (part : Part) → can_be part ≡ true → (updates (Status true) part || updates (Bytes true whole) part) ≡ true
+all_kinds (ByteAt at) h = inside
+  where
+    inside : has_byte whole at ≡ true
+    inside = grind (arith, common_steps, h)
+all_kinds Size h = refl
+all_kinds Traits h = refl
+all_kinds Entries h = refl
+
+pub of_all : (fid other : Fid) (rest : List Need) (part : Part) → can_be part ≡ true → same_fid fid other ≡ true → needs_update (all_of true fid ++ rest) other part ≡ true
+of_all fid other rest part can same = by_kinds (same_fid fid other) (updates (Status true) part) (updates (Bytes true whole) part) (needs_update rest other part) same (all_kinds part can)
+  where
+    by_kinds : (t a b c : Bool) → t ≡ true → (a || b) ≡ true → ((t && a) || ((t && b) || c)) ≡ true
+    by_kinds true true b c s h = refl
+    by_kinds true false true c s h = refl
+    by_kinds true false false c s h = absurd (search (rules, h))
+    by_kinds false a b c s h = absurd (search (rules, s))
+
+-- further needs
+pub of_more : (fid other : Fid) (rest : List Need) (part : Part) → needs_update rest other part ≡ true → needs_update (all_of true fid ++ rest) other part ≡ true
+of_more fid other rest part h = by_rest (same_fid fid other && updates (Status true) part) (same_fid fid other && updates (Bytes true whole) part) (needs_update rest other part) h
+  where
+    by_rest : (a b c : Bool) → c ≡ true → (a || (b || c)) ≡ true
+    by_rest true b c h = refl
+    by_rest false true c h = refl
+    by_rest false false c h = h
+
+-- a use that a fid names
+named_same : (fileset : Fileset) (anode : ℕ) (fid : Fid) → has_id fid.fileset fileset ≡ true → names_use fileset anode fid ≡ true → same_fid (use_of fileset anode) fid ≡ true
+named_same fileset anode fid its h = by_tests (has_id fid.fileset fileset) (anode == fid.anode) (unique_at fileset.anodes anode == fid.unique) its h
+  where
+    by_tests : (a b c : Bool) → a ≡ true → (b && c) ≡ true → (a && b && c) ≡ true
+    by_tests true b c e h = h
+    by_tests false b c e h = absurd (search (rules, e))
+
+-- a row that reaches one object
+module _ (fileset : Fileset) (fid : Fid) (part : Part) (cells : Cells) where
+  abbrev Covered : List Need → Fate → Type 0
+  Covered needs becomes = (needs_update needs fid part ≡ true) ⊎ ((after_fate becomes cells part ≡ cells part) ⊎ (object_in fileset fid ≡ None))
+
+  stays : (needs : List Need) → Covered needs Stays
+  stays needs = inr (inl refl)
+
+  reached : (needs : ℕ → List Need) (becomes : Fate) (checks : Result ℕ Refusal) → ((anode : ℕ) → names_use fileset anode fid ≡ true → Covered (needs anode) becomes) →
+      Covered (either checks needs (λ refusal. [])) (if_reached fileset fid becomes checks)
+  reached needs becomes (Err refusal) named = stays []
+  reached needs becomes (Ok anode) named = by_test (names_use fileset anode fid) refl
+    where
+      by_test : (b : Bool) → names_use fileset anode fid ≡ b → Covered (needs anode) (if b then becomes else Stays)
+      by_test true e = named anode e
+      by_test false e = stays (needs anode)
+
+  listed : (which : Which) (list : List AccessEntry) (anode : ℕ) → same_fid (use_of fileset anode) fid ≡ true → (part' : Part) → part' ≡ part →
+      Covered (record { fid = use_of fileset anode; kind = Status true } ∷ []) (IsListed which list)
+  listed which list anode same (ByteAt at) e = inr (inl (subst (λ p. after_fate (IsListed which list) cells p ≡ cells p) e refl))
+  listed which list anode same Entries e = inr (inl (subst (λ p. after_fate (IsListed which list) cells p ≡ cells p) e refl))
+  listed which list anode same Size e = inl (subst (λ p. needs_update (record { fid = use_of fileset anode; kind = Status true } ∷ []) fid p ≡ true) e (ap (λ t. (t && true) || false) same))
+  listed which list anode same Traits e = inl (subst (λ p. needs_update (record { fid = use_of fileset anode; kind = Status true } ∷ []) fid p ≡ true) e (ap (λ t. (t && true) || false) same))
+
+  -- Create
+  created : (parent : ℕ) (entry : DirEntry) (nature : Nature) → can_be part ≡ true → has_id fid.fileset fileset ≡ true → object_at fileset.anodes entry.anode ≡ None →
+      Covered (all_of true (use_of fileset parent)) (create_fate fileset fid (Ok (parent, entry, nature)))
+  created parent entry nature can its vacant = by_new (entry.anode == fid.anode) (entry.unique == fid.unique) refl
+    where
+      gone : (entry.anode == fid.anode) ≡ true → object_in fileset fid ≡ None
+      gone e = elim (eqb_tells entry.anode fid.anode) as (λ _. object_in fileset fid ≡ None) [
+        | inl (f, k) ↦ ap (λ o. cond (unique_at fileset.anodes fid.anode == fid.unique) o None) (ap (λ n. object_at fileset.anodes n) (sym k) ∙ vacant) ∙ either_none (unique_at fileset.anodes fid.anode == fid.unique)
+        | inr (f, k) ↦ let wrong : false ≡ true = sym f ∙ e in absurd (search (rules, wrong))
+      ]
+        where
+          either_none : (b : Bool) → ◌≡◌ {A = Option Object} (cond b None None) None
+          either_none true = refl
+          either_none false = refl
+
+      by_parent : (b : Bool) → names_use fileset parent fid ≡ b → Covered (all_of true (use_of fileset parent)) (if b then Turns (Some entry) None else Stays)
+      by_parent true e = inl (of_all (use_of fileset parent) fid [] part can (named_same fileset parent fid its e))
+      by_parent false e = stays (all_of true (use_of fileset parent))
+
+      by_new : (a b : Bool) → (entry.anode == fid.anode) ≡ a → Covered (all_of true (use_of fileset parent)) (if a && b then Becomes (Rattle.tree_laws.specs.Fates.new_values nature) else if names_use fileset parent fid then Turns (Some entry) None else Stays)
+      by_new true true e = inr (inr (gone e))
+      by_new true false e = by_parent (names_use fileset parent fid) refl
+      by_new false b e = by_parent (names_use fileset parent fid) refl
+
+  create_covered : (found : Result (ℕ × DirEntry × Nature) Refusal) → can_be part ≡ true → has_id fid.fileset fileset ≡ true → ((made : ℕ × DirEntry × Nature) → found ≡ Ok made → object_at fileset.anodes made.1.anode ≡ None) →
+      Covered (either found (λ (parent, entry, nature). all_of true (use_of fileset parent)) (λ refusal. [])) (create_fate fileset fid found)
+  create_covered (Ok made) can its vacant = created made.0 made.1 made.2 can its (vacant made refl)
+  create_covered (Err refusal) can its vacant = stays []
+
+  -- Remove
+  removed : (parent : ℕ) (name : List ℕ) (anode : ℕ) (rest : List Need) → can_be part ≡ true → has_id fid.fileset fileset ≡ true →
+      Covered (all_of true (use_of fileset parent) ++ (all_of true (use_of fileset anode) ++ rest)) (remove_fate fileset fid (Ok (parent, name, anode)))
+  removed parent name anode rest can its = by_tests (names_use fileset anode fid) (names_use fileset parent fid) refl refl
+    where
+      by_tests : (a b : Bool) → names_use fileset anode fid ≡ a → names_use fileset parent fid ≡ b →
+          Covered (all_of true (use_of fileset parent) ++ (all_of true (use_of fileset anode) ++ rest)) (if a then Becomes Rattle.tree_laws.specs.Fates.no_values else if b then Turns None (Some name) else Stays)
+      by_tests true b e f = inl (of_more (use_of fileset parent) fid (all_of true (use_of fileset anode) ++ rest) part (of_all (use_of fileset anode) fid rest part can (named_same fileset anode fid its e)))
+      by_tests false true e f = inl (of_all (use_of fileset parent) fid (all_of true (use_of fileset anode) ++ rest) part can (named_same fileset parent fid its f))
+      by_tests false false e f = stays (all_of true (use_of fileset parent) ++ (all_of true (use_of fileset anode) ++ rest))
+
+  -- Rename
+  renamed : (to from : ℕ) (entry : DirEntry) (name : List ℕ) → can_be part ≡ true → has_id fid.fileset fileset ≡ true →
+      Covered (all_of true (use_of fileset from) ++ all_of true (use_of fileset to)) (rename_fate fileset fid (Ok (to, entry, from, name)))
+  renamed to from entry name can its = by_tests (names_use fileset to fid) (names_use fileset from fid) refl refl
+    where
+      by_tests : (t f : Bool) → names_use fileset to fid ≡ t → names_use fileset from fid ≡ f →
+          Covered (all_of true (use_of fileset from) ++ all_of true (use_of fileset to)) (if t || f then Turns (if t then Some entry else None) (if f then Some name else None) else Stays)
+      by_tests true f d e = inl (of_more (use_of fileset from) fid (all_of true (use_of fileset to)) part (of_all (use_of fileset to) fid [] part can (named_same fileset to fid its d)))
+      by_tests false true d e = inl (of_all (use_of fileset from) fid (all_of true (use_of fileset to)) part can (named_same fileset from fid its e))
+      by_tests false false d e = stays (all_of true (use_of fileset from) ++ all_of true (use_of fileset to))
+
+-- where a new object goes nothing is
+creation_vacant : (fileset : Fileset) (dir : Bool) (user : User) (path : List (List ℕ)) (made : ℕ × DirEntry × Nature) → creation fileset dir user path ≡ Ok made → object_at fileset.anodes made.1.anode ≡ None
+creation_vacant fileset dir user path made h =
+    let (writable, a) = unless_ok fileset.read_only ReadOnly _ made h in
+    let (parts, b, c) = then_ok (split_path path Exists) _ made a in
+    let (at, d, e) = then_ok (insert_target fileset user parts.1 parts.0) _ made c in
+    let (free, f, g) = then_ok (vacancy fileset) _ made e in
+    let (lists, i, same) = then_ok (new_lists dir at.1.content) _ made g in
+    subst (λ n. object_at fileset.anodes n ≡ None) (ap (λ m. m.1.anode) (ok_is _ made same)) (vacancy_ok fileset free f).vacant
+
+unless_is : {A : Type 0} (b : Bool) (refusal : Refusal) (next : Result A Refusal) → b ≡ false → unless b refusal next ≡ next
+unless_is b refusal next h = ap (λ t. unless t refusal next) h
+
+then_is : {A B E : Type 0} (found : Result A E) (value : A) (next : A → Result B E) → found ≡ Ok value → and_then found next ≡ next value
+then_is found value next h = ap (λ r. and_then r next) h
+
+-- what a Remove reaches doesn't hang on what is in use
+removed_alone : (fileset : Fileset) (in_use : Fid → Bool) (user : User) (path : List (List ℕ)) (found : ℕ × List ℕ × ℕ) → remove_target fileset in_use user path ≡ Ok found → remove_target fileset (λ fid. false) user path ≡ Ok found
+unfolding remove_target
+removed_alone fileset in_use user path found h =
+    let (writable, a) = unless_ok fileset.read_only ReadOnly _ found h in
+    let (parts, b, c) = then_ok (split_path path InUse) _ found a in
+    let (at, d, e) = then_ok (entry_target fileset user parts.1 parts.0) _ found c in
+    let (there, f, g) = then_ok (found_at at.1.anode (object_at fileset.anodes at.1.anode)) _ found e in
+    let (empty, i) = unless_ok (has_entries there.1.content) NotEmpty _ found g in
+    let (unused, same) = unless_ok (in_use (fid_of fileset at.1)) InUse (Ok (at.0, parts.0, there.0)) found i in
+    unless_is fileset.read_only ReadOnly _ writable ∙ then_is (split_path path InUse) parts _ b ∙ then_is (entry_target fileset user parts.1 parts.0) at _ d
+    ∙ then_is (found_at at.1.anode (object_at fileset.anodes at.1.anode)) there _ f ∙ unless_is (has_entries there.1.content) NotEmpty (Ok (at.0, parts.0, there.0)) empty ∙ same
+
+remove_covered : (fileset : Fileset) (fid : Fid) (part : Part) (cells : Cells) (found alone : Result (ℕ × List ℕ × ℕ) Refusal) → can_be part ≡ true → has_id fid.fileset fileset ≡ true → ((there : ℕ × List ℕ × ℕ) → found ≡ Ok there → alone ≡ Ok there) →
+    Covered fileset fid part cells
+    (either alone (λ (parent, name, anode). all_of true (use_of fileset parent) ++ all_of true (use_of fileset anode) ++ every_use_of (use_of fileset anode)) (λ refusal. []))
+    (remove_fate fileset fid found)
+remove_covered fileset fid part cells (Ok there) alone can its same =
+    subst (λ r. Covered fileset fid part cells (either r (λ (parent, name, anode). all_of true (use_of fileset parent) ++ all_of true (use_of fileset anode) ++ every_use_of (use_of fileset anode)) (λ refusal. [])) (remove_fate fileset fid (Ok there)))
+    (sym (same there refl))
+    (removed fileset fid part cells there.0 there.1 there.2 (every_use_of (use_of fileset there.2)) can its)
+remove_covered fileset fid part cells (Err refusal) alone can its same = inr (inl refl)
+
+rename_covered : (fileset : Fileset) (user : User) (from to : List (List ℕ)) (fid : Fid) (part : Part) (cells : Cells) (found : Result _ Refusal) → can_be part ≡ true → has_id fid.fileset fileset ≡ true → found ≡ rename_target fileset user from to →
+    Covered fileset fid part cells (either found (λ move. all_of true (use_of fileset move.from) ++ all_of true (use_of fileset move.to)) (λ refusal. []))
+    (rename_fate fileset fid (and_then found (λ move. Ok (move.to, move.entry, move.from, move.name))))
+rename_covered fileset user from to fid part cells (Ok move) can its e = renamed fileset fid part cells move.to move.from move.entry move.name can its
+rename_covered fileset user from to fid part cells (Err refusal) can its e = inr (inl refl)
+
+-- whether a Rename stays in its fileset
+abbrev pub is_within : Call → Bool
+is_within (Rename from to) = same_fileset from to
+is_within call = true
+
+-- each Change in a fileset that decides it, by the fate of an object there
+pub covered_in : (fileset : Fileset) (in_use : Fid → Bool) (host : HostId) (user : User) (call : Call) (fid : Fid) (part : Part) (cells : Cells) → is_change call ≡ true → is_within call ≡ true → has_id fid.fileset fileset ≡ true → can_be part ≡ true →
+    Covered fileset fid part cells (want_in fileset user call) (fate_row fileset in_use host user call fid)
+unfolding want_in
+covered_in fileset in_use host user (Create place) fid part cells is_change within its can =
+    create_covered fileset fid part cells (creation fileset false user place.path) can its (creation_vacant fileset false user place.path)
+covered_in fileset in_use host user (MakeDir place) fid part cells is_change within its can =
+    create_covered fileset fid part cells (creation fileset true user place.path) can its (creation_vacant fileset true user place.path)
+covered_in fileset in_use host user (Remove place) fid part cells is_change within its can =
+    remove_covered fileset fid part cells (remove_target fileset in_use user place.path) (remove_target fileset (λ fid. false) user place.path) can its (removed_alone fileset in_use user place.path)
+covered_in fileset in_use host user (Rename from to) fid part cells is_change within its can =
+    subst (λ t. Covered fileset fid part cells (if t then want_for (rename_target fileset user from.path to.path) (λ move. all_of true (use_of fileset move.from) ++ all_of true (use_of fileset move.to)) else []) (fate_row fileset in_use host user (Rename from to) fid))
+    (sym within) (rename_covered fileset user from.path to.path fid part cells (rename_target fileset user from.path to.path) can its refl)
+covered_in fileset in_use host user (Truncate place len) fid part cells is_change within its can =
+    reached fileset fid part cells (λ anode. all_of true (use_of fileset anode)) (IsCut len) (write_target fileset user place.path len)
+    (λ anode named. inl (of_all (use_of fileset anode) fid [] part can (named_same fileset anode fid its named)))
+covered_in fileset in_use host user (SetAcl place which list) fid part cells is_change within its can =
+    reached fileset fid part cells (λ anode. record { fid = use_of fileset anode; kind = Status true } ∷ []) (IsListed which list) (set_access_target fileset user place.path which)
+    (λ anode named. listed fileset fid part cells which list anode (named_same fileset anode fid its named) part refl)
+covered_in fileset in_use host user (Lock label place writing from len) fid part cells is_change within its can = inr (inl refl)
+covered_in fileset in_use host user (OpenFile label place kind) fid part cells is_change within its can = inr (inl refl)
+covered_in fileset in_use host user (NewFileset server name objects owner) fid part cells is_change within its can = inr (inl refl)
+covered_in fileset in_use host user (CloneFileset server source new) fid part cells is_change within its can = inr (inl refl)
+covered_in fileset in_use host user (MoveFileset server name to) fid part cells is_change within its can = inr (inl refl)
+covered_in fileset in_use host user (Read place from len) fid part cells is_change within its can = no_file is_change
+covered_in fileset in_use host user (Write place from bytes) fid part cells is_change within its can = no_file is_change
+covered_in fileset in_use host user (ListNames place) fid part cells is_change within its can = no_file is_change
+covered_in fileset in_use host user (Stat place) fid part cells is_change within its can = no_file is_change
+covered_in fileset in_use host user (GetAcl place which) fid part cells is_change within its can = no_file is_change
+covered_in fileset in_use host user (Sync place) fid part cells is_change within its can = no_file is_change
+covered_in fileset in_use host user (Unlock label) fid part cells is_change within its can = no_file is_change
+covered_in fileset in_use host user (CloseFile label) fid part cells is_change within its can = no_file is_change

@@ -1,0 +1,15 @@
+pub mod Kept
+pub mod KeptTree
+pub mod KeptFiles
+pub mod KeptUses
+pub mod Resting
+pub mod KeptRooms
+pub mod KeptFounds
+pub mod Alike
+pub mod Settled
+pub mod Covering
+pub mod Covered
+pub mod WantsKept
+pub mod WantsThere
+pub mod Uses
+pub mod Worked

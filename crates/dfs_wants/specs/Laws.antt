@@ -1,0 +1,112 @@
+-- What wants are good for.
+use Rattle.std.specs.Prelude.{◌≡◌, ◌⊎◌, ℕ, Bool, true, false, List, Some, None, is_some, Ok}
+use Rattle.std.specs.List.{list_all}
+use Rattle.dfs_base.specs.Outcomes.{and_then}
+use Rattle.dfs_base.specs.declared.ids.HostId.{HostId}
+use Rattle.dfs_base.specs.declared.ids.Fid.{Fid}
+use Rattle.dfs_base.specs.declared.user.User.{User}
+use Rattle.dfs_calls.specs.declared.call.Call.{Call}
+use Rattle.dfs_calls.specs.declared.call.Call.TheVariants.{NewFileset, Create, MakeDir, Remove, Rename, Truncate, SetAcl}
+use Rattle.dfs_calls.specs.declared.call.Call.TheVariants.{CloneFileset, Read, Write, List as ListNames, Stat, GetAcl, Sync}
+use Rattle.dfs_calls.specs.declared.call.Call.TheVariants.{Lock, Unlock, OpenFile, CloseFile, MoveFileset}
+use Rattle.dfs_calls.specs.declared.reply.Refusal.TheVariants.{InUse}
+use Rattle.dfs_calls.specs.Rosters.{user_of}
+use Rattle.dfs_filesets.specs.declared.fileset.Fileset.{Fileset}
+use Rattle.dfs_filesets.specs.Checks.{unless}
+use Rattle.dfs_filesets.specs.Removal.{remove_target}
+use Rattle.dfs_filesets.specs.WellFormed.{IsWellFormed as IsWellFormedFileset}
+use Rattle.dfs_tree.specs.declared.tree.Tree.{Tree}
+use Rattle.dfs_tree.specs.Answers.{answer_to}
+use Rattle.dfs_tree.specs.WellFormed.{IsWellFormed}
+use Rattle.tree_laws.specs.Parts.{Part, settled, cell_at}
+use Rattle.tree_laws.specs.Parts.Part.{Traits}
+use Rattle.host_laws.specs.Losses.{use_of}
+use Rattle.tok_types.specs.declared.token.Need.{Need}
+use Rattle.dfs_needs.specs.Looks.{kept_view}
+use Rattle.dfs_needs.specs.Shows.{needs_show, needs_update, can_be}
+use Rattle.dfs_wants.specs.Kept.{kept_tree, kept_answer}
+use Rattle.dfs_wants.specs.Wants.{want}
+
+-- whether a call is decided by a server; a Lock and an OpenFile are where their host lacks the token
+abbrev pub is_change : Call → Bool
+is_change (NewFileset server name objects owner) = true
+is_change (Create place) = true
+is_change (MakeDir place) = true
+is_change (Remove place) = true
+is_change (Rename from to) = true
+is_change (Truncate place len) = true
+is_change (SetAcl place which list) = true
+is_change (CloneFileset server source new) = true
+is_change (MoveFileset server name to) = true
+is_change (Lock label place writing from len) = true
+is_change (OpenFile label place kind) = true
+is_change (Read place from len) = false
+is_change (Write place from bytes) = false
+is_change (ListNames place) = false
+is_change (Stat place) = false
+is_change (GetAcl place which) = false
+is_change (Sync place) = false
+is_change (Unlock label) = false
+is_change (CloseFile label) = false
+
+-- whether such a call looks at no bytes and at no size of a file
+abbrev pub is_of_names : Call → Bool
+is_of_names (Truncate place len) = false
+is_of_names (CloneFileset server source new) = false
+is_of_names (MoveFileset server name to) = false
+is_of_names call = is_change call
+
+-- what is kept of a tree shows what is kept, and nothing in it is unsaved
+abbrev pub KeptIsSettled : Type 0
+KeptIsSettled =
+    (tree : Tree) (fid : Fid) (part : Part) → cell_at (kept_tree tree) fid part ≡ settled (kept_view tree fid part)
+
+-- the want for a call is the same on what is kept
+abbrev pub WantsAreKept : Type 0
+WantsAreKept = (tree : Tree) (user : User) (call : Call) → want (kept_tree tree) user call ≡ want tree user call
+
+-- A Change that is decided on what is kept is the tree's: it has the tree's reply, and leaves what is kept of what it
+-- leaves of the tree.
+abbrev pub DecidesAlike : Tree → HostId → Call → Type 0
+DecidesAlike tree host call = answer_to (kept_tree tree) host call ≡ kept_answer (answer_to tree host call)
+
+-- one that looks at names alone always
+abbrev pub NamesChangeAlike : Type 0
+NamesChangeAlike =
+    (tree : Tree) (host : HostId) (call : Call) → IsWellFormed tree → is_of_names call ≡ true →
+    DecidesAlike tree host call
+
+-- nothing that some needs are of is unsaved
+abbrev pub NothingUnsaved : Tree → List Need → Type 0
+NothingUnsaved tree needs =
+    (fid : Fid) (part : Part) → needs_show needs fid part ≡ true → (cell_at tree fid part).unsaved ≡ None
+
+-- each where nothing under its want is unsaved
+abbrev pub ChangesAreAlike : Type 0
+ChangesAreAlike =
+    (tree : Tree) (host : HostId) (user : User) (call : Call) →
+    IsWellFormed tree → user_of tree.roster host ≡ Some user → is_change call ≡ true →
+    NothingUnsaved tree (want tree user call) → DecidesAlike tree host call
+
+-- What a Change changes is under its want, for update, or is of an object that wasn't there.
+abbrev pub WantsCoverChanges : Type 0
+WantsCoverChanges =
+    (tree : Tree) (host : HostId) (user : User) (call : Call) (fid : Fid) (part : Part) →
+    IsWellFormed tree → user_of tree.roster host ≡ Some user → is_change call ≡ true → can_be part ≡ true →
+    (needs_update (want tree user call) fid part ≡ true)
+    ⊎ ((cell_at (answer_to tree host call).tree fid part ≡ cell_at tree fid part)
+    ⊎ ((cell_at tree fid Traits).kept ≡ None))
+
+-- what is wanted is of objects that are there
+abbrev pub WantsAreThere : Type 0
+WantsAreThere =
+    (tree : Tree) (user : User) (call : Call) → IsWellFormed tree →
+    list_all (λ need. is_some (cell_at tree need.fid Traits).kept) (want tree user call) ≡ true
+
+-- a file in use is the last that a Remove is refused for
+abbrev pub UsesRefuseLast : Type 0
+UsesRefuseLast =
+    (fileset : Fileset) (in_use : Fid → Bool) (user : User) (path : List (List ℕ)) → IsWellFormedFileset fileset →
+    remove_target fileset in_use user path
+    ≡ and_then (remove_target fileset (λ fid. false) user path) (λ (parent, name, anode).
+    unless (in_use (use_of fileset anode)) InUse (Ok (parent, name, anode)))

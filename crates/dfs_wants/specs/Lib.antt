@@ -1,0 +1,4 @@
+pub mod Kept
+pub mod Wants
+pub mod Laws
+pub mod Worked
