@@ -1,0 +1,10 @@
+pub mod Lists
+pub mod Joined
+pub mod Aggregate
+pub mod Slots
+pub mod Anodes
+pub mod Reach
+pub mod Counts
+pub mod Faults
+pub mod Image
+pub mod Laws
