@@ -21,7 +21,7 @@ use Rattle.dfs_tree.specs.Opens.{has_open, open_count}
 use Rattle.tree_laws.specs.Parts.{Nature}
 use Rattle.dfs_needs.specs.Looks.{View, Look, outcome, checked}
 use Rattle.dfs_needs.specs.Looks.Look.{Ends}
-use Rattle.dfs_needs.specs.Questions.{Question, fileset_of}
+use Rattle.dfs_needs.specs.Questions.{Question, fileset_of, is_change}
 use Rattle.dfs_needs.specs.Questions.Question.{EnterAt, ChangeIn, ChangeAt}
 use Rattle.dfs_needs.specs.Walks.{root_of, target_look, file_look, permitted_look, use_look}
 use Rattle.dfs_needs.specs.Calls.{Verdict, Own, judged, from_root, change_look, read_from, read_look, write_target_look, written_look, write_look, entries_for, list_look, facts_for, stat_look, list_for, access_look, sync_verdict, sync_look, lock_for, lock_look, open_for, open_look, call_look}
@@ -63,8 +63,8 @@ module _ (view : View) (own : Own) (call : Call) where
       by_seen None e = about_same (EnterAt server) (name, of, e)
       by_seen (Some id) e = rest id e
 
-  about_change : (server : ServerId) (name : List ℕ) → fileset_of call ≡ Some (server, name) → About (outcome view (from_root server (own.seen server name) change_look))
-  about_change server name of = about_root server name of change_look (λ id e. about_same (ChangeIn id) (server, name, of, e))
+  about_change : (server : ServerId) (name : List ℕ) → is_change call ≡ true → fileset_of call ≡ Some (server, name) → About (outcome view (from_root server (own.seen server name) change_look))
+  about_change server name changes of = about_root server name of change_look (λ id e. about_same (ChangeIn id) (server, name, of, e, changes))
 
   about_label : (used full : Bool) (refusal : Refusal) (look : Look Verdict) → About (outcome view look) → About (outcome view (if used then Ends (Replies (Refused refusal)) else if full then Ends (Replies (Refused TooMany)) else look))
   about_label true full refusal look about = about_none (Replies (Refused refusal)) tt
@@ -100,15 +100,15 @@ about_write view own call user root path from bytes =
 
 pub questions_are_about_filesets : QuestionsAreAboutFilesets
 unfolding call_look read_look list_look stat_look access_look sync_look lock_look open_look
-questions_are_about_filesets own host user (NewFileset server name objects owner) view = about_same view own (NewFileset server name objects owner) (ChangeAt server) refl
-questions_are_about_filesets own host user (CloneFileset server source new) view = about_same view own (CloneFileset server source new) (ChangeAt server) refl
-questions_are_about_filesets own host user (Create place) view = about_change view own (Create place) place.server place.fileset refl
-questions_are_about_filesets own host user (MakeDir place) view = about_change view own (MakeDir place) place.server place.fileset refl
-questions_are_about_filesets own host user (Remove place) view = about_change view own (Remove place) place.server place.fileset refl
-questions_are_about_filesets own host user (Rename from to) view = about_change view own (Rename from to) from.server from.fileset refl
-questions_are_about_filesets own host user (Truncate place len) view = about_change view own (Truncate place len) place.server place.fileset refl
-questions_are_about_filesets own host user (SetAcl place which list) view = about_change view own (SetAcl place which list) place.server place.fileset refl
-questions_are_about_filesets own host user (MoveFileset server name to) view = about_change view own (MoveFileset server name to) server name refl
+questions_are_about_filesets own host user (NewFileset server name objects owner) view = about_same view own (NewFileset server name objects owner) (ChangeAt server) (refl, refl)
+questions_are_about_filesets own host user (CloneFileset server source new) view = about_same view own (CloneFileset server source new) (ChangeAt server) (refl, refl)
+questions_are_about_filesets own host user (Create place) view = about_change view own (Create place) place.server place.fileset refl refl
+questions_are_about_filesets own host user (MakeDir place) view = about_change view own (MakeDir place) place.server place.fileset refl refl
+questions_are_about_filesets own host user (Remove place) view = about_change view own (Remove place) place.server place.fileset refl refl
+questions_are_about_filesets own host user (Rename from to) view = about_change view own (Rename from to) from.server from.fileset refl refl
+questions_are_about_filesets own host user (Truncate place len) view = about_change view own (Truncate place len) place.server place.fileset refl refl
+questions_are_about_filesets own host user (SetAcl place which list) view = about_change view own (SetAcl place which list) place.server place.fileset refl refl
+questions_are_about_filesets own host user (MoveFileset server name to) view = about_change view own (MoveFileset server name to) server name refl refl
 questions_are_about_filesets own host user (Read place from len) view = about_root view own (Read place from len) place.server place.fileset refl _ (λ id e.
     about_judged view own (Read place from len) (checked (permitted_look user (root_of id) place.path read_right) (read_from from len)) (λ bytes. Replies (Bytes bytes)) (λ bytes. tt))
 questions_are_about_filesets own host user (Write place from bytes) view = about_root view own (Write place from bytes) place.server place.fileset refl _ (λ id e. about_write view own (Write place from bytes) user (root_of id) place.path from bytes)

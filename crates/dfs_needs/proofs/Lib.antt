@@ -10,3 +10,4 @@ pub mod Written
 pub mod Present
 pub mod Answers
 pub mod Worked
+pub mod Ends

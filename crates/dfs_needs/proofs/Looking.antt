@@ -1,5 +1,5 @@
 -- How looks end, and on what that depends.
-use Rattle.std.proofs.Common.{◌≡◌, Bool, true, false, List, ◌∷◌, Result, Ok, Err, refl, ap, ◌∙◌, subst, inl, inr}
+use Rattle.std.proofs.Common.{◌≡◌, Bool, true, false, List, [], ◌∷◌, Result, Ok, Err, refl, sym, ap, ◌∙◌, subst, inl, inr}
 use Rattle.dfs_base.specs.Outcomes.{and_then, either}
 use Rattle.dfs_base.specs.declared.ids.Fid.{Fid}
 use Rattle.dfs_calls.specs.declared.reply.Refusal.{Refusal}
@@ -9,6 +9,7 @@ use Rattle.tok_types.specs.declared.token.Token.{Token}
 use Rattle.tok_types.specs.Covers.{Covers}
 use Rattle.dfs_needs.specs.Looks.{Look, outcome, look_on, after_check, checked, refuse_if, needs_of, kind_for, CoverAll, IsCovered, IsFirstLack, View}
 use Rattle.tree_laws.specs.Parts.{Part}
+use Rattle.dfs_needs.specs.Laws.{LacksAreFirst}
 use Rattle.dfs_needs.specs.Looks.Look.{Ends, Looks, Takes}
 
 -- a look after another ends as it does from where the first ended
@@ -57,3 +58,28 @@ module _ {R : Type 0} (held : List Token) (a b : View) (same : (fid : Fid) (part
       inr (covered, subst (λ seen. IsFirstLack held (needs_of b (next seen)) need) (same fid part covered) (lack_alike (next (a fid part)) need h))
   lack_alike (Takes first next) need (inl h) = inl h
   lack_alike (Takes first next) need (inr (covered, h)) = inr (covered, lack_alike next need h)
+
+-- the first lack
+pub lacks_are_first : (held : List Token) (needs : List Need) → LacksAreFirst held needs
+lacks_are_first held needs = record { none = none needs; some = some needs; lacked = lacked needs; one = one needs }
+  where
+    none : (needs : List Need) → CoverAll held needs → (need : Need) → IsFirstLack held needs need → ⊥
+    none [] all need h = h
+    none (first ∷ needs) all need (inl h) = h.0 all.0
+    none (first ∷ needs) all need (inr h) = none needs all.1 need h.1
+
+    some : (needs : List Need) → (CoverAll held needs → ⊥) → ((need : Need) → IsFirstLack held needs need → ⊥) → ⊥
+    some [] open_needs nothing = open_needs tt
+    some (first ∷ needs) open_needs nothing = nothing first (inl ((λ covered. some needs (λ all. open_needs (covered, all)) (λ need h. nothing need (inr (covered, h)))), refl))
+
+    lacked : (needs : List Need) (need : Need) → IsFirstLack held needs need → Covers held need → ⊥
+    lacked [] need h covered = h
+    lacked (first ∷ needs) need (inl h) covered = h.0 (subst (Covers held) (sym h.1) covered)
+    lacked (first ∷ needs) need (inr h) covered = lacked needs need h.1 covered
+
+    one : (needs : List Need) (a b : Need) → IsFirstLack held needs a → IsFirstLack held needs b → a ≡ b
+    one [] a b h k = absurd h
+    one (first ∷ needs) a b (inl h) (inl k) = sym h.1 ∙ k.1
+    one (first ∷ needs) a b (inl h) (inr k) = absurd (h.0 k.0)
+    one (first ∷ needs) a b (inr h) (inl k) = absurd (k.0 h.0)
+    one (first ∷ needs) a b (inr h) (inr k) = one needs a b h.1 k.1

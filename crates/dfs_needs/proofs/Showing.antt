@@ -34,7 +34,7 @@ use Rattle.tree_laws.specs.Parts.Part.{ByteAt, Size, Traits, Entries}
 use Rattle.tree_laws.proofs.Steps.{no_dir, no_file, fid_is, formed_found}
 use Rattle.dfs_needs.specs.Looks.{kind_for, CoverAll}
 use Rattle.dfs_needs.specs.Shows.{is_update, shows, updates, needs_show, needs_update, can_be}
-use Rattle.dfs_needs.specs.Laws.{TokensShowParts, ShownAgree, NothingBeyond}
+use Rattle.dfs_needs.specs.Laws.{for_update, TokensShowParts, ShownAgree, NothingBeyond}
 use Rattle.dfs_needs.proofs.Updates.{rounded_has}
 
 -- the need of a part
@@ -277,9 +277,16 @@ any_meets need test part each (other ∷ needs) h = by_test (same_fid other.fid 
         first_way (same_fid need.fid other.fid && kinds_conflict need.kind other.kind) (any_conflict need needs) (both (same_fid need.fid other.fid) (kinds_conflict need.kind other.kind) one (each other.kind (and_right _ _ e)))
     by_test false e rest k = either_way (same_fid need.fid other.fid && kinds_conflict need.kind other.kind) (any_conflict need needs) (rest k)
 
+only : (kind : Kind) (part : Part) → can_be part ≡ true → shows kind part ≡ true → kinds_conflict kind (for_update (kind_for part)) ≡ true
+only kind (ByteAt at) can h = kinds_meet kind (for_update (kind_for (ByteAt at))) (ByteAt at) h (seen_by (ByteAt at) can) (either_way (is_update kind) true refl)
+only kind Size can h = kinds_meet kind (Status true) Size h refl (either_way (is_update kind) true refl)
+only kind Traits can h = kinds_meet kind (Status true) Traits h refl (either_way (is_update kind) true refl)
+only kind Entries can h = kinds_meet kind (for_update (kind_for Entries)) Entries h refl (either_way (is_update kind) true refl)
+
 pub tokens_show_parts : TokensShowParts
 tokens_show_parts = record {
   seen_by = seen_by;
+  only = only;
   covers = covers_show;
   covers_update = covers_update;
   conflict = λ need needs part h k. any_meets need (λ kind. updates kind part) part

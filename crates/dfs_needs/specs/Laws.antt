@@ -1,5 +1,7 @@
 -- What the looks of calls are good for.
-use Rattle.std.specs.Prelude.{◌≡◌, ◌==◌, ◌≤◌, ℕ, true, false, if◌then◌else◌, List, filter, map, Option, Some, None, Ok}
+use Rattle.std.specs.Prelude.{◌≡◌, ◌==◌, ◌≤◌, ℕ, Bool, true, false, if◌then◌else◌, List, filter, map, Option, Some, None, Ok}
+use Rattle.std.specs.List.{find}
+use Rattle.dfs_base.specs.Outcomes.{and_then}
 use Rattle.dfs_base.specs.declared.ids.FilesetId.{FilesetId}
 use Rattle.dfs_base.specs.declared.ids.HostId.{HostId}
 use Rattle.dfs_base.specs.declared.ids.Fid.{Fid}
@@ -12,24 +14,32 @@ use Rattle.dfs_calls.specs.declared.reply.Reply.{Reply}
 use Rattle.dfs_calls.specs.declared.reply.Reply.TheVariants.{Ok as Done, Refused}
 use Rattle.dfs_calls.specs.Rosters.{user_of}
 use Rattle.dfs_filesets.specs.declared.fileset.Fileset.{Fileset}
+use Rattle.dfs_filesets.specs.Changing.{write_target}
+use Rattle.dfs_filesets.specs.Uses.{use_target}
+use Rattle.dfs_filesets.specs.Walk.{target, file_target, permitted_file}
+use Rattle.dfs_objects.specs.declared.content.Object.{Object}
 use Rattle.dfs_tree.specs.declared.tree.Tree.{Tree}
 use Rattle.dfs_tree.specs.Answers.{answer_to}
-use Rattle.dfs_tree.specs.Finding.{fileset_named}
+use Rattle.dfs_tree.specs.Finding.{has_id, fileset_named}
 use Rattle.dfs_tree.specs.Locks.{is_excluded}
 use Rattle.dfs_tree.specs.Opens.{is_barred}
 use Rattle.dfs_tree.specs.WellFormed.{IsWellFormed}
 use Rattle.tree_laws.specs.Fates.{is_of}
-use Rattle.tree_laws.specs.Parts.{Part, cell_at}
+use Rattle.host_laws.specs.Losses.{use_of}
+use Rattle.tree_laws.specs.Parts.{Part, Nature, nature_of, cell_at}
 use Rattle.tree_laws.specs.Parts.Part.{ByteAt}
+use Rattle.tok_types.specs.declared.token.Kind.{Kind}
+use Rattle.tok_types.specs.declared.token.Kind.TheVariants.{Bytes, Status}
 use Rattle.tok_types.specs.declared.token.Need.{Need}
 use Rattle.tok_types.specs.declared.token.Token.{Token}
-use Rattle.tok_types.specs.Conflicts.{need_of, any_conflict}
+use Rattle.tok_types.specs.Conflicts.{kinds_conflict, need_of, any_conflict}
 use Rattle.tok_types.specs.Covers.{Covers}
 use Rattle.dfs_needs.specs.Looks.{View, Look, outcome, kind_for, needs_of, CoverAll, IsCovered, IsFirstLack, tree_view}
 use Rattle.dfs_needs.specs.Shows.{is_update, shows, needs_show, needs_update, can_be}
-use Rattle.dfs_needs.specs.Questions.{Question, fileset_of}
+use Rattle.dfs_needs.specs.Questions.{Question, fileset_of, is_change}
 use Rattle.dfs_needs.specs.Questions.Question.{EnterAt, ChangeIn, ChangeAt}
-use Rattle.dfs_needs.specs.Calls.{Verdict, Own, call_look, reply_of}
+use Rattle.dfs_needs.specs.Walks.{root_of, target_look, file_look, permitted_look, use_look}
+use Rattle.dfs_needs.specs.Calls.{Verdict, Own, call_look, reply_of, write_target_look}
 use Rattle.dfs_needs.specs.Calls.Verdict.{Locks, Opens, Asks}
 
 -- Two views agree on the parts that tokens cover.
@@ -51,6 +61,18 @@ abbrev pub NeedsAreAlike : Type 0
 NeedsAreAlike =
     (held : List Token) (a b : View) → AgreeUnder held a b →
     (look : Look Verdict) → AreAlike held a b look × AreAlike held b a look
+
+-- The first lack of some needs is the one at which a walk stops.
+pub record LacksAreFirst (held : List Token) (needs : List Need) : Type 0 where
+  -- where tokens cover them all there is none, else there is one
+  pub none : CoverAll held needs → (need : Need) → IsFirstLack held needs need → ⊥
+  pub some : (CoverAll held needs → ⊥) → ((need : Need) → IsFirstLack held needs need → ⊥) → ⊥
+  -- it isn't covered, and no other one is the first
+  pub lacked : (need : Need) → IsFirstLack held needs need → Covers held need → ⊥
+  pub one : (a b : Need) → IsFirstLack held needs a → IsFirstLack held needs b → a ≡ b
+
+abbrev pub AllLacksAreFirst : Type 0
+AllLacksAreFirst = (held : List Token) (needs : List Need) → LacksAreFirst held needs
 
 -- What a host knows of itself is so in the tree. This is said while none of its labels is on its way to end.
 pub record Knows (own : Own) (host : HostId) (user : User) (tree : Tree) : Type 0 where
@@ -97,24 +119,34 @@ CoveredAnswersAreTheTrees =
     Stands tree host user own held view → IsCovered held view (call_look own host user call) →
     IsTold (tree_reply tree host (outcome view (call_look own host user call))) (answer_to tree host call).reply
 
--- A question that a host asks of its view is about the call's fileset.
+-- A question that a host asks is about the call's fileset, and where it isn't for a fileset's number, about a Change.
 abbrev pub IsAbout : Own → Call → Question → Type 0
 IsAbout own call (EnterAt server) =
     (name : List ℕ) × (fileset_of call ≡ Some (server, name)) × (own.seen server name ≡ None)
 IsAbout own call (ChangeIn id) =
     (server : ServerId) × (name : List ℕ) × (fileset_of call ≡ Some (server, name)) × (own.seen server name ≡ Some id)
-IsAbout own call (ChangeAt server) = fileset_of call ≡ None
+    × (is_change call ≡ true)
+IsAbout own call (ChangeAt server) = (fileset_of call ≡ None) × (is_change call ≡ true)
 
 abbrev pub QuestionsAreAboutFilesets : Type 0
 QuestionsAreAboutFilesets =
     (own : Own) (host : HostId) (user : User) (call : Call) (view : View) (question : Question) →
     outcome view (call_look own host user call) ≡ Asks question → IsAbout own call question
 
+-- the same for update
+abbrev pub for_update : Kind → Kind
+for_update (Bytes update span) = Bytes true span
+for_update (Status update) = Status true
+for_update kind = kind
+
 -- What `shows` means to tokens: what covers needs shows what they show, and what is for update of a part is in the way
 -- of whatever shows the part.
 pub record TokensShowParts : Type 0 where
   -- the need of a part is of a token that shows it
   pub seen_by : (part : Part) → can_be part ≡ true → shows (kind_for part) part ≡ true
+  -- whatever shows a part is in the way of changing it
+  pub only : (kind : Kind) (part : Part) → can_be part ≡ true → shows kind part ≡ true →
+      kinds_conflict kind (for_update (kind_for part)) ≡ true
   -- what covers needs shows what they show, and lets its host change what they are for changing
   pub covers : (held : List Token) (needs : List Need) (fid : Fid) (part : Part) →
       CoverAll held needs → needs_show needs fid part ≡ true → needs_show (map need_of held) fid part ≡ true
@@ -139,3 +171,30 @@ ShownAgree =
 abbrev pub NothingBeyond : Type 0
 NothingBeyond =
     (tree : Tree) (fid : Fid) (at : ℕ) → IsWellFormed tree → FILE_BYTES_MAX ≤ at → tree_view tree fid (ByteAt at) ≡ 0
+
+-- what is seen of an object of a fileset
+abbrev pub seen_there : Fileset → ℕ × Object → Fid × Nature
+seen_there fileset found = (use_of fileset found.0, nature_of fileset.read_only found.1)
+
+-- Where the walks of looks end over a tree: as those of the fileset.
+pub record WalksEnd (tree : Tree) (fileset : Fileset) : Type 0 where
+  pub targets : (user : User) (path : List (List ℕ)) →
+      outcome (tree_view tree) (target_look user (root_of fileset.id) path)
+      ≡ and_then (target fileset user path) (λ found. Ok (seen_there fileset found))
+  pub files : (user : User) (path : List (List ℕ)) →
+      outcome (tree_view tree) (file_look user (root_of fileset.id) path)
+      ≡ and_then (file_target fileset user path) (λ found. Ok (seen_there fileset found))
+  pub permitted : (user : User) (path : List (List ℕ)) (right : ℕ) →
+      outcome (tree_view tree) (permitted_look user (root_of fileset.id) path right)
+      ≡ and_then (permitted_file fileset user path right) (λ found. Ok (seen_there fileset found))
+  pub uses : (user : User) (path : List (List ℕ)) (changing : Bool) (right : ℕ) →
+      outcome (tree_view tree) (use_look user (root_of fileset.id) path changing right)
+      ≡ use_target fileset user path changing right
+  pub writes : (user : User) (path : List (List ℕ)) (end : ℕ) →
+      outcome (tree_view tree) (write_target_look user (root_of fileset.id) path end)
+      ≡ and_then (write_target fileset user path end) (λ anode. Ok (use_of fileset anode))
+
+abbrev pub AllWalksEnd : Type 0
+AllWalksEnd =
+    (tree : Tree) (fileset : Fileset) → IsWellFormed tree → find (has_id fileset.id) tree.filesets ≡ Some fileset →
+    WalksEnd tree fileset

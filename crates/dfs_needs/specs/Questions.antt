@@ -1,5 +1,5 @@
 -- What a host asks servers.
-use Rattle.std.specs.Prelude.{ℕ, List, Option, Some, None}
+use Rattle.std.specs.Prelude.{ℕ, Bool, true, false, List, Option, Some, None}
 use Rattle.dfs_base.specs.declared.ids.FilesetId.{FilesetId}
 use Rattle.dfs_base.specs.declared.ids.ServerId.{ServerId}
 use Rattle.dfs_calls.specs.declared.call.Call.{Call}
@@ -44,3 +44,25 @@ fileset_of (Unlock label) = None
 fileset_of (OpenFile label place kind) = Some (place.server, place.fileset)
 fileset_of (CloseFile label) = None
 fileset_of (MoveFileset server name to) = Some (server, name)
+
+-- whether a call is decided by a server; a Lock and an OpenFile are where their host lacks the token
+abbrev pub is_change : Call → Bool
+is_change (NewFileset server name objects owner) = true
+is_change (Create place) = true
+is_change (MakeDir place) = true
+is_change (Remove place) = true
+is_change (Rename from to) = true
+is_change (Truncate place len) = true
+is_change (SetAcl place which list) = true
+is_change (CloneFileset server source new) = true
+is_change (MoveFileset server name to) = true
+is_change (Lock label place writing from len) = true
+is_change (OpenFile label place kind) = true
+is_change (Read place from len) = false
+is_change (Write place from bytes) = false
+is_change (ListNames place) = false
+is_change (Stat place) = false
+is_change (GetAcl place which) = false
+is_change (Sync place) = false
+is_change (Unlock label) = false
+is_change (CloseFile label) = false

@@ -1,5 +1,6 @@
 //! Each function does nothing, and what it ensures is a law.
-ghost use Rattle.dfs_needs.specs.Laws.{CoveredAnswersAreTheTrees, LooksEndInReplies, NeedsAreAlike};
+ghost use Rattle.dfs_needs.specs.Laws.{AllLacksAreFirst, AllWalksEnd, CoveredAnswersAreTheTrees};
+ghost use Rattle.dfs_needs.specs.Laws.{LooksEndInReplies, NeedsAreAlike};
 ghost use Rattle.dfs_needs.specs.Laws.{NothingBeyond, QuestionsAreAboutFilesets, ShownAgree, TokensShowParts};
 ghost use Rattle.dfs_needs.specs.Present.{AnswersLeaveAlike, AnswersLeaveAll, SyncsOfNothing};
 ghost use Rattle.dfs_needs.specs.Updates.{NeedsSuffice};
@@ -14,9 +15,16 @@ pub fn look_law()
 {}
 
 /// Two views that agree on all that held tokens cover: the need of a call on the one is its need on the other wherever
-/// tokens cover either, and so is what becomes of the call.
+/// tokens cover either, and so is what becomes of the call. The need at which a walk stops is the first that isn't
+/// covered, and there is one exactly where the call isn't covered.
 pub fn alike_law()
-    ensures { NeedsAreAlike }
+    ensures views { NeedsAreAlike }
+    ensures lacks { AllLacksAreFirst }
+{}
+
+/// The walks of looks over a tree end as those of the fileset.
+pub fn walk_law()
+    ensures { AllWalksEnd }
 {}
 
 /// Which tokens show a part, and which let a host change it: what covers a need does, and what is in the way of the one

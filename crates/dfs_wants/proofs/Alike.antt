@@ -11,7 +11,8 @@ use Rattle.dfs_tree.specs.WellFormed.{IsWellFormed}
 use Rattle.tree_laws.proofs.Steps.{no_file}
 use Rattle.dfs_wants.specs.Kept.{kept_tree, kept_answer}
 use Rattle.dfs_wants.specs.Wants.{want}
-use Rattle.dfs_wants.specs.Laws.{is_change, is_of_names, NothingUnsaved, NamesChangeAlike, ChangesAreAlike}
+use Rattle.dfs_needs.specs.Questions.{is_change}
+use Rattle.dfs_wants.specs.Laws.{is_of_names, NothingUnsaved, NamesChangeAlike, ChangesAreAlike}
 use Rattle.dfs_wants.proofs.KeptFiles.{kept_truncate}
 use Rattle.dfs_wants.proofs.KeptFounds.{kept_new, kept_clone, kept_move}
 use Rattle.dfs_wants.proofs.KeptTree.{kept_names, kept_user}

@@ -44,7 +44,8 @@ use Rattle.dfs_needs.specs.Shows.{updates, needs_update, can_be}
 use Rattle.dfs_needs.proofs.Updates.{any_back}
 use Rattle.dfs_needs.proofs.Written.{after_call}
 use Rattle.dfs_wants.specs.Wants.{all_of, every_use_of, objects_from, all_objects_of, want_for, want_in, want}
-use Rattle.dfs_wants.specs.Laws.{is_change, WantsCoverChanges}
+use Rattle.dfs_needs.specs.Questions.{is_change}
+use Rattle.dfs_wants.specs.Laws.{WantsCoverChanges}
 use Rattle.dfs_wants.proofs.Covering.{is_within, covered_in, of_all}
 use Rattle.dfs_wants.proofs.KeptFiles.{named_at}
 use Rattle.dfs_wants.proofs.KeptFounds.{moving_found, move_passed}

@@ -28,7 +28,7 @@ use Rattle.dfs_filesets.specs.Walk.{object_at, unique_at, found_at, entry_target
 use Rattle.dfs_filesets.proofs.Targets.{then_ok, unless_ok, ok_is, vacancy_ok}
 use Rattle.dfs_tree.specs.Finding.{has_id, same_fileset}
 use Rattle.tree_laws.proofs.Steps.{no_file}
-use Rattle.dfs_wants.specs.Laws.{is_change}
+use Rattle.dfs_needs.specs.Questions.{is_change}
 use Rattle.tok_types.specs.declared.token.Need.{Need}
 use Rattle.tok_types.specs.declared.token.Kind.TheVariants.{Bytes, Status, Lock}
 use Rattle.tree_laws.specs.Parts.Part.{ByteAt, Size, Traits, Entries}

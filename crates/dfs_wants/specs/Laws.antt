@@ -6,9 +6,7 @@ use Rattle.dfs_base.specs.declared.ids.HostId.{HostId}
 use Rattle.dfs_base.specs.declared.ids.Fid.{Fid}
 use Rattle.dfs_base.specs.declared.user.User.{User}
 use Rattle.dfs_calls.specs.declared.call.Call.{Call}
-use Rattle.dfs_calls.specs.declared.call.Call.TheVariants.{NewFileset, Create, MakeDir, Remove, Rename, Truncate, SetAcl}
-use Rattle.dfs_calls.specs.declared.call.Call.TheVariants.{CloneFileset, Read, Write, List as ListNames, Stat, GetAcl, Sync}
-use Rattle.dfs_calls.specs.declared.call.Call.TheVariants.{Lock, Unlock, OpenFile, CloseFile, MoveFileset}
+use Rattle.dfs_calls.specs.declared.call.Call.TheVariants.{Truncate, CloneFileset, MoveFileset}
 use Rattle.dfs_calls.specs.declared.reply.Refusal.TheVariants.{InUse}
 use Rattle.dfs_calls.specs.Rosters.{user_of}
 use Rattle.dfs_filesets.specs.declared.fileset.Fileset.{Fileset}
@@ -23,31 +21,10 @@ use Rattle.tree_laws.specs.Parts.Part.{Traits}
 use Rattle.host_laws.specs.Losses.{use_of}
 use Rattle.tok_types.specs.declared.token.Need.{Need}
 use Rattle.dfs_needs.specs.Looks.{kept_view}
+use Rattle.dfs_needs.specs.Questions.{is_change}
 use Rattle.dfs_needs.specs.Shows.{needs_show, needs_update, can_be}
 use Rattle.dfs_wants.specs.Kept.{kept_tree, kept_answer}
 use Rattle.dfs_wants.specs.Wants.{want}
-
--- whether a call is decided by a server; a Lock and an OpenFile are where their host lacks the token
-abbrev pub is_change : Call → Bool
-is_change (NewFileset server name objects owner) = true
-is_change (Create place) = true
-is_change (MakeDir place) = true
-is_change (Remove place) = true
-is_change (Rename from to) = true
-is_change (Truncate place len) = true
-is_change (SetAcl place which list) = true
-is_change (CloneFileset server source new) = true
-is_change (MoveFileset server name to) = true
-is_change (Lock label place writing from len) = true
-is_change (OpenFile label place kind) = true
-is_change (Read place from len) = false
-is_change (Write place from bytes) = false
-is_change (ListNames place) = false
-is_change (Stat place) = false
-is_change (GetAcl place which) = false
-is_change (Sync place) = false
-is_change (Unlock label) = false
-is_change (CloseFile label) = false
 
 -- whether such a call looks at no bytes and at no size of a file
 abbrev pub is_of_names : Call → Bool

@@ -3,7 +3,7 @@ use Rattle.tok_types.specs.declared.token.Token.{Token}
 use Rattle.dfs_needs.specs.Looks.{View, Look}
 use Rattle.dfs_needs.specs.Calls.{Verdict}
 use Rattle.dfs_needs.specs.Laws.{AreAlike, AgreeUnder}
-use Rattle.dfs_needs.proofs.Looking.{covered_alike, needs_alike, outcome_alike, lack_alike}
+use Rattle.dfs_needs.proofs.Looking.{covered_alike, needs_alike, outcome_alike, lack_alike, lacks_are_first}
 use Rattle.dfs_needs.proofs.laws.alike_law.Goals as goal
 
 alike : (held : List Token) (a b : View) → AgreeUnder held a b → (look : Look Verdict) → AreAlike held a b look
@@ -15,4 +15,7 @@ alike held a b same look = record {
 }
 
 pub returns : goal.returns
-returns c = λ held a b same look. (alike held a b same look, alike held b a (λ fid part covered. sym (same fid part covered)) look)
+returns c = record {
+  views = λ held a b same look. (alike held a b same look, alike held b a (λ fid part covered. sym (same fid part covered)) look);
+  lacks = lacks_are_first;
+}
