@@ -17,14 +17,14 @@ use Rattle.rpc_types.specs.declared.giving.Outstanding.{Outstanding}
 use Rattle.rpc_types.specs.declared.giving.Reclaim.{Reclaim as ReclaimOf}
 use Rattle.world_steps.specs.declared.step.Step.{Step}
 use Rattle.world_steps.specs.Lists.{In}
-use Rattle.world_steps.specs.Places.{Place, home, place, Here}
+use Rattle.world_steps.specs.Places.{home, place}
 use Rattle.world_steps.specs.Epochs.{epoch_at, Raises, ComesIn, About, Renews}
 use Rattle.world_steps.specs.Sends.{Sends, Said, HasReturned, HasStopped, HasSaidBye}
 use Rattle.world_steps.specs.Gives.{number_of, Made, Known, IsKnown, Waits, NamesGive}
 use Rattle.world_steps.specs.Tokens.{Held, Owns, AtHand, EverHeld, Left}
 use Rattle.world_steps.specs.Requests.{Asking, Changing}
 use Rattle.world_steps.specs.Floors.{AboveFloor, Answers, Uses}
-use Rattle.world_steps.specs.HostTokens.{HostTokens, IsClaimed, IsInGive}
+use Rattle.world_steps.specs.HostTokens.{HostTokens, IsInGive}
 use Rattle.world_steps.specs.Acts.{Act, epoch, SentTo}
 use Rattle.world_steps.specs.Hosts.{Away, HasReclaimed, TookOf, TookEver}
 use Rattle.world_steps.specs.Grants.{Mark, Issued, Granted, Applied}

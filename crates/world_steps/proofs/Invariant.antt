@@ -20,7 +20,7 @@ use Rattle.rpc_types.specs.declared.giving.Reclaim.{Reclaim as ReclaimOf}
 use Rattle.rpc_types.specs.declared.giving.Reclaimed.{Reclaimed as ReclaimedOf}
 use Rattle.world_steps.specs.declared.step.Step.{Step}
 use Rattle.world_steps.specs.Lists.{In}
-use Rattle.world_steps.specs.Places.{Place, home, place, Here}
+use Rattle.world_steps.specs.Places.{home, place, Here}
 use Rattle.world_steps.specs.Epochs.{epoch_at}
 use Rattle.world_steps.specs.Sends.{Said, HasReturned, HasStopped, HasSaidBye}
 use Rattle.world_steps.specs.Gives.{number_of, Made, Known, IsKnown, NamesGive}

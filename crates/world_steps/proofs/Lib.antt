@@ -5,3 +5,5 @@ pub mod HostStep
 pub mod ServerAct
 pub mod ServerBegin
 pub mod Law
+pub mod Example
+pub mod Restart

@@ -1,5 +1,5 @@
 -- What a server owes a host: what is granted, and what was granted before a restart while its host hasn't reclaimed since.
-use Rattle.std.proofs.Common.{◌≡◌, ℕ, ◌⊎◌, List, [], ◌∷◌}
+use Rattle.std.proofs.Common.{◌≡◌, ◌⊎◌, List, [], ◌∷◌}
 use Rattle.dfs_base.specs.declared.ids.ServerId.{ServerId}
 use Rattle.tok_types.specs.declared.token.Token.{Token}
 use Rattle.world_steps.specs.Lists.{In}

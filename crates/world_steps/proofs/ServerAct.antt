@@ -36,7 +36,7 @@ use Rattle.world_steps.specs.Grants.{Mark, Brings, Issues, Issued, Names, Grante
 use Rattle.world_steps.specs.Stamps.{Told}
 use Rattle.world_steps.specs.ServerTokens.{MayBring, MayAdmit, ServerTokens, ClaimsHere, IsGrantedId}
 use Rattle.world_steps.proofs.Owed.{Stays, Owed}
-use Rattle.world_steps.proofs.Words.{said_returned, returned_left, made_left, of_two, of_one, brings_one, mark_is, made_at, took_applied}
+use Rattle.world_steps.proofs.Words.{said_returned, returned_left, made_left, of_two, brings_one, mark_is, made_at, took_applied}
 use Rattle.world_steps.proofs.Invariant.{Served, Alone, Link, Good, Spent, Brought, OwedId, IssuedBelow, Claiming}
 
 -- the doing brings this token, new, under this mark

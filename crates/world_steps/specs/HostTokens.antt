@@ -15,7 +15,7 @@ use Rattle.rpc_types.specs.declared.giving.Outstanding.{Outstanding}
 use Rattle.rpc_types.specs.declared.giving.Reclaim.{Reclaim as ReclaimOf}
 use Rattle.world_steps.specs.declared.step.Step.{Step}
 use Rattle.world_steps.specs.Lists.{In}
-use Rattle.world_steps.specs.Places.{Place, place}
+use Rattle.world_steps.specs.Places.{place}
 use Rattle.world_steps.specs.Epochs.{epoch_at, About}
 use Rattle.world_steps.specs.Sends.{Sends, Returns, Stops, HasStopped, HasSaidBye}
 use Rattle.world_steps.specs.Gives.{number_of, Made, IsKnown, IsOutstanding, Waits, NamesGive}

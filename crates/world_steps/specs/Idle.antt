@@ -1,5 +1,5 @@
 -- Steps that do nothing: every rule of tokens allows them, so no rule is in another's way there.
-use Rattle.std.specs.Prelude.{◌≡◌, ℕ, List, []}
+use Rattle.std.specs.Prelude.{◌≡◌, List, []}
 use Rattle.dfs_base.specs.declared.ids.ServerId.{ServerId}
 use Rattle.world_steps.specs.declared.step.Step.{Step}
 use Rattle.world_steps.specs.Sends.{HasStopped}

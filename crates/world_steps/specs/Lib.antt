@@ -16,3 +16,4 @@ pub mod ServerTokens
 pub mod TokenRuns
 pub mod TokenLaws
 pub mod Idle
+pub mod Worked

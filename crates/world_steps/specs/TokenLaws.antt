@@ -1,8 +1,7 @@
 -- What holds of tokens after each step of a run. `firsts` are the epochs in which the servers start.
-use Rattle.std.specs.Prelude.{◌≡◌, ℕ, ◌⊎◌, true, List, [], ◌∷◌}
+use Rattle.std.specs.Prelude.{◌≡◌, ℕ, true, List, [], ◌∷◌}
 use Rattle.dfs_base.specs.declared.ids.HostId.{HostId}
 use Rattle.dfs_base.specs.declared.ids.ServerId.{ServerId}
-use Rattle.tok_types.specs.declared.token.TokenId.{TokenId}
 use Rattle.tok_types.specs.declared.token.Token.{Token}
 use Rattle.tok_types.specs.Conflicts.{conflict}
 use Rattle.rpc_types.specs.declared.message.Body.TheVariants.{GiveBack, Reclaimed}
@@ -11,7 +10,7 @@ use Rattle.rpc_types.specs.declared.giving.Reclaimed.{Reclaimed as ReclaimedOf}
 use Rattle.world_steps.specs.declared.applied.Written.{Written}
 use Rattle.world_steps.specs.declared.step.Step.{Step}
 use Rattle.world_steps.specs.Lists.{In}
-use Rattle.world_steps.specs.Places.{Place, Here}
+use Rattle.world_steps.specs.Places.{Here}
 use Rattle.world_steps.specs.Nodes.{own}
 use Rattle.world_steps.specs.Sends.{HasStopped}
 use Rattle.world_steps.specs.Gives.{number_of, Made}
