@@ -25,7 +25,7 @@ use Rattle.world_steps.specs.declared.step.Cause.{Cause}
 use Rattle.world_steps.specs.declared.step.Cause.TheVariants.{Line, Message as Came}
 use Rattle.world_steps.specs.declared.step.Step.{Step}
 use Rattle.world_steps.specs.Lists.{In}
-use Rattle.world_steps.specs.Places.{home, place, birth, Here}
+use Rattle.world_steps.specs.Places.{home, Here}
 use Rattle.world_steps.specs.Nodes.{own}
 use Rattle.world_steps.specs.Epochs.{epoch_at, ComesIn, About}
 use Rattle.world_steps.specs.Sends.{Sends, Said, Returns}

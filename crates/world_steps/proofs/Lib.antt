@@ -7,3 +7,4 @@ pub mod ServerBegin
 pub mod Law
 pub mod Example
 pub mod Restart
+pub mod Forgetting

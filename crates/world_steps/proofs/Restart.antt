@@ -1,8 +1,7 @@
 -- The rules of tokens admit a restart, a claim and a give-back.
-use Rattle.std.proofs.Common.{◌≡◌, ℕ, ◌<◌, ◌⊎◌, false, List, [], ◌∷◌, inl, inr, sym, ◌∙◌, ap, subst, refl, arith}
+use Rattle.std.proofs.Common.{◌≡◌, ℕ, ◌<◌, false, List, [], ◌∷◌, inl, inr, sym, ◌∙◌, ap, subst, refl, arith}
 use Rattle.dfs_base.specs.declared.ids.HostId.{HostId}
 use Rattle.dfs_base.specs.declared.ids.ServerId.{ServerId}
-use Rattle.dfs_base.specs.declared.ids.Fid.{Fid}
 use Rattle.dfs_base.specs.declared.ids.FilesetId.{FilesetId}
 use Rattle.dfs_base.specs.declared.ids.Node.TheVariants.{Server}
 use Rattle.dfs_base.specs.declared.span.Span.{Span}
@@ -26,20 +25,22 @@ use Rattle.world_steps.specs.declared.applied.Why.TheVariants.{Evicted}
 use Rattle.world_steps.specs.declared.step.Cause.TheVariants.{Message as Came}
 use Rattle.world_steps.specs.declared.step.Step.{Step}
 use Rattle.world_steps.specs.Lists.{In}
-use Rattle.world_steps.specs.Places.{home, place}
+use Rattle.world_steps.specs.Places.{home}
 use Rattle.world_steps.specs.Nodes.{own}
 use Rattle.world_steps.specs.Epochs.{epoch_at}
-use Rattle.world_steps.specs.Sends.{Sends, Said, Returns, HasStopped, HasSaidBye}
+use Rattle.world_steps.specs.Sends.{Sends, Returns, HasStopped, HasSaidBye}
 use Rattle.world_steps.specs.Gives.{number_of, Made, IsKnown}
 use Rattle.world_steps.specs.Tokens.{Held, AtHand, Drops, Leaves}
 use Rattle.world_steps.specs.HostTokens.{HostTokens, Claims, IsClaimed}
 use Rattle.world_steps.specs.Acts.{Act, epoch, SentTo, acts}
 use Rattle.world_steps.specs.Acts.Act.{Begins, Took, Admits, Sent, Reserves}
-use Rattle.world_steps.specs.Hosts.{IsLive, TookNow, TookOf, HasReclaimed}
+use Rattle.world_steps.specs.Hosts.{IsLive, TookOf, HasReclaimed}
 use Rattle.world_steps.specs.Grants.{IsNewlyGranted, Granted, Applied, GivenUp}
-use Rattle.world_steps.specs.ServerTokens.{MayAdmit, ServerTokens, ClaimsHere, IsGrantedId}
+use Rattle.world_steps.specs.ServerTokens.{MayAdmit, ServerTokens, ClaimsHere}
 use Rattle.world_steps.specs.TokenRuns.{ServerStep, CameToHost, IsFrom, IsTokenRun}
 use Rattle.world_steps.specs.Worked.{client, site_one, root, token, to_server, granted, from_cache, worked, claim, reclaims, from_server, restarts, claimed, admits, give, gives, stores, learns, worked_restart, IsExample}
+use Rattle.world_steps.specs.TokenLaws.{TokensAreSafe}
+use Rattle.world_steps.proofs.Law.{always, safe}
 use Rattle.world_steps.proofs.Example.{at_one, here_one, came, four, SaidPlain, said_four, asked, asked_new, reserves_may, to_it, server_cause, a_run, holds}
 
 -- a step that sends one message
@@ -471,12 +472,27 @@ module _ (whole : Span) where
   is_known : IsKnown (own client (worked_restart whole)) (give whole)
   is_known = inl (inl (from_server (Gone (number_of (give whole))), refl, sym at_one, sym (ap (epoch_at seven) at_one), refl, refl))
 
+  going_on : HasStopped (learns whole ∷ seven) → ⊥
+  going_on (v, e, n, inl p) = learns_nothing v e n Down p
+  going_on (v, e, n, inr p) = learns_may.live (v, e, n, p)
+
+  has_reclaimed : HasReclaimed (acts 1 site_one (worked_restart whole)) client
+  has_reclaimed = inr (inr (inr (inr (inr (inl (inl ((claim whole).tokens, refl)), λ b. let q = b.1 in cc), λ b. let q = b.1 in cc), λ b. let q = b.1 in cc), λ b. let q = b.1 in cc), λ b. let q = b.1 in cc)
+
+  is_safe : TokensAreSafe (λ v. 1) (worked_restart whole)
+  is_safe = safe (λ v. 1) (worked_restart whole) (always (λ v. 1) (worked_restart whole) restart_run)
+
+  still_held : Held (learns whole ∷ seven) first
+  still_held = (inr first_stays, λ d. elim d.1 [ ])
+
   pub is_example : IsExample whole
   is_example = record {
     run = restart_run;
     held = holds whole;
-    still_held = (inr first_stays, λ d. elim d.1 [ ]);
+    still_held = still_held;
     gone = λ k. elim k.0 [ inl m ↦ elim m [ ] | inr o ↦ second_gone o ];
+    still_granted = is_safe.held_granted client site_one first going_on still_held refl has_reclaimed;
+    ended = is_safe.given_ended client site_one (give whole) second (inr (inl (inl refl))) (inl refl) refl was_applied;
     applied = was_applied;
     known = is_known;
   }

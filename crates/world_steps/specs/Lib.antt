@@ -17,3 +17,4 @@ pub mod TokenRuns
 pub mod TokenLaws
 pub mod Idle
 pub mod Worked
+pub mod Forgetting

@@ -44,7 +44,7 @@ use Rattle.world_steps.specs.Nodes.{own}
 use Rattle.world_steps.specs.Gives.{number_of, IsKnown}
 use Rattle.world_steps.specs.Tokens.{Held}
 use Rattle.world_steps.specs.Acts.{acts}
-use Rattle.world_steps.specs.Grants.{Applied}
+use Rattle.world_steps.specs.Grants.{Granted, Applied}
 use Rattle.world_steps.specs.TokenRuns.{IsTokenRun}
 
 abbrev pub client : HostId
@@ -115,7 +115,12 @@ serves cause applied admitted sent = record {
 
 abbrev pub to_server : ℕ → Body → Message
 to_server epoch body = record {
-  direction = ToServer; host = client; server = site_one; epoch = epoch; moves = 0; body = body;
+  direction = ToServer;
+  host = client;
+  server = site_one;
+  epoch = epoch;
+  moves = 0;
+  body = body;
 }
 
 abbrev pub to_host : Body → Message
@@ -144,17 +149,26 @@ asks_for whole = record {
 
 abbrev pub token : ℕ → Kind → Token
 token seq kind = record {
-  id = record { server = site_one; epoch = 1; seq = seq }; host = client; fid = root; kind = kind;
+  id = record { server = site_one; epoch = 1; seq = seq };
+  host = client;
+  fid = root;
+  kind = kind;
 }
 
 abbrev pub granted : Span → GrantOf
 granted whole = record {
   bring = record {
-    number = 1; fid = root; stamp = 1;
+    number = 1;
+    fid = root;
+    stamp = 1;
     tokens = token 1 (StatusToken false) ∷ token 2 (Bytes false whole) ∷ [];
   };
   status = Some (record {
-    dir = true; read_only = false; length = 0; owner = codes "u"; group = codes "g";
+    dir = true;
+    read_only = false;
+    length = 0;
+    owner = codes "u";
+    group = codes "g";
     lists = access ∷ access ∷ access ∷ [];
   });
   pieces = [];
@@ -186,7 +200,10 @@ wants_enter = record { host = client; request = AsksChange enter; moves = 0; nee
 
 abbrev pub wants_root : Span → Wanted
 wants_root whole = record {
-  host = client; request = AsksFetch (asks_for whole); moves = 0; needs = (asks_for whole).needs;
+  host = client;
+  request = AsksFetch (asks_for whole);
+  moves = 0;
+  needs = (asks_for whole).needs;
 }
 
 -- the server's steps
@@ -235,7 +252,12 @@ admits whole =
 -- the host gives the second token back
 abbrev pub give : Span → Give
 give whole = record {
-  number = 1; fid = root; ids = (token 2 (Bytes false whole)).id ∷ []; pieces = []; length = None; ends = None;
+  number = 1;
+  fid = root;
+  ids = (token 2 (Bytes false whole)).id ∷ [];
+  pieces = [];
+  length = None;
+  ends = None;
 }
 
 abbrev pub gives : Span → Step
@@ -270,10 +292,12 @@ worked_restart whole =
 pub record IsExample (whole : Span) : Type 0 where
   -- the rules of tokens admit it: whole, and so each part that begins with its start
   pub run : IsTokenRun (λ server. 1) (worked_restart whole)
-  -- before the restart the host holds both tokens; after it the first alone, which is granted
+  -- before the restart the host holds both tokens; after it the first alone, and the first alone is granted
   pub held : Held (own client (worked whole)) (token 2 (Bytes false whole))
   pub still_held : Held (own client (worked_restart whole)) (token 1 (StatusToken false))
   pub gone : Held (own client (worked_restart whole)) (token 2 (Bytes false whole)) → ⊥
+  pub still_granted : Granted site_one (acts 1 site_one (worked_restart whole)) (token 1 (StatusToken false))
+  pub ended : Granted site_one (acts 1 site_one (worked_restart whole)) (token 2 (Bytes false whole)) → ⊥
   -- the give-back is applied, and its host knows it
   pub applied : Applied site_one (acts 1 site_one (worked_restart whole)) client (number_of (give whole))
   pub known : IsKnown (own client (worked_restart whole)) (give whole)

@@ -1,4 +1,5 @@
 ghost use Rattle.world_steps.specs.Idle.{MayDoNothing};
+ghost use Rattle.world_steps.specs.Forgetting.{Forgetting};
 ghost use Rattle.world_steps.specs.TokenLaws.{TokensNeverConflict};
 
 /// A step that does nothing meets every rule of tokens: a host's that hasn't stopped, whatever came, and a server's.
@@ -13,4 +14,10 @@ pub fn nothing_is_allowed()
 /// isn't granted; no give-back and no Change of one number takes effect twice.
 pub fn tokens_never_conflict()
     ensures { TokensNeverConflict }
+{}
+
+/// A restart forgets which tokens are granted, pinned or kept, who has reclaimed and what was told; the list of hosts and
+/// the numbers of give-backs and Changes outlive it. A flush lets the exporter's tokens go, and changes no host's.
+pub fn a_restart_forgets()
+    ensures { Forgetting }
 {}
