@@ -8,16 +8,16 @@ pub fn nothing_is_allowed()
 {}
 
 /// In every list of steps that meets the rules of tokens, after each step: no two hosts that haven't stopped hold
-/// conflicting tokens; no two tokens that servers have granted conflict, in a grace period too, nor does one with what an
-/// exporter keeps; a token is granted only where its fileset is; what a host holds is granted once it has reclaimed; no
-/// claim is refused but for tokens that the host no longer has; no give-back is passed over, and what an applied one names
-/// isn't granted; no give-back and no Change of one number takes effect twice.
+/// conflicting tokens; no two tokens that servers have granted conflict, in a grace period too, nor does one with what
+/// an exporter keeps; a token is granted only where its fileset is; what a host holds is granted once it has reclaimed;
+/// no claim is refused but for tokens that the host no longer has; no give-back is passed over, and what an applied one
+/// names isn't granted; no give-back and no Change of one number takes effect twice.
 pub fn tokens_never_conflict()
     ensures { TokensNeverConflict }
 {}
 
-/// A restart forgets which tokens are granted, pinned or kept, who has reclaimed and what was told; the list of hosts and
-/// the numbers of give-backs and Changes outlive it. A flush lets the exporter's tokens go, and changes no host's.
+/// A restart forgets which tokens are granted, pinned or kept, who has reclaimed and what was told; the list of hosts
+/// and the numbers of give-backs and Changes outlive it. A flush lets the exporter's tokens go, and changes no host's.
 pub fn a_restart_forgets()
     ensures { Forgetting }
 {}

@@ -1,5 +1,5 @@
-//! The steps of hosts and servers as plain data: what each node does at a time; the rules of tokens that its steps meet;
-//! and what follows for tokens over all nodes. The protocol is this project's own, in the manner of Kazar et al.,
+//! The steps of hosts and servers as plain data: what each node does at a time; the rules of tokens that its steps
+//! meet; and what follows for tokens over all nodes. The protocol is this project's own, in the manner of Kazar et al.,
 //! "DEcorum File System Architectural Overview", 1990.
 #![tactic(auto)]
 
