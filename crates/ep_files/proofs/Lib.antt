@@ -6,3 +6,4 @@ pub mod Calls
 pub mod Staying
 pub mod Few
 pub mod Staging
+pub mod Room

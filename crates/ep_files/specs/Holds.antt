@@ -1,11 +1,11 @@
 -- All anodes of an aggregate at once.
-use Rattle.std.specs.Prelude.{◌≡◌, ◌≢◌, ◌≤◌, ◌<◌, ℕ, zero, suc, ◌+◌, ◌-◌, ◌*◌, ◌%◌, ◌==◌, ◌&&◌, Bool, true, List, if◌then◌else◌, nat_lt, nat_le, take, drop}
+use Rattle.std.specs.Prelude.{◌≡◌, ◌≢◌, ◌≤◌, ◌<◌, ℕ, zero, suc, ◌+◌, ◌-◌, ◌*◌, ◌/◌, ◌%◌, ◌==◌, ◌&&◌, Bool, true, List, if◌then◌else◌, nat_lt, nat_le, take, drop}
 use Rattle.ep_layout.specs.Numbers.{number_at}
 use Rattle.ep_layout.specs.Pages.{stage}
 use Rattle.ep_log.specs.Puts.{page_of}
 use Rattle.ep_log.specs.State.{State}
 use Rattle.ep_space.specs.Counts.{count_page, count_place}
-use Rattle.ep_anode.specs.Anode.{Anode, anode_of, IsTidy}
+use Rattle.ep_anode.specs.Anode.{Anode, anode_of, byte_length, IsTidy}
 use Rattle.ep_anode.specs.Node.{pointer_of, names, names_below, map_under, node_of, HasNoBlocks}
 use Rattle.ep_anode.specs.Room.{how_many}
 
@@ -63,3 +63,10 @@ stage_of state image k p = stage (take state.forced state.entries) (drop state.f
 -- with another anode in a page
 abbrev pub set_at : ℕ → Anode → (ℕ → Anode) → ℕ → Anode
 set_at page anode anodes p = if p == page then anode else anodes p
+
+-- How many blocks an anode has at most: those of its three lists and of its indirect block, and those of its bytes.
+abbrev pub blocks_most : Anode → ℕ
+blocks_most anode = if anode.kind == 0 then 0 else 4 + (byte_length anode.kind anode.length + 1023) / 1024
+
+abbrev pub all_blocks : (ℕ → Anode) → ℕ
+all_blocks anodes = sum_below (λ p. if is_anode p then blocks_most (anodes p) else 0) 1058

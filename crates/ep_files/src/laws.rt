@@ -3,11 +3,12 @@ ghost use Rattle.std.specs.Prelude.{◌≡◌, ◌≢◌, ◌<◌, ◌≤◌, �
 ghost use Rattle.ep_layout.specs.Numbers.{number_at};
 ghost use Rattle.ep_layout.specs.Places.{pages_of};
 ghost use Rattle.ep_log.specs.State.{State};
-ghost use Rattle.ep_space.specs.Counts.{count_page, count_place};
+ghost use Rattle.ep_space.specs.Counts.{count_page, count_place, count_now, count_settled};
 ghost use Rattle.ep_anode.specs.Anode.{Anode, anode_in, IsTidy, IsBare};
 ghost use Rattle.ep_anode.specs.Node.{names, no_names, node_in, HasNoBlocks};
+ghost use Rattle.ep_anode.specs.Room.{free_blocks};
 ghost use Rattle.ep_anode.specs.Changes.{own_names, SameBlock, WritesLoose, AreCounted, AreFew, Changed, Made, SharesBlocks};
-ghost use Rattle.ep_files.specs.Holds.{is_anode, set_at, Holds, HoldsNow, stage_of};
+ghost use Rattle.ep_files.specs.Holds.{is_anode, set_at, Holds, HoldsNow, stage_of, all_blocks};
 
 /// What a call on an anode asks of its pointers holds where all anodes are held.
 pub fn asked_holds()
@@ -62,6 +63,15 @@ pub fn crashed_holds()
         → Holds anodes state.superblock.blocks (stage_of state image k) before
         → WritesLoose named state image before after
         → Holds anodes state.superblock.blocks (stage_of state image k) after }
+{}
+
+/// Room: where each block that no pointer names now is free, as after a force, all blocks are free but those that the anodes
+/// have, which are 4 and those of their bytes each at most.
+pub fn room_holds()
+    ensures { (anodes : ℕ → Anode) (state : State) (image : List ℕ)
+        → HoldsNow anodes state image
+        → ((b : ℕ) → b < state.superblock.blocks → count_now state image b ≡ 0 → count_settled state image b ≡ 0)
+        → state.superblock.blocks ≤ free_blocks state image + all_blocks anodes }
 {}
 
 /// Pages hold their anodes as long as no block changes that they count.

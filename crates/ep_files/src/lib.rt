@@ -5,5 +5,6 @@
 mod laws;
 
 pub use laws::{
-    asked_holds, changed_holds, copied_holds, crashed_holds, kept_holds, made_holds, staged_holds,
+    asked_holds, changed_holds, copied_holds, crashed_holds, kept_holds, made_holds, room_holds,
+    staged_holds,
 };
