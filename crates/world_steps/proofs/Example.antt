@@ -11,12 +11,13 @@ use Rattle.tok_types.specs.declared.token.Token.{Token}
 use Rattle.tok_types.specs.declared.token.TokenId.{TokenId}
 use Rattle.rpc_types.specs.declared.message.Direction.TheVariants.{ToServer, ToHost}
 use Rattle.rpc_types.specs.declared.message.Body.{Body}
-use Rattle.rpc_types.specs.declared.message.Body.TheVariants.{Hello, Fetch, Grant, Change, Done, Revoke, Returned, GiveBack, Reclaim, Reclaimed, Down, Bye}
+use Rattle.rpc_types.specs.declared.message.Body.TheVariants.{Hello, Fetch, Grant, Change, Done, Revoke, Returned, Kept, GiveBack, Reclaim, Reclaimed, Down, Bye}
 use Rattle.rpc_types.specs.declared.message.Message.{Message}
 use Rattle.rpc_types.specs.declared.telling.Bring.{Bring}
 use Rattle.rpc_types.specs.declared.telling.Grant.{Grant as GrantOf}
 use Rattle.rpc_types.specs.declared.telling.Done.{Done as DoneOf}
 use Rattle.rpc_types.specs.declared.giving.Reclaimed.{Reclaimed as ReclaimedOf}
+use Rattle.rpc_types.specs.declared.tokens.Named.{Named}
 use Rattle.rpc_types.specs.declared.tokens.Revoke.{Revoke as RevokeOf}
 use Rattle.world_steps.specs.declared.applied.Answer.{Answer}
 use Rattle.world_steps.specs.declared.applied.Wanted.{Wanted}
@@ -74,6 +75,10 @@ module _ (past : List Step) (node : Node) (cause : Cause) (asked : Option Asked)
   no_returned : (i : TokenId) → Returns s i → ⊥
   no_returned i (v, e, n, named, p, m) = (only v e n (Returned named) p).0
 
+  no_answer : (w : Named) (v : ServerId) (e n : ℕ) → Sends s v e n (Returned w) ⊎ Sends s v e n (Kept w) → ⊥
+  no_answer w v e n (inl p) = (only v e n (Returned w) p).0
+  no_answer w v e n (inr p) = (only v e n (Kept w) p).0
+
   left : (i : TokenId) → Leaves s i → ⊥
   left i (inl e) = elim e.1 [ ]
   left i (inr e) = no_returned i e
@@ -88,6 +93,8 @@ module _ (past : List Step) (node : Node) (cause : Cause) (asked : Option Asked)
     drops_only = λ t d. elim d.1 [ ];
     returns = λ i r. absurd (no_returned i r);
     returns_free = λ i g r. absurd (no_returned i r);
+    answers = λ w v e n p. absurd (no_answer w v e n p);
+    answers_file = λ w v e n t p. absurd (no_answer w v e n p);
     makes = λ g i e. elim e [ ];
     makes_once = λ g k i e. elim e [ ];
     makes_from = λ g e. elim e [ ];

@@ -1,5 +1,5 @@
 -- The rules of tokens admit a restart, a claim and a give-back.
-use Rattle.std.proofs.Common.{◌≡◌, ℕ, ◌<◌, false, List, [], ◌∷◌, inl, inr, sym, ◌∙◌, ap, subst, refl, arith}
+use Rattle.std.proofs.Common.{◌≡◌, ℕ, ◌<◌, ◌⊎◌, false, List, [], ◌∷◌, inl, inr, sym, ◌∙◌, ap, subst, refl, arith}
 use Rattle.dfs_base.specs.declared.ids.HostId.{HostId}
 use Rattle.dfs_base.specs.declared.ids.ServerId.{ServerId}
 use Rattle.dfs_base.specs.declared.ids.FilesetId.{FilesetId}
@@ -10,8 +10,9 @@ use Rattle.tok_types.specs.declared.token.Token.{Token}
 use Rattle.tok_types.specs.declared.token.TokenId.{TokenId}
 use Rattle.rpc_types.specs.declared.message.Direction.TheVariants.{ToHost}
 use Rattle.rpc_types.specs.declared.message.Body.{Body}
-use Rattle.rpc_types.specs.declared.message.Body.TheVariants.{Hello, Fetch, Grant, Change, Done, Revoke, Returned, GiveBack, Gone, Reclaim, Reclaimed, Restarted, Down, Bye}
+use Rattle.rpc_types.specs.declared.message.Body.TheVariants.{Hello, Fetch, Grant, Change, Done, Revoke, Returned, Kept, GiveBack, Gone, Reclaim, Reclaimed, Restarted, Down, Bye}
 use Rattle.rpc_types.specs.declared.message.Message.{Message}
+use Rattle.rpc_types.specs.declared.tokens.Named.{Named}
 use Rattle.rpc_types.specs.declared.tokens.Revoke.{Revoke as RevokeOf}
 use Rattle.rpc_types.specs.declared.telling.Grant.{Grant as GrantOf}
 use Rattle.rpc_types.specs.declared.telling.Done.{Done as DoneOf}
@@ -260,6 +261,8 @@ module _ (whole : Span) where
     drops_only = λ t d. elim d.1 [ ];
     returns = λ i r. absurd (returns_none i r);
     returns_free = λ i g r. absurd (returns_none i r);
+    answers = λ w v e n p. absurd (answers_none w v e n p);
+    answers_file = λ w v e n t p. absurd (answers_none w v e n p);
     makes = λ g i m. elim m [ ];
     makes_once = λ g k i m. elim m [ ];
     makes_from = λ g m. elim m [ ];
@@ -276,6 +279,10 @@ module _ (whole : Span) where
     bye_changing = λ v w e n fs k p. absurd (let q = (only_claim v e n Bye p).3 in cc);
   }
     where
+      answers_none : (w : Named) (v : ServerId) (e n : ℕ) → Sends (reclaims whole) v e n (Returned w) ⊎ Sends (reclaims whole) v e n (Kept w) → ⊥
+      answers_none w v e n (inl p) = let q = (only_claim v e n (Returned w) p).3 in cc
+      answers_none w v e n (inr p) = let q = (only_claim v e n (Kept w) p).3 in cc
+
       returns_none : (i : TokenId) → Returns (reclaims whole) i → ⊥
       returns_none i (v, e, n, named, p, m) = let q = (only_claim v e n (Returned named) p).3 in cc
 
@@ -323,6 +330,8 @@ module _ (whole : Span) where
     drops_only = λ t d. inl (subst (λ (x : Token). Leaves (gives whole) x.id) (dropped_is t d) (inl (give whole, inl refl, inl refl)));
     returns = λ i r. absurd (returns_none i r);
     returns_free = λ i g r. absurd (returns_none i r);
+    answers = λ w v e n p. absurd (answers_none w v e n p);
+    answers_file = λ w v e n t p. absurd (answers_none w v e n p);
     makes = λ g i m n. (second, inr (held_six second (inr (inl refl))), sym (leaves_second i (inl (g, m, n))), ap (λ (x : Give). x.fid) (is_give g m));
     makes_once = λ g k i m n _ _. sym (is_give g m) ∙ is_give k n;
     makes_from = λ g m. subst (λ (x : Give). 0 < x.number) (is_give g m) (omega arith);
@@ -339,6 +348,10 @@ module _ (whole : Span) where
     bye_changing = λ v w e n fs k p. absurd (let q = (only_give v e n Bye p).3 in cc);
   }
     where
+      answers_none : (w : Named) (v : ServerId) (e n : ℕ) → Sends (gives whole) v e n (Returned w) ⊎ Sends (gives whole) v e n (Kept w) → ⊥
+      answers_none w v e n (inl p) = let q = (only_give v e n (Returned w) p).3 in cc
+      answers_none w v e n (inr p) = let q = (only_give v e n (Kept w) p).3 in cc
+
       returns_none : (i : TokenId) → Returns (gives whole) i → ⊥
       returns_none i (v, e, n, named, p, m) = let q = (only_give v e n (Returned named) p).3 in cc
 
@@ -365,6 +378,8 @@ module _ (whole : Span) where
     drops_only = λ t d. elim d.1 [ ];
     returns = λ i r. absurd (returns_none i r);
     returns_free = λ i g r. absurd (returns_none i r);
+    answers = λ w v e n p. elim p [ inl q ↦ absurd (learns_nothing v e n (Returned w) q) | inr q ↦ absurd (learns_nothing v e n (Kept w) q) ];
+    answers_file = λ w v e n t p. elim p [ inl q ↦ absurd (learns_nothing v e n (Returned w) q) | inr q ↦ absurd (learns_nothing v e n (Kept w) q) ];
     makes = λ g i m. elim m [ ];
     makes_once = λ g k i m. elim m [ ];
     makes_from = λ g m. elim m [ ];

@@ -5,9 +5,10 @@ use Rattle.dfs_base.specs.declared.ids.FilesetId.{FilesetId}
 use Rattle.tok_types.specs.declared.token.TokenId.{TokenId}
 use Rattle.tok_types.specs.declared.token.Token.{Token}
 use Rattle.rpc_types.specs.declared.message.Body.{Body}
-use Rattle.rpc_types.specs.declared.message.Body.TheVariants.{Fetch, Change, Revoke, GiveBack, Reclaim, Down, Bye}
+use Rattle.rpc_types.specs.declared.message.Body.TheVariants.{Fetch, Change, Revoke, Returned, Kept, GiveBack, Reclaim, Down, Bye}
 use Rattle.rpc_types.specs.declared.asking.Fetch.{Fetch as FetchOf}
 use Rattle.rpc_types.specs.declared.asking.Change.{Change as ChangeOf}
+use Rattle.rpc_types.specs.declared.tokens.Named.{Named}
 use Rattle.rpc_types.specs.declared.tokens.Revoke.{Revoke as RevokeOf}
 use Rattle.rpc_types.specs.declared.telling.Bring.{Bring}
 use Rattle.rpc_types.specs.declared.giving.Give.{Give}
@@ -68,6 +69,11 @@ pub record HostTokens (past : List Step) (s : Step) : Type 0 where
       ⊎ ((r : RevokeOf) × About past s r.fid.fileset (Revoke r) × In i r.ids)
   -- and none that is named in a give-back that isn't known as applied
   pub returns_free : (i : TokenId) (g : Give) → Returns s i → Made (s ∷ past) g → In i g.ids → IsKnown (s ∷ past) g
+  -- a Returned and a Kept go to where their file's fileset is, and of what it had they name tokens of that file alone
+  pub answers : (w : Named) (v : ServerId) (e n : ℕ) → Sends s v e n (Returned w) ⊎ Sends s v e n (Kept w)
+      → place (s ∷ past) w.fid.fileset ≡ record { server = v; moves = n }
+  pub answers_file : (w : Named) (v : ServerId) (e n : ℕ) (t : Token)
+      → Sends s v e n (Returned w) ⊎ Sends s v e n (Kept w) → AtHand s past t → In t.id w.ids → t.fid ≡ w.fid
   -- a give-back names tokens of its file that it had, and no token stands in two
   pub makes : (g : Give) (i : TokenId) → In g s.made → In i g.ids
       → (t : Token) × AtHand s past t × (t.id ≡ i) × (t.fid ≡ g.fid)
