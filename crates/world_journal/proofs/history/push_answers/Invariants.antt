@@ -1,0 +1,6 @@
+use Rattle.std.proofs.Common.{drop, map, ◌++◌, ◌≡◌}
+use Rattle.world_journal.specs.Histories.{call_entry}
+
+-- the entries so far, and those of the answers that are left
+abbrev pub invariant-loop-answer : goal.invariant-loop-answer
+invariant-loop-answer l = l.history ++ map call_entry (drop l.answer-index l.answer-items) ≡ l.fn.history ++ map call_entry l.answers

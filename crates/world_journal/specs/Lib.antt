@@ -1,0 +1,4 @@
+pub mod Lines
+pub mod Histories
+pub mod Told
+pub mod Worked

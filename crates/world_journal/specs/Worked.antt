@@ -1,0 +1,45 @@
+-- The script and the tree of the small run.
+use Rattle.std.specs.Prelude.{None, Some, [], codes, false, ◌∷◌}
+use Rattle.dfs_base.specs.declared.user.User.{User}
+use Rattle.dfs_calls.specs.declared.roster.Roster.{Roster}
+use Rattle.script_lines.specs.declared.script.Script.{Script}
+use Rattle.world_journal.specs.Lines.{setup}
+use Rattle.world_steps.specs.Places.{home}
+use Rattle.dfs_base.specs.declared.ids.Node.TheVariants.{Host, Server}  -- keep
+use Rattle.script_lines.specs.declared.script.Deed.TheVariants.{Call as MakesCall}  -- keep
+use Rattle.dfs_tree.specs.declared.tree.Tree.{Tree}  -- keep
+use Rattle.dfs_filesets.specs.declared.fileset.Fileset.{Fileset}  -- keep
+use Rattle.dfs_objects.specs.declared.content.Content.TheVariants.{Dir}  -- keep
+use Rattle.world_steps.specs.Worked.{client, site_one, stat, access}  -- keep
+
+abbrev pub owner : User
+owner = record { name = codes "u"; groups = codes "g" ∷ [] }
+
+abbrev pub roster : Roster
+roster = record { users = owner ∷ []; hosts = record { user = 0; limit = 64 } ∷ []; capacity = 16384 ∷ [] }
+
+-- a host asks twice for the status of the root of a fileset
+abbrev pub script : Script
+script = record {
+  servers = 1;
+  roster = roster;
+  setup = [];
+  plan = [];
+  net = None;
+  lines = record { number = 6; node = Host client; deed = MakesCall stat } ∷ record { number = 7; node = Host client; deed = MakesCall stat } ∷ [];
+}
+
+-- the fileset, whose root is empty
+abbrev pub home_fileset : Fileset
+home_fileset = record {
+  server = site_one;
+  id = record { 0 = 65537 };
+  name = codes "home";
+  read_only = false;
+  objects = 1;
+  moves = 0;
+  anodes = record { unique = 1; object = Some (record { owner = codes "u"; group = codes "g"; content = Dir [] (access ∷ access ∷ access ∷ []) }) } ∷ [];
+}
+
+abbrev pub start : Tree
+start = record { roster = roster; servers = record { capacity = 16384; next = 2 } ∷ []; filesets = home_fileset ∷ []; away = []; locks = []; opens = [] }
