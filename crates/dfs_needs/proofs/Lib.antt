@@ -11,3 +11,4 @@ pub mod Present
 pub mod Answers
 pub mod Worked
 pub mod Ends
+pub mod Leading

@@ -9,6 +9,7 @@ use Rattle.dfs_base.specs.declared.ids.ServerId.{ServerId}
 use Rattle.dfs_base.specs.declared.limits.TheConstants.{FILE_BYTES_MAX}
 use Rattle.dfs_base.specs.declared.user.User.{User}
 use Rattle.dfs_calls.specs.declared.call.Call.{Call}
+use Rattle.dfs_calls.specs.declared.entry.Entry.{Entry}
 use Rattle.dfs_calls.specs.declared.reply.Refusal.TheVariants.{Locked, OpenConflict}
 use Rattle.dfs_calls.specs.declared.reply.Reply.{Reply}
 use Rattle.dfs_calls.specs.declared.reply.Reply.TheVariants.{Ok as Done, Refused}
@@ -21,6 +22,7 @@ use Rattle.dfs_objects.specs.declared.content.Object.{Object}
 use Rattle.dfs_tree.specs.declared.tree.Tree.{Tree}
 use Rattle.dfs_tree.specs.Answers.{answer_to}
 use Rattle.dfs_tree.specs.Finding.{has_id, fileset_named}
+use Rattle.dfs_tree.specs.Histories.{after_entry}
 use Rattle.dfs_tree.specs.Locks.{is_excluded}
 use Rattle.dfs_tree.specs.Opens.{is_barred}
 use Rattle.dfs_tree.specs.WellFormed.{IsWellFormed}
@@ -198,3 +200,10 @@ abbrev pub AllWalksEnd : Type 0
 AllWalksEnd =
     (tree : Tree) (fileset : Fileset) → IsWellFormed tree → find (has_id fileset.id) tree.filesets ≡ Some fileset →
     WalksEnd tree fileset
+
+-- A name that leads to a fileset leads to it for ever, wherever it moves: so what a host has seen stays true.
+abbrev pub NamesLeadOn : Type 0
+NamesLeadOn =
+    (tree : Tree) (entry : Entry) (server : ServerId) (name : List ℕ) (old : Fileset) →
+    IsWellFormed tree → fileset_named tree server name ≡ Ok old →
+    (new : Fileset) × (fileset_named (after_entry tree entry) server name ≡ Ok new) × (new.id ≡ old.id)

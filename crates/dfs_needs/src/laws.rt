@@ -1,6 +1,6 @@
 //! Each function does nothing, and what it ensures is a law.
 ghost use Rattle.dfs_needs.specs.Laws.{AllLacksAreFirst, AllWalksEnd, CoveredAnswersAreTheTrees};
-ghost use Rattle.dfs_needs.specs.Laws.{LooksEndInReplies, NeedsAreAlike};
+ghost use Rattle.dfs_needs.specs.Laws.{LooksEndInReplies, NamesLeadOn, NeedsAreAlike};
 ghost use Rattle.dfs_needs.specs.Laws.{NothingBeyond, QuestionsAreAboutFilesets, ShownAgree, TokensShowParts};
 ghost use Rattle.dfs_needs.specs.Present.{AnswersLeaveAlike, AnswersLeaveAll, SyncsOfNothing};
 ghost use Rattle.dfs_needs.specs.Updates.{NeedsSuffice};
@@ -25,6 +25,11 @@ pub fn alike_law()
 /// The walks of looks over a tree end as those of the fileset.
 pub fn walk_law()
     ensures { AllWalksEnd }
+{}
+
+/// A name that leads to a fileset leads to it for ever, wherever it moves.
+pub fn name_law()
+    ensures { NamesLeadOn }
 {}
 
 /// Which tokens show a part, and which let a host change it: what covers a need does, and what is in the way of the one

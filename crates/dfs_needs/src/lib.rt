@@ -4,4 +4,6 @@
 
 mod laws;
 
-pub use laws::{alike_law, look_law, need_law, show_law, walk_law, worked_law, write_law};
+pub use laws::{
+    alike_law, look_law, name_law, need_law, show_law, walk_law, worked_law, write_law,
+};
