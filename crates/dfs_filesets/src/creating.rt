@@ -10,7 +10,7 @@ use crate::fileset::Fileset;
 use crate::outcome::NotDone;
 use dfs_base::{Items, Name, NoMemory, Plain, UNIQUE_MAX, User};
 use dfs_calls::{DirEntry, Refusal, Reply, Which};
-use dfs_objects::{Anode, Content, Object};
+use dfs_objects::{Anode, Content, Object, UnsavedBytes};
 use std::alloc::Global;
 
 /// What is made.
@@ -183,7 +183,7 @@ fn new_file(alloc: Global, directory: &Object) -> Result<Content, NotDone>
     Ok(Content::File {
         list: files,
         kept: Items::new(alloc),
-        unsaved: Items::new(alloc),
+        unsaved: UnsavedBytes::new(alloc),
         length: None,
     })
 }

@@ -17,7 +17,7 @@ use Rattle.dfs_objects.specs.declared.content.Content.TheVariants.{File}
 use Rattle.dfs_objects.specs.Files.{present_length, present_bytes, unsaved_at, byte_over, bytes_over, resized, content_bytes}
 use Rattle.dfs_objects.specs.Changes.{written, unsaved_after, content_written, content_truncated, content_forgotten, content_as_cloned}
 use Rattle.dfs_objects.specs.Stores.{is_stored, content_stored, content_synced, own_length}
-use Rattle.dfs_objects.specs.Sound.{positions_rise}
+use Rattle.dfs_objects.specs.Positions.{positions_rise}
 use Rattle.dfs_objects.specs.Spans.{whole}
 use Rattle.dfs_objects.specs.Shown.{Shown, shown, present_byte, shown_written, shown_kept, shown_stored, others_byte, shown_forgotten}
 
@@ -53,7 +53,7 @@ passing test None = None
 passing test (Some byte) = cond (test byte) (Some byte) None
 
 -- what is found by position among the bytes that pass a test that goes by position
-find_filter : (test : Unsaved → Bool) (b : Bool) (at : ℕ) → ((byte : Unsaved) → byte.at ≡ at → test byte ≡ b) → (unsaved : List Unsaved) → unsaved_at (filter test unsaved) at ≡ cond b (unsaved_at unsaved at) None
+pub find_filter : (test : Unsaved → Bool) (b : Bool) (at : ℕ) → ((byte : Unsaved) → byte.at ≡ at → test byte ≡ b) → (unsaved : List Unsaved) → unsaved_at (filter test unsaved) at ≡ cond b (unsaved_at unsaved at) None
 find_filter test true at h [] = refl
 find_filter test false at h [] = refl
 find_filter test true at h (x ∷ xs) =

@@ -61,10 +61,11 @@ over_taken kept unsaved at (suc n) (suc i) =
     rw e (ap (λ bytes. byte_over kept unsaved at ∷ bytes) (over_taken kept unsaved (suc at) n i))
 
 -- a part of the bytes
-pub over_part : (kept : List ℕ) (unsaved : List Unsaved) (end from len n : ℕ) → n ≡ min len (end - from) → bytes_over kept unsaved from n ≡ take len (drop from (bytes_over kept unsaved 0 end))
-over_part kept unsaved end from len n e =
+pub over_part : (kept : List ℕ) (unsaved : List Unsaved) (end from len m : ℕ) → m ≡ min end (from + len) → bytes_over kept unsaved from (m - from) ≡ take len (drop from (bytes_over kept unsaved 0 end))
+over_part kept unsaved end from len m e =
     let z : 0 + from ≡ from = omega arith in
-    ap (λ k. bytes_over kept unsaved from k) e
+    let n : m - from ≡ min len (end - from) = omega (arith, e) in
+    ap (λ k. bytes_over kept unsaved from k) n
     ∙ sym (over_taken kept unsaved from (end - from) len)
     ∙ ap (λ k. take len (bytes_over kept unsaved k (end - from))) (sym z)
     ∙ ap (λ bytes. take len bytes) (sym (over_dropped kept unsaved 0 end from))

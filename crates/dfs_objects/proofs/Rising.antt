@@ -15,7 +15,8 @@ use Rattle.dfs_calls.specs.declared.part.DirEntry.{DirEntry}
 use Rattle.dfs_objects.specs.declared.content.Unsaved.{Unsaved}
 use Rattle.dfs_objects.specs.Entries.{entry_named, entry_place}
 use Rattle.dfs_objects.specs.Changes.{written, unsaved_after}
-use Rattle.dfs_objects.specs.Sound.{names_rise, positions_rise}
+use Rattle.dfs_objects.specs.Sound.{names_rise}
+use Rattle.dfs_objects.specs.Positions.{positions_rise}
 use Rattle.dfs_objects.proofs.Observed.{and_left, and_right}
 
 -- both hold

@@ -18,7 +18,8 @@ use Rattle.dfs_objects.specs.Stores.{is_stored, length_left, content_stored, con
 use Rattle.dfs_objects.specs.Entries.{entry_named, content_with_entry, content_without_entry}
 use Rattle.dfs_objects.specs.Objects.{list_index, content_with_list}
 use Rattle.dfs_objects.specs.Spans.{whole}
-use Rattle.dfs_objects.specs.Sound.{is_sound, is_longer, positions_rise}
+use Rattle.dfs_objects.specs.Sound.{is_sound, is_longer}
+use Rattle.dfs_objects.specs.Positions.{positions_rise}
 use Rattle.dfs_objects.proofs.Observed.{and_left, and_right, over_length, length_resized}
 use Rattle.dfs_objects.proofs.Rising.{and_both, all_filter, rise_filter, rise_written, within_written, names_filter, names_insert}
 

@@ -11,7 +11,7 @@ use Rattle.dfs_objects.specs.declared.content.Content.TheVariants.{Dir, File}
 use Rattle.dfs_objects.specs.Files.{unsaved_at}
 use Rattle.dfs_objects.specs.Spans.{span_between}
 use Rattle.dfs_objects.specs.Losses.{spans_on, spans_of, own_bytes}
-use Rattle.dfs_objects.specs.Sound.{positions_rise}
+use Rattle.dfs_objects.specs.Positions.{positions_rise}
 use Rattle.dfs_objects.specs.Laws.{is_own, SpansAreExact, SpansAreMaximal, are_apart}
 use Rattle.dfs_objects.proofs.Observed.{and_left, and_right, passing, find_rising}
 use Rattle.dfs_objects.proofs.Rising.{and_both, all_filter, rise_filter}

@@ -2,6 +2,7 @@ pub mod Files
 pub mod Changes
 pub mod Cuts
 pub mod Spans
+pub mod Positions
 pub mod Stores
 pub mod Losses
 pub mod Entries

@@ -10,16 +10,12 @@ use Rattle.dfs_objects.specs.declared.content.UnsavedLength.{UnsavedLength}
 use Rattle.dfs_objects.specs.declared.content.Content.{Content}
 use Rattle.dfs_objects.specs.declared.content.Content.TheVariants.{Dir, File}
 use Rattle.dfs_objects.specs.Files.{present_length}
+use Rattle.dfs_objects.specs.Positions.{positions_rise}
 
 -- whether the names of entries rise, so that no two are the same
 abbrev pub names_rise : List DirEntry → Bool
 names_rise [] = true
 names_rise (entry ∷ entries) = list_all (λ other. is_before entry.name other.name) entries && names_rise entries
-
--- whether unsaved bytes stand at rising positions, so that each position has at most one
-abbrev pub positions_rise : List Unsaved → Bool
-positions_rise [] = true
-positions_rise (byte ∷ bytes) = list_all (λ other. nat_lt byte.at other.at) bytes && positions_rise bytes
 
 -- whether a length that is unsaved, where there is one, is above the kept one
 abbrev pub is_longer : List ℕ → Option UnsavedLength → Bool

@@ -1,7 +1,8 @@
-ghost use Rattle.std.specs.Prelude.{◌≡◌, [], take, drop, IfOk};
+ghost use Rattle.std.specs.Prelude.{◌≡◌, ◌<◌, [], length, take, drop, slice_index_or, IfOk};
 ghost use Rattle.dfs_objects.specs.Files.{present_length, present_bytes, bytes_over, content_bytes, resized, bytes_with};
 
 use crate::content::{Content, Object, Unsaved, UnsavedLength};
+use crate::unsaved::UnsavedBytes;
 use dfs_base::{Items, NoMemory};
 use std::alloc::Global;
 
@@ -19,7 +20,7 @@ impl Object {
                 length,
             } => {
                 let end = present_length(kept, length);
-                read_part(kept, unsaved, end, from as usize, len as usize)
+                read_part(kept, unsaved, end, from, len)
             }
         }
     }
@@ -55,32 +56,32 @@ pub(crate) fn present_length(kept: &Items<u8>, length: &Option<UnsavedLength>) -
 /// The bytes of a file as its readers see them.
 pub(crate) fn present_bytes(
     kept: &Items<u8>,
-    unsaved: &Items<Unsaved>,
+    unsaved: &UnsavedBytes,
     length: &Option<UnsavedLength>,
 ) -> Result<Items<u8>, NoMemory>
     ensures { IfOk result (λ bytes. bytes ≡ present_bytes kept.now unsaved.now length.now) }
 {
-    bytes_over(kept, unsaved, 0, present_length(kept, length))
+    unsaved.over(kept, 0, present_length(kept, length))
 }
 
 // The part of the first `end` bytes that starts at `from`, with at most `len` bytes.
 #[tactic(auto, using(crate::proofs::Overlays::over_part))]
 fn read_part(
     kept: &Items<u8>,
-    unsaved: &Items<Unsaved>,
+    unsaved: &UnsavedBytes,
     end: usize,
-    from: usize,
-    len: usize,
+    from: u32,
+    len: u32,
 ) -> Result<Items<u8>, NoMemory>
     ensures { IfOk result (λ bytes. bytes ≡ take len (drop from (bytes_over kept.now unsaved.now 0 end))) }
 {
-    bytes_over(kept, unsaved, from, len.min(end.saturating_sub(from)))
+    unsaved.over(kept, from as usize, end.min(from as usize + len as usize))
 }
 
 /// So many bytes from the position `from` on: the unsaved ones where there are any, else the kept ones, else zeros.
 pub(crate) fn bytes_over(
     kept: &Items<u8>,
-    unsaved: &Items<Unsaved>,
+    unsaved: &[Unsaved],
     from: usize,
     count: usize,
 ) -> Result<Items<u8>, NoMemory>
@@ -88,9 +89,17 @@ pub(crate) fn bytes_over(
 {
     let mut bytes = kept_bytes(kept, from, count)?;
     for index in (0..unsaved.len()).rev() {
-        put_unsaved(&mut bytes, unsaved.get(index), from);
+        let byte = byte_in(unsaved, index);
+        put_unsaved(&mut bytes, byte, from);
     }
     Ok(bytes)
+}
+
+fn byte_in(unsaved: &[Unsaved], index: usize) -> &Unsaved
+    requires { index < length unsaved.now }
+    ensures { result.now ≡ slice_index_or unsaved.now index result.now }
+{
+    &unsaved[index]
 }
 
 // Puts an unsaved byte over those that start at the position `from`.

@@ -1,3 +1,4 @@
+use crate::unsaved::UnsavedBytes;
 use dfs_base::{AccessList, HostId, Items, Name, NoMemory, Plain};
 use dfs_calls::DirEntry;
 
@@ -38,8 +39,8 @@ pub enum Content {
         list: AccessList,
         /// The bytes that are kept.
         kept: Items<u8>,
-        /// The bytes that aren't stored yet, in the order of their positions, each of which has at most one.
-        unsaved: Items<Unsaved>,
+        /// The bytes that aren't stored yet.
+        unsaved: UnsavedBytes,
         /// The length that isn't stored yet.
         length: Option<UnsavedLength>,
     },

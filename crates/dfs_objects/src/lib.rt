@@ -8,9 +8,11 @@ mod laws;
 mod losses;
 mod object;
 mod storing;
+mod unsaved;
 mod writing;
 
 pub use content::{Anode, Content, Object, Unsaved, UnsavedLength};
 pub use entries::{entry_named, names_of};
 pub use laws::{clone_law, forget_law, loss_law, store_law, truncate_law, write_law};
 pub use losses::span_between;
+pub use unsaved::UnsavedBytes;

@@ -16,12 +16,12 @@ impl Object {
             Content::Dir { entries, lists: _ } => Ok(Items::new(entries.alloc())),
             Content::File {
                 list: _,
-                kept: _,
+                kept,
                 unsaved,
                 length: _,
             } => {
-                let own = own_bytes(unsaved, host)?;
-                spans_of(unsaved.alloc(), own.as_slice())
+                let own = own_bytes(kept.alloc(), unsaved.as_slice(), host)?;
+                spans_of(kept.alloc(), own.as_slice())
             }
         }
     }
@@ -35,15 +35,14 @@ impl Object {
 }
 
 // The unsaved bytes of a host.
-fn own_bytes(unsaved: &Items<Unsaved>, host: HostId) -> Result<Items<Unsaved>, NoMemory>
+fn own_bytes(alloc: Global, unsaved: &[Unsaved], host: HostId) -> Result<Items<Unsaved>, NoMemory>
     ensures { IfOk result (λ own. own ≡ own_bytes host unsaved.now) }
 {
     let own = unsaved
-        .as_slice()
         .iter()
         .copied()
         .filter(|byte| byte.writer == host)
-        .collect(unsaved.alloc())?;
+        .collect(alloc)?;
     Ok(Items::from_vec(own))
 }
 

@@ -4,6 +4,7 @@ ghost use Rattle.dfs_objects.specs.Changes.{content_as_cloned};
 
 use crate::bytes::{present_bytes, present_length};
 use crate::content::{Content, Object};
+use crate::unsaved::UnsavedBytes;
 use dfs_base::{AccessList, BLOCK_BYTES, Items, NoMemory, Plain, Rights, User, rights_of};
 use dfs_calls::{DirEntry, Facts, Refusal, Which};
 
@@ -153,7 +154,7 @@ impl Content {
             } => Ok(Content::File {
                 list: list.copy()?,
                 kept: present_bytes(kept, unsaved, length)?,
-                unsaved: Items::new(kept.alloc()),
+                unsaved: UnsavedBytes::new(kept.alloc()),
                 length: None,
             }),
         }

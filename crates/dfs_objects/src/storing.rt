@@ -1,11 +1,10 @@
-ghost use Rattle.std.specs.Prelude.{◌≡◌, ◌==◌, nat_eq, not, filter, IfOk, OnOk, OnErr};
-ghost use Rattle.dfs_base.specs.Spans.{in_spans};
+ghost use Rattle.std.specs.Prelude.{◌≡◌, OnOk, OnErr};
 ghost use Rattle.dfs_objects.specs.Changes.{anode_changed, length_forgotten, content_forgotten};
-ghost use Rattle.dfs_objects.specs.Stores.{is_stored, length_left, own_length_of, content_stored, content_synced};
+ghost use Rattle.dfs_objects.specs.Stores.{length_left, own_length_of, content_stored, content_synced};
 
 use crate::bytes::bytes_over;
-use crate::content::{Anode, Content, Unsaved, UnsavedLength};
-use dfs_base::{HostId, Items, NoMemory, Span};
+use crate::content::{Anode, Content, UnsavedLength};
+use dfs_base::{HostId, NoMemory, Span};
 
 impl Anode {
     /// Makes all unsaved changes of a host kept: its length, and its bytes below the kept length that is left.
@@ -80,11 +79,9 @@ impl Content {
         } = self
         {
             let end = stored.map_or(kept.len(), |stored| stored as usize);
-            let taken = stored_of(unsaved, host, spans, end)?;
-            let left = left_of(unsaved, host, spans, end)?;
-            let bytes = bytes_over(kept, &taken, 0, end)?;
-            *kept = bytes;
-            *unsaved = left;
+            let parted = unsaved.parted(host, spans, end)?;
+            *kept = bytes_over(kept, parted.stored.as_slice(), 0, end)?;
+            *unsaved = parted.left;
             *length = length_left(stored, *length);
         }
         Ok(())
@@ -100,67 +97,10 @@ impl Content {
             length,
         } = self
         {
-            forget_bytes(unsaved, host);
+            unsaved.forget(host);
             *length = length_forgotten(host, *length);
         }
     }
-}
-
-// Lets the unsaved bytes of a host go.
-fn forget_bytes(unsaved: &mut Items<Unsaved>, host: HostId)
-    ensures { unsaved.new ≡ filter (λ byte. not (byte.writer.0 == host.0)) unsaved.old }
-{
-    unsaved.retain(|byte| byte.writer != host);
-}
-
-// Whether a position lies in one of the spans.
-fn in_spans(spans: &[Span], at: u32) -> bool
-    ensures { result ≡ in_spans spans.now at }
-{
-    spans.iter().any(|span| span.from <= at && at < span.to)
-}
-
-// Whether an unsaved byte becomes kept.
-fn is_stored(host: HostId, spans: &[Span], end: usize, byte: &Unsaved) -> bool
-    ensures { result ≡ is_stored host spans.now end byte.now }
-{
-    byte.writer == host && (byte.at as usize) < end && in_spans(spans, byte.at)
-}
-
-// The unsaved bytes that become kept.
-fn stored_of(
-    unsaved: &Items<Unsaved>,
-    host: HostId,
-    spans: &[Span],
-    end: usize,
-) -> Result<Items<Unsaved>, NoMemory>
-    ensures { IfOk result (λ taken. taken ≡ filter (is_stored host spans.now end) unsaved.now) }
-{
-    let taken = unsaved
-        .as_slice()
-        .iter()
-        .copied()
-        .filter(|byte| is_stored(host, spans, end, byte))
-        .collect(unsaved.alloc())?;
-    Ok(Items::from_vec(taken))
-}
-
-// The unsaved bytes that don't.
-fn left_of(
-    unsaved: &Items<Unsaved>,
-    host: HostId,
-    spans: &[Span],
-    end: usize,
-) -> Result<Items<Unsaved>, NoMemory>
-    ensures { IfOk result (λ left. left ≡ filter (λ byte. not (is_stored host spans.now end byte)) unsaved.now) }
-{
-    let left = unsaved
-        .as_slice()
-        .iter()
-        .copied()
-        .filter(|byte| !is_stored(host, spans, end, byte))
-        .collect(unsaved.alloc())?;
-    Ok(Items::from_vec(left))
 }
 
 // The unsaved length that is left after a length became kept.

@@ -129,7 +129,7 @@ fn writer_of(content: &Content) -> Option<HostId>
     else {
         return None;
     };
-    match unsaved.at(0) {
+    match unsaved.first() {
         Some(byte) => Some(byte.writer),
         None => match length {
             Some(unsaved) => Some(unsaved.writer),
