@@ -43,11 +43,12 @@ use Rattle.dfs_tree.proofs.Inserted.{position_or_end}
 use Rattle.dfs_tree.proofs.Places.{find_all, get_all, found_passes}
 use Rattle.dfs_saving.specs.Unsaved.{anode_content, fileset_contents, all_contents, has_saved, is_only_by, writer_of, is_by_one, content_led_to, content_named, is_alone_at}
 use Rattle.dfs_saving.specs.Stores.{store_of, own_store, others_store, listed, anode_store, anodes_stores, fileset_stores, own_stores, others_store_in, others_store_at}
-use Rattle.dfs_saving.specs.Saving.{is_store_of, fid_named, is_store_at, StoresAll, StoresOthers}
+use Rattle.dfs_saving.specs.Saving.{is_store_of, StoreOnlyUnsaved, fid_named, is_store_at, StoresAll, StoresOthers}
 use Rattle.dfs_saving.proofs.Between.{all_between, get_between, changed_between, first_found, first_changed, found_between, one_more, length_more}
 use Rattle.dfs_saving.proofs.Contents.{same_host, writer_only, only_other, none_saved}
 use Rattle.dfs_saving.proofs.Histories.{is_no_call, history_append, after_append, leads_to}
 use Rattle.dfs_saving.proofs.Stored.{all_kept, may_store_own, stores_something}
+use Rattle.dfs_saving.proofs.Owed.{writer_else, owed_own}
 
 -- the content of an object that is there
 contents_at : (test : Content → Bool) (anodes : List Anode) (at : ℕ) (object : Object) → list_all (anode_content test) anodes ≡ true → object_at anodes at ≡ Some object → test object.content ≡ true
@@ -308,6 +309,7 @@ stores_all host before entries after e f w one =
     let whole : StoresAll host before all (after_history before all) = record {
       leads = leads_to before all quiet w one saves.legal;
       stores = stores;
+      owed = owed_own host before;
       saved = subst (λ fs. list_all (fileset_contents (has_saved host)) fs ≡ true) (sym saves.left) saves.saved;
     } in
     subst (λ t. StoresAll host before entries t) (sym f) (subst (λ es. StoresAll host before es (after_history before es)) (sym e) whole)
@@ -323,6 +325,7 @@ none_only host (File list kept (byte ∷ bytes) len) h = absurd (search (rules, 
 pub record OthersSave (host : HostId) (place : Place) (tree : Tree) (entry : Option Entry) : Type 0 where
   pub legal : IsHistory tree (listed entry)
   pub stores : list_all (is_store_of (λ other. not (other.0 == host.0))) (listed entry) ≡ true
+  pub owed : StoreOnlyUnsaved tree (listed entry)
   pub there : list_all (is_store_at (fid_named tree place)) (listed entry) ≡ true
   pub alone : is_alone_at host (after_history tree (listed entry)) place ≡ true
 
@@ -405,6 +408,9 @@ others_take host place tree w one fileset found at way object there writer f oth
     record {
       legal = (store_legal tree stands.before fileset stands.after at object writer writes (unique_at fileset.anodes at) refl, tt);
       stores = and_both _ _ (and_both _ _ (ap not other) (stores_something writer object.content f)) refl;
+      owed = λ caller s.
+          let its : fileset_contents (has_saved caller) fileset ≡ true = find_all p (fileset_contents (has_saved caller)) tree.filesets fileset found s in
+          ap (λ t. t || false) (writer_else caller writer object.content f (contents_at (has_saved caller) fileset.anodes at object its there));
       there = ap (λ o. list_all (is_store_at o) (store_of writer fid object.content ∷ [])) its ∙ and_both _ _ (same_fid_itself fid) refl;
       alone = ap (λ o. option_map_or (is_only_by host) o true) named ∙ (store_settles tree stands.before fileset stands.after at object writer writes host).1;
     }
@@ -414,7 +420,7 @@ unfolding fileset_named
 others_save host place tree w one = by_fileset (find (finds tree place.server place.fileset) tree.filesets) refl
   where
     nothing : (named : Option Content) → content_named tree place ≡ named → option_map_or (is_only_by host) named true ≡ true → OthersSave host place tree None
-    nothing named e h = record { legal = tt; stores = refl; there = refl; alone = ap (λ o. option_map_or (is_only_by host) o true) e ∙ h }
+    nothing named e h = record { legal = tt; stores = refl; owed = λ caller s. refl; there = refl; alone = ap (λ o. option_map_or (is_only_by host) o true) e ∙ h }
 
     led : (fileset : Fileset) → find (finds tree place.server place.fileset) tree.filesets ≡ Some fileset → content_named tree place ≡ content_led_to fileset place.path
     led fileset e = ap (λ o. either (found_or o NoFileset) (λ f. content_led_to f place.path) (λ refusal. None)) e
@@ -456,5 +462,5 @@ stores_others host place before entries after e f w one =
     let all : List Entry = listed (others_store_at host place before) in
     let saves = others_save host place before w one in
     let quiet = all_implied (is_store_of (λ other. not (other.0 == host.0))) is_no_call (store_no_call (λ other. not (other.0 == host.0))) all saves.stores in
-    let whole : StoresOthers host place before all (after_history before all) = record { leads = leads_to before all quiet w one saves.legal; stores = saves.stores; there = saves.there; alone = saves.alone } in
+    let whole : StoresOthers host place before all (after_history before all) = record { leads = leads_to before all quiet w one saves.legal; stores = saves.stores; owed = saves.owed; there = saves.there; alone = saves.alone } in
     subst (λ t. StoresOthers host place before entries t) (sym f) (subst (λ es. StoresOthers host place before es (after_history before es)) (sym e) whole)

@@ -1,6 +1,6 @@
 -- How unsaved changes are stored, or lost.
 use Rattle.std.specs.Prelude.{◌≡◌, ℕ, zero, suc, ◌+◌, ◌==◌, not, Bool, true, false, ◌&&◌, ◌||◌, is_some, List, [], ◌∷◌, length, Option, Some, None}
-use Rattle.std.specs.List.{list_all}
+use Rattle.std.specs.List.{list_all, list_any}
 use Rattle.std.specs.Option.{option_map}
 use Rattle.dfs_base.specs.Ids.{same_fid}
 use Rattle.dfs_base.specs.Outcomes.{either}
@@ -27,6 +27,15 @@ has_spans (span ∷ spans) = true
 abbrev pub is_store_of : (HostId → Bool) → Entry → Bool
 is_store_of test (Stored host fid spans len) = test host && (has_spans spans || is_some len)
 is_store_of test _ = false
+
+-- whether by an entry a host stores
+abbrev pub is_store_by : HostId → Entry → Bool
+is_store_by host (Stored by fid spans len) = by.0 == host.0
+is_store_by host _ = false
+
+-- a host that has saved all stores nothing
+abbrev pub StoreOnlyUnsaved : Tree → List Entry → Type 0
+StoreOnlyUnsaved before entries = (host : HostId) → all_contents (has_saved host) before ≡ true → list_any (is_store_by host) entries ≡ false
 
 -- the fid of the object to which the path of a place leads, whoever asks
 abbrev pub fid_named : Tree → Place → Option Fid
@@ -61,12 +70,14 @@ pub record LeadsTo (before : Tree) (entries : List Entry) (after : Tree) : Type 
 pub record StoresAll (host : HostId) (before : Tree) (entries : List Entry) (after : Tree) : Type 0 where
   pub leads : LeadsTo before entries after
   pub stores : list_all (is_store_of (λ other. other.0 == host.0)) entries ≡ true
+  pub owed : StoreOnlyUnsaved before entries
   pub saved : all_contents (has_saved host) after ≡ true
 
 -- other hosts store what they have unsaved of the file that a place names
 pub record StoresOthers (host : HostId) (place : Place) (before : Tree) (entries : List Entry) (after : Tree) : Type 0 where
   pub leads : LeadsTo before entries after
   pub stores : list_all (is_store_of (λ other. not (other.0 == host.0))) entries ≡ true
+  pub owed : StoreOnlyUnsaved before entries
   pub there : list_all (is_store_at (fid_named before place)) entries ≡ true
   pub alone : is_alone_at host after place ≡ true
 
