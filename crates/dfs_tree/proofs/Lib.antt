@@ -1,6 +1,7 @@
 pub mod Mapped
 pub mod Levels
 pub mod Refusals
+mod Reading
 pub mod Totals
 pub mod Resting
 pub mod Places

@@ -1,11 +1,12 @@
 -- Histories of a tree.
-use Rattle.std.specs.Prelude.{◌≡◌, IsTrue, List, [], ◌∷◌}
+use Rattle.std.specs.Prelude.{◌≡◌, IsTrue, List, [], ◌∷◌, ◌++◌}
 use Rattle.dfs_calls.specs.declared.entry.Entry.{Entry}
 use Rattle.dfs_calls.specs.declared.entry.Entry.TheVariants.{Call, Stored, Down, Left}
+use Rattle.dfs_calls.specs.declared.entry.Loss.{Loss}
 use Rattle.dfs_tree.specs.declared.tree.Tree.{Tree}
 use Rattle.dfs_tree.specs.Answers.{answer_to}
 use Rattle.dfs_tree.specs.Stores.{may_store, stored_tree}
-use Rattle.dfs_tree.specs.Losses.{down_tree}
+use Rattle.dfs_tree.specs.Losses.{down_tree, losses_of}
 use Rattle.dfs_tree.specs.Away.{is_room_kept}
 use Rattle.dfs_tree.specs.Moving.{left_tree}
 
@@ -33,3 +34,15 @@ IsHistory tree (entry ∷ entries) = IsLegal tree entry × IsHistory (after_entr
 abbrev pub after_history : Tree → List Entry → Tree
 after_history tree [] = tree
 after_history tree (entry ∷ entries) = after_history (after_entry tree entry) entries
+
+-- what is lost at an entry
+abbrev pub lost_at : Tree → Entry → List Loss
+lost_at tree (Call host k call reply) = []
+lost_at tree (Stored host fid spans stored) = []
+lost_at tree (Down host server) = losses_of tree host server
+lost_at tree (Left server id) = []
+
+-- the losses of a history as they come
+abbrev pub lost_in : Tree → List Entry → List Loss
+lost_in tree [] = []
+lost_in tree (entry ∷ entries) = lost_at tree entry ++ lost_in (after_entry tree entry) entries

@@ -81,10 +81,8 @@ impl Tree {
         }
         let fileset = self.fileset_named(place.server, &place.fileset)?;
         let fid = fileset.lock_target(user, place.path.as_slice(), writing)?;
-        let (from, end) = (
-            u64::from(range.from),
-            u64::from(range.from) + u64::from(range.len),
-        );
+        let from = u64::from(range.from);
+        let end = from + u64::from(range.len);
         if u64::from(FILE_BYTES_MAX) < end {
             return Err(Refusal::TooBig);
         }
