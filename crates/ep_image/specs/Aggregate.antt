@@ -25,7 +25,8 @@ is_blank image = (length image == 0) || are_zero 0 512 image || (not (byte_at im
 -- whether the first page is a superblock: its gate, the layout's name, format 1, and nothing unnamed
 abbrev pub is_front : List ℕ → Bool
 is_front image =
-    (byte_at image 0 == 1) && has_layout_name image && (number_at 4 12 image == 1) && are_zero 9 3 image && are_zero 21 491 image
+    (byte_at image 0 == 1) && has_layout_name image && (number_at 4 12 image == 1) && are_zero 9 3 image
+    && are_zero 21 491 image
 
 -- the superblock of an aggregate: a server from 1 to 4, and 1,092 to 66,560 blocks
 unfoldable pub superblock_of : List ℕ → Option Superblock
@@ -35,8 +36,8 @@ superblock_of image =
     then Some (record { server = byte_at image 20; blocks = number_at 4 16 image })
     else None
 
--- What is judged of a disk behind its log: its server, its number of blocks, its metadata pages after redo and undo, and its
--- bytes, of which those of blocks are looked at.
+-- What is judged of a disk behind its log: its server, its number of blocks, its metadata pages after redo and
+-- undo, and its bytes, of which those of blocks are looked at.
 pub record Aggregate : Type 0 where
   pub server : ℕ
   pub blocks : ℕ

@@ -21,7 +21,8 @@ unless test place rule = if test then [] else (record { place = place; rule = ru
 
 -- the fault of the block that a pointer names, where it names one
 abbrev pub unless_block : Aggregate → ℕ → Bool → Rule → List Fault
-unless_block disk pointer test rule = if names_block disk pointer then unless test (block_place disk pointer) rule else []
+unless_block disk pointer test rule =
+    if names_block disk pointer then unless test (block_place disk pointer) rule else []
 
 -- whether an anode is the root of a fileset
 abbrev pub is_root_place : Aggregate → ℕ → ℕ → Bool
@@ -36,7 +37,8 @@ unfoldable pub is_slot_anode : Aggregate → ℕ → ℕ → Bool
 is_slot_anode disk slot i =
     let page = anode_page disk slot i in
     if byte_at page 0 == 0
-    then (if is_slot_free disk slot then are_zero 0 512 page else is_free_page page) && not (is_root_place disk slot i)
+    then (if is_slot_free disk slot then are_zero 0 512 page else is_free_page page)
+    && not (is_root_place disk slot i)
     else is_object_page disk.blocks page && nat_lt i (usable (state_at disk slot) (header_page disk slot))
     && (not (is_root_place disk slot i) || is_root_page page)
 
@@ -70,14 +72,17 @@ abbrev pub map_fault : Aggregate → ℕ → ℕ → List Fault
 map_fault disk slot i =
     let page = anode_page disk slot i in
     let pointer = pointer_of (node_at disk slot i) 15 in
-    unless_block disk pointer (is_map disk.blocks (byte_at page 0 == 1) (bytes_in page) (node_at disk slot i).map) rules.IndirectBlock
+    unless_block disk pointer (is_map disk.blocks (byte_at page 0 == 1) (bytes_in page) (node_at disk slot i).map)
+    rules.IndirectBlock
 
 abbrev pub directory_fault : Aggregate → ℕ → ℕ → ℕ → List Fault
-directory_fault disk slot i n = unless_block disk (entry_pointer disk slot i n) (is_directory_block disk slot i n) rules.DirectoryBlock
+directory_fault disk slot i n =
+    unless_block disk (entry_pointer disk slot i n) (is_directory_block disk slot i n) rules.DirectoryBlock
 
 abbrev pub block_faults : Aggregate → ℕ → ℕ → List Fault
 block_faults disk slot i =
-    joined (list_fault disk slot i) 3 ++ map_fault disk slot i ++ joined (directory_fault disk slot i) (entry_blocks (anode_page disk slot i))
+    joined (list_fault disk slot i) 3 ++ map_fault disk slot i
+    ++ joined (directory_fault disk slot i) (entry_blocks (anode_page disk slot i))
 
 -- the faults of anode i of a slot and of its blocks; those of an anode that is no object aren't followed
 unfoldable pub anode_faults : Aggregate → ℕ → ℕ → List Fault
@@ -88,7 +93,8 @@ anode_faults disk slot i =
 -- where a directory's entries lead, where each of its blocks is there and holds what it should
 abbrev pub is_readable : Aggregate → ℕ → ℕ → Bool
 is_readable disk slot i =
-    each_below (λ n. names_block disk (entry_pointer disk slot i n) && is_directory_block disk slot i n) (entry_blocks (anode_page disk slot i))
+    each_below (λ n. names_block disk (entry_pointer disk slot i n) && is_directory_block disk slot i n)
+    (entry_blocks (anode_page disk slot i))
 
 abbrev pub link_of : Aggregate → ℕ → ℕ → ℕ → Link
 link_of disk slot i e = record {
@@ -98,4 +104,5 @@ link_of disk slot i e = record {
 }
 
 unfoldable pub links_at : Aggregate → ℕ → ℕ → List Link
-links_at disk slot i = if is_readable disk slot i then listed (link_of disk slot i) (entries_in (anode_page disk slot i)) else []
+links_at disk slot i =
+    if is_readable disk slot i then listed (link_of disk slot i) (entries_in (anode_page disk slot i)) else []

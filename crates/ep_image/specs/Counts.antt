@@ -1,4 +1,5 @@
--- Whether each count of a block is the number of pointers to it, and whether the promises are kept within the capacity.
+-- Whether each count of a block is the number of pointers to it, and whether the promises are kept within the
+-- capacity.
 use Rattle.std.specs.Prelude.{ℕ, ◌+◌, ◌-◌, ◌*◌, ◌/◌, ◌==◌, ◌&&◌, ◌||◌, not, nat_le, nat_lt, Bool, true, false, List, [], ◌∷◌, ◌++◌, count_by, if◌then◌else◌}
 use Rattle.std.specs.List.{list_any}
 use Rattle.dfs_base.specs.Image.{byte_at}
@@ -27,10 +28,11 @@ abbrev pub has_map : Aggregate → ℕ → ℕ → ℕ → Bool
 has_map disk pointer slot i = is_object (anode_page disk slot i) && (pointer_in disk slot i 15 == pointer)
 
 unfoldable pub is_mapped : Aggregate → ℕ → ℕ → ℕ → Bool
-is_mapped disk slot i pointer = some_below (λ before. some_below (has_map disk pointer before) 64) slot || some_below (has_map disk pointer slot) i
+is_mapped disk slot i pointer = some_below (λ before. some_below (has_map disk pointer before) 64) slot
+    || some_below (has_map disk pointer slot) i
 
--- the pointers of anode i of a slot: those in its page, and those of its indirect block, which count where no anode before has
--- it
+-- the pointers of anode i of a slot: those in its page, and those of its indirect block, which count where no
+-- anode before has it
 abbrev pub page_use : Aggregate → ℕ → ℕ → ℕ → Use
 page_use disk slot i w = record { pointer = pointer_in disk slot i w; slot = slot; is_map = w == 15; is_counted = true }
 
@@ -45,7 +47,8 @@ map_use disk slot i j = record {
 unfoldable pub uses_at : Aggregate → ℕ → ℕ → List Use
 uses_at disk slot i =
     if is_object (anode_page disk slot i)
-    then listed (page_use disk slot i) 16 ++ (if names_block disk (pointer_in disk slot i 15) then listed (map_use disk slot i) 52 else [])
+    then listed (page_use disk slot i) 16
+    ++ (if names_block disk (pointer_in disk slot i 15) then listed (map_use disk slot i) 52 else [])
     else []
 
 abbrev pub uses_of : Aggregate → List Use
@@ -64,12 +67,14 @@ times_in uses slot block = count_by (λ one. is_use_of block one && (one.slot ==
 
 -- whether a block is named as an indirect block, and as another
 abbrev pub is_both : List Use → ℕ → Bool
-is_both uses block = list_any (λ one. is_use_of block one && one.is_map) uses && list_any (λ one. is_use_of block one && not one.is_map) uses
+is_both uses block = list_any (λ one. is_use_of block one && one.is_map) uses
+    && list_any (λ one. is_use_of block one && not one.is_map) uses
 
 -- whether all is well with the count of a block
 unfoldable pub is_count : List Use → ℕ → ℕ → Bool
 is_count uses block count =
-    (times_counted uses block == count) && each_below (λ slot. nat_le (times_in uses slot block) 1) 16 && not (is_both uses block)
+    (times_counted uses block == count) && each_below (λ slot. nat_le (times_in uses slot block) 1) 16
+    && not (is_both uses block)
 
 -- count k of page p of the counts; those of no block are zero
 unfoldable pub is_count_place : Aggregate → ℕ → ℕ → Bool
@@ -83,10 +88,11 @@ is_count_page disk p = each_below (is_count_place disk p) 256
 abbrev pub count_fault : Aggregate → ℕ → List Fault
 count_fault disk p = unless (is_count_page disk p) (page_start (1058 + p)) rules.Count
 
--- the blocks that a clone is promised for an anode: 4 for an object, and 5 more for a directory or one for each block of a
--- file
+-- the blocks that a clone is promised for an anode: 4 for an object, and 5 more for a directory or one for each
+-- block of a file
 abbrev pub object_promise : List ℕ → ℕ
-object_promise page = if byte_at page 0 == 1 then 9 else if byte_at page 0 == 2 then 4 + (bytes_in page + 1023) / 1024 else 0
+object_promise page =
+    if byte_at page 0 == 1 then 9 else if byte_at page 0 == 2 then 4 + (bytes_in page + 1023) / 1024 else 0
 
 -- the blocks that a slot is promised; one whose header tells no limit is promised none
 abbrev pub limit_promise : List ℕ → ℕ

@@ -40,8 +40,8 @@ pub record SlotImage : Type 0 where
   pub numbers : List Record
   pub fileset : Fileset
 
--- what an aggregate holds: what its server's page says, what is kept of each host's requests, its filesets, the blocks that
--- they are promised, and how many there are to promise
+-- what an aggregate holds: what its server's page says, what is kept of each host's requests, its filesets, the
+-- blocks that they are promised, and how many there are to promise
 pub record Image : Type 0 where
   pub server : ℕ
   pub facts : ServerFacts
@@ -74,7 +74,8 @@ anode_of disk slot i =
     let page = anode_page disk slot i in
     record {
       unique = unique_of page;
-      object = if byte_at page 0 == 0 then None else Some (record { owner = name_at 76 page; group = name_at 137 page; content = content_of disk slot i });
+      object = if byte_at page 0 == 0 then None
+          else Some (record { owner = name_at 76 page; group = name_at 137 page; content = content_of disk slot i });
     }
 
 abbrev pub is_clone : SlotState → Bool
@@ -127,9 +128,11 @@ image_behind superblock (Some half) image = Some (image_in (aggregate_of superbl
 abbrev pub image_under : Option Superblock → ℕ → List ℕ → Option Image
 image_under None server image = None
 image_under (Some superblock) server image =
-    if superblock.server == server then image_behind superblock (used_half (pages_of superblock.blocks) image) image else None
+    if superblock.server == server
+    then image_behind superblock (used_half (pages_of superblock.blocks) image) image else None
 
--- The image of a disk for a server: there is one exactly where the disk isn't blank, its superblock names the server, and its
--- bytes have no faults.
+-- The image of a disk for a server: there is one exactly where the disk isn't blank, its superblock names the
+-- server, and its bytes have no faults.
 unfoldable pub image_of : ℕ → List ℕ → Option Image
-image_of server image = if is_blank image || not (length (faults_of image) == 0) then None else image_under (superblock_of image) server image
+image_of server image = if is_blank image || not (length (faults_of image) == 0) then None
+    else image_under (superblock_of image) server image

@@ -21,13 +21,16 @@ BlankIsBlank = (image : List ℕ) → (is_blank image ≡ true) ↔ IsBlank imag
 
 abbrev pub SuperblockIsOne : Type 0
 SuperblockIsOne = (image : List ℕ) (superblock : Superblock) →
-    (superblock_of image ≡ Some superblock) ↔ (IsSuperblock superblock image × (1 ≤ superblock.server) × (superblock.server ≤ 4) × (1092 ≤ superblock.blocks))
+    (superblock_of image ≡ Some superblock) ↔ (IsSuperblock superblock image × (1 ≤ superblock.server)
+    × (superblock.server ≤ 4) × (1092 ≤ superblock.blocks))
 
--- a disk has an image for a server exactly where it isn't blank, its superblock names the server, and it has no faults
+-- a disk has an image for a server exactly where it isn't blank, its superblock names the server, and it has no
+-- faults
 abbrev pub ImageIsThere : Type 0
 ImageIsThere = (server : ℕ) (image : List ℕ) →
     (is_some (image_of server image) ≡ true)
-    ↔ ((IsBlank image → ⊥) × (faults_of image ≡ []) × ((superblock : Superblock) × (superblock_of image ≡ Some superblock) × (superblock.server ≡ server)))
+    ↔ ((IsBlank image → ⊥) × (faults_of image ≡ []) × ((superblock : Superblock)
+    × (superblock_of image ≡ Some superblock) × (superblock.server ≡ server)))
 
 -- where a slot's pages, its anodes and the blocks of an aggregate stand
 abbrev pub IsAnodePlace : ℕ → Type 0
@@ -41,7 +44,8 @@ abbrev pub LiesIn : ℕ → Rule → ℕ → Type 0
 LiesIn blocks rules.Superblock place = place ≡ 0
 LiesIn blocks rules.Log place = place ≡ 512
 LiesIn blocks rules.ServerPage place = place ≡ page_start 0
-LiesIn blocks rules.CallNumbers place = (place ≡ page_start 1) ⊎ ((slot : ℕ) × (slot < 16) × (place ≡ page_start (header_number slot + 1)))
+LiesIn blocks rules.CallNumbers place = (place ≡ page_start 1) ⊎ ((slot : ℕ) × (slot < 16)
+    × (place ≡ page_start (header_number slot + 1)))
 LiesIn blocks rules.SlotHeader place = (slot : ℕ) × (slot < 16) × (place ≡ page_start (header_number slot))
 LiesIn blocks rules.Anode place = IsAnodePlace place
 LiesIn blocks rules.ListBlock place = IsBlockPlace blocks place

@@ -27,7 +27,8 @@ abbrev pub times_reached : List Link → ℕ → ℕ
 times_reached links anode = count_by (λ link. (link.to == anode) && is_reached links link.from) links
 
 abbrev pub times_under : List Link → ℕ → ℕ → ℕ
-times_under links anode unique = count_by (λ link. (link.to == anode) && (link.unique == unique) && is_reached links link.from) links
+times_under links anode unique = count_by (λ link. (link.to == anode) && (link.unique == unique)
+    && is_reached links link.from) links
 
 -- No entry leads to the root or to a free anode, and just one to each object else, under its unique number.
 unfoldable pub is_reached_right : List Link → ℕ → List ℕ → Bool
@@ -41,7 +42,9 @@ links_of disk slot = joined (links_at disk slot) 64
 
 -- the faults of reach of a slot
 abbrev pub reach_fault : Aggregate → ℕ → ℕ → List Fault
-reach_fault disk slot i = unless (is_reached_right (links_of disk slot) (i + 1) (anode_page disk slot i)) (page_start (anode_number slot i)) rules.Reach
+reach_fault disk slot i =
+    unless (is_reached_right (links_of disk slot) (i + 1) (anode_page disk slot i)) (page_start (anode_number slot i))
+    rules.Reach
 
 unfoldable pub reach_faults : Aggregate → ℕ → List Fault
 reach_faults disk slot = if is_whole (state_at disk slot) then joined (reach_fault disk slot) 64 else []

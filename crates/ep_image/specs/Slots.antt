@@ -22,7 +22,8 @@ are_alike disk a b =
 
 -- whether no slot before one has a fileset that is like its own
 abbrev pub is_first : Aggregate → ℕ → Bool
-is_first disk slot = each_below (λ earlier. not (is_taken_slot (state_at disk earlier)) || not (are_alike disk earlier slot)) slot
+is_first disk slot = each_below (λ earlier. not (is_taken_slot (state_at disk earlier))
+    || not (are_alike disk earlier slot)) slot
 
 -- the pages of a free slot are zero
 abbrev pub is_slot_free : Aggregate → ℕ → Bool
@@ -35,7 +36,8 @@ is_slot_header disk slot =
 
 unfoldable pub is_slot_numbers : Aggregate → ℕ → Bool
 is_slot_numbers disk slot =
-    if is_slot_free disk slot then are_zero 0 512 (numbers_page disk slot) else is_numbers_page (numbers_page disk slot)
+    if is_slot_free disk slot then are_zero 0 512 (numbers_page disk slot)
+    else is_numbers_page (numbers_page disk slot)
 
 -- how many objects a fileset may have, 64 where its header tells no limit
 abbrev pub limit_of : List ℕ → ℕ

@@ -1,5 +1,5 @@
-/// An entry of a directory: it leads from the directory's anode to another one, under a unique number. Anodes are counted
-/// from 1.
+/// An entry of a directory: it leads from the directory's anode to another one, under a unique number. Anodes
+/// are counted from 1.
 #[derive(Clone, Copy)]
 pub struct Link {
     pub from: u8,

@@ -7,7 +7,8 @@ pub fn blank_law()
     ensures none { BlankHasNone }
 {}
 
-/// A disk has a superblock exactly where it is that of a log, and names a server from 1 to 4 and 1,092 blocks at least.
+/// A disk has a superblock exactly where it is that of a log, and names a server from 1 to 4 and 1,092 blocks
+/// at least.
 pub fn superblock_law()
     ensures { SuperblockIsOne }
 {}
@@ -17,7 +18,8 @@ pub fn place_law()
     ensures { FaultsLieInParts }
 {}
 
-/// A disk has an image for a server exactly where it isn't blank, its superblock names the server, and it has no faults.
+/// A disk has an image for a server exactly where it isn't blank, its superblock names the server, and it has
+/// no faults.
 pub fn image_law()
     ensures { ImageIsThere }
 {}

@@ -36,7 +36,8 @@ are_lists page =
 
 -- the direct pointers of a directory's bytes all name a block
 abbrev pub has_no_hole : List ℕ → Bool
-has_no_hole page = each_below (λ i. not (byte_at page 0 == 1) || nat_le (bytes_in page) (1024 * i) || not (page_pointer (3 + i) page == 0)) 12
+has_no_hole page = each_below (λ i. not (byte_at page 0 == 1) || nat_le (bytes_in page) (1024 * i)
+    || not (page_pointer (3 + i) page == 0)) 12
 
 -- whether it is the page of a file or directory whose pointers are numbers of blocks and one, or zero
 unfoldable pub is_object_page : ℕ → List ℕ → Bool

@@ -10,11 +10,12 @@ use Rattle.ep_pages.specs.Words.{each_below, are_zero, name_at, is_name_at}
 abbrev pub map_pointer : ℕ → List ℕ → ℕ
 map_pointer j block = number_at 4 (4 * j) block
 
--- Whether a block is the indirect block of an anode with so many bytes: each pointer is a block's number and one, or zero.
--- None is zero below the end of a directory's bytes.
+-- Whether a block is the indirect block of an anode with so many bytes: each pointer is a block's number and
+-- one, or zero. None is zero below the end of a directory's bytes.
 unfoldable pub is_map : ℕ → Bool → ℕ → List ℕ → Bool
 is_map blocks is_directory bytes block =
-    each_below (λ j. nat_le (map_pointer j block) blocks && (not is_directory || nat_le bytes (1024 * (12 + j)) || not (map_pointer j block == 0))) 52
+    each_below (λ j. nat_le (map_pointer j block) blocks && (not is_directory || nat_le bytes (1024 * (12 + j))
+    || not (map_pointer j block == 0))) 52
     && are_zero 208 816 block
 
 -- The bytes of a directory are those of its blocks, one after another; entry e stands from byte 72 * e on.
@@ -30,10 +31,12 @@ entry_unique bytes e = number_at 4 (72 * e + 68) bytes
 -- whether entry e is one: a name, which is behind that of the entry before it, and an anode from 1 to 64
 unfoldable pub is_entry : List ℕ → ℕ → Bool
 is_entry bytes e =
-    is_name_at (72 * e) bytes && are_zero (72 * e + 61) 3 bytes && nat_le 1 (entry_anode bytes e) && nat_le (entry_anode bytes e) 64
+    is_name_at (72 * e) bytes && are_zero (72 * e + 61) 3 bytes && nat_le 1 (entry_anode bytes e)
+    && nat_le (entry_anode bytes e) 64
     && ((e == 0) || is_before (entry_name bytes (e - 1)) (entry_name bytes e))
 
--- whether block i of a directory of so many entries holds what it should: the entries that begin in it, and then zeros
+-- whether block i of a directory of so many entries holds what it should: the entries that begin in it, and
+-- then zeros
 unfoldable pub is_entry_block : ℕ → List ℕ → ℕ → Bool
 is_entry_block count bytes i =
     each_below (λ e. not (72 * e / 1024 == i) || is_entry bytes e) count

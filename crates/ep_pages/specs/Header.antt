@@ -1,6 +1,6 @@
--- The header of a fileset's slot: 0 the state, 4..8 the id, 8..12 the limit of objects, 12..73 the name. In format 2, 73 the
--- other server of a fileset that leaves, arrives or is gone, 76..80 how often it moved, 80..88 its ship number where it
--- leaves or arrives, and 88..92 how many of its parts were taken where it arrives.
+-- The header of a fileset's slot: 0 the state, 4..8 the id, 8..12 the limit of objects, 12..73 the name. In
+-- format 2, 73 the other server of a fileset that leaves, arrives or is gone, 76..80 how often it moved, 80..88
+-- its ship number where it leaves or arrives, and 88..92 how many of its parts were taken where it arrives.
 use Rattle.std.specs.Prelude.{ℕ, ◌+◌, ◌*◌, ◌/◌, ◌%◌, ◌==◌, ◌&&◌, ◌||◌, not, nat_le, nat_lt, Bool, true, false, List, if◌then◌else◌}
 use Rattle.dfs_base.specs.Image.{byte_at}
 use Rattle.ep_layout.specs.Numbers.{number_at}
@@ -49,8 +49,10 @@ is_other home other = nat_le 1 other && nat_le other 4 && not (other == home)
 
 -- what stands behind the name in format 2: other server, ship number and parts, by the state
 abbrev pub are_moves : ℕ → List ℕ → List ℕ → SlotState → Bool
-are_moves home server page Leaving = is_other home (byte_at page 73) && nat_le (number_at 8 80 page) (number_at 8 32 server) && are_zero 88 4 page
-are_moves home server page Arriving = is_other home (byte_at page 73) && nat_le 1 (number_at 4 88 page) && nat_le (number_at 4 88 page) (number_at 4 8 page)
+are_moves home server page Leaving = is_other home (byte_at page 73)
+    && nat_le (number_at 8 80 page) (number_at 8 32 server) && are_zero 88 4 page
+are_moves home server page Arriving = is_other home (byte_at page 73) && nat_le 1 (number_at 4 88 page)
+    && nat_le (number_at 4 88 page) (number_at 4 8 page)
 are_moves home server page Gone = is_other home (byte_at page 73) && are_zero 80 12 page
 are_moves home server page _ = are_zero 73 1 page && are_zero 80 12 page
 
@@ -60,8 +62,8 @@ is_behind home server page =
     if byte_at server 29 == 0 then are_zero 73 439 page
     else are_zero 74 2 page && are_moves home server page (state_of server page) && are_zero 92 420 page
 
--- Whether a page is the header of a fileset at a server, by the server's page. That no two slots have one id or one name,
--- and no two are leaving, is judged apart.
+-- Whether a page is the header of a fileset at a server, by the server's page. That no two slots have one id or
+-- one name, and no two are leaving, is judged apart.
 unfoldable pub is_header : ℕ → List ℕ → List ℕ → Bool
 is_header home server page =
     is_taken_slot (state_of server page) && are_zero 1 3 page && is_id home (number_at 4 8 server) (id_of page)

@@ -1,5 +1,5 @@
--- A page of call numbers: for each host 0 to 16 24 bytes, which are the number of its last change, the number of its last
--- give-back, the code of the reply and the right that it says is missing.
+-- A page of call numbers: for each host 0 to 16 24 bytes, which are the number of its last change, the number
+-- of its last give-back, the code of the reply and the right that it says is missing.
 use Rattle.std.specs.Prelude.{ℕ, ◌+◌, ◌*◌, ◌&&◌, nat_lt, Bool, List}
 use Rattle.dfs_base.specs.Image.{byte_at}
 use Rattle.dfs_calls.specs.declared.ship.Record.{Record}
@@ -8,7 +8,8 @@ use Rattle.ep_pages.specs.Words.{each_below, are_zero}
 use Rattle.ep_pages.specs.Server.{is_code}
 
 unfoldable pub is_record : ℕ → List ℕ → Bool
-is_record at page = is_code (byte_at page (at + 16)) && nat_lt (byte_at page (at + 17)) 64 && are_zero (at + 18) 6 page
+is_record at page = is_code (byte_at page (at + 16)) && nat_lt (byte_at page (at + 17)) 64
+    && are_zero (at + 18) 6 page
 
 -- whether it is a page of call numbers
 unfoldable pub is_numbers_page : List ℕ → Bool

@@ -1,6 +1,6 @@
--- The page of a server: 0..8 the epoch, 8..12 the next fileset number, 12..29 the states of hosts 0 to 16, 29 the format, 0
--- for format 1. In format 2, 32..40 the last ship number that the server gave, and from 40 on 16 bytes for each server: the
--- last ship number taken from it, and a reply code.
+-- The page of a server: 0..8 the epoch, 8..12 the next fileset number, 12..29 the states of hosts 0 to 16, 29
+-- the format, 0 for format 1. In format 2, 32..40 the last ship number that the server gave, and from 40 on 16
+-- bytes for each server: the last ship number taken from it, and a reply code.
 use Rattle.std.specs.Prelude.{ℕ, ◌+◌, ◌*◌, ◌==◌, ◌&&◌, nat_le, Bool, List, [], ◌∷◌, if◌then◌else◌}
 use Rattle.std.specs.List.{list_all}
 use Rattle.dfs_base.specs.Image.{byte_at, bytes_from}

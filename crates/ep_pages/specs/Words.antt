@@ -20,4 +20,5 @@ name_at at bytes = bytes_from bytes (at + 1) (min (byte_at bytes at) 60)
 -- whether a name stands at a place: its length, the name, and zeros up to 60 bytes
 unfoldable pub is_name_at : ℕ → List ℕ → Bool
 is_name_at at bytes =
-    nat_le (byte_at bytes at) 60 && is_name (name_at at bytes) && are_zero (at + 1 + byte_at bytes at) (60 - byte_at bytes at) bytes
+    nat_le (byte_at bytes at) 60 && is_name (name_at at bytes)
+    && are_zero (at + 1 + byte_at bytes at) (60 - byte_at bytes at) bytes

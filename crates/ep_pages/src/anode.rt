@@ -109,7 +109,8 @@ fn are_lists(page: &[u8; PAGE]) -> bool
 
 fn is_no_hole(page: &[u8; PAGE], i: usize) -> bool
     requires { i < 12 }
-    ensures { result ≡ (not (byte_at page.now 0 == 1) || nat_le (bytes_there page.now) (1024 * i) || not (pointer_there (3 + i) page.now == 0)) }
+    ensures { result ≡ (not (byte_at page.now 0 == 1) || nat_le (bytes_there page.now) (1024 * i)
+        || not (pointer_there (3 + i) page.now == 0)) }
 {
     page[0] != DIRECTORY || bytes_in(page) <= 1_024 * i as u32 || page_pointer(page, 3 + i) != 0
 }

@@ -34,14 +34,16 @@ fn is_map_pointer(
     j: usize,
 ) -> bool
     requires { j < 52 }
-    ensures { result ≡ (nat_le (pointer_there j block.now) blocks && (not is_directory || nat_le bytes (1024 * (12 + j)) || not (pointer_there j block.now == 0))) }
+    ensures { result ≡ (nat_le (pointer_there j block.now) blocks && (not is_directory
+        || nat_le bytes (1024 * (12 + j)) || not (pointer_there j block.now == 0))) }
 {
     let pointer = map_pointer(block, j);
     pointer <= blocks && (!is_directory || bytes <= 1_024 * (12 + j as u32) || pointer != 0)
 }
 
 fn are_map_pointers(block: &[u8; BLOCK], blocks: u32, is_directory: bool, bytes: u32) -> bool
-    ensures { result ≡ each_below (λ (j : ℕ). nat_le (pointer_there j block.now) blocks && (not is_directory || nat_le bytes (1024 * (12 + j)) || not (pointer_there j block.now == 0))) 52 }
+    ensures { result ≡ each_below (λ (j : ℕ). nat_le (pointer_there j block.now) blocks && (not is_directory
+        || nat_le bytes (1024 * (12 + j)) || not (pointer_there j block.now == 0))) 52 }
 {
     for j in 0..POINTERS {
         if !is_map_pointer(block, blocks, is_directory, bytes, j) {
@@ -95,8 +97,8 @@ fn is_entry(bytes: &[u8], e: usize) -> bool
         && (e == 0 || is_behind(bytes, e))
 }
 
-/// Whether block `i` of a directory of so many entries holds what it should. The bytes are those of its blocks, one after
-/// another.
+/// Whether block `i` of a directory of so many entries holds what it should. The bytes are those of its blocks,
+/// one after another.
 #[tactic(auto, unfolding(crate::specs::Blocks::is_entry_block))]
 pub fn is_entry_block(bytes: &[u8], count: usize, i: usize) -> bool
     requires room { 72 * count ≤ length bytes.now }
@@ -140,7 +142,8 @@ fn is_content(bytes: &[u8], count: usize, i: usize, k: usize) -> bool
 fn is_zero_behind(bytes: &[u8], count: usize, i: usize) -> bool
     requires room { 72 * count ≤ length bytes.now }
     requires there { 1024 * i + 1024 ≤ length bytes.now }
-    ensures { result ≡ each_below (λ (k : ℕ). nat_lt (1024 * i + k) (72 * count) || (byte_at bytes.now (1024 * i + k) == 0)) 1024 }
+    ensures { result ≡ each_below (λ (k : ℕ). nat_lt (1024 * i + k) (72 * count)
+        || (byte_at bytes.now (1024 * i + k) == 0)) 1024 }
 {
     for k in 0..BLOCK {
         if !is_content(bytes, count, i, k) {

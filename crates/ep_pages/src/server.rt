@@ -66,7 +66,8 @@ fn is_taken(page: &[u8; PAGE], at: usize) -> bool
 }
 
 fn are_taken(page: &[u8; PAGE]) -> bool
-    ensures { result ≡ (is_taken 40 page.now && is_taken 56 page.now && is_taken 72 page.now && is_taken 88 page.now) }
+    ensures { result ≡ (is_taken 40 page.now && is_taken 56 page.now && is_taken 72 page.now
+        && is_taken 88 page.now) }
 {
     is_taken(page, 40) && is_taken(page, 56) && is_taken(page, 72) && is_taken(page, 88)
 }

@@ -1,0 +1,20 @@
+//! Laws of the pages of an aggregate: what a page says determines each of its bytes, so that damage to a byte
+//! is a fault or makes the page say something else. Each function does nothing, and what it ensures is a law.
+#![tactic(auto)]
+
+ghost use Rattle.page_laws.specs.Laws.{
+  FreePagesAreOne,
+  HeadersAreOne,
+  NumbersPagesAreOne,
+  ObjectPagesAreOne,
+  ServerPagesAreOne,
+};
+
+/// Two pages of one kind that say the same are the same: each byte is judged, or is part of what the page says.
+pub fn page_law()
+    ensures server { ServerPagesAreOne }
+    ensures numbers { NumbersPagesAreOne }
+    ensures headers { HeadersAreOne }
+    ensures objects { ObjectPagesAreOne }
+    ensures free { FreePagesAreOne }
+{}
