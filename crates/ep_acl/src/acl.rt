@@ -20,8 +20,8 @@ use ep_log::{Log, Tx};
 use std::alloc::Global;
 
 /// An access list of an anode: 0 its own, and of a directory 1 the one for new files and 2 the one for new directories.
-/// `page` is the anode's metadata page. It answers `BadList` exactly where the list's block, which is zero where the anode
-/// has none, holds no access list with zeros behind it. The other errors are `Failed` and `Memory`.
+/// `page` is the anode's metadata page. It answers `BadList` exactly where the list's block, which is zero where the
+/// anode has none, holds no access list with zeros behind it. The other errors are `Failed` and `Memory`.
 pub fn load<D: Disk>(
     alloc: Global,
     log: &mut Log<D>,
@@ -47,11 +47,11 @@ pub fn load<D: Disk>(
     Ok(list_from(alloc, &bytes)?)
 }
 
-/// Saves an access list of an anode: 0 its own, and of a directory 1 the one for new files and 2 the one for new directories.
-/// A `load` gives it from then on. `page` is the anode's metadata page.
+/// Saves an access list of an anode: 0 its own, and of a directory 1 the one for new files and 2 the one for new
+/// directories. A `load` gives it from then on. `page` is the anode's metadata page.
 ///
-/// Room: two free blocks, for the list and for the indirect block; the transaction may put the page and all pages of counts.
-/// `Failed`: mount the log again. `Memory`: undo the transaction, which may hold some of the puts.
+/// Room: two free blocks, for the list and for the indirect block; the transaction may put the page and all pages of
+/// counts. `Failed`: mount the log again. `Memory`: undo the transaction, which may hold some of the puts.
 pub fn save<D: Disk>(
     alloc: Global,
     log: &mut Log<D>,

@@ -1,10 +1,12 @@
 // The bytes of access lists.
-ghost use Rattle.std.specs.Prelude.{◌≡◌, ◌≤◌, ◌<◌, ◌+◌, ◌*◌, ◌++◌, ◌∷◌, ◌↔◌, [], ℕ, List, IfOk, OnOk, IsTrue, length, vec_len};
+ghost use Rattle.std.specs.Prelude.{◌≡◌, ◌≤◌, ◌<◌, ◌+◌, ◌*◌, ◌++◌, ◌∷◌, ◌↔◌, [], ℕ, List, IfOk, OnOk, IsTrue};
+ghost use Rattle.std.specs.Prelude.{length, vec_len};
 ghost use Rattle.std.proofs.Common.{get_or};
 ghost use Rattle.dfs_base.specs.Name.{is_name};
 ghost use Rattle.dfs_base.specs.declared.access.AccessEntry.{AccessEntry as Entry};
 ghost use Rattle.dfs_base.specs.declared.access.Who.{Who as Whom};
-ghost use Rattle.ep_acl.specs.Lists.{who_bytes, entry_bytes, list_bytes, FitsWho, FitsEntry, EachFits, HoldsList, NameStands, WhoStands, EntryStands, IsReadAs};
+ghost use Rattle.ep_acl.specs.Lists.{who_bytes, entry_bytes, list_bytes, FitsWho, FitsEntry, EachFits, HoldsList};
+ghost use Rattle.ep_acl.specs.Lists.{NameStands, WhoStands, EntryStands, IsReadAs};
 
 use dfs_base::{
     AccessEntry, AccessList, Items, ListRefused, Name, NameRefused, NoMemory, Rights, Who,

@@ -1,5 +1,5 @@
-//! The access lists of anodes, each in a block of its own: its own list, and of a directory those for new files and for new
-//! directories.
+//! The access lists of anodes, each in a block of its own: an anode's own, and of a directory those for new files and
+//! for new directories.
 #![tactic(auto)]
 
 mod acl;

@@ -7,3 +7,5 @@ pub mod Staying
 pub mod Few
 pub mod Staging
 pub mod Room
+pub mod Ending
+pub mod Starting

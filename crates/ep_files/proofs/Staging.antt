@@ -16,7 +16,7 @@ use Rattle.ep_files.specs.Holds.{stage_of, Holds}
 use Rattle.ep_files.proofs.Staying.{holds_kept}
 
 -- a number of two bytes
-two_bytes : (at : ℕ) (xs : List ℕ) → number_at 2 at xs ≡ 256 * byte_at xs at + byte_at xs (at + 1)
+pub two_bytes : (at : ℕ) (xs : List ℕ) → number_at 2 at xs ≡ 256 * byte_at xs at + byte_at xs (at + 1)
 unfolding number_at
 two_bytes at xs = (let e : suc at ≡ at + 1 = omega arith in omega (arith, ap (byte_at xs) e))
 

@@ -1,5 +1,6 @@
 -- All anodes of an aggregate at once.
-use Rattle.std.specs.Prelude.{◌≡◌, ◌≢◌, ◌≤◌, ◌<◌, ℕ, zero, suc, ◌+◌, ◌-◌, ◌*◌, ◌/◌, ◌%◌, ◌==◌, ◌&&◌, Bool, true, List, if◌then◌else◌, nat_lt, nat_le, take, drop}
+use Rattle.std.specs.Prelude.{[], ◌≡◌, ◌≢◌, ◌≤◌, ◌<◌, ℕ, zero, suc, ◌+◌, ◌-◌, ◌*◌, ◌/◌, ◌%◌, ◌==◌, ◌&&◌}
+use Rattle.std.specs.Prelude.{Bool, true, List, if◌then◌else◌, nat_lt, nat_le, take, drop}
 use Rattle.ep_layout.specs.Numbers.{number_at}
 use Rattle.ep_layout.specs.Pages.{stage}
 use Rattle.ep_log.specs.Puts.{page_of}
@@ -33,24 +34,39 @@ map_names blocks image block m = how_many (λ j. number_at 4 (4 * j) (map_under 
 abbrev pub is_indirect : (ℕ → ℕ) → ℕ → Bool
 is_indirect indirect m = nat_lt 0 (how_many (λ p. indirect p == m + 1) 1058)
 
--- How many pointers name a block: those in pages, and those in indirect blocks, which are counted once for all anodes that
--- share one.
+-- How many pointers name a block: those in pages, and those in indirect blocks, once for all anodes that share one.
 abbrev pub total : (front indirect maps : ℕ → ℕ) → ℕ → ℕ
-total front indirect maps blocks = sum_below front 1058 + sum_below (λ m. if is_indirect indirect m then maps m else 0) blocks
+total front indirect maps blocks =
+    sum_below front 1058 + sum_below (λ m. if is_indirect indirect m then maps m else 0) blocks
 
 abbrev pub pointers_to : ℕ → (ℕ → List ℕ) → List ℕ → ℕ → ℕ
-pointers_to blocks pages image block = total (page_names blocks pages image block) (indirect_of blocks pages image) (map_names blocks image block) blocks
+pointers_to blocks pages image block =
+    total (page_names blocks pages image block) (indirect_of blocks pages image) (map_names blocks image block) blocks
 
--- Pages and blocks hold these anodes: the counts are those of the pointers, no anode names a block twice, an indirect block
--- is named as such alone, all bytes without a meaning are zero, and a free anode has no blocks.
+-- Pages and blocks hold these anodes: the counts are those of the pointers, no anode names a block twice, an indirect
+-- block is named as such alone, all bytes without a meaning are zero, and a free anode has no blocks.
 pub record Holds (anodes : ℕ → Anode) (blocks : ℕ) (pages : ℕ → List ℕ) (image : List ℕ) : Type 0 where
   pub anode : (p : ℕ) → is_anode p ≡ true → anode_of image (node_of blocks image (pages p)) ≡ anodes p
-  pub counts : (block : ℕ) → block < blocks → number_at 2 (count_place block) (pages (count_page block)) ≡ pointers_to blocks pages image block
+  pub counts : (block : ℕ) → block < blocks
+      → number_at 2 (count_place block) (pages (count_page block)) ≡ pointers_to blocks pages image block
   pub once : (p block : ℕ) → is_anode p ≡ true → block < blocks → names (node_of blocks image (pages p)) block ≤ 1
-  pub apart : (p q w block : ℕ) → is_anode p ≡ true → is_anode q ≡ true → block < blocks → pointer_of (node_of blocks image (pages p)) 15 ≡ block + 1
+  pub apart : (p q w block : ℕ) → is_anode p ≡ true → is_anode q ≡ true → block < blocks
+      → pointer_of (node_of blocks image (pages p)) 15 ≡ block + 1
       → w < 68 → w ≢ 15 → pointer_of (node_of blocks image (pages q)) w ≡ block + 1 → ⊥
   pub tidy : (p : ℕ) → is_anode p ≡ true → IsTidy image (node_of blocks image (pages p))
   pub bare : (p : ℕ) → is_anode p ≡ true → (anodes p).kind ≡ 0 → HasNoBlocks (node_of blocks image (pages p))
+
+-- the anode of a page that never had one
+abbrev pub no_anode : Anode
+no_anode = record {
+  kind = 0;
+  unique = 0;
+  length = 0;
+  owner = [];
+  group = [];
+  lists = λ which k. 0;
+  content = λ k. 0;
+}
 
 -- what a log holds now
 abbrev pub HoldsNow : (ℕ → Anode) → State → List ℕ → Type 0

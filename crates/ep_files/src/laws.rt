@@ -1,20 +1,33 @@
 // What each call on an anode leaves of all anodes.
-ghost use Rattle.std.specs.Prelude.{◌≡◌, ◌≢◌, ◌<◌, ◌≤◌, ◌+◌, ℕ, List, true};
+ghost use Rattle.std.specs.Prelude.{◌≡◌, ◌≢◌, ◌<◌, ◌≤◌, ◌+◌, ℕ, List, [], true, take, drop};
 ghost use Rattle.ep_layout.specs.Numbers.{number_at};
-ghost use Rattle.ep_layout.specs.Places.{pages_of};
+ghost use Rattle.ep_layout.specs.Places.{pages_of, SameBlocks};
+ghost use Rattle.ep_layout.specs.Pages.{ends_in, pages_in, HasWhole, LeftFirst};
+ghost use Rattle.ep_log.specs.Recovered.{blank_page};
+ghost use Rattle.ep_log.specs.Contents.{Contents, stage_in, last_stage, AppendsStage, KeepsLast};
+ghost use Rattle.ep_log.specs.Puts.{without};
 ghost use Rattle.ep_log.specs.State.{State};
 ghost use Rattle.ep_space.specs.Counts.{count_page, count_place, count_now, count_settled};
 ghost use Rattle.ep_anode.specs.Anode.{Anode, anode_in, IsTidy, IsBare};
 ghost use Rattle.ep_anode.specs.Node.{names, no_names, node_in, HasNoBlocks};
 ghost use Rattle.ep_anode.specs.Room.{free_blocks};
-ghost use Rattle.ep_anode.specs.Changes.{own_names, SameBlock, WritesLoose, AreCounted, AreFew, Changed, Made, SharesBlocks};
-ghost use Rattle.ep_files.specs.Holds.{is_anode, set_at, Holds, HoldsNow, stage_of, all_blocks};
+ghost use Rattle.ep_anode.specs.Changes.{own_names, SameBlock, WritesLoose, AreCounted, AreFew};
+ghost use Rattle.ep_anode.specs.Changes.{Changed, Made, SharesBlocks};
+ghost use Rattle.ep_files.specs.Holds.{is_anode, set_at, Holds, HoldsNow, stage_of, no_anode, all_blocks};
+
+/// A new aggregate, whose pages are zero but for the server's, has no anodes.
+pub fn new_holds()
+    ensures { (blocks : ℕ) (pages : ℕ → List ℕ) (image : List ℕ)
+        → ((p : ℕ) → 1 ≤ p → p < pages_of blocks → pages p ≡ blank_page)
+        → Holds (λ p. no_anode) blocks pages image }
+{}
 
 /// What a call on an anode asks of its pointers holds where all anodes are held.
 pub fn asked_holds()
     ensures { (anodes : ℕ → Anode) (page : ℕ) (state : State) (image : List ℕ)
         → is_anode page ≡ true → HoldsNow anodes state image
-        → AreCounted (names (node_in state image page)) state image × AreFew (names (node_in state image page)) state image }
+        → AreCounted (names (node_in state image page)) state image
+        × AreFew (names (node_in state image page)) state image }
 {}
 
 /// A call that changes the anode in a page changes it among all, and no other one. Where the page has no anode then, no
@@ -48,8 +61,8 @@ pub fn copied_holds()
         → HoldsNow (set_at page (anodes from) anodes) new after }
 {}
 
-/// A stage of the log, which is what its pages are after the first `k` transactions that ended since the last force, holds
-/// the same anodes after a call that changes pages and free blocks alone.
+/// A stage of the log, which is what its pages are after the first `k` transactions that ended since the last force,
+/// holds the same anodes after a call that changes pages and free blocks alone.
 pub fn staged_holds()
     ensures { (anodes : ℕ → Anode) (named : ℕ → ℕ) (old new : State) (before after : List ℕ) (k : ℕ)
         → Holds anodes old.superblock.blocks (stage_of old before k) before
@@ -65,8 +78,38 @@ pub fn crashed_holds()
         → Holds anodes state.superblock.blocks (stage_of state image k) after }
 {}
 
-/// Room: where each block that no pointer names now is free, as after a force, all blocks are free but those that the anodes
-/// have, which are 4 and those of their bytes each at most.
+/// The end of the only open transaction makes a stage of the log that holds what is held now.
+pub fn ended_holds()
+    ensures { (anodes : ℕ → Anode) (old new : State) (image : List ℕ) (slot : ℕ)
+        → HoldsNow anodes old image
+        → HasWhole (take old.forced old.entries) (drop old.forced old.entries) image
+        → without slot old.puts ≡ []
+        → AppendsStage slot (record { state = old; image = image }) (record { state = new; image = image })
+        → Holds anodes old.superblock.blocks (stage_of new image (ends_in (drop new.forced new.entries))) image }
+{}
+
+/// After a force, stage 0 holds what the last stage held.
+pub fn forced_holds()
+    ensures { (anodes : ℕ → Anode) (old new : Contents)
+        → old.state.half.pages ≡ pages_of old.state.superblock.blocks
+        → Holds anodes old.state.superblock.blocks (stage_in old (last_stage old)) old.image
+        → KeepsLast old new → SameBlocks (pages_of old.state.superblock.blocks) old.image new.image
+        → Holds anodes old.state.superblock.blocks (stage_in new 0) new.image }
+{}
+
+/// What a crash in a force leaves in stage `k` holds, after redo and undo, what this stage held.
+pub fn left_holds()
+    ensures { (anodes : ℕ → ℕ → Anode) (told : Contents) (generation : ℕ) (d c : List ℕ) (k : ℕ)
+        → (left : LeftFirst told.state.superblock generation (take told.state.forced told.state.entries)
+        (drop told.state.forced told.state.entries) told.image d c k)
+        → Holds (anodes 0) told.state.superblock.blocks (stage_in told 0) d
+        → ((j : ℕ) → j ≤ last_stage told
+        → Holds (anodes j) told.state.superblock.blocks (stage_in told j) told.image)
+        → Holds (anodes k) told.state.superblock.blocks (λ p. pages_in left.log.half c p) c }
+{}
+
+/// Room by one law: where each block that no pointer names now is free, as after a force, all blocks are free but those
+/// that the anodes have, which are 4 and those of their bytes each at most.
 pub fn room_holds()
     ensures { (anodes : ℕ → Anode) (state : State) (image : List ℕ)
         → HoldsNow anodes state image
@@ -78,6 +121,7 @@ pub fn room_holds()
 pub fn kept_holds()
     ensures { (anodes : ℕ → Anode) (blocks : ℕ) (old new : ℕ → List ℕ) (before after : List ℕ)
         → Holds anodes blocks old before → ((p : ℕ) → p < pages_of blocks → new p ≡ old p)
-        → ((b : ℕ) → b < blocks → 1 ≤ number_at 2 (count_place b) (old (count_page b)) → SameBlock blocks before after b)
+        → ((b : ℕ) → b < blocks → 1 ≤ number_at 2 (count_place b) (old (count_page b))
+        → SameBlock blocks before after b)
         → Holds anodes blocks new after }
 {}
