@@ -8,3 +8,4 @@ pub mod Law
 pub mod Example
 pub mod Restart
 pub mod Forgetting
+pub mod Effects

@@ -12,6 +12,7 @@ use Rattle.rpc_types.specs.declared.message.Direction.TheVariants.{ToHost}
 use Rattle.rpc_types.specs.declared.message.Body.{Body}
 use Rattle.rpc_types.specs.declared.message.Body.TheVariants.{Hello, Fetch, Grant, Change, Done, Revoke, Returned, Kept, GiveBack, Gone, Reclaim, Reclaimed, Restarted, Down, Bye}
 use Rattle.rpc_types.specs.declared.message.Message.{Message}
+use Rattle.rpc_types.specs.declared.asking.Change.{Change as ChangeOf}
 use Rattle.rpc_types.specs.declared.tokens.Named.{Named}
 use Rattle.rpc_types.specs.declared.tokens.Revoke.{Revoke as RevokeOf}
 use Rattle.rpc_types.specs.declared.telling.Grant.{Grant as GrantOf}
@@ -29,9 +30,10 @@ use Rattle.world_steps.specs.Lists.{In}
 use Rattle.world_steps.specs.Places.{home}
 use Rattle.world_steps.specs.Nodes.{own}
 use Rattle.world_steps.specs.Epochs.{epoch_at}
-use Rattle.world_steps.specs.Sends.{Sends, Returns, HasStopped, HasSaidBye}
+use Rattle.world_steps.specs.Sends.{Sends, Said, Returns, HasStopped, HasSaidBye}
 use Rattle.world_steps.specs.Gives.{number_of, Made, IsKnown}
 use Rattle.world_steps.specs.Tokens.{Held, AtHand, Drops, Leaves}
+use Rattle.world_steps.specs.Requests.{Changing}
 use Rattle.world_steps.specs.HostTokens.{HostTokens, Claims, IsClaimed}
 use Rattle.world_steps.specs.Acts.{Act, epoch, SentTo, acts}
 use Rattle.world_steps.specs.Acts.Act.{Begins, Took, Admits, Sent, Reserves}
@@ -241,6 +243,22 @@ module _ (whole : Span) where
   held : (t : Token) → In t (claim whole).tokens → Held five t
   held t m = (inr (inl m, λ d. elim d.1 [ ]), λ d. elim d.1 [ ])
 
+  -- no Change of the fileset was sent
+  said_change : (v : ServerId) (e n : ℕ) (c : ChangeOf) → Said five v e n (Change c) → c.fileset.0 ≡ 0
+  said_change v e n c p = said_five v e n (Change c) p
+
+  none_changing_five : (n : ℕ) (past : List Step) → ((v : ServerId) (e m : ℕ) (c : ChangeOf) → Said past v e m (Change c) → c.fileset.0 ≡ 0) → Changing past site_one root.fileset n → ⊥
+  none_changing_five n [] said a = elim a [ ]
+  none_changing_five n (s ∷ past) said (inl (c, (v, e, m, p, at), f, k), _) =
+      let q = said v e m c (inl p) in
+      let r : c.fileset.0 ≡ root.fileset.0 = ap (λ (x : FilesetId). x.0) f in
+      omega (arith, q, r)
+  none_changing_five n (s ∷ past) said (inr a, _) = none_changing_five n past (λ v e m c p. said v e m c (inr p)) a
+
+  none_changing : (n : ℕ) → Changing six site_one root.fileset n → ⊥
+  none_changing n (inl (c, (v, e, m, p, at), f, k), _) = (let q = (only_claim v e m (Change c) p).3 in cc)
+  none_changing n (inr a, _) = none_changing_five n five said_change a
+
   it_claims : Claims six site_one (claim whole)
   it_claims = record {
     held = λ t k i. elim k.0 [ inl m ↦ elim m [ ] | inr o ↦ mine t o ];
@@ -249,6 +267,9 @@ module _ (whole : Span) where
     numbers = both (λ x. (o : Outstanding) × In o (claim whole).numbers × (o.fileset ≡ x.fid.fileset)) (at_root, inl refl, refl) (at_root, inl refl, refl);
     moves = λ o m. ap (λ (x : Outstanding). x.moves) (sym (number_is o m));
     gives = λ o m up. absurd (it_waits o m up);
+    gives_all = λ o g m out f. absurd (none_made g out.made);
+    changes = λ o m up. absurd (let q : 0 ≡ o.change = ap (λ (x : Outstanding). x.change) (number_is o m) in omega (arith, q, up));
+    changes_all = λ o n m c. absurd (none_changing n (subst (λ (x : Outstanding). Changing six site_one x.fileset n) (sym (number_is o m)) c));
   }
 
   pub reclaims_may : HostTokens five (reclaims whole)

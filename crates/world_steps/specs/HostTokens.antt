@@ -44,11 +44,16 @@ pub record Claims (past : List Step) (server : ServerId) (claim : ReclaimOf) : T
   -- and no others
   pub only : (t : Token) → In t claim.tokens
       → EverHeld past t × IsClaimed past server t.id × (Held past t ⊎ IsInGive past claim t)
-  -- it says of each of their filesets how often it has moved, and which give-back is outstanding
+  -- it says of each of their filesets how often it has moved, and which give-back and which Change are outstanding:
+  -- their numbers, 0 for none
   pub numbers : (t : Token) → In t claim.tokens → (o : Outstanding) × In o claim.numbers × (o.fileset ≡ t.fid.fileset)
   pub moves : (o : Outstanding) → In o claim.numbers → o.moves ≡ (place past o.fileset).moves
   pub gives : (o : Outstanding) → In o claim.numbers → 0 < o.give
       → (g : Give) × IsOutstanding past g × (number_of g ≡ record { fileset = o.fileset; number = o.give })
+  pub gives_all : (o : Outstanding) (g : Give) → In o claim.numbers → IsOutstanding past g → g.fid.fileset ≡ o.fileset
+      → o.give ≡ g.number
+  pub changes : (o : Outstanding) → In o claim.numbers → 0 < o.change → Changing past server o.fileset o.change
+  pub changes_all : (o : Outstanding) (n : ℕ) → In o claim.numbers → Changing past server o.fileset n → o.change ≡ n
 
 -- what a host may do with tokens in a step
 pub record HostTokens (past : List Step) (s : Step) : Type 0 where

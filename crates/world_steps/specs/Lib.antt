@@ -18,3 +18,4 @@ pub mod TokenLaws
 pub mod Idle
 pub mod Worked
 pub mod Forgetting
+pub mod Effects

@@ -1,4 +1,5 @@
 ghost use Rattle.world_steps.specs.Idle.{MayDoNothing};
+ghost use Rattle.world_steps.specs.Effects.{Effects};
 ghost use Rattle.world_steps.specs.Forgetting.{Forgetting};
 ghost use Rattle.world_steps.specs.TokenLaws.{TokensNeverConflict};
 
@@ -20,4 +21,11 @@ pub fn tokens_never_conflict()
 /// and the numbers of give-backs and Changes outlive it. A flush lets the exporter's tokens go, and changes no host's.
 pub fn a_restart_forgets()
     ensures { Forgetting }
+{}
+
+/// What a server brings, and a claim that counts names, is granted; what comes back isn't, nor is anything of a host that
+/// is down; a Kept pins, a give-back that is taken is applied, a Change that is written down counts; and a Revoke raises
+/// the floor of its file at the host that takes it.
+pub fn a_doing_takes_effect()
+    ensures { Effects }
 {}

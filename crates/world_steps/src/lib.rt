@@ -9,6 +9,8 @@ mod step;
 mod worked;
 
 pub use applied::{Admission, Answer, Applied, Leave, Request, Wanted, Why, Written};
-pub use laws::{a_restart_forgets, nothing_is_allowed, tokens_never_conflict};
+pub use laws::{
+    a_doing_takes_effect, a_restart_forgets, nothing_is_allowed, tokens_never_conflict,
+};
 pub use step::{Asked, Cause, Labelled, Step};
 pub use worked::a_run_is_admitted;
