@@ -2,7 +2,7 @@
 use Rattle.std.proofs.Common.{◌≡◌, ◌<◌, ◌≤◌, ℕ, zero, suc, ◌+◌, ◌*◌, ◌/◌, List, [], ◌∷◌, ◌++◌, inl, inr, refl, sym, ◌∙◌, ap, arith, ◌⊎◌}
 use Rattle.std.specs.Prelude.{Bool, true, false, ◌&&◌, ◌||◌, ◌==◌, not, nat_le, nat_lt, if◌then◌else◌}
 use Rattle.std.specs.List.{list_all}
-use Rattle.std.proofs.lemmas.Bool.{and_from, and_left, and_right, eq-eqb, ne_eqb, le-leb, lt-ltb, cond-true, cond-false, cases_Bool}
+use Rattle.std.proofs.lemmas.Bool.{and_from, and_left, and_right, cases_eq, eq-eqb, ne_eqb, le-leb, lt-ltb, cond-true, cond-false, cases_Bool}
 use Rattle.dfs_base.specs.Image.{byte_at, bytes_from}
 use Rattle.ep_layout.specs.Numbers.{number_at}
 use Rattle.ep_layout.specs.Places.{page_start}
@@ -20,13 +20,15 @@ use Rattle.ep_image.specs.Slots.{state_at, is_slot_free, is_slot_header, is_slot
 use Rattle.ep_image.specs.Anodes.{unless, is_slot_anode, anode_faults, is_root_place, block_faults}
 use Rattle.ep_image.specs.Reach.{reach_fault, reach_faults}
 use Rattle.ep_image.specs.Counts.{uses_at, uses_of, is_count, is_count_place, is_count_page, count_fault, promise_by, promises, capacity_of, promise_fault}
-use Rattle.ep_image.specs.Faults.{slot_faults, faults_in}
+use Rattle.ep_image.specs.Faults.{slot_faults, faults_in, one_fault}
+use Rattle.std.proofs.lemmas.List.{append-nil}
+use Rattle.ep_pages.proofs.Each.{each_fails}
 use Rattle.ep_image.specs.declared.fault.Fault.{Fault}
 use Rattle.ep_image.specs.declared.fault.Rule.{Rule}
 use Rattle.ep_image.specs.declared.fault.Rule.TheVariants as rules
 use Rattle.ep_image.specs.declared.found.Use.{Use}
 use Rattle.ep_image.proofs.Words.{zeros_pass}
-use Rattle.image_laws.specs.Fresh.{IsFresh, FreshHasNone}
+use Rattle.image_laws.specs.Fresh.{IsEmpty, FreshHasNone, CountIsTold}
 
 each_true : (test : ℕ → Bool) (n : ℕ) → ((k : ℕ) → k < n → test k ≡ true) → each_below test n ≡ true
 unfolding each_below
@@ -42,6 +44,17 @@ total_zero : (number : ℕ → ℕ) (n : ℕ) → ((k : ℕ) → k < n → numbe
 unfolding total
 total_zero number zero none = refl
 total_zero number (suc n) none = (λ i. total_zero number n (λ k lt. none k (omega arith)) i + none n (omega arith) i) ∙ omega arith
+
+joined_one : {A : Type 0} (part : ℕ → List A) (n p : ℕ) → p < n → ((k : ℕ) → k < n → (k ≡ p → ⊥) → part k ≡ []) → joined part n ≡ part p
+unfolding joined
+joined_one part zero p lt none = absurd (omega arith)
+joined_one part (suc n) p lt none = elim (cases_eq p n) [
+  | inl e ↦ (λ i. joined_nil part n (λ k below. none k (omega arith) (λ is. omega (arith, is, e, below))) i ++ part n) ∙ ap part (sym e)
+  | inr apart ↦ (λ i. joined_one part n p (omega (arith, apart)) (λ k below. none k (omega arith)) i ++ none n (omega arith) (λ is. apart (sym is)) i) ∙ append-nil (part p)
+]
+
+wrong : (test : Bool) (place : ℕ) (rule : Rule) → test ≡ false → unless test place rule ≡ record { place = place; rule = rule } ∷ []
+wrong test place rule is = cond-false test [] (record { place = place; rule = rule } ∷ []) is
 
 right : (test : Bool) (place : ℕ) (rule : Rule) → test ≡ true → unless test place rule ≡ []
 right test place rule is = cond-true test [] (record { place = place; rule = rule } ∷ []) is
@@ -78,9 +91,9 @@ module _ (page : List ℕ) (none : (k : ℕ) → byte_at page k ≡ 0) where
   no_object : is_object page ≡ false
   no_object = (λ i. (none 0 i == 1) || (none 0 i == 2))
 
-module _ (disk : Aggregate) (fresh : IsFresh disk) where
-  zeros : (p : ℕ) → 1 ≤ p → (k : ℕ) → byte_at (page_of disk p) k ≡ 0
-  zeros p some k = fresh.zeros p some k
+module _ (disk : Aggregate) (fresh : IsEmpty disk) where
+  zeros : (p : ℕ) → 1 ≤ p → p < 1058 → (k : ℕ) → byte_at (page_of disk p) k ≡ 0
+  zeros p some below k = fresh.zeros p some below k
 
   server_right : is_server_page (server_page disk) ≡ true
   unfolding is_server_page is_taken
@@ -99,93 +112,117 @@ module _ (disk : Aggregate) (fresh : IsFresh disk) where
       (taken 72 (omega arith) (omega arith))) (taken 88 (omega arith) (omega arith))) (zeros_pass page 104 408 (λ k from below. high k (omega arith) (omega arith))) in
       and_from _ _ (and_from _ _ (and_from _ _ (le-leb 1 (number_at 4 8 page) (omega (arith, next))) (le-leb (number_at 4 8 page) 65536 (omega (arith, next)))) (states_zero page 12 17 (λ k from below. low k from (omega arith)))) rest
 
-  header_zero : (slot k : ℕ) → byte_at (header_page disk slot) k ≡ 0
-  header_zero slot k = zeros (header_number slot) (omega arith) k
+  header_zero : (slot : ℕ) → slot < 16 → (k : ℕ) → byte_at (header_page disk slot) k ≡ 0
+  header_zero slot there k = zeros (header_number slot) (omega arith) (omega arith) k
 
-  free : (slot : ℕ) → is_slot_free disk slot ≡ true
-  free slot = first_zero (header_page disk slot) (header_zero slot)
+  free : (slot : ℕ) → slot < 16 → is_slot_free disk slot ≡ true
+  free slot there = first_zero (header_page disk slot) (header_zero slot there)
 
-  state_free : (slot : ℕ) → state_at disk slot ≡ Free
-  state_free slot = (λ i. state_for (byte_at (server_page disk) 29) (header_zero slot 0 i))
+  state_free : (slot : ℕ) → slot < 16 → state_at disk slot ≡ Free
+  state_free slot there = (λ i. state_for (byte_at (server_page disk) 29) (header_zero slot there 0 i))
 
-  no_root : (slot i : ℕ) → is_root_place disk slot i ≡ false
-  no_root slot i = (λ j. (i == 0) && has_root (state_free slot j) (header_page disk slot)) ∙ and_right (i == 0) false refl
+  no_root : (slot i : ℕ) → slot < 16 → is_root_place disk slot i ≡ false
+  no_root slot i there = (λ j. (i == 0) && has_root (state_free slot there j) (header_page disk slot)) ∙ and_right (i == 0) false refl
 
-  header_right : (slot : ℕ) → is_slot_header disk slot ≡ true
+  header_right : (slot : ℕ) → slot < 16 → is_slot_header disk slot ≡ true
   unfolding is_slot_header
-  header_right slot = cond-true (is_slot_free disk slot) _ _ (free slot) ∙ zero_page (header_page disk slot) (header_zero slot) 0 512
+  header_right slot there = cond-true (is_slot_free disk slot) _ _ (free slot there) ∙ zero_page (header_page disk slot) (header_zero slot there) 0 512
 
-  numbers_right : (slot : ℕ) → is_slot_numbers disk slot ≡ true
+  numbers_right : (slot : ℕ) → slot < 16 → is_slot_numbers disk slot ≡ true
   unfolding is_slot_numbers
-  numbers_right slot = cond-true (is_slot_free disk slot) _ _ (free slot) ∙ zero_page (numbers_page disk slot) (zeros (header_number slot + 1) (omega arith)) 0 512
+  numbers_right slot there = cond-true (is_slot_free disk slot) _ _ (free slot there) ∙ zero_page (numbers_page disk slot) (zeros (header_number slot + 1) (omega arith) (omega arith)) 0 512
 
-  anode_zero : (slot i k : ℕ) → byte_at (anode_page disk slot i) k ≡ 0
-  anode_zero slot i k = zeros (anode_number slot i) (omega arith) k
+  anode_zero : (slot i : ℕ) → slot < 16 → i < 64 → (k : ℕ) → byte_at (anode_page disk slot i) k ≡ 0
+  anode_zero slot i there lt k = zeros (anode_number slot i) (omega arith) (omega arith) k
 
-  anode_right : (slot i : ℕ) → is_slot_anode disk slot i ≡ true
+  anode_right : (slot i : ℕ) → slot < 16 → i < 64 → is_slot_anode disk slot i ≡ true
   unfolding is_slot_anode
-  anode_right slot i =
+  anode_right slot i there lt =
       let page = anode_page disk slot i in
-      cond-true (byte_at page 0 == 0) _ _ (first_zero page (anode_zero slot i))
-      ∙ and_from _ _ (cond-true (is_slot_free disk slot) _ _ (free slot) ∙ zero_page page (anode_zero slot i) 0 512) (λ j. not (no_root slot i j))
+      cond-true (byte_at page 0 == 0) _ _ (first_zero page (anode_zero slot i there lt))
+      ∙ and_from _ _ (cond-true (is_slot_free disk slot) _ _ (free slot there) ∙ zero_page page (anode_zero slot i there lt) 0 512) (λ j. not (no_root slot i there j))
 
-  anode_none : (slot i : ℕ) → anode_faults disk slot i ≡ []
+  anode_none : (slot i : ℕ) → slot < 16 → i < 64 → anode_faults disk slot i ≡ []
   unfolding anode_faults
-  anode_none slot i =
-      λ j. right (is_slot_anode disk slot i) (page_start (anode_number slot i)) rules.Anode (anode_right slot i) j
-      ++ cond-false (is_object (anode_page disk slot i)) (block_faults disk slot i) [] (no_object (anode_page disk slot i) (anode_zero slot i)) j
+  anode_none slot i there lt =
+      λ j. right (is_slot_anode disk slot i) (page_start (anode_number slot i)) rules.Anode (anode_right slot i there lt) j
+      ++ cond-false (is_object (anode_page disk slot i)) (block_faults disk slot i) [] (no_object (anode_page disk slot i) (anode_zero slot i there lt)) j
 
-  slot_none : (slot : ℕ) → slot_faults disk slot ≡ []
+  slot_none : (slot : ℕ) → slot < 16 → slot_faults disk slot ≡ []
   unfolding slot_faults
-  slot_none slot =
-      λ j. (right (is_slot_header disk slot) (page_start (header_number slot)) rules.SlotHeader (header_right slot) j
-      ++ right (is_slot_numbers disk slot) (page_start (header_number slot + 1)) rules.CallNumbers (numbers_right slot) j)
-      ++ joined_nil (anode_faults disk slot) 64 (λ i lt. anode_none slot i) j
+  slot_none slot there =
+      λ j. (right (is_slot_header disk slot) (page_start (header_number slot)) rules.SlotHeader (header_right slot there) j
+      ++ right (is_slot_numbers disk slot) (page_start (header_number slot + 1)) rules.CallNumbers (numbers_right slot there) j)
+      ++ joined_nil (anode_faults disk slot) 64 (λ i lt. anode_none slot i there lt) j
 
-  reach_none : (slot : ℕ) → reach_faults disk slot ≡ []
+  reach_none : (slot : ℕ) → slot < 16 → reach_faults disk slot ≡ []
   unfolding reach_faults
-  reach_none slot = cond-false (is_whole (state_at disk slot)) (joined (reach_fault disk slot) 64) [] (λ j. is_whole (state_free slot j))
+  reach_none slot there = cond-false (is_whole (state_at disk slot)) (joined (reach_fault disk slot) 64) [] (λ j. is_whole (state_free slot there j))
 
-  uses_none : (slot i : ℕ) → uses_at disk slot i ≡ []
+  uses_none : (slot i : ℕ) → slot < 16 → i < 64 → uses_at disk slot i ≡ []
   unfolding uses_at
-  uses_none slot i = cond-false (is_object (anode_page disk slot i)) _ [] (no_object (anode_page disk slot i) (anode_zero slot i))
+  uses_none slot i there lt = cond-false (is_object (anode_page disk slot i)) _ [] (no_object (anode_page disk slot i) (anode_zero slot i there lt))
 
   no_uses : uses_of disk ≡ []
-  no_uses = joined_nil (λ slot. joined (uses_at disk slot) 64) 16 (λ slot lt. joined_nil (uses_at disk slot) 64 (λ i below. uses_none slot i))
+  no_uses = joined_nil (λ slot. joined (uses_at disk slot) 64) 16 (λ slot lt. joined_nil (uses_at disk slot) 64 (λ i below. uses_none slot i lt below))
 
-  count_zero : (p k : ℕ) → number_at 2 (2 * k) (page_of disk (1058 + p)) ≡ 0
-  unfolding number_at
-  count_zero p k = number_zero (page_of disk (1058 + p)) 2 (2 * k) (zeros (1058 + p) (omega arith))
+  abbrev count_of : ℕ → ℕ → ℕ
+  count_of p k = number_at 2 (2 * k) (page_of disk (1058 + p))
 
   unnamed : (block : ℕ) → is_count [] block 0 ≡ true
   unfolding is_count
   unnamed block = and_from _ _ (and_from _ _ refl (each_true (λ slot. true) 16 (λ slot lt. refl))) refl
 
-  count_right : (p k : ℕ) → is_count_place disk p k ≡ true
+  count_right : (p k : ℕ) → count_of p k ≡ 0 → is_count_place disk p k ≡ true
   unfolding is_count_place
-  count_right p k = by (cases_Bool (nat_lt (256 * p + k) disk.blocks))
+  count_right p k none = by (cases_Bool (nat_lt (256 * p + k) disk.blocks))
     where
       by : (nat_lt (256 * p + k) disk.blocks ≡ true) ⊎ (nat_lt (256 * p + k) disk.blocks ≡ false) → is_count_place disk p k ≡ true
-      by (inl is) = cond-true (nat_lt (256 * p + k) disk.blocks) _ _ is ∙ (λ j. is_count (no_uses j) (256 * p + k) (count_zero p k j)) ∙ unnamed (256 * p + k)
-      by (inr is) = cond-false (nat_lt (256 * p + k) disk.blocks) _ _ is ∙ eq-eqb (number_at 2 (2 * k) (page_of disk (1058 + p))) 0 (count_zero p k)
+      by (inl is) = cond-true (nat_lt (256 * p + k) disk.blocks) _ _ is ∙ (λ j. is_count (no_uses j) (256 * p + k) (none j)) ∙ unnamed (256 * p + k)
+      by (inr is) = cond-false (nat_lt (256 * p + k) disk.blocks) _ _ is ∙ eq-eqb (count_of p k) 0 none
 
-  count_none : (p : ℕ) → count_fault disk p ≡ []
+  named : (block count : ℕ) → (count ≡ 0 → ⊥) → is_count [] block count ≡ false
+  unfolding is_count
+  named block count some = and_left _ _ (and_left _ _ (ne_eqb 0 count (λ e. some (sym e))))
+
+  count_wrong : (p k : ℕ) → (count_of p k ≡ 0 → ⊥) → is_count_place disk p k ≡ false
+  unfolding is_count_place
+  count_wrong p k some = by (cases_Bool (nat_lt (256 * p + k) disk.blocks))
+    where
+      by : (nat_lt (256 * p + k) disk.blocks ≡ true) ⊎ (nat_lt (256 * p + k) disk.blocks ≡ false) → is_count_place disk p k ≡ false
+      by (inl is) = cond-true (nat_lt (256 * p + k) disk.blocks) _ _ is ∙ (λ j. is_count (no_uses j) (256 * p + k) (count_of p k)) ∙ named (256 * p + k) (count_of p k) some
+      by (inr is) = cond-false (nat_lt (256 * p + k) disk.blocks) _ _ is ∙ ne_eqb (count_of p k) 0 some
+
+  count_none : (p : ℕ) → ((k : ℕ) → k < 256 → count_of p k ≡ 0) → count_fault disk p ≡ []
   unfolding is_count_page
-  count_none p = right (is_count_page disk p) (page_start (1058 + p)) rules.Count (each_true (is_count_place disk p) 256 (λ k lt. count_right p k))
+  count_none p none = right (is_count_page disk p) (page_start (1058 + p)) rules.Count (each_true (is_count_place disk p) 256 (λ k lt. count_right p k (none k lt)))
+
+  count_told : (p k : ℕ) → k < 256 → (count_of p k ≡ 0 → ⊥) → count_fault disk p ≡ one_fault (page_start (1058 + p)) rules.Count
+  unfolding is_count_page
+  count_told p k lt some = wrong (is_count_page disk p) (page_start (1058 + p)) rules.Count (each_fails (is_count_place disk p) k 256 lt (count_wrong p k some))
 
   promise_none : promise_fault disk ≡ []
   promise_none = right (nat_le (promises disk) (capacity_of disk)) 0 rules.Promises
-      (le-leb (promises disk) (capacity_of disk) (let e : promises disk ≡ 0 = total_zero (λ slot. promise_by (state_at disk slot) disk slot) 16 (λ slot lt. λ j. promise_by (state_free slot j) disk slot) in omega (arith, e)))
+      (le-leb (promises disk) (capacity_of disk) (let e : promises disk ≡ 0 = total_zero (λ slot. promise_by (state_at disk slot) disk slot) 16 (λ slot lt. λ j. promise_by (state_free slot lt j) disk slot) in omega (arith, e)))
 
-  none_at_all : faults_in disk ≡ []
+  abbrev counts : List Fault
+  counts = joined (count_fault disk) ((disk.blocks + 255) / 256)
+
+  only_counts : (told : List Fault) → counts ≡ told → faults_in disk ≡ told
   unfolding faults_in
-  none_at_all =
-      λ j. ((((right (is_server_page (server_page disk)) (page_start 0) rules.ServerPage server_right j
-      ++ right (is_numbers_page (page_of disk 1)) (page_start 1) rules.CallNumbers (zero_numbers (page_of disk 1) (zeros 1 (omega arith))) j)
-      ++ joined_nil (slot_faults disk) 16 (λ slot lt. slot_none slot) j)
-      ++ joined_nil (reach_faults disk) 16 (λ slot lt. reach_none slot) j)
-      ++ joined_nil (count_fault disk) ((disk.blocks + 255) / 256) (λ p lt. count_none p) j)
-      ++ promise_none j
+  only_counts told is =
+      (λ j. ((((right (is_server_page (server_page disk)) (page_start 0) rules.ServerPage server_right j
+      ++ right (is_numbers_page (page_of disk 1)) (page_start 1) rules.CallNumbers (zero_numbers (page_of disk 1) (zeros 1 (omega arith) (omega arith))) j)
+      ++ joined_nil (slot_faults disk) 16 (λ slot lt. slot_none slot lt) j)
+      ++ joined_nil (reach_faults disk) 16 (λ slot lt. reach_none slot lt) j)
+      ++ is j)
+      ++ promise_none j)
+      ∙ append-nil told
 
 pub fresh_none : FreshHasNone
-fresh_none disk fresh = none_at_all disk fresh
+fresh_none disk empty none = only_counts disk empty [] (joined_nil (count_fault disk) ((disk.blocks + 255) / 256) (λ p lt. count_none disk empty p (none p lt)))
+
+pub count_is_told : CountIsTold
+count_is_told disk empty p k there lt some others =
+    only_counts disk empty (one_fault (page_start (1058 + p)) rules.Count)
+    (joined_one (count_fault disk) ((disk.blocks + 255) / 256) p there (λ q below apart. count_none disk empty q (others q below apart)) ∙ count_told disk empty p k lt some)

@@ -1,9 +1,19 @@
 //! Laws of the rules that the bytes of a disk keep. Each function does nothing, and what it ensures is a law.
 #![tactic(auto)]
 
-ghost use Rattle.image_laws.specs.Fresh.{FreshHasNone};
+ghost use Rattle.image_laws.specs.Fresh.{FreshHasNone, CountIsTold};
+ghost use Rattle.image_laws.specs.Reached.{ReachIsLeast, RootIsReached, StepsLead};
 
-/// An aggregate that was just formatted has no faults.
+/// An aggregate without filesets has no faults where its counts are zero, as after a format. A count that isn't zero is
+/// told once, at its page.
 pub fn fresh_law()
-    ensures { FreshHasNone }
+    ensures none { FreshHasNone }
+    ensures count { CountIsTold }
+{}
+
+/// What is reached from the root of a fileset is what the entries of reached directories lead to, and nothing else.
+pub fn reach_law()
+    ensures least { ReachIsLeast }
+    ensures root { RootIsReached }
+    ensures steps { StepsLead }
 {}
