@@ -1,0 +1,19 @@
+-- What is seen of a store in memory.
+use Rattle.std.specs.Prelude.{◌+◌, true, false}
+use Rattle.dfs_store.specs.declared.map_store.MapStore.{MapStore}
+use Rattle.dfs_store.specs.declared.state.StoreState.{StoreState}
+use Rattle.dfs_store.specs.Views.{View}
+
+-- what it keeps
+abbrev pub kept_in : MapStore → StoreState
+kept_in store = store.state
+
+-- it is always ready, and has no disk that fails
+abbrev pub map_view : MapStore → View
+map_view store = record {
+  state = kept_in store;
+  ready = true;
+  wear = store.state.epoch + store.state.ship;
+  faults = 0;
+  last_failed = false;
+}
