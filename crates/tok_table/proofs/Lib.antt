@@ -3,3 +3,4 @@ pub mod Placing
 pub mod Shelving
 pub mod Running
 pub mod Nearby
+pub mod Numbering

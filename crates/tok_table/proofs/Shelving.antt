@@ -31,7 +31,7 @@ use Rattle.tok_table.proofs.Placing.{keyed, same_place, stands_behind, keys_both
 same_means : (a b c x y z : ℕ) → (((a == b) && (c == x)) && (y == z)) ≡ true → (a ≡ b) × (c ≡ x) × (y ≡ z)
 same_means a b c x y z e = ((grind (arith, nat_tests)), (grind (arith, nat_tests)), (grind (arith, nat_tests)))
 
-one_id : (a b : TokenId) → same_id a b ≡ true → a ≡ b
+pub one_id : (a b : TokenId) → same_id a b ≡ true → a ≡ b
 one_id a b e =
     let p = same_means a.server.0 b.server.0 a.epoch b.epoch a.seq b.seq e in
     λ i. record { server = record { 0 = p.0 i }; epoch = p.1 i; seq = p.2 i }
@@ -73,7 +73,7 @@ module _ (server : ServerId) (epoch : ℕ) where
       let apart = not_same_before token x (All-head (IsBefore server epoch token) x xs before) in
       rw apart (ap (λ l. x ∷ l) (all_kept token xs (All-tail (IsBefore server epoch token) x xs before)))
 
-  same_self : (a : TokenId) → same_id a a ≡ true
+  pub same_self : (a : TokenId) → same_id a a ≡ true
   same_self a = grind (arith, nat_tests)
 
   pub taken_back : (token : Token) (tokens : List Token) → All (IsBefore server epoch token) tokens →
@@ -159,10 +159,11 @@ filter_filter p q (x ∷ xs) =
     ]
 
 -- the tokens of one file, by its key
-abbrev in_file : FileKey → Token → Bool
+abbrev pub in_file : FileKey → Token → Bool
 in_file key token = same_key (file_key token.fid) key
 
-and_filtered : (token : Token) (key : FileKey) (tokens : List Token) →
+-- one more token behind those of its file
+pub and_filtered : (token : Token) (key : FileKey) (tokens : List Token) →
     and_token token key (filter (in_file key) tokens) ≡ filter (in_file key) (tokens ++ token ∷ [])
 and_filtered token key tokens =
     let parts = filter-append (in_file key) tokens (token ∷ []) in

@@ -27,7 +27,7 @@ use Rattle.tok_table.specs.Tables.{Table, IsSound, has_id, is_past, token_for, t
 use Rattle.tok_table.specs.Tables.{granted, with_tokens}
 
 -- nothing passes a test that no element passes
-none_at : {X : Type 0} (p : X → Bool) (xs : List X) (k : ℕ) (d : X) → list_any p xs ≡ false → k < length xs →
+pub none_at : {X : Type 0} (p : X → Bool) (xs : List X) (k : ℕ) (d : X) → list_any p xs ≡ false → k < length xs →
     p (get_or xs k d) ≡ false
 none_at p xs k d none within =
     elim (cases_Bool (p (get_or xs k d))) [
@@ -51,7 +51,7 @@ past_later table last id more e =
     (le-leb id.seq last (omega (arith, leb-true id.seq table.last parts.1)))) e
 
 -- a number behind the last one isn't past
-not_past : (a b e f s last seq : ℕ) → ((not (a == b) || nat_lt e f) || ((e == f) && nat_le s last)) ≡ true →
+pub not_past : (a b e f s last seq : ℕ) → ((not (a == b) || nat_lt e f) || ((e == f) && nat_le s last)) ≡ true →
     last < seq → (((a == b) && (e == f)) && (s == seq)) ≡ false
 not_past a b e f s last seq past more = grind (arith, nat_tests)
 
@@ -159,7 +159,7 @@ module _ {X : Type 0} where
   pairs_tail R x xs h = λ i j d less within. h (suc i) (suc j) d (omega arith) (omega arith)
 
 module _ (server : ServerId) (epoch : ℕ) (token : Token) where
-  all_placed : (P : Token → Type 0) (tokens : List Token) → P token → All P tokens →
+  pub all_placed : (P : Token → Type 0) (tokens : List Token) → P token → All P tokens →
       All P (placed server epoch token tokens)
   all_placed P [] one all = All-cons P token [] one all
   all_placed P (x ∷ xs) one all = all_if P (comes_before server epoch x token)
@@ -168,7 +168,7 @@ module _ (server : ServerId) (epoch : ℕ) (token : Token) where
       (all_placed P xs one (All-tail P x xs all)))
       (All-cons P token (x ∷ xs) one all)
 
-  pairs_placed : (R : Token → Token → Type 0) (tokens : List Token) → All (λ t. R t token) tokens →
+  pub pairs_placed : (R : Token → Token → Type 0) (tokens : List Token) → All (λ t. R t token) tokens →
       All (R token) tokens →
       AllPairs R tokens → AllPairs R (placed server epoch token tokens)
   pairs_placed R [] to from pairs = AllPairs-cons R token [] from pairs
@@ -180,7 +180,7 @@ module _ (server : ServerId) (epoch : ℕ) (token : Token) where
       (pairs_tail R x xs pairs)))
       (AllPairs-cons R token (x ∷ xs) from pairs)
 
-ids_both : (a b : TokenId) → same_id a b ≡ same_id b a
+pub ids_both : (a b : TokenId) → same_id a b ≡ same_id b a
 ids_both a b =
     (λ i. ((same_number a.server.0 b.server.0 i && same_number a.epoch b.epoch i) && same_number a.seq b.seq i))
 

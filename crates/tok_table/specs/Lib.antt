@@ -1,3 +1,4 @@
 pub mod Tables
 pub mod Places
 pub mod Shelves
+pub mod TableLaws

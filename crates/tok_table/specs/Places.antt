@@ -71,9 +71,13 @@ pub record ShelfView : Type 0 where
   -- in the order of their places
   pub tokens : List Token
 
+-- each file has those of the tokens that are its own, in their order
+abbrev pub AreByFile : List Token → BTreeMap FileKey (List Token) → Type 0
+AreByFile tokens files =
+    (key : FileKey) → tokens_at files key ≡ filter (λ token. same_key (file_key token.fid) key) tokens
+
 -- each token has its place, and each file has its tokens
 pub record IsShelf (server : ServerId) (epoch : ℕ) (tokens : BTreeMap Place Token)
     (files : BTreeMap FileKey (List Token)) : Type 0 where
   pub placed : tokens.entries ≡ map (λ token. (place_of server epoch token.id, token)) (values tokens)
-  pub by_file : (key : FileKey) →
-      tokens_at files key ≡ filter (λ token. same_key (file_key token.fid) key) (values tokens)
+  pub by_file : AreByFile (values tokens) files

@@ -2,14 +2,15 @@
 ghost use Rattle.std.specs.Prelude.{◌≡◌, ◌+◌, ◌<◌, ◌^◌, ◌≤◌, false, ◌∷◌, ◌++◌, [], length, insert, IfOk, OnOk, OnErr};
 ghost use Rattle.std.specs.List.{find, filter, All};
 ghost use Rattle.std.specs.Option.{option_copied};
+ghost use Rattle.std.specs.BTreeMap.{values};
 ghost use Rattle.tok_types.specs.Conflicts.{same_id};
 ghost use Rattle.tok_table.specs.Places.{place_of, FileKey, file_key, same_key, tokens_at};
-ghost use Rattle.tok_table.specs.Places.{comes_before, placed};
+ghost use Rattle.tok_table.specs.Places.{comes_before, placed, AreByFile};
 ghost use Rattle.tok_table.specs.Shelves.{IsBefore, IsUpTo, IsPutIn, IsPlacedIn, AreSameElsewhere, keeps};
 ghost use Rattle.tok_table.specs.Shelves.{with_kept, with_next, with_placed};
 ghost use Rattle.tok_table.specs.Tables.{has_id, of_file, of_host, without_id, token_for, tokens_from};
 
-use dfs_base::{Fid, HostId, Items, NoMemory, ServerId};
+use dfs_base::{Fid, HostId, Items, NoMemory, Plain, ServerId};
 use std::alloc::Global;
 use std::collections::BTreeMap;
 use std::marker::Model;
@@ -212,6 +213,48 @@ impl Shelf {
         take_from_file(&mut self.files, file_key(token.fid), id);
         Some(token)
     }
+}
+
+impl Plain for Shelf {
+    fn copy(&self) -> Result<Shelf, NoMemory> {
+        let tokens = copy_of(&self.tokens)?;
+        let list = list_of(self.alloc, &self.tokens)?;
+        let files = files_of(self.alloc, list.as_slice())?;
+        Ok(Shelf {
+            alloc: self.alloc,
+            server: self.server,
+            epoch: self.epoch,
+            tokens,
+            files,
+        })
+    }
+}
+
+// The same tokens at the same places.
+fn copy_of(tokens: &BTreeMap<Place, Token>) -> Result<BTreeMap<Place, Token>, NoMemory>
+    ensures { IfOk result (λ copy. copy.entries ≡ tokens.now.entries) }
+{
+    let copy = tokens.clone()?;
+    Ok(copy)
+}
+
+// The tokens in the order of their places.
+fn list_of(alloc: Global, tokens: &BTreeMap<Place, Token>) -> Result<Items<Token>, NoMemory>
+    ensures { IfOk result (λ list. list ≡ values tokens.now) }
+{
+    let list: Vec<Token> = tokens.values().copied().collect(alloc)?;
+    Ok(Items::from_vec(list))
+}
+
+// The tokens of each file, in their order.
+fn files_of(alloc: Global, tokens: &[Token]) -> Result<BTreeMap<FileKey, Items<Token>>, NoMemory>
+    ensures { IfOk result (AreByFile tokens.now) }
+{
+    let mut files = BTreeMap::new(alloc);
+    for token in tokens {
+        put_in_file(&mut files, alloc, *token)?;
+    }
+    Ok(files)
 }
 
 fn place_of(server: ServerId, epoch: u64, id: TokenId) -> Place

@@ -9,7 +9,7 @@ ghost use Rattle.tok_table.specs.Shelves.{with_token};
 ghost use Rattle.tok_table.specs.Tables.{of_file, names_file, in_the_way, AreThose, of_host, not_of_host};
 
 use crate::shelf::{Kept, Shelf};
-use dfs_base::{Fid, HostId, Items, NoMemory, ServerId};
+use dfs_base::{Fid, HostId, Items, NoMemory, Plain, ServerId};
 use std::alloc::Global;
 use std::marker::Model;
 use tok_types::{Kind, Need, Token, TokenId};
@@ -103,6 +103,14 @@ impl TokenTable {
         self.shelf.of_host(host)
     }
 
+    /// The tokens that the table grants next for a host's needs.
+    pub fn next_tokens(&self, host: HostId, needs: &[Need]) -> Result<Items<Token>, NoMemory>
+        requires { self.now.last + length needs.now < 2 ^ 64 }
+        ensures { IfOk result (λ tokens. tokens ≡ next_tokens self.now host needs.now) }
+    {
+        self.shelf.tokens_for(self.last, host, needs)
+    }
+
     /// Grants one token, with the next number.
     pub fn grant(&mut self, host: HostId, fid: Fid, kind: Kind) -> Result<Token, NoMemory>
         requires { self.old.last + 1 < 2 ^ 64 }
@@ -158,6 +166,15 @@ impl TokenTable {
         ensures { self.new ≡ with_tokens self.old (not_of_host self.old.tokens host) }
     {
         self.shelf.keep(Kept::OfOthers(host));
+    }
+}
+
+impl Plain for TokenTable {
+    fn copy(&self) -> Result<TokenTable, NoMemory> {
+        Ok(TokenTable {
+            last: self.last,
+            shelf: self.shelf.copy()?,
+        })
     }
 }
 
