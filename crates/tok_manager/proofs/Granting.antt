@@ -1,8 +1,8 @@
 -- Tokens that are granted to a want.
-use Rattle.std.proofs.Common.{◌≡◌, ℕ, ◌+◌, Bool, true, false, ◌==◌, ◌&&◌, not, nat_lt, List, [], ◌∷◌, ◌++◌, map, get_or}
-use Rattle.std.proofs.Common.{Option, is_none, refl, inl, inr, eq-eqb, arith}
+use Rattle.std.proofs.Common.{◌≡◌, ℕ, ◌+◌, Bool, true, false, ◌==◌, ◌&&◌, not, nat_lt, List, [], ◌∷◌, ◌++◌, get_or}
+use Rattle.std.proofs.Common.{Option, Some, is_none, refl, inl, inr, eq-eqb, arith}
 use Rattle.std.specs.Prelude.{All, AllPairs}
-use Rattle.std.specs.List.{list_any, find, AllZip}
+use Rattle.std.specs.List.{list_any, find}
 use Rattle.std.proofs.lemmas.Bool.{cases_Bool, false≢true, and_left, and_right, and_cases, or_parts, not_from_true}
 use Rattle.std.proofs.lemmas.List.Elements.{All-nil, All-cons, All-weaker, All-head, All-tail}
 use Rattle.std.proofs.lemmas.List.Kept.{AllPairs-cons}
@@ -17,7 +17,6 @@ use Rattle.tok_manager.specs.Wants.{is_ahead, first_ahead}
 use Rattle.tok_manager.specs.Grants.{note_of}
 use Rattle.tok_manager.specs.Laws.{was_asked, IsNoted}
 use Rattle.tok_manager.proofs.Pairs.{pairs_append}
-use Rattle.tok_manager.proofs.Zips.{zip_made}
 
 -- each token of these needs has what each of these needs gives
 pub each_token : (P : Token → Type 0) (Q : Need → Type 0) (server : ServerId) (epoch last : ℕ) (host : HostId)
@@ -49,7 +48,7 @@ same_host : (a b : Token) → a.host.0 ≡ b.host.0 → conflict a b ≡ false
 same_host a b e = and_left (not (a.host.0 == b.host.0)) (needs_conflict (need_of a) (need_of b))
     (not_from_true (a.host.0 == b.host.0) (eq-eqb a.host.0 b.host.0 e))
 
-one_host : (server : ServerId) (epoch last : ℕ) (host : HostId) (needs : List Need) →
+pub one_host : (server : ServerId) (epoch last : ℕ) (host : HostId) (needs : List Need) →
     AllPairs (λ a b. conflict a b ≡ false) (tokens_from server epoch last host needs)
 one_host server epoch last host [] = λ i j d before within. absurd (omega arith)
 one_host server epoch last host (need ∷ needs) =
@@ -91,7 +90,7 @@ peaceful_grant tokens server epoch last host needs free h =
     (λ a e. not_in_the_way a host needs e k d within) tokens each))
 
 -- a want that doesn't stand before another is in the way of none of its tokens
-not_passed : (want other : Want) → is_ahead want other ≡ false →
+pub not_passed : (want other : Want) → is_ahead want other ≡ false →
     All (λ need. (nat_lt other.number want.number && (not (want.host.0 == other.host.0) && any_conflict need
     other.needs)) ≡ false) want.needs
 not_passed want other behind =
@@ -115,19 +114,18 @@ not_passed want other behind =
           ]
     ]
 
--- the notes of tokens that are granted to a want with which no earlier one conflicts
+-- what is noted of tokens that are granted to a want with which no earlier one conflicts
 pub noted_grant : (latest : Option ℕ) (queue : List Want) (want : Want) (server : ServerId) (epoch last : ℕ) →
-    was_asked latest want.number ≡ true → is_none (first_ahead queue want) ≡ true → AllZip (IsNoted latest queue)
+    was_asked latest want.number ≡ true → is_none (first_ahead queue want) ≡ true →
+    All (λ token. IsNoted latest queue token (note_of want.host (Some want.number)))
     (tokens_from server epoch last want.host want.needs)
-    (map (note_of want) (tokens_from server epoch last want.host want.needs))
 noted_grant latest queue want server epoch last asked first =
     let each = none_found (is_ahead want) queue first in
-    zip_made (IsNoted latest queue) (note_of want) (tokens_from server epoch last want.host want.needs)
-    (each_token (λ token. IsNoted latest queue token (note_of want token))
+    each_token (λ token. IsNoted latest queue token (note_of want.host (Some want.number)))
     (λ need. All (λ other. (nat_lt other.number want.number && (not (want.host.0 == other.host.0) && any_conflict need
     other.needs)) ≡ false) queue) server epoch last want.host want.needs
-    (λ later need all. record { id = refl; host = refl; asked = asked; in_turn = all })
+    (λ later need all. record { host = refl; asked = asked; in_turn = all })
     (λ k d within. All-weaker (λ other. is_ahead want other ≡ false) (λ other.
     (nat_lt other.number want.number && (not (want.host.0 == other.host.0) && any_conflict (get_or want.needs k d)
     other.needs)) ≡ false)
-    (λ other e. not_passed want other e k d within) queue each))
+    (λ other e. not_passed want other e k d within) queue each)

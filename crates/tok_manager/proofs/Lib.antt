@@ -1,7 +1,11 @@
+pub mod Admitting
 pub mod Granting
 pub mod Lawful
+pub mod Noting
 pub mod Pairs
+pub mod Peace
+pub mod Readying
 pub mod Revoking
 pub mod Rooms
 pub mod Sound
-pub mod Zips
+pub mod Wanting

@@ -16,14 +16,16 @@ use Rattle.tok_table.proofs.Nearby.{near_all}
 use Rattle.tok_manager.specs.declared.want.Want.{Want}
 use Rattle.tok_manager.specs.declared.want.Asked.{Asked}
 use Rattle.tok_manager.specs.declared.want.Asked.TheVariants.{Granted, Waits}
-use Rattle.tok_manager.specs.Grants.{is_pinned, is_blocked, to_revoke}
+use Rattle.tok_notes.specs.Marks.{is_pinned}
+use Rattle.tok_manager.specs.Grants.{is_blocked, to_revoke}
 use Rattle.tok_manager.specs.Wants.{is_ahead, first_ahead}
 use Rattle.tok_manager.specs.Managers.{Manager, has_to_wait, ask_answer}
 use Rattle.tok_manager.specs.RevokeLaws.{RevokesJustThose, is_waiting, WaitsJustWhere, GrantsInPeace}
 use Rattle.tok_manager.proofs.Granting.{none_pass, peaceful_grant}
 use Rattle.tok_manager.proofs.Pairs.{pairs_head}
 
-any_kept : {X : Type 0} (p test : X → Bool) (xs : List X) →
+-- what passes both tests
+pub any_kept : {X : Type 0} (p test : X → Bool) (xs : List X) →
     list_any test (filter p xs) ≡ list_any (λ x. p x && test x) xs
 any_kept p test [] = refl
 any_kept p test (x ∷ xs) = elim (cases_Bool (p x)) [
@@ -31,7 +33,8 @@ any_kept p test (x ∷ xs) = elim (cases_Bool (p x)) [
   | inr fails ↦ rw (fails, any_kept p test xs) refl
 ]
 
-any_found : {X : Type 0} (p : X → Bool) (xs : List X) → is_some (find p xs) ≡ list_any p xs
+-- a search finds something where something passes
+pub any_found : {X : Type 0} (p : X → Bool) (xs : List X) → is_some (find p xs) ≡ list_any p xs
 any_found p [] = refl
 any_found p (x ∷ xs) = elim (cases_Bool (p x)) [
   | inl passes ↦ rw passes refl

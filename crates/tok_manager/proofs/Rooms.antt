@@ -1,10 +1,10 @@
 -- That the sequence numbers suffice.
 use Rattle.std.proofs.Common.{◌≡◌, ◌≤◌, ◌<◌, ℕ, ◌+◌, ◌^◌, Bool, true, false, List, [], ◌∷◌, ◌++◌, length, length-append}
-use Rattle.std.proofs.Common.{Some, inl, inr, subst, ap, ◌∙◌, refl, arith}
+use Rattle.std.proofs.Common.{Some, inl, inr, subst, sym, ap, ◌∙◌, refl, arith}
 use Rattle.std.specs.Prelude.{All}
 use Rattle.std.specs.List.{find, filter}
 use Rattle.std.proofs.lemmas.Bool.{cases_Bool}
-use Rattle.std.proofs.lemmas.List.Elements.{All-filter, All-push, All-head, All-tail}
+use Rattle.std.proofs.lemmas.List.Elements.{All-filter, All-push, All-head, All-tail, All-nil}
 use Rattle.dfs_base.specs.declared.limits.TheConstants.{NEEDS_MAX}
 use Rattle.tok_manager.specs.declared.want.Want.{Want}
 use Rattle.tok_manager.specs.Laws.{HasRoom}
@@ -105,3 +105,25 @@ room_enough last asked queue q want e h =
       shorter q (λ other. false) queue want e refl,
       all_found (λ other. length other.needs ≤ NEEDS_MAX) q queue want e h.small,
     )
+
+-- nothing was asked
+pub room_new : HasRoom 0 0 []
+room_new = record {
+  few = omega arith;
+  small = All-nil (λ (want : Want). length want.needs ≤ NEEDS_MAX);
+  room = omega arith;
+}
+
+-- tokens and wants are gone
+pub room_none : (last asked : ℕ) (queue : List Want) → HasRoom last asked queue → HasRoom 0 asked []
+room_none last asked queue h =
+    record {
+      few = h.few;
+      small = All-nil (λ (want : Want). length want.needs ≤ NEEDS_MAX);
+      room = omega arith;
+    }
+
+-- the last number by another word
+pub room_last : (last last' asked : ℕ) (queue : List Want) → last' ≡ last → HasRoom last asked queue →
+    HasRoom last' asked queue
+room_last last last' asked queue same h = subst (λ n. HasRoom n asked queue) (sym same) h

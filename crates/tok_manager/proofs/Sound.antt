@@ -36,7 +36,7 @@ sound_ask manager want few later small h =
           let parts = or_parts (is_blocked manager.grants want) (is_some (first_ahead manager.queue want)) free in
           rw free (record {
             lawful = lawful_grant manager.grants manager.queue (Some want.number) want (le-leb want.number want.number
-                (omega arith)) parts.0 (none_ahead manager.queue want parts.1)
+                (omega arith)) (none_ahead manager.queue want parts.1)
                 (lawful_latest manager.grants manager.queue manager.latest want.number later h.lawful);
             room = room_at_once manager.grants.table.last manager.asked manager.queue (length want.needs) few small
                 h.room;
@@ -48,7 +48,7 @@ left_out : (number : ℕ) → not (number == number) ≡ false
 left_out number = ap not (eq-eqb number number refl)
 
 -- where nothing pinned is in the way nothing is
-not_blocked : (blocked : Bool) (pinned : Option Token) → pinned ≡ None → (not blocked || is_some pinned) ≡ true →
+pub not_blocked : (blocked : Bool) (pinned : Option Token) → pinned ≡ None → (not blocked || is_some pinned) ≡ true →
     blocked ≡ false
 not_blocked false pinned e h = refl
 not_blocked true None e h = absurd (false≢true h)
@@ -77,9 +77,7 @@ decided manager want None found e h =
     record {
       lawful = lawful_filter (with_grant manager.grants want) manager.queue manager.latest (λ other.
           not (other.number == want.number))
-          (lawful_grant manager.grants manager.queue manager.latest want asked
-          (not_blocked (is_blocked manager.grants want) (pinned_in_the_way manager.grants want) e parts.1) parts.0
-          h.lawful);
+          (lawful_grant manager.grants manager.queue manager.latest want asked parts.0 h.lawful);
       room = room_later manager.grants.table.last manager.asked manager.queue (can_decide manager.grants manager.queue)
           (λ other. not (other.number == want.number)) want found (left_out want.number) h.room;
     }

@@ -1,13 +1,14 @@
 -- What holds of every token manager.
 use Rattle.std.specs.Prelude.{◌≡◌, ◌≤◌, ◌<◌, ℕ, ◌+◌, ◌*◌, ◌^◌, Bool, true, false, ◌&&◌, nat_lt, nat_le, List, length}
-use Rattle.std.specs.Prelude.{Option, Some, None, All, AllPairs}
-use Rattle.std.specs.List.{AllZip}
+use Rattle.std.specs.Prelude.{Option, Some, None, is_some, IfSome, All, AllPairs}
 use Rattle.dfs_base.specs.declared.limits.TheConstants.{NEEDS_MAX}
 use Rattle.tok_types.specs.declared.token.Token.{Token}
+use Rattle.tok_types.specs.declared.token.TokenId.{TokenId}
 use Rattle.tok_types.specs.Conflicts.{conflict, blocks}
-use Rattle.tok_table.specs.Tables.{IsSound}
+use Rattle.tok_table.specs.Tables.{IsSound, has_id}
+use Rattle.tok_notes.specs.declared.notes.Note.{Note}
+use Rattle.tok_notes.specs.Marks.{note_at}
 use Rattle.tok_manager.specs.declared.grants.Grants.{Grants}
-use Rattle.tok_manager.specs.declared.grants.Note.{Note}
 use Rattle.tok_manager.specs.declared.want.Want.{Want}
 use Rattle.tok_manager.specs.Managers.{Manager}
 
@@ -17,28 +18,27 @@ was_asked None number = false
 was_asked (Some latest) number = nat_le number latest
 
 -- whether a want waits for a token that was granted by a later want, which then has passed it
-abbrev pub is_passed : Token → Note → Want → Bool
-is_passed token note want = nat_lt want.number note.want && blocks want.host want.needs token
+abbrev pub is_passed : Token → ℕ → Want → Bool
+is_passed token number want = nat_lt want.number number && blocks want.host want.needs token
 
--- the note is of the token, which passed no want
+-- what is noted of a token is of its host, and where it was granted to a want, this one was asked and passed none
 pub record IsNoted (latest : Option ℕ) (queue : List Want) (token : Token) (note : Note) : Type 0 where
-  pub id : note.id ≡ token.id
   pub host : note.host ≡ token.host
-  pub asked : was_asked latest note.want ≡ true
-  pub in_turn : All (λ want. is_passed token note want ≡ false) queue
+  pub asked : IfSome note.want (λ number. was_asked latest number ≡ true)
+  pub in_turn : IfSome note.want (λ number. All (λ want. is_passed token number want ≡ false) queue)
 
 pub record IsLawful (grants : Grants) (queue : List Want) (latest : Option ℕ) : Type 0 where
   -- no two tokens have one number, and none will be given again
   pub table : IsSound grants.table
-  -- granted tokens of two hosts never conflict
-  pub peaceful : AllPairs (λ a b. conflict a b ≡ false) grants.table.tokens
-  -- each token is noted, and none was granted past an earlier want that conflicts
-  pub noted : AllZip (IsNoted latest queue) grants.table.tokens grants.notes
+  -- each token is noted, and nothing else is
+  pub known : (id : TokenId) → is_some (note_at grants.notes id) ≡ has_id grants.table.tokens id
+  -- none was granted past an earlier want that conflicts
+  pub noted : All (λ token. IfSome (note_at grants.notes token.id) (IsNoted latest queue token)) grants.table.tokens
   -- the numbers of the queued wants rise
   pub rising : AllPairs (λ a b. a.number < b.number) queue
   pub asked : All (λ want. was_asked latest want.number ≡ true) queue
 
--- the laws hold of the manager
+-- the laws of a token manager
 unfoldable pub KeepsLaws : Manager → Type 0
 KeepsLaws manager = IsLawful manager.grants manager.queue manager.latest
 
@@ -47,3 +47,10 @@ pub record HasRoom (last asked : ℕ) (queue : List Want) : Type 0 where
   pub few : asked ≤ 2 ^ 44
   pub small : All (λ want. length want.needs ≤ NEEDS_MAX) queue
   pub room : last + NEEDS_MAX * length queue ≤ NEEDS_MAX * asked
+
+-- granted tokens of two hosts don't conflict
+abbrev pub AreAtPeace : List Token → Type 0
+AreAtPeace tokens = AllPairs (λ a b. conflict a b ≡ false) tokens
+
+abbrev pub IsAtPeace : Manager → Type 0
+IsAtPeace manager = AreAtPeace manager.grants.table.tokens

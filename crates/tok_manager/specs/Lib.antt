@@ -1,5 +1,9 @@
+pub mod AdmitLaws
 pub mod Grants
 pub mod Laws
 pub mod Managers
+pub mod PeaceLaws
+pub mod ReadyLaws
 pub mod RevokeLaws
+pub mod WantedLaws
 pub mod Wants

@@ -3,6 +3,7 @@ use Rattle.std.specs.Prelude.{ℕ, ◌+◌, Bool, ◌&&◌, ◌||◌, not, is_so
 use Rattle.std.specs.Prelude.{Option, Some, None}
 use Rattle.std.specs.List.{find}
 use Rattle.std.specs.Option.{option_map}
+use Rattle.dfs_base.specs.declared.ids.FilesetId.{FilesetId}
 use Rattle.dfs_base.specs.declared.ids.HostId.{HostId}
 use Rattle.dfs_base.specs.declared.ids.ServerId.{ServerId}
 use Rattle.tok_types.specs.declared.token.Token.{Token}
@@ -14,9 +15,10 @@ use Rattle.tok_manager.specs.declared.want.Asked.{Asked}
 use Rattle.tok_manager.specs.declared.want.Asked.TheVariants.{Granted, Waits}
 use Rattle.tok_manager.specs.declared.want.Ready.{Ready}
 use Rattle.tok_manager.specs.declared.want.Ready.TheVariants.{Granted as GrantedLater, Refused}
-use Rattle.tok_manager.specs.Grants.{is_blocked, pinned_in_the_way, to_revoke, with_grant, holds, can_keep, with_pin}
-use Rattle.tok_manager.specs.Grants.{without_token, without_host}
-use Rattle.tok_manager.specs.Wants.{first_ahead, without_want, not_wants_of}
+use Rattle.tok_manager.specs.declared.want.Wanted.{Wanted}
+use Rattle.tok_manager.specs.Grants.{is_blocked, pinned_in_the_way, to_revoke, with_grant, with_claims, holds, can_keep}
+use Rattle.tok_manager.specs.Grants.{no_grants, pinned_grants, revoked_grants, without_token, without_host, wanted_from}
+use Rattle.tok_manager.specs.Wants.{first_ahead, without_want, not_wants_of, not_wants_in}
 
 pub record Manager : Type 0 where
   pub grants : Grants
@@ -31,11 +33,16 @@ pub record Manager : Type 0 where
 abbrev pub new_manager : ServerId → ℕ → Manager
 new_manager server epoch =
     record {
-      grants = record { table = record { server = server; epoch = epoch; last = 0; tokens = [] }; notes = [] };
+      grants = no_grants server epoch;
       queue = [];
       asked = 0;
       latest = None;
     }
+
+-- the same manager in a later epoch, when it has restarted
+abbrev pub after_forget : Manager → ℕ → Manager
+after_forget manager epoch =
+    record manager { grants = no_grants manager.grants.table.server epoch; queue = [] }
 
 -- whether a want has to wait: a granted token of another host or an earlier queued want conflicts with it
 abbrev pub has_to_wait : Manager → Want → Bool
@@ -113,10 +120,20 @@ abbrev pub after_returned : Manager → HostId → TokenId → Manager
 after_returned manager host id = record manager { grants = grants_returned manager.grants host id }
 
 unfoldable pub grants_kept : Grants → HostId → TokenId → Grants
-grants_kept grants host id = if can_keep grants host id then with_pin grants id else grants
+grants_kept grants host id = if can_keep grants host id then pinned_grants grants id else grants
 
 abbrev pub after_kept : Manager → HostId → TokenId → Manager
 after_kept manager host id = record manager { grants = grants_kept manager.grants host id }
+
+abbrev pub after_revoked : Manager → TokenId → Manager
+after_revoked manager id = record manager { grants = revoked_grants manager.grants id }
+
+abbrev pub after_admit : Manager → List Token → Manager
+after_admit manager tokens = record manager { grants = with_claims manager.grants tokens }
+
+-- the tokens that queued wants ask back, each with whether it was asked back before
+abbrev pub wanted : Manager → List Wanted
+wanted manager = wanted_from manager.grants [] manager.queue
 
 abbrev pub after_down : Manager → HostId → Manager
 after_down manager host =
@@ -124,3 +141,6 @@ after_down manager host =
 
 abbrev pub after_given_up : Manager → ℕ → Manager
 after_given_up manager number = record manager { queue = without_want manager.queue number }
+
+abbrev pub after_drop_fileset : Manager → FilesetId → Manager
+after_drop_fileset manager fileset = record manager { queue = not_wants_in manager.queue fileset }

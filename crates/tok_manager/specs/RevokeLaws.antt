@@ -7,7 +7,8 @@ use Rattle.tok_manager.specs.declared.grants.Grants.{Grants}
 use Rattle.tok_manager.specs.declared.want.Want.{Want}
 use Rattle.tok_manager.specs.declared.want.Asked.{Asked}
 use Rattle.tok_manager.specs.declared.want.Asked.TheVariants.{Granted, Waits}
-use Rattle.tok_manager.specs.Grants.{is_pinned, to_revoke}
+use Rattle.tok_notes.specs.Marks.{is_pinned}
+use Rattle.tok_manager.specs.Grants.{to_revoke}
 use Rattle.tok_manager.specs.Managers.{Manager, ask_answer}
 
 -- Just those granted tokens are asked back that are in the way of the want and aren't pinned: one that passes a test is

@@ -1,6 +1,7 @@
 -- Queued wants.
 use Rattle.std.specs.Prelude.{ℕ, Bool, ◌==◌, ◌&&◌, not, nat_lt, List, Option}
-use Rattle.std.specs.List.{find, filter}
+use Rattle.std.specs.List.{find, filter, list_any}
+use Rattle.dfs_base.specs.declared.ids.FilesetId.{FilesetId}
 use Rattle.dfs_base.specs.declared.ids.HostId.{HostId}
 use Rattle.tok_types.specs.Conflicts.{wants_conflict}
 use Rattle.tok_manager.specs.declared.want.Want.{Want}
@@ -20,3 +21,14 @@ without_want queue number = filter (λ want. not (want.number == number)) queue
 -- the queue but for the wants of this host
 abbrev pub not_wants_of : List Want → HostId → List Want
 not_wants_of queue host = filter (λ want. not (want.host.0 == host.0)) queue
+
+-- whether a want is of a fileset: one of its needs is
+abbrev pub is_want_in : FilesetId → Want → Bool
+is_want_in fileset want = list_any (λ need. need.fid.fileset.0 == fileset.0) want.needs
+
+-- the queued wants of a fileset, and all others
+abbrev pub wants_in : List Want → FilesetId → List Want
+wants_in queue fileset = filter (is_want_in fileset) queue
+
+abbrev pub not_wants_in : List Want → FilesetId → List Want
+not_wants_in queue fileset = filter (λ want. not (is_want_in fileset want)) queue

@@ -7,7 +7,8 @@ mod grants;
 mod laws;
 mod manager;
 mod want;
+mod wanted;
 
-pub use laws::{revoke_law, wait_law};
+pub use laws::{admit_law, peace_law, ready_law, revoke_law, wait_law, wanted_law};
 pub use manager::TokenManager;
-pub use want::{Asked, Ready, Want};
+pub use want::{Asked, Ready, Want, Wanted};

@@ -1,9 +1,10 @@
-ghost use Rattle.std.specs.Prelude.{◌≡◌, not, option_map};
+ghost use Rattle.std.specs.Prelude.{◌≡◌, ◌++◌, not, option_map, IfOk};
 ghost use Rattle.std.specs.List.{find};
 ghost use Rattle.std.specs.Option.{option_copied};
 ghost use Rattle.tok_manager.specs.Wants.{is_ahead, first_ahead, without_want, not_wants_of};
+ghost use Rattle.tok_manager.specs.Wants.{is_want_in, wants_in, not_wants_in};
 
-use dfs_base::{HostId, Items, NoMemory, Plain};
+use dfs_base::{FilesetId, HostId, Items, NoMemory, Plain};
 use tok_types::{Need, Token, wants_conflict};
 
 /// What a host asks for: a token for each of its needs, all at once. One want has at most `NEEDS_MAX` needs. A want
@@ -39,6 +40,20 @@ pub enum Ready {
     Refused(u64, Token),
 }
 
+/// A granted token that queued wants ask back.
+#[derive(Clone, Copy, Debug, PartialEq)]
+pub struct Wanted {
+    pub token: Token,
+    /// Whether its host was asked for it before.
+    pub revoked: bool,
+}
+
+impl Plain for Wanted {
+    fn copy(&self) -> Result<Wanted, NoMemory> {
+        Ok(*self)
+    }
+}
+
 impl Plain for Want {
     fn copy(&self) -> Result<Want, NoMemory> {
         Ok(Want {
@@ -71,6 +86,16 @@ impl Plain for Ready {
 }
 
 impl Want {
+    /// Whether one of its needs is of a fileset.
+    pub(crate) fn is_in(&self, fileset: FilesetId) -> bool
+        ensures { result ≡ is_want_in fileset self.now }
+    {
+        self.needs
+            .as_slice()
+            .iter()
+            .any(|need| need.fid.fileset == fileset)
+    }
+
     /// Whether another want was asked before this one and conflicts with it.
     pub(crate) fn is_behind(&self, other: &Want) -> bool
         ensures { result ≡ is_ahead self.now other.now }
@@ -100,4 +125,24 @@ pub(crate) fn drop_wants_of(queue: &mut Items<Want>, host: HostId)
     ensures { queue.new ≡ not_wants_of queue.old host }
 {
     queue.retain(|want| want.host != host);
+}
+
+/// The queued wants of a fileset.
+pub(crate) fn wants_in(queue: &Items<Want>, fileset: FilesetId) -> Result<Items<Want>, NoMemory>
+    ensures { IfOk result (λ wants. wants ≡ wants_in queue.now fileset) }
+{
+    let mut wants = Items::new(queue.alloc());
+    for want in queue.as_slice() {
+        if want.is_in(fileset) {
+            wants.push(want.copy()?)?;
+        }
+    }
+    Ok(wants)
+}
+
+/// Takes the wants of a fileset out of the queue.
+pub(crate) fn drop_wants_in(queue: &mut Items<Want>, fileset: FilesetId)
+    ensures { queue.new ≡ not_wants_in queue.old fileset }
+{
+    queue.retain(|want| !want.is_in(fileset));
 }

@@ -9,7 +9,8 @@ use Rattle.tok_table.specs.Tables.{Table, IsSound, has_id, next_tokens, granted}
 
 -- a token for each need and back, in their order
 abbrev pub GrantsEachNeed : Type 0
-GrantsEachNeed = (table : Table) (host : HostId) (needs : List Need) → map need_of (next_tokens table host needs) ≡ needs
+GrantsEachNeed =
+    (table : Table) (host : HostId) (needs : List Need) → map need_of (next_tokens table host needs) ≡ needs
 
 -- all of the host
 abbrev pub GrantsToTheHost : Type 0

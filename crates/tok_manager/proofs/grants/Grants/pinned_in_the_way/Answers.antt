@@ -12,8 +12,7 @@ returns-then-is_some c =
     let needs = c.as_slice-needs.result.now in
     let i = c.loop-index.index in
     let need = c.index-needs-index.result in
-    let found = c.first_pinned-pinned.ensures
-    ∙ (λ j. find (is_pinned_ahead (c.as_slice.ensures j) c.args.want.now) (c.of_file.ensures j)) in
+    let found = c.first_pinned-pinned.ensures ∙ ap (find test) c.of_file.ensures in
     let some = ap is_some (sym found) ∙ copied_some c.first_pinned-pinned.result ∙ sym c.is_some.ensures ∙
     c.if-is_some.true in
     let next = near_fresh tokens needs i need c.loop-index-test.true (sym c.index-needs-index.is)
@@ -30,8 +29,7 @@ loop-index-preserved c =
     let needs = c.as_slice-needs.result.now in
     let i = c.loop-index.index in
     let need = c.index-needs-index.result in
-    let found = c.first_pinned-pinned.ensures
-    ∙ (λ j. find (is_pinned_ahead (c.as_slice.ensures j) c.args.want.now) (c.of_file.ensures j)) in
+    let found = c.first_pinned-pinned.ensures ∙ ap (find test) c.of_file.ensures in
     let none = ap is_some (sym found) ∙ copied_some c.first_pinned-pinned.result ∙ sym c.is_some.ensures ∙
     c.if-is_some.false in
     let next = near_fresh tokens needs i need c.loop-index-test.true (sym c.index-needs-index.is)

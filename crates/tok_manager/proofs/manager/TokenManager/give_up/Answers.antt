@@ -1,4 +1,3 @@
-use Rattle.tok_manager.specs.Laws.{KeepsLaws}
 use Rattle.tok_manager.proofs.Lawful.{lawful_filter}
 use Rattle.tok_manager.proofs.Rooms.{room_filter}
 use Rattle.tok_manager.proofs.manager.TokenManager.give_up.Goals as goal
@@ -9,7 +8,3 @@ invariant_of-self c = rw c.drop_want.ensures (
   room_filter _ _ _ _
       c.self.invariant.1,
 )
-
-pub returns-clause-lawful : goal.returns-clause-lawful
-unfolding KeepsLaws
-returns-clause-lawful c = rw c.drop_want.ensures (lawful_filter _ _ _ _ c.self.invariant.0)

@@ -1,4 +1,3 @@
-use Rattle.tok_manager.specs.Laws.{KeepsLaws}
 use Rattle.tok_manager.proofs.Lawful.{lawful_filter, lawful_not_of}
 use Rattle.tok_manager.proofs.Rooms.{room_filter}
 use Rattle.tok_manager.proofs.manager.TokenManager.host_down.Goals as goal
@@ -7,9 +6,3 @@ pub invariant_of-self : goal.invariant_of-self
 invariant_of-self c =
     rw (c.drop_host.ensures, c.drop_wants_of.ensures)
     (lawful_filter _ _ _ _ (lawful_not_of _ _ _ c.args.host c.self.invariant.0), room_filter _ _ _ _ c.self.invariant.1)
-
-pub returns-clause-lawful : goal.returns-clause-lawful
-unfolding KeepsLaws
-returns-clause-lawful c =
-    rw (c.drop_host.ensures, c.drop_wants_of.ensures)
-    (lawful_filter _ _ _ _ (lawful_not_of _ _ _ c.args.host c.self.invariant.0))

@@ -1,10 +1,10 @@
-use Rattle.tok_manager.specs.Laws.{KeepsLaws}
-use Rattle.tok_manager.proofs.Lawful.{lawful_pin}
+use Rattle.std.proofs.Common.{true}
+use Rattle.tok_manager.proofs.Lawful.{lawful_marked}
 use Rattle.tok_manager.proofs.manager.TokenManager.kept.Goals as goal
 
 pub invariant_of-self : goal.invariant_of-self
-invariant_of-self c = rw c.pin.ensures (lawful_pin _ _ _ c.args.id c.self.invariant.0, c.self.invariant.1)
-
-pub returns-then-can_keep-clause-lawful : goal.returns-then-can_keep-clause-lawful
-unfolding KeepsLaws
-returns-then-can_keep-clause-lawful c = rw c.pin.ensures (lawful_pin _ _ _ c.args.id c.self.invariant.0)
+invariant_of-self c = rw c.pin.ensures (
+  lawful_marked _ _ _ c.args.id (λ note. record note { pinned = true })
+      (λ token note n. record { host = n.host; asked = n.asked; in_turn = n.in_turn }) c.self.invariant.0,
+  c.self.invariant.1,
+)

@@ -1,10 +1,5 @@
-use Rattle.tok_manager.specs.Laws.{KeepsLaws}
 use Rattle.tok_manager.proofs.Lawful.{lawful_without}
 use Rattle.tok_manager.proofs.manager.TokenManager.returned.Goals as goal
 
 pub invariant_of-self : goal.invariant_of-self
 invariant_of-self c = rw c.drop_token.ensures (lawful_without _ _ _ c.args.id c.self.invariant.0, c.self.invariant.1)
-
-pub returns-then-holds-clause-lawful : goal.returns-then-holds-clause-lawful
-unfolding KeepsLaws
-returns-then-holds-clause-lawful c = rw c.drop_token.ensures (lawful_without _ _ _ c.args.id c.self.invariant.0)
