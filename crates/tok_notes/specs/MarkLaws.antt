@@ -1,5 +1,5 @@
 -- Laws of what is noted after a change.
-use Rattle.std.specs.Prelude.{◌≡◌, true, ◌==◌, if◌then◌else◌, List, Option, Some, None}
+use Rattle.std.specs.Prelude.{◌≡◌, true, if◌then◌else◌, List, Some, None}
 use Rattle.std.specs.Option.{option_map}
 use Rattle.dfs_base.specs.declared.ids.HostId.{HostId}
 use Rattle.tok_types.specs.Conflicts.{same_id}
