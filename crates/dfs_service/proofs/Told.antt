@@ -12,10 +12,10 @@ use Rattle.dfs_calls.specs.declared.entry.Entry.{Entry}
 use Rattle.dfs_calls.specs.declared.entry.Entry.TheVariants.{Call as Called, Stored, Down, Left}
 use Rattle.dfs_calls.specs.declared.entry.Loss.{Loss}
 use Rattle.dfs_tree.specs.declared.tree.Tree.{Tree}
-use Rattle.dfs_tree.specs.Histories.{after_entry, after_history}
+use Rattle.dfs_tree.specs.Histories.{after_entry, after_history, lost_at, lost_in}
 use Rattle.script_lines.specs.Asks.{call_lines}
 use Rattle.plain_service.specs.Played.{is_own, next_number, has_number, are_numbered}
-use Rattle.run_print.specs.Reports.{answer_in, answers_to, lost_at, lost_in, lost_by, by_host, all_hosts, all_servers}
+use Rattle.run_print.specs.Reports.{answer_in, answers_to, lost_by, by_host, all_hosts, all_servers}
 use Rattle.dfs_service.specs.Laws.{reply_in, is_placed, RepliesFollowCalls, LossesAreTaken}
 
 first : (a b : Bool) → (a && b) ≡ true → a ≡ true

@@ -10,13 +10,13 @@ use Rattle.dfs_calls.specs.declared.entry.Entry.TheVariants.{Call as Called, Dow
 use Rattle.dfs_calls.specs.declared.entry.Loss.{Loss}
 use Rattle.dfs_calls.specs.declared.reply.Reply.{Reply}
 use Rattle.dfs_tree.specs.declared.tree.Tree.{Tree}
-use Rattle.dfs_tree.specs.Histories.{after_history}
+use Rattle.dfs_tree.specs.Histories.{after_history, lost_in}
 use Rattle.dfs_tree.specs.Losses.{losses_of}
 use Rattle.script_lines.specs.Asks.{call_lines}
 use Rattle.script_lines.specs.declared.script.Script.{Script}
 use Rattle.plain_service.specs.Played.{is_own, IsPlayed}
 use Rattle.plain_service.specs.declared.played.Played.{Played}
-use Rattle.run_print.specs.Reports.{answers_to, lost_in, by_host}
+use Rattle.run_print.specs.Reports.{answers_to, by_host}
 
 -- the reply to a call
 abbrev pub reply_in : Entry → List Reply

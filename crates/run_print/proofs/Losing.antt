@@ -5,8 +5,8 @@ use Rattle.std.proofs.lemmas.Bool.{or_parts}
 use Rattle.dfs_calls.specs.declared.entry.Entry.{Entry}
 use Rattle.dfs_calls.specs.declared.entry.Entry.TheVariants.{Call, Stored, Down, Left}
 use Rattle.dfs_tree.specs.declared.tree.Tree.{Tree}
-use Rattle.dfs_tree.specs.Histories.{after_entry}
-use Rattle.run_print.specs.Reports.{is_down, lost_at, lost_in, by_host}
+use Rattle.dfs_tree.specs.Histories.{after_entry, lost_at, lost_in}
+use Rattle.run_print.specs.Reports.{is_down, by_host}
 
 none_at : (tree : Tree) (entry : Entry) → is_down entry ≡ false → lost_at tree entry ≡ []
 none_at tree (Call host k call reply) e = refl

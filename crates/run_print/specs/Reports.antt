@@ -1,5 +1,5 @@
 -- What a run tells: replies, losses and filesets, each in the order of the output.
-use Rattle.std.specs.Prelude.{ℕ, Bool, true, false, ◌+◌, ◌==◌, ◌&&◌, nat_le, if◌then◌else◌, List, [], ◌∷◌, ◌++◌, filter, flat_map}
+use Rattle.std.specs.Prelude.{ℕ, Bool, true, false, ◌+◌, ◌==◌, ◌&&◌, nat_le, if◌then◌else◌, List, [], ◌∷◌, filter, flat_map}
 use Rattle.std.specs.List.{range_with_len}
 use Rattle.dfs_base.specs.declared.limits.TheConstants.{HOSTS_MAX, SERVERS_MAX}
 use Rattle.dfs_calls.specs.declared.entry.Entry.{Entry}
@@ -7,8 +7,7 @@ use Rattle.dfs_calls.specs.declared.entry.Entry.TheVariants.{Call, Stored, Down,
 use Rattle.dfs_calls.specs.declared.entry.Loss.{Loss}
 use Rattle.dfs_filesets.specs.declared.fileset.Fileset.{Fileset}
 use Rattle.dfs_tree.specs.declared.tree.Tree.{Tree}
-use Rattle.dfs_tree.specs.Histories.{after_entry, after_history}
-use Rattle.dfs_tree.specs.Losses.{losses_of}
+use Rattle.dfs_tree.specs.Histories.{after_history, lost_in}
 use Rattle.script_lines.specs.Asks.{call_lines}
 use Rattle.script_lines.specs.declared.script.Script.{Script}
 use Rattle.run_print.specs.declared.report.Answer.{Answer}
@@ -40,18 +39,6 @@ answers_of script history = flat_map (answers_to script history) all_hosts
 abbrev pub is_down : Entry → Bool
 is_down (Down host server) = true
 is_down _ = false
-
--- what is lost at an entry
-abbrev pub lost_at : Tree → Entry → List Loss
-lost_at tree (Call host k call reply) = []
-lost_at tree (Stored host fid spans len) = []
-lost_at tree (Down host server) = losses_of tree host server
-lost_at tree (Left server id) = []
-
--- the losses of a history as they come
-abbrev pub lost_in : Tree → List Entry → List Loss
-lost_in tree [] = []
-lost_in tree (entry ∷ entries) = lost_at tree entry ++ lost_in (after_entry tree entry) entries
 
 -- the losses of a host at a server
 abbrev pub lost_by : List Loss → ℕ → ℕ → List Loss

@@ -1,13 +1,12 @@
 //! What a run tells: replies, losses and filesets, each in the order of the output.
 ghost use Rattle.std.specs.Prelude.{◌≡◌, ◌++◌, flat_map, IfOk, OnOk};
-ghost use Rattle.dfs_tree.specs.Answers.{answer_to};
-ghost use Rattle.dfs_tree.specs.Histories.{after_entry, after_history};
+ghost use Rattle.dfs_tree.specs.Histories.{after_history, lost_in};
 ghost use Rattle.script_lines.specs.Asks.{call_lines};
 ghost use Rattle.std.specs.List.{list_any};
-ghost use Rattle.run_print.specs.Reports.{is_down, all_servers, answer_in, answers_of, lost_at, lost_in, lost_by, by_host, report_of};
+ghost use Rattle.run_print.specs.Reports.{is_down, all_servers, answer_in, answers_of, lost_by, by_host, report_of};
 
 use dfs_base::{HOSTS_MAX, HostId, Items, NoMemory, Plain, SERVERS_MAX};
-use dfs_calls::{Call, Entry, Loss, Reply};
+use dfs_calls::{Entry, Loss, Reply};
 use dfs_tree::Tree;
 use script_lines::{Script, call_lines};
 use std::alloc::Global;
@@ -148,43 +147,9 @@ fn follow(alloc: Global, tree: &mut Tree, history: &[Entry]) -> Result<Items<Los
 {
     let mut losses = Items::new(alloc);
     for entry in history {
-        losses.append(follow_entry(alloc, tree, entry)?)?;
+        losses.append(tree.follow(entry)?)?;
     }
     Ok(losses)
-}
-
-fn follow_entry(alloc: Global, tree: &mut Tree, entry: &Entry) -> Result<Items<Loss>, NoMemory>
-    ensures losses { IfOk result (λ losses. losses ≡ lost_at tree.old entry.now) }
-    ensures tree { OnOk result (tree.new ≡ after_entry tree.old entry.now) }
-{
-    match entry {
-        Entry::Call {
-            host,
-            k: _,
-            call,
-            reply: _,
-        } => follow_call(tree, *host, call)?,
-        Entry::Stored {
-            host,
-            fid,
-            spans,
-            length,
-        } => tree.stored(*host, *fid, spans.as_slice(), *length)?,
-        Entry::Down { host, server } => return tree.down(*host, *server),
-        Entry::Left { server, fileset } => tree.left(*server, *fileset),
-    }
-    Ok(Items::new(alloc))
-}
-
-// Makes the tree what it is after a call. A read, of which there may be many, leaves it as it is.
-#[tactic(auto, using(crate::proofs::Reading::read_stays))]
-fn follow_call(tree: &mut Tree, host: HostId, call: &Call) -> Result<(), NoMemory>
-    ensures { OnOk result (tree.new ≡ (answer_to tree.old host call.now).tree) }
-{
-    if !matches!(call, Call::Read { .. }) {
-        tree.answer(host, call)?;
-    }
-    Ok(())
 }
 
 // Losses by host, and then by server.

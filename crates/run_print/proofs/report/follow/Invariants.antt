@@ -1,6 +1,5 @@
 use Rattle.std.proofs.Common.{◌≡◌, ◌++◌, drop}
-use Rattle.dfs_tree.specs.Histories.{after_history}
-use Rattle.run_print.specs.Reports.{lost_in}
+use Rattle.dfs_tree.specs.Histories.{after_history, lost_in}
 use Rattle.run_print.proofs.report.follow.Given as goal
 
 -- the losses so far, and those of the entries that are left; and the last tree
