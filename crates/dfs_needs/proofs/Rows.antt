@@ -1,5 +1,5 @@
 -- Where the looks of calls end, by a view that shows the fileset that decides them.
-use Rattle.std.proofs.Common.{◌≡◌, ℕ, zero, suc, ◌+◌, ◌-◌, nat_lt, min, Bool, true, false, not, List, [], ◌∷◌, length, take, drop, Option, Some, None, Result, Ok, Err, refl, sym, ap, ◌∙◌, rules}
+use Rattle.std.proofs.Common.{◌≡◌, ℕ, zero, suc, ◌+◌, ◌-◌, nat_lt, min, Bool, true, false, not, List, [], ◌∷◌, length, take, drop, Option, Some, None, Result, Ok, Err, refl, sym, ap, ◌∙◌, arith, rules}
 use Rattle.std.specs.Prelude.{if◌then◌else◌}
 use Rattle.std.specs.Option.{option_map, option_map_or}
 use Rattle.dfs_base.specs.Image.{byte_at}
@@ -87,6 +87,10 @@ bytes_seen view fid kept unsaved shows at (suc n) =
     ∙ ap (λ bytes. view fid (ByteAt at) ∷ bytes) (bytes_seen view fid kept unsaved shows (suc at) n)
     ∙ ap (λ byte. byte ∷ bytes_over kept unsaved (suc at) n) (shows at)
 
+-- how many bytes lie between a position and the end of what is asked for
+part_length : (end from len : ℕ) → min len (end - from) ≡ min end (from + len) - from
+part_length end from len = omega arith
+
 -- the bytes that a Read tells
 pub part_seen : (view : View) (fid : Fid) (content : Content) (from len : ℕ) → is_dir content ≡ false → view fid Size ≡ present (size_cell content) → ((at : ℕ) → view fid (ByteAt at) ≡ present (byte_cell content at)) →
     outcome view (bytes_look fid from (min len (view fid Size - from))) ≡ take len (drop from (content_bytes content))
@@ -94,7 +98,8 @@ part_seen view fid (Dir entries lists) from len file size bytes = no_dir file
 part_seen view fid (File list kept unsaved length) from len file size bytes =
     ap (λ n. outcome view (bytes_look fid from (min len (n - from)))) (size ∙ size_seen (File list kept unsaved length))
     ∙ bytes_seen view fid kept unsaved (λ at. bytes at ∙ byte_seen list kept unsaved length at) from (min len (present_length kept length - from))
-    ∙ over_part kept unsaved (present_length kept length) from len (min len (present_length kept length - from)) refl
+    ∙ ap (λ n. bytes_over kept unsaved from n) (part_length (present_length kept length) from len)
+    ∙ over_part kept unsaved (present_length kept length) from len (min (present_length kept length) (from + len)) refl
 
 -- a list of rights
 list_seen : (which : Which) (read_only : Bool) (owner group : List ℕ) (content : Content) → let object : Object = record { owner = owner; group = group; content = content } in
