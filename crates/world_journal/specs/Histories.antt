@@ -8,16 +8,16 @@ use Rattle.dfs_tree.specs.Histories.{IsHistory, after_history}
 use Rattle.dfs_tree.specs.declared.tree.Tree.{Tree}
 use Rattle.world_steps.specs.declared.applied.Applied.{Applied}
 use Rattle.world_steps.specs.declared.step.Step.{Step}
-use Rattle.dfs_calls.specs.declared.entry.Entry.TheVariants.{Call, Stored as StoredEntry, Down}  -- keep
-use Rattle.world_steps.specs.declared.applied.Applied.TheVariants.{Stored, Ends, IsDown, Wants, Done}  -- keep
-use Rattle.world_steps.specs.declared.applied.Answer.{Answer}  -- keep
+use Rattle.dfs_calls.specs.declared.entry.Entry.TheVariants.{Call, Stored as StoredEntry, Down}
+use Rattle.world_steps.specs.declared.applied.Applied.TheVariants.{Stored, Ends, IsDown, Wants, Done}
+use Rattle.world_steps.specs.declared.applied.Answer.{Answer}
 
 -- the entry of a call
 abbrev pub call_entry : Answer → Entry
 call_entry answer = Call answer.host answer.k answer.call answer.reply
 
--- What a server applies is an entry: a Change that it writes down, the call that a give-back ends, what became kept, a host
--- that is down. A want is none.
+-- What a server applies is an entry: a Change that it writes down, the call that a give-back ends, what became kept,
+-- a host that is down. A want is none.
 abbrev pub entries_in : ServerId → Applied → List Entry
 entries_in server (Stored host fid spans len) = StoredEntry host fid spans len ∷ []
 entries_in server (Ends answer) = call_entry answer ∷ []

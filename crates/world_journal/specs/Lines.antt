@@ -13,7 +13,7 @@ use Rattle.script_lines.specs.declared.script.Line.{Line}
 use Rattle.script_lines.specs.declared.script.Script.{Script}
 use Rattle.world_steps.specs.declared.step.Cause.{Cause}
 use Rattle.world_steps.specs.declared.step.Step.{Step}
-use Rattle.world_steps.specs.declared.step.Cause.TheVariants.{Line as LineOf, Restart}  -- keep
+use Rattle.world_steps.specs.declared.step.Cause.TheVariants.{Line as LineOf, Restart}
 
 -- whether two nodes are one
 abbrev pub is_node : Node → Node → Bool

@@ -2,15 +2,16 @@
 use Rattle.std.specs.Prelude.{None, Some, [], codes, false, ◌∷◌}
 use Rattle.dfs_base.specs.declared.user.User.{User}
 use Rattle.dfs_calls.specs.declared.roster.Roster.{Roster}
+use Rattle.dfs_objects.specs.declared.content.Object.{Object}
 use Rattle.script_lines.specs.declared.script.Script.{Script}
 use Rattle.world_journal.specs.Lines.{setup}
 use Rattle.world_steps.specs.Places.{home}
-use Rattle.dfs_base.specs.declared.ids.Node.TheVariants.{Host, Server}  -- keep
-use Rattle.script_lines.specs.declared.script.Deed.TheVariants.{Call as MakesCall}  -- keep
-use Rattle.dfs_tree.specs.declared.tree.Tree.{Tree}  -- keep
-use Rattle.dfs_filesets.specs.declared.fileset.Fileset.{Fileset}  -- keep
-use Rattle.dfs_objects.specs.declared.content.Content.TheVariants.{Dir}  -- keep
-use Rattle.world_steps.specs.Worked.{client, site_one, stat, access}  -- keep
+use Rattle.dfs_base.specs.declared.ids.Node.TheVariants.{Host, Server}
+use Rattle.script_lines.specs.declared.script.Deed.TheVariants.{Call as MakesCall}
+use Rattle.dfs_tree.specs.declared.tree.Tree.{Tree}
+use Rattle.dfs_filesets.specs.declared.fileset.Fileset.{Fileset}
+use Rattle.dfs_objects.specs.declared.content.Content.TheVariants.{Dir}
+use Rattle.world_steps.specs.Worked.{client, site_one, stat, access}
 
 abbrev pub owner : User
 owner = record { name = codes "u"; groups = codes "g" ∷ [] }
@@ -26,10 +27,17 @@ script = record {
   setup = [];
   plan = [];
   net = None;
-  lines = record { number = 6; node = Host client; deed = MakesCall stat } ∷ record { number = 7; node = Host client; deed = MakesCall stat } ∷ [];
+  lines =
+      record { number = 6; node = Host client; deed = MakesCall stat }
+      ∷ record { number = 7; node = Host client; deed = MakesCall stat }
+      ∷ [];
 }
 
--- the fileset, whose root is empty
+-- its root, which is empty
+abbrev pub root_object : Object
+root_object = record { owner = codes "u"; group = codes "g"; content = Dir [] (access ∷ access ∷ access ∷ []) }
+
+-- the fileset
 abbrev pub home_fileset : Fileset
 home_fileset = record {
   server = site_one;
@@ -38,8 +46,15 @@ home_fileset = record {
   read_only = false;
   objects = 1;
   moves = 0;
-  anodes = record { unique = 1; object = Some (record { owner = codes "u"; group = codes "g"; content = Dir [] (access ∷ access ∷ access ∷ []) }) } ∷ [];
+  anodes = record { unique = 1; object = Some root_object } ∷ [];
 }
 
 abbrev pub start : Tree
-start = record { roster = roster; servers = record { capacity = 16384; next = 2 } ∷ []; filesets = home_fileset ∷ []; away = []; locks = []; opens = [] }
+start = record {
+  roster = roster;
+  servers = record { capacity = 16384; next = 2 } ∷ [];
+  filesets = home_fileset ∷ [];
+  away = [];
+  locks = [];
+  opens = [];
+}

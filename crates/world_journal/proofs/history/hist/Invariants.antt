@@ -1,5 +1,6 @@
-use Rattle.std.proofs.Common.{drop, flat_map, ◌++◌, ◌≡◌}
+use Rattle.std.proofs.Common.{◌≡◌, ◌++◌, flat_map, drop}
 use Rattle.world_journal.specs.Histories.{entries_of, history_of}
+use Rattle.world_journal.proofs.history.hist.Given as goal
 
 -- the entries so far, and those of the steps that are left
 abbrev pub invariant-loop-step : goal.invariant-loop-step

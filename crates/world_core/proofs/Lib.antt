@@ -1,0 +1,2 @@
+pub mod TokenRun
+pub mod RunExample

@@ -1,0 +1,68 @@
+-- What a run promises of its hosts' caches: calls are answered from cache exactly where tokens cover their need, and
+-- tokens leave with cause. Lists of steps have the newest first.
+use Rattle.std.specs.Prelude.{List, Some, [], true, ℕ, ◌↔◌, ◌∷◌, ◌≡◌}
+use Rattle.dfs_base.specs.declared.ids.HostId.{HostId}
+use Rattle.dfs_base.specs.declared.ids.Node.{Node}
+use Rattle.dfs_base.specs.declared.user.User.{User}
+use Rattle.dfs_calls.specs.Rosters.{user_of}
+use Rattle.dfs_calls.specs.declared.call.Call.{Call}
+use Rattle.dfs_calls.specs.declared.reply.Reply.{Reply}
+use Rattle.dfs_needs.specs.Calls.{Own, call_look, reply_now}
+use Rattle.dfs_needs.specs.Looks.{IsCovered, outcome, tree_view}
+use Rattle.tok_types.specs.declared.token.Token.{Token}
+use Rattle.world_host.specs.HostLeaves.{HostLeaves}
+use Rattle.world_host.specs.Knowing.{Knows}
+use Rattle.world_host.specs.OpenCalls.{Begins}
+use Rattle.world_journal.specs.Histories.{tree_at}
+use Rattle.world_journal.specs.Lines.{limit_of}
+use Rattle.world_steps.specs.Lists.{In}
+use Rattle.world_steps.specs.Nodes.{own}
+use Rattle.world_steps.specs.TokenLaws.{NoConflict}
+use Rattle.world_steps.specs.Tokens.{Held}
+use Rattle.world_steps.specs.declared.step.Step.{Step}
+use Rattle.dfs_base.specs.declared.ids.Node.TheVariants.{Host, Server}
+use Rattle.world_steps.specs.declared.applied.Answer.{Answer}
+use Rattle.dfs_tree.specs.declared.tree.Tree.{Tree}
+
+-- the host can answer the call by itself on the tree before the step, under the tokens that it holds before the step
+pub record CoveredOnTree (start : Tree) (host : HostId) (past : List Step) (s : Step) (call : Call) : Type 0 where
+  pub user : User
+  pub acts_for : user_of start.roster host ≡ Some user
+  pub knowledge : Own
+  pub knows : Knows host (own host past) s knowledge
+  pub held : List Token
+  pub holds : (t : Token) → In t held ↔ Held (own host past) t
+  pub reply : Reply
+  pub covered : IsCovered held (tree_view (tree_at start past)) (call_look knowledge host user call)
+  pub settled : reply_now (outcome (tree_view (tree_at start past)) (call_look knowledge host user call)) ≡ Some reply
+
+-- the step that begins a call answers it exactly where it can; it then sends nothing, and takes and drops no token
+pub record CachedAt (start : Tree) (host : HostId) (past : List Step) (s : Step) : Type 0 where
+  pub covered : (k : ℕ) (call : Call) → Begins s k call → CoveredOnTree start host past s call
+      → (a : Answer) × In a s.answers × (a.k ≡ k) × (a.first ≡ true)
+  pub first : (a : Answer) → In a s.answers → a.first ≡ true
+      → Begins s a.k a.call × CoveredOnTree start host past s a.call
+  pub quiet : (a : Answer) → In a s.answers → a.first ≡ true → (s.sent ≡ []) × (s.taken ≡ []) × (s.dropped ≡ [])
+
+abbrev pub CachedStep : Tree → Node → List Step → Step → Type 0
+CachedStep start (Host host) past s = CachedAt start host past s
+CachedStep start (Server server) past s = Unit {0}
+
+-- so it is in each step
+abbrev pub CachedExactly : Tree → List Step → Type 0
+CachedExactly start [] = Unit {0}
+CachedExactly start (s ∷ past) = CachedExactly start past × CachedStep start s.node past s
+
+abbrev pub LeavesWithCause : Tree → Node → List Step → Step → Type 0
+LeavesWithCause start (Host host) past s = HostLeaves start.roster host (limit_of start.roster host) (own host past) s
+LeavesWithCause start (Server server) past s = Unit {0}
+
+-- in each step what leaves a host does so with cause
+abbrev pub DroppedWithCause : Tree → List Step → Type 0
+DroppedWithCause start [] = Unit {0}
+DroppedWithCause start (s ∷ past) = DroppedWithCause start past × LeavesWithCause start s.node past s
+
+-- after each step no two hosts that haven't stopped hold conflicting tokens
+abbrev pub NeverInConflict : List Step → Type 0
+NeverInConflict [] = NoConflict []
+NeverInConflict (s ∷ past) = NeverInConflict past × NoConflict (s ∷ past)

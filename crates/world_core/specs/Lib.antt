@@ -1,0 +1,4 @@
+pub mod Coherence
+pub mod Runs
+pub mod Plans
+pub mod Worked

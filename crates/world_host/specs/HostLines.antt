@@ -1,0 +1,76 @@
+-- A host's lines, and how it ends.
+use Rattle.std.specs.Prelude.{List, [], length, suc, ℕ, ◌∷◌, ◌≡◌, ◌⊎◌}
+use Rattle.dfs_base.specs.declared.ids.ServerId.{ServerId}
+use Rattle.dfs_calls.specs.declared.call.Call.{Call}
+use Rattle.script_lines.specs.declared.script.Deed.{Deed}
+use Rattle.script_lines.specs.declared.script.Line.{Line}
+use Rattle.tok_types.specs.declared.token.Token.{Token}
+use Rattle.world_host.specs.HostLeaves.{MayEvict}
+use Rattle.world_host.specs.Labels.{InUse, end_of}
+use Rattle.world_host.specs.OpenCalls.{Begins, NoneOpen, calls_begun}
+use Rattle.world_journal.specs.Lines.{IsBare, IsNextLine, lines_gone}
+use Rattle.world_steps.specs.Lists.{In}
+use Rattle.world_steps.specs.Sends.{HasGreeted, HasSaidBye, Sends, Stops}
+use Rattle.world_steps.specs.Tokens.{Drops, Held}
+use Rattle.world_steps.specs.declared.applied.Leave.{Leave}
+use Rattle.world_steps.specs.declared.step.Labelled.{Labelled}
+use Rattle.world_steps.specs.declared.step.Step.{Step}
+use Rattle.rpc_types.specs.declared.message.Body.TheVariants.{Down, Bye}
+use Rattle.script_lines.specs.declared.script.Deed.TheVariants.{Call as MakesCall, Raise, Await, Stop, Restart as Restarts}
+use Rattle.world_steps.specs.declared.step.Cause.TheVariants.{Line as LineOf, Restart, Evict, End, Flushed}
+
+-- What a line makes a host do. A call has the next number. A stop says Down to each server, and drops what is held.
+abbrev pub DoesDeed : List ServerId → List Step → Step → Deed → Type 0
+DoesDeed servers past s (MakesCall call) = Begins s (suc (calls_begun past)) call
+DoesDeed servers past s (Raise flag) = IsBare s
+DoesDeed servers past s (Await flag) = IsBare s
+DoesDeed servers past s Stop =
+    ((v : ServerId) → In v servers → (e n : ℕ) × Sends s v e n Down) × ((t : Token) → Held past t → Drops s t)
+DoesDeed servers past s Restarts = ⊥
+
+pub record HostLines (lines : List Line) (servers : List ServerId) (limit : ℕ) (past : List Step) (s : Step)
+    : Type 0 where
+  -- its lines go in order, once each, only while no call is open and nothing may be evicted
+  pub next : (n : ℕ) → s.cause ≡ LineOf n
+      → (line : Line) × IsNextLine lines past n line × DoesDeed servers past s line.deed
+  pub free : (n : ℕ) → s.cause ≡ LineOf n → NoneOpen past × (MayEvict past limit → ⊥)
+  -- calls begin by lines, and implied ones at the end; a Down is of the line `stop`
+  pub begins : (k : ℕ) (call : Call) → Begins s k call → ((n : ℕ) × (s.cause ≡ LineOf n)) ⊎ (s.cause ≡ End)
+  pub stops : Stops s
+      → (n : ℕ) × (line : Line) × (s.cause ≡ LineOf n) × IsNextLine lines past n line × (line.deed ≡ Stop)
+  -- it evicts only where it may; it makes no server's steps
+  pub evicts : s.cause ≡ Evict → MayEvict past limit
+  pub no_server : ((n : ℕ) → s.cause ≡ Restart n → ⊥) × (s.cause ≡ Flushed → ⊥)
+  pub applies_none : (s.applied ≡ []) × (s.admitted ≡ []) × (s.reserved ≡ [])
+
+-- a label was taken before another
+abbrev pub TakenBefore : List Step → Labelled → Labelled → Type 0
+TakenBefore [] u other = ⊥
+TakenBefore (s ∷ past) u other = (In other s.begun × InUse past u) ⊎ TakenBefore past u other
+
+-- no label is in use
+abbrev pub NoneUsed : List Step → Type 0
+NoneUsed past = (u : Labelled) → InUse past u → ⊥
+
+-- a Bye is due to the server
+abbrev pub SaysBye : Step → ServerId → Type 0
+SaysBye s v = (e n : ℕ) × Sends s v e n Bye
+
+-- When its lines have gone a host ends the use of its labels, in the order in which they were taken, by implied
+-- calls; then it gives back and returns all that it holds; then it says Bye to each server that it greeted.
+pub record HostEnds (lines : List Line) (limit : ℕ) (past : List Step) (s : Step) : Type 0 where
+  pub after : s.cause ≡ End → (lines_gone past ≡ length lines) × NoneOpen past × (MayEvict past limit → ⊥)
+  pub does : s.cause ≡ End
+      → ((k : ℕ) × (call : Call) × Begins s k call)
+      ⊎ (((l : Leave) × In l s.dropped) ⊎ ((v : ServerId) × SaysBye s v))
+  -- an implied call has the next number, and ends the use of the label that was taken first
+  pub implied : (k : ℕ) (call : Call) → s.cause ≡ End → Begins s k call
+      → (k ≡ suc (calls_begun past))
+      × ((u : Labelled) × InUse past u × (call ≡ end_of u)
+      × ((other : Labelled) → InUse past other → TakenBefore past other u → ⊥))
+  -- what is held leaves at once, when no label is in use
+  pub drops : (l : Leave) → s.cause ≡ End → In l s.dropped → NoneUsed past × ((t : Token) → Held past t → Drops s t)
+  -- a Bye goes to a server that was greeted, when nothing is held, and again at a lapse or when the server has
+  -- restarted
+  pub bye : (v : ServerId) → SaysBye s v
+      → HasGreeted past v × ((t : Token) → Held (s ∷ past) t → ⊥) × ((s.cause ≡ End) ⊎ HasSaidBye past v)

@@ -1,0 +1,125 @@
+-- What a host knows of itself, and has, when a step answers a call and when it asks.
+use Rattle.std.specs.Prelude.{Bool, List, Some, [], false, true, ℕ, ◌↔◌, ◌∷◌, ◌≡◌, ◌⊎◌}
+use Rattle.dfs_base.specs.declared.ids.Fid.{Fid}
+use Rattle.dfs_base.specs.declared.ids.FilesetId.{FilesetId}
+use Rattle.dfs_base.specs.declared.ids.HostId.{HostId}
+use Rattle.dfs_base.specs.declared.ids.ServerId.{ServerId}
+use Rattle.dfs_base.specs.declared.user.User.{User}
+use Rattle.dfs_calls.specs.Rosters.{user_of}
+use Rattle.dfs_calls.specs.declared.roster.Roster.{Roster}
+use Rattle.dfs_needs.specs.Calls.{Own, Verdict, call_look}
+use Rattle.dfs_needs.specs.Looks.{needs_of, outcome}
+use Rattle.dfs_tree.specs.declared.tree.LockUse.{LockUse}
+use Rattle.dfs_tree.specs.declared.tree.OpenUse.{OpenUse}
+use Rattle.tok_types.specs.declared.token.Need.{Need}
+use Rattle.tok_types.specs.declared.token.Token.{Token}
+use Rattle.world_host.specs.Dirty.{IsClean}
+use Rattle.world_host.specs.Labels.{FreesPinned, InUse, IsEnding}
+use Rattle.world_host.specs.OpenCalls.{Counts}
+use Rattle.world_host.specs.Views.{sees}
+use Rattle.world_steps.specs.Lists.{In}
+use Rattle.world_steps.specs.Sends.{Said}
+use Rattle.world_steps.specs.Tokens.{AtHand, Held}
+use Rattle.world_steps.specs.declared.step.Labelled.{Labelled}
+use Rattle.world_steps.specs.declared.step.Step.{Step}
+use Rattle.tok_types.specs.declared.token.Kind.TheVariants.{Lock as LockToken, Opening}
+use Rattle.rpc_types.specs.declared.message.Body.TheVariants.{Change}
+use Rattle.rpc_types.specs.declared.asking.Change.{Change as ChangeOf}
+use Rattle.rpc_types.specs.declared.telling.Done.{Done as DoneOf}
+use Rattle.rpc_types.specs.declared.telling.DoneIs.TheVariants.{Known as IsFileset}
+use Rattle.dfs_needs.specs.Looks.{View, Look}
+use Rattle.dfs_needs.specs.Questions.Question.{EnterAt, ChangeIn, ChangeAt}
+use Rattle.dfs_needs.specs.Questions.{Question, fileset_of}
+use Rattle.world_steps.specs.Places.{Place, place}
+use Rattle.dfs_calls.specs.declared.call.Call.{Call}
+
+-- the step tells the host the number of a fileset that a server and a name lead to: the Done of an entering Change
+-- counts
+abbrev pub Enters : List Step → Step → ServerId → List ℕ → FilesetId → Type 0
+Enters past s server name id =
+    (change : ChangeOf) × (done : DoneOf) × (epoch : ℕ) × (moves : ℕ)
+    × Said past server epoch moves (Change change) × (change.enter ≡ true)
+    × (fileset_of change.call ≡ Some (server, name))
+    × Counts past s server done × (done.bring.number ≡ change.number) × (done.fileset ≡ change.fileset)
+    × (done.outcome ≡ IsFileset id)
+
+abbrev pub Entered : List Step → ServerId → List ℕ → FilesetId → Type 0
+Entered [] server name id = ⊥
+Entered (s ∷ past) server name id = Enters past s server name id ⊎ Entered past server name id
+
+-- whether a question only enters a fileset
+abbrev pub is_entering : Question → Bool
+is_entering (EnterAt server) = true
+is_entering (ChangeIn fileset) = false
+is_entering (ChangeAt server) = false
+
+-- where a question goes: to where its fileset is, as far as the host knows, or to the server that it names
+abbrev pub stay_asked : List Step → Question → Place
+stay_asked past (EnterAt server) = record { server = server; moves = 0 }
+stay_asked past (ChangeIn fileset) = place past fileset
+stay_asked past (ChangeAt server) = record { server = server; moves = 0 }
+
+-- The host has the label still: it is in use, or its use is being ended.
+abbrev pub HasLabel : List Step → Step → Labelled → Type 0
+HasLabel past s usage = InUse past usage ⊎ IsEnding past s usage
+
+-- the server has to take the end of the label: it is the last use of a pinned token, or was given back already
+abbrev pub NeedsServer : List Step → Step → Labelled → Type 0
+NeedsServer past s usage = FreesPinned past usage ⊎ IsEnding past s usage
+
+-- a lock, an open file under a label
+abbrev pub IsLock : HostId → LockUse → Labelled → Type 0
+IsLock host lock usage =
+    (lock.host ≡ host) × (lock.label ≡ usage.label) × (lock.fid ≡ usage.token.fid)
+    × (usage.token.kind ≡ LockToken lock.writing lock.span)
+
+abbrev pub IsOpening : HostId → OpenUse → Labelled → Type 0
+IsOpening host opened usage =
+    (opened.host ≡ host) × (opened.label ≡ usage.label) × (opened.fid ≡ usage.token.fid)
+    × (usage.token.kind ≡ Opening opened.kind)
+
+-- each element stands in the list once
+abbrev pub EachOnce : {A : Type 0} → List A → Type 0
+EachOnce [] = Unit {0}
+EachOnce (x ∷ xs) = (In x xs → ⊥) × EachOnce xs
+
+-- What a host knows of itself in a step, once it has learnt what the cause tells.
+pub record Knows (host : HostId) (past : List Step) (s : Step) (own : Own) : Type 0 where
+  pub locks : (lock : LockUse) → In lock own.locks ↔ ((u : Labelled) × HasLabel past s u × IsLock host lock u)
+  pub locks_once : EachOnce own.locks
+  pub opens : (opened : OpenUse) →
+      In opened own.opens ↔ ((u : Labelled) × HasLabel past s u × IsOpening host opened u)
+  pub opens_once : EachOnce own.opens
+  pub gives_lock : (label : List ℕ) → (own.gives_lock label ≡ true)
+      ↔ ((lock : LockUse) × (u : Labelled) × (u.label ≡ label) × IsLock host lock u × NeedsServer past s u)
+  pub gives_open : (label : List ℕ) → (own.gives_open label ≡ true)
+      ↔ ((opened : OpenUse) × (u : Labelled) × (u.label ≡ label) × IsOpening host opened u × NeedsServer past s u)
+  pub clean : (fid : Fid) → (own.is_clean fid ≡ true) ↔ IsClean past s fid
+  pub seen : (server : ServerId) (name : List ℕ) (id : FilesetId) →
+      (own.seen server name ≡ Some id) ↔ Entered (s ∷ past) server name id
+
+-- Where a host stands in a step: for whom it acts, and what it knows of itself; the tokens that it has once it has
+-- taken what it takes, under which it answers; and those that it keeps once it has dropped what it drops, under
+-- which it asks.
+pub record Stance (roster : Roster) (host : HostId) (past : List Step) (s : Step) : Type 0 where
+  pub user : User
+  pub acts_for : user_of roster host ≡ Some user
+  pub own : Own
+  pub knows : Knows host past s own
+  pub held : List Token
+  pub holds : (token : Token) → In token held ↔ AtHand s past token
+  pub kept : List Token
+  pub keeps : (token : Token) → In token kept ↔ Held (s ∷ past) token
+
+-- what a call looks at from there, what it needs, and what the host makes of it
+abbrev pub look_of :
+    (roster : Roster) (host : HostId) (past : List Step) (s : Step) → Stance roster host past s → Call → Look Verdict
+look_of roster host past s stance call = call_look stance.own host stance.user call
+
+abbrev pub needs_in :
+    (roster : Roster) (host : HostId) (past : List Step) (s : Step) → Stance roster host past s → Call → List Need
+needs_in roster host past s stance call = needs_of (sees past s) (look_of roster host past s stance call)
+
+abbrev pub verdict_in :
+    (roster : Roster) (host : HostId) (past : List Step) (s : Step) → Stance roster host past s → Call → Verdict
+verdict_in roster host past s stance call = outcome (sees past s) (look_of roster host past s stance call)

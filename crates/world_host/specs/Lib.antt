@@ -1,0 +1,15 @@
+pub mod OpenCalls
+pub mod Labels
+pub mod Views
+pub mod Dirty
+pub mod Knowing
+pub mod HostTakes
+pub mod HostAnswers
+pub mod HostAsks
+pub mod HostGives
+pub mod HostResends
+pub mod HostLeaves
+pub mod HostLines
+pub mod HostRules
+pub mod Rest
+pub mod Worked

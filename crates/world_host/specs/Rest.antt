@@ -1,0 +1,50 @@
+-- A host at rest may do nothing: then no rule is in another's way.
+use Rattle.std.specs.Prelude.{List, None, [], ℕ}
+use Rattle.dfs_base.specs.declared.ids.FilesetId.{FilesetId}
+use Rattle.dfs_base.specs.declared.ids.HostId.{HostId}
+use Rattle.dfs_base.specs.declared.ids.ServerId.{ServerId}
+use Rattle.dfs_calls.specs.declared.roster.Roster.{Roster}
+use Rattle.script_lines.specs.declared.script.Script.{Script}
+use Rattle.world_host.specs.HostResends.{Claimed, Outstanding}
+use Rattle.world_host.specs.HostRules.{HostMeets}
+use Rattle.world_host.specs.Knowing.{Stance}
+use Rattle.world_host.specs.OpenCalls.{NoneOpen}
+use Rattle.world_steps.specs.Requests.{Asking, Changing}
+use Rattle.world_steps.specs.Sends.{HasStopped}
+use Rattle.world_steps.specs.declared.step.Step.{Step}
+use Rattle.world_steps.specs.declared.step.Cause.TheVariants.{Lapse}
+use Rattle.dfs_base.specs.declared.ids.Node.TheVariants.{Host}
+use Rattle.rpc_types.specs.declared.message.Body.{Body}
+
+-- the step of a lapse in which a host does nothing
+abbrev pub rests : HostId → Step
+rests host = record {
+  node = Host host;
+  cause = Lapse;
+  asked = None;
+  taken = [];
+  answers = [];
+  wrote = None;
+  begun = [];
+  made = [];
+  dropped = [];
+  applied = [];
+  admitted = [];
+  sent = [];
+  reserved = [];
+}
+
+-- A host that hasn't stopped is at rest: no call is open, and it waits for no answer.
+pub record IsAtRest (roster : Roster) (host : HostId) (past : List Step) : Type 0 where
+  pub live : HasStopped past → ⊥
+  pub none_open : NoneOpen past
+  pub none_fetched : (fs : FilesetId) (n : ℕ) → Asking past fs n → ⊥
+  pub none_changed : (v : ServerId) (fs : FilesetId) (n : ℕ) → Changing past v fs n → ⊥
+  pub none_outstanding : (v : ServerId) (n : ℕ) (b : Body) → Outstanding past v n b → ⊥
+  pub none_claimed : (v : ServerId) → Claimed past v → ⊥
+  pub stance : Stance roster host past (rests host)
+
+abbrev pub HostMayRest : Type 0
+HostMayRest =
+    (script : Script) (host : HostId) (past : List Step) → IsAtRest script.roster host past
+    → HostMeets script host past (rests host)

@@ -1,0 +1,65 @@
+-- Steps of the small run's host after the run.
+use Rattle.std.specs.Prelude.{List, None, [], false, ◌∷◌}
+use Rattle.world_steps.specs.Acts.{epoch}
+use Rattle.world_steps.specs.Worked.{client, enters, fetches, from_cache, greets, root, site_one, takes, to_host}
+use Rattle.world_steps.specs.Worked.{to_server, token}
+use Rattle.world_steps.specs.declared.step.Step.{Step}
+use Rattle.world_steps.specs.declared.step.Cause.TheVariants.{Message as Came}
+use Rattle.world_steps.specs.declared.applied.Why.TheVariants.{Revoked}
+use Rattle.world_steps.specs.declared.applied.Leave.{Leave}
+use Rattle.dfs_base.specs.declared.ids.Node.TheVariants.{Host}
+use Rattle.rpc_types.specs.declared.message.Body.TheVariants.{Revoke, Returned, Reclaim, Restarted}
+use Rattle.rpc_types.specs.declared.message.Direction.TheVariants.{ToHost}
+use Rattle.rpc_types.specs.declared.message.Message.{Message}
+use Rattle.rpc_types.specs.declared.tokens.Revoke.{Revoke as RevokeOf}
+use Rattle.rpc_types.specs.declared.tokens.Named.{Named}
+use Rattle.rpc_types.specs.declared.giving.Reclaim.{Reclaim as ReclaimOf}
+use Rattle.tok_types.specs.declared.token.Kind.TheVariants.{Status, Bytes}
+use Rattle.dfs_objects.specs.Spans.{whole}
+
+-- the host's steps in the run
+abbrev pub after_run : List Step
+after_run = from_cache ∷ takes whole ∷ fetches whole ∷ enters ∷ greets ∷ []
+
+-- a message comes, tokens leave, and a message is sent
+abbrev pub reacts : Message → List Leave → List Message → Step
+reacts message dropped sent = record {
+  node = Host client;
+  cause = Came message;
+  asked = None;
+  taken = [];
+  answers = [];
+  wrote = None;
+  begun = [];
+  made = [];
+  dropped = dropped;
+  applied = [];
+  admitted = [];
+  sent = sent;
+  reserved = [];
+}
+
+-- the server asks for the first token, and the host returns it
+abbrev pub asked_back : RevokeOf
+asked_back = record { fid = root; stamp = 2; ids = (token 1 (Status false)).id ∷ [] }
+
+abbrev pub returned : Named
+returned = record { fid = root; ids = (token 1 (Status false)).id ∷ [] }
+
+abbrev pub returns : Step
+returns =
+    reacts (to_host (Revoke asked_back)) (record { token = token 1 (Status false); why = Revoked } ∷ [])
+    (to_server 1 (Returned returned) ∷ [])
+
+-- the server has restarted, and the host claims what it holds
+abbrev pub restarted : Message
+restarted = record { direction = ToHost; host = client; server = site_one; epoch = 2; moves = 0; body = Restarted }
+
+abbrev pub claim : ReclaimOf
+claim = record {
+  tokens = token 1 (Status false) ∷ token 2 (Bytes false whole) ∷ [];
+  numbers = record { fileset = root.fileset; moves = 0; give = 0; change = 0 } ∷ [];
+}
+
+abbrev pub reclaims : Step
+reclaims = reacts restarted [] (to_server 2 (Reclaim claim) ∷ [])

@@ -1,0 +1,3 @@
+pub mod Still
+pub mod Resting
+pub mod RunSteps
