@@ -1,5 +1,5 @@
 -- What entries that come next lead to.
-use Rattle.std.proofs.Common.{◌≡◌, ℕ, zero, suc, ◌+◌, Option, Bool, true, false, not, List, [], ◌∷◌, ◌++◌, length, refl, sym, ap, subst, append_assoc, ◌∙◌}
+use Rattle.std.proofs.Common.{◌≡◌, ℕ, zero, suc, ◌+◌, ◌==◌, eqb-true, Option, Bool, true, false, not, List, [], ◌∷◌, ◌++◌, length, refl, sym, ap, subst, append_assoc, ◌∙◌}
 use Rattle.std.specs.List.{list_all}
 use Rattle.std.proofs.lemmas.List.{append-nil}
 use Rattle.dfs_base.specs.declared.ids.HostId.{HostId}
@@ -26,9 +26,10 @@ use Rattle.dfs_calls.specs.declared.call.Call.TheVariants.{Write}
 use Rattle.script_lines.specs.declared.script.Script.{Script}
 use Rattle.plain_service.specs.Uses.{is_done}
 use Rattle.plain_service.specs.Played.{has_moved, lefts_stand, rooms_free}
-use Rattle.plain_service.specs.Underway.{is_aside, Leads, GoesOn, IsSteady, StillSaved, Saves, GoesDown, MakesWay, Makes}
+use Rattle.plain_service.specs.Underway.{is_aside, Leads, StaysIdle, GoesOn, IsSteady, StillSaved, Saves, GoesDown, MakesWay, Makes}
 use Rattle.plain_service.specs.declared.past.Past.{Past}
 use Rattle.plain_service.proofs.Histories.{all_so, fst_true, snd_true, both_true}
+use Rattle.plain_service.proofs.Idle.{stays_append, stays_nowhere, stores_idle, downs_idle, is_left, left_aside, call_idle}
 
 pub legal_append : (tree : Tree) (a b : List Entry) → IsHistory tree a → IsHistory (after_history tree a) b → IsHistory tree (a ++ b)
 legal_append tree [] b h k = k
@@ -86,16 +87,17 @@ quiet_away tree (Down host server ∷ entries) h = quiet_away (down_tree tree ho
 quiet_away tree (Left server id ∷ entries) h = cc
 
 -- entries that neither call nor let a fileset arrive came next
-pub goes_quiet : (before after : Past) (entries : List Entry) → after.history ≡ before.history ++ entries → Leads before.tree entries after.tree → list_all is_quiet entries ≡ true → rooms_free before.tree ≡ true → GoesOn before entries after
-goes_quiet before after entries e l q r =
+pub goes_quiet : (before after : Past) (entries : List Entry) → after.history ≡ before.history ++ entries → Leads before.tree entries after.tree → list_all is_quiet entries ≡ true → ((host : HostId) → StaysIdle host before.tree entries after.tree) → rooms_free before.tree ≡ true → GoesOn before entries after
+goes_quiet before after entries e l q i r =
     let same : after.tree.away ≡ before.tree.away = ap (λ tree. tree.away) l.tree ∙ quiet_away before.tree entries q in
-    record { history = e; leads = l; lefts = quiet_lefts entries q; rooms = rw same r }
+    record { history = e; leads = l; lefts = quiet_lefts entries q; idle = i; rooms = rw same r }
 
 pub goes_append : (a b c : Past) (xs ys : List Entry) → GoesOn a xs b → GoesOn b ys c → GoesOn a (xs ++ ys) c
 goes_append a b c xs ys h k = record {
   history = k.history ∙ (ap (λ l. l ++ ys) h.history ∙ append_assoc a.history xs ys);
   leads = leads_append a.tree b.tree c.tree xs ys h.leads k.leads;
   lefts = lefts_append false xs ys h.lefts k.lefts;
+  idle = λ host. stays_append host a.tree b.tree c.tree xs ys (h.idle host) (k.idle host);
   rooms = k.rooms;
 }
 
@@ -104,6 +106,7 @@ goes_nowhere a h k r = record {
   history = sym (append-nil a.history);
   leads = record { legal = tt; tree = refl; formed = h; apart = k; roster = refl };
   lefts = refl;
+  idle = λ host. stays_nowhere host a.tree;
   rooms = r;
 }
 
@@ -135,6 +138,7 @@ steady_on script start before after entries h k = record {
   formed = k.leads.formed;
   apart = k.leads.apart;
   lefts = rw (k.history) (lefts_append false before.history entries h.lefts k.lefts);
+  idle = λ host. subst (λ list. StaysIdle host start list after.tree) (sym k.history) (stays_append host start before.tree after.tree before.history entries (h.idle host) (k.idle host));
   rooms = k.rooms;
   roster = k.leads.roster ∙ h.roster;
 }
@@ -170,36 +174,48 @@ led before entries after h = record { legal = h.legal; tree = h.tree; formed = h
 
 pub saves_by : (host : HostId) (before : Past) (entries history : List Entry) (tree : Tree) → rooms_free before.tree ≡ true → StoresAll host before.tree entries tree → history ≡ before.history ++ entries → Saves host before (record { tree = tree; history = history })
 saves_by host before entries history tree r h e =
-    let goes : GoesOn before entries (record { tree = tree; history = history }) = goes_quiet before (record { tree = tree; history = history }) entries e (led _ _ _ h.leads) (quiet_stores _ entries h.stores) r in
+    let goes : GoesOn before entries (record { tree = tree; history = history }) = goes_quiet before (record { tree = tree; history = history }) entries e (led _ _ _ h.leads) (quiet_stores _ entries h.stores)
+    (λ other. stores_idle other before.tree tree entries (only_stores _ entries h.stores) (h.owed other) (h.leads.saved other)) r in
     record { stored = entries; stores = only_stores _ entries h.stores; goes = goes; all = h.saved; saved = h.leads.saved }
 
 pub downs_by_all : (host : HostId) (before : Past) (entries history : List Entry) (tree : Tree) → rooms_free before.tree ≡ true → DownsAll host before.tree entries tree → history ≡ before.history ++ entries → GoesDown host before (record { tree = tree; history = history })
 downs_by_all host before entries history tree r h e =
     let downs = downs_from host 1 (length before.tree.roster.capacity) in
-    let goes : GoesOn before downs (record { tree = tree; history = history }) = subst (λ list. GoesOn before list (record { tree = tree; history = history })) h.downs (goes_quiet before (record { tree = tree; history = history }) entries e (led _ _ _ h.leads) (rw h.downs (quiet_downs host 1 (length before.tree.roster.capacity))) r) in
+    let idle : (other : HostId) → StaysIdle other before.tree entries tree =
+    λ other. subst (λ list. StaysIdle other before.tree list tree) (sym h.downs) (downs_idle host other before.tree tree (length before.tree.roster.capacity)
+    (λ same. subst (λ down. all_contents (has_saved down) tree ≡ true) (ap (λ n. record { 0 = n }) (eqb-true host.0 other.0 same)) h.saved) (h.leads.saved other)) in
+    let goes : GoesOn before downs (record { tree = tree; history = history }) = subst (λ list. GoesOn before list (record { tree = tree; history = history })) h.downs (goes_quiet before (record { tree = tree; history = history }) entries e (led _ _ _ h.leads) (rw h.downs (quiet_downs host 1 (length before.tree.roster.capacity))) idle r) in
     record { goes = goes; saved = h.leads.saved }
 
 pub way_made : (host : HostId) (place : Place) (from : ℕ) (bytes : List ℕ) (before : Past) (entries history : List Entry) (tree : Tree) → rooms_free before.tree ≡ true → StoresOthers host place before.tree entries tree → history ≡ before.history ++ entries →
     MakesWay host (Write place from bytes) before (record { tree = tree; history = history })
 way_made host place from bytes before entries history tree r h e =
-    let goes : GoesOn before entries (record { tree = tree; history = history }) = goes_quiet before (record { tree = tree; history = history }) entries e (led _ _ _ h.leads) (quiet_stores _ entries h.stores) r in
+    let goes : GoesOn before entries (record { tree = tree; history = history }) = goes_quiet before (record { tree = tree; history = history }) entries e (led _ _ _ h.leads) (quiet_stores _ entries h.stores)
+    (λ other. stores_idle other before.tree tree entries (only_stores _ entries h.stores) (h.owed other) (h.leads.saved other)) r in
     record { stored = entries; stores = only_stores _ entries h.stores; goes = goes; alone = λ k reply. h.alone; saved = h.leads.saved }
 
 pub way_free : (host : HostId) (call : CallOf) (before : Past) → IsWellFormed before.tree → all_contents is_by_one before.tree ≡ true → rooms_free before.tree ≡ true → ((k : ℕ) (reply : Reply) → writes_alone before.tree (Called host k call reply) ≡ true) → MakesWay host call before before
 way_free host call before f a r w = record { stored = []; stores = refl; goes = goes_nowhere before f a r; alone = w; saved = λ other s. s }
 
+-- a call of a host is no write of another
+pub writes_not : (host other : HostId) (k : ℕ) (call : CallOf) (reply : Reply) → (host.0 == other.0) ≡ false → is_write_by other (Called host k call reply) ≡ false
+writes_not host other k (Write place from bytes) reply d = d
+writes_not host other k call reply d = refl
+
 -- a call after way was made for it, and what a server learnt behind it
 pub made_with : (host : HostId) (k : ℕ) (call : CallOf) (reply : Reply) (done : Bool) (before between after : Past) (left : List Entry) → MakesWay host call before between →
     Leads between.tree (Called host k call reply ∷ left) after.tree → after.history ≡ between.history ++ Called host k call reply ∷ left → lefts_stand false (Called host k call reply ∷ left) ≡ true → rooms_free after.tree ≡ true →
-    list_all is_aside left ≡ true → ((other : HostId) → list_all (λ entry. not (is_write_by other entry)) left ≡ true) → done ≡ is_done reply → Makes host k call done before after
+    list_all is_left left ≡ true → ((other : HostId) → list_all (λ entry. not (is_write_by other entry)) left ≡ true) → done ≡ is_done reply → Makes host k call done before after
 made_with host k call reply done before between after left w l y s r a n d =
-    let goes : GoesOn between (Called host k call reply ∷ left) after = record { history = y; leads = l; lefts = s; rooms = r } in
+    let idle : (other : HostId) → StaysIdle other between.tree (Called host k call reply ∷ left) after.tree =
+    λ other. call_idle host other k call reply left between.tree after.tree a (λ d s. rw l.tree (saved_along other between.tree (Called host k call reply ∷ left) (both_true _ _ (ap not (writes_not host other k call reply d)) (n other)) s)) in
+    let goes : GoesOn between (Called host k call reply ∷ left) after = record { history = y; leads = l; lefts = s; idle = idle; rooms = r } in
     record {
       stored = w.stored;
       reply = reply;
       left = left;
       stores = w.stores;
-      lefts = a;
+      lefts = left_aside left a;
       goes = goes_append before between after w.stored (Called host k call reply ∷ left) w.goes goes;
       told = d;
       saved = λ other m s. still_saved other between after (Called host k call reply ∷ left) goes (both_true _ _ (ap not m) (n other)) (w.saved other s);

@@ -1,4 +1,4 @@
--- A host makes no call after it is down.
+-- A host makes no call and stores nothing after it is down.
 use Rattle.std.proofs.Common.{◌≡◌, ℕ, zero, suc, ◌+◌, ◌==◌, nat_le, ◌&&◌, ◌||◌, not, Bool, true, false, List, [], ◌∷◌, ◌++◌, length, refl, sym, ap, subst, ◌∙◌, rules}
 use Rattle.std.specs.Prelude.{filter, if◌then◌else◌}
 use Rattle.std.specs.List.{list_any, list_all}
@@ -18,10 +18,12 @@ use Rattle.script_lines.specs.declared.script.Line.{Line}
 use Rattle.script_lines.specs.declared.script.Script.{Script}
 use Rattle.plain_service.specs.Calls.{Act, Asks, Falls, is_asked, falls_from, acts_of, act_in, acts_in}
 use Rattle.plain_service.specs.Laws.{DownIsLast}
-use Rattle.plain_service.specs.Played.{calls_in, is_own, is_implied, stops, stops_at, endings, last_calls, IsPlayed}
+use Rattle.plain_service.specs.Played.{calls_in, is_own, is_implied, stops, stops_at, endings, last_calls, stays_idle, IsPlayed}
+use Rattle.plain_service.specs.Underway.{idle_from}
 use Rattle.plain_service.specs.declared.played.Played.{Played}
 use Rattle.plain_service.specs.Seats.{lines_at}
 use Rattle.plain_service.proofs.Histories.{fst_true, snd_true, both_true, acts_append}
+use Rattle.plain_service.proofs.Idle.{idle_tail, silent_stores}
 use Rattle.plain_service.proofs.Seats.{same_eq}
 use Rattle.plain_service.proofs.Each.{is_own_asked}
 
@@ -248,7 +250,10 @@ down_is_last script played host server before after s p e =
     let down : falls_any host (acts_of servers lines) ≡ true = rw (← acts) (falls_there host server (acts_in script before) (acts_in script after)) in
     let none : filter (is_implied script host) played.history ≡ [] = implied_none script host played.history (p.done.implied host ∙ by (stops host lines) refl down) in
     let rest : filter (is_implied script host) after ≡ [] = right_none (filter (is_implied script host) before) _ (sym (filter-append (is_implied script host) before (Down host server ∷ after)) ∙ (ap (filter (is_implied script host)) (sym e) ∙ none)) in
-    own_none script host after asked rest
+    let calls : filter (is_own host) after ≡ [] = own_none script host after asked rest in
+    let after_down : stays_idle host (if host.0 == host.0 then true else idle_from host false before) after ≡ true =
+    snd_true _ _ (idle_tail host false before (Down host server ∷ after) (subst (λ list. stays_idle host false list ≡ true) e (p.idle host))) in
+    record { calls = calls; stores = silent_stores host after calls (subst (λ t. stays_idle host (if t then true else idle_from host false before) after ≡ true) (eq-eqb host.0 host.0 refl) after_down) }
   where
     by : (v : Bool) → stops host (script.setup ++ lines_at script.lines played.order) ≡ v → falls_any host (acts_of (length script.roster.capacity) (script.setup ++ lines_at script.lines played.order)) ≡ true →
         (if v then [] else endings script host played.history) ≡ []

@@ -1,6 +1,7 @@
 pub mod Places
 pub mod Seats
 pub mod Histories
+pub mod Idle
 pub mod Goes
 pub mod Arrivals
 pub mod Ending

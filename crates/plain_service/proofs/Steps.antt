@@ -14,7 +14,6 @@ use Rattle.dfs_base.specs.declared.ids.ServerId.{ServerId}
 use Rattle.dfs_base.specs.declared.ids.Node.{Node}
 use Rattle.dfs_base.specs.declared.ids.Node.TheVariants.{Host, Server}
 use Rattle.dfs_calls.specs.declared.call.Call.{Call as CallOf}
-use Rattle.dfs_calls.specs.declared.call.Call.TheVariants.{Write}
 use Rattle.dfs_calls.specs.declared.entry.Entry.{Entry}
 use Rattle.dfs_calls.specs.declared.entry.Entry.TheVariants.{Call as Called, Stored, Down, Left}
 use Rattle.dfs_calls.specs.declared.reply.Reply.{Reply}
@@ -37,7 +36,7 @@ use Rattle.plain_service.specs.declared.play.Desk.{Desk}
 use Rattle.plain_service.specs.declared.play.Play.{Play}
 use Rattle.plain_service.proofs.Histories.{fst_true, snd_true, both_true, all_so, is_foreign, next_append, numbered_append, uses_append, next_foreign, numbered_foreign, uses_foreign, implied_foreign, stores_foreign, asked_store, down_store, downs_down, downs_foreign, acts_append, acts_none, acts_downs}
 use Rattle.plain_service.proofs.Seats.{place_here, place_other, get_more}
-use Rattle.plain_service.proofs.Goes.{steady_on, goes_append, goes_nowhere}
+use Rattle.plain_service.proofs.Goes.{steady_on, goes_append, goes_nowhere, writes_not}
 use Rattle.plain_service.proofs.Ending.{all_append, take_next}
 use Rattle.dfs_saving.proofs.Lists.{filter_none}
 
@@ -189,11 +188,6 @@ asked_stores script entries h = filter_none is_aside (is_asked script) (asked_st
 
 down_stores : (entries : List Entry) → list_all is_aside entries ≡ true → filter is_down entries ≡ []
 down_stores entries h = filter_none is_aside is_down down_store entries h
-
--- a call of a host is no write of another
-writes_not : (host other : HostId) (k : ℕ) (call : CallOf) (reply : Reply) → Differ host other → is_write_by other (Called host k call reply) ≡ false
-writes_not host other k (Write place from bytes) reply d = d
-writes_not host other k call reply d = refl
 
 -- a host made the call of its line
 pub acted_call : (script : Script) (start : Tree) (done rest : List Line) (host : HostId) (call : CallOf) (line : Line) (before after : Play) → line.node ≡ Host host → line.deed ≡ Call call → AreCounted script (done ++ line ∷ rest) →

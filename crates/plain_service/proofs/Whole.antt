@@ -32,11 +32,12 @@ use Rattle.run_script.specs.Orders.{IsOrder}
 use Rattle.plain_service.specs.Calls.{Asked, asked_by, calls_of, own_calls}
 use Rattle.plain_service.specs.Played.{IsStart, IsPlayed}
 use Rattle.plain_service.specs.Seats.{is_seated, lines_at, all_places}
-use Rattle.plain_service.specs.Underway.{IsUnderway, IsFit, AreCounted, GoesAlong, IsNew, may_go, keeps_deed, played_so}
+use Rattle.plain_service.specs.Underway.{StaysIdle, IsUnderway, IsFit, AreCounted, GoesAlong, IsNew, may_go, keeps_deed, played_so}
 use Rattle.plain_service.specs.declared.play.Play.{Play}
 use Rattle.plain_service.proofs.Histories.{fst_true, snd_true, both_true, all_so}
 use Rattle.plain_service.proofs.Seats.{same_eq}
 use Rattle.plain_service.proofs.Steps.{own_append, own_by}
+use Rattle.plain_service.proofs.Idle.{stays_nowhere}
 
 le_of : (a b : ℕ) → nat_le a b ≡ true → a ≤ b
 le_of a b h = grind (arith, common_steps, h)
@@ -132,7 +133,7 @@ fit_first script start play e n = record { desks = n.desks; formed = rw n.tree e
 
 underway_first : (script : Script) (start : Tree) (order : List Line) (play : Play) → IsOrder script.lines order → IsStart script.roster start → IsNew script start play → IsUnderway script start [] (script.setup ++ order) play
 underway_first script start order play o e n = record {
-  steady = record { legal = rw n.history tt; tree = n.tree ∙ sym (ap (after_history start) n.history); formed = rw n.tree e.formed; apart = rw n.tree (rest_all is_by_one settled_by_one start e.rest); lefts = rw n.history refl; rooms = rw n.tree e.rooms; roster = rw n.tree e.roster };
+  steady = record { legal = rw n.history tt; tree = n.tree ∙ sym (ap (after_history start) n.history); formed = rw n.tree e.formed; apart = rw n.tree (rest_all is_by_one settled_by_one start e.rest); lefts = rw n.history refl; idle = λ host. subst (λ list. StaysIdle host start list play.past.tree) (sym n.history) (subst (λ tree. StaysIdle host start [] tree) (sym n.tree) (stays_nowhere host start)); rooms = rw n.tree e.rooms; roster = rw n.tree e.roster };
   acts = rw n.history refl;
   numbered = λ host. rw n.history refl;
   desks = n.desks;
@@ -161,6 +162,7 @@ all_played script start places first between last p o e n a b =
       done = record { acts = done.acts; numbered = done.numbered; implied = λ host. (done.closed host refl).implied };
       last = done.steady.tree;
       lefts = done.steady.lefts;
+      idle = λ host. (done.steady.idle host false (λ never. cc)).0;
       rooms = done.steady.rooms;
       saved = saved_is_at_rest last.past.tree (λ host. (done.closed host refl).saved);
     }

@@ -1,9 +1,11 @@
 -- What a run of a script is for each host.
-use Rattle.std.specs.Prelude.{◌≡◌, List, [], ◌∷◌, ◌++◌, filter}
+use Rattle.std.specs.Prelude.{◌≡◌, false, List, [], ◌∷◌, ◌++◌, filter}
+use Rattle.std.specs.List.{list_any}
 use Rattle.dfs_base.specs.declared.ids.HostId.{HostId}
 use Rattle.dfs_base.specs.declared.ids.ServerId.{ServerId}
 use Rattle.dfs_calls.specs.declared.entry.Entry.{Entry}
 use Rattle.dfs_calls.specs.declared.entry.Entry.TheVariants.{Down}
+use Rattle.dfs_saving.specs.Saving.{is_store_by}
 use Rattle.script_lines.specs.Sound.{IsSound}
 use Rattle.script_lines.specs.declared.script.Script.{Script}
 use Rattle.plain_service.specs.Calls.{own_calls}
@@ -17,9 +19,14 @@ CallsFollowLines =
     calls_in (filter (is_own host) played.history)
     ≡ own_calls host (script.setup ++ script.lines) ++ last_calls script (script.setup ++ script.lines) host played.history
 
--- a host makes no call after it is down
+-- neither a call nor a store among these entries is a host's
+pub record IsSilent (host : HostId) (entries : List Entry) : Type 0 where
+  pub calls : filter (is_own host) entries ≡ []
+  pub stores : list_any (is_store_by host) entries ≡ false
+
+-- a host makes no call and stores nothing after it is down
 abbrev pub DownIsLast : Type 0
 DownIsLast =
     (script : Script) (played : Played) (host : HostId) (server : ServerId) (before after : List Entry) →
     IsSound script → IsPlayed script played →
-    played.history ≡ before ++ Down host server ∷ after → filter (is_own host) after ≡ []
+    played.history ≡ before ++ Down host server ∷ after → IsSilent host after

@@ -14,6 +14,7 @@ use Rattle.dfs_tree.specs.declared.tree.Tree.{Tree}
 use Rattle.dfs_tree.specs.WellFormed.{IsWellFormed}
 use Rattle.dfs_tree.specs.Histories.{IsHistory, after_history}
 use Rattle.dfs_filesets.specs.WellFormed.{is_at_rest}
+use Rattle.dfs_saving.specs.Saving.{is_store_by}
 use Rattle.script_lines.specs.declared.script.Line.{Line}
 use Rattle.script_lines.specs.declared.script.Script.{Script}
 use Rattle.script_lines.specs.Sound.{is_of, is_stop}
@@ -94,6 +95,18 @@ lefts_stand due (Down host server ∷ entries) = not due && lefts_stand false en
 abbrev pub rooms_free : Tree → Bool
 rooms_free tree = list_all (λ away. not away.room_kept) tree.away
 
+-- whether, after an entry, a host is down and has made no call since
+abbrev pub idle_after : HostId → Bool → Entry → Bool
+idle_after host idle (Called caller k call reply) = if caller.0 == host.0 then false else idle
+idle_after host idle (Stored by fid spans len) = idle
+idle_after host idle (Down by server) = if by.0 == host.0 then true else idle
+idle_after host idle (Left server id) = idle
+
+-- whether a host stores nothing from where it is down on, unless it calls again
+abbrev pub stays_idle : HostId → Bool → List Entry → Bool
+stays_idle host idle [] = true
+stays_idle host idle (entry ∷ entries) = not (idle && is_store_by host entry) && stays_idle host (idle_after host idle entry) entries
+
 -- A tree from which a script can be run: it is well formed and has the script's roster, nothing is unsaved, nothing is
 -- in use, and no server keeps room for a fileset that left it.
 pub record IsStart (given : Roster) (tree : Tree) : Type 0 where
@@ -106,8 +119,8 @@ pub record IsStart (given : Roster) (tree : Tree) : Type 0 where
 
 -- A script was run on the file tree: what happened is legal; first come the lines that make the filesets, and then all others,
 -- each once, in an order in which each node's lines stay in theirs and each that awaits a flag comes after the one that raised
--- it; a server learns that a fileset has arrived directly behind the move; and in the end nothing is unsaved, and no server keeps
--- room for a fileset that left it.
+-- it; a server learns that a fileset has arrived directly behind the move; a host that is down stores nothing any more; and in the
+-- end nothing is unsaved, and no server keeps room for a fileset that left it.
 pub record IsPlayed (script : Script) (played : Played) : Type 0 where
   pub start : IsStart script.roster played.start
   pub legal : IsHistory played.start played.history
@@ -116,5 +129,6 @@ pub record IsPlayed (script : Script) (played : Played) : Type 0 where
   pub done : IsDoneBy script (script.setup ++ lines_at script.lines played.order) played.history
   pub last : played.last ≡ after_history played.start played.history
   pub lefts : lefts_stand false played.history ≡ true
+  pub idle : (host : HostId) → stays_idle host false played.history ≡ true
   pub saved : list_all is_at_rest played.last.filesets ≡ true
   pub rooms : rooms_free played.last ≡ true

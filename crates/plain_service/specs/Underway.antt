@@ -27,7 +27,7 @@ use Rattle.script_lines.specs.Sound.{is_of}
 use Rattle.plain_service.specs.Seats.{is_seated}
 use Rattle.plain_service.specs.Calls.{Asked, own_calls, is_asked, acts_of, acts_in}
 use Rattle.plain_service.specs.Uses.{is_done, uses_from, used_if, ending}
-use Rattle.plain_service.specs.Played.{calls_in, is_own, next_number, are_numbered, is_implied, stops, last_calls, lefts_stand, rooms_free}
+use Rattle.plain_service.specs.Played.{calls_in, is_own, next_number, are_numbered, is_implied, stops, last_calls, lefts_stand, idle_after, stays_idle, rooms_free}
 use Rattle.plain_service.specs.declared.uses.Use.{Use}
 use Rattle.plain_service.specs.declared.past.Past.{Past}
 use Rattle.plain_service.specs.declared.play.Desk.{Desk}
@@ -53,11 +53,23 @@ pub record Leads (before : Tree) (entries : List Entry) (after : Tree) : Type 0 
   pub apart : all_contents is_by_one after ≡ true
   pub roster : after.roster ≡ before.roster
 
+-- whether, after entries, a host is down and has made no call since
+abbrev pub idle_from : HostId → Bool → List Entry → Bool
+idle_from host idle [] = idle
+idle_from host idle (entry ∷ entries) = idle_from host (idle_after host idle entry) entries
+
+-- where a host that is idle has saved all, it stores nothing while it is idle, and so it is after these entries
+abbrev pub StaysIdle : HostId → Tree → List Entry → Tree → Type 0
+StaysIdle host before entries after =
+    (idle : Bool) → (idle ≡ true → all_contents (has_saved host) before ≡ true) →
+    (stays_idle host idle entries ≡ true) × (idle_from host idle entries ≡ true → all_contents (has_saved host) after ≡ true)
+
 -- entries came next, each of which may; no server keeps room then
 pub record GoesOn (before : Past) (entries : List Entry) (after : Past) : Type 0 where
   pub history : after.history ≡ before.history ++ entries
   pub leads : Leads before.tree entries after.tree
   pub lefts : lefts_stand false entries ≡ true
+  pub idle : (host : HostId) → StaysIdle host before.tree entries after.tree
   pub rooms : rooms_free after.tree ≡ true
 
 -- a host that has saved all still has
@@ -143,6 +155,7 @@ pub record IsSteady (script : Script) (start : Tree) (past : Past) : Type 0 wher
   pub formed : IsWellFormed past.tree
   pub apart : all_contents is_by_one past.tree ≡ true
   pub lefts : lefts_stand false past.history ≡ true
+  pub idle : (host : HostId) → StaysIdle host start past.history past.tree
   pub rooms : rooms_free past.tree ≡ true
   pub roster : past.tree.roster ≡ script.roster
 

@@ -8,7 +8,7 @@ pub fn calls_law()
     ensures { CallsFollowLines }
 {}
 
-/// A host makes no call after it is down: its stop is its last line.
+/// A host makes no call and stores nothing after it is down: its stop is its last line.
 #[tactic(auto, using(crate::proofs::Last::down_is_last))]
 pub fn down_law()
     ensures { DownIsLast }
