@@ -13,7 +13,7 @@ use crate::state::Holding;
 use dfs_base::{AccessList, FILE_BYTES_MAX, Items, Name, NoMemory, OBJECTS_MAX, Plain};
 use dfs_calls::{DirEntry, Mover, Piece, ShipPart, Status};
 use dfs_filesets::object_at;
-use dfs_objects::{Anode, Content, Object};
+use dfs_objects::{Anode, Content, Object, UnsavedBytes};
 use std::alloc::Global;
 
 // Whether a name comes before those of these entries.
@@ -246,7 +246,7 @@ fn told_content(
     Ok(Some(Content::File {
         list: list.copy()?,
         kept: told_bytes(pieces.alloc(), status.length, pieces.as_slice())?,
-        unsaved: Items::new(pieces.alloc()),
+        unsaved: UnsavedBytes::new(pieces.alloc()),
         length: None,
     }))
 }
