@@ -135,6 +135,8 @@ module _ (a b : Token) (past : List Step) (cause : Cause) (asked : Option Asked)
     drops_only = λ t d. elim d.1 [ ];
     returns = λ i r. absurd (no_returned i r);
     returns_free = λ i g r. absurd (no_returned i r);
+    answers = λ w v e n p. absurd (elim p [ inl q ↦ only v e n (Returned w) q | inr q ↦ only v e n (Kept w) q ]);
+    answers_file = λ w v e n t p. absurd (elim p [ inl q ↦ only v e n (Returned w) q | inr q ↦ only v e n (Kept w) q ]);
     makes = λ g i m. elim m [ ];
     makes_once = λ g k i m. elim m [ ];
     makes_from = λ g m. elim m [ ];

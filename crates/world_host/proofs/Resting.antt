@@ -193,6 +193,8 @@ module _ (roster : Roster) (host : HostId) (past : List Step) (rest : IsAtRest r
     drops_only = λ t d. elim d.1 [ ];
     returns = λ i r. absurd (none_sent _ _ _ _ r.4);
     returns_free = λ i g r. absurd (none_sent _ _ _ _ r.4);
+    answers = λ w v e n p. absurd (elim p [ inl q ↦ none_sent _ _ _ _ q | inr q ↦ none_sent _ _ _ _ q ]);
+    answers_file = λ w v e n t p. absurd (elim p [ inl q ↦ none_sent _ _ _ _ q | inr q ↦ none_sent _ _ _ _ q ]);
     makes = λ g i m. elim m [ ];
     makes_once = λ g k i m. elim m [ ];
     makes_from = λ g m. elim m [ ];
