@@ -157,6 +157,8 @@ pub losses_taken : LossesAreTaken
 losses_taken = record {
   down = λ start before host server. lost_append start before (Down host server ∷ []) ∙ ap (λ l. lost_in start before ++ l) (append-nil _);
   call = λ start before host k call reply. lost_append start before (Called host k call reply ∷ []) ∙ append-nil (lost_in start before);
+  stored = λ start before host fid spans length. lost_append start before (Stored host fid spans length ∷ []) ∙ append-nil (lost_in start before);
+  left = λ start before server id. lost_append start before (Left server id ∷ []) ∙ append-nil (lost_in start before);
   printed = all_printed;
   all = all_taken;
 }

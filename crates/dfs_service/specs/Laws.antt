@@ -1,12 +1,15 @@
 -- What the lines that are printed of a run tell.
-use Rattle.std.specs.Prelude.{◌≡◌, ℕ, ◌==◌, nat_le, ◌&&◌, Bool, true, List, [], ◌∷◌, ◌++◌, length, map, filter, flat_map, take}
+use Rattle.std.specs.Prelude.{◌≡◌, ℕ, ◌==◌, nat_le, ◌&&◌, Bool, true, List, [], ◌∷◌, ◌++◌, length, map, filter, flat_map, take, Option}
 use Rattle.std.specs.List.{list_all, range_with_len}
 use Rattle.dfs_base.specs.declared.ids.HostId.{HostId}
 use Rattle.dfs_base.specs.declared.ids.ServerId.{ServerId}
+use Rattle.dfs_base.specs.declared.ids.Fid.{Fid}
+use Rattle.dfs_base.specs.declared.ids.FilesetId.{FilesetId}
+use Rattle.dfs_base.specs.declared.span.Span.{Span}
 use Rattle.dfs_base.specs.declared.limits.TheConstants.{HOSTS_MAX, SERVERS_MAX}
 use Rattle.dfs_calls.specs.declared.call.Call.{Call as CallOf}
 use Rattle.dfs_calls.specs.declared.entry.Entry.{Entry}
-use Rattle.dfs_calls.specs.declared.entry.Entry.TheVariants.{Call as Called, Down}
+use Rattle.dfs_calls.specs.declared.entry.Entry.TheVariants.{Call as Called, Stored, Down, Left}
 use Rattle.dfs_calls.specs.declared.entry.Loss.{Loss}
 use Rattle.dfs_calls.specs.declared.reply.Reply.{Reply}
 use Rattle.dfs_tree.specs.declared.tree.Tree.{Tree}
@@ -50,6 +53,10 @@ pub record LossesAreTaken : Type 0 where
       lost_in start (before ++ Down host server ∷ []) ≡ lost_in start before ++ losses_of (after_history start before) host server
   pub call : (start : Tree) (before : List Entry) (host : HostId) (k : ℕ) (call : CallOf) (reply : Reply) →
       lost_in start (before ++ Called host k call reply ∷ []) ≡ lost_in start before
+  pub stored : (start : Tree) (before : List Entry) (host : HostId) (fid : Fid) (spans : List Span) (len : Option ℕ) →
+      lost_in start (before ++ Stored host fid spans len ∷ []) ≡ lost_in start before
+  pub left : (start : Tree) (before : List Entry) (server : ServerId) (id : FilesetId) →
+      lost_in start (before ++ Left server id ∷ []) ≡ lost_in start before
   pub printed : (test : Loss → Bool) (losses : List Loss) → list_all test losses ≡ true → list_all test (by_host losses) ≡ true
   pub all : (test : Loss → Bool) (losses : List Loss) →
       list_all is_placed losses ≡ true → list_all test (by_host losses) ≡ true → list_all test losses ≡ true
