@@ -11,7 +11,7 @@ use Rattle.dfs_calls.specs.declared.call.Call.TheVariants.{NewFileset, Create, M
 use Rattle.dfs_calls.specs.declared.part.Piece.{Piece}
 use Rattle.dfs_calls.specs.declared.part.DirEntry.{DirEntry}
 use Rattle.dfs_calls.specs.declared.part.Status.{Status as StatusOf}
-use Rattle.dfs_calls.specs.declared.reply.Reply.TheVariants.{Names}
+use Rattle.dfs_calls.specs.declared.reply.Reply.TheVariants.{Bytes as BytesRead, Names}
 use Rattle.dfs_calls.specs.declared.place.Place.{Place}
 use Rattle.dfs_calls.specs.declared.reply.Reply.{Reply}
 use Rattle.dfs_calls.specs.declared.roster.Roster.{Roster}
@@ -50,6 +50,10 @@ Each P (x ∷ xs) = P x × Each P xs
 -- a list whose count has two bytes
 abbrev pub IsShort : {A : Type 0} → List A → Type 0
 IsShort xs = length xs ≤ 65535
+
+-- bytes whose count has four bytes
+abbrev pub AreCounted : List ℕ → Type 0
+AreCounted bytes = length bytes ≤ 4294967295
 
 -- a declared server
 pub record IsServer (roster : Roster) (server : ServerId) : Type 0 where
@@ -130,12 +134,18 @@ abbrev pub HasGroups : Call → Type 0
 HasGroups (NewFileset server name objects owner) = (1 ≤ length owner.groups) × (length owner.groups ≤ GROUPS_MAX)
 HasGroups _ = Unit {0}
 
+-- the bytes that a call writes have room for their count
+abbrev pub HasCount : Call → Type 0
+HasCount (Write place from bytes) = AreCounted bytes
+HasCount _ = Unit {0}
+
 -- a call that may be asked
 pub record IsCall (roster : Roster) (call : Call) : Type 0 where
   pub servers : Each (IsServer roster) (servers_in call)
   pub paths : Each (λ (place : Place). IsShort place.path) (places_in call)
   pub objects : IsTrue (keeps_limit call)
   pub groups : HasGroups call
+  pub bytes : HasCount call
 
 -- a call that a server decides; a new fileset is the message's server's
 abbrev pub IsDecided : ServerId → Call → Type 0
@@ -237,8 +247,9 @@ pub record IsChange (roster : Roster) (m : Message) (change : ChangeOf) : Type 0
   pub call : IsCall roster change.call
   pub decided : IsTrue change.enter ⊎ IsDecided m.server change.call
 
--- a list of names has room for its count
+-- bytes and a list of names have room for their count
 abbrev pub IsReply : Reply → Type 0
+IsReply (BytesRead bytes) = AreCounted bytes
 IsReply (Names names) = IsShort names
 IsReply _ = Unit {0}
 
