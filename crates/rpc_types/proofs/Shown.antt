@@ -1,5 +1,5 @@
 -- The examples of soundness.
-use Rattle.std.proofs.Common.{◌≡◌, ◌≤◌, ◌<◌, ◌⊎◌, ℕ, ◌+◌, ◌*◌, ◌/◌, List, length, ap, inl, inr, refl, arith, lit<, lit≤}
+use Rattle.std.proofs.Common.{◌≡◌, ◌≤◌, ◌<◌, ◌⊎◌, ℕ, ◌+◌, ◌*◌, ◌/◌, length, ap, inl, inr, refl, arith, lit<, lit≤}
 use Rattle.std.specs.Prelude.{Some, None, replicate, zero, suc, true, false, IsTrue, [], ◌∷◌}
 use Rattle.dfs_base.specs.declared.ids.Fid.{Fid}
 use Rattle.dfs_base.specs.declared.ids.HostId.{HostId}
@@ -46,6 +46,7 @@ shown = record {
   hello = record { host = lit≤ tt; server = first; way = refl; apart = λ e. absurd (cc); moves = refl; body = tt };
   hello_to_host = λ s. let e = s.way in absurd (cc);
   unknown_host = λ s. let h : 2 ≤ 1 = s.host in omega (arith, h);
+  unknown_server = λ s. let h : 3 ≤ 2 = s.server.last in omega (arith, h);
   hello_with_moves = λ s. let h : 1 ≡ 0 = s.moves in omega (arith, h);
   grant = grant_sound 1 0 (λ e. refl);
   grant_moved = grant_sound 2 1 (λ e. let h : 1 ≡ 0 = e in absurd (omega (arith, h)));
@@ -140,7 +141,9 @@ asked_and_told = record {
   told_many = λ entries l s. let h : length entries ≤ 64 = s.body.told.few in omega (arith, h, l);
   bytes_of_nothing = λ s. let e = (s.body.told.absent refl).0 in absurd (cc);
   entries_of_nothing = λ s. let e = (s.body.told.absent refl).1 in absurd (cc);
-  token_of_other = λ s. let h : 2 ≡ 1 = ap (λ (v : ServerId). v.0) s.body.brings.tokens.0.own.server in omega (arith, h);
+  token_of_other = λ s.
+      let h : 2 ≡ 1 = ap (λ (v : ServerId). v.0) s.body.brings.tokens.0.own.server in
+      omega (arith, h);
   token_no_bytes = λ s. let h : 8 < 8 = s.body.brings.tokens.0.own.room in omega (arith, h);
   token_other_file = λ s. let h = other_file 131073 65537 _ _ s.body.brings.tokens.0.file refl refl in omega (arith, h);
   token_earlier = λ s. let h : 1 ≡ 2 = s.body.brings.tokens.0.epoch in omega (arith, h);
@@ -174,7 +177,8 @@ not_decided f (inr a) = f a
 stat_sound : IsCall some_roster (Stat (place 1 []))
 stat_sound = record { servers = (first, tt); paths = (lit≤ tt, tt); objects = refl; groups = tt; bytes = tt }
 
-give_sound : (moves server : ℕ) → IsServer some_roster (record { 0 = server }) → (moves ≡ 0 → server ≡ 1) → Sound ToServer 1 moves (saved 1 server [] None None)
+give_sound : (moves server : ℕ) → IsServer some_roster (record { 0 = server }) → (moves ≡ 0 → server ≡ 1)
+    → Sound ToServer 1 moves (saved 1 server [] None None)
 give_sound moves server known own = record {
   host = lit≤ tt;
   server = first;
@@ -210,7 +214,8 @@ changed_and_given = record {
   };
   change_elsewhere = λ s. born_elsewhere s.body.fileset;
   change_not_decided = λ s. not_decided (λ b. b) s.body.decided;
-  change_of_other = λ s. not_decided (λ e. let h : 2 ≡ 1 = ap (λ (v : ServerId). v.0) e in omega (arith, h)) s.body.decided;
+  change_of_other = λ s.
+      not_decided (λ e. let h : 2 ≡ 1 = ap (λ (v : ServerId). v.0) e in omega (arith, h)) s.body.decided;
   change_unknown_server = λ s. let h : 3 ≤ 2 = s.body.call.servers.0.last in omega (arith, h);
   change_no_server = λ s. let h : 1 ≤ 0 = s.body.call.servers.0.first in omega (arith, h);
   change_path = λ path l s. let h : length path ≤ 65535 = s.body.call.paths.0 in omega (arith, h, l);

@@ -10,7 +10,6 @@ use Rattle.dfs_calls.specs.declared.part.DirEntry.{DirEntry}
 use Rattle.dfs_calls.specs.declared.part.Piece.{Piece}
 use Rattle.dfs_calls.specs.declared.part.Status.{Status as StatusOf}
 use Rattle.dfs_calls.specs.declared.place.Place.{Place}
-use Rattle.dfs_calls.specs.declared.reply.Reply.{Reply}
 use Rattle.dfs_calls.specs.declared.reply.Reply.TheVariants.{Ok as Accepted, Bytes as BytesRead, Names}
 use Rattle.dfs_calls.specs.declared.roster.Roster.{Roster}
 use Rattle.dfs_calls.specs.declared.ship.Record.{Record}
@@ -241,6 +240,7 @@ pub record Examples : Type 0 where
   pub hello : Sound ToServer 1 0 Hello
   pub hello_to_host : Unsound ToHost 1 0 Hello
   pub unknown_host : Unsound ToServer 2 0 Hello
+  pub unknown_server : IsSound some_roster (record (sent ToServer 1 0 Hello) { server = record { 0 = 3 } }) → ⊥
   pub hello_with_moves : Unsound ToServer 1 1 Hello
   pub grant : Sound ToHost 1 0 (granted 1 1 (Some root_status))
   -- the fileset was born at server 2, and has moved to server 1
