@@ -148,7 +148,7 @@ list_from xs h =
     (and_from (l && has_who xs UserObj && has_who xs GroupObj) (has_who xs OtherObj)
     (and_from (l && has_who xs UserObj) (has_who xs GroupObj) (and_from l (has_who xs UserObj) (le-leb (length xs) 16 h.few) h.user) h.group) h.other) h.distinct
 
-missing_left : (xs ys : List AccessEntry) → IsList (xs ++ ys) → missing xs ≤ length ys
+pub missing_left : (xs ys : List AccessEntry) → IsList (xs ++ ys) → missing xs ≤ length ys
 missing_left xs ys h =
     let u = lack_got (has_who xs UserObj) (has_who ys UserObj) (sym (has_append xs ys UserObj) ∙ h.user) in
     let g = lack_got (has_who xs GroupObj) (has_who ys GroupObj) (sym (has_append xs ys GroupObj) ∙ h.group) in

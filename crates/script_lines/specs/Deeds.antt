@@ -2,8 +2,6 @@ use Rattle.std.specs.Prelude.{ℕ, ◌&&◌, nat_lt, Bool, true, false, if◌the
 use Rattle.dfs_base.specs.Name.{is_among}
 use Rattle.dfs_base.specs.declared.ids.Node.{Node}
 use Rattle.dfs_base.specs.declared.ids.Node.TheVariants.{Host, Server}
-use Rattle.dfs_base.specs.declared.ids.OpenKind.{OpenKind}
-use Rattle.dfs_base.specs.declared.ids.OpenKind.TheVariants.{Reading, Writing, Executing, Shared, Exclusive}
 use Rattle.dfs_calls.specs.declared.place.Which.{Which}
 use Rattle.dfs_calls.specs.declared.place.Which.TheVariants.{Own, Files, Dirs}
 use Rattle.dfs_calls.specs.declared.place.Place.{Place}
@@ -12,6 +10,7 @@ use Rattle.dfs_calls.specs.declared.call.Call.TheVariants as calls
 use Rattle.script_words.specs.Outcome.{◌>>=◌, found, unless}
 use Rattle.script_words.specs.Fields.{word_at, end_at, name_at, label_at, number_at, text_at, is_word}
 use Rattle.script_words.specs.Lists.{list_at}
+use Rattle.script_words.specs.Named.{open_kind_of, lock_mode_of}
 use Rattle.script_lines.specs.Context.{server_of, server_at, is_elsewhere, place_at}
 use Rattle.script_lines.specs.declared.context.Placed.{Placed}
 use Rattle.script_lines.specs.declared.script.TheConstants.{NUMBER_MAX}
@@ -48,21 +47,6 @@ verb_of word =
     else (if is_word word (codes "stop") then Some verbs.Stop
     else (if is_word word (codes "restart") then Some verbs.Restart
     else (if is_word word (codes "move") then Some verbs.Move else None)))))))))))))))))))))
-
--- how a file is opened
-unfoldable pub open_kind_of : List ℕ → Option OpenKind
-open_kind_of word =
-    if is_word word (codes "reading") then Some Reading
-    else (if is_word word (codes "writing") then Some Writing
-    else (if is_word word (codes "executing") then Some Executing
-    else (if is_word word (codes "shared") then Some Shared
-    else (if is_word word (codes "exclusive") then Some Exclusive else None))))
-
--- whether a lock is for writing
-unfoldable pub lock_mode_of : List ℕ → Option Bool
-lock_mode_of word =
-    if is_word word (codes "read") then Some false
-    else (if is_word word (codes "write") then Some true else None)
 
 -- which access list of a directory
 unfoldable pub which_of : List ℕ → Option Which

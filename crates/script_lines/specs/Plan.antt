@@ -3,6 +3,7 @@ use Rattle.dfs_base.specs.declared.ids.Node.{Node}
 use Rattle.dfs_base.specs.declared.ids.Node.TheVariants.{Host, Server}
 use Rattle.script_words.specs.Outcome.{◌>>=◌, found, unless}
 use Rattle.script_words.specs.Fields.{word_at, end_at, label_at, number_at, is_word, node_of}
+use Rattle.script_words.specs.Named.{kind_of}
 use Rattle.script_lines.specs.Context.{node_declared}
 use Rattle.script_lines.specs.declared.context.Context.{Context}
 use Rattle.script_lines.specs.declared.script.TheConstants.{NUMBER_MAX}
@@ -19,24 +20,6 @@ plan_deed_of word =
     if is_word word (codes "drop") then Some Drop
     else (if is_word word (codes "hold") then Some Hold
     else (if is_word word (codes "again") then Some Again else None))
-
--- the number of a message's kind, which is not that of a host that is down
-unfoldable pub kind_of : List ℕ → Option ℕ
-kind_of word =
-    if is_word word (codes "hello") then Some 1
-    else (if is_word word (codes "fetch") then Some 2
-    else (if is_word word (codes "grant") then Some 3
-    else (if is_word word (codes "change") then Some 4
-    else (if is_word word (codes "done") then Some 5
-    else (if is_word word (codes "revoke") then Some 6
-    else (if is_word word (codes "returned") then Some 7
-    else (if is_word word (codes "kept") then Some 8
-    else (if is_word word (codes "giveback") then Some 9
-    else (if is_word word (codes "gone") then Some 10
-    else (if is_word word (codes "reclaim") then Some 11
-    else (if is_word word (codes "reclaimed") then Some 12
-    else (if is_word word (codes "restarted") then Some 13
-    else (if is_word word (codes "bye") then Some 15 else None)))))))))))))
 
 -- a node at a place, declared or not
 unfoldable pub node_named : List (List ℕ) → ℕ → Result Node BadWhy

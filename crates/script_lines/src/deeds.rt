@@ -1,15 +1,15 @@
 ghost use Rattle.std.specs.Prelude.{◌≡◌};
 ghost use Rattle.script_words.specs.Outcome.{Gives};
 ghost use Rattle.script_lines.specs.Locks.{lock_part, last_kind};
-ghost use Rattle.script_lines.specs.Deeds.{raise_deed, verb_of, open_kind_of, lock_mode_of, which_of, which_at, only_place, rename_call, truncate_call, clone_call, read_call, write_call, lock_call, open_call, getacl_call, setacl_call, only_label, is_mixed, move_call, call_by, host_deed, server_deed, deed_of};
+ghost use Rattle.script_lines.specs.Deeds.{raise_deed, verb_of, which_of, which_at, only_place, rename_call, truncate_call, clone_call, read_call, write_call, lock_call, open_call, getacl_call, setacl_call, only_label, is_mixed, move_call, call_by, host_deed, server_deed, deed_of};
 
 use crate::context::Context;
 use crate::script::{Deed, NUMBER_MAX};
 use dfs_base::{Name, Node, OpenKind};
 use dfs_calls::{Call, Place, Which};
 use script_words::{
-    BadWhy, Fault, Words, end_at, is_among, is_word, known, label_at, list_at, name_at, small_at,
-    text_at, unless, word_at,
+    BadWhy, Fault, Words, end_at, is_among, is_word, known, label_at, list_at, lock_mode_of,
+    name_at, open_kind_of, small_at, text_at, unless, word_at,
 };
 
 /// What the second word of a line asks for.
@@ -87,39 +87,6 @@ fn verb_of(word: &[u8]) -> Option<Verb>
         Some(Verb::Restart)
     } else if is_word(word, b"move") {
         Some(Verb::Move)
-    } else {
-        None
-    }
-}
-
-#[tactic(auto, unfolding(crate::specs::Deeds::open_kind_of))]
-fn open_kind_of(word: &[u8]) -> Option<OpenKind>
-    ensures { result ≡ open_kind_of word.now }
-{
-    if is_word(word, b"reading") {
-        Some(OpenKind::Reading)
-    } else if is_word(word, b"writing") {
-        Some(OpenKind::Writing)
-    } else if is_word(word, b"executing") {
-        Some(OpenKind::Executing)
-    } else if is_word(word, b"shared") {
-        Some(OpenKind::Shared)
-    } else if is_word(word, b"exclusive") {
-        Some(OpenKind::Exclusive)
-    } else {
-        None
-    }
-}
-
-// Whether a lock is for writing.
-#[tactic(auto, unfolding(crate::specs::Deeds::lock_mode_of))]
-fn lock_mode_of(word: &[u8]) -> Option<bool>
-    ensures { result ≡ lock_mode_of word.now }
-{
-    if is_word(word, b"read") {
-        Some(false)
-    } else if is_word(word, b"write") {
-        Some(true)
     } else {
         None
     }

@@ -1,12 +1,13 @@
 ghost use Rattle.std.specs.Prelude.{◌≡◌};
 ghost use Rattle.script_words.specs.Outcome.{Gives, Becomes};
-ghost use Rattle.script_lines.specs.Plan.{plan_deed_of, kind_of, node_named, is_pair, receiver_at, flag_at, plan_at, plan_line};
+ghost use Rattle.script_lines.specs.Plan.{plan_deed_of, node_named, is_pair, receiver_at, flag_at, plan_at, plan_line};
 
 use crate::context::Context;
 use crate::script::{NUMBER_MAX, PlanDeed, PlanLine};
 use dfs_base::{Name, Node};
 use script_words::{
-    BadWhy, Fault, Words, end_at, is_word, known, label_at, node_of, small_at, unless, word_at,
+    BadWhy, Fault, Words, end_at, is_word, kind_of, known, label_at, node_of, small_at, unless,
+    word_at,
 };
 
 #[tactic(auto, unfolding(crate::specs::Plan::plan_deed_of))]
@@ -19,44 +20,6 @@ fn plan_deed_of(word: &[u8]) -> Option<PlanDeed>
         Some(PlanDeed::Hold)
     } else if is_word(word, b"again") {
         Some(PlanDeed::Again)
-    } else {
-        None
-    }
-}
-
-// The number of a message's kind.
-#[tactic(auto, unfolding(crate::specs::Plan::kind_of))]
-fn kind_of(word: &[u8]) -> Option<u8>
-    ensures { result ≡ kind_of word.now }
-{
-    if is_word(word, b"hello") {
-        Some(1)
-    } else if is_word(word, b"fetch") {
-        Some(2)
-    } else if is_word(word, b"grant") {
-        Some(3)
-    } else if is_word(word, b"change") {
-        Some(4)
-    } else if is_word(word, b"done") {
-        Some(5)
-    } else if is_word(word, b"revoke") {
-        Some(6)
-    } else if is_word(word, b"returned") {
-        Some(7)
-    } else if is_word(word, b"kept") {
-        Some(8)
-    } else if is_word(word, b"giveback") {
-        Some(9)
-    } else if is_word(word, b"gone") {
-        Some(10)
-    } else if is_word(word, b"reclaim") {
-        Some(11)
-    } else if is_word(word, b"reclaimed") {
-        Some(12)
-    } else if is_word(word, b"restarted") {
-        Some(13)
-    } else if is_word(word, b"bye") {
-        Some(15)
     } else {
         None
     }

@@ -1,11 +1,12 @@
-//! The lines and words of a script, and what single words say: names, labels, numbers, texts, nodes, paths and access
-//! lists. The grammar is this project's own.
+//! The lines and words of a script, and what single words say: names, labels, numbers, texts, nodes, paths, access lists
+//! and kinds. The grammar is this project's own.
 #![tactic(auto)]
 
 mod fault;
 mod fields;
 mod lines;
 mod lists;
+mod named;
 mod words;
 
 pub use fault::{BadWhy, Fault};
@@ -15,4 +16,5 @@ pub use fields::{
 };
 pub use lines::next_line;
 pub use lists::list_at;
+pub use named::{kind_of, lock_mode_of, open_kind_of};
 pub use words::{words_are_read_back, words_asking, words_of_line};

@@ -106,7 +106,7 @@ some = omega arith
 enter_is_sound : IsBody roster (to_server 1 (Change enter)) (Change enter)
 enter_is_sound = record {
   fileset = inl refl;
-  call = record { servers = (record { first = omega arith; last = omega arith }, tt); paths = (omega arith, tt); objects = refl; groups = tt };
+  call = record { servers = (record { first = omega arith; last = omega arith }, tt); paths = (omega arith, tt); objects = refl; groups = tt; bytes = tt };
   decided = inl refl;
 }
 
