@@ -1,4 +1,20 @@
-use Rattle.std.specs.Prelude.{ℕ, ◌^◌, ◌-◌, ◌≤◌, ◌==◌, if◌then◌else◌, List, [], ◌∷◌, length, Option, Result, Ok, Err, codes}
+use Rattle.std.specs.Prelude.{
+  ℕ,
+  ◌^◌,
+  ◌-◌,
+  ◌≤◌,
+  ◌==◌,
+  if◌then◌else◌,
+  List,
+  [],
+  ◌∷◌,
+  length,
+  Option,
+  Result,
+  Ok,
+  Err,
+  codes,
+}
 use Rattle.std.specs.Result.{result_ok}
 use Rattle.dfs_base.specs.declared.limits.TheConstants.{HOSTS_MAX, WORKERS_MAX}
 use Rattle.script_words.specs.Outcome.{◌>>=◌}

@@ -24,7 +24,11 @@ others_rule = record (new_rule (codes "others")) { action = Some Append }
 abbrev pub told : App
 told =
     record {
-      top = record (new_shape (codes "dfs_run")) { rules = json_rule ∷ workers_rule ∷ others_rule ∷ []; no_binary_name = true; disable_help_flag = true };
+      top = record (new_shape (codes "dfs_run")) {
+        rules = json_rule ∷ workers_rule ∷ others_rule ∷ [];
+        no_binary_name = true;
+        disable_help_flag = true;
+      };
       subs = [];
     }
 

@@ -94,8 +94,8 @@ fn read(alloc: Global, first: &[u8], words: &[String]) -> Result<Command, Fault>
 /// - `run`, and then in any order at most one `--json` and at most one `--workers N` or `--workers=N`;
 /// - `gen SEED HOSTS CALLS`, with at most one `--workers` as above anywhere after `gen`.
 ///
-/// Numbers are decimal digits without zeros at the front. N is 1 to `WORKERS_MAX`, and 1 where it isn't said; SEED fits 64
-/// bits; HOSTS is 1 to `HOSTS_MAX` and CALLS 1 to `CALLS_MAX`. The grammar is this project's own.
+/// Numbers are decimal digits without zeros at the front. N is 1 to `WORKERS_MAX`, and 1 where it isn't said; SEED fits
+/// 64 bits; HOSTS is 1 to `HOSTS_MAX` and CALLS 1 to `CALLS_MAX`. The grammar is this project's own.
 #[tactic(auto, unfolding(crate::specs::Command::read), using(crate::proofs::Refused::not_plain))]
 pub fn command_of(alloc: Global, words: &[String]) -> Result<Option<Command>, NoMemory>
     ensures value { IfOk result (λ command. command ≡ command_of (map string_bytes words.now)) }

@@ -20,7 +20,8 @@ fn is_plain(word: &[u8]) -> bool
     }
 }
 
-/// Whether no word after the first one could be taken for an option that the grammar doesn't have, nor a value for an option.
+/// Whether no word after the first one could be taken for an option that the grammar doesn't have, nor a value for an
+/// option.
 #[tactic(auto, unfolding(crate::specs::Plain::are_plain), using(crate::proofs::Refused::plain_first, crate::proofs::Refused::plain_value))]
 pub(crate) fn are_plain(words: &[String]) -> bool
     ensures { result ≡ are_plain (map string_bytes words.now) }

@@ -1,4 +1,24 @@
-use Rattle.std.specs.Prelude.{ℕ, Bool, true, false, ◌==◌, ◌&&◌, not, nat_le, if◌then◌else◌, List, [], ◌∷◌, length, Option, Some, None, unwrap_or, bit_and, bit_or}
+use Rattle.std.specs.Prelude.{
+  ℕ,
+  Bool,
+  true,
+  false,
+  ◌==◌,
+  ◌&&◌,
+  not,
+  nat_le,
+  if◌then◌else◌,
+  List,
+  [],
+  ◌∷◌,
+  length,
+  Option,
+  Some,
+  None,
+  unwrap_or,
+  bit_and,
+  bit_or,
+}
 use Rattle.std.specs.List.{list_any, find, filter, fold}
 use Rattle.std.specs.Option.{option_map}
 use Rattle.dfs_base.specs.declared.limits.TheConstants.{LIST_ENTRIES_MAX}

@@ -15,7 +15,8 @@ After step before c = (d : List ℕ) × before d × step d c
 pub record ChangesBy (step : List ℕ → List ℕ → Type 0) (old new : View) : Type 0 where
   pub later : old.moment ≤ new.moment
   pub now : (c : List ℕ) → new.may_leave c → After step old.may_leave c
-  pub since : (t : ℕ) (c : List ℕ) → t ≤ old.moment → new.left_since t c → old.left_since t c ⊎ After step old.may_leave c
+  pub since : (t : ℕ) (c : List ℕ)
+      → t ≤ old.moment → new.left_since t c → old.left_since t c ⊎ After step old.may_leave c
   pub kept : (t : ℕ) (c : List ℕ) → t ≤ old.moment → old.left_since t c → new.left_since t c
 
 -- A call, or a run of calls, that changes no byte: a crash leaves nothing that it couldn't have left before.

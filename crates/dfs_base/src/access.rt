@@ -1,5 +1,15 @@
 ghost use Rattle.std.specs.Prelude.{◌≡◌, ◌↔◌, true, false, IsTrue, IfOk, IsErrOf};
-ghost use Rattle.dfs_base.specs.Access.{same_who, has_who, is_distinct, is_access_list, is_user_obj, is_user, is_other_obj, is_mask_obj, decides_by_group};
+ghost use Rattle.dfs_base.specs.Access.{
+  same_who,
+  has_who,
+  is_distinct,
+  is_access_list,
+  is_user_obj,
+  is_user,
+  is_other_obj,
+  is_mask_obj,
+  decides_by_group,
+};
 ghost use Rattle.dfs_base.specs.Name.{is_among};
 
 use crate::errors::NoMemory;

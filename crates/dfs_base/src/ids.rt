@@ -65,8 +65,8 @@ pub enum OpenKind {
 }
 
 impl OpenKind {
-    /// Whether two hosts can't have one file open so: exclusive conflicts with each kind, and writing with executing and
-    /// shared.
+    /// Whether two hosts can't have one file open so: exclusive conflicts with each kind, and writing with executing
+    /// and shared.
     pub fn conflicts(self, other: OpenKind) -> bool
         ensures { result ≡ opens_conflict self other }
     {

@@ -1,4 +1,24 @@
-ghost use Rattle.std.specs.Prelude.{◌≡◌, ◌↔◌, IsTrue, ◌+◌, ◌<◌, ◌≤◌, [], ◌∷◌, ◌++◌, length, insert, remove, take, slice_get, slice_set, slice_index_or, OnOk, OnErr, IfOk};
+ghost use Rattle.std.specs.Prelude.{
+  ◌≡◌,
+  ◌↔◌,
+  IsTrue,
+  ◌+◌,
+  ◌<◌,
+  ◌≤◌,
+  [],
+  ◌∷◌,
+  ◌++◌,
+  length,
+  insert,
+  remove,
+  take,
+  slice_get,
+  slice_set,
+  slice_index_or,
+  OnOk,
+  OnErr,
+  IfOk,
+};
 ghost use Rattle.std.specs.Option.{option_copied};
 ghost use Rattle.std.specs.List.Retain.{IsFiltered};
 ghost use Rattle.std.specs.Fn.{CalledAt};
@@ -89,7 +109,8 @@ impl<T> Items<T> {
     /// The element at `index`, to be changed in place.
     pub fn get_mut(&mut self, index: usize) -> &mut T
         requires { index < length self.old }
-        ensures* writes_back { sem 𝓛 (Lends (the_row T.row) T.row self.entry result (λ w. slice_set self.entry.now index w)) }
+        ensures* writes_back { sem 𝓛
+            (Lends (the_row T.row) T.row self.entry result (λ w. slice_set self.entry.now index w)) }
         ensures value { result.now ≡ slice_index_or self.old index result.now }
     {
         &mut self.elements[index]

@@ -1,5 +1,17 @@
 ghost use Rattle.std.specs.Prelude.{◌≡◌, bit_and, bit_or, unwrap_or};
-ghost use Rattle.dfs_base.specs.Access.{allows, rights_where, is_user_obj, is_user, is_other_obj, is_mask_obj, limited_by_mask, rights_of, group_rights_of, union_of, decides_by_group};
+ghost use Rattle.dfs_base.specs.Access.{
+  allows,
+  rights_where,
+  is_user_obj,
+  is_user,
+  is_other_obj,
+  is_mask_obj,
+  limited_by_mask,
+  rights_of,
+  group_rights_of,
+  union_of,
+  decides_by_group,
+};
 ghost use Rattle.std.specs.List.{filter, list_any};
 
 use crate::access::{AccessEntry, AccessList, Who};

@@ -21,6 +21,7 @@ pub trait Sink {
         ensures appended { tells → IfOk result (λ n. got self.new ≡ got self.old ++ take n piece.now) }
         ensures kept { tells → OnErr result (got self.new ≡ got self.old) }
         ensures counted { faults self.old ≤ faults self.new }
-        ensures nothing { IfOk result (λ n. n ≡ 0 → 0 < length piece.now → RoseBy 1 (faults self.old) (faults self.new)) }
+        ensures nothing { IfOk result
+            (λ n. n ≡ 0 → 0 < length piece.now → RoseBy 1 (faults self.old) (faults self.new)) }
         ensures cause { OnErr result (RoseBy 1 (faults self.old) (faults self.new)) };
 }

@@ -1,7 +1,16 @@
 -- The limits that rosters and calls keep.
 use Rattle.std.specs.Prelude.{ℕ, nat_lt, nat_le, Bool, true, ◌&&◌, length}
 use Rattle.std.specs.List.{list_all}
-use Rattle.dfs_base.specs.declared.limits.TheConstants.{SERVERS_MAX, HOSTS_MAX, GROUPS_MAX, CAPACITY_MIN, CAPACITY_MAX, CACHED_TOKENS_MIN, CACHED_TOKENS_MAX, OBJECTS_MAX}
+use Rattle.dfs_base.specs.declared.limits.TheConstants.{
+  SERVERS_MAX,
+  HOSTS_MAX,
+  GROUPS_MAX,
+  CAPACITY_MIN,
+  CAPACITY_MAX,
+  CACHED_TOKENS_MIN,
+  CACHED_TOKENS_MAX,
+  OBJECTS_MAX,
+}
 use Rattle.dfs_calls.specs.declared.call.Call.{Call}
 use Rattle.dfs_calls.specs.declared.call.Call.TheVariants.{NewFileset}
 use Rattle.dfs_calls.specs.declared.roster.Roster.{Roster}
@@ -16,7 +25,8 @@ keeps_limits roster =
     is_between 1 SERVERS_MAX (length roster.capacity) && nat_le (length roster.hosts) HOSTS_MAX
     && list_all (is_between CAPACITY_MIN CAPACITY_MAX) roster.capacity
     && list_all (λ user. is_between 1 GROUPS_MAX (length user.groups)) roster.users
-    && list_all (λ line. nat_lt line.user (length roster.users) && is_between CACHED_TOKENS_MIN CACHED_TOKENS_MAX line.limit) roster.hosts
+    && list_all (λ line.
+    nat_lt line.user (length roster.users) && is_between CACHED_TOKENS_MIN CACHED_TOKENS_MAX line.limit) roster.hosts
 
 -- whether a call keeps its limit: a new fileset has at least one object, and at most so many
 abbrev pub keeps_limit : Call → Bool

@@ -1,6 +1,38 @@
 -- A piece written over bytes: each place, and the length.
-use Rattle.std.proofs.Common.{◌≡◌, ◌<◌, ◌≤◌, ℕ, zero, suc, ◌+◌, ◌-◌, max, List, [], ◌∷◌, ◌++◌, length, take, drop, replicate, get_or, refl, ◌∙◌, ap, arith}
-use Rattle.std.proofs.lemmas.List.{length-take-le, length-drop, length-append, length-replicate, get_or_append_left, get_or-append_right, get_or-take, get_or-drop}
+use Rattle.std.proofs.Common.{
+  ◌≡◌,
+  ◌<◌,
+  ◌≤◌,
+  ℕ,
+  zero,
+  suc,
+  ◌+◌,
+  ◌-◌,
+  max,
+  List,
+  [],
+  ◌∷◌,
+  ◌++◌,
+  length,
+  take,
+  drop,
+  replicate,
+  get_or,
+  refl,
+  ◌∙◌,
+  ap,
+  arith,
+}
+use Rattle.std.proofs.lemmas.List.{
+  length-take-le,
+  length-drop,
+  length-append,
+  length-replicate,
+  get_or_append_left,
+  get_or-append_right,
+  get_or-take,
+  get_or-drop,
+}
 use Rattle.dfs_base.specs.Image.{byte_at, Torn, Holds}
 use Rattle.dfs_outside.proofs.Image.{bytes_from-is}
 use Rattle.dfs_disk.specs.Replay.{overwritten}
@@ -49,7 +81,14 @@ module _ (at : ℕ) (piece old : List ℕ) where
 
   length-overwritten : length (overwritten at piece old) ≡ max (length old) (at + n)
   length-overwritten =
-      omega (arith, front, length-grown, length-append (take at grown) (piece ++ drop (at + n) grown), length-append piece (drop (at + n) grown), length-drop (at + n) grown)
+      omega (
+        arith,
+        front,
+        length-grown,
+        length-append (take at grown) (piece ++ drop (at + n) grown),
+        length-append piece (drop (at + n) grown),
+        length-drop (at + n) grown,
+      )
 
   pub is_torn : Torn at n old (overwritten at piece old)
   is_torn = record {

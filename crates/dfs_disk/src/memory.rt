@@ -1,4 +1,23 @@
-ghost use Rattle.std.specs.Prelude.{◌≡◌, ◌⊎◌, ◌+◌, ◌≤◌, ◌<◌, ◌^◌, ◌∷◌, ◌++◌, ⊤, [], ℕ, List, None, Some, length, IfOk, OnOk, OnErr};
+ghost use Rattle.std.specs.Prelude.{
+  ◌≡◌,
+  ◌⊎◌,
+  ◌+◌,
+  ◌≤◌,
+  ◌<◌,
+  ◌^◌,
+  ◌∷◌,
+  ◌++◌,
+  ⊤,
+  [],
+  ℕ,
+  List,
+  None,
+  Some,
+  length,
+  IfOk,
+  OnOk,
+  OnErr,
+};
 ghost use Rattle.dfs_base.specs.Crash.{IsSettled, IsQuiet, ChangesBy};
 ghost use Rattle.dfs_base.specs.Faults.{RoseBy};
 ghost use Rattle.dfs_base.specs.Image.{bytes_from, Torn, Holds};

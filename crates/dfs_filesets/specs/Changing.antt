@@ -54,4 +54,5 @@ set_access_target fileset user path which =
 -- SetAcl: the list is replaced
 unfoldable pub set_access_answer : Fileset → User → List (List ℕ) → Which → List AccessEntry → Answered
 set_access_answer fileset user path which list =
-    answered fileset (set_access_target fileset user path which) (λ anode. changed fileset anode (content_with_list which list))
+    answered fileset (set_access_target fileset user path which)
+    (λ anode. changed fileset anode (content_with_list which list))

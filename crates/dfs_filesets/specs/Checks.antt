@@ -1,5 +1,22 @@
 -- The checks that rows of the call table share.
-use Rattle.std.specs.Prelude.{ℕ, ◌-◌, Bool, true, false, if◌then◌else◌, List, length, take, slice_get, Option, Some, None, Result, Ok, Err}
+use Rattle.std.specs.Prelude.{
+  ℕ,
+  ◌-◌,
+  Bool,
+  true,
+  false,
+  if◌then◌else◌,
+  List,
+  length,
+  take,
+  slice_get,
+  Option,
+  Some,
+  None,
+  Result,
+  Ok,
+  Err,
+}
 use Rattle.dfs_base.specs.Access.{allows}
 use Rattle.dfs_base.specs.declared.user.User.{User}
 use Rattle.dfs_calls.specs.declared.reply.Refusal.{Refusal}

@@ -1,5 +1,22 @@
 -- How new objects come about.
-use Rattle.std.specs.Prelude.{ℕ, ◌+◌, Bool, ◌&&◌, nat_lt, if◌then◌else◌, List, [], ◌∷◌, take, Some, None, is_none, Result, Ok, Err}
+use Rattle.std.specs.Prelude.{
+  ℕ,
+  ◌+◌,
+  Bool,
+  ◌&&◌,
+  nat_lt,
+  if◌then◌else◌,
+  List,
+  [],
+  ◌∷◌,
+  take,
+  Some,
+  None,
+  is_none,
+  Result,
+  Ok,
+  Err,
+}
 use Rattle.dfs_base.specs.Outcomes.{and_then}
 use Rattle.dfs_base.specs.Users.{first_group}
 use Rattle.dfs_base.specs.declared.user.User.{User}
@@ -32,7 +49,8 @@ is_vacant anode = is_none anode.object && nat_lt anode.unique UNIQUE_MAX
 abbrev pub first_vacancy : ℕ → List Anode → Result Vacancy Refusal
 first_vacancy anode [] = Err TooMany
 first_vacancy anode (first ∷ anodes) =
-    if is_vacant first then Ok (record { anode = anode; unique = first.unique + 1 }) else first_vacancy (anode + 1) anodes
+    if is_vacant first then Ok (record { anode = anode; unique = first.unique + 1 })
+    else first_vacancy (anode + 1) anodes
 
 -- among the anodes from 1 to the object limit
 abbrev pub vacancy : Fileset → Result Vacancy Refusal
@@ -42,8 +60,8 @@ vacancy fileset = first_vacancy 1 (take fileset.objects fileset.anodes)
 abbrev pub owned : User → Content → Object
 owned user content = record { owner = user.name; group = first_group user; content = content }
 
--- the list of a new file is its directory's list of new files; of a new directory its own list is its directory's list of
--- new directories, and its other two are copies of its directory's
+-- the list of a new file is its directory's list of new files; of a new directory its own list is its directory's list
+-- of new directories, and its other two are copies of its directory's
 abbrev pub new_content : NewObject → Content → Result Content Refusal
 new_content EmptyFile directory = and_then (access_of Files directory) (λ files. Ok (File files [] [] None))
 new_content EmptyDirectory directory =

@@ -21,7 +21,8 @@ use Rattle.dfs_filesets.specs.Walk.{target}
 -- the three entries that each access list has: rights of the owner, of the group and of others
 abbrev pub three_entries : ℕ → ℕ → ℕ → List AccessEntry
 three_entries owner group other =
-    record { who = UserObj; rights = owner } ∷ record { who = GroupObj; rights = group } ∷ record { who = OtherObj; rights = other } ∷ []
+    record { who = UserObj; rights = owner }
+    ∷ record { who = GroupObj; rights = group } ∷ record { who = OtherObj; rights = other } ∷ []
 
 -- the lists of a new root: its own and that of new directories are rwxcid, rx, rx; that of new files is rwxc, r, r
 abbrev pub root_lists : List (List AccessEntry)
@@ -60,8 +61,10 @@ anode_as_cloned anode = record anode { object = option_map object_as_cloned anod
 
 -- a clone: a read-only copy of all objects under another id and name, in which what was present is kept
 unfoldable pub cloned : Fileset → FilesetId → List ℕ → Fileset
-cloned fileset id name = record fileset { id = id; name = name; read_only = true; moves = 0; anodes = map anode_as_cloned fileset.anodes }
+cloned fileset id name =
+    record fileset { id = id; name = name; read_only = true; moves = 0; anodes = map anode_as_cloned fileset.anodes }
 
 -- a fileset at another server, with one move more, in which what was present is kept
 unfoldable pub moved : Fileset → ServerId → Fileset
-moved fileset to = record fileset { server = to; moves = fileset.moves + 1; anodes = map anode_as_cloned fileset.anodes }
+moved fileset to =
+    record fileset { server = to; moves = fileset.moves + 1; anodes = map anode_as_cloned fileset.anodes }

@@ -1,5 +1,25 @@
 -- Laws of filesets.
-use Rattle.std.specs.Prelude.{◌≡◌, ◌≢◌, ◌<◌, ◌≤◌, ◌⊎◌, ℕ, ◌+◌, ◌-◌, ◌==◌, Bool, true, false, ◌&&◌, not, List, [], ◌∷◌, length, Ok}
+use Rattle.std.specs.Prelude.{
+  ◌≡◌,
+  ◌≢◌,
+  ◌<◌,
+  ◌≤◌,
+  ◌⊎◌,
+  ℕ,
+  ◌+◌,
+  ◌-◌,
+  ◌==◌,
+  Bool,
+  true,
+  false,
+  ◌&&◌,
+  not,
+  List,
+  [],
+  ◌∷◌,
+  length,
+  Ok,
+}
 use Rattle.std.specs.Option.{option_map, option_map_or}
 use Rattle.dfs_base.specs.Image.{byte_at}
 use Rattle.dfs_base.specs.declared.ids.Fid.{Fid}
@@ -66,35 +86,44 @@ StaysWellFormed =
 
 -- a new fileset of 1 object or more is well formed, and so are a clone of a well formed one, and one that moved
 pub record StartsWellFormed : Type 0 where
-  pub new : (server : ServerId) (id : FilesetId) (name : List ℕ) (objects : ℕ) (owner : User) → 1 ≤ objects → objects ≤ OBJECTS_MAX →
-      IsWellFormed (new_fileset server id name objects owner)
-  pub clone : (fileset : Fileset) (id : FilesetId) (name : List ℕ) → IsWellFormed fileset → IsWellFormed (cloned fileset id name)
+  pub new : (server : ServerId) (id : FilesetId) (name : List ℕ) (objects : ℕ) (owner : User)
+      → 1 ≤ objects → objects ≤ OBJECTS_MAX
+      → IsWellFormed (new_fileset server id name objects owner)
+  pub clone : (fileset : Fileset) (id : FilesetId) (name : List ℕ)
+      → IsWellFormed fileset → IsWellFormed (cloned fileset id name)
   pub moved : (fileset : Fileset) (to : ServerId) → IsWellFormed fileset → IsWellFormed (moved fileset to)
 
 -- a file that is locked or open stays
 abbrev pub UsedFileStays : Type 0
 UsedFileStays =
-    (fileset : Fileset) (in_use : Fid → Bool) (host : HostId) (user : User) (call : Call) (fid : Fid) → IsWellFormed fileset →
-    fid.fileset ≡ fileset.id → in_use fid ≡ true → is_file_at fileset fid ≡ true →
-    is_file_at (fileset_answer fileset in_use host user call).fileset fid ≡ true
+    (fileset : Fileset) (in_use : Fid → Bool) (host : HostId) (user : User) (call : Call) (fid : Fid)
+    → IsWellFormed fileset
+    → fid.fileset ≡ fileset.id → in_use fid ≡ true → is_file_at fileset fid ≡ true
+    → is_file_at (fileset_answer fileset in_use host user call).fileset fid ≡ true
 
 -- A write changes one object. Its span then shows the written bytes, and each byte that readers saw outside of it is as
 -- before.
 pub record WriteChangesItsSpan : Type 0 where
-  pub others : (fileset : Fileset) (host : HostId) (user : User) (path : List (List ℕ)) (from : ℕ) (bytes : List ℕ) (anode other : ℕ) →
-      write_target fileset user path (from + length bytes) ≡ Ok anode → other ≢ anode →
-      object_at (write_answer fileset host user path from bytes).fileset.anodes other ≡ object_at fileset.anodes other
-  pub inside : (fileset : Fileset) (host : HostId) (user : User) (path : List (List ℕ)) (from : ℕ) (bytes : List ℕ) (anode at : ℕ) →
-      write_target fileset user path (from + length bytes) ≡ Ok anode → from ≤ at → at < from + length bytes →
-      byte_at (bytes_at (write_answer fileset host user path from bytes).fileset anode) at ≡ byte_at bytes (at - from)
-  pub outside : (fileset : Fileset) (host : HostId) (user : User) (path : List (List ℕ)) (from : ℕ) (bytes : List ℕ) (anode at : ℕ) →
-      at < length (bytes_at fileset anode) → (at < from) ⊎ (from + length bytes ≤ at) →
-      byte_at (bytes_at (write_answer fileset host user path from bytes).fileset anode) at ≡ byte_at (bytes_at fileset anode) at
+  pub others : (fileset : Fileset)
+      (host : HostId) (user : User) (path : List (List ℕ)) (from : ℕ) (bytes : List ℕ) (anode other : ℕ)
+      → write_target fileset user path (from + length bytes) ≡ Ok anode → other ≢ anode
+      → object_at (write_answer fileset host user path from bytes).fileset.anodes other ≡ object_at fileset.anodes other
+  pub inside : (fileset : Fileset)
+      (host : HostId) (user : User) (path : List (List ℕ)) (from : ℕ) (bytes : List ℕ) (anode at : ℕ)
+      → write_target fileset user path (from + length bytes) ≡ Ok anode → from ≤ at → at < from + length bytes
+      → byte_at (bytes_at (write_answer fileset host user path from bytes).fileset anode) at ≡ byte_at bytes (at - from)
+  pub outside : (fileset : Fileset)
+      (host : HostId) (user : User) (path : List (List ℕ)) (from : ℕ) (bytes : List ℕ) (anode at : ℕ)
+      → at < length (bytes_at fileset anode) → (at < from) ⊎ (from + length bytes ≤ at)
+      → byte_at (bytes_at (write_answer fileset host user path from bytes).fileset anode) at
+      ≡ byte_at (bytes_at fileset anode) at
 
 -- a clone shows the bytes that its source shows, and is promised what that was to be promised for it
 pub record CloneShowsSource : Type 0 where
-  pub bytes : (fileset : Fileset) (id : FilesetId) (name : List ℕ) (anode : ℕ) → bytes_at (cloned fileset id name) anode ≡ bytes_at fileset anode
-  pub blocks : (fileset : Fileset) (id : FilesetId) (name : List ℕ) → promise (cloned fileset id name) ≡ clone_promise fileset
+  pub bytes : (fileset : Fileset) (id : FilesetId) (name : List ℕ) (anode : ℕ)
+      → bytes_at (cloned fileset id name) anode ≡ bytes_at fileset anode
+  pub blocks : (fileset : Fileset) (id : FilesetId) (name : List ℕ)
+      → promise (cloned fileset id name) ≡ clone_promise fileset
 
 -- what is present of an object: all that readers see of it
 pub record Present : Type 0 where
@@ -125,12 +154,14 @@ present object = record {
   bytes = content_bytes object.content;
 }
 
--- A fileset that moved shows each object as it was present, in the same use of the same anode, and has nothing unsaved. It
--- is the same one at another server, and its moves count.
+-- A fileset that moved shows each object as it was present, in the same use of the same anode, and has nothing unsaved.
+-- It is the same one at another server, and its moves count.
 pub record MovedIsTheSame : Type 0 where
-  pub objects : (fileset : Fileset) (to : ServerId) (anode : ℕ) →
-      option_map present (object_at (moved fileset to).anodes anode) ≡ option_map present (object_at fileset.anodes anode)
-  pub uses : (fileset : Fileset) (to : ServerId) (anode : ℕ) → unique_at (moved fileset to).anodes anode ≡ unique_at fileset.anodes anode
+  pub objects : (fileset : Fileset) (to : ServerId) (anode : ℕ)
+      → option_map present (object_at (moved fileset to).anodes anode)
+      ≡ option_map present (object_at fileset.anodes anode)
+  pub uses : (fileset : Fileset) (to : ServerId) (anode : ℕ)
+      → unique_at (moved fileset to).anodes anode ≡ unique_at fileset.anodes anode
   pub rest : (fileset : Fileset) (to : ServerId) → is_at_rest (moved fileset to) ≡ true
   pub server : (fileset : Fileset) (to : ServerId) → (moved fileset to).server ≡ to
   pub moves : (fileset : Fileset) (to : ServerId) → (moved fileset to).moves ≡ fileset.moves + 1

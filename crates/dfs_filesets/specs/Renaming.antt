@@ -12,8 +12,8 @@ use Rattle.dfs_filesets.specs.Checks.{unless, split_path}
 use Rattle.dfs_filesets.specs.Updates.{changed}
 use Rattle.dfs_filesets.specs.Walk.{passes, entry_target, insert_target}
 
--- Rename: ReadOnly; empty `from` Loop; empty `to` Exists; walk to the parent of `from`; Denied (delete); NoEntry; walk to
--- the parent of `to`; Denied (insert); Exists; Loop (that parent is the object or below it)
+-- Rename: ReadOnly; empty `from` Loop; empty `to` Exists; walk to the parent of `from`; Denied (delete); NoEntry; walk
+-- to the parent of `to`; Denied (insert); Exists; Loop (that parent is the object or below it)
 unfoldable pub rename_target : Fileset → User → List (List ℕ) → List (List ℕ) → Result Move Refusal
 rename_target fileset user from to =
     unless fileset.read_only ReadOnly (

@@ -4,7 +4,27 @@ use Rattle.dfs_base.specs.declared.ids.Fid.{Fid}
 use Rattle.dfs_base.specs.declared.ids.HostId.{HostId}
 use Rattle.dfs_base.specs.declared.user.User.{User}
 use Rattle.dfs_calls.specs.declared.call.Call.{Call}
-use Rattle.dfs_calls.specs.declared.call.Call.TheVariants.{NewFileset, Create, MakeDir, Remove, Rename, Truncate, SetAcl, CloneFileset, Read, Write, List as ListNames, Stat, GetAcl, Sync, Lock, Unlock, OpenFile, CloseFile, MoveFileset}
+use Rattle.dfs_calls.specs.declared.call.Call.TheVariants.{
+  NewFileset,
+  Create,
+  MakeDir,
+  Remove,
+  Rename,
+  Truncate,
+  SetAcl,
+  CloneFileset,
+  Read,
+  Write,
+  List as ListNames,
+  Stat,
+  GetAcl,
+  Sync,
+  Lock,
+  Unlock,
+  OpenFile,
+  CloseFile,
+  MoveFileset,
+}
 use Rattle.dfs_calls.specs.declared.reply.Refusal.TheVariants.{NoFileset}
 use Rattle.dfs_filesets.specs.declared.creating.NewObject.TheVariants.{EmptyFile, EmptyDirectory}
 use Rattle.dfs_filesets.specs.declared.fileset.Fileset.{Fileset}
@@ -24,11 +44,13 @@ fileset_answer fileset in_use host user (Remove place) = remove_answer fileset i
 fileset_answer fileset in_use host user (Rename from to) = rename_answer fileset user from.path to.path
 fileset_answer fileset in_use host user (Truncate place len) = truncate_answer fileset user place.path len
 fileset_answer fileset in_use host user (SetAcl place which list) = set_access_answer fileset user place.path which list
-fileset_answer fileset in_use host user (Read place from len) = unchanged fileset (read_reply fileset user place.path from len)
+fileset_answer fileset in_use host user (Read place from len) =
+    unchanged fileset (read_reply fileset user place.path from len)
 fileset_answer fileset in_use host user (Write place from bytes) = write_answer fileset host user place.path from bytes
 fileset_answer fileset in_use host user (ListNames place) = unchanged fileset (list_reply fileset user place.path)
 fileset_answer fileset in_use host user (Stat place) = unchanged fileset (stat_reply fileset user place.path)
-fileset_answer fileset in_use host user (GetAcl place which) = unchanged fileset (access_reply fileset user place.path which)
+fileset_answer fileset in_use host user (GetAcl place which) =
+    unchanged fileset (access_reply fileset user place.path which)
 fileset_answer fileset in_use host user (Sync place) = sync_answer fileset host user place.path
 fileset_answer fileset in_use host user (NewFileset server name objects owner) = refused fileset NoFileset
 fileset_answer fileset in_use host user (CloneFileset server source new) = refused fileset NoFileset

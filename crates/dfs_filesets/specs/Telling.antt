@@ -19,7 +19,8 @@ use Rattle.dfs_filesets.specs.Walk.{target, permitted_file}
 -- Read: walk; IsDir; Denied (read). The present bytes from a position on, at most so many
 unfoldable pub read_reply : Fileset → User → List (List ℕ) → ℕ → ℕ → Reply
 read_reply fileset user path from len =
-    told (permitted_file fileset user path read_right) (λ (anode, object). Bytes (take len (drop from (content_bytes object.content))))
+    told (permitted_file fileset user path read_right)
+    (λ (anode, object). Bytes (take len (drop from (content_bytes object.content))))
 
 -- the directory to list: walk; NotDir; Denied (read)
 unfoldable pub list_target : Fileset → User → List (List ℕ) → Result (List DirEntry) Refusal

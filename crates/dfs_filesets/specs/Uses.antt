@@ -22,7 +22,8 @@ use_target fileset user path changing right =
 
 -- Lock: write for a lock for writing, else read
 abbrev pub lock_target : Fileset → User → List (List ℕ) → Bool → Result Fid Refusal
-lock_target fileset user path writing = use_target fileset user path writing (if writing then write_right else read_right)
+lock_target fileset user path writing =
+    use_target fileset user path writing (if writing then write_right else read_right)
 
 -- whether an open file is to be changed
 abbrev pub is_changing : OpenKind → Bool

@@ -1,5 +1,24 @@
 -- Where paths lead.
-use Rattle.std.specs.Prelude.{ℕ, ◌-◌, ◌==◌, Bool, false, ◌||◌, if◌then◌else◌, List, [], ◌∷◌, slice_get, Option, Some, None, is_some, Result, Ok, Err}
+use Rattle.std.specs.Prelude.{
+  ℕ,
+  ◌-◌,
+  ◌==◌,
+  Bool,
+  false,
+  ◌||◌,
+  if◌then◌else◌,
+  List,
+  [],
+  ◌∷◌,
+  slice_get,
+  Option,
+  Some,
+  None,
+  is_some,
+  Result,
+  Ok,
+  Err,
+}
 use Rattle.std.specs.Option.{option_and_then, option_map_or}
 use Rattle.dfs_base.specs.Outcomes.{and_then, either}
 use Rattle.dfs_base.specs.declared.user.User.{User}
@@ -53,7 +72,8 @@ found_at anode (Some object) = Ok (anode, object)
 
 -- the walk: where a path leads from the root, and the object there
 unfoldable pub target : Fileset → User → List (List ℕ) → Result (ℕ × Object) Refusal
-target fileset user path = and_then (walk fileset.anodes user 1 path) (λ anode. found_at anode (object_at fileset.anodes anode))
+target fileset user path =
+    and_then (walk fileset.anodes user 1 path) (λ anode. found_at anode (object_at fileset.anodes anode))
 
 -- a file: walk; IsDir
 unfoldable pub file_target : Fileset → User → List (List ℕ) → Result (ℕ × Object) Refusal

@@ -43,11 +43,14 @@ pub record IsWellFormed (fileset : Fileset) : Type 0 where
   -- each object is well formed by itself
   pub sound : (at : ℕ) (object : Object) → object_at fileset.anodes at ≡ Some object → is_sound object.content ≡ true
   -- each entry names an object that is there
-  pub named : (at : ℕ) (name : List ℕ) (entry : DirEntry) → entry_at fileset.anodes at name ≡ Some entry → IsUsed fileset.anodes entry
+  pub named : (at : ℕ) (name : List ℕ) (entry : DirEntry)
+      → entry_at fileset.anodes at name ≡ Some entry → IsUsed fileset.anodes entry
   -- no two entries name one object, and none names the root
-  pub once : (a b : ℕ) (m n : List ℕ) (e f : DirEntry) → entry_at fileset.anodes a m ≡ Some e → entry_at fileset.anodes b n ≡ Some f →
-      e.anode ≡ f.anode → (a ≡ b) × (m ≡ n)
-  pub rootless : (at : ℕ) (name : List ℕ) (entry : DirEntry) → entry_at fileset.anodes at name ≡ Some entry → entry.anode ≢ 1
+  pub once : (a b : ℕ) (m n : List ℕ) (e f : DirEntry)
+      → entry_at fileset.anodes a m ≡ Some e → entry_at fileset.anodes b n ≡ Some f
+      → e.anode ≡ f.anode → (a ≡ b) × (m ≡ n)
+  pub rootless : (at : ℕ) (name : List ℕ) (entry : DirEntry)
+      → entry_at fileset.anodes at name ≡ Some entry → entry.anode ≢ 1
   -- some path leads to each object
   pub reached : (at : ℕ) (object : Object) → object_at fileset.anodes at ≡ Some object →
       (path : List (List ℕ)) × (leads fileset.anodes 1 path ≡ Some at)
@@ -60,4 +63,5 @@ is_settled (File list kept unsaved len) = false
 
 -- whether nothing in a fileset is unsaved
 abbrev pub is_at_rest : Fileset → Bool
-is_at_rest fileset = list_all (λ anode. option_map_or (λ object. is_settled object.content) anode.object true) fileset.anodes
+is_at_rest fileset =
+    list_all (λ anode. option_map_or (λ object. is_settled object.content) anode.object true) fileset.anodes

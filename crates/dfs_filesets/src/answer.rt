@@ -12,8 +12,8 @@ use dfs_calls::{Call, Refusal, Reply};
 impl Fileset {
     /// Answers a call whose places are in this fileset, of a user at a host, while some objects are locked or open.
     /// `Reply::Refused` tells the first check in the call's row that fails; a refused call changes nothing. A call that
-    /// one fileset doesn't decide, as `NewFileset`, `Lock` or `Unlock`, is refused with `NoFileset`. `NoMemory` comes where
-    /// memory runs out, and leaves the fileset as it was.
+    /// one fileset doesn't decide, as `NewFileset`, `Lock` or `Unlock`, is refused with `NoFileset`. `NoMemory` comes
+    /// where memory runs out, and leaves the fileset as it was.
     ///
     /// The objects, rights and calls are after Kazar et al., "DEcorum File System Architectural Overview", 1990; which
     /// checks a call makes, and in which order, is this project's own.
@@ -24,8 +24,10 @@ impl Fileset {
         user: &User,
         call: &Call,
     ) -> Result<Reply, NoMemory>
-        ensures reply { IfOk result (λ reply. reply ≡ (fileset_answer self.old (U.is_in_use uses.now) host user.now call.now).reply) }
-        ensures after { OnOk result (self.new ≡ (fileset_answer self.old (U.is_in_use uses.now) host user.now call.now).fileset) }
+        ensures reply { IfOk result
+            (λ reply. reply ≡ (fileset_answer self.old (U.is_in_use uses.now) host user.now call.now).reply) }
+        ensures after { OnOk result
+            (self.new ≡ (fileset_answer self.old (U.is_in_use uses.now) host user.now call.now).fileset) }
         ensures err { OnErr result (self.new ≡ self.old) }
     {
         match self.row(uses, host, user, call) {
@@ -44,7 +46,8 @@ impl Fileset {
         user: &User,
         call: &Call,
     ) -> Result<Reply, NotDone>
-        ensures { IsAnswer result (fileset_answer self.old (U.is_in_use uses.now) host user.now call.now) self.old self.new }
+        ensures { IsAnswer result
+            (fileset_answer self.old (U.is_in_use uses.now) host user.now call.now) self.old self.new }
     {
         match call {
             Call::Create { place } => self.create(

@@ -5,7 +5,14 @@ ghost use Rattle.dfs_objects.specs.Changes.{content_written, content_truncated};
 ghost use Rattle.dfs_objects.specs.Stores.{content_synced};
 ghost use Rattle.dfs_objects.specs.Objects.{content_with_list};
 ghost use Rattle.dfs_filesets.specs.Answers.{IsAnswer};
-ghost use Rattle.dfs_filesets.specs.Changing.{write_target, write_answer, truncate_answer, sync_answer, set_access_target, set_access_answer};
+ghost use Rattle.dfs_filesets.specs.Changing.{
+  write_target,
+  write_answer,
+  truncate_answer,
+  sync_answer,
+  set_access_target,
+  set_access_answer,
+};
 ghost use Rattle.dfs_filesets.specs.Updates.{changed};
 
 use crate::checks::permission;

@@ -20,7 +20,8 @@ pub(crate) fn permission(object: &Object, user: &User, right: Rights) -> Result<
 /// The last name of a path, and the names before it. An empty path is refused so.
 #[tactic(auto, using(std::proofs::lemmas::Option::slice_get_read))]
 pub(crate) fn split_path(path: &[Name], empty: Refusal) -> Result<(&Name, &[Name]), Refusal>
-    ensures { MatchResult result (λ parts. split_path path.now empty ≡ Ok (parts.0.now, parts.1.now)) (λ refusal. split_path path.now empty ≡ Err refusal) }
+    ensures { MatchResult result (λ parts. split_path path.now empty ≡ Ok (parts.0.now, parts.1.now))
+        (λ refusal. split_path path.now empty ≡ Err refusal) }
 {
     if path.is_empty() {
         return Err(empty);

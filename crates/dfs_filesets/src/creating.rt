@@ -2,7 +2,17 @@
 ghost use Rattle.std.specs.Prelude.{◌≡◌, ◌<◌, ◌≤◌, ◌^◌, ◌+◌, length, OnOk, OnErr, IfOk};
 ghost use Rattle.dfs_objects.specs.Entries.{content_with_entry};
 ghost use Rattle.dfs_filesets.specs.Answers.{IsAnswer, IsFound};
-ghost use Rattle.dfs_filesets.specs.Creation.{is_vacant, first_vacancy, vacancy, new_content, new_object, create_target, occupied, with_object, create_answer};
+ghost use Rattle.dfs_filesets.specs.Creation.{
+  is_vacant,
+  first_vacancy,
+  vacancy,
+  new_content,
+  new_object,
+  create_target,
+  occupied,
+  with_object,
+  create_answer,
+};
 ghost use Rattle.dfs_filesets.specs.Updates.{changed, updated};
 
 use crate::checks::split_path;

@@ -35,7 +35,8 @@ pub struct Fileset {
 impl Fileset {
     // The anode of this number, to be changed in place.
     pub(crate) fn anode_mut(&mut self, anode: u32) -> Option<&mut Anode>
-        ensures* writes_back { sem 𝓛 (LendsIf the_row anode_row self.entry result (with_anode self.entry.now anode) self.entry.now) }
+        ensures* writes_back { sem 𝓛
+            (LendsIf the_row anode_row self.entry result (with_anode self.entry.now anode) self.entry.now) }
         ensures value { option_copied_mut result ≡ slice_get self.old.anodes (anode - 1) }
     {
         let index = anode.saturating_sub(1) as usize;

@@ -1,6 +1,16 @@
 //! New filesets, clones, and filesets that move.
 ghost use Rattle.std.specs.Prelude.{◌≡◌, ◌<◌, ◌-◌, ◌++◌, map, replicate, IfOk, OnOk};
-ghost use Rattle.dfs_filesets.specs.Founding.{three_entries, root_lists, unused_anode, new_anodes, new_fileset, control_check, anode_as_cloned, cloned, moved};
+ghost use Rattle.dfs_filesets.specs.Founding.{
+  three_entries,
+  root_lists,
+  unused_anode,
+  new_anodes,
+  new_fileset,
+  control_check,
+  anode_as_cloned,
+  cloned,
+  moved,
+};
 ghost use Rattle.dfs_filesets.specs.declared.fileset.TheConstants.{MOVES_MAX};
 
 use crate::checks::permission;
@@ -15,8 +25,8 @@ use std::alloc::Global;
 
 impl Fileset {
     /// A fileset of so many objects, at most `OBJECTS_MAX`, with an empty root that is owned by `owner` and the owner's
-    /// first group. The root's lists are this project's own: `rwxcid` for the owner and `rx` for others in its own and in
-    /// that of new directories, and `rwxc` and `r` in that of new files. `NoMemory` comes where memory runs out.
+    /// first group. The root's lists are this project's own: `rwxcid` for the owner and `rx` for others in its own and
+    /// in that of new directories, and `rwxc` and `r` in that of new files. `NoMemory` comes where memory runs out.
     #[tactic(auto, unfolding(crate::specs::Founding::new_fileset))]
     pub fn new(
         alloc: Global,
@@ -52,8 +62,8 @@ impl Fileset {
         permission(root, user, Rights::CONTROL)
     }
 
-    /// A clone under this id and name: a read-only copy of all objects, in which what readers see now is kept (Chutani et
-    /// al., "The Episode File System", 1992). `NoMemory` comes where memory runs out.
+    /// A clone under this id and name: a read-only copy of all objects, in which what readers see now is kept (Chutani
+    /// et al., "The Episode File System", 1992). `NoMemory` comes where memory runs out.
     #[tactic(auto, unfolding(crate::specs::Founding::cloned))]
     pub fn cloned(&self, id: FilesetId, name: &Name) -> Result<Fileset, NoMemory>
         ensures { IfOk result (λ clone. clone ≡ cloned self.now id name.now) }

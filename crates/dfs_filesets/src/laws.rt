@@ -1,5 +1,15 @@
 //! Laws of filesets, each the clause of a function that does nothing.
-ghost use Rattle.dfs_filesets.specs.Laws.{RefusedChangesNothing, StaysItself, StaysWellFormed, StartsWellFormed, UsedFileStays, WriteChangesItsSpan, CloneShowsSource, MovedIsTheSame, ClonesAreNew};
+ghost use Rattle.dfs_filesets.specs.Laws.{
+  RefusedChangesNothing,
+  StaysItself,
+  StaysWellFormed,
+  StartsWellFormed,
+  UsedFileStays,
+  WriteChangesItsSpan,
+  CloneShowsSource,
+  MovedIsTheSame,
+  ClonesAreNew,
+};
 
 /// A refused call changes nothing in the fileset.
 pub fn refused_changes_nothing()

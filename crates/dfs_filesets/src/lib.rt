@@ -1,5 +1,5 @@
-//! Filesets of the file service: where paths lead, what a fileset answers to each call that it decides alone, the blocks
-//! that it is promised, and its clones.
+//! Filesets of the file service: where paths lead, what a fileset answers to each call that it decides alone, the
+//! blocks that it is promised, and its clones.
 #![tactic(auto)]
 
 mod answer;

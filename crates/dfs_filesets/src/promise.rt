@@ -10,8 +10,8 @@ use dfs_objects::Anode;
 pub const OBJECT_BLOCKS: u64 = 68;
 
 impl Fileset {
-    /// The blocks that the fileset is promised: `OBJECT_BLOCKS` for each object that it may have, and a clone as many as
-    /// `clone_promise` tells; at most the last number of 64 bits.
+    /// The blocks that the fileset is promised: `OBJECT_BLOCKS` for each object that it may have, and a clone as many
+    /// as `clone_promise` tells; at most the last number of 64 bits.
     pub fn promise(&self) -> u64
         ensures { result ≡ min (promise self.now) (2 ^ 64 - 1) }
     {

@@ -50,7 +50,9 @@ impl Fileset {
         user: &User,
         path: &'a [Name],
     ) -> Result<(u32, &'a Name, u32), Refusal>
-        ensures { MatchResult result (λ found. remove_target self.now (U.is_in_use uses.now) user.now path.now ≡ Ok (found.0, found.1.now, found.2)) (λ refusal. remove_target self.now (U.is_in_use uses.now) user.now path.now ≡ Err refusal) }
+        ensures { MatchResult result (λ found.
+            remove_target self.now (U.is_in_use uses.now) user.now path.now ≡ Ok (found.0, found.1.now, found.2))
+            (λ refusal. remove_target self.now (U.is_in_use uses.now) user.now path.now ≡ Err refusal) }
     {
         if self.read_only {
             return Err(Refusal::ReadOnly);

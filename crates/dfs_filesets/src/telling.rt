@@ -20,7 +20,8 @@ impl Fileset {
         from: u32,
         len: u32,
     ) -> Result<Reply, NotDone>
-        ensures { IsAnswer result (unchanged self.now (read_reply self.now user.now path.now from len)) self.now self.now }
+        ensures { IsAnswer result
+            (unchanged self.now (read_reply self.now user.now path.now from len)) self.now self.now }
     {
         let (_, object) = self.permitted_file(user, path, Rights::READ)?;
         Ok(Reply::Bytes(object.read(from, len)?))
@@ -38,7 +39,8 @@ impl Fileset {
     // The entries of a directory that the user may read.
     #[tactic(auto, unfolding(crate::specs::Telling::list_target))]
     fn list_target(&self, user: &User, path: &[Name]) -> Result<&Items<DirEntry>, Refusal>
-        ensures { MatchResult result (λ entries. list_target self.now user.now path.now ≡ Ok entries.now) (λ refusal. list_target self.now user.now path.now ≡ Err refusal) }
+        ensures { MatchResult result (λ entries. list_target self.now user.now path.now ≡ Ok entries.now)
+            (λ refusal. list_target self.now user.now path.now ≡ Err refusal) }
     {
         let (_, object) = self.target(user, path)?;
         let entries = object.entries()?;
@@ -58,7 +60,8 @@ impl Fileset {
     /// GetAcl: an access list of an object.
     #[tactic(auto, unfolding(crate::specs::Telling::access_reply))]
     pub(crate) fn access(&self, user: &User, path: &[Name], which: Which) -> Result<Reply, NotDone>
-        ensures { IsAnswer result (unchanged self.now (access_reply self.now user.now path.now which)) self.now self.now }
+        ensures { IsAnswer result
+            (unchanged self.now (access_reply self.now user.now path.now which)) self.now self.now }
     {
         let (_, object) = self.target(user, path)?;
         let list = object.access(which)?;

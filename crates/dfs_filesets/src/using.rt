@@ -10,8 +10,8 @@ use dfs_calls::Refusal;
 
 impl Fileset {
     /// The file that a user may lock, for reading or for writing, which needs that right on it. `NotDir`, `Denied` of
-    /// execution and `NoEntry` come from the walk along the path, `IsDir` where it leads to a directory, `ReadOnly` where a
-    /// clone's file is to be locked for writing, and then `Denied`.
+    /// execution and `NoEntry` come from the walk along the path, `IsDir` where it leads to a directory, `ReadOnly`
+    /// where a clone's file is to be locked for writing, and then `Denied`.
     pub fn lock_target(&self, user: &User, path: &[Name], writing: bool) -> Result<Fid, Refusal>
         ensures { result ≡ lock_target self.now user.now path.now writing }
     {

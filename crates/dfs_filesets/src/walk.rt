@@ -1,6 +1,16 @@
 ghost use Rattle.std.specs.Prelude.{◌≡◌, Ok, Err, MatchResult};
 ghost use Rattle.dfs_filesets.specs.Answers.{FindsAt};
-ghost use Rattle.dfs_filesets.specs.Walk.{step, walk, passes, target, file_target, permitted_file, parent_target, insert_target, entry_target};
+ghost use Rattle.dfs_filesets.specs.Walk.{
+  step,
+  walk,
+  passes,
+  target,
+  file_target,
+  permitted_file,
+  parent_target,
+  insert_target,
+  entry_target,
+};
 
 use crate::checks::permission;
 use crate::fileset::{Fileset, object_at};
@@ -102,7 +112,9 @@ impl Fileset {
         front: &[Name],
         right: Rights,
     ) -> Result<(u32, &Object, &Items<DirEntry>), Refusal>
-        ensures { MatchResult result (λ found. parent_target self.now user.now front.now right ≡ Ok (found.0, found.1.now, found.2.now)) (λ refusal. parent_target self.now user.now front.now right ≡ Err refusal) }
+        ensures { MatchResult result (λ found.
+            parent_target self.now user.now front.now right ≡ Ok (found.0, found.1.now, found.2.now))
+            (λ refusal. parent_target self.now user.now front.now right ≡ Err refusal) }
     {
         let (anode, object) = self.target(user, front)?;
         let entries = object.entered(user)?;

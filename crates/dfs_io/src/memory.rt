@@ -119,7 +119,8 @@ impl Sink for MemSink {
         ensures appended { ⊤ → IfOk result (λ n. got_by self.new ≡ got_by self.old ++ take n piece.now) }
         ensures kept { ⊤ → OnErr result (got_by self.new ≡ got_by self.old) }
         ensures counted { (sink_calls self.old).faults ≤ (sink_calls self.new).faults }
-        ensures nothing { IfOk result (λ n. n ≡ 0 → 0 < length piece.now → RoseBy 1 (sink_calls self.old).faults (sink_calls self.new).faults) }
+        ensures nothing { IfOk result
+            (λ n. n ≡ 0 → 0 < length piece.now → RoseBy 1 (sink_calls self.old).faults (sink_calls self.new).faults) }
         ensures cause { OnErr result (RoseBy 1 (sink_calls self.old).faults (sink_calls self.new).faults) }
         ensures whole { IfOk result (λ n. n ≡ length piece.now) }
         ensures calls { IsCall result (sink_calls self.old) (sink_calls self.new) }

@@ -36,7 +36,8 @@ impl<R: Read> Source for StdSource<R> {
         ensures kept { ⊥ → OnErr result (untold ≡ untold) }
         ensures counted { self.old.faults ≤ self.new.faults }
         ensures cause { OnErr result (RoseBy 1 self.old.faults self.new.faults) }
-        ensures reader { ReadConsumes (R.remaining (reader_of self.old)) (R.remaining (reader_of self.new)) result out.new }
+        ensures reader { ReadConsumes
+            (R.remaining (reader_of self.old)) (R.remaining (reader_of self.new)) result out.new }
     {
         match self.reader.read(out) {
             Ok(n) => Ok(n),
@@ -78,7 +79,8 @@ impl<W: Write> Sink for StdSink<W> {
         ensures counted { self.old.faults ≤ self.new.faults }
         ensures nothing { IfOk result (λ n. n ≡ 0 → 0 < length piece.now → RoseBy 1 self.old.faults self.new.faults) }
         ensures cause { OnErr result (RoseBy 1 self.old.faults self.new.faults) }
-        ensures writer { WriteAppends (W.contents (writer_of self.old)) (W.contents (writer_of self.new)) result piece.now }
+        ensures writer { WriteAppends
+            (W.contents (writer_of self.old)) (W.contents (writer_of self.new)) result piece.now }
     {
         match self.writer.write(piece) {
             Ok(n) if n > 0 || piece.is_empty() => Ok(n),

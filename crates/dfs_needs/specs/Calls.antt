@@ -1,5 +1,29 @@
 -- What each call looks at, as a row of the call table, and what the host makes of it.
-use Rattle.std.specs.Prelude.{ℕ, zero, suc, ◌+◌, ◌-◌, nat_lt, nat_le, min, Bool, true, ◌&&◌, not, if◌then◌else◌, List, [], ◌∷◌, length, slice_get, Option, Some, None, Result, Ok}
+use Rattle.std.specs.Prelude.{
+  ℕ,
+  zero,
+  suc,
+  ◌+◌,
+  ◌-◌,
+  nat_lt,
+  nat_le,
+  min,
+  Bool,
+  true,
+  ◌&&◌,
+  not,
+  if◌then◌else◌,
+  List,
+  [],
+  ◌∷◌,
+  length,
+  slice_get,
+  Option,
+  Some,
+  None,
+  Result,
+  Ok,
+}
 use Rattle.dfs_base.specs.Ids.{same_fid}
 use Rattle.dfs_base.specs.Image.{byte_at}
 use Rattle.dfs_base.specs.Outcomes.{either}
@@ -13,15 +37,39 @@ use Rattle.dfs_base.specs.declared.limits.TheConstants.{FILE_BYTES_MAX, LABELS_M
 use Rattle.dfs_base.specs.declared.span.Span.{Span}
 use Rattle.dfs_base.specs.declared.user.User.{User}
 use Rattle.dfs_calls.specs.declared.call.Call.{Call}
-use Rattle.dfs_calls.specs.declared.call.Call.TheVariants.{NewFileset, Create, MakeDir, Remove, Rename, Truncate, SetAcl}
-use Rattle.dfs_calls.specs.declared.call.Call.TheVariants.{CloneFileset, Read, Write, List as ListNames, Stat, GetAcl, Sync}
+use Rattle.dfs_calls.specs.declared.call.Call.TheVariants.{
+  NewFileset,
+  Create,
+  MakeDir,
+  Remove,
+  Rename,
+  Truncate,
+  SetAcl,
+}
+use Rattle.dfs_calls.specs.declared.call.Call.TheVariants.{
+  CloneFileset,
+  Read,
+  Write,
+  List as ListNames,
+  Stat,
+  GetAcl,
+  Sync,
+}
 use Rattle.dfs_calls.specs.declared.call.Call.TheVariants.{Lock, Unlock, OpenFile, CloseFile, MoveFileset}
 use Rattle.dfs_calls.specs.declared.part.DirEntry.{DirEntry}
 use Rattle.dfs_calls.specs.declared.place.Place.{Place}
 use Rattle.dfs_calls.specs.declared.place.Which.{Which}
 use Rattle.dfs_calls.specs.declared.reply.Facts.{Facts as FactsOf}
 use Rattle.dfs_calls.specs.declared.reply.Refusal.{Refusal}
-use Rattle.dfs_calls.specs.declared.reply.Refusal.TheVariants.{NotDir, TooBig, TooMany, AlreadyLocked, NotLocked, AlreadyOpened, NotOpened}
+use Rattle.dfs_calls.specs.declared.reply.Refusal.TheVariants.{
+  NotDir,
+  TooBig,
+  TooMany,
+  AlreadyLocked,
+  NotLocked,
+  AlreadyOpened,
+  NotOpened,
+}
 use Rattle.dfs_calls.specs.declared.reply.Reply.{Reply}
 use Rattle.dfs_calls.specs.declared.reply.Reply.TheVariants.{Ok as Done, Bytes, Names, Facts, Access, Refused}
 use Rattle.dfs_objects.specs.Entries.{names_of}
@@ -33,14 +81,28 @@ use Rattle.dfs_tree.specs.declared.tree.LockUse.{LockUse}
 use Rattle.dfs_tree.specs.declared.tree.OpenUse.{OpenUse}
 use Rattle.dfs_tree.specs.Locks.{has_lock, lock_count, is_own_locked}
 use Rattle.dfs_tree.specs.Opens.{has_open, open_count}
-use Rattle.tok_types.specs.declared.token.Kind.TheVariants.{Bytes as BytesKind, Status as StatusKind, Lock as LockKind, Opening as OpeningKind}
+use Rattle.tok_types.specs.declared.token.Kind.TheVariants.{
+  Bytes as BytesKind,
+  Status as StatusKind,
+  Lock as LockKind,
+  Opening as OpeningKind,
+}
 use Rattle.tree_laws.specs.Parts.{Part, Seen, Nature}
 use Rattle.tree_laws.specs.Parts.Part.{ByteAt, Size, Traits, Entries}
 use Rattle.dfs_needs.specs.Looks.{View, Look, look_on, checked, refuse_if, rounded}
 use Rattle.dfs_needs.specs.Looks.Look.{Ends, Looks, Takes}
 use Rattle.dfs_needs.specs.Questions.{Question}
 use Rattle.dfs_needs.specs.Questions.Question.{EnterAt, ChangeIn, ChangeAt}
-use Rattle.dfs_needs.specs.Walks.{root_of, rights_on, permitted, target_look, file_look, permitted_look, writable_look, use_look}
+use Rattle.dfs_needs.specs.Walks.{
+  root_of,
+  rights_on,
+  permitted,
+  target_look,
+  file_look,
+  permitted_look,
+  writable_look,
+  use_look,
+}
 
 -- what a host makes of a call
 pub data Verdict : Type 0 where

@@ -1,5 +1,21 @@
 -- What the looks of calls are good for.
-use Rattle.std.specs.Prelude.{◌≡◌, ◌==◌, ◌≤◌, ℕ, Bool, true, false, if◌then◌else◌, List, filter, map, Option, Some, None, Ok}
+use Rattle.std.specs.Prelude.{
+  ◌≡◌,
+  ◌==◌,
+  ◌≤◌,
+  ℕ,
+  Bool,
+  true,
+  false,
+  if◌then◌else◌,
+  List,
+  filter,
+  map,
+  Option,
+  Some,
+  None,
+  Ok,
+}
 use Rattle.std.specs.List.{find}
 use Rattle.dfs_base.specs.Outcomes.{and_then}
 use Rattle.dfs_base.specs.declared.ids.FilesetId.{FilesetId}

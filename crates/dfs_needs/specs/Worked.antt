@@ -9,7 +9,14 @@ use Rattle.dfs_calls.specs.declared.call.Call.{Call}
 use Rattle.dfs_calls.specs.declared.call.Call.TheVariants.{Create, Read, Write, List as ListNames, Stat, GetAcl, Sync}
 use Rattle.dfs_calls.specs.declared.call.Call.TheVariants.{CloneFileset, Lock, Unlock, OpenFile, MoveFileset}
 use Rattle.dfs_calls.specs.declared.place.Which.TheVariants.{Files}
-use Rattle.dfs_calls.specs.declared.reply.Refusal.TheVariants.{NoEntry, NotDir, Denied, TooBig, NotLocked, AlreadyLocked}
+use Rattle.dfs_calls.specs.declared.reply.Refusal.TheVariants.{
+  NoEntry,
+  NotDir,
+  Denied,
+  TooBig,
+  NotLocked,
+  AlreadyLocked,
+}
 use Rattle.dfs_calls.specs.declared.reply.Reply.TheVariants.{Ok as Done, Bytes, Names, Refused}
 use Rattle.dfs_objects.specs.Spans.{span_between, whole}
 use Rattle.dfs_tree.specs.declared.tree.Tree.{Tree}

@@ -1,5 +1,22 @@
 -- What the changes of an object leave of its content.
-use Rattle.std.specs.Prelude.{ℕ, ◌+◌, ◌==◌, nat_lt, nat_le, not, if◌then◌else◌, List, [], ◌∷◌, ◌++◌, length, Option, Some, None, filter}
+use Rattle.std.specs.Prelude.{
+  ℕ,
+  ◌+◌,
+  ◌==◌,
+  nat_lt,
+  nat_le,
+  not,
+  if◌then◌else◌,
+  List,
+  [],
+  ◌∷◌,
+  ◌++◌,
+  length,
+  Option,
+  Some,
+  None,
+  filter,
+}
 use Rattle.std.specs.Option.{option_map}
 use Rattle.dfs_base.specs.declared.ids.HostId.{HostId}
 use Rattle.dfs_objects.specs.declared.content.Unsaved.{Unsaved}
@@ -35,13 +52,15 @@ unsaved_after unsaved host from bytes =
 
 -- the unsaved length after a write that ends at a position: its end, where that is above the length before
 abbrev pub length_after : Option UnsavedLength → ℕ → HostId → ℕ → Option UnsavedLength
-length_after before present host end = if nat_lt present end then Some (record { length = end; writer = host }) else before
+length_after before present host end =
+    if nat_lt present end then Some (record { length = end; writer = host }) else before
 
 -- a file after a write of some bytes
 abbrev pub file_written : HostId → ℕ → List ℕ → Content → Content
 file_written host from bytes (Dir entries lists) = Dir entries lists
 file_written host from bytes (File list kept unsaved len) =
-    File list kept (unsaved_after unsaved host from bytes) (length_after len (present_length kept len) host (from + length bytes))
+    File list kept (unsaved_after unsaved host from bytes)
+    (length_after len (present_length kept len) host (from + length bytes))
 
 -- write: the bytes are unsaved changes of the host; a write of no bytes changes nothing
 abbrev pub content_written : HostId → ℕ → List ℕ → Content → Content
@@ -51,7 +70,8 @@ content_written host from (value ∷ values) content = file_written host from (v
 -- truncate: all unsaved changes become kept, and then the length is set; new bytes are zero
 abbrev pub content_truncated : ℕ → Content → Content
 content_truncated len (Dir entries lists) = Dir entries lists
-content_truncated len (File list kept unsaved unsaved_len) = File list (resized (present_bytes kept unsaved unsaved_len) len) [] None
+content_truncated len (File list kept unsaved unsaved_len) =
+    File list (resized (present_bytes kept unsaved unsaved_len) len) [] None
 
 -- the unsaved length without a host's
 abbrev pub length_forgotten : HostId → Option UnsavedLength → Option UnsavedLength

@@ -1,5 +1,26 @@
 -- What makes the definitions of changes believable.
-use Rattle.std.specs.Prelude.{◌≡◌, ◌<◌, ◌≤◌, ◌⊎◌, ℕ, ◌+◌, ◌-◌, ◌==◌, min, Bool, true, false, ◌&&◌, nat_lt, List, [], ◌∷◌, length, Option, unwrap_or}
+use Rattle.std.specs.Prelude.{
+  ◌≡◌,
+  ◌<◌,
+  ◌≤◌,
+  ◌⊎◌,
+  ℕ,
+  ◌+◌,
+  ◌-◌,
+  ◌==◌,
+  min,
+  Bool,
+  true,
+  false,
+  ◌&&◌,
+  nat_lt,
+  List,
+  [],
+  ◌∷◌,
+  length,
+  Option,
+  unwrap_or,
+}
 use Rattle.std.specs.List.{list_all}
 use Rattle.std.specs.Option.{option_map_or}
 use Rattle.dfs_base.specs.Image.{byte_at}
@@ -30,14 +51,16 @@ WriteShows = (host : HostId) (from : ℕ) (bytes : List ℕ) (content : Content)
 
 -- a write changes no byte that readers see outside its span
 abbrev pub WriteKeepsOthers : Type 0
-WriteKeepsOthers = (host : HostId) (from : ℕ) (bytes : List ℕ) (content : Content) (at : ℕ) → at < length (content_bytes content) →
-    (at < from) ⊎ (from + length bytes ≤ at) →
-    byte_at (content_bytes (content_written host from bytes content)) at ≡ byte_at (content_bytes content) at
+WriteKeepsOthers = (host : HostId) (from : ℕ) (bytes : List ℕ) (content : Content) (at : ℕ)
+    → at < length (content_bytes content)
+    → (at < from) ⊎ (from + length bytes ≤ at)
+    → byte_at (content_bytes (content_written host from bytes content)) at ≡ byte_at (content_bytes content) at
 
 -- what was written is what readers see
 abbrev pub WriteIsSeen : Type 0
-WriteIsSeen = (host : HostId) (from : ℕ) (bytes : List ℕ) (content : Content) (at : ℕ) → is_dir content ≡ false → from ≤ at → at < from + length bytes →
-    byte_at (content_bytes (content_written host from bytes content)) at ≡ byte_at bytes (at - from)
+WriteIsSeen = (host : HostId) (from : ℕ) (bytes : List ℕ) (content : Content) (at : ℕ)
+    → is_dir content ≡ false → from ≤ at → at < from + length bytes
+    → byte_at (content_bytes (content_written host from bytes content)) at ≡ byte_at bytes (at - from)
 
 -- so does a truncation
 abbrev pub TruncateShows : Type 0
@@ -46,13 +69,16 @@ TruncateShows = (size : ℕ) (content : Content) (at : ℕ) → is_dir content �
 
 -- so does what a host stores
 abbrev pub StoreShows : Type 0
-StoreShows = (host : HostId) (spans : List Span) (stored : Option ℕ) (content : Content) (at : ℕ) → is_dir content ≡ false → is_sound content ≡ true →
-    shown (content_stored host spans stored content) at ≡ shown_stored host spans (unwrap_or stored (kept_length content)) at (shown content at)
+StoreShows = (host : HostId) (spans : List Span) (stored : Option ℕ) (content : Content) (at : ℕ)
+    → is_dir content ≡ false → is_sound content ≡ true
+    → shown (content_stored host spans stored content) at
+    ≡ shown_stored host spans (unwrap_or stored (kept_length content)) at (shown content at)
 
 -- so does a sync
 abbrev pub SyncShows : Type 0
-SyncShows = (host : HostId) (content : Content) (at : ℕ) → is_dir content ≡ false → is_sound content ≡ true →
-    shown (content_synced host content) at ≡ shown_stored host (whole ∷ []) (unwrap_or (own_length_of host content) (kept_length content)) at (shown content at)
+SyncShows = (host : HostId) (content : Content) (at : ℕ) → is_dir content ≡ false → is_sound content ≡ true
+    → shown (content_synced host content) at ≡ shown_stored host
+    (whole ∷ []) (unwrap_or (own_length_of host content) (kept_length content)) at (shown content at)
 
 -- so does the loss of a host's unsaved changes
 abbrev pub ForgetShows : Type 0
@@ -69,7 +95,8 @@ is_own host byte = option_map_or (λ byte. byte.writer.0 == host.0) byte false
 
 -- what a host would lose are exactly the positions of its unsaved bytes
 abbrev pub SpansAreExact : Type 0
-SpansAreExact = (host : HostId) (content : Content) (at : ℕ) → is_sound content ≡ true → in_spans (own_spans host content) at ≡ is_own host (shown content at).unsaved
+SpansAreExact = (host : HostId) (content : Content) (at : ℕ)
+    → is_sound content ≡ true → in_spans (own_spans host content) at ≡ is_own host (shown content at).unsaved
 
 -- whether there is a byte between each span and those after it
 abbrev pub are_apart : List Span → Bool
@@ -78,4 +105,5 @@ are_apart (span ∷ spans) = list_all (λ other. nat_lt span.to other.from) span
 
 -- they are told in as few spans as there can be
 abbrev pub SpansAreMaximal : Type 0
-SpansAreMaximal = (host : HostId) (content : Content) → is_sound content ≡ true → are_apart (own_spans host content) ≡ true
+SpansAreMaximal = (host : HostId) (content : Content)
+    → is_sound content ≡ true → are_apart (own_spans host content) ≡ true

@@ -1,5 +1,24 @@
 -- What is told of one object.
-use Rattle.std.specs.Prelude.{ℕ, ◌+◌, ◌/◌, Bool, true, false, if◌then◌else◌, min, List, length, slice_get, slice_set, Option, Some, None, Result, Ok, Err}
+use Rattle.std.specs.Prelude.{
+  ℕ,
+  ◌+◌,
+  ◌/◌,
+  Bool,
+  true,
+  false,
+  if◌then◌else◌,
+  min,
+  List,
+  length,
+  slice_get,
+  slice_set,
+  Option,
+  Some,
+  None,
+  Result,
+  Ok,
+  Err,
+}
 use Rattle.dfs_base.specs.Access.{rights_of, allows}
 use Rattle.dfs_base.specs.declared.user.User.{User}
 use Rattle.dfs_base.specs.declared.access.AccessEntry.{AccessEntry}

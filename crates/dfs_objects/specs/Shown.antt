@@ -1,6 +1,21 @@
 -- What a file shows at one position: its kept byte there, and its unsaved byte with the writer. What each change leaves
 -- there is a function of what was there before.
-use Rattle.std.specs.Prelude.{ℕ, ◌+◌, ◌-◌, ◌==◌, nat_lt, nat_le, false, ◌&&◌, if◌then◌else◌, List, length, Option, Some, None}
+use Rattle.std.specs.Prelude.{
+  ℕ,
+  ◌+◌,
+  ◌-◌,
+  ◌==◌,
+  nat_lt,
+  nat_le,
+  false,
+  ◌&&◌,
+  if◌then◌else◌,
+  List,
+  length,
+  Option,
+  Some,
+  None,
+}
 use Rattle.std.specs.Option.{option_map_or}
 use Rattle.dfs_base.specs.Image.{byte_at}
 use Rattle.dfs_base.specs.declared.ids.HostId.{HostId}
@@ -30,7 +45,10 @@ present_byte here = option_map_or (λ byte. byte.value) here.unsaved here.kept
 abbrev pub shown_written : HostId → ℕ → List ℕ → ℕ → Shown → Shown
 shown_written host from bytes at here =
     if nat_le from at && nat_lt at (from + length bytes)
-    then record { kept = here.kept; unsaved = Some (record { at = at; value = byte_at bytes (at - from); writer = host }) }
+    then record {
+      kept = here.kept;
+      unsaved = Some (record { at = at; value = byte_at bytes (at - from); writer = host });
+    }
     else here
 
 -- after all became kept of a file with so many present bytes, of which the first of a new length are left

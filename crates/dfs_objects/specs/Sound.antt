@@ -21,9 +21,9 @@ names_rise (entry ∷ entries) = list_all (λ other. is_before entry.name other.
 abbrev pub is_longer : List ℕ → Option UnsavedLength → Bool
 is_longer kept len = option_map_or (λ unsaved. nat_lt (length kept) unsaved.length) len true
 
--- Whether the content of an object is well formed. In a directory names rise, and it has three lists. A file has at most
--- so many bytes, kept and present, its unsaved bytes stand at rising positions among these, and a length that is unsaved is
--- above the kept one.
+-- Whether the content of an object is well formed. In a directory names rise, and it has three lists. A file has at
+-- most so many bytes, kept and present, its unsaved bytes stand at rising positions among these, and a length that is
+-- unsaved is above the kept one.
 abbrev pub is_sound : Content → Bool
 is_sound (Dir entries lists) = names_rise entries && (length lists == 3)
 is_sound (File list kept unsaved len) =

@@ -1,5 +1,29 @@
 -- How unsaved changes of a host become kept.
-use Rattle.std.specs.Prelude.{ℕ, zero, suc, ◌-◌, ◌==◌, nat_lt, nat_le, not, Bool, true, false, ◌&&◌, ◌||◌, if◌then◌else◌, List, [], ◌∷◌, length, Option, Some, None, unwrap_or, filter}
+use Rattle.std.specs.Prelude.{
+  ℕ,
+  zero,
+  suc,
+  ◌-◌,
+  ◌==◌,
+  nat_lt,
+  nat_le,
+  not,
+  Bool,
+  true,
+  false,
+  ◌&&◌,
+  ◌||◌,
+  if◌then◌else◌,
+  List,
+  [],
+  ◌∷◌,
+  length,
+  Option,
+  Some,
+  None,
+  unwrap_or,
+  filter,
+}
 use Rattle.std.specs.List.{list_all}
 use Rattle.std.specs.Option.{option_map_or}
 use Rattle.dfs_base.specs.declared.ids.HostId.{HostId}
@@ -66,4 +90,5 @@ abbrev pub is_storable : HostId → List Span → Option ℕ → Content → Boo
 is_storable host spans stored (Dir entries lists) = false
 is_storable host spans stored (File list kept unsaved len) =
     is_storable_length host kept len stored
-    && list_all (λ span. has_written host unsaved (unwrap_or stored (length kept)) span.from (span.to - span.from)) spans
+    && list_all
+    (λ span. has_written host unsaved (unwrap_or stored (length kept)) span.from (span.to - span.from)) spans

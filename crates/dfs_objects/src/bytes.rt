@@ -1,5 +1,12 @@
 ghost use Rattle.std.specs.Prelude.{◌≡◌, ◌<◌, [], length, take, drop, slice_index_or, IfOk};
-ghost use Rattle.dfs_objects.specs.Files.{present_length, present_bytes, bytes_over, content_bytes, resized, bytes_with};
+ghost use Rattle.dfs_objects.specs.Files.{
+  present_length,
+  present_bytes,
+  bytes_over,
+  content_bytes,
+  resized,
+  bytes_with,
+};
 
 use crate::content::{Content, Object, Unsaved, UnsavedLength};
 use crate::unsaved::UnsavedBytes;

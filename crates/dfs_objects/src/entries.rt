@@ -2,7 +2,13 @@ ghost use Rattle.std.specs.Prelude.{◌≡◌, not, filter, ◌<◌, ◌≤◌, 
 ghost use Rattle.std.specs.Option.{option_copied};
 ghost use Rattle.std.specs.List.{position};
 ghost use Rattle.dfs_base.specs.Name.{is_before, same_name};
-ghost use Rattle.dfs_objects.specs.Entries.{entry_named, names_of, entry_place, content_with_entry, content_without_entry};
+ghost use Rattle.dfs_objects.specs.Entries.{
+  entry_named,
+  names_of,
+  entry_place,
+  content_with_entry,
+  content_without_entry,
+};
 ghost use Rattle.dfs_objects.specs.Objects.{content_with_list};
 ghost use Rattle.dfs_objects.specs.Changes.{anode_changed};
 

@@ -1,5 +1,16 @@
 //! What makes the definitions of changes believable: each function does nothing, and what it ensures is a law.
-ghost use Rattle.dfs_objects.specs.Laws.{WriteShows, WriteKeepsOthers, WriteIsSeen, TruncateShows, StoreShows, SyncShows, ForgetShows, CloneHoldsPresent, SpansAreExact, SpansAreMaximal};
+ghost use Rattle.dfs_objects.specs.Laws.{
+  WriteShows,
+  WriteKeepsOthers,
+  WriteIsSeen,
+  TruncateShows,
+  StoreShows,
+  SyncShows,
+  ForgetShows,
+  CloneHoldsPresent,
+  SpansAreExact,
+  SpansAreMaximal,
+};
 
 /// What a write leaves at each position of a file: the written bytes are seen, and no other byte changes.
 pub fn write_law()

@@ -1,5 +1,16 @@
 ghost use Rattle.std.specs.Prelude.{◌≡◌, Ok, Err, IfOk, MatchResult};
-ghost use Rattle.dfs_objects.specs.Objects.{is_dir, entries_of, own_rights, entered, told_length, facts_of, list_index, access_of, blocks_of, object_as_cloned};
+ghost use Rattle.dfs_objects.specs.Objects.{
+  is_dir,
+  entries_of,
+  own_rights,
+  entered,
+  told_length,
+  facts_of,
+  list_index,
+  access_of,
+  blocks_of,
+  object_as_cloned,
+};
 ghost use Rattle.dfs_objects.specs.Changes.{content_as_cloned};
 
 use crate::bytes::{present_bytes, present_length};
@@ -18,7 +29,8 @@ impl Object {
 
     /// The entries of a directory. `NotDir` where it is a file.
     pub fn entries(&self) -> Result<&Items<DirEntry>, Refusal>
-        ensures { MatchResult result (λ entries. entries_of self.now.content ≡ Ok entries.now) (λ refusal. entries_of self.now.content ≡ Err refusal) }
+        ensures { MatchResult result (λ entries. entries_of self.now.content ≡ Ok entries.now)
+            (λ refusal. entries_of self.now.content ≡ Err refusal) }
     {
         match &self.content {
             Content::Dir { entries, lists: _ } => Ok(entries),
@@ -47,7 +59,8 @@ impl Object {
     /// The entries of a directory that the user may search. `NotDir` where it is a file, and `Denied` where the user
     /// lacks the right to execute.
     pub fn entered(&self, user: &User) -> Result<&Items<DirEntry>, Refusal>
-        ensures { MatchResult result (λ entries. entered self.now user.now ≡ Ok entries.now) (λ refusal. entered self.now user.now ≡ Err refusal) }
+        ensures { MatchResult result (λ entries. entered self.now user.now ≡ Ok entries.now)
+            (λ refusal. entered self.now user.now ≡ Err refusal) }
     {
         match &self.content {
             Content::Dir { entries, lists: _ } => {
@@ -75,7 +88,8 @@ impl Object {
 
     /// One of the access lists. `NotDir` where it is a file and another list than its own is asked for.
     pub fn access(&self, which: Which) -> Result<&AccessList, Refusal>
-        ensures { MatchResult result (λ list. access_of which self.now.content ≡ Ok list.now) (λ refusal. access_of which self.now.content ≡ Err refusal) }
+        ensures { MatchResult result (λ list. access_of which self.now.content ≡ Ok list.now)
+            (λ refusal. access_of which self.now.content ≡ Err refusal) }
     {
         match &self.content {
             Content::Dir { entries: _, lists } => match lists.at(list_index(which)) {

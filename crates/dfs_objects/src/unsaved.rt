@@ -1,4 +1,28 @@
-ghost use Rattle.std.specs.Prelude.{◌≡◌, ◌+◌, ◌-◌, ◌≤◌, ◌<◌, ◌++◌, ◌==◌, nat_eq, nat_lt, nat_le, not, true, [], take, drop, slice_get, length, filter, is_some, IfOk, IfSome, OnOk, OnErr};
+ghost use Rattle.std.specs.Prelude.{
+  ◌≡◌,
+  ◌+◌,
+  ◌-◌,
+  ◌≤◌,
+  ◌<◌,
+  ◌++◌,
+  ◌==◌,
+  nat_eq,
+  nat_lt,
+  nat_le,
+  not,
+  true,
+  [],
+  take,
+  drop,
+  slice_get,
+  length,
+  filter,
+  is_some,
+  IfOk,
+  IfSome,
+  OnOk,
+  OnErr,
+};
 ghost use Rattle.std.specs.List.{splice, position};
 ghost use Rattle.std.specs.Option.{option_copied};
 ghost use Rattle.dfs_base.specs.Spans.{has_byte, in_spans};
@@ -16,8 +40,8 @@ use std::alloc::Global;
 use std::marker::Model;
 use std::mem;
 
-/// The bytes of a file that aren't stored yet, in the order of their positions, each of which has at most one. Contracts
-/// see it as the list of these bytes.
+/// The bytes of a file that aren't stored yet, in the order of their positions, each of which has at most one.
+/// Contracts see it as the list of these bytes.
 #[derive(Drop)]
 pub struct UnsavedBytes {
     bytes: Items<Unsaved>,
@@ -111,7 +135,8 @@ impl UnsavedBytes {
         end: usize,
     ) -> Result<Parted, NoMemory>
         ensures stored { IfOk result (λ parted. parted.stored ≡ filter (is_stored host spans.now end) self.now) }
-        ensures left { IfOk result (λ parted. parted.left ≡ filter (λ byte. not (is_stored host spans.now end byte)) self.now) }
+        ensures left { IfOk result
+            (λ parted. parted.left ≡ filter (λ byte. not (is_stored host spans.now end byte)) self.now) }
     {
         let alloc = self.bytes.alloc();
         let (stored, left) = split_stored(alloc, self.bytes.as_slice(), host, spans, end)?;
@@ -214,7 +239,8 @@ fn drop_own(unsaved: &mut Items<Unsaved>, host: HostId)
     unsaved.retain(|byte| byte.writer != host);
 }
 
-// The unsaved bytes that become kept, and those that don't. A span is looked for from the one on that had the byte before.
+// The unsaved bytes that become kept, and those that don't. A span is looked for from the one on that had the byte
+// before.
 fn split_stored(
     alloc: Global,
     unsaved: &[Unsaved],
@@ -223,7 +249,8 @@ fn split_stored(
     end: usize,
 ) -> Result<(Vec<Unsaved>, Vec<Unsaved>), NoMemory>
     ensures stored { IfOk result (λ both. both.0.items ≡ filter (is_stored host spans.now end) unsaved.now) }
-    ensures left { IfOk result (λ both. both.1.items ≡ filter (λ byte. not (is_stored host spans.now end byte)) unsaved.now) }
+    ensures left { IfOk result
+        (λ both. both.1.items ≡ filter (λ byte. not (is_stored host spans.now end byte)) unsaved.now) }
 {
     let mut stored = Vec::new(alloc);
     let mut left = Vec::new(alloc);

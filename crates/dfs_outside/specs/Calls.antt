@@ -1,5 +1,28 @@
 -- The calls of a thing in memory.
-use Rattle.std.specs.Prelude.{◌≡◌, ◌⊎◌, ◌+◌, ℕ, List, [], Bool, true, false, ◌||◌, nat_lt, nat_eq, min, max, if◌then◌else◌, Option, Some, None, Result, IsErr, OnErr, OnOk}
+use Rattle.std.specs.Prelude.{
+  ◌≡◌,
+  ◌⊎◌,
+  ◌+◌,
+  ℕ,
+  List,
+  [],
+  Bool,
+  true,
+  false,
+  ◌||◌,
+  nat_lt,
+  nat_eq,
+  min,
+  max,
+  if◌then◌else◌,
+  Option,
+  Some,
+  None,
+  Result,
+  IsErr,
+  OnErr,
+  OnOk,
+}
 use Rattle.std.specs.List.{list_any}
 use Rattle.dfs_base.specs.Faults.{RoseBy}
 use Rattle.dfs_outside.specs.declared.calls.Calls.{Calls}

@@ -2,9 +2,9 @@ ghost use Rattle.std.specs.Prelude.{◌≡◌};
 
 use dfs_base::Items;
 
-/// Counts the calls of a thing in memory, its faults, and the growths for which there was no memory. It says which calls
-/// fail: those whose numbers are listed, and all behind a limit, where there is one. The first call has number 1. A count stays at its last
-/// value.
+/// Counts the calls of a thing in memory, its faults, and the growths for which there was no memory. It says which
+/// calls fail: those whose numbers are listed, and all behind a limit, where there is one. The first call has number 1.
+/// A count stays at its last value.
 #[derive(Drop)]
 pub struct Calls {
     /// The numbers of the calls that are to fail.

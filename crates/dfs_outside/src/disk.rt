@@ -13,7 +13,8 @@ pub fn write_through<D: Disk>(disk: &mut D, at: u64, piece: &[u8]) -> Result<(),
     ensures written { D.tells → OnOk result (Holds at piece.now (D.view disk.new).image) }
     ensures torn { D.tells → Torn at (length piece.now) (D.view disk.old).image (D.view disk.new).image }
     ensures settled { OnOk result (IsSettled (D.view disk.new)) }
-    ensures crash { LeavesOnly (Torn at (length piece.now) (D.view disk.old).image) (D.view disk.old) (D.view disk.new) }
+    ensures crash { LeavesOnly
+        (Torn at (length piece.now) (D.view disk.old).image) (D.view disk.old) (D.view disk.new) }
     ensures faults { IsCounted result (D.view disk.old) (D.view disk.new) }
 {
     disk.write_at(at, piece)?;

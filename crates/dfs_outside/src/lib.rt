@@ -1,5 +1,5 @@
-//! What those share that stand for the outside or use it: numbered calls that are to fail, how runs of disk calls compose
-//! when a crash may come at any moment, and the two plain steps of most users of a disk.
+//! What those share that stand for the outside or use it: numbered calls that are to fail, how runs of disk calls
+//! compose when a crash may come at any moment, and the two plain steps of most users of a disk.
 #![tactic(auto)]
 
 mod calls;

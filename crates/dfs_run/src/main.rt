@@ -1,5 +1,6 @@
-//! The file service as a program: it reads a script from standard input, runs it, and writes what came of it to standard
-//! output. The words are those of the top call, `dfs_service::run`, whose status is the number with which the program ends.
+//! The file service as a program: it reads a script from standard input, runs it, and writes what came of it to
+//! standard output. The words are those of the top call, `dfs_service::run`, whose status is the number with which the
+//! program ends.
 #![tactic(auto)]
 
 use dfs_io::{StdSink, StdSource};

@@ -11,8 +11,8 @@ use Rattle.dfs_tree.specs.Histories.{IsLegal, after_entry}
 use Rattle.dfs_filesets.specs.WellFormed.{is_at_rest}
 use Rattle.dfs_saving.specs.Unsaved.{all_contents, has_saved, is_by_one, writes_alone, is_write_by}
 
--- what each file has unsaved stays one host's under each legal entry, where a write isn't to a file in which another host
--- has something unsaved
+-- what each file has unsaved stays one host's under each legal entry, where a write isn't to a file in which another
+-- host has something unsaved
 abbrev pub StaysApart : Type 0
 StaysApart = (tree : Tree) (entry : Entry) →
     IsLegal tree entry → all_contents is_by_one tree ≡ true → writes_alone tree entry ≡ true →

@@ -1,5 +1,26 @@
 -- How unsaved changes are stored, or lost.
-use Rattle.std.specs.Prelude.{◌≡◌, ℕ, zero, suc, ◌+◌, ◌==◌, not, Bool, true, false, ◌&&◌, ◌||◌, is_some, List, [], ◌∷◌, length, Option, Some, None}
+use Rattle.std.specs.Prelude.{
+  ◌≡◌,
+  ℕ,
+  zero,
+  suc,
+  ◌+◌,
+  ◌==◌,
+  not,
+  Bool,
+  true,
+  false,
+  ◌&&◌,
+  ◌||◌,
+  is_some,
+  List,
+  [],
+  ◌∷◌,
+  length,
+  Option,
+  Some,
+  None,
+}
 use Rattle.std.specs.List.{list_all, list_any}
 use Rattle.std.specs.Option.{option_map}
 use Rattle.dfs_base.specs.Ids.{same_fid}
@@ -35,7 +56,8 @@ is_store_by host _ = false
 
 -- a host that has saved all stores nothing
 abbrev pub StoreOnlyUnsaved : Tree → List Entry → Type 0
-StoreOnlyUnsaved before entries = (host : HostId) → all_contents (has_saved host) before ≡ true → list_any (is_store_by host) entries ≡ false
+StoreOnlyUnsaved before entries =
+    (host : HostId) → all_contents (has_saved host) before ≡ true → list_any (is_store_by host) entries ≡ false
 
 -- the fid of the object to which the path of a place leads, whoever asks
 abbrev pub fid_named : Tree → Place → Option Fid
@@ -74,7 +96,8 @@ pub record StoresAll (host : HostId) (before : Tree) (entries : List Entry) (aft
   pub saved : all_contents (has_saved host) after ≡ true
 
 -- other hosts store what they have unsaved of the file that a place names
-pub record StoresOthers (host : HostId) (place : Place) (before : Tree) (entries : List Entry) (after : Tree) : Type 0 where
+pub record StoresOthers (host : HostId)
+    (place : Place) (before : Tree) (entries : List Entry) (after : Tree) : Type 0 where
   pub leads : LeadsTo before entries after
   pub stores : list_all (is_store_of (λ other. not (other.0 == host.0))) entries ≡ true
   pub owed : StoreOnlyUnsaved before entries

@@ -1,5 +1,20 @@
 -- The entries by which hosts store what they have unsaved.
-use Rattle.std.specs.Prelude.{ℕ, ◌+◌, ◌==◌, false, if◌then◌else◌, List, [], ◌∷◌, ◌++◌, flat_map, Option, Some, None, option_and_then}
+use Rattle.std.specs.Prelude.{
+  ℕ,
+  ◌+◌,
+  ◌==◌,
+  false,
+  if◌then◌else◌,
+  List,
+  [],
+  ◌∷◌,
+  ◌++◌,
+  flat_map,
+  Option,
+  Some,
+  None,
+  option_and_then,
+}
 use Rattle.std.specs.Option.{option_map_or}
 use Rattle.dfs_base.specs.Outcomes.{either}
 use Rattle.dfs_base.specs.declared.ids.HostId.{HostId}
@@ -34,7 +49,8 @@ own_store host fid object =
 -- what another host than this one has to store of a file
 abbrev pub others_store : HostId → Fid → Object → Option Entry
 others_store host fid object =
-    option_and_then (λ writer. if writer.0 == host.0 then None else Some (store_of writer fid object.content)) (writer_of object.content)
+    option_and_then (λ writer. if writer.0 == host.0 then None else Some (store_of writer fid object.content))
+    (writer_of object.content)
 
 -- one entry, where there is one
 abbrev pub listed : Option Entry → List Entry
@@ -42,12 +58,14 @@ listed entry = option_map_or (λ e. e ∷ []) entry []
 
 -- what a host has to store of an anode with a number in a fileset
 abbrev pub anode_store : HostId → FilesetId → ℕ → Anode → Option Entry
-anode_store host id at anode = option_and_then (own_store host (record { fileset = id; anode = at; unique = anode.unique })) anode.object
+anode_store host id at anode =
+    option_and_then (own_store host (record { fileset = id; anode = at; unique = anode.unique })) anode.object
 
 -- and of anodes that are counted from one on
 abbrev pub anodes_stores : HostId → FilesetId → ℕ → List Anode → List Entry
 anodes_stores host id at [] = []
-anodes_stores host id at (anode ∷ anodes) = listed (anode_store host id at anode) ++ anodes_stores host id (at + 1) anodes
+anodes_stores host id at (anode ∷ anodes) =
+    listed (anode_store host id at anode) ++ anodes_stores host id (at + 1) anodes
 
 -- and of a fileset
 abbrev pub fileset_stores : HostId → Fileset → List Entry
@@ -61,7 +79,8 @@ own_stores host tree = flat_map (fileset_stores host) tree.filesets
 abbrev pub others_store_in : HostId → List (List ℕ) → Fileset → Option Entry
 others_store_in host path fileset =
     option_and_then (λ at.
-    option_and_then (others_store host (record { fileset = fileset.id; anode = at; unique = unique_at fileset.anodes at }))
+    option_and_then
+    (others_store host (record { fileset = fileset.id; anode = at; unique = unique_at fileset.anodes at }))
     (object_at fileset.anodes at)) (leads fileset.anodes 1 path)
 
 -- and of the object that a place names

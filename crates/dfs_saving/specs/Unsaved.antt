@@ -1,5 +1,23 @@
 -- Whose changes of files are unsaved.
-use Rattle.std.specs.Prelude.{ℕ, ◌==◌, nat_lt, nat_le, not, Bool, true, false, ◌&&◌, List, [], ◌∷◌, length, Option, Some, None, option_and_then}
+use Rattle.std.specs.Prelude.{
+  ℕ,
+  ◌==◌,
+  nat_lt,
+  nat_le,
+  not,
+  Bool,
+  true,
+  false,
+  ◌&&◌,
+  List,
+  [],
+  ◌∷◌,
+  length,
+  Option,
+  Some,
+  None,
+  option_and_then,
+}
 use Rattle.std.specs.List.{list_all}
 use Rattle.std.specs.Option.{option_map, option_map_or}
 use Rattle.dfs_base.specs.Outcomes.{either}
@@ -39,8 +57,8 @@ has_saved host (File list kept unsaved len) =
     list_all (λ byte. not (byte.writer.0 == host.0)) unsaved
     && option_map_or (λ unsaved. not (unsaved.writer.0 == host.0)) len true
 
--- whether all that a file has unsaved is a host's: the bytes, each below the length that readers see, and the length, which
--- is no less than the kept one
+-- whether all that a file has unsaved is a host's: the bytes, each below the length that readers see, and the length,
+-- which is no less than the kept one
 abbrev pub is_only_by : HostId → Content → Bool
 is_only_by host (Dir entries lists) = true
 is_only_by host (File list kept unsaved len) =
@@ -64,12 +82,14 @@ is_by_one content = option_map_or (λ host. is_only_by host content) (writer_of 
 -- the content of the object to which a path leads in a fileset, whoever asks
 abbrev pub content_led_to : Fileset → List (List ℕ) → Option Content
 content_led_to fileset path =
-    option_and_then (λ anode. option_map (λ object. object.content) (object_at fileset.anodes anode)) (leads fileset.anodes 1 path)
+    option_and_then (λ anode. option_map (λ object. object.content) (object_at fileset.anodes anode))
+    (leads fileset.anodes 1 path)
 
 -- the content of the object to which the path of a place leads, whoever asks
 abbrev pub content_named : Tree → Place → Option Content
 content_named tree place =
-    either (fileset_named tree place.server place.fileset) (λ fileset. content_led_to fileset place.path) (λ refusal. None)
+    either (fileset_named tree place.server place.fileset)
+    (λ fileset. content_led_to fileset place.path) (λ refusal. None)
 
 -- whether all that is unsaved at a place, where there is something, is a host's
 abbrev pub is_alone_at : HostId → Tree → Place → Bool

@@ -1,6 +1,6 @@
-//! How unsaved changes are stored, or lost, so that a history of the tree stays legal. Before a host writes, what others
-//! changed in the file is stored, as it is where their tokens are revoked (Kazar et al., "DEcorum File System Architectural
-//! Overview", 1990).
+//! How unsaved changes are stored, or lost, so that a history of the tree stays legal. Before a host writes, what
+//! others changed in the file is stored, as it is where their tokens are revoked (Kazar et al., "DEcorum File System
+//! Architectural Overview", 1990).
 ghost use Rattle.std.specs.Prelude.{◌≡◌, true, IfOk, OnOk};
 ghost use Rattle.dfs_tree.specs.WellFormed.{IsWellFormed};
 ghost use Rattle.dfs_tree.specs.Histories.{after_history};
@@ -13,8 +13,8 @@ use dfs_calls::{Entry, Place};
 use dfs_tree::Tree;
 use std::alloc::Global;
 
-/// Stores all that a host has unsaved, file by file, and tells the entries by which it did: one for each file in which the
-/// host has something unsaved. The tree has to be well formed, and what each file has unsaved has to be one host's.
+/// Stores all that a host has unsaved, file by file, and tells the entries by which it did: one for each file in which
+/// the host has something unsaved. The tree has to be well formed, and what each file has unsaved has to be one host's.
 /// After `NoMemory` only some of it may be stored.
 pub fn store_all(tree: &mut Tree, host: HostId) -> Result<Items<Entry>, NoMemory>
     requires formed { IsWellFormed tree.old }
@@ -26,9 +26,9 @@ pub fn store_all(tree: &mut Tree, host: HostId) -> Result<Items<Entry>, NoMemory
     Ok(entries)
 }
 
-/// Stores what another host has unsaved of the file that a place names, whoever may go there, and tells the entry by which
-/// it did: none where there is no such host or file. Then the host can write there alone. The tree has to be well formed,
-/// and what each file has unsaved has to be one host's. After `NoMemory` it may be stored or not.
+/// Stores what another host has unsaved of the file that a place names, whoever may go there, and tells the entry by
+/// which it did: none where there is no such host or file. Then the host can write there alone. The tree has to be well
+/// formed, and what each file has unsaved has to be one host's. After `NoMemory` it may be stored or not.
 pub fn store_others(tree: &mut Tree, host: HostId, place: &Place) -> Result<Items<Entry>, NoMemory>
     requires formed { IsWellFormed tree.old }
     requires apart { all_contents is_by_one tree.old ≡ true }
@@ -42,9 +42,9 @@ pub fn store_others(tree: &mut Tree, host: HostId, place: &Place) -> Result<Item
     Ok(entries)
 }
 
-/// Lets each server learn that a host is down, in their order: what the host hadn't stored is lost. Tells the entries, one
-/// for each server. The tree has to be well formed, and what each file has unsaved has to be one host's. After `NoMemory`
-/// only some servers may have learnt it.
+/// Lets each server learn that a host is down, in their order: what the host hadn't stored is lost. Tells the entries,
+/// one for each server. The tree has to be well formed, and what each file has unsaved has to be one host's. After
+/// `NoMemory` only some servers may have learnt it.
 pub fn down_all(tree: &mut Tree, host: HostId) -> Result<Items<Entry>, NoMemory>
     requires formed { IsWellFormed tree.old }
     requires apart { all_contents is_by_one tree.old ≡ true }

@@ -2,7 +2,16 @@
 ghost use Rattle.std.specs.Prelude.{◌≡◌, ◌^◌, ◌<◌, ◌++◌, length, IfOk, OnOk};
 ghost use Rattle.dfs_tree.specs.WellFormed.{IsWellFormed};
 ghost use Rattle.dfs_saving.specs.Unsaved.{writer_of};
-ghost use Rattle.dfs_saving.specs.Stores.{store_of, own_store, others_store, anode_store, fileset_stores, own_stores, others_store_in, others_store_at};
+ghost use Rattle.dfs_saving.specs.Stores.{
+  store_of,
+  own_store,
+  others_store,
+  anode_store,
+  fileset_stores,
+  own_stores,
+  others_store_in,
+  others_store_at,
+};
 
 use crate::finding::{leads, unique_at};
 use dfs_base::{Fid, HostId, Items, Name, NoMemory};

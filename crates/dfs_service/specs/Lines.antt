@@ -1,7 +1,20 @@
 -- The lines that are written where nothing runs.
 use Rattle.std.specs.Prelude.{ℕ, List, ◌++◌, codes, decimal}
 use Rattle.script_words.specs.declared.fault.BadWhy.{BadWhy}
-use Rattle.script_words.specs.declared.fault.BadWhy.TheVariants.{Long, Text, Word, Number, BadName, BadList, Undeclared, Repeated, Order, Stopped, Disks, Lines}
+use Rattle.script_words.specs.declared.fault.BadWhy.TheVariants.{
+  Long,
+  Text,
+  Word,
+  Number,
+  BadName,
+  BadList,
+  Undeclared,
+  Repeated,
+  Order,
+  Stopped,
+  Disks,
+  Lines,
+}
 use Rattle.run_script.specs.declared.refused.ScriptRefused.{ScriptRefused}
 use Rattle.run_script.specs.declared.refused.ScriptRefused.TheVariants.{BadLine, Stuck, Memory}
 

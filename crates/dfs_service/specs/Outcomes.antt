@@ -5,7 +5,14 @@ use Rattle.script_lines.specs.declared.script.Script.{Script}
 use Rattle.run_script.specs.declared.refused.ScriptRefused.{ScriptRefused}
 use Rattle.command_words.specs.declared.command.Command.{Command}
 use Rattle.dfs_service.specs.declared.outcome.Status.{Status}
-use Rattle.dfs_service.specs.declared.outcome.Status.TheVariants.{Done, NoCommand, NoScript, NoInput, NoOutput, NoMemory}
+use Rattle.dfs_service.specs.declared.outcome.Status.TheVariants.{
+  Done,
+  NoCommand,
+  NoScript,
+  NoInput,
+  NoOutput,
+  NoMemory,
+}
 use Rattle.dfs_service.specs.declared.outcome.Outcome.{Outcome}
 use Rattle.dfs_service.specs.Engine.{HasPlayed}
 use Rattle.dfs_service.specs.Lines.{input_line, refusal_line}
@@ -32,7 +39,8 @@ abbrev pub is_end_of_run : Status → Bool
 is_end_of_run NoMemory = true
 is_end_of_run status = has_run status
 
--- how a run can end by its words: want of memory can always be, and `NoCommand` is exactly where they aren't in the grammar
+-- how a run can end by its words: want of memory can always be, and `NoCommand` is exactly where they aren't in the
+-- grammar
 abbrev pub may_end : Option Command → Status → Bool
 may_end command NoMemory = true
 may_end None NoCommand = true
@@ -50,7 +58,8 @@ pub record IsEmpty (outcome : Outcome) : Type 0 where
   pub lines : outcome.lines.lines ≡ []
 
 -- a script ran, and the sink got the output, or a part of it; or memory ran out
-pub record RanSo {told : Type 0} (command : Command) (script : Script) (outcome : Outcome) (before after : Shown told) : Type 0 where
+pub record RanSo {told : Type 0}
+    (command : Command) (script : Script) (outcome : Outcome) (before after : Shown told) : Type 0 where
   pub ends : is_end_of_run outcome.status ≡ true
   pub lines : has_run outcome.status ≡ true → outcome.lines ≡ script
   pub played : has_run outcome.status ≡ true → HasPlayed outcome.lines outcome.played
@@ -58,7 +67,8 @@ pub record RanSo {told : Type 0} (command : Command) (script : Script) (outcome 
   pub empty : has_run outcome.status ≡ false → IsEmpty outcome
 
 -- nothing ran, and a line says why; or memory ran out
-pub record RefusedSo {told : Type 0} (status : Status) (line : List ℕ) (outcome : Outcome) (before after : Shown told) : Type 0 where
+pub record RefusedSo {told : Type 0}
+    (status : Status) (line : List ℕ) (outcome : Outcome) (before after : Shown told) : Type 0 where
   pub ends : (outcome.status ≡ status) ⊎ (outcome.status ≡ NoMemory)
   pub wrote : told → outcome.status ≡ status → Wrote line before after
   pub nothing : told → outcome.status ≡ NoMemory → after.bytes ≡ before.bytes
@@ -71,7 +81,8 @@ pub record IsRefused {reads writes : Type 0} (command : Command) (before after :
   pub wrote : writes → Wrote (refusal_line why) before.sink after.sink
 
 -- what an outcome says of a command
-pub record EndsSo {reads writes : Type 0} (command : Command) (outcome : Outcome) (before after : World reads writes) : Type 0 where
+pub record EndsSo {reads writes : Type 0}
+    (command : Command) (outcome : Outcome) (before after : World reads writes) : Type 0 where
   pub words : may_end (Some command) outcome.status ≡ true
   -- a script that ran is the command's, and went as scripts go; `NoScript` has a cause in what was read
   pub read : has_run outcome.status ≡ true → IsRead before.source command (Ok outcome.lines)

@@ -20,14 +20,17 @@ is_json (Gen seed hosts calls workers) = true
 -- the output of a run
 abbrev pub output_of : Command → Script → Played → List ℕ
 output_of command script played =
-    if is_json command then printed_json script played.start played.history else printed script played.start played.history
+    if is_json command then printed_json script played.start played.history
+    else printed script played.start played.history
 
 -- a line was written: the whole of it, or, where the sink failed, a part of it, from its front
 abbrev pub Wrote : {told : Type 0} → List ℕ → Shown told → Shown told → Type 0
 Wrote line before after =
-    (after.bytes ≡ before.bytes ++ line) ⊎ (IsAppendedInPart before.bytes line after.bytes × RoseBy 1 before.faults after.faults)
+    (after.bytes ≡ before.bytes ++ line)
+    ⊎ (IsAppendedInPart before.bytes line after.bytes × RoseBy 1 before.faults after.faults)
 
--- the output of a run was written, by the status: the whole of it; a part of it, from its front, where the sink failed; nothing
+-- the output of a run was written, by the status: the whole of it; a part of it, from its front, where the sink failed;
+-- nothing
 pub record HasPrinted {told : Type 0} (output : List ℕ) (status : Status) (before after : Shown told) : Type 0 where
   pub all : told → status ≡ Done → after.bytes ≡ before.bytes ++ output
   pub part : told → status ≡ NoOutput → IsAppendedInPart before.bytes output after.bytes

@@ -23,8 +23,10 @@ is_reading None = false
 is_reading (Some (Run json workers)) = true
 is_reading (Some (Gen seed hosts calls workers)) = false
 
--- what bytes of the source, at most `SCRIPT_BYTES` from its front, are for a command; a source that tells nothing may have had any
-pub record IsRead {told : Type 0} (before : Shown told) (command : Command) (read : Result Script ScriptRefused) : Type 0 where
+-- what bytes of the source, at most `SCRIPT_BYTES` from its front, are for a command; a source that tells nothing may
+-- have had any
+pub record IsRead {told : Type 0}
+    (before : Shown told) (command : Command) (read : Result Script ScriptRefused) : Type 0 where
   pub bytes : List ℕ
   pub had : told → bytes ≡ take SCRIPT_BYTES before.bytes
   pub says : script_for command bytes ≡ read

@@ -1,7 +1,8 @@
 //! What the lines that are printed of a run tell: each function does nothing, and what it ensures is a law.
 ghost use Rattle.dfs_service.specs.Laws.{RepliesFollowCalls, LossesAreTaken};
 
-/// The line `cH K REPLY` has the reply to the K-th call of host H, and there is one for each call that its lines ask for.
+/// The line `cH K REPLY` has the reply to the K-th call of host H, and there is one for each call that its lines ask
+/// for.
 #[tactic(auto, using(crate::proofs::Told::replies_follow))]
 pub fn replies_law()
     ensures { RepliesFollowCalls }

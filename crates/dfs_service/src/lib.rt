@@ -1,5 +1,5 @@
-//! The top call: what the command words ask for, from the bytes of a source to the bytes of a sink. It runs in stages: the
-//! words, the script, the engine, the output.
+//! The top call: what the command words ask for, from the bytes of a source to the bytes of a sink. It runs in stages:
+//! the words, the script, the engine, the output.
 #![tactic(auto)]
 
 mod engine;

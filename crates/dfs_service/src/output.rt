@@ -47,7 +47,8 @@ fn is_json(command: Command) -> bool
 
 /// Writes why a script is refused.
 pub(crate) fn refuse_script<K: Sink>(alloc: Global, why: ScriptRefused, sink: &mut K) -> Outcome
-    ensures refused { RefusedSo NoScript (refusal_line why) result (shown K.tells (K.got sink.old) (K.faults sink.old)) (shown K.tells (K.got sink.new) (K.faults sink.new)) }
+    ensures refused { RefusedSo NoScript (refusal_line why) result
+        (shown K.tells (K.got sink.old) (K.faults sink.old)) (shown K.tells (K.got sink.new) (K.faults sink.new)) }
 {
     match refusal_line(alloc, why) {
         Ok(line) => refuse(alloc, Status::NoScript, line.as_slice(), sink),
@@ -59,7 +60,8 @@ pub(crate) fn refuse_script<K: Sink>(alloc: Global, why: ScriptRefused, sink: &m
 pub(crate) fn refuse<K: Sink>(alloc: Global, status: Status, line: &[u8], sink: &mut K) -> Outcome
     ensures status { result.status ≡ status }
     ensures empty { IsEmpty result }
-    ensures wrote { K.tells → Wrote line.now (shown K.tells (K.got sink.old) (K.faults sink.old)) (shown K.tells (K.got sink.new) (K.faults sink.new)) }
+    ensures wrote { K.tells → Wrote line.now
+        (shown K.tells (K.got sink.old) (K.faults sink.old)) (shown K.tells (K.got sink.new) (K.faults sink.new)) }
 {
     match write_all(sink, line) {
         Ok(()) | Err(_) => without_run(alloc, status),

@@ -39,7 +39,8 @@ pub(crate) fn script_for<R: Source>(
     requires within { IsWithin command }
     ensures sound { IfOk result (λ script. IsSound script) }
     ensures goes { IfOk result (λ script. stuck_at script.lines ≡ None) }
-    ensures read { IfOk result (λ script. IsRead (shown R.tells (R.left source.old) (R.faults source.old)) command (Ok script)) }
+    ensures read { IfOk result
+        (λ script. IsRead (shown R.tells (R.left source.old) (R.faults source.old)) command (Ok script)) }
     ensures cause { IfErr result (IsCause (shown R.tells (R.left source.old) (R.faults source.old)) command) }
     ensures input { IsErrOf result NotRead.Input → RoseBy 1 (R.faults source.old) (R.faults source.new) }
     ensures untouched { is_reading (Some command) ≡ false → source.new ≡ source.old }
@@ -64,7 +65,8 @@ fn read<R: Source>(alloc: Global, command: Command, source: &mut R) -> Result<Sc
     requires { is_reading (Some command) ≡ true }
     ensures sound { IfOk result (λ script. IsSound script) }
     ensures goes { IfOk result (λ script. stuck_at script.lines ≡ None) }
-    ensures read { IfOk result (λ script. IsRead (shown R.tells (R.left source.old) (R.faults source.old)) command (Ok script)) }
+    ensures read { IfOk result
+        (λ script. IsRead (shown R.tells (R.left source.old) (R.faults source.old)) command (Ok script)) }
     ensures cause { IfErr result (IsCause (shown R.tells (R.left source.old) (R.faults source.old)) command) }
     ensures input { IsErrOf result NotRead.Input → RoseBy 1 (R.faults source.old) (R.faults source.new) }
 {

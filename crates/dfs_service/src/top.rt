@@ -23,16 +23,16 @@ use dfs_io::write_all;
 use script_lines::Script;
 use std::alloc::Global;
 
-/// Does what the words after the program's name ask for: reads a script from the source, or generates one, runs it on the
-/// file tree, and writes to the sink each reply, each loss and each fileset, or a summary of them as JSON.
+/// Does what the words after the program's name ask for: reads a script from the source, or generates one, runs it on
+/// the file tree, and writes to the sink each reply, each loss and each fileset, or a summary of them as JSON.
 ///
-/// The status is `NoCommand` exactly where the words aren't in the grammar, and then the usage line is written, and the source
-/// isn't called; `NoInput` only where the source's count of faults rose, and then `refused: read fault` is written; `NoScript`
-/// only where the bytes that were read (at most `SCRIPT_BYTES`) are no script, and then the line and the cause are written;
-/// `NoOutput` only where the sink's count rose, and then it got a part of the output, from its front; `NoMemory` where memory
-/// ran out, which may come anywhere and writes nothing; and else `Done`, with the output whole. Of two the first in this order
-/// comes. But for `Done` and `NoOutput` nothing ran, and the outcome is empty. Where the sink fails while the line of a refusal
-/// is written, it got a part of it, and the status stays.
+/// The status is `NoCommand` exactly where the words aren't in the grammar, and then the usage line is written, and the
+/// source isn't called; `NoInput` only where the source's count of faults rose, and then `refused: read fault` is
+/// written; `NoScript` only where the bytes that were read (at most `SCRIPT_BYTES`) are no script, and then the line
+/// and the cause are written; `NoOutput` only where the sink's count rose, and then it got a part of the output, from
+/// its front; `NoMemory` where memory ran out, which may come anywhere and writes nothing; and else `Done`, with the
+/// output whole. Of two the first in this order comes. But for `Done` and `NoOutput` nothing ran, and the outcome is
+/// empty. Where the sink fails while the line of a refusal is written, it got a part of it, and the status stays.
 pub fn run<R: Source, K: Sink>(
     alloc: Global,
     words: &[String],
@@ -41,13 +41,16 @@ pub fn run<R: Source, K: Sink>(
 ) -> Outcome
     ensures words { may_end (command_of (map string_bytes words.now)) result.status ≡ true }
     ensures untouched { is_reading (command_of (map string_bytes words.now)) ≡ false → source.new ≡ source.old }
-    ensures usage { K.tells → result.status ≡ NoCommand →
-        Wrote usage_line (shown K.tells (K.got sink.old) (K.faults sink.old)) (shown K.tells (K.got sink.new) (K.faults sink.new)) }
+    ensures usage { K.tells → result.status ≡ NoCommand
+        → Wrote usage_line (shown K.tells (K.got sink.old) (K.faults sink.old))
+        (shown K.tells (K.got sink.new) (K.faults sink.new)) }
     ensures empty { has_run result.status ≡ false → IsEmpty result }
     ensures ends { (command : CommandOf) → command_of (map string_bytes words.now) ≡ Some command →
         EndsSo command result
-        (world (shown R.tells (R.left source.old) (R.faults source.old)) (shown K.tells (K.got sink.old) (K.faults sink.old)))
-        (world (shown R.tells (R.left source.new) (R.faults source.new)) (shown K.tells (K.got sink.new) (K.faults sink.new))) }
+        (world (shown R.tells (R.left source.old) (R.faults source.old))
+        (shown K.tells (K.got sink.old) (K.faults sink.old)))
+        (world (shown R.tells (R.left source.new) (R.faults source.new))
+        (shown K.tells (K.got sink.new) (K.faults sink.new))) }
 {
     match command_of(alloc, words) {
         Ok(Some(command)) => run_command(alloc, command, source, sink),
@@ -64,8 +67,10 @@ fn run_command<R: Source, K: Sink>(
 ) -> Outcome
     requires within { IsWithin command }
     ensures ends { EndsSo command result
-        (world (shown R.tells (R.left source.old) (R.faults source.old)) (shown K.tells (K.got sink.old) (K.faults sink.old)))
-        (world (shown R.tells (R.left source.new) (R.faults source.new)) (shown K.tells (K.got sink.new) (K.faults sink.new))) }
+        (world (shown R.tells (R.left source.old) (R.faults source.old))
+        (shown K.tells (K.got sink.old) (K.faults sink.old)))
+        (world (shown R.tells (R.left source.new) (R.faults source.new))
+        (shown K.tells (K.got sink.new) (K.faults sink.new))) }
     ensures untouched { is_reading (Some command) ≡ false → source.new ≡ source.old }
     ensures empty { has_run result.status ≡ false → IsEmpty result }
 {

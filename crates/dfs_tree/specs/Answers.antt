@@ -4,7 +4,27 @@ use Rattle.dfs_base.specs.Outcomes.{either}
 use Rattle.dfs_base.specs.declared.ids.HostId.{HostId}
 use Rattle.dfs_base.specs.declared.user.User.{User}
 use Rattle.dfs_calls.specs.declared.call.Call.{Call}
-use Rattle.dfs_calls.specs.declared.call.Call.TheVariants.{NewFileset, Create, MakeDir, Remove, Rename, Truncate, SetAcl, CloneFileset, Read, Write, List as ListNames, Stat, GetAcl, Sync, Lock, Unlock, OpenFile, CloseFile, MoveFileset}
+use Rattle.dfs_calls.specs.declared.call.Call.TheVariants.{
+  NewFileset,
+  Create,
+  MakeDir,
+  Remove,
+  Rename,
+  Truncate,
+  SetAcl,
+  CloneFileset,
+  Read,
+  Write,
+  List as ListNames,
+  Stat,
+  GetAcl,
+  Sync,
+  Lock,
+  Unlock,
+  OpenFile,
+  CloseFile,
+  MoveFileset,
+}
 use Rattle.dfs_calls.specs.declared.reply.Refusal.{Refusal}
 use Rattle.dfs_calls.specs.declared.reply.Refusal.TheVariants.{NoFileset, Denied}
 use Rattle.dfs_filesets.specs.declared.fileset.Fileset.{Fileset}
@@ -26,7 +46,8 @@ for_user tree (Some user) act = act user
 
 -- a tree in which one fileset answered
 abbrev pub with_answered : Tree → ℕ → Answered → Answer
-with_answered tree place answered = record { reply = answered.reply; tree = record tree { filesets = slice_set tree.filesets place answered.fileset } }
+with_answered tree place answered =
+    record { reply = answered.reply; tree = record tree { filesets = slice_set tree.filesets place answered.fileset } }
 
 abbrev pub answer_at : Tree → ℕ → Option Fileset → (Fileset → Answered) → Answer
 answer_at tree place None ask = refuse tree NoFileset
@@ -58,7 +79,8 @@ deciding_place tree (CloseFile label) = Err NoFileset
 unfoldable pub fileset_row : Tree → HostId → User → Call → Answer
 fileset_row tree host user call =
     either (deciding_place tree call)
-    (λ place. answer_at tree place (slice_get tree.filesets place) (λ fileset. fileset_answer fileset (is_used tree.locks tree.opens) host user call))
+    (λ place. answer_at tree place (slice_get tree.filesets place)
+    (λ fileset. fileset_answer fileset (is_used tree.locks tree.opens) host user call))
     (refuse tree)
 
 -- a call of a user at a host

@@ -1,5 +1,22 @@
 -- Records of filesets that moved away from servers.
-use Rattle.std.specs.Prelude.{ℕ, ◌==◌, nat_lt, Bool, false, ◌&&◌, ◌||◌, not, if◌then◌else◌, List, length, insert, map, filter, Option, unwrap_or}
+use Rattle.std.specs.Prelude.{
+  ℕ,
+  ◌==◌,
+  nat_lt,
+  Bool,
+  false,
+  ◌&&◌,
+  ◌||◌,
+  not,
+  if◌then◌else◌,
+  List,
+  length,
+  insert,
+  map,
+  filter,
+  Option,
+  unwrap_or,
+}
 use Rattle.std.specs.List.{find, list_any, position}
 use Rattle.std.specs.Option.{option_map}
 use Rattle.dfs_base.specs.Name.{same_name}
@@ -25,7 +42,8 @@ away_id records server name = option_map (λ away. away.fileset) (find (is_away_
 
 -- whether a server's record of a fileset comes before another: by server, and then by id
 abbrev pub away_before : ServerId → FilesetId → Away → Bool
-away_before server id away = nat_lt server.0 away.server.0 || ((server.0 == away.server.0) && nat_lt id.0 away.fileset.0)
+away_before server id away =
+    nat_lt server.0 away.server.0 || ((server.0 == away.server.0) && nat_lt id.0 away.fileset.0)
 
 -- where a server's record of a fileset goes: before the first that comes after it
 abbrev pub away_place : List Away → ServerId → FilesetId → ℕ
@@ -45,4 +63,5 @@ is_room_kept records server id = list_any (λ away. is_away server id away && aw
 
 -- the records once a server keeps no more room for a fileset
 abbrev pub room_freed : List Away → ServerId → FilesetId → List Away
-room_freed records server id = map (λ away. if is_away server id away then record away { room_kept = false } else away) records
+room_freed records server id =
+    map (λ away. if is_away server id away then record away { room_kept = false } else away) records

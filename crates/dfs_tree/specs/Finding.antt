@@ -1,5 +1,24 @@
 -- Where filesets stand in the list, and what a tree answers.
-use Rattle.std.specs.Prelude.{ℕ, ◌==◌, nat_lt, Bool, false, ◌&&◌, ◌||◌, not, if◌then◌else◌, List, length, Option, Some, None, unwrap_or, Result, Ok, Err}
+use Rattle.std.specs.Prelude.{
+  ℕ,
+  ◌==◌,
+  nat_lt,
+  Bool,
+  false,
+  ◌&&◌,
+  ◌||◌,
+  not,
+  if◌then◌else◌,
+  List,
+  length,
+  Option,
+  Some,
+  None,
+  unwrap_or,
+  Result,
+  Ok,
+  Err,
+}
 use Rattle.std.specs.List.{find, list_any, position}
 use Rattle.dfs_base.specs.Name.{same_name}
 use Rattle.dfs_base.specs.Outcomes.{and_then}
@@ -45,8 +64,8 @@ abbrev pub has_this_id : Option FilesetId → Fileset → Bool
 has_this_id None fileset = false
 has_this_id (Some id) fileset = has_id id fileset
 
--- The fileset that a server and a name lead to: the one of that name at the server, or, where there is none, the one that
--- the server's record of that name tells of.
+-- The fileset that a server and a name lead to: the one of that name at the server, or, where there is none, the one
+-- that the server's record of that name tells of.
 abbrev pub leads_to : Tree → ServerId → List ℕ → Fileset → Bool
 leads_to tree server name =
     if is_here tree.filesets server name then is_named server name else has_this_id (away_id tree.away server name)

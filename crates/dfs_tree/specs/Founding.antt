@@ -1,5 +1,29 @@
 -- How filesets come about.
-use Rattle.std.specs.Prelude.{ℕ, ◌+◌, ◌-◌, ◌*◌, ◌==◌, nat_lt, nat_le, Bool, false, ◌&&◌, not, if◌then◌else◌, List, [], ◌∷◌, insert, map, slice_get, slice_set, Option, None, Result, Ok}
+use Rattle.std.specs.Prelude.{
+  ℕ,
+  ◌+◌,
+  ◌-◌,
+  ◌*◌,
+  ◌==◌,
+  nat_lt,
+  nat_le,
+  Bool,
+  false,
+  ◌&&◌,
+  not,
+  if◌then◌else◌,
+  List,
+  [],
+  ◌∷◌,
+  insert,
+  map,
+  slice_get,
+  slice_set,
+  Option,
+  None,
+  Result,
+  Ok,
+}
 use Rattle.std.specs.List.{find, count_by}
 use Rattle.std.specs.Option.{option_map_or}
 use Rattle.dfs_base.specs.Outcomes.{and_then, either}
@@ -23,7 +47,8 @@ use Rattle.dfs_tree.specs.Finding.{Answer, refuse, has_id, found_or, fileset_nam
 -- the blocks that the filesets of a server are promised
 abbrev pub promised : ServerId → List Fileset → ℕ
 promised server [] = 0
-promised server (fileset ∷ filesets) = (if fileset.server.0 == server.0 then promise fileset else 0) + promised server filesets
+promised server (fileset ∷ filesets) =
+    (if fileset.server.0 == server.0 then promise fileset else 0) + promised server filesets
 
 -- the blocks that are promised to a record: while its room is kept, as many as to its fileset
 abbrev pub away_promise : List Fileset → Away → ℕ
@@ -55,11 +80,12 @@ count_at tree server = fileset_count server tree.filesets + away_count server tr
 abbrev pub room_of : List ServerRoom → ServerId → Option ServerRoom
 room_of rooms server = if server.0 == 0 then None else slice_get rooms (server.0 - 1)
 
--- a server's room, where it may have a fileset more: TooMany (filesets and records, unless it has a record of that fileset
--- already; or no such server)
+-- a server's room, where it may have a fileset more: TooMany (filesets and records, unless it has a record of that
+-- fileset already; or no such server)
 abbrev pub slot_for : Tree → ServerId → Bool → Result ServerRoom Refusal
 slot_for tree server is_recorded =
-    unless (not is_recorded && nat_le FILESETS_MAX (count_at tree server)) TooMany (found_or (room_of tree.servers server) TooMany)
+    unless (not is_recorded && nat_le FILESETS_MAX (count_at tree server)) TooMany
+    (found_or (room_of tree.servers server) TooMany)
 
 -- so many blocks more are promised: NoRoom
 abbrev pub blocks_for : Tree → ServerId → ServerRoom → ℕ → Result ServerRoom Refusal
@@ -93,10 +119,14 @@ new_fileset_target tree server name objects =
 unfoldable pub new_fileset_answer : Tree → ServerId → List ℕ → ℕ → User → Answer
 new_fileset_answer tree server name objects owner =
     either (new_fileset_target tree server name objects)
-    (λ room. record { reply = Done; tree = with_fileset tree server room (new_fileset server (next_id server room) name objects owner) })
+    (λ room. record {
+      reply = Done;
+      tree = with_fileset tree server room (new_fileset server (next_id server room) name objects owner);
+    })
     (refuse tree)
 
--- the fileset that a user may clone: NoFileset; NotHome (it is at another server); ReadOnly; Denied (control of the root)
+-- the fileset that a user may clone: NoFileset; NotHome (it is at another server); ReadOnly; Denied (control of the
+-- root)
 unfoldable pub clone_source : Tree → User → ServerId → List ℕ → Result Fileset Refusal
 clone_source tree user server source =
     and_then (fileset_named tree server source) (λ fileset.
@@ -116,7 +146,8 @@ clone_target tree user server source new =
 unfoldable pub clone_answer : Tree → User → ServerId → List ℕ → List ℕ → Answer
 clone_answer tree user server source new =
     either (clone_target tree user server source new)
-    (λ (fileset, room). record { reply = Done; tree = with_fileset tree server room (cloned fileset (next_id server room) new) })
+    (λ (fileset, room).
+    record { reply = Done; tree = with_fileset tree server room (cloned fileset (next_id server room) new) })
     (refuse tree)
 
 -- what a server of this capacity has before its first fileset
@@ -125,4 +156,5 @@ new_room capacity = record { capacity = capacity; next = 1 }
 
 -- the tree of a roster, without filesets
 abbrev pub new_tree : Roster → Tree
-new_tree roster = record { roster = roster; servers = map new_room roster.capacity; filesets = []; away = []; locks = []; opens = [] }
+new_tree roster =
+    record { roster = roster; servers = map new_room roster.capacity; filesets = []; away = []; locks = []; opens = [] }

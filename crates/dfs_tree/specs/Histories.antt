@@ -10,8 +10,8 @@ use Rattle.dfs_tree.specs.Losses.{down_tree, losses_of}
 use Rattle.dfs_tree.specs.Away.{is_room_kept}
 use Rattle.dfs_tree.specs.Moving.{left_tree}
 
--- an entry that may come next: the reply to a call is the tree's answer, a host stores what it may, and a server that keeps
--- room for a fileset learns that it has arrived elsewhere
+-- an entry that may come next: the reply to a call is the tree's answer, a host stores what it may, and a server that
+-- keeps room for a fileset learns that it has arrived elsewhere
 abbrev pub IsLegal : Tree → Entry → Type 0
 IsLegal tree (Call host k call reply) = reply ≡ (answer_to tree host call).reply
 IsLegal tree (Stored host fid spans stored) = IsTrue (may_store tree host fid spans stored)

@@ -24,7 +24,8 @@ use Rattle.dfs_tree.specs.WellFormed.{IsWellFormed, is_limited}
 
 -- a refused call changes nothing
 abbrev pub RefusedChangesNothing : Type 0
-RefusedChangesNothing = (tree : Tree) (host : HostId) (call : Call) (refusal : Refusal) → (answer_to tree host call).reply ≡ Refused refusal → (answer_to tree host call).tree ≡ tree
+RefusedChangesNothing = (tree : Tree) (host : HostId) (call : Call) (refusal : Refusal)
+    → (answer_to tree host call).reply ≡ Refused refusal → (answer_to tree host call).tree ≡ tree
 
 -- the tree of a roster that keeps the limits is well formed
 abbrev pub StartsWellFormed : Type 0
@@ -32,16 +33,21 @@ StartsWellFormed = (roster : Roster) → keeps_limits roster ≡ true → IsWell
 
 -- a well formed tree stays so under each legal entry that keeps the limits
 abbrev pub StaysWellFormed : Type 0
-StaysWellFormed = (tree : Tree) (entry : Entry) → IsWellFormed tree → IsLegal tree entry → is_limited entry ≡ true → IsWellFormed (after_entry tree entry)
+StaysWellFormed = (tree : Tree) (entry : Entry)
+    → IsWellFormed tree → IsLegal tree entry → is_limited entry ≡ true → IsWellFormed (after_entry tree entry)
 
--- A clone that was made is a copy of its source; nothing in it is unsaved; and no later entry, on its source or elsewhere,
--- changes it.
+-- A clone that was made is a copy of its source; nothing in it is unsaved; and no later entry, on its source or
+-- elsewhere, changes it.
 pub record ClonesStay : Type 0 where
-  pub made : (tree : Tree) (host : HostId) (server : ServerId) (source new : List ℕ) → IsWellFormed tree → (answer_to tree host (CloneFileset server source new)).reply ≡ Done →
-      (fileset : Fileset) × (id : FilesetId) × (fileset_named tree server source ≡ Ok fileset)
-      × (find (has_id id) (answer_to tree host (CloneFileset server source new)).tree.filesets ≡ Some (cloned fileset id new))
-  pub bytes : (fileset : Fileset) (id : FilesetId) (new : List ℕ) (anode : ℕ) → bytes_at (cloned fileset id new) anode ≡ bytes_at fileset anode
+  pub made : (tree : Tree) (host : HostId) (server : ServerId) (source new : List ℕ)
+      → IsWellFormed tree → (answer_to tree host (CloneFileset server source new)).reply ≡ Done
+      → (fileset : Fileset) × (id : FilesetId) × (fileset_named tree server source ≡ Ok fileset)
+      × (find (has_id id) (answer_to tree host (CloneFileset server source new)).tree.filesets
+      ≡ Some (cloned fileset id new))
+  pub bytes : (fileset : Fileset) (id : FilesetId) (new : List ℕ) (anode : ℕ)
+      → bytes_at (cloned fileset id new) anode ≡ bytes_at fileset anode
   pub rest : (fileset : Fileset) (id : FilesetId) (new : List ℕ) → is_at_rest (cloned fileset id new) ≡ true
-  pub stays : (tree : Tree) (entries : List Entry) (clone : Fileset) → IsWellFormed tree → IsHistory tree entries → list_all is_limited entries ≡ true →
-      find (has_id clone.id) tree.filesets ≡ Some clone → clone.read_only ≡ true → is_at_rest clone ≡ true →
-      find (has_id clone.id) (after_history tree entries).filesets ≡ Some clone
+  pub stays : (tree : Tree) (entries : List Entry) (clone : Fileset)
+      → IsWellFormed tree → IsHistory tree entries → list_all is_limited entries ≡ true
+      → find (has_id clone.id) tree.filesets ≡ Some clone → clone.read_only ≡ true → is_at_rest clone ≡ true
+      → find (has_id clone.id) (after_history tree entries).filesets ≡ Some clone

@@ -1,5 +1,23 @@
 -- Locks.
-use Rattle.std.specs.Prelude.{ℕ, ◌+◌, ◌==◌, nat_lt, nat_le, Bool, ◌&&◌, ◌||◌, not, if◌then◌else◌, List, length, insert, filter, unwrap_or, Result, Ok}
+use Rattle.std.specs.Prelude.{
+  ℕ,
+  ◌+◌,
+  ◌==◌,
+  nat_lt,
+  nat_le,
+  Bool,
+  ◌&&◌,
+  ◌||◌,
+  not,
+  if◌then◌else◌,
+  List,
+  length,
+  insert,
+  filter,
+  unwrap_or,
+  Result,
+  Ok,
+}
 use Rattle.std.specs.List.{list_any, position, count_by}
 use Rattle.dfs_base.specs.Outcomes.{and_then, either}
 use Rattle.dfs_base.specs.Spans.{overlap}
@@ -45,7 +63,8 @@ abbrev pub is_excluded : List LockUse → HostId → Fid → Span → Bool → B
 is_excluded locks host fid span writing =
     list_any (λ lock. not (lock.host.0 == host.0) && covers fid span lock && (lock.writing || writing)) locks
 
--- Lock: AlreadyLocked (label); TooMany; NoFileset; walk; IsDir; ReadOnly; Denied; TooBig; AlreadyLocked (overlap); Locked
+-- Lock: AlreadyLocked (label); TooMany; NoFileset; walk; IsDir; ReadOnly; Denied; TooBig; AlreadyLocked (overlap);
+-- Locked
 unfoldable pub lock_check : Tree → HostId → User → List ℕ → Place → Bool → ℕ → ℕ → Result (Fid × Span) Refusal
 lock_check tree host user label place writing from len =
     let span = span_between from (from + len) in
@@ -60,7 +79,8 @@ lock_check tree host user label place writing from len =
 
 -- where a lock goes: before the first that comes after it
 abbrev pub lock_place : List LockUse → HostId → List ℕ → ℕ
-lock_place locks host label = unwrap_or (position (λ lock. label_before host label lock.host lock.label) locks) (length locks)
+lock_place locks host label =
+    unwrap_or (position (λ lock. label_before host label lock.host lock.label) locks) (length locks)
 
 -- a tree with a lock more
 abbrev pub with_lock : Tree → LockUse → Tree
@@ -70,11 +90,17 @@ with_lock tree lock = record tree { locks = insert tree.locks (lock_place tree.l
 unfoldable pub lock_answer : Tree → HostId → User → List ℕ → Place → Bool → ℕ → ℕ → Answer
 lock_answer tree host user label place writing from len =
     either (lock_check tree host user label place writing from len)
-    (λ (fid, span). record { reply = Done; tree = with_lock tree (record { host = host; label = label; fid = fid; writing = writing; span = span }) })
+    (λ (fid, span). record {
+      reply = Done;
+      tree = with_lock tree (record { host = host; label = label; fid = fid; writing = writing; span = span });
+    })
     (refuse tree)
 
 -- Unlock: NotLocked. No longer in use
 unfoldable pub unlock_answer : Tree → HostId → List ℕ → Answer
 unlock_answer tree host label =
     if not (has_lock tree.locks host label) then refuse tree NotLocked
-    else record { reply = Done; tree = record tree { locks = filter (λ lock. not (is_lock host label lock)) tree.locks } }
+    else record {
+      reply = Done;
+      tree = record tree { locks = filter (λ lock. not (is_lock host label lock)) tree.locks };
+    }

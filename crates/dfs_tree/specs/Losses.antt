@@ -1,5 +1,28 @@
 -- What a host that is down takes away, and what is lost thereby.
-use Rattle.std.specs.Prelude.{ℕ, zero, suc, ◌+◌, ◌==◌, Bool, false, ◌&&◌, not, if◌then◌else◌, List, [], ◌∷◌, ◌++◌, length, map, filter, insert, slice_get, Some, None, unwrap_or}
+use Rattle.std.specs.Prelude.{
+  ℕ,
+  zero,
+  suc,
+  ◌+◌,
+  ◌==◌,
+  Bool,
+  false,
+  ◌&&◌,
+  not,
+  if◌then◌else◌,
+  List,
+  [],
+  ◌∷◌,
+  ◌++◌,
+  length,
+  map,
+  filter,
+  insert,
+  slice_get,
+  Some,
+  None,
+  unwrap_or,
+}
 use Rattle.std.specs.List.{list_any, flat_map, position}
 use Rattle.std.specs.Option.{option_map_or}
 use Rattle.dfs_base.specs.Name.{is_before}
@@ -31,9 +54,11 @@ is_at filesets server id = list_any (λ fileset. has_id id fileset && (fileset.s
 -- a tree without a host's unsaved changes, locks and opens on the filesets of a server
 unfoldable pub down_tree : Tree → HostId → ServerId → Tree
 down_tree tree host server = record tree {
-  filesets = map (λ fileset. if fileset.server.0 == server.0 then fileset_forgotten host fileset else fileset) tree.filesets;
+  filesets =
+      map (λ fileset. if fileset.server.0 == server.0 then fileset_forgotten host fileset else fileset) tree.filesets;
   locks = filter (λ lock. not ((lock.host.0 == host.0) && is_at tree.filesets server lock.fid.fileset)) tree.locks;
-  opens = filter (λ opened. not ((opened.host.0 == host.0) && is_at tree.filesets server opened.fid.fileset)) tree.opens;
+  opens =
+      filter (λ opened. not ((opened.host.0 == host.0) && is_at tree.filesets server opened.fid.fileset)) tree.opens;
 }
 
 -- the loss of bytes
@@ -56,16 +81,19 @@ abbrev pub losses_below : ℕ → List Anode → HostId → ServerId → List (L
 losses_below zero anodes host server path object = []
 losses_below (suc levels) anodes host server path object =
     file_losses host server path object.content
-    ++ flat_map (λ entry. option_map_or (losses_below levels anodes host server (path ++ entry.name ∷ [])) (object_at anodes entry.anode) []) (entries_in object.content)
+    ++ flat_map (λ entry. option_map_or (losses_below levels anodes host server (path ++ entry.name ∷ []))
+    (object_at anodes entry.anode) []) (entries_in object.content)
 
 -- what is lost in a fileset; there are no more levels than anodes
 abbrev pub fileset_losses : HostId → ServerId → Fileset → List Loss
 fileset_losses host server fileset =
-    option_map_or (losses_below (length fileset.anodes) fileset.anodes host server (fileset.name ∷ [])) (object_at fileset.anodes 1) []
+    option_map_or (losses_below (length fileset.anodes) fileset.anodes host server (fileset.name ∷ []))
+    (object_at fileset.anodes 1) []
 
 -- whether a name comes before that of the fileset at a place of the list
 abbrev pub is_before_at : List Fileset → List ℕ → ℕ → Bool
-is_before_at filesets name place = option_map_or (λ fileset. is_before name fileset.name) (slice_get filesets place) false
+is_before_at filesets name place =
+    option_map_or (λ fileset. is_before name fileset.name) (slice_get filesets place) false
 
 -- where a fileset goes among places of filesets in the order of their names: before the first with a greater name
 abbrev pub name_place : List Fileset → List ℕ → List ℕ → ℕ
@@ -86,4 +114,5 @@ places_by_name filesets server = places_among filesets server [] 0 filesets
 -- what is lost where a server learns that a host is down: by fileset, by path, and by position
 unfoldable pub losses_of : Tree → HostId → ServerId → List Loss
 losses_of tree host server =
-    flat_map (λ place. option_map_or (fileset_losses host server) (slice_get tree.filesets place) []) (places_by_name tree.filesets server)
+    flat_map (λ place. option_map_or (fileset_losses host server) (slice_get tree.filesets place) [])
+    (places_by_name tree.filesets server)

@@ -27,24 +27,26 @@ FilesetsAreOnce =
     slice_get (after_history (new_tree roster) entries).filesets i ≡ Some a →
     slice_get (after_history (new_tree roster) entries).filesets j ≡ Some b → a.id.0 ≡ b.id.0 → i ≡ j
 
--- A move that is done. The fileset that the name led to is at the other server, and the name leads to it still. Every other
--- fileset is as before.
+-- A move that is done. The fileset that the name led to is at the other server, and the name leads to it still. Every
+-- other fileset is as before.
 pub record MovesAreWhole : Type 0 where
   pub led : (tree : Tree) (host : HostId) (server : ServerId) (name : List ℕ) (to : ServerId) → IsWellFormed tree →
       (answer_to tree host (MoveFileset server name to)).reply ≡ Done →
       (old : Fileset) × (fileset_named tree server name ≡ Ok old)
       × (fileset_named (answer_to tree host (MoveFileset server name to)).tree server name ≡ Ok (moved old to))
-  pub others : (tree : Tree) (host : HostId) (server : ServerId) (name : List ℕ) (to : ServerId) (old : Fileset) (id : FilesetId) →
-      IsWellFormed tree → fileset_named tree server name ≡ Ok old → (old.id.0 == id.0) ≡ false →
-      find (has_id id) (answer_to tree host (MoveFileset server name to)).tree.filesets ≡ find (has_id id) tree.filesets
+  pub others : (tree : Tree)
+      (host : HostId) (server : ServerId) (name : List ℕ) (to : ServerId) (old : Fileset) (id : FilesetId)
+      → IsWellFormed tree → fileset_named tree server name ≡ Ok old → (old.id.0 == id.0) ≡ false
+      → find (has_id id) (answer_to tree host (MoveFileset server name to)).tree.filesets
+      ≡ find (has_id id) tree.filesets
 
 -- whether an entry is a call that moves a fileset
 abbrev pub is_move : Entry → Bool
 is_move (Call host k (MoveFileset server name to) reply) = true
 is_move _ = false
 
--- No entry lets a fileset go. One that isn't a move leaves it where it is, and its number of moves; a move leaves both, or
--- adds one to that number.
+-- No entry lets a fileset go. One that isn't a move leaves it where it is, and its number of moves; a move leaves both,
+-- or adds one to that number.
 abbrev pub MovesCount : Type 0
 MovesCount =
     (tree : Tree) (entry : Entry) (id : FilesetId) (old : Fileset) →

@@ -66,10 +66,11 @@ move_target tree user server name to =
 
 -- what the server that a fileset leaves notes of it: its room is kept
 abbrev pub left_by : Fileset → ServerId → Away
-left_by fileset to = record { server = fileset.server; fileset = fileset.id; name = fileset.name; to = to; room_kept = true }
+left_by fileset to =
+    record { server = fileset.server; fileset = fileset.id; name = fileset.name; to = to; room_kept = true }
 
--- a tree with a fileset as it is after a move at its place in the list: the server that it left has a record of it, and the
--- one that it is at has none
+-- a tree with a fileset as it is after a move at its place in the list: the server that it left has a record of it, and
+-- the one that it is at has none
 abbrev pub put_moved : Tree → ℕ → Fileset → Away → Tree
 put_moved tree place fileset left = record tree {
   filesets = slice_set tree.filesets place fileset;

@@ -1,5 +1,20 @@
 -- Open files.
-use Rattle.std.specs.Prelude.{ℕ, ◌==◌, nat_le, Bool, ◌&&◌, not, if◌then◌else◌, List, length, insert, filter, unwrap_or, Result, Ok}
+use Rattle.std.specs.Prelude.{
+  ℕ,
+  ◌==◌,
+  nat_le,
+  Bool,
+  ◌&&◌,
+  not,
+  if◌then◌else◌,
+  List,
+  length,
+  insert,
+  filter,
+  unwrap_or,
+  Result,
+  Ok,
+}
 use Rattle.std.specs.List.{list_any, position, count_by}
 use Rattle.dfs_base.specs.Outcomes.{and_then, either}
 use Rattle.dfs_base.specs.declared.ids.HostId.{HostId}
@@ -34,7 +49,8 @@ open_count opens host = count_by (λ opened. opened.host.0 == host.0) opens
 -- whether another host has a file open so that an open of this kind is excluded
 abbrev pub is_barred : List OpenUse → HostId → Fid → OpenKind → Bool
 is_barred opens host fid kind =
-    list_any (λ opened. not (opened.host.0 == host.0) && same_fid opened.fid fid && opens_conflict opened.kind kind) opens
+    list_any
+    (λ opened. not (opened.host.0 == host.0) && same_fid opened.fid fid && opens_conflict opened.kind kind) opens
 
 -- OpenFile: AlreadyOpened; TooMany; NoFileset; walk; IsDir; ReadOnly; Denied; OpenConflict
 unfoldable pub open_check : Tree → HostId → User → List ℕ → Place → OpenKind → Result Fid Refusal
@@ -48,21 +64,27 @@ open_check tree host user label place kind =
 
 -- where an open file goes: before the first that comes after it
 abbrev pub open_place : List OpenUse → HostId → List ℕ → ℕ
-open_place opens host label = unwrap_or (position (λ opened. label_before host label opened.host opened.label) opens) (length opens)
+open_place opens host label =
+    unwrap_or (position (λ opened. label_before host label opened.host opened.label) opens) (length opens)
 
 -- a tree with an open file more
 abbrev pub with_open : Tree → OpenUse → Tree
-with_open tree opened = record tree { opens = insert tree.opens (open_place tree.opens opened.host opened.label) opened }
+with_open tree opened =
+    record tree { opens = insert tree.opens (open_place tree.opens opened.host opened.label) opened }
 
 -- OpenFile: in use under the label
 unfoldable pub open_answer : Tree → HostId → User → List ℕ → Place → OpenKind → Answer
 open_answer tree host user label place kind =
     either (open_check tree host user label place kind)
-    (λ fid. record { reply = Done; tree = with_open tree (record { host = host; label = label; fid = fid; kind = kind }) })
+    (λ fid.
+    record { reply = Done; tree = with_open tree (record { host = host; label = label; fid = fid; kind = kind }) })
     (refuse tree)
 
 -- CloseFile: NotOpened. No longer in use
 unfoldable pub close_answer : Tree → HostId → List ℕ → Answer
 close_answer tree host label =
     if not (has_open tree.opens host label) then refuse tree NotOpened
-    else record { reply = Done; tree = record tree { opens = filter (λ opened. not (is_open host label opened)) tree.opens } }
+    else record {
+      reply = Done;
+      tree = record tree { opens = filter (λ opened. not (is_open host label opened)) tree.opens };
+    }

@@ -1,5 +1,17 @@
 -- What a host stores of a file.
-use Rattle.std.specs.Prelude.{ℕ, ◌==◌, Bool, false, if◌then◌else◌, List, length, Option, None, unwrap_or, option_and_then}
+use Rattle.std.specs.Prelude.{
+  ℕ,
+  ◌==◌,
+  Bool,
+  false,
+  if◌then◌else◌,
+  List,
+  length,
+  Option,
+  None,
+  unwrap_or,
+  option_and_then,
+}
 use Rattle.std.specs.List.{find, position}
 use Rattle.std.specs.Option.{option_map, option_map_or}
 use Rattle.dfs_base.specs.Lists.{changed_at}
@@ -18,7 +30,8 @@ use Rattle.dfs_tree.specs.Finding.{has_id}
 -- the content of the object of a fileset that a fid names: the anode is in that use
 abbrev pub content_in : Fileset → Fid → Option Content
 content_in fileset fid =
-    if unique_at fileset.anodes fid.anode == fid.unique then option_map (λ object. object.content) (object_at fileset.anodes fid.anode) else None
+    if unique_at fileset.anodes fid.anode == fid.unique
+    then option_map (λ object. object.content) (object_at fileset.anodes fid.anode) else None
 
 -- the content of the object that a fid names
 abbrev pub content_at : Tree → Fid → Option Content
@@ -35,5 +48,6 @@ place_with_id filesets id = unwrap_or (position (has_id id) filesets) (length fi
 -- the tree after a host has stored what it wrote in some spans of a file, and a length where there is one
 unfoldable pub stored_tree : Tree → HostId → Fid → List Span → Option ℕ → Tree
 stored_tree tree host fid spans stored = record tree {
-  filesets = changed_at tree.filesets (place_with_id tree.filesets fid.fileset) (λ fileset. changed fileset fid.anode (content_stored host spans stored));
+  filesets = changed_at tree.filesets (place_with_id tree.filesets fid.fileset)
+      (λ fileset. changed fileset fid.anode (content_stored host spans stored));
 }

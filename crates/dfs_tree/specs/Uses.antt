@@ -10,7 +10,8 @@ use Rattle.dfs_tree.specs.declared.tree.OpenUse.{OpenUse}
 
 -- whether a file is locked, or open, by any host
 abbrev pub is_used : List LockUse → List OpenUse → Fid → Bool
-is_used locks opens fid = list_any (λ lock. same_fid lock.fid fid) locks || list_any (λ opened. same_fid opened.fid fid) opens
+is_used locks opens fid =
+    list_any (λ lock. same_fid lock.fid fid) locks || list_any (λ opened. same_fid opened.fid fid) opens
 
 -- whether a host's label is another host's label
 abbrev pub same_label : HostId → List ℕ → HostId → List ℕ → Bool
@@ -18,4 +19,5 @@ same_label host label other other_label = (host.0 == other.0) && same_name label
 
 -- whether a host's label comes before another: by host, and then by label
 abbrev pub label_before : HostId → List ℕ → HostId → List ℕ → Bool
-label_before host label other other_label = nat_lt host.0 other.0 || ((host.0 == other.0) && is_before label other_label)
+label_before host label other other_label =
+    nat_lt host.0 other.0 || ((host.0 == other.0) && is_before label other_label)

@@ -1,5 +1,24 @@
 -- When a tree is well formed.
-use Rattle.std.specs.Prelude.{◌≡◌, ◌≤◌, ℕ, ◌/◌, ◌%◌, ◌==◌, nat_lt, Bool, true, false, ◌&&◌, ◌||◌, not, List, [], ◌∷◌, length, Some}
+use Rattle.std.specs.Prelude.{
+  ◌≡◌,
+  ◌≤◌,
+  ℕ,
+  ◌/◌,
+  ◌%◌,
+  ◌==◌,
+  nat_lt,
+  Bool,
+  true,
+  false,
+  ◌&&◌,
+  ◌||◌,
+  not,
+  List,
+  [],
+  ◌∷◌,
+  length,
+  Some,
+}
 use Rattle.std.specs.List.{list_any, list_all, find}
 use Rattle.std.specs.Option.{option_map_or}
 use Rattle.dfs_base.specs.Name.{same_name}
@@ -28,7 +47,8 @@ ids_rise (fileset ∷ filesets) = list_all (λ other. nat_lt fileset.id.0 other.
 -- whether no server has two filesets with one name
 abbrev pub names_differ : List Fileset → Bool
 names_differ [] = true
-names_differ (fileset ∷ filesets) = not (list_any (is_named fileset.server fileset.name) filesets) && names_differ filesets
+names_differ (fileset ∷ filesets) =
+    not (list_any (is_named fileset.server fileset.name) filesets) && names_differ filesets
 
 -- whether a server is one of so many
 abbrev pub is_declared : ℕ → ServerId → Bool
@@ -36,7 +56,8 @@ is_declared servers server = is_between 1 servers server.0
 
 -- whether a server has given the number of an id that is one of its own
 abbrev pub is_given : List ServerRoom → FilesetId → Bool
-is_given servers id = option_map_or (λ room. nat_lt (id.0 % 65536) room.next) (room_of servers (record { 0 = id.0 / 65536 })) true
+is_given servers id =
+    option_map_or (λ room. nat_lt (id.0 % 65536) room.next) (room_of servers (record { 0 = id.0 / 65536 })) true
 
 -- whether each fileset is well formed
 abbrev pub AreWellFormed : List Fileset → Type 0
@@ -51,7 +72,8 @@ records_rise (away ∷ records) = list_all (away_before away.server away.fileset
 -- whether no server has two records of one name
 abbrev pub record_names_differ : List Away → Bool
 record_names_differ [] = true
-record_names_differ (away ∷ records) = not (list_any (is_away_named away.server away.name) records) && record_names_differ records
+record_names_differ (away ∷ records) =
+    not (list_any (is_away_named away.server away.name) records) && record_names_differ records
 
 -- whether a record's fileset is there under the record's name, at another server than the record's
 abbrev pub is_elsewhere : List Fileset → Away → Bool
@@ -96,7 +118,8 @@ pub record IsWellFormed (tree : Tree) : Type 0 where
   pub away : AreRecords tree
   -- no server has too many filesets and records, or has promised more blocks than it offers
   pub counted : (server : ServerId) → count_at tree server ≤ FILESETS_MAX
-  pub promised : (server : ServerId) (room : ServerRoom) → room_of tree.servers server ≡ Some room → promised_at tree server ≤ room.capacity
+  pub promised : (server : ServerId) (room : ServerRoom)
+      → room_of tree.servers server ≡ Some room → promised_at tree server ≤ room.capacity
   -- the number of each server's next fileset is in range
   pub numbers : list_all (λ room. is_between 1 65536 room.next) tree.servers ≡ true
   -- each lock and each open is on a file that is there

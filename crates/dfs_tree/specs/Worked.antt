@@ -6,10 +6,44 @@ use Rattle.dfs_base.specs.declared.ids.OpenKind.TheVariants.{Writing, Shared}
 use Rattle.dfs_base.specs.declared.user.User.{User}
 use Rattle.dfs_base.specs.declared.access.AccessEntry.{AccessEntry}
 use Rattle.dfs_calls.specs.declared.call.Call.{Call}
-use Rattle.dfs_calls.specs.declared.call.Call.TheVariants.{NewFileset, Create, MakeDir, Remove, Rename, Truncate, SetAcl, CloneFileset, Read, Write, List as ListNames, Stat, GetAcl, Sync, Lock, Unlock, OpenFile, CloseFile}
+use Rattle.dfs_calls.specs.declared.call.Call.TheVariants.{
+  NewFileset,
+  Create,
+  MakeDir,
+  Remove,
+  Rename,
+  Truncate,
+  SetAcl,
+  CloneFileset,
+  Read,
+  Write,
+  List as ListNames,
+  Stat,
+  GetAcl,
+  Sync,
+  Lock,
+  Unlock,
+  OpenFile,
+  CloseFile,
+}
 use Rattle.dfs_calls.specs.declared.place.Place.{Place}
 use Rattle.dfs_calls.specs.declared.place.Which.TheVariants.{Own}
-use Rattle.dfs_calls.specs.declared.reply.Refusal.TheVariants.{NoEntry, Exists, NotEmpty, Denied, TooBig, TooMany, NoRoom, ReadOnly, Locked, OpenConflict, InUse, Loop, NoFileset, CrossFileset}
+use Rattle.dfs_calls.specs.declared.reply.Refusal.TheVariants.{
+  NoEntry,
+  Exists,
+  NotEmpty,
+  Denied,
+  TooBig,
+  TooMany,
+  NoRoom,
+  ReadOnly,
+  Locked,
+  OpenConflict,
+  InUse,
+  Loop,
+  NoFileset,
+  CrossFileset,
+}
 use Rattle.dfs_calls.specs.declared.reply.Reply.{Reply}
 use Rattle.dfs_calls.specs.declared.reply.Reply.TheVariants.{Ok as Done, Bytes, Names, Facts, Access, Refused}
 use Rattle.dfs_objects.specs.Spans.{span_between}
@@ -22,7 +56,8 @@ use Rattle.dfs_tree.specs.Losses.{losses_of, span_loss, length_loss}
 -- the replies to calls of hosts in their turn
 abbrev pub replies_to : Tree → List (HostId × Call) → List Reply
 replies_to tree [] = []
-replies_to tree ((host, call) ∷ calls) = (answer_to tree host call).reply ∷ replies_to (answer_to tree host call).tree calls
+replies_to tree ((host, call) ∷ calls) =
+    (answer_to tree host call).reply ∷ replies_to (answer_to tree host call).tree calls
 
 -- the tree after calls of hosts in their turn
 abbrev pub tree_after : Tree → List (HostId × Call) → Tree
@@ -130,7 +165,8 @@ pub record WorkedReplies : Type 0 where
   -- the names in a directory come in the order of their bytes; bob may read and search it (5)
   pub told : replies_to home_with_note (
       (c1, MakeDir (in_home folder)) ∷ (c2, ListNames (in_home [])) ∷ (c2, Stat (in_home [])) ∷ [])
-      ≡ Done ∷ Names (codes "folder" ∷ codes "note" ∷ []) ∷ Facts (record { dir = true; length = 2; owner = codes "ann"; rights = 5 }) ∷ []
+      ≡ Done ∷ Names (codes "folder" ∷ codes "note" ∷ [])
+      ∷ Facts (record { dir = true; length = 2; owner = codes "ann"; rights = 5 }) ∷ []
   -- a file that is made longer has zeros there
   pub truncated : replies_to home_with_note (
       (c1, Write (in_home note) 0 (codes "hello")) ∷ (c1, Truncate (in_home note) 2) ∷
@@ -174,11 +210,14 @@ pub record WorkedReplies : Type 0 where
       (c1, Remove (in_home note)) ∷ (c1, Create (in_home folder)) ∷ [])
       ≡ Done ∷ Done ∷ Refused TooMany ∷ Done ∷ Done ∷ []
   -- a fileset of two objects is promised 136 blocks
-  pub no_room : (replies_to (empty_tree 135) (new_home 2 ∷ []) ≡ Refused NoRoom ∷ []) × (replies_to (empty_tree 136) (new_home 2 ∷ []) ≡ Done ∷ [])
+  pub no_room : (replies_to (empty_tree 135) (new_home 2 ∷ []) ≡ Refused NoRoom ∷ [])
+      × (replies_to (empty_tree 136) (new_home 2 ∷ []) ≡ Done ∷ [])
   -- a host that is down loses the bytes that it wrote last, and the length that they gave
   pub lost : losses_of written_by_both c1 server
-      ≡ span_loss c1 server (codes "home" ∷ note) (span_between 0 1) ∷ span_loss c1 server (codes "home" ∷ note) (span_between 2 4) ∷
+      ≡ span_loss c1 server (codes "home" ∷ note) (span_between 0 1)
+      ∷ span_loss c1 server (codes "home" ∷ note) (span_between 2 4) ∷
       length_loss c1 server (codes "home" ∷ note) 4 ∷ []
-  pub lost_other : losses_of written_by_both c2 server ≡ span_loss c2 server (codes "home" ∷ note) (span_between 1 2) ∷ []
+  pub lost_other : losses_of written_by_both c2 server
+      ≡ span_loss c2 server (codes "home" ∷ note) (span_between 1 2) ∷ []
   -- and nothing that it has stored
   pub nothing_lost : losses_of (tree_after written_by_both ((c1, Sync (in_home note)) ∷ [])) c1 server ≡ []

@@ -9,8 +9,9 @@ use dfs_filesets::Fileset;
 use dfs_objects::Anode;
 
 impl Tree {
-    /// A server learns that a host is down: the host's unsaved changes, locks and open files on the server's filesets go.
-    /// Tells what is lost: in the order of the paths, of each file the bytes that stand together, and then its length.
+    /// A server learns that a host is down: the host's unsaved changes, locks and open files on the server's filesets
+    /// go. Tells what is lost: in the order of the paths, of each file the bytes that stand together, and then its
+    /// length.
     #[tactic(auto, unfolding(crate::specs::Losses::down_tree))]
     pub fn down(&mut self, host: HostId, server: ServerId) -> Result<Items<Loss>, NoMemory>
         ensures losses { IfOk result (λ losses. losses ≡ losses_of self.old host server) }
@@ -50,14 +51,16 @@ fn is_host_at(
 
 // Lets a host's locks on the filesets of a server go.
 fn drop_locks(locks: &mut Items<LockUse>, filesets: &Items<Fileset>, host: HostId, server: ServerId)
-    ensures { locks.new ≡ filter (λ lock. not ((lock.host.0 == host.0) && is_at filesets.now server lock.fid.fileset)) locks.old }
+    ensures { locks.new ≡ filter
+        (λ lock. not ((lock.host.0 == host.0) && is_at filesets.now server lock.fid.fileset)) locks.old }
 {
     locks.retain(|lock| !is_host_at(filesets, host, server, lock.host, lock.fid.fileset));
 }
 
 // Lets a host's open files on the filesets of a server go.
 fn drop_opens(opens: &mut Items<OpenUse>, filesets: &Items<Fileset>, host: HostId, server: ServerId)
-    ensures { opens.new ≡ filter (λ opened. not ((opened.host.0 == host.0) && is_at filesets.now server opened.fid.fileset)) opens.old }
+    ensures { opens.new ≡ filter
+        (λ opened. not ((opened.host.0 == host.0) && is_at filesets.now server opened.fid.fileset)) opens.old }
 {
     opens.retain(|opened| !is_host_at(filesets, host, server, opened.host, opened.fid.fileset));
 }
@@ -65,7 +68,8 @@ fn drop_opens(opens: &mut Items<OpenUse>, filesets: &Items<Fileset>, host: HostI
 // Lets a host's unsaved changes in the filesets of a server go.
 #[tactic(auto, using(crate::proofs::Mapped::maps))]
 fn forget_filesets(filesets: &mut Items<Fileset>, host: HostId, server: ServerId)
-    ensures { filesets.new ≡ map (λ fileset. if fileset.server.0 == server.0 then fileset_forgotten host fileset else fileset) filesets.old }
+    ensures { filesets.new ≡ map
+        (λ fileset. if fileset.server.0 == server.0 then fileset_forgotten host fileset else fileset) filesets.old }
 {
     for place in 0..filesets.len() {
         forget_at(filesets.get_mut(place), host, server);
@@ -73,7 +77,8 @@ fn forget_filesets(filesets: &mut Items<Fileset>, host: HostId, server: ServerId
 }
 
 fn forget_at(fileset: &mut Fileset, host: HostId, server: ServerId)
-    ensures { fileset.new ≡ (if fileset.old.server.0 == server.0 then fileset_forgotten host fileset.old else fileset.old) }
+    ensures { fileset.new
+        ≡ (if fileset.old.server.0 == server.0 then fileset_forgotten host fileset.old else fileset.old) }
 {
     if fileset.server == server {
         forget_anodes(&mut fileset.anodes, host);

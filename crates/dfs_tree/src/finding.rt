@@ -3,7 +3,17 @@ ghost use Rattle.std.specs.Prelude.{◌≡◌, ◌<◌, ◌≤◌, length, nat_l
 ghost use Rattle.std.specs.List.{find, list_any, position};
 ghost use Rattle.std.specs.Option.{option_copied};
 ghost use Rattle.dfs_tree.specs.Away.{is_away_named, away_id};
-ghost use Rattle.dfs_tree.specs.Finding.{is_named, has_id, is_here, leads_to, fileset_place, fileset_named, is_taken, move_place, id_place};
+ghost use Rattle.dfs_tree.specs.Finding.{
+  is_named,
+  has_id,
+  is_here,
+  leads_to,
+  fileset_place,
+  fileset_named,
+  is_taken,
+  move_place,
+  id_place,
+};
 
 use crate::tree::{Away, Tree};
 use dfs_base::{FilesetId, Items, Name, ServerId};
@@ -98,11 +108,12 @@ impl Tree {
         }
     }
 
-    /// The fileset of a server with a name: where the server has none but a record of one that moved away, it is that one,
-    /// wherever it is now. `NoFileset` where it has neither.
+    /// The fileset of a server with a name: where the server has none but a record of one that moved away, it is that
+    /// one, wherever it is now. `NoFileset` where it has neither.
     #[tactic(auto, unfolding(crate::specs::Finding::fileset_named))]
     pub fn fileset_named(&self, server: ServerId, name: &Name) -> Result<&Fileset, Refusal>
-        ensures { MatchResult result (λ fileset. fileset_named self.now server name.now ≡ Ok fileset.now) (λ refusal. fileset_named self.now server name.now ≡ Err refusal) }
+        ensures { MatchResult result (λ fileset. fileset_named self.now server name.now ≡ Ok fileset.now)
+            (λ refusal. fileset_named self.now server name.now ≡ Err refusal) }
     {
         match self.position_led(server, name) {
             Some(place) => Ok(self.filesets.get(place)),

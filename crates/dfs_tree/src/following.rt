@@ -8,9 +8,9 @@ use dfs_base::{HostId, Items, NoMemory};
 use dfs_calls::{Call, Entry, Loss};
 
 impl Tree {
-    /// Makes the tree what it is after an entry of a history, whether the entry may come next or not, and tells what is lost
-    /// by it: something only where a server learns that a host is down. `NoMemory` comes where memory runs out, and leaves the
-    /// tree as it was.
+    /// Makes the tree what it is after an entry of a history, whether the entry may come next or not, and tells what is
+    /// lost by it: something only where a server learns that a host is down. `NoMemory` comes where memory runs out,
+    /// and leaves the tree as it was.
     pub fn follow(&mut self, entry: &Entry) -> Result<Items<Loss>, NoMemory>
         ensures losses { IfOk result (λ losses. losses ≡ lost_at self.old entry.now) }
         ensures ok { OnOk result (self.new ≡ after_entry self.old entry.now) }

@@ -1,8 +1,43 @@
 //! New filesets and clones.
-ghost use Rattle.std.specs.Prelude.{ℕ, nat_le, ◌≡◌, ◌+◌, ◌-◌, ◌^◌, ◌≤◌, ◌<◌, min, Ok, Err, IfOk, OnOk, OnErr, MatchResult};
+ghost use Rattle.std.specs.Prelude.{
+  ℕ,
+  nat_le,
+  ◌≡◌,
+  ◌+◌,
+  ◌-◌,
+  ◌^◌,
+  ◌≤◌,
+  ◌<◌,
+  min,
+  Ok,
+  Err,
+  IfOk,
+  OnOk,
+  OnErr,
+  MatchResult,
+};
 ghost use Rattle.dfs_base.specs.declared.limits.TheConstants.{FILESETS_MAX, FILESET_NUMBER_MAX};
 ghost use Rattle.dfs_filesets.specs.Promises.{new_promise};
-ghost use Rattle.dfs_tree.specs.Founding.{promised, away_promise, away_promised, promised_at, fileset_count, away_count, count_at, room_of, slot_for, blocks_for, room_for, next_id, with_fileset, new_fileset_target, new_fileset_answer, clone_source, clone_target, clone_answer};
+ghost use Rattle.dfs_tree.specs.Founding.{
+  promised,
+  away_promise,
+  away_promised,
+  promised_at,
+  fileset_count,
+  away_count,
+  count_at,
+  room_of,
+  slot_for,
+  blocks_for,
+  room_for,
+  next_id,
+  with_fileset,
+  new_fileset_target,
+  new_fileset_answer,
+  clone_source,
+  clone_target,
+  clone_answer,
+};
 
 use crate::finding::{find_with_id, id_place};
 use crate::tree::{Away, ServerRoom, Tree};
@@ -22,7 +57,8 @@ impl Tree {
         objects: u32,
         owner: &User,
     ) -> Result<Reply, NoMemory>
-        ensures reply { IfOk result (λ reply. reply ≡ (new_fileset_answer self.old server name.now objects owner.now).reply) }
+        ensures reply { IfOk result
+            (λ reply. reply ≡ (new_fileset_answer self.old server name.now objects owner.now).reply) }
         ensures tree { OnOk result (self.new ≡ (new_fileset_answer self.old server name.now objects owner.now).tree) }
         ensures err { OnErr result (self.new ≡ self.old) }
     {
@@ -46,7 +82,8 @@ impl Tree {
         source: &Name,
         new: &Name,
     ) -> Result<Reply, NoMemory>
-        ensures reply { IfOk result (λ reply. reply ≡ (clone_answer self.old user.now server source.now new.now).reply) }
+        ensures reply { IfOk result
+            (λ reply. reply ≡ (clone_answer self.old user.now server source.now new.now).reply) }
         ensures tree { OnOk result (self.new ≡ (clone_answer self.old user.now server source.now new.now).tree) }
         ensures err { OnErr result (self.new ≡ self.old) }
     {
@@ -83,7 +120,9 @@ impl Tree {
         source: &Name,
         new: &Name,
     ) -> Result<(&Fileset, ServerRoom), Refusal>
-        ensures value { MatchResult result (λ found. clone_target self.now user.now server source.now new.now ≡ Ok (found.0.now, found.1)) (λ refusal. clone_target self.now user.now server source.now new.now ≡ Err refusal) }
+        ensures value { MatchResult result
+            (λ found. clone_target self.now user.now server source.now new.now ≡ Ok (found.0.now, found.1))
+            (λ refusal. clone_target self.now user.now server source.now new.now ≡ Err refusal) }
         ensures number { IfOk result (λ found. found.1.next ≤ FILESET_NUMBER_MAX) }
     {
         let fileset = self.clone_source(user, server, source)?;
@@ -102,7 +141,8 @@ impl Tree {
         server: ServerId,
         source: &Name,
     ) -> Result<&Fileset, Refusal>
-        ensures { MatchResult result (λ fileset. clone_source self.now user.now server source.now ≡ Ok fileset.now) (λ refusal. clone_source self.now user.now server source.now ≡ Err refusal) }
+        ensures { MatchResult result (λ fileset. clone_source self.now user.now server source.now ≡ Ok fileset.now)
+            (λ refusal. clone_source self.now user.now server source.now ≡ Err refusal) }
     {
         let fileset = self.fileset_named(server, source)?;
         if fileset.server != server {

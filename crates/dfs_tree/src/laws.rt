@@ -8,8 +8,8 @@ pub fn refusal_law()
     ensures { RefusedChangesNothing }
 {}
 
-/// The tree of a roster is well formed, and a well formed tree stays so under each legal entry. A roster and a new fileset
-/// keep the limits of the service.
+/// The tree of a roster is well formed, and a well formed tree stays so under each legal entry. A roster and a new
+/// fileset keep the limits of the service.
 pub fn well_formed_law()
     ensures start { StartsWellFormed }
     ensures entry { StaysWellFormed }
@@ -25,9 +25,9 @@ pub fn worked_law()
     ensures { WorkedReplies }
 {}
 
-/// A fileset is at one server, whatever the history. A move takes it to another server whole, so that its name still leads
-/// to it there, and leaves all others; its number of moves rises by one at a move, and never falls. What a fileset that
-/// moved shows is told by the laws of `dfs_filesets`.
+/// A fileset is at one server, whatever the history. A move takes it to another server whole, so that its name still
+/// leads to it there, and leaves all others; its number of moves rises by one at a move, and never falls. What a
+/// fileset that moved shows is told by the laws of `dfs_filesets`.
 pub fn move_law()
     ensures once { FilesetsAreOnce }
     ensures whole { MovesAreWhole }

@@ -2,7 +2,19 @@ ghost use Rattle.std.specs.Prelude.{◌≡◌, ◌==◌, nat_eq, ◌<◌, ◌≤
 ghost use Rattle.std.specs.List.{position};
 ghost use Rattle.dfs_base.specs.Ids.{same_fid};
 ghost use Rattle.dfs_tree.specs.Uses.{label_before};
-ghost use Rattle.dfs_tree.specs.Locks.{is_lock, has_lock, lock_count, covers, is_own_locked, is_excluded, lock_check, lock_place, with_lock, lock_answer, unlock_answer};
+ghost use Rattle.dfs_tree.specs.Locks.{
+  is_lock,
+  has_lock,
+  lock_count,
+  covers,
+  is_own_locked,
+  is_excluded,
+  lock_check,
+  lock_place,
+  with_lock,
+  lock_answer,
+  unlock_answer,
+};
 
 use crate::tree::{LockUse, Tree};
 use crate::uses::{label_before, same_label};
@@ -29,8 +41,10 @@ impl Tree {
         writing: bool,
         range: Range,
     ) -> Result<Reply, NoMemory>
-        ensures reply { IfOk result (λ reply. reply ≡ (lock_answer self.old host user.now label.now place.now writing range.from range.len).reply) }
-        ensures tree { OnOk result (self.new ≡ (lock_answer self.old host user.now label.now place.now writing range.from range.len).tree) }
+        ensures reply { IfOk result (λ reply.
+            reply ≡ (lock_answer self.old host user.now label.now place.now writing range.from range.len).reply) }
+        ensures tree { OnOk result
+            (self.new ≡ (lock_answer self.old host user.now label.now place.now writing range.from range.len).tree) }
         ensures err { OnErr result (self.new ≡ self.old) }
     {
         let (fid, span) = match self.lock_check(host, user, label, place, writing, range) {

@@ -1,9 +1,51 @@
 //! Filesets that move from one server to another.
-ghost use Rattle.std.specs.Prelude.{◌≡◌, ◌<◌, ◌≤◌, ◌==◌, nat_eq, ◌&&◌, false, not, if◌then◌else◌, length, filter, map, slice_get, Some, Ok, Err, IfOk, IfSome, OnOk, OnErr, MatchResult};
+ghost use Rattle.std.specs.Prelude.{
+  ◌≡◌,
+  ◌<◌,
+  ◌≤◌,
+  ◌==◌,
+  nat_eq,
+  ◌&&◌,
+  false,
+  not,
+  if◌then◌else◌,
+  length,
+  filter,
+  map,
+  slice_get,
+  Some,
+  Ok,
+  Err,
+  IfOk,
+  IfSome,
+  OnOk,
+  OnErr,
+  MatchResult,
+};
 ghost use Rattle.std.specs.List.{list_any, position};
 ghost use Rattle.dfs_filesets.specs.declared.fileset.TheConstants.{MOVES_MAX};
-ghost use Rattle.dfs_tree.specs.Away.{is_away, is_away_named, has_away, away_before, away_place, with_away, without_away, room_freed};
-ghost use Rattle.dfs_tree.specs.Moving.{is_fileset_used, is_taken_by_other, move_source, leave_check, move_room, move_target, left_by, put_moved, move_answer, left_tree};
+ghost use Rattle.dfs_tree.specs.Away.{
+  is_away,
+  is_away_named,
+  has_away,
+  away_before,
+  away_place,
+  with_away,
+  without_away,
+  room_freed,
+};
+ghost use Rattle.dfs_tree.specs.Moving.{
+  is_fileset_used,
+  is_taken_by_other,
+  move_source,
+  leave_check,
+  move_room,
+  move_target,
+  left_by,
+  put_moved,
+  move_answer,
+  left_tree,
+};
 
 use crate::finding::{is_away_named, is_here};
 use crate::tree::{Away, LockUse, OpenUse, ServerRoom, Tree};
@@ -12,8 +54,8 @@ use dfs_calls::{Refusal, Reply};
 use dfs_filesets::{Fileset, MOVES_MAX};
 
 impl Tree {
-    /// A server learns that a fileset which moved away from it has arrived: it keeps no more room for it. Nothing changes
-    /// where the server has no record of the fileset. It takes no memory.
+    /// A server learns that a fileset which moved away from it has arrived: it keeps no more room for it. Nothing
+    /// changes where the server has no record of the fileset. It takes no memory.
     #[tactic(auto, unfolding(crate::specs::Moving::left_tree))]
     pub fn left(&mut self, server: ServerId, fileset: FilesetId)
         ensures { self.new ≡ left_tree self.old server fileset }
@@ -52,7 +94,8 @@ impl Tree {
         server: ServerId,
         name: &Name,
     ) -> Result<(usize, &Fileset), Refusal>
-        ensures { MatchResult result (λ found. move_source self.now user.now server name.now ≡ Ok (found.0, found.1.now)) (λ refusal. move_source self.now user.now server name.now ≡ Err refusal) }
+        ensures { MatchResult result (λ found. move_source self.now user.now server name.now
+            ≡ Ok (found.0, found.1.now)) (λ refusal. move_source self.now user.now server name.now ≡ Err refusal) }
     {
         let place = self.fileset_place(server, name)?;
         let Some(fileset) = self.filesets.at(place) else {
@@ -101,7 +144,8 @@ impl Tree {
         name: &Name,
         to: ServerId,
     ) -> Result<(usize, &Fileset), Refusal>
-        ensures value { MatchResult result (λ found. move_target self.now user.now server name.now to ≡ Ok (found.0, found.1.now)) (λ refusal. move_target self.now user.now server name.now to ≡ Err refusal) }
+        ensures value { MatchResult result (λ found. move_target self.now user.now server name.now to
+            ≡ Ok (found.0, found.1.now)) (λ refusal. move_target self.now user.now server name.now to ≡ Err refusal) }
         ensures moves { IfOk result (λ found. found.1.now.moves < MOVES_MAX) }
     {
         let (place, fileset) = self.move_source(user, server, name)?;
@@ -141,7 +185,8 @@ impl Tree {
 
 // Whether a server has a record with a name of another fileset than this.
 fn is_other_away(records: &Items<Away>, server: ServerId, name: &Name, id: FilesetId) -> bool
-    ensures { result ≡ list_any (λ away. is_away_named server name.now away && not (away.fileset.0 == id.0)) records.now }
+    ensures { result ≡ list_any
+        (λ away. is_away_named server name.now away && not (away.fileset.0 == id.0)) records.now }
 {
     records.as_slice().iter().any(|away| is_away_named(away, server, name) && away.fileset != id)
 }

@@ -1,7 +1,17 @@
 ghost use Rattle.std.specs.Prelude.{◌≡◌, ◌==◌, nat_eq, ◌<◌, ◌≤◌, not, filter, length, IfSome, IfOk, OnOk, OnErr};
 ghost use Rattle.std.specs.List.{position};
 ghost use Rattle.dfs_tree.specs.Uses.{label_before};
-ghost use Rattle.dfs_tree.specs.Opens.{is_open, has_open, open_count, is_barred, open_check, open_place, with_open, open_answer, close_answer};
+ghost use Rattle.dfs_tree.specs.Opens.{
+  is_open,
+  has_open,
+  open_count,
+  is_barred,
+  open_check,
+  open_place,
+  with_open,
+  open_answer,
+  close_answer,
+};
 
 use crate::tree::{OpenUse, Tree};
 use crate::uses::{label_before, same_label};
@@ -19,7 +29,8 @@ impl Tree {
         place: &Place,
         kind: OpenKind,
     ) -> Result<Reply, NoMemory>
-        ensures reply { IfOk result (λ reply. reply ≡ (open_answer self.old host user.now label.now place.now kind).reply) }
+        ensures reply { IfOk result
+            (λ reply. reply ≡ (open_answer self.old host user.now label.now place.now kind).reply) }
         ensures tree { OnOk result (self.new ≡ (open_answer self.old host user.now label.now place.now kind).tree) }
         ensures err { OnErr result (self.new ≡ self.old) }
     {

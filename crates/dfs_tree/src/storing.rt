@@ -9,8 +9,8 @@ use dfs_base::{Fid, FilesetId, HostId, Items, NoMemory, Span};
 use dfs_filesets::Fileset;
 
 impl Tree {
-    /// Makes what a host wrote in these spans of a file kept, and a length in bytes where there is one. The length comes
-    /// first.
+    /// Makes what a host wrote in these spans of a file kept, and a length in bytes where there is one. The length
+    /// comes first.
     #[tactic(auto, using(dfs_base::proofs::ChangedLists::changes), unfolding(crate::specs::Stores::stored_tree))]
     pub fn stored(
         &mut self,

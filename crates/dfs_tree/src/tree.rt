@@ -59,8 +59,8 @@ pub struct Away {
     pub room_kept: bool,
 }
 
-/// The file tree of the whole service (Kazar et al., "DEcorum File System Architectural Overview", 1990; Chutani et al.,
-/// "The Episode File System", 1992).
+/// The file tree of the whole service (Kazar et al., "DEcorum File System Architectural Overview", 1990; Chutani et
+/// al., "The Episode File System", 1992).
 #[derive(Drop)]
 pub struct Tree {
     /// Who takes part.

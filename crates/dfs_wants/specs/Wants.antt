@@ -1,5 +1,23 @@
 -- The tokens that a server wants for the Changes that it decides.
-use Rattle.std.specs.Prelude.{ℕ, ◌+◌, nat_lt, Bool, true, false, not, if◌then◌else◌, List, [], ◌∷◌, ◌++◌, Option, Some, None, Result, Ok}
+use Rattle.std.specs.Prelude.{
+  ℕ,
+  ◌+◌,
+  nat_lt,
+  Bool,
+  true,
+  false,
+  not,
+  if◌then◌else◌,
+  List,
+  [],
+  ◌∷◌,
+  ◌++◌,
+  Option,
+  Some,
+  None,
+  Result,
+  Ok,
+}
 use Rattle.std.specs.List.{flat_map}
 use Rattle.std.specs.Option.{option_map_or}
 use Rattle.dfs_base.specs.Outcomes.{and_then, either}
@@ -9,8 +27,24 @@ use Rattle.dfs_base.specs.declared.ids.ServerId.{ServerId}
 use Rattle.dfs_base.specs.declared.limits.TheConstants.{FILE_BYTES_MAX}
 use Rattle.dfs_base.specs.declared.user.User.{User}
 use Rattle.dfs_calls.specs.declared.call.Call.{Call}
-use Rattle.dfs_calls.specs.declared.call.Call.TheVariants.{NewFileset, Create, MakeDir, Remove, Rename, Truncate, SetAcl}
-use Rattle.dfs_calls.specs.declared.call.Call.TheVariants.{CloneFileset, Read, Write, List as ListNames, Stat, GetAcl, Sync}
+use Rattle.dfs_calls.specs.declared.call.Call.TheVariants.{
+  NewFileset,
+  Create,
+  MakeDir,
+  Remove,
+  Rename,
+  Truncate,
+  SetAcl,
+}
+use Rattle.dfs_calls.specs.declared.call.Call.TheVariants.{
+  CloneFileset,
+  Read,
+  Write,
+  List as ListNames,
+  Stat,
+  GetAcl,
+  Sync,
+}
 use Rattle.dfs_calls.specs.declared.call.Call.TheVariants.{Lock, Unlock, OpenFile, CloseFile, MoveFileset}
 use Rattle.dfs_calls.specs.declared.reply.Refusal.{Refusal}
 use Rattle.dfs_calls.specs.declared.reply.Refusal.TheVariants.{TooBig}

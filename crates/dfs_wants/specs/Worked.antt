@@ -2,7 +2,15 @@
 use Rattle.std.specs.Prelude.{◌≡◌, true, false, List, [], ◌∷◌, ◌++◌, codes}
 use Rattle.dfs_base.specs.declared.ids.Fid.{Fid}
 use Rattle.dfs_base.specs.declared.ids.OpenKind.TheVariants.{Writing, Exclusive}
-use Rattle.dfs_calls.specs.declared.call.Call.TheVariants.{NewFileset, Create, MakeDir, Remove, Rename, Truncate, SetAcl}
+use Rattle.dfs_calls.specs.declared.call.Call.TheVariants.{
+  NewFileset,
+  Create,
+  MakeDir,
+  Remove,
+  Rename,
+  Truncate,
+  SetAcl,
+}
 use Rattle.dfs_calls.specs.declared.call.Call.TheVariants.{CloneFileset, Write, Lock, OpenFile, MoveFileset}
 use Rattle.dfs_calls.specs.declared.place.Which.TheVariants.{Own}
 use Rattle.dfs_objects.specs.Spans.{span_between, whole}

@@ -1,5 +1,27 @@
 -- What an anode is, and how calls change it.
-use Rattle.std.specs.Prelude.{◌≡◌, ◌≤◌, ◌<◌, ℕ, ◌+◌, ◌-◌, ◌*◌, ◌/◌, ◌%◌, ◌==◌, ◌&&◌, max, min, Bool, List, [], length, not, if◌then◌else◌, nat_lt, nat_le}
+use Rattle.std.specs.Prelude.{
+  ◌≡◌,
+  ◌≤◌,
+  ◌<◌,
+  ℕ,
+  ◌+◌,
+  ◌-◌,
+  ◌*◌,
+  ◌/◌,
+  ◌%◌,
+  ◌==◌,
+  ◌&&◌,
+  max,
+  min,
+  Bool,
+  List,
+  [],
+  length,
+  not,
+  if◌then◌else◌,
+  nat_lt,
+  nat_le,
+}
 use Rattle.std.proofs.Common.{get_or}
 use Rattle.dfs_base.specs.Image.{byte_at, bytes_from}
 use Rattle.ep_layout.specs.Numbers.{number_at}
@@ -8,8 +30,8 @@ use Rattle.ep_anode.specs.Room.{how_many}
 use Rattle.ep_anode.specs.Node.{pointer_of, pointer_at, cell, node_in, HasNoBlocks}
 use Rattle.ep_anode.specs.declared.node.Node.{Node}
 
--- An anode: its kind (0 free, 1 directory, 2 file); its unique number; its length, of a directory in entries and else in
--- bytes; its owner and group; the bytes of its lists (own, files, dirs), and its own. Past their ends they are zero.
+-- An anode: its kind (0 free, 1 directory, 2 file); its unique number; its length, of a directory in entries and else
+-- in bytes; its owner and group; the bytes of its lists (own, files, dirs), and its own. Past their ends they are zero.
 pub record Anode : Type 0 where
   pub kind : ℕ
   pub unique : ℕ
@@ -63,7 +85,8 @@ made dir owner group anode = record {
 
 -- bytes under a piece from one on
 abbrev pub over : ℕ → List ℕ → (ℕ → ℕ) → ℕ → ℕ
-over from piece content k = if nat_le from k && nat_lt k (from + length piece) then get_or piece (k - from) 0 else content k
+over from piece content k =
+    if nat_le from k && nat_lt k (from + length piece) then get_or piece (k - from) 0 else content k
 
 -- how long an anode has to be to have so many bytes, in its own unit
 abbrev pub length_for : ℕ → ℕ → ℕ
@@ -92,7 +115,10 @@ ended from piece anode = record anode {
 
 -- an anode with a list in its block
 abbrev pub with_list : ℕ → List ℕ → Anode → Anode
-with_list which bytes anode = record anode { lists = λ w k. if w == which then (if nat_lt k 1024 then get_or bytes k 0 else 0) else anode.lists w k }
+with_list which bytes anode = record anode {
+  lists = λ w k.
+      if w == which then (if nat_lt k 1024 then get_or bytes k 0 else 0) else anode.lists w k;
+}
 
 -- a free anode that keeps its unique number
 abbrev pub freed : Anode → Anode
@@ -119,14 +145,15 @@ pub record IsPage (kind unique : ℕ) (owner group page : List ℕ) : Type 0 whe
   pub group_is : text_at page 137 ≡ group
   pub group_rest : (k : ℕ) → 138 + length group ≤ k → k < 512 → byte_at page k ≡ 0
 
--- The bytes that no field of an anode names are zero: in its page, behind the pointers of its indirect block, and past the end
--- of its bytes in their last block. No pointer is past that end.
+-- The bytes that no field of an anode names are zero: in its page, behind the pointers of its indirect block, and past
+-- the end of its bytes in their last block. No pointer is past that end.
 pub record IsTidy (image : List ℕ) (node : Node) : Type 0 where
   pub first : (k : ℕ) → 1 ≤ k → k < 4 → byte_at node.page k ≡ 0
   pub owner : (k : ℕ) → 77 + byte_at node.page 76 ≤ k → k < 137 → byte_at node.page k ≡ 0
   pub group : (k : ℕ) → 138 + byte_at node.page 137 ≤ k → k < 512 → byte_at node.page k ≡ 0
   pub behind : (k : ℕ) → 208 ≤ k → k < 1024 → byte_at node.map k ≡ 0
-  pub past : (k : ℕ) → bytes_of node ≤ k → k < 65536 → k / 1024 ≡ bytes_of node / 1024 → cell image node (pointer_at (k / 1024)) (k % 1024) ≡ 0
+  pub past : (k : ℕ) → bytes_of node ≤ k
+      → k < 65536 → k / 1024 ≡ bytes_of node / 1024 → cell image node (pointer_at (k / 1024)) (k % 1024) ≡ 0
   pub none : (i : ℕ) → i < 64 → bytes_of node ≤ 1024 * i → pointer_of node (pointer_at i) ≡ 0
 
 -- how many pointers of an anode's indirect block are past the end of its bytes

@@ -1,5 +1,22 @@
 -- What the page of an anode and its indirect block say.
-use Rattle.std.specs.Prelude.{◌≡◌, ◌≤◌, ◌<◌, ◌⊎◌, ℕ, ◌+◌, ◌-◌, ◌*◌, ◌==◌, ◌&&◌, Bool, List, if◌then◌else◌, nat_lt, nat_le, replicate}
+use Rattle.std.specs.Prelude.{
+  ◌≡◌,
+  ◌≤◌,
+  ◌<◌,
+  ◌⊎◌,
+  ℕ,
+  ◌+◌,
+  ◌-◌,
+  ◌*◌,
+  ◌==◌,
+  ◌&&◌,
+  Bool,
+  List,
+  if◌then◌else◌,
+  nat_lt,
+  nat_le,
+  replicate,
+}
 use Rattle.dfs_base.specs.Image.{byte_at, bytes_from, Torn}
 use Rattle.ep_layout.specs.Numbers.{number_at}
 use Rattle.ep_layout.specs.Places.{block_start, pages_of}
@@ -8,8 +25,8 @@ use Rattle.ep_log.specs.State.{State}
 use Rattle.ep_anode.specs.Room.{how_many}
 use Rattle.ep_anode.specs.declared.node.Node.{Node}
 
--- An anode has 68 pointers: those of its lists (own, files, dirs) from 0 on, twelve direct ones from 3 on, the one of its
--- indirect block, 15, and the 52 that stand in this block from 16 on.
+-- An anode has 68 pointers: those of its lists (own, files, dirs) from 0 on, twelve direct ones from 3 on, the one of
+-- its indirect block, 15, and the 52 that stand in this block from 16 on.
 unfoldable pub pointer_of : Node → ℕ → ℕ
 pointer_of node w = if nat_lt w 16 then number_at 4 (12 + 4 * w) node.page else number_at 4 (4 * (w - 16)) node.map
 
@@ -23,7 +40,8 @@ is_pointer blocks pointer = nat_lt 0 pointer && nat_le pointer blocks
 
 -- a byte of the block that a pointer names; it is zero where it names none
 abbrev pub byte_under : ℕ → List ℕ → ℕ → ℕ → ℕ
-byte_under blocks image pointer k = if is_pointer blocks pointer then byte_at image (block_start (pages_of blocks) (pointer - 1) + k) else 0
+byte_under blocks image pointer k =
+    if is_pointer blocks pointer then byte_at image (block_start (pages_of blocks) (pointer - 1) + k) else 0
 
 -- byte k of the block that pointer w names
 unfoldable pub cell : List ℕ → Node → ℕ → ℕ → ℕ
@@ -31,7 +49,8 @@ cell image node w k = byte_under node.blocks image (pointer_of node w) k
 
 -- the bytes of an indirect block
 abbrev pub map_under : ℕ → List ℕ → ℕ → List ℕ
-map_under blocks image pointer = if is_pointer blocks pointer then bytes_from image (block_start (pages_of blocks) (pointer - 1)) 1024 else replicate 1024 0
+map_under blocks image pointer = if is_pointer blocks pointer
+    then bytes_from image (block_start (pages_of blocks) (pointer - 1)) 1024 else replicate 1024 0
 
 -- the anode in a page
 abbrev pub node_of : ℕ → List ℕ → List ℕ → Node

@@ -5,7 +5,17 @@ ghost use Rattle.dfs_base.specs.Crash.{IsQuiet};
 ghost use Rattle.ep_log.specs.Log.{disk_of, state_of, slot_of, IsSoundLog};
 ghost use Rattle.ep_space.specs.Counts.{count_now};
 ghost use Rattle.ep_anode.specs.Room.{one, are_counts, free_blocks, MayPutAll, PutsPages};
-ghost use Rattle.ep_anode.specs.Node.{pointer_of, is_pointer, map_under, names, names_below, no_names, node_in, SameFacts, PointsTo};
+ghost use Rattle.ep_anode.specs.Node.{
+  pointer_of,
+  is_pointer,
+  map_under,
+  names,
+  names_below,
+  no_names,
+  node_in,
+  SameFacts,
+  PointsTo,
+};
 ghost use Rattle.ep_anode.specs.Anode.{bytes_of, content_at};
 ghost use Rattle.ep_anode.specs.Changes.{WroteLoose, Moves, AreCounted, AreFew, IsTaken, Replaced};
 ghost use Rattle.ep_space.specs.Faults.{IsCountFault, IsTakeFault};
@@ -26,7 +36,8 @@ pub fn read_under<D: Disk>(
     requires sound { IsSoundLog D.tells D.view log.old }
     ensures sound { IsSoundLog D.tells D.view log.new }
     ensures state { state_of log.new ≡ state_of log.old }
-    ensures bytes { D.tells → OnOk result (bytes.new ≡ map_under (state_of log.old).superblock.blocks (D.view (disk_of log.old)).image pointer) }
+    ensures bytes { D.tells → OnOk result
+        (bytes.new ≡ map_under (state_of log.old).superblock.blocks (D.view (disk_of log.old)).image pointer) }
     ensures quiet { IsQuiet (D.view (disk_of log.old)) (D.view (disk_of log.new)) }
     ensures counted { (D.view (disk_of log.old)).faults ≤ (D.view (disk_of log.new)).faults }
     ensures only { IfErr result (λ fault. IsCountFault fault (D.view (disk_of log.old)) (D.view (disk_of log.new))) }
@@ -46,7 +57,8 @@ pub fn load<D: Disk>(log: &mut Log<D>, page: u32) -> Result<Node, SpaceFault>
     ensures sound { IsSoundLog D.tells D.view log.new }
     ensures state { state_of log.new ≡ state_of log.old }
     ensures blocks { IfOk result (λ node. node.blocks ≡ (state_of log.old).superblock.blocks) }
-    ensures node { D.tells → IfOk result (λ node. node ≡ node_in (state_of log.old) (D.view (disk_of log.old)).image page) }
+    ensures node { D.tells
+        → IfOk result (λ node. node ≡ node_in (state_of log.old) (D.view (disk_of log.old)).image page) }
     ensures quiet { IsQuiet (D.view (disk_of log.old)) (D.view (disk_of log.new)) }
     ensures counted { (D.view (disk_of log.old)).faults ≤ (D.view (disk_of log.new)).faults }
     ensures only { IfErr result (λ fault. IsCountFault fault (D.view (disk_of log.old)) (D.view (disk_of log.new))) }
@@ -71,11 +83,15 @@ fn fresh<D: Disk>(log: &mut Log<D>, tx: &mut Tx, bytes: &[u8; BLOCK]) -> Result<
     ensures tx { tx.new ≡ tx.old }
     ensures puts { PutsPages are_counts (slot_of tx.old) (state_of log.old) (state_of log.new) }
     ensures within { IfOk result (λ block. block < (state_of log.old).superblock.blocks) }
-    ensures taken { D.tells → IfOk result (λ block. IsTaken block bytes.now (state_of log.old) (D.view (disk_of log.old)).image (state_of log.new) (D.view (disk_of log.new)).image) }
-    ensures room { D.tells → OnOk result (free_blocks (state_of log.old) (D.view (disk_of log.old)).image ≤ free_blocks (state_of log.new) (D.view (disk_of log.new)).image + 1) }
-    ensures wrote { D.tells → (named : ℕ → ℕ) → WroteLoose named (state_of log.old) (D.view (disk_of log.old)) (D.view (disk_of log.new)) }
+    ensures taken { D.tells → IfOk result (λ block. IsTaken block bytes.now
+        (state_of log.old) (D.view (disk_of log.old)).image (state_of log.new) (D.view (disk_of log.new)).image) }
+    ensures room { D.tells → OnOk result (free_blocks (state_of log.old) (D.view (disk_of log.old)).image
+        ≤ free_blocks (state_of log.new) (D.view (disk_of log.new)).image + 1) }
+    ensures wrote { D.tells → (named : ℕ → ℕ)
+        → WroteLoose named (state_of log.old) (D.view (disk_of log.old)) (D.view (disk_of log.new)) }
     ensures counted { (D.view (disk_of log.old)).faults ≤ (D.view (disk_of log.new)).faults }
-    ensures only { IfErr result (λ fault. IsTakeFault (D.tells → ⊥) fault (D.view (disk_of log.old)) (D.view (disk_of log.new))) }
+    ensures only { IfErr result
+        (λ fault. IsTakeFault (D.tells → ⊥) fault (D.view (disk_of log.old)) (D.view (disk_of log.new))) }
 {
     let block = take(log, tx)?;
     log.write_block(block, bytes)?;
@@ -86,12 +102,15 @@ fn fresh<D: Disk>(log: &mut Log<D>, tx: &mut Tx, bytes: &[u8; BLOCK]) -> Result<
 fn give_up<D: Disk>(log: &mut Log<D>, tx: &mut Tx, pointer: u32) -> Result<(), SpaceFault>
     requires sound { IsSoundLog D.tells D.view log.old }
     requires may { MayPutAll are_counts (state_of log.old) (slot_of tx.old) }
-    requires named { D.tells → IsTrue (is_pointer (state_of log.old).superblock.blocks pointer) → 1 ≤ count_now (state_of log.old) (D.view (disk_of log.old)).image (pointer - 1) }
+    requires named { D.tells → IsTrue (is_pointer (state_of log.old).superblock.blocks pointer)
+        → 1 ≤ count_now (state_of log.old) (D.view (disk_of log.old)).image (pointer - 1) }
     ensures sound { IsSoundLog D.tells D.view log.new }
     ensures tx { tx.new ≡ tx.old }
     ensures puts { PutsPages are_counts (slot_of tx.old) (state_of log.old) (state_of log.new) }
-    ensures moves { D.tells → OnOk result (Moves (λ block. one (pointer == block + 1)) no_names (state_of log.old) (D.view (disk_of log.old)).image (state_of log.new) (D.view (disk_of log.new)).image) }
-    ensures room { D.tells → OnOk result (free_blocks (state_of log.old) (D.view (disk_of log.old)).image ≤ free_blocks (state_of log.new) (D.view (disk_of log.new)).image) }
+    ensures moves { D.tells → OnOk result (Moves (λ block. one (pointer == block + 1)) no_names
+        (state_of log.old) (D.view (disk_of log.old)).image (state_of log.new) (D.view (disk_of log.new)).image) }
+    ensures room { D.tells → OnOk result (free_blocks (state_of log.old) (D.view (disk_of log.old)).image
+        ≤ free_blocks (state_of log.new) (D.view (disk_of log.new)).image) }
     ensures quiet { IsQuiet (D.view (disk_of log.old)) (D.view (disk_of log.new)) }
     ensures counted { (D.view (disk_of log.old)).faults ≤ (D.view (disk_of log.new)).faults }
     ensures only { IfErr result (λ fault. IsCountFault fault (D.view (disk_of log.old)) (D.view (disk_of log.new))) }
@@ -107,12 +126,15 @@ fn give_up<D: Disk>(log: &mut Log<D>, tx: &mut Tx, pointer: u32) -> Result<(), S
 fn share_under<D: Disk>(log: &mut Log<D>, tx: &mut Tx, pointer: u32) -> Result<(), SpaceFault>
     requires sound { IsSoundLog D.tells D.view log.old }
     requires may { MayPutAll are_counts (state_of log.old) (slot_of tx.old) }
-    requires named { D.tells → IsTrue (is_pointer (state_of log.old).superblock.blocks pointer) → 1 ≤ count_now (state_of log.old) (D.view (disk_of log.old)).image (pointer - 1) }
-    requires few { D.tells → IsTrue (is_pointer (state_of log.old).superblock.blocks pointer) → count_now (state_of log.old) (D.view (disk_of log.old)).image (pointer - 1) < 65535 }
+    requires named { D.tells → IsTrue (is_pointer (state_of log.old).superblock.blocks pointer)
+        → 1 ≤ count_now (state_of log.old) (D.view (disk_of log.old)).image (pointer - 1) }
+    requires few { D.tells → IsTrue (is_pointer (state_of log.old).superblock.blocks pointer)
+        → count_now (state_of log.old) (D.view (disk_of log.old)).image (pointer - 1) < 65535 }
     ensures sound { IsSoundLog D.tells D.view log.new }
     ensures tx { tx.new ≡ tx.old }
     ensures puts { PutsPages are_counts (slot_of tx.old) (state_of log.old) (state_of log.new) }
-    ensures moves { D.tells → OnOk result (Moves no_names (λ block. one (pointer == block + 1)) (state_of log.old) (D.view (disk_of log.old)).image (state_of log.new) (D.view (disk_of log.new)).image) }
+    ensures moves { D.tells → OnOk result (Moves no_names (λ block. one (pointer == block + 1))
+        (state_of log.old) (D.view (disk_of log.old)).image (state_of log.new) (D.view (disk_of log.new)).image) }
     ensures quiet { IsQuiet (D.view (disk_of log.old)) (D.view (disk_of log.new)) }
     ensures counted { (D.view (disk_of log.old)).faults ≤ (D.view (disk_of log.new)).faults }
     ensures only { IfErr result (λ fault. IsCountFault fault (D.view (disk_of log.old)) (D.view (disk_of log.new))) }
@@ -142,8 +164,10 @@ pub fn share_all<D: Disk>(
     ensures sound { IsSoundLog D.tells D.view log.new }
     ensures tx { tx.new ≡ tx.old }
     ensures puts { PutsPages are_counts (slot_of tx.old) (state_of log.old) (state_of log.new) }
-    ensures moves { D.tells → OnOk result (Moves (names_below from node.now) (names_below to node.now) (state_of log.old) (D.view (disk_of log.old)).image (state_of log.new) (D.view (disk_of log.new)).image) }
-    ensures room { D.tells → OnOk result (free_blocks (state_of log.old) (D.view (disk_of log.old)).image ≤ free_blocks (state_of log.new) (D.view (disk_of log.new)).image) }
+    ensures moves { D.tells → OnOk result (Moves (names_below from node.now) (names_below to node.now)
+        (state_of log.old) (D.view (disk_of log.old)).image (state_of log.new) (D.view (disk_of log.new)).image) }
+    ensures room { D.tells → OnOk result (free_blocks (state_of log.old) (D.view (disk_of log.old)).image
+        ≤ free_blocks (state_of log.new) (D.view (disk_of log.new)).image) }
     ensures quiet { IsQuiet (D.view (disk_of log.old)) (D.view (disk_of log.new)) }
     ensures counted { (D.view (disk_of log.old)).faults ≤ (D.view (disk_of log.new)).faults }
     ensures only { IfErr result (λ fault. IsCountFault fault (D.view (disk_of log.old)) (D.view (disk_of log.new))) }
@@ -170,9 +194,12 @@ pub fn clear<D: Disk>(
     ensures tx { tx.new ≡ tx.old }
     ensures puts { PutsPages are_counts (slot_of tx.old) (state_of log.old) (state_of log.new) }
     ensures facts { SameFacts node.old node.new }
-    ensures replaced { D.tells → OnOk result (Replaced w no_names node.old (state_of log.old) (D.view (disk_of log.old)).image node.new (state_of log.new) (D.view (disk_of log.new)).image) }
-    ensures room { D.tells → OnOk result (free_blocks (state_of log.old) (D.view (disk_of log.old)).image ≤ free_blocks (state_of log.new) (D.view (disk_of log.new)).image) }
-    ensures wrote { D.tells → WroteLoose (names node.old) (state_of log.old) (D.view (disk_of log.old)) (D.view (disk_of log.new)) }
+    ensures replaced { D.tells → OnOk result (Replaced w no_names node.old (state_of log.old)
+        (D.view (disk_of log.old)).image node.new (state_of log.new) (D.view (disk_of log.new)).image) }
+    ensures room { D.tells → OnOk result (free_blocks (state_of log.old) (D.view (disk_of log.old)).image
+        ≤ free_blocks (state_of log.new) (D.view (disk_of log.new)).image) }
+    ensures wrote { D.tells
+        → WroteLoose (names node.old) (state_of log.old) (D.view (disk_of log.old)) (D.view (disk_of log.new)) }
     ensures quiet { IsQuiet (D.view (disk_of log.old)) (D.view (disk_of log.new)) }
     ensures map { w < 16 → node.new.map ≡ node.old.map }
     ensures points { OnOk result (PointsTo w 0 node.old node.new) }
@@ -203,14 +230,19 @@ pub fn replace<D: Disk>(
     ensures tx { tx.new ≡ tx.old }
     ensures puts { PutsPages are_counts (slot_of tx.old) (state_of log.old) (state_of log.new) }
     ensures facts { SameFacts node.old node.new }
-    ensures replaced { D.tells → OnOk result (Replaced w (λ k. get_or bytes.now k 0) node.old (state_of log.old) (D.view (disk_of log.old)).image node.new (state_of log.new) (D.view (disk_of log.new)).image) }
-    ensures room { D.tells → OnOk result (free_blocks (state_of log.old) (D.view (disk_of log.old)).image ≤ free_blocks (state_of log.new) (D.view (disk_of log.new)).image + 1) }
-    ensures wrote { D.tells → WroteLoose (names node.old) (state_of log.old) (D.view (disk_of log.old)) (D.view (disk_of log.new)) }
+    ensures replaced { D.tells → OnOk result (Replaced w (λ k. get_or bytes.now k 0) node.old (state_of log.old)
+        (D.view (disk_of log.old)).image node.new (state_of log.new) (D.view (disk_of log.new)).image) }
+    ensures room { D.tells → OnOk result (free_blocks (state_of log.old) (D.view (disk_of log.old)).image
+        ≤ free_blocks (state_of log.new) (D.view (disk_of log.new)).image + 1) }
+    ensures wrote { D.tells
+        → WroteLoose (names node.old) (state_of log.old) (D.view (disk_of log.old)) (D.view (disk_of log.new)) }
     ensures map { w < 16 → node.new.map ≡ node.old.map }
     ensures others { (v : ℕ) → v < 68 → (v ≡ w → ⊥) → pointer_of node.new v ≡ pointer_of node.old v }
-    ensures fresh { D.tells → OnOk result (count_now (state_of log.new) (D.view (disk_of log.new)).image (pointer_of node.new w - 1) ≡ 1) }
+    ensures fresh { D.tells
+        → OnOk result (count_now (state_of log.new) (D.view (disk_of log.new)).image (pointer_of node.new w - 1) ≡ 1) }
     ensures counted { (D.view (disk_of log.old)).faults ≤ (D.view (disk_of log.new)).faults }
-    ensures only { IfErr result (λ fault. IsTakeFault (D.tells → ⊥) fault (D.view (disk_of log.old)) (D.view (disk_of log.new))) }
+    ensures only { IfErr result
+        (λ fault. IsTakeFault (D.tells → ⊥) fault (D.view (disk_of log.old)) (D.view (disk_of log.new))) }
 {
     let block = fresh(log, tx, bytes)?;
     give_up(log, tx, node.pointer(w))?;

@@ -1,6 +1,6 @@
-//! Anodes: the files and directories of an aggregate, with their bytes. An anode stands in a metadata page; the blocks of its
-//! bytes and of its lists are named by its pointers and by those of its indirect block. A block that is in use is never
-//! written: what changes goes to a fresh block, and the old one is given up.
+//! Anodes: the files and directories of an aggregate, with their bytes. An anode stands in a metadata page; the blocks
+//! of its bytes and of its lists are named by its pointers and by those of its indirect block. A block that is in use
+//! is never written: what changes goes to a fresh block, and the old one is given up.
 #![tactic(auto)]
 
 mod anode;

@@ -17,8 +17,8 @@ use crate::writing::list_node;
 use dfs_base::Disk;
 use ep_log::{Log, Tx};
 
-/// Fills `out` with the block of a list: 0 own, 1 files, 2 dirs. It is zero where the anode has none. `page` is the anode's
-/// metadata page. The errors are `Failed` and `Memory`, after which `out` may hold anything.
+/// Fills `out` with the block of a list: 0 own, 1 files, 2 dirs. It is zero where the anode has none. `page` is the
+/// anode's metadata page. The errors are `Failed` and `Memory`, after which `out` may hold anything.
 pub fn read_list<D: Disk>(
     log: &mut Log<D>,
     page: u32,
@@ -30,7 +30,8 @@ pub fn read_list<D: Disk>(
     requires which { which < 3 }
     ensures sound { IsSoundLog D.tells D.view log.new }
     ensures state { state_of log.new ≡ state_of log.old }
-    ensures bytes { D.tells → OnOk result ((k : ℕ) → k < 1024 → get_or out.new k 0 ≡ (anode_in (state_of log.old) (D.view (disk_of log.old)).image page).lists which k) }
+    ensures bytes { D.tells → OnOk result ((k : ℕ) → k < 1024
+        → get_or out.new k 0 ≡ (anode_in (state_of log.old) (D.view (disk_of log.old)).image page).lists which k) }
     ensures quiet { IsQuiet (D.view (disk_of log.old)) (D.view (disk_of log.new)) }
     ensures counted { (D.view (disk_of log.old)).faults ≤ (D.view (disk_of log.new)).faults }
     ensures only { IfErr result (λ fault. IsNodeFault fault (D.view (disk_of log.old)) (D.view (disk_of log.new))) }
@@ -42,8 +43,8 @@ pub fn read_list<D: Disk>(
 
 /// Writes the block of a list: 0 own, 1 files, 2 dirs. The old one is given up. `page` is the anode's metadata page.
 ///
-/// Room: two free blocks, for the list and for the indirect block; the transaction may put the anode's page and all pages of
-/// counts. `Failed`: mount the log again. `Memory`: undo the transaction, which may hold some of the puts.
+/// Room: two free blocks, for the list and for the indirect block; the transaction may put the anode's page and all
+/// pages of counts. `Failed`: mount the log again. `Memory`: undo the transaction, which may hold some of the puts.
 pub fn write_list<D: Disk>(
     log: &mut Log<D>,
     tx: &mut Tx,
@@ -55,15 +56,21 @@ pub fn write_list<D: Disk>(
     requires may { MayPutAll (with_counts page) (state_of log.old) (slot_of tx.old) }
     requires page { page < 1058 }
     requires which { which < 3 }
-    requires named { D.tells → AreCounted (names (node_in (state_of log.old) (D.view (disk_of log.old)).image page)) (state_of log.old) (D.view (disk_of log.old)).image }
-    requires few { D.tells → AreFew (names (node_in (state_of log.old) (D.view (disk_of log.old)).image page)) (state_of log.old) (D.view (disk_of log.old)).image }
+    requires named { D.tells → AreCounted (names (node_in (state_of log.old) (D.view (disk_of log.old)).image page))
+        (state_of log.old) (D.view (disk_of log.old)).image }
+    requires few { D.tells → AreFew (names (node_in (state_of log.old) (D.view (disk_of log.old)).image page))
+        (state_of log.old) (D.view (disk_of log.old)).image }
     requires room { D.tells → 2 ≤ free_blocks (state_of log.old) (D.view (disk_of log.old)).image }
     ensures sound { IsSoundLog D.tells D.view log.new }
     ensures tx { tx.new ≡ tx.old }
     ensures puts { PutsPages (with_counts page) (slot_of tx.old) (state_of log.old) (state_of log.new) }
-    ensures changed { D.tells → OnOk result (Changed page (with_list which bytes.now) (state_of log.old) (D.view (disk_of log.old)).image (state_of log.new) (D.view (disk_of log.new)).image) }
-    ensures room { D.tells → OnOk result (free_blocks (state_of log.old) (D.view (disk_of log.old)).image ≤ free_blocks (state_of log.new) (D.view (disk_of log.new)).image + 2) }
-    ensures wrote { D.tells → WroteLoose (own_names (state_of log.old) (D.view (disk_of log.old)).image (node_in (state_of log.old) (D.view (disk_of log.old)).image page)) (state_of log.old) (D.view (disk_of log.old)) (D.view (disk_of log.new)) }
+    ensures changed { D.tells → OnOk result (Changed page (with_list which bytes.now)
+        (state_of log.old) (D.view (disk_of log.old)).image (state_of log.new) (D.view (disk_of log.new)).image) }
+    ensures room { D.tells → OnOk result (free_blocks (state_of log.old) (D.view (disk_of log.old)).image
+        ≤ free_blocks (state_of log.new) (D.view (disk_of log.new)).image + 2) }
+    ensures wrote { D.tells → WroteLoose (own_names (state_of log.old)
+        (D.view (disk_of log.old)).image (node_in (state_of log.old) (D.view (disk_of log.old)).image page))
+        (state_of log.old) (D.view (disk_of log.old)) (D.view (disk_of log.new)) }
     ensures counted { (D.view (disk_of log.old)).faults ≤ (D.view (disk_of log.new)).faults }
     ensures only { IfErr result (λ fault. IsNodeFault fault (D.view (disk_of log.old)) (D.view (disk_of log.new))) }
 {

@@ -52,9 +52,12 @@ fn clear_all<D: Disk>(log: &mut Log<D>, tx: &mut Tx, node: &mut Node) -> Result<
     ensures puts { PutsPages are_counts (slot_of tx.old) (state_of log.old) (state_of log.new) }
     ensures facts { SameFacts node.old node.new }
     ensures none { OnOk result (HasNoBlocks node.new) }
-    ensures moves { D.tells → OnOk result (Moves (names node.old) (names node.new) (state_of log.old) (D.view (disk_of log.old)).image (state_of log.new) (D.view (disk_of log.new)).image) }
-    ensures room { D.tells → OnOk result (free_blocks (state_of log.old) (D.view (disk_of log.old)).image ≤ free_blocks (state_of log.new) (D.view (disk_of log.new)).image) }
-    ensures wrote { D.tells → WroteLoose (names node.old) (state_of log.old) (D.view (disk_of log.old)) (D.view (disk_of log.new)) }
+    ensures moves { D.tells → OnOk result (Moves (names node.old) (names node.new)
+        (state_of log.old) (D.view (disk_of log.old)).image (state_of log.new) (D.view (disk_of log.new)).image) }
+    ensures room { D.tells → OnOk result (free_blocks (state_of log.old) (D.view (disk_of log.old)).image
+        ≤ free_blocks (state_of log.new) (D.view (disk_of log.new)).image) }
+    ensures wrote { D.tells
+        → WroteLoose (names node.old) (state_of log.old) (D.view (disk_of log.old)) (D.view (disk_of log.new)) }
     ensures counted { (D.view (disk_of log.old)).faults ≤ (D.view (disk_of log.new)).faults }
     ensures only { IfErr result (λ fault. IsCountFault fault (D.view (disk_of log.old)) (D.view (disk_of log.new))) }
 {
@@ -79,10 +82,14 @@ pub fn free_node<D: Disk>(
     ensures sound { IsSoundLog D.tells D.view log.new }
     ensures tx { tx.new ≡ tx.old }
     ensures puts { PutsPages (with_counts page) (slot_of tx.old) (state_of log.old) (state_of log.new) }
-    ensures turned { D.tells → OnOk result (Turned page freed node.old (state_of log.old) (D.view (disk_of log.old)).image (state_of log.new) (D.view (disk_of log.new)).image) }
-    ensures bare { D.tells → OnOk result (IsBare (D.view (disk_of log.new)).image (node_in (state_of log.new) (D.view (disk_of log.new)).image page)) }
-    ensures room { D.tells → OnOk result (free_blocks (state_of log.old) (D.view (disk_of log.old)).image ≤ free_blocks (state_of log.new) (D.view (disk_of log.new)).image) }
-    ensures wrote { D.tells → WroteLoose (names node.old) (state_of log.old) (D.view (disk_of log.old)) (D.view (disk_of log.new)) }
+    ensures turned { D.tells → OnOk result (Turned page freed node.old
+        (state_of log.old) (D.view (disk_of log.old)).image (state_of log.new) (D.view (disk_of log.new)).image) }
+    ensures bare { D.tells → OnOk result
+        (IsBare (D.view (disk_of log.new)).image (node_in (state_of log.new) (D.view (disk_of log.new)).image page)) }
+    ensures room { D.tells → OnOk result (free_blocks (state_of log.old) (D.view (disk_of log.old)).image
+        ≤ free_blocks (state_of log.new) (D.view (disk_of log.new)).image) }
+    ensures wrote { D.tells
+        → WroteLoose (names node.old) (state_of log.old) (D.view (disk_of log.old)) (D.view (disk_of log.new)) }
     ensures counted { (D.view (disk_of log.old)).faults ≤ (D.view (disk_of log.new)).faults }
     ensures only { IfErr result (λ fault. IsCountFault fault (D.view (disk_of log.old)) (D.view (disk_of log.new))) }
 {

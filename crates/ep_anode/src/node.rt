@@ -89,7 +89,8 @@ impl Node {
     pub fn up_to_length(&self) -> Node
         ensures facts { SameFacts self.now result }
         ensures past { (i : ℕ) → i < 64 → bytes_of self.now ≤ 1024 * i → pointer_of result (pointer_for i) ≡ 0 }
-        ensures same { (w : ℕ) → w < 68 → ((i : ℕ) → i < 64 → bytes_of self.now ≤ 1024 * i → w ≢ pointer_for i) → pointer_of result w ≡ pointer_of self.now w }
+        ensures same { (w : ℕ) → w < 68 → ((i : ℕ) → i < 64 → bytes_of self.now ≤ 1024 * i → w ≢ pointer_for i)
+            → pointer_of result w ≡ pointer_of self.now w }
         ensures fewer { (w : ℕ) → w < 68 → (pointer_of result w ≡ 0) ⊎ (pointer_of result w ≡ pointer_of self.now w) }
     {
         let mut node = Node {
@@ -150,7 +151,8 @@ impl Node {
     // Raises the length to what so many bytes need.
     pub fn reach(&mut self, end: u32)
         requires { end ≤ 65536 }
-        ensures { HasLength (max (number_at 4 8 self.old.page) (length_for (byte_at self.old.page 0) end)) self.old self.new }
+        ensures { HasLength
+            (max (number_at 4 8 self.old.page) (length_for (byte_at self.old.page 0) end)) self.old self.new }
     {
         let length = u32_at(&self.page, LENGTH_AT).max(self.length_for(end));
         put_u32(&mut self.page, LENGTH_AT, length);

@@ -4,7 +4,15 @@ ghost use Rattle.dfs_base.specs.Crash.{IsQuiet};
 ghost use Rattle.ep_log.specs.Log.{disk_of, state_of, slot_of, IsSoundLog};
 ghost use Rattle.ep_anode.specs.Room.{are_counts, free_blocks, MayPutAll, PutsPages};
 ghost use Rattle.ep_anode.specs.Node.{names, node_in};
-ghost use Rattle.ep_anode.specs.Changes.{is_shared as shared_of, own_names, left_names, Moves, AreCounted, AreFew, Owned};
+ghost use Rattle.ep_anode.specs.Changes.{
+  is_shared as shared_of,
+  own_names,
+  left_names,
+  Moves,
+  AreCounted,
+  AreFew,
+  Owned,
+};
 ghost use Rattle.ep_space.specs.Faults.{IsCountFault};
 
 use crate::blocks::{clear, load, share_all};
@@ -19,7 +27,8 @@ pub fn is_shared<D: Disk>(log: &mut Log<D>, node: &Node) -> Result<bool, SpaceFa
     requires blocks { node.now.blocks ≡ (state_of log.old).superblock.blocks }
     ensures sound { IsSoundLog D.tells D.view log.new }
     ensures state { state_of log.new ≡ state_of log.old }
-    ensures shared { D.tells → IfOk result (λ shared. shared ≡ shared_of (state_of log.old) (D.view (disk_of log.old)).image node.now) }
+    ensures shared { D.tells
+        → IfOk result (λ shared. shared ≡ shared_of (state_of log.old) (D.view (disk_of log.old)).image node.now) }
     ensures quiet { IsQuiet (D.view (disk_of log.old)) (D.view (disk_of log.new)) }
     ensures counted { (D.view (disk_of log.old)).faults ≤ (D.view (disk_of log.new)).faults }
     ensures only { IfErr result (λ fault. IsCountFault fault (D.view (disk_of log.old)) (D.view (disk_of log.new))) }
@@ -32,8 +41,8 @@ pub fn is_shared<D: Disk>(log: &mut Log<D>, node: &Node) -> Result<bool, SpaceFa
     Ok(1 < count)
 }
 
-// Leaves an anode's indirect block to the others where it is shared: the blocks that it names have one more pointer each, and
-// the anode has its pointers to them without a block.
+// Leaves an anode's indirect block to the others where it is shared: the blocks that it names have one more pointer
+// each, and the anode has its pointers to them without a block.
 fn detach<D: Disk>(log: &mut Log<D>, tx: &mut Tx, node: &mut Node) -> Result<(), SpaceFault>
     requires sound { IsSoundLog D.tells D.view log.old }
     requires may { MayPutAll are_counts (state_of log.old) (slot_of tx.old) }
@@ -44,9 +53,13 @@ fn detach<D: Disk>(log: &mut Log<D>, tx: &mut Tx, node: &mut Node) -> Result<(),
     ensures tx { tx.new ≡ tx.old }
     ensures puts { PutsPages are_counts (slot_of tx.old) (state_of log.old) (state_of log.new) }
     ensures owned { OnOk result (Owned node.old node.new) }
-    ensures left { D.tells → OnOk result ((block : ℕ) → names node.new block ≤ left_names (state_of log.old) (D.view (disk_of log.old)).image node.old block) }
-    ensures moves { D.tells → OnOk result (Moves (own_names (state_of log.old) (D.view (disk_of log.old)).image node.old) (names node.new) (state_of log.old) (D.view (disk_of log.old)).image (state_of log.new) (D.view (disk_of log.new)).image) }
-    ensures room { D.tells → OnOk result (free_blocks (state_of log.old) (D.view (disk_of log.old)).image ≤ free_blocks (state_of log.new) (D.view (disk_of log.new)).image) }
+    ensures left { D.tells → OnOk result ((block : ℕ)
+        → names node.new block ≤ left_names (state_of log.old) (D.view (disk_of log.old)).image node.old block) }
+    ensures moves { D.tells
+        → OnOk result (Moves (own_names (state_of log.old) (D.view (disk_of log.old)).image node.old) (names node.new)
+        (state_of log.old) (D.view (disk_of log.old)).image (state_of log.new) (D.view (disk_of log.new)).image) }
+    ensures room { D.tells → OnOk result (free_blocks (state_of log.old) (D.view (disk_of log.old)).image
+        ≤ free_blocks (state_of log.new) (D.view (disk_of log.new)).image) }
     ensures quiet { IsQuiet (D.view (disk_of log.old)) (D.view (disk_of log.new)) }
     ensures counted { (D.view (disk_of log.old)).faults ≤ (D.view (disk_of log.new)).faults }
     ensures only { IfErr result (λ fault. IsCountFault fault (D.view (disk_of log.old)) (D.view (disk_of log.new))) }
@@ -63,16 +76,23 @@ pub fn load_own<D: Disk>(log: &mut Log<D>, tx: &mut Tx, page: u32) -> Result<Nod
     requires sound { IsSoundLog D.tells D.view log.old }
     requires may { MayPutAll are_counts (state_of log.old) (slot_of tx.old) }
     requires page { page < 1058 }
-    requires named { D.tells → AreCounted (names (node_in (state_of log.old) (D.view (disk_of log.old)).image page)) (state_of log.old) (D.view (disk_of log.old)).image }
-    requires few { D.tells → AreFew (names (node_in (state_of log.old) (D.view (disk_of log.old)).image page)) (state_of log.old) (D.view (disk_of log.old)).image }
+    requires named { D.tells → AreCounted (names (node_in (state_of log.old) (D.view (disk_of log.old)).image page))
+        (state_of log.old) (D.view (disk_of log.old)).image }
+    requires few { D.tells → AreFew (names (node_in (state_of log.old) (D.view (disk_of log.old)).image page))
+        (state_of log.old) (D.view (disk_of log.old)).image }
     ensures sound { IsSoundLog D.tells D.view log.new }
     ensures tx { tx.new ≡ tx.old }
     ensures puts { PutsPages are_counts (slot_of tx.old) (state_of log.old) (state_of log.new) }
     ensures blocks { IfOk result (λ node. node.blocks ≡ (state_of log.old).superblock.blocks) }
-    ensures owned { D.tells → IfOk result (λ node. Owned (node_in (state_of log.old) (D.view (disk_of log.old)).image page) node) }
-    ensures left { D.tells → IfOk result (λ node. (block : ℕ) → names node block ≤ left_names (state_of log.old) (D.view (disk_of log.old)).image (node_in (state_of log.old) (D.view (disk_of log.old)).image page) block) }
-    ensures moves { D.tells → IfOk result (λ node. Moves (own_names (state_of log.old) (D.view (disk_of log.old)).image (node_in (state_of log.old) (D.view (disk_of log.old)).image page)) (names node) (state_of log.old) (D.view (disk_of log.old)).image (state_of log.new) (D.view (disk_of log.new)).image) }
-    ensures room { D.tells → OnOk result (free_blocks (state_of log.old) (D.view (disk_of log.old)).image ≤ free_blocks (state_of log.new) (D.view (disk_of log.new)).image) }
+    ensures owned { D.tells
+        → IfOk result (λ node. Owned (node_in (state_of log.old) (D.view (disk_of log.old)).image page) node) }
+    ensures left { D.tells → IfOk result (λ node. (block : ℕ) → names node block ≤ left_names (state_of log.old)
+        (D.view (disk_of log.old)).image (node_in (state_of log.old) (D.view (disk_of log.old)).image page) block) }
+    ensures moves { D.tells → IfOk result (λ node. Moves (own_names (state_of log.old) (D.view (disk_of log.old)).image
+        (node_in (state_of log.old) (D.view (disk_of log.old)).image page)) (names node)
+        (state_of log.old) (D.view (disk_of log.old)).image (state_of log.new) (D.view (disk_of log.new)).image) }
+    ensures room { D.tells → OnOk result (free_blocks (state_of log.old) (D.view (disk_of log.old)).image
+        ≤ free_blocks (state_of log.new) (D.view (disk_of log.new)).image) }
     ensures quiet { IsQuiet (D.view (disk_of log.old)) (D.view (disk_of log.new)) }
     ensures counted { (D.view (disk_of log.old)).faults ≤ (D.view (disk_of log.new)).faults }
     ensures only { IfErr result (λ fault. IsCountFault fault (D.view (disk_of log.old)) (D.view (disk_of log.new))) }
@@ -89,8 +109,10 @@ pub fn load_names<D: Disk>(log: &mut Log<D>, page: u32) -> Result<Node, SpaceFau
     ensures sound { IsSoundLog D.tells D.view log.new }
     ensures state { state_of log.new ≡ state_of log.old }
     ensures blocks { IfOk result (λ node. node.blocks ≡ (state_of log.old).superblock.blocks) }
-    ensures page { D.tells → IfOk result (λ node. node.page ≡ (node_in (state_of log.old) (D.view (disk_of log.old)).image page).page) }
-    ensures names { D.tells → IfOk result (λ node. (block : ℕ) → names node block ≡ own_names (state_of log.old) (D.view (disk_of log.old)).image (node_in (state_of log.old) (D.view (disk_of log.old)).image page) block) }
+    ensures page { D.tells
+        → IfOk result (λ node. node.page ≡ (node_in (state_of log.old) (D.view (disk_of log.old)).image page).page) }
+    ensures names { D.tells → IfOk result (λ node. (block : ℕ) → names node block ≡ own_names (state_of log.old)
+        (D.view (disk_of log.old)).image (node_in (state_of log.old) (D.view (disk_of log.old)).image page) block) }
     ensures quiet { IsQuiet (D.view (disk_of log.old)) (D.view (disk_of log.new)) }
     ensures counted { (D.view (disk_of log.old)).faults ≤ (D.view (disk_of log.new)).faults }
     ensures only { IfErr result (λ fault. IsCountFault fault (D.view (disk_of log.old)) (D.view (disk_of log.new))) }

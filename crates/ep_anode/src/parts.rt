@@ -20,8 +20,10 @@ pub fn copy_part(out: &mut [u8], from: u32, bytes: &[u8; BLOCK], at: u32)
     requires within { from + length out.old ≤ 65536 }
     requires low { at < from + length out.old }
     requires high { from < at + 1024 }
-    ensures inside { (k : ℕ) → k < length out.old → at ≤ from + k → from + k < at + 1024 → get_or out.new k 0 ≡ get_or bytes.now (from + k - at) 0 }
-    ensures outside { (k : ℕ) → k < length out.old → (from + k < at) ⊎ (at + 1024 ≤ from + k) → get_or out.new k 0 ≡ get_or out.old k 0 }
+    ensures inside { (k : ℕ) → k < length out.old
+        → at ≤ from + k → from + k < at + 1024 → get_or out.new k 0 ≡ get_or bytes.now (from + k - at) 0 }
+    ensures outside { (k : ℕ)
+        → k < length out.old → (from + k < at) ⊎ (at + 1024 ≤ from + k) → get_or out.new k 0 ≡ get_or out.old k 0 }
 {
     let first = from.max(at);
     let end = (from + out.len() as u32).min(at + BLOCK as u32);
@@ -36,8 +38,10 @@ pub fn copy_part(out: &mut [u8], from: u32, bytes: &[u8; BLOCK], at: u32)
 pub fn lay_over(bytes: &mut [u8; BLOCK], at: u32, from: u32, piece: &[u8])
     requires within { from + length piece.now ≤ 65536 }
     requires at { at < 65536 }
-    ensures inside { (k : ℕ) → k < 1024 → from ≤ at + k → at + k < from + length piece.now → get_or bytes.new k 0 ≡ get_or piece.now (at + k - from) 0 }
-    ensures outside { (k : ℕ) → k < 1024 → (at + k < from) ⊎ (from + length piece.now ≤ at + k) → get_or bytes.new k 0 ≡ get_or bytes.old k 0 }
+    ensures inside { (k : ℕ) → k < 1024
+        → from ≤ at + k → at + k < from + length piece.now → get_or bytes.new k 0 ≡ get_or piece.now (at + k - from) 0 }
+    ensures outside { (k : ℕ) → k < 1024
+        → (at + k < from) ⊎ (from + length piece.now ≤ at + k) → get_or bytes.new k 0 ≡ get_or bytes.old k 0 }
 {
     let first = from.max(at);
     let end = (from + piece.len() as u32).min(at + BLOCK as u32);

@@ -36,12 +36,17 @@ fn write_part<D: Disk>(
     ensures tx { tx.new ≡ tx.old }
     ensures puts { PutsPages are_counts (slot_of tx.old) (state_of log.old) (state_of log.new) }
     ensures facts { SameFacts node.old node.new }
-    ensures replaced { D.tells → OnOk result (Replaced (pointer_for i) (λ k. over from piece.now (λ m. content_at (D.view (disk_of log.old)).image node.old kept m) (1024 * i + k)) node.old (state_of log.old) (D.view (disk_of log.old)).image node.new (state_of log.new) (D.view (disk_of log.new)).image) }
-    ensures room { D.tells → OnOk result (free_blocks (state_of log.old) (D.view (disk_of log.old)).image ≤ free_blocks (state_of log.new) (D.view (disk_of log.new)).image + 1) }
-    ensures wrote { D.tells → WroteLoose (names node.old) (state_of log.old) (D.view (disk_of log.old)) (D.view (disk_of log.new)) }
+    ensures replaced { D.tells → OnOk result (Replaced (pointer_for i) (λ k. over from piece.now
+        (λ m. content_at (D.view (disk_of log.old)).image node.old kept m) (1024 * i + k)) node.old (state_of log.old)
+        (D.view (disk_of log.old)).image node.new (state_of log.new) (D.view (disk_of log.new)).image) }
+    ensures room { D.tells → OnOk result (free_blocks (state_of log.old) (D.view (disk_of log.old)).image
+        ≤ free_blocks (state_of log.new) (D.view (disk_of log.new)).image + 1) }
+    ensures wrote { D.tells
+        → WroteLoose (names node.old) (state_of log.old) (D.view (disk_of log.old)) (D.view (disk_of log.new)) }
     ensures others { (v : ℕ) → v < 68 → (v ≡ pointer_for i → ⊥) → pointer_of node.new v ≡ pointer_of node.old v }
     ensures counted { (D.view (disk_of log.old)).faults ≤ (D.view (disk_of log.new)).faults }
-    ensures only { IfErr result (λ fault. IsTakeFault (D.tells → ⊥) fault (D.view (disk_of log.old)) (D.view (disk_of log.new))) }
+    ensures only { IfErr result
+        (λ fault. IsTakeFault (D.tells → ⊥) fault (D.view (disk_of log.old)) (D.view (disk_of log.new))) }
 {
     let mut bytes = [0; BLOCK];
     read_part(log, node, i, kept, &mut bytes)?;
@@ -70,14 +75,22 @@ fn lay_block<D: Disk>(
     ensures tx { tx.new ≡ tx.old }
     ensures puts { PutsPages are_counts (slot_of tx.old) (state_of log.old) (state_of log.new) }
     ensures facts { SameFacts node.old node.new }
-    ensures replaced { D.tells → OnOk result (Replaced (pointer_for i) (λ k. over from piece.now (λ m. content_at (D.view (disk_of log.old)).image node.old kept m) (1024 * i + k)) node.old (state_of log.old) (D.view (disk_of log.old)).image node.new (state_of log.new) (D.view (disk_of log.new)).image) }
-    ensures room { D.tells → OnOk result (free_blocks (state_of log.old) (D.view (disk_of log.old)).image + blocks_written kept from (length piece.now) i ≤ free_blocks (state_of log.new) (D.view (disk_of log.new)).image + blocks_written kept from (length piece.now) (i + 1)) }
-    ensures wrote { D.tells → WroteLoose (names node.old) (state_of log.old) (D.view (disk_of log.old)) (D.view (disk_of log.new)) }
+    ensures replaced { D.tells → OnOk result (Replaced (pointer_for i) (λ k. over from piece.now
+        (λ m. content_at (D.view (disk_of log.old)).image node.old kept m) (1024 * i + k)) node.old (state_of log.old)
+        (D.view (disk_of log.old)).image node.new (state_of log.new) (D.view (disk_of log.new)).image) }
+    ensures room { D.tells → OnOk result (free_blocks (state_of log.old) (D.view (disk_of log.old)).image
+        + blocks_written kept from (length piece.now) i ≤ free_blocks
+        (state_of log.new) (D.view (disk_of log.new)).image + blocks_written kept from (length piece.now) (i + 1)) }
+    ensures wrote { D.tells
+        → WroteLoose (names node.old) (state_of log.old) (D.view (disk_of log.old)) (D.view (disk_of log.new)) }
     ensures others { (v : ℕ) → v < 68 → (v ≡ pointer_for i → ⊥) → pointer_of node.new v ≡ pointer_of node.old v }
-    ensures past { kept ≤ 1024 * i → from + length piece.now ≤ 1024 * i → OnOk result (pointer_of node.new (pointer_for i) ≡ 0) }
-    ensures same { 1024 * i + 1024 ≤ kept → from + length piece.now ≤ 1024 * i → pointer_of node.new (pointer_for i) ≡ pointer_of node.old (pointer_for i) }
+    ensures past { kept ≤ 1024 * i
+        → from + length piece.now ≤ 1024 * i → OnOk result (pointer_of node.new (pointer_for i) ≡ 0) }
+    ensures same { 1024 * i + 1024 ≤ kept → from + length piece.now ≤ 1024 * i
+        → pointer_of node.new (pointer_for i) ≡ pointer_of node.old (pointer_for i) }
     ensures counted { (D.view (disk_of log.old)).faults ≤ (D.view (disk_of log.new)).faults }
-    ensures only { IfErr result (λ fault. IsTakeFault (D.tells → ⊥) fault (D.view (disk_of log.old)) (D.view (disk_of log.new))) }
+    ensures only { IfErr result
+        (λ fault. IsTakeFault (D.tells → ⊥) fault (D.view (disk_of log.old)) (D.view (disk_of log.new))) }
 {
     let at = 1_024 * i;
     let end = at + BLOCK as u32;
@@ -105,16 +118,21 @@ pub fn lay<D: Disk>(
     requires within { from + length piece.now ≤ 65536 }
     requires blocks { node.old.blocks ≡ (state_of log.old).superblock.blocks }
     requires named { D.tells → AreCounted (names node.old) (state_of log.old) (D.view (disk_of log.old)).image }
-    requires room { D.tells → blocks_written kept from (length piece.now) 64 + 1 ≤ free_blocks (state_of log.old) (D.view (disk_of log.old)).image }
+    requires room { D.tells → blocks_written kept from (length piece.now) 64 + 1
+        ≤ free_blocks (state_of log.old) (D.view (disk_of log.old)).image }
     ensures sound { IsSoundLog D.tells D.view log.new }
     ensures tx { tx.new ≡ tx.old }
     ensures puts { PutsPages are_counts (slot_of tx.old) (state_of log.old) (state_of log.new) }
     ensures facts { SameFacts node.old node.new }
-    ensures laid { D.tells → OnOk result (Laid kept from piece.now node.old (state_of log.old) (D.view (disk_of log.old)).image node.new (state_of log.new) (D.view (disk_of log.new)).image) }
-    ensures room { D.tells → OnOk result (free_blocks (state_of log.old) (D.view (disk_of log.old)).image ≤ free_blocks (state_of log.new) (D.view (disk_of log.new)).image + blocks_written kept from (length piece.now) 64) }
-    ensures wrote { D.tells → WroteLoose (names node.old) (state_of log.old) (D.view (disk_of log.old)) (D.view (disk_of log.new)) }
+    ensures laid { D.tells → OnOk result (Laid kept from piece.now node.old (state_of log.old)
+        (D.view (disk_of log.old)).image node.new (state_of log.new) (D.view (disk_of log.new)).image) }
+    ensures room { D.tells → OnOk result (free_blocks (state_of log.old) (D.view (disk_of log.old)).image ≤ free_blocks
+        (state_of log.new) (D.view (disk_of log.new)).image + blocks_written kept from (length piece.now) 64) }
+    ensures wrote { D.tells
+        → WroteLoose (names node.old) (state_of log.old) (D.view (disk_of log.old)) (D.view (disk_of log.new)) }
     ensures counted { (D.view (disk_of log.old)).faults ≤ (D.view (disk_of log.new)).faults }
-    ensures only { IfErr result (λ fault. IsTakeFault (D.tells → ⊥) fault (D.view (disk_of log.old)) (D.view (disk_of log.new))) }
+    ensures only { IfErr result
+        (λ fault. IsTakeFault (D.tells → ⊥) fault (D.view (disk_of log.old)) (D.view (disk_of log.new))) }
 {
     for i in 0..64 {
         lay_block(log, tx, node, i, kept, from, piece)?;
@@ -133,14 +151,19 @@ fn write_map<D: Disk>(log: &mut Log<D>, tx: &mut Tx, node: &mut Node) -> Result<
     ensures tx { tx.new ≡ tx.old }
     ensures puts { PutsPages are_counts (slot_of tx.old) (state_of log.old) (state_of log.new) }
     ensures facts { SameFacts node.old node.new }
-    ensures replaced { D.tells → OnOk result (Replaced 15 (λ k. get_or node.old.map k 0) node.old (state_of log.old) (D.view (disk_of log.old)).image node.new (state_of log.new) (D.view (disk_of log.new)).image) }
-    ensures room { D.tells → OnOk result (free_blocks (state_of log.old) (D.view (disk_of log.old)).image ≤ free_blocks (state_of log.new) (D.view (disk_of log.new)).image + 1) }
-    ensures wrote { D.tells → WroteLoose (names node.old) (state_of log.old) (D.view (disk_of log.old)) (D.view (disk_of log.new)) }
+    ensures replaced { D.tells → OnOk result (Replaced 15 (λ k. get_or node.old.map k 0) node.old (state_of log.old)
+        (D.view (disk_of log.old)).image node.new (state_of log.new) (D.view (disk_of log.new)).image) }
+    ensures room { D.tells → OnOk result (free_blocks (state_of log.old) (D.view (disk_of log.old)).image
+        ≤ free_blocks (state_of log.new) (D.view (disk_of log.new)).image + 1) }
+    ensures wrote { D.tells
+        → WroteLoose (names node.old) (state_of log.old) (D.view (disk_of log.old)) (D.view (disk_of log.new)) }
     ensures others { (v : ℕ) → v < 68 → (v ≡ 15 → ⊥) → pointer_of node.new v ≡ pointer_of node.old v }
-    ensures alone { D.tells → OnOk result (is_shared (state_of log.new) (D.view (disk_of log.new)).image node.new ≡ false) }
+    ensures alone { D.tells
+        → OnOk result (is_shared (state_of log.new) (D.view (disk_of log.new)).image node.new ≡ false) }
     ensures map { node.new.map ≡ node.old.map }
     ensures counted { (D.view (disk_of log.old)).faults ≤ (D.view (disk_of log.new)).faults }
-    ensures only { IfErr result (λ fault. IsTakeFault (D.tells → ⊥) fault (D.view (disk_of log.old)) (D.view (disk_of log.new))) }
+    ensures only { IfErr result
+        (λ fault. IsTakeFault (D.tells → ⊥) fault (D.view (disk_of log.old)) (D.view (disk_of log.new))) }
 {
     let map = node.map;
     if is_zero(&map) {
@@ -167,11 +190,15 @@ pub fn save<D: Disk>(
     ensures tx { tx.new ≡ tx.old }
     ensures puts { PutsPages (with_counts page) (slot_of tx.old) (state_of log.old) (state_of log.new) }
     ensures facts { SameFacts node.old node.new }
-    ensures saved { D.tells → OnOk result (Saved page node.old (state_of log.old) (D.view (disk_of log.old)).image node.new (state_of log.new) (D.view (disk_of log.new)).image) }
-    ensures room { D.tells → OnOk result (free_blocks (state_of log.old) (D.view (disk_of log.old)).image ≤ free_blocks (state_of log.new) (D.view (disk_of log.new)).image + 1) }
-    ensures wrote { D.tells → WroteLoose (names node.old) (state_of log.old) (D.view (disk_of log.old)) (D.view (disk_of log.new)) }
+    ensures saved { D.tells → OnOk result (Saved page node.old (state_of log.old)
+        (D.view (disk_of log.old)).image node.new (state_of log.new) (D.view (disk_of log.new)).image) }
+    ensures room { D.tells → OnOk result (free_blocks (state_of log.old) (D.view (disk_of log.old)).image
+        ≤ free_blocks (state_of log.new) (D.view (disk_of log.new)).image + 1) }
+    ensures wrote { D.tells
+        → WroteLoose (names node.old) (state_of log.old) (D.view (disk_of log.old)) (D.view (disk_of log.new)) }
     ensures counted { (D.view (disk_of log.old)).faults ≤ (D.view (disk_of log.new)).faults }
-    ensures only { IfErr result (λ fault. IsTakeFault (D.tells → ⊥) fault (D.view (disk_of log.old)) (D.view (disk_of log.new))) }
+    ensures only { IfErr result
+        (λ fault. IsTakeFault (D.tells → ⊥) fault (D.view (disk_of log.old)) (D.view (disk_of log.new))) }
 {
     write_map(log, tx, node)?;
     log.put(tx, page, &node.page)?;
@@ -194,15 +221,21 @@ pub fn write_node<D: Disk>(
     requires some { 0 < length piece.now }
     requires blocks { node.old.blocks ≡ (state_of log.old).superblock.blocks }
     requires named { D.tells → AreCounted (names node.old) (state_of log.old) (D.view (disk_of log.old)).image }
-    requires room { D.tells → (from + length piece.now + 1023) / 1024 - from / 1024 + 2 ≤ free_blocks (state_of log.old) (D.view (disk_of log.old)).image }
+    requires room { D.tells → (from + length piece.now + 1023) / 1024 - from / 1024 + 2
+        ≤ free_blocks (state_of log.old) (D.view (disk_of log.old)).image }
     ensures sound { IsSoundLog D.tells D.view log.new }
     ensures tx { tx.new ≡ tx.old }
     ensures puts { PutsPages (with_counts page) (slot_of tx.old) (state_of log.old) (state_of log.new) }
-    ensures turned { D.tells → OnOk result (Turned page (written from piece.now) node.old (state_of log.old) (D.view (disk_of log.old)).image (state_of log.new) (D.view (disk_of log.new)).image) }
-    ensures room { D.tells → OnOk result (free_blocks (state_of log.old) (D.view (disk_of log.old)).image ≤ free_blocks (state_of log.new) (D.view (disk_of log.new)).image + ((from + length piece.now + 1023) / 1024 - from / 1024 + 2)) }
-    ensures wrote { D.tells → WroteLoose (names node.old) (state_of log.old) (D.view (disk_of log.old)) (D.view (disk_of log.new)) }
+    ensures turned { D.tells → OnOk result (Turned page (written from piece.now) node.old
+        (state_of log.old) (D.view (disk_of log.old)).image (state_of log.new) (D.view (disk_of log.new)).image) }
+    ensures room { D.tells
+        → OnOk result (free_blocks (state_of log.old) (D.view (disk_of log.old)).image ≤ free_blocks (state_of log.new)
+        (D.view (disk_of log.new)).image + ((from + length piece.now + 1023) / 1024 - from / 1024 + 2)) }
+    ensures wrote { D.tells
+        → WroteLoose (names node.old) (state_of log.old) (D.view (disk_of log.old)) (D.view (disk_of log.new)) }
     ensures counted { (D.view (disk_of log.old)).faults ≤ (D.view (disk_of log.new)).faults }
-    ensures only { IfErr result (λ fault. IsTakeFault (D.tells → ⊥) fault (D.view (disk_of log.old)) (D.view (disk_of log.new))) }
+    ensures only { IfErr result
+        (λ fault. IsTakeFault (D.tells → ⊥) fault (D.view (disk_of log.old)) (D.view (disk_of log.new))) }
 {
     let end = from + piece.len() as u32;
     let bytes = node.bytes();
@@ -229,11 +262,15 @@ pub fn cut_node<D: Disk>(
     ensures sound { IsSoundLog D.tells D.view log.new }
     ensures tx { tx.new ≡ tx.old }
     ensures puts { PutsPages (with_counts page) (slot_of tx.old) (state_of log.old) (state_of log.new) }
-    ensures turned { D.tells → OnOk result (Turned page (with_length length) node.old (state_of log.old) (D.view (disk_of log.old)).image (state_of log.new) (D.view (disk_of log.new)).image) }
-    ensures room { D.tells → OnOk result (free_blocks (state_of log.old) (D.view (disk_of log.old)).image ≤ free_blocks (state_of log.new) (D.view (disk_of log.new)).image + 2) }
-    ensures wrote { D.tells → WroteLoose (names node.old) (state_of log.old) (D.view (disk_of log.old)) (D.view (disk_of log.new)) }
+    ensures turned { D.tells → OnOk result (Turned page (with_length length) node.old
+        (state_of log.old) (D.view (disk_of log.old)).image (state_of log.new) (D.view (disk_of log.new)).image) }
+    ensures room { D.tells → OnOk result (free_blocks (state_of log.old) (D.view (disk_of log.old)).image
+        ≤ free_blocks (state_of log.new) (D.view (disk_of log.new)).image + 2) }
+    ensures wrote { D.tells
+        → WroteLoose (names node.old) (state_of log.old) (D.view (disk_of log.old)) (D.view (disk_of log.new)) }
     ensures counted { (D.view (disk_of log.old)).faults ≤ (D.view (disk_of log.new)).faults }
-    ensures only { IfErr result (λ fault. IsTakeFault (D.tells → ⊥) fault (D.view (disk_of log.old)) (D.view (disk_of log.new))) }
+    ensures only { IfErr result
+        (λ fault. IsTakeFault (D.tells → ⊥) fault (D.view (disk_of log.old)) (D.view (disk_of log.new))) }
 {
     let kept = node.bytes_for(length).min(node.bytes());
     lay(log, tx, node, kept, 0, &[])?;
@@ -256,15 +293,21 @@ pub fn end_node<D: Disk>(
     requires within { from + length piece.now ≤ 65536 }
     requires blocks { node.old.blocks ≡ (state_of log.old).superblock.blocks }
     requires named { D.tells → AreCounted (names node.old) (state_of log.old) (D.view (disk_of log.old)).image }
-    requires room { D.tells → (from + length piece.now + 1023) / 1024 - from / 1024 + 2 ≤ free_blocks (state_of log.old) (D.view (disk_of log.old)).image }
+    requires room { D.tells → (from + length piece.now + 1023) / 1024 - from / 1024 + 2
+        ≤ free_blocks (state_of log.old) (D.view (disk_of log.old)).image }
     ensures sound { IsSoundLog D.tells D.view log.new }
     ensures tx { tx.new ≡ tx.old }
     ensures puts { PutsPages (with_counts page) (slot_of tx.old) (state_of log.old) (state_of log.new) }
-    ensures turned { D.tells → OnOk result (Turned page (ended from piece.now) node.old (state_of log.old) (D.view (disk_of log.old)).image (state_of log.new) (D.view (disk_of log.new)).image) }
-    ensures room { D.tells → OnOk result (free_blocks (state_of log.old) (D.view (disk_of log.old)).image ≤ free_blocks (state_of log.new) (D.view (disk_of log.new)).image + ((from + length piece.now + 1023) / 1024 - from / 1024 + 2)) }
-    ensures wrote { D.tells → WroteLoose (names node.old) (state_of log.old) (D.view (disk_of log.old)) (D.view (disk_of log.new)) }
+    ensures turned { D.tells → OnOk result (Turned page (ended from piece.now) node.old
+        (state_of log.old) (D.view (disk_of log.old)).image (state_of log.new) (D.view (disk_of log.new)).image) }
+    ensures room { D.tells
+        → OnOk result (free_blocks (state_of log.old) (D.view (disk_of log.old)).image ≤ free_blocks (state_of log.new)
+        (D.view (disk_of log.new)).image + ((from + length piece.now + 1023) / 1024 - from / 1024 + 2)) }
+    ensures wrote { D.tells
+        → WroteLoose (names node.old) (state_of log.old) (D.view (disk_of log.old)) (D.view (disk_of log.new)) }
     ensures counted { (D.view (disk_of log.old)).faults ≤ (D.view (disk_of log.new)).faults }
-    ensures only { IfErr result (λ fault. IsTakeFault (D.tells → ⊥) fault (D.view (disk_of log.old)) (D.view (disk_of log.new))) }
+    ensures only { IfErr result
+        (λ fault. IsTakeFault (D.tells → ⊥) fault (D.view (disk_of log.old)) (D.view (disk_of log.new))) }
 {
     let kept = node.bytes().min(from);
     lay(log, tx, node, kept, from, piece)?;
@@ -292,11 +335,15 @@ pub fn list_node<D: Disk>(
     ensures sound { IsSoundLog D.tells D.view log.new }
     ensures tx { tx.new ≡ tx.old }
     ensures puts { PutsPages (with_counts page) (slot_of tx.old) (state_of log.old) (state_of log.new) }
-    ensures turned { D.tells → OnOk result (Turned page (with_list which bytes.now) node.old (state_of log.old) (D.view (disk_of log.old)).image (state_of log.new) (D.view (disk_of log.new)).image) }
-    ensures room { D.tells → OnOk result (free_blocks (state_of log.old) (D.view (disk_of log.old)).image ≤ free_blocks (state_of log.new) (D.view (disk_of log.new)).image + 2) }
-    ensures wrote { D.tells → WroteLoose (names node.old) (state_of log.old) (D.view (disk_of log.old)) (D.view (disk_of log.new)) }
+    ensures turned { D.tells → OnOk result (Turned page (with_list which bytes.now) node.old
+        (state_of log.old) (D.view (disk_of log.old)).image (state_of log.new) (D.view (disk_of log.new)).image) }
+    ensures room { D.tells → OnOk result (free_blocks (state_of log.old) (D.view (disk_of log.old)).image
+        ≤ free_blocks (state_of log.new) (D.view (disk_of log.new)).image + 2) }
+    ensures wrote { D.tells
+        → WroteLoose (names node.old) (state_of log.old) (D.view (disk_of log.old)) (D.view (disk_of log.new)) }
     ensures counted { (D.view (disk_of log.old)).faults ≤ (D.view (disk_of log.new)).faults }
-    ensures only { IfErr result (λ fault. IsTakeFault (D.tells → ⊥) fault (D.view (disk_of log.old)) (D.view (disk_of log.new))) }
+    ensures only { IfErr result
+        (λ fault. IsTakeFault (D.tells → ⊥) fault (D.view (disk_of log.old)) (D.view (disk_of log.new))) }
 {
     replace(log, tx, node, which, bytes)?;
     save(log, tx, page, node)

@@ -1,5 +1,32 @@
 -- The entries of a directory, and the bytes in which it keeps them.
-use Rattle.std.specs.Prelude.{◌≡◌, ◌≤◌, ◌<◌, ◌^◌, ◌-◌, ℕ, zero, suc, true, false, not, IsTrue, ⊤, Option, Some, None, List, [], ◌∷◌, ◌++◌, length, take, drop, filter, insert, replicate}
+use Rattle.std.specs.Prelude.{
+  ◌≡◌,
+  ◌≤◌,
+  ◌<◌,
+  ◌^◌,
+  ◌-◌,
+  ℕ,
+  zero,
+  suc,
+  true,
+  false,
+  not,
+  IsTrue,
+  ⊤,
+  Option,
+  Some,
+  None,
+  List,
+  [],
+  ◌∷◌,
+  ◌++◌,
+  length,
+  take,
+  drop,
+  filter,
+  insert,
+  replicate,
+}
 use Rattle.std.proofs.Common.{get_or}
 use Rattle.std.specs.Int.{w32, to_be_bytes}
 use Rattle.std.specs.Option.{option_map}
@@ -73,7 +100,8 @@ name_in (entry ∷ entries) (suc i) = name_in entries i
 abbrev pub IsNamedAt : List DirEntry → List ℕ → Option ℕ → Type 0
 IsNamedAt entries name None = (entry_named entries name ≡ None) × (without name entries ≡ entries)
 IsNamedAt entries name (Some i) =
-    (entry : DirEntry) × (rest : List DirEntry) × (drop i entries ≡ entry ∷ rest) × (entry_named entries name ≡ Some entry)
+    (entry : DirEntry) × (rest : List DirEntry)
+    × (drop i entries ≡ entry ∷ rest) × (entry_named entries name ≡ Some entry)
     × (without name entries ≡ take i entries ++ rest)
 
 -- a name goes to a place: it comes before the entries from there on, and before none of the others

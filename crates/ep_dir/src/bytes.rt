@@ -1,5 +1,23 @@
 // The bytes of entries.
-ghost use Rattle.std.specs.Prelude.{◌≡◌, ◌≤◌, ◌<◌, ◌+◌, ◌-◌, ◌*◌, ◌∷◌, ◌++◌, ℕ, List, IfOk, IfSome, length, take, drop, true, false};
+ghost use Rattle.std.specs.Prelude.{
+  ◌≡◌,
+  ◌≤◌,
+  ◌<◌,
+  ◌+◌,
+  ◌-◌,
+  ◌*◌,
+  ◌∷◌,
+  ◌++◌,
+  ℕ,
+  List,
+  IfOk,
+  IfSome,
+  length,
+  take,
+  drop,
+  true,
+  false,
+};
 ghost use Rattle.std.specs.Int.{w32, from_be_bytes};
 ghost use Rattle.dfs_calls.specs.declared.part.DirEntry.{DirEntry as Entry};
 ghost use Rattle.ep_dir.specs.Entries.{entry_bytes, numbers_of, name_in, AreEntries, IsNamedAt, IsPlace};
@@ -30,7 +48,8 @@ pub fn entry_before(
     unique: u32,
     rest: &[u8],
 ) -> Result<Vec<u8>, AllocError>
-    ensures { IfOk result (λ bytes. bytes.items ≡ entry_bytes (record { name = name.now; anode = anode; unique = unique }) ++ rest.now) }
+    ensures { IfOk result
+        (λ bytes. bytes.items ≡ entry_bytes (record { name = name.now; anode = anode; unique = unique }) ++ rest.now) }
 {
     let name = name.as_bytes();
     let zeros: &[u8] = &[0; 63];
@@ -47,7 +66,8 @@ pub fn entry_before(
 // The name of entry i.
 fn name_at(bytes: &[u8], i: usize) -> &[u8]
     requires { 72 * i + 72 ≤ length bytes.now }
-    ensures { (entries : List Entry) (entry : Entry) (rest : List Entry) → AreEntries entries bytes.now → drop i entries ≡ entry ∷ rest → result.now ≡ entry.name }
+    ensures { (entries : List Entry) (entry : Entry) (rest : List Entry)
+        → AreEntries entries bytes.now → drop i entries ≡ entry ∷ rest → result.now ≡ entry.name }
 {
     let at = ENTRY * i;
     let size = (bytes[at] as usize).min(NAME_MAX);
@@ -67,7 +87,8 @@ fn number_at(bytes: &[u8], at: usize) -> u32
 // The numbers of entry i: its anode, and the unique number.
 fn numbers_at(bytes: &[u8], i: usize) -> (u32, u32)
     requires { 72 * i + 72 ≤ length bytes.now }
-    ensures { (entries : List Entry) (entry : Entry) (rest : List Entry) → AreEntries entries bytes.now → drop i entries ≡ entry ∷ rest → result ≡ (entry.anode, entry.unique) }
+    ensures { (entries : List Entry) (entry : Entry) (rest : List Entry)
+        → AreEntries entries bytes.now → drop i entries ≡ entry ∷ rest → result ≡ (entry.anode, entry.unique) }
 {
     let at = ENTRY * i;
     (
@@ -79,7 +100,8 @@ fn numbers_at(bytes: &[u8], i: usize) -> (u32, u32)
 // Entry i. It lacks memory also where the bytes are no name.
 fn entry_at(alloc: Global, bytes: &[u8], i: usize) -> Result<DirEntry, NoMemory>
     requires { 72 * i + 72 ≤ length bytes.now }
-    ensures { (entries : List Entry) (entry : Entry) (rest : List Entry) → AreEntries entries bytes.now → drop i entries ≡ entry ∷ rest → IfOk result (λ made. made ≡ entry) }
+    ensures { (entries : List Entry) (entry : Entry) (rest : List Entry)
+        → AreEntries entries bytes.now → drop i entries ≡ entry ∷ rest → IfOk result (λ made. made ≡ entry) }
 {
     let (anode, unique) = numbers_at(bytes, i);
     match Name::new(alloc, name_at(bytes, i)) {

@@ -31,8 +31,10 @@ fn read_entries<D: Disk>(
     ensures sound { IsSoundLog D.tells D.view log.new }
     ensures state { state_of log.new ≡ state_of log.old }
     ensures few { IfOk result (λ count. count ≤ 64) }
-    ensures count { D.tells → (entries : List Entry) → IsDirectory entries (anode_in (state_of log.old) (D.view (disk_of log.old)).image page) → IfOk result (λ count. count ≡ length entries) }
-    ensures entries { D.tells → (entries : List Entry) → IsDirectory entries (anode_in (state_of log.old) (D.view (disk_of log.old)).image page) → IfOk result (λ count. AreEntries entries (take (72 * count) out.new)) }
+    ensures count { D.tells → (entries : List Entry) → IsDirectory entries (anode_in
+        (state_of log.old) (D.view (disk_of log.old)).image page) → IfOk result (λ count. count ≡ length entries) }
+    ensures entries { D.tells → (entries : List Entry) → IsDirectory entries (anode_in (state_of log.old)
+        (D.view (disk_of log.old)).image page) → IfOk result (λ count. AreEntries entries (take (72 * count) out.new)) }
     ensures quiet { IsQuiet (D.view (disk_of log.old)) (D.view (disk_of log.new)) }
     ensures counted { (D.view (disk_of log.old)).faults ≤ (D.view (disk_of log.new)).faults }
     ensures only { IfErr result (λ fault. IsNodeFault fault (D.view (disk_of log.old)) (D.view (disk_of log.new))) }
@@ -47,9 +49,9 @@ fn read_entries<D: Disk>(
     Ok(count)
 }
 
-/// The numbers of the entry of a name in a directory, its anode and the unique number, where there is one. `page` is the
-/// directory's metadata page. It reads each block of the directory once, at most five. The errors are `Failed` and `Memory`,
-/// the second only over a page that holds no directory.
+/// The numbers of the entry of a name in a directory, its anode and the unique number, where there is one. `page` is
+/// the directory's metadata page. It reads each block of the directory once, at most five. The errors are `Failed` and
+/// `Memory`, the second only over a page that holds no directory.
 pub fn find<D: Disk>(
     log: &mut Log<D>,
     page: u32,
@@ -59,7 +61,8 @@ pub fn find<D: Disk>(
     requires page { page < 1058 }
     ensures sound { IsSoundLog D.tells D.view log.new }
     ensures state { state_of log.new ≡ state_of log.old }
-    ensures found { D.tells → (entries : List Entry) → IsDirectory entries (anode_in (state_of log.old) (D.view (disk_of log.old)).image page) → IfOk result (λ found. found ≡ numbers_of entries name.now) }
+    ensures found { D.tells → (entries : List Entry) → IsDirectory entries (anode_in (state_of log.old)
+        (D.view (disk_of log.old)).image page) → IfOk result (λ found. found ≡ numbers_of entries name.now) }
     ensures quiet { IsQuiet (D.view (disk_of log.old)) (D.view (disk_of log.new)) }
     ensures counted { (D.view (disk_of log.old)).faults ≤ (D.view (disk_of log.new)).faults }
     ensures only { IfErr result (λ fault. IsNodeFault fault (D.view (disk_of log.old)) (D.view (disk_of log.new))) }
@@ -69,7 +72,8 @@ pub fn find<D: Disk>(
     Ok(numbers_named(&bytes[..ENTRY * count], name.as_bytes()))
 }
 
-/// The entries of a directory, in the order of their names. `page` is its metadata page. The errors are `Failed` and `Memory`.
+/// The entries of a directory, in the order of their names. `page` is its metadata page. The errors are `Failed` and
+/// `Memory`.
 pub fn list<D: Disk>(
     alloc: Global,
     log: &mut Log<D>,
@@ -79,7 +83,8 @@ pub fn list<D: Disk>(
     requires page { page < 1058 }
     ensures sound { IsSoundLog D.tells D.view log.new }
     ensures state { state_of log.new ≡ state_of log.old }
-    ensures entries { D.tells → (entries : List Entry) → IsDirectory entries (anode_in (state_of log.old) (D.view (disk_of log.old)).image page) → IfOk result (λ listed. listed ≡ entries) }
+    ensures entries { D.tells → (entries : List Entry) → IsDirectory entries
+        (anode_in (state_of log.old) (D.view (disk_of log.old)).image page) → IfOk result (λ listed. listed ≡ entries) }
     ensures quiet { IsQuiet (D.view (disk_of log.old)) (D.view (disk_of log.new)) }
     ensures counted { (D.view (disk_of log.old)).faults ≤ (D.view (disk_of log.new)).faults }
     ensures only { IfErr result (λ fault. IsNodeFault fault (D.view (disk_of log.old)) (D.view (disk_of log.new))) }
@@ -109,18 +114,28 @@ pub fn add<D: Disk>(
     requires sound { IsSoundLog D.tells D.view log.old }
     requires may { MayPutAll (with_counts page) (state_of log.old) (slot_of tx.old) }
     requires page { page < 1058 }
-    requires named { D.tells → AreCounted (names (node_in (state_of log.old) (D.view (disk_of log.old)).image page)) (state_of log.old) (D.view (disk_of log.old)).image }
-    requires few { D.tells → AreFew (names (node_in (state_of log.old) (D.view (disk_of log.old)).image page)) (state_of log.old) (D.view (disk_of log.old)).image }
+    requires named { D.tells → AreCounted (names (node_in (state_of log.old) (D.view (disk_of log.old)).image page))
+        (state_of log.old) (D.view (disk_of log.old)).image }
+    requires few { D.tells → AreFew (names (node_in (state_of log.old) (D.view (disk_of log.old)).image page))
+        (state_of log.old) (D.view (disk_of log.old)).image }
     requires room { D.tells → 7 ≤ free_blocks (state_of log.old) (D.view (disk_of log.old)).image }
     ensures sound { IsSoundLog D.tells D.view log.new }
     ensures tx { tx.new ≡ tx.old }
     ensures puts { PutsPages (with_counts page) (slot_of tx.old) (state_of log.old) (state_of log.new) }
-    ensures changed { D.tells → (entries : List Entry) → IsDirectory entries (anode_in (state_of log.old) (D.view (disk_of log.old)).image page) → entry_named entries name.now ≡ None → length entries < 64
-        → OnOk result (Changed page (with_entries (entered (record { name = name.now; anode = anode; unique = unique }) entries)) (state_of log.old) (D.view (disk_of log.old)).image (state_of log.new) (D.view (disk_of log.new)).image) }
-    ensures directory { D.tells → (entries : List Entry) → IsDirectory entries (anode_in (state_of log.old) (D.view (disk_of log.old)).image page) → entry_named entries name.now ≡ None → length entries < 64
-        → OnOk result (IsDirectory (entered (record { name = name.now; anode = anode; unique = unique }) entries) (anode_in (state_of log.new) (D.view (disk_of log.new)).image page)) }
-    ensures room { D.tells → OnOk result (free_blocks (state_of log.old) (D.view (disk_of log.old)).image ≤ free_blocks (state_of log.new) (D.view (disk_of log.new)).image + 7) }
-    ensures wrote { D.tells → WroteLoose (own_names (state_of log.old) (D.view (disk_of log.old)).image (node_in (state_of log.old) (D.view (disk_of log.old)).image page)) (state_of log.old) (D.view (disk_of log.old)) (D.view (disk_of log.new)) }
+    ensures changed { D.tells → (entries : List Entry) → IsDirectory entries (anode_in (state_of log.old)
+        (D.view (disk_of log.old)).image page) → entry_named entries name.now ≡ None → length entries < 64
+        → OnOk result
+        (Changed page (with_entries (entered (record { name = name.now; anode = anode; unique = unique }) entries))
+        (state_of log.old) (D.view (disk_of log.old)).image (state_of log.new) (D.view (disk_of log.new)).image) }
+    ensures directory { D.tells → (entries : List Entry) → IsDirectory entries (anode_in (state_of log.old)
+        (D.view (disk_of log.old)).image page) → entry_named entries name.now ≡ None → length entries < 64
+        → OnOk result (IsDirectory (entered (record { name = name.now; anode = anode; unique = unique }) entries)
+        (anode_in (state_of log.new) (D.view (disk_of log.new)).image page)) }
+    ensures room { D.tells → OnOk result (free_blocks (state_of log.old) (D.view (disk_of log.old)).image
+        ≤ free_blocks (state_of log.new) (D.view (disk_of log.new)).image + 7) }
+    ensures wrote { D.tells → WroteLoose (own_names (state_of log.old)
+        (D.view (disk_of log.old)).image (node_in (state_of log.old) (D.view (disk_of log.old)).image page))
+        (state_of log.old) (D.view (disk_of log.old)) (D.view (disk_of log.new)) }
     ensures counted { (D.view (disk_of log.old)).faults ≤ (D.view (disk_of log.new)).faults }
     ensures only { IfErr result (λ fault. IsNodeFault fault (D.view (disk_of log.old)) (D.view (disk_of log.new))) }
 {
@@ -151,18 +166,27 @@ pub fn drop_name<D: Disk>(
     requires sound { IsSoundLog D.tells D.view log.old }
     requires may { MayPutAll (with_counts page) (state_of log.old) (slot_of tx.old) }
     requires page { page < 1058 }
-    requires named { D.tells → AreCounted (names (node_in (state_of log.old) (D.view (disk_of log.old)).image page)) (state_of log.old) (D.view (disk_of log.old)).image }
-    requires few { D.tells → AreFew (names (node_in (state_of log.old) (D.view (disk_of log.old)).image page)) (state_of log.old) (D.view (disk_of log.old)).image }
+    requires named { D.tells → AreCounted (names (node_in (state_of log.old) (D.view (disk_of log.old)).image page))
+        (state_of log.old) (D.view (disk_of log.old)).image }
+    requires few { D.tells → AreFew (names (node_in (state_of log.old) (D.view (disk_of log.old)).image page))
+        (state_of log.old) (D.view (disk_of log.old)).image }
     requires room { D.tells → 7 ≤ free_blocks (state_of log.old) (D.view (disk_of log.old)).image }
     ensures sound { IsSoundLog D.tells D.view log.new }
     ensures tx { tx.new ≡ tx.old }
     ensures puts { PutsPages (with_counts page) (slot_of tx.old) (state_of log.old) (state_of log.new) }
-    ensures changed { D.tells → (entries : List Entry) → IsDirectory entries (anode_in (state_of log.old) (D.view (disk_of log.old)).image page)
-        → OnOk result (Changed page (with_entries (without name.now entries)) (state_of log.old) (D.view (disk_of log.old)).image (state_of log.new) (D.view (disk_of log.new)).image) }
-    ensures directory { D.tells → (entries : List Entry) → IsDirectory entries (anode_in (state_of log.old) (D.view (disk_of log.old)).image page)
-        → OnOk result (IsDirectory (without name.now entries) (anode_in (state_of log.new) (D.view (disk_of log.new)).image page)) }
-    ensures room { D.tells → OnOk result (free_blocks (state_of log.old) (D.view (disk_of log.old)).image ≤ free_blocks (state_of log.new) (D.view (disk_of log.new)).image + 7) }
-    ensures wrote { D.tells → WroteLoose (own_names (state_of log.old) (D.view (disk_of log.old)).image (node_in (state_of log.old) (D.view (disk_of log.old)).image page)) (state_of log.old) (D.view (disk_of log.old)) (D.view (disk_of log.new)) }
+    ensures changed { D.tells → (entries : List Entry)
+        → IsDirectory entries (anode_in (state_of log.old) (D.view (disk_of log.old)).image page)
+        → OnOk result (Changed page (with_entries (without name.now entries))
+        (state_of log.old) (D.view (disk_of log.old)).image (state_of log.new) (D.view (disk_of log.new)).image) }
+    ensures directory { D.tells → (entries : List Entry)
+        → IsDirectory entries (anode_in (state_of log.old) (D.view (disk_of log.old)).image page)
+        → OnOk result
+        (IsDirectory (without name.now entries) (anode_in (state_of log.new) (D.view (disk_of log.new)).image page)) }
+    ensures room { D.tells → OnOk result (free_blocks (state_of log.old) (D.view (disk_of log.old)).image
+        ≤ free_blocks (state_of log.new) (D.view (disk_of log.new)).image + 7) }
+    ensures wrote { D.tells → WroteLoose (own_names (state_of log.old)
+        (D.view (disk_of log.old)).image (node_in (state_of log.old) (D.view (disk_of log.old)).image page))
+        (state_of log.old) (D.view (disk_of log.old)) (D.view (disk_of log.new)) }
     ensures counted { (D.view (disk_of log.old)).faults ≤ (D.view (disk_of log.new)).faults }
     ensures only { IfErr result (λ fault. IsNodeFault fault (D.view (disk_of log.old)) (D.view (disk_of log.new))) }
 {

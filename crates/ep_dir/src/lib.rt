@@ -1,4 +1,5 @@
-//! Directories: anodes whose bytes are entries of 72 bytes in the order of their names, each with the anode that it leads to.
+//! Directories: anodes whose bytes are entries of 72 bytes in the order of their names, each with the anode that it
+//! leads to.
 #![tactic(auto)]
 
 mod bytes;

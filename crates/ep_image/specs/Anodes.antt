@@ -1,5 +1,24 @@
 -- Whether all is well with an anode and the blocks that it names.
-use Rattle.std.specs.Prelude.{ℕ, zero, suc, ◌+◌, ◌*◌, ◌/◌, ◌==◌, ◌&&◌, ◌||◌, not, nat_lt, Bool, List, [], ◌∷◌, ◌++◌, is_some, if◌then◌else◌}
+use Rattle.std.specs.Prelude.{
+  ℕ,
+  zero,
+  suc,
+  ◌+◌,
+  ◌*◌,
+  ◌/◌,
+  ◌==◌,
+  ◌&&◌,
+  ◌||◌,
+  not,
+  nat_lt,
+  Bool,
+  List,
+  [],
+  ◌∷◌,
+  ◌++◌,
+  is_some,
+  if◌then◌else◌,
+}
 use Rattle.dfs_base.specs.Image.{byte_at}
 use Rattle.ep_layout.specs.Places.{page_start}
 use Rattle.ep_anode.specs.Node.{pointer_of, pointer_at}
@@ -8,7 +27,16 @@ use Rattle.ep_pages.specs.Anode.{is_object, is_free_page, is_object_page, unique
 use Rattle.ep_pages.specs.Blocks.{is_map, is_entry_block, entry_anode, entry_unique}
 use Rattle.ep_image.specs.Lists.{list_in}
 use Rattle.ep_image.specs.Joined.{joined, listed}
-use Rattle.ep_image.specs.Aggregate.{Aggregate, header_page, anode_page, anode_number, node_at, block_under, block_place, names_block}
+use Rattle.ep_image.specs.Aggregate.{
+  Aggregate,
+  header_page,
+  anode_page,
+  anode_number,
+  node_at,
+  block_under,
+  block_place,
+  names_block,
+}
 use Rattle.ep_image.specs.Slots.{state_at, is_slot_free, usable, has_root}
 use Rattle.ep_image.specs.declared.fault.Fault.{Fault}
 use Rattle.ep_image.specs.declared.fault.Rule.{Rule}

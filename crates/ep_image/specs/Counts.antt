@@ -1,6 +1,27 @@
 -- Whether each count of a block is the number of pointers to it, and whether the promises are kept within the
 -- capacity.
-use Rattle.std.specs.Prelude.{ℕ, ◌+◌, ◌-◌, ◌*◌, ◌/◌, ◌==◌, ◌&&◌, ◌||◌, not, nat_le, nat_lt, Bool, true, false, List, [], ◌∷◌, ◌++◌, count_by, if◌then◌else◌}
+use Rattle.std.specs.Prelude.{
+  ℕ,
+  ◌+◌,
+  ◌-◌,
+  ◌*◌,
+  ◌/◌,
+  ◌==◌,
+  ◌&&◌,
+  ◌||◌,
+  not,
+  nat_le,
+  nat_lt,
+  Bool,
+  true,
+  false,
+  List,
+  [],
+  ◌∷◌,
+  ◌++◌,
+  count_by,
+  if◌then◌else◌,
+}
 use Rattle.std.specs.List.{list_any}
 use Rattle.dfs_base.specs.Image.{byte_at}
 use Rattle.dfs_filesets.specs.Promises.{new_promise}
@@ -11,7 +32,15 @@ use Rattle.ep_pages.specs.Words.{each_below}
 use Rattle.ep_pages.specs.Anode.{is_object, bytes_in}
 use Rattle.ep_pages.specs.Header.{is_limit}
 use Rattle.ep_pages.specs.declared.header.SlotState.{SlotState}
-use Rattle.ep_pages.specs.declared.header.SlotState.TheVariants.{Free, Writable, Clone, Leaving, Arriving, Gone, Unknown}
+use Rattle.ep_pages.specs.declared.header.SlotState.TheVariants.{
+  Free,
+  Writable,
+  Clone,
+  Leaving,
+  Arriving,
+  Gone,
+  Unknown,
+}
 use Rattle.ep_image.specs.Joined.{joined, listed, total, some_below}
 use Rattle.ep_image.specs.Aggregate.{Aggregate, page_of, header_page, anode_page, node_at, names_block}
 use Rattle.ep_image.specs.Slots.{state_at}

@@ -7,7 +7,15 @@ use Rattle.ep_layout.specs.declared.superblock.Superblock.{Superblock}
 use Rattle.ep_pages.specs.Numbers.{is_numbers_page}
 use Rattle.ep_pages.specs.Server.{is_server_page}
 use Rattle.ep_image.specs.Joined.{joined}
-use Rattle.ep_image.specs.Aggregate.{Aggregate, aggregate_of, is_blank, superblock_of, page_of, server_page, header_number}
+use Rattle.ep_image.specs.Aggregate.{
+  Aggregate,
+  aggregate_of,
+  is_blank,
+  superblock_of,
+  page_of,
+  server_page,
+  header_number,
+}
 use Rattle.ep_image.specs.Slots.{is_slot_header, is_slot_numbers}
 use Rattle.ep_image.specs.Anodes.{unless, anode_faults}
 use Rattle.ep_image.specs.Reach.{reach_faults}

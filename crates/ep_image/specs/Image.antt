@@ -1,5 +1,24 @@
 -- What a disk without faults holds: the image of its aggregate.
-use Rattle.std.specs.Prelude.{ℕ, ◌+◌, ◌*◌, ◌==◌, ◌||◌, not, Bool, true, false, List, [], ◌∷◌, length, Option, Some, None, unwrap_or, if◌then◌else◌}
+use Rattle.std.specs.Prelude.{
+  ℕ,
+  ◌+◌,
+  ◌*◌,
+  ◌==◌,
+  ◌||◌,
+  not,
+  Bool,
+  true,
+  false,
+  List,
+  [],
+  ◌∷◌,
+  length,
+  Option,
+  Some,
+  None,
+  unwrap_or,
+  if◌then◌else◌,
+}
 use Rattle.dfs_base.specs.Image.{byte_at}
 use Rattle.dfs_base.specs.declared.access.AccessEntry.{AccessEntry}
 use Rattle.dfs_calls.specs.declared.part.DirEntry.{DirEntry}
@@ -27,7 +46,19 @@ use Rattle.ep_pages.specs.declared.header.SlotState.TheVariants.{Clone}
 use Rattle.ep_pages.specs.declared.server.ServerFacts.{ServerFacts}
 use Rattle.ep_image.specs.Lists.{list_in}
 use Rattle.ep_image.specs.Joined.{joined, listed}
-use Rattle.ep_image.specs.Aggregate.{Aggregate, aggregate_of, is_blank, superblock_of, server_page, page_of, header_page, numbers_page, anode_page, node_at, block_under}
+use Rattle.ep_image.specs.Aggregate.{
+  Aggregate,
+  aggregate_of,
+  is_blank,
+  superblock_of,
+  server_page,
+  page_of,
+  header_page,
+  numbers_page,
+  anode_page,
+  node_at,
+  block_under,
+}
 use Rattle.ep_image.specs.Slots.{state_at}
 use Rattle.ep_image.specs.Anodes.{entries_in, entry_bytes}
 use Rattle.ep_image.specs.Counts.{promises, capacity_of}

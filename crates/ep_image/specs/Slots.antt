@@ -7,7 +7,15 @@ use Rattle.ep_pages.specs.Words.{each_below, are_zero, name_at}
 use Rattle.ep_pages.specs.Numbers.{is_numbers_page}
 use Rattle.ep_pages.specs.Header.{state_of, is_taken_slot, is_leaving, is_limit, is_header, id_of}
 use Rattle.ep_pages.specs.declared.header.SlotState.{SlotState}
-use Rattle.ep_pages.specs.declared.header.SlotState.TheVariants.{Free, Writable, Clone, Leaving, Arriving, Gone, Unknown}
+use Rattle.ep_pages.specs.declared.header.SlotState.TheVariants.{
+  Free,
+  Writable,
+  Clone,
+  Leaving,
+  Arriving,
+  Gone,
+  Unknown,
+}
 use Rattle.ep_image.specs.Aggregate.{Aggregate, server_page, header_page, numbers_page}
 
 abbrev pub state_at : Aggregate → ℕ → SlotState

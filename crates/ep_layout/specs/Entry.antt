@@ -1,5 +1,25 @@
 -- The log's entries on the disk.
-use Rattle.std.specs.Prelude.{◌≡◌, ◌≢◌, ◌<◌, ◌≤◌, ◌⊎◌, ℕ, ◌+◌, List, ◌∷◌, length, Option, Some, None, ◌==◌, ◌&&◌, ◌||◌, if◌then◌else◌, nat_lt, replicate}
+use Rattle.std.specs.Prelude.{
+  ◌≡◌,
+  ◌≢◌,
+  ◌<◌,
+  ◌≤◌,
+  ◌⊎◌,
+  ℕ,
+  ◌+◌,
+  List,
+  ◌∷◌,
+  length,
+  Option,
+  Some,
+  None,
+  ◌==◌,
+  ◌&&◌,
+  ◌||◌,
+  if◌then◌else◌,
+  nat_lt,
+  replicate,
+}
 use Rattle.std.proofs.Common.{get_or}
 use Rattle.dfs_base.specs.Image.{byte_at, bytes_from}
 use Rattle.ep_layout.specs.Numbers.{number_at}
@@ -9,12 +29,14 @@ use Rattle.ep_layout.specs.declared.entry.Entry.{Entry}
 use Rattle.ep_layout.specs.declared.half.Half.{Half}
 use Rattle.ep_layout.specs.declared.entry.Entry.TheVariants.{Update, End}
 
--- The entry in these 1,536 bytes of a half, where it counts: its gate is open, its generation is the half's, and it is an
--- end, or an update of a metadata page.
+-- The entry in these 1,536 bytes of a half, where it counts: its gate is open, its generation is the half's, and it is
+-- an end, or an update of a metadata page.
 unfoldable pub entry_of : Half → List ℕ → Option Entry
 entry_of half bytes =
-    if (byte_at bytes 0 == 1) && ((number_at 8 8 bytes == half.generation) && ((byte_at bytes 1 == 2) || ((byte_at bytes 1 == 1) && nat_lt (number_at 4 4 bytes) half.pages)))
-    then Some (if byte_at bytes 1 == 2 then End (number_at 8 16 bytes) else Update (number_at 8 16 bytes) (number_at 4 4 bytes) (bytes_from bytes 512 512) (bytes_from bytes 1024 512))
+    if (byte_at bytes 0 == 1) && ((number_at 8 8 bytes == half.generation)
+    && ((byte_at bytes 1 == 2) || ((byte_at bytes 1 == 1) && nat_lt (number_at 4 4 bytes) half.pages)))
+    then Some (if byte_at bytes 1 == 2 then End (number_at 8 16 bytes)
+    else Update (number_at 8 16 bytes) (number_at 4 4 bytes) (bytes_from bytes 512 512) (bytes_from bytes 1024 512))
     else None
 
 -- entry i of a half
@@ -92,6 +114,7 @@ pub record SameButBodies (start first n : ℕ) (old new : List ℕ) : Type 0 whe
 
 -- images that differ at most in the gates of n entries from a place on
 pub record SameButGates (start first n : ℕ) (old new : List ℕ) : Type 0 where
-  pub bodies : (i j : ℕ) → 1 ≤ j → j < 1536 → byte_at new (entry_start start i + j) ≡ byte_at old (entry_start start i + j)
+  pub bodies : (i j : ℕ) → 1 ≤ j
+      → j < 1536 → byte_at new (entry_start start i + j) ≡ byte_at old (entry_start start i + j)
   pub below : (k : ℕ) → k < entry_start start first → byte_at new k ≡ byte_at old k
   pub above : (k : ℕ) → entry_start start (first + n) ≤ k → byte_at new k ≡ byte_at old k

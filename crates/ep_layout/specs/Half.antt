@@ -22,8 +22,8 @@ header_at image h = header_from image (half_start h)
 abbrev pub half_of : ℕ → ℕ → ℕ → Half
 half_of pages h generation = record { start = half_start h; generation = generation; pages = pages }
 
--- the half with an open gate and the highest generation, by the two headers; none where neither is open, or both are with
--- one generation
+-- the half with an open gate and the highest generation, by the two headers; none where neither is open, or both are
+-- with one generation
 abbrev pub used_of : ℕ → Header → Header → Option Half
 used_of pages zeroth first =
     if zeroth.is_open then
@@ -52,7 +52,8 @@ pub record HasLog (superblock : Superblock) (half : Half) (image : List ℕ) : T
 abbrev pub HasNoLog : ℕ → List ℕ → Type 0
 HasNoLog place image =
     ((place ≡ 0) × ((superblock : Superblock) → IsSuperblock superblock image → ⊥))
-    ⊎ ((place ≡ 512) × ((superblock : Superblock) × IsSuperblock superblock image × (used_half (pages_of superblock.blocks) image ≡ None)))
+    ⊎ ((place ≡ 512) × ((superblock : Superblock)
+    × IsSuperblock superblock image × (used_half (pages_of superblock.blocks) image ≡ None)))
 
 -- a half is the used one, and these are its entries
 pub record IsLog (half : Half) (held : List Entry) (image : List ℕ) : Type 0 where
@@ -62,7 +63,8 @@ pub record IsLog (half : Half) (held : List Entry) (image : List ℕ) : Type 0 w
 
 -- the two halves
 abbrev pub AreSides : ℕ → ℕ → Type 0
-AreSides start other = ((start ≡ half_start 0) × (other ≡ half_start 1)) ⊎ ((start ≡ half_start 1) × (other ≡ half_start 0))
+AreSides start other =
+    ((start ≡ half_start 0) × (other ≡ half_start 1)) ⊎ ((start ≡ half_start 1) × (other ≡ half_start 0))
 
 -- The header of a half says that it is the used one: its gate is open, and the other half is closed or has a lower
 -- generation.

@@ -1,5 +1,25 @@
 -- The pages under a log's entries. A page is named by its number among the metadata pages.
-use Rattle.std.specs.Prelude.{◌≡◌, ◌≤◌, ◌<◌, ◌⊎◌, ℕ, zero, suc, ◌+◌, List, [], ◌∷◌, length, Bool, false, ◌==◌, ◌&&◌, ◌||◌, not, if◌then◌else◌}
+use Rattle.std.specs.Prelude.{
+  ◌≡◌,
+  ◌≤◌,
+  ◌<◌,
+  ◌⊎◌,
+  ℕ,
+  zero,
+  suc,
+  ◌+◌,
+  List,
+  [],
+  ◌∷◌,
+  length,
+  Bool,
+  false,
+  ◌==◌,
+  ◌&&◌,
+  ◌||◌,
+  not,
+  if◌then◌else◌,
+}
 use Rattle.dfs_base.specs.Image.{byte_at}
 use Rattle.ep_layout.specs.declared.half.Half.{Half}
 use Rattle.ep_layout.specs.declared.entry.Entry.{Entry}
@@ -24,7 +44,8 @@ is_ended transaction (End other ∷ rest) = (other == transaction) || is_ended t
 -- a page after the updates without an end among `all` are undone, the last of them first
 abbrev pub undone : List Entry → List Entry → (ℕ → List ℕ) → ℕ → List ℕ
 undone all [] pages p = pages p
-undone all (Update transaction page old new ∷ rest) pages p = if (page == p) && not (is_ended transaction all) then old else undone all rest pages p
+undone all (Update transaction page old new ∷ rest) pages p =
+    if (page == p) && not (is_ended transaction all) then old else undone all rest pages p
 undone all (End transaction ∷ rest) pages p = undone all rest pages p
 
 -- what recovery makes of a page
@@ -54,8 +75,10 @@ ends_in (End transaction ∷ rest) = suc (ends_in rest)
 abbrev pub AreWholeFrom : (before now : ℕ → List ℕ) (first at : ℕ) → List Entry → Type 0
 AreWholeFrom before now first at [] = first ≡ at
 AreWholeFrom before now first at (Update transaction page old new ∷ rest) =
-    (transaction ≡ first) × (old ≡ before page) × AreWholeFrom before (λ (q : ℕ). if page == q then new else now q) first (suc at) rest
-AreWholeFrom before now first at (End transaction ∷ rest) = (transaction ≡ first) × AreWholeFrom now now (suc at) (suc at) rest
+    (transaction ≡ first) × (old ≡ before page)
+    × AreWholeFrom before (λ (q : ℕ). if page == q then new else now q) first (suc at) rest
+AreWholeFrom before now first at (End transaction ∷ rest) =
+    (transaction ≡ first) × AreWholeFrom now now (suc at) (suc at) rest
 
 abbrev pub AreWhole : (ℕ → List ℕ) → ℕ → List Entry → Type 0
 AreWhole pages at held = AreWholeFrom pages pages at at held
@@ -84,7 +107,8 @@ pub record HasPages (superblock : Superblock) (generation : ℕ) (known : ℕ �
 
 -- A crash left a log in stage k, with the blocks of an image d. Where it left any of the transactions that ended since
 -- the last force, they are the blocks as they read.
-pub record LeftFirst (superblock : Superblock) (generation : ℕ) (held news : List Entry) (image d c : List ℕ) (k : ℕ) : Type 0 where
+pub record LeftFirst (superblock : Superblock)
+    (generation : ℕ) (held news : List Entry) (image d c : List ℕ) (k : ℕ) : Type 0 where
   pub some_of : k ≤ ends_in news
   pub log : HasPages superblock generation (stage held news image k) d c
   pub blocks : 0 < k → SameBlocks (pages_of superblock.blocks) image d
@@ -113,6 +137,7 @@ SameButNamed held old new = SameButPages (λ (p : ℕ). is_named p held ≡ fals
 -- images that differ at most in the headers, in the other half, and in pages that the entries name
 pub record IsBeside (half : Half) (held : List Entry) (old new : List ℕ) : Type 0 where
   pub front : SameFront old new
-  pub entries : (at : ℕ) → entry_start half.start 0 ≤ at → at < entry_start half.start 2048 → byte_at new at ≡ byte_at old at
+  pub entries : (at : ℕ) → entry_start half.start 0 ≤ at
+      → at < entry_start half.start 2048 → byte_at new at ≡ byte_at old at
   pub pages : (p : ℕ) → p < half.pages → is_named p held ≡ false → in_place new p ≡ in_place old p
   pub blocks : SameBlocks half.pages old new

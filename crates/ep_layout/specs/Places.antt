@@ -14,7 +14,8 @@ entry_start start i = start + 512 + 1536 * i
 abbrev pub page_start : ℕ → ℕ
 page_start p = 6292992 + 512 * p
 
--- how many metadata pages stand before so many blocks: the server's two, 66 for each of 16 slots, and those of the counts
+-- how many metadata pages stand before so many blocks: the server's two, 66 for each of 16 slots, and those of the
+-- counts
 abbrev pub pages_of : ℕ → ℕ
 pages_of blocks = 1058 + (blocks + 255) / 256
 

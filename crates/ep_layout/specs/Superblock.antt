@@ -29,7 +29,8 @@ pub record IsSuperblock (superblock : Superblock) (image : List ℕ) : Type 0 wh
 
 -- the first page of such a disk with bytes: it is zero, or the gate before the layout's name is closed
 abbrev pub IsBlankPage : List ℕ → Type 0
-IsBlankPage image = ((k : ℕ) → k < 512 → byte_at image k ≡ 0) ⊎ ((byte_at image 0 ≢ 1) × (bytes_from image 1 8 ≡ layout_name))
+IsBlankPage image =
+    ((k : ℕ) → k < 512 → byte_at image k ≡ 0) ⊎ ((byte_at image 0 ≢ 1) × (bytes_from image 1 8 ≡ layout_name))
 
 -- a disk that nobody formatted, or whose format was stopped
 abbrev pub IsBlank : List ℕ → Type 0

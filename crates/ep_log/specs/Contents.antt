@@ -29,7 +29,8 @@ page_in told p = page_of told.state.entries told.state.puts told.image p
 
 -- stage k of a page: after the first k of the transactions that ended since the last force
 abbrev pub stage_in : Contents → ℕ → ℕ → List ℕ
-stage_in told k p = stage (take told.state.forced told.state.entries) (drop told.state.forced told.state.entries) told.image k p
+stage_in told k p =
+    stage (take told.state.forced told.state.entries) (drop told.state.forced told.state.entries) told.image k p
 
 -- how many transactions ended since the last force
 abbrev pub last_stage : Contents → ℕ
@@ -43,8 +44,8 @@ settled_in told p k = settled_byte told.state.entries told.state.forced told.ima
 abbrev pub block_in : Contents → ℕ → List ℕ
 block_in told block = bytes_from told.image (block_start told.state.half.pages block) 1024
 
--- The bytes of a disk are the log in a stage: its pages after redo and undo are those of the stage, and its used half is
--- of the same generation or the next.
+-- The bytes of a disk are the log in a stage: its pages after redo and undo are those of the stage, and its used half
+-- is of the same generation or the next.
 abbrev pub IsStage : Contents → ℕ → List ℕ → Type 0
 IsStage told k c = HasPages told.state.superblock told.state.half.generation (stage_in told k) c c
 
@@ -57,7 +58,8 @@ IsLeft told view c =
     told.image view.may_leave c
 
 -- What a call that reads keeps: all, and no byte of the disk changed.
-pub record Reads {D T E : Type 0} (tells : Type 0) (view : D → View) (result : Result T E) (old new : Log D) : Type 0 where
+pub record Reads {D T E : Type 0}
+    (tells : Type 0) (view : D → View) (result : Result T E) (old new : Log D) : Type 0 where
   pub sound : IsSoundLog tells view new
   pub state : state_of new ≡ state_of old
   pub quiet : IsQuiet (view (disk_of old)) (view (disk_of new))

@@ -21,7 +21,8 @@ pub record HasHeaders (image : List ℕ) : Type 0 where
 
 -- images that differ at most in the headers of the halves
 abbrev pub SameButHeaders : List ℕ → List ℕ → Type 0
-SameButHeaders old new = (at : ℕ) → (at < 512) ⊎ ((528 ≤ at) × (at < 3146752)) ⊎ (3146768 ≤ at) → byte_at new at ≡ byte_at old at
+SameButHeaders old new =
+    (at : ℕ) → (at < 512) ⊎ ((528 ≤ at) × (at < 3146752)) ⊎ (3146768 ≤ at) → byte_at new at ≡ byte_at old at
 
 -- images that are the same before the metadata pages
 abbrev pub SameLog : List ℕ → List ℕ → Type 0
@@ -29,7 +30,8 @@ SameLog old new = (at : ℕ) → at < 6292992 → byte_at new at ≡ byte_at old
 
 -- a superblock stands in the first page, but for its gate
 abbrev pub HasFront : Superblock → List ℕ → Type 0
-HasFront superblock image = (c : List ℕ) → byte_at c 0 ≡ 1 → ((at : ℕ) → 1 ≤ at → at < 512 → byte_at c at ≡ byte_at image at) → IsSuperblock superblock c
+HasFront superblock image = (c : List ℕ)
+    → byte_at c 0 ≡ 1 → ((at : ℕ) → 1 ≤ at → at < 512 → byte_at c at ≡ byte_at image at) → IsSuperblock superblock c
 
 -- images that differ at most in the first page, and not in its gate
 abbrev pub SameButFront : List ℕ → List ℕ → Type 0

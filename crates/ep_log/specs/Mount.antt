@@ -47,21 +47,23 @@ pub record AreSettled (image : List ℕ) (pages : List (List ℕ)) : Type 0 wher
 abbrev pub IsMountFault : Type 0 → LogFault → View → View → Type 0
 IsMountFault tells Failed old new = RoseBy 1 old.faults new.faults × IsTrue new.last_failed
 IsMountFault tells Memory old new = IsQuiet old new
-IsMountFault tells (NotALog place) old new = IsQuiet old new × (tells → HasNoLog place old.image ⊎ IsWorn place old.image)
+IsMountFault tells (NotALog place) old new =
+    IsQuiet old new × (tells → HasNoLog place old.image ⊎ IsWorn place old.image)
 IsMountFault tells (Full free needed) old new = ⊥
 
--- A log was mounted: its pages are those of the disk's bytes after redo and undo, its blocks are the same, and its other
--- half is used, of the next generation and without entries.
+-- A log was mounted: its pages are those of the disk's bytes after redo and undo, its blocks are the same, and its
+-- other half is used, of the next generation and without entries.
 pub record IsMounted (old new : List ℕ) (state : State) : Type 0 where
   pub half : Half
   pub log : HasLog state.superblock half old
   pub unworn : half.generation < 18446744073709551615
   pub state_is : state ≡ fresh_state state.superblock (next_half half)
-  pub pages : (p : ℕ) → p < pages_of state.superblock.blocks → page_of state.entries state.puts new p ≡ pages_in half old p
+  pub pages : (p : ℕ) → p < pages_of state.superblock.blocks
+      → page_of state.entries state.puts new p ≡ pages_in half old p
   pub blocks : SameBlocks (pages_of state.superblock.blocks) old new
 
--- Bytes of a disk that are a log with the same superblock, pages and blocks, whose used half is of the same generation or
--- the next.
+-- Bytes of a disk that are a log with the same superblock, pages and blocks, whose used half is of the same generation
+-- or the next.
 pub record IsSameLog (old c : List ℕ) : Type 0 where
   pub superblock : Superblock
   pub half : Half

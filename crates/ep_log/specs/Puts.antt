@@ -1,6 +1,28 @@
--- Pages under the entries and puts of a log. A transaction is named in memory by its slot, and on disk by the place of its
--- first entry.
-use Rattle.std.specs.Prelude.{◌≡◌, ◌≢◌, ◌<◌, ◌≤◌, ◌⊎◌, ℕ, ◌+◌, List, [], ◌∷◌, ◌++◌, length, take, drop, Bool, false, ◌==◌, ◌&&◌, ◌||◌, if◌then◌else◌, bit_or}
+-- Pages under the entries and puts of a log. A transaction is named in memory by its slot, and on disk by the place of
+-- its first entry.
+use Rattle.std.specs.Prelude.{
+  ◌≡◌,
+  ◌≢◌,
+  ◌<◌,
+  ◌≤◌,
+  ◌⊎◌,
+  ℕ,
+  ◌+◌,
+  List,
+  [],
+  ◌∷◌,
+  ◌++◌,
+  length,
+  take,
+  drop,
+  Bool,
+  false,
+  ◌==◌,
+  ◌&&◌,
+  ◌||◌,
+  if◌then◌else◌,
+  bit_or,
+}
 use Rattle.std.proofs.Common.{get_or}
 use Rattle.dfs_base.specs.View.{View}
 use Rattle.ep_layout.specs.declared.entry.Entry.{Entry}
@@ -38,7 +60,8 @@ AreApart pages (put ∷ puts) = (put.page < pages) × IsAbsent put.page puts × 
 -- the entries of one transaction's puts, named by the place of its first entry
 abbrev pub updates_of : ℕ → ℕ → List Put → List Entry
 updates_of slot name [] = []
-updates_of slot name (put ∷ puts) = if put.slot == slot then Update name put.page put.old put.new ∷ updates_of slot name puts else updates_of slot name puts
+updates_of slot name (put ∷ puts) = if put.slot == slot
+    then Update name put.page put.old put.new ∷ updates_of slot name puts else updates_of slot name puts
 
 -- and its end
 abbrev pub run_of : ℕ → ℕ → List Put → List Entry
@@ -61,12 +84,14 @@ ended_page entries image p = redone entries (in_place image) p
 -- a byte of a page under the or of what these entries left of it
 abbrev pub or_of : List Entry → ℕ → ℕ → ℕ → ℕ
 or_of [] p k byte = byte
-or_of (Update transaction page old new ∷ rest) p k byte = or_of rest p k (if page == p then bit_or byte (get_or new k 0) else byte)
+or_of (Update transaction page old new ∷ rest) p k byte =
+    or_of rest p k (if page == p then bit_or byte (get_or new k 0) else byte)
 or_of (End transaction ∷ rest) p k byte = or_of rest p k byte
 
 -- byte k of a page as settled
 unfoldable pub settled_byte : List Entry → ℕ → List ℕ → ℕ → ℕ → ℕ
-settled_byte entries forced image p k = or_of (drop forced entries) p k (get_or (redone (take forced entries) (in_place image) p) k 0)
+settled_byte entries forced image p k =
+    or_of (drop forced entries) p k (get_or (redone (take forced entries) (in_place image) p) k 0)
 
 -- how many pages a transaction put
 abbrev pub count_of : ℕ → List Put → ℕ
@@ -91,7 +116,8 @@ pub record IsOnDisk (view : View) (half : Half) (entries : List Entry) (forced :
   pub settled : LeavesBlocks half.pages view
 
 -- what is in memory fits what is on the disk
-pub record IsSteady (tells : Type 0) (view : View) (half : Half) (entries : List Entry) (forced : ℕ) (puts : List Put) : Type 0 where
+pub record IsSteady (tells : Type 0)
+    (view : View) (half : Half) (entries : List Entry) (forced : ℕ) (puts : List Put) : Type 0 where
   pub placed : (half.start ≡ half_start 0) ⊎ (half.start ≡ half_start 1)
   pub few_pages : half.pages ≤ 131072
   pub forced_le : forced ≤ length entries

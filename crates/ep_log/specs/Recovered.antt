@@ -19,7 +19,8 @@ AreEnds ended entries = (transaction : ℕ) → contains nat_cmp ended transacti
 abbrev pub AreOver : List (Option (List ℕ)) → List ℕ → ℕ → List (List ℕ) → Type 0
 AreOver table image n pages =
     (p : ℕ) → p < n
-    → MatchOption (get_or table p None) (get_or pages p [] ≡ in_place image p) (λ (made : List ℕ). get_or pages p [] ≡ made)
+    → MatchOption (get_or table p None) (get_or pages p [] ≡ in_place image p)
+    (λ (made : List ℕ). get_or pages p [] ≡ made)
 
 -- A table has what recovery makes of the pages that these entries name, by page, and no other page.
 pub record AreRecovered (entries : List Entry) (table : List (Option (List ℕ))) : Type 0 where

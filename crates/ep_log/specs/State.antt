@@ -1,5 +1,25 @@
 -- What a log keeps in memory, apart from pages that were read.
-use Rattle.std.specs.Prelude.{◌≡◌, ◌≢◌, ◌≤◌, ◌<◌, ◌⊎◌, ℕ, ◌+◌, ◌*◌, ◌-◌, List, [], ◌∷◌, ◌++◌, length, set, sum, true, replicate, Option}
+use Rattle.std.specs.Prelude.{
+  ◌≡◌,
+  ◌≢◌,
+  ◌≤◌,
+  ◌<◌,
+  ◌⊎◌,
+  ℕ,
+  ◌+◌,
+  ◌*◌,
+  ◌-◌,
+  List,
+  [],
+  ◌∷◌,
+  ◌++◌,
+  length,
+  set,
+  sum,
+  true,
+  replicate,
+  Option,
+}
 use Rattle.std.proofs.Common.{get_or}
 use Rattle.dfs_base.specs.View.{View}
 use Rattle.ep_layout.specs.declared.entry.Entry.{Entry}
@@ -12,8 +32,8 @@ use Rattle.ep_log.specs.Puts.{run_of, without, without_page, count_of, is_put, I
 use Rattle.ep_log.specs.Switch.{next_half}
 use Rattle.ep_log.specs.declared.put.Put.{Put}
 
--- The superblock; the used half; its entries, and behind the first `forced` of them those that ended since the last force;
--- what the open transactions put; and the entries that they reserved, by slot, and in all.
+-- The superblock; the used half; its entries, and behind the first `forced` of them those that ended since the last
+-- force; what the open transactions put; and the entries that they reserved, by slot, and in all.
 pub record State : Type 0 where
   pub superblock : Superblock
   pub half : Half
@@ -34,7 +54,8 @@ HasNoOpen state = (slot : ℕ) → get_or state.reservations slot 0 ≡ 0
 -- An open transaction may put a page: no other one put it, and it put the page before or fewer pages than it reserved.
 abbrev pub MayPut : State → ℕ → ℕ → Type 0
 MayPut state slot page =
-    IsOpen state slot × IsOwn slot page state.puts × ((is_put slot page state.puts ≡ true) ⊎ (2 * count_of slot state.puts + 2 < get_or state.reservations slot 0))
+    IsOpen state slot × IsOwn slot page state.puts
+    × ((is_put slot page state.puts ≡ true) ⊎ (2 * count_of slot state.puts + 2 < get_or state.reservations slot 0))
 
 -- entries that are free
 abbrev pub free_in : State → ℕ
@@ -42,7 +63,8 @@ free_in state = 2048 - (length state.entries + state.reserved)
 
 -- a transaction has begun that reserves so many entries
 abbrev pub begun : State → ℕ → ℕ → State
-begun state slot needed = record state { reservations = set state.reservations slot needed; reserved = state.reserved + needed }
+begun state slot needed =
+    record state { reservations = set state.reservations slot needed; reserved = state.reserved + needed }
 
 abbrev pub put_of : ℕ → ℕ → List ℕ → List ℕ → Put
 put_of slot page old new = record { slot = slot; page = page; old = old; new = new }
@@ -61,7 +83,8 @@ closed state slot = record state {
 
 -- a transaction has ended: its entries stand behind the others
 abbrev pub ended : State → ℕ → State
-ended state slot = record (closed state slot) { entries = state.entries ++ run_of slot (length state.entries) state.puts }
+ended state slot =
+    record (closed state slot) { entries = state.entries ++ run_of slot (length state.entries) state.puts }
 
 -- all that ended is durable
 abbrev pub forced_all : State → State
@@ -69,14 +92,22 @@ forced_all state = record state { forced = length state.entries }
 
 -- a log without entries
 abbrev pub fresh_state : Superblock → Half → State
-fresh_state superblock half = record { superblock = superblock; half = half; entries = []; forced = 0; puts = []; reservations = replicate 2048 0; reserved = 0 }
+fresh_state superblock half = record {
+  superblock = superblock;
+  half = half;
+  entries = [];
+  forced = 0;
+  puts = [];
+  reservations = replicate 2048 0;
+  reserved = 0;
+}
 
 -- all that ended is in its place, and the log goes on in its other half, which has no entries
 abbrev pub emptied : State → State
 emptied state = fresh_state state.superblock (next_half state.half)
 
--- the entries that are reserved: there are 2,048 slots, and each open transaction has room for its end and twice the pages
--- that it put
+-- the entries that are reserved: there are 2,048 slots, and each open transaction has room for its end and twice the
+-- pages that it put
 pub record HasRoom (state : State) : Type 0 where
   pub slots : length state.reservations ≡ 2048
   pub in_all : state.reserved ≡ sum state.reservations

@@ -46,7 +46,8 @@ abbrev pub next_half : Half → Half
 next_half half = half_after half (other_of half.start)
 
 -- A half is the used one of a log, whatever stands in the other, and these are its entries.
-pub record IsUsed (superblock : Superblock) (half : Half) (other : ℕ) (held : List Entry) (image : List ℕ) : Type 0 where
+pub record IsUsed (superblock : Superblock)
+    (half : Half) (other : ℕ) (held : List Entry) (image : List ℕ) : Type 0 where
   pub many : half.pages ≡ pages_of superblock.blocks
   pub front : IsSuperblock superblock image
   pub ahead : IsAhead half other image

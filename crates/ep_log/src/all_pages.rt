@@ -21,7 +21,8 @@ fn settled_page<D: Disk>(
     page: &Option<[u8; PAGE]>,
 ) -> Result<[u8; PAGE], Failed>
     requires { place < 131072 }
-    ensures bytes { D.tells → IfOk result (λ bytes. MatchOption page.now (bytes ≡ in_place (D.view disk.old).image place) (λ made. bytes ≡ made)) }
+    ensures bytes { D.tells → IfOk result
+        (λ bytes. MatchOption page.now (bytes ≡ in_place (D.view disk.old).image place) (λ made. bytes ≡ made)) }
     ensures quiet { IsQuiet (D.view disk.old) (D.view disk.new) }
     ensures blamed { IsBlamed result (D.view disk.old) (D.view disk.new) }
 {
@@ -41,7 +42,8 @@ fn settled_by<D: Disk>(
 ) -> Result<Vec<[u8; PAGE]>, LogFault>
     requires { length table.now ≤ 131072 }
     ensures size { IfOk result (λ pages. length pages.items ≡ length table.now) }
-    ensures pages { D.tells → IfOk result (λ pages. AreOver table.now (D.view disk.old).image (length table.now) pages.items) }
+    ensures pages { D.tells
+        → IfOk result (λ pages. AreOver table.now (D.view disk.old).image (length table.now) pages.items) }
     ensures quiet { IsQuiet (D.view disk.old) (D.view disk.new) }
     ensures counted { (D.view disk.old).faults ≤ (D.view disk.new).faults }
     ensures only { IfErr result (λ fault. IsDiskOrMemory fault (D.view disk.old) (D.view disk.new)) }

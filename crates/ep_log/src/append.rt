@@ -7,7 +7,16 @@ ghost use Rattle.dfs_base.specs.Crash.{IsSettled, ChangesBy};
 ghost use Rattle.ep_layout.specs.declared.superblock.Superblock.{Superblock};
 ghost use Rattle.ep_layout.specs.Places.{entry_start, pages_of, SameFront};
 ghost use Rattle.ep_layout.specs.Superblock.{IsSuperblock};
-ghost use Rattle.ep_layout.specs.Entry.{gate_at, Fits, Stands, StandFrom, AreOpen, HasEntries, SameButBodies, SameButGates};
+ghost use Rattle.ep_layout.specs.Entry.{
+  gate_at,
+  Fits,
+  Stands,
+  StandFrom,
+  AreOpen,
+  HasEntries,
+  SameButBodies,
+  SameButGates,
+};
 ghost use Rattle.ep_layout.specs.Half.{IsLog};
 ghost use Rattle.ep_layout.specs.Pages.{HasWhole, HasFirst};
 ghost use Rattle.ep_log.specs.Append.{AllFit, LeavesBlocks, SameRest};
@@ -40,9 +49,11 @@ fn write_entries<D: Disk>(
     requires room { first + length news.now ≤ 2048 }
     requires fits { AllFit half.now news.now }
     ensures written { D.tells → OnOk result (StandFrom half.now first news.now (D.view disk.new).image) }
-    ensures same { D.tells → SameButBodies half.now.start first (length news.now) (D.view disk.old).image (D.view disk.new).image }
+    ensures same { D.tells
+        → SameButBodies half.now.start first (length news.now) (D.view disk.old).image (D.view disk.new).image }
     ensures settled { OnOk result (IsSettled (D.view disk.new)) }
-    ensures crash { ChangesBy (SameButBodies half.now.start first (length news.now)) (D.view disk.old) (D.view disk.new) }
+    ensures crash { ChangesBy
+        (SameButBodies half.now.start first (length news.now)) (D.view disk.old) (D.view disk.new) }
     ensures faults { IsCounted result (D.view disk.old) (D.view disk.new) }
 {
     for (i, entry) in news.iter().enumerate() {
@@ -97,8 +108,10 @@ pub(crate) fn append<D: Disk>(
     ensures front { D.tells → SameFront (D.view disk.old).image (D.view disk.new).image }
     ensures rest { D.tells → SameRest (D.view disk.old).image (D.view disk.new).image }
     ensures settled { OnOk result (IsSettled (D.view disk.new)) }
-    ensures crash { D.tells → (superblock : Superblock) → half.now.pages ≡ pages_of superblock.blocks → IsSuperblock superblock (D.view disk.old).image →
-        LeavesOnly (HasFirst superblock half.now.generation (take forced all.now) (drop forced all.now) (D.view disk.old).image (D.view disk.old).may_leave) (D.view disk.old) (D.view disk.new) }
+    ensures crash { D.tells → (superblock : Superblock)
+        → half.now.pages ≡ pages_of superblock.blocks → IsSuperblock superblock (D.view disk.old).image
+        → LeavesOnly (HasFirst superblock half.now.generation (take forced all.now) (drop forced all.now)
+        (D.view disk.old).image (D.view disk.old).may_leave) (D.view disk.old) (D.view disk.new) }
     ensures faults { IsCounted result (D.view disk.old) (D.view disk.new) }
 {
     let news = &all[forced..];

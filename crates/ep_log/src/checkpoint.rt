@@ -48,13 +48,16 @@ pub fn checkpoint<D: Disk>(
     requires fits { D.tells → AllFit half.now (entries half.now (D.view disk.old).image) }
     requires recovered { D.tells → AreRecovered (entries half.now (D.view disk.old).image) table.now }
     requires settled { IsSettled (D.view disk.old) }
-    requires used { D.tells → IsUsed superblock.now half.now other (entries half.now (D.view disk.old).image) (D.view disk.old).image }
+    requires used { D.tells
+        → IsUsed superblock.now half.now other (entries half.now (D.view disk.old).image) (D.view disk.old).image }
     ensures switched { D.tells → OnOk result (IsLog (half_after half.now other) [] (D.view disk.new).image) }
     ensures front { D.tells → SameFront (D.view disk.old).image (D.view disk.new).image }
-    ensures placed { D.tells → OnOk result ((p : ℕ) → p < half.now.pages → in_place (D.view disk.new).image p ≡ pages_in half.now (D.view disk.old).image p) }
+    ensures placed { D.tells → OnOk result ((p : ℕ)
+        → p < half.now.pages → in_place (D.view disk.new).image p ≡ pages_in half.now (D.view disk.old).image p) }
     ensures blocks { D.tells → SameBlocks half.now.pages (D.view disk.old).image (D.view disk.new).image }
     ensures settled { OnOk result (IsSettled (D.view disk.new)) }
-    ensures crash { D.tells → LeavesOnly (HasPages superblock.now half.now.generation (pages_in half.now (D.view disk.old).image) (D.view disk.old).image) (D.view disk.old) (D.view disk.new) }
+    ensures crash { D.tells → LeavesOnly (HasPages superblock.now half.now.generation
+        (pages_in half.now (D.view disk.old).image) (D.view disk.old).image) (D.view disk.old) (D.view disk.new) }
     ensures blamed { IsBlamed result (D.view disk.old) (D.view disk.new) }
 {
     write_pages(disk, table)?;

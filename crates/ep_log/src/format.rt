@@ -9,7 +9,20 @@ ghost use Rattle.ep_layout.specs.Places.{in_place, SameFront};
 ghost use Rattle.ep_layout.specs.Server.{IsNewServer};
 ghost use Rattle.ep_layout.specs.Superblock.{IsSuperblock};
 ghost use Rattle.ep_log.specs.Blame.{IsBlamed, IsDiskOrMemory};
-ghost use Rattle.ep_log.specs.Format.{KeepsGate, HasHeaders, SameButHeaders, SameLog, HasFront, SameButFront, HasNewPages, IsPrepared, IsStaged, IsFormatted, IsLeftOfFormat, first_half};
+ghost use Rattle.ep_log.specs.Format.{
+  KeepsGate,
+  HasHeaders,
+  SameButHeaders,
+  SameLog,
+  HasFront,
+  SameButFront,
+  HasNewPages,
+  IsPrepared,
+  IsStaged,
+  IsFormatted,
+  IsLeftOfFormat,
+  first_half,
+};
 ghost use Rattle.ep_log.specs.Log.{state_in};
 ghost use Rattle.ep_log.specs.Mount.{IsQuietOr};
 ghost use Rattle.ep_log.specs.Recovered.{blank_page};
@@ -58,7 +71,8 @@ fn write_headers<D: Disk>(disk: &mut D) -> Result<(), Failed>
 fn write_zero<D: Disk>(disk: &mut D, page: u32) -> Result<(), Failed>
     requires { page < 131072 }
     ensures written { D.tells → OnOk result (in_place (D.view disk.new).image page ≡ blank_page) }
-    ensures others { D.tells → (p : ℕ) → p < page → in_place (D.view disk.new).image p ≡ in_place (D.view disk.old).image p }
+    ensures others { D.tells
+        → (p : ℕ) → p < page → in_place (D.view disk.new).image p ≡ in_place (D.view disk.old).image p }
     ensures same { D.tells → SameLog (D.view disk.old).image (D.view disk.new).image }
     ensures crash { ChangesBy KeepsGate (D.view disk.old) (D.view disk.new) }
     ensures faults { IsCounted result (D.view disk.old) (D.view disk.new) }
@@ -83,7 +97,8 @@ fn write_zeros<D: Disk>(disk: &mut D, pages: u32) -> Result<(), Failed>
 // Writes the server's page.
 fn write_server<D: Disk>(disk: &mut D) -> Result<(), Failed>
     ensures written { D.tells → OnOk result (IsNewServer (in_place (D.view disk.new).image 0)) }
-    ensures others { D.tells → (p : ℕ) → 1 ≤ p → in_place (D.view disk.new).image p ≡ in_place (D.view disk.old).image p }
+    ensures others { D.tells
+        → (p : ℕ) → 1 ≤ p → in_place (D.view disk.new).image p ≡ in_place (D.view disk.old).image p }
     ensures same { D.tells → SameLog (D.view disk.old).image (D.view disk.new).image }
     ensures crash { ChangesBy KeepsGate (D.view disk.old) (D.view disk.new) }
     ensures faults { IsCounted result (D.view disk.old) (D.view disk.new) }
@@ -157,8 +172,10 @@ pub fn formatted<D: Disk>(
     ensures formatted { D.tells → OnOk result (IsFormatted superblock (D.view disk.new).image) }
     ensures state { IfOk result (λ kept. state_in kept ≡ fresh_state superblock (first_half superblock)) }
     ensures settled { OnOk result (IsSettled (D.view disk.new)) }
-    ensures crash { D.tells → byte_at (D.view disk.old).image 0 ≢ 1 → LeavesOnly (IsLeftOfFormat superblock) (D.view disk.old) (D.view disk.new) }
-    ensures left { D.tells → byte_at (D.view disk.old).image 0 ≢ 1 → OnErr result (IsQuietOr (IsLeftOfFormat superblock) (D.view disk.old) (D.view disk.new)) }
+    ensures crash { D.tells → byte_at (D.view disk.old).image 0 ≢ 1
+        → LeavesOnly (IsLeftOfFormat superblock) (D.view disk.old) (D.view disk.new) }
+    ensures left { D.tells → byte_at (D.view disk.old).image 0 ≢ 1
+        → OnErr result (IsQuietOr (IsLeftOfFormat superblock) (D.view disk.old) (D.view disk.new)) }
     ensures counted { (D.view disk.old).faults ≤ (D.view disk.new).faults }
     ensures only { IfErr result (λ fault. IsDiskOrMemory fault (D.view disk.old) (D.view disk.new)) }
 {

@@ -1,5 +1,26 @@
 // What a log keeps in memory, and the calls that need no disk.
-ghost use Rattle.std.specs.Prelude.{◌≡◌, ◌+◌, ◌*◌, ◌<◌, ◌≤◌, ◌∷◌, [], ℕ, List, length, OnOk, OnErr, IfOk, IfErr, None, true, false, get_or, IsSome, replicate};
+ghost use Rattle.std.specs.Prelude.{
+  ◌≡◌,
+  ◌+◌,
+  ◌*◌,
+  ◌<◌,
+  ◌≤◌,
+  ◌∷◌,
+  [],
+  ℕ,
+  List,
+  length,
+  OnOk,
+  OnErr,
+  IfOk,
+  IfErr,
+  None,
+  true,
+  false,
+  get_or,
+  IsSome,
+  replicate,
+};
 ghost use Rattle.std.specs.Vec.{vec_len, vec_capacity};
 ghost use Rattle.ep_layout.specs.Places.{block_start};
 ghost use Rattle.ep_layout.specs.Pages.{redone, is_named};
@@ -49,7 +70,8 @@ pub fn repeated<T: Copy>(alloc: Global, value: T, n: usize) -> Result<Items<T>, 
 fn keep_one(pages: &mut Items<Option<[u8; PAGE]>>, entry: &Entry)
     ensures size { length pages.new ≡ length pages.old }
     ensures kept { (known : ℕ → List ℕ) → AreKept pages.old known → AreKept pages.new (redone (entry.now ∷ []) known) }
-    ensures named { (p : ℕ) → p < length pages.old → is_named p (entry.now ∷ []) ≡ true → IsSome (get_or pages.new p None) }
+    ensures named { (p : ℕ) → p < length pages.old
+        → is_named p (entry.now ∷ []) ≡ true → IsSome (get_or pages.new p None) }
     ensures others { (p : ℕ) → is_named p (entry.now ∷ []) ≡ false → get_or pages.new p None ≡ get_or pages.old p None }
 {
     match entry {
@@ -164,7 +186,8 @@ impl Kept {
         requires none_open { HasNoOpen (state_in self.old) }
         ensures state { state_in self.new ≡ fresh_state self.old.superblock half }
         ensures size { length self.new.pages ≡ length self.old.pages }
-        ensures pages { (known : ℕ → List ℕ) → AreKept self.old.pages known → AreKept self.new.pages (redone self.old.entries.items known) }
+        ensures pages { (known : ℕ → List ℕ)
+            → AreKept self.old.pages known → AreKept self.new.pages (redone self.old.entries.items known) }
     {
         keep(&mut self.pages, &self.entries);
         self.half = half;

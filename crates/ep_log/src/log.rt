@@ -1,5 +1,22 @@
 // The log of a disk, with what its transactions put.
-ghost use Rattle.std.specs.Prelude.{◌≡◌, ◌≢◌, ◌+◌, ◌*◌, ◌<◌, ◌≤◌, ℕ, List, ◌==◌, if◌then◌else◌, length, get_or, OnOk, OnErr, IfOk, IfErr};
+ghost use Rattle.std.specs.Prelude.{
+  ◌≡◌,
+  ◌≢◌,
+  ◌+◌,
+  ◌*◌,
+  ◌<◌,
+  ◌≤◌,
+  ℕ,
+  List,
+  ◌==◌,
+  if◌then◌else◌,
+  length,
+  get_or,
+  OnOk,
+  OnErr,
+  IfOk,
+  IfErr,
+};
 ghost use Rattle.dfs_base.specs.Image.{byte_at, Torn, Holds};
 ghost use Rattle.dfs_outside.specs.Runs.{LeavesOnly};
 ghost use Rattle.ep_layout.specs.Places.{block_start, SameBlocks};
@@ -33,10 +50,36 @@ impl<D: Disk> Log<D> {
     ghost use Rattle.ep_log.specs.Log.{disk_of, state_of, slot_of, IsSoundLog};
     ghost use Rattle.ep_log.specs.Blame.{IsBlamed, IsDiskOrMemory};
     ghost use Rattle.ep_log.specs.Begin.{IsBegun};
-    ghost use Rattle.ep_log.specs.Contents.{contents_of, over, page_in, last_stage, stage_in, settled_in, block_in, Reads, Keeps, AppendsStage, KeepsLast, IsLeft};
+    ghost use Rattle.ep_log.specs.Contents.{
+      contents_of,
+      over,
+      page_in,
+      last_stage,
+      stage_in,
+      settled_in,
+      block_in,
+      Reads,
+      Keeps,
+      AppendsStage,
+      KeepsLast,
+      IsLeft,
+    };
     ghost use Rattle.ep_log.specs.Format.{IsFormatted, IsLeftOfFormat, first_half, superblock_of};
     ghost use Rattle.ep_log.specs.Mount.{IsMounted, IsMountFault, IsSameLog, IsQuietOr};
-    ghost use Rattle.ep_log.specs.State.{IsOpen, HasNoOpen, MayPut, HasRoom, free_in, put_of, with_put, closed, ended, forced_all, fresh_state, emptied};
+    ghost use Rattle.ep_log.specs.State.{
+      IsOpen,
+      HasNoOpen,
+      MayPut,
+      HasRoom,
+      free_in,
+      put_of,
+      with_put,
+      closed,
+      ended,
+      forced_all,
+      fresh_state,
+      emptied,
+    };
 
     /// Formats a disk as a log of so many blocks, 1 to 66,560. Its first page is that of a server without filesets,
     /// and the other pages are zero. The errors are `Failed`, where the count of faults rose, and `Memory`, which
@@ -48,12 +91,17 @@ impl<D: Disk> Log<D> {
         requires some_blocks { 1 ≤ blocks }
         requires few_blocks { blocks ≤ 66560 }
         ensures sound { IfOk result (λ log. IsSoundLog D.tells D.view log) }
-        ensures formatted { D.tells → IfOk result (λ log. IsFormatted (superblock_of server blocks) (D.view (disk_of log)).image) }
-        ensures state { IfOk result (λ log. state_of log ≡ fresh_state (superblock_of server blocks) (first_half (superblock_of server blocks))) }
+        ensures formatted { D.tells
+            → IfOk result (λ log. IsFormatted (superblock_of server blocks) (D.view (disk_of log)).image) }
+        ensures state { IfOk result (λ log.
+            state_of log ≡ fresh_state (superblock_of server blocks) (first_half (superblock_of server blocks))) }
         ensures settled { IfOk result (λ log. IsSettled (D.view (disk_of log))) }
-        ensures crash { D.tells → byte_at (D.view disk).image 0 ≢ 1 → IfOk result (λ log. LeavesOnly (IsLeftOfFormat (superblock_of server blocks)) (D.view disk) (D.view (disk_of log))) }
-        ensures crash_err { D.tells → byte_at (D.view disk).image 0 ≢ 1 → IfErr result (λ e. LeavesOnly (IsLeftOfFormat (superblock_of server blocks)) (D.view disk) (D.view e.0)) }
-        ensures left_err { D.tells → byte_at (D.view disk).image 0 ≢ 1 → IfErr result (λ e. IsQuietOr (IsLeftOfFormat (superblock_of server blocks)) (D.view disk) (D.view e.0)) }
+        ensures crash { D.tells → byte_at (D.view disk).image 0 ≢ 1 → IfOk result
+            (λ log. LeavesOnly (IsLeftOfFormat (superblock_of server blocks)) (D.view disk) (D.view (disk_of log))) }
+        ensures crash_err { D.tells → byte_at (D.view disk).image 0 ≢ 1
+            → IfErr result (λ e. LeavesOnly (IsLeftOfFormat (superblock_of server blocks)) (D.view disk) (D.view e.0)) }
+        ensures left_err { D.tells → byte_at (D.view disk).image 0 ≢ 1
+            → IfErr result (λ e. IsQuietOr (IsLeftOfFormat (superblock_of server blocks)) (D.view disk) (D.view e.0)) }
         ensures counted { IfOk result (λ log. (D.view disk).faults ≤ (D.view (disk_of log)).faults) }
         ensures counted_err { IfErr result (λ e. (D.view disk).faults ≤ (D.view e.0).faults) }
         ensures only { IfErr result (λ e. IsDiskOrMemory e.1 (D.view disk) (D.view e.0)) }
@@ -74,12 +122,16 @@ impl<D: Disk> Log<D> {
     /// is of the same generation or the next.
     pub fn mount(alloc: Global, disk: D) -> Result<Log<D>, (D, LogFault)>
         ensures sound { IfOk result (λ log. IsSoundLog D.tells D.view log) }
-        ensures mounted { D.tells → IfOk result (λ log. IsMounted (D.view disk).image (D.view (disk_of log)).image (state_of log)) }
+        ensures mounted { D.tells
+            → IfOk result (λ log. IsMounted (D.view disk).image (D.view (disk_of log)).image (state_of log)) }
         ensures fresh { IfOk result (λ log. state_of log ≡ fresh_state (state_of log).superblock (state_of log).half) }
         ensures settled { IfOk result (λ log. IsSettled (D.view (disk_of log))) }
-        ensures crash { D.tells → IfOk result (λ log. LeavesOnly (IsSameLog (D.view disk).image) (D.view disk) (D.view (disk_of log))) }
-        ensures crash_err { D.tells → IfErr result (λ e. LeavesOnly (IsSameLog (D.view disk).image) (D.view disk) (D.view e.0)) }
-        ensures left_err { D.tells → IfErr result (λ e. IsQuietOr (IsSameLog (D.view disk).image) (D.view disk) (D.view e.0)) }
+        ensures crash { D.tells
+            → IfOk result (λ log. LeavesOnly (IsSameLog (D.view disk).image) (D.view disk) (D.view (disk_of log))) }
+        ensures crash_err { D.tells
+            → IfErr result (λ e. LeavesOnly (IsSameLog (D.view disk).image) (D.view disk) (D.view e.0)) }
+        ensures left_err { D.tells
+            → IfErr result (λ e. IsQuietOr (IsSameLog (D.view disk).image) (D.view disk) (D.view e.0)) }
         ensures counted { IfOk result (λ log. (D.view disk).faults ≤ (D.view (disk_of log)).faults) }
         ensures counted_err { IfErr result (λ e. (D.view disk).faults ≤ (D.view e.0).faults) }
         ensures only { IfErr result (λ e. IsMountFault D.tells e.1 (D.view disk) (D.view e.0)) }
@@ -146,8 +198,10 @@ impl<D: Disk> Log<D> {
         requires page { page < (state_of self.old).half.pages }
         requires size { length out.old ≡ 512 }
         ensures reads { Reads D.tells D.view result self.old self.new }
-        ensures bytes { D.tells → OnOk result ((k : ℕ) → k < 512 → get_or out.new k 0 ≡ settled_in (contents_of D.view self.old) page k) }
-        ensures covers { D.tells → OnOk result ((s k : ℕ) → k < 512 → get_or (stage_in (contents_of D.view self.old) s page) k 0 ≤ get_or out.new k 0) }
+        ensures bytes { D.tells
+            → OnOk result ((k : ℕ) → k < 512 → get_or out.new k 0 ≡ settled_in (contents_of D.view self.old) page k) }
+        ensures covers { D.tells → OnOk result
+            ((s k : ℕ) → k < 512 → get_or (stage_in (contents_of D.view self.old) s page) k 0 ≤ get_or out.new k 0) }
         ensures only { IfErr result (λ fault. fault ≡ DiskFailed) }
     {
         let mut bytes = [0; PAGE];
@@ -188,12 +242,14 @@ impl<D: Disk> Log<D> {
         requires size { length new.now ≡ 512 }
         ensures keeps { Keeps D.tells D.view 0 self.old self.new }
         ensures tx { tx.new ≡ tx.old }
-        ensures put { OnOk result ((old : List ℕ) × (state_of self.new ≡ with_put (state_of self.old) (put_of (slot_of tx.old) page old new.now))) }
+        ensures put { OnOk result ((old : List ℕ)
+            × (state_of self.new ≡ with_put (state_of self.old) (put_of (slot_of tx.old) page old new.now))) }
         ensures err { OnErr result (state_of self.new ≡ state_of self.old) }
         ensures pages { OnOk result ((image : List ℕ) (p : ℕ) →
             page_in (over image self.new) p ≡ (if page == p then new.now else page_in (over image self.old) p)) }
         ensures quiet { IsQuiet (D.view (disk_of self.old)) (D.view (disk_of self.new)) }
-        ensures only { IfErr result (λ fault. IsDiskOrMemory fault (D.view (disk_of self.old)) (D.view (disk_of self.new))) }
+        ensures only { IfErr result
+            (λ fault. IsDiskOrMemory fault (D.view (disk_of self.old)) (D.view (disk_of self.new))) }
     {
         let mut old = [0; PAGE];
         fetch(&mut self.disk, &mut self.kept.pages, page, &mut old)?;
@@ -217,7 +273,8 @@ impl<D: Disk> Log<D> {
         ensures state { state_of self.new ≡ ended (state_of self.old) (slot_of tx) }
         ensures disk { disk_of self.new ≡ disk_of self.old }
         ensures pages { (image : List ℕ) (p : ℕ) → page_in (over image self.new) p ≡ page_in (over image self.old) p }
-        ensures appends { D.tells → AppendsStage (slot_of tx) (contents_of D.view self.old) (contents_of D.view self.new) }
+        ensures appends { D.tells
+            → AppendsStage (slot_of tx) (contents_of D.view self.old) (contents_of D.view self.new) }
     {
         self.kept.end(tx);
     }
@@ -242,10 +299,13 @@ impl<D: Disk> Log<D> {
         ensures sound { OnOk result (IsSoundLog D.tells D.view self.new) }
         ensures state { OnOk result (state_of self.new ≡ forced_all (state_of self.old)) }
         ensures stages { D.tells → OnOk result (KeepsLast (contents_of D.view self.old) (contents_of D.view self.new)) }
-        ensures pages { D.tells → (p : ℕ) → page_in (contents_of D.view self.new) p ≡ page_in (contents_of D.view self.old) p }
-        ensures blocks { D.tells → SameBlocks (state_of self.old).half.pages (D.view (disk_of self.old)).image (D.view (disk_of self.new)).image }
+        ensures pages { D.tells → (p : ℕ)
+            → page_in (contents_of D.view self.new) p ≡ page_in (contents_of D.view self.old) p }
+        ensures blocks { D.tells → SameBlocks
+            (state_of self.old).half.pages (D.view (disk_of self.old)).image (D.view (disk_of self.new)).image }
         ensures durable { OnOk result (IsSettled (D.view (disk_of self.new))) }
-        ensures crash { D.tells → LeavesOnly (IsLeft (contents_of D.view self.old) (D.view (disk_of self.old))) (D.view (disk_of self.old)) (D.view (disk_of self.new)) }
+        ensures crash { D.tells → LeavesOnly (IsLeft (contents_of D.view self.old) (D.view (disk_of self.old)))
+            (D.view (disk_of self.old)) (D.view (disk_of self.new)) }
         ensures blamed { IsBlamed result (D.view (disk_of self.old)) (D.view (disk_of self.new)) }
         ensures only { IfErr result (λ fault. fault ≡ DiskFailed) }
     {
@@ -274,11 +334,14 @@ impl<D: Disk> Log<D> {
         ensures stages { D.tells → OnOk result (KeepsLast (contents_of D.view self.old) (contents_of D.view self.new)) }
         ensures pages { D.tells → OnOk result ((p : ℕ) → p < (state_of self.old).half.pages →
             page_in (contents_of D.view self.new) p ≡ page_in (contents_of D.view self.old) p) }
-        ensures blocks { D.tells → SameBlocks (state_of self.old).half.pages (D.view (disk_of self.old)).image (D.view (disk_of self.new)).image }
+        ensures blocks { D.tells → SameBlocks
+            (state_of self.old).half.pages (D.view (disk_of self.old)).image (D.view (disk_of self.new)).image }
         ensures durable { OnOk result (IsSettled (D.view (disk_of self.new))) }
-        ensures crash { D.tells → LeavesOnly (IsLeft (contents_of D.view self.old) (D.view (disk_of self.old))) (D.view (disk_of self.old)) (D.view (disk_of self.new)) }
+        ensures crash { D.tells → LeavesOnly (IsLeft (contents_of D.view self.old) (D.view (disk_of self.old)))
+            (D.view (disk_of self.old)) (D.view (disk_of self.new)) }
         ensures counted { (D.view (disk_of self.old)).faults ≤ (D.view (disk_of self.new)).faults }
-        ensures only { IfErr result (λ fault. IsDiskOrMemory fault (D.view (disk_of self.old)) (D.view (disk_of self.new))) }
+        ensures only { IfErr result
+            (λ fault. IsDiskOrMemory fault (D.view (disk_of self.old)) (D.view (disk_of self.new))) }
     {
         let alloc = self.kept.pages.alloc();
         let table = recovered(alloc, &self.kept.entries, self.kept.half.pages)?;
@@ -321,9 +384,12 @@ impl<D: Disk> Log<D> {
         ensures state { state_of self.new ≡ state_of self.old }
         ensures pages { D.tells → (p : ℕ) → p < (state_of self.old).half.pages →
             page_in (contents_of D.view self.new) p ≡ page_in (contents_of D.view self.old) p }
-        ensures written { D.tells → OnOk result (Holds (block_start (state_of self.old).half.pages block) piece.now (D.view (disk_of self.new)).image) }
-        ensures torn { D.tells → Torn (block_start (state_of self.old).half.pages block) 1024 (D.view (disk_of self.old)).image (D.view (disk_of self.new)).image }
-        ensures crash { ChangesBy (Torn (block_start (state_of self.old).half.pages block) 1024) (D.view (disk_of self.old)) (D.view (disk_of self.new)) }
+        ensures written { D.tells → OnOk result
+            (Holds (block_start (state_of self.old).half.pages block) piece.now (D.view (disk_of self.new)).image) }
+        ensures torn { D.tells → Torn (block_start (state_of self.old).half.pages block) 1024
+            (D.view (disk_of self.old)).image (D.view (disk_of self.new)).image }
+        ensures crash { ChangesBy (Torn (block_start (state_of self.old).half.pages block) 1024)
+            (D.view (disk_of self.old)) (D.view (disk_of self.new)) }
         ensures blamed { IsBlamed result (D.view (disk_of self.old)) (D.view (disk_of self.new)) }
         ensures only { IfErr result (λ fault. fault ≡ DiskFailed) }
     {

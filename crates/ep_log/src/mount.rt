@@ -70,10 +70,12 @@ fn recover<D: Disk>(
     requires settled { IsSettled (D.view disk.old) }
     requires log { D.tells → HasLog superblock.now half.now (D.view disk.old).image }
     ensures sound { IfOk result (λ kept. IsSound D.tells (D.view disk.new) kept.pages (state_in kept)) }
-    ensures mounted { D.tells → IfOk result (λ kept. IsMounted (D.view disk.old).image (D.view disk.new).image (state_in kept)) }
+    ensures mounted { D.tells
+        → IfOk result (λ kept. IsMounted (D.view disk.old).image (D.view disk.new).image (state_in kept)) }
     ensures fresh { IfOk result (λ kept. state_in kept ≡ fresh_state kept.superblock kept.half) }
     ensures settled { OnOk result (IsSettled (D.view disk.new)) }
-    ensures crash { D.tells → LeavesOnly (HasPages superblock.now half.now.generation (pages_in half.now (D.view disk.old).image) (D.view disk.old).image) (D.view disk.old) (D.view disk.new) }
+    ensures crash { D.tells → LeavesOnly (HasPages superblock.now half.now.generation
+        (pages_in half.now (D.view disk.old).image) (D.view disk.old).image) (D.view disk.old) (D.view disk.new) }
     ensures counted { (D.view disk.old).faults ≤ (D.view disk.new).faults }
     ensures only { IfErr result (λ fault. IsDiskOrMemory fault (D.view disk.old) (D.view disk.new)) }
 {
@@ -96,11 +98,13 @@ fn recover<D: Disk>(
 // Mounts the log on a disk.
 pub fn mounted<D: Disk>(alloc: Global, disk: &mut D) -> Result<Kept, LogFault>
     ensures sound { IfOk result (λ kept. IsSound D.tells (D.view disk.new) kept.pages (state_in kept)) }
-    ensures mounted { D.tells → IfOk result (λ kept. IsMounted (D.view disk.old).image (D.view disk.new).image (state_in kept)) }
+    ensures mounted { D.tells
+        → IfOk result (λ kept. IsMounted (D.view disk.old).image (D.view disk.new).image (state_in kept)) }
     ensures fresh { IfOk result (λ kept. state_in kept ≡ fresh_state kept.superblock kept.half) }
     ensures settled { OnOk result (IsSettled (D.view disk.new)) }
     ensures crash { D.tells → LeavesOnly (IsSameLog (D.view disk.old).image) (D.view disk.old) (D.view disk.new) }
-    ensures left { D.tells → OnErr result (IsQuietOr (IsSameLog (D.view disk.old).image) (D.view disk.old) (D.view disk.new)) }
+    ensures left { D.tells
+        → OnErr result (IsQuietOr (IsSameLog (D.view disk.old).image) (D.view disk.old) (D.view disk.new)) }
     ensures counted { (D.view disk.old).faults ≤ (D.view disk.new).faults }
     ensures only { IfErr result (λ fault. IsMountFault D.tells fault (D.view disk.old) (D.view disk.new)) }
 {

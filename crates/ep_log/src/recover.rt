@@ -1,5 +1,23 @@
 // What recovery makes of the pages that a log's entries name, each of them once, and where it is written.
-ghost use Rattle.std.specs.Prelude.{◌≡◌, ◌<◌, ◌≤◌, ◌∷◌, ◌++◌, [], ℕ, List, Option, Some, None, false, length, get_or, IsSome, IfOk, OnOk};
+ghost use Rattle.std.specs.Prelude.{
+  ◌≡◌,
+  ◌<◌,
+  ◌≤◌,
+  ◌∷◌,
+  ◌++◌,
+  [],
+  ℕ,
+  List,
+  Option,
+  Some,
+  None,
+  false,
+  length,
+  get_or,
+  IsSome,
+  IfOk,
+  OnOk,
+};
 ghost use Rattle.dfs_base.specs.Crash.{IsSettled, ChangesBy};
 ghost use Rattle.ep_layout.specs.declared.entry.Entry.{Entry as TheEntry};
 ghost use Rattle.ep_layout.specs.Places.{in_place};
@@ -16,7 +34,8 @@ use std::collections::BTreeSet;
 
 // Notes the transaction that an entry ends.
 fn note_end(ended: &mut BTreeSet<u64>, entry: &Entry) -> Result<(), AllocError>
-    ensures { OnOk result ((before : List TheEntry) → AreEnds ended.old before → AreEnds ended.new (before ++ entry.now ∷ [])) }
+    ensures { OnOk result
+        ((before : List TheEntry) → AreEnds ended.old before → AreEnds ended.new (before ++ entry.now ∷ [])) }
 {
     if let Entry::End { transaction } = entry {
         ended.insert(*transaction)?;
@@ -62,7 +81,8 @@ fn undo_one(pages: &mut Items<Option<[u8; PAGE]>>, entry: &Entry, ended: &BTreeS
 fn undo(pages: &mut Items<Option<[u8; PAGE]>>, entries: &[Entry], ended: &BTreeSet<u64>)
     requires { AreEnds ended.now entries.now }
     ensures size { length pages.new ≡ length pages.old }
-    ensures kept { (known : ℕ → List ℕ) → AreKept pages.old known → AreKept pages.new (undone entries.now entries.now known) }
+    ensures kept { (known : ℕ → List ℕ)
+        → AreKept pages.old known → AreKept pages.new (undone entries.now entries.now known) }
     ensures held { (p : ℕ) → IsSome (get_or pages.old p None) → IsSome (get_or pages.new p None) }
     ensures others { (p : ℕ) → is_named p entries.now ≡ false → get_or pages.new p None ≡ get_or pages.old p None }
 {
@@ -91,8 +111,10 @@ pub fn recovered(
 // Writes a page in its place, where there is one.
 fn write_page<D: Disk>(disk: &mut D, place: usize, page: &Option<[u8; PAGE]>) -> Result<(), Failed>
     requires { place < 131072 }
-    ensures written { D.tells → OnOk result ((bytes : List ℕ) → page.now ≡ Some bytes → in_place (D.view disk.new).image place ≡ bytes) }
-    ensures same { D.tells → SameButPages (λ q. q ≡ place → page.now ≡ None) (D.view disk.old).image (D.view disk.new).image }
+    ensures written { D.tells
+        → OnOk result ((bytes : List ℕ) → page.now ≡ Some bytes → in_place (D.view disk.new).image place ≡ bytes) }
+    ensures same { D.tells
+        → SameButPages (λ q. q ≡ place → page.now ≡ None) (D.view disk.old).image (D.view disk.new).image }
     ensures crash { ChangesBy (SameButPages (λ q. q ≡ place → page.now ≡ None)) (D.view disk.old) (D.view disk.new) }
     ensures blamed { IsBlamed result (D.view disk.old) (D.view disk.new) }
 {
@@ -105,8 +127,10 @@ fn write_page<D: Disk>(disk: &mut D, place: usize, page: &Option<[u8; PAGE]>) ->
 // Writes each page that there is in its place, and syncs.
 pub fn write_pages<D: Disk>(disk: &mut D, table: &[Option<[u8; PAGE]>]) -> Result<(), Failed>
     requires { length table.now ≤ 131072 }
-    ensures written { D.tells → OnOk result ((p : ℕ) (bytes : List ℕ) → get_or table.now p None ≡ Some bytes → in_place (D.view disk.new).image p ≡ bytes) }
-    ensures same { D.tells → SameButPages (λ q. get_or table.now q None ≡ None) (D.view disk.old).image (D.view disk.new).image }
+    ensures written { D.tells → OnOk result
+        ((p : ℕ) (bytes : List ℕ) → get_or table.now p None ≡ Some bytes → in_place (D.view disk.new).image p ≡ bytes) }
+    ensures same { D.tells
+        → SameButPages (λ q. get_or table.now q None ≡ None) (D.view disk.old).image (D.view disk.new).image }
     ensures settled { OnOk result (IsSettled (D.view disk.new)) }
     ensures crash { ChangesBy (SameButPages (λ q. get_or table.now q None ≡ None)) (D.view disk.old) (D.view disk.new) }
     ensures blamed { IsBlamed result (D.view disk.old) (D.view disk.new) }

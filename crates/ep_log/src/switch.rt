@@ -42,7 +42,8 @@ pub fn close_header<D: Disk>(disk: &mut D, half: &Half, other: u64) -> Result<()
     ensures closed { D.tells → OnOk result (byte_at (D.view disk.new).image other ≢ 1) }
     ensures settled { OnOk result (IsSettled (D.view disk.new)) }
     ensures same { D.tells → GateTorn half.now other (D.view disk.old).image (D.view disk.new).image }
-    ensures crash { D.tells → LeavesOnly (GateTorn half.now other (D.view disk.old).image) (D.view disk.old) (D.view disk.new) }
+    ensures crash { D.tells
+        → LeavesOnly (GateTorn half.now other (D.view disk.old).image) (D.view disk.old) (D.view disk.new) }
     ensures faults { IsCounted result (D.view disk.old) (D.view disk.new) }
 {
     if read_byte(disk, other)? != OPEN {
@@ -128,7 +129,8 @@ pub fn write_generation<D: Disk>(
     ensures written { D.tells → OnOk result (number_at 8 (other + 8) (D.view disk.new).image ≡ generation) }
     ensures settled { OnOk result (IsSettled (D.view disk.new)) }
     ensures same { D.tells → GenerationTorn half.now other (D.view disk.old).image (D.view disk.new).image }
-    ensures crash { D.tells → LeavesOnly (GenerationTorn half.now other (D.view disk.old).image) (D.view disk.old) (D.view disk.new) }
+    ensures crash { D.tells
+        → LeavesOnly (GenerationTorn half.now other (D.view disk.old).image) (D.view disk.old) (D.view disk.new) }
     ensures faults { IsCounted result (D.view disk.old) (D.view disk.new) }
 {
     let mut bytes = [0; 8];
@@ -152,7 +154,8 @@ pub fn switch<D: Disk>(
     ensures switched { D.tells → OnOk result (IsLog (half_after half.now other) [] (D.view disk.new).image) }
     ensures same { D.tells → SameOutside other (D.view disk.old).image (D.view disk.new).image }
     ensures settled { OnOk result (IsSettled (D.view disk.new)) }
-    ensures crash { D.tells → LeavesOnly (HasPages superblock.now half.now.generation (pages_in half.now (D.view disk.old).image) (D.view disk.old).image) (D.view disk.old) (D.view disk.new) }
+    ensures crash { D.tells → LeavesOnly (HasPages superblock.now half.now.generation
+        (pages_in half.now (D.view disk.old).image) (D.view disk.old).image) (D.view disk.old) (D.view disk.new) }
     ensures blamed { IsBlamed result (D.view disk.old) (D.view disk.new) }
 {
     close_header(disk, half, other)?;

@@ -1,13 +1,38 @@
 -- The header of a fileset's slot: 0 the state, 4..8 the id, 8..12 the limit of objects, 12..73 the name. In
 -- format 2, 73 the other server of a fileset that leaves, arrives or is gone, 76..80 how often it moved, 80..88
 -- its ship number where it leaves or arrives, and 88..92 how many of its parts were taken where it arrives.
-use Rattle.std.specs.Prelude.{ℕ, ◌+◌, ◌*◌, ◌/◌, ◌%◌, ◌==◌, ◌&&◌, ◌||◌, not, nat_le, nat_lt, Bool, true, false, List, if◌then◌else◌}
+use Rattle.std.specs.Prelude.{
+  ℕ,
+  ◌+◌,
+  ◌*◌,
+  ◌/◌,
+  ◌%◌,
+  ◌==◌,
+  ◌&&◌,
+  ◌||◌,
+  not,
+  nat_le,
+  nat_lt,
+  Bool,
+  true,
+  false,
+  List,
+  if◌then◌else◌,
+}
 use Rattle.dfs_base.specs.Image.{byte_at}
 use Rattle.ep_layout.specs.Numbers.{number_at}
 use Rattle.ep_pages.specs.Words.{are_zero, name_at, is_name_at}
 use Rattle.ep_pages.specs.declared.header.SlotHeader.{SlotHeader}
 use Rattle.ep_pages.specs.declared.header.SlotState.{SlotState}
-use Rattle.ep_pages.specs.declared.header.SlotState.TheVariants.{Free, Writable, Clone, Leaving, Arriving, Gone, Unknown}
+use Rattle.ep_pages.specs.declared.header.SlotState.TheVariants.{
+  Free,
+  Writable,
+  Clone,
+  Leaving,
+  Arriving,
+  Gone,
+  Unknown,
+}
 
 -- the state of a slot, by its byte and the format's; the last three are of format 2
 abbrev pub state_for : ℕ → ℕ → SlotState

@@ -2,7 +2,16 @@
 ghost use Rattle.std.specs.Prelude.{◌≡◌, ◌≤◌, ◌<◌, ◌+◌, ◌*◌, ◌==◌, ◌||◌, nat_le, not, ℕ, Bool};
 ghost use Rattle.ep_pages.specs.Words.{each_below};
 ghost use Rattle.dfs_base.specs.Image.{byte_at};
-ghost use Rattle.ep_pages.specs.Anode.{is_object, is_free_page as is_free, page_pointer as pointer_there, bytes_in as bytes_there, is_length, are_lists, has_no_hole, is_object_page as is_object_there};
+ghost use Rattle.ep_pages.specs.Anode.{
+  is_object,
+  is_free_page as is_free,
+  page_pointer as pointer_there,
+  bytes_in as bytes_there,
+  is_length,
+  are_lists,
+  has_no_hole,
+  is_object_page as is_object_there,
+};
 
 use crate::words::{are_zero, is_name_at};
 use dfs_base::{FILE_BYTES_MAX, OBJECTS_MAX};

@@ -1,9 +1,33 @@
 // Pointers and entries in blocks.
-ghost use Rattle.std.specs.Prelude.{◌≡◌, ◌≤◌, ◌<◌, ◌+◌, ◌*◌, ◌/◌, ◌-◌, ◌==◌, ◌&&◌, ◌||◌, not, nat_le, nat_lt, ℕ, length};
+ghost use Rattle.std.specs.Prelude.{
+  ◌≡◌,
+  ◌≤◌,
+  ◌<◌,
+  ◌+◌,
+  ◌*◌,
+  ◌/◌,
+  ◌-◌,
+  ◌==◌,
+  ◌&&◌,
+  ◌||◌,
+  not,
+  nat_le,
+  nat_lt,
+  ℕ,
+  length,
+};
 ghost use Rattle.dfs_base.specs.Image.{byte_at};
 ghost use Rattle.dfs_base.specs.Name.{is_before};
 ghost use Rattle.ep_pages.specs.Words.{each_below};
-ghost use Rattle.ep_pages.specs.Blocks.{map_pointer as pointer_there, is_map as is_map_there, is_entry, is_entry_block as holds_entries, entry_anode, entry_unique, entry_name};
+ghost use Rattle.ep_pages.specs.Blocks.{
+  map_pointer as pointer_there,
+  is_map as is_map_there,
+  is_entry,
+  is_entry_block as holds_entries,
+  entry_anode,
+  entry_unique,
+  entry_name,
+};
 
 use crate::words::{are_zero, is_name_at, name_at};
 use dfs_base::OBJECTS_MAX;

@@ -1,7 +1,17 @@
 // Headers of filesets' slots.
 ghost use Rattle.std.specs.Prelude.{◌≡◌, ◌≤◌, ◌+◌, ℕ, Bool};
 ghost use Rattle.dfs_base.specs.Image.{byte_at};
-ghost use Rattle.ep_pages.specs.Header.{state_for, state_of as state_in, is_taken_slot, is_limit, is_id, is_other, are_moves, is_behind, is_header as is_header_page};
+ghost use Rattle.ep_pages.specs.Header.{
+  state_for,
+  state_of as state_in,
+  is_taken_slot,
+  is_limit,
+  is_id,
+  is_other,
+  are_moves,
+  is_behind,
+  is_header as is_header_page,
+};
 
 use crate::words::{are_zero, is_name_at};
 use dfs_base::{FilesetId, Name, OBJECTS_MAX};

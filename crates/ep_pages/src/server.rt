@@ -2,7 +2,14 @@
 ghost use Rattle.std.specs.Prelude.{◌≡◌, ◌≤◌, ◌+◌, ◌&&◌, nat_le, ℕ};
 ghost use Rattle.std.specs.List.{list_all};
 ghost use Rattle.dfs_base.specs.Image.{byte_at, bytes_from};
-ghost use Rattle.ep_pages.specs.Server.{is_code, is_taken, is_rest, is_server_page as is_server, taken_at, server_of as facts_in};
+ghost use Rattle.ep_pages.specs.Server.{
+  is_code,
+  is_taken,
+  is_rest,
+  is_server_page as is_server,
+  taken_at,
+  server_of as facts_in,
+};
 
 use crate::words::{are_zero, piece};
 use ep_layout::{PAGE, u32_at, u64_at};

@@ -1,4 +1,5 @@
--- How many pointers name each block. The counts stand in the metadata pages behind those of the filesets, 256 in a page.
+-- How many pointers name each block. The counts stand in the metadata pages behind those of the filesets, 256 in a
+-- page.
 use Rattle.std.specs.Prelude.{◌≡◌, ◌≢◌, ◌≤◌, ◌<◌, ℕ, ◌+◌, ◌*◌, ◌/◌, ◌%◌, List, Option, Some, None}
 use Rattle.ep_layout.specs.Numbers.{number_at}
 use Rattle.ep_log.specs.Puts.{page_of, settled_byte}
@@ -13,7 +14,8 @@ count_place block = 2 * (block % 256)
 
 -- the count of a block in a log's pages
 unfoldable pub count_now : State → List ℕ → ℕ → ℕ
-count_now state image block = number_at 2 (count_place block) (page_of state.entries state.puts image (count_page block))
+count_now state image block =
+    number_at 2 (count_place block) (page_of state.entries state.puts image (count_page block))
 
 -- the or of the counts that a crash may leave
 unfoldable pub count_settled : State → List ℕ → ℕ → ℕ
@@ -46,7 +48,8 @@ MayCount state slot = (page : ℕ) → 1058 ≤ page → page < state.half.pages
 
 -- a transaction put the page of a block's count
 abbrev pub HasPut : ℕ → ℕ → State → State → Type 0
-HasPut slot block old new = (before : List ℕ) × (after : List ℕ) × (new ≡ with_put old (put_of slot (count_page block) before after))
+HasPut slot block old new =
+    (before : List ℕ) × (after : List ℕ) × (new ≡ with_put old (put_of slot (count_page block) before after))
 
 -- a block has another count, and all else is the same
 pub record SetsCount (block n : ℕ) (old new : State) (image : List ℕ) : Type 0 where

@@ -28,7 +28,8 @@ pub fn first_zero(now: &[u8; PAGE], settled: &[u8; PAGE], counts: u32) -> Option
     requires { counts ≤ 256 }
     ensures { MatchOption result
         ((i : ℕ) → i < counts → AreBothZero now.now settled.now i → ⊥)
-        (λ found. (found < counts) × AreBothZero now.now settled.now found × ((i : ℕ) → i < found → AreBothZero now.now settled.now i → ⊥)) }
+        (λ found. (found < counts)
+        × AreBothZero now.now settled.now found × ((i : ℕ) → i < found → AreBothZero now.now settled.now i → ⊥)) }
 {
     for i in 0..counts {
         let place = 2 * i as usize;

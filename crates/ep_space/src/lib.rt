@@ -1,5 +1,5 @@
-//! The blocks of an aggregate: how many pointers name each, and which are free. A block that a crash could leave in use is
-//! not free, so it is never written before the transaction that gave it up is durable.
+//! The blocks of an aggregate: how many pointers name each, and which are free. A block that a crash could leave in use
+//! is not free, so it is never written before the transaction that gave it up is durable.
 #![tactic(auto)]
 
 mod counts;

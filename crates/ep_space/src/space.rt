@@ -18,7 +18,8 @@ pub fn count_of<D: Disk>(log: &mut Log<D>, block: u32) -> Result<u16, SpaceFault
     requires block { block < (state_of log.old).superblock.blocks }
     ensures sound { IsSoundLog D.tells D.view log.new }
     ensures state { state_of log.new ≡ state_of log.old }
-    ensures count { D.tells → IfOk result (λ count. count ≡ count_now (state_of log.old) (D.view (disk_of log.old)).image block) }
+    ensures count { D.tells
+        → IfOk result (λ count. count ≡ count_now (state_of log.old) (D.view (disk_of log.old)).image block) }
     ensures quiet { IsQuiet (D.view (disk_of log.old)) (D.view (disk_of log.new)) }
     ensures counted { (D.view (disk_of log.old)).faults ≤ (D.view (disk_of log.new)).faults }
     ensures only { IfErr result (λ fault. IsCountFault fault (D.view (disk_of log.old)) (D.view (disk_of log.new))) }
@@ -41,7 +42,8 @@ fn set_count<D: Disk>(
     ensures sound { IsSoundLog D.tells D.view log.new }
     ensures tx { tx.new ≡ tx.old }
     ensures put { OnOk result (HasPut (slot_of tx.old) block (state_of log.old) (state_of log.new)) }
-    ensures count { D.tells → OnOk result (SetsCount block count (state_of log.old) (state_of log.new) (D.view (disk_of log.old)).image) }
+    ensures count { D.tells
+        → OnOk result (SetsCount block count (state_of log.old) (state_of log.new) (D.view (disk_of log.old)).image) }
     ensures err { OnErr result (state_of log.new ≡ state_of log.old) }
     ensures quiet { IsQuiet (D.view (disk_of log.old)) (D.view (disk_of log.new)) }
     ensures counted { (D.view (disk_of log.old)).faults ≤ (D.view (disk_of log.new)).faults }
@@ -61,7 +63,8 @@ fn find_from<D: Disk>(log: &mut Log<D>, first: u32) -> Result<Option<u32>, Space
     requires whole { first % 256 ≡ 0 }
     ensures sound { IsSoundLog D.tells D.view log.new }
     ensures state { state_of log.new ≡ state_of log.old }
-    ensures found { D.tells → IfOk result (λ found. IsFound (state_of log.old) (D.view (disk_of log.old)).image first (first + 256) found) }
+    ensures found { D.tells
+        → IfOk result (λ found. IsFound (state_of log.old) (D.view (disk_of log.old)).image first (first + 256) found) }
     ensures within { IfOk result (λ found. IfSome found (λ block. block < (state_of log.old).superblock.blocks)) }
     ensures quiet { IsQuiet (D.view (disk_of log.old)) (D.view (disk_of log.new)) }
     ensures counted { (D.view (disk_of log.old)).faults ≤ (D.view (disk_of log.new)).faults }
@@ -83,7 +86,8 @@ fn find<D: Disk>(log: &mut Log<D>) -> Result<Option<u32>, SpaceFault>
     requires sound { IsSoundLog D.tells D.view log.old }
     ensures sound { IsSoundLog D.tells D.view log.new }
     ensures state { state_of log.new ≡ state_of log.old }
-    ensures found { D.tells → IfOk result (λ found. IsFound (state_of log.old) (D.view (disk_of log.old)).image 0 (state_of log.old).superblock.blocks found) }
+    ensures found { D.tells → IfOk result (λ found.
+        IsFound (state_of log.old) (D.view (disk_of log.old)).image 0 (state_of log.old).superblock.blocks found) }
     ensures within { IfOk result (λ found. IfSome found (λ block. block < (state_of log.old).superblock.blocks)) }
     ensures quiet { IsQuiet (D.view (disk_of log.old)) (D.view (disk_of log.new)) }
     ensures counted { (D.view (disk_of log.old)).faults ≤ (D.view (disk_of log.new)).faults }
@@ -97,8 +101,9 @@ fn find<D: Disk>(log: &mut Log<D>) -> Result<Option<u32>, SpaceFault>
     Ok(None)
 }
 
-/// Takes the lowest free block, which no pointer names now or in whatever a crash may leave: its count is then 1. It answers
-/// `Full` exactly where no block is free; the other errors are `Failed` and `Memory`. After an error nothing is put.
+/// Takes the lowest free block, which no pointer names now or in whatever a crash may leave: its count is then 1. It
+/// answers `Full` exactly where no block is free; the other errors are `Failed` and `Memory`. After an error nothing is
+/// put.
 pub fn take<D: Disk>(log: &mut Log<D>, tx: &mut Tx) -> Result<u32, SpaceFault>
     requires sound { IsSoundLog D.tells D.view log.old }
     requires may { MayCount (state_of log.old) (slot_of tx.old) }
@@ -106,8 +111,10 @@ pub fn take<D: Disk>(log: &mut Log<D>, tx: &mut Tx) -> Result<u32, SpaceFault>
     ensures tx { tx.new ≡ tx.old }
     ensures within { IfOk result (λ block. block < (state_of log.old).superblock.blocks) }
     ensures put { IfOk result (λ block. HasPut (slot_of tx.old) block (state_of log.old) (state_of log.new)) }
-    ensures lowest { D.tells → IfOk result (λ block. IsFound (state_of log.old) (D.view (disk_of log.old)).image 0 block (Some block)) }
-    ensures count { D.tells → IfOk result (λ block. SetsCount block 1 (state_of log.old) (state_of log.new) (D.view (disk_of log.old)).image) }
+    ensures lowest { D.tells
+        → IfOk result (λ block. IsFound (state_of log.old) (D.view (disk_of log.old)).image 0 block (Some block)) }
+    ensures count { D.tells → IfOk result
+        (λ block. SetsCount block 1 (state_of log.old) (state_of log.new) (D.view (disk_of log.old)).image) }
     ensures err { OnErr result (state_of log.new ≡ state_of log.old) }
     ensures quiet { IsQuiet (D.view (disk_of log.old)) (D.view (disk_of log.new)) }
     ensures counted { (D.view (disk_of log.old)).faults ≤ (D.view (disk_of log.new)).faults }
@@ -122,7 +129,8 @@ pub fn take<D: Disk>(log: &mut Log<D>, tx: &mut Tx) -> Result<u32, SpaceFault>
     Ok(block)
 }
 
-/// One more pointer names a block, which 1 to 65,534 do. The errors are `Failed` and `Memory`, after which nothing is put.
+/// One more pointer names a block, which 1 to 65,534 do. The errors are `Failed` and `Memory`, after which nothing is
+/// put.
 pub fn share<D: Disk>(log: &mut Log<D>, tx: &mut Tx, block: u32) -> Result<(), SpaceFault>
     requires sound { IsSoundLog D.tells D.view log.old }
     requires block { block < (state_of log.old).superblock.blocks }
@@ -132,7 +140,8 @@ pub fn share<D: Disk>(log: &mut Log<D>, tx: &mut Tx, block: u32) -> Result<(), S
     ensures sound { IsSoundLog D.tells D.view log.new }
     ensures tx { tx.new ≡ tx.old }
     ensures put { OnOk result (HasPut (slot_of tx.old) block (state_of log.old) (state_of log.new)) }
-    ensures count { D.tells → OnOk result (SetsCount block (count_now (state_of log.old) (D.view (disk_of log.old)).image block + 1) (state_of log.old) (state_of log.new) (D.view (disk_of log.old)).image) }
+    ensures count { D.tells → OnOk result (SetsCount block (count_now (state_of log.old) (D.view
+        (disk_of log.old)).image block + 1) (state_of log.old) (state_of log.new) (D.view (disk_of log.old)).image) }
     ensures err { OnErr result (state_of log.new ≡ state_of log.old) }
     ensures quiet { IsQuiet (D.view (disk_of log.old)) (D.view (disk_of log.new)) }
     ensures counted { (D.view (disk_of log.old)).faults ≤ (D.view (disk_of log.new)).faults }
@@ -152,7 +161,8 @@ pub fn give<D: Disk>(log: &mut Log<D>, tx: &mut Tx, block: u32) -> Result<(), Sp
     ensures sound { IsSoundLog D.tells D.view log.new }
     ensures tx { tx.new ≡ tx.old }
     ensures put { OnOk result (HasPut (slot_of tx.old) block (state_of log.old) (state_of log.new)) }
-    ensures count { D.tells → OnOk result (SetsCount block (count_now (state_of log.old) (D.view (disk_of log.old)).image block - 1) (state_of log.old) (state_of log.new) (D.view (disk_of log.old)).image) }
+    ensures count { D.tells → OnOk result (SetsCount block (count_now (state_of log.old) (D.view
+        (disk_of log.old)).image block - 1) (state_of log.old) (state_of log.new) (D.view (disk_of log.old)).image) }
     ensures err { OnErr result (state_of log.new ≡ state_of log.old) }
     ensures quiet { IsQuiet (D.view (disk_of log.old)) (D.view (disk_of log.new)) }
     ensures counted { (D.view (disk_of log.old)).faults ≤ (D.view (disk_of log.new)).faults }

@@ -3,8 +3,8 @@ use dfs_disk::{FileDisk, FileRefused, MemDisk};
 use dfs_outside::{read_byte, write_through};
 use std::process::Abort;
 
-// Seven calls of a disk, of which a write is the first, third and fourth, and a sync the second and sixth. Answers which
-// ones succeeded, and what the last one read from place 4 on.
+// Seven calls of a disk, of which a write is the first, third and fourth, and a sync the second and sixth. Answers
+// which ones succeeded, and what the last one read from place 4 on.
 fn worked<D: Disk>(disk: &mut D) -> ([bool; 7], [u8; 5]) {
     let mut read = [9; 5];
     let first = disk.write_at(2, b"abc").is_ok();

@@ -381,8 +381,8 @@ fn clones_share_sixty_four_blocks(rt: HostRuntime) -> Result<(), Fail> {
     Ok(())
 }
 
-// Two files by hand share an indirect block of count 2, whose one block has count 1. One of them is changed, and both blocks
-// are then counted for the other.
+// Two files by hand share an indirect block of count 2, whose one block has count 1. One of them is changed, and both
+// blocks are then counted for the other.
 fn by_hand(rt: &HostRuntime, name: &str, act: Act, counts: [u32; 2]) -> Result<usize, Fail> {
     let [once, all] = counts;
     let rows = [

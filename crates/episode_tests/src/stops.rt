@@ -34,8 +34,8 @@ fn run<D: Disk>(alloc: Global, disk: D) -> (D, bool, bool) {
     }
 }
 
-// What a crash may leave of the ranges that aren't synced: what was written, or 1 in the bytes of each, or 255 in those of
-// every other one.
+// What a crash may leave of the ranges that aren't synced: what was written, or 1 in the bytes of each, or 255 in those
+// of every other one.
 const TEARS: [(u64, u8); 3] = [(0, 0), (!0, 1), (0x5555, 255)];
 
 // Mounts what a crash may leave of a disk, which is to have one of these contents.
@@ -61,8 +61,8 @@ fn is_repeated(last: Seen, call: Seen) -> bool {
     matches!(last, Seen::Read(_)) && !matches!(call, Seen::Wrote(_, _))
 }
 
-// Stops a run at each of its calls. Its pages are then as before until the mount has answered, as after it once the force
-// has, and all as before or all as after between.
+// Stops a run at each of its calls. Its pages are then as before until the mount has answered, as after it once the
+// force has, and all as before or all as after between.
 fn stopped(rt: &impl Abort, alloc: Global, bytes: &[u8], before: [u64; 4]) -> Result<(), Fail> {
     let contents = [before, [7, 7, 7, 9]];
     let (whole, _, _) = run(alloc, watching(alloc, MemDisk::of(alloc, bytes, &[])?));
@@ -79,9 +79,9 @@ fn stopped(rt: &impl Abort, alloc: Global, bytes: &[u8], before: [u64; 4]) -> Re
     judge(rt, alloc, &whole, &contents[1..])
 }
 
-// A disk with the gate of an update closed, so that its transaction has no end; with a closed half whose torn generation is
-// the last one; and with one whose torn generation is the used half's own. Each has entries behind open gates at the front
-// and in the middle of the closed half, of the generation that this has next.
+// A disk with the gate of an update closed, so that its transaction has no end; with a closed half whose torn
+// generation is the last one; and with one whose torn generation is the used half's own. Each has entries behind open
+// gates at the front and in the middle of the closed half, of the generation that this has next.
 #[test]
 fn a_stop_leaves_all_or_nothing(rt: HostRuntime) -> Result<(), Fail> {
     let alloc = rt.alloc();

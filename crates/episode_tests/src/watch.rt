@@ -87,8 +87,8 @@ pub fn is_synced(seen: &[Seen]) -> bool {
     true
 }
 
-// Bytes that a crash may leave: those that a read gives, but for the ranges that were written since the last sync and have a
-// bit in the mask, the newest the lowest: the second half of each of these has the byte everywhere.
+// Bytes that a crash may leave: those that a read gives, but for the ranges that were written since the last sync and
+// have a bit in the mask, the newest the lowest: the second half of each of these has the byte everywhere.
 pub fn torn(
     alloc: Global,
     disk: &Watched<MemDisk>,

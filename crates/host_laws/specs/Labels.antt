@@ -1,5 +1,29 @@
 -- The locks and open files in use.
-use Rattle.std.specs.Prelude.{◌≡◌, ◌≤◌, ◌↔◌, ℕ, ◌==◌, Bool, true, false, ◌&&◌, ◌||◌, not, if◌then◌else◌, List, [], ◌∷◌, map, insert, filter, Option, Some, None, Ok, ◌+◌}
+use Rattle.std.specs.Prelude.{
+  ◌≡◌,
+  ◌≤◌,
+  ◌↔◌,
+  ℕ,
+  ◌==◌,
+  Bool,
+  true,
+  false,
+  ◌&&◌,
+  ◌||◌,
+  not,
+  if◌then◌else◌,
+  List,
+  [],
+  ◌∷◌,
+  map,
+  insert,
+  filter,
+  Option,
+  Some,
+  None,
+  Ok,
+  ◌+◌,
+}
 use Rattle.std.specs.List.{list_any, list_all, count_by}
 use Rattle.dfs_base.specs.Ids.{same_fid}
 use Rattle.dfs_base.specs.Name.{same_name}

@@ -25,8 +25,10 @@ abbrev pub FreshHasNone : Type 0
 FreshHasNone = (disk : Aggregate) → IsEmpty disk
     → ((p : ℕ) → p < count_pages disk → (k : ℕ) → k < 256 → count_at disk p k ≡ 0) → faults_in disk ≡ []
 
--- a count that isn't zero is a fault of its page, of a block or of none, and the only one where the other pages are zero
+-- a count that isn't zero is a fault of its page, of a block or of none, and the only one where the other pages are
+-- zero
 abbrev pub CountIsTold : Type 0
-CountIsTold = (disk : Aggregate) → IsEmpty disk → (p k : ℕ) → p < count_pages disk → k < 256 → (count_at disk p k ≡ 0 → ⊥)
+CountIsTold = (disk : Aggregate)
+    → IsEmpty disk → (p k : ℕ) → p < count_pages disk → k < 256 → (count_at disk p k ≡ 0 → ⊥)
     → ((q : ℕ) → q < count_pages disk → (q ≡ p → ⊥) → (j : ℕ) → j < 256 → count_at disk q j ≡ 0)
     → faults_in disk ≡ one_fault (page_start (1058 + p)) rules.Count

@@ -12,12 +12,14 @@ use Rattle.plain_service.specs.Calls.{own_calls}
 use Rattle.plain_service.specs.Played.{calls_in, is_own, last_calls, IsPlayed}
 use Rattle.plain_service.specs.declared.played.Played.{Played}
 
--- the calls of each host are those that its lines ask for, in their order, each once, and then the ones that it makes by itself
+-- the calls of each host are those that its lines ask for, in their order, each once, and then the ones that it makes
+-- by itself
 abbrev pub CallsFollowLines : Type 0
 CallsFollowLines =
     (script : Script) (played : Played) (host : HostId) → IsPlayed script played →
     calls_in (filter (is_own host) played.history)
-    ≡ own_calls host (script.setup ++ script.lines) ++ last_calls script (script.setup ++ script.lines) host played.history
+    ≡ own_calls host (script.setup ++ script.lines)
+    ++ last_calls script (script.setup ++ script.lines) host played.history
 
 -- neither a call nor a store among these entries is a host's
 pub record IsSilent (host : HostId) (entries : List Entry) : Type 0 where

@@ -1,5 +1,24 @@
 -- What a run of a script on the file tree is.
-use Rattle.std.specs.Prelude.{◌≡◌, ℕ, ◌+◌, ◌==◌, ◌&&◌, not, Bool, true, false, if◌then◌else◌, List, [], ◌∷◌, ◌++◌, length, map, filter, IsPermutation}
+use Rattle.std.specs.Prelude.{
+  ◌≡◌,
+  ℕ,
+  ◌+◌,
+  ◌==◌,
+  ◌&&◌,
+  not,
+  Bool,
+  true,
+  false,
+  if◌then◌else◌,
+  List,
+  [],
+  ◌∷◌,
+  ◌++◌,
+  length,
+  map,
+  filter,
+  IsPermutation,
+}
 use Rattle.std.specs.List.{flat_map, list_any, list_all}
 use Rattle.dfs_base.specs.declared.ids.HostId.{HostId}
 use Rattle.dfs_base.specs.declared.ids.Node.TheVariants.{Host}
@@ -64,26 +83,30 @@ stops host lines = list_any (stops_at host) lines
 
 -- the calls by which a host ends what it has in use
 abbrev pub endings : Script → HostId → List Entry → List Asked
-endings script host history = map (λ used. record { host = host; call = ending used }) (uses_from host [] (filter (is_asked script) history))
+endings script host history =
+    map (λ used. record { host = host; call = ending used }) (uses_from host [] (filter (is_asked script) history))
 
 -- the calls that a host makes by itself at its end: none where it stopped
 abbrev pub last_calls : Script → List Line → HostId → List Entry → List Asked
 last_calls script lines host history = if stops host lines then [] else endings script host history
 
--- A history is what hosts do by lines that go in this order. What the lines bring about comes in this order, each once: the
--- calls that they ask for, and, where a host stops, that it is down at each server. The calls of each host are numbered from
--- 1; after those that its lines ask for it makes, unless it stopped, the calls that end what it has in use.
+-- A history is what hosts do by lines that go in this order. What the lines bring about comes in this order, each once:
+-- the calls that they ask for, and, where a host stops, that it is down at each server. The calls of each host are
+-- numbered from 1; after those that its lines ask for it makes, unless it stopped, the calls that end what it has in
+-- use.
 pub record IsDoneBy (script : Script) (lines : List Line) (history : List Entry) : Type 0 where
   pub acts : acts_in script history ≡ acts_of (length script.roster.capacity) lines
   pub numbered : (host : HostId) → are_numbered host 1 history ≡ true
-  pub implied : (host : HostId) → calls_in (filter (is_implied script host) history) ≡ last_calls script lines host history
+  pub implied : (host : HostId)
+      → calls_in (filter (is_implied script host) history) ≡ last_calls script lines host history
 
 -- whether a call moved a fileset
 abbrev pub has_moved : CallOf → Reply → Bool
 has_moved (MoveFileset server fileset to) Done = true
 has_moved _ _ = false
 
--- whether, from where one is due or not, a server learns that a fileset has arrived directly behind each move, and nowhere else
+-- whether, from where one is due or not, a server learns that a fileset has arrived directly behind each move, and
+-- nowhere else
 abbrev pub lefts_stand : Bool → List Entry → Bool
 lefts_stand due [] = not due
 lefts_stand due (Left server id ∷ entries) = due && lefts_stand false entries
@@ -105,7 +128,8 @@ idle_after host idle (Left server id) = idle
 -- whether a host stores nothing from where it is down on, unless it calls again
 abbrev pub stays_idle : HostId → Bool → List Entry → Bool
 stays_idle host idle [] = true
-stays_idle host idle (entry ∷ entries) = not (idle && is_store_by host entry) && stays_idle host (idle_after host idle entry) entries
+stays_idle host idle (entry ∷ entries) =
+    not (idle && is_store_by host entry) && stays_idle host (idle_after host idle entry) entries
 
 -- A tree from which a script can be run: it is well formed and has the script's roster, nothing is unsaved, nothing is
 -- in use, and no server keeps room for a fileset that left it.
@@ -117,10 +141,10 @@ pub record IsStart (given : Roster) (tree : Tree) : Type 0 where
   pub opens : tree.opens ≡ []
   pub rooms : rooms_free tree ≡ true
 
--- A script was run on the file tree: what happened is legal; first come the lines that make the filesets, and then all others,
--- each once, in an order in which each node's lines stay in theirs and each that awaits a flag comes after the one that raised
--- it; a server learns that a fileset has arrived directly behind the move; a host that is down stores nothing any more; and in the
--- end nothing is unsaved, and no server keeps room for a fileset that left it.
+-- A script was run on the file tree: what happened is legal; first come the lines that make the filesets, and then all
+-- others, each once, in an order in which each node's lines stay in theirs and each that awaits a flag comes after the
+-- one that raised it; a server learns that a fileset has arrived directly behind the move; a host that is down stores
+-- nothing any more; and in the end nothing is unsaved, and no server keeps room for a fileset that left it.
 pub record IsPlayed (script : Script) (played : Played) : Type 0 where
   pub start : IsStart script.roster played.start
   pub legal : IsHistory played.start played.history

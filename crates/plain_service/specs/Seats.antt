@@ -1,5 +1,29 @@
 -- Where each node stands while the lines of a script go.
-use Rattle.std.specs.Prelude.{◌≡◌, ℕ, ◌+◌, ◌-◌, nat_le, nat_lt, ◌&&◌, not, Bool, true, false, List, [], ◌∷◌, ◌++◌, length, drop, filter, IsPermutation, slice_get, Some, unwrap_or, if◌then◌else◌}
+use Rattle.std.specs.Prelude.{
+  ◌≡◌,
+  ℕ,
+  ◌+◌,
+  ◌-◌,
+  nat_le,
+  nat_lt,
+  ◌&&◌,
+  not,
+  Bool,
+  true,
+  false,
+  List,
+  [],
+  ◌∷◌,
+  ◌++◌,
+  length,
+  drop,
+  filter,
+  IsPermutation,
+  slice_get,
+  Some,
+  unwrap_or,
+  if◌then◌else◌,
+}
 use Rattle.std.specs.List.{flat_map, range_with_len}
 use Rattle.std.specs.Option.{option_map_or}
 use Rattle.dfs_base.specs.declared.ids.Node.{Node}
@@ -31,7 +55,8 @@ all_places lines = range_with_len 0 (length lines)
 
 -- the place of a node's next line; nodes without a seat have none
 abbrev pub next_of : List Line → List ℕ → Node → ℕ
-next_of lines next node = if is_seated node then unwrap_or (slice_get next (seat_of node)) (length lines) else length lines
+next_of lines next node =
+    if is_seated node then unwrap_or (slice_get next (seat_of node)) (length lines) else length lines
 
 -- the lines that a node has left
 abbrev pub left_at : List Line → List ℕ → Node → List Line
@@ -63,7 +88,8 @@ pub record AreFirst (lines : List Line) (next : List ℕ) : Type 0 where
 
 -- whether the line at a place has gone, where each node's next line is at these
 abbrev pub has_gone : List Line → List ℕ → ℕ → Bool
-has_gone lines next place = option_map_or (λ line. nat_lt place (next_of lines next line.node)) (slice_get lines place) true
+has_gone lines next place =
+    option_map_or (λ line. nat_lt place (next_of lines next line.node)) (slice_get lines place) true
 
 -- the places of the lines that have not
 abbrev pub places_left : List Line → List ℕ → List ℕ

@@ -1,5 +1,29 @@
 -- How far a run has come.
-use Rattle.std.specs.Prelude.{◌≡◌, ◌<◌, ℕ, ◌+◌, ◌-◌, nat_lt, ◌&&◌, ◌||◌, Bool, true, false, List, [], ◌∷◌, ◌++◌, length, map, filter, slice_get, slice_set, Option, Some, None}
+use Rattle.std.specs.Prelude.{
+  ◌≡◌,
+  ◌<◌,
+  ℕ,
+  ◌+◌,
+  ◌-◌,
+  nat_lt,
+  ◌&&◌,
+  ◌||◌,
+  Bool,
+  true,
+  false,
+  List,
+  [],
+  ◌∷◌,
+  ◌++◌,
+  length,
+  map,
+  filter,
+  slice_get,
+  slice_set,
+  Option,
+  Some,
+  None,
+}
 use Rattle.std.specs.List.{list_all, find}
 use Rattle.std.specs.Option.{option_map}
 use Rattle.dfs_base.specs.declared.ids.HostId.{HostId}
@@ -27,7 +51,19 @@ use Rattle.script_lines.specs.Sound.{is_of}
 use Rattle.plain_service.specs.Seats.{is_seated}
 use Rattle.plain_service.specs.Calls.{Asked, own_calls, is_asked, acts_of, acts_in}
 use Rattle.plain_service.specs.Uses.{is_done, uses_from, used_if, ending}
-use Rattle.plain_service.specs.Played.{calls_in, is_own, next_number, are_numbered, is_implied, stops, last_calls, lefts_stand, idle_after, stays_idle, rooms_free}
+use Rattle.plain_service.specs.Played.{
+  calls_in,
+  is_own,
+  next_number,
+  are_numbered,
+  is_implied,
+  stops,
+  last_calls,
+  lefts_stand,
+  idle_after,
+  stays_idle,
+  rooms_free,
+}
 use Rattle.plain_service.specs.declared.uses.Use.{Use}
 use Rattle.plain_service.specs.declared.past.Past.{Past}
 use Rattle.plain_service.specs.declared.play.Desk.{Desk}
@@ -45,7 +81,8 @@ is_aside (Stored host fid spans len) = true
 is_aside (Left server id) = true
 is_aside _ = false
 
--- entries that may come next lead from a tree to another well formed one, in which what each file has unsaved is one host's
+-- entries that may come next lead from a tree to another well formed one, in which what each file has unsaved is one
+-- host's
 pub record Leads (before : Tree) (entries : List Entry) (after : Tree) : Type 0 where
   pub legal : IsHistory before entries
   pub tree : after ≡ after_history before entries
@@ -61,8 +98,9 @@ idle_from host idle (entry ∷ entries) = idle_from host (idle_after host idle e
 -- where a host that is idle has saved all, it stores nothing while it is idle, and so it is after these entries
 abbrev pub StaysIdle : HostId → Tree → List Entry → Tree → Type 0
 StaysIdle host before entries after =
-    (idle : Bool) → (idle ≡ true → all_contents (has_saved host) before ≡ true) →
-    (stays_idle host idle entries ≡ true) × (idle_from host idle entries ≡ true → all_contents (has_saved host) after ≡ true)
+    (idle : Bool) → (idle ≡ true → all_contents (has_saved host) before ≡ true)
+    → (stays_idle host idle entries ≡ true)
+    × (idle_from host idle entries ≡ true → all_contents (has_saved host) after ≡ true)
 
 -- entries came next, each of which may; no server keeps room then
 pub record GoesOn (before : Past) (entries : List Entry) (after : Past) : Type 0 where
@@ -74,7 +112,8 @@ pub record GoesOn (before : Past) (entries : List Entry) (after : Past) : Type 0
 
 -- a host that has saved all still has
 abbrev pub StillSaved : HostId → Past → Past → Type 0
-StillSaved host before after = all_contents (has_saved host) before.tree ≡ true → all_contents (has_saved host) after.tree ≡ true
+StillSaved host before after =
+    all_contents (has_saved host) before.tree ≡ true → all_contents (has_saved host) after.tree ≡ true
 
 -- the first server that keeps room for a fileset that left it, and the fileset
 abbrev pub kept_room : Tree → Option (ServerId × FilesetId)
@@ -83,7 +122,8 @@ kept_room tree = option_map (λ away. (away.server, away.fileset)) (find (λ awa
 -- that server learns that the fileset has arrived
 abbrev pub arrived_by : Past → Option (ServerId × FilesetId) → Past
 arrived_by past None = past
-arrived_by past (Some found) = record { tree = left_tree past.tree found.0 found.1; history = past.history ++ Left found.0 found.1 ∷ [] }
+arrived_by past (Some found) =
+    record { tree = left_tree past.tree found.0 found.1; history = past.history ++ Left found.0 found.1 ∷ [] }
 
 abbrev pub arrived : Past → Past
 arrived past = arrived_by past (kept_room past.tree)
@@ -160,13 +200,15 @@ pub record IsSteady (script : Script) (start : Tree) (past : Past) : Type 0 wher
   pub roster : past.tree.roster ≡ script.roster
 
 -- a host that has lines left has made the calls of its lines so far
-pub record IsOpen (script : Script) (done : List Line) (history : List Entry) (host : HostId) (desk : Desk) : Type 0 where
+pub record IsOpen (script : Script)
+    (done : List Line) (history : List Entry) (host : HostId) (desk : Desk) : Type 0 where
   pub calls : desk.calls ≡ length (own_calls host done)
   pub next : next_from host 1 history ≡ desk.calls + 1
   pub uses : desk.uses ≡ uses_from host [] (filter (is_asked script) history)
   pub implied : filter (is_implied script host) history ≡ []
 
-pub record IsAtDesk (script : Script) (done rest : List Line) (history : List Entry) (host : HostId) (desk : Desk) : Type 0 where
+pub record IsAtDesk (script : Script)
+    (done rest : List Line) (history : List Entry) (host : HostId) (desk : Desk) : Type 0 where
   pub left : desk.left ≡ length (filter (is_of (Host host)) rest)
   pub stopped : desk.stopped ≡ stops host done
   pub going : 0 < desk.left → IsOpen script done history host desk
@@ -182,7 +224,8 @@ pub record IsUnderway (script : Script) (start : Tree) (done rest : List Line) (
   pub acts : acts_in script play.past.history ≡ acts_of (length script.roster.capacity) done
   pub numbered : (host : HostId) → are_numbered host 1 play.past.history ≡ true
   pub desks : length play.desks ≡ HOSTS_MAX + 1
-  pub desk : (host : HostId) (desk : Desk) → slice_get play.desks host.0 ≡ Some desk → IsAtDesk script done rest play.past.history host desk
+  pub desk : (host : HostId) (desk : Desk)
+      → slice_get play.desks host.0 ≡ Some desk → IsAtDesk script done rest play.past.history host desk
   pub closed : (host : HostId) → filter (is_of (Host host)) rest ≡ [] → IsClosed script done play.past host
 
 -- how many calls a script asks each host for
@@ -198,7 +241,8 @@ pub record IsFit (play : Play) : Type 0 where
 
 -- what is known of a host after a call of its lines
 abbrev pub desk_called : Desk → Bool → Call → Desk
-desk_called desk done call = record { calls = desk.calls + 1; left = desk.left; stopped = desk.stopped; uses = used_if done desk.uses call }
+desk_called desk done call =
+    record { calls = desk.calls + 1; left = desk.left; stopped = desk.stopped; uses = used_if done desk.uses call }
 
 abbrev pub desk_stopped : Desk → Desk
 desk_stopped desk = record desk { stopped = true }
@@ -257,7 +301,9 @@ may_go line = is_seated line.node && keeps_deed line.deed
 
 -- a run comes on by lines that are its next
 abbrev pub GoesAlong : List Line → Play → Play → Type 0
-GoesAlong lines before after = (script : Script) (start : Tree) (done rest : List Line) → AreCounted script (done ++ (lines ++ rest)) → IsUnderway script start done (lines ++ rest) before → IsUnderway script start (done ++ lines) rest after
+GoesAlong lines before after =
+    (script : Script) (start : Tree) (done rest : List Line) → AreCounted script (done ++ (lines ++ rest))
+    → IsUnderway script start done (lines ++ rest) before → IsUnderway script start (done ++ lines) rest after
 
 -- a run came on by the lines that make the filesets, and then by these
 pub record GoesOver (script : Script) (lines : List Line) (before after : Play) : Type 0 where
@@ -267,7 +313,8 @@ pub record GoesOver (script : Script) (lines : List Line) (before after : Play) 
 
 -- how many lines of a script are a host's
 abbrev pub line_count : Script → HostId → ℕ
-line_count script host = length (filter (is_of (Host host)) script.setup) + length (filter (is_of (Host host)) script.lines)
+line_count script host =
+    length (filter (is_of (Host host)) script.setup) + length (filter (is_of (Host host)) script.lines)
 
 -- what is known of a host before its first line
 abbrev pub new_desk : Script → HostId → Desk

@@ -1,8 +1,8 @@
 //! What a run of a script is for each host: each function does nothing, and what it ensures is a law.
 ghost use Rattle.plain_service.specs.Laws.{CallsFollowLines, DownIsLast};
 
-/// The calls of each host are those that its lines ask for, in their order, each once; after them come those that it makes by
-/// itself to end what it has in use.
+/// The calls of each host are those that its lines ask for, in their order, each once; after them come those that it
+/// makes by itself to end what it has in use.
 #[tactic(auto, using(crate::proofs::Each::calls_follow))]
 pub fn calls_law()
     ensures { CallsFollowLines }

@@ -1,9 +1,38 @@
-ghost use Rattle.std.specs.Prelude.{◌≡◌, ◌<◌, ◌≤◌, ℕ, true, false, Some, None, filter, drop, length, slice_get, IsPermutation, IfOk, IfSome, OnOk};
+ghost use Rattle.std.specs.Prelude.{
+  ◌≡◌,
+  ◌<◌,
+  ◌≤◌,
+  ℕ,
+  true,
+  false,
+  Some,
+  None,
+  filter,
+  drop,
+  length,
+  slice_get,
+  IsPermutation,
+  IfOk,
+  IfSome,
+  OnOk,
+};
 ghost use Rattle.std.specs.List.{list_all};
 ghost use Rattle.script_lines.specs.Sound.{is_of};
 ghost use Rattle.run_script.specs.Walk.{can_go, stuck_at};
 ghost use Rattle.run_script.specs.Orders.{IsOrder, AllStand, flags_after};
-ghost use Rattle.plain_service.specs.Seats.{seat_of, is_seated, is_head, lines_at, left_at, to_go, all_places, AreFirst, IsStanding, can_go_at, is_ready};
+ghost use Rattle.plain_service.specs.Seats.{
+  seat_of,
+  is_seated,
+  is_head,
+  lines_at,
+  left_at,
+  to_go,
+  all_places,
+  AreFirst,
+  IsStanding,
+  can_go_at,
+  is_ready,
+};
 
 use dfs_base::{HOSTS_MAX, HostId, Items, Name, NoMemory, Node, Plain, SERVERS_MAX, ServerId};
 use run_script::{can_go, same_node};
@@ -15,14 +44,15 @@ use std::alloc::Global;
 struct Order {
     /// The places of the lines that have gone, in their order.
     went: Items<usize>,
-    /// The place of each node's next line, or the number of lines where it has none: of the hosts from number 0 on, and then
-    /// of the servers.
+    /// The place of each node's next line, or the number of lines where it has none: of the hosts from number 0 on, and
+    /// then of the servers.
     next: Items<usize>,
     /// The flags that are raised.
     flags: Items<Name>,
 }
 
-/// An order in which all lines go: as long as one can go, the first node that can makes one line. Hosts come before servers.
+/// An order in which all lines go: as long as one can go, the first node that can makes one line. Hosts come before
+/// servers.
 #[tactic(auto, using(crate::proofs::Seats::steps))]
 pub(crate) fn order_of(alloc: Global, lines: &Items<Line>) -> Result<Items<usize>, NoMemory>
     requires seated { list_all (λ line. is_seated line.node) lines.now ≡ true }
@@ -54,7 +84,8 @@ impl Order {
     #[tactic(auto, using(crate::proofs::Seats::steps))]
     fn ready(&self, lines: &Items<Line>) -> Option<(usize, usize)>
         ensures none { result ≡ None → (seat : ℕ) → is_ready lines.now self.now seat ≡ false }
-        ensures some { IfSome result (λ (seat, place). (slice_get self.now.next seat ≡ Some place) × (can_go_at lines.now self.now.flags place ≡ true)) }
+        ensures some { IfSome result (λ (seat, place).
+            (slice_get self.now.next seat ≡ Some place) × (can_go_at lines.now self.now.flags place ≡ true)) }
     {
         for (seat, place) in self.next.as_slice().iter().enumerate() {
             if let Some(line) = lines.at(*place) {

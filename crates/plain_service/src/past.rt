@@ -25,8 +25,8 @@ pub(crate) struct Past {
 }
 
 impl Past {
-    /// A host makes a call, which has this number. What other hosts have unsaved of a file that it writes is stored before.
-    /// Tells whether the call was done.
+    /// A host makes a call, which has this number. What other hosts have unsaved of a file that it writes is stored
+    /// before. Tells whether the call was done.
     pub fn make(&mut self, host: HostId, k: u32, call: &Call) -> Result<bool, NoMemory>
         requires formed { IsWellFormed self.old.tree }
         requires apart { all_contents is_by_one self.old.tree ≡ true }
@@ -159,7 +159,8 @@ fn kept_room(tree: &Tree) -> Option<(ServerId, FilesetId)>
 // The place that a call writes.
 fn written_by(call: &Call) -> Option<&Place>
     ensures some { IfSome result (λ place. (from : ℕ) × (bytes : List ℕ) × (call.now ≡ Write place.now from bytes)) }
-    ensures none { result ≡ None → (tree : TreeOf) (host : TheHost) (k : ℕ) (reply : ReplyOf) → writes_alone tree (Called host k call.now reply) ≡ true }
+    ensures none { result ≡ None → (tree : TreeOf) (host : TheHost) (k : ℕ) (reply : ReplyOf)
+        → writes_alone tree (Called host k call.now reply) ≡ true }
 {
     match call {
         Call::Write { place, .. } => Some(place),

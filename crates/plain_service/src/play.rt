@@ -6,7 +6,20 @@ ghost use Rattle.dfs_base.specs.declared.ids.Node.TheVariants.{Host};
 ghost use Rattle.dfs_tree.specs.declared.tree.Tree.{Tree as TreeOf};
 ghost use Rattle.script_lines.specs.Sound.{is_of};
 ghost use Rattle.plain_service.specs.Seats.{lines_at};
-ghost use Rattle.plain_service.specs.Underway.{IsFit, HasCalled, HasStopped, HasLeft, HasActed, GoesAlong, GoesOver, IsNew, keeps_deed, may_go, new_desk, line_count};
+ghost use Rattle.plain_service.specs.Underway.{
+  IsFit,
+  HasCalled,
+  HasStopped,
+  HasLeft,
+  HasActed,
+  GoesAlong,
+  GoesOver,
+  IsNew,
+  keeps_deed,
+  may_go,
+  new_desk,
+  line_count,
+};
 
 use crate::past::{Past, number_after};
 use crate::uses::{Use, note};

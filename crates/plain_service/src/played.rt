@@ -11,6 +11,7 @@ pub struct Played {
     pub history: Items<Entry>,
     /// The tree after it.
     pub last: Tree,
-    /// The places of the script's lines, from 0, in the order in which they went; those that make the filesets come before.
+    /// The places of the script's lines, from 0, in the order in which they went; those that make the filesets come
+    /// before.
     pub order: Items<usize>,
 }

@@ -1,10 +1,41 @@
 -- Calls, by their number in the order of the calls and then their fields in order.
 use Rattle.std.specs.Prelude.{ℕ, ◌==◌, ◌||◌, Bool, if◌then◌else◌, List, Ok}
 use Rattle.dfs_calls.specs.declared.call.Call.{Call}
-use Rattle.dfs_calls.specs.declared.call.Call.TheVariants.{NewFileset, Create, MakeDir, Remove, Rename, Truncate, SetAcl, CloneFileset, Read, Write, List as ListNames, Stat, GetAcl, Sync, Lock, Unlock, OpenFile, CloseFile, MoveFileset}
+use Rattle.dfs_calls.specs.declared.call.Call.TheVariants.{
+  NewFileset,
+  Create,
+  MakeDir,
+  Remove,
+  Rename,
+  Truncate,
+  SetAcl,
+  CloneFileset,
+  Read,
+  Write,
+  List as ListNames,
+  Stat,
+  GetAcl,
+  Sync,
+  Lock,
+  Unlock,
+  OpenFile,
+  CloseFile,
+  MoveFileset,
+}
 use Rattle.rpc_parts.specs.Spelled.{Spelled, ◌&◌, number, one_byte}
 use Rattle.rpc_parts.specs.Reading.{Reading, ◌>>=◌, number_at, byte_at}
-use Rattle.rpc_parts.specs.Words.{spell_u32, u32_at, spell_flag, flag_at, spell_server, server_at, spell_name, name_at, spell_bytes, bytes_at}
+use Rattle.rpc_parts.specs.Words.{
+  spell_u32,
+  u32_at,
+  spell_flag,
+  flag_at,
+  spell_server,
+  server_at,
+  spell_name,
+  name_at,
+  spell_bytes,
+  bytes_at,
+}
 use Rattle.rpc_parts.specs.Places.{spell_user, spell_place, spell_which, user_at, place_at, which_at}
 use Rattle.rpc_parts.specs.Access.{spell_access, access_at}
 use Rattle.rpc_parts.specs.Tokens.{spell_open, open_at}

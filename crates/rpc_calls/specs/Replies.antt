@@ -2,12 +2,52 @@
 use Rattle.std.specs.Prelude.{ℕ, ◌==◌, if◌then◌else◌, List, Ok}
 use Rattle.dfs_calls.specs.declared.reply.Facts.{Facts}
 use Rattle.dfs_calls.specs.declared.reply.Refusal.{Refusal}
-use Rattle.dfs_calls.specs.declared.reply.Refusal.TheVariants.{NoEntry, NotDir, IsDir, Exists, NotEmpty, Denied, TooBig, TooMany, NoRoom, ReadOnly, Locked, OpenConflict, InUse, Loop, NoFileset, CrossFileset, NotLocked, NotOpened, AlreadyLocked, AlreadyOpened, NotHome}
+use Rattle.dfs_calls.specs.declared.reply.Refusal.TheVariants.{
+  NoEntry,
+  NotDir,
+  IsDir,
+  Exists,
+  NotEmpty,
+  Denied,
+  TooBig,
+  TooMany,
+  NoRoom,
+  ReadOnly,
+  Locked,
+  OpenConflict,
+  InUse,
+  Loop,
+  NoFileset,
+  CrossFileset,
+  NotLocked,
+  NotOpened,
+  AlreadyLocked,
+  AlreadyOpened,
+  NotHome,
+}
 use Rattle.dfs_calls.specs.declared.reply.Reply.{Reply}
-use Rattle.dfs_calls.specs.declared.reply.Reply.TheVariants.{Ok as ReplyOk, Bytes, Names, Facts as FactsOf, Access, Refused}
+use Rattle.dfs_calls.specs.declared.reply.Reply.TheVariants.{
+  Ok as ReplyOk,
+  Bytes,
+  Names,
+  Facts as FactsOf,
+  Access,
+  Refused,
+}
 use Rattle.rpc_parts.specs.Spelled.{Spelled, ◌&◌, number, nothing}
 use Rattle.rpc_parts.specs.Reading.{Reading, ◌>>=◌, number_at}
-use Rattle.rpc_parts.specs.Words.{spell_u32, u32_at, spell_flag, flag_at, short, short_at, spell_name, name_at, spell_bytes, bytes_at}
+use Rattle.rpc_parts.specs.Words.{
+  spell_u32,
+  u32_at,
+  spell_flag,
+  flag_at,
+  short,
+  short_at,
+  spell_name,
+  name_at,
+  spell_bytes,
+  bytes_at,
+}
 use Rattle.rpc_parts.specs.Places.{spell_rights, rights_at}
 use Rattle.rpc_parts.specs.Access.{spell_access, access_at}
 

@@ -1,6 +1,34 @@
 ghost use Rattle.std.specs.Prelude.{◌≡◌, ◌++◌, OnOk};
 ghost use Rattle.rpc_parts.specs.Reading.{Gives, byte_at};
-ghost use Rattle.rpc_calls.specs.Calls.{call_tag, call_fields, call_of, ends_use, spell_ending, ending_at, spell_call, call_at, call_new_fileset_at, call_create_at, call_make_dir_at, call_remove_at, call_rename_at, call_truncate_at, call_set_acl_at, call_clone_fileset_at, call_read_at, call_write_at, call_list_names_at, call_stat_at, call_get_acl_at, call_sync_at, call_lock_at, call_unlock_at, call_open_file_at, call_close_file_at, call_move_fileset_at};
+ghost use Rattle.rpc_calls.specs.Calls.{
+  call_tag,
+  call_fields,
+  call_of,
+  ends_use,
+  spell_ending,
+  ending_at,
+  spell_call,
+  call_at,
+  call_new_fileset_at,
+  call_create_at,
+  call_make_dir_at,
+  call_remove_at,
+  call_rename_at,
+  call_truncate_at,
+  call_set_acl_at,
+  call_clone_fileset_at,
+  call_read_at,
+  call_write_at,
+  call_list_names_at,
+  call_stat_at,
+  call_get_acl_at,
+  call_sync_at,
+  call_lock_at,
+  call_unlock_at,
+  call_open_file_at,
+  call_close_file_at,
+  call_move_fileset_at,
+};
 
 use dfs_base::{AccessList, Items, Name, NoMemory, OpenKind, ServerId, User};
 use dfs_calls::{Call, Place, Which};

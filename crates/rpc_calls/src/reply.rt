@@ -1,6 +1,25 @@
 ghost use Rattle.std.specs.Prelude.{◌≡◌, ◌++◌, OnOk};
 ghost use Rattle.rpc_parts.specs.Reading.{Gives};
-ghost use Rattle.rpc_calls.specs.Replies.{spell_facts, facts_at, spell_refusal, refusal_at, spell_reply, reply_at, refusal_tag, refusal_fields, refusal_of, reply_tag, reply_fields, reply_of, reply_bytes_at, reply_names_at, reply_facts_of_at, reply_access_at, reply_refused_at, refusal_denied_at};
+ghost use Rattle.rpc_calls.specs.Replies.{
+  spell_facts,
+  facts_at,
+  spell_refusal,
+  refusal_at,
+  spell_reply,
+  reply_at,
+  refusal_tag,
+  refusal_fields,
+  refusal_of,
+  reply_tag,
+  reply_fields,
+  reply_of,
+  reply_bytes_at,
+  reply_names_at,
+  reply_facts_of_at,
+  reply_access_at,
+  reply_refused_at,
+  refusal_denied_at,
+};
 
 use dfs_base::{AccessList, Items, Name, NoMemory, Rights};
 use dfs_calls::{Facts, Refusal, Reply};

@@ -18,9 +18,39 @@ use Rattle.rpc_types.specs.declared.telling.Grant.{Grant as GrantOf}
 use Rattle.rpc_types.specs.declared.tokens.Named.{Named}
 use Rattle.rpc_types.specs.declared.tokens.Revoke.{Revoke as RevokeOf}
 use Rattle.rpc_types.specs.declared.message.Body.{Body}
-use Rattle.rpc_types.specs.declared.message.Body.TheVariants.{Hello, Fetch, Grant, Change, Done, Revoke, Returned, Kept, GiveBack, Gone, Reclaim, Reclaimed, Restarted, Down, Bye, NotHere, Ship, Shipped}
+use Rattle.rpc_types.specs.declared.message.Body.TheVariants.{
+  Hello,
+  Fetch,
+  Grant,
+  Change,
+  Done,
+  Revoke,
+  Returned,
+  Kept,
+  GiveBack,
+  Gone,
+  Reclaim,
+  Reclaimed,
+  Restarted,
+  Down,
+  Bye,
+  NotHere,
+  Ship,
+  Shipped,
+}
 use Rattle.rpc_parts.specs.Spelled.{Spelled, ◌&◌, number, nothing}
-use Rattle.rpc_parts.specs.Words.{spell_u32, spell_u64, spell_flag, spell_host, spell_server, spell_fileset, spell_name, short, long, spell_optional}
+use Rattle.rpc_parts.specs.Words.{
+  spell_u32,
+  spell_u64,
+  spell_flag,
+  spell_host,
+  spell_server,
+  spell_fileset,
+  spell_name,
+  short,
+  long,
+  spell_optional,
+}
 use Rattle.rpc_parts.specs.Tokens.{spell_fid, spell_id, spell_need, spell_token}
 use Rattle.rpc_parts.specs.Objects.{spell_pieces, spell_entry, spell_status}
 use Rattle.rpc_parts.specs.Requests.{spell_outstanding, spell_applied, spell_record}

@@ -1,5 +1,23 @@
 -- Messages, and which bytes begin some message.
-use Rattle.std.specs.Prelude.{◌≡◌, ◌<◌, ◌≤◌, ℕ, ◌==◌, ◌||◌, Bool, if◌then◌else◌, List, ◌++◌, take, length, Result, Ok, Err, MatchResult, IsTrue}
+use Rattle.std.specs.Prelude.{
+  ◌≡◌,
+  ◌<◌,
+  ◌≤◌,
+  ℕ,
+  ◌==◌,
+  ◌||◌,
+  Bool,
+  if◌then◌else◌,
+  List,
+  ◌++◌,
+  take,
+  length,
+  Result,
+  Ok,
+  Err,
+  MatchResult,
+  IsTrue,
+}
 use Rattle.rpc_types.specs.declared.message.Direction.{Direction}
 use Rattle.rpc_types.specs.declared.message.Direction.TheVariants.{ToServer, ToHost, BetweenServers}
 use Rattle.rpc_types.specs.declared.message.Message.{Message}

@@ -19,9 +19,39 @@ use Rattle.rpc_types.specs.declared.telling.Grant.{Grant as GrantOf}
 use Rattle.rpc_types.specs.declared.tokens.Named.{Named}
 use Rattle.rpc_types.specs.declared.tokens.Revoke.{Revoke as RevokeOf}
 use Rattle.rpc_types.specs.declared.message.Body.{Body}
-use Rattle.rpc_types.specs.declared.message.Body.TheVariants.{Hello, Fetch, Grant, Change, Done, Revoke, Returned, Kept, GiveBack, Gone, Reclaim, Reclaimed, Restarted, Down, Bye, NotHere, Ship, Shipped}
+use Rattle.rpc_types.specs.declared.message.Body.TheVariants.{
+  Hello,
+  Fetch,
+  Grant,
+  Change,
+  Done,
+  Revoke,
+  Returned,
+  Kept,
+  GiveBack,
+  Gone,
+  Reclaim,
+  Reclaimed,
+  Restarted,
+  Down,
+  Bye,
+  NotHere,
+  Ship,
+  Shipped,
+}
 use Rattle.rpc_parts.specs.Reading.{Reading, ◌>>=◌, number_at}
-use Rattle.rpc_parts.specs.Words.{u32_at, u64_at, flag_at, host_at, server_at, fileset_at, name_at, short_at, long_at, optional_at}
+use Rattle.rpc_parts.specs.Words.{
+  u32_at,
+  u64_at,
+  flag_at,
+  host_at,
+  server_at,
+  fileset_at,
+  name_at,
+  short_at,
+  long_at,
+  optional_at,
+}
 use Rattle.rpc_parts.specs.Tokens.{fid_at, id_at, need_at, token_at}
 use Rattle.rpc_parts.specs.Objects.{pieces_at, entry_at, status_at}
 use Rattle.rpc_parts.specs.Requests.{outstanding_at, applied_at, record_at}

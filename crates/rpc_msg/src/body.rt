@@ -1,7 +1,25 @@
 ghost use Rattle.std.specs.Prelude.{◌≡◌, ◌++◌, OnOk};
 ghost use Rattle.rpc_parts.specs.Reading.{Gives};
 ghost use Rattle.rpc_msg.specs.Bodies.{body_tag, body_fields};
-ghost use Rattle.rpc_msg.specs.Readings.{body_of, with_moves_at, moved_at, unmoved_at, not_here_at, ship_at, fetch_at, grant_at, change_at, done_at, revoke_at, named_at, give_at, gone_at, reclaim_at, reclaimed_at, shipped_at};
+ghost use Rattle.rpc_msg.specs.Readings.{
+  body_of,
+  with_moves_at,
+  moved_at,
+  unmoved_at,
+  not_here_at,
+  ship_at,
+  fetch_at,
+  grant_at,
+  change_at,
+  done_at,
+  revoke_at,
+  named_at,
+  give_at,
+  gone_at,
+  reclaim_at,
+  reclaimed_at,
+  shipped_at,
+};
 
 use crate::asking::{change_at, fetch_at, write_change, write_fetch};
 use crate::giving::{

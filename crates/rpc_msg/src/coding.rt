@@ -1,5 +1,20 @@
 ghost use Rattle.std.specs.Prelude.{◌≡◌, ◌≤◌, ◌++◌, IfOk, OnOk};
-ghost use Rattle.rpc_msg.specs.Messages.{Decodes, OneSpelling, ReadsBack, spelling, spell_message, message_at, direction_code, direction_of, goes_to_host, goes_between, least_direction, most_direction, most_host, most_epoch};
+ghost use Rattle.rpc_msg.specs.Messages.{
+  Decodes,
+  OneSpelling,
+  ReadsBack,
+  spelling,
+  spell_message,
+  message_at,
+  direction_code,
+  direction_of,
+  goes_to_host,
+  goes_between,
+  least_direction,
+  most_direction,
+  most_host,
+  most_epoch,
+};
 ghost use Rattle.rpc_parts.specs.Reading.{Gives, number_at};
 ghost use Rattle.rpc_parts.specs.Words.{coded_at, host_of};
 

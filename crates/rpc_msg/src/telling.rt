@@ -1,7 +1,15 @@
 ghost use Rattle.std.specs.Prelude.{◌≡◌, ◌++◌, OnOk};
 ghost use Rattle.rpc_parts.specs.Reading.{Gives};
 ghost use Rattle.rpc_msg.specs.Bodies.{spell_grant, outcome_tag, outcome_fields, spell_outcome, spell_done};
-ghost use Rattle.rpc_msg.specs.Readings.{grant_at, outcome_reply_at, outcome_known_at, outcome_elsewhere_at, outcome_of, outcome_at, done_at};
+ghost use Rattle.rpc_msg.specs.Readings.{
+  grant_at,
+  outcome_reply_at,
+  outcome_known_at,
+  outcome_elsewhere_at,
+  outcome_of,
+  outcome_at,
+  done_at,
+};
 
 use dfs_base::{Fid, FilesetId, Items, NoMemory, ServerId};
 use rpc_calls::{reply_at, write_reply};

@@ -6,7 +6,17 @@ use Rattle.dfs_calls.specs.declared.part.DirEntry.{DirEntry}
 use Rattle.dfs_calls.specs.declared.part.Status.{Status}
 use Rattle.rpc_parts.specs.Spelled.{Spelled, ◌&◌, items}
 use Rattle.rpc_parts.specs.Reading.{Reading, ◌>>=◌, number_at, items_at}
-use Rattle.rpc_parts.specs.Words.{spell_u32, u32_at, spell_flag, flag_at, short, spell_name, name_at, spell_bytes, bytes_at}
+use Rattle.rpc_parts.specs.Words.{
+  spell_u32,
+  u32_at,
+  spell_flag,
+  flag_at,
+  short,
+  spell_name,
+  name_at,
+  spell_bytes,
+  bytes_at,
+}
 use Rattle.rpc_parts.specs.Access.{spell_access, access_at}
 
 -- a piece of at most so many bytes

@@ -1,5 +1,22 @@
 -- What is written of a value: whether it lies in its range, and then its bytes.
-use Rattle.std.specs.Prelude.{ℕ, zero, suc, ◌/◌, ◌%◌, ◌^◌, Bool, true, ◌&&◌, nat_le, nat_lt, List, [], ◌∷◌, ◌++◌, length}
+use Rattle.std.specs.Prelude.{
+  ℕ,
+  zero,
+  suc,
+  ◌/◌,
+  ◌%◌,
+  ◌^◌,
+  Bool,
+  true,
+  ◌&&◌,
+  nat_le,
+  nat_lt,
+  List,
+  [],
+  ◌∷◌,
+  ◌++◌,
+  length,
+}
 use Rattle.std.specs.List.{list_all, flat_map}
 
 pub record Spelled : Type 0 where

@@ -3,7 +3,13 @@ use Rattle.std.specs.Prelude.{ℕ, ◌==◌, min, if◌then◌else◌, List, Ok}
 use Rattle.std.proofs.Math.Nat.{min-le_right}
 use Rattle.dfs_base.specs.declared.ids.Fid.{Fid}
 use Rattle.dfs_base.specs.declared.ids.OpenKind.{OpenKind}
-use Rattle.dfs_base.specs.declared.ids.OpenKind.TheVariants.{Reading as ForReading, Writing, Executing, Shared, Exclusive}
+use Rattle.dfs_base.specs.declared.ids.OpenKind.TheVariants.{
+  Reading as ForReading,
+  Writing,
+  Executing,
+  Shared,
+  Exclusive,
+}
 use Rattle.dfs_base.specs.declared.span.Span.{Span}
 use Rattle.tok_types.specs.declared.token.TokenId.{TokenId}
 use Rattle.tok_types.specs.declared.token.Kind.{Kind}
@@ -12,7 +18,22 @@ use Rattle.tok_types.specs.declared.token.Token.{Token}
 use Rattle.tok_types.specs.declared.token.Need.{Need}
 use Rattle.rpc_parts.specs.Spelled.{Spelled, ◌&◌, number}
 use Rattle.rpc_parts.specs.Reading.{Reading, ◌>>=◌, number_at}
-use Rattle.rpc_parts.specs.Words.{spell_u32, u32_at, spell_u64, u64_at, coded, coded_at, spell_flag, flag_at, spell_host, host_at, spell_server, server_at, spell_fileset, fileset_at}
+use Rattle.rpc_parts.specs.Words.{
+  spell_u32,
+  u32_at,
+  spell_u64,
+  u64_at,
+  coded,
+  coded_at,
+  spell_flag,
+  flag_at,
+  spell_host,
+  host_at,
+  spell_server,
+  server_at,
+  spell_fileset,
+  fileset_at,
+}
 
 unfoldable pub spell_fid : Fid → Spelled
 spell_fid x = spell_fileset x.fileset & spell_u32 x.anode & spell_u32 x.unique

@@ -3,7 +3,22 @@ ghost use Rattle.dfs_base.specs.Name.{is_among};
 ghost use Rattle.rpc_parts.specs.Reading.{Gives, byte_at};
 ghost use Rattle.rpc_parts.specs.Words.{is_plain};
 ghost use Rattle.rpc_parts.specs.Spelled.{items};
-ghost use Rattle.rpc_parts.specs.Access.{who_tag, spell_who_name, spell_access_entry, has_tag, missing, can_follow, with_name, names_in, may_be, fresh_from, fresh_name_at, who_at, next_entry_at, access_from};
+ghost use Rattle.rpc_parts.specs.Access.{
+  who_tag,
+  spell_who_name,
+  spell_access_entry,
+  has_tag,
+  missing,
+  can_follow,
+  with_name,
+  names_in,
+  may_be,
+  fresh_from,
+  fresh_name_at,
+  who_at,
+  next_entry_at,
+  access_from,
+};
 
 use crate::number::{number_at, push_number};
 use crate::part::{Part, Stopped};

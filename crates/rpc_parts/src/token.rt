@@ -1,6 +1,17 @@
 ghost use Rattle.std.specs.Prelude.{◌≡◌, ◌++◌, OnOk};
 ghost use Rattle.rpc_parts.specs.Reading.{Gives};
-ghost use Rattle.rpc_parts.specs.Tokens.{span_between, open_code, open_of, kind_tag, kind_fields, kind_of, kind_bytes_at, kind_status_at, kind_lock_at, kind_opening_at};
+ghost use Rattle.rpc_parts.specs.Tokens.{
+  span_between,
+  open_code,
+  open_of,
+  kind_tag,
+  kind_fields,
+  kind_of,
+  kind_bytes_at,
+  kind_status_at,
+  kind_lock_at,
+  kind_opening_at,
+};
 
 use crate::number::{number_at, push_number};
 use crate::part::{Part, Stopped};

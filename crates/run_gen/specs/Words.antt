@@ -1,4 +1,5 @@
--- The words that a seed gives (O'Neill, "PCG: a family of simple fast space-efficient statistically good algorithms for random number generation").
+-- The words that a seed gives (O'Neill, "PCG: a family of simple fast space-efficient statistically good algorithms for
+-- random number generation").
 use Rattle.std.specs.Prelude.{ℕ, zero, suc}
 use Rattle.rand_pcg.specs.Lcg.{Lcg, started, increment_of}
 use Rattle.rand_pcg.specs.Pcg.{multiplier_64, pcg32}

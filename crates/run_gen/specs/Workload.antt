@@ -1,5 +1,26 @@
--- The generated workload: each host writes and reads a file of its own and writes its own part of a file that all share.
-use Rattle.std.specs.Prelude.{ℕ, ◌+◌, ◌-◌, ◌*◌, ◌/◌, ◌%◌, ◌==◌, if◌then◌else◌, List, [], ◌∷◌, ◌++◌, length, map, flat_map, replicate, None, codes, decimal}
+-- The generated workload: each host writes and reads a file of its own and writes its own part of a file that all
+-- share.
+use Rattle.std.specs.Prelude.{
+  ℕ,
+  ◌+◌,
+  ◌-◌,
+  ◌*◌,
+  ◌/◌,
+  ◌%◌,
+  ◌==◌,
+  if◌then◌else◌,
+  List,
+  [],
+  ◌∷◌,
+  ◌++◌,
+  length,
+  map,
+  flat_map,
+  replicate,
+  None,
+  codes,
+  decimal,
+}
 use Rattle.std.specs.List.{range_with_len}
 use Rattle.dfs_base.specs.declared.limits.TheConstants.{CACHED_TOKENS_DEFAULT, CAPACITY_DEFAULT, OBJECTS_MAX}
 use Rattle.dfs_base.specs.declared.ids.Node.{Node}
@@ -42,7 +63,8 @@ text_of host i = decimal host ++ 45 ∷ decimal i
 abbrev pub call_by : ℕ → ℕ → ℕ → ℕ → CallOf
 call_by kind host i v =
     if kind == 3 then calls.Write shared_file (512 * (host - 1) + v % 480) (text_of host i)
-    else (if kind == 2 then calls.Read (own_file host) (v % 60000) 64 else calls.Write (own_file host) (v % 60000) (text_of host i))
+    else (if kind == 2 then calls.Read (own_file host) (v % 60000) 64
+    else calls.Write (own_file host) (v % 60000) (text_of host i))
 
 -- a host's call that a word makes
 unfoldable pub call_of : ℕ → ℕ → ℕ → CallOf
@@ -81,7 +103,8 @@ all_calls seed hosts calls = flat_map (calls_of seed calls) (range_with_len 0 ho
 
 -- all that the hosts do, in the order of the lines
 abbrev pub first_tasks : ℕ → List Task
-first_tasks hosts = create shared_file ∷ creates hosts ++ record { node = host_node 1; deed = Raise start } ∷ awaits hosts
+first_tasks hosts =
+    create shared_file ∷ creates hosts ++ record { node = host_node 1; deed = Raise start } ∷ awaits hosts
 
 abbrev pub tasks : ℕ → ℕ → ℕ → List Task
 tasks seed hosts calls = first_tasks hosts ++ all_calls seed hosts calls

@@ -1,7 +1,19 @@
 ghost use Rattle.std.specs.Prelude.{◌≡◌, ◌+◌, ◌*◌, ◌^◌, ◌<◌, ◌≤◌, [], ◌∷◌, ◌++◌, length, IfOk, OnOk};
 ghost use Rattle.script_words.specs.Fields.{host_node};
 ghost use Rattle.run_gen.specs.Words.{generator, after_words};
-ghost use Rattle.run_gen.specs.Workload.{create, shared_file, creates, start, awaits, calls_by, all_calls, first_tasks, tasks, numbered, with_tasks};
+ghost use Rattle.run_gen.specs.Workload.{
+  create,
+  shared_file,
+  creates,
+  start,
+  awaits,
+  calls_by,
+  all_calls,
+  first_tasks,
+  tasks,
+  numbered,
+  with_tasks,
+};
 
 use crate::calls::{call_of, name_of, own_file, shared_file};
 use crate::words::{draw, generator};

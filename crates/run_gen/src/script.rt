@@ -65,8 +65,9 @@ fn setup_of(alloc: Global, number: u32) -> Result<Items<Line>, NoMemory>
     Ok(setup)
 }
 
-/// The generated script of a seed, for so many hosts, each of which makes so many calls after the first lines. No host reads
-/// what another writes, and in the file that all share each writes bytes of its own. The workload is this project's own.
+/// The generated script of a seed, for so many hosts, each of which makes so many calls after the first lines. No host
+/// reads what another writes, and in the file that all share each writes bytes of its own. The workload is this
+/// project's own.
 ///
 /// It keeps the limits of the service (`IsSound`), and its lines don't wait for one another.
 #[tactic(auto, unfolding(crate::specs::Workload::generated))]

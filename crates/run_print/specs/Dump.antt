@@ -1,5 +1,27 @@
 -- How filesets are written, object by object.
-use Rattle.std.specs.Prelude.{ℕ, zero, suc, ◌+◌, ◌==◌, ◌&&◌, Bool, true, false, not, if◌then◌else◌, List, [], ◌∷◌, ◌++◌, length, slice_get, flat_map, take_while, codes, decimal}
+use Rattle.std.specs.Prelude.{
+  ℕ,
+  zero,
+  suc,
+  ◌+◌,
+  ◌==◌,
+  ◌&&◌,
+  Bool,
+  true,
+  false,
+  not,
+  if◌then◌else◌,
+  List,
+  [],
+  ◌∷◌,
+  ◌++◌,
+  length,
+  slice_get,
+  flat_map,
+  take_while,
+  codes,
+  decimal,
+}
 use Rattle.std.specs.Option.{option_map_or}
 use Rattle.dfs_base.specs.declared.access.AccessEntry.{AccessEntry}
 use Rattle.dfs_calls.specs.declared.part.Piece.{Piece}
@@ -52,25 +74,28 @@ head_line kind path len object =
 -- the lines of a directory's lists: its own, that of new files and that of new directories
 unfoldable pub dir_lists : List (List AccessEntry) → List ℕ
 dir_lists lists =
-    nth_list_line (codes " list ") lists 0 ++ nth_list_line (codes " files ") lists 1 ++ nth_list_line (codes " dirs ") lists 2
+    nth_list_line (codes " list ") lists 0
+    ++ nth_list_line (codes " files ") lists 1 ++ nth_list_line (codes " dirs ") lists 2
 
 -- the lines of one object, by what it contains
 abbrev pub lines_by : List ℕ → Object → Content → List ℕ
 lines_by path object (Dir entries lists) = head_line (codes "dir ") path (length entries) object ++ dir_lists lists
 lines_by path object (File list kept unsaved len) =
     let bytes = present_bytes kept unsaved len in
-    head_line (codes "file ") path (length bytes) object ++ list_line (codes " list ") list ++ flat_map run_line (runs_of bytes)
+    head_line (codes "file ") path (length bytes) object
+    ++ list_line (codes " list ") list ++ flat_map run_line (runs_of bytes)
 
 unfoldable pub object_lines : List ℕ → Object → List ℕ
 object_lines path object = lines_by path object object.content
 
--- The lines of an object and of those below it, down to so many levels: each entry's subtree whole before the next, in the
--- order of the entries, which is that of their names.
+-- The lines of an object and of those below it, down to so many levels: each entry's subtree whole before the next, in
+-- the order of the entries, which is that of their names.
 abbrev pub lines_below : ℕ → List Anode → List ℕ → Object → List ℕ
 lines_below zero anodes path object = []
 lines_below (suc levels) anodes path object =
     object_lines path object
-    ++ flat_map (λ entry. option_map_or (lines_below levels anodes (path ++ 47 ∷ entry.name)) (object_at anodes entry.anode) []) (entries_in object.content)
+    ++ flat_map (λ entry. option_map_or (lines_below levels anodes (path ++ 47 ∷ entry.name))
+    (object_at anodes entry.anode) []) (entries_in object.content)
 
 -- whether a fileset is a clone
 abbrev pub mode_text : Bool → List ℕ
@@ -87,4 +112,5 @@ fileset_head fileset =
 unfoldable pub fileset_lines : Fileset → List ℕ
 fileset_lines fileset =
     fileset_head fileset
-    ++ option_map_or (lines_below (length fileset.anodes) fileset.anodes (47 ∷ fileset.name)) (object_at fileset.anodes 1) []
+    ++ option_map_or (lines_below (length fileset.anodes) fileset.anodes (47 ∷ fileset.name))
+    (object_at fileset.anodes 1) []

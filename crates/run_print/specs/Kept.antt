@@ -9,4 +9,5 @@ use Rattle.run_print.specs.Dump.{head_line, dir_lists, list_line, run_line, runs
 abbrev pub content_lines : List ℕ → Object → Content → List ℕ
 content_lines path object (Dir entries lists) = head_line (codes "dir ") path (length entries) object ++ dir_lists lists
 content_lines path object (File list kept unsaved len) =
-    head_line (codes "file ") path (length kept) object ++ list_line (codes " list ") list ++ flat_map run_line (runs_of kept)
+    head_line (codes "file ") path (length kept) object
+    ++ list_line (codes " list ") list ++ flat_map run_line (runs_of kept)

@@ -15,7 +15,8 @@ use Rattle.run_print.specs.Reports.{by_server, report_of}
 -- the line of a reply: the host, which of its calls it is, and the reply
 unfoldable pub answer_line : Answer → List ℕ
 answer_line answer =
-    codes "c" ++ decimal answer.host.0 ++ codes " " ++ decimal answer.k ++ codes " " ++ reply_text answer.reply ++ codes "\n"
+    codes "c" ++ decimal answer.host.0
+    ++ codes " " ++ decimal answer.k ++ codes " " ++ reply_text answer.reply ++ codes "\n"
 
 -- the bytes that are lost, and the length
 unfoldable pub span_text : Option Span → List ℕ
@@ -29,13 +30,15 @@ length_text (Some len) = codes " length " ++ decimal len
 -- the line of a loss: the host, the server, the path, and what is lost
 unfoldable pub loss_line : Loss → List ℕ
 loss_line loss =
-    codes "lost c" ++ decimal loss.host.0 ++ codes " s" ++ decimal loss.server.0 ++ codes " " ++ word_text (path_of loss.path)
+    codes "lost c" ++ decimal loss.host.0
+    ++ codes " s" ++ decimal loss.server.0 ++ codes " " ++ word_text (path_of loss.path)
     ++ span_text loss.span ++ length_text loss.length ++ codes "\n"
 
 -- what a run tells, as text
 unfoldable pub text_of_report : Report → List ℕ
 text_of_report report =
-    flat_map answer_line report.answers ++ flat_map loss_line report.losses ++ flat_map fileset_lines (by_server report.tree.filesets) ++ codes "end\n"
+    flat_map answer_line report.answers
+    ++ flat_map loss_line report.losses ++ flat_map fileset_lines (by_server report.tree.filesets) ++ codes "end\n"
 
 -- the output of a script that is run from a tree on with a history
 abbrev pub printed : Script → Tree → List Entry → List ℕ

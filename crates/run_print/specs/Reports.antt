@@ -1,5 +1,20 @@
 -- What a run tells: replies, losses and filesets, each in the order of the output.
-use Rattle.std.specs.Prelude.{ℕ, Bool, true, false, ◌+◌, ◌==◌, ◌&&◌, nat_le, if◌then◌else◌, List, [], ◌∷◌, filter, flat_map}
+use Rattle.std.specs.Prelude.{
+  ℕ,
+  Bool,
+  true,
+  false,
+  ◌+◌,
+  ◌==◌,
+  ◌&&◌,
+  nat_le,
+  if◌then◌else◌,
+  List,
+  [],
+  ◌∷◌,
+  filter,
+  flat_map,
+}
 use Rattle.std.specs.List.{range_with_len}
 use Rattle.dfs_base.specs.declared.limits.TheConstants.{HOSTS_MAX, SERVERS_MAX}
 use Rattle.dfs_calls.specs.declared.entry.Entry.{Entry}
@@ -44,8 +59,8 @@ is_down _ = false
 abbrev pub lost_by : List Loss → ℕ → ℕ → List Loss
 lost_by losses host server = filter (λ loss. (loss.host.0 == host) && (loss.server.0 == server)) losses
 
--- Losses by host, and then by server. A host is down at a server once, and what is lost then is in the order of paths, of
--- each file the spans in their order, and then the length.
+-- Losses by host, and then by server. A host is down at a server once, and what is lost then is in the order of paths,
+-- of each file the spans in their order, and then the length.
 unfoldable pub by_host : List Loss → List Loss
 by_host losses = flat_map (λ host. flat_map (lost_by losses host) all_servers) all_hosts
 

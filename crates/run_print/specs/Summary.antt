@@ -21,7 +21,8 @@ objects_of anodes = count_by (λ anode. is_some anode.object) anodes
 -- What is told of a fileset. Its name is a JSON string of what the text form has between quotes.
 unfoldable pub fileset_json : Fileset → List ℕ
 fileset_json fileset =
-    codes "{\"name\":" ++ json_string (spelled_bytes fileset.name []) ++ codes ",\"objects\":" ++ decimal (objects_of fileset.anodes)
+    codes "{\"name\":" ++ json_string (spelled_bytes fileset.name [])
+    ++ codes ",\"objects\":" ++ decimal (objects_of fileset.anodes)
     ++ codes ",\"server\":" ++ decimal fileset.server.0 ++ codes "}"
 
 -- whether a reply is a refusal

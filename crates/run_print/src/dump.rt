@@ -1,7 +1,20 @@
 //! How filesets are written, object by object.
 ghost use Rattle.std.specs.Prelude.{◌≡◌, ◌++◌, ◌∷◌, [], flat_map, OnOk, IfOk};
 ghost use Rattle.std.specs.Option.{option_map_or};
-ghost use Rattle.run_print.specs.Dump.{before_zero, run_line, runs_of, list_line, nth_list_line, head_line, dir_lists, object_lines, lines_below, mode_text, fileset_head, fileset_lines};
+ghost use Rattle.run_print.specs.Dump.{
+  before_zero,
+  run_line,
+  runs_of,
+  list_line,
+  nth_list_line,
+  head_line,
+  dir_lists,
+  object_lines,
+  lines_below,
+  mode_text,
+  fileset_head,
+  fileset_lines,
+};
 ghost use Rattle.run_print.specs.Kept.{content_lines};
 
 use crate::access::push_list;

@@ -16,12 +16,13 @@ use dfs_tree::Tree;
 use script_lines::Script;
 use std::alloc::Global;
 
-/// The output of a run as text: of a script that was run from the tree `start` on, with this history, which led to the tree `last`.
+/// The output of a run as text: of a script that was run from the tree `start` on, with this history, which led to the
+/// tree `last`.
 ///
 /// First each reply to a line of the script, `cH K REPLY`, by host and then by the number of the call. Then each loss,
-/// `lost cH sS PATH FROM TO` in bytes or `lost cH sS PATH length N`, by host, server, path and position. Then the filesets
-/// that the history leaves, by server and id, object by object, with the bytes of files that aren't zero. Last `end`. The
-/// form is this project's own.
+/// `lost cH sS PATH FROM TO` in bytes or `lost cH sS PATH length N`, by host, server, path and position. Then the
+/// filesets that the history leaves, by server and id, object by object, with the bytes of files that aren't zero. Last
+/// `end`. The form is this project's own.
 pub fn text_of(
     alloc: Global,
     script: &Script,

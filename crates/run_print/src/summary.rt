@@ -18,12 +18,12 @@ use script_lines::Script;
 use serde_json::{Value, json};
 use std::alloc::Global;
 
-/// The output of a run as one line of JSON, which ends with a line feed: of a script that was run from the tree `start` on,
-/// with this history, which led to the tree `last`.
+/// The output of a run as one line of JSON, which ends with a line feed: of a script that was run from the tree `start`
+/// on, with this history, which led to the tree `last`.
 ///
-/// It has no spaces. It is an object with `calls`, how many replies the text form has; `filesets`, an object for each with
-/// its `name`, as the text form has it between quotes, its number of `objects` and its `server`; `lost`, how many losses the
-/// text form has; and `refused`, how many of the calls are refused. The form is this project's own.
+/// It has no spaces. It is an object with `calls`, how many replies the text form has; `filesets`, an object for each
+/// with its `name`, as the text form has it between quotes, its number of `objects` and its `server`; `lost`, how many
+/// losses the text form has; and `refused`, how many of the calls are refused. The form is this project's own.
 pub fn json_of(
     alloc: Global,
     script: &Script,
@@ -79,7 +79,8 @@ fn push_values(
     filesets: &Items<Fileset>,
     server: u8,
 ) -> Result<(), NoMemory>
-    ensures { OnOk result (map view values.new.items ≡ map view values.old.items ++ fileset_values (filesets_at filesets.now server)) }
+    ensures { OnOk result
+        (map view values.new.items ≡ map view values.old.items ++ fileset_values (filesets_at filesets.now server)) }
 {
     for fileset in filesets.as_slice() {
         if fileset.server.0 == server {

@@ -43,14 +43,16 @@ AllLinesGo =
     → IsBegun lines went left → AllStand went left
     → (node : Node) → left node ≡ []
 
--- where lines are stuck, whatever the order in which they went, that is told by the least number of a line at which a node stands
+-- where lines are stuck, whatever the order in which they went, that is told by the least number of a line at which a
+-- node stands
 abbrev pub StuckNamesLeast : Type 0
 StuckNamesLeast =
     (lines went : List Line) (left : Node → List Line) (number : ℕ)
     → numbers_rise 0 lines ≡ true
     → IsBegun lines went left → AllStand went left
     → stuck_at lines ≡ Some number
-    → StandsAt left number × ((node : Node) (line : Line) (more : List Line) → left node ≡ line ∷ more → number ≤ line.number)
+    → StandsAt left number
+    × ((node : Node) (line : Line) (more : List Line) → left node ≡ line ∷ more → number ≤ line.number)
 
 -- lines are stuck exactly where they go in no order
 abbrev pub StuckWithoutOrder : Type 0

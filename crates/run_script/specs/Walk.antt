@@ -1,4 +1,21 @@
-use Rattle.std.specs.Prelude.{ℕ, zero, suc, ◌==◌, Bool, true, if◌then◌else◌, List, [], ◌∷◌, ◌++◌, length, slice_get, Option, Some, None}
+use Rattle.std.specs.Prelude.{
+  ℕ,
+  zero,
+  suc,
+  ◌==◌,
+  Bool,
+  true,
+  if◌then◌else◌,
+  List,
+  [],
+  ◌∷◌,
+  ◌++◌,
+  length,
+  slice_get,
+  Option,
+  Some,
+  None,
+}
 use Rattle.std.specs.List.{list_any}
 use Rattle.dfs_base.specs.Name.{is_among}
 use Rattle.dfs_base.specs.declared.ids.Node.{Node}

@@ -1,7 +1,13 @@
-ghost use Rattle.run_script.specs.Laws.{LaterLinesChangeNothing, OrdersLeaveTheSame, AllLinesGo, StuckWithoutOrder, StuckNamesLeast};
+ghost use Rattle.run_script.specs.Laws.{
+  LaterLinesChangeNothing,
+  OrdersLeaveTheSame,
+  AllLinesGo,
+  StuckWithoutOrder,
+  StuckNamesLeast,
+};
 
-/// Law: lines after a refused one don't change why it is refused, but by the names that clones among them place. (That there
-/// are too many lines, or that `begin` is missing, is judged above this, of the whole script.)
+/// Law: lines after a refused one don't change why it is refused, but by the names that clones among them place. (That
+/// there are too many lines, or that `begin` is missing, is judged above this, of the whole script.)
 pub fn later_lines_change_nothing()
     ensures { LaterLinesChangeNothing }
 {}
@@ -21,8 +27,8 @@ pub fn stuck_without_order()
     ensures { StuckWithoutOrder }
 {}
 
-/// Law: where lines are stuck, whatever the order in which they went, that is told by the least number of a line at which a
-/// node stands.
+/// Law: where lines are stuck, whatever the order in which they went, that is told by the least number of a line at
+/// which a node stands.
 pub fn stuck_names_least()
     ensures { StuckNamesLeast }
 {}

@@ -7,7 +7,16 @@ ghost use Rattle.script_lines.specs.Judge.{nothing_said};
 ghost use Rattle.script_lines.specs.Sound.{IsSound};
 ghost use Rattle.run_script.specs.Walk.{stuck_at};
 ghost use Rattle.dfs_base.specs.declared.limits.TheConstants.{SCRIPT_LINES_MAX};
-ghost use Rattle.run_script.specs.Scripts.{Reads, Leaves, next_judged, judged_from, limited, ended_by, script_before_walk, script_of};
+ghost use Rattle.run_script.specs.Scripts.{
+  Reads,
+  Leaves,
+  next_judged,
+  judged_from,
+  limited,
+  ended_by,
+  script_before_walk,
+  script_of,
+};
 
 use crate::refused::ScriptRefused;
 use crate::walk::stuck_at;
@@ -121,12 +130,12 @@ fn read_lines(alloc: Global, bytes: &[u8], disks: u32) -> Result<Script, ScriptR
     Ok(context.script)
 }
 
-/// The script that these bytes say, for a service with so many disks, or why they are refused: exactly what `script_of` says,
-/// unless memory ran out.
+/// The script that these bytes say, for a service with so many disks, or why they are refused: exactly what `script_of`
+/// says, unless memory ran out.
 ///
-/// The first refused line decides. In it faults of line length, bytes and quotes come first, then the words from left to
-/// right, then too few or too many words. More than `SCRIPT_LINES_MAX` lines come before all causes but `Disks`. Rules
-/// about the whole script come last: `begin` missing, and then lines that wait for one another (`Stuck`).
+/// The first refused line decides. In it faults of line length, bytes and quotes come first, then the words from left
+/// to right, then too few or too many words. More than `SCRIPT_LINES_MAX` lines come before all causes but `Disks`.
+/// Rules about the whole script come last: `begin` missing, and then lines that wait for one another (`Stuck`).
 ///
 /// What is read keeps the limits of the service (`IsSound`), and its lines don't wait for one another.
 #[tactic(auto, unfolding(crate::specs::Scripts::script_of))]

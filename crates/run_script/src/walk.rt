@@ -1,5 +1,15 @@
 ghost use Rattle.std.specs.Prelude.{◌≡◌, [], length, slice_get, OnOk, IfOk};
-ghost use Rattle.run_script.specs.Walk.{is_blocked, can_go, stepped, walk_of, pass_from, count_up, rounds, first_number, stuck_at};
+ghost use Rattle.run_script.specs.Walk.{
+  is_blocked,
+  can_go,
+  stepped,
+  walk_of,
+  pass_from,
+  count_up,
+  rounds,
+  first_number,
+  stuck_at,
+};
 
 use dfs_base::{Items, Name, NoMemory, Node, Plain};
 use script_lines::{Deed, Line, same_node};
@@ -26,7 +36,8 @@ fn is_blocked(blocked: &Items<Node>, node: Node) -> bool
         .any(|other| same_node(*other, node))
 }
 
-/// Whether a line with this deed can go once these flags are raised: an await when its flag is among them, and any other at once.
+/// Whether a line with this deed can go once these flags are raised: an await when its flag is among them, and any
+/// other at once.
 pub fn can_go(flags: &Items<Name>, deed: &Deed) -> bool
     ensures { result ≡ can_go flags.now deed.now }
 {

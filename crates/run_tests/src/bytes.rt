@@ -12,8 +12,8 @@ enum Escape {
     Digit(u8),
 }
 
-/// The bytes that a text stands for. `\n`, `\r`, `\t`, `\p` (a bar), `\xNN` and a backslash before itself are escapes, and
-/// `{COUNT:TEXT}` is a repeated text; a brace that is meant is `\x7b` or `\x7d`.
+/// The bytes that a text stands for. `\n`, `\r`, `\t`, `\p` (a bar), `\xNN` and a backslash before itself are escapes,
+/// and `{COUNT:TEXT}` is a repeated text; a brace that is meant is `\x7b` or `\x7d`.
 pub fn bytes_of(alloc: Global, text: &str) -> Result<Vec<u8>> {
     let mut bytes = Vec::new(alloc);
     let mut is_repeated = false;

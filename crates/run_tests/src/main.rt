@@ -1,5 +1,5 @@
-//! The service by example. Standard input is a table: each row has the command words, the script, and the status and the output
-//! that are wanted. Every row that gets others is printed, and at the end the number of rows.
+//! The service by example. Standard input is a table: each row has the command words, the script, and the status and
+//! the output that are wanted. Every row that gets others is printed, and at the end the number of rows.
 #![tactic(auto)]
 
 mod bytes;

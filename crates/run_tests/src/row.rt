@@ -33,7 +33,8 @@ impl Row {
     }
 }
 
-/// Reads a row. FAILING is `-`, or `source` or `sink` and the number of the call that fails; the output `*` stands for any.
+/// Reads a row. FAILING is `-`, or `source` or `sink` and the number of the call that fails; the output `*` stands for
+/// any.
 pub fn row_of(alloc: Global, line: &str) -> Result<Row> {
     let mut cells = line.split('|');
     let name = cells.next().context("a name")?.trim();

@@ -1,4 +1,22 @@
-use Rattle.std.specs.Prelude.{ℕ, ◌==◌, nat_lt, bit_or, if◌then◌else◌, List, [], ◌∷◌, ◌++◌, length, Option, Some, None, Result, Ok, Err, codes}
+use Rattle.std.specs.Prelude.{
+  ℕ,
+  ◌==◌,
+  nat_lt,
+  bit_or,
+  if◌then◌else◌,
+  List,
+  [],
+  ◌∷◌,
+  ◌++◌,
+  length,
+  Option,
+  Some,
+  None,
+  Result,
+  Ok,
+  Err,
+  codes,
+}
 use Rattle.dfs_base.specs.Name.{is_name}
 use Rattle.dfs_base.specs.Access.{is_access_list}
 use Rattle.dfs_base.specs.declared.access.Who.{Who}
@@ -72,7 +90,8 @@ entry_of _ = Err BadList
 -- these entries, and those of the parts
 abbrev pub entries_from : List AccessEntry → List (List ℕ) → Result (List AccessEntry) BadWhy
 entries_from entries [] = Ok entries
-entries_from entries (part ∷ parts) = entry_of (parts_of 58 part) >>= (λ more. entries_from (entries ++ more ∷ []) parts)
+entries_from entries (part ∷ parts) =
+    entry_of (parts_of 58 part) >>= (λ more. entries_from (entries ++ more ∷ []) parts)
 
 -- entries between commas that together are an access list
 unfoldable pub list_at : List (List ℕ) → ℕ → Result (List AccessEntry) BadWhy

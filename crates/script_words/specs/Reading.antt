@@ -1,5 +1,26 @@
 -- The steps of a reader of words.
-use Rattle.std.specs.Prelude.{ℕ, zero, suc, ◌+◌, ◌*◌, ◌%◌, ◌==◌, ◌&&◌, ◌||◌, Bool, true, false, not, if◌then◌else◌, List, [], ◌∷◌, Option, Some, None}
+use Rattle.std.specs.Prelude.{
+  ℕ,
+  zero,
+  suc,
+  ◌+◌,
+  ◌*◌,
+  ◌%◌,
+  ◌==◌,
+  ◌&&◌,
+  ◌||◌,
+  Bool,
+  true,
+  false,
+  not,
+  if◌then◌else◌,
+  List,
+  [],
+  ◌∷◌,
+  Option,
+  Some,
+  None,
+}
 use Rattle.script_words.specs.Words.{is_in, hex_digit}
 
 -- how many bytes at the front stand for themselves outside quotes
@@ -26,7 +47,8 @@ hex_at _ = None
 
 abbrev pub escape_at : List ℕ → Option (ℕ × ℕ)
 escape_at [] = None
-escape_at (byte ∷ bytes) = if (byte == 34) || (byte == 92) then Some (byte, 1) else (if byte == 120 then hex_at bytes else None)
+escape_at (byte ∷ bytes) =
+    if (byte == 34) || (byte == 92) then Some (byte, 1) else (if byte == 120 then hex_at bytes else None)
 
 -- how many bytes at the front are spaces
 abbrev pub space_len : List ℕ → ℕ

@@ -1,12 +1,36 @@
-use Rattle.std.specs.Prelude.{ℕ, ◌+◌, ◌-◌, ◌*◌, ◌%◌, ◌==◌, ◌&&◌, ◌||◌, Bool, nat_lt, nat_le, if◌then◌else◌, List, [], ◌∷◌, ◌++◌, length, Option, Some, None, Result, Ok, Err}
+use Rattle.std.specs.Prelude.{
+  ℕ,
+  ◌+◌,
+  ◌-◌,
+  ◌*◌,
+  ◌%◌,
+  ◌==◌,
+  ◌&&◌,
+  ◌||◌,
+  Bool,
+  nat_lt,
+  nat_le,
+  if◌then◌else◌,
+  List,
+  [],
+  ◌∷◌,
+  ◌++◌,
+  length,
+  Option,
+  Some,
+  None,
+  Result,
+  Ok,
+  Err,
+}
 use Rattle.dfs_base.specs.declared.limits.TheConstants.{LINE_BYTES_MAX}
 use Rattle.script_words.specs.Lines.{without_end, content, says_nothing}
 use Rattle.script_words.specs.declared.fault.BadWhy.{BadWhy}
 use Rattle.script_words.specs.declared.fault.BadWhy.TheVariants.{Long, Text}
 use Rattle.script_words.specs.declared.words.Reader.{Reader}
 
--- where in a line a reader of words stands: between two words, in one without quotes or in quotes, after a backslash, after
--- its 'x', after the first digit behind that, with its value, or after the quote that ends a word
+-- where in a line a reader of words stands: between two words, in one without quotes or in quotes, after a backslash,
+-- after its 'x', after the first digit behind that, with its value, or after the quote that ends a word
 pub data Mode : Type 0 where
   Between : Mode
   Plain : Mode
@@ -44,10 +68,13 @@ whole_hex high (Some digit) = Some (Add ((high % 16) * 16 + digit) Quoted)
 
 -- what a byte does in each mode: 32 is a space, 34 a quote, 92 a backslash and 120 an 'x'
 abbrev pub turn_by : Mode → ℕ → Option Turn
-turn_by Between byte = if byte == 32 then Some (Go Between) else (if byte == 34 then Some (Go Quoted) else (if is_in 33 126 byte then Some (Add byte Plain) else None))
+turn_by Between byte = if byte == 32 then Some (Go Between)
+    else (if byte == 34 then Some (Go Quoted) else (if is_in 33 126 byte then Some (Add byte Plain) else None))
 turn_by Plain byte = if byte == 32 then Some End else (if is_in 33 126 byte then Some (Add byte Plain) else None)
-turn_by Quoted byte = if byte == 34 then Some (Go Closed) else (if byte == 92 then Some (Go Escape) else (if is_in 32 126 byte then Some (Add byte Quoted) else None))
-turn_by Escape byte = if (byte == 34) || (byte == 92) then Some (Add byte Quoted) else (if byte == 120 then Some (Go Hex) else None)
+turn_by Quoted byte = if byte == 34 then Some (Go Closed)
+    else (if byte == 92 then Some (Go Escape) else (if is_in 32 126 byte then Some (Add byte Quoted) else None))
+turn_by Escape byte =
+    if (byte == 34) || (byte == 92) then Some (Add byte Quoted) else (if byte == 120 then Some (Go Hex) else None)
 turn_by Hex byte = half_hex (hex_digit byte)
 turn_by (HalfHex high) byte = whole_hex high (hex_digit byte)
 turn_by Closed byte = if byte == 32 then Some End else None
@@ -60,7 +87,8 @@ ended words word Closed = Ok (words ++ word ∷ [])
 ended words word _ = Err Text
 
 -- what follows a turn, by its kind
-abbrev pub by_turn : {A : Type 0} → Option Turn → (Mode → Result A BadWhy) → (ℕ → Mode → Result A BadWhy) → Result A BadWhy → Result A BadWhy
+abbrev pub by_turn : {A : Type 0}
+    → Option Turn → (Mode → Result A BadWhy) → (ℕ → Mode → Result A BadWhy) → Result A BadWhy → Result A BadWhy
 by_turn None go add end = Err Text
 by_turn (Some (Go mode)) go add end = go mode
 by_turn (Some (Add byte mode)) go add end = add byte mode

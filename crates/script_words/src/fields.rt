@@ -3,7 +3,25 @@ ghost use Rattle.dfs_base.specs.Name.{is_among};
 ghost use Rattle.script_words.specs.declared.fault.BadWhy.TheVariants.{Word};
 ghost use Rattle.script_words.specs.Outcome.{Gives, GivesBy, found, unless};
 ghost use Rattle.std.specs.List.{list_all};
-ghost use Rattle.script_words.specs.Fields.{is_label, is_label_byte, starts_with_zero, value_from, number_up_to, node_of, is_word, parts_of, all_named, names_of, word_at, end_at, named, name_at, label_at, number_at, text_at};
+ghost use Rattle.script_words.specs.Fields.{
+  is_label,
+  is_label_byte,
+  starts_with_zero,
+  value_from,
+  number_up_to,
+  node_of,
+  is_word,
+  parts_of,
+  all_named,
+  names_of,
+  word_at,
+  end_at,
+  named,
+  name_at,
+  label_at,
+  number_at,
+  text_at,
+};
 ghost use Rattle.script_words.specs.Reading.{part_len};
 
 use crate::fault::{BadWhy, Fault};
@@ -126,8 +144,8 @@ fn value_up_to(most: u64, word: &[u8]) -> Option<u64>
     Some(value)
 }
 
-/// The number at a place, between `least` and `most`, both counted. `Number` where the word isn't decimal digits without
-/// zeros at the front, or is out of these limits.
+/// The number at a place, between `least` and `most`, both counted. `Number` where the word isn't decimal digits
+/// without zeros at the front, or is out of these limits.
 #[tactic(auto, unfolding(crate::specs::Fields::number_at))]
 pub fn number_at(words: &Words, i: usize, least: u64, most: u64) -> Result<u64, Fault>
     ensures { Gives result (number_at least most words.now i) }

@@ -1,6 +1,16 @@
 ghost use Rattle.std.specs.Prelude.{◌≡◌, []};
 ghost use Rattle.script_words.specs.Outcome.{Gives};
-ghost use Rattle.script_words.specs.Lists.{right_of, rights_from, rights_of, plain_who, name_in_list, named_who, entry_of, entries_from, list_at};
+ghost use Rattle.script_words.specs.Lists.{
+  right_of,
+  rights_from,
+  rights_of,
+  plain_who,
+  name_in_list,
+  named_who,
+  entry_of,
+  entries_from,
+  list_at,
+};
 
 use crate::fault::{BadWhy, Fault};
 use crate::fields::{Words, is_word, parts_of, word_at};
@@ -119,8 +129,9 @@ fn entries_of(alloc: Global, parts: &[Items<u8>]) -> Result<Items<AccessEntry>, 
     Ok(entries)
 }
 
-/// The access list at a place: entries joined by `,`, each `WHO:RIGHTS` or `KIND:NAME:RIGHTS`, where the rights are letters
-/// of `rwxcid` in that order, or `-` for none. `BadList` where the word is none, or its entries aren't an access list.
+/// The access list at a place: entries joined by `,`, each `WHO:RIGHTS` or `KIND:NAME:RIGHTS`, where the rights are
+/// letters of `rwxcid` in that order, or `-` for none. `BadList` where the word is none, or its entries aren't an
+/// access list.
 #[tactic(auto, unfolding(crate::specs::Lists::list_at))]
 pub fn list_at(words: &Words, i: usize) -> Result<AccessList, Fault>
     ensures { Gives result (list_at words.now i) }

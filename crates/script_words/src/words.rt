@@ -5,7 +5,15 @@ ghost use Rattle.script_words.specs.Spelling.{WordsAreReadBack};
 ghost use Rattle.script_words.specs.Words.{hex_digit, said, words_of, words_of_line};
 ghost use Rattle.script_words.specs.Words.Mode.{Between, Quoted, Escape, Closed};
 ghost use Rattle.script_words.specs.Fields.{asks, asking, words_asking};
-ghost use Rattle.script_words.specs.Reading.{is_text, space_len, plain_len, quoted_len, escape_at, begins_plain, begins_run};
+ghost use Rattle.script_words.specs.Reading.{
+  is_text,
+  space_len,
+  plain_len,
+  quoted_len,
+  escape_at,
+  begins_plain,
+  begins_run,
+};
 
 use crate::fault::{BadWhy, Fault};
 use crate::fields::is_word;
@@ -218,9 +226,9 @@ fn words_of(alloc: Global, text: &[u8]) -> Result<Items<Items<u8>>, Fault>
 /// The words of a line, which may end in a line feed, as the bytes that they mean; none where the line says nothing:
 /// where it has only spaces, or a `#` after them.
 ///
-/// Spaces separate words. A plain word has bytes 33 to 126 and doesn't begin with a quote; a word in quotes has bytes 32 to
-/// 126, with `\"`, `\\` and `\xNN` for a quote, a backslash and any byte. Any other byte or quote is `Text`. A line of more
-/// than `LINE_BYTES_MAX` bytes is `Long`, whatever else it has.
+/// Spaces separate words. A plain word has bytes 33 to 126 and doesn't begin with a quote; a word in quotes has bytes
+/// 32 to 126, with `\"`, `\\` and `\xNN` for a quote, a backslash and any byte. Any other byte or quote is `Text`. A
+/// line of more than `LINE_BYTES_MAX` bytes is `Long`, whatever else it has.
 #[tactic(auto, unfolding(crate::specs::Words::words_of_line))]
 pub fn words_of_line(alloc: Global, line: &[u8]) -> Result<Items<Items<u8>>, Fault>
     ensures { Gives result (words_of_line line.now) }
@@ -266,8 +274,8 @@ fn asks(words: &Items<Items<u8>>, verb: &[u8]) -> bool
     }
 }
 
-/// The words of a line whose second word is this one; none of any other line, of which two words are read, nor of one that
-/// `words_of_line` refuses.
+/// The words of a line whose second word is this one; none of any other line, of which two words are read, nor of one
+/// that `words_of_line` refuses.
 #[tactic(auto, unfolding(crate::specs::Fields::words_asking, crate::specs::Words::words_of_line))]
 pub fn words_asking(
     alloc: Global,
@@ -286,8 +294,8 @@ pub fn words_asking(
     }
 }
 
-/// Law: any words at all, of any bytes, are read back from the text that spells each of them in quotes, with a space after
-/// it.
+/// Law: any words at all, of any bytes, are read back from the text that spells each of them in quotes, with a space
+/// after it.
 pub fn words_are_read_back()
     ensures { WordsAreReadBack }
 {}

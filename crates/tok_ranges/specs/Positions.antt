@@ -4,10 +4,12 @@ use Rattle.dfs_base.specs.declared.limits.TheConstants.{FILE_BYTES_MAX}
 use Rattle.dfs_base.specs.Spans.{has_byte, in_spans}
 use Rattle.dfs_base.specs.declared.span.Span.{Span}
 
--- the spans are in order, none is empty, and no two touch: the first begins at `low` or later, and all end before `high`
+-- the spans are in order, none is empty, and no two touch: the first begins at `low` or later, and all end before
+-- `high`
 abbrev pub IsApartBetween : ℕ → List Span → ℕ → Type 0
 IsApartBetween low [] high = low ≤ high
-IsApartBetween low (span ∷ spans) high = (low ≤ span.from) × (span.from < span.to) × IsApartBetween (span.to + 1) spans high
+IsApartBetween low (span ∷ spans) high =
+    (low ≤ span.from) × (span.from < span.to) × IsApartBetween (span.to + 1) spans high
 
 -- the spans are in order, none is empty, and no two touch
 abbrev pub IsApart : List Span → Type 0
@@ -36,4 +38,5 @@ AddsBetween old from to new = (at : ℕ) → in_spans new at ≡ (in_spans old a
 
 -- what was apart is so with the span between two places behind it
 abbrev pub StaysApart : List Span → ℕ → ℕ → List Span → Type 0
-StaysApart old from to new = (low high : ℕ) → to < high → IsApartBetween low old from → IsApartBetween low old high → IsApartBetween low new high
+StaysApart old from to new =
+    (low high : ℕ) → to < high → IsApartBetween low old from → IsApartBetween low old high → IsApartBetween low new high

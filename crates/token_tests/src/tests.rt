@@ -40,8 +40,8 @@ fn token(seq: u64, host: u8, fid: Fid, kind: Kind) -> Token {
     }
 }
 
-// Each kind of one host against each kind of another: x where they conflict. The spans of kinds 0, 1, 6 and 7 touch those
-// of 2 and 8, and overlap those of 3 and 9.
+// Each kind of one host against each kind of another: x where they conflict. The spans of kinds 0, 1, 6 and 7 touch
+// those of 2 and 8, and overlap those of 3 and 9.
 #[test]
 fn kinds_conflict(rt: HostRuntime) {
     let kinds = [

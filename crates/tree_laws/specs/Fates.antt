@@ -1,5 +1,36 @@
 -- What entries of a history leave of each object, part by part, as functions of what was there before.
-use Rattle.std.specs.Prelude.{◌≡◌, ℕ, ◌+◌, ◌-◌, ◌==◌, nat_lt, nat_le, min, Bool, true, false, ◌&&◌, ◌||◌, not, if◌then◌else◌, List, [], ◌∷◌, length, insert, filter, slice_get, slice_set, Option, Some, None, unwrap_or, Result, Ok, Err}
+use Rattle.std.specs.Prelude.{
+  ◌≡◌,
+  ℕ,
+  ◌+◌,
+  ◌-◌,
+  ◌==◌,
+  nat_lt,
+  nat_le,
+  min,
+  Bool,
+  true,
+  false,
+  ◌&&◌,
+  ◌||◌,
+  not,
+  if◌then◌else◌,
+  List,
+  [],
+  ◌∷◌,
+  length,
+  insert,
+  filter,
+  slice_get,
+  slice_set,
+  Option,
+  Some,
+  None,
+  unwrap_or,
+  Result,
+  Ok,
+  Err,
+}
 use Rattle.std.specs.Option.{option_map, option_map_or}
 use Rattle.dfs_base.specs.Ids.{same_fid}
 use Rattle.dfs_base.specs.Image.{byte_at}
@@ -15,7 +46,19 @@ use Rattle.dfs_base.specs.declared.ids.Fid.{Fid}
 use Rattle.dfs_base.specs.declared.span.Span.{Span}
 use Rattle.dfs_base.specs.declared.user.User.{User}
 use Rattle.dfs_calls.specs.declared.call.Call.{Call as CallOf}
-use Rattle.dfs_calls.specs.declared.call.Call.TheVariants.{NewFileset, Create, MakeDir, Remove, Rename, Truncate, SetAcl, CloneFileset, Write, Sync, MoveFileset}
+use Rattle.dfs_calls.specs.declared.call.Call.TheVariants.{
+  NewFileset,
+  Create,
+  MakeDir,
+  Remove,
+  Rename,
+  Truncate,
+  SetAcl,
+  CloneFileset,
+  Write,
+  Sync,
+  MoveFileset,
+}
 use Rattle.dfs_calls.specs.declared.entry.Entry.{Entry}
 use Rattle.dfs_calls.specs.declared.entry.Entry.TheVariants.{Call, Stored, Down, Left}
 use Rattle.dfs_calls.specs.declared.part.DirEntry.{DirEntry}
@@ -46,7 +89,19 @@ use Rattle.dfs_tree.specs.Losses.{is_at}
 use Rattle.dfs_tree.specs.Moving.{move_target}
 use Rattle.dfs_tree.specs.Uses.{is_used}
 use Rattle.dfs_tree.specs.WellFormed.{IsWellFormed}
-use Rattle.tree_laws.specs.Parts.{Part, Seen, Nature, Written, Cell, present, settled, no_cell, cell_found, cell_at, object_in}
+use Rattle.tree_laws.specs.Parts.{
+  Part,
+  Seen,
+  Nature,
+  Written,
+  Cell,
+  present,
+  settled,
+  no_cell,
+  cell_found,
+  cell_at,
+  object_in,
+}
 use Rattle.tree_laws.specs.Parts.Part.{ByteAt, Size, Traits, Entries}
 
 -- what there is of one object

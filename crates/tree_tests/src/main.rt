@@ -1,5 +1,6 @@
-//! The reference tree by example. Standard input is a table: each row is a call of a host, or what becomes kept or lost,
-//! and behind ` = ` the reply that is wanted. Every row that gets another one is printed, and at the end the number of rows.
+//! The reference tree by example. Standard input is a table: each row is a call of a host, or what becomes kept or
+//! lost, and behind ` = ` the reply that is wanted. Every row that gets another one is printed, and at the end the
+//! number of rows.
 #![tactic(auto)]
 
 mod reading;

@@ -39,8 +39,8 @@ impl World {
         })
     }
 
-    /// What is told to a row: the reply to a call; `ok` where something became kept, or where a fileset has arrived; and
-    /// where a host is down, the losses.
+    /// What is told to a row: the reply to a call; `ok` where something became kept, or where a fileset has arrived;
+    /// and where a host is down, the losses.
     pub fn told(&mut self, row: &str) -> Result<String> {
         let mut words = Words::new(self.alloc, row);
         match words.next() {

@@ -1,5 +1,6 @@
-//! Times turns at a cell: for each line `WORKERS TURNS` of standard input it lets so many workers take so many turns each,
-//! and prints how many entries they made. With the word `times` it prints beside it how long they took, in nanoseconds.
+//! Times turns at a cell: for each line `WORKERS TURNS` of standard input it lets so many workers take so many turns
+//! each, and prints how many entries they made. With the word `times` it prints beside it how long they took, in
+//! nanoseconds.
 #![tactic(auto)]
 
 ghost use Rattle.std.specs.Prelude.{◌≤◌, IfSome};

@@ -164,8 +164,8 @@ impl<T: Counted + Send> TurnCell<T> {
     }
 
     /// Gives the value back, for all the passes that are out. Its list is exactly what was made through them: each
-    /// entry once, those of one pass in its order; and what each pass has seen is a beginning of it. It takes no memory,
-    /// so the answer is Ok, and waits for nobody.
+    /// entry once, those of one pass in its order; and what each pass has seen is a beginning of it. It takes no
+    /// memory, so the answer is Ok, and waits for nobody.
     pub fn close(
         self,
         passes: Vec<Pass<T::Entry>>,

@@ -18,8 +18,28 @@ use Rattle.world_steps.specs.declared.step.Step.{Step}
 use Rattle.dfs_base.specs.declared.ids.Node.TheVariants.{Host, Server}
 use Rattle.script_lines.specs.declared.script.PlanDeed.TheVariants.{Drop, Hold, Again}
 use Rattle.rpc_types.specs.declared.message.Direction.TheVariants.{ToServer, ToHost, BetweenServers}
-use Rattle.rpc_types.specs.declared.message.Body.TheVariants.{Hello, Fetch, Grant, Change, Done, Revoke, Returned, Kept, GiveBack}
-use Rattle.rpc_types.specs.declared.message.Body.TheVariants.{Gone, Reclaim, Reclaimed, Restarted, Down, Bye, NotHere, Ship, Shipped}
+use Rattle.rpc_types.specs.declared.message.Body.TheVariants.{
+  Hello,
+  Fetch,
+  Grant,
+  Change,
+  Done,
+  Revoke,
+  Returned,
+  Kept,
+  GiveBack,
+}
+use Rattle.rpc_types.specs.declared.message.Body.TheVariants.{
+  Gone,
+  Reclaim,
+  Reclaimed,
+  Restarted,
+  Down,
+  Bye,
+  NotHere,
+  Ship,
+  Shipped,
+}
 use Rattle.rpc_types.specs.declared.message.Body.{Body}
 use Rattle.world_steps.specs.declared.step.Cause.TheVariants.{Message as Came, Lapse}
 

@@ -16,7 +16,13 @@ use Rattle.world_steps.specs.declared.applied.Leave.{Leave}
 use Rattle.world_steps.specs.declared.step.Labelled.{Labelled}
 use Rattle.world_steps.specs.declared.step.Step.{Step}
 use Rattle.rpc_types.specs.declared.message.Body.TheVariants.{Down, Bye}
-use Rattle.script_lines.specs.declared.script.Deed.TheVariants.{Call as MakesCall, Raise, Await, Stop, Restart as Restarts}
+use Rattle.script_lines.specs.declared.script.Deed.TheVariants.{
+  Call as MakesCall,
+  Raise,
+  Await,
+  Stop,
+  Restart as Restarts,
+}
 use Rattle.world_steps.specs.declared.step.Cause.TheVariants.{Line as LineOf, Restart, Evict, End, Flushed}
 
 -- What a line makes a host do. A call has the next number. A stop says Down to each server, and drops what is held.

@@ -10,7 +10,16 @@ use Rattle.world_steps.specs.Requests.{Asking, Changing}
 use Rattle.world_steps.specs.Sends.{HasGreeted, HasSaidBye, Sends}
 use Rattle.world_steps.specs.declared.step.Step.{Step}
 use Rattle.rpc_types.specs.declared.message.Body.{Body}
-use Rattle.rpc_types.specs.declared.message.Body.TheVariants.{Hello, Fetch, Change, GiveBack, Reclaim, Reclaimed, Restarted, Bye}
+use Rattle.rpc_types.specs.declared.message.Body.TheVariants.{
+  Hello,
+  Fetch,
+  Change,
+  GiveBack,
+  Reclaim,
+  Reclaimed,
+  Restarted,
+  Bye,
+}
 use Rattle.rpc_types.specs.declared.giving.Reclaim.{Reclaim as ReclaimOf}
 use Rattle.rpc_types.specs.declared.giving.Reclaimed.{Reclaimed as ReclaimedOf}
 use Rattle.world_steps.specs.declared.step.Cause.TheVariants.{Lapse}

@@ -4,8 +4,8 @@ ghost use Rattle.world_steps.specs.Worked.{client, greets, enters, fetches, take
 ghost use Rattle.world_journal.specs.Worked.{script};
 ghost use Rattle.world_host.specs.HostRules.{HostMeets};
 
-/// The rules admit each step of a host that greets a server, enters a fileset, asks for its root, answers a call under the
-/// tokens that it gets, and answers the next call from its cache.
+/// The rules admit each step of a host that greets a server, enters a fileset, asks for its root, answers a call under
+/// the tokens that it gets, and answers the next call from its cache.
 pub fn a_host_runs()
     ensures greets { HostMeets script client [] greets }
     ensures enters { HostMeets script client (greets ∷ []) enters }

@@ -8,8 +8,8 @@ use dfs_calls::Entry;
 use std::alloc::Global;
 use world_steps::{Answer, Applied, Step};
 
-/// The history of the file tree that a journal is: of each step, in order, the calls that a host answers, and then what a
-/// server stores, writes down and learns. Wants are no entries. `NoMemory` comes where memory runs out.
+/// The history of the file tree that a journal is: of each step, in order, the calls that a host answers, and then what
+/// a server stores, writes down and learns. Wants are no entries. `NoMemory` comes where memory runs out.
 pub fn hist(alloc: Global, journal: &Journal) -> Result<Items<Entry>, NoMemory>
     ensures { IfOk result (λ history. history ≡ history_of journal.now.steps) }
 {

@@ -15,7 +15,16 @@ use Rattle.world_steps.specs.declared.applied.Admission.{Admission}
 use Rattle.world_steps.specs.declared.step.Step.{Step}
 use Rattle.world_steps.specs.Hosts.{IsDown}
 use Rattle.rpc_types.specs.declared.message.Body.{Body}
-use Rattle.rpc_types.specs.declared.message.Body.TheVariants.{Hello, GiveBack, Gone, Reclaim, Reclaimed, Restarted, Down, Bye}
+use Rattle.rpc_types.specs.declared.message.Body.TheVariants.{
+  Hello,
+  GiveBack,
+  Gone,
+  Reclaim,
+  Reclaimed,
+  Restarted,
+  Down,
+  Bye,
+}
 use Rattle.rpc_types.specs.declared.giving.Outstanding.{Outstanding}
 use Rattle.rpc_types.specs.declared.giving.Reclaim.{Reclaim as ReclaimOf}
 use Rattle.rpc_types.specs.declared.giving.Reclaimed.{Reclaimed as ReclaimedOf}

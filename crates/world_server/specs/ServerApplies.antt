@@ -23,7 +23,13 @@ use Rattle.dfs_calls.specs.declared.reply.Reply.TheVariants.{Ok as Fine}
 use Rattle.rpc_types.specs.declared.message.Body.TheVariants.{GiveBack, Down}
 use Rattle.rpc_types.specs.declared.giving.Ends.{Ends}
 use Rattle.world_steps.specs.declared.applied.Answer.{Answer}
-use Rattle.world_steps.specs.declared.applied.Applied.TheVariants.{Stored, Ends as EndsCall, IsDown as GoesDown, Wants, Done}
+use Rattle.world_steps.specs.declared.applied.Applied.TheVariants.{
+  Stored,
+  Ends as EndsCall,
+  IsDown as GoesDown,
+  Wants,
+  Done,
+}
 use Rattle.world_steps.specs.Grants.{Applied as IsApplied}
 use Rattle.world_steps.specs.declared.applied.Applied.{Applied}
 use Rattle.world_steps.specs.Acts.Act.{Writes}

@@ -5,10 +5,11 @@ ghost use Rattle.world_steps.specs.Worked.{site_one, welcomes, tells, grants};
 ghost use Rattle.world_journal.specs.Worked.{script, start};
 ghost use Rattle.world_server.specs.ServerRules.{ServerMeets};
 
-/// The rules admit each step of a server that welcomes a host, tells it the number of a fileset, and grants it tokens of the
-/// root.
+/// The rules admit each step of a server that welcomes a host, tells it the number of a fileset, and grants it tokens
+/// of the root.
 pub fn a_server_serves()
     ensures welcomes { ServerMeets script start site_one [] (acts 1 site_one []) welcomes }
     ensures tells { ServerMeets script start site_one (welcomes ∷ []) (acts 1 site_one (welcomes ∷ [])) tells }
-    ensures grants { ServerMeets script start site_one (tells ∷ welcomes ∷ []) (acts 1 site_one (tells ∷ welcomes ∷ [])) (grants whole) }
+    ensures grants { ServerMeets script start site_one
+        (tells ∷ welcomes ∷ []) (acts 1 site_one (tells ∷ welcomes ∷ [])) (grants whole) }
 {}

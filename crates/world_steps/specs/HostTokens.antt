@@ -5,7 +5,17 @@ use Rattle.dfs_base.specs.declared.ids.FilesetId.{FilesetId}
 use Rattle.tok_types.specs.declared.token.TokenId.{TokenId}
 use Rattle.tok_types.specs.declared.token.Token.{Token}
 use Rattle.rpc_types.specs.declared.message.Body.{Body}
-use Rattle.rpc_types.specs.declared.message.Body.TheVariants.{Fetch, Change, Revoke, Returned, Kept, GiveBack, Reclaim, Down, Bye}
+use Rattle.rpc_types.specs.declared.message.Body.TheVariants.{
+  Fetch,
+  Change,
+  Revoke,
+  Returned,
+  Kept,
+  GiveBack,
+  Reclaim,
+  Down,
+  Bye,
+}
 use Rattle.rpc_types.specs.declared.asking.Fetch.{Fetch as FetchOf}
 use Rattle.rpc_types.specs.declared.asking.Change.{Change as ChangeOf}
 use Rattle.rpc_types.specs.declared.tokens.Named.{Named}

@@ -6,7 +6,17 @@ use Rattle.tok_types.specs.declared.token.TokenId.{TokenId}
 use Rattle.tok_types.specs.declared.token.Token.{Token}
 use Rattle.tok_types.specs.Conflicts.{conflict}
 use Rattle.rpc_types.specs.declared.message.Body.{Body}
-use Rattle.rpc_types.specs.declared.message.Body.TheVariants.{Fetch, Grant, Change, Done, Revoke, GiveBack, Gone, Reclaim, Reclaimed}
+use Rattle.rpc_types.specs.declared.message.Body.TheVariants.{
+  Fetch,
+  Grant,
+  Change,
+  Done,
+  Revoke,
+  GiveBack,
+  Gone,
+  Reclaim,
+  Reclaimed,
+}
 use Rattle.rpc_types.specs.declared.asking.Fetch.{Fetch as FetchOf}
 use Rattle.rpc_types.specs.declared.asking.Change.{Change as ChangeOf}
 use Rattle.rpc_types.specs.declared.tokens.Revoke.{Revoke as RevokeOf}

@@ -19,7 +19,18 @@ use Rattle.tok_types.specs.declared.token.Kind.TheVariants.{Bytes, Status as Sta
 use Rattle.tok_types.specs.declared.token.Token.{Token}
 use Rattle.rpc_types.specs.declared.message.Direction.TheVariants.{ToServer, ToHost}
 use Rattle.rpc_types.specs.declared.message.Body.{Body}
-use Rattle.rpc_types.specs.declared.message.Body.TheVariants.{Hello, Fetch, Grant, Change, Done, GiveBack, Gone, Reclaim, Reclaimed, Restarted}
+use Rattle.rpc_types.specs.declared.message.Body.TheVariants.{
+  Hello,
+  Fetch,
+  Grant,
+  Change,
+  Done,
+  GiveBack,
+  Gone,
+  Reclaim,
+  Reclaimed,
+  Restarted,
+}
 use Rattle.rpc_types.specs.declared.message.Message.{Message}
 use Rattle.rpc_types.specs.declared.asking.Fetch.{Fetch as FetchOf}
 use Rattle.rpc_types.specs.declared.asking.Change.{Change as ChangeOf}

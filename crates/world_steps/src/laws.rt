@@ -23,9 +23,9 @@ pub fn a_restart_forgets()
     ensures { Forgetting }
 {}
 
-/// What a server brings, and a claim that counts names, is granted; what comes back isn't, nor is anything of a host that
-/// is down; a Kept pins, a give-back that is taken is applied, a Change that is written down counts; and a Revoke raises
-/// the floor of its file at the host that takes it.
+/// What a server brings, and a claim that counts names, is granted; what comes back isn't, nor is anything of a host
+/// that is down; a Kept pins, a give-back that is taken is applied, a Change that is written down counts; and a Revoke
+/// raises the floor of its file at the host that takes it.
 pub fn a_doing_takes_effect()
     ensures { Effects }
 {}
