@@ -8,7 +8,19 @@ use Rattle.dfs_calls.specs.declared.reply.Refusal.{Refusal}
 use Rattle.dfs_calls.specs.declared.reply.Refusal.TheVariants.{NoFileset}
 use Rattle.dfs_calls.specs.declared.reply.Reply.TheVariants.{Ok as Accepted, Refused}
 use Rattle.dfs_store.specs.declared.act.Act.{Act}
-use Rattle.dfs_store.specs.declared.act.Act.TheVariants.{Boot, Epoch, Host, Do, Refuse, Give, Leave, Back, Left, Settle, Part}
+use Rattle.dfs_store.specs.declared.act.Act.TheVariants.{
+  Boot,
+  Epoch,
+  Host,
+  Do,
+  Refuse,
+  Give,
+  Leave,
+  Back,
+  Left,
+  Settle,
+  Part,
+}
 use Rattle.dfs_store.specs.declared.act.Done.{Done}
 use Rattle.dfs_store.specs.declared.act.HostState.TheVariants.{Unknown}
 use Rattle.dfs_store.specs.declared.state.Holding.{Holding}

@@ -1,5 +1,24 @@
 -- How filesets come about in a store.
-use Rattle.std.specs.Prelude.{ℕ, ◌+◌, ◌*◌, nat_lt, nat_le, Bool, if◌then◌else◌, List, length, slice_set, Option, Some, None, is_none, unwrap_or, Result, Ok, Err}
+use Rattle.std.specs.Prelude.{
+  ℕ,
+  ◌+◌,
+  ◌*◌,
+  nat_lt,
+  nat_le,
+  Bool,
+  if◌then◌else◌,
+  List,
+  length,
+  slice_set,
+  Option,
+  Some,
+  None,
+  is_none,
+  unwrap_or,
+  Result,
+  Ok,
+  Err,
+}
 use Rattle.std.specs.List.{list_any, position, sum_by}
 use Rattle.std.specs.Option.{option_map_or}
 use Rattle.dfs_base.specs.Name.{same_name}
@@ -66,7 +85,10 @@ with_new state slot stay fileset = record state {
 unfoldable pub new_fileset_answer : StoreState → List ℕ → ℕ → User → Answer
 new_fileset_answer state name objects owner =
     either (room_for state name (new_promise objects))
-    (λ slot. record { reply = Accepted; state = with_new state slot Writable (new_fileset state.server (next_id state) name objects owner) })
+    (λ slot. record {
+      reply = Accepted;
+      state = with_new state slot Writable (new_fileset state.server (next_id state) name objects owner);
+    })
     (refuse state)
 
 -- why no fileset of a name is here: it has left, or never was
@@ -90,5 +112,6 @@ clone_target state user source new =
 unfoldable pub clone_answer : StoreState → User → List ℕ → List ℕ → Answer
 clone_answer state user source new =
     either (clone_target state user source new)
-    (λ (fileset, slot). record { reply = Accepted; state = with_new state slot Clone (cloned fileset (next_id state) new) })
+    (λ (fileset, slot).
+    record { reply = Accepted; state = with_new state slot Clone (cloned fileset (next_id state) new) })
     (refuse state)

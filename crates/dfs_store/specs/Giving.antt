@@ -1,5 +1,19 @@
 -- What hosts give back of files.
-use Rattle.std.specs.Prelude.{ℕ, ◌+◌, ◌&&◌, max, if◌then◌else◌, List, [], ◌∷◌, length, slice_set, Option, None, unwrap_or}
+use Rattle.std.specs.Prelude.{
+  ℕ,
+  ◌+◌,
+  ◌&&◌,
+  max,
+  if◌then◌else◌,
+  List,
+  [],
+  ◌∷◌,
+  length,
+  slice_set,
+  Option,
+  None,
+  unwrap_or,
+}
 use Rattle.std.specs.Option.{option_map_or}
 use Rattle.dfs_base.specs.declared.ids.Fid.{Fid}
 use Rattle.dfs_base.specs.declared.ids.HostId.{HostId}
@@ -33,7 +47,8 @@ lengthened kept given = resized kept (max (unwrap_or given 0) (length kept))
 -- the length comes first, and then the pieces as far as it reaches
 abbrev pub content_given : List Piece → Option ℕ → Content → Content
 content_given pieces given (Dir entries lists) = Dir entries lists
-content_given pieces given (File list kept unsaved len) = File list (put_pieces (lengthened kept given) pieces) unsaved len
+content_given pieces given (File list kept unsaved len) =
+    File list (put_pieces (lengthened kept given) pieces) unsaved len
 
 -- a holding to which it was given: a file of a writable fileset
 abbrev pub held_given : Fid → List Piece → Option ℕ → Holding → Holding
@@ -46,5 +61,6 @@ held_given fid pieces given holding =
 unfoldable pub give_outcome : StoreState → HostId → ℕ → Fid → List Piece → Option ℕ → Outcome
 give_outcome state host number fid pieces given =
     applied_once state fid.fileset host number (
-    fresh Accepted (with_record (with_held state (slot_so (is_of fid.fileset) state.slots) (held_given fid pieces given))
+    fresh Accepted
+    (with_record (with_held state (slot_so (is_of fid.fileset) state.slots) (held_given fid pieces given))
     fid.fileset host (give_applied number)))

@@ -20,8 +20,9 @@ anode_told (Object anode unique status pieces entries) = Some (anode_of_part uni
 
 -- a part of a fileset with nothing unsaved tells of its anode whole
 abbrev pub PartsAreWhole : Type 0
-PartsAreWhole = (number : ℕ) (anode : Anode) → option_map_or (λ object. is_settled object.content) anode.object true ≡ true →
-    anode_told (object_part number anode.unique anode.object) ≡ Some anode
+PartsAreWhole = (number : ℕ) (anode : Anode)
+    → option_map_or (λ object. is_settled object.content) anode.object true ≡ true
+    → anode_told (object_part number anode.unique anode.object) ≡ Some anode
 
 -- the right that a refusal tells
 abbrev pub told_right : Refusal → ℕ
@@ -31,4 +32,5 @@ told_right _ = 0
 -- the reply to a change that is kept is the one that was given; rights are below 64
 pub record RepliesAreKept : Type 0 where
   pub done : (number : ℕ) (kept : Record) → kept_reply (change_decided number Accepted kept) ≡ Accepted
-  pub refused : (number : ℕ) (refusal : Refusal) (kept : Record) → told_right refusal < 64 → kept_reply (change_decided number (Refused refusal) kept) ≡ Refused refusal
+  pub refused : (number : ℕ) (refusal : Refusal) (kept : Record)
+      → told_right refusal < 64 → kept_reply (change_decided number (Refused refusal) kept) ≡ Refused refusal

@@ -1,5 +1,34 @@
 -- How filesets leave a store and arrive in one.
-use Rattle.std.specs.Prelude.{ℕ, ◌+◌, ◌-◌, ◌==◌, nat_lt, nat_le, Bool, true, false, ◌&&◌, ◌||◌, not, if◌then◌else◌, List, [], ◌∷◌, ◌++◌, length, map, slice_get, slice_set, Option, Some, None, unwrap_or, Result, Ok, Err}
+use Rattle.std.specs.Prelude.{
+  ℕ,
+  ◌+◌,
+  ◌-◌,
+  ◌==◌,
+  nat_lt,
+  nat_le,
+  Bool,
+  true,
+  false,
+  ◌&&◌,
+  ◌||◌,
+  not,
+  if◌then◌else◌,
+  List,
+  [],
+  ◌∷◌,
+  ◌++◌,
+  length,
+  map,
+  slice_get,
+  slice_set,
+  Option,
+  Some,
+  None,
+  unwrap_or,
+  Result,
+  Ok,
+  Err,
+}
 use Rattle.std.specs.List.{list_any}
 use Rattle.std.specs.Option.{option_map, option_map_or}
 use Rattle.dfs_base.specs.Lists.{changed_at}
@@ -29,7 +58,20 @@ use Rattle.dfs_store.specs.Founding.{free_slot, is_named, slot_for}
 use Rattle.dfs_store.specs.Outcomes.{Outcome, fresh, stale, change_decided, decided_once}
 use Rattle.dfs_store.specs.Parts.{anode_of_part}
 use Rattle.dfs_store.specs.Replies.{reply_of, reply_code}
-use Rattle.dfs_store.specs.State.{forgotten, no_ship, is_writable, is_gone, is_leaving, is_arriving, is_used_so, is_of, slot_so, held_so, with_held, with_record}
+use Rattle.dfs_store.specs.State.{
+  forgotten,
+  no_ship,
+  is_writable,
+  is_gone,
+  is_leaving,
+  is_arriving,
+  is_used_so,
+  is_of,
+  slot_so,
+  held_so,
+  with_held,
+  with_record,
+}
 
 -- how a fileset stays, if it has a slot
 abbrev pub stay_of : StoreState → FilesetId → Option Stay
@@ -54,7 +96,8 @@ held_as stay holding = record holding { stay = stay }
 -- Leave: a writable fileset, where none is leaving, is leaving under the next ship number
 unfoldable pub leave_outcome : StoreState → FilesetId → ServerId → Outcome
 leave_outcome state id to =
-    done_where (stays_so state id is_writable && not (list_any (is_used_so (λ holding. is_leaving holding.stay)) state.slots)) state
+    done_where (stays_so state id is_writable
+    && not (list_any (is_used_so (λ holding. is_leaving holding.stay)) state.slots)) state
     (record (with_holding state id (held_as (Leaving to (state.ship + 1)))) { ship = state.ship + 1 })
 
 -- a holding that is writable again, if it was leaving
@@ -65,7 +108,8 @@ returned holding = if is_leaving holding.stay then held_as Writable holding else
 unfoldable pub back_outcome : StoreState → HostId → ℕ → FilesetId → Refusal → Outcome
 back_outcome state host number id refusal =
     decided_once state id host number (
-    fresh (Refused refusal) (with_record (with_holding state id returned) id host (change_decided number (Refused refusal))))
+    fresh (Refused refusal)
+    (with_record (with_holding state id returned) id host (change_decided number (Refused refusal))))
 
 -- where it has left for
 abbrev pub stay_left : Stay → Stay

@@ -53,17 +53,19 @@ give_applied number kept = record kept { give = number }
 
 -- a change that is decided now, under a number on a fileset
 abbrev pub decided : FilesetId → HostId → ℕ → Answer → Outcome
-decided id host number answer = fresh answer.reply (with_record answer.state id host (change_decided number answer.reply))
+decided id host number answer =
+    fresh answer.reply (with_record answer.state id host (change_decided number answer.reply))
 
 -- a number that isn't above the last one gets the kept reply
 abbrev pub decided_by : Record → ℕ → Option Done
 decided_by kept number = if nat_lt kept.change number then None else Some (not_fresh (kept_reply kept))
 
--- whether a change is settled already: where the fileset isn't there, no number counts, and one whose number isn't above the
--- last of the host on the fileset gets the kept reply
+-- whether a change is settled already: where the fileset isn't there, no number counts, and one whose number isn't
+-- above the last of the host on the fileset gets the kept reply
 abbrev pub decided_before : StoreState → FilesetId → HostId → ℕ → Option Done
 decided_before state id host number =
-    option_map_or (λ records. decided_by (record_of records host) number) (records_of state id) (Some (not_fresh (Refused NoFileset)))
+    option_map_or (λ records. decided_by (record_of records host) number)
+    (records_of state id) (Some (not_fresh (Refused NoFileset)))
 
 -- and a give-back
 abbrev pub applied_before : StoreState → FilesetId → HostId → ℕ → Option Done

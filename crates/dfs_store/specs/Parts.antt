@@ -1,5 +1,24 @@
 -- The parts of a fileset that moves: what is told of an object, and the object that it tells of.
-use Rattle.std.specs.Prelude.{ℕ, ◌-◌, ◌==◌, nat_le, Bool, true, false, ◌&&◌, if◌then◌else◌, List, [], ◌∷◌, length, replicate, slice_get, Option, Some, None}
+use Rattle.std.specs.Prelude.{
+  ℕ,
+  ◌-◌,
+  ◌==◌,
+  nat_le,
+  Bool,
+  true,
+  false,
+  ◌&&◌,
+  if◌then◌else◌,
+  List,
+  [],
+  ◌∷◌,
+  length,
+  replicate,
+  slice_get,
+  Option,
+  Some,
+  None,
+}
 use Rattle.std.specs.Option.{option_map, option_map_or, option_and_then}
 use Rattle.dfs_base.specs.declared.access.AccessEntry.{AccessEntry}
 use Rattle.dfs_base.specs.declared.limits.TheConstants.{FILE_BYTES_MAX, OBJECTS_MAX}
@@ -75,13 +94,15 @@ part_of holding at mover =
 abbrev pub told_content : Status → List Piece → List DirEntry → Option Content
 told_content status pieces entries =
     if status.dir then Some (Dir entries status.lists)
-    else option_map (λ list. File list (put_pieces (replicate status.length 0) pieces) [] None) (slice_get status.lists 0)
+    else option_map (λ list. File list (put_pieces (replicate status.length 0) pieces) [] None)
+    (slice_get status.lists 0)
 
 -- the object
 abbrev pub object_of_part : Option Status → List Piece → List DirEntry → Option Object
 object_of_part None pieces entries = None
 object_of_part (Some status) pieces entries =
-    option_map (λ content. record { owner = status.owner; group = status.group; content = content }) (told_content status pieces entries)
+    option_map (λ content. record { owner = status.owner; group = status.group; content = content })
+    (told_content status pieces entries)
 
 -- the anode
 abbrev pub anode_of_part : ℕ → Option Status → List Piece → List DirEntry → Anode

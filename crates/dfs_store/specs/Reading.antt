@@ -1,5 +1,29 @@
 -- What a store tells.
-use Rattle.std.specs.Prelude.{ℕ, ◌+◌, ◌-◌, ◌==◌, Bool, true, false, ◌&&◌, ◌||◌, if◌then◌else◌, List, [], ◌∷◌, take, drop, slice_get, Option, Some, None, is_some, unwrap_or, Result, Ok}
+use Rattle.std.specs.Prelude.{
+  ℕ,
+  ◌+◌,
+  ◌-◌,
+  ◌==◌,
+  Bool,
+  true,
+  false,
+  ◌&&◌,
+  ◌||◌,
+  if◌then◌else◌,
+  List,
+  [],
+  ◌∷◌,
+  take,
+  drop,
+  slice_get,
+  Option,
+  Some,
+  None,
+  is_some,
+  unwrap_or,
+  Result,
+  Ok,
+}
 use Rattle.std.specs.Option.{option_map, option_map_or, option_and_then}
 use Rattle.dfs_base.specs.Outcomes.{and_then, either}
 use Rattle.dfs_base.specs.declared.ids.Fid.{Fid}
@@ -53,7 +77,8 @@ fileset_of state id = option_map (λ holding. holding.fileset) (held_so (is_here
 abbrev pub fids_from : FilesetId → ℕ → List Anode → List Fid
 fids_from id at [] = []
 fids_from id at (anode ∷ anodes) =
-    if is_some anode.object then record { fileset = id; anode = at; unique = anode.unique } ∷ fids_from id (at + 1) anodes
+    if is_some anode.object
+    then record { fileset = id; anode = at; unique = anode.unique } ∷ fids_from id (at + 1) anodes
     else fids_from id (at + 1) anodes
 
 -- the objects of a fileset that is here, in the order of their anodes
@@ -89,12 +114,14 @@ object_named state fid = option_and_then (λ fileset. object_in fileset fid) (fi
 -- its status
 abbrev pub status_told : StoreState → Fid → Option Status
 status_told state fid =
-    option_and_then (λ fileset. option_map (status_of fileset.read_only) (object_in fileset fid)) (fileset_of state fid.fileset)
+    option_and_then (λ fileset. option_map (status_of fileset.read_only) (object_in fileset fid))
+    (fileset_of state fid.fileset)
 
 -- its bytes in a span, and none of a directory
 abbrev pub bytes_told : StoreState → Fid → Span → List ℕ
 bytes_told state fid span =
-    option_map_or (λ object. take (span.to - span.from) (drop span.from (kept_bytes object.content))) (object_named state fid) []
+    option_map_or (λ object. take (span.to - span.from) (drop span.from (kept_bytes object.content)))
+    (object_named state fid) []
 
 -- its entries, and none of a file
 abbrev pub entries_told : StoreState → Fid → List DirEntry

@@ -2,7 +2,29 @@
 use Rattle.std.specs.Prelude.{ℕ, ◌-◌, ◌==◌, bit_and, if◌then◌else◌, List, [], ◌∷◌, slice_get, Option}
 use Rattle.std.specs.Option.{option_map_or}
 use Rattle.dfs_calls.specs.declared.reply.Refusal.{Refusal}
-use Rattle.dfs_calls.specs.declared.reply.Refusal.TheVariants.{NoEntry, NotDir, IsDir, Exists, NotEmpty, Denied, TooBig, TooMany, NoRoom, ReadOnly, Locked, OpenConflict, InUse, Loop, NoFileset, CrossFileset, NotLocked, NotOpened, AlreadyLocked, AlreadyOpened, NotHome}
+use Rattle.dfs_calls.specs.declared.reply.Refusal.TheVariants.{
+  NoEntry,
+  NotDir,
+  IsDir,
+  Exists,
+  NotEmpty,
+  Denied,
+  TooBig,
+  TooMany,
+  NoRoom,
+  ReadOnly,
+  Locked,
+  OpenConflict,
+  InUse,
+  Loop,
+  NoFileset,
+  CrossFileset,
+  NotLocked,
+  NotOpened,
+  AlreadyLocked,
+  AlreadyOpened,
+  NotHome,
+}
 use Rattle.dfs_calls.specs.declared.reply.Reply.{Reply}
 use Rattle.dfs_calls.specs.declared.reply.Reply.TheVariants.{Ok as ReplyOk, Bytes, Names, Facts, Access, Refused}
 use Rattle.dfs_calls.specs.declared.ship.Record.{Record}
@@ -48,13 +70,15 @@ reply_right _ = 0
 -- the refusals in the order of their codes; of a right the lowest six bits count
 abbrev pub refusals : ℕ → List Refusal
 refusals right =
-    NoEntry ∷ NotDir ∷ IsDir ∷ Exists ∷ NotEmpty ∷ Denied (bit_and right 63) ∷ TooBig ∷ TooMany ∷ NoRoom ∷ ReadOnly ∷ Locked ∷ OpenConflict ∷
+    NoEntry ∷ NotDir ∷ IsDir
+    ∷ Exists ∷ NotEmpty ∷ Denied (bit_and right 63) ∷ TooBig ∷ TooMany ∷ NoRoom ∷ ReadOnly ∷ Locked ∷ OpenConflict ∷
     InUse ∷ Loop ∷ NoFileset ∷ CrossFileset ∷ NotLocked ∷ NotOpened ∷ AlreadyLocked ∷ AlreadyOpened ∷ NotHome ∷ []
 
 -- the reply of a code
 abbrev pub reply_of : ℕ → ℕ → Reply
 reply_of code right =
-    if code == 0 then ReplyOk else option_map_or (λ refusal. Refused refusal) (slice_get (refusals right) (code - 1)) ReplyOk
+    if code == 0 then ReplyOk
+    else option_map_or (λ refusal. Refused refusal) (slice_get (refusals right) (code - 1)) ReplyOk
 
 -- the reply that is kept
 abbrev pub kept_reply : Record → Reply

@@ -11,10 +11,37 @@ use Rattle.dfs_base.specs.declared.limits.TheConstants.{FILE_BYTES_MAX}
 use Rattle.dfs_base.specs.declared.user.User.{User}
 use Rattle.dfs_calls.specs.Rosters.{user_of}
 use Rattle.dfs_calls.specs.declared.call.Call.{Call}
-use Rattle.dfs_calls.specs.declared.call.Call.TheVariants.{NewFileset, Create, MakeDir, Remove, Rename, Truncate, SetAcl, CloneFileset, Read, Write, List as ListNames, Stat, GetAcl, Sync, Lock, Unlock, OpenFile, CloseFile, MoveFileset}
+use Rattle.dfs_calls.specs.declared.call.Call.TheVariants.{
+  NewFileset,
+  Create,
+  MakeDir,
+  Remove,
+  Rename,
+  Truncate,
+  SetAcl,
+  CloneFileset,
+  Read,
+  Write,
+  List as ListNames,
+  Stat,
+  GetAcl,
+  Sync,
+  Lock,
+  Unlock,
+  OpenFile,
+  CloseFile,
+  MoveFileset,
+}
 use Rattle.dfs_calls.specs.declared.place.Place.{Place}
 use Rattle.dfs_calls.specs.declared.reply.Refusal.{Refusal}
-use Rattle.dfs_calls.specs.declared.reply.Refusal.TheVariants.{Denied, NoFileset, CrossFileset, TooBig, NotLocked, NotOpened}
+use Rattle.dfs_calls.specs.declared.reply.Refusal.TheVariants.{
+  Denied,
+  NoFileset,
+  CrossFileset,
+  TooBig,
+  NotLocked,
+  NotOpened,
+}
 use Rattle.dfs_calls.specs.declared.reply.Reply.{Reply}
 use Rattle.dfs_calls.specs.declared.reply.Reply.TheVariants.{Ok as Accepted, Refused}
 use Rattle.dfs_filesets.specs.declared.fileset.Fileset.{Fileset}
@@ -37,7 +64,8 @@ nothing_used fid = false
 
 -- the fileset of a name that is here
 abbrev pub fileset_here : StoreState → List ℕ → Result Fileset Refusal
-fileset_here state name = option_map_or (λ holding. Ok holding.fileset) (held_so (is_here_as name) state.slots) (Err NoFileset)
+fileset_here state name =
+    option_map_or (λ holding. Ok holding.fileset) (held_so (is_here_as name) state.slots) (Err NoFileset)
 
 -- a holding whose fileset answered a call
 abbrev pub held_answered : HostId → User → Call → Holding → Holding
@@ -53,7 +81,10 @@ held_reply host user call (Some holding) = (fileset_answer holding.fileset nothi
 unfoldable pub named_row : StoreState → List ℕ → HostId → User → Call → Answer
 named_row state name host user call =
     let at = slot_so (is_here_as name) state.slots in
-    record { reply = held_reply host user call (held_at state.slots at); state = with_held state at (held_answered host user call) }
+    record {
+      reply = held_reply host user call (held_at state.slots at);
+      state = with_held state at (held_answered host user call);
+    }
 
 -- whether an object may be moved between two places: NoFileset; CrossFileset (they are in two filesets)
 abbrev pub move_check : StoreState → Place → Place → Result (Unit {0}) Refusal
@@ -78,7 +109,8 @@ lock_check state user place writing end =
 
 -- OpenFile: NoFileset; walk; IsDir; ReadOnly; Denied
 unfoldable pub open_check : StoreState → User → Place → OpenKind → Result Fid Refusal
-open_check state user place kind = and_then (fileset_here state place.fileset) (λ fileset. open_target fileset user place.path kind)
+open_check state user place kind =
+    and_then (fileset_here state place.fileset) (λ fileset. open_target fileset user place.path kind)
 
 -- the reply to a call that uses a file, or is none that a store decides
 abbrev pub use_reply : StoreState → Call → User → Reply
@@ -96,10 +128,13 @@ unchanged state reply = record { reply = reply; state = state }
 unfoldable pub answer_for : StoreState → HostId → Call → User → Answer
 answer_for state host (NewFileset server name objects owner) user = new_fileset_answer state name objects owner
 answer_for state host (CloneFileset server source new) user = clone_answer state user source new
-answer_for state host (MoveFileset server name to) user = unchanged state (use_reply state (MoveFileset server name to) user)
-answer_for state host (Lock label place writing from len) user = unchanged state (use_reply state (Lock label place writing from len) user)
+answer_for state host (MoveFileset server name to) user =
+    unchanged state (use_reply state (MoveFileset server name to) user)
+answer_for state host (Lock label place writing from len) user =
+    unchanged state (use_reply state (Lock label place writing from len) user)
 answer_for state host (Unlock label) user = unchanged state (use_reply state (Unlock label) user)
-answer_for state host (OpenFile label place kind) user = unchanged state (use_reply state (OpenFile label place kind) user)
+answer_for state host (OpenFile label place kind) user =
+    unchanged state (use_reply state (OpenFile label place kind) user)
 answer_for state host (CloseFile label) user = unchanged state (use_reply state (CloseFile label) user)
 answer_for state host (Create place) user = named_row state place.fileset host user (Create place)
 answer_for state host (MakeDir place) user = named_row state place.fileset host user (MakeDir place)
@@ -116,7 +151,8 @@ answer_for state host (Sync place) user = named_row state place.fileset host use
 
 -- a call of a host; one that isn't declared acts for nobody
 unfoldable pub answer_to : StoreState → HostId → Call → Answer
-answer_to state host call = option_map_or (answer_for state host call) (user_of state.roster host) (refuse state (Denied 0))
+answer_to state host call =
+    option_map_or (answer_for state host call) (user_of state.roster host) (refuse state (Denied 0))
 
 -- the name of the fileset under which a call is numbered; none for a call about filesets themselves
 abbrev pub numbered_name : Call → Option (List ℕ)

@@ -61,5 +61,6 @@ KeepsLimits-prop state x y =
     λ i. record {
       table = table_prop x.table y.table i;
       records = AreRecords-prop state.records x.records y.records i;
-      slots = Each-prop (λ slot. IfSome slot (IsHolding state.roster)) (slot_prop state.roster) state.slots x.slots y.slots i;
+      slots =
+          Each-prop (λ slot. IfSome slot (IsHolding state.roster)) (slot_prop state.roster) state.slots x.slots y.slots i;
     }

@@ -1,10 +1,57 @@
 -- What acts a store takes, and what it keeps within limits.
-use Rattle.std.specs.Prelude.{◌≡◌, ◌≤◌, ◌<◌, ℕ, ◌+◌, ◌-◌, ◌^◌, ◌/◌, ◌%◌, true, false, List, [], ◌∷◌, length, take, Option, Some, IfSome}
+use Rattle.std.specs.Prelude.{
+  ◌≡◌,
+  ◌≤◌,
+  ◌<◌,
+  ℕ,
+  ◌+◌,
+  ◌-◌,
+  ◌^◌,
+  ◌/◌,
+  ◌%◌,
+  true,
+  false,
+  List,
+  [],
+  ◌∷◌,
+  length,
+  take,
+  Option,
+  Some,
+  IfSome,
+}
 use Rattle.dfs_base.specs.declared.ids.FilesetId.{FilesetId}
 use Rattle.dfs_base.specs.declared.ids.ServerId.{ServerId}
-use Rattle.dfs_base.specs.declared.limits.TheConstants.{BATCH_ACTS_MAX, FILE_BYTES_MAX, FILESETS_MAX, HOSTS_MAX, OBJECTS_MAX, SERVERS_MAX}
+use Rattle.dfs_base.specs.declared.limits.TheConstants.{
+  BATCH_ACTS_MAX,
+  FILE_BYTES_MAX,
+  FILESETS_MAX,
+  HOSTS_MAX,
+  OBJECTS_MAX,
+  SERVERS_MAX,
+}
 use Rattle.dfs_calls.specs.declared.call.Call.{Call}
-use Rattle.dfs_calls.specs.declared.call.Call.TheVariants.{NewFileset, Create, MakeDir, Remove, Rename, Truncate, SetAcl, CloneFileset, Read, Write, List as ListNames, Stat, GetAcl, Sync, Lock, Unlock, OpenFile, CloseFile, MoveFileset}
+use Rattle.dfs_calls.specs.declared.call.Call.TheVariants.{
+  NewFileset,
+  Create,
+  MakeDir,
+  Remove,
+  Rename,
+  Truncate,
+  SetAcl,
+  CloneFileset,
+  Read,
+  Write,
+  List as ListNames,
+  Stat,
+  GetAcl,
+  Sync,
+  Lock,
+  Unlock,
+  OpenFile,
+  CloseFile,
+  MoveFileset,
+}
 use Rattle.dfs_calls.specs.declared.roster.Roster.{Roster}
 use Rattle.dfs_calls.specs.declared.ship.Mover.{Mover}
 use Rattle.dfs_calls.specs.declared.ship.Record.{Record}
@@ -13,7 +60,19 @@ use Rattle.dfs_filesets.specs.declared.fileset.Fileset.{Fileset}
 use Rattle.dfs_filesets.specs.WellFormed.{IsWellFormed, is_at_rest}
 use Rattle.rpc_types.specs.Soundness.{Each, IsServer, IsHost, IsCall, IsKept, IsPart, IsMove}
 use Rattle.dfs_store.specs.declared.act.Act.{Act}
-use Rattle.dfs_store.specs.declared.act.Act.TheVariants.{Boot, Epoch, Host, Do, Refuse, Give, Leave, Back, Left, Settle, Part}
+use Rattle.dfs_store.specs.declared.act.Act.TheVariants.{
+  Boot,
+  Epoch,
+  Host,
+  Do,
+  Refuse,
+  Give,
+  Leave,
+  Back,
+  Left,
+  Settle,
+  Part,
+}
 use Rattle.dfs_store.specs.declared.state.Holding.{Holding}
 use Rattle.dfs_store.specs.declared.state.Slot.{Slot}
 use Rattle.dfs_store.specs.declared.state.Stay.{Stay}
@@ -59,7 +118,8 @@ IsAct roster server (Host host known) = IsHost roster host
 IsAct roster server (Do host number call) = IsHost roster host × IsDecided call × IsFor server call × IsCall roster call
 IsAct roster server (Refuse host id number refusal) = IsHost roster host
 IsAct roster server (Give host number fid pieces given) =
-    IsHost roster host × Each (λ piece. piece.from + length piece.bytes ≤ FILE_BYTES_MAX) pieces × IfSome given (λ n. n ≤ FILE_BYTES_MAX)
+    IsHost roster host × Each (λ piece. piece.from + length piece.bytes ≤ FILE_BYTES_MAX) pieces
+    × IfSome given (λ n. n ≤ FILE_BYTES_MAX)
 IsAct roster server (Leave id to) = IsServer roster to
 IsAct roster server (Back host number id refusal) = IsHost roster host
 IsAct roster server (Left id) = Unit {0}
@@ -76,7 +136,8 @@ pub record AreActs (roster : Roster) (server : ServerId) (acts : List Act) : Typ
   pub few : length acts ≤ BATCH_ACTS_MAX
   pub each : Each (IsAct roster server) acts
 
--- an id that a fileset in a store can have: a server's number, and a number that the store's own server gave, if it is its
+-- an id that a fileset in a store can have: a server's number, and a number that the store's own server gave, if it is
+-- its
 pub record IsAllowed (state : StoreState) (id : FilesetId) : Type 0 where
   pub first : 1 ≤ id.0 / 65536
   pub last : id.0 / 65536 ≤ SERVERS_MAX
@@ -96,13 +157,15 @@ pub record IsTakenSoFar (fileset : Fileset) (at : ℕ) (holding : Holding) : Typ
   pub anodes : holding.fileset.anodes ≡ take (at - 1) fileset.anodes
 
 -- a part fits: it is one of some fileset, as those that were taken before it
-pub record FitsAt (state : StoreState) (from : ServerId) (ship : ℕ) (id : FilesetId) (moves at : ℕ) (told : ShipPart) (fileset : Fileset) : Type 0 where
+pub record FitsAt (state : StoreState)
+    (from : ServerId) (ship : ℕ) (id : FilesetId) (moves at : ℕ) (told : ShipPart) (fileset : Fileset) : Type 0 where
   pub allowed : IsAllowed state id
   pub well_formed : IsWellFormed fileset
   pub settled : is_at_rest fileset ≡ true
   pub writable : fileset.read_only ≡ false
   pub part : IsPartOf fileset at told
-  pub taken : (holding : Holding) → held_so (awaits id from ship moves at) state.slots ≡ Some holding → IsTakenSoFar fileset at holding
+  pub taken : (holding : Holding)
+      → held_so (awaits id from ship moves at) state.slots ≡ Some holding → IsTakenSoFar fileset at holding
 
 -- an act that leaves what a disk can hold
 abbrev pub Fits : StoreState → Act → Type 0

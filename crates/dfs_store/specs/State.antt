@@ -1,5 +1,24 @@
 -- What a store keeps, and where filesets are found in it.
-use Rattle.std.specs.Prelude.{ℕ, ◌+◌, ◌==◌, Bool, true, false, ◌&&◌, if◌then◌else◌, List, length, map, replicate, slice_get, slice_set, Option, Some, None, unwrap_or}
+use Rattle.std.specs.Prelude.{
+  ℕ,
+  ◌+◌,
+  ◌==◌,
+  Bool,
+  true,
+  false,
+  ◌&&◌,
+  if◌then◌else◌,
+  List,
+  length,
+  map,
+  replicate,
+  slice_get,
+  slice_set,
+  Option,
+  Some,
+  None,
+  unwrap_or,
+}
 use Rattle.std.specs.List.{position}
 use Rattle.std.specs.Option.{option_map, option_and_then}
 use Rattle.dfs_base.specs.Lists.{changed_at}
@@ -127,7 +146,8 @@ unless_gone holding = if is_gone holding.stay then None else Some holding.record
 
 -- what is kept of requests under an id
 abbrev pub records_of : StoreState → FilesetId → Option (List Record)
-records_of state id = if is_server id then Some state.records else option_and_then unless_gone (held_so (is_of id) state.slots)
+records_of state id =
+    if is_server id then Some state.records else option_and_then unless_gone (held_so (is_of id) state.slots)
 
 -- what is kept of a host's
 abbrev pub record_of : List Record → HostId → Record

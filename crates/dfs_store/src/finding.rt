@@ -5,7 +5,19 @@ ghost use Rattle.std.specs.Option.{option_copied};
 ghost use Rattle.dfs_store.specs.Founding.{is_named, free_slot};
 ghost use Rattle.dfs_store.specs.Moving.{is_past, is_other, awaits, is_due};
 ghost use Rattle.dfs_store.specs.Reading.{is_here_of};
-ghost use Rattle.dfs_store.specs.State.{is_here, is_writable, is_gone, is_leaving, is_used_so, is_of, is_here_as, is_gone_as, slot_so, held_at, held_so};
+ghost use Rattle.dfs_store.specs.State.{
+  is_here,
+  is_writable,
+  is_gone,
+  is_leaving,
+  is_used_so,
+  is_of,
+  is_here_as,
+  is_gone_as,
+  slot_so,
+  held_at,
+  held_so,
+};
 
 use crate::state::{Holding, Stay};
 use dfs_base::{FilesetId, Items, Name, ServerId};
@@ -248,7 +260,8 @@ pub(crate) fn slot_here_of(slots: &Items<Option<Holding>>, id: FilesetId) -> usi
 }
 
 fn place_awaiting(slots: &[Option<Holding>], coming: Coming) -> Option<usize>
-    ensures { result ≡ position (is_used_so (awaits coming.id coming.from coming.ship coming.moves coming.at)) slots.now }
+    ensures { result ≡ position
+        (is_used_so (awaits coming.id coming.from coming.ship coming.moves coming.at)) slots.now }
 {
     slots.iter().position(|slot| is_slot_awaiting(slot, coming))
 }

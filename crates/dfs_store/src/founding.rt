@@ -1,8 +1,37 @@
 //! How filesets come about.
-ghost use Rattle.std.specs.Prelude.{◌≡◌, ◌-◌, ◌+◌, ◌^◌, ◌<◌, ◌≤◌, ℕ, min, length, Some, Ok, Err, IfOk, OnOk, OnErr, MatchResult};
+ghost use Rattle.std.specs.Prelude.{
+  ◌≡◌,
+  ◌-◌,
+  ◌+◌,
+  ◌^◌,
+  ◌<◌,
+  ◌≤◌,
+  ℕ,
+  min,
+  length,
+  Some,
+  Ok,
+  Err,
+  IfOk,
+  OnOk,
+  OnErr,
+  MatchResult,
+};
 ghost use Rattle.dfs_base.specs.declared.limits.TheConstants.{FILESET_NUMBER_MAX};
 ghost use Rattle.dfs_filesets.specs.Promises.{new_promise};
-ghost use Rattle.dfs_store.specs.Founding.{held_promise, promised, slot_for, room_for, next_id, with_new, new_fileset_answer, why_absent, source_named, clone_target, clone_answer};
+ghost use Rattle.dfs_store.specs.Founding.{
+  held_promise,
+  promised,
+  slot_for,
+  room_for,
+  next_id,
+  with_new,
+  new_fileset_answer,
+  why_absent,
+  source_named,
+  clone_target,
+  clone_answer,
+};
 
 use crate::finding::{free_slot, has_left_as, held_here_as, is_taken};
 use crate::numbers::no_records;
@@ -122,7 +151,8 @@ impl StoreState {
 
     // The fileset to be cloned.
     fn source_named(&self, name: &Name) -> Result<&Fileset, Refusal>
-        ensures { MatchResult result (λ fileset. source_named self.now name.now ≡ Ok fileset.now) (λ refusal. source_named self.now name.now ≡ Err refusal) }
+        ensures { MatchResult result (λ fileset. source_named self.now name.now ≡ Ok fileset.now)
+            (λ refusal. source_named self.now name.now ≡ Err refusal) }
     {
         match held_here_as(&self.slots, name) {
             Some(holding) => Ok(&holding.fileset),
@@ -138,7 +168,8 @@ impl StoreState {
         source: &Name,
         new: &Name,
     ) -> Result<(&Fileset, usize), Refusal>
-        ensures value { MatchResult result (λ found. clone_target self.now user.now source.now new.now ≡ Ok (found.0.now, found.1)) (λ refusal. clone_target self.now user.now source.now new.now ≡ Err refusal) }
+        ensures value { MatchResult result (λ found. clone_target self.now user.now source.now new.now
+            ≡ Ok (found.0.now, found.1)) (λ refusal. clone_target self.now user.now source.now new.now ≡ Err refusal) }
         ensures number { OnOk result (self.now.next ≤ FILESET_NUMBER_MAX) }
     {
         let fileset = self.source_named(source)?;

@@ -155,7 +155,8 @@ impl StoreState {
     // Gives to the file that a fid names.
     #[tactic(auto, using(dfs_base::proofs::ChangedLists::changes))]
     fn give_to(&mut self, fid: Fid, pieces: &[Piece], given: Option<u32>) -> Result<(), NoMemory>
-        ensures ok { OnOk result (self.new ≡ with_held self.old (slot_so (is_of fid.fileset) self.old.slots) (held_given fid pieces.now given)) }
+        ensures ok { OnOk result (self.new
+            ≡ with_held self.old (slot_so (is_of fid.fileset) self.old.slots) (held_given fid pieces.now given)) }
         ensures err { OnErr result (self.new ≡ self.old) }
     {
         let place = slot_of(&self.slots, fid.fileset);

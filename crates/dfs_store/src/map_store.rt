@@ -1,4 +1,24 @@
-ghost use Rattle.std.specs.Prelude.{◌≡◌, ◌≤◌, ◌<◌, ◌+◌, ◌-◌, ◌^◌, ⊤, ℕ, replicate, slice_get, unwrap_or, take, length, None, IsTrue, [], IfOk, OnOk, OnErr};
+ghost use Rattle.std.specs.Prelude.{
+  ◌≡◌,
+  ◌≤◌,
+  ◌<◌,
+  ◌+◌,
+  ◌-◌,
+  ◌^◌,
+  ⊤,
+  ℕ,
+  replicate,
+  slice_get,
+  unwrap_or,
+  take,
+  length,
+  None,
+  IsTrue,
+  [],
+  IfOk,
+  OnOk,
+  OnErr,
+};
 ghost use Rattle.dfs_base.specs.declared.limits.TheConstants.{HOSTS_MAX, SERVERS_MAX, FILESETS_MAX};
 ghost use Rattle.dfs_store.specs.Acts.{state_after, dones_of};
 ghost use Rattle.dfs_store.specs.Capacity.{capacity_of};
@@ -79,7 +99,8 @@ impl StoreState {
         requires counts { self.old.epoch + self.old.ship < 2 ^ 47 }
         ensures dones { IfOk result (λ dones. dones ≡ dones_of self.old batch.now) }
         ensures state { OnOk result (self.new ≡ state_after self.old batch.now) }
-        ensures fault { OnErr result ((k : ℕ) × (k ≤ length batch.now) × (self.new ≡ state_after self.old (take k batch.now))) }
+        ensures fault { OnErr result
+            ((k : ℕ) × (k ≤ length batch.now) × (self.new ≡ state_after self.old (take k batch.now))) }
         ensures server { self.new.server ≡ self.old.server }
         ensures roster { self.new.roster ≡ self.old.roster }
         ensures limits { KeepsLimits self.new }

@@ -1,8 +1,51 @@
 //! How filesets leave a store and arrive in one.
-ghost use Rattle.std.specs.Prelude.{◌≡◌, ◌+◌, ◌≤◌, ◌<◌, ◌^◌, ◌-◌, ◌++◌, if◌then◌else◌, map, Some, Ok, Err, IfOk, IfSome, OnOk, OnErr};
+ghost use Rattle.std.specs.Prelude.{
+  ◌≡◌,
+  ◌+◌,
+  ◌≤◌,
+  ◌<◌,
+  ◌^◌,
+  ◌-◌,
+  ◌++◌,
+  if◌then◌else◌,
+  map,
+  Some,
+  Ok,
+  Err,
+  IfOk,
+  IfSome,
+  OnOk,
+  OnErr,
+};
 ghost use Rattle.std.specs.Option.{option_map, option_map_or};
 ghost use Rattle.dfs_base.specs.Lists.{changed_at};
-ghost use Rattle.dfs_store.specs.Moving.{stay_of, with_holding, held_as, leave_outcome, returned, back_outcome, stay_left, held_left, left_outcome, is_unsettled, stay_settled, held_settled, settle_outcome, taken_from, with_taken, arrival_slot, arrival, arriving, held_arriving, head_outcome, head_once, held_with, received, anode_outcome, part_outcome};
+ghost use Rattle.dfs_store.specs.Moving.{
+  stay_of,
+  with_holding,
+  held_as,
+  leave_outcome,
+  returned,
+  back_outcome,
+  stay_left,
+  held_left,
+  left_outcome,
+  is_unsettled,
+  stay_settled,
+  held_settled,
+  settle_outcome,
+  taken_from,
+  with_taken,
+  arrival_slot,
+  arrival,
+  arriving,
+  held_arriving,
+  head_outcome,
+  head_once,
+  held_with,
+  received,
+  anode_outcome,
+  part_outcome,
+};
 ghost use Rattle.dfs_store.specs.Outcomes.{change_decided, now_done, not_fresh};
 ghost use Rattle.dfs_calls.specs.declared.reply.Reply.TheVariants.{Ok as Accepted, Refused};
 ghost use Rattle.dfs_store.specs.State.{is_arriving, is_of, slot_so, with_held};
@@ -348,8 +391,10 @@ impl StoreState {
     #[tactic(auto, using(dfs_base::proofs::ChangedLists::changes))]
     fn take_anode(&mut self, coming: Coming, anode: Anode) -> Result<Done, NoMemory>
         requires { coming.at < 2 ^ 32 - 1 }
-        ensures done { IfOk result (λ done. done ≡ (anode_outcome self.old coming.from coming.ship coming.id coming.moves coming.at anode).done) }
-        ensures state { OnOk result (self.new ≡ (anode_outcome self.old coming.from coming.ship coming.id coming.moves coming.at anode).state) }
+        ensures done { IfOk result (λ done.
+            done ≡ (anode_outcome self.old coming.from coming.ship coming.id coming.moves coming.at anode).done) }
+        ensures state { OnOk result
+            (self.new ≡ (anode_outcome self.old coming.from coming.ship coming.id coming.moves coming.at anode).state) }
         ensures err { OnErr result (self.new ≡ self.old) }
     {
         let place = slot_awaiting(&self.slots, coming);
@@ -365,8 +410,10 @@ impl StoreState {
     #[tactic(auto, unfolding(crate::specs::Moving::part_outcome))]
     pub(crate) fn take_part(&mut self, coming: Coming, part: &ShipPart) -> Result<Done, NoMemory>
         requires { coming.at < 2 ^ 32 - 1 }
-        ensures done { IfOk result (λ done. done ≡ (part_outcome self.old coming.from coming.ship coming.id coming.moves coming.at part.now).done) }
-        ensures state { OnOk result (self.new ≡ (part_outcome self.old coming.from coming.ship coming.id coming.moves coming.at part.now).state) }
+        ensures done { IfOk result (λ done.
+            done ≡ (part_outcome self.old coming.from coming.ship coming.id coming.moves coming.at part.now).done) }
+        ensures state { OnOk result (self.new
+            ≡ (part_outcome self.old coming.from coming.ship coming.id coming.moves coming.at part.now).state) }
         ensures err { OnErr result (self.new ≡ self.old) }
     {
         match part {
@@ -443,7 +490,8 @@ fn held_arriving(
     records: &Items<Record>,
     mover: &Mover,
 ) -> Result<Holding, NoMemory>
-    ensures { IfOk result (λ holding. holding ≡ held_arriving (Arriving coming.from coming.ship 1) fileset records.now mover.now) }
+    ensures { IfOk result
+        (λ holding. holding ≡ held_arriving (Arriving coming.from coming.ship 1) fileset records.now mover.now) }
 {
     let mut records = received(records)?;
     note_change(&mut records, mover.host, mover.number, &Reply::Ok);

@@ -2,9 +2,26 @@
 ghost use Rattle.std.specs.Prelude.{◌≡◌, IfOk};
 ghost use Rattle.std.specs.Option.{option_copied, option_map};
 ghost use Rattle.dfs_base.specs.Lists.{changed_at};
-ghost use Rattle.dfs_store.specs.Outcomes.{now_done, not_fresh, change_decided, give_applied, decided_by, decided_before, applied_before};
+ghost use Rattle.dfs_store.specs.Outcomes.{
+  now_done,
+  not_fresh,
+  change_decided,
+  give_applied,
+  decided_by,
+  decided_before,
+  applied_before,
+};
 ghost use Rattle.dfs_store.specs.Reading.{last_of};
-ghost use Rattle.dfs_store.specs.State.{no_record, no_records, forgotten, unless_gone, records_of, record_of, held_noted, with_record};
+ghost use Rattle.dfs_store.specs.State.{
+  no_record,
+  no_records,
+  forgotten,
+  unless_gone,
+  records_of,
+  record_of,
+  held_noted,
+  with_record,
+};
 
 use crate::act::Done;
 use crate::finding::{held_of, slot_of};

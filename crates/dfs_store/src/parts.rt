@@ -6,7 +6,19 @@ ghost use Rattle.std.specs.Option.{option_copied};
 ghost use Rattle.dfs_base.specs.Name.{is_before};
 ghost use Rattle.dfs_objects.specs.Sound.{names_rise};
 ghost use Rattle.dfs_filesets.specs.Laws.{lists_in, entries_in};
-ghost use Rattle.dfs_store.specs.Parts.{is_tellable, told_object, kept_length, kept_bytes, status_of, pieces_of, object_part, part_of, told_content, object_of_part, anode_of_part};
+ghost use Rattle.dfs_store.specs.Parts.{
+  is_tellable,
+  told_object,
+  kept_length,
+  kept_bytes,
+  status_of,
+  pieces_of,
+  object_part,
+  part_of,
+  told_content,
+  object_of_part,
+  anode_of_part,
+};
 
 use crate::giving::{put_pieces, unique_at};
 use crate::state::Holding;

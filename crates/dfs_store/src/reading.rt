@@ -3,7 +3,26 @@ ghost use Rattle.std.specs.Prelude.{◌≡◌, ◌≤◌, ◌-◌, true, take, d
 ghost use Rattle.std.specs.Option.{option_copied};
 ghost use Rattle.dfs_base.specs.declared.limits.TheConstants.{OBJECTS_MAX, FILESETS_MAX};
 ghost use Rattle.dfs_store.specs.Parts.{is_tellable, kept_bytes};
-ghost use Rattle.dfs_store.specs.Reading.{host_state, is_here_of, fileset_of, fids_from, files_of, walk_in, looked_up, object_in, object_named, status_told, bytes_told, entries_told, is_kept, filesets_kept, kept_of, slot_told, slots_from, shipped};
+ghost use Rattle.dfs_store.specs.Reading.{
+  host_state,
+  is_here_of,
+  fileset_of,
+  fids_from,
+  files_of,
+  walk_in,
+  looked_up,
+  object_in,
+  object_named,
+  status_told,
+  bytes_told,
+  entries_told,
+  is_kept,
+  filesets_kept,
+  kept_of,
+  slot_told,
+  slots_from,
+  shipped,
+};
 
 use crate::act::HostState;
 use crate::finding::{held_at, held_of, slot_here_of};

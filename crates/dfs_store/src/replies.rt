@@ -1,6 +1,14 @@
 //! How the last reply is kept.
 ghost use Rattle.std.specs.Prelude.{◌≡◌, slice_get};
-ghost use Rattle.dfs_store.specs.Replies.{refusal_code, refusal_right, reply_code, reply_right, refusals, reply_of, kept_reply};
+ghost use Rattle.dfs_store.specs.Replies.{
+  refusal_code,
+  refusal_right,
+  reply_code,
+  reply_right,
+  refusals,
+  reply_of,
+  kept_reply,
+};
 
 use dfs_base::Rights;
 use dfs_calls::{Record, Refusal, Reply};

@@ -1,7 +1,25 @@
 //! What a store replies to calls, on what it keeps.
 ghost use Rattle.std.specs.Prelude.{◌≡◌, ◌+◌, false, Ok, Err, IfOk, OnOk, OnErr, MatchResult};
 ghost use Rattle.std.specs.Option.{option_copied, option_map};
-ghost use Rattle.dfs_store.specs.Rows.{same_fileset, nothing_used, fileset_here, held_answered, held_reply, named_row, move_check, rename_row, use_of, use_reply, lock_check, open_check, answer_for, answer_to, numbered_name, numbered_id, found_named};
+ghost use Rattle.dfs_store.specs.Rows.{
+  same_fileset,
+  nothing_used,
+  fileset_here,
+  held_answered,
+  held_reply,
+  named_row,
+  move_check,
+  rename_row,
+  use_of,
+  use_reply,
+  lock_check,
+  open_check,
+  answer_for,
+  answer_to,
+  numbered_name,
+  numbered_id,
+  found_named,
+};
 ghost use Rattle.dfs_filesets.specs.Rows.{fileset_answer};
 
 use crate::finding::{held_here_as, slot_here_as};
@@ -76,7 +94,8 @@ fn reply_of_copy(
 impl StoreState {
     /// The fileset of a name that is here.
     pub(crate) fn fileset_here(&self, name: &Name) -> Result<&Fileset, Refusal>
-        ensures { MatchResult result (λ fileset. fileset_here self.now name.now ≡ Ok fileset.now) (λ refusal. fileset_here self.now name.now ≡ Err refusal) }
+        ensures { MatchResult result (λ fileset. fileset_here self.now name.now ≡ Ok fileset.now)
+            (λ refusal. fileset_here self.now name.now ≡ Err refusal) }
     {
         match held_here_as(&self.slots, name) {
             Some(holding) => Ok(&holding.fileset),

@@ -49,8 +49,8 @@ pub struct Slot {
 pub struct Holding {
     /// How the fileset stays.
     pub stay: Stay,
-    /// The fileset, with nothing unsaved. One that is arriving has the anodes that were taken, and one that has left has
-    /// none.
+    /// The fileset, with nothing unsaved. One that is arriving has the anodes that were taken, and one that has left
+    /// has none.
     pub fileset: Fileset,
     /// What is kept of each host's requests on it, from the setup host on.
     pub records: Items<Record>,

@@ -2,7 +2,18 @@ ghost use Rattle.std.specs.Prelude.{◌≡◌, ◌≤◌, ◌<◌, ◌+◌, ◌^
 ghost use Rattle.dfs_base.specs.declared.limits.TheConstants.{OBJECTS_MAX, FILE_BYTES_MAX, BATCH_ACTS_MAX};
 ghost use Rattle.rpc_types.specs.Soundness.{Each, IsHost, IsCall, IsPart, IsTold, NamesRise, IsMove};
 ghost use Rattle.dfs_store.specs.Acts.{state_after, dones_of};
-ghost use Rattle.dfs_store.specs.Reading.{host_state, last_of, files_of, looked_up, status_told, bytes_told, entries_told, kept_of, slots_from, shipped};
+ghost use Rattle.dfs_store.specs.Reading.{
+  host_state,
+  last_of,
+  files_of,
+  looked_up,
+  status_told,
+  bytes_told,
+  entries_told,
+  kept_of,
+  slots_from,
+  shipped,
+};
 ghost use Rattle.dfs_store.specs.Rows.{answer_to, found_named};
 ghost use Rattle.dfs_store.specs.Sound.{AreActs, AllFit, IsFor, IsMover, IsLeavingOf, IsSlot};
 ghost use Rattle.dfs_store.specs.Views.{View, IsBlamed, IsSameStore, IsAsked};
@@ -42,17 +53,18 @@ pub enum Looked {
     Refused(Refusal),
 }
 
-/// Where a file server keeps its filesets. It does acts in their order, each number of a host on a fileset at most once.
+/// Where a file server keeps its filesets. It does acts in their order, each number of a host on a fileset at most
+/// once.
 ///
-/// Of a fault: `Memory` of a call that only tells something leaves the store as it was. After another fault `reopen` has to
-/// succeed before anything else is asked. After a fault of `apply` the store holds what the first acts of the batch made,
-/// up to one of them. `Failed` comes only where the disk's count of faults rose and its last call failed.
+/// Of a fault: `Memory` of a call that only tells something leaves the store as it was. After another fault `reopen`
+/// has to succeed before anything else is asked. After a fault of `apply` the store holds what the first acts of the
+/// batch made, up to one of them. `Failed` comes only where the disk's count of faults rose and its last call failed.
 ///
-/// The acts and what they leave are this project's own; that a server keeps what it replies, and replies it again, is after
-/// Kazar et al., "DEcorum File System Architectural Overview", 1990.
+/// The acts and what they leave are this project's own; that a server keeps what it replies, and replies it again, is
+/// after Kazar et al., "DEcorum File System Architectural Overview", 1990.
 pub trait Store {
-    /// Whether a store of this type tells what it keeps. If not, it is over a disk of which nothing is known, and what is
-    /// said of answers is within what a message may carry.
+    /// Whether a store of this type tells what it keeps. If not, it is over a disk of which nothing is known, and what
+    /// is said of answers is within what a message may carry.
     ghost tells: { Type 0 };
 
     /// What is seen of it.
@@ -63,9 +75,12 @@ pub trait Store {
         requires acts { AreActs (view self.old).state.roster (view self.old).state.server batch.now }
         requires ready { IsTrue (view self.old).ready }
         requires wear { (view self.old).wear < 2 ^ 47 }
-        ensures dones { tells → AllFit (view self.old).state batch.now → IfOk result (λ dones. dones ≡ dones_of (view self.old).state batch.now) }
-        ensures state { tells → AllFit (view self.old).state batch.now → OnOk result ((view self.new).state ≡ state_after (view self.old).state batch.now) }
-        ensures fault { tells → AllFit (view self.old).state batch.now → OnErr result ((k : ℕ) × (k ≤ length batch.now) × ((view self.new).state ≡ state_after (view self.old).state (take k batch.now))) }
+        ensures dones { tells → AllFit (view self.old).state batch.now
+            → IfOk result (λ dones. dones ≡ dones_of (view self.old).state batch.now) }
+        ensures state { tells → AllFit (view self.old).state batch.now
+            → OnOk result ((view self.new).state ≡ state_after (view self.old).state batch.now) }
+        ensures fault { tells → AllFit (view self.old).state batch.now → OnErr result ((k : ℕ)
+            × (k ≤ length batch.now) × ((view self.new).state ≡ state_after (view self.old).state (take k batch.now))) }
         ensures same { IsSameStore (view self.old) (view self.new) }
         ensures ready { OnOk result (IsTrue (view self.new).ready) }
         ensures wear { (view self.new).wear ≤ (view self.old).wear + BATCH_ACTS_MAX }
@@ -88,7 +103,8 @@ pub trait Store {
     fn host(&self, host: HostId) -> HostState
         ensures { tells → result ≡ host_state (view self.now).state host };
 
-    /// The number of a host's last give-back on a fileset that was applied; 0 for none, and where the fileset isn't here.
+    /// The number of a host's last give-back on a fileset that was applied; 0 for none, and where the fileset isn't
+    /// here.
     fn last_give(&self, host: HostId, fileset: FilesetId) -> u64
         ensures { tells → result ≡ last_of (view self.now).state host fileset (λ kept. kept.give) };
 

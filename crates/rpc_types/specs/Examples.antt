@@ -1,5 +1,22 @@
 -- Soundness by example: messages that are sound, and others that fail in one place.
-use Rattle.std.specs.Prelude.{ℕ, ◌+◌, ◌*◌, ◌<◌, Bool, true, false, List, [], ◌∷◌, length, replicate, Option, Some, None, codes}
+use Rattle.std.specs.Prelude.{
+  ℕ,
+  ◌+◌,
+  ◌*◌,
+  ◌<◌,
+  Bool,
+  true,
+  false,
+  List,
+  [],
+  ◌∷◌,
+  length,
+  replicate,
+  Option,
+  Some,
+  None,
+  codes,
+}
 use Rattle.std.proofs.Common.{lit≤}
 use Rattle.dfs_base.specs.declared.ids.Fid.{Fid}
 use Rattle.dfs_base.specs.declared.span.Span.{Span}
@@ -23,7 +40,21 @@ use Rattle.tok_types.specs.declared.token.TokenId.{TokenId}
 use Rattle.rpc_types.specs.declared.message.Direction.{Direction}
 use Rattle.rpc_types.specs.declared.message.Direction.TheVariants.{ToServer, ToHost, BetweenServers}
 use Rattle.rpc_types.specs.declared.message.Body.{Body}
-use Rattle.rpc_types.specs.declared.message.Body.TheVariants.{Hello, Fetch, Grant, Change, Done, Revoke, GiveBack, Gone, Reclaim, Reclaimed, NotHere, Ship, Shipped}
+use Rattle.rpc_types.specs.declared.message.Body.TheVariants.{
+  Hello,
+  Fetch,
+  Grant,
+  Change,
+  Done,
+  Revoke,
+  GiveBack,
+  Gone,
+  Reclaim,
+  Reclaimed,
+  NotHere,
+  Ship,
+  Shipped,
+}
 use Rattle.rpc_types.specs.declared.message.Message.{Message}
 use Rattle.rpc_types.specs.declared.giving.Ends.{Ends}
 use Rattle.rpc_types.specs.declared.telling.Bring.{Bring}

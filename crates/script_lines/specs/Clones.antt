@@ -1,4 +1,27 @@
-use Rattle.std.specs.Prelude.{◌≡◌, ℕ, zero, suc, ◌&&◌, Bool, true, false, if◌then◌else◌, List, [], ◌∷◌, ◌++◌, length, Option, Some, None, is_some, Result, Ok, Err, codes}
+use Rattle.std.specs.Prelude.{
+  ◌≡◌,
+  ℕ,
+  zero,
+  suc,
+  ◌&&◌,
+  Bool,
+  true,
+  false,
+  if◌then◌else◌,
+  List,
+  [],
+  ◌∷◌,
+  ◌++◌,
+  length,
+  Option,
+  Some,
+  None,
+  is_some,
+  Result,
+  Ok,
+  Err,
+  codes,
+}
 use Rattle.std.specs.List.{find}
 use Rattle.dfs_base.specs.Name.{is_name, same_name}
 use Rattle.dfs_base.specs.declared.ids.ServerId.{ServerId}
@@ -69,13 +92,14 @@ by_source (Some clone) server = server clone.source
 abbrev pub places : (List ℕ → Option ServerId) → List ℕ → CloneLine → Bool
 places server name clone = same_name clone.new name && is_some (server clone.source)
 
--- the server of a name by at most so many steps: that of its header, else that of the source of the first clone of it whose
--- source has one by fewer steps
+-- the server of a name by at most so many steps: that of its header, else that of the source of the first clone of it
+-- whose source has one by fewer steps
 abbrev pub place_by : ℕ → List Placed → List CloneLine → List ℕ → Option ServerId
 place_by zero placed clones name = server_of placed name
 place_by (suc steps) placed clones name =
     found_server (find_placed placed name)
-    (by_source (find (places (λ source. place_by steps placed clones source) name) clones) (λ source. place_by steps placed clones source))
+    (by_source (find (places (λ source. place_by steps placed clones source) name) clones)
+    (λ source. place_by steps placed clones source))
 
 -- more steps than a script has lines
 unfoldable pub most_steps : ℕ

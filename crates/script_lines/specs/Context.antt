@@ -1,4 +1,22 @@
-use Rattle.std.specs.Prelude.{ℕ, ◌==◌, Bool, false, not, nat_le, if◌then◌else◌, List, [], ◌∷◌, length, Option, Some, None, Result, Ok, Err}
+use Rattle.std.specs.Prelude.{
+  ℕ,
+  ◌==◌,
+  Bool,
+  false,
+  not,
+  nat_le,
+  if◌then◌else◌,
+  List,
+  [],
+  ◌∷◌,
+  length,
+  Option,
+  Some,
+  None,
+  Result,
+  Ok,
+  Err,
+}
 use Rattle.std.specs.List.{list_any, find, position}
 use Rattle.std.specs.Option.{option_map}
 use Rattle.dfs_base.specs.Name.{same_name}

@@ -1,4 +1,20 @@
-use Rattle.std.specs.Prelude.{ℕ, ◌&&◌, nat_lt, Bool, true, false, if◌then◌else◌, List, Option, Some, None, Result, Ok, Err, codes}
+use Rattle.std.specs.Prelude.{
+  ℕ,
+  ◌&&◌,
+  nat_lt,
+  Bool,
+  true,
+  false,
+  if◌then◌else◌,
+  List,
+  Option,
+  Some,
+  None,
+  Result,
+  Ok,
+  Err,
+  codes,
+}
 use Rattle.dfs_base.specs.Name.{is_among}
 use Rattle.dfs_base.specs.declared.ids.Node.{Node}
 use Rattle.dfs_base.specs.declared.ids.Node.TheVariants.{Host, Server}
@@ -197,7 +213,8 @@ unfoldable pub host_deed : Script → ℕ → List Placed → List (List ℕ) �
 host_deed script disks placed raised verbs.Raise words = raise_deed raised words
 host_deed script disks placed raised verbs.Await words = only_label words >>= (λ flag. Ok (deeds.Await flag))
 host_deed script disks placed raised verbs.Stop words = end_at words 2 >>= (λ _. Ok deeds.Stop)
-host_deed script disks placed raised verbs.Move words = move_call script disks placed words >>= (λ call. Ok (deeds.Call call))
+host_deed script disks placed raised verbs.Move words =
+    move_call script disks placed words >>= (λ call. Ok (deeds.Call call))
 host_deed script disks placed raised verb words = call_by placed verb words >>= (λ call. Ok (deeds.Call call))
 
 -- what a server does

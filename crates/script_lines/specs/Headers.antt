@@ -1,8 +1,48 @@
-use Rattle.std.specs.Prelude.{ℕ, ◌+◌, ◌-◌, ◌==◌, ◌&&◌, Bool, true, false, not, nat_lt, nat_le, min, if◌then◌else◌, List, [], ◌∷◌, ◌++◌, length, take, drop, slice_set, Option, Some, None, is_some, Result, Ok, Err, codes}
+use Rattle.std.specs.Prelude.{
+  ℕ,
+  ◌+◌,
+  ◌-◌,
+  ◌==◌,
+  ◌&&◌,
+  Bool,
+  true,
+  false,
+  not,
+  nat_lt,
+  nat_le,
+  min,
+  if◌then◌else◌,
+  List,
+  [],
+  ◌∷◌,
+  ◌++◌,
+  length,
+  take,
+  drop,
+  slice_set,
+  Option,
+  Some,
+  None,
+  is_some,
+  Result,
+  Ok,
+  Err,
+  codes,
+}
 use Rattle.std.specs.List.{list_any, find}
 use Rattle.dfs_base.specs.Name.{same_name}
 use Rattle.dfs_base.specs.declared.user.User.{User as UserOf}
-use Rattle.dfs_base.specs.declared.limits.TheConstants.{CACHED_TOKENS_DEFAULT, CACHED_TOKENS_MAX, CACHED_TOKENS_MIN, CAPACITY_DEFAULT, CAPACITY_MAX, CAPACITY_MIN, GROUPS_MAX, OBJECTS_MAX, SERVERS_MAX}
+use Rattle.dfs_base.specs.declared.limits.TheConstants.{
+  CACHED_TOKENS_DEFAULT,
+  CACHED_TOKENS_MAX,
+  CACHED_TOKENS_MIN,
+  CAPACITY_DEFAULT,
+  CAPACITY_MAX,
+  CAPACITY_MIN,
+  GROUPS_MAX,
+  OBJECTS_MAX,
+  SERVERS_MAX,
+}
 use Rattle.dfs_base.specs.declared.ids.ServerId.{ServerId}
 use Rattle.dfs_base.specs.declared.ids.Node.TheVariants as nodes
 use Rattle.dfs_calls.specs.declared.call.Call.TheVariants as calls
@@ -18,7 +58,16 @@ use Rattle.dfs_calls.specs.declared.roster.Roster.{Roster}
 use Rattle.script_lines.specs.declared.script.Line.{Line}
 use Rattle.script_lines.specs.declared.script.Deed.TheVariants as deeds
 use Rattle.script_lines.specs.declared.headers.Header.{Header}
-use Rattle.script_lines.specs.declared.headers.Header.TheVariants.{Servers, User, Host, Capacity, Fileset, Net, Plan, Begin}
+use Rattle.script_lines.specs.declared.headers.Header.TheVariants.{
+  Servers,
+  User,
+  Host,
+  Capacity,
+  Fileset,
+  Net,
+  Plan,
+  Begin,
+}
 use Rattle.script_words.specs.declared.fault.BadWhy.{BadWhy}
 use Rattle.script_words.specs.declared.fault.BadWhy.TheVariants.{Word, Undeclared, Repeated, Order, Disks}
 
@@ -44,7 +93,13 @@ with_roster context roster = with_script context (record context.script { roster
 -- each server has the default capacity until a line says otherwise
 abbrev pub with_servers : Context → ℕ → Context
 with_servers context n =
-    with_script context (record context.script { servers = n; roster = record context.script.roster { capacity = take n (CAPACITY_DEFAULT ∷ CAPACITY_DEFAULT ∷ CAPACITY_DEFAULT ∷ CAPACITY_DEFAULT ∷ []) } })
+    with_script context (record context.script {
+      servers = n;
+      roster = record context.script.roster {
+        capacity = take n
+            (CAPACITY_DEFAULT ∷ CAPACITY_DEFAULT ∷ CAPACITY_DEFAULT ∷ CAPACITY_DEFAULT ∷ []);
+      };
+    })
 
 -- `servers N`
 unfoldable pub servers_line : Context → ℕ → List (List ℕ) → Result Context BadWhy
@@ -57,12 +112,16 @@ servers_line context disks words = do
 
 -- the words of a user's groups, at most GROUPS_MAX of them
 abbrev pub groups_at : List (List ℕ) → Result (List (List ℕ)) BadWhy
-groups_at words = if nat_le (length words) 2 then Err Word else Ok (take (min (length words) (GROUPS_MAX + 2) - 2) (drop 2 words))
+groups_at words = if nat_le (length words) 2 then Err Word
+    else Ok (take (min (length words) (GROUPS_MAX + 2) - 2) (drop 2 words))
 
 -- one user more
 abbrev pub with_user : Context → List ℕ → List (List ℕ) → Context
 with_user context name groups =
-    with_roster context (record context.script.roster { users = context.script.roster.users ++ record { name = name; groups = groups } ∷ [] })
+    with_roster context (record context.script.roster {
+      users = context.script.roster.users
+          ++ record { name = name; groups = groups } ∷ [];
+    })
 
 -- `user NAME GROUP ..`
 unfoldable pub user_line : Context → List (List ℕ) → Result Context BadWhy
@@ -76,12 +135,16 @@ user_line context words = do
 
 -- the limit of a host's tokens, where it gives one
 abbrev pub limit_at : List (List ℕ) → Result ℕ BadWhy
-limit_at words = if nat_le (length words) 3 then Ok CACHED_TOKENS_DEFAULT else number_at CACHED_TOKENS_MIN CACHED_TOKENS_MAX words 3
+limit_at words = if nat_le (length words) 3 then Ok CACHED_TOKENS_DEFAULT
+    else number_at CACHED_TOKENS_MIN CACHED_TOKENS_MAX words 3
 
 -- one host more
 abbrev pub with_host : Context → ℕ → ℕ → Context
 with_host context user limit =
-    with_roster context (record context.script.roster { hosts = context.script.roster.hosts ++ record { user = user; limit = limit } ∷ [] })
+    with_roster context (record context.script.roster {
+      hosts = context.script.roster.hosts
+          ++ record { user = user; limit = limit } ∷ [];
+    })
 
 -- `host cK USER [LIMIT]`: hosts stand in their order
 unfoldable pub host_line : Context → List (List ℕ) → Result Context BadWhy
@@ -156,7 +219,10 @@ fileset_line context number words = do
 -- a net
 abbrev pub with_net : Context → ℕ → ℕ → ℕ → ℕ → Context
 with_net context seed losses repeats delays =
-    with_script context (record context.script { net = Some (record { seed = seed; losses = losses; repeats = repeats; delays = delays }) })
+    with_script context (record context.script {
+      net = Some
+          (record { seed = seed; losses = losses; repeats = repeats; delays = delays });
+    })
 
 -- `net SEED LOSSES REPEATS DELAYS`, once
 unfoldable pub net_line : Context → List (List ℕ) → Result Context BadWhy

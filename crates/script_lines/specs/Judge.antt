@@ -1,4 +1,19 @@
-use Rattle.std.specs.Prelude.{ℕ, ◌==◌, Bool, false, if◌then◌else◌, List, [], ◌∷◌, ◌++◌, length, None, is_some, Result, Ok}
+use Rattle.std.specs.Prelude.{
+  ℕ,
+  ◌==◌,
+  Bool,
+  false,
+  if◌then◌else◌,
+  List,
+  [],
+  ◌∷◌,
+  ◌++◌,
+  length,
+  None,
+  is_some,
+  Result,
+  Ok,
+}
 use Rattle.dfs_base.specs.declared.ids.HostId.{HostId}
 use Rattle.dfs_base.specs.declared.ids.Node.{Node}
 use Rattle.dfs_base.specs.declared.ids.Node.TheVariants.{Host, Server}
@@ -19,7 +34,14 @@ use Rattle.script_words.specs.declared.fault.BadWhy.TheVariants.{Word, Order, St
 abbrev pub nothing_said : Context
 nothing_said =
     record {
-      script = record { servers = 0; roster = record { users = []; hosts = []; capacity = [] }; setup = []; plan = []; net = None; lines = [] };
+      script = record {
+        servers = 0;
+        roster = record { users = []; hosts = []; capacity = [] };
+        setup = [];
+        plan = [];
+        net = None;
+        lines = [];
+      };
       begun = false;
       capped = [];
       placed = [];

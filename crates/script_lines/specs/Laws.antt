@@ -43,6 +43,7 @@ abbrev pub FirstClonePlaces : Type 0
 FirstClonePlaces =
     (placed : List Placed) (before after : List CloneLine) (clone : CloneLine) (server : ServerId)
     → server_of placed clone.new ≡ None
-    → AllByRecursion (λ other. same_name other.new clone.new ≡ true → clone_place placed (before ++ clone ∷ after) other.source ≡ None) before
+    → AllByRecursion (λ other. same_name other.new clone.new ≡ true
+    → clone_place placed (before ++ clone ∷ after) other.source ≡ None) before
     → server_of placed clone.source ≡ Some server
     → clone_place placed (before ++ clone ∷ after) clone.new ≡ Some server

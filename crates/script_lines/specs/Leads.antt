@@ -22,7 +22,8 @@ goes_on Nowhere next = Nowhere
 -- where the source of a clone leads by one step and so many further ones
 abbrev pub leads : ℕ → List Placed → List CloneLine → ℕ → Way
 leads zero placed clones clone = way_from placed clones (slice_get clones clone)
-leads (suc steps) placed clones clone = goes_on (way_from placed clones (slice_get clones clone)) (leads steps placed clones)
+leads (suc steps) placed clones clone =
+    goes_on (way_from placed clones (slice_get clones clone)) (leads steps placed clones)
 
 -- the same of all clones
 unfoldable pub all_lead : ℕ → List Placed → List CloneLine → List Way

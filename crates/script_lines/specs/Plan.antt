@@ -1,4 +1,21 @@
-use Rattle.std.specs.Prelude.{ℕ, Bool, true, false, not, if◌then◌else◌, List, [], ◌∷◌, ◌++◌, Option, Some, None, Result, Ok, codes}
+use Rattle.std.specs.Prelude.{
+  ℕ,
+  Bool,
+  true,
+  false,
+  not,
+  if◌then◌else◌,
+  List,
+  [],
+  ◌∷◌,
+  ◌++◌,
+  Option,
+  Some,
+  None,
+  Result,
+  Ok,
+  codes,
+}
 use Rattle.dfs_base.specs.declared.ids.Node.{Node}
 use Rattle.dfs_base.specs.declared.ids.Node.TheVariants.{Host, Server}
 use Rattle.script_words.specs.Outcome.{◌>>=◌, found, unless}

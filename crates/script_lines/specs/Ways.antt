@@ -1,5 +1,22 @@
 -- The servers of the names that clones make, by a table of them that grows stage by stage.
-use Rattle.std.specs.Prelude.{ℕ, zero, suc, List, [], ◌∷◌, length, map, replicate, slice_get, slice_set, position, Option, Some, None, unwrap_or}
+use Rattle.std.specs.Prelude.{
+  ℕ,
+  zero,
+  suc,
+  List,
+  [],
+  ◌∷◌,
+  length,
+  map,
+  replicate,
+  slice_get,
+  slice_set,
+  position,
+  Option,
+  Some,
+  None,
+  unwrap_or,
+}
 use Rattle.dfs_base.specs.Name.{same_name}
 use Rattle.dfs_base.specs.declared.ids.ServerId.{ServerId}
 use Rattle.script_lines.specs.Context.{find_placed}
@@ -20,7 +37,8 @@ way_of placed clones name = way_by (find_placed placed name) (position (λ clone
 
 -- where the new name and the source of a clone lead
 abbrev pub route_of : List Placed → List CloneLine → CloneLine → Route
-route_of placed clones clone = record { name = way_of placed clones clone.new; source = way_of placed clones clone.source }
+route_of placed clones clone =
+    record { name = way_of placed clones clone.new; source = way_of placed clones clone.source }
 
 unfoldable pub routes_of : List Placed → List CloneLine → List Route
 routes_of placed clones = map (route_of placed clones) clones

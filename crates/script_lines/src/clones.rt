@@ -2,8 +2,29 @@ ghost use Rattle.std.specs.Prelude.{◌≡◌, [], true, length, position, OnOk,
 ghost use Rattle.dfs_base.specs.Name.{same_name};
 ghost use Rattle.script_words.specs.Lines.{lines_of};
 ghost use Rattle.script_words.specs.Fields.{node_of};
-ghost use Rattle.script_lines.specs.Clones.{is_host, name_if, clone_of, clone_in, clones_from, most_steps, clone_place, placed_by, with_clones};
-ghost use Rattle.script_lines.specs.Ways.{way_of, route_of, routes_of, server_in, server_by, first_of, put_first, unknown, stage, stages};
+ghost use Rattle.script_lines.specs.Clones.{
+  is_host,
+  name_if,
+  clone_of,
+  clone_in,
+  clones_from,
+  most_steps,
+  clone_place,
+  placed_by,
+  with_clones,
+};
+ghost use Rattle.script_lines.specs.Ways.{
+  way_of,
+  route_of,
+  routes_of,
+  server_in,
+  server_by,
+  first_of,
+  put_first,
+  unknown,
+  stage,
+  stages,
+};
 
 use crate::context::{Context, Placed, find_placed, is_same};
 use crate::leads::placed_at_once;
@@ -292,8 +313,9 @@ fn placed_by(
 }
 
 impl Context {
-    /// Places the names of all clones among these lines, which come after the headers: each where its header is, else where the
-    /// source of the first clone of it is whose source is placed. Lines that place each other in a circle place nothing.
+    /// Places the names of all clones among these lines, which come after the headers: each where its header is, else
+    /// where the source of the first clone of it is whose source is placed. Lines that place each other in a circle
+    /// place nothing.
     #[tactic(auto, unfolding(crate::specs::Clones::with_clones))]
     pub fn place_clones(&mut self, alloc: Global, bytes: &[u8]) -> Result<(), NoMemory>
         ensures { OnOk result (self.new ≡ with_clones self.old (lines_of bytes.now)) }

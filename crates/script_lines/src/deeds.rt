@@ -1,7 +1,29 @@
 ghost use Rattle.std.specs.Prelude.{◌≡◌};
 ghost use Rattle.script_words.specs.Outcome.{Gives};
 ghost use Rattle.script_lines.specs.Locks.{lock_part, last_kind};
-ghost use Rattle.script_lines.specs.Deeds.{raise_deed, verb_of, which_of, which_at, only_place, rename_call, truncate_call, clone_call, read_call, write_call, lock_call, open_call, getacl_call, setacl_call, only_label, is_mixed, move_call, call_by, host_deed, server_deed, deed_of};
+ghost use Rattle.script_lines.specs.Deeds.{
+  raise_deed,
+  verb_of,
+  which_of,
+  which_at,
+  only_place,
+  rename_call,
+  truncate_call,
+  clone_call,
+  read_call,
+  write_call,
+  lock_call,
+  open_call,
+  getacl_call,
+  setacl_call,
+  only_label,
+  is_mixed,
+  move_call,
+  call_by,
+  host_deed,
+  server_deed,
+  deed_of,
+};
 
 use crate::context::Context;
 use crate::script::{Deed, NUMBER_MAX};
@@ -382,7 +404,8 @@ impl Context {
         }
     }
 
-    /// The deed of a node's line, in its words from the second on. `Word` where the second word is no deed of such a node.
+    /// The deed of a node's line, in its words from the second on. `Word` where the second word is no deed of such a
+    /// node.
     #[tactic(auto, unfolding(crate::specs::Deeds::deed_of))]
     pub(crate) fn deed_of(&self, disks: u32, node: Node, words: &Words) -> Result<Deed, Fault>
         ensures { Gives result (deed_of self.now.script disks self.now.placed self.now.raised node words.now) }

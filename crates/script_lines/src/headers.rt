@@ -2,7 +2,26 @@ ghost use Rattle.std.specs.Prelude.{◌≡◌, OnOk};
 ghost use Rattle.std.specs.Option.{option_copied};
 ghost use Rattle.script_words.specs.Outcome.{Gives, GivesBy, Becomes};
 ghost use Rattle.script_lines.specs.Context.{server_at};
-ghost use Rattle.script_lines.specs.Headers.{header_of, groups_at, limit_at, user_named, is_capped, has_fileset_at, owner_at, setup_line, with_fileset, servers_line, user_line, host_line, capacity_line, fileset_line, net_line, begin_line, header_by, header_line};
+ghost use Rattle.script_lines.specs.Headers.{
+  header_of,
+  groups_at,
+  limit_at,
+  user_named,
+  is_capped,
+  has_fileset_at,
+  owner_at,
+  setup_line,
+  with_fileset,
+  servers_line,
+  user_line,
+  host_line,
+  capacity_line,
+  fileset_line,
+  net_line,
+  begin_line,
+  header_by,
+  header_line,
+};
 
 use crate::context::{Context, Placed, host_named, server_named};
 use crate::script::{Deed, Line, NET_MAX, Net};
@@ -212,7 +231,8 @@ impl Context {
         objects: u32,
         owner: User,
     ) -> Result<(), NoMemory>
-        ensures { OnOk result (self.new ≡ with_fileset self.old (setup_line number server name objects owner) name server) }
+        ensures { OnOk result
+            (self.new ≡ with_fileset self.old (setup_line number server name objects owner) name server) }
     {
         let placed = name.copy()?;
         self.placed.push(Placed {

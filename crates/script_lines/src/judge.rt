@@ -1,6 +1,15 @@
 ghost use Rattle.std.specs.Prelude.{◌≡◌, OnOk, IfOk};
 ghost use Rattle.script_words.specs.Outcome.{Gives, Becomes};
-ghost use Rattle.script_lines.specs.Judge.{nothing_said, node_stopped, node_at, noted, with_line, deed_line, taken, line_judged};
+ghost use Rattle.script_lines.specs.Judge.{
+  nothing_said,
+  node_stopped,
+  node_at,
+  noted,
+  with_line,
+  deed_line,
+  taken,
+  line_judged,
+};
 
 use crate::context::Context;
 use crate::headers::header_of;
@@ -73,8 +82,8 @@ impl Context {
         Ok(())
     }
 
-    // Adds a line, and what its deed changes for later ones. The line is handed on before an error is looked at, so that
-    // no path drops it, which would cost the prover much.
+    // Adds a line, and what its deed changes for later ones. The line is handed on before an error is looked at, so
+    // that no path drops it, which would cost the prover much.
     fn add_line(&mut self, line: Line) -> Result<(), NoMemory>
         ensures { OnOk result (self.new ≡ with_line (noted self.old line.node line.deed) line) }
     {
@@ -107,8 +116,8 @@ impl Context {
         }
     }
 
-    /// Takes the next line, with its number from 1. After an error nothing is said of the context. The causes, in their order:
-    /// those of `words_of_line`; then the words from left to right; then too few or too many words.
+    /// Takes the next line, with its number from 1. After an error nothing is said of the context. The causes, in their
+    /// order: those of `words_of_line`; then the words from left to right; then too few or too many words.
     #[tactic(auto, unfolding(crate::specs::Judge::line_judged))]
     pub fn take_line(
         &mut self,

@@ -1,5 +1,5 @@
-//! The lines and words of a script, and what single words say: names, labels, numbers, texts, nodes, paths, access lists
-//! and kinds. The grammar is this project's own.
+//! The lines and words of a script, and what single words say: names, labels, numbers, texts, nodes, paths, access
+//! lists and kinds. The grammar is this project's own.
 #![tactic(auto)]
 
 mod fault;
