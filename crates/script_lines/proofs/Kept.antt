@@ -26,7 +26,7 @@ use Rattle.script_words.specs.Fields.{word_at, end_at, named, name_at, label_at,
 use Rattle.script_words.specs.Lists.{list_at}
 use Rattle.script_lines.specs.Context.{find_placed, server_of, has_stopped, user_place, place_at_server, place_of, place_at, is_declared, node_declared, only_host, host_named, only_server, server_named, server_at, is_elsewhere}
 use Rattle.script_lines.specs.Deeds.{is_mixed, move_call, verb_of, which_at, only_label, only_place, rename_call, truncate_call, getacl_call, setacl_call, read_call, write_call, lock_call, open_call, clone_call, call_by, raise_deed, host_deed, server_deed, node_deed, deed_of}
-use Rattle.script_words.specs.Named.{lock_mode_of, open_kind_of}
+use Rattle.script_words.specs.Terms.{lock_mode_of, open_kind_of}
 use Rattle.script_lines.specs.Plan.{plan_at, plan_line}
 use Rattle.script_lines.specs.Headers.{header_of, servers_line, groups_at, user_line, limit_at, host_line, is_capped, has_fileset_at, capacity_line, user_named, owner_at, setup_line, fileset_line, net_line, begin_line, header_by, is_servers, header_line}
 use Rattle.script_lines.specs.Judge.{nothing_said, node_stopped, node_at, noted, with_line, line_of, deed_line, taken, line_judged}

@@ -18,7 +18,7 @@ use Rattle.script_words.specs.Fields.{word_at, end_at, name_at, label_at, number
 use Rattle.script_lines.specs.Context.{server_of, user_place, is_declared, node_declared, host_named, server_at, is_elsewhere}
 use Rattle.script_lines.specs.Deeds.{move_call, verb_of, only_label, call_by, raise_deed, host_deed, server_deed, node_deed, deed_of}
 use Rattle.script_lines.specs.Plan.{plan_deed_of, node_named, is_pair, receiver_at, is_drop, flag_at, plan_of, plan_at, plan_line}
-use Rattle.script_words.specs.Named.{kind_of}
+use Rattle.script_words.specs.Terms.{kind_of}
 use Rattle.script_lines.specs.Headers.{header_of, servers_line, groups_at, user_line, limit_at, host_line, is_capped, has_fileset_at, capacity_line, owner_at, fileset_line, net_line, begin_line, header_by, is_servers, header_line}
 use Rattle.script_lines.specs.Judge.{nothing_said, node_at, noted, with_line, line_of, deed_line, taken, line_judged}
 use Rattle.script_lines.specs.Clones.{with_clones}

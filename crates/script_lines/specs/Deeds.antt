@@ -26,7 +26,7 @@ use Rattle.dfs_calls.specs.declared.call.Call.TheVariants as calls
 use Rattle.script_words.specs.Outcome.{◌>>=◌, found, unless}
 use Rattle.script_words.specs.Fields.{word_at, end_at, name_at, label_at, number_at, text_at, is_word}
 use Rattle.script_words.specs.Lists.{list_at}
-use Rattle.script_words.specs.Named.{open_kind_of, lock_mode_of}
+use Rattle.script_words.specs.Terms.{open_kind_of, lock_mode_of}
 use Rattle.script_lines.specs.Context.{server_of, server_at, is_elsewhere, place_at}
 use Rattle.script_lines.specs.declared.context.Placed.{Placed}
 use Rattle.script_lines.specs.declared.script.TheConstants.{NUMBER_MAX}

@@ -3,7 +3,7 @@ use Rattle.std.specs.Prelude.{ℕ, Bool, List, Result, Ok}
 use Rattle.dfs_base.specs.declared.ids.OpenKind.{OpenKind}
 use Rattle.script_words.specs.Outcome.{◌>>=◌, found}
 use Rattle.script_words.specs.Fields.{word_at, end_at, number_at}
-use Rattle.script_words.specs.Named.{lock_mode_of, open_kind_of}
+use Rattle.script_words.specs.Terms.{lock_mode_of, open_kind_of}
 use Rattle.script_lines.specs.declared.deeds.LockPart.{LockPart}
 use Rattle.script_lines.specs.declared.script.TheConstants.{NUMBER_MAX}
 use Rattle.script_words.specs.declared.fault.BadWhy.{BadWhy}

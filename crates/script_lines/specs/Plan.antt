@@ -20,7 +20,7 @@ use Rattle.dfs_base.specs.declared.ids.Node.{Node}
 use Rattle.dfs_base.specs.declared.ids.Node.TheVariants.{Host, Server}
 use Rattle.script_words.specs.Outcome.{◌>>=◌, found, unless}
 use Rattle.script_words.specs.Fields.{word_at, end_at, label_at, number_at, is_word, node_of}
-use Rattle.script_words.specs.Named.{kind_of}
+use Rattle.script_words.specs.Terms.{kind_of}
 use Rattle.script_lines.specs.Context.{node_declared}
 use Rattle.script_lines.specs.declared.context.Context.{Context}
 use Rattle.script_lines.specs.declared.script.TheConstants.{NUMBER_MAX}

@@ -1,6 +1,6 @@
 -- What two words tell of a line.
-use Rattle.std.proofs.Common.{◌≡◌, ℕ, ◌<◌, ◌≤◌, List, [], ◌∷◌, ◌++◌, length, Bool, true, false, cond, Option, Some, None, Ok, Err, refl, arith}
-use Rattle.script_words.specs.Words.{Mode, Turn, turn_by, by_turn, ended, words_from}
+use Rattle.std.proofs.Common.{◌≡◌, ℕ, ◌<◌, ◌≤◌, List, [], ◌∷◌, ◌++◌, length, false, Option, Some, None, refl, arith}
+use Rattle.script_words.specs.Words.{Mode, Turn, turn_by, by_turn, words_from}
 use Rattle.script_words.specs.Words.Mode.{Between, Plain, Quoted, Escape, Hex, HalfHex, Closed}
 use Rattle.script_words.specs.Words.Turn.{Go, Add, End}
 use Rattle.script_words.specs.Fields.{asks, asking, is_word}

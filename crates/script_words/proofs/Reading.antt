@@ -1,10 +1,10 @@
 -- The steps of a reader of words say what its text says.
-use Rattle.std.proofs.Common.{◌≡◌, ℕ, zero, suc, ◌+◌, ◌*◌, ◌%◌, ◌<◌, ◌≤◌, ◌==◌, List, [], ◌∷◌, ◌++◌, length, take, drop, Bool, true, false, not, cond, ◌&&◌, ◌||◌, nat_le, Option, Some, None, Result, Ok, Err, refl, sym, ap, ◌∙◌, arith, append_assoc, append-nil}
-use Rattle.std.proofs.lemmas.Bool.{and_parts, eqb-true, eqb-false, leb-true, leb-false, not-true}
+use Rattle.std.proofs.Common.{◌≡◌, ℕ, suc, ◌+◌, ◌*◌, ◌%◌, ◌<◌, ◌==◌, List, [], ◌∷◌, ◌++◌, take, drop, Bool, true, false, not, cond, ◌&&◌, ◌||◌, nat_le, Option, Some, None, Ok, Err, refl, sym, ap, ◌∙◌, arith, append_assoc, append-nil}
+use Rattle.std.proofs.lemmas.Bool.{and_parts, eqb-true, leb-true, not-true}
 use Rattle.std.proofs.lemmas.Option.{same_Some}
 use Rattle.script_words.specs.declared.fault.BadWhy.TheVariants.{Text}
-use Rattle.script_words.specs.Words.{is_in, hex_digit, turn_by, words_from}
-use Rattle.script_words.specs.Words.Mode.{Between, Plain, Quoted, Escape, Hex, HalfHex, Closed}
+use Rattle.script_words.specs.Words.{is_in, hex_digit, words_from}
+use Rattle.script_words.specs.Words.Mode.{Between, Plain, Quoted, Escape, Hex, Closed}
 use Rattle.script_words.specs.Reading.{space_len, plain_len, is_text, quoted_len, hex_byte, hex_at, escape_at, begins_plain, begins_run}
 
 -- a byte that is seen is no space

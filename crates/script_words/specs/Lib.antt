@@ -5,4 +5,4 @@ pub mod Reading
 pub mod Spelling
 pub mod Fields
 pub mod Lists
-pub mod Named
+pub mod Terms

@@ -6,7 +6,7 @@ mod fault;
 mod fields;
 mod lines;
 mod lists;
-mod named;
+mod terms;
 mod words;
 
 pub use fault::{BadWhy, Fault};
@@ -16,5 +16,5 @@ pub use fields::{
 };
 pub use lines::next_line;
 pub use lists::list_at;
-pub use named::{kind_of, lock_mode_of, open_kind_of};
+pub use terms::{kind_of, lock_mode_of, open_kind_of};
 pub use words::{words_are_read_back, words_asking, words_of_line};

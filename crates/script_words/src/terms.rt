@@ -1,12 +1,12 @@
 //! What single words name.
 ghost use Rattle.std.specs.Prelude.{◌≡◌};
-ghost use Rattle.script_words.specs.Named.{open_kind_of, lock_mode_of, kind_of};
+ghost use Rattle.script_words.specs.Terms.{open_kind_of, lock_mode_of, kind_of};
 
 use crate::fields::is_word;
 use dfs_base::OpenKind;
 
 /// How a file is opened: `reading`, `writing`, `executing`, `shared` or `exclusive`.
-#[tactic(auto, unfolding(crate::specs::Named::open_kind_of))]
+#[tactic(auto, unfolding(crate::specs::Terms::open_kind_of))]
 pub fn open_kind_of(word: &[u8]) -> Option<OpenKind>
     ensures { result ≡ open_kind_of word.now }
 {
@@ -26,7 +26,7 @@ pub fn open_kind_of(word: &[u8]) -> Option<OpenKind>
 }
 
 /// Whether a lock is for writing: `write`, or `read`.
-#[tactic(auto, unfolding(crate::specs::Named::lock_mode_of))]
+#[tactic(auto, unfolding(crate::specs::Terms::lock_mode_of))]
 pub fn lock_mode_of(word: &[u8]) -> Option<bool>
     ensures { result ≡ lock_mode_of word.now }
 {
@@ -40,7 +40,7 @@ pub fn lock_mode_of(word: &[u8]) -> Option<bool>
 }
 
 /// The number of a message's kind, where a plan may name it.
-#[tactic(auto, unfolding(crate::specs::Named::kind_of))]
+#[tactic(auto, unfolding(crate::specs::Terms::kind_of))]
 pub fn kind_of(word: &[u8]) -> Option<u8>
     ensures { result ≡ kind_of word.now }
 {
