@@ -1,32 +1,9 @@
 -- What is spellable is a message of a program.
-use Rattle.std.proofs.Common.{
-  ◌≡◌,
-  ◌≤◌,
-  ◌<◌,
-  ◌^◌,
-  ◌+◌,
-  ℕ,
-  suc,
-  Bool,
-  true,
-  false,
-  ◌&&◌,
-  List,
-  [],
-  ◌∷◌,
-  length,
-  Some,
-  None,
-  refl,
-  sym,
-  ◌∙◌,
-  ap,
-  arith,
-}
-use Rattle.std.specs.Prelude.{not, Option, IfSome, IsTrue, nat_le, nat_lt, ◌||◌}
+use Rattle.std.proofs.Common.{◌≡◌, ◌≤◌, ℕ, Bool, true, false, ◌&&◌, List, [], ◌∷◌, length, Some, None, refl, arith}
+use Rattle.std.specs.Prelude.{not, Option, IfSome, nat_le, ◌||◌}
 use Rattle.std.specs.List.{list_any}
-use Rattle.std.proofs.lemmas.Bool.{and_parts, and_from, le-leb, leb-true, ltb-true}
-use Rattle.dfs_base.specs.Name.{is_name, is_separator}
+use Rattle.std.proofs.lemmas.Bool.{and_parts, le-leb, leb-true, ltb-true}
+use Rattle.dfs_base.specs.Name.{is_separator}
 use Rattle.dfs_base.specs.declared.access.AccessEntry.{AccessEntry}
 use Rattle.dfs_base.specs.declared.access.Who.{Who}
 use Rattle.dfs_base.specs.declared.access.Who.TheVariants.{UserObj, User, GroupObj, Group, OtherObj, MaskObj}
@@ -44,21 +21,8 @@ use Rattle.tok_types.specs.declared.token.TokenId.{TokenId}
 use Rattle.rpc_types.specs.Soundness.{Each}
 use Rattle.rpc_types.specs.declared.giving.AppliedGive.{AppliedGive}
 use Rattle.rpc_types.specs.declared.giving.Outstanding.{Outstanding}
-use Rattle.rpc_parts.specs.Spelled.{Spelled, ◌&◌, nothing, number, items, one_byte}
-use Rattle.rpc_parts.specs.Words.{
-  spell_u8,
-  spell_u32,
-  spell_u64,
-  spell_fileset,
-  spell_name,
-  spell_bytes,
-  is_plain,
-  any_byte,
-  short,
-  long,
-  spell_flag,
-  spell_optional,
-}
+use Rattle.rpc_parts.specs.Spelled.{Spelled, number, items, one_byte}
+use Rattle.rpc_parts.specs.Words.{spell_u8, spell_u32, spell_u64, spell_fileset, spell_name, spell_bytes, is_plain, any_byte, short, long, spell_optional}
 use Rattle.rpc_parts.specs.Tokens.{spell_fid, spell_id, spell_need, spell_token}
 use Rattle.rpc_parts.specs.Places.{spell_place, spell_user, spell_rights}
 use Rattle.rpc_parts.specs.Access.{spell_who_name, spell_access_entry, spell_access}

@@ -1,6 +1,5 @@
 -- Messages that are spellable are those of a program.
-use Rattle.std.proofs.Common.{◌≡◌, ◌≤◌, ◌<◌, ◌^◌, ◌&&◌, ℕ, true, refl, ap, arith}
-use Rattle.std.specs.Prelude.{◌==◌}
+use Rattle.std.proofs.Common.{◌≡◌, ◌&&◌, ℕ, true, arith}
 use Rattle.std.proofs.lemmas.Bool.{and_parts, eqb-true}
 use Rattle.dfs_calls.specs.declared.ship.ShipPart.{ShipPart}
 use Rattle.dfs_calls.specs.declared.ship.ShipPart.TheVariants.{Head, Object}
@@ -40,7 +39,6 @@ use Rattle.rpc_types.specs.declared.message.Body.TheVariants.{
   Ship,
   Shipped,
 }
-use Rattle.rpc_types.specs.declared.message.Message.{Message}
 use Rattle.rpc_types.specs.declared.telling.DoneIs.{DoneIs}
 use Rattle.rpc_types.specs.declared.telling.DoneIs.TheVariants.{Reply as Replied, Known, Granted, Again, Elsewhere}
 use Rattle.rpc_parts.specs.Spelled.{number}

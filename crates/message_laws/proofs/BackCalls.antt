@@ -1,5 +1,5 @@
 -- Calls and replies that are spellable are those of a program.
-use Rattle.std.proofs.Common.{◌≡◌, true, List, refl, ap}
+use Rattle.std.proofs.Common.{◌≡◌, true}
 use Rattle.dfs_calls.specs.declared.call.Call.{Call}
 use Rattle.dfs_calls.specs.declared.call.Call.TheVariants.{
   NewFileset,
@@ -23,29 +23,7 @@ use Rattle.dfs_calls.specs.declared.call.Call.TheVariants.{
   MoveFileset,
 }
 use Rattle.dfs_calls.specs.declared.reply.Refusal.{Refusal}
-use Rattle.dfs_calls.specs.declared.reply.Refusal.TheVariants.{
-  NoEntry,
-  NotDir,
-  IsDir,
-  Exists,
-  NotEmpty,
-  Denied,
-  TooBig,
-  TooMany,
-  NoRoom,
-  ReadOnly,
-  Locked,
-  OpenConflict,
-  InUse,
-  Loop,
-  NoFileset,
-  CrossFileset,
-  NotLocked,
-  NotOpened,
-  AlreadyLocked,
-  AlreadyOpened,
-  NotHome,
-}
+use Rattle.dfs_calls.specs.declared.reply.Refusal.TheVariants.{Denied}
 use Rattle.dfs_calls.specs.declared.reply.Reply.{Reply}
 use Rattle.dfs_calls.specs.declared.reply.Reply.TheVariants.{Ok as Accepted, Bytes, Names, Facts, Access, Refused}
 use Rattle.rpc_parts.specs.Words.{spell_name}

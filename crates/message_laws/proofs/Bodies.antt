@@ -1,25 +1,5 @@
 -- What sound messages of a program say fits.
-use Rattle.std.proofs.Common.{
-  ◌≡◌,
-  ◌≤◌,
-  ◌<◌,
-  ◌^◌,
-  ◌+◌,
-  ◌==◌,
-  ℕ,
-  true,
-  Some,
-  None,
-  List,
-  [],
-  ◌∷◌,
-  length,
-  refl,
-  sym,
-  ap,
-  subst,
-  arith,
-}
+use Rattle.std.proofs.Common.{◌≡◌, ◌≤◌, ℕ, true, List, [], ◌∷◌, length, refl, sym, subst, arith}
 use Rattle.std.specs.Prelude.{Option, IfSome}
 use Rattle.std.proofs.lemmas.Bool.{eq-eqb}
 use Rattle.dfs_base.specs.declared.ids.ServerId.{ServerId}
@@ -28,10 +8,8 @@ use Rattle.dfs_calls.specs.declared.part.Piece.{Piece}
 use Rattle.dfs_calls.specs.declared.part.DirEntry.{DirEntry}
 use Rattle.dfs_calls.specs.declared.part.Status.{Status}
 use Rattle.dfs_calls.specs.declared.roster.Roster.{Roster}
-use Rattle.dfs_calls.specs.declared.ship.Mover.{Mover}
 use Rattle.dfs_calls.specs.declared.ship.ShipPart.{ShipPart}
 use Rattle.dfs_calls.specs.declared.ship.ShipPart.TheVariants.{Head, Object}
-use Rattle.tok_types.specs.declared.token.Need.{Need}
 use Rattle.tok_types.specs.declared.token.Token.{Token}
 use Rattle.tok_types.specs.declared.token.TokenId.{TokenId}
 use Rattle.rpc_types.specs.declared.asking.Change.{Change as ChangeOf}
@@ -45,30 +23,7 @@ use Rattle.rpc_types.specs.declared.telling.Done.{Done as DoneOf}
 use Rattle.rpc_types.specs.declared.telling.Grant.{Grant as GrantOf}
 use Rattle.rpc_types.specs.declared.tokens.Named.{Named}
 use Rattle.rpc_types.specs.declared.tokens.Revoke.{Revoke as RevokeOf}
-use Rattle.rpc_types.specs.Soundness.{
-  Each,
-  IsServer,
-  IsHost,
-  IsToken,
-  IsBrought,
-  IsTold,
-  IsOutcome,
-  IsPart,
-  IsEnd,
-  IsBody,
-  HasMoves,
-  IsKept,
-  IsCall,
-  Brings,
-  IsFetch,
-  IsGrant,
-  IsChange,
-  IsDone,
-  AreNamed,
-  IsGiveBack,
-  IsClaim,
-  IsReply,
-}
+use Rattle.rpc_types.specs.Soundness.{Each, IsServer, IsHost, IsToken, IsBrought, IsTold, IsOutcome, IsPart, IsEnd, IsBody, HasMoves, IsKept, Brings, IsFetch, IsGrant, IsChange, IsDone, AreNamed, IsGiveBack, IsClaim, IsReply}
 use Rattle.rpc_types.specs.declared.giving.Ends.{Ends}
 use Rattle.rpc_types.specs.declared.giving.Outstanding.{Outstanding}
 use Rattle.rpc_types.specs.declared.giving.AppliedGive.{AppliedGive}
@@ -96,7 +51,7 @@ use Rattle.rpc_types.specs.declared.message.Body.TheVariants.{
 use Rattle.rpc_types.specs.declared.message.Message.{Message}
 use Rattle.rpc_types.specs.declared.telling.DoneIs.{DoneIs}
 use Rattle.rpc_types.specs.declared.telling.DoneIs.TheVariants.{Reply as Replied, Known, Granted, Again, Elsewhere}
-use Rattle.rpc_parts.specs.Spelled.{Spelled, ◌&◌, nothing, number, items}
+use Rattle.rpc_parts.specs.Spelled.{number}
 use Rattle.rpc_parts.specs.Words.{short, long, spell_u32, spell_optional}
 use Rattle.rpc_parts.specs.Tokens.{spell_id, spell_need, spell_token}
 use Rattle.rpc_parts.specs.Objects.{spell_entry, spell_status, list_count}
@@ -124,25 +79,8 @@ use Rattle.rpc_msg.specs.Bodies.{
   unmoved,
   body_fields,
 }
-use Rattle.message_laws.specs.Typed.{
-  IsU32,
-  IsListOf,
-  TypedId,
-  TypedToken,
-  TypedNeed,
-  TypedPiece,
-  TypedEntry,
-  TypedStatus,
-  TypedRecord,
-  TypedPart,
-  TypedOutcome,
-  TypedEnds,
-  TypedApplied,
-  TypedBring,
-  TypedOutstanding,
-  TypedBody,
-}
-use Rattle.message_laws.proofs.Fits.{both, number_in, flag_in, each_both, items_in, short_in, long_in, optional_in}
+use Rattle.message_laws.specs.Typed.{IsU32, IsListOf, TypedId, TypedToken, TypedNeed, TypedEntry, TypedStatus, TypedRecord, TypedPart, TypedOutcome, TypedEnds, TypedApplied, TypedBring, TypedOutstanding, TypedBody}
+use Rattle.message_laws.proofs.Fits.{both, flag_in, each_both, short_in, long_in, optional_in}
 use Rattle.message_laws.proofs.Parts.{
   InRange,
   u32_in,

@@ -1,6 +1,5 @@
 -- Calls and replies of sound messages of a program fit.
-use Rattle.std.proofs.Common.{◌≡◌, ◌≤◌, ◌<◌, ◌^◌, ◌+◌, ℕ, true, List, [], ◌∷◌, length, refl, arith}
-use Rattle.std.proofs.lemmas.Bool.{le-leb}
+use Rattle.std.proofs.Common.{◌≡◌, ◌≤◌, true, length, refl, arith}
 use Rattle.dfs_base.specs.declared.ids.ServerId.{ServerId}
 use Rattle.dfs_calls.specs.declared.call.Call.{Call}
 use Rattle.dfs_calls.specs.declared.call.Call.TheVariants.{
@@ -28,37 +27,15 @@ use Rattle.dfs_calls.specs.declared.place.Which.{Which}
 use Rattle.dfs_calls.specs.declared.place.Which.TheVariants.{Own, Files, Dirs}
 use Rattle.dfs_calls.specs.declared.reply.Facts.{Facts as FactsOf}
 use Rattle.dfs_calls.specs.declared.reply.Refusal.{Refusal}
-use Rattle.dfs_calls.specs.declared.reply.Refusal.TheVariants.{
-  NoEntry,
-  NotDir,
-  IsDir,
-  Exists,
-  NotEmpty,
-  Denied,
-  TooBig,
-  TooMany,
-  NoRoom,
-  ReadOnly,
-  Locked,
-  OpenConflict,
-  InUse,
-  Loop,
-  NoFileset,
-  CrossFileset,
-  NotLocked,
-  NotOpened,
-  AlreadyLocked,
-  AlreadyOpened,
-  NotHome,
-}
+use Rattle.dfs_calls.specs.declared.reply.Refusal.TheVariants.{NoEntry, Denied}
 use Rattle.dfs_calls.specs.declared.reply.Reply.{Reply}
 use Rattle.dfs_calls.specs.declared.reply.Reply.TheVariants.{Ok as Accepted, Bytes, Names, Facts, Access, Refused}
 use Rattle.dfs_calls.specs.declared.roster.Roster.{Roster}
 use Rattle.rpc_types.specs.Soundness.{IsServer, IsCall, IsEnd, IsReply}
-use Rattle.rpc_parts.specs.Spelled.{Spelled, ◌&◌, nothing, number, one_byte}
+use Rattle.rpc_parts.specs.Spelled.{number}
 use Rattle.rpc_parts.specs.Words.{coded, spell_name}
 use Rattle.rpc_parts.specs.Places.{spell_which}
-use Rattle.rpc_calls.specs.Calls.{call_tag, call_fields, spell_call, ends_use, spell_ending}
+use Rattle.rpc_calls.specs.Calls.{call_tag, call_fields, spell_call, spell_ending}
 use Rattle.rpc_calls.specs.Replies.{
   spell_facts,
   refusal_tag,
@@ -69,7 +46,7 @@ use Rattle.rpc_calls.specs.Replies.{
   spell_reply,
 }
 use Rattle.message_laws.specs.Typed.{IsName, TypedCall, IsU32, IsRights, TypedRefusal, TypedReply}
-use Rattle.message_laws.proofs.Fits.{both, number_in, flag_in, short_in}
+use Rattle.message_laws.proofs.Fits.{both, flag_in, short_in}
 use Rattle.message_laws.proofs.Parts.{
   InRange,
   u32_in,

@@ -1,28 +1,9 @@
 -- What fits, of numbers, lists and values that may be absent; and what follows of what fits.
-use Rattle.std.proofs.Common.{
-  ◌≡◌,
-  ◌≤◌,
-  ◌<◌,
-  ℕ,
-  suc,
-  Bool,
-  true,
-  false,
-  ◌&&◌,
-  List,
-  [],
-  ◌∷◌,
-  length,
-  Some,
-  None,
-  refl,
-  arith,
-}
-use Rattle.std.specs.Prelude.{Option, IfSome, nat_le}
-use Rattle.std.specs.List.{list_all}
-use Rattle.std.proofs.lemmas.Bool.{and_parts, and_from, le-leb, leb-true}
+use Rattle.std.proofs.Common.{◌≡◌, ◌≤◌, ℕ, Bool, true, false, ◌&&◌, List, [], ◌∷◌, length, Some, None, refl, arith}
+use Rattle.std.specs.Prelude.{Option, IfSome}
+use Rattle.std.proofs.lemmas.Bool.{and_from, le-leb}
 use Rattle.rpc_types.specs.Soundness.{Each}
-use Rattle.rpc_parts.specs.Spelled.{Spelled, ◌&◌, number, items, counted}
+use Rattle.rpc_parts.specs.Spelled.{Spelled, number, items}
 use Rattle.rpc_parts.specs.Words.{coded, spell_flag, spell_optional, short, long}
 use Rattle.message_laws.specs.Typed.{IsListOf}
 

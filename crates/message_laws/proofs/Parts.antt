@@ -1,34 +1,10 @@
 -- The parts of a sound message of a program fit.
-use Rattle.std.proofs.Common.{
-  ◌≡◌,
-  ◌≤◌,
-  ◌<◌,
-  ◌^◌,
-  ◌+◌,
-  ℕ,
-  suc,
-  Bool,
-  true,
-  false,
-  ◌&&◌,
-  List,
-  [],
-  ◌∷◌,
-  length,
-  Some,
-  None,
-  refl,
-  sym,
-  ◌∙◌,
-  ap,
-  arith,
-}
-use Rattle.std.specs.Prelude.{not, Option, IfSome, IsTrue, nat_le, sum_by, ◌||◌}
+use Rattle.std.proofs.Common.{◌≡◌, ◌≤◌, ◌+◌, ℕ, Bool, true, false, ◌&&◌, List, [], ◌∷◌, length, refl, sym, ◌∙◌, ap, arith}
+use Rattle.std.specs.Prelude.{not, nat_le, sum_by, ◌||◌}
 use Rattle.std.specs.List.{list_any}
 use Rattle.std.proofs.lemmas.Bool.{and_parts, le-leb, leb-true, lt-ltb, eq-eqb}
 use Rattle.std.proofs.lemmas.List.Sums.{sum_by-cons}
-use Rattle.dfs_base.specs.Access.{is_access_list}
-use Rattle.dfs_base.specs.Name.{is_name, is_separator}
+use Rattle.dfs_base.specs.Name.{is_separator}
 use Rattle.dfs_base.specs.declared.access.AccessEntry.{AccessEntry}
 use Rattle.dfs_base.specs.declared.access.Who.{Who}
 use Rattle.dfs_base.specs.declared.access.Who.TheVariants.{UserObj, User, GroupObj, Group, OtherObj, MaskObj}
@@ -53,22 +29,8 @@ use Rattle.tok_types.specs.declared.token.TokenId.{TokenId}
 use Rattle.rpc_types.specs.Soundness.{Each, IsShort, AreFileBytes, IsKept}
 use Rattle.rpc_types.specs.declared.giving.AppliedGive.{AppliedGive}
 use Rattle.rpc_types.specs.declared.giving.Outstanding.{Outstanding}
-use Rattle.rpc_parts.specs.Spelled.{Spelled, ◌&◌, nothing, number, items, one_byte}
-use Rattle.rpc_parts.specs.Words.{
-  coded,
-  spell_u8,
-  spell_u32,
-  spell_u64,
-  spell_flag,
-  spell_host,
-  spell_server,
-  spell_fileset,
-  spell_name,
-  spell_bytes,
-  is_plain,
-  any_byte,
-  short,
-}
+use Rattle.rpc_parts.specs.Spelled.{number, items, one_byte}
+use Rattle.rpc_parts.specs.Words.{coded, spell_u8, spell_u32, spell_u64, spell_host, spell_server, spell_fileset, spell_name, spell_bytes, is_plain, any_byte}
 use Rattle.rpc_parts.specs.Tokens.{
   spell_fid,
   spell_id,

@@ -1,6 +1,6 @@
 -- Sound messages of a program fit, and are read back.
-use Rattle.std.proofs.Common.{◌≡◌, ◌≤◌, ◌<◌, ◌^◌, ℕ, true, ◌&&◌, ◌++◌, List, length, refl, ap, arith, inl, inr}
-use Rattle.std.specs.Prelude.{◌⊎◌, IsTrue, nat_le, nat_lt, Result}
+use Rattle.std.proofs.Common.{◌≡◌, ◌≤◌, ℕ, true, ◌&&◌, length, refl, arith, inl, inr}
+use Rattle.std.specs.Prelude.{IsTrue, nat_le, nat_lt}
 use Rattle.std.specs.List.{list_all}
 use Rattle.std.proofs.lemmas.Bool.{and_parts, leb-true}
 use Rattle.dfs_base.specs.declared.ids.HostId.{HostId}
@@ -16,7 +16,7 @@ use Rattle.dfs_base.specs.declared.limits.TheConstants.{
 }
 use Rattle.dfs_calls.specs.Limits.{is_between, keeps_limits}
 use Rattle.dfs_calls.specs.declared.roster.Roster.{Roster}
-use Rattle.rpc_types.specs.Soundness.{IsServer, IsHost, IsSound, Goes}
+use Rattle.rpc_types.specs.Soundness.{IsServer, IsHost, Goes}
 use Rattle.rpc_types.specs.declared.message.Direction.{Direction}
 use Rattle.rpc_types.specs.declared.message.Direction.TheVariants.{ToServer, ToHost, BetweenServers}
 use Rattle.rpc_types.specs.declared.message.Body.{Body}
@@ -40,10 +40,9 @@ use Rattle.rpc_types.specs.declared.message.Body.TheVariants.{
   Ship,
   Shipped,
 }
-use Rattle.rpc_types.specs.declared.message.Message.{Message}
-use Rattle.rpc_parts.specs.Spelled.{Spelled, ◌&◌, number}
+use Rattle.rpc_parts.specs.Spelled.{number}
 use Rattle.rpc_parts.specs.Words.{coded, host_code}
-use Rattle.rpc_msg.specs.Bodies.{body_tag, body_fields}
+use Rattle.rpc_msg.specs.Bodies.{body_tag}
 use Rattle.rpc_msg.specs.Messages.{
   ReadsBack,
   direction_code,
@@ -53,7 +52,7 @@ use Rattle.rpc_msg.specs.Messages.{
   most_epoch,
   spell_message,
 }
-use Rattle.message_laws.specs.Typed.{IsU64, TypedMessage}
+use Rattle.message_laws.specs.Typed.{IsU64}
 use Rattle.message_laws.specs.Laws.{SoundIsSpellable, SoundIsReadBack}
 use Rattle.message_laws.proofs.Fits.{both, number_in}
 use Rattle.message_laws.proofs.Parts.{InRange, server_in}
