@@ -41,11 +41,11 @@ def rows(groups, stop, count):
 
 
 def measure(text, count):
-    """The least processor time of three runs, in seconds."""
+    """The least processor time of seven runs, in seconds."""
     best = None
     with tempfile.TemporaryFile() as source:
         source.write(text.encode())
-        for _ in range(3):
+        for _ in range(7):
             source.seek(0)
             child = subprocess.Popen([PROGRAM], stdin=source, stdout=subprocess.PIPE)
             told = child.stdout.read().decode()

@@ -22,7 +22,19 @@ use Rattle.rpc_types.specs.Soundness.{Each}
 use Rattle.rpc_types.specs.declared.giving.AppliedGive.{AppliedGive}
 use Rattle.rpc_types.specs.declared.giving.Outstanding.{Outstanding}
 use Rattle.rpc_parts.specs.Spelled.{Spelled, number, items, one_byte}
-use Rattle.rpc_parts.specs.Words.{spell_u8, spell_u32, spell_u64, spell_fileset, spell_name, spell_bytes, is_plain, any_byte, short, long, spell_optional}
+use Rattle.rpc_parts.specs.Words.{
+  spell_u8,
+  spell_u32,
+  spell_u64,
+  spell_fileset,
+  spell_name,
+  spell_bytes,
+  is_plain,
+  any_byte,
+  short,
+  long,
+  spell_optional,
+}
 use Rattle.rpc_parts.specs.Tokens.{spell_fid, spell_id, spell_need, spell_token}
 use Rattle.rpc_parts.specs.Places.{spell_place, spell_user, spell_rights}
 use Rattle.rpc_parts.specs.Access.{spell_who_name, spell_access_entry, spell_access}

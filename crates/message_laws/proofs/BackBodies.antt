@@ -68,7 +68,14 @@ use Rattle.rpc_msg.specs.Bodies.{
   body_tag,
   body_fields,
 }
-use Rattle.rpc_msg.specs.Messages.{direction_code, least_direction, most_direction, most_host, most_epoch, spell_message}
+use Rattle.rpc_msg.specs.Messages.{
+  direction_code,
+  least_direction,
+  most_direction,
+  most_host,
+  most_epoch,
+  spell_message,
+}
 use Rattle.message_laws.specs.Typed.{
   IsU32,
   IsU64,

@@ -23,7 +23,29 @@ use Rattle.rpc_types.specs.declared.telling.Done.{Done as DoneOf}
 use Rattle.rpc_types.specs.declared.telling.Grant.{Grant as GrantOf}
 use Rattle.rpc_types.specs.declared.tokens.Named.{Named}
 use Rattle.rpc_types.specs.declared.tokens.Revoke.{Revoke as RevokeOf}
-use Rattle.rpc_types.specs.Soundness.{Each, IsServer, IsHost, IsToken, IsBrought, IsTold, IsOutcome, IsPart, IsEnd, IsBody, HasMoves, IsKept, Brings, IsFetch, IsGrant, IsChange, IsDone, AreNamed, IsGiveBack, IsClaim, IsReply}
+use Rattle.rpc_types.specs.Soundness.{
+  Each,
+  IsServer,
+  IsHost,
+  IsToken,
+  IsBrought,
+  IsTold,
+  IsOutcome,
+  IsPart,
+  IsEnd,
+  IsBody,
+  HasMoves,
+  IsKept,
+  Brings,
+  IsFetch,
+  IsGrant,
+  IsChange,
+  IsDone,
+  AreNamed,
+  IsGiveBack,
+  IsClaim,
+  IsReply,
+}
 use Rattle.rpc_types.specs.declared.giving.Ends.{Ends}
 use Rattle.rpc_types.specs.declared.giving.Outstanding.{Outstanding}
 use Rattle.rpc_types.specs.declared.giving.AppliedGive.{AppliedGive}
@@ -79,7 +101,23 @@ use Rattle.rpc_msg.specs.Bodies.{
   unmoved,
   body_fields,
 }
-use Rattle.message_laws.specs.Typed.{IsU32, IsListOf, TypedId, TypedToken, TypedNeed, TypedEntry, TypedStatus, TypedRecord, TypedPart, TypedOutcome, TypedEnds, TypedApplied, TypedBring, TypedOutstanding, TypedBody}
+use Rattle.message_laws.specs.Typed.{
+  IsU32,
+  IsListOf,
+  TypedId,
+  TypedToken,
+  TypedNeed,
+  TypedEntry,
+  TypedStatus,
+  TypedRecord,
+  TypedPart,
+  TypedOutcome,
+  TypedEnds,
+  TypedApplied,
+  TypedBring,
+  TypedOutstanding,
+  TypedBody,
+}
 use Rattle.message_laws.proofs.Fits.{both, flag_in, each_both, short_in, long_in, optional_in}
 use Rattle.message_laws.proofs.Parts.{
   InRange,

@@ -1,5 +1,23 @@
 -- The parts of a sound message of a program fit.
-use Rattle.std.proofs.Common.{◌≡◌, ◌≤◌, ◌+◌, ℕ, Bool, true, false, ◌&&◌, List, [], ◌∷◌, length, refl, sym, ◌∙◌, ap, arith}
+use Rattle.std.proofs.Common.{
+  ◌≡◌,
+  ◌≤◌,
+  ◌+◌,
+  ℕ,
+  Bool,
+  true,
+  false,
+  ◌&&◌,
+  List,
+  [],
+  ◌∷◌,
+  length,
+  refl,
+  sym,
+  ◌∙◌,
+  ap,
+  arith,
+}
 use Rattle.std.specs.Prelude.{not, nat_le, sum_by, ◌||◌}
 use Rattle.std.specs.List.{list_any}
 use Rattle.std.proofs.lemmas.Bool.{and_parts, le-leb, leb-true, lt-ltb, eq-eqb}
@@ -30,7 +48,19 @@ use Rattle.rpc_types.specs.Soundness.{Each, IsShort, AreFileBytes, IsKept}
 use Rattle.rpc_types.specs.declared.giving.AppliedGive.{AppliedGive}
 use Rattle.rpc_types.specs.declared.giving.Outstanding.{Outstanding}
 use Rattle.rpc_parts.specs.Spelled.{number, items, one_byte}
-use Rattle.rpc_parts.specs.Words.{coded, spell_u8, spell_u32, spell_u64, spell_host, spell_server, spell_fileset, spell_name, spell_bytes, is_plain, any_byte}
+use Rattle.rpc_parts.specs.Words.{
+  coded,
+  spell_u8,
+  spell_u32,
+  spell_u64,
+  spell_host,
+  spell_server,
+  spell_fileset,
+  spell_name,
+  spell_bytes,
+  is_plain,
+  any_byte,
+}
 use Rattle.rpc_parts.specs.Tokens.{
   spell_fid,
   spell_id,
