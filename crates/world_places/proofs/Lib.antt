@@ -1,0 +1,6 @@
+pub mod Cells
+pub mod Invariant
+pub mod SeenStep
+pub mod OwnStep
+pub mod OtherStep
+pub mod OwnRest

@@ -1,0 +1,4 @@
+pub mod Cells
+pub mod Doings
+pub mod Contents
+pub mod Legal
