@@ -1,5 +1,6 @@
 -- Options, truth values, parts.
-use Rattle.std.proofs.Common.{◌≡◌, ℕ, ◌≤◌, ◌⊎◌, ◌==◌, ◌&&◌, ◌||◌, not, Bool, true, false, if◌then◌else◌, Option, Some, None, is_some, inl, inr, sym, ap, refl, ◌∙◌, eqb-true, arith}
+use Rattle.std.proofs.Common.{◌≡◌, ℕ, ◌≤◌, ◌⊎◌, ◌==◌, ◌&&◌, ◌||◌, not, Bool, true, false, if◌then◌else◌, Option, Some}
+use Rattle.std.proofs.Common.{None, is_some, inl, inr, sym, ap, refl, ◌∙◌, eqb-true, arith}
 use Rattle.std.specs.Prelude.{unwrap_or}
 use Rattle.std.proofs.lemmas.Bool.{eqb-false}
 use Rattle.dfs_base.specs.declared.ids.HostId.{HostId}
@@ -70,7 +71,8 @@ dirty_free (Some x) d false e = refl
 dirty_free (Some x) d true e = absurd (cc)
 
 pub by_same : {X : Type 0} (h j : HostId) (x y : X) → Some (by h x) ≡ Some (by j y) → (h ≡ j) × (x ≡ y)
-by_same h j x y e = let q : by h x ≡ by j y = cc in (ap (λ (u : Written _). u.writer) q, ap (λ (u : Written _). u.value) q)
+by_same h j x y e = let q : by h x ≡ by j y = cc in
+    (ap (λ (u : Written _). u.writer) q, ap (λ (u : Written _). u.value) q)
 
 pub value_is : {X : Type 0} (o : Option (Written X)) (k : X) (u : Written X) → o ≡ Some u → value_of o k ≡ u.value
 value_is o k u e = ap (λ (q : Option (Written _)). value_of q k) e
@@ -86,11 +88,13 @@ pub unwritten : {X : Type 0} (h : HostId) (o : Option X) (cell : Cell X) → o �
 unwritten h None cell e = refl
 unwritten h (Some x) cell e = absurd (cc)
 
-pub present_written : {X : Type 0} (h : HostId) (o : Option X) (cell : Cell X) → present (written h o cell) ≡ unwrap_or o (present cell)
+pub present_written : {X : Type 0} (h : HostId) (o : Option X) (cell : Cell X)
+    → present (written h o cell) ≡ unwrap_or o (present cell)
 present_written h None cell = refl
 present_written h (Some x) cell = refl
 
-pub written_by : {X : Type 0} (h : HostId) (o : Option X) (cell : Cell X) (x y : X) → o ≡ Some x → (written h o cell).unsaved ≡ Some (by h (unwrap_or o y))
+pub written_by : {X : Type 0} (h : HostId) (o : Option X) (cell : Cell X) (x y : X) → o ≡ Some x
+    → (written h o cell).unsaved ≡ Some (by h (unwrap_or o y))
 written_by h None cell x y e = absurd (cc)
 written_by h (Some z) cell x y e = refl
 
@@ -98,7 +102,8 @@ pub kept_written : {X : Type 0} (h : HostId) (o : Option X) (cell : Cell X) → 
 kept_written h None cell = refl
 kept_written h (Some x) cell = refl
 
-pub lost_same : {X : Type 0} (h : HostId) (o : Option (Written X)) → ((u : Written X) → o ≡ Some u → u.writer ≡ h → ⊥) → without h o ≡ o
+pub lost_same : {X : Type 0} (h : HostId) (o : Option (Written X)) → ((u : Written X) → o ≡ Some u → u.writer ≡ h → ⊥)
+    → without h o ≡ o
 lost_same h None apart = refl
 lost_same {X} h (Some u) apart = go (u.writer.0 == h.0) refl
   where
@@ -106,15 +111,22 @@ lost_same {X} h (Some u) apart = go (u.writer.0 == h.0) refl
     go true e = absurd (apart u refl (ap (λ (n : ℕ). record { 0 = n }) (eqb-true u.writer.0 h.0 e)))
     go false e = refl
 
-pub left_is : {X : Type 0} (h : HostId) (o : Option (Written X)) (u : Written X) → without h o ≡ Some u → (o ≡ Some u) × (u.writer ≡ h → ⊥)
+pub left_is : {X : Type 0} (h : HostId) (o : Option (Written X)) (u : Written X) → without h o ≡ Some u → (o ≡ Some u)
+    × (u.writer ≡ h → ⊥)
 left_is h None u e = absurd (cc)
 left_is {X} h (Some w) u e = go (w.writer.0 == h.0) refl e
   where
-    go : (b : Bool) → (w.writer.0 == h.0) ≡ b → (if b then None else Some w) ≡ Some u → (Some w ≡ Some u) × (u.writer ≡ h → ⊥)
+    go : (b : Bool) → (w.writer.0 == h.0) ≡ b → (if b then None else Some w) ≡ Some u → (Some w ≡ Some u)
+        × (u.writer ≡ h → ⊥)
     go true q r = absurd (cc)
-    go false q r = (r, λ z. eqb-false w.writer.0 h.0 q (let same : w ≡ u = cc in ap (λ (y : Written X). y.writer.0) same ∙ ap (λ (k : HostId). k.0) z))
+    go false q r = (
+      r,
+      λ z. eqb-false w.writer.0 h.0 q (let same : w ≡ u = cc in
+          ap (λ (y : Written X). y.writer.0) same ∙ ap (λ (k : HostId). k.0) z),
+    )
 
-pub left_size : (x : ℕ) (o : Option (Written ℕ)) (u : Written ℕ) → size_left x o ≡ Some u → (o ≡ Some u) × (u.value ≡ x → ⊥)
+pub left_size : (x : ℕ) (o : Option (Written ℕ)) (u : Written ℕ) → size_left x o ≡ Some u → (o ≡ Some u)
+    × (u.value ≡ x → ⊥)
 left_size x None u e = absurd (cc)
 left_size x (Some w) u e = go (w.value == x) refl e
   where
@@ -131,10 +143,12 @@ left_none x (Some u) same = go (u.value == x) refl
     go false e = absurd (eqb-false u.value x e (same u refl))
 
 -- a size that is stored between the kept and the present one leaves the present one
-pub size_stored : (x : ℕ) (cell : Cell ℕ) → cell.kept ≤ x → x ≤ present cell → present (stored Size x cell) ≡ present cell
+pub size_stored : (x : ℕ) (cell : Cell ℕ) → cell.kept ≤ x → x ≤ present cell
+    → present (stored Size x cell) ≡ present cell
 size_stored x cell = go cell.unsaved
   where
-    go : (o : Option (Written ℕ)) → cell.kept ≤ x → x ≤ value_of o cell.kept → value_of (size_left x o) x ≡ value_of o cell.kept
+    go : (o : Option (Written ℕ)) → cell.kept ≤ x → x ≤ value_of o cell.kept
+        → value_of (size_left x o) x ≡ value_of o cell.kept
     go None a b = omega arith
     go (Some u) a b = pick (u.value == x) refl
       where
@@ -143,28 +157,36 @@ size_stored x cell = go cell.unsaved
         pick false e = refl
 
 -- what is unsaved after a doing was so before; it wasn't stored, but where it is a size, another one
-pub unsaved_was : (p : Part) (d : Does (Seen p)) (cell : Cell (Seen p)) (u : Written (Seen p)) → (cell_after p d cell).unsaved ≡ Some u → (cell.unsaved ≡ Some u) × (d ≡ Stores u.value → ⊥) × (d ≡ Loses u.writer → ⊥)
+pub unsaved_was : (p : Part) (d : Does (Seen p)) (cell : Cell (Seen p)) (u : Written (Seen p))
+    → (cell_after p d cell).unsaved ≡ Some u → (cell.unsaved ≡ Some u) × (d ≡ Stores u.value → ⊥)
+    × (d ≡ Loses u.writer → ⊥)
 unsaved_was p Nothing cell u e = (e, λ q. cc, λ q. cc)
 unsaved_was p (Sets x) cell u e = absurd (cc)
-unsaved_was p (Loses h) cell u e = let l = left_is h cell.unsaved u e in (l.0, λ q. absurd (cc), λ q. l.1 (let r : h ≡ u.writer = cc in sym r))
-unsaved_was Size (Stores x) cell u e = let l = left_size x cell.unsaved u e in (l.0, λ q. l.1 (let r : x ≡ u.value = cc in sym r), λ q. absurd (cc))
+unsaved_was p (Loses h) cell u e = let l = left_is h cell.unsaved u e in
+    (l.0, λ q. absurd (cc), λ q. l.1 (let r : h ≡ u.writer = cc in sym r))
+unsaved_was Size (Stores x) cell u e = let l = left_size x cell.unsaved u e in
+    (l.0, λ q. l.1 (let r : x ≡ u.value = cc in sym r), λ q. absurd (cc))
 unsaved_was (ByteAt q) (Stores x) cell u e = absurd (cc)
 unsaved_was Traits (Stores x) cell u e = absurd (cc)
 unsaved_was Entries (Stores x) cell u e = absurd (cc)
 
 -- nothing unsaved stays so
-pub none_stays : (p : Part) (d : Does (Seen p)) (cell : Cell (Seen p)) → cell.unsaved ≡ None → (cell_after p d cell).unsaved ≡ None
-none_stays p d cell e = none_of (cell_after p d cell).unsaved (λ u q. none_some cell.unsaved u e (unsaved_was p d cell u q).0)
+pub none_stays : (p : Part) (d : Does (Seen p)) (cell : Cell (Seen p)) → cell.unsaved ≡ None
+    → (cell_after p d cell).unsaved ≡ None
+none_stays p d cell e = none_of (cell_after p d cell).unsaved
+    (λ u q. none_some cell.unsaved u e (unsaved_was p d cell u q).0)
 
 -- a choice by whether two nodes are the same
-pub host_split : {X : Type 0} (P : X → Type 0) (k h : HostId) (new old : X) → (k ≡ h → P new) → ((k ≡ h → ⊥) → P old) → P (if k.0 == h.0 then new else old)
+pub host_split : {X : Type 0} (P : X → Type 0) (k h : HostId) (new old : X) → (k ≡ h → P new) → ((k ≡ h → ⊥) → P old)
+    → P (if k.0 == h.0 then new else old)
 host_split {X} P k h new old same other = go (k.0 == h.0) refl
   where
     go : (b : Bool) → (k.0 == h.0) ≡ b → P (if b then new else old)
     go true e = same (ap (λ (n : ℕ). record { 0 = n }) (eqb-true k.0 h.0 e))
     go false e = other (λ q. eqb-false k.0 h.0 e (ap (λ (j : HostId). j.0) q))
 
-pub server_split : {X : Type 0} (P : X → Type 0) (k v : ServerId) (new old : X) → (k ≡ v → P new) → ((k ≡ v → ⊥) → P old) → P (if k.0 == v.0 then new else old)
+pub server_split : {X : Type 0} (P : X → Type 0) (k v : ServerId) (new old : X) → (k ≡ v → P new)
+    → ((k ≡ v → ⊥) → P old) → P (if k.0 == v.0 then new else old)
 server_split {X} P k v new old same other = go (k.0 == v.0) refl
   where
     go : (b : Bool) → (k.0 == v.0) ≡ b → P (if b then new else old)

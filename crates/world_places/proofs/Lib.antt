@@ -4,3 +4,5 @@ pub mod SeenStep
 pub mod OwnStep
 pub mod OtherStep
 pub mod OwnRest
+pub mod ActStep
+pub mod Law

@@ -1,5 +1,6 @@
 -- What stands at the parts of objects: at the hosts, at the servers, in messages; and the rules for it. The rules are
--- stated for whatever a step writes, shows and gives back; the journal's steps are one case. `past` has the newest first.
+-- stated for whatever a step writes, shows and gives back; the journal's steps are one case. `past` has the newest
+-- first.
 use Rattle.std.specs.Prelude.{Bool, List, None, Option, Some, [], false, is_some, not, true, unwrap_or, ℕ, ◌<◌}
 use Rattle.std.specs.Prelude.{◌&&◌, ◌||◌, ◌∷◌, ◌≡◌, ◌≤◌, ◌⊎◌}
 use Rattle.dfs_base.specs.declared.ids.Fid.{Fid}
@@ -17,7 +18,7 @@ use Rattle.tok_types.specs.declared.token.Need.{Need}
 use Rattle.tok_types.specs.declared.token.Token.{Token}
 use Rattle.world_places.specs.Cells.{kept_after}
 use Rattle.world_places.specs.Cells.Does.{Stores, Sets, Loses}
-use Rattle.world_places.specs.Doings.{Deed, acts_in}
+use Rattle.world_places.specs.Deeds.{Deed, acts_in}
 use Rattle.tree_laws.specs.Parts.{Nature, Part, Seen, no_cell}
 use Rattle.tree_laws.specs.Parts.Part.{ByteAt, Size, Traits, Entries}
 use Rattle.dfs_needs.specs.Shows.{is_update, shows}
@@ -80,7 +81,8 @@ pub record Contents : Type 0 where
   -- what a server does in a step, after all earlier steps, the oldest first
   pub deeds : List Step → Step → List Deed
   pub root_in : (fs : FilesetId) → (root fs).fileset ≡ fs
-  pub wrote_data : (past : List Step) (s : Step) (f : Fid) (p : Part) (x : Seen p) → wrote past s f p ≡ Some x → IsData p
+  pub wrote_data : (past : List Step) (s : Step) (f : Fid) (p : Part) (x : Seen p) → wrote past s f p ≡ Some x
+      → IsData p
   pub gives_data : (g : Give) (p : Part) (x : Seen p) → gives g p ≡ Some x → IsData p
 
 -- what a server keeps of a part: the last that was stored or set; a restart keeps it
@@ -187,30 +189,23 @@ pub record Asks (c : Contents) (past : List Step) (s : Step) (f : FetchOf) : Typ
   pub new : (g : FetchOf) → HasSaid past g → g.fid.fileset ≡ f.fid.fileset → g.number ≡ f.number → ⊥
   pub free : (p : Part) (n : Need) → In n f.needs → shows n.kind p ≡ true → OwnsUpdate (s ∷ past) f.fid p
       → KnowsDirectory c past s f.fid
-  pub back : (g : Give) → Made (s ∷ past) g → g.fid ≡ f.fid → IsKnown (s ∷ past) g
+  pub back : (g : Give) → Made (s ∷ past) g → g.fid ≡ f.fid → (IsKnown (s ∷ past) g → ⊥) → ⊥
 
--- what a host's step may do at parts
-pub record HostShows (c : Contents) (past : List Step) (s : Step) : Type 0 where
-  -- what it takes stays in the step
-  pub takes_stay : (t : Token) → In t s.taken → Leaves s t.id → ⊥
-  -- a part is written under a token for update, of a file, when nothing is asked for; a byte by a step that doesn't
-  -- give it back
-  pub writes : (f : Fid) (p : Part) (x : Seen p) → c.wrote past s f p ≡ Some x → OwnsUpdate (s ∷ past) f p
-  pub writes_file : (f : Fid) (p : Part) (x : Seen p) → c.wrote past s f p ≡ Some x → KnowsFile c past s f
-  pub writes_alone : (f : Fid) (p : Part) (x : Seen p) (fs : FilesetId) (n : ℕ) → c.wrote past s f p ≡ Some x
-      → Asking (s ∷ past) fs n → ⊥
-  pub writes_only : (f : Fid) (q x y : ℕ) (g : Give) → c.wrote past s f (ByteAt q) ≡ Some x → In g s.made → g.fid ≡ f
-      → c.gives g (ByteAt q) ≡ Some y → ⊥
-  pub writes_kept : (f : Fid) (q x : ℕ) → c.wrote past s f (ByteAt q) ≡ Some x → c.hands s f q ≡ false
+abbrev pub FetchesSo : Contents → List Step → Step → Type 0
+FetchesSo c past s = (f : FetchOf) → Fetches s f → Repeats past f ⊎ Asks c past s f
+
+-- what a step that takes tokens shows
+pub record TakesShow (c : Contents) (past : List Step) (s : Step) : Type 0 where
   -- what is shown is what the used Grant tells under the tokens that are taken; those of a Done show nothing
   pub shown_by : (f : Fid) (p : Part) (x : Seen p) → c.shown s f p ≡ Some x → Shows c past s f p x
   pub shows_all : (t : Token) (p : Part) → In t s.taken → shows t.kind p ≡ true
       → ((x : Seen p) × (c.shown s t.fid p ≡ Some x)) ⊎ ByDone past s t
-  -- a Fetch is sent again while it is outstanding, or it is a new one
-  pub fetches : (f : FetchOf) → Fetches s f → Repeats past f ⊎ Asks c past s f
   -- when something is taken that shows a part, nothing stays outstanding that was so before
   pub takes_last : (t : Token) (p : Part) (fs : FilesetId) (n : ℕ) → In t s.taken → shows t.kind p ≡ true
       → Asking (s ∷ past) fs n → Asking past fs n → ⊥
+
+-- what a step gives back
+pub record GivesShow (c : Contents) (past : List Step) (s : Step) : Type 0 where
   -- a step makes one give-back of a file
   pub gives_once : (g k : Give) → In g s.made → In k s.made → g.fid ≡ k.fid → g ≡ k
   -- bytes. A give-back has dirty ones as the host sees them, under tokens that it names, and no other token for update
@@ -226,8 +221,7 @@ pub record HostShows (c : Contents) (past : List Step) (s : Step) : Type 0 where
   -- a dirty byte stays under a token for update, or a give-back has it
   pub saves : (f : Fid) (q : ℕ) → dirty c past f q ≡ true → OwnsUpdate past f (ByteAt q)
       → OwnsUpdate (s ∷ past) f (ByteAt q) ⊎ (c.hands s f q ≡ true)
-  -- sizes. One only grows; a give-back has it as the host sees it, under a token for update, where it isn't clean
-  pub grows : (f : Fid) (y : ℕ) → c.wrote past s f Size ≡ Some y → sees c past s f Size < y
+  -- sizes. A give-back has it as the host sees it, under a token for update, where it isn't clean
   pub gives_unclean : (g : Give) (x : ℕ) → In g s.made → c.gives g Size ≡ Some x → Clean c past s g.fid → ⊥
   pub gives_size : (g : Give) (x : ℕ) → In g s.made → c.gives g Size ≡ Some x → sees c past s g.fid Size ≡ x
   pub gives_own : (g : Give) (x : ℕ) → In g s.made → c.gives g Size ≡ Some x
@@ -235,12 +229,34 @@ pub record HostShows (c : Contents) (past : List Step) (s : Step) : Type 0 where
   -- where it isn't clean the token for update is kept, or a new give-back has it and names the token
   pub saves_size : (f : Fid) (u : OwnsUpdate past f Size) → (Clean c past s f → ⊥)
       → OwnsUpdate (s ∷ past) f Size ⊎ SendsBack c past s f u.token
-  -- both. A byte is written below the size that the host sees after the step, under a status token
-  pub writes_below : (f : Fid) (q x : ℕ) → c.wrote past s f (ByteAt q) ≡ Some x
-      → (q < view c (s ∷ past) f Size) × ((t : Token) × Owns (s ∷ past) t × Over t f Size)
-  -- a give-back with bytes has the size too, where the host has the token for it and it isn't clean
+  -- both. A give-back with bytes has the size too, where the host has the token for it and it isn't clean
   pub gives_too : (g : Give) (q x : ℕ) → In g s.made → c.gives g (ByteAt q) ≡ Some x → OwnsUpdate past g.fid Size
       → (Clean c past s g.fid → ⊥) → (y : ℕ) × (c.gives g Size ≡ Some y)
+
+-- what a step writes, it writes when nothing is asked for; a size only grows
+pub record WritesGrow (c : Contents) (past : List Step) (s : Step) : Type 0 where
+  pub writes_alone : (f : Fid) (p : Part) (x : Seen p) (fs : FilesetId) (n : ℕ) → c.wrote past s f p ≡ Some x
+      → Asking (s ∷ past) fs n → ⊥
+  pub grows : (f : Fid) (y : ℕ) → c.wrote past s f Size ≡ Some y → sees c past s f Size < y
+
+-- what a host's step may do at parts
+pub record HostShows (c : Contents) (past : List Step) (s : Step) : Type 0 where
+  pub takes : TakesShow c past s
+  pub gives : GivesShow c past s
+  pub grown : WritesGrow c past s
+  -- what it takes stays in the step
+  pub takes_stay : (t : Token) → In t s.taken → Leaves s t.id → ⊥
+  -- a part is written under a token for update, of a file; a byte by a step that doesn't give it back
+  pub writes : (f : Fid) (p : Part) (x : Seen p) → c.wrote past s f p ≡ Some x → OwnsUpdate (s ∷ past) f p
+  pub writes_file : (f : Fid) (p : Part) (x : Seen p) → c.wrote past s f p ≡ Some x → KnowsFile c past s f
+  pub writes_only : (f : Fid) (q x y : ℕ) (g : Give) → c.wrote past s f (ByteAt q) ≡ Some x → In g s.made → g.fid ≡ f
+      → c.gives g (ByteAt q) ≡ Some y → ⊥
+  pub writes_kept : (f : Fid) (q x : ℕ) → c.wrote past s f (ByteAt q) ≡ Some x → c.hands s f q ≡ false
+  -- it is written below the size that the host sees after the step, under a status token
+  pub writes_below : (f : Fid) (q x : ℕ) → c.wrote past s f (ByteAt q) ≡ Some x
+      → (q < view c (s ∷ past) f Size) × ((t : Token) × Owns (s ∷ past) t × Over t f Size)
+  -- a Fetch is sent again while it is outstanding, or it is a new one
+  pub fetches : FetchesSo c past s
 
 -- no host has the token: it isn't granted, and it is no grace period
 abbrev pub Bars : ServerId → List Act → Token → Type 0

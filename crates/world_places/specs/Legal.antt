@@ -9,9 +9,11 @@ use Rattle.rpc_types.specs.declared.giving.Give.{Give}
 use Rattle.tok_types.specs.declared.token.Token.{Token}
 use Rattle.world_places.specs.Cells.{by, cell_after, written}
 use Rattle.world_places.specs.Cells.Does.{Nothing, Sets}
-use Rattle.world_places.specs.Contents.{AreAlike, Bars, Contents, HaveRoots, HostShows, IsData, IsThere, IsWritable, ServerShows, dirty, kept}
+use Rattle.world_places.specs.Contents.{AreAlike, Bars, Contents, HaveRoots, HostShows, IsData, IsThere, IsWritable}
+use Rattle.world_places.specs.Contents.{ServerShows, dirty, kept}
 use Rattle.world_places.specs.Contents.{OwnsUpdate, sees, site, view}
-use Rattle.world_places.specs.Doings.{Deed, Each, acts_in, after, doings}
+use Rattle.world_doings.specs.Doings.{Each, after, doings}
+use Rattle.world_places.specs.Deeds.{Deed, acts_in}
 use Rattle.tree_laws.specs.Parts.{Cell, Part, Seen, Written, present}
 use Rattle.tree_laws.specs.Parts.Part.{ByteAt, Size, Traits}
 use Rattle.dfs_needs.specs.Shows.{is_update, shows}

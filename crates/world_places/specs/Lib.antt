@@ -1,4 +1,5 @@
 pub mod Cells
-pub mod Doings
+pub mod Deeds
 pub mod Contents
 pub mod Legal
+pub mod Coherence

@@ -1,10 +1,6 @@
 -- A server's doings in a step, the oldest first. Lists that are called past have the newest first.
 use Rattle.std.specs.Prelude.{List, [], suc, ℕ, ◌∷◌}
-use Rattle.dfs_base.specs.declared.ids.Fid.{Fid}
 use Rattle.rpc_types.specs.declared.message.Message.{Message}
-use Rattle.world_places.specs.Cells.{Does}
-use Rattle.world_places.specs.Cells.Does.{Nothing}
-use Rattle.tree_laws.specs.Parts.{Part, Seen}
 use Rattle.world_steps.specs.Acts.{Act, epoch}
 use Rattle.world_steps.specs.Acts.Act.{Begins, Took, Flushes, Wants, Writes, Admits, Sent, Reserves}
 use Rattle.world_steps.specs.declared.applied.Admission.{Admission}
@@ -45,15 +41,6 @@ doings s past =
 abbrev pub after : {A : Type 0} → List A → List A → List A
 after [] past = past
 after (x ∷ more) past = after more (x ∷ past)
-
--- a doing, with what it does to each part
-pub record Deed : Type 0 where
-  pub act : Act
-  pub does : Fid → (part : Part) → Does (Seen part)
-
-abbrev pub acts_in : List Deed → List Act
-acts_in [] = []
-acts_in (d ∷ deeds) = d.act ∷ acts_in deeds
 
 -- each doing, the oldest first, meets a condition on it and on those before it
 abbrev pub Each : {A : Type 0} → (List A → A → Type 0) → List A → List A → Type 0

@@ -1,0 +1,7 @@
+pub mod Words
+pub mod Views
+pub mod Gives
+pub mod Takes
+pub mod Writes
+pub mod Asks
+pub mod Runs

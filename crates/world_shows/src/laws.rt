@@ -1,0 +1,22 @@
+ghost use Rattle.dfs_base.specs.declared.ids.Fid.{Fid};
+ghost use Rattle.tree_laws.specs.Parts.{Part};
+ghost use Rattle.std.specs.Prelude.{ℕ, ◌≡◌};
+ghost use Rattle.world_host.specs.Dirty.{is_dirty};
+ghost use Rattle.world_host.specs.Views.{sees as host_sees};
+ghost use Rattle.world_places.specs.Contents.{FetchesSo, GivesShow, TakesShow, WritesGrow, dirty, sees};
+ghost use Rattle.world_shows.specs.Laws.{HoldsInRuns};
+
+/// In each step of a host, in every run: what the rules of contents call seen and dirty is what the host sees and has
+/// dirty; what is shown is what the used Grant tells under the tokens that are taken, and nothing stays outstanding
+/// then; a give-back has, once each, what is dirty as the host sees it, under tokens that it names, while all that is
+/// dirty stays under a token or is given back; what is written is written when nothing is asked for, while a size only
+/// grows; and a Fetch is a repeat of an outstanding one, or has a new number and asks for nothing of a file that is held
+/// for update, nor of one of which something is on its way back.
+pub fn hosts_show_what_they_are_told()
+    ensures seen { HoldsInRuns (λ c past s. (f : Fid) (p : Part) → sees c past s f p ≡ host_sees past s f p) }
+    ensures dirty { HoldsInRuns (λ c past s. (f : Fid) (at : ℕ) → dirty c past f at ≡ is_dirty past f at) }
+    ensures takes { HoldsInRuns TakesShow }
+    ensures gives { HoldsInRuns GivesShow }
+    ensures grown { HoldsInRuns WritesGrow }
+    ensures asks { HoldsInRuns FetchesSo }
+{}
