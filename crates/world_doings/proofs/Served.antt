@@ -27,7 +27,6 @@ use Rattle.world_steps.proofs.ServerAct.{served_act, link_act}
 use Rattle.world_steps.proofs.ServerBegin.{served_begin, link_begin}
 use Rattle.world_steps.proofs.Law.{AtServer}
 use Rattle.world_doings.specs.Doings.{Each, after, doings, doings_admitted, doings_cause, doings_sent, doings_written}
-use Rattle.world_doings.specs.Doings.{Each, after, doings, doings_admitted, doings_cause, doings_sent, doings_written}
 
 -- a doing that sends, admits, writes and keeps nothing needs no leave
 took_may : (v : ServerId) (S : List Act) (h : HostId) (e n : ℕ) (b : Body) → ServerTokens v S (Took h e n b)

@@ -33,11 +33,10 @@ use Rattle.world_steps.specs.declared.step.Step.{Step}
 pub held_owns : (script : Script) (host : HostId) (past : List Step) → HostRun script host past → (t : Token)
     → Held past t → Owns past t
 held_owns script host [] run t k = elim k [ ]
-held_owns script host (s ∷ past) run t k = (was k.0, λ l. k.1 (run.1.tokens.drops t k.0 l))
-  where
-    was : In t s.taken ⊎ Held past t → In t s.taken ⊎ Owns past t
-    was (inl m) = inl m
-    was (inr h) = inr (held_owns script host past run.0 t h)
+held_owns script host (s ∷ past) run t k = (
+  elim k.0 [ inl m ↦ inl m | inr h ↦ inr (held_owns script host past run.0 t h) ],
+  λ l. k.1 (run.1.tokens.drops t k.0 l),
+)
 
 stops_here : (s : Step) (past : List Step) → Stops s → HasStopped (s ∷ past)
 stops_here s past (v, e, n, q) = (v, e, n, inl q)
@@ -48,18 +47,19 @@ stopped_on s past (v, e, n, q) = (v, e, n, inr q)
 pub owns_held : (script : Script) (host : HostId) (past : List Step) → HostRun script host past → (HasStopped past → ⊥)
     → (t : Token) → Owns past t → Held past t
 owns_held script host [] run up t k = elim k [ ]
-owns_held script host (s ∷ past) run up t k =
-    (was k.0, λ d. elim (run.1.tokens.drops_only t d) [ inl l ↦ k.1 l | inr z ↦ up (stops_here s past z) ])
-  where
-    was : In t s.taken ⊎ Owns past t → In t s.taken ⊎ Held past t
-    was (inl m) = inl m
-    was (inr h) = inr (owns_held script host past run.0 (λ z. up (stopped_on s past z)) t h)
+owns_held script host (s ∷ past) run up t k = (
+  elim k.0 [
+    | inl m ↦ inl m
+    | inr h ↦ inr (owns_held script host past run.0 (λ z. up (stopped_on s past z)) t h)
+  ],
+  λ d. elim (run.1.tokens.drops_only t d) [ inl l ↦ k.1 l | inr z ↦ up (stops_here s past z) ],
+)
 
 takes_status : (s : Step) (f : Fid) → TakesUpdate s f Size → TakesStatus s f
-takes_status s f (t, m, u) = (t, m, u.file, update_size t.kind u.covers u.update)
+takes_status s f (t, m, u) = (t, m, (u.file, update_size t.kind u.covers u.update))
 
 takes_update : (s : Step) (f : Fid) → TakesStatus s f → TakesUpdate s f Size
-takes_update s f (t, m, file, kind) =
+takes_update s f (t, m, (file, kind)) =
     (t, m, record { file = file; covers = size_covers t.kind kind; update = size_update t.kind kind })
 
 -- the last give-back with a size since the token was taken

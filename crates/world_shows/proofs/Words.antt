@@ -26,11 +26,12 @@ use Rattle.world_host.specs.Dirty.{gives_at}
 pub any_in : {X : Type 0} (test : X → Bool) (xs : List X) → list_any test xs ≡ true → (x : X) × In x xs
     × (test x ≡ true)
 any_in test [] e = absurd (false≢true e)
-any_in {X} test (x ∷ xs) e = go (test x) refl e
+any_in {X} test (x ∷ xs) e = go (test x) refl (λ r. any_in test xs r) e
   where
-    go : (b : Bool) → test x ≡ b → (b || list_any test xs) ≡ true → (y : X) × In y (x ∷ xs) × (test y ≡ true)
-    go true q r = (x, inl refl, q)
-    go false q r = let y = any_in test xs r in (y.0, inr y.1, y.2)
+    go : (b : Bool) → test x ≡ b → (list_any test xs ≡ true → (y : X) × In y xs × (test y ≡ true))
+        → (b || list_any test xs) ≡ true → (y : X) × In y (x ∷ xs) × (test y ≡ true)
+    go true q rest r = (x, inl refl, q)
+    go false q rest r = let y = rest r in (y.0, inr y.1, y.2)
 
 first_way : (b c : Bool) → b ≡ true → (b || c) ≡ true
 first_way true c e = refl
