@@ -1,5 +1,5 @@
 -- A server's doings in a step, the oldest first. Lists that are called past have the newest first.
-use Rattle.std.specs.Prelude.{List, [], suc, ℕ, ◌∷◌}
+use Rattle.std.specs.Prelude.{List, [], suc, ◌∷◌}
 use Rattle.rpc_types.specs.declared.message.Message.{Message}
 use Rattle.world_steps.specs.Acts.{Act, epoch}
 use Rattle.world_steps.specs.Acts.Act.{Begins, Took, Flushes, Wants, Writes, Admits, Sent, Reserves}

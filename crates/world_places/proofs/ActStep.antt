@@ -1,7 +1,6 @@
 -- A server's doing, a restart too, keeps what it shares with each host and the tree.
-use Rattle.std.proofs.Common.{◌≡◌, ℕ, ◌<◌, ◌≤◌, ◌⊎◌, true, false, Option, Some, None, List, [], ◌∷◌, inl, inr, sym, ◌∙◌}
+use Rattle.std.proofs.Common.{◌≡◌, ℕ, ◌<◌, ◌≤◌, ◌⊎◌, true, false, Option, Some, None, List, ◌∷◌, inl, inr, sym, ◌∙◌}
 use Rattle.std.proofs.Common.{ap, subst, refl, arith}
-use Rattle.std.specs.Prelude.{max}
 use Rattle.std.proofs.lemmas.Bool.{cases_eq, cases_lt}
 use Rattle.dfs_base.specs.declared.ids.HostId.{HostId}
 use Rattle.dfs_base.specs.declared.ids.ServerId.{ServerId}
@@ -21,14 +20,14 @@ use Rattle.world_steps.specs.declared.step.Step.{Step}
 use Rattle.world_steps.specs.Lists.{In}
 use Rattle.world_steps.specs.Epochs.{epoch_at}
 use Rattle.world_steps.specs.Sends.{Said}
-use Rattle.world_steps.specs.Gives.{Made, IsKnown, number_of}
+use Rattle.world_steps.specs.Gives.{Made, number_of}
 use Rattle.world_steps.specs.Tokens.{Owns}
 use Rattle.world_steps.specs.Requests.{Asking}
 use Rattle.world_steps.specs.Floors.{AboveFloor}
 use Rattle.world_steps.specs.Acts.{Act, epoch, SentTo}
 use Rattle.world_steps.specs.Acts.Act.{Took, Sent}
 use Rattle.world_steps.specs.Hosts.{Away, TakesOf}
-use Rattle.world_steps.specs.Grants.{Mark, Brings, Granted, Applied, Applies}
+use Rattle.world_steps.specs.Grants.{Brings, Applied, Applies}
 use Rattle.world_steps.specs.ServerTokens.{MayBring, ServerTokens}
 use Rattle.world_steps.proofs.Owed.{Owed}
 use Rattle.world_steps.proofs.Invariant.{Alone}
@@ -40,8 +39,8 @@ use Rattle.dfs_needs.specs.Shows.{shows}
 use Rattle.world_places.specs.Cells.{Does, by, value_of, stored, kept_stored, cell_after, kept_after}
 use Rattle.world_places.specs.Cells.Does.{Nothing, Stores, Sets, Loses}
 use Rattle.world_places.specs.Deeds.{Deed, acts_in}
-use Rattle.world_places.specs.Contents.{Contents, site, kept, view, dirty, OwnsUpdate, MadeSince, HasSaid, IsData}
-use Rattle.world_places.specs.Contents.{IsThere, IsWritable, Fits, ServerShows}
+use Rattle.world_places.specs.Contents.{Contents, site, kept, view, dirty, OwnsUpdate, MadeSince, HasSaid}
+use Rattle.world_places.specs.Contents.{IsThere, IsWritable, ServerShows}
 use Rattle.world_places.specs.Legal.{Cells, cells_after, IsStill, KeptIsPresent, LegalSize, LegalDoing}
 use Rattle.world_places.proofs.Cells.{none_some, none_of, same_some, by_same, value_is, value_none, lost_same, left_is}
 use Rattle.world_places.proofs.Cells.{left_size, left_none, size_stored, unsaved_was, none_stays, cases_host}

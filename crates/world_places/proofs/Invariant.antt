@@ -11,7 +11,7 @@ use Rattle.tok_types.specs.declared.token.Need.{Need}
 use Rattle.tok_types.specs.Conflicts.{conflict, needs_conflict, need_of}
 use Rattle.dfs_tree.proofs.Followed.{same_fid_itself}
 use Rattle.dfs_needs.proofs.Showing.{tokens_show_parts}
-use Rattle.rpc_types.specs.declared.message.Body.TheVariants.{Fetch, Grant, Done, GiveBack}
+use Rattle.rpc_types.specs.declared.message.Body.TheVariants.{Grant, Done, GiveBack}
 use Rattle.rpc_types.specs.declared.asking.Fetch.{Fetch as FetchOf}
 use Rattle.rpc_types.specs.declared.telling.Grant.{Grant as GrantOf}
 use Rattle.rpc_types.specs.declared.telling.Done.{Done as DoneOf}

@@ -19,10 +19,10 @@ use Rattle.world_places.specs.Deeds.{Deed, acts_in}
 use Rattle.world_places.specs.Contents.{Contents, site, kept, view, sees, dirty, OwnsUpdate, MadeSince, Clean, IsData}
 use Rattle.world_places.specs.Contents.{IsWritable}
 use Rattle.world_places.specs.Legal.{Cells}
-use Rattle.world_places.proofs.Cells.{option_cases, none_is, some_is, none_some, dirty_was, dirty_free, written_by}
+use Rattle.world_places.proofs.Cells.{option_cases, none_is, some_is, none_some, dirty_was, written_by}
 use Rattle.world_places.proofs.Cells.{kept_written, cases_host}
 use Rattle.world_places.proofs.Invariant.{Open, Shown, Treed, alone_there}
-use Rattle.world_places.proofs.OwnStep.{Own, same_cell, live, live_owner, foreign_writer, sees_at, view_is, sees_on}
+use Rattle.world_places.proofs.OwnStep.{Own, same_cell, live, live_owner, foreign_writer, sees_at, sees_on}
 use Rattle.world_places.proofs.OwnStep.{cached', flight', mine', open_under', asked', asked_given', asked_for'}
 use Rattle.world_places.proofs.OwnStep.{not_applied, gave_byte, gave_size, size_is, open_was, open_on, clean_none}
 use Rattle.world_places.proofs.OwnStep.{known_file}

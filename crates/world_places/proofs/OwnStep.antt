@@ -1,16 +1,15 @@
 -- A host's own step keeps what it shares with a server and the tree, at any part.
-use Rattle.std.proofs.Common.{◌≡◌, ℕ, ◌<◌, ◌≤◌, ◌⊎◌, ◌&&◌, not, Option, Some, None, is_some, true, false, List, ◌∷◌}
+use Rattle.std.proofs.Common.{◌≡◌, ℕ, ◌<◌, ◌≤◌, ◌⊎◌, Option, Some, None, true, List, ◌∷◌}
 use Rattle.std.proofs.Common.{inl, inr, sym, ◌∙◌, ap, subst, refl, arith}
 use Rattle.std.specs.Prelude.{unwrap_or}
 use Rattle.dfs_base.specs.declared.ids.HostId.{HostId}
 use Rattle.dfs_base.specs.declared.ids.ServerId.{ServerId}
-use Rattle.dfs_base.specs.declared.ids.FilesetId.{FilesetId}
 use Rattle.dfs_base.specs.declared.ids.Fid.{Fid}
 use Rattle.tok_types.specs.declared.token.Token.{Token}
 use Rattle.tok_types.specs.declared.token.Need.{Need}
 use Rattle.tok_types.specs.Conflicts.{need_of}
 use Rattle.rpc_types.specs.declared.message.Body.{Body}
-use Rattle.rpc_types.specs.declared.message.Body.TheVariants.{Fetch, Grant, Done}
+use Rattle.rpc_types.specs.declared.message.Body.TheVariants.{Grant, Done}
 use Rattle.rpc_types.specs.declared.message.Message.{Message}
 use Rattle.rpc_types.specs.declared.asking.Fetch.{Fetch as FetchOf}
 use Rattle.rpc_types.specs.declared.telling.Grant.{Grant as GrantOf}
@@ -22,25 +21,24 @@ use Rattle.world_steps.specs.declared.step.Step.{Step}
 use Rattle.world_steps.specs.Lists.{In}
 use Rattle.world_steps.specs.Places.{home as made_at}
 use Rattle.world_steps.specs.Epochs.{epoch_at, ComesIn, Raises}
-use Rattle.world_steps.specs.Sends.{Said}
 use Rattle.world_steps.specs.Gives.{Made, number_of}
-use Rattle.world_steps.specs.Tokens.{AtHand, Owns, Leaves}
-use Rattle.world_steps.specs.Requests.{Asking, Fetches}
+use Rattle.world_steps.specs.Tokens.{AtHand, Owns}
+use Rattle.world_steps.specs.Requests.{Asking}
 use Rattle.world_steps.specs.Floors.{AboveFloor}
 use Rattle.world_steps.specs.HostTokens.{HostTokens}
 use Rattle.world_steps.specs.Acts.{Act, SentTo}
 use Rattle.world_steps.specs.Hosts.{Away}
-use Rattle.world_steps.specs.Grants.{Mark, Issued, Applied}
+use Rattle.world_steps.specs.Grants.{Applied}
 use Rattle.world_steps.proofs.Owed.{Owed}
 use Rattle.world_steps.proofs.Words.{epoch_grows}
 use Rattle.world_steps.proofs.Invariant.{Served, Alone, Link, Brought}
 use Rattle.tree_laws.specs.Parts.{Nature, Part, Seen, Written, Cell, present}
 use Rattle.tree_laws.specs.Parts.Part.{ByteAt, Size, Traits, Entries}
-use Rattle.dfs_needs.specs.Shows.{shows, is_update}
+use Rattle.dfs_needs.specs.Shows.{shows}
 use Rattle.world_places.specs.Cells.{by, written}
 use Rattle.world_places.specs.Deeds.{Deed, acts_in}
 use Rattle.world_places.specs.Contents.{Contents, site, kept, view, sees, dirty, OwnsUpdate, TakesUpdate, Clean}
-use Rattle.world_places.specs.Contents.{SendsBack, HasSaid, IsData, IsThere, IsWritable, Knows, KnowsFile}
+use Rattle.world_places.specs.Contents.{SendsBack, HasSaid, IsWritable, Knows, KnowsFile}
 use Rattle.world_places.specs.Contents.{KnowsDirectory, HostShows}
 use Rattle.world_places.specs.Legal.{Cells}
 use Rattle.world_places.proofs.Cells.{option_cases, none_is, some_is, none_some, none_of, bool_cases, dirty_now}

@@ -1,6 +1,6 @@
 -- A host's step keeps what is so of the host alone.
-use Rattle.std.proofs.Common.{◌≡◌, ℕ, ◌&&◌, ◌||◌, not, true, false, Bool, Some, is_some, List, ◌∷◌, inl, inr, sym, ◌∙◌}
-use Rattle.std.proofs.Common.{ap, subst}
+use Rattle.std.proofs.Common.{◌≡◌, ℕ, ◌||◌, not, true, false, Bool, Some, is_some, List, ◌∷◌, inl, inr, sym}
+use Rattle.std.proofs.Common.{subst}
 use Rattle.std.proofs.lemmas.Bool.{and_parts, or_cases}
 use Rattle.dfs_base.specs.declared.ids.ServerId.{ServerId}
 use Rattle.dfs_base.specs.declared.ids.Fid.{Fid}

@@ -1,6 +1,6 @@
 -- One part of an object in the tree: what steps do to it.
 use Rattle.std.specs.Option.{option_map_or}
-use Rattle.std.specs.Prelude.{None, Option, Some, max, ℕ}
+use Rattle.std.specs.Prelude.{None, Option, Some, max}
 use Rattle.dfs_base.specs.declared.ids.HostId.{HostId}
 use Rattle.tree_laws.specs.Fates.{without, size_left}
 use Rattle.tree_laws.specs.Parts.{Part, Seen, Written, Cell, present, settled}

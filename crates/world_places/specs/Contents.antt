@@ -20,7 +20,7 @@ use Rattle.world_places.specs.Cells.{kept_after}
 use Rattle.world_places.specs.Cells.Does.{Stores, Sets, Loses}
 use Rattle.world_places.specs.Deeds.{Deed, acts_in}
 use Rattle.tree_laws.specs.Parts.{Nature, Part, Seen, no_cell}
-use Rattle.tree_laws.specs.Parts.Part.{ByteAt, Size, Traits, Entries}
+use Rattle.tree_laws.specs.Parts.Part.{ByteAt, Size, Traits}
 use Rattle.dfs_needs.specs.Shows.{is_update, shows}
 use Rattle.world_steps.specs.Acts.Act.{Took, Writes, Sent}
 use Rattle.world_steps.specs.Acts.{Act, SentTo}
@@ -33,7 +33,7 @@ use Rattle.world_steps.specs.Lists.{In}
 use Rattle.world_steps.specs.Places.{home}
 use Rattle.world_steps.specs.Requests.{Asking, Fetches}
 use Rattle.world_steps.specs.Sends.{Said}
-use Rattle.world_steps.specs.Tokens.{AtHand, Held, Leaves, Owns}
+use Rattle.world_steps.specs.Tokens.{AtHand, Leaves, Owns}
 use Rattle.world_steps.specs.declared.applied.Written.{Written}
 use Rattle.world_steps.specs.declared.step.Step.{Step}
 

@@ -1,5 +1,5 @@
 -- The tree of a run, part by part, and what holds of it. Lists of steps have the newest first.
-use Rattle.std.specs.Prelude.{List, None, Option, Some, [], if◌then◌else◌, true, ℕ, ◌==◌, ◌∷◌, ◌≡◌, ◌<◌, ◌≤◌, ◌⊎◌}
+use Rattle.std.specs.Prelude.{List, None, Some, [], if◌then◌else◌, true, ℕ, ◌==◌, ◌∷◌, ◌≡◌, ◌<◌, ◌≤◌, ◌⊎◌}
 use Rattle.dfs_base.specs.declared.ids.Fid.{Fid}
 use Rattle.dfs_base.specs.declared.ids.HostId.{HostId}
 use Rattle.dfs_base.specs.declared.ids.Node.{Node}
@@ -18,7 +18,7 @@ use Rattle.tree_laws.specs.Parts.{Cell, Part, Seen, Written, present}
 use Rattle.tree_laws.specs.Parts.Part.{ByteAt, Size, Traits}
 use Rattle.dfs_needs.specs.Shows.{is_update, shows}
 use Rattle.world_steps.specs.Acts.Act.{Begins}
-use Rattle.world_steps.specs.Acts.{Act, acts}
+use Rattle.world_steps.specs.Acts.{acts}
 use Rattle.world_steps.specs.Gives.{Made, number_of}
 use Rattle.world_steps.specs.Grants.{Applied, Applies}
 use Rattle.world_steps.specs.Hosts.{Away}

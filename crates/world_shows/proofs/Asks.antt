@@ -1,5 +1,5 @@
 -- What a host asks for.
-use Rattle.std.proofs.Common.{◌≡◌, ℕ, ◌<◌, ◌⊎◌, ◌&&◌, ◌||◌, not, Bool, true, false, Some, None, List, [], ◌∷◌, inl, inr}
+use Rattle.std.proofs.Common.{◌≡◌, ℕ, ◌||◌, Bool, true, false, Some, List, ◌∷◌, inl, inr}
 use Rattle.std.proofs.Common.{sym, ◌∙◌, ap, subst, refl, arith}
 use Rattle.std.proofs.lemmas.Bool.{and_parts, false≢true}
 use Rattle.std.specs.List.{list_any}
@@ -7,35 +7,33 @@ use Rattle.dfs_base.specs.Ids.{same_fid}
 use Rattle.dfs_base.specs.Spans.{has_byte}
 use Rattle.dfs_base.specs.declared.ids.Fid.{Fid}
 use Rattle.dfs_base.specs.declared.ids.HostId.{HostId}
-use Rattle.dfs_base.specs.declared.span.Span.{Span}
 use Rattle.dfs_needs.specs.Shows.{is_update, shows}
 use Rattle.dfs_tree.proofs.Followed.{same_fid_itself}
 use Rattle.rpc_types.specs.declared.asking.Fetch.{Fetch as FetchOf}
 use Rattle.rpc_types.specs.declared.message.Body.TheVariants.{Down, Fetch}
 use Rattle.script_lines.specs.declared.script.Script.{Script}
-use Rattle.tok_types.specs.Covers.{Covers, covers_alone, covers_byte, does_for, kind_covers, kind_covers_byte}
+use Rattle.tok_types.specs.Covers.{Covers, covers_alone, covers_byte, kind_covers, kind_covers_byte}
 use Rattle.tok_types.specs.declared.token.Kind.{Kind}
 use Rattle.tok_types.specs.declared.token.Kind.TheVariants.{Bytes, Lock, Opening, Status}
 use Rattle.tok_types.specs.declared.token.Need.{Need}
 use Rattle.tok_types.specs.declared.token.Token.{Token}
 use Rattle.tree_laws.proofs.Steps.{fid_is}
-use Rattle.tree_laws.specs.Parts.{Nature, Part, Seen}
+use Rattle.tree_laws.specs.Parts.{Nature, Part}
 use Rattle.tree_laws.specs.Parts.Part.{ByteAt, Entries, Size, Traits}
-use Rattle.world_host.specs.HostAsks.{AsksMissing, FetchNeeds, IsDirectory, IsNewFetch, Lacks, LackingNeeds}
+use Rattle.world_host.specs.HostAsks.{AsksMissing, FetchNeeds, IsNewFetch}
 use Rattle.world_host.specs.HostAsks.FetchNeeds.{OfDirectory, OfFile, OfUnknown}
 use Rattle.world_host.specs.HostRules.{HostMeets}
 use Rattle.world_host.specs.Knowing.{needs_in}
 use Rattle.world_host.specs.Views.{sees as host_sees}
-use Rattle.world_places.specs.Contents.{Asks, Contents, FetchesSo, HasSaid, Knows, KnowsDirectory, OwnsUpdate, Repeats}
+use Rattle.world_places.specs.Contents.{Asks, Contents, FetchesSo, Knows, KnowsDirectory, OwnsUpdate}
 use Rattle.world_shows.proofs.Gives.{owns_held}
 use Rattle.world_shows.proofs.Views.{sees_same}
-use Rattle.world_shows.proofs.Words.{any_in, both, in_any, update_byte, update_size}
+use Rattle.world_shows.proofs.Words.{any_in, both, in_any}
 use Rattle.world_shows.specs.Steps.{HostRun, IsOfJournal}
-use Rattle.world_steps.specs.Gives.{IsKnown, Made}
 use Rattle.world_steps.specs.Lists.{In}
-use Rattle.world_steps.specs.Requests.{Asking, Fetches}
+use Rattle.world_steps.specs.Requests.{Fetches}
 use Rattle.world_steps.specs.Sends.{HasStopped}
-use Rattle.world_steps.specs.Tokens.{Held, Owns}
+use Rattle.world_steps.specs.Tokens.{Owns}
 use Rattle.world_steps.specs.declared.step.Step.{Step}
 
 for_reading : (u : Bool) → (u || true) ≡ true

@@ -1,5 +1,5 @@
 -- What a host gives back is what the rules of contents want.
-use Rattle.std.proofs.Common.{◌≡◌, ℕ, ◌<◌, ◌≤◌, ◌⊎◌, true, Option, Some, None, List, [], ◌∷◌, inl, inr, sym, ◌∙◌, ap}
+use Rattle.std.proofs.Common.{◌≡◌, ℕ, ◌<◌, ◌≤◌, ◌⊎◌, true, Some, List, [], ◌∷◌, inl, inr, sym, ◌∙◌, ap}
 use Rattle.std.proofs.Common.{subst, refl, arith}
 use Rattle.dfs_base.specs.declared.ids.Fid.{Fid}
 use Rattle.dfs_base.specs.declared.ids.HostId.{HostId}
@@ -9,16 +9,15 @@ use Rattle.rpc_types.specs.declared.giving.Give.{Give}
 use Rattle.script_lines.specs.declared.script.Script.{Script}
 use Rattle.tok_types.specs.declared.token.Kind.TheVariants.{Bytes, Status}
 use Rattle.tok_types.specs.declared.token.Token.{Token}
-use Rattle.tree_laws.specs.Parts.{Part, Seen}
 use Rattle.tree_laws.specs.Parts.Part.{ByteAt, Size}
-use Rattle.world_host.specs.Dirty.{HasLength, IsLastLength, LengthIsClean, LengthIsDirty, TakesStatus, gives_at}
+use Rattle.world_host.specs.Dirty.{HasLength, IsLastLength, LengthIsClean, LengthIsDirty, TakesStatus}
 use Rattle.world_host.specs.Dirty.{is_dirty}
 use Rattle.world_host.specs.HostGives.{DirtyLength, OwnsUpdate as OwnsByte}
 use Rattle.world_host.specs.HostRules.{HostMeets}
-use Rattle.world_host.specs.Views.{sees as host_sees, view as host_view}
+use Rattle.world_host.specs.Views.{sees as host_sees}
 use Rattle.world_journal.specs.Told.{byte_of}
 use Rattle.world_places.specs.Contents.{Clean, Contents, GivesShow, MadeSince, OverUpdate, OwnsUpdate, SendsBack}
-use Rattle.world_places.specs.Contents.{TakesUpdate, dirty, sees, view}
+use Rattle.world_places.specs.Contents.{TakesUpdate, dirty, sees}
 use Rattle.world_shows.specs.Steps.{HostRun, IsOfJournal}
 use Rattle.world_shows.proofs.Views.{view_same, sees_same, dirty_same}
 use Rattle.world_shows.proofs.Words.{given, gave, update_byte, update_size, byte_covers, byte_update, size_covers}
@@ -26,7 +25,7 @@ use Rattle.world_shows.proofs.Words.{size_update}
 use Rattle.world_steps.specs.Gives.{Made}
 use Rattle.world_steps.specs.Lists.{In}
 use Rattle.world_steps.specs.Sends.{HasStopped, Stops}
-use Rattle.world_steps.specs.Tokens.{AtHand, Drops, Held, Leaves, Owns}
+use Rattle.world_steps.specs.Tokens.{AtHand, Held, Owns}
 use Rattle.world_steps.specs.declared.step.Step.{Step}
 
 -- a host that hasn't stopped holds what it owns, and owns what it holds

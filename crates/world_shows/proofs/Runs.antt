@@ -1,14 +1,13 @@
 -- In a run each host's own steps meet its rules.
-use Rattle.std.proofs.Common.{ℕ, List, [], ◌∷◌, ◌≡◌, subst}
+use Rattle.std.proofs.Common.{ℕ, List, [], ◌∷◌, subst}
 use Rattle.dfs_base.specs.declared.ids.HostId.{HostId}
 use Rattle.dfs_base.specs.declared.ids.Node.{Node}
 use Rattle.dfs_base.specs.declared.ids.Node.TheVariants.{Host, Server}
 use Rattle.dfs_base.specs.declared.ids.ServerId.{ServerId}
 use Rattle.dfs_tree.specs.declared.tree.Tree.{Tree}
 use Rattle.script_lines.specs.declared.script.Script.{Script}
-use Rattle.world_core.specs.Runs.{IsRun, StepMeets, StepsMeet, firsts_of, past_of}
+use Rattle.world_core.specs.Runs.{StepMeets, StepsMeet, firsts_of, past_of}
 use Rattle.world_host.specs.HostRules.{HostMeets}
-use Rattle.world_journal.specs.declared.journal.Journal.{Journal}
 use Rattle.world_places.specs.Contents.{Contents}
 use Rattle.world_shows.specs.Laws.{AtNode, EachOwn, HoldsForHosts, HoldsInRuns}
 use Rattle.world_shows.specs.Steps.{HostRun, IsOfJournal}

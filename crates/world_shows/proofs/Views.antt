@@ -1,7 +1,6 @@
 -- What a host sees, and what is dirty, is what the journal's words say.
-use Rattle.std.proofs.Common.{◌≡◌, ℕ, ◌⊎◌, ◌&&◌, ◌||◌, ◌+◌, ◌-◌, not, nat_le, nat_lt, Bool, true, false, if◌then◌else◌}
-use Rattle.std.proofs.Common.{Option, Some, None, is_some, List, [], ◌∷◌, length, inl, inr, sym, ◌∙◌, ap, subst, refl}
-use Rattle.std.proofs.Common.{arith, ltb-true}
+use Rattle.std.proofs.Common.{◌≡◌, ℕ, ◌&&◌, ◌||◌, ◌+◌, ◌-◌, not, nat_le, nat_lt, Bool, true, false, if◌then◌else◌}
+use Rattle.std.proofs.Common.{Some, None, is_some, List, [], ◌∷◌, length, inl, inr, sym, ◌∙◌, ap, refl}
 use Rattle.std.specs.Prelude.{unwrap_or}
 use Rattle.std.specs.List.{list_any}
 use Rattle.dfs_base.specs.Image.{byte_at}
@@ -10,7 +9,6 @@ use Rattle.dfs_base.specs.declared.ids.HostId.{HostId}
 use Rattle.dfs_calls.specs.declared.call.Call.{Call}
 use Rattle.dfs_calls.specs.declared.call.Call.TheVariants.{Write}
 use Rattle.dfs_needs.specs.Looks.{View}
-use Rattle.dfs_needs.specs.Calls.{written_value}
 use Rattle.rpc_types.specs.declared.message.Body.{Body}
 use Rattle.rpc_types.specs.declared.message.Body.TheVariants.{Grant}
 use Rattle.script_lines.specs.declared.script.Script.{Script}
@@ -21,12 +19,12 @@ use Rattle.world_steps.specs.declared.applied.Answer.{Answer}
 use Rattle.world_steps.specs.declared.step.Cause.{Cause}
 use Rattle.world_steps.specs.declared.step.Cause.TheVariants.{Message as Came}
 use Rattle.world_steps.specs.declared.step.Step.{Step}
-use Rattle.world_host.specs.Dirty.{gives_at, is_dirty, writes_at, writes_byte}
+use Rattle.world_host.specs.Dirty.{is_dirty, writes_at, writes_byte}
 use Rattle.world_host.specs.Views.{after_answer, after_answers, is_shown, told_by as told_in_view, told_by_body}
 use Rattle.world_host.specs.Views.{shown_by, writes_to, written_by as written_in_view, view as host_view}
 use Rattle.world_host.specs.Views.{sees as host_sees}
 use Rattle.world_places.specs.Contents.{Contents, view, sees, dirty}
-use Rattle.world_shows.specs.Steps.{Written, written_by, written_in, written_at, wrote, told_by, told_in, shown}
+use Rattle.world_shows.specs.Steps.{written_by, written_in, written_at, wrote, told_by, told_in, shown}
 use Rattle.world_shows.specs.Steps.{HostRun, IsOfJournal}
 
 -- what a step shows

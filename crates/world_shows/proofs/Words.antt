@@ -1,7 +1,6 @@
 -- The journal's words and those of contents.
-use Rattle.std.proofs.Common.{◌≡◌, ℕ, ◌⊎◌, ◌&&◌, ◌||◌, ◌==◌, not, nat_le, nat_lt, Bool, true, false, if◌then◌else◌}
-use Rattle.std.proofs.Common.{Option, Some, None, is_some, List, [], ◌∷◌, inl, inr, sym, ◌∙◌, ap, subst, refl}
-use Rattle.std.specs.Prelude.{unwrap_or}
+use Rattle.std.proofs.Common.{◌≡◌, ℕ, ◌&&◌, ◌||◌, Bool, true, false}
+use Rattle.std.proofs.Common.{Option, Some, None, is_some, List, [], ◌∷◌, inl, inr, sym, ◌∙◌, ap, refl}
 use Rattle.std.specs.List.{list_any}
 use Rattle.std.proofs.lemmas.Bool.{and_parts, false≢true}
 use Rattle.dfs_base.specs.declared.ids.Fid.{Fid}
@@ -10,10 +9,8 @@ use Rattle.dfs_base.specs.Ids.{same_fid}
 use Rattle.dfs_base.specs.Spans.{has_byte}
 use Rattle.tok_types.specs.declared.token.Kind.{Kind}
 use Rattle.tok_types.specs.declared.token.Kind.TheVariants.{Bytes, Status, Lock, Opening}
-use Rattle.tok_types.specs.declared.token.Token.{Token}
 use Rattle.rpc_types.specs.declared.giving.Give.{Give}
-use Rattle.tree_laws.specs.Parts.{Part, Seen}
-use Rattle.tree_laws.specs.Parts.Part.{ByteAt, Size, Traits, Entries}
+use Rattle.tree_laws.specs.Parts.Part.{ByteAt, Size}
 use Rattle.tree_laws.proofs.Steps.{fid_is}
 use Rattle.dfs_tree.proofs.Followed.{same_fid_itself}
 use Rattle.dfs_needs.specs.Shows.{shows, is_update}
