@@ -29,6 +29,7 @@ use Rattle.world_steps.specs.Acts.Act.{Took, Sent}
 use Rattle.world_steps.specs.Hosts.{Away, TakesOf}
 use Rattle.world_steps.specs.Grants.{Brings, Applied, Applies}
 use Rattle.world_steps.specs.ServerTokens.{MayBring, ServerTokens}
+use Rattle.world_doings.proofs.Words.{taken_is, taken_live}
 use Rattle.world_steps.proofs.Owed.{Owed}
 use Rattle.world_steps.proofs.Invariant.{Alone}
 use Rattle.world_steps.proofs.Law.{AtServer}
@@ -47,15 +48,6 @@ use Rattle.world_places.proofs.Cells.{left_size, left_none, size_stored, unsaved
 use Rattle.world_places.proofs.Invariant.{Alike, IsDirectory, Open, Leaving, Pending, Shown, Treed, Writes, conflict_at}
 use Rattle.world_places.proofs.Invariant.{alone_there, pending_owned, owner_writes, open_writes, mine_writes, barred}
 use Rattle.world_places.proofs.Invariant.{applied_below}
-
--- a message that is taken comes from a host that isn't away
-taken_is : (v : ServerId) (S : List Act) (a : Act) (h : HostId) (fs : FilesetId) (b : Body) → TakesOf v S a h fs b
-    → (n : ℕ) × (a ≡ Took h (epoch S) n b)
-taken_is v S a h fs b (n, here, (is, (listed, live))) = (n, is)
-
-taken_live : (v : ServerId) (S : List Act) (a : Act) (h : HostId) (fs : FilesetId) (b : Body) → TakesOf v S a h fs b
-    → Away S h → ⊥
-taken_live v S a h fs b (n, here, (is, (listed, live))) = live
 
 -- the doing and what is so before it
 pub record Doing (c : Contents) (own_of : HostId

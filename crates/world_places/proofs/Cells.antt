@@ -4,7 +4,6 @@ use Rattle.std.proofs.Common.{None, is_some, inl, inr, sym, ap, refl, ◌∙◌,
 use Rattle.std.specs.Prelude.{unwrap_or}
 use Rattle.std.proofs.lemmas.Bool.{eqb-false}
 use Rattle.dfs_base.specs.declared.ids.HostId.{HostId}
-use Rattle.dfs_base.specs.declared.ids.ServerId.{ServerId}
 use Rattle.tree_laws.specs.Fates.{without, size_left}
 use Rattle.tree_laws.specs.Parts.{Part, Seen, Written, Cell, present}
 use Rattle.tree_laws.specs.Parts.Part.{ByteAt, Size, Traits, Entries}
@@ -175,20 +174,3 @@ pub none_stays : (p : Part) (d : Does (Seen p)) (cell : Cell (Seen p)) → cell.
     → (cell_after p d cell).unsaved ≡ None
 none_stays p d cell e = none_of (cell_after p d cell).unsaved
     (λ u q. none_some cell.unsaved u e (unsaved_was p d cell u q).0)
-
--- a choice by whether two nodes are the same
-pub host_split : {X : Type 0} (P : X → Type 0) (k h : HostId) (new old : X) → (k ≡ h → P new) → ((k ≡ h → ⊥) → P old)
-    → P (if k.0 == h.0 then new else old)
-host_split {X} P k h new old same other = go (k.0 == h.0) refl
-  where
-    go : (b : Bool) → (k.0 == h.0) ≡ b → P (if b then new else old)
-    go true e = same (ap (λ (n : ℕ). record { 0 = n }) (eqb-true k.0 h.0 e))
-    go false e = other (λ q. eqb-false k.0 h.0 e (ap (λ (j : HostId). j.0) q))
-
-pub server_split : {X : Type 0} (P : X → Type 0) (k v : ServerId) (new old : X) → (k ≡ v → P new)
-    → ((k ≡ v → ⊥) → P old) → P (if k.0 == v.0 then new else old)
-server_split {X} P k v new old same other = go (k.0 == v.0) refl
-  where
-    go : (b : Bool) → (k.0 == v.0) ≡ b → P (if b then new else old)
-    go true e = same (ap (λ (n : ℕ). record { 0 = n }) (eqb-true k.0 v.0 e))
-    go false e = other (λ q. eqb-false k.0 v.0 e (ap (λ (j : ServerId). j.0) q))

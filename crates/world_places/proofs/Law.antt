@@ -35,7 +35,8 @@ use Rattle.world_places.specs.Contents.{ServerShows, IsWritable}
 use Rattle.world_places.specs.Legal.{Cells, cells_after, cells_served, first_deed, served, served_after, tree}
 use Rattle.world_places.specs.Legal.{tree_after, StepShows, ContentsRun, LegalDoings, LegalStep, Legal, SeesPresent}
 use Rattle.world_places.specs.Legal.{KeepsTree, IsOnItsWay, Unstored, LosesExactly, LiesInside}
-use Rattle.world_places.proofs.Cells.{by_same, value_is, host_split, server_split}
+use Rattle.world_doings.proofs.Words.{host_split, server_split}
+use Rattle.world_places.proofs.Cells.{by_same, value_is}
 use Rattle.world_places.proofs.Invariant.{Alike, Open, Shown, Treed, mine_writes}
 use Rattle.world_places.proofs.SeenStep.{seen_step}
 use Rattle.world_places.proofs.OwnStep.{Own, hand_is, foreign}
