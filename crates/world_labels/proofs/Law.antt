@@ -67,14 +67,14 @@ labels_step A s old rules = record { use_owned = owned; kept_use = kept }
     owned u (inr x) = (
       inr (old.use_owned u x.0),
       λ q. elim q [
-        | inl m ↦ x.2 m.0 m.1 (rules.makes_ends m.0 u m.1 x.0 m.2)
-        | inr r ↦ rules.returns_idle u.token.id r (u, x.0, refl)
+        | inl m ↦ x.2 m.0 m.1 (rules.stay.makes_ends m.0 u m.1 x.0 m.2)
+        | inr r ↦ rules.stay.returns_idle u.token.id r (u, x.0, refl)
       ],
     )
 
     kept : (i : TokenId) → HasKept (s ∷ A) i → (IsUsed (s ∷ A) i → ⊥)
         → (((g : Give) × Made (s ∷ A) g × In i g.ids) → ⊥) → ⊥
-    kept i (inl q) never none = never (rules.keeps i q)
+    kept i (inl q) never none = never (rules.stay.keeps i q)
     kept i (inr q) never none =
         old.kept_use i q
         (λ x. never (
@@ -121,7 +121,7 @@ module _ (h : HostId) (v : ServerId) (A : List Step) (S : List Act) (s : Step) (
         | inl usage ↦ elim (is_named u.token.id s.made) [
           | inl g ↦ inr (
             g.0,
-            record { made = inl g.1; gives = rules.makes_ends g.0 u g.1 usage g.2; not_applied = not_yet g.0 g.1 },
+            record { made = inl g.1; gives = rules.stay.makes_ends g.0 u g.1 usage g.2; not_applied = not_yet g.0 g.1 },
             inr (owns_ever A u.token (labels.use_owned u usage)),
           )
           | inr none ↦ inl (inr (usage, x.1, λ g m k. none g m k.3))
@@ -141,14 +141,14 @@ module _ (h : HostId) (v : ServerId) (A : List Step) (S : List Act) (s : Step) (
       → (Applied v S h (number_of g) → ⊥) → (Away S h → ⊥)
       → ((u : Labelled) → u.token.id ≡ i → GivesUse g u → now u → ⊥) → ⊥
   kept_locked' g i at m n (inl q) not live never =
-      let u = rules.keeps i q in
+      let u = rules.stay.keeps i q in
       let here : u.0.token.id.server ≡ v = ap (λ (j : TokenId). j.server) u.2 ∙ at in
       (next.held u.0.token here (labels'.use_owned u.0 u.1)).stays
       (made_left (s ∷ A) g u.0.token.id m (subst (λ j. In j g.ids) (sym u.2) n))
   kept_locked' g i at (inl m) n (inr q) not live never =
       labels.kept_use i q
       (λ u.
-      let gives = rules.makes_ends g u.0 m u.1 (subst (λ j. In j g.ids) (sym u.2) n) in
+      let gives = rules.stay.makes_ends g u.0 m u.1 (subst (λ j. In j g.ids) (sym u.2) n) in
       let here : u.0.token.id.server ≡ v = ap (λ (j : TokenId). j.server) u.2 ∙ at in
       never u.0 u.2 gives (inr (old.use_locked u.0 here u.1 live, λ e. rules.ends_apart u.0 g e m gives)))
       (λ k.

@@ -24,15 +24,20 @@ use Rattle.world_steps.specs.Tokens.{Owns}
 use Rattle.world_steps.specs.declared.step.Labelled.{Labelled}
 use Rattle.world_steps.specs.declared.step.Step.{Step}
 
+-- what becomes of tokens in use
+pub record UsesStay (past : List Step) (s : Step) : Type 0 where
+  -- one isn't returned, and a give-back that names it ends its use
+  pub returns_idle : (i : TokenId) → Returns s i → IsUsed past i → ⊥
+  pub makes_ends : (g : Give) (u : Labelled) → In g s.made → InUse past u → In u.token.id g.ids → GivesUse g u
+  -- a Kept names one
+  pub keeps : (i : TokenId) → Keeps s i → IsUsed (s ∷ past) i
+
 -- what a host's step may do with labels
 pub record HostUses (past : List Step) (s : Step) : Type 0 where
   -- a label begins with a token that stays
   pub begins : (u : Labelled) → In u s.begun → Owns (s ∷ past) u.token
-  -- a token in use isn't returned, and a give-back that names it ends its use
-  pub returns_idle : (i : TokenId) → Returns s i → IsUsed past i → ⊥
-  pub makes_ends : (g : Give) (u : Labelled) → In g s.made → InUse past u → In u.token.id g.ids → GivesUse g u
-  -- a Kept names a token in use; the host itself doesn't end the last use of one that a Kept named
-  pub keeps : (i : TokenId) → Keeps s i → IsUsed (s ∷ past) i
+  pub stay : UsesStay past s
+  -- the host itself doesn't end the last use of a token that a Kept named
   pub ends : (u : Labelled) → EndsUse s u → InUse past u → HasKept past u.token.id
       → (IsUsed (s ∷ past) u.token.id → ⊥) → ⊥
   -- nor a use that a give-back of the step, or one on its way, ends

@@ -4,6 +4,7 @@ use Rattle.dfs_base.specs.declared.ids.Fid.{Fid}
 use Rattle.tree_laws.specs.Parts.{Part}
 use Rattle.world_host.specs.Dirty.{is_dirty}
 use Rattle.world_host.specs.Views.{sees as host_sees}
+use Rattle.world_labels.specs.Uses.{UsesStay}
 use Rattle.world_places.specs.Contents.{FetchesSo, GivesShow, TakesShow, WritesGrow, dirty, sees}
 use Rattle.world_shows.proofs.Views.{sees_same, dirty_same}
 use Rattle.world_shows.proofs.Gives.{gives_show}
@@ -22,4 +23,9 @@ returns c = record {
   grown = in_runs WritesGrow (λ c script host past s same run m. writes_grow c same script host past s run m);
   asks = in_runs FetchesSo (λ c script host past s same run m. fetches_so c same script host past s run m);
   gives = in_runs GivesShow (λ c script host past s same run m. gives_show c same script host past s run m);
+  uses = in_runs (λ c past s. UsesStay past s) (λ c script host past s same run m. record {
+    returns_idle = m.revoked.returns_idle;
+    makes_ends = m.gives.ends_used;
+    keeps = λ i q. (m.revoked.keeps i q).1;
+  });
 }
