@@ -5,3 +5,4 @@ pub mod Takes
 pub mod Writes
 pub mod Asks
 pub mod Runs
+pub mod Sends

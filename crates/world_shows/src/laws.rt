@@ -5,7 +5,10 @@ ghost use Rattle.world_host.specs.Dirty.{is_dirty};
 ghost use Rattle.world_host.specs.Views.{sees as host_sees};
 ghost use Rattle.world_labels.specs.Uses.{UsesStay};
 ghost use Rattle.world_places.specs.Contents.{FetchesSo, GivesShow, TakesShow, WritesGrow, dirty, sees};
-ghost use Rattle.world_shows.specs.Laws.{HoldsInRuns};
+ghost use Rattle.script_lines.specs.declared.script.Script.{Script};
+ghost use Rattle.world_core.specs.Runs.{IsRun, firsts_of, past_of};
+ghost use Rattle.world_journal.specs.declared.journal.Journal.{Journal};
+ghost use Rattle.world_shows.specs.Laws.{DonesShowNothing, HoldsInRuns};
 
 /// In each step of a host, in every run: what the rules of contents call seen and dirty is what the host sees and has
 /// dirty; what is shown is what the used Grant tells under the tokens that are taken, and nothing stays outstanding
@@ -21,4 +24,11 @@ pub fn hosts_show_what_they_are_told()
     ensures grown { HoldsInRuns WritesGrow }
     ensures asks { HoldsInRuns FetchesSo }
     ensures uses { HoldsInRuns (λ c past s. UsesStay past s) }
+{}
+
+/// In every run each Done that a server sends brings no token that shows a part of an object, but where it repeats one
+/// that it sent before.
+pub fn dones_show_nothing()
+    ensures { (script : Script) (journal : Journal)
+        → IsRun script journal → DonesShowNothing (firsts_of journal) (past_of journal) }
 {}

@@ -5,4 +5,4 @@
 
 mod laws;
 
-pub use laws::hosts_show_what_they_are_told;
+pub use laws::{dones_show_nothing, hosts_show_what_they_are_told};
