@@ -6,3 +6,4 @@ pub mod Writes
 pub mod Asks
 pub mod Runs
 pub mod Sends
+pub mod Grants

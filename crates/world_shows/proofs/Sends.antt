@@ -1,6 +1,6 @@
 -- What a server's Dones bring.
-use Rattle.std.proofs.Common.{◌≡◌, ℕ, ◌⊎◌, Bool, true, false, if◌then◌else◌, Option, Some, None, List, [], ◌∷◌, inl, inr}
-use Rattle.std.proofs.Common.{sym, ◌∙◌, ap, subst, refl}
+use Rattle.std.proofs.Common.{◌≡◌, ℕ, Bool, true, false, if◌then◌else◌, Option, Some, None, List, [], ◌∷◌, inl, inr}
+use Rattle.std.proofs.Common.{sym, subst, refl}
 use Rattle.std.proofs.lemmas.Bool.{false≢true}
 use Rattle.std.specs.Option.{option_map_or}
 use Rattle.std.specs.Prelude.{Err, Ok, Result, nat_lt, ◌+◌}
@@ -22,7 +22,6 @@ use Rattle.dfs_filesets.specs.Checks.{unless}
 use Rattle.dfs_filesets.specs.Uses.{lock_target, open_target}
 use Rattle.dfs_filesets.specs.declared.fileset.Fileset.{Fileset}
 use Rattle.dfs_objects.specs.Spans.{span_between}
-use Rattle.dfs_needs.specs.Questions.{fileset_of}
 use Rattle.dfs_needs.specs.Shows.{shows}
 use Rattle.dfs_tree.specs.Finding.{fileset_named}
 use Rattle.dfs_tree.specs.declared.tree.Tree.{Tree}
@@ -33,7 +32,6 @@ use Rattle.rpc_types.specs.declared.message.Message.{Message}
 use Rattle.rpc_types.specs.declared.telling.Done.{Done as DoneOf}
 use Rattle.script_lines.specs.declared.script.Script.{Script}
 use Rattle.tok_types.specs.Conflicts.{need_of}
-use Rattle.tok_types.specs.declared.token.Kind.{Kind}
 use Rattle.tok_types.specs.declared.token.Kind.TheVariants.{Lock, Opening}
 use Rattle.tok_types.specs.declared.token.Need.{Need}
 use Rattle.tok_types.specs.declared.token.Token.{Token}

@@ -5,10 +5,13 @@ use Rattle.dfs_base.specs.declared.ids.Node.{Node}
 use Rattle.dfs_base.specs.declared.ids.Node.TheVariants.{Host, Server}
 use Rattle.dfs_base.specs.declared.ids.ServerId.{ServerId}
 use Rattle.dfs_needs.specs.Shows.{shows}
-use Rattle.rpc_types.specs.declared.message.Body.TheVariants.{Done}
+use Rattle.rpc_types.specs.declared.asking.Fetch.{Fetch as FetchOf}
+use Rattle.rpc_types.specs.declared.message.Body.TheVariants.{Done, Fetch, Grant}
 use Rattle.rpc_types.specs.declared.message.Message.{Message}
 use Rattle.rpc_types.specs.declared.telling.Done.{Done as DoneOf}
+use Rattle.rpc_types.specs.declared.telling.Grant.{Grant as GrantOf}
 use Rattle.script_lines.specs.declared.script.Script.{Script}
+use Rattle.tok_types.specs.Conflicts.{need_of}
 use Rattle.tok_types.specs.declared.token.Token.{Token}
 use Rattle.tree_laws.specs.Parts.{Part}
 use Rattle.world_core.specs.Runs.{IsRun, past_of}
@@ -18,6 +21,7 @@ use Rattle.world_places.specs.Contents.{Contents}
 use Rattle.world_shows.specs.Steps.{HostRun, IsOfJournal}
 use Rattle.world_steps.specs.Acts.Act.{Sent}
 use Rattle.world_steps.specs.Acts.{Act, SentTo, acts, admitted_by}
+use Rattle.world_steps.specs.Hosts.{TookNow}
 use Rattle.world_steps.specs.Lists.{In}
 use Rattle.world_steps.specs.Nodes.{own}
 use Rattle.world_steps.specs.declared.step.Step.{Step}
@@ -64,3 +68,18 @@ SentAtNode firsts (Server v) past s = EachSent DonesAreBlind s.sent (admitted_by
 abbrev pub DonesShowNothing : (ServerId → ℕ) → List Step → Type 0
 DonesShowNothing firsts [] = Unit {0}
 DonesShowNothing firsts (s ∷ past) = DonesShowNothing firsts past × SentAtNode firsts s.node past s
+
+-- a Grant brings tokens that a Fetch asks for, which was taken in this epoch
+abbrev pub GrantsAreAsked : List Act → Act → Type 0
+GrantsAreAsked past a =
+    (h : HostId) (e n : ℕ) (g : GrantOf) → a ≡ Sent h e n (Grant g)
+    → (f : FetchOf) × (k : ℕ) × TookNow past h k (Fetch f) × (f.number ≡ g.bring.number) × (f.fid ≡ g.bring.fid)
+    × ((t : Token) → In t g.bring.tokens → In (need_of t) f.needs)
+
+abbrev pub GrantsAtNode : (ServerId → ℕ) → Node → List Step → Step → Type 0
+GrantsAtNode firsts (Host host) past s = Unit {0}
+GrantsAtNode firsts (Server v) past s = EachSent GrantsAreAsked s.sent (admitted_by s (acts (firsts v) v past))
+
+abbrev pub GrantsBringNeeds : (ServerId → ℕ) → List Step → Type 0
+GrantsBringNeeds firsts [] = Unit {0}
+GrantsBringNeeds firsts (s ∷ past) = GrantsBringNeeds firsts past × GrantsAtNode firsts s.node past s

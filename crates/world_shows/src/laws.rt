@@ -8,7 +8,7 @@ ghost use Rattle.world_places.specs.Contents.{FetchesSo, GivesShow, TakesShow, W
 ghost use Rattle.script_lines.specs.declared.script.Script.{Script};
 ghost use Rattle.world_core.specs.Runs.{IsRun, firsts_of, past_of};
 ghost use Rattle.world_journal.specs.declared.journal.Journal.{Journal};
-ghost use Rattle.world_shows.specs.Laws.{DonesShowNothing, HoldsInRuns};
+ghost use Rattle.world_shows.specs.Laws.{DonesShowNothing, GrantsBringNeeds, HoldsInRuns};
 
 /// In each step of a host, in every run: what the rules of contents call seen and dirty is what the host sees and has
 /// dirty; what is shown is what the used Grant tells under the tokens that are taken, and nothing stays outstanding
@@ -26,9 +26,11 @@ pub fn hosts_show_what_they_are_told()
     ensures uses { HoldsInRuns (λ c past s. UsesStay past s) }
 {}
 
-/// In every run each Done that a server sends brings no token that shows a part of an object, but where it repeats one
-/// that it sent before.
-pub fn dones_show_nothing()
-    ensures { (script : Script) (journal : Journal)
+/// In every run each Grant that a server sends brings tokens that a Fetch asks for, which it took from the host in this
+/// epoch; and each Done brings no token that shows a part of an object, but where it repeats one that was sent before.
+pub fn servers_bring_what_is_asked()
+    ensures grants { (script : Script) (journal : Journal)
+        → IsRun script journal → GrantsBringNeeds (firsts_of journal) (past_of journal) }
+    ensures dones { (script : Script) (journal : Journal)
         → IsRun script journal → DonesShowNothing (firsts_of journal) (past_of journal) }
 {}
