@@ -1,10 +1,11 @@
 -- What the network does with messages, by the plan of a script, and when a journal keeps to it.
-use Rattle.std.specs.List.{find}
+use Rattle.std.specs.List.{find, list_any}
 use Rattle.std.specs.Option.{option_map_or}
 use Rattle.std.specs.Prelude.{Bool, List, None, Option, Some, [], count_by, flat_map, if◌then◌else◌, nat_lt, not, suc}
-use Rattle.std.specs.Prelude.{ℕ, ◌%◌, ◌&&◌, ◌++◌, ◌+◌, ◌-◌, ◌==◌, ◌∷◌, ◌≡◌, ◌≤◌, ◌⊎◌}
+use Rattle.std.specs.Prelude.{ℕ, ◌%◌, ◌&&◌, ◌++◌, ◌+◌, ◌-◌, ◌==◌, ◌∷◌, ◌||◌, ◌≡◌, ◌≤◌, ◌⊎◌}
 use Rattle.dfs_base.specs.declared.ids.Node.{Node}
 use Rattle.dfs_base.specs.declared.ids.ServerId.{ServerId}
+use Rattle.dfs_tree.specs.declared.tree.Tree.{Tree}
 use Rattle.rpc_types.specs.declared.message.Direction.{Direction}
 use Rattle.rpc_types.specs.declared.message.Message.{Message}
 use Rattle.script_lines.specs.declared.script.Net.{Net}
@@ -185,26 +186,37 @@ abbrev pub IsFree : Script → List Step → Option (List ℕ) → Type 0
 IsFree script past None = Unit {0}
 IsFree script past (Some flag) = IsRaised script past flag
 
--- the side that sends again where a message is lost
+-- The side that sends again where a message is lost. The parts of a fileset that moves are sent by the server that it
+-- leaves, to which they are answered.
 abbrev pub resender : Message → Node
 resender m =
-    if nat_lt 5 (kind_of m.body) && nat_lt (kind_of m.body) 9 then Server m.server
-    else if kind_of m.body == 13 then Server m.server
+    if (nat_lt 5 (kind_of m.body) && nat_lt (kind_of m.body) 9) || (kind_of m.body == 13) || (kind_of m.body == 17)
+    then Server m.server
+    else if kind_of m.body == 18 then Server (shipped_to m)
     else Host m.host
 
+-- One lapse is due from the start of a run on: to a server where the start tree has a record with room kept.
+abbrev pub due_first : List Tree → Node → ℕ
+due_first start (Host host) = 0
+due_first start (Server server) =
+    if list_any (λ tree. list_any (λ away. (away.server.0 == server.0) && away.room_kept) tree.away) start then 1 else 0
+
 -- A step whose cause is a message is one of at most as many as the free copies of it that were sent before; a lapse
--- of a node is one of at most as many as the lost messages that make a lapse due to it.
-pub record KeepsPlan (word : ℕ → ℕ → ℕ) (script : Script) (past : List Step) (s : Step) : Type 0 where
+-- of a node is one of at most as many as are due to it: one at most from the start on, and one for each lost message
+-- that it has to send again.
+pub record KeepsPlan (word : ℕ → ℕ → ℕ) (script : Script) (start : List Tree) (past : List Step) (s : Step)
+    : Type 0 where
   pub copies : (m : Message) (n k : ℕ) → s.cause ≡ Came m → Counted (λ (t : Step). t.cause ≡ Came m) (s ∷ past) n
       → Counted (λ (c : Copy). (c.message ≡ m) × IsFree script past c.flag)
       (flat_map copies_of (posted word script past)) k → n ≤ k
   pub lapses : (n k : ℕ) → s.cause ≡ Lapse → Counted (λ (t : Step). (t.node ≡ s.node) × (t.cause ≡ Lapse)) (s ∷ past) n
-      → Counted (λ (p : Posted). (p.copies ≡ []) × (resender p.message ≡ s.node)) (posted word script past) k → n ≤ k
+      → Counted (λ (p : Posted). (p.copies ≡ []) × (resender p.message ≡ s.node)) (posted word script past) k
+      → n ≤ due_first start s.node + k
 
-abbrev pub KeepPlan : (ℕ → ℕ → ℕ) → Script → List Step → Type 0
-KeepPlan word script [] = Unit {0}
-KeepPlan word script (s ∷ past) = KeepPlan word script past × KeepsPlan word script past s
+abbrev pub KeepPlan : (ℕ → ℕ → ℕ) → Script → List Tree → List Step → Type 0
+KeepPlan word script start [] = Unit {0}
+KeepPlan word script start (s ∷ past) = KeepPlan word script start past × KeepsPlan word script start past s
 
 -- a journal is planned by a script; `word` gives the words of a seed
 abbrev pub IsPlanned : (ℕ → ℕ → ℕ) → Script → Journal → Type 0
-IsPlanned word script journal = KeepPlan word script (past_of journal)
+IsPlanned word script journal = KeepPlan word script journal.start (past_of journal)

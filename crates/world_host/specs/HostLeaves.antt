@@ -38,20 +38,30 @@ helps kind needed = kind_covers kind needed
 abbrev pub helps_cover : Token → Need → Bool
 helps_cover token need = same_fid token.fid need.fid && helps token.kind need.kind
 
--- the step uses the token: it takes it, or answers a call whose need, made on the host's view, it covers or helps to
--- cover
+-- from where the host stands, the token covers or helps to cover a need of a call that the step answers
+abbrev pub HelpsAnswer :
+    (roster : Roster) (host : HostId) (past : List Step) (s : Step) → Stance roster host past s → Token → Type 0
+HelpsAnswer roster host past s stance token =
+    (a : Answer) × (need : Need) × In a s.answers × In need (needs_in roster host past s stance a.call)
+    × IsTrue (helps_cover token need)
+
+-- the step uses the token: it takes it, or answers by it
 abbrev pub UsesToken : Roster → HostId → List Step → Step → Token → Type 0
 UsesToken roster host past s token =
-    In token s.taken
-    ⊎ ((a : Answer) × (stance : Stance roster host past s) × (need : Need) × In a s.answers
-    × In need (needs_in roster host past s stance a.call) × IsTrue (helps_cover token need))
+    In token s.taken ⊎ ((stance : Stance roster host past s) × HelpsAnswer roster host past s stance token)
+
+-- it does neither
+abbrev pub OmitsToken : Roster → HostId → List Step → Step → Token → Type 0
+OmitsToken roster host past s token =
+    (In token s.taken → ⊥)
+    × ((stance : Stance roster host past s) × (HelpsAnswer roster host past s stance token → ⊥))
 
 -- the token was last used when the host had made so many steps
 abbrev pub LastUsed : Roster → HostId → List Step → Token → ℕ → Type 0
 LastUsed roster host [] token n = ⊥
 LastUsed roster host (s ∷ past) token n =
     (UsesToken roster host past s token × (n ≡ suc (length past)))
-    ⊎ ((UsesToken roster host past s token → ⊥) × LastUsed roster host past token n)
+    ⊎ (OmitsToken roster host past s token × LastUsed roster host past token n)
 
 -- the token is held and isn't in use
 abbrev pub IsIdle : List Step → Token → Type 0

@@ -1,5 +1,5 @@
 -- A host's lines, and how it ends.
-use Rattle.std.specs.Prelude.{List, [], length, suc, ℕ, ◌∷◌, ◌≡◌, ◌⊎◌}
+use Rattle.std.specs.Prelude.{List, None, [], length, suc, ℕ, ◌∷◌, ◌≡◌, ◌⊎◌}
 use Rattle.dfs_base.specs.declared.ids.ServerId.{ServerId}
 use Rattle.dfs_calls.specs.declared.call.Call.{Call}
 use Rattle.script_lines.specs.declared.script.Deed.{Deed}
@@ -25,13 +25,15 @@ use Rattle.script_lines.specs.declared.script.Deed.TheVariants.{
 }
 use Rattle.world_steps.specs.declared.step.Cause.TheVariants.{Line as LineOf, Restart, Evict, End, Flushed}
 
--- What a line makes a host do. A call has the next number. A stop says Down to each server, and drops what is held.
+-- What a line makes a host do. A call has the next number. A stop says Down to each server and drops what is held, and
+-- in it no call is begun or answered, and nothing is given back.
 abbrev pub DoesDeed : List ServerId → List Step → Step → Deed → Type 0
 DoesDeed servers past s (MakesCall call) = Begins s (suc (calls_begun past)) call
 DoesDeed servers past s (Raise flag) = IsBare s
 DoesDeed servers past s (Await flag) = IsBare s
 DoesDeed servers past s Stop =
     ((v : ServerId) → In v servers → (e n : ℕ) × Sends s v e n Down) × ((t : Token) → Held past t → Drops s t)
+    × (s.asked ≡ None) × (s.answers ≡ []) × (s.made ≡ [])
 DoesDeed servers past s Restarts = ⊥
 
 pub record HostLines (lines : List Line) (servers : List ServerId) (limit : ℕ) (past : List Step) (s : Step)
