@@ -24,18 +24,21 @@ use Rattle.world_server.specs.ServerSends.{GrantsSo, MaySendEach}
 use Rattle.world_server.specs.Wants.{Waits, body_of}
 use Rattle.world_shows.specs.Laws.{EachSent, GrantsAreAsked, GrantsAtNode, GrantsBringNeeds}
 use Rattle.world_steps.specs.Acts.Act.{Admits, Begins, Flushes, Reserves, Sent, Took, Wants, Writes}
-use Rattle.world_steps.specs.Acts.{Act, acts, acts_after, admitted_by, after_admitted, after_cause, after_sent, after_step}
+use Rattle.world_steps.specs.Acts.{Act, acts, acts_after, admitted_by, after_admitted, after_cause, after_sent}
+use Rattle.world_steps.specs.Acts.{after_step}
 use Rattle.world_steps.specs.Acts.{after_written, epoch, sent_by, written_by}
 use Rattle.world_steps.specs.Hosts.{IsBegin, TookNow}
 use Rattle.world_steps.specs.Lists.{In}
 use Rattle.world_steps.specs.Nodes.{served}
 use Rattle.world_steps.specs.declared.applied.Admission.{Admission}
 use Rattle.world_steps.specs.declared.applied.Applied.{Applied}
-use Rattle.world_steps.specs.declared.applied.Applied.TheVariants.{Done as IsDone, Ends, IsDown, Stored, Wants as IsWanted}
+use Rattle.world_steps.specs.declared.applied.Applied.TheVariants.{Done as IsDone, Ends, IsDown, Stored}
+use Rattle.world_steps.specs.declared.applied.Applied.TheVariants.{Wants as IsWanted}
 use Rattle.world_steps.specs.declared.applied.Request.{Request}
 use Rattle.world_steps.specs.declared.applied.Wanted.{Wanted}
 use Rattle.world_steps.specs.declared.step.Cause.{Cause}
-use Rattle.world_steps.specs.declared.step.Cause.TheVariants.{End, Evict, Flushed, Lapse, Line, Message as Came, Restart}
+use Rattle.world_steps.specs.declared.step.Cause.TheVariants.{End, Evict, Flushed, Lapse, Line, Message as Came}
+use Rattle.world_steps.specs.declared.step.Cause.TheVariants.{Restart}
 use Rattle.world_steps.specs.declared.step.Step.{Step}
 use Rattle.world_steps.proofs.Words.{if_server}
 
@@ -176,7 +179,8 @@ module _ (script : Script) (start : Tree) (v : ServerId) (steps : List Step) (S 
   )
 
   all_sent : EachSent GrantsAreAsked s.sent (admitted_by s S)
-  all_sent = each_sent (kept_through s.cause s.applied (kept start v steps)) s.sent (admitted_by s S) admitted m.works.sends
+  all_sent = each_sent (kept_through s.cause s.applied (kept start v steps)) s.sent
+      (admitted_by s S) admitted m.works.sends
 
 module _ (script : Script) (start : Tree) (firsts : ServerId → ℕ) where
   first : (v : ServerId) → AllTaken (Begins (firsts v) ∷ [])

@@ -14,8 +14,8 @@ ghost use Rattle.world_shows.specs.Laws.{DonesShowNothing, GrantsBringNeeds, Hol
 /// dirty; what is shown is what the used Grant tells under the tokens that are taken, and nothing stays outstanding
 /// then; a give-back has, once each, what is dirty as the host sees it, under tokens that it names, while all that is
 /// dirty stays under a token or is given back; what is written is written when nothing is asked for, while a size only
-/// grows; a Fetch is a repeat of an outstanding one, or has a new number and asks for nothing of a file that is held for
-/// update, nor of one of which something is on its way back; and a token in use stays until its use ends.
+/// grows; a Fetch is a repeat of an outstanding one, or has a new number and asks for nothing of a file that is held
+/// for update, nor of one of which something is on its way back; and a token in use stays until its use ends.
 pub fn hosts_show_what_they_are_told()
     ensures seen { HoldsInRuns (λ c past s. (f : Fid) (p : Part) → sees c past s f p ≡ host_sees past s f p) }
     ensures dirty { HoldsInRuns (λ c past s. (f : Fid) (at : ℕ) → dirty c past f at ≡ is_dirty past f at) }
