@@ -1,5 +1,5 @@
 -- A host at rest meets all its rules in a lapse in which it does nothing.
-use Rattle.std.proofs.Common.{List, inl, inr, length, refl, ℕ, ◌∷◌}
+use Rattle.std.proofs.Common.{List, arith, inl, inr, length, refl, ℕ, ◌∷◌}
 use Rattle.dfs_base.specs.declared.ids.FilesetId.{FilesetId}
 use Rattle.dfs_base.specs.declared.ids.HostId.{HostId}
 use Rattle.dfs_base.specs.declared.ids.ServerId.{ServerId}
@@ -85,7 +85,7 @@ module _ (roster : Roster) (host : HostId) (past : List Step) (rest : IsAtRest r
     answers_all = λ k call reply t. absurd (none_turn k call t);
     first = λ a m. elim m [ ];
     asked = λ a c m. elim m [ ];
-    answers_one = λ a b m. elim m [ ];
+    answers_one = omega arith;
     answers_alone = λ a fs n m. elim m [ ];
     writes = λ a fid from bytes m. elim m [ ];
     writes_only = λ fid e. absurd (cc);

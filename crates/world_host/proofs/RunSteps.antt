@@ -1,6 +1,6 @@
 -- The host of the small run meets all its rules in each of its steps.
 use Rattle.std.proofs.Common.{Bool, List, None, Option, Some, [], ap, arith, codes, eqb-true, false, if◌then◌else◌}
-use Rattle.std.proofs.Common.{inl, inr, refl, subst, suc, sym, true, ℕ, ◌&&◌, ◌<◌, ◌==◌, ◌↔◌, ◌∙◌, ◌∷◌, ◌≡◌, ◌⊎◌}
+use Rattle.std.proofs.Common.{inl, inr, length, refl, subst, suc, sym, true, ℕ, ◌&&◌, ◌<◌, ◌≤◌, ◌==◌, ◌↔◌, ◌∙◌, ◌∷◌, ◌≡◌, ◌⊎◌}
 use Rattle.std.specs.Prelude.{nat_eq}
 use Rattle.dfs_base.specs.Name.{same_name}
 use Rattle.dfs_base.specs.declared.ids.Fid.{Fid}
@@ -493,7 +493,7 @@ no_answers past s stance none unwritten unbegun turn cant = record {
   answers_all = λ k call reply t can. absurd (cant reply (subst (λ (c : Call). CanAnswer roster client past s stance c reply) (sym (turn k call t)) can));
   first = λ a m. absurd (gone a m);
   asked = λ a c m. absurd (gone a m);
-  answers_one = λ a b m. absurd (gone a m);
+  answers_one = subst (λ (xs : List Answer). length xs ≤ 1) (sym none) (omega arith);
   answers_alone = λ a fs n m. absurd (gone a m);
   writes = λ a fid from bytes m. absurd (gone a m);
   writes_only = λ fid e. absurd (let p = sym unwritten ∙ e in cc);
@@ -799,7 +799,7 @@ module _ (past : List Step) (s : Step) (stance : Stance roster client past s) (k
     answers_all = λ j call reply t c. (answer k is_first, subst (In (answer k is_first)) (sym one_answer) (inl refl), (turn j call t).0);
     first = λ a m. subst (λ (x : Answer). (x.first ≡ true) ⊎ ((x.first ≡ false) × GoesOn past s x.k x.call)) (it a m) was;
     asked = λ a c m e. absurd (let p = sym unasked ∙ e in cc);
-    answers_one = λ a b m n. sym (it a m) ∙ it b n;
+    answers_one = subst (λ (xs : List Answer). length xs ≤ 1) (sym one_answer) (omega arith);
     answers_alone = λ a fs n m. alone fs n;
     writes = λ a fid from bytes m e. absurd (let p = shown a m ∙ e in cc);
     writes_only = λ fid e. absurd (let p = sym unwritten ∙ e in cc);

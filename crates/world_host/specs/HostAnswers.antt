@@ -1,5 +1,5 @@
 -- How a host answers calls: on its view, under the tokens that it has.
-use Rattle.std.specs.Prelude.{Bool, List, Ok, Some, false, true, ℕ, ◌∷◌, ◌≡◌, ◌⊎◌}
+use Rattle.std.specs.Prelude.{Bool, List, Ok, Some, false, length, true, ℕ, ◌∷◌, ◌≡◌, ◌≤◌, ◌⊎◌}
 use Rattle.dfs_base.specs.declared.ids.Fid.{Fid}
 use Rattle.dfs_base.specs.declared.ids.FilesetId.{FilesetId}
 use Rattle.dfs_base.specs.declared.ids.HostId.{HostId}
@@ -74,7 +74,7 @@ pub record HostAnswers
   pub first : (a : Answer) → In a s.answers → (a.first ≡ true) ⊎ ((a.first ≡ false) × GoesOn past s a.k a.call)
   pub asked : (a : Answer) (c : Asked) → In a s.answers → s.asked ≡ Some c → ⊥
   -- at most one call, and no Fetch is outstanding then
-  pub answers_one : (a b : Answer) → In a s.answers → In b s.answers → a ≡ b
+  pub answers_one : length s.answers ≤ 1
   pub answers_alone : (a : Answer) (fileset : FilesetId) (n : ℕ) → In a s.answers → Asking (s ∷ past) fileset n → ⊥
   -- an answered Write changes the file that its walk found, and nothing else does
   pub writes : (a : Answer) (fid : Fid) (from : ℕ) (bytes : List ℕ) → In a s.answers

@@ -1,6 +1,6 @@
 -- What a host sees, and what is dirty, is what the journal's words say.
 use Rattle.std.proofs.Common.{◌≡◌, ℕ, ◌&&◌, ◌||◌, ◌+◌, ◌-◌, not, nat_le, nat_lt, Bool, true, false, if◌then◌else◌}
-use Rattle.std.proofs.Common.{Some, None, is_some, List, [], ◌∷◌, length, inl, inr, sym, ◌∙◌, ap, refl}
+use Rattle.std.proofs.Common.{◌≤◌, arith, suc, Some, None, is_some, List, [], ◌∷◌, length, inl, inr, sym, ◌∙◌, ap, refl}
 use Rattle.std.specs.Prelude.{unwrap_or}
 use Rattle.std.specs.List.{list_any}
 use Rattle.dfs_base.specs.Image.{byte_at}
@@ -142,6 +142,14 @@ writes_same past s f at one = go (writes_to s f) s.answers one
     go true (a ∷ rest) one = byte_some a.call (host_sees past s f Size) at
         ∙ sym (any_rest a rest at (λ b m. one b a (inr m) (inl refl)))
 
+-- a list of at most one has one alone
+one_alone : (xs : List Answer) → length xs ≤ 1 → (a b : Answer) → In a xs → In b xs → a ≡ b
+one_alone [] le a b m n = elim m [ ]
+one_alone (x ∷ []) le a b (inl e) (inl d) = e ∙ sym d
+one_alone (x ∷ []) le a b (inl e) (inr n) = elim n [ ]
+one_alone (x ∷ []) le a b (inr m) n = elim m [ ]
+one_alone (x ∷ y ∷ xs) le a b m n = absurd (let k : suc (suc (length xs)) ≤ 1 = le in omega (arith, k))
+
 module _ (c : Contents) (same : IsOfJournal c) (script : Script) (host : HostId) where
   pub view_same : (past : List Step) → HostRun script host past → (f : Fid) (p : Part)
       → view c past f p ≡ host_view past f p
@@ -152,7 +160,7 @@ module _ (c : Contents) (same : IsOfJournal c) (script : Script) (host : HostId)
       ∙ (ap (λ y. unwrap_or (shown s f p) y) (view_same past run.0 f p) ∙ shown_view s (host_view past) f p) in
       ap (λ o. unwrap_or o (sees c past s f p)) (same.wrote past s f p)
       ∙ (ap (λ y. unwrap_or (wrote past s f p) y) seen
-      ∙ written_view s (host_sees past s) f p run.1.answers.answers_one)
+      ∙ written_view s (host_sees past s) f p (one_alone s.answers run.1.answers.answers_one))
 
   pub sees_same : (past : List Step) → HostRun script host past → (s : Step) (f : Fid) (p : Part)
       → sees c past s f p ≡ host_sees past s f p
@@ -164,6 +172,6 @@ module _ (c : Contents) (same : IsOfJournal c) (script : Script) (host : HostId)
   dirty_same [] run f at = refl
   dirty_same (s ∷ past) run f at =
       ap (λ o. (is_some o || dirty c past f at) && not (c.hands s f at)) (same.wrote past s f (ByteAt at))
-      ∙ (ap (λ b. (b || dirty c past f at) && not (c.hands s f at)) (writes_same past s f at run.1.answers.answers_one)
+      ∙ (ap (λ b. (b || dirty c past f at) && not (c.hands s f at)) (writes_same past s f at (one_alone s.answers run.1.answers.answers_one))
       ∙ (ap (λ b. (writes_at s f at || b) && not (c.hands s f at)) (dirty_same past run.0 f at)
       ∙ ap (λ b. (writes_at s f at || is_dirty past f at) && not b) (same.hands s f at)))
