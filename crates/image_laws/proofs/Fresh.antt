@@ -1,6 +1,6 @@
 -- An aggregate that was just formatted has no faults.
 use Rattle.std.proofs.Common.{◌≡◌, ◌<◌, ◌≤◌, ℕ, zero, suc, ◌+◌, ◌*◌, ◌/◌, List, [], ◌∷◌, ◌++◌, inl, inr, refl, sym, ◌∙◌, ap, arith, ◌⊎◌}
-use Rattle.std.specs.Prelude.{Bool, true, false, ◌&&◌, ◌||◌, ◌==◌, not, nat_le, nat_lt, if◌then◌else◌}
+use Rattle.std.specs.Prelude.{Bool, true, false, ◌&&◌, ◌||◌, ◌==◌, not, nat_le, nat_lt}
 use Rattle.std.specs.List.{list_all}
 use Rattle.std.proofs.lemmas.Bool.{and_from, and_left, and_right, cases_eq, eq-eqb, ne_eqb, le-leb, lt-ltb, cond-true, cond-false, cases_Bool}
 use Rattle.dfs_base.specs.Image.{byte_at, bytes_from}
@@ -11,12 +11,11 @@ use Rattle.ep_pages.specs.Words.{each_below, are_zero}
 use Rattle.ep_pages.specs.Server.{is_taken, is_rest, is_server_page}
 use Rattle.ep_pages.specs.Numbers.{is_record, is_numbers_page}
 use Rattle.ep_pages.specs.Anode.{is_object}
-use Rattle.ep_pages.specs.Header.{state_for, state_of}
-use Rattle.ep_pages.specs.declared.header.SlotState.{SlotState}
+use Rattle.ep_pages.specs.Header.{state_for}
 use Rattle.ep_pages.specs.declared.header.SlotState.TheVariants.{Free}
 use Rattle.ep_image.specs.Joined.{joined, total}
 use Rattle.ep_image.specs.Aggregate.{Aggregate, server_page, page_of, header_page, numbers_page, anode_page, header_number, anode_number}
-use Rattle.ep_image.specs.Slots.{state_at, is_slot_free, is_slot_header, is_slot_numbers, has_root, is_whole, is_first}
+use Rattle.ep_image.specs.Slots.{state_at, is_slot_free, is_slot_header, is_slot_numbers, has_root, is_whole}
 use Rattle.ep_image.specs.Anodes.{unless, is_slot_anode, anode_faults, is_root_place, block_faults}
 use Rattle.ep_image.specs.Reach.{reach_fault, reach_faults}
 use Rattle.ep_image.specs.Counts.{uses_at, uses_of, is_count, is_count_place, is_count_page, count_fault, promise_by, promises, capacity_of, promise_fault}
@@ -26,7 +25,6 @@ use Rattle.ep_pages.proofs.Each.{each_fails}
 use Rattle.ep_image.specs.declared.fault.Fault.{Fault}
 use Rattle.ep_image.specs.declared.fault.Rule.{Rule}
 use Rattle.ep_image.specs.declared.fault.Rule.TheVariants as rules
-use Rattle.ep_image.specs.declared.found.Use.{Use}
 use Rattle.ep_image.proofs.Words.{zeros_pass}
 use Rattle.image_laws.specs.Fresh.{IsEmpty, FreshHasNone, CountIsTold}
 

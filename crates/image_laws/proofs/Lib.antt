@@ -1,2 +1,9 @@
 pub mod Fresh
 pub mod Reached
+pub mod Sums
+pub mod Levels
+pub mod Clean
+pub mod Finding
+pub mod Contents
+pub mod Formed
+pub mod One

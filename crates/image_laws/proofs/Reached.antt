@@ -1,9 +1,9 @@
 -- What is reached from the root.
-use Rattle.std.proofs.Common.{◌≡◌, ℕ, zero, suc, List, [], ◌∷◌, inl, inr, refl, sym, ◌∙◌, ap, ◌⊎◌}
-use Rattle.std.specs.Prelude.{Bool, true, false, ◌&&◌, ◌||◌, ◌==◌}
+use Rattle.std.proofs.Common.{◌≡◌, ℕ, zero, suc, List, [], ◌∷◌, inl, inr, refl, sym, ◌∙◌, ap}
+use Rattle.std.specs.Prelude.{Bool, true, ◌&&◌, ◌||◌, ◌==◌}
 use Rattle.std.specs.List.{list_any, AllByRecursion}
 use Rattle.std.proofs.lemmas.Bool.{and_parts, and_from, or_cases, or_left, or_right, eq-eqb, eqb-true, false≢true}
-use Rattle.ep_image.specs.Reach.{is_within, is_reached}
+use Rattle.ep_image.specs.Reach.{is_within}
 use Rattle.ep_image.specs.declared.found.Link.{Link}
 use Rattle.image_laws.specs.Reached.{IsClosed, ReachIsLeast, RootIsReached, StepsLead}
 

@@ -1,5 +1,5 @@
 -- An aggregate without filesets.
-use Rattle.std.specs.Prelude.{◌≡◌, ◌≤◌, ◌<◌, ℕ, ◌+◌, ◌*◌, ◌/◌, List, []}
+use Rattle.std.specs.Prelude.{◌≡◌, ◌≤◌, ◌<◌, ℕ, ◌+◌, ◌*◌, ◌/◌, []}
 use Rattle.dfs_base.specs.Image.{byte_at}
 use Rattle.ep_layout.specs.Numbers.{number_at}
 use Rattle.ep_layout.specs.Places.{page_start}

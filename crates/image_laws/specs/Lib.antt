@@ -1,2 +1,3 @@
 pub mod Fresh
 pub mod Reached
+pub mod Formed

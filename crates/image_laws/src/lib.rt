@@ -2,6 +2,7 @@
 #![tactic(auto)]
 
 ghost use Rattle.image_laws.specs.Fresh.{FreshHasNone, CountIsTold};
+ghost use Rattle.image_laws.specs.Formed.{FilesetsAreFormed, ImageIsOne};
 ghost use Rattle.image_laws.specs.Reached.{ReachIsLeast, RootIsReached, StepsLead};
 
 /// An aggregate without filesets has no faults where its counts are zero, as after a format. A count that isn't zero is
@@ -16,4 +17,10 @@ pub fn reach_law()
     ensures least { ReachIsLeast }
     ensures root { RootIsReached }
     ensures steps { StepsLead }
+{}
+
+/// A disk without faults holds filesets that are trees, but for those on their way, and has at most one image.
+pub fn formed_law()
+    ensures formed { FilesetsAreFormed }
+    ensures one { ImageIsOne }
 {}

@@ -1,0 +1,4 @@
+pub mod Parts
+pub mod Refused
+pub mod Found
+pub mod Front

@@ -1,0 +1,4 @@
+pub mod Marking
+pub mod Reaching
+pub mod Plain
+pub mod Pushed

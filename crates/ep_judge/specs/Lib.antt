@@ -1,0 +1,4 @@
+pub mod Metadata
+pub mod Marks
+pub mod Reach
+pub mod Judged

@@ -1,0 +1,101 @@
+-- What holds of a slot where an aggregate has no faults.
+use Rattle.std.proofs.Common.{◌≡◌, ◌<◌, ℕ, zero, suc, ◌+◌, ◌/◌, List, [], ◌∷◌, ◌++◌, inl, inr, refl, sym, ◌∙◌, ap, arith}
+use Rattle.std.specs.Prelude.{Bool, true, false, if◌then◌else◌}
+use Rattle.std.proofs.lemmas.Bool.{cases_eq, cond-true}
+use Rattle.ep_layout.specs.Places.{page_start}
+use Rattle.ep_pages.specs.Anode.{is_object}
+use Rattle.ep_pages.specs.Numbers.{is_numbers_page}
+use Rattle.ep_pages.specs.Server.{is_server_page}
+use Rattle.ep_image.specs.Joined.{joined}
+use Rattle.ep_image.specs.Aggregate.{Aggregate, server_page, page_of, anode_page, header_number, anode_number, block_place, names_block}
+use Rattle.ep_image.specs.Slots.{state_at, is_whole, is_slot_header, is_slot_numbers}
+use Rattle.ep_image.specs.Anodes.{unless, is_slot_anode, list_fault, map_fault, directory_fault, block_faults, anode_faults, entry_pointer, entry_blocks, is_directory_block}
+use Rattle.ep_image.specs.Reach.{is_reached_right, links_of, reach_fault, reach_faults}
+use Rattle.ep_image.specs.Counts.{count_fault, promise_fault}
+use Rattle.ep_image.specs.Faults.{slot_faults, faults_in}
+use Rattle.ep_image.specs.declared.fault.Fault.{Fault}
+use Rattle.ep_image.specs.declared.fault.Rule.{Rule}
+use Rattle.ep_image.specs.declared.fault.Rule.TheVariants as rules
+
+append_none : {A : Type 0} (xs ys : List A) → xs ++ ys ≡ [] → (xs ≡ []) × (ys ≡ [])
+append_none [] ys none = (refl, none)
+append_none (x ∷ xs) ys none = absurd (cc)
+
+part_none : {A : Type 0} (part : ℕ → List A) (n k : ℕ) → k < n → joined part n ≡ [] → part k ≡ []
+unfolding joined
+part_none part zero k lt none = absurd (omega arith)
+part_none part (suc n) k lt none =
+    let parts = append_none (joined part n) (part n) none in
+    elim (cases_eq k n) [
+      | inl e ↦ ap part e ∙ parts.1
+      | inr apart ↦ part_none part n k (omega (arith, apart)) parts.0
+    ]
+
+right : (test : Bool) (place : ℕ) (rule : Rule) → unless test place rule ≡ [] → test ≡ true
+right true place rule none = refl
+right false place rule none = absurd (cc)
+
+module _ (disk : Aggregate) (clean : faults_in disk ≡ []) (slot : ℕ) (lt : slot < 16) where
+  abbrev of_server : List Fault
+  of_server = unless (is_server_page (server_page disk)) (page_start 0) rules.ServerPage
+
+  abbrev of_numbers : List Fault
+  of_numbers = unless (is_numbers_page (page_of disk 1)) (page_start 1) rules.CallNumbers
+
+  abbrev of_slots : List Fault
+  of_slots = joined (slot_faults disk) 16
+
+  abbrev of_reach : List Fault
+  of_reach = joined (reach_faults disk) 16
+
+  abbrev of_counts : List Fault
+  of_counts = joined (count_fault disk) ((disk.blocks + 255) / 256)
+
+  slots_none : (of_slots ≡ []) × (of_reach ≡ [])
+  unfolding faults_in
+  slots_none =
+      let five = append_none ((((of_server ++ of_numbers) ++ of_slots) ++ of_reach) ++ of_counts) (promise_fault disk) clean in
+      let four = append_none (((of_server ++ of_numbers) ++ of_slots) ++ of_reach) of_counts five.0 in
+      let three = append_none ((of_server ++ of_numbers) ++ of_slots) of_reach four.0 in
+      ((append_none (of_server ++ of_numbers) of_slots three.0).1, three.1)
+
+  abbrev of_header : List Fault
+  of_header = unless (is_slot_header disk slot) (page_start (header_number slot)) rules.SlotHeader
+
+  abbrev of_calls : List Fault
+  of_calls = unless (is_slot_numbers disk slot) (page_start (header_number slot + 1)) rules.CallNumbers
+
+  slot_none : ((of_header ++ of_calls) ≡ []) × (joined (anode_faults disk slot) 64 ≡ [])
+  unfolding slot_faults
+  slot_none = append_none (of_header ++ of_calls) (joined (anode_faults disk slot) 64) (part_none (slot_faults disk) 16 slot lt slots_none.0)
+
+  pub header_right : is_slot_header disk slot ≡ true
+  header_right = right (is_slot_header disk slot) (page_start (header_number slot)) rules.SlotHeader (append_none of_header of_calls slot_none.0).0
+
+  abbrev of_page : ℕ → List Fault
+  of_page i = unless (is_slot_anode disk slot i) (page_start (anode_number slot i)) rules.Anode
+
+  anode_none : (i : ℕ) → i < 64 → (of_page i ≡ []) × ((if is_object (anode_page disk slot i) then block_faults disk slot i else []) ≡ [])
+  unfolding anode_faults
+  anode_none i low = append_none (of_page i) (if is_object (anode_page disk slot i) then block_faults disk slot i else []) (part_none (anode_faults disk slot) 64 i low slot_none.1)
+
+  pub anode_right : (i : ℕ) → i < 64 → is_slot_anode disk slot i ≡ true
+  anode_right i low = right (is_slot_anode disk slot i) (page_start (anode_number slot i)) rules.Anode (anode_none i low).0
+
+  blocks_none : (i : ℕ) → i < 64 → is_object (anode_page disk slot i) ≡ true → block_faults disk slot i ≡ []
+  blocks_none i low object = sym (cond-true (is_object (anode_page disk slot i)) (block_faults disk slot i) [] object) ∙ (anode_none i low).1
+
+  -- a block of a directory that is named holds what it should
+  pub directory_right : (i n : ℕ) → i < 64 → is_object (anode_page disk slot i) ≡ true → n < entry_blocks (anode_page disk slot i)
+      → names_block disk (entry_pointer disk slot i n) ≡ true → is_directory_block disk slot i n ≡ true
+  directory_right i n low object below names =
+      let all = append_none (joined (list_fault disk slot i) 3 ++ map_fault disk slot i) (joined (directory_fault disk slot i) (entry_blocks (anode_page disk slot i))) (blocks_none i low object) in
+      let one = part_none (directory_fault disk slot i) (entry_blocks (anode_page disk slot i)) n below all.1 in
+      right (is_directory_block disk slot i n) (block_place disk (entry_pointer disk slot i n)) rules.DirectoryBlock
+      (sym (cond-true (names_block disk (entry_pointer disk slot i n)) (unless (is_directory_block disk slot i n) (block_place disk (entry_pointer disk slot i n)) rules.DirectoryBlock) [] names) ∙ one)
+
+  pub reach_right : (i : ℕ) → i < 64 → is_whole (state_at disk slot) ≡ true → is_reached_right (links_of disk slot) (i + 1) (anode_page disk slot i) ≡ true
+  unfolding reach_faults
+  reach_right i low whole =
+      let all = sym (cond-true (is_whole (state_at disk slot)) (joined (reach_fault disk slot) 64) [] whole) ∙ part_none (reach_faults disk) 16 slot lt slots_none.1 in
+      right (is_reached_right (links_of disk slot) (i + 1) (anode_page disk slot i)) (page_start (anode_number slot i)) rules.Reach (part_none (reach_fault disk slot) 64 i low all)

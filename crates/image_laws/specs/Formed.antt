@@ -1,0 +1,18 @@
+-- What a disk without faults holds.
+use Rattle.std.specs.Prelude.{◌≡◌, ◌<◌, ℕ, List, [], Some, true}
+use Rattle.dfs_filesets.specs.WellFormed.{IsWellFormed}
+use Rattle.ep_image.specs.Aggregate.{Aggregate}
+use Rattle.ep_image.specs.Slots.{state_at, is_whole}
+use Rattle.ep_image.specs.Faults.{faults_in}
+use Rattle.ep_image.specs.Image.{Image, image_of, fileset_of}
+
+-- Where an aggregate has no faults, each fileset that isn't on its way here is a tree: each of its objects is reached
+-- from its root by one path, under its unique number, and nothing else is.
+abbrev pub FilesetsAreFormed : Type 0
+FilesetsAreFormed = (disk : Aggregate) → faults_in disk ≡ [] → (slot : ℕ) → slot < 16
+    → is_whole (state_at disk slot) ≡ true → IsWellFormed (fileset_of disk slot)
+
+-- a disk has at most one image, for one server
+abbrev pub ImageIsOne : Type 0
+ImageIsOne = (image : List ℕ) (a b : ℕ) (x y : Image) → image_of a image ≡ Some x → image_of b image ≡ Some y
+    → (a ≡ b) × (x ≡ y)
