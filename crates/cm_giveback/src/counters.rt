@@ -15,10 +15,13 @@ pub(crate) struct Counter {
 pub(crate) fn last_of(counters: &[Counter], fileset: FilesetId) -> u64
     ensures { result ≡ last_of counters.now fileset }
 {
-    match counters.iter().find(|counter| counter.fileset == fileset) {
-        Some(counter) => counter.number,
-        None => 0,
-    }
+    counter_of(counters, fileset).map_or(0, |counter| counter.number)
+}
+
+fn counter_of(counters: &[Counter], fileset: FilesetId) -> Option<&Counter>
+    ensures { option_copied result ≡ find (is_of fileset) counters.now }
+{
+    counters.iter().find(|counter| counter.fileset == fileset)
 }
 
 /// Sets the last number of a fileset. On an error nothing changes.

@@ -1,5 +1,6 @@
-ghost use Rattle.std.specs.Prelude.{◌≡◌, IsTrue, [], option_copied, OnOk, OnErr};
+ghost use Rattle.std.specs.Prelude.{◌≡◌, ◌∷◌, ◌++◌, IsTrue, [], option_copied, OnOk, OnErr};
 ghost use Rattle.std.specs.List.{find, position, list_any};
+ghost use Rattle.tok_types.specs.Conflicts.{same_id};
 ghost use Rattle.cm_giveback.specs.Counters.{last_of};
 ghost use Rattle.cm_giveback.specs.Giving.{give_of, number_of, is_of, names, is_of_file, outstanding, is_next};
 ghost use Rattle.cm_giveback.specs.Giving.{after_add, gone, after_gone, IsSound};

@@ -64,7 +64,8 @@ taken_for lock uses label token kind none =
 
 pub taken : Taken
 taken uses label id host fid =
-    ((λ writing span none. taken_for true uses label _ refl none), (λ kind none. taken_for false uses label _ refl none))
+    ((λ writing span none. taken_for true uses label _ refl none),
+    (λ kind none. taken_for false uses label _ refl none))
 
 -- what has one label has no other
 apart_of : (lock other : Bool) (label name : List ℕ) → (beq lock other && same_name label name) ≡ false →
@@ -76,7 +77,8 @@ apart_of lock other label name apart used h =
     ap (λ b. beq b other && same_name used.label name) mode ∙ ap (λ n. beq lock other && same_name n name) named ∙ apart
 
 same_means : (a b c x y z : ℕ) → (((a == b) && (c == x)) && (y == z)) ≡ true → (a ≡ b) × (c ≡ x) × (y ≡ z)
-same_means a b c x y z h = (grind (arith, common_steps, h), grind (arith, common_steps, h), grind (arith, common_steps, h))
+same_means a b c x y z h =
+    (grind (arith, common_steps, h), grind (arith, common_steps, h), grind (arith, common_steps, h))
 
 one_id : (a b : TokenId) → same_id a b ≡ true → a ≡ b
 one_id a b h =

@@ -45,7 +45,8 @@ once_taken labels label token none once lock name =
     elim (is_labelled lock name new) as
     (λ t. is_labelled lock name new ≡ t → length (filter (is_labelled lock name) (labels ++ new ∷ [])) ≤ 1) [
       | true ↦ λ e.
-          let modes : is_lock token.kind ≡ lock = same_modes (is_lock token.kind) lock (grind (arith, common_steps, e)) in
+          let modes : is_lock token.kind ≡ lock =
+            same_modes (is_lock token.kind) lock (grind (arith, common_steps, e)) in
           let names : label ≡ name = same_names label name (grind (arith, common_steps, e)) in
           let nothing : find (is_labelled lock name) labels ≡ None =
           subst (λ n. find (is_labelled lock n) labels ≡ None) names
@@ -70,8 +71,10 @@ sound_taken uses label token none sound =
     record {
       once = once_taken uses.labels label token none sound.once;
       pins =
-          All-weaker (λ id. IsTrue (has_id uses.labels id)) (λ id. IsTrue (has_id (after_take uses label token).labels id))
-          (λ id h. any_more (λ used. same_id used.token.id id) uses.labels (record { label = label; token = token } ∷ []) h)
+          All-weaker (λ id. IsTrue (has_id uses.labels id))
+          (λ id. IsTrue (has_id (after_take uses label token).labels id))
+          (λ id h. any_more (λ used. same_id used.token.id id) uses.labels
+          (record { label = label; token = token } ∷ []) h)
           uses.pinned sound.pins;
     }
 
@@ -87,7 +90,8 @@ sound_dropped uses lock label sound =
           let once = sound.once other name in
           omega (arith, fewer', once);
       pins =
-          All-weaker (λ id. has_id labels id ≡ true) (λ id. IsTrue (has_id labels id)) (λ id h. is_kept (has_id labels id) h)
+          All-weaker (λ id. has_id labels id ≡ true) (λ id. IsTrue (has_id labels id))
+          (λ id h. is_kept (has_id labels id) h)
           (filter (has_id labels) uses.pinned) (filter_passes (has_id labels) uses.pinned);
     }
 
@@ -104,7 +108,8 @@ pub nothing_dropped : (uses : InUse) (lock : Bool) (label : List ℕ) → IsSoun
 nothing_dropped uses lock label sound same =
     let stays : filter (has_id (without_label lock label uses.labels)) uses.pinned ≡ uses.pinned =
     ap (λ labels. filter (has_id labels) uses.pinned) same ∙ all_pass (has_id uses.labels) uses.pinned sound.pins in
-    sym (ap (λ labels. record { labels = labels; pinned = filter (has_id (without_label lock label uses.labels)) uses.pinned }) same
+    let pins = filter (has_id (without_label lock label uses.labels)) uses.pinned in
+    sym (ap (λ labels. record { labels = labels; pinned = pins }) same
     ∙ ap (λ pinned. record { labels = uses.labels; pinned = pinned }) stays)
 
 pub view_dropped : (uses : InUse) (lock : Bool) (label : List ℕ) (labels : List Labelled) (pinned : List TokenId) →

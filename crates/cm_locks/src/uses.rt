@@ -15,9 +15,9 @@ pub struct Labelled {
     pub token: Token,
 }
 
-/// The labels in use at a host, in the order in which they were taken, and the pinned tokens. Labels of locks and labels
-/// of opens are two spaces of names: a label whose token is a lock is one of the first, any other one of the second. A
-/// token is pinned only while a label is in use for it.
+/// The labels in use at a host, in the order in which they were taken, and the pinned tokens. Labels of locks and
+/// labels of opens are two spaces of names: a label whose token is a lock is one of the first, any other one of the
+/// second. A token is pinned only while a label is in use for it.
 #[derive(Drop)]
 pub struct Uses {
     labels: Items<Labelled>,
@@ -75,8 +75,8 @@ impl Uses {
         find_use(self.labels.as_slice(), lock, label).map(|used| used.token.id)
     }
 
-    /// Takes a label of locks, or else of opens, out of use. A token whose last label goes is pinned no more. It answers
-    /// None where the label isn't in use there; then nothing changes. It takes no memory.
+    /// Takes a label of locks, or else of opens, out of use. A token whose last label goes is pinned no more. It
+    /// answers None where the label isn't in use there; then nothing changes. It takes no memory.
     pub fn drop_label(&mut self, lock: bool, label: &Name) -> Option<Labelled>
         ensures dropped { result ≡ use_of self.old lock label.now }
         ensures after { self.new ≡ after_drop self.old lock label.now }

@@ -293,8 +293,8 @@ impl TokenManager {
     }
 
     /// The server has restarted, in a later epoch: its tokens, its pins and its queued wants are gone, and sequence
-    /// numbers begin at 1 again. How many wants were asked stays, and the number of the last one. It answers false where
-    /// the epoch isn't later than that of the manager; then nothing changes. It takes no memory.
+    /// numbers begin at 1 again. How many wants were asked stays, and the number of the last one. It answers false
+    /// where the epoch isn't later than that of the manager; then nothing changes. It takes no memory.
     #[tactic(auto, unfolding(crate::specs::Managers::grants_forgotten, crate::specs::Managers::queue_forgotten))]
     pub fn forget(&mut self, epoch: u64) -> bool
         ensures answer { result ≡ is_later self.old epoch }

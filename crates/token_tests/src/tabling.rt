@@ -1,6 +1,7 @@
 //! The steps of a table of tokens.
 
-ghost use Rattle.std.specs.Prelude.{◌≡◌, ◌&&◌, ◌==◌, ◌<◌, nat_lt};
+ghost use Rattle.std.specs.Prelude.{◌≡◌, ◌+◌, ◌<◌, ◌^◌, false, IsTrue, length};
+ghost use Rattle.tok_table.specs.Tables.{has_id, is_past};
 
 use crate::reading::Words;
 use crate::telling::{ids_text, token_or_none, token_text, yes_or_no};
@@ -8,7 +9,7 @@ use anyhow::{Result, bail};
 use dfs_base::{NEEDS_MAX, Plain};
 use std::alloc::Global;
 use tok_table::TokenTable;
-use tok_types::{Need, Token};
+use tok_types::{Need, TokenId};
 
 /// The answer to a row `table ..`.
 pub fn table_text(alloc: Global, table: &mut TokenTable, words: &mut Words) -> Result<String> {
@@ -53,7 +54,9 @@ fn look(alloc: Global, table: &TokenTable, word: &str, words: &mut Words) -> Res
 }
 
 // Whether so many more tokens find their numbers.
-fn has_room(table: &TokenTable, needs: &[Need]) -> bool {
+fn has_room(table: &TokenTable, needs: &[Need]) -> bool
+    ensures { IsTrue result → table.now.last + length needs.now < 2 ^ 64 }
+{
     needs.len() <= NEEDS_MAX && table.last_id().seq <= 1 << 62
 }
 
@@ -71,7 +74,7 @@ fn next(alloc: Global, table: &TokenTable, words: &mut Words) -> Result<String> 
 fn grant(alloc: Global, table: &mut TokenTable, words: &mut Words) -> Result<String> {
     let host = words.host()?;
     let needs = words.needs()?;
-    if needs.len() > NEEDS_MAX || table.last_id().seq > 1 << 62 {
+    if !has_room(table, needs.as_slice()) {
         bail!("no numbers are left");
     }
     if let [need] = needs.as_slice() {
@@ -80,14 +83,22 @@ fn grant(alloc: Global, table: &mut TokenTable, words: &mut Words) -> Result<Str
     ids_text(alloc, table.grant_each(host, needs.as_slice())?.as_slice())
 }
 
+// Whether a token with this number may be put in.
+fn can_insert(table: &TokenTable, id: TokenId) -> bool
+    ensures absent { IsTrue result → has_id table.now.tokens id ≡ false }
+    ensures past { IsTrue result → IsTrue (is_past table.now id) }
+{
+    let last = table.last_id();
+    let is_earlier = id.server != last.server || id.epoch < last.epoch;
+    is_earlier && table.get(id).is_none()
+}
+
 // `table insert TOKEN`: yes where it may be put in.
 fn insert(alloc: Global, table: &mut TokenTable, words: &mut Words) -> Result<String> {
     let token = words.token()?;
-    let last = table.last_id();
-    let earlier = token.id.server != last.server || token.id.epoch < last.epoch;
-    if table.get(token.id).is_some() || !earlier {
-        return yes_or_no(alloc, false);
+    let can = can_insert(table, token.id);
+    if can {
+        table.insert(token)?;
     }
-    table.insert(token)?;
-    yes_or_no(alloc, true)
+    yes_or_no(alloc, can)
 }
