@@ -99,7 +99,7 @@ module _ (old new : Dirty) (fid : Fid) (file was : DirtyFile)
   added span joins same =
       record {
         positions = λ other at.
-          ap (λ f. in_spans f.spans at) (puts other) ∙ position other at (same_fid fid other) refl;
+            ap (λ f. in_spans f.spans at) (puts other) ∙ position other at (same_fid fid other) refl;
         lengths = λ other. ap (λ f. f.length) (puts other) ∙ length other (same_fid fid other) refl;
       }
     where
@@ -112,6 +112,7 @@ module _ (old new : Dirty) (fid : Fid) (file was : DirtyFile)
           or_none : (b : Bool) → (b || false) ≡ b
           or_none true = refl
           or_none false = refl
+
       length : (other : Fid) (t : Bool) → same_fid fid other ≡ t →
           (cond t file (file_at old other)).length ≡ length_of old other
       length other true e = same ∙ ap (λ f. f.length) (before ∙ ap (file_at old) (one_fid fid other e))
@@ -122,7 +123,7 @@ module _ (old new : Dirty) (fid : Fid) (file was : DirtyFile)
   was_cut span leaves same =
       record {
         positions = λ other at.
-          ap (λ f. in_spans f.spans at) (puts other) ∙ position other at (same_fid fid other) refl;
+            ap (λ f. in_spans f.spans at) (puts other) ∙ position other at (same_fid fid other) refl;
         lengths = λ other. ap (λ f. f.length) (puts other) ∙ length other (same_fid fid other) refl;
       }
     where
@@ -136,6 +137,7 @@ module _ (old new : Dirty) (fid : Fid) (file was : DirtyFile)
           and_all : (b : Bool) → (b && true) ≡ b
           and_all true = refl
           and_all false = refl
+
       length : (other : Fid) (t : Bool) → same_fid fid other ≡ t →
           (cond t file (file_at old other)).length ≡ length_of old other
       length other true e = same ∙ ap (λ f. f.length) (before ∙ ap (file_at old) (one_fid fid other e))
@@ -145,7 +147,7 @@ module _ (old new : Dirty) (fid : Fid) (file was : DirtyFile)
   length_set length same given =
       record {
         positions = λ other at.
-          ap (λ f. in_spans f.spans at) (puts other) ∙ position other at (same_fid fid other) refl;
+            ap (λ f. in_spans f.spans at) (puts other) ∙ position other at (same_fid fid other) refl;
         lengths = λ other. ap (λ f. f.length) (puts other) ∙ lengths other (same_fid fid other);
       }
     where
@@ -155,6 +157,7 @@ module _ (old new : Dirty) (fid : Fid) (file was : DirtyFile)
           ap (λ spans. in_spans spans at) same ∙ ap (λ f. in_spans f.spans at)
           (before ∙ ap (file_at old) (one_fid fid other e))
       position other at false e = refl
+
       lengths : (other : Fid) (t : Bool) →
           (cond t file (file_at old other)).length ≡ cond t length (length_of old other)
       lengths other true = given

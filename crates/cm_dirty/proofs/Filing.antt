@@ -20,7 +20,7 @@ all_left : (p : Fid → Bool) (P : FileKey → Type 0) (ks : List FileKey) → A
 all_left p P [] h = h
 all_left p P (k ∷ ks) h =
     elim (p (fid_of k)) as (λ t. AllByRecursion P
-      (map key_of (cond t (fid_of k ∷ filter p (map fid_of ks)) (filter p (map fid_of ks))))) [
+    (map key_of (cond t (fid_of k ∷ filter p (map fid_of ks)) (filter p (map fid_of ks))))) [
       | true ↦ (h.0, all_left p P ks h.1)
       | false ↦ all_left p P ks h.1
     ]
@@ -31,7 +31,7 @@ unfolding IsStrictlySortedBy
 rise_left p [] h = h
 rise_left p (k ∷ ks) h =
     elim (p (fid_of k)) as (λ t. IsStrictlySortedBy key_cmp
-      (map key_of (cond t (fid_of k ∷ filter p (map fid_of ks)) (filter p (map fid_of ks))))) [
+    (map key_of (cond t (fid_of k ∷ filter p (map fid_of ks)) (filter p (map fid_of ks))))) [
       | true ↦ (all_left p (λ y. key_cmp k y ≡ Less) ks h.0, rise_left p ks h.1)
       | false ↦ rise_left p ks h.1
     ]
@@ -57,6 +57,7 @@ files_are_dirty dirty fid =
     and_true : (b : Bool) → (b && true) ≡ b
     and_true true = refl
     and_true false = refl
+
     known : (o : Option DirtyFile) →
         (not (is_clean (unwrap_or o clean)) && is_some o) ≡ not (is_clean (unwrap_or o clean))
     known None = refl

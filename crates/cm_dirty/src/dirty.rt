@@ -1,7 +1,7 @@
-ghost use Rattle.std.specs.Prelude.{◌≡◌, not, map, OnOk, OnErr, IfOk};
-ghost use Rattle.std.specs.BTreeMap.{keys, IsOrdered};
+ghost use Rattle.std.specs.Prelude.{◌≡◌, not, map, option_copied, OnOk, OnErr, IfOk};
+ghost use Rattle.std.specs.BTreeMap.{get, keys, IsOrdered};
 ghost use Rattle.tok_ranges.specs.Positions.{IsApart};
-ghost use Rattle.cm_dirty.specs.Files.{fid_of, key_cmp, clean, is_clean};
+ghost use Rattle.cm_dirty.specs.Files.{key_of, fid_of, key_cmp, clean, is_clean};
 ghost use Rattle.cm_dirty.specs.Dirtiness.{file_at, spans_of, length_of, dirty_files};
 ghost use Rattle.cm_dirty.specs.Dirtiness.{IsSame, Puts, Adds, Cuts, SetsLength};
 
@@ -68,17 +68,18 @@ impl Dirty {
         ensures spans { IfOk result (λ spans. spans ≡ spans_of self.now fid) }
         ensures apart { IfOk result IsApart }
     {
-        match self.files.get(&key_of(fid)) {
-            Some(file) => Items::from_slice(self.alloc, file.spans.spans()),
-            None => Ok(Items::new(self.alloc)),
-        }
+        let Some(file) = self.find(fid) else {
+            return Ok(Items::new(self.alloc));
+        };
+        let spans = Items::from_slice(self.alloc, file.spans.spans())?;
+        Ok(spans)
     }
 
     /// The dirty length of a file, in bytes; None where its length is clean. It takes no memory.
     pub fn length(&self, fid: Fid) -> Option<u32>
         ensures { result ≡ length_of self.now fid }
     {
-        match self.files.get(&key_of(fid)) {
+        match self.find(fid) {
             Some(file) => file.length,
             None => None,
         }
@@ -88,7 +89,8 @@ impl Dirty {
     pub fn files(&self) -> Result<Items<Fid>, NoMemory>
         ensures { IfOk result (λ fids. fids ≡ dirty_files self.now) }
     {
-        let mut fids = fids_of(self.alloc, &self.files)?;
+        let keys = keys_of(self.alloc, &self.files)?;
+        let mut fids = fids_of(self.alloc, keys.as_slice())?;
         fids.retain(|fid| self.is_dirty(*fid));
         Ok(fids)
     }
@@ -102,14 +104,21 @@ impl Dirty {
         let _count = self.files.len();
     }
 
+    fn find(&self, fid: Fid) -> Option<&DirtyFile>
+        ensures { option_copied result ≡ get key_cmp self.now.files (key_of fid) }
+    {
+        self.files.get(&key_of(fid))
+    }
+
     // A copy of what is dirty of a file.
     fn file(&self, fid: Fid) -> Result<DirtyFile, NoMemory>
         ensures { IfOk result (λ file. file ≡ file_at self.now fid) }
     {
-        match self.files.get(&key_of(fid)) {
-            Some(file) => file.copy(),
-            None => Ok(DirtyFile::clean(self.alloc)),
-        }
+        let Some(file) = self.find(fid) else {
+            return Ok(DirtyFile::clean(self.alloc));
+        };
+        let copy = file.copy()?;
+        Ok(copy)
     }
 
     // Makes this what is dirty of a file. On an error nothing changes.
@@ -129,17 +138,27 @@ impl Dirty {
     fn is_dirty(&self, fid: Fid) -> bool
         ensures { result ≡ not (is_clean (file_at self.now fid)) }
     {
-        match self.files.get(&key_of(fid)) {
+        match self.find(fid) {
             Some(file) => !file.is_clean(),
             None => false,
         }
     }
 }
 
-// The files of the map, in order.
-fn fids_of(alloc: Global, files: &BTreeMap<FileKey, DirtyFile>) -> Result<Items<Fid>, NoMemory>
-    ensures { IfOk result (λ fids. fids ≡ map fid_of (keys files.now)) }
+// The keys of the map, in order.
+fn keys_of(alloc: Global, files: &BTreeMap<FileKey, DirtyFile>) -> Result<Items<FileKey>, NoMemory>
+    ensures { IfOk result (λ found. found ≡ keys files.now) }
 {
-    let fids: Vec<Fid> = files.keys().map(|key| fid_of(*key)).collect(alloc)?;
-    Ok(Items::from_vec(fids))
+    let keys: Vec<FileKey> = files.keys().copied().collect(alloc)?;
+    Ok(Items::from_vec(keys))
+}
+
+fn fids_of(alloc: Global, keys: &[FileKey]) -> Result<Items<Fid>, NoMemory>
+    ensures { IfOk result (λ fids. fids ≡ map fid_of keys.now) }
+{
+    let mut fids = Items::new(alloc);
+    for key in keys {
+        fids.push(fid_of(*key))?;
+    }
+    Ok(fids)
 }

@@ -63,9 +63,10 @@ taken_for lock uses label token kind none =
     same_mode false = refl
 
 pub taken : Taken
-taken uses label id host fid =
-    ((λ writing span none. taken_for true uses label _ refl none),
-    (λ kind none. taken_for false uses label _ refl none))
+taken uses label id host fid = (
+  (λ writing span none. taken_for true uses label _ refl none),
+  (λ kind none. taken_for false uses label _ refl none),
+)
 
 -- what has one label has no other
 apart_of : (lock other : Bool) (label name : List ℕ) → (beq lock other && same_name label name) ≡ false →

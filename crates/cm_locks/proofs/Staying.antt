@@ -46,7 +46,7 @@ once_taken labels label token none once lock name =
     (λ t. is_labelled lock name new ≡ t → length (filter (is_labelled lock name) (labels ++ new ∷ [])) ≤ 1) [
       | true ↦ λ e.
           let modes : is_lock token.kind ≡ lock =
-            same_modes (is_lock token.kind) lock (grind (arith, common_steps, e)) in
+          same_modes (is_lock token.kind) lock (grind (arith, common_steps, e)) in
           let names : label ≡ name = same_names label name (grind (arith, common_steps, e)) in
           let nothing : find (is_labelled lock name) labels ≡ None =
           subst (λ n. find (is_labelled lock n) labels ≡ None) names

@@ -1,7 +1,7 @@
 //! What the words of a row say.
 
 use anyhow::{Context, Result, bail};
-use dfs_base::{Fid, FilesetId, HostId, Name, OpenKind, ServerId, Span};
+use dfs_base::{FILE_BYTES_MAX, Fid, FilesetId, HostId, Name, OpenKind, ServerId, Span};
 use std::alloc::Global;
 use tok_types::{Kind, Token, TokenId};
 
@@ -62,7 +62,7 @@ impl<'a> Words<'a> {
         let (from, to) = self.next().split_once('-').context("a span")?;
         let from = from.parse::<u32>().context("where it begins")?;
         let to = to.parse::<u32>().context("where it ends")?;
-        if from > to || to > 65_536 {
+        if from > to || to > FILE_BYTES_MAX {
             bail!("no span");
         }
         Ok(Span { from, to })

@@ -1,4 +1,5 @@
 //! The steps of a token manager.
+ghost use Rattle.std.specs.Prelude.{◌<◌, ◌^◌, IsTrue, IfSome};
 
 use crate::reading::Words;
 use crate::telling::{
@@ -85,13 +86,22 @@ fn look(alloc: Global, manager: &TokenManager, word: &str, words: &mut Words) ->
     }
 }
 
-// Whether a want of this number may be asked.
-fn may_ask(manager: &TokenManager, number: u64) -> bool {
-    let rises = match manager.latest() {
-        Some(latest) => latest < number,
+// Whether a number is above the last one, where there is one.
+fn rises(latest: Option<u64>, number: u64) -> bool
+    ensures { IsTrue result → IfSome latest (λ last. last < number) }
+{
+    match latest {
+        Some(last) => last < number,
         None => true,
-    };
-    rises && manager.asked() < 1 << 44
+    }
+}
+
+// Whether a want of this number may be asked.
+fn may_ask(manager: &TokenManager, number: u64) -> bool
+    ensures rising { IsTrue result → IfSome manager.now.latest (λ last. last < number) }
+    ensures count { IsTrue result → manager.now.asked < 2 ^ 44 }
+{
+    manager.asked() < 1 << 44 && rises(manager.latest(), number)
 }
 
 // `ask HOST NEEDS`

@@ -1,7 +1,7 @@
 //! What the words of a row say.
 
 use anyhow::{Context, Result, bail};
-use dfs_base::{Fid, FilesetId, HostId, Items, OpenKind, ServerId, Span};
+use dfs_base::{FILE_BYTES_MAX, Fid, FilesetId, HostId, Items, OpenKind, ServerId, Span};
 use std::alloc::Global;
 use tok_types::{Kind, Need, Token, TokenId};
 
@@ -131,10 +131,12 @@ fn id(word: &str) -> Result<TokenId> {
 
 fn span(word: &str) -> Result<Span> {
     let (from, to) = word.split_once('-').context("a span")?;
-    Ok(Span {
-        from: from.parse::<u32>().context("where it begins")?,
-        to: to.parse::<u32>().context("where it ends")?,
-    })
+    let from = from.parse::<u32>().context("where it begins")?;
+    let to = to.parse::<u32>().context("where it ends")?;
+    if from > to || to > FILE_BYTES_MAX {
+        bail!("no span");
+    }
+    Ok(Span { from, to })
 }
 
 fn kind(word: &str) -> Result<Kind> {

@@ -83,14 +83,25 @@ fn grant(alloc: Global, table: &mut TokenTable, words: &mut Words) -> Result<Str
     ids_text(alloc, table.grant_each(host, needs.as_slice())?.as_slice())
 }
 
+fn is_there(table: &TokenTable, id: TokenId) -> bool
+    ensures { result ≡ has_id table.now.tokens id }
+{
+    match table.get(id) {
+        Some(_) => true,
+        None => false,
+    }
+}
+
 // Whether a token with this number may be put in.
 fn can_insert(table: &TokenTable, id: TokenId) -> bool
     ensures absent { IsTrue result → has_id table.now.tokens id ≡ false }
     ensures past { IsTrue result → IsTrue (is_past table.now id) }
 {
     let last = table.last_id();
-    let is_earlier = id.server != last.server || id.epoch < last.epoch;
-    is_earlier && table.get(id).is_none()
+    if is_there(table, id) {
+        return false;
+    }
+    id.server != last.server || id.epoch < last.epoch
 }
 
 // `table insert TOKEN`: yes where it may be put in.

@@ -33,7 +33,7 @@ there c =
     ap (position p) (sym c.as_slice.ensures) ∙ sym c.place_of.ensures ∙ c.in-Some.is in
     let once = c.self.invariant.once c.args.lock c.args.label.now in
     let h =
-      taken p c.self.inside.labels c.in-Some.index c.remove-dropped.result place c.remove-dropped.ensures.value once in
+    taken p c.self.inside.labels c.in-Some.index c.remove-dropped.result place c.remove-dropped.ensures.value once in
     (h.0, c.remove-dropped.ensures.rest ∙ h.1)
 
 view : (c : goal.After-keep_pins) →
