@@ -22,7 +22,7 @@ use Rattle.tok_manager.specs.Laws.{AreAtPeace, IsAtPeace}
 use Rattle.tok_manager.specs.Managers.{Manager, has_to_wait, after_ask, after_ready, after_returned, after_kept}
 use Rattle.tok_manager.specs.Managers.{grants_asked, grants_ready, queue_asked, queue_ready, grants_after}
 use Rattle.tok_manager.specs.Managers.{after_decision, can_decide}
-use Rattle.tok_manager.specs.Managers.{first_ready, grants_returned, grants_kept}
+use Rattle.tok_manager.specs.Managers.{first_ready, grants_returned, grants_kept, grants_forgotten, is_later}
 use Rattle.tok_manager.specs.Wants.{first_ahead}
 use Rattle.tok_manager.specs.PeaceLaws.{PeaceThroughAsk, PeaceThroughReady, PeaceThroughAdmit, PeaceThroughLoss}
 use Rattle.tok_manager.proofs.Granting.{peaceful_grant}
@@ -130,7 +130,7 @@ pub peace_through_admit : PeaceThroughAdmit
 peace_through_admit manager tokens h = claims manager.grants tokens h
 
 pub peace_through_loss : PeaceThroughLoss
-unfolding grants_returned grants_kept
+unfolding grants_returned grants_kept grants_forgotten
 peace_through_loss manager h = record {
   returned = λ host id. elim (cases_Bool (holds manager.grants host id)) [
     | inl there ↦ rw there (AllPairs-filter Apart (λ token. not (same_id token.id id)) manager.grants.table.tokens h)
@@ -142,5 +142,8 @@ peace_through_loss manager h = record {
   ];
   revoked = λ id. h;
   down = λ host. AllPairs-filter Apart (λ token. not (token.host.0 == host.0)) manager.grants.table.tokens h;
-  forget = λ epoch i j d before within. absurd (omega arith);
+  forget = λ epoch. elim (cases_Bool (is_later manager epoch)) [
+    | inl later ↦ rw later (λ i j d before within. absurd (omega arith))
+    | inr not_later ↦ rw not_later h
+  ];
 }

@@ -1,5 +1,5 @@
 -- What a token manager is seen as, its answers, and what they leave.
-use Rattle.std.specs.Prelude.{ℕ, ◌+◌, Bool, ◌&&◌, ◌||◌, not, is_some, is_none, if◌then◌else◌, List, [], ◌∷◌, ◌++◌}
+use Rattle.std.specs.Prelude.{ℕ, ◌+◌, Bool, ◌&&◌, ◌||◌, not, is_some, is_none, if◌then◌else◌, nat_lt, List, [], ◌∷◌, ◌++◌}
 use Rattle.std.specs.Prelude.{Option, Some, None}
 use Rattle.std.specs.List.{find}
 use Rattle.std.specs.Option.{option_map}
@@ -39,10 +39,20 @@ new_manager server epoch =
       latest = None;
     }
 
--- the same manager in a later epoch, when it has restarted
+-- after a restart in a later epoch nothing is granted and nothing waits; an epoch that isn't later changes nothing
+abbrev pub is_later : Manager → ℕ → Bool
+is_later manager epoch = nat_lt manager.grants.table.epoch epoch
+
+unfoldable pub grants_forgotten : Manager → ℕ → Grants
+grants_forgotten manager epoch =
+    if is_later manager epoch then no_grants manager.grants.table.server epoch else manager.grants
+
+unfoldable pub queue_forgotten : Manager → ℕ → List Want
+queue_forgotten manager epoch = if is_later manager epoch then [] else manager.queue
+
 abbrev pub after_forget : Manager → ℕ → Manager
 after_forget manager epoch =
-    record manager { grants = no_grants manager.grants.table.server epoch; queue = [] }
+    record manager { grants = grants_forgotten manager epoch; queue = queue_forgotten manager epoch }
 
 -- whether a want has to wait: a granted token of another host or an earlier queued want conflicts with it
 abbrev pub has_to_wait : Manager → Want → Bool

@@ -8,8 +8,8 @@ ghost use Rattle.tok_manager.specs.Wants.{wants_in};
 ghost use Rattle.tok_manager.specs.Grants.{last_id};
 ghost use Rattle.tok_manager.specs.Managers.{Manager, new_manager, ask_answer, after_ask, can_decide, ready_answer};
 ghost use Rattle.tok_manager.specs.Managers.{after_ready, after_returned, after_kept, after_down, after_given_up};
-ghost use Rattle.tok_manager.specs.Managers.{first_ready, wanted, after_revoked, after_admit, after_forget};
-ghost use Rattle.tok_manager.specs.Managers.{after_drop_fileset};
+ghost use Rattle.tok_manager.specs.Managers.{first_ready, wanted, after_revoked, after_admit};
+ghost use Rattle.tok_manager.specs.Managers.{after_drop_fileset, is_later, after_forget};
 ghost use Rattle.tok_manager.specs.Laws.{KeepsLaws};
 
 use crate::grants::Grants;
@@ -293,15 +293,21 @@ impl TokenManager {
     }
 
     /// The server has restarted, in a later epoch: its tokens, its pins and its queued wants are gone, and sequence
-    /// numbers begin at 1 again. How many wants were asked stays, and the number of the last one. It takes no memory.
-    pub fn forget(&mut self, epoch: u64)
-        requires { self.old.grants.table.epoch < epoch }
-        ensures { self.new ≡ after_forget self.old epoch }
+    /// numbers begin at 1 again. How many wants were asked stays, and the number of the last one. It answers false
+    /// where the epoch isn't later than that of the manager; then nothing changes. It takes no memory.
+    #[tactic(auto, unfolding(crate::specs::Managers::grants_forgotten, crate::specs::Managers::queue_forgotten))]
+    pub fn forget(&mut self, epoch: u64) -> bool
+        ensures answer { result ≡ is_later self.old epoch }
+        ensures after { self.new ≡ after_forget self.old epoch }
     {
-        let alloc = self.queue.alloc();
-        let server = self.grants.table.last_id().server;
-        self.grants = Grants::new(alloc, server, epoch);
-        self.queue = Items::new(alloc);
+        let last = self.last_id();
+        let is_later = last.epoch < epoch;
+        if is_later {
+            let alloc = self.queue.alloc();
+            self.grants = Grants::new(alloc, last.server, epoch);
+            self.queue = Items::new(alloc);
+        }
+        is_later
     }
 }
 

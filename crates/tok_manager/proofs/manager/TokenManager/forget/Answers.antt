@@ -3,4 +3,5 @@ use Rattle.tok_manager.proofs.Rooms.{room_none}
 use Rattle.tok_manager.proofs.manager.TokenManager.forget.Goals as goal
 
 pub invariant_of-self : goal.invariant_of-self
-invariant_of-self c = rw (c.new.ensures, c.new-2.ensures) (lawful_none _ _ _, room_none _ _ _ c.self.invariant.1)
+invariant_of-self c =
+    rw (c.new.ensures, c.new-then-is_later.ensures) (lawful_none _ _ _, room_none _ _ _ c.self.invariant.1)

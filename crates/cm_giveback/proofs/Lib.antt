@@ -1,0 +1,5 @@
+pub mod Places
+pub mod Counting
+pub mod Staying
+pub mod Adding
+pub mod Going

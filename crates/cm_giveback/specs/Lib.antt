@@ -1,0 +1,3 @@
+pub mod Counters
+pub mod Giving
+pub mod GiveLaws
