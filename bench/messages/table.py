@@ -1,6 +1,8 @@
-"""Decodes each message many times, cut by its last byte so that it is read to its end and nothing else is done with it, and takes off
-the processor time of as many rows of the same bytes that stop at the first one. It tells nothing of memory: a row's text holds more."""
+"""Decodes each message many times, cut by its last byte so that it is read to its end and nothing else is done with it,
+and takes off the processor time of as many rows of the same bytes that stop at the first one. Memory is all that
+a decoding asks for, what it frees meanwhile too, as `valgrind` counts it for one row of each kind."""
 import os
+import re
 import subprocess
 import sys
 import tempfile
@@ -39,11 +41,11 @@ def rows(groups, stop, count):
 
 
 def measure(text, count):
-    """The least processor time of three runs, in seconds."""
+    """The least processor time of seven runs, in seconds."""
     best = None
     with tempfile.TemporaryFile() as source:
         source.write(text.encode())
-        for _ in range(3):
+        for _ in range(7):
             source.seek(0)
             child = subprocess.Popen([PROGRAM], stdin=source, stdout=subprocess.PIPE)
             told = child.stdout.read().decode()
@@ -53,6 +55,13 @@ def measure(text, count):
                 sys.exit("status %d: %s" % (status, told[:200]))
             best = spent if best is None else min(best, spent)
     return best
+
+
+def asked(text):
+    """How many bytes of memory a run asks for."""
+    ran = subprocess.run(["valgrind", PROGRAM], input=text.encode(), capture_output=True, check=True)
+    told = re.search(r"([0-9,]+) bytes allocated", ran.stderr.decode())
+    return int(told.group(1).replace(",", ""))
 
 
 ROWS = [
@@ -66,11 +75,13 @@ ROWS = [
     ("Grant, 20,000 tokens", grant(20000, (0, 0)), 40),
 ]
 
-print("| Message | Bytes | Processor milliseconds |")
-print("|---|---|---|")
+print("| Message | Bytes | Processor milliseconds | Memory to bytes |")
+print("|---|---|---|---|")
 for name, groups, count in ROWS:
     bytes_of = size(groups)
-    read = measure(rows(groups, bytes_of, count), count)
     refused = ["00" + groups[0][2:]] + groups[1:]
+    read = measure(rows(groups, bytes_of, count), count)
     idle = measure(rows(refused, 0, count), count)
-    print("| %s | %d | %.3f |" % (name, bytes_of, (read - idle) / count * 1000), flush=True)
+    memory = asked(rows(groups, bytes_of, 1)) - asked(rows(refused, 0, 1))
+    cells = (name, bytes_of, (read - idle) / count * 1000, memory / bytes_of)
+    print("| %s | %d | %.3f | %.1f |" % cells, flush=True)

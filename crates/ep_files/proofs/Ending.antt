@@ -1,11 +1,10 @@
 -- The anodes of a transaction that ended, of a force, and of what a crash leaves of one.
-use Rattle.std.proofs.Common.{◌≡◌, ◌≢◌, ◌<◌, ◌≤◌, ◌⊎◌, ℕ, zero, suc, ◌+◌, ◌*◌, List, [], ◌∷◌, ◌++◌, length, take, drop, refl, sym, ◌∙◌, ap, subst, inl, inr, arith}
+use Rattle.std.proofs.Common.{◌≡◌, ◌≤◌, ℕ, zero, suc, ◌+◌, List, [], ◌∷◌, length, take, drop, refl, sym, ◌∙◌, ap, arith}
 use Rattle.std.specs.Prelude.{Bool, true, false, ◌==◌, ◌&&◌, ◌||◌, if◌then◌else◌}
 use Rattle.std.proofs.lemmas.List.{take-append-drop}
-use Rattle.dfs_base.specs.Image.{byte_at}
 use Rattle.ep_layout.specs.declared.entry.Entry.{Entry}
 use Rattle.ep_layout.specs.Places.{in_place, block_start, pages_of, SameBlocks}
-use Rattle.ep_layout.specs.Pages.{firsts, ends_in, redone, stage, HasWhole, LeftFirst, pages_in}
+use Rattle.ep_layout.specs.Pages.{ends_in, redone, HasWhole, LeftFirst, pages_in}
 use Rattle.ep_layout.proofs.Pages.{firsts_all, redone-append}
 use Rattle.ep_log.specs.Contents.{Contents, stage_in, last_stage, AppendsStage, KeepsLast}
 use Rattle.ep_log.specs.Puts.{page_of, overlaid, without, is_put}

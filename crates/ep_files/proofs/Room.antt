@@ -1,14 +1,11 @@
 -- How many blocks the anodes of all pages leave free.
-use Rattle.std.proofs.Common.{◌≡◌, ◌≢◌, ◌<◌, ◌≤◌, ◌⊎◌, ℕ, zero, suc, ◌+◌, ◌-◌, ◌*◌, ◌/◌, List, [], take, drop, get_or, refl, sym, ◌∙◌, ap, subst, inl, inr, arith}
-use Rattle.std.specs.Prelude.{Bool, true, false, ◌==◌, ◌&&◌, not, if◌then◌else◌, nat_lt, nat_le, min}
-use Rattle.std.proofs.lemmas.Bool.{cases_eq}
+use Rattle.std.proofs.Common.{◌≡◌, ◌≢◌, ◌<◌, ◌≤◌, ℕ, zero, suc, ◌+◌, ◌-◌, ◌*◌, ◌/◌, List, refl, sym, ◌∙◌, arith}
+use Rattle.std.specs.Prelude.{Bool, true, false, ◌==◌, ◌&&◌, not, if◌then◌else◌, nat_lt, min}
 use Rattle.std.proofs.lemmas.Bool.Decides.{nat_tests}
-use Rattle.dfs_base.specs.Image.{byte_at}
-use Rattle.ep_layout.specs.Numbers.{number_at}
 use Rattle.ep_log.specs.State.{State}
-use Rattle.ep_space.specs.Counts.{count_page, count_place, count_now, count_settled}
-use Rattle.ep_anode.specs.Anode.{Anode, anode_of, bytes_of, byte_length, IsTidy}
-use Rattle.ep_anode.specs.Node.{pointer_of, pointer_at, is_pointer, names, names_below, node_of, HasNoBlocks}
+use Rattle.ep_space.specs.Counts.{count_now, count_settled}
+use Rattle.ep_anode.specs.Anode.{Anode, bytes_of, byte_length, IsTidy}
+use Rattle.ep_anode.specs.Node.{pointer_of, pointer_at, is_pointer, names, names_below, node_of}
 use Rattle.ep_anode.specs.Room.{one, how_many, free_blocks}
 use Rattle.ep_anode.specs.declared.node.Node.{Node}
 use Rattle.ep_anode.proofs.Counting.{same_many, many_le, none_many, single_many}

@@ -1,6 +1,6 @@
 -- A new aggregate has no anodes.
-use Rattle.std.proofs.Common.{◌≡◌, ◌<◌, ◌≤◌, ℕ, suc, ◌+◌, ◌*◌, List, [], get_or, refl, sym, ◌∙◌, subst, arith}
-use Rattle.std.specs.Prelude.{Bool, true, false, ◌==◌, if◌then◌else◌, replicate}
+use Rattle.std.proofs.Common.{◌≡◌, ◌<◌, ◌≤◌, ℕ, ◌+◌, List, [], get_or, refl, sym, ◌∙◌, subst, arith}
+use Rattle.std.specs.Prelude.{Bool, true, false, if◌then◌else◌, replicate}
 use Rattle.std.proofs.lemmas.Bool.Decides.{nat_tests}
 use Rattle.std.proofs.lemmas.List.{get_or-replicate}
 use Rattle.dfs_base.specs.Image.{byte_at, bytes_from}
@@ -9,8 +9,8 @@ use Rattle.ep_layout.specs.Places.{pages_of}
 use Rattle.ep_log.specs.Recovered.{blank_page}
 use Rattle.ep_space.specs.Counts.{count_page, count_place}
 use Rattle.ep_space.proofs.Words.{page_there}
-use Rattle.ep_anode.specs.Anode.{Anode, anode_of, text_at, IsPage, IsTidy}
-use Rattle.ep_anode.specs.Node.{pointer_of, map_under, names, names_below, node_of, HasNoBlocks}
+use Rattle.ep_anode.specs.Anode.{anode_of, text_at, IsPage, IsTidy}
+use Rattle.ep_anode.specs.Node.{map_under, names_below, node_of, HasNoBlocks}
 use Rattle.ep_anode.specs.declared.node.Node.{Node}
 use Rattle.ep_anode.proofs.Plain.{zero_number, no_blocks, names_none, tidy_page, anode_none}
 use Rattle.ep_files.specs.Holds.{is_anode, page_names, indirect_of, map_names, is_indirect, pointers_to, no_anode, Holds}

@@ -13,6 +13,8 @@ ghost use Rattle.ep_anode.specs.Node.{names, no_names, node_in, HasNoBlocks};
 ghost use Rattle.ep_anode.specs.Room.{free_blocks};
 ghost use Rattle.ep_anode.specs.Changes.{own_names, SameBlock, WritesLoose, AreCounted, AreFew};
 ghost use Rattle.ep_anode.specs.Changes.{Changed, Made, SharesBlocks};
+ghost use Rattle.dfs_calls.specs.declared.part.DirEntry.{DirEntry};
+ghost use Rattle.ep_dir.specs.Entries.{with_entries, IsDirectory};
 ghost use Rattle.ep_files.specs.Holds.{is_anode, set_at, Holds, HoldsNow, stage_of, no_anode, all_blocks};
 
 /// A new aggregate, whose pages are zero but for the server's, has no anodes.
@@ -39,6 +41,26 @@ pub fn changed_holds()
         → WritesLoose (own_names old before (node_in old before page)) old before before after
         → ((update (anodes page)).kind ≡ 0 → HasNoBlocks (node_in new after page))
         → HoldsNow (set_at page (update (anodes page)) anodes) new after }
+{}
+
+/// A directory among all anodes is one of the same entries in the log, as `find`, `list`, `add` and `drop_name` ask. A
+/// call that changes its entries, as the last two do, changes them among all anodes, and nothing else.
+pub fn entries_holds()
+    ensures asked { (anodes : ℕ → Anode) (page : ℕ) (entries : List DirEntry) (state : State) (image : List ℕ)
+        → is_anode page ≡ true → HoldsNow anodes state image → IsDirectory entries (anodes page)
+        → IsDirectory entries (anode_in state image page) }
+    ensures changed { (anodes : ℕ → Anode) (page : ℕ) (entries others : List DirEntry)
+        (old new : State) (before after : List ℕ)
+        → is_anode page ≡ true → HoldsNow anodes old before → new ≡ record old { puts = new.puts }
+        → IsDirectory entries (anodes page)
+        → Changed page (with_entries others) old before new after
+        → WritesLoose (own_names old before (node_in old before page)) old before before after
+        → HoldsNow (set_at page (with_entries others (anodes page)) anodes) new after }
+    ensures entries { (anodes : ℕ → Anode) (page : ℕ) (others : List DirEntry)
+        (old new : State) (before after : List ℕ)
+        → is_anode page ≡ true → HoldsNow anodes old before
+        → Changed page (with_entries others) old before new after → IsDirectory others (anode_in new after page)
+        → IsDirectory others (with_entries others (anodes page)) }
 {}
 
 /// A call that makes an anode in the page of a free one adds it to all.

@@ -1,123 +1,224 @@
-// What the tests do with a log: transactions that fill pages 1, 2 and 3, and what these pages and block 0 have.
-ghost use Rattle.std.specs.Prelude.{◌≡◌, IfOk, OnOk};
-ghost use Rattle.ep_log.specs.Log.{state_of, slot_of, IsSoundLog};
-ghost use Rattle.ep_log.specs.Log.{IsIdle};
-ghost use Rattle.ep_log.specs.State.{IsOnly};
-ghost use Rattle.episode_tests.specs.Only.{IsRead};
+// Changes of anodes, directories and access lists, each in a transaction of its own.
+ghost use Rattle.std.specs.Prelude.{◌≡◌, ◌<◌, ◌≤◌, OnOk};
+ghost use Rattle.ep_anode.specs.Room.{MayPutAll, with_counts};
+ghost use Rattle.ep_log.specs.Log.{state_of, slot_of};
+ghost use Rattle.episode_tests.specs.Ready.{IsReady, IsAlone, MayAct};
 
-use dfs_base::Disk;
-use ep_log::{Log, LogFault, Tx};
-use std::alloc::{AllocError, Global};
+use crate::acts::Change;
+use crate::lists::list_of;
+use dfs_base::{Disk, Name};
+use ep_acl::save;
+use ep_anode::{BLOCK, NodeFault, clone_of, create, cut, remove, write_at, write_end, write_list};
+use ep_dir::{add, drop_name};
+use ep_layout::{PAGE, put_u32};
+use ep_log::{Log, Tx};
+use ep_space::{SpaceFault, count_of, give, share, take};
+use std::alloc::Global;
 
-// Formats a disk of one block, of server 3.
-pub fn formatted<D: Disk + Drop>(alloc: Global, disk: D) -> Result<Log<D>, LogFault>
-    ensures { IfOk result (λ log. IsIdle D.tells D.view log) }
-{
-    match Log::format(alloc, disk, 3, 1) {
-        Ok(log) => Ok(log),
-        Err((_disk, fault)) => Err(fault),
-    }
+// What a change answers that finds no free block, and one that may not be made.
+const NONE: u32 = 99;
+
+const REFUSED: u32 = 9_999;
+
+// A page by hand: a file of so many bytes, whose indirect block is the first block.
+fn page_by_hand(length: u32) -> [u8; PAGE] {
+    let mut page = [0; PAGE];
+    page[0] = 2;
+    put_u32(&mut page, 4, 1);
+    put_u32(&mut page, 8, length);
+    put_u32(&mut page, 72, 1);
+    page
 }
 
-// Mounts the log on a disk.
-pub fn mounted<D: Disk + Drop>(alloc: Global, disk: D) -> Result<Log<D>, LogFault>
-    ensures { IfOk result (λ log. IsIdle D.tells D.view log) }
+// Writes so many blocks of one byte, each in a call of its own.
+fn filled<D: Disk>(
+    log: &mut Log<D>,
+    tx: &mut Tx,
+    page: u32,
+    blocks: u32,
+    byte: u8,
+) -> Result<(), NodeFault>
+    requires act { MayAct D.tells D.view log.old tx.old page }
+    requires page { page < 1058 }
+    requires blocks { blocks ≤ 64 }
+    ensures { IsAlone D.tells D.view log.new tx.new }
 {
-    match Log::mount(alloc, disk) {
-        Ok(log) => Ok(log),
-        Err((_disk, fault)) => Err(fault),
+    for i in 0..blocks {
+        write_at(log, tx, page, 1_024 * i, &[byte; BLOCK])?;
     }
-}
-
-// Begins a transaction that fills pages 1, 2 and 3 with a byte each.
-pub fn begun<D: Disk>(log: &mut Log<D>, fills: [u8; 3]) -> Result<Tx, LogFault>
-    requires { IsIdle D.tells D.view log.old }
-    ensures sound { OnOk result (IsSoundLog D.tells D.view log.new) }
-    ensures only { IfOk result (λ tx. IsOnly (state_of log.new) (slot_of tx) 7) }
-{
-    let mut tx = log.begin(3)?;
-    for (i, fill) in fills.iter().enumerate() {
-        log.put(&mut tx, 1 + i as u32, &[*fill; 512])?;
-    }
-    Ok(tx)
-}
-
-// Ends such a transaction.
-pub fn ended<D: Disk>(log: &mut Log<D>, fills: [u8; 3]) -> Result<(), LogFault>
-    requires { IsIdle D.tells D.view log.old }
-    ensures { OnOk result (IsIdle D.tells D.view log.new) }
-{
-    let tx = begun(log, fills)?;
-    log.end(tx);
     Ok(())
 }
 
-// Makes a checkpoint, where the generation isn't the last one.
-pub fn placed<D: Disk>(log: &mut Log<D>) -> Result<(), LogFault>
-    requires { IsIdle D.tells D.view log.old }
-    ensures { OnOk result (IsIdle D.tells D.view log.new) }
+// Changes the bytes of an anode.
+fn bytes_changed<D: Disk>(
+    log: &mut Log<D>,
+    tx: &mut Tx,
+    page: u32,
+    change: Change,
+) -> Result<u32, NodeFault>
+    requires act { MayAct D.tells D.view log.old tx.old page }
+    requires page { page < 1058 }
+    ensures { IsAlone D.tells D.view log.new tx.new }
 {
-    if log.generation() == u64::MAX {
-        return Err(LogFault::NotALog(512));
-    }
-    log.checkpoint()?;
-    Ok(())
-}
-
-// Formats a disk, fills its block with 9, and forces two transactions.
-pub fn started<D: Disk + Drop>(alloc: Global, disk: D) -> Result<Log<D>, LogFault>
-    ensures { IfOk result (λ log. IsIdle D.tells D.view log) }
-{
-    let mut log = formatted(alloc, disk)?;
-    if 0 < log.blocks() {
-        log.write_block(0, &[9; 1_024])?;
-    }
-    ended(&mut log, [1, 2, 3])?;
-    ended(&mut log, [0x0f, 5, 6])?;
-    log.force()?;
-    Ok(log)
-}
-
-// The byte that all have; 256 where they differ.
-pub fn only(bytes: &[u8]) -> u64 {
-    for byte in bytes {
-        if *byte != bytes[0] {
-            return 256;
+    match change {
+        Change::Write(from, piece) if from < 65_000 && piece.len() < 500 => {
+            write_at(log, tx, page, from, piece.as_bytes())?;
         }
+        Change::End(from, piece) if from < 65_000 && piece.len() < 500 => {
+            write_end(log, tx, page, from, piece.as_bytes())?;
+        }
+        Change::Cut(length) if length <= 65_536 => cut(log, tx, page, length)?,
+        Change::Fill(blocks, byte) if blocks <= 64 => filled(log, tx, page, blocks, byte)?,
+        Change::List(which, byte) if which < 3 => write_list(log, tx, page, which, &[byte; BLOCK])?,
+        _ => return Ok(REFUSED),
     }
-    bytes.first().copied().unwrap_or(0) as u64
+    Ok(0)
 }
 
-// What pages 1, 2 and 3 are filled with, and block 0.
-pub fn contents<D: Disk>(log: &mut Log<D>) -> Result<[u64; 4], LogFault>
-    requires { IsSoundLog D.tells D.view log.old }
-    ensures { IsRead D.tells D.view log.old log.new }
+// Makes an anode, in place of another one, or none.
+fn anode_changed<D: Disk>(
+    log: &mut Log<D>,
+    tx: &mut Tx,
+    page: u32,
+    change: Change,
+    owner: &Name,
+) -> Result<u32, NodeFault>
+    requires act { MayAct D.tells D.view log.old tx.old page }
+    requires page { page < 1058 }
+    ensures { IsAlone D.tells D.view log.new tx.new }
 {
-    let mut pages = ([0; 512], [0; 512], [0; 512]);
-    log.page(1, &mut pages.0)?;
-    log.page(2, &mut pages.1)?;
-    log.page(3, &mut pages.2)?;
-    let mut block = [0; 1_024];
-    if 0 < log.blocks() {
-        log.read_block(0, &mut block)?;
+    match change {
+        Change::Create(is_dir) => create(log, tx, page, is_dir, owner, owner),
+        Change::Copy(from) if from < 1_058 => {
+            clone_of(log, tx, from, page)?;
+            Ok(0)
+        }
+        Change::Remove => {
+            remove(log, tx, page)?;
+            Ok(0)
+        }
+        Change::Hand(length) => {
+            log.put(tx, page, &page_by_hand(length))?;
+            Ok(0)
+        }
+        _ => Ok(REFUSED),
     }
-    Ok([only(&pages.0), only(&pages.1), only(&pages.2), only(&block)])
 }
 
-// The same of a disk that is mounted.
-pub fn mounted_contents<D: Disk + Drop>(alloc: Global, disk: D) -> Result<[u64; 4], LogFault> {
-    let mut log = mounted(alloc, disk)?;
-    contents(&mut log)
+// Changes the count of a block, and answers the block.
+fn count_changed<D: Disk>(
+    log: &mut Log<D>,
+    tx: &mut Tx,
+    page: u32,
+    change: Change,
+) -> Result<u32, SpaceFault>
+    requires act { MayAct D.tells D.view log.old tx.old page }
+    ensures { IsAlone D.tells D.view log.new tx.new }
+{
+    match change {
+        Change::Take => match take(log, tx) {
+            Err(SpaceFault::Full) => Ok(NONE),
+            answer => answer,
+        },
+        Change::Share(block) if block < log.blocks() => {
+            share(log, tx, block)?;
+            Ok(block)
+        }
+        Change::Give(block) if block < log.blocks() => {
+            give(log, tx, block)?;
+            Ok(block)
+        }
+        _ => Ok(REFUSED),
+    }
 }
 
-// Bytes with a piece in place of what stands at a place.
-pub fn edited(alloc: Global, bytes: &[u8], at: usize, piece: &[u8]) -> Result<Vec<u8>, AllocError> {
-    let mut bytes = Vec::from_slice(alloc, bytes)?;
-    if let Some(place) = bytes
-        .as_mut_slice()
-        .get_mut(at..at.saturating_add(piece.len()))
-    {
-        place.copy_from_slice(piece);
+// What was made, where there was memory for it.
+pub fn or_memory<T, E: Drop>(made: Result<T, E>) -> Result<T, NodeFault> {
+    match made {
+        Ok(value) => Ok(value),
+        Err(_) => Err(NodeFault::Memory),
     }
-    Ok(bytes)
+}
+
+pub fn named(alloc: Global, name: &str) -> Result<Name, NodeFault> {
+    or_memory(Name::new(alloc, name.as_bytes()))
+}
+
+// Changes a directory or an access list.
+fn names_changed<D: Disk>(
+    alloc: Global,
+    log: &mut Log<D>,
+    tx: &mut Tx,
+    page: u32,
+    change: Change,
+) -> Result<u32, NodeFault>
+    requires act { MayAct D.tells D.view log.old tx.old page }
+    requires page { page < 1058 }
+    ensures { IsAlone D.tells D.view log.new tx.new }
+{
+    match change {
+        Change::Add(name, anode, unique) => {
+            let name = named(alloc, name)?;
+            add(alloc, log, tx, page, &name, anode, unique)?;
+        }
+        Change::Drop(name) => {
+            let name = named(alloc, name)?;
+            drop_name(log, tx, page, &name)?;
+        }
+        Change::Save(which, words) if which < 3 => {
+            let list = or_memory(list_of(alloc, words))?;
+            save(alloc, log, tx, page, which, &list)?;
+        }
+        _ => return Ok(REFUSED),
+    }
+    Ok(0)
+}
+
+fn changed<D: Disk>(
+    alloc: Global,
+    log: &mut Log<D>,
+    tx: &mut Tx,
+    page: u32,
+    change: Change,
+) -> Result<u32, NodeFault>
+    requires act { MayAct D.tells D.view log.old tx.old page }
+    requires page { page < 1058 }
+    ensures { IsAlone D.tells D.view log.new tx.new }
+{
+    match change {
+        Change::Take | Change::Share(_) | Change::Give(_) => Ok(count_changed(
+            log, tx, page, change,
+        )?),
+        Change::Add(_, _, _) | Change::Drop(_) | Change::Save(_, _) => names_changed(
+            alloc, log, tx, page, change,
+        ),
+        Change::Create(_) | Change::Copy(_) | Change::Remove | Change::Hand(_) => {
+            let owner = named(alloc, "ann")?;
+            anode_changed(log, tx, page, change, &owner)
+        }
+        _ => bytes_changed(log, tx, page, change),
+    }
+}
+
+// Makes a change in a transaction of its own, where one page has all counts, and forces it where that is wanted.
+pub fn acted<D: Disk>(
+    alloc: Global,
+    log: &mut Log<D>,
+    page: u32,
+    change: Change,
+    is_forced: bool,
+) -> Result<u32, NodeFault>
+    requires { IsReady D.tells D.view log.old }
+    ensures { OnOk result (IsReady D.tells D.view log.new) }
+{
+    if 256 < log.blocks() || 1_058 <= page {
+        return Ok(REFUSED);
+    }
+    let mut tx = log.begin(3)?;
+    let answer = changed(alloc, log, &mut tx, page, change);
+    log.end(tx);
+    if is_forced {
+        log.force()?;
+    }
+    answer
 }

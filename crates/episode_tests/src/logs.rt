@@ -1,159 +1,218 @@
-// The calls of a log by example.
-ghost use Rattle.std.specs.Prelude.{◌≡◌};
-ghost use Rattle.ep_log.specs.Log.{IsSoundLog};
-ghost use Rattle.ep_log.specs.Log.{IsIdle};
-ghost use Rattle.episode_tests.specs.Only.{IsRead};
+// Rows done to the log on a disk.
+ghost use Rattle.std.specs.Prelude.{◌≡◌, ◌≤◌, length, OnOk, IfOk};
+ghost use Rattle.ep_log.specs.Log.{state_of, slot_of, IsSoundLog};
+ghost use Rattle.ep_log.specs.State.{IsOnly};
+ghost use Rattle.episode_tests.specs.Ready.{IsReady};
 
-use crate::changes::{begun, contents, edited, ended, formatted, mounted, only, placed, started};
-use crate::watch::{counts, watching};
+use crate::acts::{Act, act_of};
+use crate::changes::{acted, or_memory};
+use crate::looks::{filled_with, fills_said, looked};
 use dfs_base::Disk;
-use dfs_disk::MemDisk;
-use ep_log::{Log, LogFault};
-use std::alloc::Global;
-use std::test::*;
+use ep_anode::{BLOCK, NodeFault};
+use ep_layout::put_u32;
+use ep_log::{Log, LogFault, Tx};
+use std::alloc::{AllocError, Global};
 
-// What a log contains; and page 1 as settled, the generation, and how many entries are free.
-type Shown = ([u64; 4], [u64; 3]);
-
-fn shown<D: Disk>(log: &mut Log<D>) -> Result<Shown, LogFault>
-    requires { IsSoundLog D.tells D.view log.old }
-    ensures { IsRead D.tells D.view log.old log.new }
-{
-    let found = contents(log)?;
-    let mut page = [0; 512];
-    log.settled(1, &mut page)?;
-    Ok((found, [only(&page), log.generation(), log.free() as u64]))
+// What acts were answered, how many of them, and whether there was a log.
+#[derive(Drop)]
+pub struct Answers {
+    pub text: String,
+    pub done: usize,
+    pub fault: Option<LogFault>,
 }
 
-// A transaction ends and isn't forced, and one is undone.
-fn used<D: Disk>(log: &mut Log<D>) -> Result<[Shown; 3], LogFault>
-    requires { IsIdle D.tells D.view log.old }
+impl Answers {
+    pub fn new(alloc: Global) -> Answers {
+        Answers {
+            text: String::new(alloc),
+            done: 0,
+            fault: None,
+        }
+    }
+
+    // Takes an answer, and whether there was memory for it.
+    fn take(&mut self, text: &str) -> bool {
+        self.done = self.done.saturating_add(1);
+        self.push(text).is_ok()
+    }
+
+    fn fail(&mut self, fault: NodeFault) {
+        let is_disk = matches!(fault, NodeFault::Failed);
+        let _ = self.push(if is_disk { "failed" } else { "memory" });
+    }
+
+    fn push(&mut self, text: &str) -> Result<(), AllocError> {
+        if !self.text.is_empty() && !text.is_empty() {
+            self.text.push_str("; ")?;
+        }
+        self.text.push_str(text)
+    }
+}
+
+// Begins a transaction that fills pages from 1 on, three at most, with a byte each.
+fn begun<D: Disk>(log: &mut Log<D>, fills: &[u8]) -> Result<Tx, LogFault>
+    requires ready { IsReady D.tells D.view log.old }
+    requires few { length fills.now ≤ 3 }
+    ensures sound { OnOk result (IsSoundLog D.tells D.view log.new) }
+    ensures only { IfOk result (λ tx. IsOnly (state_of log.new) (slot_of tx) 7) }
 {
-    ended(log, [0xf0, 5, 0])?;
-    let before = shown(log)?;
-    let tx = begun(log, [7, 7, 7])?;
-    let within = shown(log)?;
+    let mut tx = log.begin(3)?;
+    for (i, fill) in fills.iter().enumerate() {
+        log.put(&mut tx, 1 + i as u32, &[*fill; 512])?;
+    }
+    Ok(tx)
+}
+
+// Ends such a transaction.
+fn ended<D: Disk>(log: &mut Log<D>, fills: &[u8]) -> Result<(), LogFault>
+    requires ready { IsReady D.tells D.view log.old }
+    requires few { length fills.now ≤ 3 }
+    ensures { OnOk result (IsReady D.tells D.view log.new) }
+{
+    let tx = begun(log, fills)?;
+    log.end(tx);
+    Ok(())
+}
+
+// Undoes such a transaction. Answers what the pages are within it, and how many entries are free.
+fn undone<D: Disk>(alloc: Global, log: &mut Log<D>, fills: [u8; 3]) -> Result<String, NodeFault>
+    requires { IsReady D.tells D.view log.old }
+    ensures { OnOk result (IsReady D.tells D.view log.new) }
+{
+    let tx = begun(log, &fills)?;
+    let fills = filled_with(log);
+    let free = log.free();
     log.undo(tx);
-    Ok([before, within, shown(log)?])
+    let said = fills_said(alloc, fills?)?;
+    or_memory(format!(in alloc; "{said} {free}"))
 }
 
-// A disk is mounted, a checkpoint made, and a transaction behind it isn't forced.
-fn kept<D: Disk + Drop>(alloc: Global, disk: D) -> Result<(D, [Shown; 2]), LogFault> {
-    let mut log = mounted(alloc, disk)?;
-    let before = shown(&mut log)?;
-    ended(&mut log, [4, 4, 4])?;
-    placed(&mut log)?;
-    let after = shown(&mut log)?;
-    ended(&mut log, [8, 8, 8])?;
-    Ok((log.into_disk(), [before, after]))
-}
-
-// A disk is mounted, and a transaction of 1,023 pages begun. Answers how many entries one more page needs, too.
-fn limited<D: Disk + Drop>(alloc: Global, disk: D) -> Result<(Shown, u64), LogFault> {
-    let mut log = mounted(alloc, disk)?;
-    let found = shown(&mut log)?;
-    let needed = match log.begin(1_024) {
-        Err(
-            LogFault::Full {
-                free: 2_048,
-                needed,
-            },
-        ) => needed,
-        _ => 0,
-    };
-    let _ = log.begin(1_023)?;
-    Ok((found, needed))
-}
-
-#[test]
-fn what_was_forced_is_mounted_again(rt: HostRuntime) -> Result<(), Fail> {
-    let alloc = rt.alloc();
-    let mut log = started(alloc, MemDisk::new(alloc, &[])?)?;
-    assert_eq!(rt; log.server(), 3);
-    assert_eq!(rt; log.blocks(), 1);
-    let ended = ([0xf0, 5, 0, 9], [0xff, 1, 2_036]);
-    let open = ([7, 7, 7, 9], [0xff, 1, 2_029]);
-    assert_eq!(rt; used(&mut log)?, [ended, open, ended]);
-    let (disk, found) = kept(alloc, log.into_disk())?;
-    let forced = ([0x0f, 5, 6, 9], [0x0f, 2, 2_048]);
-    assert_eq!(rt; found, [forced, ([4, 4, 4, 9], [4, 3, 2_048])]);
-    let (found, needed) = limited(alloc, disk)?;
-    assert_eq!(rt; found, ([4, 4, 4, 9], [4, 4, 2_048]));
-    assert_eq!(rt; needed, 2_049);
-    Ok(())
-}
-
-// The place that a mount names where there is no log.
-fn refused<D: Disk + Drop>(alloc: Global, disk: D) -> u64 {
-    match mounted(alloc, disk) {
-        Err(LogFault::NotALog(place)) => place,
-        _ => 1,
-    }
-}
-
-// A header with the gate open and the generation 1.
-const OPENED: &[u8] = b"\x01\0\0\0\0\0\0\0\0\0\0\0\0\0\0\x01";
-
-#[test]
-fn what_is_no_log_is_refused_with_its_place(rt: HostRuntime) -> Result<(), Fail> {
-    let alloc = rt.alloc();
-    let disk = formatted(alloc, MemDisk::new(alloc, &[])?)?.into_disk();
-    for (length, at, piece, place) in [
-        (0, 0, b"".as_slice(), 0),
-        (512, 0, &[0; 512], 0),
-        (usize::MAX, 0, b"\0", 0),
-        (usize::MAX, 8, b"2", 0),
-        (usize::MAX, 512, b"\0", 512),
-        (usize::MAX, 520, b"\xff\xff\xff\xff\xff\xff\xff\xff", 512),
-        (usize::MAX, 520, b"\xff\xff\xff\xff\xff\xff\xff\xfe", 1),
-        (usize::MAX, 3_146_752, OPENED, 512),
-    ] {
-        let mut bytes = edited(alloc, disk.bytes(), at, piece)?;
-        bytes.truncate(length);
-        let disk = MemDisk::of(alloc, &bytes, &[])?;
-        assert_eq!(rt; refused(alloc, disk), place, "{at}");
-    }
-    Ok(())
-}
-
-// Mounts a disk, ends so many transactions of the same three pages, and forces them, or makes a checkpoint.
-pub fn batch<D: Disk + Drop>(
-    alloc: Global,
-    disk: D,
-    n: u16,
-    in_place: bool,
-) -> Result<D, LogFault> {
-    let mut log = mounted(alloc, disk)?;
+// Ends so many transactions of the same pages, three at most.
+fn batch<D: Disk>(log: &mut Log<D>, n: u32, pages: u8) -> Result<(), LogFault>
+    requires ready { IsReady D.tells D.view log.old }
+    requires few { pages ≤ 3 }
+    ensures { OnOk result (IsReady D.tells D.view log.new) }
+{
     for i in 0..n {
-        let fill = (i % 251) as u8;
-        ended(&mut log, [fill, fill, fill])?;
-    }
-    if in_place {
-        placed(&mut log)?;
-    } else {
-        log.force()?;
-    }
-    Ok(log.into_disk())
-}
-
-// A batch is synced twice, reads each page once, and writes no page in its place; a checkpoint writes each page once.
-// A mount syncs five times, reads one entry of an empty half, and the other half in 32 pieces. The counts are of the
-// halves' entries and of the pages.
-#[test]
-fn a_batch_costs_two_syncs(rt: HostRuntime) -> Result<(), Fail> {
-    let alloc = rt.alloc();
-    let fresh = formatted(alloc, MemDisk::new(alloc, &[])?)?.into_disk();
-    for (n, in_place, want) in [
-        (0, false, [[1, 0, 7], [32, 0, 7], [0, 0, 7]]),
-        (1, false, [[1, 0, 7], [32, 8, 7], [3, 0, 7]]),
-        (8, false, [[1, 0, 7], [32, 64, 7], [3, 0, 7]]),
-        (8, true, [[33, 0, 12], [32, 64, 12], [3, 3, 12]]),
-    ] {
-        let disk = watching(alloc, MemDisk::of(alloc, fresh.bytes(), &[])?);
-        let seen = batch(alloc, disk, n, in_place)?.seen;
-        let half_0 = counts(&seen, 1_024, 3_146_752);
-        let half_1 = counts(&seen, 3_147_264, 6_292_992);
-        assert_eq!(rt; [half_0, half_1, counts(&seen, 6_292_992, u64::MAX)], want);
+        let fills = [(i % 251) as u8; 3];
+        ended(log, &fills[..pages as usize])?;
     }
     Ok(())
+}
+
+// Makes a checkpoint, where the generation isn't the last one.
+fn placed<D: Disk>(log: &mut Log<D>) -> Result<(), LogFault>
+    requires { IsReady D.tells D.view log.old }
+    ensures { OnOk result (IsReady D.tells D.view log.new) }
+{
+    if log.generation() == u64::MAX {
+        return Err(LogFault::NotALog(512));
+    }
+    log.checkpoint()?;
+    Ok(())
+}
+
+fn forced<D: Disk>(log: &mut Log<D>) -> Result<(), LogFault>
+    requires { IsReady D.tells D.view log.old }
+    ensures { OnOk result (IsReady D.tells D.view log.new) }
+{
+    log.force()
+}
+
+// Writes a block that there is.
+fn block_written<D: Disk>(log: &mut Log<D>, block: u32, bytes: &[u8; BLOCK]) -> Result<(), LogFault>
+    requires { IsReady D.tells D.view log.old }
+    ensures { OnOk result (IsReady D.tells D.view log.new) }
+{
+    if block < log.blocks() {
+        log.write_block(block, bytes)?;
+    }
+    Ok(())
+}
+
+// A block by hand, which a pointer begins.
+fn map_by_hand(pointer: u32) -> [u8; BLOCK] {
+    let mut map = [0; BLOCK];
+    put_u32(&mut map, 0, pointer);
+    map
+}
+
+fn logged<D: Disk>(log: &mut Log<D>, act: Act) -> Result<(), LogFault>
+    requires { IsReady D.tells D.view log.old }
+    ensures { OnOk result (IsReady D.tells D.view log.new) }
+{
+    match act {
+        Act::Fills(fills) => ended(log, &fills),
+        Act::Batch(n, pages) => batch(log, n, pages.min(3)),
+        Act::Force => forced(log),
+        Act::Checkpoint => placed(log),
+        Act::Block(block, byte) => block_written(log, block, &[byte; BLOCK]),
+        Act::Map(block, pointer) => block_written(log, block, &map_by_hand(pointer)),
+        Act::Change(_, _, _) | Act::Undone(_) | Act::Look(_) => Ok(()),
+    }
+}
+
+// Does an act, and answers what it says.
+fn said<D: Disk>(alloc: Global, log: &mut Log<D>, act: Act) -> Result<String, NodeFault>
+    requires { IsReady D.tells D.view log.old }
+    ensures { OnOk result (IsReady D.tells D.view log.new) }
+{
+    match act {
+        Act::Look(look) => looked(alloc, log, look),
+        Act::Undone(fills) => undone(alloc, log, fills),
+        Act::Change(page, change, is_forced) => {
+            let answer = acted(alloc, log, page, change, is_forced)?;
+            or_memory(format!(in alloc; "{answer}"))
+        }
+        _ => {
+            logged(log, act)?;
+            Ok(String::new(alloc))
+        }
+    }
+}
+
+// Does acts one after the other, up to one that fails.
+fn all<D: Disk>(alloc: Global, log: &mut Log<D>, acts: &str, answers: &mut Answers)
+    requires { IsReady D.tells D.view log.old }
+{
+    for row in acts.split(';') {
+        let Some(act) = act_of(row.trim()) else {
+            return;
+        };
+        match said(alloc, log, act) {
+            Ok(text) if answers.take(text.as_str()) => {}
+            Ok(_) => return,
+            Err(fault) => {
+                answers.fail(fault);
+                return;
+            }
+        }
+    }
+}
+
+// Mounts the log on a disk, does acts to it, and hands back the disk.
+pub fn over<D: Disk>(alloc: Global, disk: D, acts: &str, answers: &mut Answers) -> D
+    requires { D.tells → ⊥ }
+{
+    match Log::mount(alloc, disk) {
+        Ok(mut log) => {
+            all(alloc, &mut log, acts, answers);
+            log.into_disk()
+        }
+        Err((disk, fault)) => {
+            answers.fault = Some(fault);
+            disk
+        }
+    }
+}
+
+// Formats a disk, as far as it goes.
+pub fn formatted<D: Disk>(alloc: Global, disk: D, server: u8, blocks: u32) -> (D, bool) {
+    if blocks == 0 || 66_560 < blocks {
+        return (disk, false);
+    }
+    match Log::format(alloc, disk, server, blocks) {
+        Ok(log) => (log.into_disk(), true),
+        Err((disk, _fault)) => (disk, false),
+    }
 }

@@ -1,4 +1,4 @@
-// A disk that notes what is done to it, and what a crash may leave of it.
+// A disk that notes what is done to it and tells nothing, and what a crash may leave of it.
 ghost use Rattle.std.specs.Prelude.{◌≡◌};
 
 use dfs_base::{Disk, Failed};
@@ -21,11 +21,11 @@ pub struct Watched<D: Disk> {
 }
 
 impl<D: Disk> Disk for Watched<D> {
-    ghost tells = { D.tells };
+    ghost tells = { ⊥ };
 
     ghost view = { λ watched. D.view watched.disk };
 
-    ghost reads_one = { λ watched told. D.reads_one watched.disk told };
+    ghost reads_one = { λ watched told. absurd told };
 
     fn length(&mut self) -> Result<u64, Failed> {
         self.disk.length()

@@ -5,14 +5,17 @@
 mod row;
 mod show;
 mod show_call;
+mod text;
 
 use anyhow::Result;
 use dfs_base::{NoMemory, Plain};
+use message_laws::{sound_has_a_spelling, sound_is_read_back};
 use row::{Row, Wanted, row_of};
 use rpc_msg::{DecodeRefused, decode, encode, one_spelling, reads_back};
-use rpc_types::Message;
+use rpc_types::{Message, sound_by_example};
 use show::show;
 use std::alloc::Global;
+use text::Text;
 
 // What bytes give: the length of the message at their front, or where they stop to begin one.
 fn length_or_stop(alloc: Global, bytes: &[u8]) -> Result<usize, usize> {
@@ -59,8 +62,9 @@ fn is_alone(alloc: Global, bytes: &[u8]) -> Result<bool> {
 // What is wrong with a message that was read, as a line; an empty one where nothing is.
 fn complaint(alloc: Global, message: &Message, row: &Row, wanted: &str) -> Result<String> {
     let bytes = row.bytes.as_slice();
-    let mut said = String::new(alloc);
-    show(message, &mut said)?;
+    let mut said = Text::new(alloc);
+    show(message, &mut said);
+    let said = said.line()?;
     if said.as_str() != wanted {
         return Ok(said);
     }
@@ -108,8 +112,11 @@ fn judge(rt: &(impl Print + AllocGlobal), row: &Row) -> Result<()> {
 }
 
 fn main(rt: HostRuntime) -> Result<()> {
+    sound_by_example();
     one_spelling();
     reads_back();
+    sound_has_a_spelling();
+    sound_is_read_back();
     let mut rows = 0u64;
     for line in rt.lines(rt.alloc()) {
         let line = line?;

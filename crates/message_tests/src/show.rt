@@ -1,187 +1,173 @@
 //! What a message says, as the table writes it.
 
-use crate::show_call::{call, reply, text};
-use anyhow::Result;
-use dfs_base::{Fid, Items, OpenKind};
+use crate::show_call::{access, bytes, call, reply};
+use crate::text::Text;
+use dfs_base::{Fid, Items};
 use dfs_calls::{DirEntry, Piece, Record, ShipPart, Status};
 use rpc_types::{Body, Bring, Direction, DoneIs, Give, Message, Outstanding, Reclaimed};
 use tok_types::{Kind, Need, Token, TokenId};
 
 /// Writes what a message says.
-pub fn show(message: &Message, out: &mut String) -> Result<()> {
-    let way = match message.direction {
-        Direction::ToServer => "to server",
-        Direction::ToHost => "to host",
-        Direction::BetweenServers => "between servers",
-    };
-    let (host, server) = (message.host.0, message.server.0);
-    let (epoch, moves) = (message.epoch, message.moves);
-    write!(out, "{way} c{host} s{server} epoch {epoch} moves {moves} ")?;
-    match &message.body {
-        Body::Hello => out.push_str("hello")?,
-        Body::Restarted => out.push_str("restarted")?,
-        Body::Down => out.push_str("down")?,
-        Body::Bye => out.push_str("bye")?,
-        Body::Ship(_) | Body::Shipped(_) | Body::NotHere(_) => moving(&message.body, out)?,
-        Body::Grant(_) | Body::Done(_) => answer(&message.body, out)?,
-        Body::Fetch(_) | Body::Change(_) => request(&message.body, out)?,
-        _ => tokens_of(&message.body, out)?,
-    }
-    Ok(())
+pub fn show(message: &Message, out: &mut Text) {
+    out.word(match message.direction {
+        Direction::ToServer => "to server c",
+        Direction::ToHost => "to host c",
+        Direction::BetweenServers => "between servers c",
+    });
+    out.number("", message.host.0 as u64);
+    out.number(" s", message.server.0 as u64);
+    out.number(" epoch ", message.epoch);
+    out.number(" moves ", message.moves as u64);
+    body(&message.body, out);
 }
 
-fn request(body: &Body, out: &mut String) -> Result<()> {
+fn body(body: &Body, out: &mut Text) {
     match body {
+        Body::Hello => out.word(" hello"),
+        Body::Restarted => out.word(" restarted"),
+        Body::Down => out.word(" down"),
+        Body::Bye => out.word(" bye"),
         Body::Fetch(fetch) => {
-            let number = fetch.number;
-            write!(out, "fetch {number} ")?;
-            fid(fetch.fid, out)?;
+            out.number(" fetch ", fetch.number);
+            fid(fetch.fid, out);
             for need in fetch.needs.as_slice() {
-                show_need(need, out)?;
+                show_need(need, out);
             }
         }
         Body::Change(change) => {
-            let (number, fileset, k) = (change.number, change.fileset.0, change.k);
-            write!(out, "change {number} fileset {fileset} ")?;
-            fid(change.fid, out)?;
-            let enter = change.enter;
-            write!(out, " enter {enter} k {k} ")?;
-            call(&change.call, out)?;
+            out.number(" change ", change.number);
+            out.number(" fileset ", change.fileset.0 as u64);
+            fid(change.fid, out);
+            out.flag(" enter ", change.enter);
+            out.number(" k ", change.k as u64);
+            out.word(" ");
+            call(&change.call, out);
         }
-        _ => {}
+        Body::GiveBack(give) => give_back(give, out),
+        Body::Grant(_) | Body::Done(_) => answer(body, out),
+        Body::Ship(_) | Body::Shipped(_) | Body::NotHere(_) => moving(body, out),
+        _ => tokens_of(body, out),
     }
-    Ok(())
 }
 
-fn answer(body: &Body, out: &mut String) -> Result<()> {
+fn answer(body: &Body, out: &mut Text) {
     match body {
         Body::Grant(grant) => {
-            out.push_str("grant")?;
-            bring(&grant.bring, out)?;
-            told(&grant.status, &grant.pieces, &grant.entries, out)?;
+            out.word(" grant");
+            bring(&grant.bring, out);
+            told(&grant.status, &grant.pieces, &grant.entries, out);
         }
         Body::Done(done) => {
-            let fileset = done.fileset.0;
-            write!(out, "done fileset {fileset} ")?;
-            outcome(&done.outcome, out)?;
-            bring(&done.bring, out)?;
+            out.number(" done fileset ", done.fileset.0 as u64);
+            outcome(&done.outcome, out);
+            bring(&done.bring, out);
         }
         _ => {}
     }
-    Ok(())
 }
 
-fn outcome(outcome: &DoneIs, out: &mut String) -> Result<()> {
+fn outcome(outcome: &DoneIs, out: &mut Text) {
     match outcome {
-        DoneIs::Reply(said) => reply(said, out)?,
-        DoneIs::Known(fileset) => {
-            let fileset = fileset.0;
-            write!(out, "known {fileset}")?;
+        DoneIs::Reply(said) => {
+            out.word(" ");
+            reply(said, out);
         }
-        DoneIs::Granted => out.push_str("granted")?,
-        DoneIs::Again => out.push_str("again")?,
-        DoneIs::Elsewhere(server) => {
-            let server = server.0;
-            write!(out, "elsewhere s{server}")?;
-        }
+        DoneIs::Known(fileset) => out.number(" known ", fileset.0 as u64),
+        DoneIs::Granted => out.word(" granted"),
+        DoneIs::Again => out.word(" again"),
+        DoneIs::Elsewhere(server) => out.number(" elsewhere s", server.0 as u64),
     }
-    Ok(())
 }
 
-fn tokens_of(body: &Body, out: &mut String) -> Result<()> {
+fn tokens_of(body: &Body, out: &mut Text) {
     match body {
         Body::Revoke(revoke) => {
-            let stamp = revoke.stamp;
-            write!(out, "revoke {stamp} ")?;
-            fid(revoke.fid, out)?;
-            ids(&revoke.ids, out)?;
+            out.number(" revoke ", revoke.stamp);
+            fid(revoke.fid, out);
+            ids(&revoke.ids, out);
         }
         Body::Returned(named) => {
-            out.push_str("returned ")?;
-            fid(named.fid, out)?;
-            ids(&named.ids, out)?;
+            out.word(" returned");
+            fid(named.fid, out);
+            ids(&named.ids, out);
         }
         Body::Kept(named) => {
-            out.push_str("kept ")?;
-            fid(named.fid, out)?;
-            ids(&named.ids, out)?;
+            out.word(" kept");
+            fid(named.fid, out);
+            ids(&named.ids, out);
         }
-        Body::GiveBack(give) => give_back(give, out)?,
         Body::Gone(gone) => {
-            let (fileset, number) = (gone.fileset.0, gone.number);
-            write!(out, "gone {number} fileset {fileset}")?;
+            out.number(" gone ", gone.number);
+            out.number(" fileset ", gone.fileset.0 as u64);
         }
         Body::Reclaim(claim) => {
-            out.push_str("reclaim")?;
-            tokens(&claim.tokens, out)?;
+            out.word(" reclaim");
+            tokens(&claim.tokens, out);
             for numbers in claim.numbers.as_slice() {
-                outstanding(numbers, out)?;
+                outstanding(numbers, out);
             }
         }
-        Body::Reclaimed(said) => reclaimed(said, out)?,
+        Body::Reclaimed(said) => reclaimed(said, out),
         _ => {}
     }
-    Ok(())
 }
 
-fn give_back(give: &Give, out: &mut String) -> Result<()> {
-    let number = give.number;
-    write!(out, "give back {number} ")?;
-    fid(give.fid, out)?;
-    ids(&give.ids, out)?;
-    pieces(&give.pieces, out)?;
+fn give_back(give: &Give, out: &mut Text) {
+    out.number(" give back ", give.number);
+    fid(give.fid, out);
+    ids(&give.ids, out);
+    pieces(&give.pieces, out);
     if let Some(length) = give.length {
-        write!(out, " length {length}")?;
+        out.number(" length ", length as u64);
     }
     if let Some(ends) = &give.ends {
-        let k = ends.k;
-        write!(out, " ends {k} ")?;
-        call(&ends.call, out)?;
+        out.number(" ends ", ends.k as u64);
+        out.word(" ");
+        call(&ends.call, out);
     }
-    Ok(())
 }
 
-fn reclaimed(said: &Reclaimed, out: &mut String) -> Result<()> {
-    out.push_str("reclaimed")?;
+fn reclaimed(said: &Reclaimed, out: &mut Text) {
+    out.word(" reclaimed");
     for applied in said.applied.as_slice() {
-        let (fileset, number) = (applied.fileset.0, applied.number);
-        write!(out, " applied {number} fileset {fileset}")?;
+        out.number(" applied ", applied.number);
+        out.number(" fileset ", applied.fileset.0 as u64);
     }
-    ids(&said.left_out, out)
+    ids(&said.left_out, out);
 }
 
-fn outstanding(numbers: &Outstanding, out: &mut String) -> Result<()> {
-    let (fileset, moves) = (numbers.fileset.0, numbers.moves);
-    let (give, change) = (numbers.give, numbers.change);
-    write!(
-        out,
-        " fileset {fileset} moves {moves} give {give} change {change}"
-    )?;
-    Ok(())
+fn outstanding(numbers: &Outstanding, out: &mut Text) {
+    out.number(" fileset ", numbers.fileset.0 as u64);
+    out.number(" moves ", numbers.moves as u64);
+    out.number(" give ", numbers.give);
+    out.number(" change ", numbers.change);
 }
 
-fn moving(body: &Body, out: &mut String) -> Result<()> {
+fn moving(body: &Body, out: &mut Text) {
     match body {
         Body::NotHere(said) => {
-            let (fileset, to) = (said.fileset.0, said.to.0);
-            write!(out, "not here fileset {fileset} to s{to}")?;
+            out.number(" not here fileset ", said.fileset.0 as u64);
+            out.number(" to s", said.to.0 as u64);
         }
         Body::Ship(ship) => {
-            let (to, number, fileset, at) = (ship.to.0, ship.ship, ship.fileset.0, ship.at);
-            write!(out, "ship {number} to s{to} fileset {fileset} at {at} ")?;
-            part(&ship.part, out)?;
+            out.number(" ship ", ship.ship);
+            out.number(" to s", ship.to.0 as u64);
+            out.number(" fileset ", ship.fileset.0 as u64);
+            out.number(" at ", ship.at as u64);
+            part(&ship.part, out);
         }
         Body::Shipped(shipped) => {
-            let (to, number, at) = (shipped.to.0, shipped.ship, shipped.at);
-            write!(out, "shipped {number} to s{to} at {at} ")?;
-            reply(&shipped.reply, out)?;
+            out.number(" shipped ", shipped.ship);
+            out.number(" to s", shipped.to.0 as u64);
+            out.number(" at ", shipped.at as u64);
+            out.word(" ");
+            reply(&shipped.reply, out);
         }
         _ => {}
     }
-    Ok(())
 }
 
-fn part(part: &ShipPart, out: &mut String) -> Result<()> {
+fn part(part: &ShipPart, out: &mut Text) {
     match part {
         ShipPart::Head {
             name,
@@ -189,15 +175,16 @@ fn part(part: &ShipPart, out: &mut String) -> Result<()> {
             records,
             mover,
         } => {
-            out.push_str("head ")?;
-            text(name, out)?;
-            write!(out, " objects {objects}")?;
+            out.name(" head ", name);
+            out.number(" objects ", *objects as u64);
             for record in records.as_slice() {
-                show_record(record, out)?;
+                show_record(record, out);
             }
-            let (host, number, k) = (mover.host.0, mover.number, mover.k);
-            write!(out, " mover c{host} {number} k {k} ")?;
-            call(&mover.call, out)?;
+            out.number(" mover c", mover.host.0 as u64);
+            out.number(" ", mover.number);
+            out.number(" k ", mover.k as u64);
+            out.word(" ");
+            call(&mover.call, out);
         }
         ShipPart::Object {
             anode,
@@ -206,124 +193,105 @@ fn part(part: &ShipPart, out: &mut String) -> Result<()> {
             pieces,
             entries,
         } => {
-            write!(out, "object {anode} unique {unique}")?;
-            told(status, pieces, entries, out)?;
+            out.number(" object ", *anode as u64);
+            out.number(" unique ", *unique as u64);
+            told(status, pieces, entries, out);
         }
     }
-    Ok(())
 }
 
-fn show_record(record: &Record, out: &mut String) -> Result<()> {
-    let (change, give) = (record.change, record.give);
-    let (code, right) = (record.code, record.right);
-    write!(out, " record {change} {give} {code} {right}")?;
-    Ok(())
+fn show_record(record: &Record, out: &mut Text) {
+    out.number(" record ", record.change);
+    out.number(" ", record.give);
+    out.number(" ", record.code as u64);
+    out.number(" ", record.right as u64);
 }
 
-fn fid(fid: Fid, out: &mut String) -> Result<()> {
-    let (fileset, anode, unique) = (fid.fileset.0, fid.anode, fid.unique);
-    write!(out, "{fileset}/{anode}/{unique}")?;
-    Ok(())
+fn fid(fid: Fid, out: &mut Text) {
+    out.number(" ", fid.fileset.0 as u64);
+    out.number("/", fid.anode as u64);
+    out.number("/", fid.unique as u64);
 }
 
-fn show_need(need: &Need, out: &mut String) -> Result<()> {
-    out.push_str(" need ")?;
-    fid(need.fid, out)?;
-    kind(need.kind, out)
+fn show_need(need: &Need, out: &mut Text) {
+    out.word(" need");
+    fid(need.fid, out);
+    kind(need.kind, out);
 }
 
-fn kind(kind: Kind, out: &mut String) -> Result<()> {
+fn kind(kind: Kind, out: &mut Text) {
     match kind {
         Kind::Bytes { update, span } => {
-            let (from, to) = (span.from, span.to);
-            write!(out, " bytes update {update} {from}..{to}")?;
+            out.flag(" bytes update ", update);
+            out.number(" ", span.from as u64);
+            out.number("..", span.to as u64);
         }
-        Kind::Status { update } => write!(out, " status update {update}")?,
+        Kind::Status { update } => out.flag(" status update ", update),
         Kind::Lock { writing, span } => {
-            let (from, to) = (span.from, span.to);
-            write!(out, " lock writing {writing} {from}..{to}")?;
+            out.flag(" lock writing ", writing);
+            out.number(" ", span.from as u64);
+            out.number("..", span.to as u64);
         }
-        Kind::Opening(how) => opening(how, out)?,
+        Kind::Opening(how) => out.variant(" opening ", &how),
     }
-    Ok(())
 }
 
-fn opening(how: OpenKind, out: &mut String) -> Result<()> {
-    write!(out, " opening {how:?}")?;
-    Ok(())
+fn id(id: TokenId, out: &mut Text) {
+    out.number(" s", id.server.0 as u64);
+    out.number(".", id.epoch);
+    out.number(".", id.seq);
 }
 
-fn id(id: TokenId, out: &mut String) -> Result<()> {
-    let (server, epoch, seq) = (id.server.0, id.epoch, id.seq);
-    write!(out, " s{server}.{epoch}.{seq}")?;
-    Ok(())
-}
-
-fn ids(ids: &Items<TokenId>, out: &mut String) -> Result<()> {
+fn ids(ids: &Items<TokenId>, out: &mut Text) {
     for one in ids.as_slice() {
-        id(*one, out)?;
+        id(*one, out);
     }
-    Ok(())
 }
 
-fn tokens(tokens: &Items<Token>, out: &mut String) -> Result<()> {
+fn tokens(tokens: &Items<Token>, out: &mut Text) {
     for token in tokens.as_slice() {
-        out.push_str(" token")?;
-        id(token.id, out)?;
-        let host = token.host.0;
-        write!(out, " c{host} ")?;
-        fid(token.fid, out)?;
-        kind(token.kind, out)?;
+        out.word(" token");
+        id(token.id, out);
+        out.number(" c", token.host.0 as u64);
+        fid(token.fid, out);
+        kind(token.kind, out);
     }
-    Ok(())
 }
 
-fn bring(bring: &Bring, out: &mut String) -> Result<()> {
-    let (number, stamp) = (bring.number, bring.stamp);
-    write!(out, " {number} stamp {stamp} ")?;
-    fid(bring.fid, out)?;
-    tokens(&bring.tokens, out)
+fn bring(bring: &Bring, out: &mut Text) {
+    out.number(" ", bring.number);
+    out.number(" stamp ", bring.stamp);
+    fid(bring.fid, out);
+    tokens(&bring.tokens, out);
 }
 
-fn told(
-    status: &Option<Status>,
-    bytes: &Items<Piece>,
-    entries: &Items<DirEntry>,
-    out: &mut String,
-) -> Result<()> {
+fn told(status: &Option<Status>, bytes: &Items<Piece>, entries: &Items<DirEntry>, out: &mut Text) {
     if let Some(status) = status {
-        show_status(status, out)?;
+        show_status(status, out);
     }
-    pieces(bytes, out)?;
+    pieces(bytes, out);
     for entry in entries.as_slice() {
-        out.push_str(" entry ")?;
-        text(&entry.name, out)?;
-        let (anode, unique) = (entry.anode, entry.unique);
-        write!(out, " {anode} {unique}")?;
+        out.name(" entry ", &entry.name);
+        out.number(" ", entry.anode as u64);
+        out.number(" ", entry.unique as u64);
     }
-    Ok(())
 }
 
-fn show_status(status: &Status, out: &mut String) -> Result<()> {
-    let (dir, read_only, length) = (status.dir, status.read_only, status.length);
-    write!(
-        out,
-        " status dir {dir} read_only {read_only} length {length} "
-    )?;
-    text(&status.owner, out)?;
-    out.push_str(" ")?;
-    text(&status.group, out)?;
+fn show_status(status: &Status, out: &mut Text) {
+    out.flag(" status dir ", status.dir);
+    out.flag(" read_only ", status.read_only);
+    out.number(" length ", status.length as u64);
+    out.name(" ", &status.owner);
+    out.name(" ", &status.group);
     for list in status.lists.as_slice() {
-        crate::show_call::access(list, out)?;
+        access(list, out);
     }
-    Ok(())
 }
 
-fn pieces(pieces: &Items<Piece>, out: &mut String) -> Result<()> {
+fn pieces(pieces: &Items<Piece>, out: &mut Text) {
     for piece in pieces.as_slice() {
-        let from = piece.from;
-        write!(out, " piece {from} ")?;
-        crate::show_call::bytes(&piece.bytes, out)?;
+        out.number(" piece ", piece.from as u64);
+        out.word(" ");
+        bytes(&piece.bytes, out);
     }
-    Ok(())
 }

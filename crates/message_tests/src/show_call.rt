@@ -1,131 +1,94 @@
 //! Calls and replies, as the table writes them.
 
-use anyhow::Result;
+use crate::text::Text;
 use dfs_base::{AccessEntry, AccessList, Items, Name, User, Who};
 use dfs_calls::{Call, Place, Refusal, Reply};
 
-/// Writes a name.
-pub fn text(name: &Name, out: &mut String) -> Result<()> {
-    for byte in name.as_bytes() {
-        out.push(char::from(*byte))?;
-    }
-    Ok(())
-}
-
 /// Writes bytes: few of them as text, and of more how many they are.
-pub fn bytes(bytes: &Items<u8>, out: &mut String) -> Result<()> {
+pub fn bytes(bytes: &Items<u8>, out: &mut Text) {
     let count = bytes.len();
     if count > 8 {
-        write!(out, "{count} bytes")?;
-        return Ok(());
+        out.number("", count as u64);
+        out.word(" bytes");
+    } else {
+        out.bytes("<", bytes.as_slice());
+        out.word(">");
     }
-    out.push('<')?;
-    for byte in bytes.as_slice() {
-        out.push(char::from(*byte))?;
-    }
-    out.push('>')?;
-    Ok(())
 }
 
-fn names(names: &Items<Name>, out: &mut String) -> Result<()> {
+fn names(names: &Items<Name>, out: &mut Text) {
     for name in names.as_slice() {
-        out.push('/')?;
-        text(name, out)?;
+        out.name("/", name);
     }
-    Ok(())
 }
 
-fn place(place: &Place, out: &mut String) -> Result<()> {
-    let server = place.server.0;
-    write!(out, "s{server}:")?;
-    text(&place.fileset, out)?;
-    names(&place.path, out)
+fn place(word: &str, place: &Place, out: &mut Text) {
+    out.word(word);
+    out.number("s", place.server.0 as u64);
+    out.name(":", &place.fileset);
+    names(&place.path, out);
 }
 
-fn user(user: &User, out: &mut String) -> Result<()> {
-    text(&user.name, out)?;
-    names(&user.groups, out)
+fn user(user: &User, out: &mut Text) {
+    out.name(" ", &user.name);
+    names(&user.groups, out);
 }
 
 /// Writes an access list.
-pub fn access(list: &AccessList, out: &mut String) -> Result<()> {
-    out.push_str(" list")?;
+pub fn access(list: &AccessList, out: &mut Text) {
+    out.word(" list");
     for entry in list.as_slice() {
-        access_entry(entry, out)?;
+        access_entry(entry, out);
     }
-    Ok(())
 }
 
-fn access_entry(entry: &AccessEntry, out: &mut String) -> Result<()> {
+fn access_entry(entry: &AccessEntry, out: &mut Text) {
     match &entry.who {
-        Who::UserObj => out.push_str(" user_obj")?,
-        Who::User(name) => {
-            out.push_str(" user ")?;
-            text(name, out)?;
-        }
-        Who::GroupObj => out.push_str(" group_obj")?,
-        Who::Group(name) => {
-            out.push_str(" group ")?;
-            text(name, out)?;
-        }
-        Who::OtherObj => out.push_str(" other_obj")?,
-        Who::MaskObj => out.push_str(" mask_obj")?,
+        Who::UserObj => out.word(" user_obj"),
+        Who::User(name) => out.name(" user ", name),
+        Who::GroupObj => out.word(" group_obj"),
+        Who::Group(name) => out.name(" group ", name),
+        Who::OtherObj => out.word(" other_obj"),
+        Who::MaskObj => out.word(" mask_obj"),
     }
-    let rights = entry.rights.bits();
-    write!(out, " {rights}")?;
-    Ok(())
+    out.number(" ", entry.rights.bits() as u64);
 }
 
 /// Writes a reply.
-pub fn reply(reply: &Reply, out: &mut String) -> Result<()> {
+pub fn reply(reply: &Reply, out: &mut Text) {
     match reply {
-        Reply::Ok => out.push_str("ok")?,
+        Reply::Ok => out.word("ok"),
         Reply::Bytes(read) => {
-            out.push_str("bytes ")?;
-            bytes(read, out)?;
+            out.word("bytes ");
+            bytes(read, out);
         }
         Reply::Names(listed) => {
-            out.push_str("names ")?;
-            names(listed, out)?;
+            out.word("names ");
+            names(listed, out);
         }
         Reply::Facts(facts) => {
-            let (dir, length, rights) = (facts.dir, facts.length, facts.rights.bits());
-            write!(out, "facts dir {dir} length {length} rights {rights} ")?;
-            text(&facts.owner, out)?;
+            out.flag("facts dir ", facts.dir);
+            out.number(" length ", facts.length as u64);
+            out.number(" rights ", facts.rights.bits() as u64);
+            out.name(" ", &facts.owner);
         }
         Reply::Access(list) => {
-            out.push_str("access")?;
-            access(list, out)?;
+            out.word("access");
+            access(list, out);
         }
-        Reply::Refused(refusal) => refused(*refusal, out)?,
+        Reply::Refused(refusal) => refused(*refusal, out),
     }
-    Ok(())
 }
 
-fn refused(refusal: Refusal, out: &mut String) -> Result<()> {
-    if let Refusal::Denied(rights) = refusal {
-        let rights = rights.bits();
-        write!(out, "denied {rights}")?;
-        return Ok(());
+fn refused(refusal: Refusal, out: &mut Text) {
+    match refusal {
+        Refusal::Denied(rights) => out.number("denied ", rights.bits() as u64),
+        _ => out.variant("refused ", &refusal),
     }
-    write!(out, "refused {refusal:?}")?;
-    Ok(())
 }
 
 /// Writes a call.
-pub fn call(call: &Call, out: &mut String) -> Result<()> {
-    match call {
-        Call::Read { .. } | Call::Write { .. } | Call::Truncate { .. } => file_call(call, out),
-        Call::SetAcl { .. } | Call::GetAcl { .. } => list_call(call, out),
-        Call::Lock { .. } | Call::Unlock { .. } => use_call(call, out),
-        Call::OpenFile { .. } | Call::CloseFile { .. } => use_call(call, out),
-        Call::NewFileset { .. } | Call::CloneFileset { .. } => fileset_call(call, out),
-        Call::MoveFileset { .. } => fileset_call(call, out),
-        _ => name_call(call, out),
-    }
-}
-
-fn fileset_call(call: &Call, out: &mut String) -> Result<()> {
+pub fn call(call: &Call, out: &mut Text) {
     match call {
         Call::NewFileset {
             server,
@@ -133,124 +96,94 @@ fn fileset_call(call: &Call, out: &mut String) -> Result<()> {
             objects,
             owner,
         } => {
-            let server = server.0;
-            write!(out, "new_fileset s{server} {objects} ")?;
-            text(name, out)?;
-            out.push(' ')?;
-            user(owner, out)?;
+            out.number("new_fileset s", server.0 as u64);
+            out.number(" ", *objects as u64);
+            out.name(" ", name);
+            user(owner, out);
         }
         Call::CloneFileset {
             server,
             fileset,
             new,
         } => {
-            let server = server.0;
-            write!(out, "clone_fileset s{server} ")?;
-            text(fileset, out)?;
-            out.push(' ')?;
-            text(new, out)?;
+            out.number("clone_fileset s", server.0 as u64);
+            out.name(" ", fileset);
+            out.name(" ", new);
         }
         Call::MoveFileset {
             server,
             fileset,
             to,
         } => {
-            let (server, to) = (server.0, to.0);
-            write!(out, "move_fileset s{server} to s{to} ")?;
-            text(fileset, out)?;
+            out.number("move_fileset s", server.0 as u64);
+            out.number(" to s", to.0 as u64);
+            out.name(" ", fileset);
         }
-        _ => {}
+        Call::Unlock { label } => out.name("unlock ", label),
+        Call::CloseFile { label } => out.name("close_file ", label),
+        _ => place_call(call, out),
     }
-    Ok(())
 }
 
-fn name_call(call: &Call, out: &mut String) -> Result<()> {
+fn place_call(call: &Call, out: &mut Text) {
     match call {
-        Call::Create { place: at } => {
-            out.push_str("create ")?;
-            place(at, out)?;
-        }
-        Call::MakeDir { place: at } => {
-            out.push_str("make_dir ")?;
-            place(at, out)?;
-        }
-        Call::Remove { place: at } => {
-            out.push_str("remove ")?;
-            place(at, out)?;
-        }
+        Call::Create { place: at } => place("create ", at, out),
+        Call::MakeDir { place: at } => place("make_dir ", at, out),
+        Call::Remove { place: at } => place("remove ", at, out),
         Call::Rename { from, to } => {
-            out.push_str("rename ")?;
-            place(from, out)?;
-            out.push(' ')?;
-            place(to, out)?;
+            place("rename ", from, out);
+            place(" ", to, out);
         }
-        Call::List { place: at } => {
-            out.push_str("list ")?;
-            place(at, out)?;
-        }
-        Call::Stat { place: at } => {
-            out.push_str("stat ")?;
-            place(at, out)?;
-        }
-        Call::Sync { place: at } => {
-            out.push_str("sync ")?;
-            place(at, out)?;
-        }
-        _ => {}
+        Call::List { place: at } => place("list ", at, out),
+        Call::Stat { place: at } => place("stat ", at, out),
+        Call::Sync { place: at } => place("sync ", at, out),
+        _ => file_call(call, out),
     }
-    Ok(())
 }
 
-fn file_call(call: &Call, out: &mut String) -> Result<()> {
+fn file_call(call: &Call, out: &mut Text) {
     match call {
         Call::Read {
             place: at,
             from,
             len,
         } => {
-            write!(out, "read {from} {len} ")?;
-            place(at, out)?;
+            out.number("read ", *from as u64);
+            out.number(" ", *len as u64);
+            place(" ", at, out);
         }
         Call::Write {
             place: at,
             from,
             bytes: written,
         } => {
-            write!(out, "write {from} ")?;
-            bytes(written, out)?;
-            out.push(' ')?;
-            place(at, out)?;
+            out.number("write ", *from as u64);
+            out.word(" ");
+            bytes(written, out);
+            place(" ", at, out);
         }
         Call::Truncate { place: at, length } => {
-            write!(out, "truncate {length} ")?;
-            place(at, out)?;
+            out.number("truncate ", *length as u64);
+            place(" ", at, out);
         }
-        _ => {}
-    }
-    Ok(())
-}
-
-fn list_call(call: &Call, out: &mut String) -> Result<()> {
-    match call {
         Call::SetAcl {
             place: at,
             which,
             list,
         } => {
-            write!(out, "set_acl {which:?} ")?;
-            place(at, out)?;
-            access(list, out)?;
+            out.variant("set_acl ", which);
+            place(" ", at, out);
+            access(list, out);
         }
         Call::GetAcl { place: at, which } => {
-            write!(out, "get_acl {which:?} ")?;
-            place(at, out)?;
+            out.variant("get_acl ", which);
+            place(" ", at, out);
         }
-        _ => {}
+        _ => use_call(call, out),
     }
-    Ok(())
 }
 
-fn use_call(call: &Call, out: &mut String) -> Result<()> {
+fn use_call(call: &Call, out: &mut Text) {
     match call {
         Call::Lock {
             label,
@@ -259,30 +192,21 @@ fn use_call(call: &Call, out: &mut String) -> Result<()> {
             from,
             len,
         } => {
-            write!(out, "lock writing {writing} {from} {len} ")?;
-            text(label, out)?;
-            out.push(' ')?;
-            place(at, out)?;
-        }
-        Call::Unlock { label } => {
-            out.push_str("unlock ")?;
-            text(label, out)?;
+            out.flag("lock writing ", *writing);
+            out.number(" ", *from as u64);
+            out.number(" ", *len as u64);
+            out.name(" ", label);
+            place(" ", at, out);
         }
         Call::OpenFile {
             label,
             place: at,
             kind,
         } => {
-            write!(out, "open_file {kind:?} ")?;
-            text(label, out)?;
-            out.push(' ')?;
-            place(at, out)?;
-        }
-        Call::CloseFile { label } => {
-            out.push_str("close_file ")?;
-            text(label, out)?;
+            out.variant("open_file ", kind);
+            out.name(" ", label);
+            place(" ", at, out);
         }
         _ => {}
     }
-    Ok(())
 }

@@ -1,6 +1,6 @@
 -- What makes the definitions of pages believable: each of their bytes is judged, or is part of what the page says.
 use Rattle.std.specs.Prelude.{◌≡◌, ◌<◌, ℕ, ◌*◌, List, true}
-use Rattle.dfs_base.specs.Image.{byte_at, bytes_from}
+use Rattle.dfs_base.specs.Image.{byte_at}
 use Rattle.ep_layout.specs.Numbers.{number_at}
 use Rattle.ep_pages.specs.Words.{name_at}
 use Rattle.ep_pages.specs.Server.{is_server_page, server_of}

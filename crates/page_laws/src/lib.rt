@@ -9,6 +9,7 @@ ghost use Rattle.page_laws.specs.Laws.{
   ObjectPagesAreOne,
   ServerPagesAreOne,
 };
+ghost use Rattle.page_laws.specs.Lists.{ReadIsSaved, SavedIsRead};
 
 /// Two pages of one kind that say the same are the same: each byte is judged, or is part of what the page says.
 pub fn page_law()
@@ -17,4 +18,11 @@ pub fn page_law()
     ensures headers { HeadersAreOne }
     ensures objects { ObjectPagesAreOne }
     ensures free { FreePagesAreOne }
+{}
+
+/// A block that is saved as an access list is read as this list, and one that is read as a list was saved as it: the
+/// bytes of a list in a block are those of messages, with zeros behind.
+pub fn list_law()
+    ensures read { SavedIsRead }
+    ensures saved { ReadIsSaved }
 {}

@@ -71,6 +71,8 @@ fn write_entries(entries: &[AccessEntry], out: &mut Items<u8>) -> Result<(), NoM
 }
 
 impl Part for AccessList {
+    const BYTES_MIN: usize = 7;
+
     ghost use Rattle.rpc_parts.specs.Access.{spell_access, access_at};
 
     ghost spelled = { spell_access };

@@ -35,6 +35,8 @@ fn plain_at(alloc: Global, count: u64, bytes: &[u8]) -> Result<(Items<u8>, &[u8]
 }
 
 impl Part for Name {
+    const BYTES_MIN: usize = 2;
+
     ghost use Rattle.rpc_parts.specs.Words.{spell_name, name_at};
 
     ghost spelled = { spell_name };

@@ -6,7 +6,7 @@ ghost use Rattle.rpc_parts.specs.Access.{access_at};
 
 use crate::name::{bytes_at, write_bytes};
 use crate::number::whole_at;
-use crate::part::{Part, Stopped, items_at, write_items, write_short};
+use crate::part::{Part, Stopped, items_at, items_in, write_items, write_short};
 use dfs_base::{AccessList, FILE_BYTES_MAX, Items, Name, NoMemory};
 use dfs_calls::{DirEntry, Piece, Status};
 use std::alloc::Global;
@@ -23,6 +23,8 @@ fn piece_in_at(alloc: Global, bytes: &[u8], room: u32) -> Result<(Piece, &[u8]),
 }
 
 impl Part for Piece {
+    const BYTES_MIN: usize = 8;
+
     ghost use Rattle.rpc_parts.specs.Objects.{spell_piece, piece_at};
 
     ghost spelled = { spell_piece };
@@ -66,7 +68,7 @@ fn pieces_from(
 ) -> Result<(Items<Piece>, &[u8]), Stopped>
     ensures { Gives (λ x. (x.0, x.1.now)) result (pieces_from room count bytes.now) }
 {
-    let mut pieces = Items::new(alloc);
+    let mut pieces = items_in(alloc, count, bytes)?;
     let mut left = room;
     let mut rest = bytes;
     for _ in 0..count {
@@ -79,6 +81,8 @@ fn pieces_from(
 }
 
 impl Part for DirEntry {
+    const BYTES_MIN: usize = 10;
+
     ghost use Rattle.rpc_parts.specs.Objects.{spell_entry, entry_at};
 
     ghost spelled = { spell_entry };
@@ -109,6 +113,8 @@ impl Part for DirEntry {
 }
 
 impl Part for Status {
+    const BYTES_MIN: usize = 17;
+
     ghost use Rattle.rpc_parts.specs.Objects.{spell_status, status_at};
 
     ghost spelled = { spell_status };

@@ -1,4 +1,4 @@
-ghost use Rattle.std.specs.Prelude.{◌≡◌, ◌++◌, ℕ, List, OnOk};
+ghost use Rattle.std.specs.Prelude.{◌≡◌, ◌++◌, [], ℕ, List, OnOk, IfOk};
 ghost use Rattle.rpc_parts.specs.Spelled.{Spelled, items};
 ghost use Rattle.rpc_parts.specs.Words.{short, short_at, long, long_at};
 ghost use Rattle.rpc_parts.specs.Reading.{Reading, Gives, items_at};
@@ -28,6 +28,9 @@ impl From<NoMemory> for Stopped {
 
 /// A part of messages.
 pub trait Part: Drop {
+    /// Bytes that one takes in a message, at least.
+    const BYTES_MIN: usize;
+
     /// How it is written.
     ghost spelled: { Self → Spelled };
 
@@ -43,7 +46,23 @@ pub trait Part: Drop {
         ensures { Gives (λ x. (x.0, x.1.now)) result (reading bytes.now) };
 }
 
-/// Reads so many parts. Memory is taken as they come.
+/// A list with room for so many parts, and no more, where the bytes can hold them. Where they can't, it takes no
+/// memory: the bytes will stop to begin the parts.
+pub(crate) fn items_in<T: Part>(
+    alloc: Global,
+    count: u64,
+    bytes: &[u8],
+) -> Result<Items<T>, NoMemory>
+    ensures { IfOk result (λ items. items ≡ []) }
+{
+    let least = (T::BYTES_MIN as u64).saturating_mul(count);
+    if least > bytes.len() as u64 {
+        return Ok(Items::new(alloc));
+    }
+    Ok(Items::from_vec(Vec::with_capacity(alloc, count as usize)?))
+}
+
+/// Reads so many parts. The memory of their list is taken once, where the bytes can hold so many.
 pub fn items_at<T: Part>(
     alloc: Global,
     count: u64,
@@ -51,7 +70,7 @@ pub fn items_at<T: Part>(
 ) -> Result<(Items<T>, &[u8]), Stopped>
     ensures { Gives (λ x. (x.0, x.1.now)) result (items_at T.reading count bytes.now) }
 {
-    let mut items = Items::new(alloc);
+    let mut items = items_in(alloc, count, bytes)?;
     let mut rest = bytes;
     for _ in 0..count {
         let (item, behind) = T::read(alloc, rest)?;

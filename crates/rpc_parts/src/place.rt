@@ -9,6 +9,8 @@ use dfs_calls::{Place, Which};
 use std::alloc::Global;
 
 impl Part for User {
+    const BYTES_MIN: usize = 4;
+
     ghost use Rattle.rpc_parts.specs.Places.{spell_user, user_at};
 
     ghost spelled = { spell_user };
@@ -30,6 +32,8 @@ impl Part for User {
 }
 
 impl Part for Place {
+    const BYTES_MIN: usize = 5;
+
     ghost use Rattle.rpc_parts.specs.Places.{spell_place, place_at};
 
     ghost spelled = { spell_place };
@@ -80,6 +84,8 @@ fn which_of(code: u64) -> Which
 }
 
 impl Part for Which {
+    const BYTES_MIN: usize = 1;
+
     ghost use Rattle.rpc_parts.specs.Places.{spell_which, which_at};
 
     ghost spelled = { spell_which };
@@ -99,6 +105,8 @@ impl Part for Which {
 }
 
 impl Part for Rights {
+    const BYTES_MIN: usize = 1;
+
     ghost use Rattle.rpc_parts.specs.Places.{spell_rights, rights_at};
 
     ghost spelled = { spell_rights };

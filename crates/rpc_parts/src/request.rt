@@ -7,6 +7,8 @@ use rpc_types::{AppliedGive, Outstanding};
 use std::alloc::Global;
 
 impl Part for Outstanding {
+    const BYTES_MIN: usize = 24;
+
     ghost use Rattle.rpc_parts.specs.Requests.{spell_outstanding, outstanding_at};
 
     ghost spelled = { spell_outstanding };
@@ -40,6 +42,8 @@ impl Part for Outstanding {
 }
 
 impl Part for AppliedGive {
+    const BYTES_MIN: usize = 12;
+
     ghost use Rattle.rpc_parts.specs.Requests.{spell_applied, applied_at};
 
     ghost spelled = { spell_applied };
@@ -61,6 +65,8 @@ impl Part for AppliedGive {
 }
 
 impl Part for Record {
+    const BYTES_MIN: usize = 18;
+
     ghost use Rattle.rpc_parts.specs.Requests.{spell_record, record_at};
 
     ghost spelled = { spell_record };

@@ -20,6 +20,8 @@ use std::alloc::Global;
 use tok_types::{Kind, Need, Token, TokenId};
 
 impl Part for Fid {
+    const BYTES_MIN: usize = 12;
+
     ghost use Rattle.rpc_parts.specs.Tokens.{spell_fid, fid_at};
 
     ghost spelled = { spell_fid };
@@ -50,6 +52,8 @@ impl Part for Fid {
 }
 
 impl Part for TokenId {
+    const BYTES_MIN: usize = 17;
+
     ghost use Rattle.rpc_parts.specs.Tokens.{spell_id, id_at};
 
     ghost spelled = { spell_id };
@@ -73,6 +77,8 @@ impl Part for TokenId {
 }
 
 impl Part for Span {
+    const BYTES_MIN: usize = 8;
+
     ghost use Rattle.rpc_parts.specs.Tokens.{spell_span, span_at};
 
     ghost spelled = { spell_span };
@@ -129,6 +135,8 @@ fn open_of(code: u64) -> OpenKind
 }
 
 impl Part for OpenKind {
+    const BYTES_MIN: usize = 1;
+
     ghost use Rattle.rpc_parts.specs.Tokens.{spell_open, open_at};
 
     ghost spelled = { spell_open };
@@ -226,6 +234,8 @@ fn kind_of(alloc: Global, tag: u64, bytes: &[u8]) -> Result<(Kind, &[u8]), Stopp
 }
 
 impl Part for Kind {
+    const BYTES_MIN: usize = 2;
+
     ghost use Rattle.rpc_parts.specs.Tokens.{spell_kind, kind_at};
 
     ghost spelled = { spell_kind };
@@ -246,6 +256,8 @@ impl Part for Kind {
 }
 
 impl Part for Need {
+    const BYTES_MIN: usize = 14;
+
     ghost use Rattle.rpc_parts.specs.Tokens.{spell_need, need_at};
 
     ghost spelled = { spell_need };
@@ -267,6 +279,8 @@ impl Part for Need {
 }
 
 impl Part for Token {
+    const BYTES_MIN: usize = 32;
+
     ghost use Rattle.rpc_parts.specs.Tokens.{spell_token, token_at};
 
     ghost spelled = { spell_token };

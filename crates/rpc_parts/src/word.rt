@@ -4,6 +4,8 @@ use dfs_base::{FilesetId, HostId, Items, NoMemory, ServerId};
 use std::alloc::Global;
 
 impl Part for u8 {
+    const BYTES_MIN: usize = 1;
+
     ghost use Rattle.rpc_parts.specs.Words.{spell_u8, u8_at};
 
     ghost spelled = { spell_u8 };
@@ -23,6 +25,8 @@ impl Part for u8 {
 }
 
 impl Part for u32 {
+    const BYTES_MIN: usize = 4;
+
     ghost use Rattle.rpc_parts.specs.Words.{spell_u32, u32_at};
 
     ghost spelled = { spell_u32 };
@@ -42,6 +46,8 @@ impl Part for u32 {
 }
 
 impl Part for u64 {
+    const BYTES_MIN: usize = 8;
+
     ghost use Rattle.rpc_parts.specs.Words.{spell_u64, u64_at};
 
     ghost spelled = { spell_u64 };
@@ -60,6 +66,8 @@ impl Part for u64 {
 }
 
 impl Part for bool {
+    const BYTES_MIN: usize = 1;
+
     ghost use Rattle.rpc_parts.specs.Words.{spell_flag, flag_at};
 
     ghost spelled = { spell_flag };
@@ -79,6 +87,8 @@ impl Part for bool {
 }
 
 impl Part for HostId {
+    const BYTES_MIN: usize = 1;
+
     ghost use Rattle.rpc_parts.specs.Words.{spell_host, host_at};
 
     ghost spelled = { spell_host };
@@ -98,6 +108,8 @@ impl Part for HostId {
 }
 
 impl Part for ServerId {
+    const BYTES_MIN: usize = 1;
+
     ghost use Rattle.rpc_parts.specs.Words.{spell_server, server_at};
 
     ghost spelled = { spell_server };
@@ -117,6 +129,8 @@ impl Part for ServerId {
 }
 
 impl Part for FilesetId {
+    const BYTES_MIN: usize = 4;
+
     ghost use Rattle.rpc_parts.specs.Words.{spell_fileset, fileset_at};
 
     ghost spelled = { spell_fileset };
@@ -136,6 +150,8 @@ impl Part for FilesetId {
 }
 
 impl<T: Part> Part for Option<T> {
+    const BYTES_MIN: usize = 1;
+
     ghost use Rattle.rpc_parts.specs.Words.{spell_optional, optional_at};
 
     ghost spelled = { spell_optional T.spelled };

@@ -31,12 +31,13 @@ pub fileset_lines : (filesets : List Fileset) → items_text false (items_of (fi
 fileset_lines [] = refl
 fileset_lines (fileset ∷ filesets) = rw (fileset_line fileset, later_lines filesets) (simp append_assoc)
 
-pub report_float : (report : Report) → has_float (report_value report) ≡ false
+pub report_float : (report : Report) (filesets : List Fileset) → has_float (report_value report filesets) ≡ false
 unfolding report_value
-report_float report = ap (λ here. here || false) (no_floats (by_server report.tree.filesets))
+report_float report filesets = ap (λ here. here || false) (no_floats (by_server filesets))
 
-pub report_text : (report : Report) → compact_text (report_value report) ≡ report_json report
+pub report_text : (report : Report) (filesets : List Fileset) →
+    compact_text (report_value report filesets) ≡ report_json report filesets
 unfolding serde_json_on_literals report_value report_json
-report_text report = rw (fileset_lines (by_server report.tree.filesets)) (simp append_assoc)
+report_text report filesets = rw (fileset_lines (by_server filesets)) (simp append_assoc)
 
 pub ruleset report_line = (report_float, report_text)

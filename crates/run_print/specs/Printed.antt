@@ -3,7 +3,9 @@ use Rattle.std.specs.Prelude.{ℕ, List, [], ◌++◌, Option, Some, None, flat_
 use Rattle.dfs_base.specs.declared.span.Span.{Span}
 use Rattle.dfs_calls.specs.declared.entry.Entry.{Entry}
 use Rattle.dfs_calls.specs.declared.entry.Loss.{Loss}
+use Rattle.dfs_filesets.specs.declared.fileset.Fileset.{Fileset}
 use Rattle.dfs_tree.specs.declared.tree.Tree.{Tree}
+use Rattle.dfs_tree.specs.Histories.{after_history}
 use Rattle.script_lines.specs.declared.script.Script.{Script}
 use Rattle.run_print.specs.declared.report.Answer.{Answer}
 use Rattle.run_print.specs.declared.report.Report.{Report}
@@ -34,12 +36,13 @@ loss_line loss =
     ++ codes " s" ++ decimal loss.server.0 ++ codes " " ++ word_text (path_of loss.path)
     ++ span_text loss.span ++ length_text loss.length ++ codes "\n"
 
--- what a run tells, as text
-unfoldable pub text_of_report : Report → List ℕ
-text_of_report report =
+-- what a run tells and the filesets that it leaves, as text
+unfoldable pub text_of_report : Report → List Fileset → List ℕ
+text_of_report report filesets =
     flat_map answer_line report.answers
-    ++ flat_map loss_line report.losses ++ flat_map fileset_lines (by_server report.tree.filesets) ++ codes "end\n"
+    ++ flat_map loss_line report.losses ++ flat_map fileset_lines (by_server filesets) ++ codes "end\n"
 
 -- the output of a script that is run from a tree on with a history
 abbrev pub printed : Script → Tree → List Entry → List ℕ
-printed script start history = text_of_report (report_of script start history)
+printed script start history =
+    text_of_report (report_of script start history) (after_history start history).filesets

@@ -22,7 +22,7 @@ use Rattle.dfs_calls.specs.declared.entry.Entry.TheVariants.{Call, Stored, Down,
 use Rattle.dfs_calls.specs.declared.entry.Loss.{Loss}
 use Rattle.dfs_filesets.specs.declared.fileset.Fileset.{Fileset}
 use Rattle.dfs_tree.specs.declared.tree.Tree.{Tree}
-use Rattle.dfs_tree.specs.Histories.{after_history, lost_in}
+use Rattle.dfs_tree.specs.Histories.{lost_in}
 use Rattle.script_lines.specs.Asks.{call_lines}
 use Rattle.script_lines.specs.declared.script.Script.{Script}
 use Rattle.run_print.specs.declared.report.Answer.{Answer}
@@ -72,10 +72,9 @@ filesets_at filesets server = filter (λ fileset. fileset.server.0 == server) fi
 unfoldable pub by_server : List Fileset → List Fileset
 by_server filesets = flat_map (filesets_at filesets) all_servers
 
--- what a run tells: the replies, the losses, and the last tree
+-- what a run tells beside its filesets: the replies and the losses
 unfoldable pub report_of : Script → Tree → List Entry → Report
 report_of script start history = record {
   answers = answers_of script history;
   losses = by_host (lost_in start history);
-  tree = after_history start history;
 }

@@ -8,6 +8,7 @@ use Rattle.dfs_calls.specs.declared.reply.Reply.TheVariants.{Refused}
 use Rattle.dfs_objects.specs.declared.content.Anode.{Anode}
 use Rattle.dfs_filesets.specs.declared.fileset.Fileset.{Fileset}
 use Rattle.dfs_tree.specs.declared.tree.Tree.{Tree}
+use Rattle.dfs_tree.specs.Histories.{after_history}
 use Rattle.script_words.specs.Spelling.{spelled_bytes}
 use Rattle.script_lines.specs.declared.script.Script.{Script}
 use Rattle.run_print.specs.declared.report.Answer.{Answer}
@@ -35,17 +36,18 @@ abbrev pub refused_calls : List Answer → ℕ
 refused_calls answers = count_by (λ answer. is_refused answer.reply) answers
 
 -- what a run tells, as JSON: the calls, the filesets by server and id, the losses, and the calls that are refused
-unfoldable pub report_json : Report → List ℕ
-report_json report =
+unfoldable pub report_json : Report → List Fileset → List ℕ
+report_json report filesets =
     codes "{\"calls\":" ++ decimal (length report.answers)
-    ++ codes ",\"filesets\":[" ++ join_by fileset_json (codes ",") (by_server report.tree.filesets)
+    ++ codes ",\"filesets\":[" ++ join_by fileset_json (codes ",") (by_server filesets)
     ++ codes "],\"lost\":" ++ decimal (length report.losses)
     ++ codes ",\"refused\":" ++ decimal (refused_calls report.answers) ++ codes "}"
 
 -- the line
-abbrev pub json_of_report : Report → List ℕ
-json_of_report report = report_json report ++ codes "\n"
+abbrev pub json_of_report : Report → List Fileset → List ℕ
+json_of_report report filesets = report_json report filesets ++ codes "\n"
 
 -- the output of a script that is run from a tree on with a history
 abbrev pub printed_json : Script → Tree → List Entry → List ℕ
-printed_json script start history = json_of_report (report_of script start history)
+printed_json script start history =
+    json_of_report (report_of script start history) (after_history start history).filesets

@@ -24,9 +24,9 @@ abbrev pub fileset_values : List Fileset → List Data
 fileset_values filesets = map fileset_value filesets
 
 -- what a run tells
-unfoldable pub report_value : Report → Data
-report_value report = object
+unfoldable pub report_value : Report → List Fileset → Data
+report_value report filesets = object
     (member (codes "calls") (number_value (length report.answers))
-    (member (codes "filesets") (array (items_of (fileset_values (by_server report.tree.filesets))))
+    (member (codes "filesets") (array (items_of (fileset_values (by_server filesets))))
     (member (codes "lost") (number_value (length report.losses))
     (member (codes "refused") (number_value (refused_calls report.answers)) no_members))))

@@ -33,18 +33,22 @@ pub fn text_of(
     requires { last.now ≡ after_history start.now history.now }
     ensures { IfOk result (λ text. text ≡ printed script.now start.now history.now) }
 {
-    let report = report_of(alloc, script, start, history, last)?;
-    text_of_report(alloc, &report)
+    let report = report_of(alloc, script, start, history)?;
+    text_of_report(alloc, &report, &last.filesets)
 }
 
 #[tactic(auto, unfolding(crate::specs::Printed::text_of_report))]
-fn text_of_report(alloc: Global, report: &Report) -> Result<Items<u8>, NoMemory>
-    ensures { IfOk result (λ text. text ≡ text_of_report report.now) }
+fn text_of_report(
+    alloc: Global,
+    report: &Report,
+    filesets: &Items<Fileset>,
+) -> Result<Items<u8>, NoMemory>
+    ensures { IfOk result (λ text. text ≡ text_of_report report.now filesets.now) }
 {
     let mut out = Items::new(alloc);
     push_answers(&mut out, &report.answers)?;
     push_losses(&mut out, &report.losses)?;
-    push_dump(&mut out, &report.tree.filesets)?;
+    push_dump(&mut out, filesets)?;
     out.extend(b"end\n")?;
     Ok(out)
 }

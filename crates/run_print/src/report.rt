@@ -1,4 +1,4 @@
-//! What a run tells: replies, losses and filesets, each in the order of the output.
+//! What a run tells beside its filesets: replies and losses, each in the order of the output.
 ghost use Rattle.std.specs.Prelude.{◌≡◌, ◌++◌, flat_map, IfOk, OnOk};
 ghost use Rattle.dfs_tree.specs.Histories.{after_history, lost_in};
 ghost use Rattle.script_lines.specs.Asks.{call_lines};
@@ -22,37 +22,28 @@ pub(crate) struct Answer {
     pub reply: Reply,
 }
 
-/// What a run tells.
+/// What a run tells beside the filesets that it leaves.
 #[derive(Drop)]
 pub(crate) struct Report {
     /// The replies to the lines of the script, by host.
     pub answers: Items<Answer>,
     /// The losses, by host, server, path and position.
     pub losses: Items<Loss>,
-    /// The last tree.
-    pub tree: Tree,
 }
 
-/// What a run of a script from a tree on with a history tells, which led to the tree `last`.
+/// What a run of a script from a tree on with a history tells.
 #[tactic(auto, unfolding(crate::specs::Reports::report_of))]
 pub(crate) fn report_of(
     alloc: Global,
     script: &Script,
     start: &Tree,
     history: &[Entry],
-    last: &Tree,
 ) -> Result<Report, NoMemory>
-    requires { last.now ≡ after_history start.now history.now }
     ensures { IfOk result (λ report. report ≡ report_of script.now start.now history.now) }
 {
     let answers = answers_of(alloc, script, history)?;
     let losses = losses_along(alloc, start, history)?;
-    let tree = last.copy()?;
-    Ok(Report {
-        answers,
-        losses,
-        tree,
-    })
+    Ok(Report { answers, losses })
 }
 
 // The losses of a history by host. Where no host is down nothing is lost, and the history isn't gone through.

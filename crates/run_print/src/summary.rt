@@ -34,25 +34,33 @@ pub fn json_of(
     requires { last.now ≡ after_history start.now history.now }
     ensures { IfOk result (λ text. text ≡ printed_json script.now start.now history.now) }
 {
-    let report = report_of(alloc, script, start, history, last)?;
-    json_of_report(alloc, &report)
+    let report = report_of(alloc, script, start, history)?;
+    json_of_report(alloc, &report, &last.filesets)
 }
 
 #[tactic(auto, using(crate::proofs::Lines::report_line))]
-fn json_of_report(alloc: Global, report: &Report) -> Result<Items<u8>, NoMemory>
-    ensures { IfOk result (λ text. text ≡ json_of_report report.now) }
+fn json_of_report(
+    alloc: Global,
+    report: &Report,
+    filesets: &Items<Fileset>,
+) -> Result<Items<u8>, NoMemory>
+    ensures { IfOk result (λ text. text ≡ json_of_report report.now filesets.now) }
 {
-    let line = report_value(alloc, report)?.to_string(alloc)?;
+    let line = report_value(alloc, report, filesets)?.to_string(alloc)?;
     let mut text = Items::from_vec(line.into_bytes());
     text.push(b'\n')?;
     Ok(text)
 }
 
 #[tactic(auto, unfolding(crate::specs::Values::report_value))]
-fn report_value(alloc: Global, report: &Report) -> Result<Value, NoMemory>
-    ensures { IfOk result (λ value. view value ≡ report_value report.now) }
+fn report_value(
+    alloc: Global,
+    report: &Report,
+    filesets: &Items<Fileset>,
+) -> Result<Value, NoMemory>
+    ensures { IfOk result (λ value. view value ≡ report_value report.now filesets.now) }
 {
-    let filesets = fileset_values(alloc, &report.tree.filesets)?;
+    let filesets = fileset_values(alloc, filesets)?;
     Ok(json!(in alloc; {
         "calls": report.answers.len(),
         "filesets": filesets,

@@ -6,7 +6,7 @@ use Rattle.rpc_parts.proofs.object.pieces_from.Goals as goal
 
 pub returns-in_err-piece : goal.returns-in_err-piece
 returns-in_err-piece c =
-    let p = err_from_is_err_and c.from_residual.result c.from_residual.ensures.1 in
+    let p = err_from_is_err_and c.from_residual-in_err-piece.result c.from_residual-in_err-piece.ensures.1 in
     rw (p.1, p.2) (pieces_end c.loop.left c.in_err-piece.field-0.0 c.loop.pieces c.args.count c.loop.counter c.loop.rest.now (pieces_from c.args.room c.args.count c.args.bytes.now) c.loop-test.true c.in_err-piece.ensures.piece c.loop.invariant)
 
 pub loop-preserved : goal.loop-preserved

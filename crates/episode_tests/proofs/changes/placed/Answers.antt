@@ -1,5 +1,0 @@
-use Rattle.episode_tests.proofs.Others.{none_fresh}
-use Rattle.episode_tests.proofs.changes.placed.Goals as goal
-
-pub returns : goal.returns
-returns g c = record { sound = c.in_ok-checkpoint.ensures.sound; none_open = none_fresh _ _ _ c.in_ok-checkpoint.ensures.state }

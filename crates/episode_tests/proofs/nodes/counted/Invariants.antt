@@ -1,7 +1,0 @@
-use Rattle.std.proofs.Common.{◌≡◌}
-use Rattle.ep_log.specs.Log.{state_of}
-use Rattle.ep_log.specs.Log.{IsIdle}
-use Rattle.episode_tests.proofs.nodes.counted.Given as goal
-
-abbrev pub invariant-loop-block : goal.invariant-loop-block
-invariant-loop-block g l = record { idle : IsIdle g.D.Disk.tells g.D.Disk.view l.log; state : state_of l.log ≡ state_of l.initial.log }
