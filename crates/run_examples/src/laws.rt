@@ -1,5 +1,5 @@
 ghost use Rattle.run_examples.specs.Laws.{WriteIsAnswered, RevokeIsAnswered, RestartIsAnswered};
-ghost use Rattle.run_examples.specs.Laws.{StopIsAllowed, EndIsAllowed, LockIsKept};
+ghost use Rattle.run_examples.specs.Laws.{StopIsAllowed, EndIsAllowed, LockIsKept, ServerReacts};
 
 /// A Write that grows its file meets all rules of a host, where the tokens come that it lacked; and so does a lapse
 /// after it.
@@ -33,4 +33,10 @@ pub fn an_end_is_allowed()
 /// and answered.
 pub fn a_lock_is_kept()
     ensures { LockIsKept }
+{}
+
+/// A server stores a give-back and answers by Gone, hears a Returned, learns once that a host is down, answers a Bye,
+/// and tells a restart; at a lapse it tells those again that haven't reclaimed, and else does nothing.
+pub fn a_server_reacts()
+    ensures { ServerReacts }
 {}
