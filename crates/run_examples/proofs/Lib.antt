@@ -12,3 +12,6 @@ pub mod LapseChecks
 pub mod LeaveChecks
 pub mod HostChecks
 pub mod Examples
+pub mod ServerWords
+pub mod ServerChecks
+pub mod ServerExamples
