@@ -10,4 +10,5 @@ mod summary;
 mod texts;
 
 pub use print::text_of;
+pub use report::losses_in;
 pub use summary::json_of;

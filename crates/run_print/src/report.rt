@@ -54,7 +54,7 @@ fn losses_along(alloc: Global, start: &Tree, history: &[Entry]) -> Result<Items<
     if !has_down(history) {
         return Ok(Items::new(alloc));
     }
-    let lost = follow_all(alloc, start, history)?;
+    let lost = losses_in(alloc, start, history)?;
     by_host(&lost)
 }
 
@@ -70,8 +70,9 @@ fn is_down(entry: &Entry) -> bool
     matches!(entry, Entry::Down { .. })
 }
 
-// The losses of a history as they come.
-fn follow_all(alloc: Global, start: &Tree, history: &[Entry]) -> Result<Items<Loss>, NoMemory>
+/// The losses of a history from a tree on, as they come: at each host that goes down what it hadn't stored, in bytes and
+/// lengths, by path and position. `NoMemory` comes where memory runs out.
+pub fn losses_in(alloc: Global, start: &Tree, history: &[Entry]) -> Result<Items<Loss>, NoMemory>
     ensures { IfOk result (λ losses. losses ≡ lost_in start.now history.now) }
 {
     let mut tree = start.copy()?;

@@ -1,0 +1,169 @@
+-- The rules of asking for a host's step that asks nothing new, computed.
+use Rattle.std.proofs.Common.{Bool, List, None, Option, Some, [], ap, false, inl, inr, refl, subst, sym, true}
+use Rattle.std.proofs.Common.{ℕ, ◌&&◌, ◌++◌, ◌||◌, ◌==◌, ◌∙◌, ◌∷◌, ◌≡◌, ◌⊎◌}
+use Rattle.std.proofs.lemmas.Bool.{and_parts, or_cases}
+use Rattle.std.specs.Prelude.{not}
+use Rattle.std.specs.List.{list_all, list_any}
+use Rattle.dfs_base.specs.Ids.{same_fid}
+use Rattle.dfs_base.specs.declared.ids.Fid.{Fid}
+use Rattle.dfs_base.specs.declared.ids.FilesetId.{FilesetId}
+use Rattle.dfs_base.specs.declared.ids.HostId.{HostId}
+use Rattle.dfs_base.specs.declared.ids.ServerId.{ServerId}
+use Rattle.dfs_base.specs.declared.user.User.{User}
+use Rattle.dfs_calls.specs.Rosters.{user_of}
+use Rattle.dfs_calls.specs.declared.call.Call.{Call}
+use Rattle.dfs_calls.specs.declared.roster.Roster.{Roster}
+use Rattle.dfs_needs.specs.Calls.{Verdict}
+use Rattle.dfs_needs.specs.Calls.Verdict.{Gives}
+use Rattle.dfs_needs.specs.Looks.{IsFirstLack}
+use Rattle.tok_types.specs.declared.token.Need.{Need}
+use Rattle.tok_types.specs.declared.token.Token.{Token}
+use Rattle.rpc_types.specs.declared.asking.Change.{Change as ChangeOf}
+use Rattle.rpc_types.specs.declared.asking.Fetch.{Fetch as FetchOf}
+use Rattle.rpc_types.specs.declared.giving.AppliedGive.{AppliedGive}
+use Rattle.rpc_types.specs.declared.giving.Give.{Give}
+use Rattle.rpc_types.specs.declared.message.Body.{Body}
+use Rattle.rpc_types.specs.declared.message.Body.TheVariants.{Hello, Fetch, Change}
+use Rattle.world_host.specs.HostAsks.{AwaitsGone, GiveOpen, HostAsks}
+use Rattle.world_host.specs.Knowing.{Stance}
+use Rattle.world_host.specs.OpenCalls.{IsOpen}
+use Rattle.world_steps.specs.Gives.{IsKnown, Made, number_of}
+use Rattle.world_steps.specs.Lists.{In}
+use Rattle.world_steps.specs.Requests.{Asking, Changing}
+use Rattle.world_steps.specs.Sends.{Sends}
+use Rattle.world_steps.specs.declared.step.Asked.{Asked}
+use Rattle.world_steps.specs.declared.step.Step.{Step}
+use Rattle.run_examples.proofs.Tests.{AllTrue, passes, all_true, is_not, at_all, some_in, is_none, none_in, fid_is}
+use Rattle.run_examples.proofs.Tests.{same_number}
+use Rattle.run_examples.proofs.Words.{at_sends, asking, asking_in, changing, numbered, held, is_known, known_is, made}
+use Rattle.run_examples.proofs.Words.{in_made}
+use Rattle.run_examples.proofs.TokenChecks.{at_site, goes_to}
+use Rattle.run_examples.proofs.LabelWords.{is_local}
+use Rattle.run_examples.proofs.CallWords.{open_calls, open_in, the_call}
+use Rattle.run_examples.proofs.StanceChecks.{own_of, stance_of, stance_tests}
+use Rattle.run_examples.proofs.AnswerChecks.{covers_it, covers_yes, lacks_is, lacks_it, needs_at, verdict_at}
+
+unfoldable pub asks_new : Body → Bool
+asks_new Hello = true
+asks_new (Fetch f) = true
+asks_new (Change c) = true
+asks_new _ = false
+
+unfoldable pub is_gives : Verdict → Bool
+is_gives Gives = true
+is_gives _ = false
+
+gives_is : (v : Verdict) → is_gives v ≡ true → v ≡ Gives
+unfolding asks_new is_gives
+gives_is Gives e = refl
+gives_is v e = absurd (cc)
+
+unfoldable pub is_open_give : List Step → Fid → Give → Bool
+is_open_give now fid g = same_fid g.fid fid && not (is_known now (number_of g))
+
+-- the first need that tokens lack is of an object of which a give-back is on its way
+unfoldable pub lack_waits : List Token → List Step → List Need → Bool
+lack_waits kept now [] = false
+lack_waits kept now (n ∷ ns) =
+    (lacks_it kept n && list_any (is_open_give now n.fid) (made now)) || (covers_it kept n && lack_waits kept now ns)
+
+lack_waits_is : (kept : List Token) (now : List Step) (needs : List Need) → lack_waits kept now needs ≡ true
+    → (need : Need) × IsFirstLack kept needs need × GiveOpen now need.fid
+unfolding asks_new is_gives is_open_give lack_waits
+lack_waits_is kept now [] e = absurd (cc)
+lack_waits_is kept now (n ∷ ns) e =
+    elim (or_cases (lacks_it kept n && list_any (is_open_give now n.fid) (made now))
+        (covers_it kept n && lack_waits kept now ns) e) [
+      | inl x ↦ (
+          let p = and_parts (lacks_it kept n) (list_any (is_open_give now n.fid) (made now)) x in
+          let q = some_in (is_open_give now n.fid) (made now) p.1 in
+          let r = and_parts (same_fid q.0.fid n.fid) (not (is_known now (number_of q.0))) q.2 in
+          (n, inl (lacks_is kept n p.0, refl), (q.0, in_made now q.0 q.1, fid_is q.0.fid n.fid r.0, λ k. is_not
+              (is_known now (number_of q.0)) r.1 (known_is now (number_of q.0) k)))
+        )
+      | inr x ↦ (
+          let p = and_parts (covers_it kept n) (lack_waits kept now ns) x in
+          let r = lack_waits_is kept now ns p.1 in
+          (r.0, inr (covers_yes kept n p.0, r.1), r.2)
+        )
+    ]
+
+unfoldable pub waits_right : ServerId → HostId → User → List Step → Step → Asked → Bool
+waits_right site host user past s c =
+    lack_waits (held (s ∷ past)) (s ∷ past) (needs_at site host user past s c.call)
+    || (is_gives (verdict_at site host user past s c.call) && list_any (λ g. not (is_known (s ∷ past) (number_of g)))
+        (made (s ∷ past)))
+
+unfoldable pub one_or_none : List AppliedGive → Bool
+one_or_none [] = true
+one_or_none (x ∷ xs) = is_none xs
+
+one_of : (xs : List AppliedGive) (x y : AppliedGive) → one_or_none xs ≡ true → In x xs → In y xs → x ≡ y
+unfolding asks_new is_gives is_open_give lack_waits waits_right one_or_none
+one_of [] x y e m n = elim m [ ]
+one_of (z ∷ zs) x y e (inl p) (inl q) = p ∙ sym q
+one_of (z ∷ zs) x y e (inr p) n = absurd (none_in zs x e p)
+one_of (z ∷ zs) x y e (inl p) (inr q) = absurd (none_in zs y e q)
+
+unfoldable pub ask_tests : ServerId → HostId → User → List Step → Step → List Bool
+ask_tests site host user past s =
+    list_all (λ m. not (asks_new m.body)) s.sent
+    ∷ one_or_none (asking (s ∷ past))
+    ∷ one_or_none (changing site (s ∷ past))
+    ∷ (is_none (asking (s ∷ past)) || is_none (changing site (s ∷ past)))
+    ∷ list_all (waits_right site host user past s) (open_calls site (s ∷ past))
+    ∷ is_local site (s ∷ past)
+    ∷ []
+
+module _ (site : ServerId) (roster : Roster) (host : HostId) (user : User) (past : List Step) (s : Step)
+    (acts : user_of roster host ≡ Some user) (known : passes (stance_tests site host past s) ≡ true) where
+  none_new : list_all (λ m. not (asks_new m.body)) s.sent ≡ true → (v : ServerId) (e n : ℕ) (b : Body)
+      → asks_new b ≡ true → Sends s v e n b → ⊥
+  none_new t v e n b is p = is_not (asks_new b) (at_sends (λ m. not (asks_new m.body)) s v e n b t p) is
+
+  awaits : (call : Call) → waits_right site host user past s (the_call 0 call) ≡ true
+      → AwaitsGone roster host past s (stance_of site roster host user past s acts known) call
+  unfolding waits_right
+  awaits call e =
+      elim (or_cases (lack_waits (held (s ∷ past)) (s ∷ past) (needs_at site host user past s call)) (is_gives
+          (verdict_at site host user past s call) && list_any (λ g. not (is_known (s ∷ past) (number_of g))) (made (s
+          ∷ past))) e) [
+        | inl x ↦ inl (lack_waits_is (held (s ∷ past)) (s ∷ past) (needs_at site host user past s call) x)
+        | inr x ↦ (
+            let p = and_parts (is_gives (verdict_at site host user past s call)) (list_any (λ g. not (is_known (s
+                ∷ past) (number_of g))) (made (s ∷ past))) x in
+            let q = some_in (λ g. not (is_known (s ∷ past) (number_of g))) (made (s ∷ past)) p.1 in
+            inr (gives_is (verdict_at site host user past s call) p.0, (q.0, in_made (s ∷ past) q.0 q.1, λ k. is_not
+                (is_known (s ∷ past) (number_of q.0)) q.2 (known_is (s ∷ past) (number_of q.0) k)))
+          )
+      ]
+
+  pub asks_meet : passes (ask_tests site host user past s) ≡ true
+      → HostAsks roster host past s (stance_of site roster host user past s acts known)
+  unfolding ask_tests asks_new is_local waits_right
+  asks_meet e =
+      let t = all_true (ask_tests site host user past s) e in
+      let local = t.1.1.1.1.1.0 in
+      record {
+        fetches = λ f p. absurd (none_new t.0 p.0 p.1 p.2 (Fetch f) refl p.3);
+        changes = λ v e n c p. absurd (none_new t.0 v e n (Change c) refl p);
+        one_fetch = λ fs gs n m a b.
+            let p = one_of (asking (s ∷ past)) (numbered fs n) (numbered gs m) t.1.0 (asking_in (s ∷ past) fs n a)
+                (asking_in (s ∷ past) gs m b) in
+            (ap (λ (x : AppliedGive). x.fileset) p, ap (λ (x : AppliedGive). x.number) p);
+        one_change = λ v w fs gs n m a b.
+            let p = one_of (changing site (s ∷ past)) (numbered fs n) (numbered gs m) t.1.1.0 (at_site site (s
+                ∷ past) v fs n local a) (at_site site (s ∷ past) w gs m local b) in
+            (ap (λ (x : AppliedGive). x.fileset) p, ap (λ (x : AppliedGive). x.number) p);
+        one_of_both = λ v fs gs n m a b.
+            elim (or_cases (is_none (asking (s ∷ past))) (is_none (changing site (s ∷ past))) t.1.1.1.0) [
+              | inl x ↦ none_in (asking (s ∷ past)) (numbered fs n) x (asking_in (s ∷ past) fs n a)
+              | inr x ↦ none_in (changing site (s ∷ past)) (numbered gs m) x (at_site site (s ∷ past) v gs m local b)
+            ];
+        greets = λ v e n p. absurd (none_new t.0 v e n Hello refl p);
+        fetches_welcome = λ v e n f p. absurd (none_new t.0 v e n (Fetch f) refl p);
+        changes_welcome = λ v e n c p. absurd (none_new t.0 v e n (Change c) refl p);
+        asks = λ call o up.
+            inr (inr (inl (awaits call.call (at_all (waits_right site host user past s) (open_calls site (s
+                ∷ past)) call t.1.1.1.1.0 (open_in site (s ∷ past) call local o)))));
+      }

@@ -1,0 +1,17 @@
+pub mod Tests
+pub mod Words
+pub mod TokenChecks
+pub mod LabelWords
+pub mod DirtWords
+pub mod CallWords
+pub mod StanceChecks
+pub mod AnswerChecks
+pub mod AskChecks
+pub mod GiveChecks
+pub mod LapseChecks
+pub mod LeaveChecks
+pub mod HostChecks
+pub mod Examples
+pub mod ServerWords
+pub mod ServerChecks
+pub mod ServerExamples

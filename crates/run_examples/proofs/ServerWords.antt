@@ -1,0 +1,452 @@
+-- What a server's doings tell, as plain data.
+use Rattle.std.proofs.Common.{Bool, List, None, Option, Some, [], ap, false, inl, inr, refl, subst, suc, sym, true}
+use Rattle.std.proofs.Common.{if◌then◌else◌, ℕ, ◌&&◌, ◌++◌, ◌||◌, ◌==◌, ◌∙◌, ◌∷◌, ◌≡◌, ◌≤◌, ◌⊎◌}
+use Rattle.std.proofs.lemmas.Bool.{and_parts, and_from, or_cases, or_left, or_right, eqb-true, eq-eqb, leb-true, le-leb}
+use Rattle.std.specs.Prelude.{not, nat_le}
+use Rattle.std.specs.List.{filter, list_all, list_any}
+use Rattle.dfs_base.specs.declared.ids.FilesetId.{FilesetId}
+use Rattle.dfs_base.specs.declared.ids.HostId.{HostId}
+use Rattle.dfs_base.specs.declared.ids.ServerId.{ServerId}
+use Rattle.tok_types.specs.declared.token.Token.{Token}
+use Rattle.rpc_types.specs.declared.asking.Change.{Change as ChangeOf}
+use Rattle.rpc_types.specs.declared.asking.Fetch.{Fetch as FetchOf}
+use Rattle.rpc_types.specs.declared.giving.AppliedGive.{AppliedGive}
+use Rattle.rpc_types.specs.declared.giving.Give.{Give}
+use Rattle.rpc_types.specs.declared.giving.Reclaim.{Reclaim as ReclaimOf}
+use Rattle.rpc_types.specs.declared.message.Body.{Body}
+use Rattle.rpc_types.specs.declared.message.Body.TheVariants.{Hello, Grant, Done, GiveBack, Reclaim, Down, Bye}
+use Rattle.rpc_types.specs.declared.telling.Done.{Done as DoneOf}
+use Rattle.rpc_types.specs.declared.telling.Grant.{Grant as GrantOf}
+use Rattle.world_server.specs.Wants.{Decides, Unwants, Waits}
+use Rattle.world_steps.specs.Acts.{Act, epoch}
+use Rattle.world_steps.specs.Acts.Act.{Begins, Took, Flushes, Wants, Writes, Admits, Sent, Reserves}
+use Rattle.world_steps.specs.Gives.{number_of}
+use Rattle.world_steps.specs.Grants.{Applied, Granted, IsNewlyGranted}
+use Rattle.world_steps.specs.Hosts.{Away, Ends, Enlists, GoesAway, HasReclaimed, Hears, IsBegin, IsDown, IsLive}
+use Rattle.world_steps.specs.Hosts.{Listed, Takes}
+use Rattle.world_steps.specs.Hosts.{TakesOf, TookNow, TookOf}
+use Rattle.world_steps.specs.Lists.{In}
+use Rattle.world_steps.specs.Places.{Here, Place, birth, home}
+use Rattle.world_steps.specs.declared.applied.Request.{Request}
+use Rattle.world_steps.specs.declared.applied.Request.TheVariants.{Fetch as Asks, Change as Changes}
+use Rattle.world_steps.specs.declared.applied.Wanted.{Wanted}
+use Rattle.run_examples.proofs.Tests.{is_not, not_is, some_in, any_of, in_front, in_back, in_split, in_filter}
+use Rattle.run_examples.proofs.Tests.{from_filter}
+use Rattle.run_examples.proofs.Tests.{if_in, in_if, same_host, host_is, hosts, same_server, server_is, servers}
+use Rattle.run_examples.proofs.Tests.{same_fileset}
+use Rattle.run_examples.proofs.Tests.{fileset_is, filesets, same_is}
+
+unfoldable pub takes_down : HostId → Act → Bool
+takes_down h (Took host e n Down) = same_host host h
+takes_down h _ = false
+
+unfoldable pub takes_hello : HostId → Act → Bool
+takes_hello h (Took host e n Hello) = same_host host h
+takes_hello h _ = false
+
+down_heard : (h : HostId) (a : Act) → takes_down h a ≡ true → Hears a h Down
+unfolding takes_down takes_hello
+down_heard h (Took host e n Down) t = (e, n, (let p = host_is host h t in λ i. Took (p i) e n Down))
+down_heard h a t = absurd (cc)
+
+heard_down : (h : HostId) (a : Act) → Hears a h Down → takes_down h a ≡ true
+unfolding takes_down takes_hello
+heard_down h a (e, n, is) = subst (λ x. takes_down h x ≡ true) (sym is) (hosts h h refl)
+
+hello_heard : (h : HostId) (a : Act) → takes_hello h a ≡ true → Hears a h Hello
+unfolding takes_down takes_hello
+hello_heard h (Took host e n Hello) t = (e, n, (let p = host_is host h t in λ i. Took (p i) e n Hello))
+hello_heard h a t = absurd (cc)
+
+heard_hello : (h : HostId) (a : Act) → Hears a h Hello → takes_hello h a ≡ true
+unfolding takes_down takes_hello
+heard_hello h a (e, n, is) = subst (λ x. takes_hello h x ≡ true) (sym is) (hosts h h refl)
+
+unfoldable pub down : List Act → HostId → Bool
+down [] h = false
+down (a ∷ past) h = takes_down h a || down past h
+
+pub down_yes : (past : List Act) (h : HostId) → down past h ≡ true → IsDown past h
+unfolding takes_down takes_hello down
+down_yes [] h t = absurd (cc)
+down_yes (a ∷ past) h t =
+    elim (or_cases (takes_down h a) (down past h) t) [ inl p ↦ inl (down_heard h a p) | inr p ↦ inr
+        (down_yes past h p) ]
+
+pub down_is : (past : List Act) (h : HostId) → IsDown past h → down past h ≡ true
+unfolding takes_down takes_hello down
+down_is [] h x = elim x [ ]
+down_is (a ∷ past) h (inl x) = or_left (takes_down h a) (down past h) (heard_down h a x)
+down_is (a ∷ past) h (inr x) = or_right (takes_down h a) (down past h) (down_is past h x)
+
+unfoldable pub listed : List Act → HostId → Bool
+listed [] h = false
+listed (a ∷ past) h = (takes_hello h a && (not (listed past h) && not (down past h))) || listed past h
+
+listed_parts : (past : List Act) (h : HostId) → ((listed past h ≡ true) → Listed past h) × (Listed past h
+    → listed past h ≡ true)
+unfolding takes_down takes_hello down listed
+listed_parts [] h = (λ t. absurd (cc), λ x. elim x [ ])
+listed_parts (a ∷ past) h =
+    let r = listed_parts past h in
+    (
+      λ t.
+          elim (or_cases (takes_hello h a && (not (listed past h) && not (down past h))) (listed past h) t) [
+            | inl p ↦ (
+                let q = and_parts (takes_hello h a) (not (listed past h) && not (down past h)) p in
+                let u = and_parts (not (listed past h)) (not (down past h)) q.1 in
+                inl (hello_heard h a q.0, λ x. is_not (listed past h) u.0 (r.1 x), λ x. is_not (down past h) u.1
+                    (down_is past h x))
+              )
+            | inr p ↦ inr (r.0 p)
+          ],
+      λ x.
+          elim x [
+            | inl y ↦ or_left (takes_hello h a && (not (listed past h) && not (down past h))) (listed past h)
+                (and_from (takes_hello h a) (not (listed past h) && not (down past h)) (heard_hello h a y.0)
+                (and_from (not (listed past h)) (not (down past h)) (not_is (listed past h) (λ e. y.1 (r.0 e)))
+                    (not_is (down past h) (λ e. y.2 (down_yes past h e)))))
+            | inr y ↦ or_right (takes_hello h a && (not (listed past h) && not (down past h))) (listed past h) (r.1 y)
+          ],
+    )
+
+pub listed_yes : (past : List Act) (h : HostId) → listed past h ≡ true → Listed past h
+unfolding takes_down takes_hello down listed
+listed_yes past h t = (listed_parts past h).0 t
+
+pub listed_is : (past : List Act) (h : HostId) → Listed past h → listed past h ≡ true
+unfolding takes_down takes_hello down listed
+listed_is past h x = (listed_parts past h).1 x
+
+-- who has gone away
+unfoldable pub takes_bye : HostId → ℕ → Act → Bool
+takes_bye h now (Took host e n Bye) = same_host host h && (e == now)
+takes_bye h now _ = false
+
+bye_taken : (h : HostId) (now : ℕ) (a : Act) → takes_bye h now a ≡ true → (n : ℕ) × (a ≡ Took h now n Bye)
+unfolding takes_down takes_hello down listed takes_bye
+bye_taken h now (Took host e n Bye) t =
+    let p = and_parts (same_host host h) (e == now) t in
+    let q = host_is host h p.0 in
+    let r = eqb-true e now p.1 in
+    (n, λ i. Took (q i) (r i) n Bye)
+bye_taken h now a t = absurd (cc)
+
+taken_bye : (h : HostId) (now n : ℕ) (a : Act) → a ≡ Took h now n Bye → takes_bye h now a ≡ true
+unfolding takes_down takes_hello down listed takes_bye
+taken_bye h now n a is =
+    subst (λ x. takes_bye h now x ≡ true) (sym is) (and_from (same_host h h) (now == now) (hosts h h refl)
+        (same_is now))
+
+unfoldable pub goes_away : List Act → Act → HostId → Bool
+goes_away past a h = takes_down h a || (takes_bye h (epoch past) a && (listed past h && not (down past h)))
+
+away_yes_now : (past : List Act) (a : Act) (h : HostId) → goes_away past a h ≡ true → GoesAway past a h
+unfolding takes_down takes_hello down listed takes_bye goes_away
+away_yes_now past a h t =
+    elim (or_cases (takes_down h a) (takes_bye h (epoch past) a && (listed past h && not (down past h))) t) [
+      | inl p ↦ inl (down_heard h a p)
+      | inr p ↦ (
+          let q = and_parts (takes_bye h (epoch past) a) (listed past h && not (down past h)) p in
+          let r = and_parts (listed past h) (not (down past h)) q.1 in
+          inr (bye_taken h (epoch past) a q.0, listed_yes past h r.0, λ x. is_not (down past h) r.1 (down_is past h x))
+        )
+    ]
+
+away_is_now : (past : List Act) (a : Act) (h : HostId) → GoesAway past a h → goes_away past a h ≡ true
+unfolding takes_down takes_hello down listed takes_bye goes_away
+away_is_now past a h (inl x) = or_left (takes_down h a) (takes_bye h (epoch past) a && (listed past h && not
+    (down past h))) (heard_down h a x)
+away_is_now past a h (inr ((n, is), l, d)) =
+    or_right (takes_down h a) (takes_bye h (epoch past) a && (listed past h && not (down past h)))
+    (and_from (takes_bye h (epoch past) a) (listed past h && not (down past h)) (taken_bye h (epoch past) n a is)
+    (and_from (listed past h) (not (down past h)) (listed_is past h l) (not_is (down past h) (λ e. d
+        (down_yes past h e)))))
+
+unfoldable pub away : List Act → HostId → Bool
+away [] h = false
+away (a ∷ past) h = goes_away past a h || away past h
+
+pub away_yes : (past : List Act) (h : HostId) → away past h ≡ true → Away past h
+unfolding takes_down takes_hello down listed takes_bye goes_away away
+away_yes [] h t = absurd (cc)
+away_yes (a ∷ past) h t =
+    elim (or_cases (goes_away past a h) (away past h) t) [ inl p ↦ inl (away_yes_now past a h p) | inr p ↦ inr
+        (away_yes past h p) ]
+
+pub away_is : (past : List Act) (h : HostId) → Away past h → away past h ≡ true
+unfolding takes_down takes_hello down listed takes_bye goes_away away
+away_is [] h x = elim x [ ]
+away_is (a ∷ past) h (inl x) = or_left (goes_away past a h) (away past h) (away_is_now past a h x)
+away_is (a ∷ past) h (inr x) = or_right (goes_away past a h) (away past h) (away_is past h x)
+
+unfoldable pub live : List Act → HostId → Bool
+live past h = listed past h && not (away past h)
+
+pub live_yes : (past : List Act) (h : HostId) → live past h ≡ true → IsLive past h
+unfolding takes_down takes_hello down listed takes_bye goes_away away live
+live_yes past h t =
+    let p = and_parts (listed past h) (not (away past h)) t in
+    (listed_yes past h p.0, λ x. is_not (away past h) p.1 (away_is past h x))
+
+pub live_is : (past : List Act) (h : HostId) → IsLive past h → live past h ≡ true
+unfolding takes_down takes_hello down listed takes_bye goes_away away live
+live_is past h (l, a) =
+    and_from (listed past h) (not (away past h)) (listed_is past h l) (not_is (away past h) (λ e. a
+        (away_yes past h e)))
+
+-- the hosts that were heard
+unfoldable pub heard_from : Act → List HostId
+heard_from (Took host e n b) = host ∷ []
+heard_from _ = []
+
+unfoldable pub heard : List Act → List HostId
+heard [] = []
+heard (a ∷ past) = heard_from a ++ heard past
+
+pub listed_heard : (past : List Act) (h : HostId) → Listed past h → In h (heard past)
+unfolding takes_down takes_hello down listed takes_bye goes_away away live heard_from heard
+listed_heard [] h x = elim x [ ]
+listed_heard (a ∷ past) h (inl x) =
+    in_front h (heard_from a) (heard past) (subst (λ y. In h (heard_from y)) (sym x.0.2) (inl refl))
+listed_heard (a ∷ past) h (inr x) = in_back h (heard_from a) (heard past) (listed_heard past h x)
+
+-- who has reclaimed
+unfoldable pub begins : Act → Bool
+begins (Begins e) = true
+begins _ = false
+
+begin_yes : (a : Act) → begins a ≡ true → IsBegin a
+unfolding takes_down takes_hello down listed takes_bye goes_away away live heard_from heard begins
+begin_yes (Begins e) t = (e, refl)
+begin_yes a t = absurd (cc)
+
+begin_is : (a : Act) → IsBegin a → begins a ≡ true
+unfolding takes_down takes_hello down listed takes_bye goes_away away live heard_from heard begins
+begin_is a (e, is) = subst (λ x. begins x ≡ true) (sym is) refl
+
+unfoldable pub admits_host : HostId → Act → Bool
+admits_host h (Admits host ts) = same_host host h
+admits_host h _ = false
+
+admits_yes : (h : HostId) (a : Act) → admits_host h a ≡ true → (ts : List Token) × (a ≡ Admits h ts)
+unfolding takes_down takes_hello down listed takes_bye goes_away away live heard_from heard begins admits_host
+admits_yes h (Admits host ts) t = (ts, (let p = host_is host h t in λ i. Admits (p i) ts))
+admits_yes h a t = absurd (cc)
+
+unfoldable pub reclaimed : List Act → HostId → Bool
+reclaimed [] h = false
+reclaimed (a ∷ past) h =
+    (admits_host h a || (takes_hello h a && (not (listed past h) && not (down past h)))) || (reclaimed past h && not
+        (begins a))
+
+pub reclaimed_yes : (past : List Act) (h : HostId) → reclaimed past h ≡ true → HasReclaimed past h
+unfolding takes_down takes_hello down listed takes_bye goes_away away live heard_from heard begins admits_host reclaimed
+reclaimed_yes [] h t = absurd (cc)
+reclaimed_yes (a ∷ past) h t =
+    let n = takes_hello h a && (not (listed past h) && not (down past h)) in
+    elim (or_cases (admits_host h a || n) (reclaimed past h && not (begins a)) t) [
+      | inl p ↦
+          elim (or_cases (admits_host h a) n p) [
+            | inl q ↦ inl (inl (admits_yes h a q))
+            | inr q ↦ (
+                let r = and_parts (takes_hello h a) (not (listed past h) && not (down past h)) q in
+                let u = and_parts (not (listed past h)) (not (down past h)) r.1 in
+                inl (inr (hello_heard h a r.0, λ x. is_not (listed past h) u.0 (listed_is past h x), λ x. is_not
+                    (down past h) u.1 (down_is past h x)))
+              )
+          ]
+      | inr p ↦ (let q = and_parts (reclaimed past h) (not (begins a)) p in inr (reclaimed_yes past h q.0,
+          λ x. is_not (begins a) q.1 (begin_is a x)))
+    ]
+
+pub reclaimed_is : (past : List Act) (h : HostId) → HasReclaimed past h → reclaimed past h ≡ true
+unfolding takes_down takes_hello down listed takes_bye goes_away away live heard_from heard begins admits_host reclaimed
+reclaimed_is [] h x = elim x [ ]
+reclaimed_is (a ∷ past) h (inl x) =
+    let n = takes_hello h a && (not (listed past h) && not (down past h)) in
+    or_left (admits_host h a || n) (reclaimed past h && not (begins a))
+    (elim x [
+      | inl y ↦ or_left (admits_host h a) n (subst (λ z. admits_host h z ≡ true) (sym y.1) (hosts h h refl))
+      | inr y ↦ or_right (admits_host h a) n
+          (and_from (takes_hello h a) (not (listed past h) && not (down past h)) (heard_hello h a y.0)
+          (and_from (not (listed past h)) (not (down past h)) (not_is (listed past h) (λ e. y.1
+              (listed_yes past h e))) (not_is (down past h) (λ e. y.2 (down_yes past h e)))))
+    ])
+reclaimed_is (a ∷ past) h (inr x) =
+    or_right (admits_host h a || (takes_hello h a && (not (listed past h) && not (down past h))))
+        (reclaimed past h && not (begins a))
+    (and_from (reclaimed past h) (not (begins a)) (reclaimed_is past h x.0) (not_is (begins a) (λ e. x.1
+        (begin_yes a e))))
+
+-- give-backs that were taken, in whatever epoch
+unfoldable pub here : ServerId → FilesetId → ℕ → Bool
+here server fs n = same_server (home fs) server && (n == 0)
+
+pub here_yes : (server : ServerId) (past : List Act) (fs : FilesetId) (n : ℕ) → here server fs n ≡ true
+    → Here server past fs n
+unfolding takes_down takes_hello down listed takes_bye goes_away away live heard_from heard begins admits_host
+    reclaimed here
+here_yes server past fs n t =
+    let p = and_parts (same_server (home fs) server) (n == 0) t in
+    let s = server_is (home fs) server p.0 in
+    let m = sym (eqb-true n 0 p.1) in
+    λ i. record { server = s i; moves = m i }
+
+unfoldable pub takes_give : ServerId → List Act → HostId → AppliedGive → Act → Bool
+takes_give server past h number (Took host e n (GiveBack g)) =
+    ((same_host host h && (e == epoch past)) && (live past h && here server g.fid.fileset n))
+    && (same_fileset g.fid.fileset number.fileset && nat_le number.number g.number)
+takes_give server past h number _ = false
+
+unfoldable pub applied : ServerId → List Act → HostId → AppliedGive → Bool
+applied server [] h number = false
+applied server (a ∷ past) h number = takes_give server past h number a || applied server past h number
+
+give_taken : (server : ServerId) (past : List Act) (h : HostId) (number : AppliedGive) (a : Act)
+    → takes_give server past h number a ≡ true
+    → (give : Give) × TakesOf server past a h number.fileset (GiveBack give) × (give.fid.fileset ≡ number.fileset)
+    × (number.number ≤ give.number)
+unfolding takes_down takes_hello down listed takes_bye goes_away away live heard_from heard begins admits_host
+    reclaimed here takes_give applied
+give_taken server past h number (Took host e n (GiveBack g)) t =
+    let x = (same_host host h && (e == epoch past)) && (live past h && here server g.fid.fileset n) in
+    let p = and_parts x (same_fileset g.fid.fileset number.fileset && nat_le number.number g.number) t in
+    let q = and_parts (same_host host h && (e == epoch past)) (live past h && here server g.fid.fileset n) p.0 in
+    let r = and_parts (same_host host h) (e == epoch past) q.0 in
+    let u = and_parts (live past h) (here server g.fid.fileset n) q.1 in
+    let w = and_parts (same_fileset g.fid.fileset number.fileset) (nat_le number.number g.number) p.1 in
+    let f = fileset_is g.fid.fileset number.fileset w.0 in
+    let hh = host_is host h r.0 in
+    let ee = eqb-true e (epoch past) r.1 in
+    (g, (n, subst (λ x. Here server past x n) f (here_yes server past g.fid.fileset n u.1), ((λ i. Took (hh i)
+        (ee i) n (GiveBack g)), live_yes past h u.0)), f, leb-true number.number g.number w.1)
+give_taken server past h number a t = absurd (cc)
+
+pub applied_yes : (server : ServerId) (past : List Act) (h : HostId) (number : AppliedGive)
+    → applied server past h number ≡ true
+    → Applied server past h number
+unfolding takes_down takes_hello down listed takes_bye goes_away away live heard_from heard begins admits_host
+    reclaimed here takes_give applied
+applied_yes server [] h number t = absurd (cc)
+applied_yes server (a ∷ past) h number t =
+    elim (or_cases (takes_give server past h number a) (applied server past h number) t) [
+      | inl p ↦ inl (give_taken server past h number a p)
+      | inr p ↦ inr (applied_yes server past h number p)
+    ]
+
+here_is : (server : ServerId) (fs : FilesetId) (n : ℕ) → birth fs ≡ record { server = server; moves = n }
+    → here server fs n ≡ true
+unfolding takes_down takes_hello down listed takes_bye goes_away away live heard_from heard begins admits_host
+    reclaimed here takes_give applied
+here_is server fs n e =
+    and_from (same_server (home fs) server) (n == 0) (servers (home fs) server (ap (λ (x : Place). x.server) e))
+        (eq-eqb n 0 (sym (ap (λ (x : Place). x.moves) e)))
+
+taken_give : (server : ServerId) (past : List Act) (h : HostId) (number : AppliedGive) (a : Act) (g : Give)
+    → TakesOf server past a h number.fileset (GiveBack g) → g.fid.fileset ≡ number.fileset → number.number ≤ g.number
+    → takes_give server past h number a ≡ true
+unfolding takes_down takes_hello down listed takes_bye goes_away away live heard_from heard begins admits_host
+    reclaimed here takes_give applied
+taken_give server past h number a g (n, at, (is, l)) f k =
+    subst (λ x. takes_give server past h number x ≡ true) (sym is)
+    (and_from ((same_host h h && (epoch past == epoch past)) && (live past h && here server g.fid.fileset n))
+        (same_fileset g.fid.fileset number.fileset && nat_le number.number g.number)
+    (and_from (same_host h h && (epoch past == epoch past)) (live past h && here server g.fid.fileset n) (and_from
+        (same_host h h) (epoch past == epoch past) (hosts h h refl) (same_is (epoch past)))
+    (and_from (live past h) (here server g.fid.fileset n) (live_is past h l) (here_is server g.fid.fileset n (subst
+        (λ x. Here server past x n) (sym f) at))))
+    (and_from (same_fileset g.fid.fileset number.fileset) (nat_le number.number g.number)
+        (filesets g.fid.fileset number.fileset f) (le-leb number.number g.number k)))
+
+pub applied_is : (server : ServerId) (past : List Act) (h : HostId) (number : AppliedGive)
+    → Applied server past h number
+    → applied server past h number ≡ true
+unfolding takes_down takes_hello down listed takes_bye goes_away away live heard_from heard begins admits_host
+    reclaimed here takes_give applied
+applied_is server [] h number x = elim x [ ]
+applied_is server (a ∷ past) h number (inl (g, x, f, k)) =
+    or_left (takes_give server past h number a) (applied server past h number)
+        (taken_give server past h number a g x f k)
+applied_is server (a ∷ past) h number (inr x) =
+    or_right (takes_give server past h number a) (applied server past h number) (applied_is server past h number x)
+
+-- wants that wait: at most these
+unfoldable pub decides : HostId → Act → Request → Bool
+decides h (Sent host e n (Grant g)) (Asks f) =
+    same_host host h && (same_fileset g.bring.fid.fileset f.fid.fileset && (g.bring.number == f.number))
+decides h (Sent host e n (Done d)) (Changes c) =
+    same_host host h && (same_fileset d.fileset c.fileset && (d.bring.number == c.number))
+decides h a r = false
+
+decides_yes : (h : HostId) (a : Act) (r : Request) → decides h a r ≡ true → Decides a h r
+unfolding takes_down takes_hello down listed takes_bye goes_away away live heard_from heard begins admits_host
+    reclaimed here takes_give applied decides
+decides_yes h (Sent host e n (Grant g)) (Asks f) t =
+    let p = and_parts (same_host host h) (same_fileset g.bring.fid.fileset f.fid.fileset &&
+        (g.bring.number == f.number)) t in
+    let q = and_parts (same_fileset g.bring.fid.fileset f.fid.fileset) (g.bring.number == f.number) p.1 in
+    let hh = host_is host h p.0 in
+    (e, n, g, (λ i. Sent (hh i) e n (Grant g)), fileset_is g.bring.fid.fileset f.fid.fileset q.0, eqb-true
+        g.bring.number f.number q.1)
+decides_yes h (Sent host e n (Done d)) (Changes c) t =
+    let p = and_parts (same_host host h) (same_fileset d.fileset c.fileset && (d.bring.number == c.number)) t in
+    let q = and_parts (same_fileset d.fileset c.fileset) (d.bring.number == c.number) p.1 in
+    let hh = host_is host h p.0 in
+    inr (e, n, d, (λ i. Sent (hh i) e n (Done d)), fileset_is d.fileset c.fileset q.0, eqb-true d.bring.number
+        c.number q.1)
+decides_yes h a r t = absurd (cc)
+
+unfoldable pub wanted_by : Act → List Wanted
+wanted_by (Wants w) = w ∷ []
+wanted_by _ = []
+
+unfoldable pub unwants : List Act → Act → Wanted → Bool
+unwants past a w = decides w.host a w.request || (goes_away past a w.host || begins a)
+
+unfoldable pub waiting : List Act → List Wanted
+waiting [] = []
+waiting (a ∷ past) = wanted_by a ++ filter (λ w. not (unwants past a w)) (waiting past)
+
+unwants_yes : (past : List Act) (a : Act) (w : Wanted) → unwants past a w ≡ true → Unwants past a w
+unfolding takes_down takes_hello down listed takes_bye goes_away away live heard_from heard begins admits_host
+    reclaimed here takes_give applied decides wanted_by unwants waiting
+unwants_yes past a w t =
+    elim (or_cases (decides w.host a w.request) (goes_away past a w.host || begins a) t) [
+      | inl p ↦ inl (decides_yes w.host a w.request p)
+      | inr p ↦ inr (inr (elim (or_cases (goes_away past a w.host) (begins a) p) [ inl q ↦ inl
+          (away_yes_now past a w.host q) | inr q ↦ inr (begin_yes a q) ]))
+    ]
+
+pub waits_in : (past : List Act) (w : Wanted) → Waits past w → In w (waiting past)
+unfolding takes_down takes_hello down listed takes_bye goes_away away live heard_from heard begins admits_host
+    reclaimed here takes_give applied decides wanted_by unwants waiting
+waits_in [] w x = elim x [ ]
+waits_in (a ∷ past) w (inl e) =
+    in_front w (wanted_by a) (filter (λ w. not (unwants past a w)) (waiting past)) (subst (λ y. In w (wanted_by y))
+        (sym e) (inl refl))
+waits_in (a ∷ past) w (inr x) =
+    in_back w (wanted_by a) (filter (λ w. not (unwants past a w)) (waiting past))
+    (in_filter (λ w. not (unwants past a w)) (waiting past) w (waits_in past w x.0) (not_is (unwants past a w)
+        (λ e. x.1 (unwants_yes past a w e))))
+
+-- no claim was taken in this epoch
+unfoldable pub claims : Act → Bool
+claims (Took host e n (Reclaim claim)) = true
+claims _ = false
+
+unfoldable pub claimless : List Act → Bool
+claimless [] = true
+claimless (a ∷ past) = not (claims a) && (begins a || claimless past)
+
+pub no_claim : (past : List Act) (h : HostId) (n : ℕ) (claim : ReclaimOf) → claimless past ≡ true → TookNow past h n
+    (Reclaim claim) → ⊥
+unfolding begins claims claimless
+no_claim [] h n claim t x = elim x [ ]
+no_claim (a ∷ past) h n claim t x =
+    let p = and_parts (not (claims a)) (begins a || claimless past) t in
+    elim x [
+      | inl y ↦ is_not (claims a) p.0 (subst (λ z. claims z ≡ true) (sym y.0) refl)
+      | inr y ↦ (elim (or_cases (begins a) (claimless past) p.1) [ inl q ↦ y.1
+          (begin_yes a q) | inr q ↦ no_claim past h n claim q y.0 ])
+    ]

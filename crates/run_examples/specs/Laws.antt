@@ -1,0 +1,93 @@
+-- What the examples show: each step meets all rules of its host, after the steps that led to it; and so does a lapse
+-- after it.
+use Rattle.std.specs.Prelude.{List, [], ◌∷◌}
+use Rattle.dfs_base.specs.declared.ids.Node.TheVariants.{Server}
+use Rattle.script_lines.specs.declared.script.Deed.TheVariants.{Call as MakesCall, Restart, Stop}
+use Rattle.script_lines.specs.declared.script.Script.{Script}
+use Rattle.rpc_types.specs.declared.message.Body.TheVariants.{GiveBack, Bye, Restarted}
+use Rattle.rpc_types.specs.declared.message.Message.{Message}
+use Rattle.world_host.specs.HostRules.{HostMeets}
+use Rattle.world_server.specs.ServerRules.{ServerMeets}
+use Rattle.world_steps.specs.Acts.{acts}
+use Rattle.world_steps.specs.Worked.{client, from_server, site_one, to_server}
+use Rattle.world_steps.specs.declared.step.Step.{Step}
+use Rattle.run_examples.specs.Steps.{asks_lock, asks_update, begin, claims_all, claims_gift, ends, frees, gift, gives}
+use Rattle.run_examples.specs.Steps.{grown}
+use Rattle.run_examples.specs.Steps.{grows, hears_bye, keeps, lapses, learns, learns_freed, lock_gift, locked, locks}
+use Rattle.run_examples.specs.Steps.{reclaimed}
+use Rattle.run_examples.specs.Steps.{answers_bye, file_tree, hears_down, hears_returned, restarts, served}
+use Rattle.run_examples.specs.Steps.{server_lapses}
+use Rattle.run_examples.specs.Steps.{stores}
+use Rattle.run_examples.specs.Steps.{restarted, restarted_late, says_bye, script_of, stops, takes_lock, unlocks, writes}
+
+abbrev pub writing : Script
+writing = script_of (MakesCall writes ∷ [])
+
+abbrev pub stopping : Script
+stopping = script_of (MakesCall writes ∷ Stop ∷ [])
+
+abbrev pub locking : Script
+locking = script_of (MakesCall locks ∷ MakesCall unlocks ∷ [])
+
+-- a script in which the server restarts
+abbrev pub restarting : Script
+restarting = record writing { lines = record { number = 8; node = Server site_one; deed = Restart } ∷ [] }
+
+-- the step meets all rules after these, and a lapse after it, in which this is sent again
+abbrev pub Meets : Script → List Step → Step → List Message → Type 0
+Meets script past s again =
+    HostMeets script client past s × HostMeets script client (s ∷ past) (lapses again)
+
+-- a Write that grows its file, is answered when the tokens come that it lacked
+abbrev pub WriteIsAnswered : Type 0
+WriteIsAnswered = Meets writing (asks_update ∷ begin writes) grows []
+
+-- Of what a Revoke names the dirty parts go into a give-back, and the rest is returned; a lapse sends the give-back
+-- again, until its Gone comes.
+abbrev pub RevokeIsAnswered : Type 0
+RevokeIsAnswered =
+    Meets writing grown gives (to_server 1 (GiveBack gift) ∷ []) × Meets writing (gives ∷ grown) learns []
+
+-- A host claims what it holds, dirty or clean, when the server has restarted; with a give-back on its way, that too. A
+-- lapse claims again, until the claim is answered.
+abbrev pub RestartIsAnswered : Type 0
+RestartIsAnswered =
+    Meets writing grown restarted (claims_all ∷ [])
+    × Meets writing (gives ∷ grown) restarted_late (to_server 2 (GiveBack gift) ∷ claims_gift ∷ [])
+    × Meets writing (restarted ∷ grown) reclaimed []
+
+-- a host stops with dirty parts: then it does nothing more
+abbrev pub StopIsAllowed : Type 0
+StopIsAllowed = HostMeets stopping client grown stops
+
+-- At the end a host gives back and returns all that it holds, and says Bye when that is known as applied; a lapse says
+-- Bye again, until the server has said Bye.
+abbrev pub EndIsAllowed : Type 0
+EndIsAllowed =
+    Meets writing grown ends (to_server 1 (GiveBack gift) ∷ [])
+    × Meets writing (learns ∷ ends ∷ grown) says_bye (to_server 1 Bye ∷ [])
+    × Meets writing (says_bye ∷ learns ∷ ends ∷ grown) hears_bye []
+
+-- A lock is answered with the token that it lacked. A Revoke of a token in use is answered by Kept, and then the end of
+-- the use by a give-back, whose Gone ends the call.
+abbrev pub LockIsKept : Type 0
+LockIsKept =
+    Meets locking (asks_lock ∷ begin locks) takes_lock []
+    × Meets locking locked keeps []
+    × Meets locking (keeps ∷ locked) frees (to_server 1 (GiveBack lock_gift) ∷ [])
+    × Meets locking (frees ∷ keeps ∷ locked) learns_freed []
+
+-- so does a step of the server, from a tree that has the file on, after its own steps
+abbrev pub Serves : Script → List Step → Step → List Message → Type 0
+Serves script past s again =
+    ServerMeets script file_tree site_one past (acts 1 site_one past) s
+    × ServerMeets script file_tree site_one (s ∷ past) (acts 1 site_one (s ∷ past)) (server_lapses again)
+
+-- A give-back is stored and answered by Gone; a Returned is heard; a host goes down, once, or says Bye, which is
+-- answered; a restart tells each host, and a lapse those again that haven't reclaimed.
+pub record ServerReacts : Type 0 where
+  pub gift_stored : Serves writing served stores []
+  pub returned_heard : Serves writing (stores ∷ served) hears_returned []
+  pub down_heard : Serves writing served hears_down []
+  pub bye_answered : Serves writing (hears_returned ∷ stores ∷ served) answers_bye []
+  pub restart_told : Serves restarting served restarts (from_server Restarted ∷ [])

@@ -1,0 +1,10 @@
+//! Steps of hosts and servers in states that runs reach, each of which meets all rules, and a lapse after it: so the
+//! rules don't contradict one another there. What each rule says is computed from the steps as plain data.
+#![tactic(auto)]
+
+mod laws;
+
+pub use laws::{
+    a_growing_write_is_answered, a_lock_is_kept, a_restart_is_answered, a_revoke_is_answered,
+    a_server_reacts, a_stop_is_allowed, an_end_is_allowed,
+};
