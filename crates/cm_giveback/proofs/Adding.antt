@@ -31,7 +31,7 @@ pub takes_out : TakesOut
 takes_out giving fileset number =
     record {
       gone = λ h. ap (λ t. of_fileset fileset (cond t (without_first fileset giving.gives) giving.gives)) h
-        ∙ first_left (is_of fileset) giving.gives;
+          ∙ first_left (is_of fileset) giving.gives;
       kept = λ h. ap (λ t. record giving { gives = cond t (without_first fileset giving.gives) giving.gives }) h;
       others = λ other apart. by_test other apart (is_outstanding giving fileset number);
       last = refl;

@@ -18,8 +18,8 @@ put_there [] fileset number lt = absurd (omega (arith, lt))
 put_there (c ∷ cs) fileset number lt =
     let new : Counter = record { fileset = fileset; number = number } in
     elim (is_of fileset c) as (λ t. cond (not t) (1 + place (is_of fileset) cs) 0 < suc (length cs) →
-      slice_set (c ∷ cs) (cond (not t) (1 + place (is_of fileset) cs) 0) new
-      ≡ cond t (new ∷ cs) (c ∷ with_last cs fileset number)) [
+    slice_set (c ∷ cs) (cond (not t) (1 + place (is_of fileset) cs) 0) new
+    ≡ cond t (new ∷ cs) (c ∷ with_last cs fileset number)) [
       | true ↦ λ k. refl
       | false ↦ λ k.
           let same : 1 + place (is_of fileset) cs ≡ suc (place (is_of fileset) cs) = omega arith in
@@ -42,7 +42,7 @@ pushed_there [] fileset number le = refl
 pushed_there (c ∷ cs) fileset number le =
     let new : Counter = record { fileset = fileset; number = number } in
     elim (is_of fileset c) as (λ t. suc (length cs) ≤ cond (not t) (1 + place (is_of fileset) cs) 0 →
-      c ∷ (cs ++ new ∷ []) ≡ cond t (new ∷ cs) (c ∷ with_last cs fileset number)) [
+    c ∷ (cs ++ new ∷ []) ≡ cond t (new ∷ cs) (c ∷ with_last cs fileset number)) [
       | true ↦ λ k. absurd (omega (arith, k))
       | false ↦ λ k. ap (λ ys. c ∷ ys) (pushed_there cs fileset number (omega (arith, k)))
     ] le
@@ -60,8 +60,8 @@ last_with [] fileset number other = grind (arith, common_steps, cases_Bool (file
 last_with (c ∷ cs) fileset number other =
     let rest = last_with cs fileset number other in
     elim (is_of fileset c) as (λ t. is_of fileset c ≡ t →
-      last_of (cond t (record { fileset = fileset; number = number } ∷ cs) (c ∷ with_last cs fileset number)) other
-      ≡ cond (fileset.0 == other.0) number (last_of (c ∷ cs) other)) [
+    last_of (cond t (record { fileset = fileset; number = number } ∷ cs) (c ∷ with_last cs fileset number)) other
+    ≡ cond (fileset.0 == other.0) number (last_of (c ∷ cs) other)) [
       | true ↦ λ e.
           let same : c.fileset.0 ≡ fileset.0 = eqb-true c.fileset.0 fileset.0 e in
           here (fileset.0 == other.0) (ap (λ n. n == other.0) same)
@@ -75,6 +75,7 @@ last_with (c ∷ cs) fileset number other =
     here true e = refl
     here false e =
         sym (ap (λ t. option_map_or (λ counter. counter.number) (cond t (Some c) (find (is_of other) cs)) 0) e)
+
     there : (b : Bool) → (c.fileset.0 == other.0) ≡ b → is_of fileset c ≡ false →
         last_of (with_last cs fileset number) other ≡ cond (fileset.0 == other.0) number (last_of cs other) →
         option_map_or (λ counter. counter.number) (cond b (Some c) (find (is_of other) (with_last cs fileset number))) 0

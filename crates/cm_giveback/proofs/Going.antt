@@ -12,9 +12,10 @@ goes : (giving : Giving) (fileset : FilesetId) (number : ℕ) (b : Bool) →
     (gone giving fileset number ≡ cond b (outstanding giving fileset) None)
     × (after_gone giving fileset number
     ≡ record giving { gives = cond b (without_first fileset giving.gives) giving.gives })
-goes giving fileset number b e =
-    (ap (λ t. cond t (outstanding giving fileset) None) e,
-    ap (λ t. record giving { gives = cond t (without_first fileset giving.gives) giving.gives }) e)
+goes giving fileset number b e = (
+  ap (λ t. cond t (outstanding giving fileset) None) e,
+  ap (λ t. record giving { gives = cond t (without_first fileset giving.gives) giving.gives }) e,
+)
 
 pub gone_nowhere : (giving : Giving) (fileset : FilesetId) (number : ℕ) → outstanding giving fileset ≡ None →
     (None ≡ gone giving fileset number) × (giving ≡ after_gone giving fileset number)
@@ -27,7 +28,7 @@ pub gone_other : (giving : Giving) (fileset : FilesetId) (number : ℕ) (message
     (None ≡ gone giving fileset number) × (giving ≡ after_gone giving fileset number)
 gone_other giving fileset number message there apart =
     let k = goes giving fileset number false
-      (ap (λ o. option_map_or (λ m. number_of m == number) o false) there ∙ apart) in
+    (ap (λ o. option_map_or (λ m. number_of m == number) o false) there ∙ apart) in
     (sym k.0, sym k.1)
 
 pub gone_there : (giving : Giving) (fileset : FilesetId) (number : ℕ) (message : Message) →
@@ -36,7 +37,7 @@ pub gone_there : (giving : Giving) (fileset : FilesetId) (number : ℕ) (message
     × (record giving { gives = without_first fileset giving.gives } ≡ after_gone giving fileset number)
 gone_there giving fileset number message there same =
     let k = goes giving fileset number true
-      (ap (λ o. option_map_or (λ m. number_of m == number) o false) there ∙ same) in
+    (ap (λ o. option_map_or (λ m. number_of m == number) o false) there ∙ same) in
     (sym there ∙ sym k.0, sym k.1)
 
 pub differs : (a b : ℕ) → (a ≡ b → ⊥) → (a == b) ≡ false

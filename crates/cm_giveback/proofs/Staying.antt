@@ -20,7 +20,7 @@ pub first_left : {X : Type 0} (p : X → Bool) (xs : List X) →
 first_left p [] = refl
 first_left p (x ∷ xs) =
     elim (p x) as (λ t. p x ≡ t → filter p (take (cond (not t) (1 + place p xs) 0) (x ∷ xs)
-      ++ drop (cond (not t) (1 + place p xs) 0 + 1) (x ∷ xs)) ≡ drop 1 (cond t (x ∷ filter p xs) (filter p xs))) [
+    ++ drop (cond (not t) (1 + place p xs) 0 + 1) (x ∷ xs)) ≡ drop 1 (cond t (x ∷ filter p xs) (filter p xs))) [
       | true ↦ λ e. refl
       | false ↦ λ e.
           let one : 1 + place p xs ≡ suc (place p xs) = omega arith in
@@ -37,7 +37,7 @@ pub others_left : {X : Type 0} (p q : X → Bool) → ((x : X) → p x ≡ true 
 others_left p q apart [] = refl
 others_left p q apart (x ∷ xs) =
     elim (p x) as (λ t. p x ≡ t → filter q (take (cond (not t) (1 + place p xs) 0) (x ∷ xs)
-      ++ drop (cond (not t) (1 + place p xs) 0 + 1) (x ∷ xs)) ≡ filter q (x ∷ xs)) [
+    ++ drop (cond (not t) (1 + place p xs) 0 + 1) (x ∷ xs)) ≡ filter q (x ∷ xs)) [
       | true ↦ λ e. sym (ap (λ t. cond t (x ∷ filter q xs) (filter q xs)) (apart x e))
       | false ↦ λ e.
           let one : 1 + place p xs ≡ suc (place p xs) = omega arith in
@@ -89,7 +89,7 @@ pub sound_without : (giving : Giving) (fileset : FilesetId) → IsSound giving �
 sound_without giving fileset sound =
     record {
       give_back =
-        all_parts (λ message. IsTrue (is_some (give_of message))) (is_of fileset) giving.gives sound.give_back;
+          all_parts (λ message. IsTrue (is_some (give_of message))) (is_of fileset) giving.gives sound.give_back;
       go_on = λ other. by_test other (fileset.0 == other.0) refl;
     }
   where
@@ -98,9 +98,9 @@ sound_without giving fileset sound =
     by_test other true e =
         let same : fileset ≡ other = (let n = eqb-true fileset.0 other.0 e in λ i. record { 0 = n i }) in
         let numbers : map number_of (of_fileset fileset (without_first fileset giving.gives))
-            ≡ drop 1 (map number_of (of_fileset fileset giving.gives)) =
-          ap (map number_of) (first_left (is_of fileset) giving.gives)
-          ∙ map_drop number_of (of_fileset fileset giving.gives) in
+        ≡ drop 1 (map number_of (of_fileset fileset giving.gives)) =
+        ap (map number_of) (first_left (is_of fileset) giving.gives)
+        ∙ map_drop number_of (of_fileset fileset giving.gives) in
         let left = without_first fileset giving.gives in
         subst (λ f. GoOnTo (last_of giving.counters f) (map number_of (of_fileset f left))) same
         (subst (GoOnTo (last_of giving.counters fileset)) (sym numbers)
@@ -125,28 +125,28 @@ numbers_added giving message give e next sound other true h =
     let same = same_fileset give.fid.fileset other h in
     let following : give.number ≡ last + 1 = next ∙ ap (λ f. last_of giving.counters f + 1) same in
     let passes : is_of other message ≡ true =
-      ap (λ o. option_map_or (λ g. g.fid.fileset.0 == other.0) o false) e ∙ h in
+    ap (λ o. option_map_or (λ g. g.fid.fileset.0 == other.0) o false) e ∙ h in
     let numbered : number_of message ≡ last + 1 = ap (λ o. option_map_or (λ g. g.number) o 0) e ∙ following in
     let numbers : map number_of (of_fileset other (giving.gives ++ message ∷ []))
-        ≡ map number_of before ++ (last + 1) ∷ [] =
-      ap (map number_of) (filter-append (is_of other) giving.gives (message ∷ []))
-      ∙ ap (λ t. map number_of (before ++ cond t (message ∷ []) [])) passes
-      ∙ map_append number_of before (message ∷ [])
-      ∙ ap (λ n. map number_of before ++ n ∷ []) numbered in
+    ≡ map number_of before ++ (last + 1) ∷ [] =
+    ap (map number_of) (filter-append (is_of other) giving.gives (message ∷ []))
+    ∙ ap (λ t. map number_of (before ++ cond t (message ∷ []) [])) passes
+    ∙ map_append number_of before (message ∷ [])
+    ∙ ap (λ n. map number_of before ++ n ∷ []) numbered in
     let now : last_of (with_last giving.counters give.fid.fileset give.number) other ≡ last + 1 =
-      last_with giving.counters give.fid.fileset give.number other ∙ ap (λ t. cond t give.number last) h ∙ following in
+    last_with giving.counters give.fid.fileset give.number other ∙ ap (λ t. cond t give.number last) h ∙ following in
     subst (λ n. GoOnTo n (map number_of (of_fileset other (giving.gives ++ message ∷ [])))) (sym now)
     (subst (GoOnTo (last + 1)) (sym numbers) (more_numbers last (map number_of before) (sound.go_on other)))
 numbers_added giving message give e next sound other false h =
     let before = of_fileset other giving.gives in
     let last = last_of giving.counters other in
     let fails : is_of other message ≡ false =
-      ap (λ o. option_map_or (λ g. g.fid.fileset.0 == other.0) o false) e ∙ h in
+    ap (λ o. option_map_or (λ g. g.fid.fileset.0 == other.0) o false) e ∙ h in
     let kept : of_fileset other (giving.gives ++ message ∷ []) ≡ before =
-      filter-append (is_of other) giving.gives (message ∷ [])
-      ∙ ap (λ t. before ++ cond t (message ∷ []) []) fails ∙ append-nil before in
+    filter-append (is_of other) giving.gives (message ∷ [])
+    ∙ ap (λ t. before ++ cond t (message ∷ []) []) fails ∙ append-nil before in
     let now : last_of (with_last giving.counters give.fid.fileset give.number) other ≡ last =
-      last_with giving.counters give.fid.fileset give.number other ∙ ap (λ t. cond t give.number last) h in
+    last_with giving.counters give.fid.fileset give.number other ∙ ap (λ t. cond t give.number last) h in
     subst (λ n. GoOnTo n (map number_of (of_fileset other (giving.gives ++ message ∷ [])))) (sym now)
     (subst (λ ms. GoOnTo last (map number_of ms)) (sym kept) (sound.go_on other))
 
@@ -163,6 +163,6 @@ sound_added giving message next sound = by_give (give_of message) refl next
         let next : give.number ≡ last_of giving.counters give.fid.fileset + 1 = grind (arith, common_steps, k) in
         record {
           give_back = All-push (λ m. IsTrue (is_some (give_of m))) giving.gives message sound.give_back
-            (subst (λ o. IsTrue (is_some o)) (sym e) (search rules));
+              (subst (λ o. IsTrue (is_some o)) (sym e) (search rules));
           go_on = λ other. numbers_added giving message give e next sound other (give.fid.fileset.0 == other.0) refl;
         }

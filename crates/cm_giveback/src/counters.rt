@@ -44,5 +44,7 @@ pub(crate) fn set_last(
 fn place_of(counters: &[Counter], fileset: FilesetId) -> Option<usize>
     ensures { result ≡ position (is_of fileset) counters.now }
 {
-    counters.iter().position(|counter| counter.fileset == fileset)
+    counters
+        .iter()
+        .position(|counter| counter.fileset == fileset)
 }

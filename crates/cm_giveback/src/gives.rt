@@ -72,7 +72,10 @@ impl Gives {
     pub fn outstanding(&self, fileset: FilesetId) -> Option<&Message>
         ensures { option_copied result ≡ outstanding self.now fileset }
     {
-        self.gives.as_slice().iter().find(|give| is_of(give, fileset))
+        self.gives
+            .as_slice()
+            .iter()
+            .find(|give| is_of(give, fileset))
     }
 
     /// Takes out the give-back of a fileset that is outstanding: it is known as applied. It answers None where this
@@ -101,7 +104,10 @@ impl Gives {
     pub fn of_file(&self, fid: Fid) -> bool
         ensures { result ≡ list_any (is_of_file fid) self.now.gives }
     {
-        self.gives.as_slice().iter().any(|give| is_of_file(give, fid))
+        self.gives
+            .as_slice()
+            .iter()
+            .any(|give| is_of_file(give, fid))
     }
 
     /// The number of the last give-back that was made of a fileset; 0 where none was. It takes no memory.

@@ -179,7 +179,7 @@ spans_byte needed span at (Bytes update its) e low up =
     let b = leb-true span.to its.to q.1 in
     and_from (does_for update needed) (has_byte its at) p.0
     (and_from (nat_le its.from at) (nat_lt at its.to) (le-leb its.from at (omega arith)) (lt-ltb at its.to
-        (omega arith)))
+    (omega arith)))
 spans_byte needed span at k e low up = absurd (cc)
 
 covers_kind_yes : (held : List Token) (fid : Fid) (k : Kind) → covers_kind held fid k ≡ true → Covers held
@@ -192,8 +192,8 @@ covers_kind_yes held fid (Bytes needed span) e = λ at low up.
           let r = and_parts (same_fid q.0.fid fid) (kind_spans needed span q.0.kind) q.2 in
           any_of (covers_byte fid needed at) held q.0 q.1
           (and_from (same_fid q.0.fid fid) (kind_covers_byte needed at q.0.kind) r.0
-              (spans_byte needed span at q.0.kind r.1 low up))
-        )
+          (spans_byte needed span at q.0.kind r.1 low up))
+          )
       | inr p ↦ (let q = leb-true span.to span.from p in absurd (omega arith))
     ]
 covers_kind_yes held fid (Status needed) e = e
@@ -219,7 +219,7 @@ unfolding same_place same_call same_reply spans_all covers_kind covers_it lacks_
 lacks_kind_is held fid (Bytes needed span) e c =
     let p = and_parts (nat_lt span.from span.to) (not (list_any (covers_byte fid needed span.from) held)) e in
     is_not (list_any (covers_byte fid needed span.from) held) p.1 (c span.from (omega arith)
-        (ltb-true span.from span.to p.0))
+    (ltb-true span.from span.to p.0))
 lacks_kind_is held fid (Status needed) e c = is_not (list_any (covers_alone fid (Status needed)) held) e c
 lacks_kind_is held fid (LockToken writing span) e c = is_not (list_any (covers_alone fid
     (LockToken writing span)) held) e c
@@ -234,14 +234,17 @@ unfolding same_place same_call same_reply spans_all covers_kind covers_it lacks_
 cover_all held [] e = tt
 cover_all held (n ∷ ns) e =
     let p = and_parts (covers_it held n) (list_all (covers_it held) ns) e in
-        (covers_yes held n p.0, cover_all held ns p.1)
+    (covers_yes held n p.0, cover_all held ns p.1)
 
 none_cover : (held : List Token) (needs : List Need) → list_any (lacks_it held) needs ≡ true → CoverAll held needs → ⊥
 unfolding same_place same_call same_reply spans_all covers_kind covers_it lacks_kind lacks_it
 none_cover held [] e c = cc
 none_cover held (n ∷ ns) e c =
-    elim (or_cases (lacks_it held n) (list_any (lacks_it held) ns) e) [ inl p ↦ lacks_is held n p c.0 | inr p ↦
-        none_cover held ns p c.1 ]
+    elim (or_cases (lacks_it held n) (list_any (lacks_it held) ns) e) [
+      | inl p ↦ lacks_is held n p c.0
+      | inr p ↦
+          none_cover held ns p c.1
+    ]
 
 -- what the host makes of a call
 abbrev pub look_at : ServerId → HostId → User → List Step → Step → Call → Look Verdict
@@ -440,7 +443,7 @@ unfolding same_place same_call same_reply spans_all covers_kind covers_it lacks_
 lock_verdict s call v fid writing span e is =
     let p = some_in (takes_lock call fid writing span) s.begun (subst (λ x. lock_right s call x ≡ true) is e) in
     let q = and_parts (is_exact call p.0) (same_fid p.0.token.fid fid && same_kind p.0.token.kind
-        (LockToken writing span)) p.2 in
+    (LockToken writing span)) p.2 in
     let r = and_parts (same_fid p.0.token.fid fid) (same_kind p.0.token.kind (LockToken writing span)) q.1 in
     (p.0, p.1, exact_is call p.0 q.0, fid_is p.0.token.fid fid r.0, kind_is p.0.token.kind (LockToken writing span) r.1)
 
@@ -451,7 +454,7 @@ unfolding same_place same_call same_reply spans_all covers_kind covers_it lacks_
     takes_lock lock_right begun_right is_sync synced ends_in freed_right is_first_or_on no_asked answer_tests
 open_verdict s call v fid kind e is =
     let p = some_in (λ u. is_exact call u && same_fid u.token.fid fid) s.begun (subst
-        (λ x. lock_right s call x ≡ true) is e) in
+    (λ x. lock_right s call x ≡ true) is e) in
     let q = and_parts (is_exact call p.0) (same_fid p.0.token.fid fid) p.2 in
     (p.0, p.1, exact_is call p.0 q.0, fid_is p.0.token.fid fid q.1)
 
@@ -463,39 +466,73 @@ module _ (site : ServerId) (roster : Roster) (host : HostId) (user : User) (past
   answers_from : AllTrue (answer_tests site host user past s) → HostAnswers roster host past s its
   unfolding answered_right turn_right cant is_short wrote_right written_right begun_right synced ends_in freed_right
       is_first_or_on answer_tests no_reply is_sync
-  answers_from (answers_, (all_, (first_, (asked_, (one_, (alone_, (writes_, (only_, (locks_, (begins_, (begins_one_,
-      (syncs_, (frees_, (local_, _)))))))))))))) = record {
+  answers_from (
+    answers_,
+    (
+      all_,
+      (
+        first_,
+        (
+          asked_,
+          (
+            one_,
+            (
+              alone_,
+              (
+                writes_,
+                (
+                  only_,
+                  (
+                    locks_,
+                    (
+                      begins_,
+                      (
+                        begins_one_,
+                        (syncs_, (frees_, (local_, _))),
+                      ),
+                    ),
+                  ),
+                ),
+              ),
+            ),
+          ),
+        ),
+      ),
+    ),
+  ) = record {
     answers = λ a m.
         let v = reply_now (verdict_at site host user past s a.call) in
         let n = list_all (covers_it (hand s past)) (needs_at site host user past s a.call) in
         let p = and_parts (same_host a.host host && (a.first || list_any (is_that a) (goes_on site past s)))
-            (n && replies_so v a.reply) (at_all (answered_right site host user past s) s.answers a answers_ m) in
+        (n && replies_so v a.reply) (at_all (answered_right site host user past s) s.answers a answers_ m) in
         let q = and_parts (same_host a.host host) (a.first || list_any (is_that a) (goes_on site past s)) p.0 in
-        let r = and_parts n (replies_so v a.reply) p.1 in
-        (
+        let r = and_parts n (replies_so v a.reply) p.1 in (
           host_is a.host host q.0,
           elim (or_cases a.first (list_any (is_that a) (goes_on site past s)) q.1) [
             | inl x ↦ inl (inr (a, m, x, refl, refl))
             | inr x ↦ inr (it_goes site past s a local_ x)
           ],
-          record { covered = cover_all (hand s past) (needs_at site host user past s a.call) r.0; settled =
-              replies_so_is v a.reply r.1 },
+          record {
+            covered = cover_all (hand s past) (needs_at site host user past s a.call) r.0;
+            settled =
+                replies_so_is v a.reply r.1;
+          },
         );
     answers_all = λ k call reply t can.
         elim (or_cases (list_any (λ a. a.k == k) s.answers) (cant site host user past s call) (at_all
-            (turn_right site host user past s) (turns site past s) (the_call k call) all_
-            (turns_in site past s k call local_ t))) [
+        (turn_right site host user past s) (turns site past s) (the_call k call) all_
+        (turns_in site past s k call local_ t))) [
           | inl p ↦ (let q = some_in (λ (a : Answer). a.k == k) s.answers p in (q.0, q.1, eqb-true q.0.k k q.2))
           | inr p ↦ absurd (
               elim (or_cases (no_reply (reply_now (verdict_at site host user past s call))) (list_any (lacks_it
-                  (hand s past)) (needs_at site host user past s call)) p) [
+              (hand s past)) (needs_at site host user past s call)) p) [
                 | inl x ↦ (let y = subst (λ o. no_reply o ≡ true) can.settled x in cc)
                 | inr x ↦ none_cover (hand s past) (needs_at site host user past s call) x can.covered
               ])
         ];
     first = λ a m.
         elim (or_cases a.first (not a.first && list_any (is_that a) (goes_on site past s)) (at_all
-            (is_first_or_on site past s) s.answers a first_ m)) [
+        (is_first_or_on site past s) s.answers a first_ m)) [
           | inl p ↦ inl p
           | inr p ↦ (let q = and_parts (not a.first) (list_any (is_that a) (goes_on site past s)) p in inr
               (late a.first q.0, it_goes site past s a local_ q.1))
@@ -506,39 +543,44 @@ module _ (site : ServerId) (roster : Roster) (host : HostId) (user : User) (past
         ∷ past))) alone_ m) (asking_in (s ∷ past) fs n x);
     writes = λ a fid from bytes m is.
         file_is fid s.wrote (subst (λ v. wrote_right s.wrote v ≡ true) is (at_all (λ a. wrote_right s.wrote
-            (verdict_at site host user past s a.call)) s.answers a writes_ m));
+        (verdict_at site host user past s a.call)) s.answers a writes_ m));
     writes_only = λ fid is.
         let p = some_in (λ a. writes_file fid (verdict_at site host user past s a.call)) s.answers (subst
-            (λ o. written_right site host user past s o ≡ true) is only_) in
+        (λ o. written_right site host user past s o ≡ true) is only_) in
         let q = writes_file_is fid (verdict_at site host user past s p.0.call) p.2 in
         (p.0, q.0, q.1, p.1, q.2);
     locks = λ a fid writing span m is.
         lock_verdict s a.call (verdict_at site host user past s a.call) fid writing span (at_all
-            (λ a. lock_right s a.call (verdict_at site host user past s a.call)) s.answers a locks_ m) is;
+        (λ a. lock_right s a.call (verdict_at site host user past s a.call)) s.answers a locks_ m) is;
     opens = λ a fid kind m is.
         open_verdict s a.call (verdict_at site host user past s a.call) fid kind (at_all (λ a. lock_right s a.call
-            (verdict_at site host user past s a.call)) s.answers a locks_ m) is;
+        (verdict_at site host user past s a.call)) s.answers a locks_ m) is;
     begins = λ u m.
         let p = and_parts (list_any (λ a. is_fine a.reply && is_exact a.call u) s.answers) (list_any
-            (same_token u.token) (hand s past)) (at_all (begun_right past s) s.begun u begins_ m) in
+        (same_token u.token) (hand s past)) (at_all (begun_right past s) s.begun u begins_ m) in
         let q = some_in (λ a. is_fine a.reply && is_exact a.call u) s.answers p.0 in
         let r = and_parts (is_fine q.0.reply) (is_exact q.0.call u) q.2 in
-        let t = some_in (same_token u.token) (hand s past) p.1 in
-        (q.0, q.1, fine_is q.0.reply r.0, exact_is q.0.call u r.1, in_hand s past u.token (subst (λ x. In x
-            (hand s past)) (sym (token_is u.token t.0 t.2)) t.1));
+        let t = some_in (same_token u.token) (hand s past) p.1 in (
+          q.0,
+          q.1,
+          fine_is q.0.reply r.0,
+          exact_is q.0.call u r.1,
+          in_hand s past u.token (subst (λ x. In x
+              (hand s past)) (sym (token_is u.token t.0 t.2)) t.1),
+        );
     begins_one = λ u w m n. short_one s.begun u w begins_one_ m n;
     syncs = λ k place fid t turn found h f d.
         let e : list_all (λ t. implies (dirty_under past s t) (gives_it s t.id)) (hand s past) ≡ true =
-            at_all (synced past s) (turns site past s) (the_call k (Sync place)) syncs_ (turns_in site past s k
-                (Sync place) local_ turn) in
+        at_all (synced past s) (turns site past s) (the_call k (Sync place)) syncs_ (turns_in site past s k
+        (Sync place) local_ turn) in
         gives_yes s t.id (so (dirty_under past s t) (gives_it s t.id) (at_all (λ t. implies (dirty_under past s t)
-            (gives_it s t.id)) (hand s past) t e (hand_in s past t h)) (dirty_under_is past s t d));
+        (gives_it s t.id)) (hand s past) t e (hand_in s past t h)) (dirty_under_is past s t d));
     frees = λ k u turn x.
         let e = so (frees past u && ends_in site past s u) (list_any (λ g. gives_use g u) s.made) (at_all
-            (freed_right site past s) (in_use past) u frees_ (used_in past u x.0.0))
-            (and_from (frees past u) (ends_in site past s u) (frees_is past u x)
-            (any_of (λ c. same_end c.call (end_of u)) (turns site past s) (the_call k (end_of u))
-                (turns_in site past s k (end_of u) local_ turn) (end_same (end_of u) u refl))) in
+        (freed_right site past s) (in_use past) u frees_ (used_in past u x.0.0))
+        (and_from (frees past u) (ends_in site past s u) (frees_is past u x)
+        (any_of (λ c. same_end c.call (end_of u)) (turns site past s) (the_call k (end_of u))
+        (turns_in site past s k (end_of u) local_ turn) (end_same (end_of u) u refl))) in
         let p = some_in (λ g. gives_use g u) s.made e in
         (p.0, p.1, gives_use_yes p.0 u p.2);
   }

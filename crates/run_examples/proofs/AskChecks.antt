@@ -73,26 +73,34 @@ unfolding asks_new is_gives is_open_give lack_waits
 lack_waits_is kept now [] e = absurd (cc)
 lack_waits_is kept now (n ∷ ns) e =
     elim (or_cases (lacks_it kept n && list_any (is_open_give now n.fid) (made now))
-        (covers_it kept n && lack_waits kept now ns) e) [
+    (covers_it kept n && lack_waits kept now ns) e) [
       | inl x ↦ (
           let p = and_parts (lacks_it kept n) (list_any (is_open_give now n.fid) (made now)) x in
           let q = some_in (is_open_give now n.fid) (made now) p.1 in
-          let r = and_parts (same_fid q.0.fid n.fid) (not (is_known now (number_of q.0))) q.2 in
-          (n, inl (lacks_is kept n p.0, refl), (q.0, in_made now q.0 q.1, fid_is q.0.fid n.fid r.0, λ k. is_not
-              (is_known now (number_of q.0)) r.1 (known_is now (number_of q.0) k)))
-        )
+          let r = and_parts (same_fid q.0.fid n.fid) (not (is_known now (number_of q.0))) q.2 in (
+            n,
+            inl (lacks_is kept n p.0, refl),
+            (
+              q.0,
+              in_made now q.0 q.1,
+              fid_is q.0.fid n.fid r.0,
+              λ k. is_not
+                  (is_known now (number_of q.0)) r.1 (known_is now (number_of q.0) k),
+            ),
+          )
+          )
       | inr x ↦ (
           let p = and_parts (covers_it kept n) (lack_waits kept now ns) x in
           let r = lack_waits_is kept now ns p.1 in
           (r.0, inr (covers_yes kept n p.0, r.1), r.2)
-        )
+          )
     ]
 
 unfoldable pub waits_right : ServerId → HostId → User → List Step → Step → Asked → Bool
 waits_right site host user past s c =
     lack_waits (held (s ∷ past)) (s ∷ past) (needs_at site host user past s c.call)
     || (is_gives (verdict_at site host user past s c.call) && list_any (λ g. not (is_known (s ∷ past) (number_of g)))
-        (made (s ∷ past)))
+    (made (s ∷ past)))
 
 unfoldable pub one_or_none : List AppliedGive → Bool
 one_or_none [] = true
@@ -126,16 +134,23 @@ module _ (site : ServerId) (roster : Roster) (host : HostId) (user : User) (past
   unfolding waits_right
   awaits call e =
       elim (or_cases (lack_waits (held (s ∷ past)) (s ∷ past) (needs_at site host user past s call)) (is_gives
-          (verdict_at site host user past s call) && list_any (λ g. not (is_known (s ∷ past) (number_of g))) (made (s
-          ∷ past))) e) [
+      (verdict_at site host user past s call) && list_any (λ g. not (is_known (s ∷ past) (number_of g))) (made (s
+      ∷ past))) e) [
         | inl x ↦ inl (lack_waits_is (held (s ∷ past)) (s ∷ past) (needs_at site host user past s call) x)
         | inr x ↦ (
             let p = and_parts (is_gives (verdict_at site host user past s call)) (list_any (λ g. not (is_known (s
-                ∷ past) (number_of g))) (made (s ∷ past))) x in
+            ∷ past) (number_of g))) (made (s ∷ past))) x in
             let q = some_in (λ g. not (is_known (s ∷ past) (number_of g))) (made (s ∷ past)) p.1 in
-            inr (gives_is (verdict_at site host user past s call) p.0, (q.0, in_made (s ∷ past) q.0 q.1, λ k. is_not
-                (is_known (s ∷ past) (number_of q.0)) q.2 (known_is (s ∷ past) (number_of q.0) k)))
-          )
+            inr (
+              gives_is (verdict_at site host user past s call) p.0,
+              (
+                q.0,
+                in_made (s ∷ past) q.0 q.1,
+                λ k. is_not
+                    (is_known (s ∷ past) (number_of q.0)) q.2 (known_is (s ∷ past) (number_of q.0) k),
+              ),
+            )
+            )
       ]
 
   pub asks_meet : passes (ask_tests site host user past s) ≡ true
@@ -149,11 +164,11 @@ module _ (site : ServerId) (roster : Roster) (host : HostId) (user : User) (past
         changes = λ v e n c p. absurd (none_new t.0 v e n (Change c) refl p);
         one_fetch = λ fs gs n m a b.
             let p = one_of (asking (s ∷ past)) (numbered fs n) (numbered gs m) t.1.0 (asking_in (s ∷ past) fs n a)
-                (asking_in (s ∷ past) gs m b) in
+            (asking_in (s ∷ past) gs m b) in
             (ap (λ (x : AppliedGive). x.fileset) p, ap (λ (x : AppliedGive). x.number) p);
         one_change = λ v w fs gs n m a b.
             let p = one_of (changing site (s ∷ past)) (numbered fs n) (numbered gs m) t.1.1.0 (at_site site (s
-                ∷ past) v fs n local a) (at_site site (s ∷ past) w gs m local b) in
+            ∷ past) v fs n local a) (at_site site (s ∷ past) w gs m local b) in
             (ap (λ (x : AppliedGive). x.fileset) p, ap (λ (x : AppliedGive). x.number) p);
         one_of_both = λ v fs gs n m a b.
             elim (or_cases (is_none (asking (s ∷ past))) (is_none (changing site (s ∷ past))) t.1.1.1.0) [
@@ -165,5 +180,5 @@ module _ (site : ServerId) (roster : Roster) (host : HostId) (user : User) (past
         changes_welcome = λ v e n c p. absurd (none_new t.0 v e n (Change c) refl p);
         asks = λ call o up.
             inr (inr (inl (awaits call.call (at_all (waits_right site host user past s) (open_calls site (s
-                ∷ past)) call t.1.1.1.1.0 (open_in site (s ∷ past) call local o)))));
+            ∷ past)) call t.1.1.1.1.0 (open_in site (s ∷ past) call local o)))));
       }

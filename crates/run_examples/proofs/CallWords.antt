@@ -88,22 +88,27 @@ learns_end_yes past s call e =
     let q = and_parts (ends_k g.ends call.k) (a && not (is_known past (number_of g))) p.2 in
     let r = and_parts a (not (is_known past (number_of g))) q.1 in
     let k = ends_k_yes g.ends call.k q.0 in
-    let l = some_in (same_number (number_of g)) (learnt past s.cause) r.0 in
-    (g, k.0, in_made past g p.1, k.1, k.2,
-    in_learns past s (number_of g) s.cause refl (subst (λ x. In x (learnt past s.cause)) (sym (number_is
-        (number_of g) l.0 l.2)) l.1),
-    λ x. is_not (is_known past (number_of g)) r.1 (known_is past (number_of g) x))
+    let l = some_in (same_number (number_of g)) (learnt past s.cause) r.0 in (
+      g,
+      k.0,
+      in_made past g p.1,
+      k.1,
+      k.2,
+      in_learns past s (number_of g) s.cause refl (subst (λ x. In x (learnt past s.cause)) (sym (number_is
+          (number_of g) l.0 l.2)) l.1),
+      λ x. is_not (is_known past (number_of g)) r.1 (known_is past (number_of g) x),
+    )
 
 learns_end_is : (past : List Step) (s : Step) (call : Asked) → LearnsEnd past s call → learns_end past s call.k ≡ true
 unfolding ends_k tells_end learns_end
 learns_end_is past s call (g, ends, m, is, k, l, n) =
     any_of (tells_end past s call.k) (made past) g (made_in past g m)
     (and_from (ends_k g.ends call.k) (list_any (same_number (number_of g)) (learnt past s.cause) && not
-        (is_known past (number_of g)))
+    (is_known past (number_of g)))
     (subst (λ o. ends_k o call.k ≡ true) (sym is) (eq-eqb ends.k call.k k))
     (and_from (list_any (same_number (number_of g)) (learnt past s.cause)) (not (is_known past (number_of g)))
     (any_of (same_number (number_of g)) (learnt past s.cause) (number_of g) (learns_in past s (number_of g) l)
-        (numbers (number_of g) (number_of g) refl))
+    (numbers (number_of g) (number_of g) refl))
     (not_is (is_known past (number_of g)) (λ e. n (known_yes past (number_of g) e)))))
 
 unfoldable pub has_reply : DoneIs → Bool
@@ -127,7 +132,7 @@ ended_yes site past s call e =
           let q = some_in (λ d. has_reply d.outcome) (counted site past s.cause) p in
           let r = reply_yes q.0.outcome q.2 in
           inl (site, q.0, r.0, in_counted site past s q.0 q.1, r.1)
-        )
+          )
       | inr p ↦ inr (learns_end_yes past s call p)
     ]
 
@@ -138,11 +143,11 @@ unfolding ends_k tells_end learns_end has_reply is_ended
 ended_is site past s call local (inl (v, d, reply, c, is)) =
     or_left (list_any (λ d. has_reply d.outcome) (counted site past s.cause)) (learns_end past s call.k)
     (any_of (λ (d : DoneOf). has_reply d.outcome) (counted site past s.cause) d (counted_in site past s d
-        (counts_here site past s v d local c))
+    (counts_here site past s v d local c))
     (subst (λ x. has_reply x ≡ true) (sym is) refl))
 ended_is site past s call local (inr x) =
     or_right (list_any (λ d. has_reply d.outcome) (counted site past s.cause)) (learns_end past s call.k)
-        (learns_end_is past s call x)
+    (learns_end_is past s call x)
 
 unfoldable pub asked_in : Option Asked → List Asked
 asked_in None = []
@@ -174,7 +179,7 @@ open_in site (s ∷ past) call local (inl e) = in_front call (asked_in s.asked) 
 open_in site (s ∷ past) call local (inr (o, unended, unanswered)) =
     in_back call (asked_in s.asked) (filter (stays_open site past s) (open_calls site past))
     (in_filter (stays_open site past s) (open_calls site past) call (open_in site past call
-        (local_tail site s past local) o)
+    (local_tail site s past local) o)
     (and_from (not (is_ended site past s call.k)) (list_all (λ a. not (a.k == call.k)) s.answers)
     (not_is (is_ended site past s call.k) (λ e. unended (ended_yes site past s call e)))
     (all_not (λ (a : Answer). a.k == call.k) s.answers (λ a m e. unanswered a m (eqb-true a.k call.k e)))))
@@ -195,7 +200,7 @@ in_open site (s ∷ past) call local i =
             λ a m e. is_not (a.k == call.k) (at_all (λ (a : Answer). not (a.k == call.k)) s.answers a r.1 m)
                 (eq-eqb a.k call.k e),
           )
-        )
+          )
     ]
 
 -- the calls that a step could answer
@@ -225,9 +230,14 @@ in_begins s c i =
       | inr p ↦ (
           let q = from_flat begun_by s.answers c p in
           let r = if_in q.0.first c (the_call q.0.k q.0.call ∷ []) q.2 in
-          inr (q.0, q.1, r.0, (elim r.1 [ inl e ↦ sym (ap (λ (x : Asked). x.k) e) | inr e ↦ elim e [ ] ]),
-              (elim r.1 [ inl e ↦ sym (ap (λ (x : Asked). x.call) e) | inr e ↦ elim e [ ] ]))
-        )
+          inr (
+            q.0,
+            q.1,
+            r.0,
+            (elim r.1 [ inl e ↦ sym (ap (λ (x : Asked). x.k) e) | inr e ↦ elim e [ ] ]),
+            (elim r.1 [ inl e ↦ sym (ap (λ (x : Asked). x.call) e) | inr e ↦ elim e [ ] ]),
+          )
+          )
     ]
 
 unfoldable pub goes_on : ServerId → List Step → Step → List Asked
@@ -243,7 +253,7 @@ unfolding ends_k tells_end learns_end has_reply is_ended asked_in stays_open ope
     turns
 goes_in site past s k call local (o, n) =
     in_filter (λ c. not (is_ended site past s c.k)) (open_calls site past) (the_call k call) (open_in site past
-        (the_call k call) local o)
+    (the_call k call) local o)
     (not_is (is_ended site past s k) (λ e. n (ended_yes site past s (the_call k call) e)))
 
 pub in_goes : (site : ServerId) (past : List Step) (s : Step) (c : Asked) → is_local site past ≡ true → In c
@@ -271,8 +281,11 @@ pub in_turns : (site : ServerId) (past : List Step) (s : Step) (c : Asked) → i
 unfolding ends_k tells_end learns_end has_reply is_ended asked_in stays_open open_calls begun_by begins_now goes_on
     turns
 in_turns site past s c local i =
-    elim (in_split c (begins_now s) (goes_on site past s) i) [ inl p ↦ inl (in_begins s c p) | inr p ↦ inr
-        (in_goes site past s c local p) ]
+    elim (in_split c (begins_now s) (goes_on site past s) i) [
+      | inl p ↦ inl (in_begins s c p)
+      | inr p ↦ inr
+          (in_goes site past s c local p)
+    ]
 
 -- filesets that the host has entered
 pub record Led : Type 0 where
@@ -331,16 +344,20 @@ led_by_of site past s d id l m (Change c) local counts out is i j =
         elim x.1 [
           | inl y ↦ (
               let v = server_is place.0 m.server x.0 in
-              subst (λ (z : Led). Enters past s z.server z.name z.id) (sym y)
-              (
-                c, d, m.epoch, m.moves,
+              subst (λ (z : Led). Enters past s z.server z.name z.id) (sym y) (
+                c,
+                d,
+                m.epoch,
+                m.moves,
                 subst (λ b. Said past m.server m.epoch m.moves b) is (in_said past m i),
                 en,
                 e ∙ (λ i. Some (v i, place.1)),
                 counts_to past s site m.server d (λ z. at (sym (ap (λ (x : FilesetId). x.0) fs) ∙ z)) counts,
-                num, fs, out,
+                num,
+                fs,
+                out,
               )
-            )
+              )
           | inr y ↦ elim y [ ]
         ]
 led_by_of site past s d id l m b local counts out is i j = elim j [ ]
@@ -373,22 +390,22 @@ enters_in site past s v name id local (c, d, e, n, x, en, at, counts, num, fs, o
     let p = said_in past v e n (Change c) x in
     let m = p.0 in
     let its : In (led v name id) (led_place m.server id (fileset_of c.call)) =
-        subst (λ o. In (led v name id) (led_place m.server id o)) (sym at)
-        (in_if (same_server v m.server) (led v name id) (led m.server name id ∷ []) (servers v m.server (sym p.2))
-            (inl (λ i. led (sym p.2 i) name id)))
+    subst (λ o. In (led v name id) (led_place m.server id o)) (sym at)
+    (in_if (same_server v m.server) (led v name id) (led m.server name id ∷ []) (servers v m.server (sym p.2))
+    (inl (λ i. led (sym p.2 i) name id)))
     in
     let test : (c.enter && ((d.bring.number == c.number) && same_fileset d.fileset c.fileset)) ≡ true =
-        and_from c.enter ((d.bring.number == c.number) && same_fileset d.fileset c.fileset) en
-        (and_from (d.bring.number == c.number) (same_fileset d.fileset c.fileset)
-            (eq-eqb d.bring.number c.number num) (filesets d.fileset c.fileset fs))
+    and_from c.enter ((d.bring.number == c.number) && same_fileset d.fileset c.fileset) en
+    (and_from (d.bring.number == c.number) (same_fileset d.fileset c.fileset)
+    (eq-eqb d.bring.number c.number num) (filesets d.fileset c.fileset fs))
     in
     in_flat (λ (d : DoneOf). led_of past d d.outcome) (counted site past s.cause) d (led v name id)
-        (counted_in site past s d (counts_here site past s v d local counts))
+    (counted_in site past s d (counts_here site past s v d local counts))
     (subst (λ o. In (led v name id) (led_of past d o)) (sym out)
     (in_flat (λ m. led_by d id m m.body) (said past) m (led v name id) p.1
     (subst (λ b. In (led v name id) (led_by d id m b)) (sym p.5)
     (in_if (c.enter && ((d.bring.number == c.number) && same_fileset d.fileset c.fileset)) (led v name id)
-        (led_place m.server id (fileset_of c.call)) test its))))
+    (led_place m.server id (fileset_of c.call)) test its))))
 
 pub entered_in : (site : ServerId) (past : List Step) (v : ServerId) (name : List ℕ) (id : FilesetId)
     → is_local site past ≡ true
@@ -398,10 +415,10 @@ unfolding ends_k tells_end learns_end has_reply is_ended asked_in stays_open ope
 entered_in site [] v name id local x = elim x [ ]
 entered_in site (s ∷ past) v name id local (inl x) =
     in_front (led v name id) (enters_now site past s) (entered site past) (enters_in site past s v name id
-        (local_tail site s past local) x)
+    (local_tail site s past local) x)
 entered_in site (s ∷ past) v name id local (inr x) =
     in_back (led v name id) (enters_now site past s) (entered site past) (entered_in site past v name id
-        (local_tail site s past local) x)
+    (local_tail site s past local) x)
 
 pub in_entered : (site : ServerId) (past : List Step) (l : Led) → is_local site past ≡ true → In l (entered site past)
     → Entered past l.server l.name l.id

@@ -46,8 +46,11 @@ first from at a = elim (cases_lt from at) [ inl p ↦ inr (omega arith) | inr q 
 pub in_range : (n from at : ℕ) → from ≤ at → at < from + n → In at (range from n)
 unfolding range
 in_range zero from at a b = absurd (omega arith)
-in_range (suc n) from at a b = elim (first from at a) [ inl p ↦ inl p | inr q ↦ inr (in_range n (suc from) at q
-    (omega arith)) ]
+in_range (suc n) from at a b = elim (first from at a) [
+  | inl p ↦ inl p
+  | inr q ↦ inr (in_range n (suc from) at q
+      (omega arith))
+]
 
 unfoldable pub written_at : Call → List ℕ
 written_at (Write place from bytes) = range from (length bytes)
@@ -123,7 +126,7 @@ pub status_yes : (t : Token) (fid : Fid) → updates_status t fid ≡ true → U
 unfolding range written_at spots_of spots kind_updates updates_byte is_status updates_status
 status_yes t fid e =
     let p = and_parts (same_fid t.fid fid) (same_kind t.kind (Status true)) e in
-        (fid_is t.fid fid p.0, kind_is t.kind (Status true) p.1)
+    (fid_is t.fid fid p.0, kind_is t.kind (Status true) p.1)
 
 pub status_is : (t : Token) (fid : Fid) → UpdatesStatus t fid → updates_status t fid ≡ true
 unfolding range written_at spots_of spots kind_updates updates_byte is_status updates_status
@@ -159,7 +162,7 @@ has_length_is : (fid : Fid) (g : Give) → HasLength g fid → has_length fid g 
 unfolding range written_at spots_of spots kind_updates updates_byte is_status updates_status takes_status has_length
 has_length_is fid g x =
     and_from (same_fid g.fid fid) (is_some g.length) (fids g.fid fid x.0) (subst (λ o. is_some o ≡ true)
-        (sym x.1.1) refl)
+    (sym x.1.1) refl)
 
 unfoldable pub newer : Step → Fid → Bool
 newer s fid = takes_status s fid || list_any (has_length fid) s.made
@@ -179,10 +182,10 @@ last_in (s ∷ past) fid g (inl x) =
 last_in (s ∷ past) fid g (inr x) =
     in_back g (filter (has_length fid) s.made) (if not (newer s fid) then last_lengths past fid else [])
     (in_if (not (newer s fid)) g (last_lengths past fid) (not_is (newer s fid) (λ e.
-      elim (or_cases (takes_status s fid) (list_any (has_length fid) s.made) e) [
-        | inl p ↦ x.1 (takes_status_yes s fid p)
-        | inr q ↦ (let r = some_in (has_length fid) s.made q in x.2 r.0 r.1 (has_length_yes fid r.0 r.2))
-      ])) (last_in past fid g x.0))
+    elim (or_cases (takes_status s fid) (list_any (has_length fid) s.made) e) [
+      | inl p ↦ x.1 (takes_status_yes s fid p)
+      | inr q ↦ (let r = some_in (has_length fid) s.made q in x.2 r.0 r.1 (has_length_yes fid r.0 r.2))
+    ])) (last_in past fid g x.0))
 
 pub in_last : (past : List Step) (fid : Fid) (g : Give) → In g (last_lengths past fid) → IsLastLength past fid g
 unfolding range written_at spots_of spots kind_updates updates_byte is_status updates_status takes_status has_length
@@ -200,7 +203,7 @@ in_last (s ∷ past) fid g i =
             λ o m h. is_not (newer s fid) q.0 (or_right (takes_status s fid) (list_any (has_length fid) s.made)
                 (any_of (has_length fid) s.made o m (has_length_is fid o h))),
           )
-        )
+          )
     ]
 
 unfoldable pub has_present : List Step → Step → Fid → Give → Bool
@@ -217,7 +220,7 @@ length_clean_yes past s fid e =
     let p = and_parts (not (takes_status s fid)) (list_any (has_present past s fid) (last_lengths past fid)) e in
     let q = some_in (has_present past s fid) (last_lengths past fid) p.1 in
     let r = and_parts (same_length q.0.length (Some (sees past s fid Size))) (is_known (s ∷ past)
-        (number_of q.0)) q.2 in
+    (number_of q.0)) q.2 in
     record {
       give = q.0;
       last = in_last past fid q.0 q.1;
@@ -236,7 +239,7 @@ length_clean_is past s fid c =
     (any_of (has_present past s fid) (last_lengths past fid) c.give (last_in past fid c.give c.last)
     (and_from (same_length c.give.length (Some (sees past s fid Size))) (is_known (s ∷ past) (number_of c.give))
     (length_same c.give.length (Some (sees past s fid Size)) c.present) (known_is (s ∷ past)
-        (number_of c.give) c.known)))
+    (number_of c.give) c.known)))
 
 unfoldable pub length_dirty : List Step → Step → Token → Bool
 length_dirty past s t = updates_status t t.fid && not (length_clean past s t.fid)
@@ -300,17 +303,17 @@ unfolding range written_at spots_of spots kind_updates updates_byte is_status up
     newer last_lengths has_present length_clean length_dirty byte_dirty dirty_under is_clean
 clean_yes past s fid e =
     let p = and_parts (list_all (λ t. implies (same_fid t.fid fid) (not (dirty_under past s t))) (hand s past))
-        (list_all (λ g. implies (same_fid g.fid fid) (is_known (s ∷ past) (number_of g))) (made past)) e in
+    (list_all (λ g. implies (same_fid g.fid fid) (is_known (s ∷ past) (number_of g))) (made past)) e in
     record {
       none_dirty = λ t h f d.
           is_not (dirty_under past s t)
           (so (same_fid t.fid fid) (not (dirty_under past s t)) (at_all (λ t. implies (same_fid t.fid fid) (not
-              (dirty_under past s t))) (hand s past) t p.0 (hand_in s past t h)) (fids t.fid fid f))
+          (dirty_under past s t))) (hand s past) t p.0 (hand_in s past t h)) (fids t.fid fid f))
           (dirty_under_is past s t d);
       none_open = λ g m f.
           known_yes (s ∷ past) (number_of g)
           (so (same_fid g.fid fid) (is_known (s ∷ past) (number_of g)) (at_all (λ g. implies (same_fid g.fid fid)
-              (is_known (s ∷ past) (number_of g))) (made past) g p.1 (made_in past g m)) (fids g.fid fid f));
+          (is_known (s ∷ past) (number_of g))) (made past) g p.1 (made_in past g m)) (fids g.fid fid f));
     }
 
 pub clean_is : (past : List Step) (s : Step) (fid : Fid) → IsClean past s fid → is_clean past s fid ≡ true
@@ -318,9 +321,9 @@ unfolding range written_at spots_of spots kind_updates updates_byte is_status up
     newer last_lengths has_present length_clean length_dirty byte_dirty dirty_under is_clean
 clean_is past s fid c =
     and_from (list_all (λ t. implies (same_fid t.fid fid) (not (dirty_under past s t))) (hand s past)) (list_all
-        (λ g. implies (same_fid g.fid fid) (is_known (s ∷ past) (number_of g))) (made past))
+    (λ g. implies (same_fid g.fid fid) (is_known (s ∷ past) (number_of g))) (made past))
     (all_so (λ t. same_fid t.fid fid) (λ t. not (dirty_under past s t)) (hand s past) (λ t m e. not_is
-        (dirty_under past s t) (λ d. c.none_dirty t (in_hand s past t m) (fid_is t.fid fid e)
-        (dirty_under_yes past s t d))))
+    (dirty_under past s t) (λ d. c.none_dirty t (in_hand s past t m) (fid_is t.fid fid e)
+    (dirty_under_yes past s t d))))
     (all_so (λ g. same_fid g.fid fid) (λ g. is_known (s ∷ past) (number_of g)) (made past) (λ g m e. known_is (s
-        ∷ past) (number_of g) (c.none_open g (in_made past g m) (fid_is g.fid fid e))))
+    ∷ past) (number_of g) (c.none_open g (in_made past g m) (fid_is g.fid fid e))))

@@ -97,7 +97,7 @@ owns_yes : (past : List Step) (fid : Fid) (at : ℕ) → owns_update past fid at
 unfolding positions owns_update
 owns_yes past fid at e =
     let p = some_in (λ t. updates_byte t fid at) (owned past) e in
-        (p.0, in_owned past p.0 p.1, updates_yes p.0 fid at p.2)
+    (p.0, in_owned past p.0 p.1, updates_yes p.0 fid at p.2)
 
 owns_is : (past : List Step) (fid : Fid) (at : ℕ) → OwnsUpdate past fid at → owns_update past fid at ≡ true
 unfolding positions owns_update
@@ -118,7 +118,7 @@ leaves_byte past s g at t = list_any (same_id t.id) g.ids && (same_fid t.fid g.f
 unfoldable pub byte_right : List Step → Step → Give → ℕ → Bool
 byte_right past s g at =
     (list_any (leaves_byte past s g at) (hand s past) && same_length (byte_of g.pieces at) (Some (view past g.fid
-        (ByteAt at))))
+    (ByteAt at))))
     && not (owns_update (s ∷ past) g.fid at)
 
 unfoldable pub byte_saved : List Step → Step → Token → ℕ → Bool
@@ -184,9 +184,18 @@ unfolding positions owns_update gives_byte leaves_byte byte_right byte_saved dir
 sends_give_yes now s g e =
     let p = some_in (λ m. is_place now g.fid.fileset m && is_give g m.body) s.sent e in
     let q = and_parts (is_place now g.fid.fileset p.0) (is_give g p.0.body) p.2 in
-    let at = place_is now g.fid.fileset p.0 q.0 in
-    (p.0.epoch, (p.0, p.1, sym (ap (λ (x : Place). x.server) at), refl, sym (ap (λ
-        (x : Place). x.moves) at), give_body g p.0.body q.1))
+    let at = place_is now g.fid.fileset p.0 q.0 in (
+      p.0.epoch,
+      (
+        p.0,
+        p.1,
+        sym (ap (λ (x : Place). x.server) at),
+        refl,
+        sym (ap (λ
+            (x : Place). x.moves) at),
+        give_body g p.0.body q.1,
+      ),
+    )
 
 unfoldable pub was_first : List Step → Give → Bool
 was_first past g = list_any (same_give g) (made past) && is_first past g
@@ -197,7 +206,7 @@ sent_right past s g = implies (is_first (s ∷ past) g && not (was_first past g)
 unfoldable pub is_next : List Step → Step → Give → Bool
 is_next past s g =
     (g.number == 1) || list_any (λ k. same_fileset k.fid.fileset g.fid.fileset && (suc k.number == g.number)) (made
-        (s ∷ past))
+    (s ∷ past))
 
 unfoldable pub same_file : Give → Give → Bool
 same_file g k = same_fid g.fid k.fid
@@ -238,7 +247,7 @@ right_ends site past s g None ends local t e = absurd (cc)
 right_ends site past s g (Some its) ends local t e =
     let same : its ≡ ends = cc in
     let p = and_parts (list_any (frees_by past g its) (in_use past)) (list_any (is_call its) (open_calls site (s
-        ∷ past))) t in
+    ∷ past))) t in
     let q = some_in (frees_by past g its) (in_use past) p.0 in
     let r = and_parts (frees past q.0) (same_end its.call (end_of q.0) && list_any (same_id q.0.token.id) g.ids) q.2 in
     let a = and_parts (same_end its.call (end_of q.0)) (list_any (same_id q.0.token.id) g.ids) r.1 in
@@ -247,10 +256,14 @@ right_ends site past s g (Some its) ends local t e =
     let d = and_parts (c.0.k == its.k) (same_end c.0.call its.call) c.2 in
     let open_ = in_open site (s ∷ past) c.0 local c.1 in
     let k = eqb-true c.0.k its.k d.0 in
-    let call = end_is c.0.call its.call d.1 in
-    (
-      (q.0, frees_yes past q.0 r.0, ap (λ (x : Ends). x.call) (sym same) ∙ end_is its.call (end_of q.0) a.0, subst
-          (λ x. In x g.ids) (sym (id_is q.0.token.id i.0 i.2)) i.1),
+    let call = end_is c.0.call its.call d.1 in (
+      (
+        q.0,
+        frees_yes past q.0 r.0,
+        ap (λ (x : Ends). x.call) (sym same) ∙ end_is its.call (end_of q.0) a.0,
+        subst
+            (λ x. In x g.ids) (sym (id_is q.0.token.id i.0 i.2)) i.1,
+      ),
       subst (λ (x : Asked). IsOpen (s ∷ past) x) (λ j. the_call ((k ∙ ap (λ (x : Ends). x.k) same) j) ((call ∙ ap (λ
           (x : Ends). x.call) same) j)) open_,
     )
@@ -259,99 +272,147 @@ gives_from : (site : ServerId) (past : List Step) (s : Step) → AllTrue (give_t
 unfolding positions owns_update gives_byte leaves_byte byte_right byte_saved dirty_length has_seen takes_length
     length_kept frees_by is_call ends_right is_give sends_give was_first sent_right is_next same_file used_right
     length_right length_too give_tests
-gives_from site past s (one_, (next_, (bytes_, (saved_, (length_, (too_, (kept_, (ends_, (used_, (sends_,
-    (local_, _))))))))))) = record {
+gives_from site past s (
+  one_,
+  (
+    next_,
+    (
+      bytes_,
+      (
+        saved_,
+        (
+          length_,
+          (
+            too_,
+            (
+              kept_,
+              (
+                ends_,
+                (
+                  used_,
+                  (
+                    sends_,
+                    (local_, _),
+                  ),
+                ),
+              ),
+            ),
+          ),
+        ),
+      ),
+    ),
+  ),
+) = record {
   one_a_file = λ g k m n f. only_one same_file s.made g k one_ m n (fids g.fid k.fid f);
   next = λ g m.
       elim (or_cases (g.number == 1) (list_any (λ k. same_fileset k.fid.fileset g.fid.fileset &&
-          (suc k.number == g.number)) (made (s ∷ past))) (at_all (is_next past s) s.made g next_ m)) [
+      (suc k.number == g.number)) (made (s ∷ past))) (at_all (is_next past s) s.made g next_ m)) [
         | inl p ↦ inl (eqb-true g.number 1 p)
         | inr p ↦ (
             let q = some_in (λ k. same_fileset k.fid.fileset g.fid.fileset && (suc k.number == g.number)) (made (s
-                ∷ past)) p in
+            ∷ past)) p in
             let r = and_parts (same_fileset q.0.fid.fileset g.fid.fileset) (suc q.0.number == g.number) q.2 in
-            inr (q.0, in_made (s ∷ past) q.0 q.1, fileset_is q.0.fid.fileset g.fid.fileset r.0, eqb-true
-                (suc q.0.number) g.number r.1)
-          )
+            inr (
+              q.0,
+              in_made (s ∷ past) q.0 q.1,
+              fileset_is q.0.fid.fileset g.fid.fileset r.0,
+              eqb-true
+                  (suc q.0.number) g.number r.1,
+            )
+            )
       ];
   bytes = λ g at x m e.
       let t = at_all (byte_right past s g) (positions g.pieces) at (at_all (λ g. list_all (byte_right past s g)
-          (positions g.pieces)) s.made g bytes_ m) (byte_of_in g.pieces at x e) in
+      (positions g.pieces)) s.made g bytes_ m) (byte_of_in g.pieces at x e) in
       let p = and_parts (list_any (leaves_byte past s g at) (hand s past) && same_length (byte_of g.pieces at) (Some
-          (view past g.fid (ByteAt at)))) (not (owns_update (s ∷ past) g.fid at)) t in
+      (view past g.fid (ByteAt at)))) (not (owns_update (s ∷ past) g.fid at)) t in
       let q = and_parts (list_any (leaves_byte past s g at) (hand s past)) (same_length (byte_of g.pieces at) (Some
-          (view past g.fid (ByteAt at)))) p.0 in
+      (view past g.fid (ByteAt at)))) p.0 in
       let k = some_in (leaves_byte past s g at) (hand s past) q.0 in
       let r = and_parts (list_any (same_id k.0.id) g.ids) (same_fid k.0.fid g.fid && byte_dirty past k.0 at) k.2 in
       let u = and_parts (same_fid k.0.fid g.fid) (byte_dirty past k.0 at) r.1 in
       let i = some_in (same_id k.0.id) g.ids r.0 in
       let seen : Some (view past g.fid (ByteAt at)) ≡ Some x = sym (length_is (byte_of g.pieces at) (Some
-          (view past g.fid (ByteAt at))) q.1) ∙ e in
-      (
-        (k.0, in_hand s past k.0 k.1, subst (λ x. In x g.ids) (sym
-            (id_is k.0.id i.0 i.2)) i.1, fid_is k.0.fid g.fid u.0, byte_dirty_yes past k.0 at u.1),
+      (view past g.fid (ByteAt at))) q.1) ∙ e in (
+        (
+          k.0,
+          in_hand s past k.0 k.1,
+          subst (λ x. In x g.ids) (sym
+              (id_is k.0.id i.0 i.2)) i.1,
+          fid_is k.0.fid g.fid u.0,
+          byte_dirty_yes past k.0 at u.1,
+        ),
         cc,
         λ o. is_not (owns_update (s ∷ past) g.fid at) p.1 (owns_is (s ∷ past) g.fid at o),
       );
   bytes_saved = λ fid at d o.
       let t = o.0 in
       let f : t.fid ≡ fid = o.2.1 in
-      let dirty : byte_dirty past t at ≡ true = byte_dirty_is past t at (subst (λ x. UpdatesByte t x at)
-          (sym f) o.2, subst (λ x. is_dirty past x at ≡ true) (sym f) d) in
+      let dirty : byte_dirty past t at ≡ true = byte_dirty_is past t at (
+        subst (λ x. UpdatesByte t x at)
+            (sym f) o.2,
+        subst (λ x. is_dirty past x at ≡ true) (sym f) d,
+      ) in
       let e = so (byte_dirty past t at) (owns_update (s ∷ past) t.fid at || list_any (gives_byte t.fid at) s.made)
-          (at_all (byte_saved past s t) (spots past t.fid) at (at_all (λ t. list_all (byte_saved past s t)
-              (spots past t.fid)) (owned past) t saved_ (owned_in past t o.1)) (dirty_in past t.fid at (subst
-              (λ x. is_dirty past x at ≡ true) (sym f) d))) dirty in
+      (at_all (byte_saved past s t) (spots past t.fid) at (at_all (λ t. list_all (byte_saved past s t)
+      (spots past t.fid)) (owned past) t saved_ (owned_in past t o.1)) (dirty_in past t.fid at (subst
+      (λ x. is_dirty past x at ≡ true) (sym f) d))) dirty in
       elim (or_cases (owns_update (s ∷ past) t.fid at) (list_any (gives_byte t.fid at) s.made) e) [
         | inl p ↦ inl (subst (λ x. OwnsUpdate (s ∷ past) x at) f (owns_yes (s ∷ past) t.fid at p))
         | inr p ↦ (
             let q = some_in (gives_byte t.fid at) s.made p in
             let r = and_parts (same_fid q.0.fid t.fid) (is_some (byte_of q.0.pieces at)) q.2 in
             inr (q.0, q.1, (fid_is q.0.fid t.fid r.0 ∙ f, some_byte (byte_of q.0.pieces at) r.1))
-          )
+            )
       ];
   length = λ g n m e.
       let t = so (is_some g.length) (dirty_length past s g.fid && has_seen past s g.fid g) (at_all
-          (length_right past s) s.made g length_ m) (subst (λ o. is_some o ≡ true) (sym e) refl) in
+      (length_right past s) s.made g length_ m) (subst (λ o. is_some o ≡ true) (sym e) refl) in
       let p = and_parts (dirty_length past s g.fid) (has_seen past s g.fid g) t in
       let q : Some n ≡ Some (sees past s g.fid Size) = sym e ∙ length_is g.length (Some (sees past s g.fid Size)) p.1 in
       (dirty_length_yes past s g.fid p.0, cc);
   length_too = λ g m d.
       length_is g.length (Some (sees past s g.fid Size)) (so (dirty_length past s g.fid) (has_seen past s g.fid g)
-          (at_all (length_too past s) s.made g too_ m) (dirty_length_is past s g.fid d));
+      (at_all (length_too past s) s.made g too_ m) (dirty_length_is past s g.fid d));
   length_saved = λ t o d.
       elim (or_cases (list_any (same_token t) (owned (s ∷ past))) (list_any (takes_length past s t) s.made)
       (so (length_dirty past s t) (list_any (same_token t) (owned (s ∷ past)) || list_any
-          (takes_length past s t) s.made) (at_all (length_kept past s) (owned past) t kept_ (owned_in past t o))
-          (length_dirty_is past s t d))) [
+      (takes_length past s t) s.made) (at_all (length_kept past s) (owned past) t kept_ (owned_in past t o))
+      (length_dirty_is past s t d))) [
         | inl p ↦ (let q = some_in (same_token t) (owned (s ∷ past)) p in inl (in_owned (s ∷ past) t (subst
             (λ x. In x (owned (s ∷ past))) (sym (token_is t q.0 q.2)) q.1)))
         | inr p ↦ (
             let q = some_in (takes_length past s t) s.made p in
             let r = and_parts (same_fid q.0.fid t.fid && has_seen past s t.fid q.0) (list_any
-                (same_id t.id) q.0.ids) q.2 in
+            (same_id t.id) q.0.ids) q.2 in
             let u = and_parts (same_fid q.0.fid t.fid) (has_seen past s t.fid q.0) r.0 in
             let i = some_in (same_id t.id) q.0.ids r.1 in
-            inr (q.0, q.1, fid_is q.0.fid t.fid u.0, length_is q.0.length (Some (sees past s t.fid Size)) u.1, subst
-                (λ x. In x q.0.ids) (sym (id_is t.id i.0 i.2)) i.1)
-          )
+            inr (
+              q.0,
+              q.1,
+              fid_is q.0.fid t.fid u.0,
+              length_is q.0.length (Some (sees past s t.fid Size)) u.1,
+              subst
+                  (λ x. In x q.0.ids) (sym (id_is t.id i.0 i.2)) i.1,
+            )
+            )
       ];
   ends = λ g ends m e. right_ends site past s g g.ends ends local_ (at_all
       (λ g. ends_right site past s g g.ends) s.made g ends_ m) e;
   ends_used = λ g u m x i.
       gives_use_yes g u (so (list_any (same_id u.token.id) g.ids) (gives_use g u)
       (at_all (λ u. implies (list_any (same_id u.token.id) g.ids) (gives_use g u)) (in_use past) u (at_all
-          (used_right past) s.made g used_ m) (used_in past u x))
+      (used_right past) s.made g used_ m) (used_in past u x))
       (any_of (same_id u.token.id) g.ids u.token.id i (ids u.token.id u.token.id refl)));
   sends = λ g out before up.
       sends_give_yes (s ∷ past) s g (so (is_first (s ∷ past) g && not (was_first past g)) (sends_give (s ∷ past) s g)
       (at_all (sent_right past s) (made (s ∷ past)) g sends_ (made_in (s ∷ past) g out.made))
       (and_from (is_first (s ∷ past) g) (not (was_first past g)) (first_is (s ∷ past) g out) (not_is
-          (was_first past g) (λ e.
-        let p = and_parts (list_any (same_give g) (made past)) (is_first past g) e in
-        let q = some_in (same_give g) (made past) p.0 in
-        before (first_yes past g (in_made past g (subst (λ x. In x (made past)) (sym
-            (give_is g q.0 q.2)) q.1)) p.1)))));
+      (was_first past g) (λ e.
+      let p = and_parts (list_any (same_give g) (made past)) (is_first past g) e in
+      let q = some_in (same_give g) (made past) p.0 in
+      before (first_yes past g (in_made past g (subst (λ x. In x (made past)) (sym
+      (give_is g q.0 q.2)) q.1)) p.1)))));
 }
 
 pub gives_meet : (site : ServerId) (past : List Step) (s : Step) → passes (give_tests site past s) ≡ true
@@ -389,9 +450,13 @@ has_dirty_yes past s t e =
       | inl p ↦ (
           let q = some_in (left_dirty past s t) (spots past t.fid) p in
           let r = and_parts (byte_dirty past t q.0) (not (owns_update (s ∷ past) t.fid q.0)) q.2 in
-          inl (q.0, byte_dirty_yes past t q.0 r.0, λ o. is_not (owns_update (s ∷ past) t.fid q.0) r.1 (owns_is (s
-              ∷ past) t.fid q.0 o))
-        )
+          inl (
+            q.0,
+            byte_dirty_yes past t q.0 r.0,
+            λ o. is_not (owns_update (s ∷ past) t.fid q.0) r.1 (owns_is (s
+                ∷ past) t.fid q.0 o),
+          )
+          )
       | inr p ↦ inr (length_dirty_yes past s t p)
     ]
 
@@ -423,18 +488,18 @@ unfolding positions owns_update gives_byte leaves_byte byte_right byte_saved dir
 revoke_from past s i (keeps_, (gives_, (again_, (returns_, _)))) = record {
   keeps = λ h u.
       let p = some_in (same_id i) (kept_now s) (so (holds_id past i && is_used past i) (list_any (same_id i)
-          (kept_now s)) keeps_ (and_from (holds_id past i) (is_used past i) (holds_is past i h)
-          (is_used_is past i u))) in
+      (kept_now s)) keeps_ (and_from (holds_id past i) (is_used past i) (holds_is past i h)
+      (is_used_is past i u))) in
       in_kept s i (subst (λ x. In x (kept_now s)) (sym (id_is i p.0 p.2)) p.1);
   gives = λ t h is d.
       gives_yes s i (so (list_any (is_dirty_id past s i) (held past)) (gives_it s i) gives_
       (any_of (is_dirty_id past s i) (held past) t (held_in past t h) (and_from (same_id t.id i) (has_dirty past s t)
-          (ids t.id i is) (has_dirty_is past s t d))));
+      (ids t.id i is) (has_dirty_is past s t d))));
   gives_again = λ g out m.
       sends_give_yes (s ∷ past) s g (so (is_first past g && list_any (same_id i) g.ids) (sends_give (s ∷ past) s g)
-          (at_all (gives_again past s i) (made past) g again_ (made_in past g out.made))
+      (at_all (gives_again past s i) (made past) g again_ (made_in past g out.made))
       (and_from (is_first past g) (list_any (same_id i) g.ids) (first_is past g out) (any_of (same_id i) g.ids i m
-          (ids i i refl))));
+      (ids i i refl))));
   returns = λ unused clean known_.
       elim (or_cases (stays_back past s i) (list_any (same_id i) (returned s)) returns_) [
         | inl p ↦ absurd (stays unused clean known_ p)
@@ -447,23 +512,23 @@ revoke_from past s i (keeps_, (gives_, (again_, (returns_, _)))) = record {
         → ((g : Give) → Made past g → In i g.ids → IsKnown past g) → stays_back past s i ≡ true → ⊥
     stays unused clean known_ e =
         elim (or_cases (is_used past i) (list_any (is_dirty_id past s i) (held past) || list_any (is_on_way past i)
-            (made past)) e) [
+        (made past)) e) [
           | inl p ↦ unused (is_used_yes past i p)
           | inr p ↦
               elim (or_cases (list_any (is_dirty_id past s i) (held past)) (list_any (is_on_way past i)
-                  (made past)) p) [
+              (made past)) p) [
                 | inl x ↦ (
                     let q = some_in (is_dirty_id past s i) (held past) x in
                     let r = and_parts (same_id q.0.id i) (has_dirty past s q.0) q.2 in
                     clean q.0 (in_held past q.0 q.1) (id_is q.0.id i r.0) (has_dirty_yes past s q.0 r.1)
-                  )
+                    )
                 | inr x ↦ (
                     let q = some_in (is_on_way past i) (made past) x in
                     let r = and_parts (list_any (same_id i) q.0.ids) (not (is_known past (number_of q.0))) q.2 in
                     let k = some_in (same_id i) q.0.ids r.0 in
                     is_not (is_known past (number_of q.0)) r.1 (known_is past (number_of q.0) (known_ q.0
-                        (in_made past q.0 q.1) (subst (λ x. In x q.0.ids) (sym (id_is i k.0 k.2)) k.1)))
-                  )
+                    (in_made past q.0 q.1) (subst (λ x. In x q.0.ids) (sym (id_is i k.0 k.2)) k.1)))
+                    )
               ]
         ]
 
@@ -487,10 +552,10 @@ revoked_meet past s e =
     record {
       answers = λ r i c m.
           revoke_from past s i (all_true (revoke_tests past s i) (at_all (λ i. passes (revoke_tests past s i))
-              (recalled past s.cause) i t.0 (recalled_in past s r i c m)));
+          (recalled past s.cause) i t.0 (recalled_in past s r i c m)));
       keeps = λ i k.
           let p = and_parts (holds_id (s ∷ past) i) (is_used (s ∷ past) i && list_any (same_id i)
-              (recalled past s.cause)) (at_all (kept_right past s) (kept_now s) i t.1.0 (kept_in s i k)) in
+          (recalled past s.cause)) (at_all (kept_right past s) (kept_now s) i t.1.0 (kept_in s i k)) in
           let q = and_parts (is_used (s ∷ past) i) (list_any (same_id i) (recalled past s.cause)) p.1 in
           (holds_yes (s ∷ past) i p.0, is_used_yes (s ∷ past) i q.0, is_recalled past s i q.1);
       returns_idle = λ i r u. is_not (is_used past i) (at_all (λ i. not (is_used past i)) (returned s) i t.1.1.0

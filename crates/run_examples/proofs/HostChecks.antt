@@ -33,7 +33,7 @@ host_tests site script host user past s =
     ∷ passes (resend_tests site past s)
     ∷ passes (leave_tests site user past s)
     ∷ passes (line_tests site (lines_of script (Host host)) (servers_of script.roster)
-        (limit_of script.roster host) past s)
+    (limit_of script.roster host) past s)
     ∷ passes (end_tests site (lines_of script (Host host)) (limit_of script.roster host) past s)
     ∷ is_local site past
     ∷ []

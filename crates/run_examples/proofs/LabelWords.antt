@@ -70,7 +70,7 @@ pub use_same : (a b : Labelled) → a ≡ b → same_use a b ≡ true
 unfolding same_use
 use_same a b e =
     and_from (same_name a.label b.label) (same_token a.token b.token) (names a.label b.label (ap (λ
-        (x : Labelled). x.label) e))
+    (x : Labelled). x.label) e))
     (tokens a.token b.token (ap (λ (x : Labelled). x.token) e))
 
 unfoldable pub begun : List Step → List Labelled
@@ -167,9 +167,11 @@ stays_yes : (s : Step) (u : Labelled) → stays_used s u ≡ true
     → (EndsUse s u → ⊥) × ((g : Give) → In g s.made → GivesUse g u → ⊥)
 unfolding same_use begun is_fine ends_use ends_by gives_use stays_used in_use
 stays_yes s u e =
-    let p = and_parts (not (ends_use s u)) (list_all (λ g. not (gives_use g u)) s.made) e in
-    (λ x. is_not (ends_use s u) p.0 (ends_use_is s u x), λ g m x. is_not (gives_use g u) (at_all (λ g. not
-        (gives_use g u)) s.made g p.1 m) (gives_use_is g u x))
+    let p = and_parts (not (ends_use s u)) (list_all (λ g. not (gives_use g u)) s.made) e in (
+      λ x. is_not (ends_use s u) p.0 (ends_use_is s u x),
+      λ g m x. is_not (gives_use g u) (at_all (λ g. not
+          (gives_use g u)) s.made g p.1 m) (gives_use_is g u x),
+    )
 
 pub all_not : {A : Type 0} (f : A → Bool) (xs : List A) → ((x : A) → In x xs → f x ≡ true → ⊥) → list_all (λ x. not
     (f x)) xs ≡ true
@@ -177,14 +179,14 @@ unfolding same_use begun is_fine ends_use ends_by gives_use stays_used in_use
 all_not f [] g = refl
 all_not f (x ∷ xs) g =
     and_from (not (f x)) (list_all (λ x. not (f x)) xs) (not_is (f x) (g x (inl refl))) (all_not f xs (λ y m. g y
-        (inr m)))
+    (inr m)))
 
 stays_is : (s : Step) (u : Labelled) → (EndsUse s u → ⊥) → ((g : Give) → In g s.made → GivesUse g u → ⊥)
     → stays_used s u ≡ true
 unfolding same_use begun is_fine ends_use ends_by gives_use stays_used in_use
 stays_is s u n m =
     and_from (not (ends_use s u)) (list_all (λ g. not (gives_use g u)) s.made) (not_is (ends_use s u) (λ e. n
-        (ends_use_yes s u e)))
+    (ends_use_yes s u e)))
     (all_not (λ g. gives_use g u) s.made (λ g i e. m g i (gives_use_yes g u e)))
 
 pub used_in : (past : List Step) (u : Labelled) → InUse past u → In u (in_use past)
@@ -193,7 +195,7 @@ used_in [] u x = elim x [ ]
 used_in (s ∷ past) u (inl m) = in_front u s.begun (filter (stays_used s) (in_use past)) m
 used_in (s ∷ past) u (inr x) =
     in_back u s.begun (filter (stays_used s) (in_use past)) (in_filter (stays_used s) (in_use past) u
-        (used_in past u x.0) (stays_is s u x.1 x.2))
+    (used_in past u x.0) (stays_is s u x.1 x.2))
 
 pub in_used : (past : List Step) (u : Labelled) → In u (in_use past) → InUse past u
 unfolding same_use begun is_fine ends_use ends_by gives_use stays_used in_use
@@ -212,7 +214,7 @@ pub is_used_yes : (past : List Step) (id : TokenId) → is_used past id ≡ true
 unfolding same_use begun is_fine ends_use ends_by gives_use stays_used in_use is_used
 is_used_yes past id e =
     let p = some_in (λ u. same_id u.token.id id) (in_use past) e in
-        (p.0, in_used past p.0 p.1, id_is p.0.token.id id p.2)
+    (p.0, in_used past p.0 p.1, id_is p.0.token.id id p.2)
 
 pub is_used_is : (past : List Step) (id : TokenId) → IsUsed past id → is_used past id ≡ true
 unfolding same_use begun is_fine ends_use ends_by gives_use stays_used in_use is_used
@@ -223,7 +225,7 @@ unfoldable pub frees : List Step → Labelled → Bool
 frees past u =
     list_any (same_use u) (in_use past)
     && (list_all (λ o. implies (same_id o.token.id u.token.id) (same_use o u))
-        (in_use past) && has_kept past u.token.id)
+    (in_use past) && has_kept past u.token.id)
 
 pub in_any_use : (us : List Labelled) (u : Labelled) → list_any (same_use u) us ≡ true → In u us
 unfolding same_use begun is_fine ends_use ends_by gives_use stays_used in_use is_used frees
@@ -234,8 +236,7 @@ unfolding same_use begun is_fine ends_use ends_by gives_use stays_used in_use is
 frees_yes past u e =
     let a = list_all (λ o. implies (same_id o.token.id u.token.id) (same_use o u)) (in_use past) in
     let p = and_parts (list_any (same_use u) (in_use past)) (a && has_kept past u.token.id) e in
-    let q = and_parts a (has_kept past u.token.id) p.1 in
-    (
+    let q = and_parts a (has_kept past u.token.id) p.1 in (
       (
         in_used past u (in_any_use (in_use past) u p.0),
         λ o x i. use_is o u (so (same_id o.token.id u.token.id) (same_use o u) (at_all (λ o. implies
@@ -256,18 +257,18 @@ unfolding same_use begun is_fine ends_use ends_by gives_use stays_used in_use is
 all_so f g [] h = refl
 all_so f g (x ∷ xs) h =
     and_from (implies (f x) (g x)) (list_all (λ x. implies (f x) (g x)) xs) (one (f x) (g x) (h x (inl refl)))
-        (all_so f g xs (λ y m. h y (inr m)))
+    (all_so f g xs (λ y m. h y (inr m)))
 
 pub frees_is : (past : List Step) (u : Labelled) → FreesPinned past u → frees past u ≡ true
 unfolding frees in_use
 frees_is past u x =
     and_from (list_any (same_use u) (in_use past)) (list_all (λ o. implies (same_id o.token.id u.token.id)
-        (same_use o u)) (in_use past) && has_kept past u.token.id)
+    (same_use o u)) (in_use past) && has_kept past u.token.id)
     (any_of (same_use u) (in_use past) u (used_in past u x.0.0) (use_same u u refl))
     (and_from (list_all (λ o. implies (same_id o.token.id u.token.id) (same_use o u)) (in_use past))
-        (has_kept past u.token.id)
+    (has_kept past u.token.id)
     (all_so (λ o. same_id o.token.id u.token.id) (λ o. same_use o u) (in_use past) (λ o m e. use_same o u (x.0.1 o
-        (in_used past o m) (id_is o.token.id u.token.id e))))
+    (in_used past o m) (id_is o.token.id u.token.id e))))
     (has_kept_is past u.token.id x.1))
 
 unfoldable pub is_late : List Step → Labelled → Give → Bool
@@ -281,11 +282,15 @@ unfolding same_use begun is_fine ends_use ends_by gives_use stays_used in_use is
 ending_yes past s u e =
     let p = and_parts (list_any (same_use u) (begun past)) (list_any (is_late (s ∷ past) u) (made past)) e in
     let q = some_in (is_late (s ∷ past) u) (made past) p.1 in
-    let r = and_parts (gives_use q.0 u) (not (is_known (s ∷ past) (number_of q.0))) q.2 in
-    (
+    let r = and_parts (gives_use q.0 u) (not (is_known (s ∷ past) (number_of q.0))) q.2 in (
       in_begun past u (in_any_use (begun past) u p.0),
-      (q.0, in_made past q.0 q.1, gives_use_yes q.0 u r.0, λ k. is_not (is_known (s ∷ past) (number_of q.0)) r.1
-          (known_is (s ∷ past) (number_of q.0) k)),
+      (
+        q.0,
+        in_made past q.0 q.1,
+        gives_use_yes q.0 u r.0,
+        λ k. is_not (is_known (s ∷ past) (number_of q.0)) r.1
+            (known_is (s ∷ past) (number_of q.0) k),
+      ),
     )
 
 pub ending_is : (past : List Step) (s : Step) (u : Labelled) → IsEnding past s u → is_ending past s u ≡ true
@@ -312,7 +317,7 @@ local_tail site s past e =
 unfoldable pub counted_by : ServerId → List Step → Message → Body → List DoneOf
 counted_by site past m (Done d) =
     if settles_it past site m d.fileset && list_any (same_number (numbered d.fileset d.bring.number))
-        (changing site past)
+    (changing site past)
     then d ∷ [] else []
 counted_by site past m _ = []
 
@@ -330,9 +335,11 @@ counted_of site past s d m (Done its) c is i =
     let q = and_parts (settles_it past site m its.fileset) a p.0 in
     let r = some_in (same_number (numbered its.fileset its.bring.number)) (changing site past) q.1 in
     elim p.1 [
-      | inl e ↦ subst (λ x. Counts past s site x) (sym e)
-          (settles_by past s site m its c is q.0, in_changing past site its.fileset its.bring.number (subst
-              (λ x. In x (changing site past)) (sym (number_is (numbered its.fileset its.bring.number) r.0 r.2)) r.1))
+      | inl e ↦ subst (λ x. Counts past s site x) (sym e) (
+        settles_by past s site m its c is q.0,
+        in_changing past site its.fileset its.bring.number (subst
+            (λ x. In x (changing site past)) (sym (number_is (numbered its.fileset its.bring.number) r.0 r.2)) r.1),
+      )
       | inr e ↦ elim e [ ]
     ]
 counted_of site past s d m b c is i = elim i [ ]
@@ -362,14 +369,17 @@ counted_in site past s d (x, c) =
     (in_if (settles_it past site p.0 d.fileset && list_any (same_number n) (changing site past)) d (d ∷ [])
     (and_from (settles_it past site p.0 d.fileset) (list_any (same_number n) (changing site past)) p.3
     (any_of (same_number n) (changing site past) n (changing_in past site d.fileset d.bring.number c)
-        (numbers n n refl))) (inl refl)))
+    (numbers n n refl))) (inl refl)))
 
 pub counts_to : (past : List Step) (s : Step) (v w : ServerId) (d : DoneOf) → (d.fileset.0 ≡ 0 → v ≡ w)
     → Counts past s v d → Counts past s w d
 unfolding same_use begun is_fine ends_use ends_by gives_use stays_used in_use is_used frees is_late is_ending is_local
     counted_by counted
-counts_to past s v w d one (inl x, c) = (subst (λ u. Settles past s u d) (one x.0)
-    (inl x), moved past v w d.fileset d.bring.number one c)
+counts_to past s v w d one (inl x, c) = (
+  subst (λ u. Settles past s u d) (one x.0)
+      (inl x),
+  moved past v w d.fileset d.bring.number one c,
+)
 counts_to past s v w d one (inr x, c) = (inr x, moved past v w d.fileset d.bring.number one c)
 
 pub goes_there : (site : ServerId) (past : List Step) (v : ServerId) (fs : FilesetId) (n : ℕ)

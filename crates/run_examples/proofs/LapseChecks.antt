@@ -137,7 +137,7 @@ has_bye_is [] v x = elim x [ ]
 has_bye_is (s ∷ past) v (inl (e, n, c)) =
     or_left (byes_at v s.cause) (has_bye past v)
     (subst (λ x. byes_at v x ≡ true) (sym (cause_is s v e n Bye c)) (and_from true (same_server v v) refl
-        (servers v v refl)))
+    (servers v v refl)))
 has_bye_is (s ∷ past) v (inr x) = or_right (byes_at v s.cause) (has_bye past v) (has_bye_is past v x)
 
 -- the claim waits
@@ -159,7 +159,7 @@ unfolding is_lapse is_hello is_reclaim is_restarted is_answer goes_as sends_bye 
 claims_at_is s v (e, n, claim, p) =
     any_of (λ m. is_reclaim m.body && same_server m.server v) s.sent p.0 p.1
     (and_from (is_reclaim p.0.body) (same_server p.0.server v) (subst (λ b. is_reclaim b ≡ true) (sym p.5) refl)
-        (servers p.0.server v p.2))
+    (servers p.0.server v p.2))
 
 unfoldable pub raises_at : List Step → Step → ServerId → Bool
 raises_at past s v = nat_lt (epoch_at past v) (epoch_at (s ∷ past) v)
@@ -167,7 +167,7 @@ raises_at past s v = nat_lt (epoch_at past v) (epoch_at (s ∷ past) v)
 unfoldable pub answers_at : List Step → ServerId → Cause → Bool
 answers_at past v cause =
     by_message false (λ m. is_answer m.body && (same_server m.server v && ((m.epoch == epoch_at past v) &&
-        (m.moves == 0)))) cause
+    (m.moves == 0)))) cause
 
 unfoldable pub has_claim : List Step → ServerId → Bool
 has_claim [] v = false
@@ -209,15 +209,17 @@ unfolding is_lapse is_hello is_reclaim is_restarted is_answer goes_as sends_bye 
 claimed_yes [] v t = absurd (cc)
 claimed_yes (s ∷ past) v t =
     let p = and_parts (claims_at s v || (has_claim past v && not (raises_at past s v))) (not
-        (answers_at past v s.cause)) t in
-    (
+    (answers_at past v s.cause)) t in (
       elim (or_cases (claims_at s v) (has_claim past v && not (raises_at past s v)) p.0) [
         | inl x ↦ inl (claims_at_yes s v x)
         | inr x ↦ (
             let q = and_parts (has_claim past v) (not (raises_at past s v)) x in
-            inr (claimed_yes past v q.0, λ r. is_not (raises_at past s v) q.1 (lt-ltb (epoch_at past v) (epoch_at (s
-                ∷ past) v) r))
-          )
+            inr (
+              claimed_yes past v q.0,
+              λ r. is_not (raises_at past s v) q.1 (lt-ltb (epoch_at past v) (epoch_at (s
+                  ∷ past) v) r),
+            )
+            )
       ],
       λ answer c. is_not (answers_at past v s.cause) p.1 (answers_come past s v answer c),
     )
@@ -263,9 +265,15 @@ gives_as_yes past s g e v n t at =
     let p = some_in (λ m. is_place past g.fid.fileset m && ((m.epoch == e) && is_give g m.body)) s.sent t in
     let q = and_parts (is_place past g.fid.fileset p.0) ((p.0.epoch == e) && is_give g p.0.body) p.2 in
     let r = and_parts (p.0.epoch == e) (is_give g p.0.body) q.1 in
-    let w = sym (place_is past g.fid.fileset p.0 q.0) ∙ at in
-    (p.0, p.1, ap (λ (x : Place). x.server) w, eqb-true p.0.epoch e r.0, ap (λ
-        (x : Place). x.moves) w, give_body g p.0.body r.1)
+    let w = sym (place_is past g.fid.fileset p.0 q.0) ∙ at in (
+      p.0,
+      p.1,
+      ap (λ (x : Place). x.server) w,
+      eqb-true p.0.epoch e r.0,
+      ap (λ
+          (x : Place). x.moves) w,
+      give_body g p.0.body r.1,
+    )
 
 unfoldable pub greets_welcome : List Step → Message → Bool
 greets_welcome past m = implies (is_hello m.body) (is_welcome past m.server)
@@ -284,7 +292,7 @@ late_right past m (GiveBack g) =
     list_any (same_give g) (made past) && (is_first past g && is_place past g.fid.fileset m)
 late_right past m Bye =
     list_any (λ k. is_bye k.body && same_server k.server m.server) (said past) && (not (has_bye past m.server) &&
-        (m.moves == 0))
+    (m.moves == 0))
 late_right past m (Reclaim claim) = has_claim past m.server
 late_right past m _ = false
 
@@ -307,7 +315,7 @@ greeted past v = list_any (λ m. is_hello m.body && same_server m.server v) (sai
 unfoldable pub learns_restart : List Step → Step → ServerId → Bool
 learns_restart past s v =
     (greeted past v && raises_at past s v) && by_message false
-        (λ m. is_restarted m.body && same_server m.server v) s.cause
+    (λ m. is_restarted m.body && same_server m.server v) s.cause
 
 unfoldable pub gives_restarted : List Step → Step → ServerId → Give → Bool
 gives_restarted past s v g = implies (is_first past g) (gives_as past s g (epoch_at (s ∷ past) v))
@@ -315,7 +323,7 @@ gives_restarted past s v g = implies (is_first past g) (gives_as past s g (epoch
 unfoldable pub restart_right : List Step → Step → Message → Bool
 restart_right past s m =
     implies (learns_restart past s m.server) (claims_at s m.server && list_all (gives_restarted past s m.server)
-        (made past))
+    (made past))
 
 unfoldable pub claims_only : List Step → Step → Message → Bool
 claims_only past s m =
@@ -366,18 +374,18 @@ unfolding is_lapse is_hello is_reclaim is_restarted is_answer goes_as sends_bye 
 learns_is past s v (g, r, (e, n, c)) =
     let h = said_in past v g.0 g.1 Hello g.2 in
     and_from (greeted past v && raises_at past s v) (by_message false
-        (λ m. is_restarted m.body && same_server m.server v) s.cause)
+    (λ m. is_restarted m.body && same_server m.server v) s.cause)
     (and_from (greeted past v) (raises_at past s v)
     (any_of (λ m. is_hello m.body && same_server m.server v) (said past) h.0 h.1
     (and_from (is_hello h.0.body) (same_server h.0.server v) (subst (λ b. is_hello b ≡ true) (sym h.5) refl)
-        (servers h.0.server v h.2)))
+    (servers h.0.server v h.2)))
     (lt-ltb (epoch_at past v) (epoch_at (s ∷ past) v) r))
     (subst (λ x. by_message false (λ m. is_restarted m.body && same_server m.server v) x ≡ true) (sym
-        (cause_is s v e n Restarted c)) (and_from true (same_server v v) refl (servers v v refl)))
+    (cause_is s v e n Restarted c)) (and_from true (same_server v v) refl (servers v v refl)))
 
 restart_comes : (s : Step) (v : ServerId) (cause : Cause) → s.cause ≡ cause
     → by_message false (λ m. is_restarted m.body && same_server m.server v) cause ≡ true → (e n : ℕ)
-        × ComesIn s v e n Restarted
+    × ComesIn s v e n Restarted
 unfolding is_lapse is_hello is_reclaim is_restarted is_answer goes_as sends_bye byes_at has_bye claims_at raises_at
     answers_at has_claim gives_as greets_welcome gives_late byes_late claims_late late_right lapse_tests greeted
     learns_restart gives_restarted restart_right claims_only answered_all resend_tests is_bye is_local no_asked
@@ -392,15 +400,18 @@ unfolding is_lapse is_hello is_reclaim is_restarted is_answer goes_as sends_bye 
     learns_restart gives_restarted restart_right claims_only answered_all resend_tests is_bye is_local no_asked
 learns_yes past s v t =
     let p = and_parts (greeted past v && raises_at past s v) (by_message false
-        (λ m. is_restarted m.body && same_server m.server v) s.cause) t in
+    (λ m. is_restarted m.body && same_server m.server v) s.cause) t in
     let q = and_parts (greeted past v) (raises_at past s v) p.0 in
     let h = some_in (λ m. is_hello m.body && same_server m.server v) (said past) q.0 in
     let k = and_parts (is_hello h.0.body) (same_server h.0.server v) h.2 in
-    let said_it = in_said past h.0 h.1 in
-    (
-      (h.0.epoch, h.0.moves, subst (λ (x : ServerId). Said past x h.0.epoch h.0.moves Hello)
-          (server_is h.0.server v k.1) (subst (λ b. Said past h.0.server h.0.epoch h.0.moves b)
-          (hello_body h.0.body k.0) said_it)),
+    let said_it = in_said past h.0 h.1 in (
+      (
+        h.0.epoch,
+        h.0.moves,
+        subst (λ (x : ServerId). Said past x h.0.epoch h.0.moves Hello)
+            (server_is h.0.server v k.1) (subst (λ b. Said past h.0.server h.0.epoch h.0.moves b)
+            (hello_body h.0.body k.0) said_it),
+      ),
       ltb-true (epoch_at past v) (epoch_at (s ∷ past) v) q.1,
       restart_comes s v s.cause refl p.1,
     )
@@ -413,7 +424,7 @@ unfolding is_lapse is_hello is_reclaim is_restarted is_answer goes_as sends_bye 
     learns_restart gives_restarted restart_right claims_only answered_all resend_tests is_bye is_local no_asked
 lapse_is s site past t c =
     all_true (lapse_tests site past s) (so (is_lapse s.cause) (passes (lapse_tests site past s)) t (subst
-        (λ x. is_lapse x ≡ true) (sym c) refl))
+    (λ x. is_lapse x ≡ true) (sym c) refl))
 
 pub lapse_cause : (c : Cause) → is_lapse c ≡ true → c ≡ Lapse
 unfolding is_lapse is_hello is_reclaim is_restarted is_answer goes_as sends_bye byes_at has_bye claims_at raises_at
@@ -438,7 +449,7 @@ all_late site past s local t v n (GiveBack g) (o, at) =
     gives_as_yes past s g (epoch_at past v) v n
     (subst (λ x. gives_as past s g (epoch_at past x) ≡ true) (ap (λ (x : Place). x.server) at)
     (so (is_first past g) (gives_as past s g (epoch_at past (place past g.fid.fileset).server)) (at_all
-        (gives_late past s) (made past) g t.1.1.1.0 (made_in past g o.made)) (first_is past g o))) at
+    (gives_late past s) (made past) g t.1.1.1.0 (made_in past g o.made)) (first_is past g o))) at
 all_late site past s local t v n Bye ((e, k, h), none_, z) =
     let p = at_said (byes_late past s) past v e k Bye t.1.1.1.1.0 h in
     let q : (has_bye past v || sends_bye s v (epoch_at past v)) ≡ true = p.1 in
@@ -457,19 +468,26 @@ late_is past s m (GiveBack g) is t =
     let p = and_parts (list_any (same_give g) (made past)) (is_first past g && is_place past g.fid.fileset m) t in
     let q = and_parts (is_first past g) (is_place past g.fid.fileset m) p.1 in
     let k = some_in (same_give g) (made past) p.0 in
-    inl (first_yes past g (in_made past g (subst (λ x. In x (made past)) (sym
-        (give_is g k.0 k.2)) k.1)) q.0, place_is past g.fid.fileset m q.1)
+    inl (
+      first_yes past g (in_made past g (subst (λ x. In x (made past)) (sym
+          (give_is g k.0 k.2)) k.1)) q.0,
+      place_is past g.fid.fileset m q.1,
+    )
 late_is past s m Bye is t =
     let p = and_parts (list_any (λ k. is_bye k.body && same_server k.server m.server) (said past)) (not
-        (has_bye past m.server) && (m.moves == 0)) t in
+    (has_bye past m.server) && (m.moves == 0)) t in
     let q = and_parts (not (has_bye past m.server)) (m.moves == 0) p.1 in
     let k = some_in (λ k. is_bye k.body && same_server k.server m.server) (said past) p.0 in
     let r = and_parts (is_bye k.0.body) (same_server k.0.server m.server) k.2 in
     let said_it = in_said past k.0 k.1 in
     inl (
-      (k.0.epoch, k.0.moves, subst (λ (x : ServerId). Said past x k.0.epoch k.0.moves Bye)
-          (server_is k.0.server m.server r.1) (subst (λ b. Said past k.0.server k.0.epoch k.0.moves b)
-          (bye_body k.0.body r.0) said_it)),
+      (
+        k.0.epoch,
+        k.0.moves,
+        subst (λ (x : ServerId). Said past x k.0.epoch k.0.moves Bye)
+            (server_is k.0.server m.server r.1) (subst (λ b. Said past k.0.server k.0.epoch k.0.moves b)
+            (bye_body k.0.body r.0) said_it),
+      ),
       λ x. is_not (has_bye past m.server) q.0 (has_bye_is past m.server x),
       eqb-true m.moves 0 q.1,
     )
@@ -486,7 +504,7 @@ late_all site past s t v c =
     let q = at_all (claims_late past s) (said past) p.0 t.1.1.1.1.1.0 p.1 in
     let r = so (is_reclaim p.0.body) (implies (has_claim past p.0.server) (claims_at s p.0.server)) q p.2 in
     let u = so (has_claim past p.0.server) (claims_at s p.0.server) r (subst (λ
-        (x : ServerId). has_claim past x ≡ true) (sym p.3) (claimed_is past v c)) in
+    (x : ServerId). has_claim past x ≡ true) (sym p.3) (claimed_is past v c)) in
     subst (λ (x : ServerId). ClaimsAt s x) p.3 (claims_at_yes s p.0.server u)
 
 others : (site : ServerId) (past : List Step) (s : Step) → is_local site past ≡ true → by_message true
@@ -537,28 +555,32 @@ resends_meet site past s e =
       lapse_claims = λ v c x. late_all site past s (lapse_is s site past t.0 c) v x;
       lapse_only = λ v e n b c p.
           late_is past s (told p.0 v e n b) b refl (at_sends (λ m. late_right past m m.body) s v e n b
-              (lapse_is s site past t.0 c).1.1.1.1.1.1.0 p);
+          (lapse_is s site past t.0 c).1.1.1.1.1.1.0 p);
       lapse_quiet = λ c.
-          let q = (lapse_is s site past t.0 c).1.1.1.1.1.1.1 in
-          (not_asked s.asked q.0, none_is s.answers q.1.0, none_is s.taken q.1.1.0, none_is s.dropped q.1.1.1.0,
-              none_is s.made q.1.1.1.1.0);
+          let q = (lapse_is s site past t.0 c).1.1.1.1.1.1.1 in (
+            not_asked s.asked q.0,
+            none_is s.answers q.1.0,
+            none_is s.taken q.1.1.0,
+            none_is s.dropped q.1.1.1.0,
+            none_is s.made q.1.1.1.1.0,
+          );
       restarted_gives = λ v n g l o.
           let p = at_comes (restart_right past s) s v l.2.0 l.2.1 Restarted t.1.0 l.2.2 in
           let q = and_parts (claims_at s v) (list_all (gives_restarted past s v) (made past)) (so
-              (learns_restart past s v) (claims_at s v && list_all (gives_restarted past s v) (made past)) p
-              (learns_is past s v l)) in
+          (learns_restart past s v) (claims_at s v && list_all (gives_restarted past s v) (made past)) p
+          (learns_is past s v l)) in
           gives_as_yes past s g (epoch_at (s ∷ past) v) v n (so (is_first past g) (gives_as past s g (epoch_at (s
-              ∷ past) v)) (at_all (gives_restarted past s v) (made past) g q.1 (made_in past g o.0.made))
-              (first_is past g o.0)) o.1;
+          ∷ past) v)) (at_all (gives_restarted past s v) (made past) g q.1 (made_in past g o.0.made))
+          (first_is past g o.0)) o.1;
       restarted_claims = λ v l.
           let p = at_comes (restart_right past s) s v l.2.0 l.2.1 Restarted t.1.0 l.2.2 in
           let q = and_parts (claims_at s v) (list_all (gives_restarted past s v) (made past)) (so
-              (learns_restart past s v) (claims_at s v && list_all (gives_restarted past s v) (made past)) p
-              (learns_is past s v l)) in
+          (learns_restart past s v) (claims_at s v && list_all (gives_restarted past s v) (made past)) p
+          (learns_is past s v l)) in
           claims_at_yes s v q.0;
       claims_only = λ v (e, n, claim, p).
           let q : (learns_restart past s v || (is_lapse s.cause && has_claim past v)) ≡ true = at_sends
-              (claims_only past s) s v e n (Reclaim claim) t.1.1.0 p in
+          (claims_only past s) s v e n (Reclaim claim) t.1.1.0 p in
           elim (or_cases (learns_restart past s v) (is_lapse s.cause && has_claim past v) q) [
             | inl x ↦ inl (learns_yes past s v x)
             | inr x ↦ (let r = and_parts (is_lapse s.cause) (has_claim past v) x in inr
@@ -588,7 +610,7 @@ takes_meet past s e =
     record {
       all = λ w k u m free.
           let p = at_all (taken_or_held past s) w.tokens k (at_all (λ (w : Bring). list_all
-              (taken_or_held past s) w.tokens) (brought s.cause) w t.0 (used_in past s w u.0)) m in
+          (taken_or_held past s) w.tokens) (brought s.cause) w t.0 (used_in past s w u.0)) m in
           elim (or_cases (holds_id past k.id) (list_any (λ (u : Token). same_id u.id k.id) s.taken) p) [
             | inl x ↦ absurd (free (holds_yes past k.id x))
             | inr x ↦ (let q = some_in (λ (u : Token). same_id u.id k.id) s.taken x in

@@ -86,9 +86,15 @@ without x [] m = elim m [ ]
 without x (z ∷ ys) (inl p) = (ys, omega arith, λ y m. elim m [ inl q ↦ inl (q ∙ sym p) | inr n ↦ inr n ])
 without x (z ∷ ys) (inr m) =
     let r = without x ys m in
-    let e = r.1 in
-    (z ∷ r.0, omega arith, λ y k. elim k [ inl q ↦ inr (inl q) | inr n ↦ (elim
-        (r.2 y n) [ inl q ↦ inl q | inr q ↦ inr (inr q) ]) ])
+    let e = r.1 in (
+      z ∷ r.0,
+      omega arith,
+      λ y k. elim k [
+        | inl q ↦ inr (inl q)
+        | inr n ↦ (elim
+            (r.2 y n) [ inl q ↦ inl q | inr q ↦ inr (inr q) ])
+      ],
+    )
 
 pub no_more : {A : Type 0} (xs ys : List A) → EachOnce xs → ((x : A) → In x xs → In x ys) → length xs ≤ length ys
 unfolding is_end is_bye
@@ -110,7 +116,7 @@ idle_in : (past : List Step) (t : Token) → IsIdle past t → In t (idle past)
 unfolding is_end idle is_bye
 idle_in past t (h, n) =
     in_filter (λ (t : Token). not (is_used past t.id)) (held past) t (held_in past t h) (not_is (is_used past t.id)
-        (λ e. n (is_used_yes past t.id e)))
+    (λ e. n (is_used_yes past t.id e)))
 
 unfoldable pub few_idle : List Step → ℕ → Bool
 few_idle past limit = nat_le (length (idle past)) limit
@@ -140,7 +146,7 @@ unfoldable pub deed_right : List ServerId → List Step → Step → Deed → Bo
 deed_right servers past s (MakesCall call) = list_any (begins_as past call) (begins_now s)
 deed_right servers past s Stop =
     (list_all (says_down s) servers && all_dropped past s) && (no_asked s.asked &&
-        (is_none s.answers && is_none s.made))
+    (is_none s.answers && is_none s.made))
 deed_right servers past s _ = false
 
 down_to : (s : Step) (v : ServerId) → says_down s v ≡ true → (e n : ℕ) × Sends s v e n Down
@@ -164,8 +170,7 @@ deed_is servers past s Stop e =
     let p = and_parts (a && all_dropped past s) (no_asked s.asked && (is_none s.answers && is_none s.made)) e in
     let q = and_parts a (all_dropped past s) p.0 in
     let r = and_parts (no_asked s.asked) (is_none s.answers && is_none s.made) p.1 in
-    let u = and_parts (is_none s.answers) (is_none s.made) r.1 in
-    (
+    let u = and_parts (is_none s.answers) (is_none s.made) r.1 in (
       λ v m. down_to s v (at_all (says_down s) servers v q.0 m),
       all_dropped_is past s q.1,
       not_asked s.asked r.0,
@@ -226,7 +231,7 @@ none_open_is site past local e c o = none_in (open_calls site past) c e (open_in
 pub lines_by : (site : ServerId) (lines : List Line) (servers : List ServerId) (limit : ℕ) (past : List Step)
     (s : Step) (cause : Cause)
     → s.cause ≡ cause → line_right site lines servers limit past s cause ≡ true → is_none s.applied ≡ true
-        → is_none s.admitted ≡ true
+    → is_none s.admitted ≡ true
     → is_none s.reserved ≡ true → is_local site past ≡ true → HostLines lines servers limit past s
 unfolding is_end idle few_idle all_dropped begins_as says_down deed_right next_right is_stop_deed is_stop_line
     line_right line_tests is_bye
@@ -245,8 +250,11 @@ lines_by site lines servers limit past s (LineOf n) is e a b c local =
       stops = λ st. stopping (slice_get lines (lines_gone past)) refl (so (says is_down s) (is_stop_line
           (slice_get lines (lines_gone past))) q.1 (stops_it s st)) p.0;
       evicts = λ at. absurd (let w : LineOf n ≡ Evict = sym is ∙ at in cc);
-      no_server = (λ m at. (let w : LineOf n ≡ Restart m = sym is ∙ at in cc), λ at.
-          (let w : LineOf n ≡ Flushed = sym is ∙ at in cc));
+      no_server = (
+        λ m at. (let w : LineOf n ≡ Restart m = sym is ∙ at in cc),
+        λ at.
+            (let w : LineOf n ≡ Flushed = sym is ∙ at in cc),
+      );
       applies_none = (none_is s.applied a, none_is s.admitted b, none_is s.reserved c);
     }
   where
@@ -266,8 +274,11 @@ lines_by site lines servers limit past s End is e a b c local = record {
   begins = λ k call begun. inr is;
   stops = λ st. absurd (is_not (says is_down s) e (stops_it s st));
   evicts = λ at. absurd (let w : End ≡ Evict = sym is ∙ at in cc);
-  no_server = (λ m at. (let w : End ≡ Restart m = sym is ∙ at in cc), λ at.
-      (let w : End ≡ Flushed = sym is ∙ at in cc));
+  no_server = (
+    λ m at. (let w : End ≡ Restart m = sym is ∙ at in cc),
+    λ at.
+        (let w : End ≡ Flushed = sym is ∙ at in cc),
+  );
   applies_none = (none_is s.applied a, none_is s.admitted b, none_is s.reserved c);
 }
 lines_by site lines servers limit past s (Came m) is e a b c local =
@@ -278,8 +289,11 @@ lines_by site lines servers limit past s (Came m) is e a b c local =
       begins = λ k call begun. absurd (none_in (begins_now s) (the_call k call) p.0 (begins_in s k call begun));
       stops = λ st. absurd (is_not (says is_down s) p.1 (stops_it s st));
       evicts = λ at. absurd (let w : Came m ≡ Evict = sym is ∙ at in cc);
-      no_server = (λ n at. (let w : Came m ≡ Restart n = sym is ∙ at in cc), λ at.
-          (let w : Came m ≡ Flushed = sym is ∙ at in cc));
+      no_server = (
+        λ n at. (let w : Came m ≡ Restart n = sym is ∙ at in cc),
+        λ at.
+            (let w : Came m ≡ Flushed = sym is ∙ at in cc),
+      );
       applies_none = (none_is s.applied a, none_is s.admitted b, none_is s.reserved c);
     }
 lines_by site lines servers limit past s Lapse is e a b c local =
@@ -290,8 +304,11 @@ lines_by site lines servers limit past s Lapse is e a b c local =
       begins = λ k call begun. absurd (none_in (begins_now s) (the_call k call) p.0 (begins_in s k call begun));
       stops = λ st. absurd (is_not (says is_down s) p.1 (stops_it s st));
       evicts = λ at. absurd (let w : Lapse ≡ Evict = sym is ∙ at in cc);
-      no_server = (λ n at. (let w : Lapse ≡ Restart n = sym is ∙ at in cc), λ at.
-          (let w : Lapse ≡ Flushed = sym is ∙ at in cc));
+      no_server = (
+        λ n at. (let w : Lapse ≡ Restart n = sym is ∙ at in cc),
+        λ at.
+            (let w : Lapse ≡ Flushed = sym is ∙ at in cc),
+      );
       applies_none = (none_is s.applied a, none_is s.admitted b, none_is s.reserved c);
     }
 lines_by site lines servers limit past s cause is e a b c local = absurd (cc)
@@ -351,7 +368,7 @@ is_evict _ = false
 unfoldable pub leave_tests : ServerId → User → List Step → Step → List Bool
 leave_tests site user past s =
     list_all (λ (l : Leave). may_leave site user past s l.why l.token) s.dropped ∷ not (is_evict s.cause)
-        ∷ is_local site past ∷ []
+    ∷ is_local site past ∷ []
 
 module _ (site : ServerId) (roster : Roster) (host : HostId) (user : User) (past : List Step) (s : Step)
     (acts : user_of roster host ≡ Some user) (known : passes (stance_tests site host past s) ≡ true)
@@ -365,8 +382,8 @@ module _ (site : ServerId) (roster : Roster) (host : HostId) (user : User) (past
   finds place fid (Some id) is e =
       let look = file_look user (root_of id) place.path in
       let p = and_parts (list_all (covers_it (hand s past)) (needs_of (sees past s) (file_look user
-          (root_of id) place.path))) (finds_it (outcome (sees past s) (file_look user
-          (root_of id) place.path)) fid) e in
+      (root_of id) place.path))) (finds_it (outcome (sees past s) (file_look user
+      (root_of id) place.path)) fid) e in
       let q = finds_is (outcome (sees past s) (file_look user (root_of id) place.path)) fid p.1 in
       (id, q.0, is, cover_all (hand s past) (needs_of (sees past s) (file_look user (root_of id) place.path)) p.0, q.1)
 
@@ -374,9 +391,15 @@ module _ (site : ServerId) (roster : Roster) (host : HostId) (user : User) (past
       → IsDirtyUnder past s t
       → (k : ℕ) × (place : Place) × (stance : Stance roster host past s) × IsTurn past s k (Sync place)
       × FindsFile roster host past s stance place t.fid × IsDirtyUnder past s t
-  synced t k (Sync place) turn e d =
-      (k, place, stance_of site roster host user past s acts known, turn, finds place t.fid (seen_in (entered site (s
-          ∷ past)) place.server place.fileset) refl e, d)
+  synced t k (Sync place) turn e d = (
+    k,
+    place,
+    stance_of site roster host user past s acts known,
+    turn,
+    finds place t.fid (seen_in (entered site (s
+        ∷ past)) place.server place.fileset) refl e,
+    d,
+  )
   synced t k call turn e d = absurd (cc)
 
   leave_is : (limit : ℕ) (why : Why) (t : Token) → may_leave site user past s why t ≡ true
@@ -388,22 +411,28 @@ module _ (site : ServerId) (roster : Roster) (host : HostId) (user : User) (past
   leave_is limit Evicted t e = absurd (cc)
   leave_is limit Asked t e =
       elim (or_cases (list_any (syncs_token site user past s t) (turns site past s) && dirty_under past s t)
-          (list_any (last_use site past s t) (in_use past)) e) [
+      (list_any (last_use site past s t) (in_use past)) e) [
         | inl x ↦ (
             let p = and_parts (list_any (syncs_token site user past s t) (turns site past s))
-                (dirty_under past s t) x in
+            (dirty_under past s t) x in
             let q = some_in (syncs_token site user past s t) (turns site past s) p.0 in
             inl (synced t q.0.k q.0.call (in_turns site past s q.0 local q.1) q.2 (dirty_under_yes past s t p.1))
-          )
+            )
         | inr x ↦ (
             let q = some_in (last_use site past s t) (in_use past) x in
             let p = and_parts (same_token q.0.token t && frees past q.0) (list_any (λ c. same_end c.call
-                (end_of q.0)) (turns site past s)) q.2 in
+            (end_of q.0)) (turns site past s)) q.2 in
             let r = and_parts (same_token q.0.token t) (frees past q.0) p.0 in
             let c = some_in (λ c. same_end c.call (end_of q.0)) (turns site past s) p.1 in
-            inr (c.0.k, q.0, subst (λ x. IsTurn past s c.0.k x) (end_is c.0.call (end_of q.0) c.2)
-                (in_turns site past s c.0 local c.1), frees_yes past q.0 r.1, token_is q.0.token t r.0)
-          )
+            inr (
+              c.0.k,
+              q.0,
+              subst (λ x. IsTurn past s c.0.k x) (end_is c.0.call (end_of q.0) c.2)
+                  (in_turns site past s c.0 local c.1),
+              frees_yes past q.0 r.1,
+              token_is q.0.token t r.0,
+            )
+            )
       ]
   leave_is limit Ended t e =
       let p = and_parts (is_end s.cause) (is_none (in_use past)) e in
@@ -433,11 +462,11 @@ taken_before_is [] u other x = elim x [ ]
 taken_before_is (s ∷ past) u other (inl (m, x)) =
     or_left (list_any (same_use other) s.begun && list_any (same_use u) (in_use past)) (taken_before past u other)
     (and_from (list_any (same_use other) s.begun) (list_any (same_use u) (in_use past)) (any_of
-        (same_use other) s.begun other m (use_same other other refl))
+    (same_use other) s.begun other m (use_same other other refl))
     (any_of (same_use u) (in_use past) u (used_in past u x) (use_same u u refl)))
 taken_before_is (s ∷ past) u other (inr x) =
     or_right (list_any (same_use other) s.begun && list_any (same_use u) (in_use past)) (taken_before past u other)
-        (taken_before_is past u other x)
+    (taken_before_is past u other x)
 
 unfoldable pub is_first_use : List Step → Labelled → Bool
 is_first_use past u = list_all (λ other. not (taken_before past other u)) (in_use past)
@@ -453,7 +482,7 @@ bye_right past s m =
     implies (is_bye m.body)
     (list_any (λ k. is_hello k.body && same_server k.server m.server) (said past)
     && (is_none (held (s ∷ past)) && (is_end s.cause || list_any
-        (λ k. is_bye k.body && same_server k.server m.server) (said past))))
+    (λ k. is_bye k.body && same_server k.server m.server) (said past))))
 
 unfoldable pub end_right : ServerId → List Line → ℕ → List Step → Step → List Bool
 end_right site lines limit past s =
@@ -468,7 +497,7 @@ end_right site lines limit past s =
 unfoldable pub end_tests : ServerId → List Line → ℕ → List Step → Step → List Bool
 end_tests site lines limit past s =
     implies (is_end s.cause) (passes (end_right site lines limit past s)) ∷ list_all (bye_right past s) s.sent
-        ∷ is_local site past ∷ []
+    ∷ is_local site past ∷ []
 
 some_one : {A : Type 0} (xs : List A) → not (is_none xs) ≡ true → (x : A) × In x xs
 unfolding is_end idle few_idle all_dropped begins_as says_down deed_right next_right is_stop_deed is_stop_line
@@ -486,27 +515,38 @@ ends_meet site lines limit past s e =
     let t = all_true (end_tests site lines limit past s) e in
     let local = t.1.1.0 in
     record {
-      after = λ c. let r = at_end t.0 c in (eqb-true (lines_gone past)
-          (length lines) r.0, none_open_is site past local r.1.0, few_is past limit r.1.1.0);
+      after = λ c. let r = at_end t.0 c in (
+        eqb-true (lines_gone past)
+            (length lines) r.0,
+        none_open_is site past local r.1.0,
+        few_is past limit r.1.1.0,
+      );
       does = λ c. does (at_end t.0 c).1.1.1.0;
       implied = λ k call c b.
           let r = at_all (implied_right past) (begins_now s) (the_call k call) (at_end t.0 c).1.1.1.1.0
-              (begins_in s k call b) in
+          (begins_in s k call b) in
           let p = and_parts (k == suc (calls_begun past)) (list_any (ends_first past (the_call k call))
-              (in_use past)) r in
+          (in_use past)) r in
           let q = some_in (ends_first past (the_call k call)) (in_use past) p.1 in
-          let w = and_parts (same_end call (end_of q.0)) (is_first_use past q.0) q.2 in
-          (
+          let w = and_parts (same_end call (end_of q.0)) (is_first_use past q.0) q.2 in (
             eqb-true k (suc (calls_begun past)) p.0,
-            (q.0, in_used past q.0 q.1, end_is call (end_of q.0) w.0, λ other x b. is_not
-                (taken_before past other q.0) (at_all (λ other. not (taken_before past other q.0))
-                (in_use past) other w.1 (used_in past other x)) (taken_before_is past other q.0 b)),
+            (
+              q.0,
+              in_used past q.0 q.1,
+              end_is call (end_of q.0) w.0,
+              λ other x b. is_not
+                  (taken_before past other q.0) (at_all (λ other. not (taken_before past other q.0))
+                  (in_use past) other w.1 (used_in past other x)) (taken_before_is past other q.0 b),
+            ),
           );
       drops = λ l c m.
           elim (or_cases (is_none s.dropped) (is_none (in_use past) && all_dropped past s) (at_end t.0 c).1.1.1.1.1.0) [
             | inl x ↦ absurd (none_in s.dropped l x m)
-            | inr x ↦ (let p = and_parts (is_none (in_use past)) (all_dropped past s) x in (λ u y. none_in
-                (in_use past) u p.0 (used_in past u y), all_dropped_is past s p.1))
+            | inr x ↦ (let p = and_parts (is_none (in_use past)) (all_dropped past s) x in (
+              λ u y. none_in
+                  (in_use past) u p.0 (used_in past u y),
+              all_dropped_is past s p.1,
+            ))
           ];
       bye = λ v (e, n, p). byes t.1.0 v e n p;
     }
@@ -518,15 +558,17 @@ ends_meet site lines limit past s e =
 
     does : (not (is_none (begins_now s)) || (not (is_none s.dropped) || says is_bye s)) ≡ true
         → ((k : ℕ) × (call : Call) × Begins s k call) ⊎ (((l : Leave) × In l s.dropped) ⊎ ((v : ServerId)
-            × SaysBye s v))
+        × SaysBye s v))
     does t =
         elim (or_cases (not (is_none (begins_now s))) (not (is_none s.dropped) || says is_bye s) t) [
           | inl x ↦ (let p = some_one (begins_now s) x in inl (p.0.k, p.0.call, in_begins s p.0 p.1))
           | inr x ↦
               elim (or_cases (not (is_none s.dropped)) (says is_bye s) x) [
                 | inl y ↦ inr (inl (some_one s.dropped y))
-                | inr y ↦ (let p = some_in (λ m. is_bye m.body) s.sent y in inr (inr (p.0.server,
-                    (p.0.epoch, p.0.moves, (p.0, p.1, refl, refl, refl, bye_body p.0.body p.2)))))
+                | inr y ↦ (let p = some_in (λ m. is_bye m.body) s.sent y in inr (inr (
+                  p.0.server,
+                  (p.0.epoch, p.0.moves, (p.0, p.1, refl, refl, refl, bye_body p.0.body p.2)),
+                )))
               ]
         ]
 
@@ -539,20 +581,27 @@ ends_meet site lines limit past s e =
         let q = and_parts a (is_none (held (s ∷ past)) && b) r in
         let u = and_parts (is_none (held (s ∷ past))) b q.1 in
         let h = some_in (λ k. is_hello k.body && same_server k.server v) (said past) q.0 in
-        let hp = and_parts (is_hello h.0.body) (same_server h.0.server v) h.2 in
-        (
-          (h.0.epoch, h.0.moves, subst (λ (x : ServerId). Said past x h.0.epoch h.0.moves Hello)
-              (server_is h.0.server v hp.1) (subst (λ b. Said past h.0.server h.0.epoch h.0.moves b)
-              (hello_body h.0.body hp.0) (in_said past h.0 h.1))),
+        let hp = and_parts (is_hello h.0.body) (same_server h.0.server v) h.2 in (
+          (
+            h.0.epoch,
+            h.0.moves,
+            subst (λ (x : ServerId). Said past x h.0.epoch h.0.moves Hello)
+                (server_is h.0.server v hp.1) (subst (λ b. Said past h.0.server h.0.epoch h.0.moves b)
+                (hello_body h.0.body hp.0) (in_said past h.0 h.1)),
+          ),
           λ t x. none_in (held (s ∷ past)) t u.0 (held_in (s ∷ past) t x),
           elim (or_cases (is_end s.cause) (list_any (λ k. is_bye k.body && same_server k.server v) (said past)) u.1) [
             | inl x ↦ inl (end_cause s.cause x)
             | inr x ↦ (
                 let k = some_in (λ k. is_bye k.body && same_server k.server v) (said past) x in
                 let kp = and_parts (is_bye k.0.body) (same_server k.0.server v) k.2 in
-                inr (k.0.epoch, k.0.moves, subst (λ (x : ServerId). Said past x k.0.epoch k.0.moves Bye)
-                    (server_is k.0.server v kp.1) (subst (λ b. Said past k.0.server k.0.epoch k.0.moves b)
-                    (bye_body k.0.body kp.0) (in_said past k.0 k.1)))
-              )
+                inr (
+                  k.0.epoch,
+                  k.0.moves,
+                  subst (λ (x : ServerId). Said past x k.0.epoch k.0.moves Bye)
+                      (server_is k.0.server v kp.1) (subst (λ b. Said past k.0.server k.0.epoch k.0.moves b)
+                      (bye_body k.0.body kp.0) (in_said past k.0 k.1)),
+                )
+                )
           ],
         )

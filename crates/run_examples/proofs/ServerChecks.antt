@@ -131,9 +131,8 @@ word_may server past h e n b now word gone = record {
         → Here server past g.fileset m × Applied server past k g
     gone_is k f m g x =
         let p : gone_right server past h n (Gone g) ≡ true = subst (λ y. gone_right server past h n y ≡ true)
-            (of_body k f m (Gone g) x) gone in
-        let q = and_parts (here server g.fileset n) (applied server past h g) p in
-        (
+        (of_body k f m (Gone g) x) gone in
+        let q = and_parts (here server g.fileset n) (applied server past h g) p in (
           subst (λ y. Here server past g.fileset y) (of_moves k f m (Gone g) x) (here_yes server past g.fileset n q.0),
           subst (λ y. Applied server past y g) (of_host k f m (Gone g) x) (applied_yes server past h g q.1),
         )
@@ -144,11 +143,13 @@ unfolding is_word gone_right sends_words is_bye is_down is_restarted is_lapse
 words_may server [] past t = tt
 words_may server (m ∷ ms) past t =
     let p = and_parts ((m.epoch == epoch past) && (is_word m.body && gone_right server past m.host m.moves m.body))
-        (sends_words server (Sent m.host m.epoch m.moves m.body ∷ past) ms) t in
+    (sends_words server (Sent m.host m.epoch m.moves m.body ∷ past) ms) t in
     let q = and_parts (m.epoch == epoch past) (is_word m.body && gone_right server past m.host m.moves m.body) p.0 in
-    let r = and_parts (is_word m.body) (gone_right server past m.host m.moves m.body) q.1 in
-    (word_may server past m.host m.epoch m.moves m.body (eqb-true m.epoch
-        (epoch past) q.0) r.0 r.1, words_may server ms (Sent m.host m.epoch m.moves m.body ∷ past) p.1)
+    let r = and_parts (is_word m.body) (gone_right server past m.host m.moves m.body) q.1 in (
+      word_may server past m.host m.epoch m.moves m.body (eqb-true m.epoch
+          (epoch past) q.0) r.0 r.1,
+      words_may server ms (Sent m.host m.epoch m.moves m.body ∷ past) p.1,
+    )
 
 word_send : (server : ServerId) (tree : Tree) (s : Step) (past : List Act) (h : HostId) (e n : ℕ) (b : Body)
     → is_word b ≡ true
@@ -173,11 +174,13 @@ unfolding is_word gone_right sends_words is_bye is_down is_restarted is_lapse
 words_send server tree s [] past t = tt
 words_send server tree s (m ∷ ms) past t =
     let p = and_parts ((m.epoch == epoch past) && (is_word m.body && gone_right server past m.host m.moves m.body))
-        (sends_words server (Sent m.host m.epoch m.moves m.body ∷ past) ms) t in
+    (sends_words server (Sent m.host m.epoch m.moves m.body ∷ past) ms) t in
     let q = and_parts (m.epoch == epoch past) (is_word m.body && gone_right server past m.host m.moves m.body) p.0 in
-    let r = and_parts (is_word m.body) (gone_right server past m.host m.moves m.body) q.1 in
-    (word_send server tree s past m.host m.epoch m.moves m.body r.0, words_send server tree s ms
-        (Sent m.host m.epoch m.moves m.body ∷ past) p.1)
+    let r = and_parts (is_word m.body) (gone_right server past m.host m.moves m.body) q.1 in (
+      word_send server tree s past m.host m.epoch m.moves m.body r.0,
+      words_send server tree s ms
+          (Sent m.host m.epoch m.moves m.body ∷ past) p.1,
+    )
 
 -- what is sent
 unfoldable pub is_to : HostId → (Body → Bool) → Message → Bool
@@ -239,7 +242,7 @@ gone_only past cause k _ = true
 unfoldable pub bye_only : List Act → Cause → Message → Bool
 bye_only past cause k =
     implies (is_bye k.body) (by_message false (λ m. is_bye m.body && same_host m.host k.host) cause && not
-        (down past k.host))
+    (down past k.host))
 
 unfoldable pub restarted_only : List Act → Cause → Message → Bool
 restarted_only past cause k =
@@ -373,7 +376,7 @@ module _ (server : ServerId) (past : List Act) (s : Step) where
   right : by_message true (comes_right past s) s.cause ≡ true → (m : Message) → s.cause ≡ Came m
       → (is_plain m.body ≡ true) × (((m.epoch == epoch past) || is_down m.body) ≡ true)
       × (implies (is_bye m.body) (sends_to s m.host is_bye) ≡ true) × (implies (is_taken past m)
-          (gives_gone s m m.body) ≡ true)
+      (gives_gone s m m.body) ≡ true)
   unfolding comes_right
   right t m c =
       let x = is_plain m.body && ((m.epoch == epoch past) || is_down m.body) in
@@ -381,7 +384,7 @@ module _ (server : ServerId) (past : List Act) (s : Step) where
       let p = and_parts x y (at_message (comes_right past s) s m t c) in
       let q = and_parts (is_plain m.body) ((m.epoch == epoch past) || is_down m.body) p.0 in
       let r = and_parts (implies (is_bye m.body) (sends_to s m.host is_bye)) (implies (is_taken past m)
-          (gives_gone s m m.body)) p.1 in
+      (gives_gone s m m.body)) p.1 in
       (q.0, q.1, r.0, r.1)
 
   plain : by_message true (comes_right past s) s.cause ≡ true → (h : HostId) (b : Body) → is_plain b ≡ false
@@ -393,7 +396,7 @@ module _ (server : ServerId) (past : List Act) (s : Step) where
   unfolding is_taken
   taken_it h n b ((m, c, at, e, k, is), l) =
       and_from (live past m.host) (m.epoch == epoch past) (live_is past m.host (subst (λ y. IsLive past y)
-          (sym at) l)) (eq-eqb m.epoch (epoch past) e)
+      (sym at) l)) (eq-eqb m.epoch (epoch past) e)
 
   answers_from : AllTrue (server_tests server past s) → ServerAnswers server past s
   unfolding server_tests is_bye bye_only restarted_only gone_only tells_restart tells_again gives_gone gives_number
@@ -403,15 +406,17 @@ module _ (server : ServerId) (past : List Act) (s : Step) where
     hello = λ h x d l. absurd (plain comes_ h Hello refl x);
     bye = λ h (m, c, at, is) d l.
         let p = so (is_bye m.body) (sends_to s m.host is_bye) (right comes_ m c).2 (subst (λ b. is_bye b ≡ true)
-            (sym is) refl) in
+        (sym is) refl) in
         subst (λ y. SentNow s y Bye) at (sends_now s m.host is_bye Bye bye_body p);
     bye_only = λ h (k, i, at, is).
         let a = by_message false (λ m. is_bye m.body && same_host m.host k.host) s.cause in
         let p = so (is_bye k.body) (a && not (down past k.host)) (at_all (bye_only past s.cause) s.sent k byes_ i)
-            (subst (λ b. is_bye b ≡ true) (sym is) refl) in
-        let q = and_parts a (not (down past k.host)) p in
-        (subst (λ y. HeardNow s y Bye) at (bye_heard k.host s.cause refl q.0), λ x. is_not (down past k.host) q.1
-            (down_is past k.host (subst (λ y. IsDown past y) (sym at) x)));
+        (subst (λ b. is_bye b ≡ true) (sym is) refl) in
+        let q = and_parts a (not (down past k.host)) p in (
+          subst (λ y. HeardNow s y Bye) at (bye_heard k.host s.cause refl q.0),
+          λ x. is_not (down past k.host) q.1
+              (down_is past k.host (subst (λ y. IsDown past y) (sym at) x)),
+        );
     late = λ h m c at l other hello downs.
         elim (or_cases (m.epoch == epoch past) (is_down m.body) (right comes_ m c).1) [
           | inl x ↦ absurd (other (eqb-true m.epoch (epoch past) x))
@@ -419,37 +424,39 @@ module _ (server : ServerId) (past : List Act) (s : Step) where
         ];
     restarted = λ line h c l.
         let p = so (is_restart s.cause) (list_all (tells_restart past s) (heard past)) restart_ (subst
-            (λ x. is_restart x ≡ true) (sym c) refl) in
+        (λ x. is_restart x ≡ true) (sym c) refl) in
         sends_now s h is_restarted Restarted restarted_body (so (live past h) (sends_to s h is_restarted) (at_all
-            (tells_restart past s) (heard past) h p (listed_heard past h l.0)) (live_is past h l));
+        (tells_restart past s) (heard past) h p (listed_heard past h l.0)) (live_is past h l));
     restarted_again = λ h c l n.
         let p = so (is_lapse s.cause) (list_all (tells_again past s) (heard past)) again_ (subst
-            (λ x. is_lapse x ≡ true) (sym c) refl) in
+        (λ x. is_lapse x ≡ true) (sym c) refl) in
         sends_now s h is_restarted Restarted restarted_body (so (live past h && not (reclaimed past h))
-            (sends_to s h is_restarted) (at_all (tells_again past s) (heard past) h p (listed_heard past h l.0))
+        (sends_to s h is_restarted) (at_all (tells_again past s) (heard past) h p (listed_heard past h l.0))
         (and_from (live past h) (not (reclaimed past h)) (live_is past h l) (not_is (reclaimed past h) (λ e. n
-            (reclaimed_yes past h e)))));
+        (reclaimed_yes past h e)))));
     restarted_only = λ h (k, i, at, is).
         let a = is_restart s.cause || is_lapse s.cause in
         let p = so (is_restarted k.body) (live past k.host && a) (at_all
-            (restarted_only past s.cause) s.sent k only_ i) (subst (λ b. is_restarted b ≡ true) (sym is) refl) in
-        let q = and_parts (live past k.host) a p in
-        (
+        (restarted_only past s.cause) s.sent k only_ i) (subst (λ b. is_restarted b ≡ true) (sym is) refl) in
+        let q = and_parts (live past k.host) a p in (
           subst (λ y. IsLive past y) at (live_yes past k.host q.0),
-          elim (or_cases (is_restart s.cause) (is_lapse s.cause) q.1) [ inl x ↦ inr (inl
-              (restart_cause s.cause x)) | inr x ↦ inr (inr (lapse_cause s.cause x)) ],
+          elim (or_cases (is_restart s.cause) (is_lapse s.cause) q.1) [
+            | inl x ↦ inr (inl
+                (restart_cause s.cause x))
+            | inr x ↦ inr (inr (lapse_cause s.cause x))
+          ],
         );
     gone = λ h n g x at_.
         let m = x.0.0 in
         let p = so (is_taken past m) (gives_gone s m m.body) (right comes_ m x.0.1).3 (taken_it h n (GiveBack g) x) in
         let q : sends_to s m.host (is_gone (number_of g)) ≡ true = subst (λ b. gives_gone s m b ≡ true) x.0.5 p in
         subst (λ y. SentNow s y (Gone (number_of g))) x.0.2 (sends_now s m.host (is_gone (number_of g)) (Gone
-            (number_of g)) (gone_body (number_of g)) q);
+        (number_of g)) (gone_body (number_of g)) q);
     gone_only = λ h n (k, i, at, is).
         let p = subst (λ b. gone_only past s.cause k b ≡ true) is (at_all
-            (λ k. gone_only past s.cause k k.body) s.sent k gones_ i) in
+        (λ k. gone_only past s.cause k k.body) s.sent k gones_ i) in
         subst (λ y. (moves : ℕ) × (g : Give) × TakenNow past s y moves (GiveBack g) × (number_of g ≡ n)) at
-            (gone_heard k.host n s.cause refl p);
+        (gone_heard k.host n s.cause refl p);
     claim_now = λ h n claim x no_ l all. absurd (no_claim (after_cause s.cause past) h n claim claims_ x);
     claim_again = λ h n claim x r. absurd (plain comes_ h (Reclaim claim) refl (x.0.0, x.0.1, x.0.2, x.0.5));
   }
@@ -476,11 +483,17 @@ module _ (server : ServerId) (past : List Act) (s : Step) where
           let q = and_parts (same_host m.host h) (is_taken past m) p.0 in
           let r = and_parts (live past m.host) (m.epoch == epoch past) (as_live m q.1) in
           let g = gives_body n m.body p.1 in
-          let at = host_is m.host h q.0 in
-          (m.moves, g.0, ((m, c, at, eqb-true m.epoch (epoch past) r.1, refl, g.1), subst (λ y. IsLive past y) at
-              (live_yes past m.host r.0)), g.2)
+          let at = host_is m.host h q.0 in (
+            m.moves,
+            g.0,
+            (
+              (m, c, at, eqb-true m.epoch (epoch past) r.1, refl, g.1),
+              subst (λ y. IsLive past y) at
+                  (live_yes past m.host r.0),
+            ),
+            g.2,
+          )
       gone_heard h n cause c t = absurd (cc)
-
 
   decided_from : (tree : Tree) → AllTrue (server_tests server past s) → HasDecided server tree past
       (written_by s past) s
@@ -530,20 +543,81 @@ module _ (server : ServerId) (past : List Act) (s : Step) where
       × IsNextLine lines steps n line × (line.deed ≡ Restarts))
       → server_cause s.cause ≡ true → s.wrote ≡ None → AllTrue (server_tests server past s) → ServerLines lines steps s
   unfolding server_tests server_cause
-  lines_from lines steps restarts cause wrote (_, (_, (_, (_, (_, (_, (_, (_, (_, (_, (_, (_, (a, (b, (c, (d, (e,
-      (f, _)))))))))))))))))) = record {
+  lines_from lines steps restarts cause wrote (
+    _,
+    (
+      _,
+      (
+        _,
+        (
+          _,
+          (
+            _,
+            (
+              _,
+              (
+                _,
+                (
+                  _,
+                  (
+                    _,
+                    (
+                      _,
+                      (
+                        _,
+                        (
+                          _,
+                          (
+                            a,
+                            (
+                              b,
+                              (
+                                c,
+                                (
+                                  d,
+                                  (
+                                    e,
+                                    (f, _),
+                                  ),
+                                ),
+                              ),
+                            ),
+                          ),
+                        ),
+                      ),
+                    ),
+                  ),
+                ),
+              ),
+            ),
+          ),
+        ),
+      ),
+    ),
+  ) = record {
     bare = λ n at. absurd (let p = subst (λ x. server_cause x ≡ true) at cause in cc);
     restarts = restarts;
-    no_host = (λ at. (let p = subst (λ x. server_cause x ≡ true) at cause in cc), λ at. (let p = subst
-        (λ x. server_cause x ≡ true) at cause in cc));
-    does_none = (not_asked s.asked a, none_is s.taken b, none_is s.answers c, wrote, none_is s.begun d, none_is s.made
-        e, none_is s.dropped f);
+    no_host = (
+      λ at. (let p = subst (λ x. server_cause x ≡ true) at cause in cc),
+      λ at. (let p = subst
+          (λ x. server_cause x ≡ true) at cause in cc),
+    );
+    does_none = (
+      not_asked s.asked a,
+      none_is s.taken b,
+      none_is s.answers c,
+      wrote,
+      none_is s.begun d,
+      none_is s.made
+          e,
+      none_is s.dropped f,
+    );
   }
 
 pub server_meets : (script : Script) (start : Tree) (server : ServerId) (steps : List Step) (past : List Act) (s : Step)
     → ServerApplies server (kept start server steps) past s
     → ((n : ℕ) → s.cause ≡ Restart n → (line : Line) × IsNextLine (lines_of script (Server server)) steps n line ×
-        (line.deed ≡ Restarts))
+    (line.deed ≡ Restarts))
     → server_cause s.cause ≡ true → s.wrote ≡ None → passes (server_tests server past s) ≡ true
     → ServerMeets script start server steps past s
 unfolding is_word gone_right sends_words is_to sends_to is_gone is_restart is_taken gives_gone gives_number gone_only
@@ -566,13 +640,13 @@ server_meets script start server steps past s applies restarts cause wrote e =
   where
     decide : AllTrue (server_tests server past s)
         → MayDecideAll server (kept_through s.cause (by_cause s.applied) (kept start server steps)) past
-            (after_cause s.cause past) s (decisions s.applied)
+        (after_cause s.cause past) s (decisions s.applied)
     decide (_, (_, (_, (_, (_, (_, (_, (_, (_, (_, (_, (none_, _)))))))))))) =
         none_decide server (kept_through s.cause (by_cause s.applied) (kept start server steps)) past
-            (after_cause s.cause past) s (decisions s.applied) none_
+        (after_cause s.cause past) s (decisions s.applied) none_
 
     send : AllTrue (server_tests server past s)
         → MaySendEach server (kept_through s.cause s.applied (kept start server steps)) s s.sent (admitted_by s past)
     send (_, (_, (_, (_, (_, (_, (_, (_, (words_, _))))))))) =
         words_send server (kept_through s.cause s.applied (kept start server steps)) s s.sent
-            (admitted_by s past) words_
+        (admitted_by s past) words_

@@ -89,7 +89,7 @@ gift_applied past steps first is = record {
       let body : GiveBack gift ≡ GiveBack g = ap (λ (y : Message). y.body) m ∙ x.0.1.0.5 in
       let give : gift ≡ g = cc in
       subst (λ (y : HostId × Give). by_cause stores.applied ≡ stored_of (tree_at steps) y.0 y.1 ++ ended_by y.0 y.1)
-          (λ i. (host i, give i)) is;
+      (λ i. (host i, give i)) is;
   down = λ h x.
       absurd (let m = message_is stores (to_server 1 (GiveBack gift)) x.0.0 refl x.0.1 in
       let body : GiveBack gift ≡ Down = ap (λ (y : Message). y.body) m ∙ x.0.3 in cc);
@@ -122,8 +122,15 @@ unfolding home tree_given stores_none applies_none is_bye is_down no_asked is_la
     sends_to is_gone is_restart is_taken gives_gone gives_number gone_only bye_only restarted_only tells_restart
     tells_again server_cause is_plain comes_right server_tests
 first_gift = (
-  (0, ((to_server 1 (GiveBack gift), refl, refl, refl, refl, refl), live_yes
-      (past_of served) client refl), here_yes site_one (past_of served) gift.fid.fileset 0 refl),
+  (
+    0,
+    (
+      (to_server 1 (GiveBack gift), refl, refl, refl, refl, refl),
+      live_yes
+          (past_of served) client refl,
+    ),
+    here_yes site_one (past_of served) gift.fid.fileset 0 refl,
+  ),
   λ x. let p = applied_is site_one (past_of served) client (number_of gift) x in cc,
 )
 
@@ -169,7 +176,7 @@ unfolding home tree_given stores_none applies_none is_bye is_down no_asked is_la
 returned_lapse = server_meets writing file_tree site_one (hears_returned ∷ stores ∷ served) (past_of (hears_returned
     ∷ stores ∷ served)) (server_lapses [])
     (none_applied (tree_at (hears_returned ∷ stores ∷ served)) (past_of (hears_returned ∷ stores ∷ served))
-        (server_lapses []) refl refl refl refl)
+    (server_lapses []) refl refl refl refl)
     (λ n c. absurd (let p = c in cc)) refl refl refl
 
 pub down_meets : ServerMeets writing file_tree site_one (served) (past_of (served)) (hears_down)
@@ -192,7 +199,7 @@ unfolding home tree_given stores_none applies_none is_bye is_down no_asked is_la
 down_lapse = server_meets writing file_tree site_one (hears_down ∷ served) (past_of (hears_down ∷ served))
     (server_lapses [])
     (none_applied (tree_at (hears_down ∷ served)) (past_of (hears_down ∷ served))
-        (server_lapses []) refl refl refl refl)
+    (server_lapses []) refl refl refl refl)
     (λ n c. absurd (let p = c in cc)) refl refl refl
 
 pub bye_meets : ServerMeets writing file_tree site_one (hears_returned ∷ stores ∷ served) (past_of (hears_returned
@@ -205,7 +212,7 @@ unfolding home tree_given stores_none applies_none is_bye is_down no_asked is_la
 bye_meets = server_meets writing file_tree site_one (hears_returned ∷ stores ∷ served) (past_of (hears_returned
     ∷ stores ∷ served)) (answers_bye)
     (none_applied (tree_at (hears_returned ∷ stores ∷ served)) (past_of (hears_returned ∷ stores
-        ∷ served)) answers_bye refl refl refl refl)
+    ∷ served)) answers_bye refl refl refl refl)
     (λ n c. absurd (let p = c in cc)) refl refl refl
 
 pub bye_lapse : ServerMeets writing file_tree site_one (answers_bye ∷ hears_returned ∷ stores ∷ served) (past_of
@@ -218,7 +225,7 @@ unfolding home tree_given stores_none applies_none is_bye is_down no_asked is_la
 bye_lapse = server_meets writing file_tree site_one (answers_bye ∷ hears_returned ∷ stores ∷ served) (past_of
     (answers_bye ∷ hears_returned ∷ stores ∷ served)) (server_lapses [])
     (none_applied (tree_at (answers_bye ∷ hears_returned ∷ stores ∷ served)) (past_of (answers_bye ∷ hears_returned
-        ∷ stores ∷ served)) (server_lapses []) refl refl refl refl)
+    ∷ stores ∷ served)) (server_lapses []) refl refl refl refl)
     (λ n c. absurd (let p = c in cc)) refl refl refl
 
 pub restarts_meets : ServerMeets restarting file_tree site_one (served) (past_of (served)) (restarts)
@@ -229,8 +236,14 @@ unfolding home tree_given stores_none applies_none is_bye is_down no_asked is_la
     tells_again server_cause is_plain comes_right server_tests
 restarts_meets = server_meets restarting file_tree site_one (served) (past_of (served)) (restarts)
     (none_applied (tree_at served) (past_of served) restarts refl refl refl refl)
-    (λ n c. (record { number = 8; node = Server site_one; deed = Restarts }, (refl,
-        (let p : Restart 8 ≡ Restart n = c in cc)), refl)) refl refl refl
+    (λ n c. (
+      record { number = 8; node = Server site_one; deed = Restarts },
+      (
+        refl,
+        (let p : Restart 8 ≡ Restart n = c in cc),
+      ),
+      refl,
+    )) refl refl refl
 
 pub restarts_lapse : ServerMeets restarting file_tree site_one (restarts ∷ served) (past_of (restarts ∷ served))
     (server_lapses (from_server Restarted ∷ []))
@@ -242,6 +255,5 @@ unfolding home tree_given stores_none applies_none is_bye is_down no_asked is_la
 restarts_lapse = server_meets restarting file_tree site_one (restarts ∷ served) (past_of (restarts ∷ served))
     (server_lapses (from_server Restarted ∷ []))
     (none_applied (tree_at (restarts ∷ served)) (past_of (restarts ∷ served)) (server_lapses (from_server Restarted
-        ∷ [])) refl refl refl refl)
+    ∷ [])) refl refl refl refl)
     (λ n c. absurd (let p = c in cc)) refl refl refl
-

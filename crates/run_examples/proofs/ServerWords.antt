@@ -70,8 +70,11 @@ pub down_yes : (past : List Act) (h : HostId) → down past h ≡ true → IsDow
 unfolding takes_down takes_hello down
 down_yes [] h t = absurd (cc)
 down_yes (a ∷ past) h t =
-    elim (or_cases (takes_down h a) (down past h) t) [ inl p ↦ inl (down_heard h a p) | inr p ↦ inr
-        (down_yes past h p) ]
+    elim (or_cases (takes_down h a) (down past h) t) [
+      | inl p ↦ inl (down_heard h a p)
+      | inr p ↦ inr
+          (down_yes past h p)
+    ]
 
 pub down_is : (past : List Act) (h : HostId) → IsDown past h → down past h ≡ true
 unfolding takes_down takes_hello down
@@ -88,16 +91,19 @@ listed_parts : (past : List Act) (h : HostId) → ((listed past h ≡ true) → 
 unfolding takes_down takes_hello down listed
 listed_parts [] h = (λ t. absurd (cc), λ x. elim x [ ])
 listed_parts (a ∷ past) h =
-    let r = listed_parts past h in
-    (
+    let r = listed_parts past h in (
       λ t.
           elim (or_cases (takes_hello h a && (not (listed past h) && not (down past h))) (listed past h) t) [
             | inl p ↦ (
                 let q = and_parts (takes_hello h a) (not (listed past h) && not (down past h)) p in
                 let u = and_parts (not (listed past h)) (not (down past h)) q.1 in
-                inl (hello_heard h a q.0, λ x. is_not (listed past h) u.0 (r.1 x), λ x. is_not (down past h) u.1
-                    (down_is past h x))
-              )
+                inl (
+                  hello_heard h a q.0,
+                  λ x. is_not (listed past h) u.0 (r.1 x),
+                  λ x. is_not (down past h) u.1
+                      (down_is past h x),
+                )
+                )
             | inr p ↦ inr (r.0 p)
           ],
       λ x.
@@ -105,7 +111,7 @@ listed_parts (a ∷ past) h =
             | inl y ↦ or_left (takes_hello h a && (not (listed past h) && not (down past h))) (listed past h)
                 (and_from (takes_hello h a) (not (listed past h) && not (down past h)) (heard_hello h a y.0)
                 (and_from (not (listed past h)) (not (down past h)) (not_is (listed past h) (λ e. y.1 (r.0 e)))
-                    (not_is (down past h) (λ e. y.2 (down_yes past h e)))))
+                (not_is (down past h) (λ e. y.2 (down_yes past h e)))))
             | inr y ↦ or_right (takes_hello h a && (not (listed past h) && not (down past h))) (listed past h) (r.1 y)
           ],
     )
@@ -136,7 +142,7 @@ taken_bye : (h : HostId) (now n : ℕ) (a : Act) → a ≡ Took h now n Bye → 
 unfolding takes_down takes_hello down listed takes_bye
 taken_bye h now n a is =
     subst (λ x. takes_bye h now x ≡ true) (sym is) (and_from (same_host h h) (now == now) (hosts h h refl)
-        (same_is now))
+    (same_is now))
 
 unfoldable pub goes_away : List Act → Act → HostId → Bool
 goes_away past a h = takes_down h a || (takes_bye h (epoch past) a && (listed past h && not (down past h)))
@@ -150,7 +156,7 @@ away_yes_now past a h t =
           let q = and_parts (takes_bye h (epoch past) a) (listed past h && not (down past h)) p in
           let r = and_parts (listed past h) (not (down past h)) q.1 in
           inr (bye_taken h (epoch past) a q.0, listed_yes past h r.0, λ x. is_not (down past h) r.1 (down_is past h x))
-        )
+          )
     ]
 
 away_is_now : (past : List Act) (a : Act) (h : HostId) → GoesAway past a h → goes_away past a h ≡ true
@@ -161,7 +167,7 @@ away_is_now past a h (inr ((n, is), l, d)) =
     or_right (takes_down h a) (takes_bye h (epoch past) a && (listed past h && not (down past h)))
     (and_from (takes_bye h (epoch past) a) (listed past h && not (down past h)) (taken_bye h (epoch past) n a is)
     (and_from (listed past h) (not (down past h)) (listed_is past h l) (not_is (down past h) (λ e. d
-        (down_yes past h e)))))
+    (down_yes past h e)))))
 
 unfoldable pub away : List Act → HostId → Bool
 away [] h = false
@@ -171,8 +177,11 @@ pub away_yes : (past : List Act) (h : HostId) → away past h ≡ true → Away 
 unfolding takes_down takes_hello down listed takes_bye goes_away away
 away_yes [] h t = absurd (cc)
 away_yes (a ∷ past) h t =
-    elim (or_cases (goes_away past a h) (away past h) t) [ inl p ↦ inl (away_yes_now past a h p) | inr p ↦ inr
-        (away_yes past h p) ]
+    elim (or_cases (goes_away past a h) (away past h) t) [
+      | inl p ↦ inl (away_yes_now past a h p)
+      | inr p ↦ inr
+          (away_yes past h p)
+    ]
 
 pub away_is : (past : List Act) (h : HostId) → Away past h → away past h ≡ true
 unfolding takes_down takes_hello down listed takes_bye goes_away away
@@ -193,7 +202,7 @@ pub live_is : (past : List Act) (h : HostId) → IsLive past h → live past h �
 unfolding takes_down takes_hello down listed takes_bye goes_away away live
 live_is past h (l, a) =
     and_from (listed past h) (not (away past h)) (listed_is past h l) (not_is (away past h) (λ e. a
-        (away_yes past h e)))
+    (away_yes past h e)))
 
 -- the hosts that were heard
 unfoldable pub heard_from : Act → List HostId
@@ -238,7 +247,7 @@ unfoldable pub reclaimed : List Act → HostId → Bool
 reclaimed [] h = false
 reclaimed (a ∷ past) h =
     (admits_host h a || (takes_hello h a && (not (listed past h) && not (down past h)))) || (reclaimed past h && not
-        (begins a))
+    (begins a))
 
 pub reclaimed_yes : (past : List Act) (h : HostId) → reclaimed past h ≡ true → HasReclaimed past h
 unfolding takes_down takes_hello down listed takes_bye goes_away away live heard_from heard begins admits_host reclaimed
@@ -252,12 +261,18 @@ reclaimed_yes (a ∷ past) h t =
             | inr q ↦ (
                 let r = and_parts (takes_hello h a) (not (listed past h) && not (down past h)) q in
                 let u = and_parts (not (listed past h)) (not (down past h)) r.1 in
-                inl (inr (hello_heard h a r.0, λ x. is_not (listed past h) u.0 (listed_is past h x), λ x. is_not
-                    (down past h) u.1 (down_is past h x)))
-              )
+                inl (inr (
+                  hello_heard h a r.0,
+                  λ x. is_not (listed past h) u.0 (listed_is past h x),
+                  λ x. is_not
+                      (down past h) u.1 (down_is past h x),
+                ))
+                )
           ]
-      | inr p ↦ (let q = and_parts (reclaimed past h) (not (begins a)) p in inr (reclaimed_yes past h q.0,
-          λ x. is_not (begins a) q.1 (begin_is a x)))
+      | inr p ↦ (let q = and_parts (reclaimed past h) (not (begins a)) p in inr (
+        reclaimed_yes past h q.0,
+        λ x. is_not (begins a) q.1 (begin_is a x),
+      ))
     ]
 
 pub reclaimed_is : (past : List Act) (h : HostId) → HasReclaimed past h → reclaimed past h ≡ true
@@ -271,13 +286,13 @@ reclaimed_is (a ∷ past) h (inl x) =
       | inr y ↦ or_right (admits_host h a) n
           (and_from (takes_hello h a) (not (listed past h) && not (down past h)) (heard_hello h a y.0)
           (and_from (not (listed past h)) (not (down past h)) (not_is (listed past h) (λ e. y.1
-              (listed_yes past h e))) (not_is (down past h) (λ e. y.2 (down_yes past h e)))))
+          (listed_yes past h e))) (not_is (down past h) (λ e. y.2 (down_yes past h e)))))
     ])
 reclaimed_is (a ∷ past) h (inr x) =
     or_right (admits_host h a || (takes_hello h a && (not (listed past h) && not (down past h))))
-        (reclaimed past h && not (begins a))
+    (reclaimed past h && not (begins a))
     (and_from (reclaimed past h) (not (begins a)) (reclaimed_is past h x.0) (not_is (begins a) (λ e. x.1
-        (begin_yes a e))))
+    (begin_yes a e))))
 
 -- give-backs that were taken, in whatever epoch
 unfoldable pub here : ServerId → FilesetId → ℕ → Bool
@@ -318,9 +333,20 @@ give_taken server past h number (Took host e n (GiveBack g)) t =
     let w = and_parts (same_fileset g.fid.fileset number.fileset) (nat_le number.number g.number) p.1 in
     let f = fileset_is g.fid.fileset number.fileset w.0 in
     let hh = host_is host h r.0 in
-    let ee = eqb-true e (epoch past) r.1 in
-    (g, (n, subst (λ x. Here server past x n) f (here_yes server past g.fid.fileset n u.1), ((λ i. Took (hh i)
-        (ee i) n (GiveBack g)), live_yes past h u.0)), f, leb-true number.number g.number w.1)
+    let ee = eqb-true e (epoch past) r.1 in (
+      g,
+      (
+        n,
+        subst (λ x. Here server past x n) f (here_yes server past g.fid.fileset n u.1),
+        (
+          (λ i. Took (hh i)
+              (ee i) n (GiveBack g)),
+          live_yes past h u.0,
+        ),
+      ),
+      f,
+      leb-true number.number g.number w.1,
+    )
 give_taken server past h number a t = absurd (cc)
 
 pub applied_yes : (server : ServerId) (past : List Act) (h : HostId) (number : AppliedGive)
@@ -341,7 +367,7 @@ unfolding takes_down takes_hello down listed takes_bye goes_away away live heard
     reclaimed here takes_give applied
 here_is server fs n e =
     and_from (same_server (home fs) server) (n == 0) (servers (home fs) server (ap (λ (x : Place). x.server) e))
-        (eq-eqb n 0 (sym (ap (λ (x : Place). x.moves) e)))
+    (eq-eqb n 0 (sym (ap (λ (x : Place). x.moves) e)))
 
 taken_give : (server : ServerId) (past : List Act) (h : HostId) (number : AppliedGive) (a : Act) (g : Give)
     → TakesOf server past a h number.fileset (GiveBack g) → g.fid.fileset ≡ number.fileset → number.number ≤ g.number
@@ -351,13 +377,13 @@ unfolding takes_down takes_hello down listed takes_bye goes_away away live heard
 taken_give server past h number a g (n, at, (is, l)) f k =
     subst (λ x. takes_give server past h number x ≡ true) (sym is)
     (and_from ((same_host h h && (epoch past == epoch past)) && (live past h && here server g.fid.fileset n))
-        (same_fileset g.fid.fileset number.fileset && nat_le number.number g.number)
+    (same_fileset g.fid.fileset number.fileset && nat_le number.number g.number)
     (and_from (same_host h h && (epoch past == epoch past)) (live past h && here server g.fid.fileset n) (and_from
-        (same_host h h) (epoch past == epoch past) (hosts h h refl) (same_is (epoch past)))
+    (same_host h h) (epoch past == epoch past) (hosts h h refl) (same_is (epoch past)))
     (and_from (live past h) (here server g.fid.fileset n) (live_is past h l) (here_is server g.fid.fileset n (subst
-        (λ x. Here server past x n) (sym f) at))))
+    (λ x. Here server past x n) (sym f) at))))
     (and_from (same_fileset g.fid.fileset number.fileset) (nat_le number.number g.number)
-        (filesets g.fid.fileset number.fileset f) (le-leb number.number g.number k)))
+    (filesets g.fid.fileset number.fileset f) (le-leb number.number g.number k)))
 
 pub applied_is : (server : ServerId) (past : List Act) (h : HostId) (number : AppliedGive)
     → Applied server past h number
@@ -367,7 +393,7 @@ unfolding takes_down takes_hello down listed takes_bye goes_away away live heard
 applied_is server [] h number x = elim x [ ]
 applied_is server (a ∷ past) h number (inl (g, x, f, k)) =
     or_left (takes_give server past h number a) (applied server past h number)
-        (taken_give server past h number a g x f k)
+    (taken_give server past h number a g x f k)
 applied_is server (a ∷ past) h number (inr x) =
     or_right (takes_give server past h number a) (applied server past h number) (applied_is server past h number x)
 
@@ -384,17 +410,30 @@ unfolding takes_down takes_hello down listed takes_bye goes_away away live heard
     reclaimed here takes_give applied decides
 decides_yes h (Sent host e n (Grant g)) (Asks f) t =
     let p = and_parts (same_host host h) (same_fileset g.bring.fid.fileset f.fid.fileset &&
-        (g.bring.number == f.number)) t in
+    (g.bring.number == f.number)) t in
     let q = and_parts (same_fileset g.bring.fid.fileset f.fid.fileset) (g.bring.number == f.number) p.1 in
-    let hh = host_is host h p.0 in
-    (e, n, g, (λ i. Sent (hh i) e n (Grant g)), fileset_is g.bring.fid.fileset f.fid.fileset q.0, eqb-true
-        g.bring.number f.number q.1)
+    let hh = host_is host h p.0 in (
+      e,
+      n,
+      g,
+      (λ i. Sent (hh i) e n (Grant g)),
+      fileset_is g.bring.fid.fileset f.fid.fileset q.0,
+      eqb-true
+          g.bring.number f.number q.1,
+    )
 decides_yes h (Sent host e n (Done d)) (Changes c) t =
     let p = and_parts (same_host host h) (same_fileset d.fileset c.fileset && (d.bring.number == c.number)) t in
     let q = and_parts (same_fileset d.fileset c.fileset) (d.bring.number == c.number) p.1 in
     let hh = host_is host h p.0 in
-    inr (e, n, d, (λ i. Sent (hh i) e n (Done d)), fileset_is d.fileset c.fileset q.0, eqb-true d.bring.number
-        c.number q.1)
+    inr (
+      e,
+      n,
+      d,
+      (λ i. Sent (hh i) e n (Done d)),
+      fileset_is d.fileset c.fileset q.0,
+      eqb-true d.bring.number
+          c.number q.1,
+    )
 decides_yes h a r t = absurd (cc)
 
 unfoldable pub wanted_by : Act → List Wanted
@@ -414,8 +453,11 @@ unfolding takes_down takes_hello down listed takes_bye goes_away away live heard
 unwants_yes past a w t =
     elim (or_cases (decides w.host a w.request) (goes_away past a w.host || begins a) t) [
       | inl p ↦ inl (decides_yes w.host a w.request p)
-      | inr p ↦ inr (inr (elim (or_cases (goes_away past a w.host) (begins a) p) [ inl q ↦ inl
-          (away_yes_now past a w.host q) | inr q ↦ inr (begin_yes a q) ]))
+      | inr p ↦ inr (inr (elim (or_cases (goes_away past a w.host) (begins a) p) [
+        | inl q ↦ inl
+            (away_yes_now past a w.host q)
+        | inr q ↦ inr (begin_yes a q)
+      ]))
     ]
 
 pub waits_in : (past : List Act) (w : Wanted) → Waits past w → In w (waiting past)
@@ -424,11 +466,11 @@ unfolding takes_down takes_hello down listed takes_bye goes_away away live heard
 waits_in [] w x = elim x [ ]
 waits_in (a ∷ past) w (inl e) =
     in_front w (wanted_by a) (filter (λ w. not (unwants past a w)) (waiting past)) (subst (λ y. In w (wanted_by y))
-        (sym e) (inl refl))
+    (sym e) (inl refl))
 waits_in (a ∷ past) w (inr x) =
     in_back w (wanted_by a) (filter (λ w. not (unwants past a w)) (waiting past))
     (in_filter (λ w. not (unwants past a w)) (waiting past) w (waits_in past w x.0) (not_is (unwants past a w)
-        (λ e. x.1 (unwants_yes past a w e))))
+    (λ e. x.1 (unwants_yes past a w e))))
 
 -- no claim was taken in this epoch
 unfoldable pub claims : Act → Bool
@@ -447,6 +489,9 @@ no_claim (a ∷ past) h n claim t x =
     let p = and_parts (not (claims a)) (begins a || claimless past) t in
     elim x [
       | inl y ↦ is_not (claims a) p.0 (subst (λ z. claims z ≡ true) (sym y.0) refl)
-      | inr y ↦ (elim (or_cases (begins a) (claimless past) p.1) [ inl q ↦ y.1
-          (begin_yes a q) | inr q ↦ no_claim past h n claim q y.0 ])
+      | inr y ↦ (elim (or_cases (begins a) (claimless past) p.1) [
+        | inl q ↦ y.1
+            (begin_yes a q)
+        | inr q ↦ no_claim past h n claim q y.0
+      ])
     ]

@@ -95,8 +95,13 @@ is_opening host u k o e i = elim i [ ]
 opening_is : (host : HostId) (u : Labelled) (o : OpenUse) → IsOpening host o u → In o (opening_by host u u.token.kind)
 unfolding labels lock_by opening_by locks_of opens_of
 opening_is host u o (h, l, f, k) =
-    subst (λ x. In o (opening_by host u x)) (sym k) (inl (λ i. record { host = h i; label = l i; fid = f i; kind =
-        o.kind }))
+    subst (λ x. In o (opening_by host u x)) (sym k) (inl (λ i. record {
+      host = h i;
+      label = l i;
+      fid = f i;
+      kind =
+          o.kind;
+    }))
 
 unfoldable pub needs_server : List Step → Step → Labelled → Bool
 needs_server past s u = frees past u || is_ending past s u
@@ -104,8 +109,11 @@ needs_server past s u = frees past u || is_ending past s u
 needs_yes : (past : List Step) (s : Step) (u : Labelled) → needs_server past s u ≡ true → NeedsServer past s u
 unfolding labels lock_by opening_by locks_of opens_of needs_server
 needs_yes past s u e =
-    elim (or_cases (frees past u) (is_ending past s u) e) [ inl p ↦ inl (frees_yes past u p) | inr p ↦ inr
-        (ending_yes past s u p) ]
+    elim (or_cases (frees past u) (is_ending past s u) e) [
+      | inl p ↦ inl (frees_yes past u p)
+      | inr p ↦ inr
+          (ending_yes past s u p)
+    ]
 
 needs_is : (past : List Step) (s : Step) (u : Labelled) → NeedsServer past s u → needs_server past s u ≡ true
 unfolding labels lock_by opening_by locks_of opens_of needs_server
@@ -231,8 +239,7 @@ unfolding labels lock_by opening_by locks_of opens_of needs_server is_lock_kind 
     leads seen_in one_id each_one_id
 once_from alike [] same e = tt
 once_from alike (x ∷ xs) same e =
-    let p = and_parts (list_all (λ y. not (alike x y) && not (alike y x)) xs) (apart alike xs) e in
-    (
+    let p = and_parts (list_all (λ y. not (alike x y) && not (alike y x)) xs) (apart alike xs) e in (
       λ m. let q = and_parts (not (alike x x)) (not (alike x x)) (at_all (λ y. not (alike x y) && not
           (alike y x)) xs x p.0 m) in
           is_not (alike x x) q.0 (same x),
@@ -274,16 +281,24 @@ knows_of site host past s e =
       opens_once = once_from same_open (opens_of host past s) (λ x. names x.label x.label refl) t.1.1.0;
       gives_lock = λ label. (
         λ e. let p = gives_yes is_lock_kind past s label e in
-            let k = lock_kind p.0.token.kind p.2 in
-            (record { host = host; label = p.0.label; fid = p.0.token.fid; writing = k.0; span = k.1 }, p.0, p.1,
-                (refl, refl, refl, k.2), p.3),
+            let k = lock_kind p.0.token.kind p.2 in (
+              record { host = host; label = p.0.label; fid = p.0.token.fid; writing = k.0; span = k.1 },
+              p.0,
+              p.1,
+              (refl, refl, refl, k.2),
+              p.3,
+            ),
         λ x. gives_is is_lock_kind past s label x.1 x.2 (subst (λ k. is_lock_kind k ≡ true) (sym x.3.3) refl) x.4,
       );
       gives_open = λ label. (
         λ e. let p = gives_yes is_open_kind past s label e in
-            let k = open_kind p.0.token.kind p.2 in
-            (record { host = host; label = p.0.label; fid = p.0.token.fid; kind = k.0 }, p.0, p.1,
-                (refl, refl, refl, k.1), p.3),
+            let k = open_kind p.0.token.kind p.2 in (
+              record { host = host; label = p.0.label; fid = p.0.token.fid; kind = k.0 },
+              p.0,
+              p.1,
+              (refl, refl, refl, k.1),
+              p.3,
+            ),
         λ x. gives_is is_open_kind past s label x.1 x.2 (subst (λ k. is_open_kind k ≡ true) (sym x.3.3) refl) x.4,
       );
       clean = λ fid. (clean_yes past s fid, clean_is past s fid);
@@ -292,7 +307,7 @@ knows_of site host past s e =
         λ x.
             let m = entered_in site (s ∷ past) v name id t.0 x in
             seen_is (entered site (s ∷ past)) v name id (at_all (λ l. one_id l.id l.server l.name (entered site (s
-                ∷ past))) (entered site (s ∷ past)) (led v name id) t.1.1.1.0 m) m,
+            ∷ past))) (entered site (s ∷ past)) (led v name id) t.1.1.1.0 m) m,
       );
     }
 

@@ -120,8 +120,11 @@ pub only_one : {A : Type 0} (alike : A → A → Bool) (xs : List A) (x y : A) �
 only_one alike [] x y e m n t = elim m [ ]
 only_one alike (z ∷ zs) x y e m n t =
     elim m [
-      | inl p ↦ elim n [ inl q ↦ p ∙ sym q | inr j ↦ absurd (is_not (alike z y) (both y j).0 (subst
-          (λ v. alike v y ≡ true) p t)) ]
+      | inl p ↦ elim n [
+        | inl q ↦ p ∙ sym q
+        | inr j ↦ absurd (is_not (alike z y) (both y j).0 (subst
+            (λ v. alike v y ≡ true) p t))
+      ]
       | inr i ↦
           elim n [
             | inl q ↦ absurd (is_not (alike x z) (both x i).1 (subst (λ v. alike x v ≡ true) q t))
@@ -180,7 +183,7 @@ pub fids : (a b : Fid) → a ≡ b → same_fid a b ≡ true
 fids a b e = subst (λ (x : Fid). same_fid a x ≡ true) e
     (and_from ((a.fileset.0 == a.fileset.0) && (a.anode == a.anode)) (a.unique == a.unique)
     (and_from (a.fileset.0 == a.fileset.0) (a.anode == a.anode) (same_is a.fileset.0) (same_is a.anode))
-        (same_is a.unique))
+    (same_is a.unique))
 
 pub id_is : (a b : TokenId) → same_id a b ≡ true → a ≡ b
 id_is a b e =
@@ -285,7 +288,7 @@ same_token a b = (same_id a.id b.id && same_host a.host b.host) && (same_fid a.f
 pub token_is : (a b : Token) → same_token a b ≡ true → a ≡ b
 token_is a b e =
     let p = and_parts (same_id a.id b.id && same_host a.host b.host)
-        (same_fid a.fid b.fid && same_kind a.kind b.kind) e in
+    (same_fid a.fid b.fid && same_kind a.kind b.kind) e in
     let q = and_parts (same_id a.id b.id) (same_host a.host b.host) p.0 in
     let r = and_parts (same_fid a.fid b.fid) (same_kind a.kind b.kind) p.1 in
     let i = id_is a.id b.id q.0 in
@@ -405,16 +408,16 @@ ends_is (Some a) None e = absurd (cc)
 abbrev pub same_give : Give → Give → Bool
 same_give a b =
     ((a.number == b.number) && same_fid a.fid b.fid) && (same_list same_id a.ids b.ids && same_list same_piece
-        a.pieces b.pieces)
+    a.pieces b.pieces)
     && (same_length a.length b.length && same_ends a.ends b.ends)
 
 pub give_is : (a b : Give) → same_give a b ≡ true → a ≡ b
 give_is a b e =
     let p = and_parts (((a.number == b.number) && same_fid a.fid b.fid) &&
-        (same_list same_id a.ids b.ids && same_list same_piece a.pieces b.pieces))
-        (same_length a.length b.length && same_ends a.ends b.ends) e in
+    (same_list same_id a.ids b.ids && same_list same_piece a.pieces b.pieces))
+    (same_length a.length b.length && same_ends a.ends b.ends) e in
     let q = and_parts ((a.number == b.number) && same_fid a.fid b.fid)
-        (same_list same_id a.ids b.ids && same_list same_piece a.pieces b.pieces) p.0 in
+    (same_list same_id a.ids b.ids && same_list same_piece a.pieces b.pieces) p.0 in
     let r = and_parts (a.number == b.number) (same_fid a.fid b.fid) q.0 in
     let s = and_parts (same_list same_id a.ids b.ids) (same_list same_piece a.pieces b.pieces) q.1 in
     let t = and_parts (same_length a.length b.length) (same_ends a.ends b.ends) p.1 in

@@ -93,8 +93,11 @@ pub in_said : (past : List Step) (m : Message) → In m (said past) → Said pas
 unfolding said
 in_said [] m i = elim i [ ]
 in_said (s ∷ past) m i =
-    elim (in_split m s.sent (said past) i) [ inl p ↦ inl (m, p, refl, refl, refl, refl) | inr q ↦ inr
-        (in_said past m q) ]
+    elim (in_split m s.sent (said past) i) [
+      | inl p ↦ inl (m, p, refl, refl, refl, refl)
+      | inr q ↦ inr
+          (in_said past m q)
+    ]
 
 -- of the fileset's server, epoch and stay
 unfoldable pub is_about : List Step → Message → FilesetId → Bool
@@ -107,25 +110,31 @@ pub about : (past : List Step) (s : Step) (m : Message) (fileset : FilesetId) (b
 unfolding said is_about
 about past s m fileset b c is e =
     let p = and_parts (same_server m.server (place past fileset).server) ((m.epoch == epoch_at past
-        (place past fileset).server) && (m.moves == (place past fileset).moves)) e in
+    (place past fileset).server) && (m.moves == (place past fileset).moves)) e in
     let q = and_parts (m.epoch == epoch_at past (place past fileset).server) (m.moves ==
-        (place past fileset).moves) p.1 in
-    (m, c, server_is m.server (place past fileset).server p.0, eqb-true m.epoch (epoch_at past
-        (place past fileset).server) q.0, eqb-true m.moves (place past fileset).moves q.1, is)
+    (place past fileset).moves) p.1 in (
+      m,
+      c,
+      server_is m.server (place past fileset).server p.0,
+      eqb-true m.epoch (epoch_at past
+          (place past fileset).server) q.0,
+      eqb-true m.moves (place past fileset).moves q.1,
+      is,
+    )
 
 -- what comes about a fileset is about it
 is_about_it : (past : List Step) (m : Message) (fileset : FilesetId) (b : Body)
     → is_about past (told m (place past fileset).server (epoch_at past (place past fileset).server)
-        (place past fileset).moves b) fileset ≡ true
+    (place past fileset).moves b) fileset ≡ true
 unfolding said is_about
 is_about_it past m fileset b =
     and_from (same_server (place past fileset).server (place past fileset).server) ((epoch_at past
-        (place past fileset).server == epoch_at past (place past fileset).server) && ((place past fileset).moves ==
-        (place past fileset).moves))
+    (place past fileset).server == epoch_at past (place past fileset).server) && ((place past fileset).moves ==
+    (place past fileset).moves))
     (servers (place past fileset).server (place past fileset).server refl)
     (and_from (epoch_at past (place past fileset).server == epoch_at past (place past fileset).server)
-        ((place past fileset).moves == (place past fileset).moves) (same_is (epoch_at past
-        (place past fileset).server)) (same_is (place past fileset).moves))
+    ((place past fileset).moves == (place past fileset).moves) (same_is (epoch_at past
+    (place past fileset).server)) (same_is (place past fileset).moves))
 
 abbrev about_is : (past : List Step) (s : Step) (fileset : FilesetId) (b : Body) → About past s fileset b → Message
 about_is past s fileset b c = told c.0 (place past fileset).server (epoch_at past (place past fileset).server)
@@ -155,11 +164,11 @@ unfolding said is_about is_present learnt_by learnt
 learns_in past s number (inl c) =
     subst (λ x. In number (learnt past x)) (sym (about_cause past s number.fileset (Gone number) c))
     (in_if (is_about past (about_is past s number.fileset (Gone number) c) number.fileset) number (number ∷ [])
-        (is_about_it past c.0 number.fileset (Gone number)) (inl refl))
+    (is_about_it past c.0 number.fileset (Gone number)) (inl refl))
 learns_in past s number (inr (v, answer, c, i)) =
     subst (λ x. In number (learnt past x)) (sym (cause_is s v (epoch_at past v) 0 (Reclaimed answer) c))
     (in_if (is_present past (told c.0 v (epoch_at past v) 0 (Reclaimed answer))) number answer.applied (and_from
-        (epoch_at past v == epoch_at past v) (0 == 0) (same_is (epoch_at past v)) refl) i)
+    (epoch_at past v == epoch_at past v) (0 == 0) (same_is (epoch_at past v)) refl) i)
 
 learns_by : (past : List Step) (s : Step) (number : AppliedGive) (m : Message) (b : Body) → s.cause ≡ Came m
     → m.body ≡ b
@@ -167,8 +176,11 @@ learns_by : (past : List Step) (s : Step) (number : AppliedGive) (m : Message) (
 unfolding said is_about is_present learnt_by learnt
 learns_by past s number m (Gone other) c is i =
     let p = if_in (is_about past m other.fileset) number (other ∷ []) i in
-    elim p.1 [ inl q ↦ inl (subst (λ (x : AppliedGive). About past s x.fileset (Gone x)) (sym q)
-        (about past s m other.fileset (Gone other) c is p.0)) | inr q ↦ elim q [ ] ]
+    elim p.1 [
+      | inl q ↦ inl (subst (λ (x : AppliedGive). About past s x.fileset (Gone x)) (sym q)
+          (about past s m other.fileset (Gone other) c is p.0))
+      | inr q ↦ elim q [ ]
+    ]
 learns_by past s number m (Reclaimed answer) c is i =
     let p = if_in (is_present past m) number answer.applied i in
     let q = and_parts (m.epoch == epoch_at past m.server) (m.moves == 0) p.0 in
@@ -195,8 +207,11 @@ in_known : (past : List Step) (number : AppliedGive) → In number (known past) 
 unfolding said is_about is_present learnt_by learnt known
 in_known [] number i = elim i [ ]
 in_known (s ∷ past) number i =
-    elim (in_split number (learnt past s.cause) (known past) i) [ inl p ↦ inl
-        (in_learns past s number s.cause refl p) | inr q ↦ inr (in_known past number q) ]
+    elim (in_split number (learnt past s.cause) (known past) i) [
+      | inl p ↦ inl
+          (in_learns past s number s.cause refl p)
+      | inr q ↦ inr (in_known past number q)
+    ]
 
 unfoldable pub is_known : List Step → AppliedGive → Bool
 is_known past number = list_any (same_number number) (known past)
@@ -234,10 +249,10 @@ unfolding said is_about is_present learnt_by learnt known is_known drops_it held
 held_in [] t h = elim h [ ]
 held_in (s ∷ past) t (inl m, kept) =
     in_filter (λ u. not (drops_it s u)) (s.taken ++ held past) t (in_front t s.taken (held past) m) (not_is
-        (drops_it s t) (λ e. kept (drops_yes s t e)))
+    (drops_it s t) (λ e. kept (drops_yes s t e)))
 held_in (s ∷ past) t (inr h, kept) =
     in_filter (λ u. not (drops_it s u)) (s.taken ++ held past) t (in_back t s.taken (held past) (held_in past t h))
-        (not_is (drops_it s t) (λ e. kept (drops_yes s t e)))
+    (not_is (drops_it s t) (λ e. kept (drops_yes s t e)))
 
 pub in_held : (past : List Step) (t : Token) → In t (held past) → Held past t
 unfolding said is_about is_present learnt_by learnt known is_known drops_it held
@@ -343,10 +358,10 @@ unfolding said is_about is_present learnt_by learnt known is_known drops_it held
     given gives_it leaves_it
 leaves_is s id (inl m) =
     any_of (same_id id) (given s ++ returned s) id (in_front id (given s) (returned s) (given_in s id m))
-        (ids id id refl)
+    (ids id id refl)
 leaves_is s id (inr r) =
     any_of (same_id id) (given s ++ returned s) id (in_back id (given s) (returned s) (returned_in s id r))
-        (ids id id refl)
+    (ids id id refl)
 
 unfoldable pub owned : List Step → List Token
 owned [] = []
@@ -358,10 +373,10 @@ unfolding said is_about is_present learnt_by learnt known is_known drops_it held
 owned_in [] t h = elim h [ ]
 owned_in (s ∷ past) t (inl m, kept) =
     in_filter (λ u. not (leaves_it s u.id)) (s.taken ++ owned past) t (in_front t s.taken (owned past) m) (not_is
-        (leaves_it s t.id) (λ e. kept (leaves_yes s t.id e)))
+    (leaves_it s t.id) (λ e. kept (leaves_yes s t.id e)))
 owned_in (s ∷ past) t (inr h, kept) =
     in_filter (λ u. not (leaves_it s u.id)) (s.taken ++ owned past) t (in_back t s.taken (owned past)
-        (owned_in past t h)) (not_is (leaves_it s t.id) (λ e. kept (leaves_yes s t.id e)))
+    (owned_in past t h)) (not_is (leaves_it s t.id) (λ e. kept (leaves_yes s t.id e)))
 
 pub in_owned : (past : List Step) (t : Token) → In t (owned past) → Owns past t
 unfolding said is_about is_present learnt_by learnt known is_known drops_it held holds_id ever returned_by returned
@@ -398,7 +413,7 @@ unfolding said is_about is_present learnt_by learnt known is_known drops_it held
     given gives_it leaves_it owned made none_open
 none_open_yes past fid e g m f =
     known_yes past (number_of g) (so (same_fid g.fid fid) (is_known past (number_of g)) (at_all (λ g. implies
-        (same_fid g.fid fid) (is_known past (number_of g))) (made past) g e (made_in past g m)) (fids g.fid fid f))
+    (same_fid g.fid fid) (is_known past (number_of g))) (made past) g e (made_in past g m)) (fids g.fid fid f))
 
 unfoldable pub is_waited : List Step → Give → Give → Bool
 is_waited past g k =
@@ -414,10 +429,15 @@ waits_yes past g e =
     let p = some_in (is_waited past g) (made past) e in
     let k = p.0 in
     let q = and_parts (same_fileset k.fid.fileset g.fid.fileset) (nat_lt k.number g.number && not (is_known past
-        (number_of k))) p.2 in
-    let r = and_parts (nat_lt k.number g.number) (not (is_known past (number_of k))) q.1 in
-    (k, in_made past k p.1, fileset_is k.fid.fileset g.fid.fileset q.0, ltb-true k.number g.number r.0, λ x. is_not
-        (is_known past (number_of k)) r.1 (known_is past (number_of k) x))
+    (number_of k))) p.2 in
+    let r = and_parts (nat_lt k.number g.number) (not (is_known past (number_of k))) q.1 in (
+      k,
+      in_made past k p.1,
+      fileset_is k.fid.fileset g.fid.fileset q.0,
+      ltb-true k.number g.number r.0,
+      λ x. is_not
+          (is_known past (number_of k)) r.1 (known_is past (number_of k) x),
+    )
 
 pub waits_is : (past : List Step) (g : Give) → Waits past g → waits past g ≡ true
 unfolding said is_about is_present learnt_by learnt known is_known drops_it held holds_id ever returned_by returned
@@ -425,9 +445,9 @@ unfolding said is_about is_present learnt_by learnt known is_known drops_it held
 waits_is past g w =
     any_of (is_waited past g) (made past) w.0 (made_in past w.0 w.1)
     (and_from (same_fileset w.0.fid.fileset g.fid.fileset) (nat_lt w.0.number g.number && not (is_known past
-        (number_of w.0))) (filesets w.0.fid.fileset g.fid.fileset w.2)
+    (number_of w.0))) (filesets w.0.fid.fileset g.fid.fileset w.2)
     (and_from (nat_lt w.0.number g.number) (not (is_known past (number_of w.0))) (lt-ltb w.0.number g.number w.3)
-        (not_is (is_known past (number_of w.0)) (λ e. w.4 (known_yes past (number_of w.0) e)))))
+    (not_is (is_known past (number_of w.0)) (λ e. w.4 (known_yes past (number_of w.0) e)))))
 
 unfoldable pub is_first : List Step → Give → Bool
 is_first past g = not (is_known past (number_of g)) && not (waits past g)
@@ -481,13 +501,13 @@ unfolding said is_about is_present learnt_by learnt known is_known drops_it held
     given gives_it leaves_it owned made none_open is_waited waits is_first fetched_by granted_by answered asking
 granted_of past s fs n m (Grant g) c is i =
     let p = if_in (is_about past m g.bring.fid.fileset) (numbered fs n) (numbered g.bring.fid.fileset g.bring.number
-        ∷ []) i in
+    ∷ []) i in
     elim p.1 [
       | inl q ↦ (
           let f : g.bring.fid.fileset ≡ fs = sym (ap (λ (x : AppliedGive). x.fileset) q) in
           let k : g.bring.number ≡ n = sym (ap (λ (x : AppliedGive). x.number) q) in
           (g, subst (λ x. About past s x (Grant g)) f (about past s m g.bring.fid.fileset (Grant g) c is p.0), f, k)
-        )
+          )
       | inr q ↦ elim q [ ]
     ]
 granted_of past s fs n m b c is i = elim i [ ]
@@ -506,29 +526,34 @@ unfolding said is_about is_present learnt_by learnt known is_known drops_it held
 asking_in [] fs n a = elim a [ ]
 asking_in (s ∷ past) fs n (from, unless) =
     in_filter (λ n. not (list_any (same_number n) (answered past s.cause))) (flat_map
-        (λ m. fetched_by m.body) s.sent ++ asking past) (numbered fs n)
+    (λ m. fetched_by m.body) s.sent ++ asking past) (numbered fs n)
     (elim from [
       | inl f ↦ in_front (numbered fs n) (flat_map (λ m. fetched_by m.body) s.sent) (asking past)
           (in_flat (λ m. fetched_by m.body) s.sent f.1.3.0 (numbered fs n) f.1.3.1 (subst (λ b. In (numbered fs n)
-              (fetched_by b)) (sym f.1.3.5) (inl (λ i. numbered (sym f.2 i) (sym f.3 i)))))
+          (fetched_by b)) (sym f.1.3.5) (inl (λ i. numbered (sym f.2 i) (sym f.3 i)))))
       | inr a ↦ in_back (numbered fs n) (flat_map (λ m. fetched_by m.body) s.sent) (asking past) (asking_in past fs n a)
     ])
     (not_is (list_any (same_number (numbered fs n)) (answered past s.cause)) (λ e.
-      let p = some_in (same_number (numbered fs n)) (answered past s.cause) e in
-      let q = answered_of past s fs n s.cause refl (subst (λ x. In x (answered past s.cause)) (sym (number_is
-          (numbered fs n) p.0 p.2)) p.1) in
-      unless q.0 q.1 q.2 q.3))
+    let p = some_in (same_number (numbered fs n)) (answered past s.cause) e in
+    let q = answered_of past s fs n s.cause refl (subst (λ x. In x (answered past s.cause)) (sym (number_is
+    (numbered fs n) p.0 p.2)) p.1) in
+    unless q.0 q.1 q.2 q.3))
 
 fetched_of : (s : Step) (fs : FilesetId) (n : ℕ) (m : Message) (b : Body) → m.body ≡ b → In m s.sent
     → In (numbered fs n) (fetched_by b)
     → (f : FetchOf) × ((v : ServerId) × (e : ℕ) × (k : ℕ) × Sends s v e k (Fetch f)) × (f.fid.fileset ≡ fs) ×
-        (f.number ≡ n)
+    (f.number ≡ n)
 unfolding said is_about is_present learnt_by learnt known is_known drops_it held holds_id ever returned_by returned
     given gives_it leaves_it owned made none_open is_waited waits is_first fetched_by granted_by answered asking
 fetched_of s fs n m (Fetch f) is i j =
     elim j [
-      | inl q ↦ (f, (m.server, m.epoch, m.moves, (m, i, refl, refl, refl, is)), sym (ap (λ
-          (x : AppliedGive). x.fileset) q), sym (ap (λ (x : AppliedGive). x.number) q))
+      | inl q ↦ (
+        f,
+        (m.server, m.epoch, m.moves, (m, i, refl, refl, refl, is)),
+        sym (ap (λ
+            (x : AppliedGive). x.fileset) q),
+        sym (ap (λ (x : AppliedGive). x.number) q),
+      )
       | inr q ↦ elim q [ ]
     ]
 fetched_of s fs n m b is i j = elim j [ ]
@@ -539,8 +564,7 @@ unfolding said is_about is_present learnt_by learnt known is_known drops_it held
 in_asking [] fs n i = elim i [ ]
 in_asking (s ∷ past) fs n i =
     let p = from_filter (λ n. not (list_any (same_number n) (answered past s.cause))) (flat_map
-        (λ m. fetched_by m.body) s.sent ++ asking past) (numbered fs n) i in
-    (
+    (λ m. fetched_by m.body) s.sent ++ asking past) (numbered fs n) i in (
       elim (in_split (numbered fs n) (flat_map (λ m. fetched_by m.body) s.sent) (asking past) p.0) [
         | inl q ↦ (let r = from_flat (λ m. fetched_by m.body) s.sent (numbered fs n) q in inl
             (fetched_of s fs n r.0 r.0.body refl r.1 r.2))
@@ -550,9 +574,9 @@ in_asking (s ∷ past) fs n i =
           (any_of (same_number (numbered fs n)) (answered past s.cause) (numbered fs n)
           (subst (λ x. In (numbered fs n) (answered past x)) (sym (about_cause past s fs (Grant g) c))
           (in_if (is_about past (about_is past s fs (Grant g) c) g.bring.fid.fileset) (numbered fs n)
-              (numbered g.bring.fid.fileset g.bring.number ∷ [])
+          (numbered g.bring.fid.fileset g.bring.number ∷ [])
           (subst (λ x. is_about past (about_is past s fs (Grant g) c) x ≡ true) (sym f) (is_about_it past c.0 fs
-              (Grant g)))
+          (Grant g)))
           (inl (λ i. numbered (sym f i) (sym k i)))))
           (numbers (numbered fs n) (numbered fs n) refl)),
     )
@@ -590,13 +614,24 @@ unfolding said is_about is_present learnt_by learnt known is_known drops_it held
     changed_by settles_it settled_by settled changing
 settles_by past s v m d c is e =
     elim (or_cases ((d.fileset.0 == 0) && (same_server m.server v && (m.epoch == epoch_at past v)))
-        (is_about past m d.fileset) e) [
+    (is_about past m d.fileset) e) [
       | inl p ↦ (
           let q = and_parts (d.fileset.0 == 0) (same_server m.server v && (m.epoch == epoch_at past v)) p in
           let r = and_parts (same_server m.server v) (m.epoch == epoch_at past v) q.1 in
-          inl (eqb-true d.fileset.0 0 q.0, m.moves, (m, c, server_is m.server v r.0, eqb-true m.epoch
-              (epoch_at past v) r.1, refl, is))
-        )
+          inl (
+            eqb-true d.fileset.0 0 q.0,
+            m.moves,
+            (
+              m,
+              c,
+              server_is m.server v r.0,
+              eqb-true m.epoch
+                  (epoch_at past v) r.1,
+              refl,
+              is,
+            ),
+          )
+          )
       | inr q ↦ inr (about past s m d.fileset (Done d) c is q)
     ]
 
@@ -610,15 +645,20 @@ unfolding said is_about is_present learnt_by learnt known is_known drops_it held
 settled_of past s v fs n m (Done d) c is i =
     let p = if_in (settles_it past v m d.fileset) (numbered fs n) (numbered d.fileset d.bring.number ∷ []) i in
     elim p.1 [
-      | inl q ↦ (d, settles_by past s v m d c is p.0, sym (ap (λ (x : AppliedGive). x.fileset) q), sym (ap (λ
-          (x : AppliedGive). x.number) q))
+      | inl q ↦ (
+        d,
+        settles_by past s v m d c is p.0,
+        sym (ap (λ (x : AppliedGive). x.fileset) q),
+        sym (ap (λ
+            (x : AppliedGive). x.number) q),
+      )
       | inr q ↦ elim q [ ]
     ]
 settled_of past s v fs n m b c is i = elim i [ ]
 
 settled_from : (past : List Step) (s : Step) (v : ServerId) (fs : FilesetId) (n : ℕ) (cause : Cause) → s.cause ≡ cause
     → In (numbered fs n) (settled past v cause) → (d : DoneOf) × Settles past s v d × (d.fileset ≡ fs) ×
-        (d.bring.number ≡ n)
+    (d.bring.number ≡ n)
 unfolding said is_about is_present learnt_by learnt known is_known drops_it held holds_id ever returned_by returned
     given gives_it leaves_it owned made none_open is_waited waits is_first fetched_by granted_by answered asking is_at
     changed_by settles_it settled_by settled changing
@@ -635,8 +675,8 @@ settles_is past s v d (inl (z, k, c)) = (
   or_left ((d.fileset.0 == 0) && (same_server v v && (epoch_at past v == epoch_at past v))) (is_about past
       (told c.0 v (epoch_at past v) k (Done d)) d.fileset)
       (and_from (d.fileset.0 == 0) (same_server v v && (epoch_at past v == epoch_at past v)) (eq-eqb d.fileset.0 0 z)
-          (and_from (same_server v v) (epoch_at past v == epoch_at past v) (servers v v refl) (same_is
-          (epoch_at past v)))),
+      (and_from (same_server v v) (epoch_at past v == epoch_at past v) (servers v v refl) (same_is
+      (epoch_at past v)))),
 )
 settles_is past s v d (inr c) = (
   about_is past s d.fileset (Done d) c,
@@ -654,23 +694,23 @@ unfolding said is_about is_present learnt_by learnt known is_known drops_it held
     changed_by settles_it settled_by settled changing
 settled_in past s v d (inl (z, k, c)) =
     subst (λ x. In (numbered d.fileset d.bring.number) (settled past v x)) (sym (cause_is s v (epoch_at past v) k
-        (Done d) c))
+    (Done d) c))
     (in_if (settles_it past v (told c.0 v (epoch_at past v) k (Done d)) d.fileset)
-        (numbered d.fileset d.bring.number) (numbered d.fileset d.bring.number ∷ [])
+    (numbered d.fileset d.bring.number) (numbered d.fileset d.bring.number ∷ [])
     (or_left ((d.fileset.0 == 0) && (same_server v v && (epoch_at past v == epoch_at past v))) (is_about past
-        (told c.0 v (epoch_at past v) k (Done d)) d.fileset)
+    (told c.0 v (epoch_at past v) k (Done d)) d.fileset)
     (and_from (d.fileset.0 == 0) (same_server v v && (epoch_at past v == epoch_at past v)) (eq-eqb d.fileset.0 0 z)
-        (and_from (same_server v v) (epoch_at past v == epoch_at past v) (servers v v refl) (same_is
-        (epoch_at past v)))))
+    (and_from (same_server v v) (epoch_at past v == epoch_at past v) (servers v v refl) (same_is
+    (epoch_at past v)))))
     (inl refl))
 settled_in past s v d (inr c) =
     subst (λ x. In (numbered d.fileset d.bring.number) (settled past v x)) (sym (about_cause past s d.fileset
-        (Done d) c))
+    (Done d) c))
     (in_if (settles_it past v (about_is past s d.fileset (Done d) c) d.fileset) (numbered d.fileset d.bring.number)
-        (numbered d.fileset d.bring.number ∷ [])
+    (numbered d.fileset d.bring.number ∷ [])
     (or_right ((d.fileset.0 == 0) && (same_server (place past d.fileset).server v && (epoch_at past
-        (place past d.fileset).server == epoch_at past v))) (is_about past (about_is past s d.fileset
-        (Done d) c) d.fileset) (is_about_it past c.0 d.fileset (Done d)))
+    (place past d.fileset).server == epoch_at past v))) (is_about past (about_is past s d.fileset
+    (Done d) c) d.fileset) (is_about_it past c.0 d.fileset (Done d)))
     (inl refl))
 
 at_if : (v to : ServerId) (m : Message) (fs : FilesetId) → m.server ≡ to → (fs.0 ≡ 0 → to ≡ v) → is_at v m fs ≡ true
@@ -697,7 +737,7 @@ unfolding said is_about is_present learnt_by learnt known is_known drops_it held
 changing_in [] v fs n a = elim a [ ]
 changing_in (s ∷ past) v fs n (from, unless) =
     in_filter (λ n. not (list_any (same_number n) (settled past v s.cause))) (flat_map
-        (λ m. changed_by v m m.body) s.sent ++ changing v past) (numbered fs n)
+    (λ m. changed_by v m m.body) s.sent ++ changing v past) (numbered fs n)
     (elim from [
       | inl c ↦ (
           let m = c.1.3.0 in
@@ -706,16 +746,16 @@ changing_in (s ∷ past) v fs n (from, unless) =
           (in_flat (λ m. changed_by v m m.body) s.sent m (numbered fs n) c.1.3.1
           (subst (λ b. In (numbered fs n) (changed_by v m b)) (sym is)
           (in_if (is_at v m c.0.fileset) (numbered fs n) (numbered c.0.fileset c.0.number ∷ [])
-              (at_if v c.1.0 m c.0.fileset c.1.3.2 c.1.4) (inl (λ i. numbered (sym c.2 i) (sym c.3 i))))))
-        )
+          (at_if v c.1.0 m c.0.fileset c.1.3.2 c.1.4) (inl (λ i. numbered (sym c.2 i) (sym c.3 i))))))
+          )
       | inr a ↦ in_back (numbered fs n) (flat_map (λ m. changed_by v m m.body) s.sent) (changing v past)
           (changing_in past v fs n a)
     ])
     (not_is (list_any (same_number (numbered fs n)) (settled past v s.cause)) (λ e.
-      let p = some_in (same_number (numbered fs n)) (settled past v s.cause) e in
-      let q = settled_from past s v fs n s.cause refl (subst (λ x. In x (settled past v s.cause)) (sym (number_is
-          (numbered fs n) p.0 p.2)) p.1) in
-      unless q.0 q.1 q.2 q.3))
+    let p = some_in (same_number (numbered fs n)) (settled past v s.cause) e in
+    let q = settled_from past s v fs n s.cause refl (subst (λ x. In x (settled past v s.cause)) (sym (number_is
+    (numbered fs n) p.0 p.2)) p.1) in
+    unless q.0 q.1 q.2 q.3))
 
 changed_of : (s : Step) (v : ServerId) (fs : FilesetId) (n : ℕ) (m : Message) (b : Body) → m.body ≡ b → In m s.sent
     → In (numbered fs n) (changed_by v m b)
@@ -727,8 +767,13 @@ unfolding said is_about is_present learnt_by learnt known is_known drops_it held
 changed_of s v fs n m (Change c) is i j =
     let p = if_in (is_at v m c.fileset) (numbered fs n) (numbered c.fileset c.number ∷ []) j in
     elim p.1 [
-      | inl q ↦ (c, (m.server, m.epoch, m.moves, (m, i, refl, refl, refl, is), if_at v m c.fileset p.0), sym (ap (λ
-          (x : AppliedGive). x.fileset) q), sym (ap (λ (x : AppliedGive). x.number) q))
+      | inl q ↦ (
+        c,
+        (m.server, m.epoch, m.moves, (m, i, refl, refl, refl, is), if_at v m c.fileset p.0),
+        sym (ap (λ
+            (x : AppliedGive). x.fileset) q),
+        sym (ap (λ (x : AppliedGive). x.number) q),
+      )
       | inr q ↦ elim q [ ]
     ]
 changed_of s v fs n m b is i j = elim j [ ]
@@ -741,8 +786,7 @@ unfolding said is_about is_present learnt_by learnt known is_known drops_it held
 in_changing [] v fs n i = elim i [ ]
 in_changing (s ∷ past) v fs n i =
     let p = from_filter (λ n. not (list_any (same_number n) (settled past v s.cause))) (flat_map
-        (λ m. changed_by v m m.body) s.sent ++ changing v past) (numbered fs n) i in
-    (
+    (λ m. changed_by v m m.body) s.sent ++ changing v past) (numbered fs n) i in (
       elim (in_split (numbered fs n) (flat_map (λ m. changed_by v m m.body) s.sent) (changing v past) p.0) [
         | inl q ↦ (let r = from_flat (λ m. changed_by v m m.body) s.sent (numbered fs n) q in inl
             (changed_of s v fs n r.0 r.0.body refl r.1 r.2))
@@ -751,7 +795,7 @@ in_changing (s ∷ past) v fs n i =
       λ d x f k. is_not (list_any (same_number (numbered fs n)) (settled past v s.cause)) p.1
           (any_of (same_number (numbered fs n)) (settled past v s.cause) (numbered fs n)
           (subst (λ (x : AppliedGive). In x (settled past v s.cause)) (λ i. numbered (f i) (k i))
-              (settled_in past s v d x))
+          (settled_in past s v d x))
           (numbers (numbered fs n) (numbered fs n) refl)),
     )
 
@@ -764,18 +808,32 @@ unfolding said is_about is_present learnt_by learnt known is_known drops_it held
 moved [] v w fs n one a = elim a [ ]
 moved (s ∷ past) v w fs n one (from, unless) = (
   elim from [
-    | inl c ↦ inl (c.0, (c.1.0, c.1.1, c.1.2, c.1.3, λ z. c.1.4 z ∙ one (sym (ap (λ
-        (x : FilesetId). x.0) c.2) ∙ z)), c.2, c.3)
+    | inl c ↦ inl (
+      c.0,
+      (
+        c.1.0,
+        c.1.1,
+        c.1.2,
+        c.1.3,
+        λ z. c.1.4 z ∙ one (sym (ap (λ
+            (x : FilesetId). x.0) c.2) ∙ z),
+      ),
+      c.2,
+      c.3,
+    )
     | inr a ↦ inr (moved past v w fs n one a)
   ],
-  λ d x f k. unless d (elim x [ inl y ↦ subst (λ u. Settles past s u d) (sym (one (sym (ap (λ
-      (x : FilesetId). x.0) f) ∙ y.0))) (inl y) | inr y ↦ inr y ]) f k,
+  λ d x f k. unless d (elim x [
+    | inl y ↦ subst (λ u. Settles past s u d) (sym (one (sym (ap (λ
+        (x : FilesetId). x.0) f) ∙ y.0))) (inl y)
+    | inr y ↦ inr y
+  ]) f k,
 )
 
 -- the Change was said
 pub was_said : (past : List Step) (v : ServerId) (fs : FilesetId) (n : ℕ) → Changing past v fs n
     → (c : ChangeOf) × (to : ServerId) × (e k : ℕ) × Said past to e k (Change c) × (c.fileset ≡ fs) ×
-        (c.fileset.0 ≡ 0 → to ≡ v)
+    (c.fileset.0 ≡ 0 → to ≡ v)
 unfolding said is_about is_present learnt_by learnt known is_known drops_it held holds_id ever returned_by returned
     given gives_it leaves_it owned made none_open is_waited waits is_first fetched_by granted_by answered asking is_at
     changed_by settles_it settled_by settled changing
@@ -808,8 +866,18 @@ welcomed_of past s v m (Reclaimed answer) c is i =
     let p = if_in ((m.epoch == epoch_at (s ∷ past) m.server) && (m.moves == 0)) v (m.server ∷ []) i in
     let q = and_parts (m.epoch == epoch_at (s ∷ past) m.server) (m.moves == 0) p.0 in
     elim p.1 [
-      | inl e ↦ (answer, (m, c, sym e, eqb-true m.epoch (epoch_at (s ∷ past) m.server) q.0 ∙ ap (epoch_at (s ∷ past))
-          (sym e), eqb-true m.moves 0 q.1, is))
+      | inl e ↦ (
+        answer,
+        (
+          m,
+          c,
+          sym e,
+          eqb-true m.epoch (epoch_at (s ∷ past) m.server) q.0 ∙ ap (epoch_at (s ∷ past))
+              (sym e),
+          eqb-true m.moves 0 q.1,
+          is,
+        ),
+      )
       | inr e ↦ elim e [ ]
     ]
 welcomed_of past s v m b c is i = elim i [ ]
@@ -829,8 +897,11 @@ unfolding said is_about is_present learnt_by learnt known is_known drops_it held
     changed_by settles_it settled_by settled changing welcomed_by welcomed welcomes
 in_welcomes [] v i = elim i [ ]
 in_welcomes (s ∷ past) v i =
-    elim (in_split v (welcomed past s s.cause) (welcomes past) i) [ inl p ↦ inl
-        (welcomed_from past s v s.cause refl p) | inr q ↦ inr (in_welcomes past v q) ]
+    elim (in_split v (welcomed past s s.cause) (welcomes past) i) [
+      | inl p ↦ inl
+          (welcomed_from past s v s.cause refl p)
+      | inr q ↦ inr (in_welcomes past v q)
+    ]
 
 pub welcomes_in : (past : List Step) (v : ServerId) → IsWelcome past v → In v (welcomes past)
 unfolding said is_about is_present learnt_by learnt known is_known drops_it held holds_id ever returned_by returned
@@ -841,7 +912,7 @@ welcomes_in (s ∷ past) v (inl (answer, c)) =
     in_front v (welcomed past s s.cause) (welcomes past)
     (subst (λ x. In v (welcomed past s x)) (sym (cause_is s v (epoch_at (s ∷ past) v) 0 (Reclaimed answer) c))
     (in_if ((epoch_at (s ∷ past) v == epoch_at (s ∷ past) v) && (0 == 0)) v (v ∷ []) (and_from (epoch_at (s
-        ∷ past) v == epoch_at (s ∷ past) v) (0 == 0) (same_is (epoch_at (s ∷ past) v)) refl) (inl refl)))
+    ∷ past) v == epoch_at (s ∷ past) v) (0 == 0) (same_is (epoch_at (s ∷ past) v)) refl) (inl refl)))
 welcomes_in (s ∷ past) v (inr w) = in_back v (welcomed past s s.cause) (welcomes past) (welcomes_in past v w)
 
 unfoldable pub is_welcome : List Step → ServerId → Bool
@@ -913,7 +984,7 @@ unfolding said is_about is_present learnt_by learnt known is_known drops_it held
 has_kept_is [] id k = elim k [ ]
 has_kept_is (s ∷ past) id (inl k) =
     or_left (list_any (same_id id) (kept_now s)) (has_kept past id) (any_of (same_id id) (kept_now s) id
-        (kept_in s id k) (ids id id refl))
+    (kept_in s id k) (ids id id refl))
 has_kept_is (s ∷ past) id (inr k) =
     or_right (list_any (same_id id) (kept_now s)) (has_kept past id) (has_kept_is past id k)
 
@@ -941,12 +1012,15 @@ unfolding said is_about is_present learnt_by learnt known is_known drops_it held
 above_yes [] fid stamp e = ltb-true 0 stamp e
 above_yes (s ∷ past) fid stamp e =
     elim (or_cases (renews past s fid.fileset && nat_lt 0 stamp) (is_above past fid stamp && by_message true
-        (λ m. floor_by fid stamp m.body) s.cause) e) [
+    (λ m. floor_by fid stamp m.body) s.cause) e) [
       | inl p ↦ (
           let q = and_parts (renews past s fid.fileset) (nat_lt 0 stamp) p in
-          inl (inl (ltb-true (epoch_at past (place past fid.fileset).server) (epoch_at (s ∷ past)
-              (place past fid.fileset).server) q.0), ltb-true 0 stamp q.1)
-        )
+          inl (
+            inl (ltb-true (epoch_at past (place past fid.fileset).server) (epoch_at (s ∷ past)
+                (place past fid.fileset).server) q.0),
+            ltb-true 0 stamp q.1,
+          )
+          )
       | inr q ↦ (let r = and_parts (is_above past fid stamp) (by_message true
           (λ m. floor_by fid stamp m.body) s.cause) q in inr (above_yes past fid stamp r.0, revokes r.1, brings r.1))
     ]
@@ -955,23 +1029,23 @@ above_yes (s ∷ past) fid stamp e =
         → (r : RevokeOf) → About past s fid.fileset (Revoke r) → r.fid ≡ fid → r.stamp < stamp
     revokes t r c f =
         ltb-true r.stamp stamp (so (same_fid r.fid fid) (nat_lt r.stamp stamp) (at_comes
-            (λ m. floor_by fid stamp m.body) s (place past fid.fileset).server (epoch_at past
-            (place past fid.fileset).server) (place past fid.fileset).moves (Revoke r) t c) (fids r.fid fid f))
+        (λ m. floor_by fid stamp m.body) s (place past fid.fileset).server (epoch_at past
+        (place past fid.fileset).server) (place past fid.fileset).moves (Revoke r) t c) (fids r.fid fid f))
 
     brings : by_message true (λ m. floor_by fid stamp m.body) s.cause ≡ true
         → (w : Bring) → Answers past s w → AboveFloor past w.fid w.stamp → NoGiveOpen past w.fid → w.fid ≡ fid
-            → w.stamp < stamp
+        → w.stamp < stamp
     brings t w (inl (g, c, is, a)) up free f =
         let p = so (same_fid g.bring.fid fid) (nat_lt g.bring.stamp stamp) (at_comes
-            (λ m. floor_by fid stamp m.body) s (place past w.fid.fileset).server (epoch_at past
-            (place past w.fid.fileset).server) (place past w.fid.fileset).moves (Grant g) t c) (fids g.bring.fid fid
-            (ap (λ (x : Bring). x.fid) is ∙ f)) in
+        (λ m. floor_by fid stamp m.body) s (place past w.fid.fileset).server (epoch_at past
+        (place past w.fid.fileset).server) (place past w.fid.fileset).moves (Grant g) t c) (fids g.bring.fid fid
+        (ap (λ (x : Bring). x.fid) is ∙ f)) in
         subst (λ (x : Bring). x.stamp < stamp) is (ltb-true g.bring.stamp stamp p)
     brings t w (inr (d, c, is, a)) up free f =
         let p = so (same_fid d.bring.fid fid) (nat_lt d.bring.stamp stamp) (at_comes
-            (λ m. floor_by fid stamp m.body) s (place past w.fid.fileset).server (epoch_at past
-            (place past w.fid.fileset).server) (place past w.fid.fileset).moves (Done d) t c) (fids d.bring.fid fid
-            (ap (λ (x : Bring). x.fid) is ∙ f)) in
+        (λ m. floor_by fid stamp m.body) s (place past w.fid.fileset).server (epoch_at past
+        (place past w.fid.fileset).server) (place past w.fid.fileset).moves (Done d) t c) (fids d.bring.fid fid
+        (ap (λ (x : Bring). x.fid) is ∙ f)) in
         subst (λ (x : Bring). x.stamp < stamp) is (ltb-true d.bring.stamp stamp p)
 
 -- tokens that a Revoke names
@@ -989,8 +1063,12 @@ unfolding said is_about is_present learnt_by learnt known is_known drops_it held
     changed_by settles_it settled_by settled changing welcomed_by welcomed welcomes is_welcome kept_by kept_now
     has_kept floor_by renews is_above recalled_by recalled
 recalled_of past s id m (Revoke r) c is i =
-    let p = if_in (is_about past m r.fid.fileset) id r.ids i in (r, about past s m r.fid.fileset
-        (Revoke r) c is p.0, p.1)
+    let p = if_in (is_about past m r.fid.fileset) id r.ids i in (
+      r,
+      about past s m r.fid.fileset
+          (Revoke r) c is p.0,
+      p.1,
+    )
 recalled_of past s id m b c is i = elim i [ ]
 
 recalled_from : (past : List Step) (s : Step) (id : TokenId) (cause : Cause) → s.cause ≡ cause → In id
@@ -1022,7 +1100,7 @@ unfolding said is_about is_present learnt_by learnt known is_known drops_it held
 recalled_in past s r id c i =
     subst (λ x. In id (recalled past x)) (sym (about_cause past s r.fid.fileset (Revoke r) c))
     (in_if (is_about past (about_is past s r.fid.fileset (Revoke r) c) r.fid.fileset) id r.ids
-        (is_about_it past c.0 r.fid.fileset (Revoke r)) i)
+    (is_about_it past c.0 r.fid.fileset (Revoke r)) i)
 
 -- what a step uses of what comes
 unfoldable pub brought_by : Body → List Bring
@@ -1038,7 +1116,7 @@ uses_by past m (Grant g) =
 uses_by past m (Done d) =
     is_about past m d.bring.fid.fileset
     && (list_any (same_number (numbered d.fileset d.bring.number)) (changing
-        (place past d.bring.fid.fileset).server past)
+    (place past d.bring.fid.fileset).server past)
     && (is_above past d.bring.fid d.bring.stamp && none_open past d.bring.fid))
 uses_by past m _ = false
 
@@ -1076,8 +1154,13 @@ uses_of past s m (Grant g) c is e w (inl q) =
     let r = and_parts a (is_above past g.bring.fid g.bring.stamp && none_open past g.bring.fid) p.1 in
     let u = and_parts (is_above past g.bring.fid g.bring.stamp) (none_open past g.bring.fid) r.1 in
     subst (λ x. Uses past s x) (sym q) (
-      inl (g, about past s m g.bring.fid.fileset (Grant g) c is p.0, refl, asked_yes past
-          (numbered g.bring.fid.fileset g.bring.number) r.0),
+      inl (
+        g,
+        about past s m g.bring.fid.fileset (Grant g) c is p.0,
+        refl,
+        asked_yes past
+            (numbered g.bring.fid.fileset g.bring.number) r.0,
+      ),
       above_yes past g.bring.fid g.bring.stamp u.0,
       none_open_yes past g.bring.fid u.1,
     )
@@ -1085,13 +1168,18 @@ uses_of past s m (Grant g) c is e w (inr q) = elim q [ ]
 uses_of past s m (Done d) c is e w (inl q) =
     let i = is_about past m d.bring.fid.fileset in
     let a = list_any (same_number (numbered d.fileset d.bring.number)) (changing
-        (place past d.bring.fid.fileset).server past) in
+    (place past d.bring.fid.fileset).server past) in
     let p = and_parts i (a && (is_above past d.bring.fid d.bring.stamp && none_open past d.bring.fid)) e in
     let r = and_parts a (is_above past d.bring.fid d.bring.stamp && none_open past d.bring.fid) p.1 in
     let u = and_parts (is_above past d.bring.fid d.bring.stamp) (none_open past d.bring.fid) r.1 in
     subst (λ x. Uses past s x) (sym q) (
-      inr (d, about past s m d.bring.fid.fileset (Done d) c is p.0, refl, changed_yes past
-          (place past d.bring.fid.fileset).server (numbered d.fileset d.bring.number) r.0),
+      inr (
+        d,
+        about past s m d.bring.fid.fileset (Done d) c is p.0,
+        refl,
+        changed_yes past
+            (place past d.bring.fid.fileset).server (numbered d.fileset d.bring.number) r.0,
+      ),
       above_yes past d.bring.fid d.bring.stamp u.0,
       none_open_yes past d.bring.fid u.1,
     )
@@ -1115,13 +1203,17 @@ unfolding said is_about is_present learnt_by learnt known is_known drops_it held
     has_kept floor_by renews is_above recalled_by recalled brought_by uses_by takes_by may_take
 take_of past s t (Came m) c e =
     let p = and_parts (uses_by past m m.body) (list_any (λ w. list_any
-        (same_token t) w.tokens && same_fid t.fid w.fid) (brought_by m.body)) e in
+    (same_token t) w.tokens && same_fid t.fid w.fid) (brought_by m.body)) e in
     let q = some_in (λ w. list_any (same_token t) w.tokens && same_fid t.fid w.fid) (brought_by m.body) p.1 in
     let w = q.0 in
     let r = and_parts (list_any (same_token t) w.tokens) (same_fid t.fid w.fid) q.2 in
-    let k = some_in (same_token t) w.tokens r.0 in
-    (w, uses_of past s m m.body c refl p.0 w q.1, subst (λ x. In x w.tokens) (sym
-        (token_is t k.0 k.2)) k.1, fid_is t.fid w.fid r.1)
+    let k = some_in (same_token t) w.tokens r.0 in (
+      w,
+      uses_of past s m m.body c refl p.0 w q.1,
+      subst (λ x. In x w.tokens) (sym
+          (token_is t k.0 k.2)) k.1,
+      fid_is t.fid w.fid r.1,
+    )
 take_of past s t cause c e = absurd (cc)
 
 pub take_yes : (past : List Step) (s : Step) (t : Token) → may_take past s.cause t ≡ true

@@ -173,7 +173,7 @@ enters call =
 abbrev pub asks_root : Step
 asks_root =
     hears (to_host (Done entered)) [] (asks_for 1 root (needs root (Status false) ∷ needs root (Bytes false whole)
-        ∷ []) ∷ [])
+    ∷ []) ∷ [])
 
 abbrev pub entry : DirEntry
 entry = record { name = codes "f"; anode = 2; unique = 1 }
@@ -329,7 +329,7 @@ lock_gift = record {
 abbrev pub frees : Step
 frees =
     acts (Line 7) (Some (record { k = 2; call = unlocks })) [] [] None [] (lock_gift ∷ [])
-        (leaves AskedBack file_lock ∷ [])
+    (leaves AskedBack file_lock ∷ [])
     (to_server 1 (GiveBack lock_gift) ∷ [])
 
 abbrev pub learns_freed : Step
@@ -354,10 +354,10 @@ served =
     (grants 3 file 2 (file_update ∷ file_bytes ∷ []) false [])
     ∷ fetched (fetch_of 2 file (needs file (Status false) ∷ [])) (grants 2 file 1 (file_status ∷ []) false [])
     ∷ fetched (fetch_of 1 root (needs root (Status false) ∷ needs root (Bytes false whole) ∷ []))
-      (grants 1 root 1 (root_status ∷ root_entries ∷ []) true (entry ∷ []))
+    (grants 1 root 1 (root_status ∷ root_entries ∷ []) true (entry ∷ []))
     ∷ serves (Came (to_server 1 (Change enter)))
-      (Wants (record { host = client; request = AsksChange enter; moves = 0; needs = [] }) ∷ []) []
-      (to_host (Done entered) ∷ [])
+    (Wants (record { host = client; request = AsksChange enter; moves = 0; needs = [] }) ∷ []) []
+    (to_host (Done entered) ∷ [])
     ∷ serves (Came (to_server 0 Hello)) [] [] (to_host (Reclaimed welcome) ∷ []) ∷ []
 
 -- the tree at the start: the root has the file, which is empty
@@ -366,8 +366,13 @@ file_tree = record start {
   filesets = record home_fileset {
     objects = 2;
     anodes =
-        record { unique = 1; object = Some (record root_object { content = Dir (entry ∷ []) (access ∷ access ∷ access
-            ∷ []) }) }
+        record {
+          unique = 1;
+          object = Some (record root_object {
+            content = Dir (entry ∷ []) (access ∷ access ∷ access
+                ∷ []);
+          });
+        }
         ∷ record { unique = 1; object = Some (record root_object { content = File access [] [] None }) }
         ∷ [];
   } ∷ [];

@@ -28,11 +28,7 @@ pub fn lost(alloc: Global, journal: &Journal) -> Result<Items<Loss>, NoMemory>
 
 /// The output of a run as text: each reply, loss and fileset, as `run_print::text_of` says of its history. A journal in
 /// which no run began gives nothing. `NoMemory` comes where memory runs out.
-pub fn print_text(
-    alloc: Global,
-    script: &Script,
-    journal: &Journal,
-) -> Result<Items<u8>, NoMemory>
+pub fn print_text(alloc: Global, script: &Script, journal: &Journal) -> Result<Items<u8>, NoMemory>
     ensures begun { (start : TreeOf) → journal.now.start ≡ start ∷ []
         → IfOk result (λ text. text ≡ printed script.now start (history_of journal.now.steps)) }
     ensures unbegun { journal.now.start ≡ [] → IfOk result (λ text. text ≡ []) }
@@ -57,11 +53,7 @@ fn text_from(
 
 /// The output of a run as one line of JSON, as `run_print::json_of` says of its history. A journal in which no run
 /// began gives nothing. `NoMemory` comes where memory runs out.
-pub fn print_json(
-    alloc: Global,
-    script: &Script,
-    journal: &Journal,
-) -> Result<Items<u8>, NoMemory>
+pub fn print_json(alloc: Global, script: &Script, journal: &Journal) -> Result<Items<u8>, NoMemory>
     ensures begun { (start : TreeOf) → journal.now.start ≡ start ∷ []
         → IfOk result (λ text. text ≡ printed_json script.now start (history_of journal.now.steps)) }
     ensures unbegun { journal.now.start ≡ [] → IfOk result (λ text. text ≡ []) }

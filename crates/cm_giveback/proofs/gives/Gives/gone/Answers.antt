@@ -12,7 +12,7 @@ returns-in_default-clause-gone c =
     let p = is_of c.args.fileset in
     let giving : Giving = record { gives = c.self.inside.gives; counters = c.self.inside.counters } in
     let place : position p c.self.inside.gives ≡ None =
-      ap (position p) (sym c.as_slice.ensures) ∙ sym c.place_of.ensures ∙ c.in_default.is in
+    ap (position p) (sym c.as_slice.ensures) ∙ sym c.place_of.ensures ∙ c.in_default.is in
     let none = found_nowhere p c.self.inside.gives place in
     (gone_nowhere giving c.args.fileset c.args.number none).0
     ∙ ap (λ s. gone s c.args.fileset c.args.number) c.self.view_is
@@ -24,10 +24,10 @@ other c =
     let p = is_of c.args.fileset in
     let giving : Giving = record { gives = c.self.inside.gives; counters = c.self.inside.counters } in
     let place : position p c.self.inside.gives ≡ Some c.in-Some.place =
-      ap (position p) (sym c.as_slice.ensures) ∙ sym c.place_of.ensures ∙ c.in-Some.is in
+    ap (position p) (sym c.as_slice.ensures) ∙ sym c.place_of.ensures ∙ c.in-Some.is in
     let there = found_at p c.self.inside.gives c.in-Some.place c.get.result.now place c.get.ensures in
     let apart : (number_of c.get.result.now == c.args.number) ≡ false =
-      differs (number_of c.get.result.now) c.args.number (λ e. c.if-number_of-number.true (c.number_of.ensures ∙ e)) in
+    differs (number_of c.get.result.now) c.args.number (λ e. c.if-number_of-number.true (c.number_of.ensures ∙ e)) in
     gone_other giving c.args.fileset c.args.number c.get.result.now there apart
 
 pub returns-then-number_of-number-clause-gone : goal.returns-then-number_of-number-clause-gone
@@ -48,15 +48,15 @@ here c =
     let p = is_of c.args.fileset in
     let giving : Giving = record { gives = c.self.inside.gives; counters = c.self.inside.counters } in
     let place : position p c.self.inside.gives ≡ Some c.in-Some.place =
-      ap (position p) (sym c.as_slice.ensures) ∙ sym c.place_of.ensures ∙ c.in-Some.is in
+    ap (position p) (sym c.as_slice.ensures) ∙ sym c.place_of.ensures ∙ c.in-Some.is in
     let got = found_at p c.self.inside.gives c.in-Some.place c.get.result.now place c.get.ensures in
     let there = found_at p c.self.inside.gives c.in-Some.place c.remove.result place c.remove.ensures.value in
     let one : Some c.get.result.now ≡ Some c.remove.result = sym got ∙ there in
     let same_one : c.get.result.now ≡ c.remove.result = cc in
     let same : number_of c.remove.result ≡ c.args.number =
-      ap number_of (sym same_one) ∙ sym c.number_of.ensures ∙ c.if-number_of-number.false in
+    ap number_of (sym same_one) ∙ sym c.number_of.ensures ∙ c.if-number_of-number.false in
     let k = gone_there giving c.args.fileset c.args.number c.remove.result there
-      (eq-eqb (number_of c.remove.result) c.args.number same) in
+    (eq-eqb (number_of c.remove.result) c.args.number same) in
     (k.0, k.1, c.remove.ensures.rest ∙ left_without p c.self.inside.gives c.in-Some.place place)
 
 pub invariant_of-self : goal.invariant_of-self
