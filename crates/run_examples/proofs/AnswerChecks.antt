@@ -1,6 +1,6 @@
 -- The rules of answers for a host's step, computed; of what it asks, where it asks nothing new.
 use Rattle.std.proofs.Common.{Bool, List, None, Option, Some, [], ap, arith, false, inl, inr, refl, subst, suc, sym}
-use Rattle.std.proofs.Common.{true}
+use Rattle.std.proofs.Common.{length, lit≤, true}
 use Rattle.std.proofs.Common.{if◌then◌else◌, ℕ, ◌&&◌, ◌++◌, ◌||◌, ◌==◌, ◌∙◌, ◌∷◌, ◌≡◌, ◌≤◌, ◌<◌, ◌⊎◌}
 use Rattle.std.proofs.lemmas.Bool.{and_parts, and_from, or_cases, or_left, or_right, eqb-true, eq-eqb, leb-true}
 use Rattle.std.proofs.lemmas.Bool.{le-leb, ltb-true}
@@ -290,6 +290,13 @@ unfoldable pub is_short : {A : Type 0} → List A → Bool
 is_short [] = true
 is_short (x ∷ xs) = is_none xs
 
+short_len : {A : Type 0} (xs : List A) → is_short xs ≡ true → length xs ≤ 1
+unfolding same_place same_call same_reply spans_all covers_kind covers_it lacks_kind lacks_it replies_so no_reply
+    is_that answered_right cant turn_right is_short
+short_len [] e = lit≤ tt
+short_len (z ∷ []) e = lit≤ tt
+short_len (z ∷ y ∷ ys) e = absurd (let p = e in cc)
+
 short_one : {A : Type 0} (xs : List A) (x y : A) → is_short xs ≡ true → In x xs → In y xs → x ≡ y
 unfolding same_place same_call same_reply spans_all covers_kind covers_it lacks_kind lacks_it replies_so no_reply
     is_that answered_right cant turn_right is_short
@@ -538,7 +545,7 @@ module _ (site : ServerId) (roster : Roster) (host : HostId) (user : User) (past
               (late a.first q.0, it_goes site past s a local_ q.1))
         ];
     asked = λ a c m is. asked_none s.asked c (answered_none s a (no_asked s.asked) asked_ m) is;
-    answers_one = λ a b m n. short_one s.answers a b one_ m n;
+    answers_one = short_len s.answers one_;
     answers_alone = λ a fs n m x. none_in (asking (s ∷ past)) (numbered fs n) (answered_none s a (is_none (asking (s
         ∷ past))) alone_ m) (asking_in (s ∷ past) fs n x);
     writes = λ a fid from bytes m is.
