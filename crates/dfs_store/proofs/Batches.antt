@@ -1,16 +1,41 @@
 -- What the first acts of a batch make.
-use Rattle.std.proofs.Common.{◌≡◌, ◌<◌, ◌≤◌, ℕ, zero, suc, ◌+◌, List, [], ◌∷◌, ◌++◌, length, get_or, take, refl, sym, ap, ◌∙◌, subst, arith, Result, Ok, Err}
+use Rattle.std.proofs.Common.{
+  ◌≡◌,
+  ◌<◌,
+  ◌≤◌,
+  ℕ,
+  zero,
+  suc,
+  ◌+◌,
+  List,
+  [],
+  ◌∷◌,
+  ◌++◌,
+  length,
+  get_or,
+  take,
+  refl,
+  sym,
+  ap,
+  ◌∙◌,
+  subst,
+  arith,
+  Result,
+  Ok,
+  Err,
+}
 use Rattle.std.specs.Prelude.{OnErr}
 use Rattle.rpc_types.specs.Soundness.{Each}
-use Rattle.dfs_store.specs.declared.act.Act.{Act}
-use Rattle.dfs_store.specs.declared.act.Done.{Done}
-use Rattle.dfs_store.specs.declared.state.StoreState.{StoreState}
-use Rattle.dfs_store.specs.Acts.{act_done, state_after, dones_of}
-use Rattle.dfs_store.specs.Sound.{IsAct, KeepsLimits}
-use Rattle.dfs_store.proofs.Next.{act_next}
+use Rattle.store_acts.specs.declared.act.Act.{Act}
+use Rattle.store_state.specs.declared.done.Done.{Done}
+use Rattle.store_state.specs.declared.state.StoreState.{StoreState}
+use Rattle.store_acts.specs.Acts.{act_done, state_after, dones_of}
+use Rattle.store_acts.specs.Sound.{IsAct, KeepsLimits}
+use Rattle.store_acts.proofs.Next.{act_next}
 
 -- one act more
-pub after_next : (acts : List Act) (i : ℕ) (act : Act) (state : StoreState) → i < length acts → act ≡ get_or acts i act →
+pub after_next : (acts : List Act) (i : ℕ) (act : Act) (state : StoreState) → i < length acts →
+    act ≡ get_or acts i act →
     state_after state (take (i + 1) acts) ≡ (act_done (state_after state (take i acts)) act).state
 after_next [] i act state h e = absurd (omega (arith, h))
 after_next (first ∷ acts) zero act state h e = ap (λ a. (act_done state a).state) (sym e)
@@ -18,16 +43,20 @@ after_next (first ∷ acts) (suc i) act state h e =
     let more : suc i + 1 ≡ suc (i + 1) = omega arith in
     rw more (after_next acts i act (act_done state first).state (omega (arith, h)) e)
 
-pub dones_next : (acts : List Act) (i : ℕ) (act : Act) (state : StoreState) → i < length acts → act ≡ get_or acts i act →
-    dones_of state (take (i + 1) acts) ≡ dones_of state (take i acts) ++ (act_done (state_after state (take i acts)) act).done ∷ []
+pub dones_next : (acts : List Act) (i : ℕ) (act : Act) (state : StoreState) → i < length acts →
+    act ≡ get_or acts i act →
+    dones_of state (take (i + 1) acts) ≡ dones_of state (take i acts) ++
+    (act_done (state_after state (take i acts)) act).done ∷ []
 dones_next [] i act state h e = absurd (omega (arith, h))
 dones_next (first ∷ acts) zero act state h e = ap (λ a. (act_done state a).done ∷ []) (sym e)
 dones_next (first ∷ acts) (suc i) act state h e =
     let more : suc i + 1 ≡ suc (i + 1) = omega arith in
-    rw more (ap (λ dones. (act_done state first).done ∷ dones) (dones_next acts i act (act_done state first).state (omega (arith, h)) e))
+    rw more (ap (λ dones. (act_done state first).done ∷ dones)
+    (dones_next acts i act (act_done state first).state (omega (arith, h)) e))
 
 -- each act is one that a store may be given
-pub each_at : {X : Type 0} (P : X → Type 0) (xs : List X) (i : ℕ) (x : X) → i < length xs → x ≡ get_or xs i x → Each P xs → P x
+pub each_at : {X : Type 0} (P : X → Type 0) (xs : List X) (i : ℕ) (x : X) → i < length xs → x ≡ get_or xs i x →
+    Each P xs → P x
 each_at P [] i x h e k = absurd (omega (arith, h))
 each_at P (y ∷ xs) zero x h e k = subst P (sym e) k.0
 each_at P (y ∷ xs) (suc i) x h e k = each_at P xs i x (omega (arith, h)) e k.1
@@ -41,10 +70,12 @@ pub record Reached (start now : StoreState) (acts : List Act) (i : ℕ) : Type 0
   pub counts : now.epoch + now.ship ≤ start.epoch + start.ship + i
 
 -- one act more
-pub reached_next : (start now next : StoreState) (acts : List Act) (i : ℕ) (act : Act) → Reached start now acts i → Each (IsAct start.roster start.server) acts →
+pub reached_next : (start now next : StoreState) (acts : List Act) (i : ℕ) (act : Act) → Reached start now acts i →
+    Each (IsAct start.roster start.server) acts →
     i < length acts → act ≡ get_or acts i act → next ≡ (act_done now act).state → Reached start next acts (i + 1)
 reached_next start now next acts i act r fits h e s =
-    let fit : IsAct now.roster now.server act = rw r.roster (rw r.server (each_at (IsAct start.roster start.server) acts i act h e fits)) in
+    let fit : IsAct now.roster now.server act = rw r.roster
+    (rw r.server (each_at (IsAct start.roster start.server) acts i act h e fits)) in
     let n = act_next now act r.limits fit in
     let done = (act_done now act).state in
     let a = n.counts in let b = r.counts in

@@ -1,16 +1,4 @@
-pub mod State
-pub mod Replies
-pub mod Outcomes
-pub mod Founding
-pub mod Rows
-pub mod Giving
-pub mod Parts
-pub mod Moving
-pub mod Acts
 pub mod Reading
 pub mod Sound
 pub mod Views
 pub mod MapStores
-pub mod Laws
-pub mod Capacity
-pub mod Single

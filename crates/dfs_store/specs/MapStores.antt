@@ -1,7 +1,7 @@
 -- What is seen of a store in memory.
 use Rattle.std.specs.Prelude.{◌+◌, true, false}
 use Rattle.dfs_store.specs.declared.map_store.MapStore.{MapStore}
-use Rattle.dfs_store.specs.declared.state.StoreState.{StoreState}
+use Rattle.store_state.specs.declared.state.StoreState.{StoreState}
 use Rattle.dfs_store.specs.Views.{View}
 
 -- what it keeps

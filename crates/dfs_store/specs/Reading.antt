@@ -44,18 +44,19 @@ use Rattle.dfs_objects.specs.declared.content.Object.{Object}
 use Rattle.dfs_filesets.specs.declared.fileset.Fileset.{Fileset}
 use Rattle.dfs_filesets.specs.Laws.{entries_in}
 use Rattle.dfs_filesets.specs.Walk.{target, unique_at}
-use Rattle.dfs_store.specs.declared.act.HostState.{HostState}
-use Rattle.dfs_store.specs.declared.act.HostState.TheVariants.{Unknown}
-use Rattle.dfs_store.specs.declared.store.Looked.{Looked}
-use Rattle.dfs_store.specs.declared.store.Looked.TheVariants.{Found, Refused}
-use Rattle.dfs_store.specs.declared.state.Holding.{Holding}
-use Rattle.dfs_store.specs.declared.state.Kept.{Kept}
-use Rattle.dfs_store.specs.declared.state.Slot.{Slot}
-use Rattle.dfs_store.specs.declared.state.Stay.{Stay}
-use Rattle.dfs_store.specs.declared.state.StoreState.{StoreState}
-use Rattle.dfs_store.specs.State.{is_here, is_leaving, is_of, held_so, records_of, record_of}
-use Rattle.dfs_store.specs.Rows.{fileset_here}
-use Rattle.dfs_store.specs.Parts.{told_object, status_of, kept_bytes, object_part, part_of}
+use Rattle.store_state.specs.declared.state.HostState.{HostState}
+use Rattle.store_state.specs.declared.state.HostState.TheVariants.{Unknown}
+use Rattle.dfs_store.specs.declared.told.Looked.{Looked}
+use Rattle.dfs_store.specs.declared.told.Looked.TheVariants.{Found, Refused}
+use Rattle.store_state.specs.declared.state.Holding.{Holding}
+use Rattle.dfs_store.specs.declared.told.Kept.{Kept}
+use Rattle.dfs_store.specs.declared.told.Slot.{Slot}
+use Rattle.store_state.specs.declared.state.Stay.{Stay}
+use Rattle.store_state.specs.declared.state.StoreState.{StoreState}
+use Rattle.store_state.specs.Sought.{is_here_of}
+use Rattle.store_state.specs.State.{is_here, is_leaving, is_of, held_so, records_of, record_of}
+use Rattle.store_state.specs.Rows.{fileset_here}
+use Rattle.store_acts.specs.Parts.{told_object, status_of, kept_bytes, object_part, part_of}
 
 -- what is known of a host
 abbrev pub host_state : StoreState → HostId → HostState
@@ -64,10 +65,6 @@ host_state state host = unwrap_or (slice_get state.hosts host.0) Unknown
 -- what is kept of a host's requests on a fileset; nothing where it isn't here
 abbrev pub last_of : StoreState → HostId → FilesetId → (Record → ℕ) → ℕ
 last_of state host id number = option_map_or (λ records. number (record_of records host)) (records_of state id) 0
-
--- whether a holding is a fileset that is here
-abbrev pub is_here_of : FilesetId → Holding → Bool
-is_here_of id holding = is_of id holding && is_here holding.stay
 
 -- the fileset of an id that is here
 abbrev pub fileset_of : StoreState → FilesetId → Option Fileset

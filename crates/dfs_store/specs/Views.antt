@@ -2,7 +2,7 @@
 use Rattle.std.specs.Prelude.{◌≡◌, ◌≤◌, ◌<◌, ℕ, ◌+◌, Bool, IsTrue, Result, Err, OnOk}
 use Rattle.dfs_store.specs.declared.store.StoreFault.{StoreFault}
 use Rattle.dfs_store.specs.declared.store.StoreFault.TheVariants.{Failed}
-use Rattle.dfs_store.specs.declared.state.StoreState.{StoreState}
+use Rattle.store_state.specs.declared.state.StoreState.{StoreState}
 
 pub record View : Type 0 where
   -- what it keeps; of a store that doesn't tell it the server and the roster alone

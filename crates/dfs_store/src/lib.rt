@@ -2,24 +2,14 @@
 //! what is told of what is kept.
 #![tactic(auto)]
 
-mod act;
-mod acts;
-mod finding;
-mod founding;
-mod giving;
-pub mod laws;
 mod map_store;
-mod moving;
-mod numbers;
-mod parts;
 mod reading;
-mod replies;
-mod rows;
-mod state;
 mod store;
+mod told;
 mod walking;
 
-pub use act::{Act, Done, HostState};
 pub use map_store::MapStore;
-pub use state::{Holding, Kept, Slot, Stay, StoreState, TakenShip};
-pub use store::{Looked, Store, StoreFault};
+pub use store::{Store, StoreFault};
+pub use store_acts::Act;
+pub use store_state::{Done, Holding, HostState, Stay, StoreState, TakenShip};
+pub use told::{Kept, Looked, Slot};

@@ -2,10 +2,10 @@
 ghost use Rattle.std.specs.Prelude.{◌≡◌, ◌≤◌, ◌-◌, true, take, drop, length, IfOk, IfSome};
 ghost use Rattle.std.specs.Option.{option_copied};
 ghost use Rattle.dfs_base.specs.declared.limits.TheConstants.{OBJECTS_MAX, FILESETS_MAX};
-ghost use Rattle.dfs_store.specs.Parts.{is_tellable, kept_bytes};
+ghost use Rattle.store_acts.specs.Parts.{is_tellable, kept_bytes};
 ghost use Rattle.dfs_store.specs.Reading.{
   host_state,
-  is_here_of,
+  last_of,
   fileset_of,
   fids_from,
   files_of,
@@ -24,18 +24,17 @@ ghost use Rattle.dfs_store.specs.Reading.{
   shipped,
 };
 
-use crate::act::HostState;
-use crate::finding::{held_at, held_of, slot_here_of};
-use crate::giving::unique_at;
-use crate::parts::{entries_in, free_part, part_of, status_of, told_object};
-use crate::state::{Holding, Kept, Slot, Stay, StoreState};
-use crate::store::Looked;
+use crate::told::{Kept, Looked, Slot};
 use crate::walking::walk;
 use dfs_base::{Fid, FilesetId, HostId, Items, NoMemory, OBJECTS_MAX, Plain, Span, User};
-use dfs_calls::{DirEntry, Mover, Place, ShipPart, Status};
+use dfs_calls::{DirEntry, Mover, Place, Record, ShipPart, Status};
 use dfs_filesets::Fileset;
 use dfs_objects::{Anode, Content, Object};
 use std::alloc::Global;
+use store_acts::{entries_in, free_part, part_of, status_of, told_object};
+use store_state::{
+    Holding, HostState, NO_RECORD, Sought, Stay, StoreState, held, record_of, unique_at,
+};
 
 // The objects at anodes, of which the first has this number.
 fn fids_from(alloc: Global, id: FilesetId, anodes: &[Anode]) -> Result<Items<Fid>, NoMemory>
@@ -80,12 +79,7 @@ fn bytes_in(alloc: Global, content: &Content, span: Span) -> Result<Items<u8>, N
 {
     match content {
         Content::Dir { .. } => Ok(Items::new(alloc)),
-        Content::File {
-            list: _,
-            kept,
-            unsaved: _,
-            length: _,
-        } => Items::from_slice(alloc, part_of_bytes(kept, span)),
+        Content::File { kept, .. } => Items::from_slice(alloc, part_of_bytes(kept, span)),
     }
 }
 
@@ -114,13 +108,11 @@ fn walk_in(fileset: &Fileset, user: &User, place: &Place) -> Looked
     }
 }
 
-impl Stay {
-    // Whether the fileset is here or leaving.
-    fn is_kept(self) -> bool
-        ensures { result ≡ is_kept self }
-    {
-        self.is_here() || self.is_leaving()
-    }
+// Whether a fileset is here or leaving.
+fn is_kept(stay: Stay) -> bool
+    ensures { result ≡ is_kept stay }
+{
+    stay.is_here() || stay.is_leaving()
 }
 
 fn slot_told(at: u32, holding: &Holding) -> Result<Slot, NoMemory>
@@ -143,7 +135,7 @@ fn filesets_kept(slots: &Items<Option<Holding>>) -> Result<Items<Fileset>, NoMem
     let mut filesets = Items::new(slots.alloc());
     for slot in slots.as_slice() {
         if let Some(holding) = slot {
-            if holding.stay.is_kept() {
+            if is_kept(holding.stay) {
                 filesets.push(holding.fileset.copy()?)?;
             }
         }
@@ -151,131 +143,140 @@ fn filesets_kept(slots: &Items<Option<Holding>>) -> Result<Items<Fileset>, NoMem
     Ok(filesets)
 }
 
-impl StoreState {
-    /// What is known of a host.
-    pub(crate) fn host_state(&self, host: HostId) -> HostState
-        ensures { result ≡ host_state self.now host }
-    {
-        match self.hosts.at(host.0 as usize) {
-            Some(known) => *known,
-            None => HostState::Unknown,
+/// What is known of a host.
+pub(crate) fn host_state(state: &StoreState, host: HostId) -> HostState
+    ensures { result ≡ host_state state.now host }
+{
+    match state.hosts.at(host.0 as usize) {
+        Some(known) => *known,
+        None => HostState::Unknown,
+    }
+}
+
+/// What is kept of a host's requests on a fileset; nothing where it isn't here.
+pub(crate) fn last_of(state: &StoreState, host: HostId, id: FilesetId) -> Record
+    ensures change { result.change ≡ last_of state.now host id (λ kept. kept.change) }
+    ensures give { result.give ≡ last_of state.now host id (λ kept. kept.give) }
+{
+    match state.records_of(id) {
+        Some(records) => record_of(records, host),
+        None => NO_RECORD,
+    }
+}
+
+// The fileset of an id that is here.
+fn fileset_of(state: &StoreState, id: FilesetId) -> Option<&Fileset>
+    ensures { option_copied result ≡ fileset_of state.now id }
+{
+    match held(&state.slots, &Sought::HereOf(id)) {
+        Some(holding) => Some(&holding.fileset),
+        None => None,
+    }
+}
+
+/// The objects of a fileset that is here.
+pub(crate) fn files(state: &StoreState, id: FilesetId) -> Result<Items<Fid>, NoMemory>
+    ensures { IfOk result (λ files. files ≡ files_of state.now id) }
+{
+    let alloc = state.slots.alloc();
+    match fileset_of(state, id) {
+        Some(fileset) => fids_of(alloc, id, &fileset.anodes),
+        None => Ok(Items::new(alloc)),
+    }
+}
+
+/// Where a place leads.
+pub(crate) fn look_up(state: &StoreState, user: &User, place: &Place) -> Looked
+    ensures { result ≡ looked_up state.now user.now place.now }
+{
+    match state.fileset_here(&place.fileset) {
+        Ok(fileset) => walk_in(fileset, user, place),
+        Err(refusal) => Looked::Refused(refusal),
+    }
+}
+
+// The object that a fid names, as far as it may be told.
+fn object_named(state: &StoreState, fid: Fid) -> Option<&Object>
+    ensures value { option_copied result ≡ object_named state.now fid }
+    ensures tellable { IfSome result (λ object. is_tellable object.now.content ≡ true) }
+{
+    match fileset_of(state, fid.fileset) {
+        Some(fileset) => object_in(fileset, fid),
+        None => None,
+    }
+}
+
+/// What is told of an object.
+pub(crate) fn status(state: &StoreState, fid: Fid) -> Result<Option<Status>, NoMemory>
+    ensures { IfOk result (λ status. status ≡ status_told state.now fid) }
+{
+    let Some(fileset) = fileset_of(state, fid.fileset) else {
+        return Ok(None);
+    };
+    match object_in(fileset, fid) {
+        Some(object) => Ok(Some(status_of(fileset.read_only, object)?)),
+        None => Ok(None),
+    }
+}
+
+/// The bytes of a file in a span.
+pub(crate) fn bytes(state: &StoreState, fid: Fid, span: Span) -> Result<Items<u8>, NoMemory>
+    ensures { IfOk result (λ bytes. bytes ≡ bytes_told state.now fid span) }
+{
+    let alloc = state.slots.alloc();
+    match object_named(state, fid) {
+        Some(object) => bytes_in(alloc, &object.content, span),
+        None => Ok(Items::new(alloc)),
+    }
+}
+
+/// The entries of a directory.
+pub(crate) fn entries(state: &StoreState, fid: Fid) -> Result<Items<DirEntry>, NoMemory>
+    ensures { IfOk result (λ entries. entries ≡ entries_told state.now fid) }
+{
+    match object_named(state, fid) {
+        Some(object) => entries_in(&object.content),
+        None => Ok(Items::new(state.slots.alloc())),
+    }
+}
+
+/// The filesets that are kept.
+pub(crate) fn kept(state: &StoreState) -> Result<Kept, NoMemory>
+    ensures { IfOk result (λ kept. kept ≡ kept_of state.now) }
+{
+    Ok(Kept {
+        capacity: state.capacity,
+        next: state.next,
+        filesets: filesets_kept(&state.slots)?,
+    })
+}
+
+/// The slots that are used.
+pub(crate) fn slots_told(state: &StoreState) -> Result<Items<Slot>, NoMemory>
+    requires { length state.now.slots ≤ FILESETS_MAX }
+    ensures { IfOk result (λ slots. slots ≡ slots_from 0 state.now.slots) }
+{
+    let mut slots = Items::new(state.slots.alloc());
+    for (at, slot) in state.slots.as_slice().iter().enumerate() {
+        if let Some(holding) = slot {
+            slots.push(slot_told(at as u32, holding)?)?;
         }
     }
+    Ok(slots)
+}
 
-    // The fileset of an id that is here.
-    fn fileset_of(&self, id: FilesetId) -> Option<&Fileset>
-        ensures { option_copied result ≡ fileset_of self.now id }
-    {
-        match held_at(&self.slots, slot_here_of(&self.slots, id)) {
-            Some(holding) => Some(&holding.fileset),
-            None => None,
-        }
-    }
-
-    /// The objects of a fileset that is here.
-    pub(crate) fn files(&self, id: FilesetId) -> Result<Items<Fid>, NoMemory>
-        ensures { IfOk result (λ files. files ≡ files_of self.now id) }
-    {
-        let alloc = self.slots.alloc();
-        match self.fileset_of(id) {
-            Some(fileset) => fids_of(alloc, id, &fileset.anodes),
-            None => Ok(Items::new(alloc)),
-        }
-    }
-
-    /// Where a place leads.
-    pub(crate) fn look_up(&self, user: &User, place: &Place) -> Looked
-        ensures { result ≡ looked_up self.now user.now place.now }
-    {
-        match self.fileset_here(&place.fileset) {
-            Ok(fileset) => walk_in(fileset, user, place),
-            Err(refusal) => Looked::Refused(refusal),
-        }
-    }
-
-    // The object that a fid names, as far as it may be told.
-    fn object_named(&self, fid: Fid) -> Option<&Object>
-        ensures value { option_copied result ≡ object_named self.now fid }
-        ensures tellable { IfSome result (λ object. is_tellable object.now.content ≡ true) }
-    {
-        match self.fileset_of(fid.fileset) {
-            Some(fileset) => object_in(fileset, fid),
-            None => None,
-        }
-    }
-
-    /// What is told of an object.
-    pub(crate) fn status(&self, fid: Fid) -> Result<Option<Status>, NoMemory>
-        ensures { IfOk result (λ status. status ≡ status_told self.now fid) }
-    {
-        let Some(fileset) = self.fileset_of(fid.fileset) else {
-            return Ok(None);
-        };
-        match object_in(fileset, fid) {
-            Some(object) => Ok(Some(status_of(fileset.read_only, object)?)),
-            None => Ok(None),
-        }
-    }
-
-    /// The bytes of a file in a span.
-    pub(crate) fn bytes(&self, fid: Fid, span: Span) -> Result<Items<u8>, NoMemory>
-        ensures { IfOk result (λ bytes. bytes ≡ bytes_told self.now fid span) }
-    {
-        let alloc = self.slots.alloc();
-        match self.object_named(fid) {
-            Some(object) => bytes_in(alloc, &object.content, span),
-            None => Ok(Items::new(alloc)),
-        }
-    }
-
-    /// The entries of a directory.
-    pub(crate) fn entries(&self, fid: Fid) -> Result<Items<DirEntry>, NoMemory>
-        ensures { IfOk result (λ entries. entries ≡ entries_told self.now fid) }
-    {
-        match self.object_named(fid) {
-            Some(object) => entries_in(&object.content),
-            None => Ok(Items::new(self.slots.alloc())),
-        }
-    }
-
-    /// The filesets that are kept.
-    pub(crate) fn kept(&self) -> Result<Kept, NoMemory>
-        ensures { IfOk result (λ kept. kept ≡ kept_of self.now) }
-    {
-        Ok(Kept {
-            capacity: self.capacity,
-            next: self.next,
-            filesets: filesets_kept(&self.slots)?,
-        })
-    }
-
-    /// The slots that are used.
-    pub(crate) fn slots_told(&self) -> Result<Items<Slot>, NoMemory>
-        requires { length self.now.slots ≤ FILESETS_MAX }
-        ensures { IfOk result (λ slots. slots ≡ slots_from 0 self.now.slots) }
-    {
-        let mut slots = Items::new(self.slots.alloc());
-        for (at, slot) in self.slots.as_slice().iter().enumerate() {
-            if let Some(holding) = slot {
-                slots.push(slot_told(at as u32, holding)?)?;
-            }
-        }
-        Ok(slots)
-    }
-
-    /// A part of a fileset that is leaving.
-    pub(crate) fn ship_part(
-        &self,
-        id: FilesetId,
-        at: u32,
-        mover: &Mover,
-    ) -> Result<ShipPart, NoMemory>
-        ensures { IfOk result (λ part. part ≡ shipped self.now id at mover.now) }
-    {
-        let alloc = self.slots.alloc();
-        match held_of(&self.slots, id) {
-            Some(holding) => part_of(alloc, holding, at, mover),
-            None => Ok(free_part(alloc, at, 0)),
-        }
+/// A part of a fileset that is leaving.
+pub(crate) fn ship_part(
+    state: &StoreState,
+    id: FilesetId,
+    at: u32,
+    mover: &Mover,
+) -> Result<ShipPart, NoMemory>
+    ensures { IfOk result (λ part. part ≡ shipped state.now id at mover.now) }
+{
+    let alloc = state.slots.alloc();
+    match held(&state.slots, &Sought::Of(id)) {
+        Some(holding) => part_of(alloc, holding, at, mover),
+        None => Ok(free_part(alloc, at, 0)),
     }
 }

@@ -1,7 +1,7 @@
 ghost use Rattle.std.specs.Prelude.{◌≡◌, ◌≤◌, ◌<◌, ◌+◌, ◌^◌, ℕ, IsTrue, [], length, take, IfOk, OnOk, OnErr};
 ghost use Rattle.dfs_base.specs.declared.limits.TheConstants.{OBJECTS_MAX, FILE_BYTES_MAX, BATCH_ACTS_MAX};
 ghost use Rattle.rpc_types.specs.Soundness.{Each, IsHost, IsCall, IsPart, IsTold, NamesRise, IsMove};
-ghost use Rattle.dfs_store.specs.Acts.{state_after, dones_of};
+ghost use Rattle.store_acts.specs.Acts.{state_after, dones_of};
 ghost use Rattle.dfs_store.specs.Reading.{
   host_state,
   last_of,
@@ -14,15 +14,17 @@ ghost use Rattle.dfs_store.specs.Reading.{
   slots_from,
   shipped,
 };
-ghost use Rattle.dfs_store.specs.Rows.{answer_to, found_named};
-ghost use Rattle.dfs_store.specs.Sound.{AreActs, AllFit, IsFor, IsMover, IsLeavingOf, IsSlot};
+ghost use Rattle.store_state.specs.Rows.{answer_to, found_named};
+ghost use Rattle.dfs_store.specs.Sound.{IsMover, IsLeavingOf, IsSlot};
+ghost use Rattle.store_acts.specs.Sound.{AreActs, AllFit, IsFor};
 ghost use Rattle.dfs_store.specs.Views.{View, IsBlamed, IsSameStore, IsAsked};
 ghost use Rattle.dfs_store.specs.declared.store.StoreFault.TheVariants.{Memory};
 
-use crate::act::{Act, Done, HostState};
-use crate::state::{Kept, Slot};
+use crate::told::{Kept, Looked, Slot};
 use dfs_base::{Fid, FilesetId, HostId, Items, Name, NoMemory, Span, User};
-use dfs_calls::{Call, DirEntry, Mover, Place, Refusal, Reply, ShipPart, Status};
+use dfs_calls::{Call, DirEntry, Mover, Place, Reply, ShipPart, Status};
+use store_acts::Act;
+use store_state::{Done, HostState};
 use thiserror::Error;
 
 /// Why a store didn't do what was asked.
@@ -42,15 +44,6 @@ impl From<NoMemory> for StoreFault {
     fn from(_error: NoMemory) -> StoreFault {
         StoreFault::Memory
     }
-}
-
-/// Where a place leads.
-#[derive(Clone, Copy, Debug, PartialEq)]
-pub enum Looked {
-    /// To this object.
-    Found(Fid),
-    /// Nowhere, for this reason.
-    Refused(Refusal),
 }
 
 /// Where a file server keeps its filesets. It does acts in their order, each number of a host on a fileset at most

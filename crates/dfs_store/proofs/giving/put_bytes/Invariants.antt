@@ -1,7 +1,0 @@
-use Rattle.std.proofs.Common.{◌≡◌, ◌+◌, drop}
-use Rattle.dfs_store.specs.Giving.{put_bytes}
-use Rattle.dfs_store.proofs.giving.put_bytes.Given as goal
-
--- the bytes that are left, over what was put so far
-abbrev pub invariant-loop-i : goal.invariant-loop-i
-invariant-loop-i l = put_bytes l.kept (l.at + l.i) (drop l.i l.bytes) ≡ put_bytes l.fn.kept l.at l.bytes

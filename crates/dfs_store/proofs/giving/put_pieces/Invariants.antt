@@ -1,7 +1,0 @@
-use Rattle.std.proofs.Common.{◌≡◌, drop}
-use Rattle.dfs_store.specs.Giving.{put_pieces}
-use Rattle.dfs_store.proofs.giving.put_pieces.Given as goal
-
--- the pieces that are left, over what was put so far
-abbrev pub invariant-loop-piece : goal.invariant-loop-piece
-invariant-loop-piece l = put_pieces l.kept (drop l.piece-index l.pieces) ≡ put_pieces l.fn.kept l.pieces

@@ -1,0 +1,4 @@
+pub mod Founds
+pub mod Gives
+pub mod Moves
+pub mod Rows

@@ -1,0 +1,9 @@
+pub mod State
+pub mod Sought
+pub mod Replies
+pub mod Outcomes
+pub mod Founding
+pub mod Rows
+pub mod Giving
+pub mod Capacity
+pub mod Laws
