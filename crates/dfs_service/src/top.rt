@@ -5,7 +5,7 @@ ghost use Rattle.script_lines.specs.Sound.{IsSound};
 ghost use Rattle.run_script.specs.Walk.{stuck_at};
 ghost use Rattle.command_words.specs.Command.{command_of, IsWithin};
 ghost use Rattle.command_words.specs.declared.command.Command.{Command as CommandOf};
-ghost use Rattle.dfs_service.specs.declared.outcome.Status.TheVariants.{NoCommand};
+ghost use Rattle.dfs_service.specs.declared.outcome.Status.TheVariants.{NoCommand, NoMemory as OutOfMemory};
 ghost use Rattle.dfs_service.specs.Lines.{usage_line};
 ghost use Rattle.dfs_service.specs.Outcomes.{has_run, may_end, IsEmpty, RanSo, EndsSo};
 ghost use Rattle.dfs_service.specs.Output.{Wrote};
@@ -45,6 +45,7 @@ pub fn run<R: Source, K: Sink>(
         → Wrote usage_line (shown K.tells (K.got sink.old) (K.faults sink.old))
         (shown K.tells (K.got sink.new) (K.faults sink.new)) }
     ensures empty { has_run result.status ≡ false → IsEmpty result }
+    ensures silent { K.tells → result.status ≡ OutOfMemory → K.got sink.new ≡ K.got sink.old }
     ensures ends { (command : CommandOf) → command_of (map string_bytes words.now) ≡ Some command →
         EndsSo command result
         (world (shown R.tells (R.left source.old) (R.faults source.old))
