@@ -36,25 +36,12 @@ fn is_at(filesets: &Items<Fileset>, server: ServerId, id: FilesetId) -> bool
         .any(|fileset| fileset.id == id && fileset.server == server)
 }
 
-// Whether a host has a lock or an open on the filesets of a server.
-fn is_host_at(
-    filesets: &Items<Fileset>,
-    host: HostId,
-    server: ServerId,
-    user: HostId,
-    id: FilesetId,
-) -> bool
-    ensures { result ≡ (user.0 == host.0) && is_at filesets.now server id }
-{
-    user == host && is_at(filesets, server, id)
-}
-
 // Lets a host's locks on the filesets of a server go.
 fn drop_locks(locks: &mut Items<LockUse>, filesets: &Items<Fileset>, host: HostId, server: ServerId)
     ensures { locks.new ≡ filter
         (λ lock. not ((lock.host.0 == host.0) && is_at filesets.now server lock.fid.fileset)) locks.old }
 {
-    locks.retain(|lock| !is_host_at(filesets, host, server, lock.host, lock.fid.fileset));
+    locks.retain(|lock| !(lock.host == host && is_at(filesets, server, lock.fid.fileset)));
 }
 
 // Lets a host's open files on the filesets of a server go.
@@ -62,7 +49,7 @@ fn drop_opens(opens: &mut Items<OpenUse>, filesets: &Items<Fileset>, host: HostI
     ensures { opens.new ≡ filter
         (λ opened. not ((opened.host.0 == host.0) && is_at filesets.now server opened.fid.fileset)) opens.old }
 {
-    opens.retain(|opened| !is_host_at(filesets, host, server, opened.host, opened.fid.fileset));
+    opens.retain(|opened| !(opened.host == host && is_at(filesets, server, opened.fid.fileset)));
 }
 
 // Lets a host's unsaved changes in the filesets of a server go.

@@ -1,43 +1,12 @@
 //! New filesets and clones.
-ghost use Rattle.std.specs.Prelude.{
-  ℕ,
-  nat_le,
-  ◌≡◌,
-  ◌+◌,
-  ◌-◌,
-  ◌^◌,
-  ◌≤◌,
-  ◌<◌,
-  min,
-  Ok,
-  Err,
-  IfOk,
-  OnOk,
-  OnErr,
-  MatchResult,
-};
+ghost use Rattle.std.specs.Prelude.{ℕ, nat_le, ◌≡◌, ◌+◌, ◌-◌, ◌^◌, ◌≤◌, ◌<◌, min, Ok, Err, IfOk, OnOk, OnErr};
+ghost use Rattle.std.specs.Prelude.{MatchResult};
 ghost use Rattle.dfs_base.specs.declared.limits.TheConstants.{FILESETS_MAX, FILESET_NUMBER_MAX};
 ghost use Rattle.dfs_filesets.specs.Promises.{new_promise};
-ghost use Rattle.dfs_tree.specs.Founding.{
-  promised,
-  away_promise,
-  away_promised,
-  promised_at,
-  fileset_count,
-  away_count,
-  count_at,
-  room_of,
-  slot_for,
-  blocks_for,
-  room_for,
-  next_id,
-  with_fileset,
-  new_fileset_target,
-  new_fileset_answer,
-  clone_source,
-  clone_target,
-  clone_answer,
-};
+ghost use Rattle.dfs_tree.specs.Founding.{promised, away_promise, away_promised, promised_at, fileset_count};
+ghost use Rattle.dfs_tree.specs.Founding.{away_count, count_at, room_of, slot_for, blocks_for, room_for, next_id};
+ghost use Rattle.dfs_tree.specs.Founding.{with_fileset, new_fileset_target, new_fileset_answer, clone_source};
+ghost use Rattle.dfs_tree.specs.Founding.{clone_target, clone_answer};
 
 use crate::finding::{find_with_id, id_place};
 use crate::tree::{Away, ServerRoom, Tree};

@@ -2,19 +2,8 @@ ghost use Rattle.std.specs.Prelude.{◌≡◌, ◌==◌, nat_eq, ◌<◌, ◌≤
 ghost use Rattle.std.specs.List.{position};
 ghost use Rattle.dfs_base.specs.Ids.{same_fid};
 ghost use Rattle.dfs_tree.specs.Uses.{label_before};
-ghost use Rattle.dfs_tree.specs.Locks.{
-  is_lock,
-  has_lock,
-  lock_count,
-  covers,
-  is_own_locked,
-  is_excluded,
-  lock_check,
-  lock_place,
-  with_lock,
-  lock_answer,
-  unlock_answer,
-};
+ghost use Rattle.dfs_tree.specs.Locks.{is_lock, has_lock, lock_count, covers, is_own_locked, is_excluded, lock_check};
+ghost use Rattle.dfs_tree.specs.Locks.{lock_place, with_lock, lock_answer, unlock_answer};
 
 use crate::tree::{LockUse, Tree};
 use crate::uses::{label_before, same_label};

@@ -2,16 +2,8 @@
 ghost use Rattle.std.specs.Prelude.{◌≡◌, ◌<◌, ◌≤◌, ◌++◌, [], ◌∷◌, map, flat_map, length, slice_get, IfOk, IfSome, OnOk};
 ghost use Rattle.std.specs.List.{position};
 ghost use Rattle.std.specs.Option.{option_map_or};
-ghost use Rattle.dfs_tree.specs.Losses.{
-  span_loss,
-  file_losses,
-  losses_below,
-  fileset_losses,
-  is_before_at,
-  name_place,
-  places_by_name,
-  losses_of,
-};
+ghost use Rattle.dfs_tree.specs.Losses.{span_loss, file_losses, losses_below, fileset_losses, is_before_at};
+ghost use Rattle.dfs_tree.specs.Losses.{name_place, places_by_name, losses_of};
 
 use crate::tree::Tree;
 use dfs_base::{HostId, Items, Name, NoMemory, Plain, ServerId, Span};

@@ -1,51 +1,12 @@
 //! Filesets that move from one server to another.
-ghost use Rattle.std.specs.Prelude.{
-  ◌≡◌,
-  ◌<◌,
-  ◌≤◌,
-  ◌==◌,
-  nat_eq,
-  ◌&&◌,
-  false,
-  not,
-  if◌then◌else◌,
-  length,
-  filter,
-  map,
-  slice_get,
-  Some,
-  Ok,
-  Err,
-  IfOk,
-  IfSome,
-  OnOk,
-  OnErr,
-  MatchResult,
-};
+ghost use Rattle.std.specs.Prelude.{◌≡◌, ◌<◌, ◌≤◌, ◌==◌, nat_eq, ◌&&◌, false, not, if◌then◌else◌, length, filter};
+ghost use Rattle.std.specs.Prelude.{map, slice_get, Some, Ok, Err, IfOk, IfSome, OnOk, OnErr, MatchResult};
 ghost use Rattle.std.specs.List.{list_any, position};
 ghost use Rattle.dfs_filesets.specs.declared.fileset.TheConstants.{MOVES_MAX};
-ghost use Rattle.dfs_tree.specs.Away.{
-  is_away,
-  is_away_named,
-  has_away,
-  away_before,
-  away_place,
-  with_away,
-  without_away,
-  room_freed,
-};
-ghost use Rattle.dfs_tree.specs.Moving.{
-  is_fileset_used,
-  is_taken_by_other,
-  move_source,
-  leave_check,
-  move_room,
-  move_target,
-  left_by,
-  put_moved,
-  move_answer,
-  left_tree,
-};
+ghost use Rattle.dfs_tree.specs.Away.{is_away, is_away_named, has_away, away_before, away_place, with_away};
+ghost use Rattle.dfs_tree.specs.Away.{without_away, room_freed};
+ghost use Rattle.dfs_tree.specs.Moving.{is_fileset_used, is_taken_by_other, move_source, leave_check, move_room};
+ghost use Rattle.dfs_tree.specs.Moving.{move_target, left_by, put_moved, move_answer, left_tree};
 
 use crate::finding::{is_away_named, is_here};
 use crate::tree::{Away, LockUse, OpenUse, ServerRoom, Tree};
@@ -208,22 +169,11 @@ fn left_by(fileset: &Fileset, to: ServerId) -> Result<Away, NoMemory>
 fn is_fileset_used(locks: &Items<LockUse>, opens: &Items<OpenUse>, id: FilesetId) -> bool
     ensures { result ≡ is_fileset_used locks.now opens.now id }
 {
-    is_locked_in(locks, id) || is_opened_in(opens, id)
-}
-
-fn is_locked_in(locks: &Items<LockUse>, id: FilesetId) -> bool
-    ensures { result ≡ list_any (λ lock. lock.fid.fileset.0 == id.0) locks.now }
-{
     locks.as_slice().iter().any(|lock| lock.fid.fileset == id)
-}
-
-fn is_opened_in(opens: &Items<OpenUse>, id: FilesetId) -> bool
-    ensures { result ≡ list_any (λ opened. opened.fid.fileset.0 == id.0) opens.now }
-{
-    opens
-        .as_slice()
-        .iter()
-        .any(|opened| opened.fid.fileset == id)
+        || opens
+            .as_slice()
+            .iter()
+            .any(|opened| opened.fid.fileset == id)
 }
 
 // Whether this is a server's record of a fileset.

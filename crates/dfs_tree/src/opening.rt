@@ -1,17 +1,8 @@
 ghost use Rattle.std.specs.Prelude.{◌≡◌, ◌==◌, nat_eq, ◌<◌, ◌≤◌, not, filter, length, IfSome, IfOk, OnOk, OnErr};
 ghost use Rattle.std.specs.List.{position};
 ghost use Rattle.dfs_tree.specs.Uses.{label_before};
-ghost use Rattle.dfs_tree.specs.Opens.{
-  is_open,
-  has_open,
-  open_count,
-  is_barred,
-  open_check,
-  open_place,
-  with_open,
-  open_answer,
-  close_answer,
-};
+ghost use Rattle.dfs_tree.specs.Opens.{is_open, has_open, open_count, is_barred, open_check, open_place, with_open};
+ghost use Rattle.dfs_tree.specs.Opens.{open_answer, close_answer};
 
 use crate::tree::{OpenUse, Tree};
 use crate::uses::{label_before, same_label};

@@ -1,6 +1,4 @@
 ghost use Rattle.std.specs.Prelude.{◌≡◌};
-ghost use Rattle.std.specs.List.{list_any};
-ghost use Rattle.dfs_base.specs.Ids.{same_fid};
 ghost use Rattle.dfs_tree.specs.Uses.{is_used, same_label, label_before};
 
 use crate::tree::{LockUse, OpenUse};
@@ -18,20 +16,9 @@ impl InUse for Uses<'_> {
     ghost is_in_use = { λ uses fid. is_used uses.locks.now uses.opens.now fid };
 
     fn is_in_use(&self, fid: Fid) -> bool {
-        is_locked(self.locks, fid) || is_opened(self.opens, fid)
+        self.locks.as_slice().iter().any(|lock| lock.fid == fid)
+            || self.opens.as_slice().iter().any(|opened| opened.fid == fid)
     }
-}
-
-fn is_locked(locks: &Items<LockUse>, fid: Fid) -> bool
-    ensures { result ≡ list_any (λ lock. same_fid lock.fid fid) locks.now }
-{
-    locks.as_slice().iter().any(|lock| lock.fid == fid)
-}
-
-fn is_opened(opens: &Items<OpenUse>, fid: Fid) -> bool
-    ensures { result ≡ list_any (λ opened. same_fid opened.fid fid) opens.now }
-{
-    opens.as_slice().iter().any(|opened| opened.fid == fid)
 }
 
 /// Whether both are one label of one host.

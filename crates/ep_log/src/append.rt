@@ -7,16 +7,8 @@ ghost use Rattle.dfs_base.specs.Crash.{IsSettled, ChangesBy};
 ghost use Rattle.ep_layout.specs.declared.superblock.Superblock.{Superblock};
 ghost use Rattle.ep_layout.specs.Places.{entry_start, pages_of, SameFront};
 ghost use Rattle.ep_layout.specs.Superblock.{IsSuperblock};
-ghost use Rattle.ep_layout.specs.Entry.{
-  gate_at,
-  Fits,
-  Stands,
-  StandFrom,
-  AreOpen,
-  HasEntries,
-  SameButBodies,
-  SameButGates,
-};
+ghost use Rattle.ep_layout.specs.Entry.{gate_at, Fits, Stands, StandFrom, AreOpen, HasEntries, SameButBodies};
+ghost use Rattle.ep_layout.specs.Entry.{SameButGates};
 ghost use Rattle.ep_layout.specs.Half.{IsLog};
 ghost use Rattle.ep_layout.specs.Pages.{HasWhole, HasFirst};
 ghost use Rattle.ep_log.specs.Append.{AllFit, LeavesBlocks, SameRest};

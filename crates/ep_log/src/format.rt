@@ -9,20 +9,8 @@ ghost use Rattle.ep_layout.specs.Places.{in_place, SameFront};
 ghost use Rattle.ep_layout.specs.Server.{IsNewServer};
 ghost use Rattle.ep_layout.specs.Superblock.{IsSuperblock};
 ghost use Rattle.ep_log.specs.Blame.{IsBlamed, IsDiskOrMemory};
-ghost use Rattle.ep_log.specs.Format.{
-  KeepsGate,
-  HasHeaders,
-  SameButHeaders,
-  SameLog,
-  HasFront,
-  SameButFront,
-  HasNewPages,
-  IsPrepared,
-  IsStaged,
-  IsFormatted,
-  IsLeftOfFormat,
-  first_half,
-};
+ghost use Rattle.ep_log.specs.Format.{KeepsGate, HasHeaders, SameButHeaders, SameLog, HasFront, SameButFront};
+ghost use Rattle.ep_log.specs.Format.{HasNewPages, IsPrepared, IsStaged, IsFormatted, IsLeftOfFormat, first_half};
 ghost use Rattle.ep_log.specs.Log.{state_in};
 ghost use Rattle.ep_log.specs.Mount.{IsQuietOr};
 ghost use Rattle.ep_log.specs.Recovered.{blank_page};

@@ -1,26 +1,6 @@
 // What a log keeps in memory, and the calls that need no disk.
-ghost use Rattle.std.specs.Prelude.{
-  ◌≡◌,
-  ◌+◌,
-  ◌*◌,
-  ◌<◌,
-  ◌≤◌,
-  ◌∷◌,
-  [],
-  ℕ,
-  List,
-  length,
-  OnOk,
-  OnErr,
-  IfOk,
-  IfErr,
-  None,
-  true,
-  false,
-  get_or,
-  IsSome,
-  replicate,
-};
+ghost use Rattle.std.specs.Prelude.{◌≡◌, ◌+◌, ◌*◌, ◌<◌, ◌≤◌, ◌∷◌, [], ℕ, List, length, OnOk, OnErr, IfOk, IfErr};
+ghost use Rattle.std.specs.Prelude.{None, true, false, get_or, IsSome, replicate};
 ghost use Rattle.std.specs.Vec.{vec_len, vec_capacity};
 ghost use Rattle.ep_layout.specs.Places.{block_start};
 ghost use Rattle.ep_layout.specs.Pages.{redone, is_named};

@@ -1,22 +1,6 @@
 // The log of a disk, with what its transactions put.
-ghost use Rattle.std.specs.Prelude.{
-  ◌≡◌,
-  ◌≢◌,
-  ◌+◌,
-  ◌*◌,
-  ◌<◌,
-  ◌≤◌,
-  ℕ,
-  List,
-  ◌==◌,
-  if◌then◌else◌,
-  length,
-  get_or,
-  OnOk,
-  OnErr,
-  IfOk,
-  IfErr,
-};
+ghost use Rattle.std.specs.Prelude.{◌≡◌, ◌≢◌, ◌+◌, ◌*◌, ◌<◌, ◌≤◌, ℕ, List, ◌==◌, if◌then◌else◌, length, get_or, OnOk};
+ghost use Rattle.std.specs.Prelude.{OnErr, IfOk, IfErr};
 ghost use Rattle.dfs_base.specs.Image.{byte_at, Torn, Holds};
 ghost use Rattle.dfs_outside.specs.Runs.{LeavesOnly};
 ghost use Rattle.ep_layout.specs.Places.{block_start, SameBlocks};
@@ -50,36 +34,12 @@ impl<D: Disk> Log<D> {
     ghost use Rattle.ep_log.specs.Log.{disk_of, state_of, slot_of, IsSoundLog};
     ghost use Rattle.ep_log.specs.Blame.{IsBlamed, IsDiskOrMemory};
     ghost use Rattle.ep_log.specs.Begin.{IsBegun};
-    ghost use Rattle.ep_log.specs.Contents.{
-      contents_of,
-      over,
-      page_in,
-      last_stage,
-      stage_in,
-      settled_in,
-      block_in,
-      Reads,
-      Keeps,
-      AppendsStage,
-      KeepsLast,
-      IsLeft,
-    };
+    ghost use Rattle.ep_log.specs.Contents.{contents_of, over, page_in, last_stage, stage_in, settled_in, block_in};
+    ghost use Rattle.ep_log.specs.Contents.{Reads, Keeps, AppendsStage, KeepsLast, IsLeft};
     ghost use Rattle.ep_log.specs.Format.{IsFormatted, IsLeftOfFormat, first_half, superblock_of};
     ghost use Rattle.ep_log.specs.Mount.{IsMounted, IsMountFault, IsSameLog, IsQuietOr};
-    ghost use Rattle.ep_log.specs.State.{
-      IsOpen,
-      HasNoOpen,
-      MayPut,
-      HasRoom,
-      free_in,
-      put_of,
-      with_put,
-      closed,
-      ended,
-      forced_all,
-      fresh_state,
-      emptied,
-    };
+    ghost use Rattle.ep_log.specs.State.{IsOpen, HasNoOpen, MayPut, HasRoom, free_in, put_of, with_put, closed};
+    ghost use Rattle.ep_log.specs.State.{ended, forced_all, fresh_state, emptied};
 
     /// Formats a disk as a log of so many blocks, 1 to 66,560. Its first page is that of a server without filesets,
     /// and the other pages are zero. The errors are `Failed`, where the count of faults rose, and `Memory`, which

@@ -1,23 +1,6 @@
 // What recovery makes of the pages that a log's entries name, each of them once, and where it is written.
-ghost use Rattle.std.specs.Prelude.{
-  ◌≡◌,
-  ◌<◌,
-  ◌≤◌,
-  ◌∷◌,
-  ◌++◌,
-  [],
-  ℕ,
-  List,
-  Option,
-  Some,
-  None,
-  false,
-  length,
-  get_or,
-  IsSome,
-  IfOk,
-  OnOk,
-};
+ghost use Rattle.std.specs.Prelude.{◌≡◌, ◌<◌, ◌≤◌, ◌∷◌, ◌++◌, [], ℕ, List, Option, Some, None, false, length, get_or};
+ghost use Rattle.std.specs.Prelude.{IsSome, IfOk, OnOk};
 ghost use Rattle.dfs_base.specs.Crash.{IsSettled, ChangesBy};
 ghost use Rattle.ep_layout.specs.declared.entry.Entry.{Entry as TheEntry};
 ghost use Rattle.ep_layout.specs.Places.{in_place};

@@ -1,6 +1,6 @@
 ghost use Rattle.std.specs.Prelude.{◌≡◌, ◌≤◌, count_by};
 ghost use Rattle.script_lines.specs.Sound.{same_node};
-ghost use Rattle.script_lines.specs.Asks.{is_host, is_call, is_call_of, call_lines};
+ghost use Rattle.script_lines.specs.Asks.{is_call_of, call_lines};
 
 use crate::script::{Deed, Line, Script};
 use dfs_base::{Items, Node};
@@ -38,20 +38,8 @@ fn count_calls(lines: &Items<Line>, host: u8) -> usize
 fn is_call_of(host: u8, line: &Line) -> bool
     ensures { result ≡ is_call_of host line.now }
 {
-    is_host(host, line.node) && is_call(&line.deed)
-}
-
-fn is_host(host: u8, node: Node) -> bool
-    ensures { result ≡ is_host host node }
-{
-    match node {
-        Node::Host(id) => id.0 == host,
-        Node::Server(_) => false,
+    match (line.node, &line.deed) {
+        (Node::Host(id), Deed::Call(_)) => id.0 == host,
+        _ => false,
     }
-}
-
-fn is_call(deed: &Deed) -> bool
-    ensures { result ≡ is_call deed.now }
-{
-    matches!(deed, Deed::Call(_))
 }

@@ -2,29 +2,10 @@ ghost use Rattle.std.specs.Prelude.{◌≡◌, [], true, length, position, OnOk,
 ghost use Rattle.dfs_base.specs.Name.{same_name};
 ghost use Rattle.script_words.specs.Lines.{lines_of};
 ghost use Rattle.script_words.specs.Fields.{node_of};
-ghost use Rattle.script_lines.specs.Clones.{
-  is_host,
-  name_if,
-  clone_of,
-  clone_in,
-  clones_from,
-  most_steps,
-  clone_place,
-  placed_by,
-  with_clones,
-};
-ghost use Rattle.script_lines.specs.Ways.{
-  way_of,
-  route_of,
-  routes_of,
-  server_in,
-  server_by,
-  first_of,
-  put_first,
-  unknown,
-  stage,
-  stages,
-};
+ghost use Rattle.script_lines.specs.Clones.{is_host, name_if, clone_of, clone_in, clones_from, most_steps};
+ghost use Rattle.script_lines.specs.Clones.{clone_place, placed_by, with_clones};
+ghost use Rattle.script_lines.specs.Ways.{way_of, route_of, routes_of, server_in, server_by, first_of, put_first};
+ghost use Rattle.script_lines.specs.Ways.{unknown, stage, stages};
 
 use crate::context::{Context, Placed, find_placed, is_same};
 use crate::leads::placed_at_once;

@@ -2,18 +2,8 @@ ghost use Rattle.std.specs.Prelude.{◌≡◌, true, IfSome, ◌<◌, length};
 ghost use Rattle.std.specs.Option.{option_copied};
 ghost use Rattle.dfs_base.specs.Name.{same_name};
 ghost use Rattle.script_words.specs.Outcome.{Gives};
-ghost use Rattle.script_lines.specs.Context.{
-  find_placed,
-  server_of,
-  is_elsewhere,
-  has_stopped,
-  user_place,
-  place_of,
-  place_at,
-  host_named,
-  server_named,
-  node_declared,
-};
+ghost use Rattle.script_lines.specs.Context.{find_placed, server_of, is_elsewhere, has_stopped, user_place, place_of};
+ghost use Rattle.script_lines.specs.Context.{place_at, host_named, server_named, node_declared};
 
 use crate::script::Script;
 use dfs_base::{HostId, Items, Name, Node, ServerId, User};

@@ -1,29 +1,10 @@
 ghost use Rattle.std.specs.Prelude.{◌≡◌};
 ghost use Rattle.script_words.specs.Outcome.{Gives};
 ghost use Rattle.script_lines.specs.Locks.{lock_part, last_kind};
-ghost use Rattle.script_lines.specs.Deeds.{
-  raise_deed,
-  verb_of,
-  which_of,
-  which_at,
-  only_place,
-  rename_call,
-  truncate_call,
-  clone_call,
-  read_call,
-  write_call,
-  lock_call,
-  open_call,
-  getacl_call,
-  setacl_call,
-  only_label,
-  is_mixed,
-  move_call,
-  call_by,
-  host_deed,
-  server_deed,
-  deed_of,
-};
+ghost use Rattle.script_lines.specs.Deeds.{raise_deed, verb_of, which_of, which_at, only_place, rename_call};
+ghost use Rattle.script_lines.specs.Deeds.{truncate_call, clone_call, read_call, write_call, lock_call, open_call};
+ghost use Rattle.script_lines.specs.Deeds.{getacl_call, setacl_call, only_label, is_mixed, move_call, call_by};
+ghost use Rattle.script_lines.specs.Deeds.{host_deed, server_deed, deed_of};
 
 use crate::context::Context;
 use crate::script::{Deed, NUMBER_MAX};

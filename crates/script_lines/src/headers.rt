@@ -2,26 +2,10 @@ ghost use Rattle.std.specs.Prelude.{◌≡◌, OnOk};
 ghost use Rattle.std.specs.Option.{option_copied};
 ghost use Rattle.script_words.specs.Outcome.{Gives, GivesBy, Becomes};
 ghost use Rattle.script_lines.specs.Context.{server_at};
-ghost use Rattle.script_lines.specs.Headers.{
-  header_of,
-  groups_at,
-  limit_at,
-  user_named,
-  is_capped,
-  has_fileset_at,
-  owner_at,
-  setup_line,
-  with_fileset,
-  servers_line,
-  user_line,
-  host_line,
-  capacity_line,
-  fileset_line,
-  net_line,
-  begin_line,
-  header_by,
-  header_line,
-};
+ghost use Rattle.script_lines.specs.Headers.{header_of, groups_at, limit_at, user_named, is_capped, has_fileset_at};
+ghost use Rattle.script_lines.specs.Headers.{owner_at, setup_line, with_fileset, servers_line, user_line, host_line};
+ghost use Rattle.script_lines.specs.Headers.{capacity_line, fileset_line, net_line, begin_line, header_by};
+ghost use Rattle.script_lines.specs.Headers.{header_line};
 
 use crate::context::{Context, Placed, host_named, server_named};
 use crate::script::{Deed, Line, NET_MAX, Net};

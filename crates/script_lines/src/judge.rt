@@ -1,15 +1,7 @@
 ghost use Rattle.std.specs.Prelude.{◌≡◌, OnOk, IfOk};
 ghost use Rattle.script_words.specs.Outcome.{Gives, Becomes};
-ghost use Rattle.script_lines.specs.Judge.{
-  nothing_said,
-  node_stopped,
-  node_at,
-  noted,
-  with_line,
-  deed_line,
-  taken,
-  line_judged,
-};
+ghost use Rattle.script_lines.specs.Judge.{nothing_said, node_stopped, node_at, noted, with_line, deed_line, taken};
+ghost use Rattle.script_lines.specs.Judge.{line_judged};
 
 use crate::context::Context;
 use crate::headers::header_of;
