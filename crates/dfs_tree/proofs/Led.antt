@@ -84,7 +84,7 @@ pub led_nowhere : (filesets : List Fileset) → position (has_this_id None) file
 led_nowhere filesets = none_position (has_this_id None) filesets (never filesets)
 
 -- the fileset there
-get_there : {X : Type 0} (xs : List X) (i : ℕ) (x : X) → i < length xs → x ≡ get_or xs i x → slice_get xs i ≡ Some x
+pub get_there : {X : Type 0} (xs : List X) (i : ℕ) (x : X) → i < length xs → x ≡ get_or xs i x → slice_get xs i ≡ Some x
 get_there [] i x h e = absurd (omega (arith, h))
 get_there (y ∷ ys) zero x h e = ap Some (sym e)
 get_there (y ∷ ys) (suc i) x h e = get_there ys i x (omega (arith, h)) e

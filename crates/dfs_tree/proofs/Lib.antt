@@ -13,3 +13,4 @@ pub mod Kept
 pub mod Clones
 pub mod Moves
 pub mod Worked
+mod Asked

@@ -1,24 +1,6 @@
 -- Locks.
-use Rattle.std.specs.Prelude.{
-  ℕ,
-  ◌+◌,
-  ◌==◌,
-  nat_lt,
-  nat_le,
-  Bool,
-  ◌&&◌,
-  ◌||◌,
-  not,
-  if◌then◌else◌,
-  List,
-  length,
-  insert,
-  filter,
-  unwrap_or,
-  Result,
-  Ok,
-}
-use Rattle.std.specs.List.{list_any, position, count_by}
+use Rattle.std.specs.Prelude.{ℕ, ◌+◌, ◌==◌, nat_lt, nat_le, Bool, ◌&&◌, ◌||◌, not, if◌then◌else◌, List, Result, Ok}
+use Rattle.std.specs.List.{list_any}
 use Rattle.dfs_base.specs.Outcomes.{and_then, either}
 use Rattle.dfs_base.specs.Spans.{overlap}
 use Rattle.dfs_base.specs.declared.ids.HostId.{HostId}
@@ -37,18 +19,18 @@ use Rattle.dfs_tree.specs.declared.tree.Tree.{Tree}
 use Rattle.dfs_tree.specs.declared.tree.LockUse.{LockUse}
 use Rattle.dfs_tree.specs.Finding.{Answer, refuse, fileset_named}
 use Rattle.dfs_base.specs.Ids.{same_fid}
-use Rattle.dfs_tree.specs.Uses.{same_label, label_before}
+use Rattle.dfs_tree.specs.Uses.{lock_hold, is_under, has_label, label_count, label_place, with_one, without_label}
 
 -- whether this is a host's lock with a label
 abbrev pub is_lock : HostId → List ℕ → LockUse → Bool
-is_lock host label lock = same_label lock.host lock.label host label
+is_lock = is_under lock_hold
 
 abbrev pub has_lock : List LockUse → HostId → List ℕ → Bool
-has_lock locks host label = list_any (is_lock host label) locks
+has_lock = has_label lock_hold
 
 -- how many locks a host has
 abbrev pub lock_count : List LockUse → HostId → ℕ
-lock_count locks host = count_by (λ lock. lock.host.0 == host.0) locks
+lock_count = label_count lock_hold
 
 -- whether a lock is on a file and overlaps a span
 abbrev pub covers : Fid → Span → LockUse → Bool
@@ -77,14 +59,13 @@ lock_check tree host user label place writing from len =
     unless (is_excluded tree.locks host fid span writing) Locked (
     Ok (fid, span))))))))
 
--- where a lock goes: before the first that comes after it
+-- where a lock goes
 abbrev pub lock_place : List LockUse → HostId → List ℕ → ℕ
-lock_place locks host label =
-    unwrap_or (position (λ lock. label_before host label lock.host lock.label) locks) (length locks)
+lock_place = label_place lock_hold
 
 -- a tree with a lock more
 abbrev pub with_lock : Tree → LockUse → Tree
-with_lock tree lock = record tree { locks = insert tree.locks (lock_place tree.locks lock.host lock.label) lock }
+with_lock tree lock = record tree { locks = with_one lock_hold tree.locks lock }
 
 -- Lock: in use under the label
 unfoldable pub lock_answer : Tree → HostId → User → List ℕ → Place → Bool → ℕ → ℕ → Answer
@@ -100,7 +81,4 @@ lock_answer tree host user label place writing from len =
 unfoldable pub unlock_answer : Tree → HostId → List ℕ → Answer
 unlock_answer tree host label =
     if not (has_lock tree.locks host label) then refuse tree NotLocked
-    else record {
-      reply = Done;
-      tree = record tree { locks = filter (λ lock. not (is_lock host label lock)) tree.locks };
-    }
+    else record { reply = Done; tree = record tree { locks = without_label lock_hold tree.locks host label } }

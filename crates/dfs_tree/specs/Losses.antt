@@ -42,6 +42,7 @@ use Rattle.dfs_filesets.specs.Laws.{entries_in}
 use Rattle.dfs_filesets.specs.Walk.{object_at}
 use Rattle.dfs_tree.specs.declared.tree.Tree.{Tree}
 use Rattle.dfs_tree.specs.Finding.{has_id}
+use Rattle.dfs_tree.specs.Uses.{Hold, lock_hold, open_hold}
 
 -- a fileset without a host's unsaved changes
 abbrev pub fileset_forgotten : HostId → Fileset → Fileset
@@ -51,14 +52,18 @@ fileset_forgotten host fileset = record fileset { anodes = map (anode_changed (c
 abbrev pub is_at : List Fileset → ServerId → FilesetId → Bool
 is_at filesets server id = list_any (λ fileset. has_id id fileset && (fileset.server.0 == server.0)) filesets
 
+-- without what a host that is down held of files at a server
+abbrev pub left_held : {U : Type 0} → (U → Hold) → List Fileset → HostId → ServerId → List U → List U
+left_held hold filesets host server all =
+    filter (λ one. not (((hold one).host.0 == host.0) && is_at filesets server (hold one).fid.fileset)) all
+
 -- a tree without a host's unsaved changes, locks and opens on the filesets of a server
 unfoldable pub down_tree : Tree → HostId → ServerId → Tree
 down_tree tree host server = record tree {
   filesets =
       map (λ fileset. if fileset.server.0 == server.0 then fileset_forgotten host fileset else fileset) tree.filesets;
-  locks = filter (λ lock. not ((lock.host.0 == host.0) && is_at tree.filesets server lock.fid.fileset)) tree.locks;
-  opens =
-      filter (λ opened. not ((opened.host.0 == host.0) && is_at tree.filesets server opened.fid.fileset)) tree.opens;
+  locks = left_held lock_hold tree.filesets host server tree.locks;
+  opens = left_held open_hold tree.filesets host server tree.opens;
 }
 
 -- the loss of bytes

@@ -19,13 +19,13 @@ use Rattle.dfs_tree.specs.declared.tree.LockUse.{LockUse}
 use Rattle.dfs_tree.specs.declared.tree.OpenUse.{OpenUse}
 use Rattle.dfs_tree.specs.declared.tree.ServerRoom.{ServerRoom}
 use Rattle.dfs_tree.specs.Away.{is_away_named, has_away, with_away, without_away, room_freed}
+use Rattle.dfs_tree.specs.Uses.{lock_hold, open_hold, is_fileset_held}
 use Rattle.dfs_tree.specs.Finding.{Answer, refuse, found_or, fileset_place, is_here}
 use Rattle.dfs_tree.specs.Founding.{slot_for, blocks_for}
 
 -- whether an object of a fileset is locked, or open, by any host
 abbrev pub is_fileset_used : List LockUse → List OpenUse → FilesetId → Bool
-is_fileset_used locks opens id =
-    list_any (λ lock. lock.fid.fileset.0 == id.0) locks || list_any (λ opened. opened.fid.fileset.0 == id.0) opens
+is_fileset_used locks opens id = is_fileset_held lock_hold locks id || is_fileset_held open_hold opens id
 
 -- whether a server has another fileset, or a record of another one, with the name of a fileset that isn't there
 abbrev pub is_taken_by_other : Tree → ServerId → Fileset → Bool

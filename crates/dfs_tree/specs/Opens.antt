@@ -1,21 +1,6 @@
 -- Open files.
-use Rattle.std.specs.Prelude.{
-  ℕ,
-  ◌==◌,
-  nat_le,
-  Bool,
-  ◌&&◌,
-  not,
-  if◌then◌else◌,
-  List,
-  length,
-  insert,
-  filter,
-  unwrap_or,
-  Result,
-  Ok,
-}
-use Rattle.std.specs.List.{list_any, position, count_by}
+use Rattle.std.specs.Prelude.{ℕ, ◌==◌, nat_le, Bool, ◌&&◌, not, if◌then◌else◌, List, Result, Ok}
+use Rattle.std.specs.List.{list_any}
 use Rattle.dfs_base.specs.Outcomes.{and_then, either}
 use Rattle.dfs_base.specs.declared.ids.HostId.{HostId}
 use Rattle.dfs_base.specs.declared.ids.Fid.{Fid}
@@ -33,18 +18,18 @@ use Rattle.dfs_tree.specs.declared.tree.Tree.{Tree}
 use Rattle.dfs_tree.specs.declared.tree.OpenUse.{OpenUse}
 use Rattle.dfs_tree.specs.Finding.{Answer, refuse, fileset_named}
 use Rattle.dfs_base.specs.Ids.{same_fid}
-use Rattle.dfs_tree.specs.Uses.{same_label, label_before}
+use Rattle.dfs_tree.specs.Uses.{open_hold, is_under, has_label, label_count, label_place, with_one, without_label}
 
 -- whether this is a host's open file with a label
 abbrev pub is_open : HostId → List ℕ → OpenUse → Bool
-is_open host label opened = same_label opened.host opened.label host label
+is_open = is_under open_hold
 
 abbrev pub has_open : List OpenUse → HostId → List ℕ → Bool
-has_open opens host label = list_any (is_open host label) opens
+has_open = has_label open_hold
 
 -- how many open files a host has
 abbrev pub open_count : List OpenUse → HostId → ℕ
-open_count opens host = count_by (λ opened. opened.host.0 == host.0) opens
+open_count = label_count open_hold
 
 -- whether another host has a file open so that an open of this kind is excluded
 abbrev pub is_barred : List OpenUse → HostId → Fid → OpenKind → Bool
@@ -62,15 +47,13 @@ open_check tree host user label place kind =
     unless (is_barred tree.opens host fid kind) OpenConflict (
     Ok fid)))))
 
--- where an open file goes: before the first that comes after it
+-- where an open file goes
 abbrev pub open_place : List OpenUse → HostId → List ℕ → ℕ
-open_place opens host label =
-    unwrap_or (position (λ opened. label_before host label opened.host opened.label) opens) (length opens)
+open_place = label_place open_hold
 
 -- a tree with an open file more
 abbrev pub with_open : Tree → OpenUse → Tree
-with_open tree opened =
-    record tree { opens = insert tree.opens (open_place tree.opens opened.host opened.label) opened }
+with_open tree opened = record tree { opens = with_one open_hold tree.opens opened }
 
 -- OpenFile: in use under the label
 unfoldable pub open_answer : Tree → HostId → User → List ℕ → Place → OpenKind → Answer
@@ -84,7 +67,4 @@ open_answer tree host user label place kind =
 unfoldable pub close_answer : Tree → HostId → List ℕ → Answer
 close_answer tree host label =
     if not (has_open tree.opens host label) then refuse tree NotOpened
-    else record {
-      reply = Done;
-      tree = record tree { opens = filter (λ opened. not (is_open host label opened)) tree.opens };
-    }
+    else record { reply = Done; tree = record tree { opens = without_label open_hold tree.opens host label } }

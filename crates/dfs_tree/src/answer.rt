@@ -1,11 +1,13 @@
-ghost use Rattle.std.specs.Prelude.{◌≡◌, ◌<◌, length, IfOk, OnOk, OnErr};
-ghost use Rattle.dfs_tree.specs.Answers.{deciding_place, fileset_row, answer_for, answer_to};
+ghost use Rattle.std.specs.Prelude.{◌≡◌, ◌<◌, ◌==◌, true, Ok, Err, length, IfOk, OnOk, OnErr};
+ghost use Rattle.std.specs.Option.{option_copied};
+ghost use Rattle.dfs_calls.specs.Rosters.{user_of};
+ghost use Rattle.dfs_tree.specs.Answers.{deciding_place, answer_for, answer_to};
 
 use crate::locking::Range;
 use crate::tree::Tree;
 use crate::uses::Uses;
 use dfs_base::{HostId, NoMemory, Rights, User};
-use dfs_calls::{Call, Refusal, Reply};
+use dfs_calls::{Call, Refusal, Reply, Roster};
 
 impl Tree {
     /// Answers a call of a host. A refused call changes nothing, and so does want of memory. A host that isn't declared
@@ -16,14 +18,46 @@ impl Tree {
         ensures tree { OnOk result (self.new ≡ (answer_to self.old host call.now).tree) }
         ensures err { OnErr result (self.new ≡ self.old) }
     {
+        let refusal = match self.deciding_place(call) {
+            Ok(place) => return self.ask_fileset(place, host, call),
+            Err(refusal) => refusal,
+        };
         match self.roster.user_of(host)? {
-            Some(user) => self.answer_for(host, call, &user),
+            Some(user) => self.answer_for(refusal, host, call, &user),
             None => Ok(Reply::Refused(Refusal::Denied(Rights::NONE))),
         }
     }
 
-    #[tactic(auto, unfolding(crate::specs::Answers::answer_for))]
-    fn answer_for(&mut self, host: HostId, call: &Call, user: &User) -> Result<Reply, NoMemory>
+    // A call that the fileset at a place decides alone. A declared host's user is lent by the roster.
+    #[tactic(auto, unfolding(crate::specs::Answers::answer_to))]
+    fn ask_fileset(&mut self, place: usize, host: HostId, call: &Call) -> Result<Reply, NoMemory>
+        requires decided { deciding_place self.old call.now ≡ Ok place }
+        requires within { place < length self.old.filesets }
+        ensures reply { IfOk result (λ reply. reply ≡ (answer_to self.old host call.now).reply) }
+        ensures tree { OnOk result (self.new ≡ (answer_to self.old host call.now).tree) }
+        ensures err { OnErr result (self.new ≡ self.old) }
+    {
+        let setup = self.setup_user(host)?;
+        let uses = Uses {
+            locks: &self.locks,
+            opens: &self.opens,
+        };
+        match user_at(&self.roster, host, &setup) {
+            Some(user) => self.filesets.get_mut(place).answer(&uses, host, user, call),
+            None => Ok(Reply::Refused(Refusal::Denied(Rights::NONE))),
+        }
+    }
+
+    // A user's call that no fileset decides alone: one of the tree itself, or one that is refused.
+    #[tactic(auto, unfolding(crate::specs::Answers::answer_for, crate::specs::Answers::fileset_row))]
+    fn answer_for(
+        &mut self,
+        refusal: Refusal,
+        host: HostId,
+        call: &Call,
+        user: &User,
+    ) -> Result<Reply, NoMemory>
+        requires { deciding_place self.old call.now ≡ Err refusal }
         ensures reply { IfOk result (λ reply. reply ≡ (answer_for self.old host call.now user.now).reply) }
         ensures tree { OnOk result (self.new ≡ (answer_for self.old host call.now user.now).tree) }
         ensures err { OnErr result (self.new ≡ self.old) }
@@ -72,26 +106,18 @@ impl Tree {
             | Call::List { .. }
             | Call::Stat { .. }
             | Call::GetAcl { .. }
-            | Call::Sync { .. } => self.ask_fileset(host, user, call),
+            | Call::Sync { .. } => Ok(Reply::Refused(refusal)),
         }
     }
 
-    // A call that one fileset decides.
-    #[tactic(auto, unfolding(crate::specs::Answers::fileset_row))]
-    fn ask_fileset(&mut self, host: HostId, user: &User, call: &Call) -> Result<Reply, NoMemory>
-        ensures reply { IfOk result (λ reply. reply ≡ (fileset_row self.old host user.now call.now).reply) }
-        ensures tree { OnOk result (self.new ≡ (fileset_row self.old host user.now call.now).tree) }
-        ensures err { OnErr result (self.new ≡ self.old) }
+    // The setup host's user, where this is it.
+    fn setup_user(&self, host: HostId) -> Result<Option<User>, NoMemory>
+        ensures { IfOk result (λ setup. (host.0 == 0) ≡ true → setup ≡ user_of self.now.roster host) }
     {
-        let place = match self.deciding_place(call) {
-            Ok(place) => place,
-            Err(refusal) => return Ok(Reply::Refused(refusal)),
-        };
-        let uses = Uses {
-            locks: &self.locks,
-            opens: &self.opens,
-        };
-        self.filesets.get_mut(place).answer(&uses, host, user, call)
+        if host != HostId::SETUP {
+            return Ok(None);
+        }
+        self.roster.user_of(host)
     }
 
     // The place of the fileset that decides a call alone.
@@ -121,4 +147,16 @@ impl Tree {
             | Call::CloseFile { .. } => Err(Refusal::NoFileset),
         }
     }
+}
+
+// The user for whom a host acts, where it is declared; the setup host's is given.
+fn user_at<'a>(roster: &'a Roster, host: HostId, setup: &'a Option<User>) -> Option<&'a User>
+    requires { (host.0 == 0) ≡ true → setup.now ≡ user_of roster.now host }
+    ensures { option_copied result ≡ user_of roster.now host }
+{
+    if host == HostId::SETUP {
+        return setup.as_ref();
+    }
+    let line = roster.hosts.at(usize::from(host.0.saturating_sub(1)))?;
+    roster.users.at(line.user as usize)
 }

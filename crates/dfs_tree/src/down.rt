@@ -1,8 +1,9 @@
-ghost use Rattle.std.specs.Prelude.{◌≡◌, ◌==◌, nat_eq, ◌&&◌, not, if◌then◌else◌, map, filter, IfOk, OnOk, OnErr};
+ghost use Rattle.std.specs.Prelude.{◌≡◌, ◌==◌, nat_eq, if◌then◌else◌, map, IfOk, OnOk, OnErr};
 ghost use Rattle.dfs_objects.specs.Changes.{anode_changed, content_forgotten};
-ghost use Rattle.dfs_tree.specs.Losses.{fileset_forgotten, is_at, down_tree, losses_of};
+ghost use Rattle.dfs_tree.specs.Losses.{fileset_forgotten, is_at, left_held, down_tree, losses_of};
 
-use crate::tree::{LockUse, OpenUse, Tree};
+use crate::tree::Tree;
+use crate::uses::Held;
 use dfs_base::{FilesetId, HostId, Items, NoMemory, ServerId};
 use dfs_calls::Loss;
 use dfs_filesets::Fileset;
@@ -19,8 +20,8 @@ impl Tree {
         ensures err { OnErr result (self.new ≡ self.old) }
     {
         let losses = self.losses_of(host, server)?;
-        drop_locks(&mut self.locks, &self.filesets, host, server);
-        drop_opens(&mut self.opens, &self.filesets, host, server);
+        drop_held(&mut self.locks, &self.filesets, host, server);
+        drop_held(&mut self.opens, &self.filesets, host, server);
         forget_filesets(&mut self.filesets, host, server);
         Ok(losses)
     }
@@ -36,20 +37,11 @@ fn is_at(filesets: &Items<Fileset>, server: ServerId, id: FilesetId) -> bool
         .any(|fileset| fileset.id == id && fileset.server == server)
 }
 
-// Lets a host's locks on the filesets of a server go.
-fn drop_locks(locks: &mut Items<LockUse>, filesets: &Items<Fileset>, host: HostId, server: ServerId)
-    ensures { locks.new ≡ filter
-        (λ lock. not ((lock.host.0 == host.0) && is_at filesets.now server lock.fid.fileset)) locks.old }
+// Lets what a host holds of files at a server go.
+fn drop_held<U: Held>(all: &mut Items<U>, filesets: &Items<Fileset>, host: HostId, server: ServerId)
+    ensures { all.new ≡ left_held U.hold filesets.now host server all.old }
 {
-    locks.retain(|lock| !(lock.host == host && is_at(filesets, server, lock.fid.fileset)));
-}
-
-// Lets a host's open files on the filesets of a server go.
-fn drop_opens(opens: &mut Items<OpenUse>, filesets: &Items<Fileset>, host: HostId, server: ServerId)
-    ensures { opens.new ≡ filter
-        (λ opened. not ((opened.host.0 == host.0) && is_at filesets.now server opened.fid.fileset)) opens.old }
-{
-    opens.retain(|opened| !(opened.host == host && is_at(filesets, server, opened.fid.fileset)));
+    all.retain(|one| !(one.host() == host && is_at(filesets, server, one.fid().fileset)));
 }
 
 // Lets a host's unsaved changes in the filesets of a server go.

@@ -1,12 +1,9 @@
-ghost use Rattle.std.specs.Prelude.{◌≡◌, ◌==◌, nat_eq, ◌<◌, ◌≤◌, not, filter, length, IfSome, IfOk, OnOk, OnErr};
-ghost use Rattle.std.specs.List.{position};
+ghost use Rattle.std.specs.Prelude.{◌≡◌, ◌==◌, nat_eq, IfOk, OnOk, OnErr};
 ghost use Rattle.dfs_base.specs.Ids.{same_fid};
-ghost use Rattle.dfs_tree.specs.Uses.{label_before};
-ghost use Rattle.dfs_tree.specs.Locks.{is_lock, has_lock, lock_count, covers, is_own_locked, is_excluded, lock_check};
-ghost use Rattle.dfs_tree.specs.Locks.{lock_place, with_lock, lock_answer, unlock_answer};
+ghost use Rattle.dfs_tree.specs.Locks.{covers, is_own_locked, is_excluded, lock_check, lock_answer, unlock_answer};
 
 use crate::tree::{LockUse, Tree};
-use crate::uses::{label_before, same_label};
+use crate::uses::{add_one, drop_label, has_label, label_count};
 use dfs_base::{FILE_BYTES_MAX, Fid, HostId, Items, LABELS_MAX, Name, NoMemory, Plain, Span, User};
 use dfs_calls::{Place, Refusal, Reply};
 use dfs_objects::span_between;
@@ -40,13 +37,14 @@ impl Tree {
             Ok(found) => found,
             Err(refusal) => return Ok(Reply::Refused(refusal)),
         };
-        self.add_lock(LockUse {
+        let lock = LockUse {
             host,
             label: label.copy()?,
             fid,
             writing,
             span,
-        })?;
+        };
+        add_one(&mut self.locks, lock)?;
         Ok(Reply::Ok)
     }
 
@@ -56,10 +54,10 @@ impl Tree {
         ensures reply { result ≡ (unlock_answer self.old host label.now).reply }
         ensures tree { self.new ≡ (unlock_answer self.old host label.now).tree }
     {
-        if !has_lock(&self.locks, host, label) {
+        if !has_label(&self.locks, host, label) {
             return Reply::Refused(Refusal::NotLocked);
         }
-        drop_lock(&mut self.locks, host, label);
+        drop_label(&mut self.locks, host, label);
         Reply::Ok
     }
 
@@ -76,10 +74,10 @@ impl Tree {
     ) -> Result<(Fid, Span), Refusal>
         ensures { result ≡ lock_check self.now host user.now label.now place.now writing range.from range.len }
     {
-        if has_lock(&self.locks, host, label) {
+        if has_label(&self.locks, host, label) {
             return Err(Refusal::AlreadyLocked);
         }
-        if LABELS_MAX <= lock_count(&self.locks, host) {
+        if LABELS_MAX <= label_count(&self.locks, host) {
             return Err(Refusal::TooMany);
         }
         let fileset = self.fileset_named(place.server, &place.fileset)?;
@@ -98,47 +96,6 @@ impl Tree {
         }
         Ok((fid, span))
     }
-
-    fn add_lock(&mut self, lock: LockUse) -> Result<(), NoMemory>
-        ensures ok { OnOk result (self.new ≡ with_lock self.old lock) }
-        ensures err { OnErr result (self.new ≡ self.old) }
-    {
-        let place = lock_place(&self.locks, lock.host, &lock.label);
-        self.locks.insert(place, lock)
-    }
-}
-
-fn is_lock(lock: &LockUse, host: HostId, label: &Name) -> bool
-    ensures { result ≡ is_lock host label.now lock.now }
-{
-    same_label(lock.host, &lock.label, host, label)
-}
-
-fn has_lock(locks: &Items<LockUse>, host: HostId, label: &Name) -> bool
-    ensures { result ≡ has_lock locks.now host label.now }
-{
-    locks
-        .as_slice()
-        .iter()
-        .any(|lock| is_lock(lock, host, label))
-}
-
-// Lets a host's lock with a label go.
-fn drop_lock(locks: &mut Items<LockUse>, host: HostId, label: &Name)
-    ensures { locks.new ≡ filter (λ lock. not (is_lock host label.now lock)) locks.old }
-{
-    locks.retain(|lock| !is_lock(lock, host, label));
-}
-
-// How many locks a host has.
-fn lock_count(locks: &Items<LockUse>, host: HostId) -> usize
-    ensures { result ≡ lock_count locks.now host }
-{
-    locks
-        .as_slice()
-        .iter()
-        .filter(|lock| lock.host == host)
-        .count()
 }
 
 // Whether a lock is on a file and overlaps a span.
@@ -165,26 +122,4 @@ fn is_excluded(locks: &Items<LockUse>, host: HostId, fid: Fid, span: Span, writi
     locks.as_slice().iter().any(|lock| lock.host != host
         && covers(lock, fid, span)
         && (lock.writing || writing))
-}
-
-// The first lock that comes after a host's label.
-fn first_after(locks: &Items<LockUse>, host: HostId, label: &Name) -> Option<usize>
-    ensures value { result ≡ position (λ lock. label_before host label.now lock.host lock.label) locks.now }
-    ensures within { IfSome result (λ place. place < length locks.now) }
-{
-    locks
-        .as_slice()
-        .iter()
-        .position(|lock| label_before(host, label, lock.host, &lock.label))
-}
-
-// Where a lock goes.
-fn lock_place(locks: &Items<LockUse>, host: HostId, label: &Name) -> usize
-    ensures value { result ≡ lock_place locks.now host label.now }
-    ensures within { result ≤ length locks.now }
-{
-    match first_after(locks, host, label) {
-        Some(place) => place,
-        None => locks.len(),
-    }
 }

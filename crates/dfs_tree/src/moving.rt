@@ -1,18 +1,22 @@
 //! Filesets that move from one server to another.
-ghost use Rattle.std.specs.Prelude.{◌≡◌, ◌<◌, ◌≤◌, ◌==◌, nat_eq, ◌&&◌, false, not, if◌then◌else◌, length, filter};
+ghost use Rattle.std.specs.Prelude.{◌≡◌, ◌<◌, ◌≤◌, ◌==◌, nat_eq, ◌&&◌, false, not, if◌then◌else◌, length};
 ghost use Rattle.std.specs.Prelude.{map, slice_get, Some, Ok, Err, IfOk, IfSome, OnOk, OnErr, MatchResult};
 ghost use Rattle.std.specs.List.{list_any, position};
 ghost use Rattle.dfs_filesets.specs.declared.fileset.TheConstants.{MOVES_MAX};
 ghost use Rattle.dfs_tree.specs.Away.{is_away, is_away_named, has_away, away_before, away_place, with_away};
 ghost use Rattle.dfs_tree.specs.Away.{without_away, room_freed};
-ghost use Rattle.dfs_tree.specs.Moving.{is_fileset_used, is_taken_by_other, move_source, leave_check, move_room};
+ghost use Rattle.dfs_tree.specs.Moving.{is_taken_by_other, move_source, leave_check, move_room};
 ghost use Rattle.dfs_tree.specs.Moving.{move_target, left_by, put_moved, move_answer, left_tree};
 
 use crate::finding::{is_away_named, is_here};
-use crate::tree::{Away, LockUse, OpenUse, ServerRoom, Tree};
+use crate::tree::{Away, ServerRoom, Tree};
+use crate::uses::is_fileset_held;
 use dfs_base::{FilesetId, Items, Name, NoMemory, Plain, ServerId, User};
 use dfs_calls::{Refusal, Reply};
 use dfs_filesets::{Fileset, MOVES_MAX};
+
+/// A fileset, and its place in the list.
+type Found<'a> = (usize, &'a Fileset);
 
 impl Tree {
     /// A server learns that a fileset which moved away from it has arrived: it keeps no more room for it. Nothing
@@ -49,12 +53,7 @@ impl Tree {
 
     // The fileset that a user may move, and its place in the list.
     #[tactic(auto, unfolding(crate::specs::Moving::move_source))]
-    fn move_source(
-        &self,
-        user: &User,
-        server: ServerId,
-        name: &Name,
-    ) -> Result<(usize, &Fileset), Refusal>
+    fn move_source(&self, user: &User, server: ServerId, name: &Name) -> Result<Found<'_>, Refusal>
         ensures { MatchResult result (λ found. move_source self.now user.now server name.now
             ≡ Ok (found.0, found.1.now)) (λ refusal. move_source self.now user.now server name.now ≡ Err refusal) }
     {
@@ -75,7 +74,7 @@ impl Tree {
         if fileset.server == to {
             return Err(Refusal::Exists);
         }
-        if is_fileset_used(&self.locks, &self.opens, fileset.id) {
+        if is_fileset_held(&self.locks, fileset.id) || is_fileset_held(&self.opens, fileset.id) {
             return Err(Refusal::InUse);
         }
         if MOVES_MAX <= fileset.moves {
@@ -104,7 +103,7 @@ impl Tree {
         server: ServerId,
         name: &Name,
         to: ServerId,
-    ) -> Result<(usize, &Fileset), Refusal>
+    ) -> Result<Found<'_>, Refusal>
         ensures value { MatchResult result (λ found. move_target self.now user.now server name.now to
             ≡ Ok (found.0, found.1.now)) (λ refusal. move_target self.now user.now server name.now to ≡ Err refusal) }
         ensures moves { IfOk result (λ found. found.1.now.moves < MOVES_MAX) }
@@ -163,17 +162,6 @@ fn left_by(fileset: &Fileset, to: ServerId) -> Result<Away, NoMemory>
         to,
         room_kept: true,
     })
-}
-
-// Whether an object of a fileset is locked, or open, by any host.
-fn is_fileset_used(locks: &Items<LockUse>, opens: &Items<OpenUse>, id: FilesetId) -> bool
-    ensures { result ≡ is_fileset_used locks.now opens.now id }
-{
-    locks.as_slice().iter().any(|lock| lock.fid.fileset == id)
-        || opens
-            .as_slice()
-            .iter()
-            .any(|opened| opened.fid.fileset == id)
 }
 
 // Whether this is a server's record of a fileset.

@@ -1,11 +1,8 @@
-ghost use Rattle.std.specs.Prelude.{◌≡◌, ◌==◌, nat_eq, ◌<◌, ◌≤◌, not, filter, length, IfSome, IfOk, OnOk, OnErr};
-ghost use Rattle.std.specs.List.{position};
-ghost use Rattle.dfs_tree.specs.Uses.{label_before};
-ghost use Rattle.dfs_tree.specs.Opens.{is_open, has_open, open_count, is_barred, open_check, open_place, with_open};
-ghost use Rattle.dfs_tree.specs.Opens.{open_answer, close_answer};
+ghost use Rattle.std.specs.Prelude.{◌≡◌, ◌==◌, nat_eq, IfOk, OnOk, OnErr};
+ghost use Rattle.dfs_tree.specs.Opens.{is_barred, open_check, open_answer, close_answer};
 
 use crate::tree::{OpenUse, Tree};
-use crate::uses::{label_before, same_label};
+use crate::uses::{add_one, drop_label, has_label, label_count};
 use dfs_base::{Fid, HostId, Items, LABELS_MAX, Name, NoMemory, OpenKind, Plain, User};
 use dfs_calls::{Place, Refusal, Reply};
 
@@ -29,12 +26,13 @@ impl Tree {
             Ok(fid) => fid,
             Err(refusal) => return Ok(Reply::Refused(refusal)),
         };
-        self.add_open(OpenUse {
+        let opened = OpenUse {
             host,
             label: label.copy()?,
             fid,
             kind,
-        })?;
+        };
+        add_one(&mut self.opens, opened)?;
         Ok(Reply::Ok)
     }
 
@@ -44,10 +42,10 @@ impl Tree {
         ensures reply { result ≡ (close_answer self.old host label.now).reply }
         ensures tree { self.new ≡ (close_answer self.old host label.now).tree }
     {
-        if !has_open(&self.opens, host, label) {
+        if !has_label(&self.opens, host, label) {
             return Reply::Refused(Refusal::NotOpened);
         }
-        drop_open(&mut self.opens, host, label);
+        drop_label(&mut self.opens, host, label);
         Reply::Ok
     }
 
@@ -63,10 +61,10 @@ impl Tree {
     ) -> Result<Fid, Refusal>
         ensures { result ≡ open_check self.now host user.now label.now place.now kind }
     {
-        if has_open(&self.opens, host, label) {
+        if has_label(&self.opens, host, label) {
             return Err(Refusal::AlreadyOpened);
         }
-        if LABELS_MAX <= open_count(&self.opens, host) {
+        if LABELS_MAX <= label_count(&self.opens, host) {
             return Err(Refusal::TooMany);
         }
         let fileset = self.fileset_named(place.server, &place.fileset)?;
@@ -76,47 +74,6 @@ impl Tree {
         }
         Ok(fid)
     }
-
-    fn add_open(&mut self, opened: OpenUse) -> Result<(), NoMemory>
-        ensures ok { OnOk result (self.new ≡ with_open self.old opened) }
-        ensures err { OnErr result (self.new ≡ self.old) }
-    {
-        let place = open_place(&self.opens, opened.host, &opened.label);
-        self.opens.insert(place, opened)
-    }
-}
-
-fn is_open(opened: &OpenUse, host: HostId, label: &Name) -> bool
-    ensures { result ≡ is_open host label.now opened.now }
-{
-    same_label(opened.host, &opened.label, host, label)
-}
-
-fn has_open(opens: &Items<OpenUse>, host: HostId, label: &Name) -> bool
-    ensures { result ≡ has_open opens.now host label.now }
-{
-    opens
-        .as_slice()
-        .iter()
-        .any(|opened| is_open(opened, host, label))
-}
-
-// Lets a host's open file with a label go.
-fn drop_open(opens: &mut Items<OpenUse>, host: HostId, label: &Name)
-    ensures { opens.new ≡ filter (λ opened. not (is_open host label.now opened)) opens.old }
-{
-    opens.retain(|opened| !is_open(opened, host, label));
-}
-
-// How many open files a host has.
-fn open_count(opens: &Items<OpenUse>, host: HostId) -> usize
-    ensures { result ≡ open_count opens.now host }
-{
-    opens
-        .as_slice()
-        .iter()
-        .filter(|opened| opened.host == host)
-        .count()
 }
 
 // Whether another host has a file open so that an open of this kind is excluded.
@@ -126,23 +83,4 @@ fn is_barred(opens: &Items<OpenUse>, host: HostId, fid: Fid, kind: OpenKind) -> 
     opens.as_slice().iter().any(|opened| opened.host != host
         && opened.fid == fid
         && opened.kind.conflicts(kind))
-}
-
-// The first open file that comes after a host's label.
-fn first_after(opens: &Items<OpenUse>, host: HostId, label: &Name) -> Option<usize>
-    ensures value { result ≡ position (λ opened. label_before host label.now opened.host opened.label) opens.now }
-    ensures within { IfSome result (λ place. place < length opens.now) }
-{
-    opens.as_slice().iter().position(|opened| label_before(host, label, opened.host, &opened.label))
-}
-
-// Where an open file goes.
-fn open_place(opens: &Items<OpenUse>, host: HostId, label: &Name) -> usize
-    ensures value { result ≡ open_place opens.now host label.now }
-    ensures within { result ≤ length opens.now }
-{
-    match first_after(opens, host, label) {
-        Some(place) => place,
-        None => opens.len(),
-    }
 }
