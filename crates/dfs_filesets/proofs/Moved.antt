@@ -9,7 +9,6 @@ use Rattle.dfs_objects.specs.declared.content.Content.TheVariants.{Dir, File}
 use Rattle.dfs_objects.specs.declared.content.Object.{Object}
 use Rattle.dfs_objects.specs.declared.content.Anode.{Anode}
 use Rattle.dfs_objects.specs.Changes.{content_changed, content_as_cloned}
-use Rattle.dfs_objects.specs.Files.{present_bytes}
 use Rattle.dfs_objects.proofs.Rising.{and_both}
 use Rattle.dfs_filesets.specs.declared.fileset.Fileset.{Fileset}
 use Rattle.dfs_filesets.specs.Founding.{anode_as_cloned, cloned, moved}

@@ -37,6 +37,12 @@ IsAnswer (Ok reply) answer old new = answer ≡ record { reply = reply; fileset 
 IsAnswer (Err (RefusedBy refusal)) answer old new = (answer ≡ refused old refusal) × (new ≡ old)
 IsAnswer (Err Memory) answer old new = new ≡ old
 
+-- a call is replied as the definition says; without memory it isn't
+abbrev pub IsReply : Result Reply NotDone → Reply → Type 0
+IsReply (Ok reply) expected = expected ≡ reply
+IsReply (Err (RefusedBy refusal)) expected = expected ≡ Refused refusal
+IsReply (Err Memory) expected = Unit {0}
+
 -- what is found is what the definition says; without memory nothing is
 abbrev pub IsFound : {A : Type 0} → Result A NotDone → Result A Refusal → Type 0
 IsFound (Ok value) found = found ≡ Ok value

@@ -96,7 +96,7 @@ impl Fileset {
 
     // The file that the user may write, where `len` bytes from `from` on end in time.
     #[tactic(auto, unfolding(crate::specs::Changing::write_target))]
-    fn write_target(
+    pub(crate) fn write_target(
         &self,
         user: &User,
         path: &[Name],
@@ -119,7 +119,12 @@ impl Fileset {
 
     // The object of which the user may replace this list.
     #[tactic(auto, unfolding(crate::specs::Changing::set_access_target))]
-    fn set_access_target(&self, user: &User, path: &[Name], which: Which) -> Result<u32, Refusal>
+    pub(crate) fn set_access_target(
+        &self,
+        user: &User,
+        path: &[Name],
+        which: Which,
+    ) -> Result<u32, Refusal>
         ensures { result ≡ set_access_target self.now user.now path.now which }
     {
         if self.read_only {

@@ -70,7 +70,7 @@ impl Fileset {
 
     // The new object, where the user may make it.
     #[tactic(auto, unfolding(crate::specs::Creation::create_target))]
-    fn create_target(
+    pub(crate) fn create_target(
         &self,
         kind: NewObject,
         user: &User,

@@ -13,6 +13,7 @@ mod outcome;
 mod promise;
 mod removing;
 mod renaming;
+mod replying;
 mod telling;
 mod using;
 mod walk;

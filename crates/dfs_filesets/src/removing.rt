@@ -44,7 +44,7 @@ impl Fileset {
 
     // The directory, the name in it, and the anode of the object that the user may remove.
     #[tactic(auto, unfolding(crate::specs::Removal::remove_target))]
-    fn remove_target<'a, U: InUse>(
+    pub(crate) fn remove_target<'a, U: InUse>(
         &self,
         uses: &U,
         user: &User,

@@ -45,7 +45,12 @@ impl Fileset {
 
     // The entry that the user may move.
     #[tactic(auto, unfolding(crate::specs::Renaming::rename_target))]
-    fn rename_target(&self, user: &User, from: &[Name], to: &[Name]) -> Result<Move, NotDone>
+    pub(crate) fn rename_target(
+        &self,
+        user: &User,
+        from: &[Name],
+        to: &[Name],
+    ) -> Result<Move, NotDone>
         ensures { IsFound result (rename_target self.now user.now from.now to.now) }
     {
         if self.read_only {
