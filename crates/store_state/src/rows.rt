@@ -20,13 +20,11 @@ ghost use Rattle.store_state.specs.Rows.{
   numbered_id,
   found_named,
 };
-ghost use Rattle.dfs_filesets.specs.Rows.{fileset_answer};
+ghost use Rattle.dfs_base.specs.declared.ids.HostId.{HostId};
 
 use crate::finding::{Sought, held, slot_of};
 use crate::state::{Holding, StoreState};
-use dfs_base::{
-    FILE_BYTES_MAX, Fid, FilesetId, HostId, Name, NoMemory, OpenKind, Plain, Rights, User,
-};
+use dfs_base::{FILE_BYTES_MAX, Fid, FilesetId, HostId, Name, NoMemory, OpenKind, Rights, User};
 use dfs_calls::{Call, Place, Refusal, Reply};
 use dfs_filesets::{Fileset, InUse};
 
@@ -64,31 +62,14 @@ fn answer_in(
     }
 }
 
-// What the fileset in a slot would reply.
-fn reply_in(
-    slot: &Option<Holding>,
-    host: HostId,
-    user: &User,
-    call: &Call,
-) -> Result<Reply, NoMemory>
-    ensures { IfOk result (λ reply. reply ≡ held_reply host user.now call.now slot.now) }
+// What the fileset in a slot would reply to a host.
+fn reply_in(slot: &Option<Holding>, user: &User, call: &Call) -> Result<Reply, NoMemory>
+    ensures { (host : HostId) → IfOk result (λ reply. reply ≡ held_reply host user.now call.now slot.now) }
 {
     match slot {
-        Some(holding) => reply_of_copy(&holding.fileset, host, user, call),
+        Some(holding) => holding.fileset.reply_to(&NothingUsed, user, call),
         None => Ok(Reply::Refused(Refusal::NoFileset)),
     }
-}
-
-fn reply_of_copy(
-    fileset: &Fileset,
-    host: HostId,
-    user: &User,
-    call: &Call,
-) -> Result<Reply, NoMemory>
-    ensures { IfOk result (λ reply. reply ≡ (fileset_answer fileset.now nothing_used host user.now call.now).reply) }
-{
-    let mut copy = fileset.copy()?;
-    copy.answer(&NothingUsed, host, user, call)
 }
 
 impl StoreState {
@@ -124,19 +105,14 @@ impl StoreState {
         }
     }
 
-    // What it would reply.
+    // What it would reply to a host.
     #[tactic(auto, unfolding(crate::specs::Rows::named_row))]
-    fn named_reply(
-        &self,
-        name: &Name,
-        host: HostId,
-        user: &User,
-        call: &Call,
-    ) -> Result<Reply, NoMemory>
-        ensures { IfOk result (λ reply. reply ≡ (named_row self.now name.now host user.now call.now).reply) }
+    fn named_reply(&self, name: &Name, user: &User, call: &Call) -> Result<Reply, NoMemory>
+        ensures { (host : HostId) → IfOk result
+            (λ reply. reply ≡ (named_row self.now name.now host user.now call.now).reply) }
     {
         match self.slots.at(slot_of(&self.slots, &Sought::HereAs(name))) {
-            Some(slot) => reply_in(slot, host, user, call),
+            Some(slot) => reply_in(slot, user, call),
             None => Ok(Reply::Refused(Refusal::NoFileset)),
         }
     }
@@ -233,20 +209,22 @@ impl StoreState {
         }
     }
 
-    /// The reply that such a call would get. A copy of the fileset that decides it is made for that.
+    /// The reply that such a call would get. Nothing is done, and nothing that is kept is copied but what the reply
+    /// tells.
     #[tactic(auto, unfolding(crate::specs::Rows::answer_to))]
     pub fn would(&self, host: HostId, call: &Call) -> Result<Reply, NoMemory>
         ensures { IfOk result (λ reply. reply ≡ (answer_to self.now host call.now).reply) }
     {
         match self.roster.user_of(host)? {
-            Some(user) => self.reply_for(host, call, &user),
+            Some(user) => self.reply_for(call, &user),
             None => Ok(Reply::Refused(Refusal::Denied(Rights::NONE))),
         }
     }
 
     #[tactic(auto, unfolding(crate::specs::Rows::answer_for, crate::specs::Rows::rename_row))]
-    fn reply_for(&self, host: HostId, call: &Call, user: &User) -> Result<Reply, NoMemory>
-        ensures { IfOk result (λ reply. reply ≡ (answer_for self.now host call.now user.now).reply) }
+    fn reply_for(&self, call: &Call, user: &User) -> Result<Reply, NoMemory>
+        ensures { (host : HostId) → IfOk result
+            (λ reply. reply ≡ (answer_for self.now host call.now user.now).reply) }
     {
         match call {
             Call::NewFileset {
@@ -261,7 +239,7 @@ impl StoreState {
                 new,
             } => Ok(self.clone_reply(user, fileset, new)),
             Call::Rename { from, to } => match self.move_check(from, to) {
-                Ok(()) => self.named_reply(&from.fileset, host, user, call),
+                Ok(()) => self.named_reply(&from.fileset, user, call),
                 Err(refusal) => Ok(Reply::Refused(refusal)),
             },
             Call::Create { place }
@@ -274,7 +252,7 @@ impl StoreState {
             | Call::List { place }
             | Call::Stat { place }
             | Call::GetAcl { place, .. }
-            | Call::Sync { place } => self.named_reply(&place.fileset, host, user, call),
+            | Call::Sync { place } => self.named_reply(&place.fileset, user, call),
             Call::MoveFileset { .. }
             | Call::Lock { .. }
             | Call::Unlock { .. }
