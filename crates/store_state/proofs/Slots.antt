@@ -1,37 +1,6 @@
 -- Where in the table a fileset is found, once a slot has changed.
-use Rattle.std.proofs.Common.{
-  ◌≡◌,
-  ◌≤◌,
-  ◌<◌,
-  ℕ,
-  zero,
-  suc,
-  ◌+◌,
-  nat_lt,
-  Bool,
-  true,
-  false,
-  not,
-  cond,
-  List,
-  [],
-  ◌∷◌,
-  length,
-  set,
-  Option,
-  Some,
-  None,
-  unwrap_or,
-  refl,
-  sym,
-  ap,
-  ◌∙◌,
-  subst,
-  inl,
-  inr,
-  arith,
-}
-use Rattle.std.specs.List.{position, position_or_len, prefix_len}
+use Rattle.std.proofs.Common.{◌≡◌, ◌≤◌, ◌<◌, ℕ, zero, suc, ◌+◌, nat_lt, Bool, true, false, not, cond, List, [], ◌∷◌, length, set, Option, Some, None, unwrap_or, refl, ap, ◌∙◌, subst, inl, inr, arith}
+use Rattle.std.specs.List.{position_or_len}
 use Rattle.std.specs.Option.{option_map}
 use Rattle.std.proofs.lemmas.Bool.Decides.{leb_tells}
 use Rattle.std.proofs.lemmas.Grind.{common_steps}

@@ -1,20 +1,5 @@
 -- What hosts give back of files.
-use Rattle.std.specs.Prelude.{
-  ℕ,
-  ◌+◌,
-  ◌&&◌,
-  max,
-  if◌then◌else◌,
-  List,
-  [],
-  ◌∷◌,
-  length,
-  slice_set,
-  Option,
-  None,
-  unwrap_or,
-}
-use Rattle.std.specs.Option.{option_map_or}
+use Rattle.std.specs.Prelude.{ℕ, ◌+◌, ◌&&◌, max, if◌then◌else◌, List, [], ◌∷◌, length, slice_set, Option, unwrap_or}
 use Rattle.dfs_base.specs.declared.ids.Fid.{Fid}
 use Rattle.dfs_base.specs.declared.ids.HostId.{HostId}
 use Rattle.dfs_calls.specs.declared.part.Piece.{Piece}
@@ -22,7 +7,6 @@ use Rattle.dfs_calls.specs.declared.reply.Reply.TheVariants.{Ok as Accepted}
 use Rattle.dfs_objects.specs.declared.content.Content.{Content}
 use Rattle.dfs_objects.specs.declared.content.Content.TheVariants.{Dir, File}
 use Rattle.dfs_objects.specs.Files.{resized}
-use Rattle.dfs_filesets.specs.declared.fileset.Fileset.{Fileset}
 use Rattle.dfs_filesets.specs.Laws.{is_file_at}
 use Rattle.dfs_filesets.specs.Updates.{changed}
 use Rattle.store_state.specs.declared.state.Holding.{Holding}

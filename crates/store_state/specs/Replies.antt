@@ -1,5 +1,5 @@
 -- How the last reply is kept: by the code of its refusal, 0 for done, and the right that a denial tells.
-use Rattle.std.specs.Prelude.{ℕ, ◌-◌, ◌==◌, bit_and, if◌then◌else◌, List, [], ◌∷◌, slice_get, Option}
+use Rattle.std.specs.Prelude.{ℕ, ◌-◌, ◌==◌, bit_and, if◌then◌else◌, List, [], ◌∷◌, slice_get}
 use Rattle.std.specs.Option.{option_map_or}
 use Rattle.dfs_calls.specs.declared.reply.Refusal.{Refusal}
 use Rattle.dfs_calls.specs.declared.reply.Refusal.TheVariants.{
@@ -26,7 +26,7 @@ use Rattle.dfs_calls.specs.declared.reply.Refusal.TheVariants.{
   NotHome,
 }
 use Rattle.dfs_calls.specs.declared.reply.Reply.{Reply}
-use Rattle.dfs_calls.specs.declared.reply.Reply.TheVariants.{Ok as ReplyOk, Bytes, Names, Facts, Access, Refused}
+use Rattle.dfs_calls.specs.declared.reply.Reply.TheVariants.{Ok as ReplyOk, Refused}
 use Rattle.dfs_calls.specs.declared.ship.Record.{Record}
 
 -- the code of a refusal: its place among all, from 1
