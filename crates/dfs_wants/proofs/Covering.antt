@@ -1,11 +1,16 @@
 -- What a Change changes is under its want.
 use Rattle.std.proofs.Common.{◌≡◌, ◌⊎◌, ℕ, ◌==◌, Bool, true, false, ◌&&◌, ◌||◌, cond, List, [], ◌∷◌, ◌++◌, Option, Some, None, Result, Ok, Err, refl, sym, ap, ◌∙◌, subst, inl, inr, rules, arith}
-use Rattle.std.specs.Prelude.{if◌then◌else◌}
+use Rattle.std.specs.Option.{option_map}
+use Rattle.std.specs.Prelude.{if◌then◌else◌, max, min, nat_lt, ◌<◌, ◌≤◌}
 use Rattle.std.proofs.lemmas.Grind.{common_steps}
 use Rattle.std.proofs.lemmas.Bool.Decides.{eqb_tells}
 use Rattle.dfs_base.specs.Ids.{same_fid}
+use Rattle.dfs_base.specs.Opens.{opens_conflict}
 use Rattle.dfs_base.specs.Outcomes.{and_then, either}
-use Rattle.dfs_base.specs.Spans.{has_byte}
+use Rattle.dfs_base.specs.Spans.{has_byte, overlap}
+use Rattle.dfs_base.specs.declared.ids.OpenKind.{OpenKind}
+use Rattle.dfs_base.specs.declared.ids.OpenKind.TheVariants.{Reading, Writing, Executing, Shared, Exclusive}
+use Rattle.dfs_base.specs.declared.span.Span.{Span}
 use Rattle.dfs_base.specs.declared.access.AccessEntry.{AccessEntry}
 use Rattle.dfs_base.specs.declared.ids.Fid.{Fid}
 use Rattle.dfs_base.specs.declared.ids.HostId.{HostId}
@@ -27,15 +32,21 @@ use Rattle.dfs_filesets.specs.Renaming.{rename_target}
 use Rattle.dfs_filesets.specs.Walk.{object_at, unique_at, found_at, entry_target, insert_target}
 use Rattle.dfs_filesets.proofs.Targets.{then_ok, unless_ok, ok_is, vacancy_ok}
 use Rattle.dfs_tree.specs.Finding.{has_id, same_fileset}
-use Rattle.tree_laws.proofs.Steps.{no_file}
+use Rattle.tree_laws.proofs.Steps.{no_file, fid_is}
+use Rattle.dfs_tree.proofs.Followed.{same_fid_itself}
+use Rattle.dfs_needs.proofs.Updates.{any_back}
 use Rattle.dfs_needs.specs.Questions.{is_change}
 use Rattle.tok_types.specs.declared.token.Need.{Need}
-use Rattle.tok_types.specs.declared.token.Kind.TheVariants.{Bytes, Status, Lock}
+use Rattle.tok_types.specs.Conflicts.{any_conflict, kinds_conflict, needs_conflict}
+use Rattle.tok_types.specs.declared.token.Kind.{Kind}
+use Rattle.tok_types.specs.declared.token.Kind.TheVariants.{Bytes, Status, Lock, Opening}
 use Rattle.tree_laws.specs.Parts.Part.{ByteAt, Size, Traits, Entries}
-use Rattle.tree_laws.specs.Fates.{Fate, Cells, after_fate, names_use, if_reached, new_lists, new_nature, creation, create_fate, remove_fate, rename_fate, fate_row}
+use Rattle.tree_laws.specs.Fates.{Fate, Cells, after_fate, nature_listed, names_use, if_reached, new_lists, new_nature, creation, create_fate, remove_fate, rename_fate, fate_row}
 use Rattle.tree_laws.specs.Fates.Fate.{Stays, IsCut, IsListed, Turns, Becomes}
 use Rattle.host_laws.specs.Losses.{use_of}
-use Rattle.tree_laws.specs.Parts.{Part, Nature, object_in}
+use Rattle.tree_laws.specs.Parts.{Part, Nature, Cell, object_in}
+use Rattle.dfs_wants.specs.Laws.{ChangesSo, KeepsKind, has_room}
+use Rattle.dfs_wants.specs.Laws.ChangesSo.{Leaves, Lists, Sets, Goes}
 use Rattle.dfs_wants.specs.Wants.{all_of, every_use_of, want_for, want_in}
 use Rattle.dfs_needs.specs.Shows.{updates, needs_update, can_be}
 
@@ -75,13 +86,78 @@ named_same fileset anode fid its h = by_tests (has_id fid.fileset fileset) (anod
     by_tests true b c e h = h
     by_tests false b c e h = absurd (search (rules, e))
 
+-- a part for which nothing stands but what all tokens on an object have in common
+pub whole_use : (fid : Fid) (kind : Kind) → has_room kind ≡ true
+    → any_conflict (record { fid = fid; kind = kind }) (all_of true fid ++ every_use_of fid) ≡ true
+whole_use fid kind room = by_kind kind room (same_fid fid fid) (same_fid_itself fid)
+  where
+    meets : (span : Span) → nat_lt span.from span.to ≡ true → overlap span whole ≡ true
+    meets span lt =
+        let a : span.from < span.to = grind (arith, common_steps, lt) in
+        let b : span.to ≤ 65536 = span.within in
+        let c : max span.from 0 < min span.to 65536 = omega (arith, a, b) in
+        grind (arith, common_steps, c)
+
+    or_true : (b : Bool) → (b || true) ≡ true
+    or_true true = refl
+    or_true false = refl
+
+    first : (a b : Bool) → a ≡ true → (a || b) ≡ true
+    first true b e = refl
+    first false b e = absurd (search (rules, e))
+
+    second : (a b c : Bool) → b ≡ true → (a || (b || c)) ≡ true
+    second true b c e = refl
+    second false b c e = first b c e
+
+    third : (a b c d : Bool) → c ≡ true → (a || (b || (c || d))) ≡ true
+    third true b c d e = refl
+    third false b c d e = second b c d e
+
+    fourth : (a b c d e : Bool) → d ≡ true → (a || (b || (c || (d || e)))) ≡ true
+    fourth true b c d e h = refl
+    fourth false b c d e h = third b c d e h
+
+    both : (a b : Bool) → a ≡ true → b ≡ true → (a && b) ≡ true
+    both true b h k = k
+    both false b h k = absurd (search (rules, h))
+
+    opens : (kind : OpenKind) → opens_conflict kind Exclusive ≡ true
+    opens Reading = refl
+    opens Writing = refl
+    opens Executing = refl
+    opens Shared = refl
+    opens Exclusive = refl
+
+    by_kind : (k : Kind) → has_room k ≡ true → (t : Bool) → t ≡ true
+        → ((t && kinds_conflict k (Status true)) || ((t && kinds_conflict k (Bytes true whole))
+        || ((t && kinds_conflict k (Lock true whole)) || ((t && kinds_conflict k (Opening Exclusive)) || false)))) ≡ true
+    by_kind (Bytes update span) room t e =
+        second (t && false) (t && ((update || true) && overlap span whole)) ((t && false) || ((t && false) || false))
+        (both t ((update || true) && overlap span whole) e (both (update || true) (overlap span whole) (or_true update)
+        (meets span room)))
+    by_kind (Status update) room t e =
+        first (t && (update || true)) ((t && false) || ((t && false) || ((t && false) || false)))
+        (both t (update || true) e (or_true update))
+    by_kind (Lock writing span) room t e =
+        third (t && false) (t && false) (t && ((writing || true) && overlap span whole)) ((t && false) || false)
+        (both t ((writing || true) && overlap span whole) e (both (writing || true) (overlap span whole) (or_true writing)
+        (meets span room)))
+    by_kind (Opening kind) room t e =
+        fourth (t && false) (t && false) (t && false) (t && opens_conflict kind Exclusive) false
+        (both t (opens_conflict kind Exclusive) e (opens kind))
+
 -- a row that reaches one object
-module _ (fileset : Fileset) (fid : Fid) (part : Part) (cells : Cells) where
+module _ (fileset : Fileset) (fid : Fid) (cells : Cells) where
   abbrev Covered : List Need → Fate → Type 0
-  Covered needs becomes = (needs_update needs fid part ≡ true) ⊎ ((after_fate becomes cells part ≡ cells part) ⊎ (object_in fileset fid ≡ None))
+  Covered needs becomes = ChangesSo needs fid cells (after_fate becomes cells) ⊎ (object_in fileset fid ≡ None)
 
   stays : (needs : List Need) → Covered needs Stays
-  stays needs = inr (inl refl)
+  stays needs = inl (Leaves (λ part. refl))
+
+  -- where the traits are as before the object is what it was
+  same_kind : (new : Cells) → new Traits ≡ cells Traits → KeepsKind cells new
+  same_kind new e n is = (n, ap (λ (c : Cell (Option Nature)). c.kept) e ∙ is, refl, refl)
 
   reached : (needs : ℕ → List Need) (becomes : Fate) (checks : Result ℕ Refusal) → ((anode : ℕ) → names_use fileset anode fid ≡ true → Covered (needs anode) becomes) →
       Covered (either checks needs (λ refusal. [])) (if_reached fileset fid becomes checks)
@@ -92,17 +168,16 @@ module _ (fileset : Fileset) (fid : Fid) (part : Part) (cells : Cells) where
       by_test true e = named anode e
       by_test false e = stays (needs anode)
 
-  listed : (which : Which) (list : List AccessEntry) (anode : ℕ) → same_fid (use_of fileset anode) fid ≡ true → (part' : Part) → part' ≡ part →
+  listed : (which : Which) (list : List AccessEntry) (anode : ℕ) → same_fid (use_of fileset anode) fid ≡ true →
       Covered (record { fid = use_of fileset anode; kind = Status true } ∷ []) (IsListed which list)
-  listed which list anode same (ByteAt at) e = inr (inl (subst (λ p. after_fate (IsListed which list) cells p ≡ cells p) e refl))
-  listed which list anode same Entries e = inr (inl (subst (λ p. after_fate (IsListed which list) cells p ≡ cells p) e refl))
-  listed which list anode same Size e = inl (subst (λ p. needs_update (record { fid = use_of fileset anode; kind = Status true } ∷ []) fid p ≡ true) e (ap (λ t. (t && true) || false) same))
-  listed which list anode same Traits e = inl (subst (λ p. needs_update (record { fid = use_of fileset anode; kind = Status true } ∷ []) fid p ≡ true) e (ap (λ t. (t && true) || false) same))
+  listed which list anode same =
+      inl (Lists (ap (λ t. (t && true) || false) same) (λ at. refl) refl refl
+      (λ n is. (nature_listed which list n, ap (λ o. option_map (nature_listed which list) o) is, refl, refl)))
 
   -- Create
-  created : (parent : ℕ) (entry : DirEntry) (nature : Nature) → can_be part ≡ true → has_id fid.fileset fileset ≡ true → object_at fileset.anodes entry.anode ≡ None →
+  created : (parent : ℕ) (entry : DirEntry) (nature : Nature) → has_id fid.fileset fileset ≡ true → object_at fileset.anodes entry.anode ≡ None →
       Covered (all_of true (use_of fileset parent)) (create_fate fileset fid (Ok (parent, entry, nature)))
-  created parent entry nature can its vacant = by_new (entry.anode == fid.anode) (entry.unique == fid.unique) refl
+  created parent entry nature its vacant = by_new (entry.anode == fid.anode) (entry.unique == fid.unique) refl
     where
       gone : (entry.anode == fid.anode) ≡ true → object_in fileset fid ≡ None
       gone e = elim (eqb_tells entry.anode fid.anode) as (λ _. object_in fileset fid ≡ None) [
@@ -115,39 +190,58 @@ module _ (fileset : Fileset) (fid : Fid) (part : Part) (cells : Cells) where
           either_none false = refl
 
       by_parent : (b : Bool) → names_use fileset parent fid ≡ b → Covered (all_of true (use_of fileset parent)) (if b then Turns (Some entry) None else Stays)
-      by_parent true e = inl (of_all (use_of fileset parent) fid [] part can (named_same fileset parent fid its e))
+      by_parent true e =
+          inl (Sets (λ part can. of_all (use_of fileset parent) fid [] part can (named_same fileset parent fid its e))
+          (same_kind (after_fate (Turns (Some entry) None) cells) refl))
       by_parent false e = stays (all_of true (use_of fileset parent))
 
       by_new : (a b : Bool) → (entry.anode == fid.anode) ≡ a → Covered (all_of true (use_of fileset parent)) (if a && b then Becomes (Rattle.tree_laws.specs.Fates.new_values nature) else if names_use fileset parent fid then Turns (Some entry) None else Stays)
-      by_new true true e = inr (inr (gone e))
+      by_new true true e = inr (gone e)
       by_new true false e = by_parent (names_use fileset parent fid) refl
       by_new false b e = by_parent (names_use fileset parent fid) refl
 
-  create_covered : (found : Result (ℕ × DirEntry × Nature) Refusal) → can_be part ≡ true → has_id fid.fileset fileset ≡ true → ((made : ℕ × DirEntry × Nature) → found ≡ Ok made → object_at fileset.anodes made.1.anode ≡ None) →
+  create_covered : (found : Result (ℕ × DirEntry × Nature) Refusal) → has_id fid.fileset fileset ≡ true → ((made : ℕ × DirEntry × Nature) → found ≡ Ok made → object_at fileset.anodes made.1.anode ≡ None) →
       Covered (either found (λ (parent, entry, nature). all_of true (use_of fileset parent)) (λ refusal. [])) (create_fate fileset fid found)
-  create_covered (Ok made) can its vacant = created made.0 made.1 made.2 can its (vacant made refl)
-  create_covered (Err refusal) can its vacant = stays []
+  create_covered (Ok made) its vacant = created made.0 made.1 made.2 its (vacant made refl)
+  create_covered (Err refusal) its vacant = stays []
 
   -- Remove
-  removed : (parent : ℕ) (name : List ℕ) (anode : ℕ) (rest : List Need) → can_be part ≡ true → has_id fid.fileset fileset ≡ true →
-      Covered (all_of true (use_of fileset parent) ++ (all_of true (use_of fileset anode) ++ rest)) (remove_fate fileset fid (Ok (parent, name, anode)))
-  removed parent name anode rest can its = by_tests (names_use fileset anode fid) (names_use fileset parent fid) refl refl
+  removed : (parent : ℕ) (name : List ℕ) (anode : ℕ) → has_id fid.fileset fileset ≡ true →
+      Covered (all_of true (use_of fileset parent) ++ (all_of true (use_of fileset anode) ++ every_use_of (use_of fileset anode))) (remove_fate fileset fid (Ok (parent, name, anode)))
+  removed parent name anode its = by_tests (names_use fileset anode fid) (names_use fileset parent fid) refl refl
     where
+      rest : List Need
+      rest = every_use_of (use_of fileset anode)
+
+      all_used : same_fid (use_of fileset anode) fid ≡ true → (kind : Kind) → has_room kind ≡ true
+          → any_conflict (record { fid = fid; kind = kind }) (all_of true (use_of fileset parent) ++ (all_of true (use_of fileset anode) ++ rest)) ≡ true
+      all_used same kind room =
+          any_back (λ (other : Need). needs_conflict (record { fid = fid; kind = kind }) other) (all_of true (use_of fileset parent)) (all_of true (use_of fileset anode) ++ rest)
+          (subst (λ (f : Fid). any_conflict (record { fid = fid; kind = kind }) (all_of true f ++ every_use_of f) ≡ true) (sym (fid_is (use_of fileset anode) fid same)) (whole_use fid kind room))
+
       by_tests : (a b : Bool) → names_use fileset anode fid ≡ a → names_use fileset parent fid ≡ b →
           Covered (all_of true (use_of fileset parent) ++ (all_of true (use_of fileset anode) ++ rest)) (if a then Becomes Rattle.tree_laws.specs.Fates.no_values else if b then Turns None (Some name) else Stays)
-      by_tests true b e f = inl (of_more (use_of fileset parent) fid (all_of true (use_of fileset anode) ++ rest) part (of_all (use_of fileset anode) fid rest part can (named_same fileset anode fid its e)))
-      by_tests false true e f = inl (of_all (use_of fileset parent) fid (all_of true (use_of fileset anode) ++ rest) part can (named_same fileset parent fid its f))
+      by_tests true b e f =
+          inl (Goes (λ part can. of_more (use_of fileset parent) fid (all_of true (use_of fileset anode) ++ rest) part (of_all (use_of fileset anode) fid rest part can (named_same fileset anode fid its e)))
+          (all_used (named_same fileset anode fid its e)))
+      by_tests false true e f =
+          inl (Sets (λ part can. of_all (use_of fileset parent) fid (all_of true (use_of fileset anode) ++ rest) part can (named_same fileset parent fid its f))
+          (same_kind (after_fate (Turns None (Some name)) cells) refl))
       by_tests false false e f = stays (all_of true (use_of fileset parent) ++ (all_of true (use_of fileset anode) ++ rest))
 
   -- Rename
-  renamed : (to from : ℕ) (entry : DirEntry) (name : List ℕ) → can_be part ≡ true → has_id fid.fileset fileset ≡ true →
+  renamed : (to from : ℕ) (entry : DirEntry) (name : List ℕ) → has_id fid.fileset fileset ≡ true →
       Covered (all_of true (use_of fileset from) ++ all_of true (use_of fileset to)) (rename_fate fileset fid (Ok (to, entry, from, name)))
-  renamed to from entry name can its = by_tests (names_use fileset to fid) (names_use fileset from fid) refl refl
+  renamed to from entry name its = by_tests (names_use fileset to fid) (names_use fileset from fid) refl refl
     where
       by_tests : (t f : Bool) → names_use fileset to fid ≡ t → names_use fileset from fid ≡ f →
           Covered (all_of true (use_of fileset from) ++ all_of true (use_of fileset to)) (if t || f then Turns (if t then Some entry else None) (if f then Some name else None) else Stays)
-      by_tests true f d e = inl (of_more (use_of fileset from) fid (all_of true (use_of fileset to)) part (of_all (use_of fileset to) fid [] part can (named_same fileset to fid its d)))
-      by_tests false true d e = inl (of_all (use_of fileset from) fid (all_of true (use_of fileset to)) part can (named_same fileset from fid its e))
+      by_tests true f d e =
+          inl (Sets (λ part can. of_more (use_of fileset from) fid (all_of true (use_of fileset to)) part (of_all (use_of fileset to) fid [] part can (named_same fileset to fid its d)))
+          (same_kind (after_fate (Turns (Some entry) (if f then Some name else None)) cells) refl))
+      by_tests false true d e =
+          inl (Sets (λ part can. of_all (use_of fileset from) fid (all_of true (use_of fileset to)) part can (named_same fileset from fid its e))
+          (same_kind (after_fate (Turns None (Some name)) cells) refl))
       by_tests false false d e = stays (all_of true (use_of fileset from) ++ all_of true (use_of fileset to))
 
 -- where a new object goes nothing is
@@ -179,21 +273,21 @@ removed_alone fileset in_use user path found h =
     unless_is fileset.read_only ReadOnly _ writable ∙ then_is (split_path path InUse) parts _ b ∙ then_is (entry_target fileset user parts.1 parts.0) at _ d
     ∙ then_is (found_at at.1.anode (object_at fileset.anodes at.1.anode)) there _ f ∙ unless_is (has_entries there.1.content) NotEmpty (Ok (at.0, parts.0, there.0)) empty ∙ same
 
-remove_covered : (fileset : Fileset) (fid : Fid) (part : Part) (cells : Cells) (found alone : Result (ℕ × List ℕ × ℕ) Refusal) → can_be part ≡ true → has_id fid.fileset fileset ≡ true → ((there : ℕ × List ℕ × ℕ) → found ≡ Ok there → alone ≡ Ok there) →
-    Covered fileset fid part cells
+remove_covered : (fileset : Fileset) (fid : Fid) (cells : Cells) (found alone : Result (ℕ × List ℕ × ℕ) Refusal) → has_id fid.fileset fileset ≡ true → ((there : ℕ × List ℕ × ℕ) → found ≡ Ok there → alone ≡ Ok there) →
+    Covered fileset fid cells
     (either alone (λ (parent, name, anode). all_of true (use_of fileset parent) ++ all_of true (use_of fileset anode) ++ every_use_of (use_of fileset anode)) (λ refusal. []))
     (remove_fate fileset fid found)
-remove_covered fileset fid part cells (Ok there) alone can its same =
-    subst (λ r. Covered fileset fid part cells (either r (λ (parent, name, anode). all_of true (use_of fileset parent) ++ all_of true (use_of fileset anode) ++ every_use_of (use_of fileset anode)) (λ refusal. [])) (remove_fate fileset fid (Ok there)))
+remove_covered fileset fid cells (Ok there) alone its same =
+    subst (λ r. Covered fileset fid cells (either r (λ (parent, name, anode). all_of true (use_of fileset parent) ++ all_of true (use_of fileset anode) ++ every_use_of (use_of fileset anode)) (λ refusal. [])) (remove_fate fileset fid (Ok there)))
     (sym (same there refl))
-    (removed fileset fid part cells there.0 there.1 there.2 (every_use_of (use_of fileset there.2)) can its)
-remove_covered fileset fid part cells (Err refusal) alone can its same = inr (inl refl)
+    (removed fileset fid cells there.0 there.1 there.2 its)
+remove_covered fileset fid cells (Err refusal) alone its same = inl (Leaves (λ part. refl))
 
-rename_covered : (fileset : Fileset) (user : User) (from to : List (List ℕ)) (fid : Fid) (part : Part) (cells : Cells) (found : Result _ Refusal) → can_be part ≡ true → has_id fid.fileset fileset ≡ true → found ≡ rename_target fileset user from to →
-    Covered fileset fid part cells (either found (λ move. all_of true (use_of fileset move.from) ++ all_of true (use_of fileset move.to)) (λ refusal. []))
+rename_covered : (fileset : Fileset) (user : User) (from to : List (List ℕ)) (fid : Fid) (cells : Cells) (found : Result _ Refusal) → has_id fid.fileset fileset ≡ true → found ≡ rename_target fileset user from to →
+    Covered fileset fid cells (either found (λ move. all_of true (use_of fileset move.from) ++ all_of true (use_of fileset move.to)) (λ refusal. []))
     (rename_fate fileset fid (and_then found (λ move. Ok (move.to, move.entry, move.from, move.name))))
-rename_covered fileset user from to fid part cells (Ok move) can its e = renamed fileset fid part cells move.to move.from move.entry move.name can its
-rename_covered fileset user from to fid part cells (Err refusal) can its e = inr (inl refl)
+rename_covered fileset user from to fid cells (Ok move) its e = renamed fileset fid cells move.to move.from move.entry move.name its
+rename_covered fileset user from to fid cells (Err refusal) its e = inl (Leaves (λ part. refl))
 
 -- whether a Rename stays in its fileset
 abbrev pub is_within : Call → Bool
@@ -201,34 +295,34 @@ is_within (Rename from to) = same_fileset from to
 is_within call = true
 
 -- each Change in a fileset that decides it, by the fate of an object there
-pub covered_in : (fileset : Fileset) (in_use : Fid → Bool) (host : HostId) (user : User) (call : Call) (fid : Fid) (part : Part) (cells : Cells) → is_change call ≡ true → is_within call ≡ true → has_id fid.fileset fileset ≡ true → can_be part ≡ true →
-    Covered fileset fid part cells (want_in fileset user call) (fate_row fileset in_use host user call fid)
+pub covered_in : (fileset : Fileset) (in_use : Fid → Bool) (host : HostId) (user : User) (call : Call) (fid : Fid) (cells : Cells) → is_change call ≡ true → is_within call ≡ true → has_id fid.fileset fileset ≡ true →
+    Covered fileset fid cells (want_in fileset user call) (fate_row fileset in_use host user call fid)
 unfolding want_in
-covered_in fileset in_use host user (Create place) fid part cells is_change within its can =
-    create_covered fileset fid part cells (creation fileset false user place.path) can its (creation_vacant fileset false user place.path)
-covered_in fileset in_use host user (MakeDir place) fid part cells is_change within its can =
-    create_covered fileset fid part cells (creation fileset true user place.path) can its (creation_vacant fileset true user place.path)
-covered_in fileset in_use host user (Remove place) fid part cells is_change within its can =
-    remove_covered fileset fid part cells (remove_target fileset in_use user place.path) (remove_target fileset (λ fid. false) user place.path) can its (removed_alone fileset in_use user place.path)
-covered_in fileset in_use host user (Rename from to) fid part cells is_change within its can =
-    subst (λ t. Covered fileset fid part cells (if t then want_for (rename_target fileset user from.path to.path) (λ move. all_of true (use_of fileset move.from) ++ all_of true (use_of fileset move.to)) else []) (fate_row fileset in_use host user (Rename from to) fid))
-    (sym within) (rename_covered fileset user from.path to.path fid part cells (rename_target fileset user from.path to.path) can its refl)
-covered_in fileset in_use host user (Truncate place len) fid part cells is_change within its can =
-    reached fileset fid part cells (λ anode. all_of true (use_of fileset anode)) (IsCut len) (write_target fileset user place.path len)
-    (λ anode named. inl (of_all (use_of fileset anode) fid [] part can (named_same fileset anode fid its named)))
-covered_in fileset in_use host user (SetAcl place which list) fid part cells is_change within its can =
-    reached fileset fid part cells (λ anode. record { fid = use_of fileset anode; kind = Status true } ∷ []) (IsListed which list) (set_access_target fileset user place.path which)
-    (λ anode named. listed fileset fid part cells which list anode (named_same fileset anode fid its named) part refl)
-covered_in fileset in_use host user (Lock label place writing from len) fid part cells is_change within its can = inr (inl refl)
-covered_in fileset in_use host user (OpenFile label place kind) fid part cells is_change within its can = inr (inl refl)
-covered_in fileset in_use host user (NewFileset server name objects owner) fid part cells is_change within its can = inr (inl refl)
-covered_in fileset in_use host user (CloneFileset server source new) fid part cells is_change within its can = inr (inl refl)
-covered_in fileset in_use host user (MoveFileset server name to) fid part cells is_change within its can = inr (inl refl)
-covered_in fileset in_use host user (Read place from len) fid part cells is_change within its can = no_file is_change
-covered_in fileset in_use host user (Write place from bytes) fid part cells is_change within its can = no_file is_change
-covered_in fileset in_use host user (ListNames place) fid part cells is_change within its can = no_file is_change
-covered_in fileset in_use host user (Stat place) fid part cells is_change within its can = no_file is_change
-covered_in fileset in_use host user (GetAcl place which) fid part cells is_change within its can = no_file is_change
-covered_in fileset in_use host user (Sync place) fid part cells is_change within its can = no_file is_change
-covered_in fileset in_use host user (Unlock label) fid part cells is_change within its can = no_file is_change
-covered_in fileset in_use host user (CloseFile label) fid part cells is_change within its can = no_file is_change
+covered_in fileset in_use host user (Create place) fid cells is_change within its =
+    create_covered fileset fid cells (creation fileset false user place.path) its (creation_vacant fileset false user place.path)
+covered_in fileset in_use host user (MakeDir place) fid cells is_change within its =
+    create_covered fileset fid cells (creation fileset true user place.path) its (creation_vacant fileset true user place.path)
+covered_in fileset in_use host user (Remove place) fid cells is_change within its =
+    remove_covered fileset fid cells (remove_target fileset in_use user place.path) (remove_target fileset (λ fid. false) user place.path) its (removed_alone fileset in_use user place.path)
+covered_in fileset in_use host user (Rename from to) fid cells is_change within its =
+    subst (λ t. Covered fileset fid cells (if t then want_for (rename_target fileset user from.path to.path) (λ move. all_of true (use_of fileset move.from) ++ all_of true (use_of fileset move.to)) else []) (fate_row fileset in_use host user (Rename from to) fid))
+    (sym within) (rename_covered fileset user from.path to.path fid cells (rename_target fileset user from.path to.path) its refl)
+covered_in fileset in_use host user (Truncate place len) fid cells is_change within its =
+    reached fileset fid cells (λ anode. all_of true (use_of fileset anode)) (IsCut len) (write_target fileset user place.path len)
+    (λ anode named. inl (Sets (λ part can. of_all (use_of fileset anode) fid [] part can (named_same fileset anode fid its named)) (same_kind fileset fid cells (after_fate (IsCut len) cells) refl)))
+covered_in fileset in_use host user (SetAcl place which list) fid cells is_change within its =
+    reached fileset fid cells (λ anode. record { fid = use_of fileset anode; kind = Status true } ∷ []) (IsListed which list) (set_access_target fileset user place.path which)
+    (λ anode named. listed fileset fid cells which list anode (named_same fileset anode fid its named))
+covered_in fileset in_use host user (Lock label place writing from len) fid cells is_change within its = inl (Leaves (λ part. refl))
+covered_in fileset in_use host user (OpenFile label place kind) fid cells is_change within its = inl (Leaves (λ part. refl))
+covered_in fileset in_use host user (NewFileset server name objects owner) fid cells is_change within its = inl (Leaves (λ part. refl))
+covered_in fileset in_use host user (CloneFileset server source new) fid cells is_change within its = inl (Leaves (λ part. refl))
+covered_in fileset in_use host user (MoveFileset server name to) fid cells is_change within its = inl (Leaves (λ part. refl))
+covered_in fileset in_use host user (Read place from len) fid cells is_change within its = no_file is_change
+covered_in fileset in_use host user (Write place from bytes) fid cells is_change within its = no_file is_change
+covered_in fileset in_use host user (ListNames place) fid cells is_change within its = no_file is_change
+covered_in fileset in_use host user (Stat place) fid cells is_change within its = no_file is_change
+covered_in fileset in_use host user (GetAcl place which) fid cells is_change within its = no_file is_change
+covered_in fileset in_use host user (Sync place) fid cells is_change within its = no_file is_change
+covered_in fileset in_use host user (Unlock label) fid cells is_change within its = no_file is_change
+covered_in fileset in_use host user (CloseFile label) fid cells is_change within its = no_file is_change

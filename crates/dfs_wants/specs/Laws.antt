@@ -1,5 +1,5 @@
 -- What wants are good for.
-use Rattle.std.specs.Prelude.{◌≡◌, ◌⊎◌, ℕ, Bool, true, false, List, Some, None, is_some, Ok}
+use Rattle.std.specs.Prelude.{◌≡◌, ◌⊎◌, ℕ, nat_lt, Bool, true, false, List, Some, None, is_some, Ok}
 use Rattle.std.specs.List.{list_all}
 use Rattle.dfs_base.specs.Outcomes.{and_then}
 use Rattle.dfs_base.specs.declared.ids.HostId.{HostId}
@@ -16,9 +16,13 @@ use Rattle.dfs_filesets.specs.WellFormed.{IsWellFormed as IsWellFormedFileset}
 use Rattle.dfs_tree.specs.declared.tree.Tree.{Tree}
 use Rattle.dfs_tree.specs.Answers.{answer_to}
 use Rattle.dfs_tree.specs.WellFormed.{IsWellFormed}
-use Rattle.tree_laws.specs.Parts.{Part, settled, cell_at}
-use Rattle.tree_laws.specs.Parts.Part.{Traits}
+use Rattle.tree_laws.specs.Fates.{Cells}
+use Rattle.tree_laws.specs.Parts.{Nature, Part, settled, cell_at}
+use Rattle.tree_laws.specs.Parts.Part.{ByteAt, Entries, Size, Traits}
 use Rattle.host_laws.specs.Losses.{use_of}
+use Rattle.tok_types.specs.Conflicts.{any_conflict}
+use Rattle.tok_types.specs.declared.token.Kind.{Kind}
+use Rattle.tok_types.specs.declared.token.Kind.TheVariants.{Bytes, Lock}
 use Rattle.tok_types.specs.declared.token.Need.{Need}
 use Rattle.dfs_needs.specs.Looks.{kept_view}
 use Rattle.dfs_needs.specs.Questions.{is_change}
@@ -73,6 +77,41 @@ WantsCoverChanges =
     (needs_update (want tree user call) fid part ≡ true)
     ⊎ ((cell_at (answer_to tree host call).tree fid part ≡ cell_at tree fid part)
     ⊎ ((cell_at tree fid Traits).kept ≡ None))
+
+-- whether a kind isn't of an empty span
+abbrev pub has_room : Kind → Bool
+has_room (Bytes update span) = nat_lt span.from span.to
+has_room (Lock writing span) = nat_lt span.from span.to
+has_room kind = true
+
+-- what is there stays a directory or a file, of a clone or not
+abbrev pub KeepsKind : Cells → Cells → Type 0
+KeepsKind old new =
+    (nature : Nature) → (old Traits).kept ≡ Some nature
+    → (now : Nature) × ((new Traits).kept ≡ Some now) × (now.dir ≡ nature.dir) × (now.read_only ≡ nature.read_only)
+
+-- How a Change that wants this changes an object that was there.
+pub data ChangesSo (needs : List Need) (fid : Fid) (old new : Cells) : Type 0 where
+  -- not at all
+  Leaves : ((part : Part) → new part ≡ old part) → ChangesSo needs fid old new
+  -- its traits alone, under a want for updating them
+  Lists : needs_update needs fid Traits ≡ true → ((at : ℕ) → new (ByteAt at) ≡ old (ByteAt at)) → new Size ≡ old Size
+      → new Entries ≡ old Entries → KeepsKind old new → ChangesSo needs fid old new
+  -- under a want for updating all of it
+  Sets : ((part : Part) → can_be part ≡ true → needs_update needs fid part ≡ true) → KeepsKind old new
+      → ChangesSo needs fid old new
+  -- it goes, and whatever another host has of it is in the way of the want
+  Goes : ((part : Part) → can_be part ≡ true → needs_update needs fid part ≡ true)
+      → ((kind : Kind) → has_room kind ≡ true → any_conflict (record { fid = fid; kind = kind }) needs ≡ true)
+      → ChangesSo needs fid old new
+
+-- so each does, or the object wasn't there
+abbrev pub ChangesAreSo : Type 0
+ChangesAreSo =
+    (tree : Tree) (host : HostId) (user : User) (call : Call) (fid : Fid) →
+    IsWellFormed tree → user_of tree.roster host ≡ Some user → is_change call ≡ true →
+    ChangesSo (want tree user call) fid (cell_at tree fid) (cell_at (answer_to tree host call).tree fid)
+    ⊎ ((cell_at tree fid Traits).kept ≡ None)
 
 -- what is wanted is of objects that are there
 abbrev pub WantsAreThere : Type 0

@@ -1,6 +1,6 @@
 //! Each function does nothing, and what it ensures is a law.
 ghost use Rattle.dfs_wants.specs.Laws.{ChangesAreAlike, KeptIsSettled, NamesChangeAlike, UsesRefuseLast};
-ghost use Rattle.dfs_wants.specs.Laws.{WantsAreKept, WantsAreThere, WantsCoverChanges};
+ghost use Rattle.dfs_wants.specs.Laws.{ChangesAreSo, WantsAreKept, WantsAreThere, WantsCoverChanges};
 ghost use Rattle.dfs_wants.specs.Worked.{WorkedWants};
 
 /// A Change that a server decides on what it keeps is the Change of the tree: where it looks at no bytes and at no size
@@ -15,9 +15,11 @@ pub fn kept_law()
     ensures { KeptIsSettled }
 {}
 
-/// What a Change changes is under its want, for update, or is an object that wasn't there. The want is the same on what
-/// is kept, and is of objects that are there.
+/// What a Change changes is under its want, for update, or is an object that wasn't there: the traits of an object
+/// alone, or all of it; and with an object that goes whatever other hosts have of it is in the way. What stays is a
+/// directory or a file as before. The want is the same on what is kept, and is of objects that are there.
 pub fn want_law()
+    ensures so { ChangesAreSo }
     ensures covers { WantsCoverChanges }
     ensures kept { WantsAreKept }
     ensures there { WantsAreThere }
