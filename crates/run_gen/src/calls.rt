@@ -2,7 +2,7 @@ ghost use Rattle.std.specs.Prelude.{◌≡◌, ◌<◌, ◌≤◌, ◌^◌, true
 ghost use Rattle.dfs_base.specs.Name.{is_name};
 ghost use Rattle.run_gen.specs.Workload.{in_work, shared_file, own_file, text_of, call_of};
 
-use dfs_base::{Items, Name, NameRefused, NoMemory, ServerId};
+use dfs_base::{Items, Name, NameRefused, NoMemory, Plain, ServerId};
 use dfs_calls::{Call, Place};
 use std::alloc::Global;
 
@@ -50,15 +50,26 @@ fn text_of(alloc: Global, host: u8, i: u32) -> Result<Items<u8>, NoMemory>
     ensures { IfOk result (λ text. text ≡ text_of host i) }
 {
     let text = format!(in alloc; "{host}-{i}")?;
-    Items::from_slice(alloc, text.as_bytes())
+    Ok(Items::from_vec(text.into_bytes()))
+}
+
+/// A host, and its own file.
+#[derive(Drop)]
+pub(crate) struct Author {
+    /// The host's number, from 1.
+    pub host: u8,
+    /// The file that it writes and reads alone.
+    pub file: Place,
 }
 
 /// The call that a word makes of a host's call `i`; hosts and calls are counted from 1.
 #[tactic(auto, unfolding(crate::specs::Workload::call_of))]
-pub(crate) fn call_of(alloc: Global, host: u8, i: u32, word: u32) -> Result<Call, NoMemory>
-    requires { 1 ≤ host }
-    ensures { IfOk result (λ call. call ≡ call_of host i word) }
+pub(crate) fn call_of(alloc: Global, author: &Author, i: u32, word: u32) -> Result<Call, NoMemory>
+    requires host { 1 ≤ author.now.host }
+    requires file { author.now.file ≡ own_file author.now.host }
+    ensures { IfOk result (λ call. call ≡ call_of author.now.host i word) }
 {
+    let host = author.host;
     let v = word / 4;
     match word % 4 {
         3 => Ok(Call::Write {
@@ -67,12 +78,12 @@ pub(crate) fn call_of(alloc: Global, host: u8, i: u32, word: u32) -> Result<Call
             bytes: text_of(alloc, host, i)?,
         }),
         2 => Ok(Call::Read {
-            place: own_file(alloc, host)?,
+            place: author.file.copy()?,
             from: v % 60_000,
             len: 64,
         }),
         _ => Ok(Call::Write {
-            place: own_file(alloc, host)?,
+            place: author.file.copy()?,
             from: v % 60_000,
             bytes: text_of(alloc, host, i)?,
         }),

@@ -4,6 +4,7 @@ ghost use Rattle.run_gen.specs.Words.{generator, after_words};
 ghost use Rattle.run_gen.specs.Workload.{
   create,
   shared_file,
+  own_file,
   creates,
   start,
   awaits,
@@ -15,7 +16,7 @@ ghost use Rattle.run_gen.specs.Workload.{
   with_tasks,
 };
 
-use crate::calls::{call_of, name_of, own_file, shared_file};
+use crate::calls::{Author, call_of, name_of, own_file, shared_file};
 use crate::words::{draw, generator};
 use dfs_base::{HostId, Items, NoMemory, Node};
 use dfs_calls::Call;
@@ -83,19 +84,20 @@ fn add_calls_of(
     first: u32,
     lines: &mut Items<Line>,
     rng: &mut Pcg32,
-    host: u8,
+    author: &Author,
     calls: u32,
 ) -> Result<(), NoMemory>
-    requires some { 1 ≤ host }
+    requires host { 1 ≤ author.now.host }
+    requires file { author.now.file ≡ own_file author.now.host }
     requires room { first + length lines.old + calls < 2 ^ 32 }
-    ensures lines { OnOk result (lines.new ≡ with_tasks first lines.old (calls_by rng.old host calls)) }
+    ensures lines { OnOk result (lines.new ≡ with_tasks first lines.old (calls_by rng.old author.now.host calls)) }
     ensures len { OnOk result (length lines.new ≡ length lines.old + calls) }
     ensures words { OnOk result (rng.new ≡ after_words calls rng.old) }
 {
     for i in 0..calls {
         let word = draw(rng);
-        let call = call_of(alloc, host, i + 1, word)?;
-        add(first, lines, host_node(host), Deed::Call(call))?;
+        let call = call_of(alloc, author, i + 1, word)?;
+        add(first, lines, host_node(author.host), Deed::Call(call))?;
     }
     Ok(())
 }
@@ -115,7 +117,11 @@ fn add_calls(
 {
     let mut rng = generator(seed);
     for h in 0..hosts {
-        add_calls_of(alloc, first, lines, &mut rng, h + 1, calls)?;
+        let author = Author {
+            host: h + 1,
+            file: own_file(alloc, h + 1)?,
+        };
+        add_calls_of(alloc, first, lines, &mut rng, &author, calls)?;
     }
     Ok(())
 }
