@@ -125,11 +125,24 @@ fn push_answer(
             answers.push(Answer {
                 host: *by,
                 k: *k,
-                reply: reply.copy()?,
+                reply: copy_of(reply)?,
             })?;
         }
     }
     Ok(())
+}
+
+// A copy of a reply. Bytes are copied as one piece.
+fn copy_of(reply: &Reply) -> Result<Reply, NoMemory>
+    ensures { IfOk result (λ copy. copy ≡ reply.now) }
+{
+    match reply {
+        Reply::Bytes(bytes) => {
+            let piece = Items::from_slice(bytes.alloc(), bytes.as_slice())?;
+            Ok(Reply::Bytes(piece))
+        }
+        _ => reply.copy(),
+    }
 }
 
 // Goes through a history. Gives the losses as they come, and leaves the last tree.
