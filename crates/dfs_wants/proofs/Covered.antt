@@ -235,7 +235,7 @@ so_of needs fid old mid new same (Lists update bytes size entries kind) =
     kind_of old mid new same kind n is = let m = kind n is in (m.0, ap (λ (c : Cell (Option Nature)). c.kept) (same Traits) ∙ m.1, m.2, m.3)
 so_of needs fid old mid new same (Sets update kind) =
     Sets update (λ n is. let m = kind n is in (m.0, ap (λ (c : Cell (Option Nature)). c.kept) (same Traits) ∙ m.1, m.2, m.3))
-so_of needs fid old mid new same (Goes update every) = Goes update every
+so_of needs fid old mid new same (Goes update every gone) = Goes update every (ap (λ (c : Cell (Option Nature)). c.kept) (same Traits) ∙ gone)
 
 pub changes_are_so : ChangesAreSo
 changes_are_so tree host user call fid w is_user is_change =
@@ -259,4 +259,4 @@ wants_cover_changes tree host user call fid part w is_user is_change can =
     by_so Traits can (Lists update bytes size entries kind) = inl update
     by_so Entries can (Lists update bytes size entries kind) = inr (inl entries)
     by_so part can (Sets update kind) = inl (update part can)
-    by_so part can (Goes update every) = inl (update part can)
+    by_so part can (Goes update every gone) = inl (update part can)

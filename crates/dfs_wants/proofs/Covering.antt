@@ -223,7 +223,7 @@ module _ (fileset : Fileset) (fid : Fid) (cells : Cells) where
           Covered (all_of true (use_of fileset parent) ++ (all_of true (use_of fileset anode) ++ rest)) (if a then Becomes Rattle.tree_laws.specs.Fates.no_values else if b then Turns None (Some name) else Stays)
       by_tests true b e f =
           inl (Goes (λ part can. of_more (use_of fileset parent) fid (all_of true (use_of fileset anode) ++ rest) part (of_all (use_of fileset anode) fid rest part can (named_same fileset anode fid its e)))
-          (all_used (named_same fileset anode fid its e)))
+          (all_used (named_same fileset anode fid its e)) refl)
       by_tests false true e f =
           inl (Sets (λ part can. of_all (use_of fileset parent) fid (all_of true (use_of fileset anode) ++ rest) part can (named_same fileset parent fid its f))
           (same_kind (after_fate (Turns None (Some name)) cells) refl))

@@ -103,7 +103,7 @@ pub data ChangesSo (needs : List Need) (fid : Fid) (old new : Cells) : Type 0 wh
   -- it goes, and whatever another host has of it is in the way of the want
   Goes : ((part : Part) → can_be part ≡ true → needs_update needs fid part ≡ true)
       → ((kind : Kind) → has_room kind ≡ true → any_conflict (record { fid = fid; kind = kind }) needs ≡ true)
-      → ChangesSo needs fid old new
+      → (new Traits).kept ≡ None → ChangesSo needs fid old new
 
 -- so each does, or the object wasn't there
 abbrev pub ChangesAreSo : Type 0
