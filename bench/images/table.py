@@ -1,6 +1,7 @@
 """Times the checks of a disk whose 16 slots are full: a directory with 63 files in each, with lists of access and a block of
 bytes each. The disk is built by puts on a formatted one; a row puts nothing more. Prints the seconds of one call, from runs
-with 1 row and with 11, best of three."""
+with 1 row and with 11, best of three, and the memory that the calls add to that of the disk."""
+import os
 import subprocess
 import sys
 import tempfile
@@ -61,24 +62,29 @@ def full_disk():
 
 
 def run(text):
-    """The best of three times."""
-    best = None
+    """The best of three times, and the greatest memory in kilobytes."""
+    best, most = None, 0
     for _ in range(3):
         with tempfile.TemporaryFile() as given:
             given.write(text.encode())
             given.seek(0)
             start = time.monotonic()
-            out = subprocess.run([PROGRAM], stdin=given, stdout=subprocess.PIPE, check=True).stdout
+            child = subprocess.Popen([PROGRAM], stdin=given, stdout=subprocess.PIPE)
+            out = child.stdout.read()
+            _, status, used = os.wait4(child.pid, 0)
             took = time.monotonic() - start
-        assert len(out.splitlines()) == 1, out
+        assert status == 0 and len(out.splitlines()) == 1, out
         best = took if best is None else min(best, took)
-    return best
+        most = max(most, used.ru_maxrss)
+    return best, most
 
 
 DISK = full_disk()
 ROW = "full | | ok\n"
-print("| Call | Seconds |\n|---|---|")
-for calls in ("check", "first"):
-    once = run(DISK + "calls %s\n" % calls + ROW)
-    often = run(DISK + "calls %s\n" % calls + ROW * 11)
-    print("| `%s` | %.3f |" % (calls, (often - once) / 10))
+alone, memory = run(DISK)
+print("| Call | Seconds | Megabytes over the disk's |\n|---|---|---|")
+for calls in ("check", "first", "shared"):
+    once, most = run(DISK + "calls %s\n" % calls + ROW)
+    often, _ = run(DISK + "calls %s\n" % calls + ROW * 11)
+    name = {"check": "check", "first": "check_first", "shared": "check_shared"}[calls]
+    print("| `%s` | %.3f | %.1f |" % (name, (often - once) / 10, (most - memory) / 1024))

@@ -1,3 +1,4 @@
 pub mod Read
 pub mod Looking
 pub mod Fronts
+pub mod Threads

@@ -58,7 +58,7 @@ fn push_server_faults(metadata: &Metadata, faults: &mut Vec<Fault>) -> Result<()
 }
 
 // What is found in the pages of the server, in slots and in blocks: all, or else enough for the first fault of these.
-fn look<D: Disk>(
+pub(crate) fn look<D: Disk>(
     alloc: Global,
     disk: &mut D,
     metadata: &Metadata,
@@ -92,7 +92,11 @@ fn push_count_faults(rights: &[bool], faults: &mut Vec<Fault>) -> Result<(), All
 }
 
 // Adds the faults of reach, of counts and of promises to those that were found.
-fn finish(metadata: &Metadata, counts: &[bool], found: Found) -> Result<Vec<Fault>, AllocError>
+pub(crate) fn finish(
+    metadata: &Metadata,
+    counts: &[bool],
+    found: Found,
+) -> Result<Vec<Fault>, AllocError>
     requires sized { IsSized metadata.now }
     requires size { length counts.now ≡ (metadata.now.blocks + 255) / 256 }
     ensures { IfOk result (λ faults. (image : List ℕ) → AreCountsJudged (over metadata.now image) counts.now
@@ -142,7 +146,7 @@ fn one_fault(alloc: Global, fault: Fault) -> Result<Vec<Fault>, AllocError>
 }
 
 // The faults of a disk by what stands before its metadata: all, or else at least the first.
-fn faults_behind<D: Disk>(
+pub(crate) fn faults_behind<D: Disk>(
     alloc: Global,
     disk: &mut D,
     front: &Front,

@@ -10,6 +10,8 @@ mod found;
 mod front;
 mod look;
 mod parts;
+mod shared;
 
 pub use checking::{check, check_first};
 pub use fault::CheckRefused;
+pub use shared::check_shared;

@@ -6,8 +6,8 @@ use Rattle.ep_image.specs.Slots.{state_at, is_whole}
 use Rattle.ep_image.specs.Faults.{faults_in}
 use Rattle.ep_image.specs.Image.{Image, image_of, fileset_of}
 
--- Where an aggregate has no faults, each fileset that isn't on its way here is a tree: each of its objects is reached
--- from its root by one path, under its unique number, and nothing else is.
+-- Where an aggregate has no faults, each fileset that is writable, a clone or leaving is a tree: each of its objects is
+-- reached from its root by one path, under its unique number, and nothing else is. Of one that arrives nothing is said.
 abbrev pub FilesetsAreFormed : Type 0
 FilesetsAreFormed = (disk : Aggregate) → faults_in disk ≡ [] → (slot : ℕ) → slot < 16
     → is_whole (state_at disk slot) ≡ true → IsWellFormed (fileset_of disk slot)

@@ -19,7 +19,8 @@ pub fn reach_law()
     ensures steps { StepsLead }
 {}
 
-/// A disk without faults holds filesets that are trees, but for those on their way, and has at most one image.
+/// A disk without faults holds filesets that are trees where they are writable, clones or leaving, and has at most one
+/// image. Of a fileset that arrives nothing is said: its directories may name objects that haven't come.
 pub fn formed_law()
     ensures formed { FilesetsAreFormed }
     ensures one { ImageIsOne }

@@ -8,13 +8,14 @@ mod row;
 use anyhow::{Context, Result, bail};
 use dfs_base::{DISK_END, Disk};
 use dfs_disk::MemDisk;
-use ep_check::{check, check_first};
+use ep_check::{check, check_first, check_shared};
 use ep_image::{Fault, blank_law, image_law, place_law, superblock_law};
 use ep_layout::BLOCKS_MAX;
 use ep_log::Log;
 use image_laws::{formed_law, fresh_law, reach_law};
 use row::{Put, puts_of, row_of};
 use std::alloc::Global;
+use std::thread::Threads;
 
 // A disk of so many blocks that was just formatted.
 fn formatted(alloc: Global, blocks: u32) -> Result<MemDisk> {
@@ -98,6 +99,7 @@ enum Calls {
     All,
     Check,
     First,
+    Shared,
 }
 
 fn calls_of(text: &str) -> Result<Calls> {
@@ -105,44 +107,67 @@ fn calls_of(text: &str) -> Result<Calls> {
         "all" => Ok(Calls::All),
         "check" => Ok(Calls::Check),
         "first" => Ok(Calls::First),
+        "shared" => Ok(Calls::Shared),
         _ => bail!("no such calls"),
     }
 }
 
-// What both answer: all faults, and the first of them.
-fn compared(alloc: Global, disk: &mut MemDisk) -> Result<Vec<Fault>> {
+// What all three answer, which is the same.
+fn compared(rt: &(impl Threads + Sync), alloc: Global, disk: &mut MemDisk) -> Result<Vec<Fault>> {
     let faults = check(alloc, disk)?;
     let first = check_first(alloc, disk)?;
     if first != faults.first().copied() {
         bail!("another first fault");
     }
+    let shared = check_shared(rt, alloc, disk)?;
+    if shared.as_slice() != faults.as_slice() {
+        bail!("other faults by several threads");
+    }
     Ok(faults)
 }
 
-fn faults_by(alloc: Global, disk: &mut MemDisk, calls: Calls) -> Result<Vec<Fault>> {
+fn faults_by(
+    rt: &(impl Threads + Sync),
+    alloc: Global,
+    disk: &mut MemDisk,
+    calls: Calls,
+) -> Result<Vec<Fault>> {
     match calls {
-        Calls::All => compared(alloc, disk),
+        Calls::All => compared(rt, alloc, disk),
         Calls::Check => Ok(check(alloc, disk)?),
         Calls::First => {
             let mut faults = Vec::new(alloc);
             faults.extend(check_first(alloc, disk)?)?;
             Ok(faults)
         }
+        Calls::Shared => Ok(check_shared(rt, alloc, disk)?),
     }
 }
 
 // What is found on a disk with the bytes of a row, which are taken off again.
-fn found(alloc: Global, disk: &mut MemDisk, calls: Calls, puts: &str) -> Result<String> {
+fn found(
+    rt: &(impl Threads + Sync),
+    alloc: Global,
+    disk: &mut MemDisk,
+    calls: Calls,
+    puts: &str,
+) -> Result<String> {
     let olds = put_all(alloc, disk, puts_of(alloc, puts)?.as_slice())?;
-    let faults = faults_by(alloc, disk, calls)?;
+    let faults = faults_by(rt, alloc, disk, calls)?;
     put_all(alloc, disk, olds.as_slice())?;
     faults_text(alloc, faults.as_slice())
 }
 
 // What a row gets in place of what it wants, if anything.
-fn look(alloc: Global, disk: &mut MemDisk, calls: Calls, line: &str) -> Result<Option<String>> {
+fn look(
+    rt: &(impl Threads + Sync),
+    alloc: Global,
+    disk: &mut MemDisk,
+    calls: Calls,
+    line: &str,
+) -> Result<Option<String>> {
     let row = row_of(line)?;
-    let told = found(alloc, disk, calls, row.puts)?;
+    let told = found(rt, alloc, disk, calls, row.puts)?;
     if told.as_str() == row.wanted {
         return Ok(None);
     }
@@ -173,7 +198,7 @@ fn main(rt: HostRuntime) -> Result<()> {
         } else if let Some(text) = line.strip_prefix("calls ") {
             calls = calls_of(text)?;
         } else {
-            if let Some(told) = look(alloc, &mut disk, calls, line)? {
+            if let Some(told) = look(&rt, alloc, &mut disk, calls, line)? {
                 let told = told.as_str();
                 println!(rt; "{told}")?;
             }
