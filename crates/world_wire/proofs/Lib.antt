@@ -1,0 +1,9 @@
+pub mod Maps
+pub mod Posts
+pub mod Flags
+pub mod Takes
+pub mod Mapped
+pub mod Sending
+pub mod Lines
+pub mod Wires
+pub mod Taking
