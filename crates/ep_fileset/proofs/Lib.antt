@@ -1,0 +1,4 @@
+pub mod Changing
+pub mod Twice
+pub mod Steps
+pub mod Turns

@@ -1,0 +1,21 @@
+//! The filesets of an aggregate. Each call changes what the anodes of one slot keep as a definition of the tree says,
+//! in a transaction of the log that the caller has begun, and names the blocks that it needs. A layer above keeps one
+//! fact, the anodes that each slot has, and needs no word of pages or pointers.
+//!
+//! After S. Chutani et al., "The Episode File System", 1992: filesets share an aggregate's blocks, their metadata is
+//! logged, and their blocks are written anew.
+#![tactic(auto)]
+
+mod bytes;
+mod lists;
+mod making;
+mod names;
+mod objects;
+mod place;
+
+pub use bytes::truncate;
+pub use lists::set_list;
+pub use making::{make, occupy};
+pub use names::{enter, leave, rename};
+pub use objects::{copy_anode, unmake, vacate};
+pub use place::anode_page;
