@@ -1,4 +1,4 @@
-"""Times the calls of a token table on one file, and prints the best of five runs in nanoseconds a call."""
+"""Times the calls of a token table and a token manager on one file: the best of five runs, in nanoseconds a call."""
 import subprocess
 import sys
 
@@ -8,14 +8,15 @@ RUNS = 5
 
 
 def times(files, tokens):
-    """The nanoseconds of a grant and drop, of a search for conflicts, and of a look at what is covered."""
+    """The nanoseconds of a grant and drop, a search for conflicts, a look at what is covered, and a want and return."""
     rows = "%d %d\n" % (files, tokens)
     answer = subprocess.run([PROGRAM, "times"], input=rows, capture_output=True, text=True, check=True).stdout
-    return [int(word) for word in answer.split("\n")[1].split()]
+    lines = answer.split("\n")
+    return [int(word) for word in lines[1].split() + lines[3].split()]
 
 
-print("| Files, tokens | `grant` and `drop_id`, ns | `conflicting`, ns | `covers` on `of_file`, ns |")
-print("|---|---|---|---|")
+print("| Files, tokens | `grant` and `drop_id`, ns | `conflicting`, ns | `covers` on `of_file`, ns | `ask` and `returned`, ns |")
+print("|---|---|---|---|---|")
 for files, tokens in LOADS:
     best = [min(row) for row in zip(*(times(files, tokens) for _ in range(RUNS)))]
-    print("| %d, %d | %d | %d | %d |" % (files, tokens, *best), flush=True)
+    print("| %d, %d | %d | %d | %d | %d |" % (files, tokens, *best), flush=True)

@@ -1,17 +1,19 @@
-//! Times a token table: for each line `FILES TOKENS` of standard input it grants so many tokens over so many files
-//! and 16 hosts, and then works on one file. It prints how many tokens that file has; with the word `times` it prints
-//! beside it the nanoseconds of a grant and drop, of a search for conflicts, and of a look at what is covered.
+//! Times a token table and a token manager: for each line `FILES TOKENS` of standard input it grants so many tokens
+//! over so many files and 16 hosts, and then works on one file. It prints how many tokens that file has; with the word
+//! `times` it prints beside it the nanoseconds of a grant and drop, of a search for conflicts and of a look at what is
+//! covered in the table, and of a want that is asked and its token's return in the manager.
 #![tactic(auto)]
 
 ghost use Rattle.std.specs.Prelude.{◌≤◌, ◌<◌, ◌^◌, IfSome};
 
-use dfs_base::{Fid, FilesetId, HostId, NoMemory, ServerId};
+use dfs_base::{Fid, FilesetId, HostId, Items, NoMemory, ServerId};
 use std::alloc::Global;
 use std::rt::Env;
 use std::time::{Clock, Instant};
 use std::{env, io};
+use tok_manager::{Asked, TokenManager, Want};
 use tok_table::TokenTable;
-use tok_types::{Kind, Need, covers};
+use tok_types::{Kind, Need, TokenId, covers};
 
 // How often each act is done.
 const ROUNDS: u64 = 1_000;
@@ -56,6 +58,72 @@ fn filled(alloc: Global, files: u32, tokens: u32) -> Result<TokenTable, NoMemory
         grant(&mut table, host, file(i % files))?;
     }
     Ok(table)
+}
+
+// The number of a want that may be asked next; None where none may.
+fn next_number(manager: &TokenManager) -> Option<u64>
+    ensures rising { IfSome result (λ number. IfSome manager.now.latest (λ latest. latest < number)) }
+    ensures count { IfSome result (λ number. manager.now.asked < 2 ^ 44) }
+{
+    let count = manager.asked();
+    if count >= 1 << 44 {
+        return None;
+    }
+    match manager.latest() {
+        Some(latest) => latest.checked_add(1),
+        None => Some(0),
+    }
+}
+
+fn granted_id(asked: &Asked) -> Option<TokenId> {
+    match asked {
+        Asked::Granted(tokens) => tokens.at(0).map(|token| token.id),
+        Asked::Waits { .. } => None,
+    }
+}
+
+// Asks for one token for reading a file's status. It answers the token's number where it is granted.
+fn ask(
+    manager: &mut TokenManager,
+    alloc: Global,
+    host: HostId,
+    fid: Fid,
+) -> Result<Option<TokenId>, NoMemory> {
+    let Some(number) = next_number(manager) else {
+        return Ok(None);
+    };
+    let kind = Kind::Status { update: false };
+    let needs = Items::from_slice(alloc, &[Need { fid, kind }])?;
+    let asked = manager.ask(Want {
+        number,
+        host,
+        needs,
+    })?;
+    Ok(granted_id(&asked))
+}
+
+// A manager that has granted so many tokens, spread over so many files and 16 hosts.
+fn managed(alloc: Global, files: u32, tokens: u32) -> Result<TokenManager, NoMemory>
+    requires { 1 ≤ files }
+{
+    let mut manager = TokenManager::new(alloc, ServerId(1), 1);
+    for i in 0..tokens {
+        let host = HostId((i / files % 16) as u8);
+        ask(&mut manager, alloc, host, file(i % files))?;
+    }
+    Ok(manager)
+}
+
+// Asks for a token on a file and gives it back, so often. It answers how often it was granted.
+fn ask_and_return(manager: &mut TokenManager, alloc: Global, fid: Fid) -> Result<u64, NoMemory> {
+    let mut granted = 0u64;
+    for _ in 0..ROUNDS {
+        if let Some(id) = ask(manager, alloc, HostId(16), fid)? {
+            manager.returned(HostId(16), id);
+            granted = granted.saturating_add(1);
+        }
+    }
+    Ok(granted)
 }
 
 // Grants a token on a file and drops it again, so often.
@@ -115,6 +183,22 @@ fn measure<R: Clock + Print>(rt: &R, table: &mut TokenTable, times: bool) -> io:
     Ok(())
 }
 
+fn measure_manager<R: Clock + Print>(
+    rt: &R,
+    alloc: Global,
+    manager: &mut TokenManager,
+    times: bool,
+) -> io::Result<()> {
+    let start = Instant::now(rt)?;
+    let granted = ask_and_return(manager, alloc, file(0)).unwrap_or(0);
+    let asks = nanos(rt, start)?;
+    println!(rt; "{granted} wants granted")?;
+    if times {
+        println!(rt; "{asks}")?;
+    }
+    Ok(())
+}
+
 fn wants_times(rt: &(impl Env + AllocGlobal)) -> io::Result<bool> {
     Ok(env::args(rt)?.count() > 1)
 }
@@ -129,6 +213,10 @@ fn main(rt: HostRuntime) -> io::Result<()> {
         };
         match filled(rt.alloc(), files, tokens) {
             Ok(mut table) => measure(&rt, &mut table, times)?,
+            Err(NoMemory) => println!(rt; "no memory")?,
+        }
+        match managed(rt.alloc(), files, tokens) {
+            Ok(mut manager) => measure_manager(&rt, rt.alloc(), &mut manager, times)?,
             Err(NoMemory) => println!(rt; "no memory")?,
         }
     }
