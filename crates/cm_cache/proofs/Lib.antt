@@ -1,0 +1,11 @@
+pub mod Lists
+pub mod Writing
+pub mod Ordering
+pub mod Filing
+pub mod Seeing
+pub mod Using
+pub mod Dropping
+pub mod Adding
+pub mod ShownLaws
+pub mod Learning
+pub mod Parting
