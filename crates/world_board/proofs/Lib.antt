@@ -1,0 +1,6 @@
+pub mod Mapped
+pub mod Giving
+pub mod Steps
+pub mod Goings
+pub mod Boards
+pub mod Turns

@@ -1,0 +1,6 @@
+pub mod Follows
+pub mod Hubs
+pub mod Pendings
+pub mod Ties
+pub mod Turning
+pub mod Laws
