@@ -40,10 +40,10 @@ use Rattle.rpc_types.specs.declared.giving.AppliedGive.{AppliedGive}
 use Rattle.rpc_types.specs.declared.giving.Give.{Give}
 use Rattle.rpc_types.specs.declared.message.Body.{Body}
 use Rattle.rpc_types.specs.declared.message.Body.TheVariants.{Hello, Fetch, Change}
-use Rattle.world_host.specs.HostAnswers.{CanAnswer, FindsFile, HostAnswers, IsExact}
-use Rattle.world_host.specs.HostAsks.{AwaitsGone, GiveOpen, HostAsks}
+use Rattle.world_host.specs.HostAnswers.{CanAnswer, HostAnswers, IsExact}
+use Rattle.world_host.specs.HostAsks.{AwaitsGone, HostAsks}
 use Rattle.world_host.specs.Dirty.{IsDirtyUnder}
-use Rattle.world_host.specs.Knowing.{Stance, verdict_in}
+use Rattle.world_host.specs.Knowing.{FindsFile, Stance, verdict_in}
 use Rattle.world_host.specs.Labels.{FreesPinned, GivesUse, end_of}
 use Rattle.world_host.specs.OpenCalls.{GoesOn, IsOpen, IsTurn}
 use Rattle.world_host.specs.Views.{sees}
@@ -58,7 +58,7 @@ use Rattle.world_steps.specs.declared.step.Labelled.{Labelled}
 use Rattle.world_steps.specs.declared.step.Step.{Step}
 use Rattle.run_examples.proofs.Tests.{AllTrue, passes, all_true, implies, so, clash, is_not, not_is, at_all, some_in}
 use Rattle.run_examples.proofs.Tests.{any_of}
-use Rattle.run_examples.proofs.Tests.{is_none, none_in, same_server, same_fileset, same_host, host_is, server_is}
+use Rattle.run_examples.proofs.Tests.{is_none, none_in, none_is, same_server, same_fileset, same_host, host_is, server_is}
 use Rattle.run_examples.proofs.Tests.{fid_is, fids}
 use Rattle.run_examples.proofs.Tests.{same_kind, kind_is, kinds, same_bool, bool_is, name_is, names, same_token}
 use Rattle.run_examples.proofs.Tests.{token_is, same_end}
@@ -404,6 +404,7 @@ answer_tests site host user past s =
     ∷ (is_none s.answers || no_asked s.asked)
     ∷ is_short s.answers
     ∷ (is_none s.answers || is_none (asking (s ∷ past)))
+    ∷ (is_none s.answers || (is_none s.dropped && is_none s.made))
     ∷ list_all (λ a. wrote_right s.wrote (verdict_at site host user past s a.call)) s.answers
     ∷ written_right site host user past s s.wrote
     ∷ list_all (λ a. lock_right s a.call (verdict_at site host user past s a.call)) s.answers
@@ -485,22 +486,7 @@ module _ (site : ServerId) (roster : Roster) (host : HostId) (user : User) (past
             one_,
             (
               alone_,
-              (
-                writes_,
-                (
-                  only_,
-                  (
-                    locks_,
-                    (
-                      begins_,
-                      (
-                        begins_one_,
-                        (syncs_, (frees_, (local_, _))),
-                      ),
-                    ),
-                  ),
-                ),
-              ),
+              (keeps_, (writes_, (only_, (locks_, (begins_, (begins_one_, (syncs_, (frees_, (local_, _))))))))),
             ),
           ),
         ),
@@ -548,6 +534,10 @@ module _ (site : ServerId) (roster : Roster) (host : HostId) (user : User) (past
     answers_one = short_len s.answers one_;
     answers_alone = λ a fs n m x. none_in (asking (s ∷ past)) (numbered fs n) (answered_none s a (is_none (asking (s
         ∷ past))) alone_ m) (asking_in (s ∷ past) fs n x);
+    keeps = λ a m.
+        let p = and_parts (is_none s.dropped) (is_none s.made)
+        (answered_none s a (is_none s.dropped && is_none s.made) keeps_ m) in
+        (none_is s.dropped p.0, none_is s.made p.1);
     writes = λ a fid from bytes m is.
         file_is fid s.wrote (subst (λ v. wrote_right s.wrote v ≡ true) is (at_all (λ a. wrote_right s.wrote
         (verdict_at site host user past s a.call)) s.answers a writes_ m));

@@ -1,4 +1,11 @@
 -- The rules of asking for a host's step that asks nothing new, computed.
+use Rattle.run_examples.proofs.FetchWords.{asking_yes, fetch_body, is_asking, is_fetch, one_number, one_number_of}
+use Rattle.run_examples.proofs.Words.{in_asking, in_said, is_welcome, said, welcome_yes}
+use Rattle.world_host.specs.HostAsks.{HasFetched}
+use Rattle.world_steps.specs.Epochs.{IsWelcome}
+use Rattle.world_steps.specs.Sends.{Said}
+use Rattle.rpc_types.specs.declared.message.Message.{Message}
+use Rattle.world_steps.specs.Gives.{GiveOpen}
 use Rattle.std.proofs.Common.{Bool, List, None, Option, Some, [], ap, false, inl, inr, refl, subst, sym, true}
 use Rattle.std.proofs.Common.{ℕ, ◌&&◌, ◌++◌, ◌||◌, ◌==◌, ◌∙◌, ◌∷◌, ◌≡◌, ◌⊎◌}
 use Rattle.std.proofs.lemmas.Bool.{and_parts, or_cases}
@@ -24,7 +31,7 @@ use Rattle.rpc_types.specs.declared.giving.AppliedGive.{AppliedGive}
 use Rattle.rpc_types.specs.declared.giving.Give.{Give}
 use Rattle.rpc_types.specs.declared.message.Body.{Body}
 use Rattle.rpc_types.specs.declared.message.Body.TheVariants.{Hello, Fetch, Change}
-use Rattle.world_host.specs.HostAsks.{AwaitsGone, GiveOpen, HostAsks}
+use Rattle.world_host.specs.HostAsks.{AwaitsGone, HostAsks}
 use Rattle.world_host.specs.Knowing.{Stance}
 use Rattle.world_host.specs.OpenCalls.{IsOpen}
 use Rattle.world_steps.specs.Gives.{IsKnown, Made, number_of}
@@ -48,6 +55,11 @@ asks_new Hello = true
 asks_new (Fetch f) = true
 asks_new (Change c) = true
 asks_new _ = false
+
+-- a Fetch is asked again while it is outstanding
+unfoldable pub asks_again : List Step → Body → Bool
+asks_again past (Fetch f) = list_any (λ k. is_fetch f k.body) (said past) && is_asking past f
+asks_again past b = not (asks_new b)
 
 unfoldable pub is_gives : Verdict → Bool
 is_gives Gives = true
@@ -106,7 +118,7 @@ unfoldable pub one_or_none : List AppliedGive → Bool
 one_or_none [] = true
 one_or_none (x ∷ xs) = is_none xs
 
-one_of : (xs : List AppliedGive) (x y : AppliedGive) → one_or_none xs ≡ true → In x xs → In y xs → x ≡ y
+pub one_of : (xs : List AppliedGive) (x y : AppliedGive) → one_or_none xs ≡ true → In x xs → In y xs → x ≡ y
 unfolding asks_new is_gives is_open_give lack_waits waits_right one_or_none
 one_of [] x y e m n = elim m [ ]
 one_of (z ∷ zs) x y e (inl p) (inl q) = p ∙ sym q
@@ -115,19 +127,44 @@ one_of (z ∷ zs) x y e (inl p) (inr q) = absurd (none_in zs y e q)
 
 unfoldable pub ask_tests : ServerId → HostId → User → List Step → Step → List Bool
 ask_tests site host user past s =
-    list_all (λ m. not (asks_new m.body)) s.sent
-    ∷ one_or_none (asking (s ∷ past))
+    list_all (λ m. asks_again past m.body) s.sent
+    ∷ one_number (asking (s ∷ past))
     ∷ one_or_none (changing site (s ∷ past))
     ∷ (is_none (asking (s ∷ past)) || is_none (changing site (s ∷ past)))
-    ∷ list_all (waits_right site host user past s) (open_calls site (s ∷ past))
+    ∷ (not (is_none (asking (s ∷ past))) || list_all (waits_right site host user past s) (open_calls site (s ∷ past)))
     ∷ is_local site (s ∷ past)
+    ∷ list_all (λ m. is_welcome (s ∷ past) m.server || not (asks_new m.body)) s.sent
     ∷ []
 
 module _ (site : ServerId) (roster : Roster) (host : HostId) (user : User) (past : List Step) (s : Step)
     (acts : user_of roster host ≡ Some user) (known : passes (stance_tests site host past s) ≡ true) where
-  none_new : list_all (λ m. not (asks_new m.body)) s.sent ≡ true → (v : ServerId) (e n : ℕ) (b : Body)
-      → asks_new b ≡ true → Sends s v e n b → ⊥
-  none_new t v e n b is p = is_not (asks_new b) (at_sends (λ m. not (asks_new m.body)) s v e n b t p) is
+  none_new : list_all (λ m. asks_again past m.body) s.sent ≡ true → (v : ServerId) (e n : ℕ) (b : Body)
+      → asks_again past b ≡ false → Sends s v e n b → ⊥
+  none_new t v e n b is p = let q = at_sends (λ m. asks_again past m.body) s v e n b t p in cc
+
+  again : (f : FetchOf) → asks_again past (Fetch f) ≡ true → HasFetched past f × Asking past f.fid.fileset f.number
+  unfolding asks_again
+  again f t =
+      let p = and_parts (list_any (λ k. is_fetch f k.body) (said past)) (is_asking past f) t in
+      let k = some_in (λ (k : Message). is_fetch f k.body) (said past) p.0 in (
+        (
+          k.0.server,
+          k.0.epoch,
+          k.0.moves,
+          subst (λ b. Said past k.0.server k.0.epoch k.0.moves b) (fetch_body f k.0.body k.2) (in_said past k.0 k.1),
+        ),
+        asking_yes past f p.1,
+      )
+
+  -- some request is outstanding
+  some_asked : not (is_none (asking (s ∷ past))) ≡ true → (fs : FilesetId) × (n : ℕ) × Asking (s ∷ past) fs n
+  some_asked t = go (asking (s ∷ past)) refl t
+    where
+      go : (xs : List AppliedGive) → asking (s ∷ past) ≡ xs → not (is_none xs) ≡ true
+          → (fs : FilesetId) × (n : ℕ) × Asking (s ∷ past) fs n
+      go [] is e = absurd (cc)
+      go (x ∷ xs) is e =
+          (x.fileset, x.number, in_asking (s ∷ past) x.fileset x.number (subst (In x) (sym is) (inl refl)))
 
   awaits : (call : Call) → waits_right site host user past s (the_call 0 call) ≡ true
       → AwaitsGone roster host past s (stance_of site roster host user past s acts known) call
@@ -153,17 +190,26 @@ module _ (site : ServerId) (roster : Roster) (host : HostId) (user : User) (past
             )
       ]
 
+  at_all_welcome : (v : ServerId) (f : FetchOf) → (is_welcome (s ∷ past) v || not (asks_new (Fetch f))) ≡ true
+      → IsWelcome (s ∷ past) v
+  unfolding asks_new
+  at_all_welcome v f t =
+      elim (or_cases (is_welcome (s ∷ past) v) (not (asks_new (Fetch f))) t) [
+        | inl x ↦ welcome_yes (s ∷ past) v x
+        | inr x ↦ absurd (cc)
+      ]
+
   pub asks_meet : passes (ask_tests site host user past s) ≡ true
       → HostAsks roster host past s (stance_of site roster host user past s acts known)
-  unfolding ask_tests asks_new is_local waits_right
+  unfolding ask_tests asks_new asks_again is_local waits_right
   asks_meet e =
       let t = all_true (ask_tests site host user past s) e in
       let local = t.1.1.1.1.1.0 in
       record {
-        fetches = λ f p. absurd (none_new t.0 p.0 p.1 p.2 (Fetch f) refl p.3);
+        fetches = λ f p. inl (again f (at_sends (λ m. asks_again past m.body) s p.0 p.1 p.2 (Fetch f) t.0 p.3));
         changes = λ v e n c p. absurd (none_new t.0 v e n (Change c) refl p);
         one_fetch = λ fs gs n m a b.
-            let p = one_of (asking (s ∷ past)) (numbered fs n) (numbered gs m) t.1.0 (asking_in (s ∷ past) fs n a)
+            let p = one_number_of (asking (s ∷ past)) (numbered fs n) (numbered gs m) t.1.0 (asking_in (s ∷ past) fs n a)
             (asking_in (s ∷ past) gs m b) in
             (ap (λ (x : AppliedGive). x.fileset) p, ap (λ (x : AppliedGive). x.number) p);
         one_change = λ v w fs gs n m a b.
@@ -176,9 +222,15 @@ module _ (site : ServerId) (roster : Roster) (host : HostId) (user : User) (past
               | inr x ↦ none_in (changing site (s ∷ past)) (numbered gs m) x (at_site site (s ∷ past) v gs m local b)
             ];
         greets = λ v e n p. absurd (none_new t.0 v e n Hello refl p);
-        fetches_welcome = λ v e n f p. absurd (none_new t.0 v e n (Fetch f) refl p);
+        fetches_welcome = λ v e n f p.
+            at_all_welcome v f (at_sends (λ m. is_welcome (s ∷ past) m.server || not (asks_new m.body)) s v e n (Fetch f)
+            t.1.1.1.1.1.1.0 p);
         changes_welcome = λ v e n c p. absurd (none_new t.0 v e n (Change c) refl p);
         asks = λ call o up.
-            inr (inr (inl (awaits call.call (at_all (waits_right site host user past s) (open_calls site (s
-            ∷ past)) call t.1.1.1.1.0 (open_in site (s ∷ past) call local o)))));
+            elim (or_cases (not (is_none (asking (s ∷ past)))) (list_all (waits_right site host user past s)
+            (open_calls site (s ∷ past))) t.1.1.1.1.0) [
+              | inl x ↦ inl (some_asked x)
+              | inr x ↦ inr (inr (inl (awaits call.call (at_all (waits_right site host user past s)
+                  (open_calls site (s ∷ past)) call x (open_in site (s ∷ past) call local o)))))
+            ];
       }

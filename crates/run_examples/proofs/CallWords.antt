@@ -33,7 +33,7 @@ use Rattle.rpc_types.specs.declared.telling.Done.{Done as DoneOf}
 use Rattle.rpc_types.specs.declared.telling.DoneIs.{DoneIs}
 use Rattle.rpc_types.specs.declared.telling.DoneIs.TheVariants.{Known as IsFileset, Reply as HasReply}
 use Rattle.world_host.specs.Dirty.{IsClean}
-use Rattle.world_host.specs.Knowing.{EachOnce, Entered, Enters, HasLabel, IsLock, IsOpening, Knows, NeedsServer, Stance}
+use Rattle.world_host.specs.Knowing.{Entered, Enters, HasLabel, IsLock, IsOpening, Knows, NeedsServer, Stance}
 use Rattle.world_host.specs.Labels.{InUse, IsEnding}
 use Rattle.world_host.specs.OpenCalls.{Begins, Counts, GoesOn, IsEnded, IsOpen, IsTurn, LearnsEnd}
 use Rattle.world_steps.specs.Gives.{IsKnown, Learns, Made, number_of}

@@ -1,4 +1,5 @@
 -- The rules of what a host sends again and which tokens it takes, computed.
+use Rattle.run_examples.proofs.FetchWords.{asking_is, asking_yes, fetch_body, is_asking, is_fetch}
 use Rattle.std.proofs.Common.{Bool, List, None, Option, Some, [], ap, arith, false, inl, inr, refl, subst, suc, sym}
 use Rattle.std.proofs.Common.{true}
 use Rattle.std.proofs.Common.{if◌then◌else◌, ℕ, ◌&&◌, ◌++◌, ◌||◌, ◌==◌, ◌∙◌, ◌∷◌, ◌≡◌, ◌≤◌, ◌<◌, ◌⊎◌}
@@ -29,7 +30,7 @@ use Rattle.world_steps.specs.Floors.{Uses}
 use Rattle.world_steps.specs.Gives.{IsOutstanding, Made}
 use Rattle.world_steps.specs.Lists.{In}
 use Rattle.world_steps.specs.Places.{Place, place}
-use Rattle.world_steps.specs.Sends.{HasGreeted, HasSaidBye, Said, Sends}
+use Rattle.world_steps.specs.Sends.{HasGreeted, Said, Sends}
 use Rattle.world_steps.specs.Tokens.{HoldsId}
 use Rattle.world_steps.specs.declared.step.Asked.{Asked}
 use Rattle.world_steps.specs.declared.step.Cause.{Cause}
@@ -37,7 +38,7 @@ use Rattle.world_steps.specs.declared.step.Cause.TheVariants.{Message as Came, L
 use Rattle.world_steps.specs.declared.step.Step.{Step}
 use Rattle.run_examples.proofs.Tests.{AllTrue, passes, all_true, implies, so, clash, is_not, not_is, at_all, some_in}
 use Rattle.run_examples.proofs.Tests.{any_of, apart}
-use Rattle.run_examples.proofs.Tests.{is_none, none_in, only_one, same_server, server_is, servers, same_give, give_is}
+use Rattle.run_examples.proofs.Tests.{is_none, none_in, none_is, only_one, same_server, server_is, servers, same_give, give_is}
 use Rattle.run_examples.proofs.Tests.{same_is}
 use Rattle.run_examples.proofs.Tests.{id_is, ids}
 use Rattle.run_examples.proofs.Words.{by_message, told, cause_is, at_comes, at_sends, at_said, said, said_in, in_said}
@@ -275,6 +276,34 @@ gives_as_yes past s g e v n t at =
       give_body g p.0.body r.1,
     )
 
+-- sends the Fetch again, to where it goes
+unfoldable pub fetches_as : List Step → Step → FetchOf → Bool
+fetches_as past s f =
+    list_any (λ m. is_place past f.fid.fileset m && ((m.epoch == epoch_at past m.server) && is_fetch f m.body)) s.sent
+
+fetches_as_yes : (past : List Step) (s : Step) (f : FetchOf) (v : ServerId) (n : ℕ) → fetches_as past s f ≡ true
+    → place past f.fid.fileset ≡ record { server = v; moves = n } → Sends s v (epoch_at past v) n (Fetch f)
+unfolding fetches_as
+fetches_as_yes past s f v n t at =
+    let p = some_in (λ m. is_place past f.fid.fileset m && ((m.epoch == epoch_at past m.server) && is_fetch f m.body))
+    s.sent t in
+    let q = and_parts (is_place past f.fid.fileset p.0) ((p.0.epoch == epoch_at past p.0.server) && is_fetch f p.0.body)
+    p.2 in
+    let r = and_parts (p.0.epoch == epoch_at past p.0.server) (is_fetch f p.0.body) q.1 in
+    let w = sym (place_is past f.fid.fileset p.0 q.0) ∙ at in
+    let v_is : p.0.server ≡ v = ap (λ (x : Place). x.server) w in (
+      p.0,
+      p.1,
+      v_is,
+      eqb-true p.0.epoch (epoch_at past p.0.server) r.0 ∙ ap (epoch_at past) v_is,
+      ap (λ (x : Place). x.moves) w,
+      fetch_body f p.0.body r.1,
+    )
+
+unfoldable pub fetch_late : List Step → Step → Body → Bool
+fetch_late past s (Fetch f) = implies (is_asking past f) (fetches_as past s f)
+fetch_late past s _ = true
+
 unfoldable pub greets_welcome : List Step → Message → Bool
 greets_welcome past m = implies (is_hello m.body) (is_welcome past m.server)
 
@@ -294,12 +323,14 @@ late_right past m Bye =
     list_any (λ k. is_bye k.body && same_server k.server m.server) (said past) && (not (has_bye past m.server) &&
     (m.moves == 0))
 late_right past m (Reclaim claim) = has_claim past m.server
+late_right past m (Fetch f) =
+    list_any (λ k. is_fetch f k.body) (said past) && (is_asking past f && is_place past f.fid.fileset m)
 late_right past m _ = false
 
 unfoldable pub lapse_tests : ServerId → List Step → Step → List Bool
 lapse_tests site past s =
     list_all (greets_welcome past) (said past)
-    ∷ is_none (asking past)
+    ∷ list_all (λ m. fetch_late past s m.body) (said past)
     ∷ is_none (changing site past)
     ∷ list_all (gives_late past s) (made past)
     ∷ list_all (byes_late past s) (said past)
@@ -345,16 +376,9 @@ resend_tests site past s =
     ∷ is_local site past
     ∷ []
 
-pub none_is : {A : Type 0} (xs : List A) → is_none xs ≡ true → xs ≡ []
-unfolding is_lapse is_hello is_reclaim is_restarted is_answer goes_as sends_bye byes_at has_bye claims_at raises_at
-    answers_at has_claim gives_as greets_welcome gives_late byes_late claims_late late_right lapse_tests greeted
-    learns_restart gives_restarted restart_right claims_only answered_all resend_tests is_bye is_local no_asked
-none_is [] e = refl
-none_is (x ∷ xs) e = absurd (cc)
-
 pub not_asked : (o : Option Asked) → no_asked o ≡ true → o ≡ None
 unfolding is_lapse is_hello is_reclaim is_restarted is_answer goes_as sends_bye byes_at has_bye claims_at raises_at
-    answers_at has_claim gives_as greets_welcome gives_late byes_late claims_late late_right lapse_tests greeted
+    answers_at has_claim gives_as fetch_late greets_welcome gives_late byes_late claims_late late_right lapse_tests greeted
     learns_restart gives_restarted restart_right claims_only answered_all resend_tests is_bye is_local no_asked
 not_asked None e = refl
 not_asked (Some c) e = absurd (cc)
@@ -362,14 +386,14 @@ not_asked (Some c) e = absurd (cc)
 greets_is : (past now : List Step) (v : ServerId) → list_all (greets_welcome now) (said past) ≡ true
     → HasGreeted past v → is_welcome now v ≡ true
 unfolding is_lapse is_hello is_reclaim is_restarted is_answer goes_as sends_bye byes_at has_bye claims_at raises_at
-    answers_at has_claim gives_as greets_welcome gives_late byes_late claims_late late_right lapse_tests greeted
+    answers_at has_claim gives_as fetch_late greets_welcome gives_late byes_late claims_late late_right lapse_tests greeted
     learns_restart gives_restarted restart_right claims_only answered_all resend_tests is_bye is_local no_asked
 greets_is past now v t (e, n, h) =
     let p = at_said (greets_welcome now) past v e n Hello t h in p.1
 
 learns_is : (past : List Step) (s : Step) (v : ServerId) → LearnsRestart past s v → learns_restart past s v ≡ true
 unfolding is_lapse is_hello is_reclaim is_restarted is_answer goes_as sends_bye byes_at has_bye claims_at raises_at
-    answers_at has_claim gives_as greets_welcome gives_late byes_late claims_late late_right lapse_tests greeted
+    answers_at has_claim gives_as fetch_late greets_welcome gives_late byes_late claims_late late_right lapse_tests greeted
     learns_restart gives_restarted restart_right claims_only answered_all resend_tests is_bye is_local no_asked
 learns_is past s v (g, r, (e, n, c)) =
     let h = said_in past v g.0 g.1 Hello g.2 in
@@ -387,7 +411,7 @@ restart_comes : (s : Step) (v : ServerId) (cause : Cause) → s.cause ≡ cause
     → by_message false (λ m. is_restarted m.body && same_server m.server v) cause ≡ true → (e n : ℕ)
     × ComesIn s v e n Restarted
 unfolding is_lapse is_hello is_reclaim is_restarted is_answer goes_as sends_bye byes_at has_bye claims_at raises_at
-    answers_at has_claim gives_as greets_welcome gives_late byes_late claims_late late_right lapse_tests greeted
+    answers_at has_claim gives_as fetch_late greets_welcome gives_late byes_late claims_late late_right lapse_tests greeted
     learns_restart gives_restarted restart_right claims_only answered_all resend_tests is_bye is_local no_asked
 restart_comes s v (Came m) c t =
     let p = and_parts (is_restarted m.body) (same_server m.server v) t in
@@ -396,7 +420,7 @@ restart_comes s v cause c t = absurd (cc)
 
 learns_yes : (past : List Step) (s : Step) (v : ServerId) → learns_restart past s v ≡ true → LearnsRestart past s v
 unfolding is_lapse is_hello is_reclaim is_restarted is_answer goes_as sends_bye byes_at has_bye claims_at raises_at
-    answers_at has_claim gives_as greets_welcome gives_late byes_late claims_late late_right lapse_tests greeted
+    answers_at has_claim gives_as fetch_late greets_welcome gives_late byes_late claims_late late_right lapse_tests greeted
     learns_restart gives_restarted restart_right claims_only answered_all resend_tests is_bye is_local no_asked
 learns_yes past s v t =
     let p = and_parts (greeted past v && raises_at past s v) (by_message false
@@ -420,7 +444,7 @@ lapse_is : (s : Step) (site : ServerId) (past : List Step) → implies (is_lapse
     (lapse_tests site past s)) ≡ true
     → s.cause ≡ Lapse → AllTrue (lapse_tests site past s)
 unfolding is_lapse is_hello is_reclaim is_restarted is_answer goes_as sends_bye byes_at has_bye claims_at raises_at
-    answers_at has_claim gives_as greets_welcome gives_late byes_late claims_late late_right lapse_tests greeted
+    answers_at has_claim gives_as fetch_late greets_welcome gives_late byes_late claims_late late_right lapse_tests greeted
     learns_restart gives_restarted restart_right claims_only answered_all resend_tests is_bye is_local no_asked
 lapse_is s site past t c =
     all_true (lapse_tests site past s) (so (is_lapse s.cause) (passes (lapse_tests site past s)) t (subst
@@ -428,7 +452,7 @@ lapse_is s site past t c =
 
 pub lapse_cause : (c : Cause) → is_lapse c ≡ true → c ≡ Lapse
 unfolding is_lapse is_hello is_reclaim is_restarted is_answer goes_as sends_bye byes_at has_bye claims_at raises_at
-    answers_at has_claim gives_as greets_welcome gives_late byes_late claims_late late_right lapse_tests greeted
+    answers_at has_claim gives_as fetch_late greets_welcome gives_late byes_late claims_late late_right lapse_tests greeted
     learns_restart gives_restarted restart_right claims_only answered_all resend_tests is_bye is_local no_asked
 lapse_cause Lapse e = refl
 lapse_cause c e = absurd (cc)
@@ -437,12 +461,13 @@ all_late : (site : ServerId) (past : List Step) (s : Step) → is_local site pas
     (lapse_tests site past s)
     → (v : ServerId) (n : ℕ) (b : Body) → Outstanding past v n b → Sends s v (epoch_at past v) n b
 unfolding is_lapse is_hello is_reclaim is_restarted is_answer goes_as sends_bye byes_at has_bye claims_at raises_at
-    answers_at has_claim gives_as greets_welcome gives_late byes_late claims_late late_right lapse_tests greeted
+    answers_at has_claim gives_as fetch_late greets_welcome gives_late byes_late claims_late late_right lapse_tests greeted
     learns_restart gives_restarted restart_right claims_only answered_all resend_tests is_bye is_local no_asked
 all_late site past s local t v n Hello (g, w, z) = absurd (is_not (is_welcome past v) (not_is (is_welcome past v)
     (λ e. w (welcome_yes past v e))) (greets_is past past v t.0 g))
-all_late site past s local t v n (Fetch f) (h, a, at) = absurd (none_in (asking past)
-    (numbered f.fid.fileset f.number) t.1.0 (asking_in past f.fid.fileset f.number a))
+all_late site past s local t v n (Fetch f) ((w, d, k, h), a, at) =
+    let p = at_said (λ m. fetch_late past s m.body) past w d k (Fetch f) t.1.0 h in
+    fetches_as_yes past s f v n (so (is_asking past f) (fetches_as past s f) p.1 (asking_is past f a)) at
 all_late site past s local t v n (Change c) (h, a, at) = absurd (none_in (changing site past)
     (numbered c.fileset c.number) t.1.1.0 (at_site site past v c.fileset c.number local a))
 all_late site past s local t v n (GiveBack g) (o, at) =
@@ -462,7 +487,7 @@ all_late site past s local t v n b x = elim x [ ]
 late_is : (past : List Step) (s : Step) (m : Message) (b : Body) → m.body ≡ b → late_right past m b ≡ true
     → Outstanding past m.server m.moves b ⊎ (Claimed past m.server × ((claim : ReclaimOf) × (b ≡ Reclaim claim)))
 unfolding is_lapse is_hello is_reclaim is_restarted is_answer goes_as sends_bye byes_at has_bye claims_at raises_at
-    answers_at has_claim gives_as greets_welcome gives_late byes_late claims_late late_right lapse_tests greeted
+    answers_at has_claim gives_as fetch_late greets_welcome gives_late byes_late claims_late late_right lapse_tests greeted
     learns_restart gives_restarted restart_right claims_only answered_all resend_tests is_bye is_local no_asked
 late_is past s m (GiveBack g) is t =
     let p = and_parts (list_any (same_give g) (made past)) (is_first past g && is_place past g.fid.fileset m) t in
@@ -492,12 +517,27 @@ late_is past s m Bye is t =
       eqb-true m.moves 0 q.1,
     )
 late_is past s m (Reclaim claim) is t = inr (claimed_yes past m.server t, (claim, refl))
+late_is past s m (Fetch f) is t =
+    let p = and_parts (list_any (λ k. is_fetch f k.body) (said past)) (is_asking past f && is_place past f.fid.fileset m)
+    t in
+    let q = and_parts (is_asking past f) (is_place past f.fid.fileset m) p.1 in
+    let k = some_in (λ (k : Message). is_fetch f k.body) (said past) p.0 in
+    inl (
+      (
+        k.0.server,
+        k.0.epoch,
+        k.0.moves,
+        subst (λ b. Said past k.0.server k.0.epoch k.0.moves b) (fetch_body f k.0.body k.2) (in_said past k.0 k.1),
+      ),
+      asking_yes past f q.0,
+      place_is past f.fid.fileset m q.1,
+    )
 late_is past s m b is t = absurd (cc)
 
 late_all : (site : ServerId) (past : List Step) (s : Step) → AllTrue (lapse_tests site past s) → (v : ServerId)
     → Claimed past v → ClaimsAt s v
 unfolding is_lapse is_hello is_reclaim is_restarted is_answer goes_as sends_bye byes_at has_bye claims_at raises_at
-    answers_at has_claim gives_as greets_welcome gives_late byes_late claims_late late_right lapse_tests greeted
+    answers_at has_claim gives_as fetch_late greets_welcome gives_late byes_late claims_late late_right lapse_tests greeted
     learns_restart gives_restarted restart_right claims_only answered_all resend_tests is_bye is_local no_asked
 late_all site past s t v c =
     let p = was_claimed past v c in
@@ -512,7 +552,7 @@ others : (site : ServerId) (past : List Step) (s : Step) → is_local site past 
     → (v : ServerId) (n : ℕ) (answer : ReclaimedOf) (b : Body) → Comes past s v (Reclaimed answer) → IsOther b
     → Outstanding past v n b → Outstanding (s ∷ past) v n b → ⊥
 unfolding is_lapse is_hello is_reclaim is_restarted is_answer goes_as sends_bye byes_at has_bye claims_at raises_at
-    answers_at has_claim gives_as greets_welcome gives_late byes_late claims_late late_right lapse_tests greeted
+    answers_at has_claim gives_as fetch_late greets_welcome gives_late byes_late claims_late late_right lapse_tests greeted
     learns_restart gives_restarted restart_right claims_only answered_all resend_tests is_bye is_local no_asked
 others site past s local t v n answer b c is out now = go b is out now
   where
@@ -545,7 +585,7 @@ others site past s local t v n answer b c is out now = go b is out now
 pub resends_meet : (site : ServerId) (past : List Step) (s : Step) → passes (resend_tests site past s) ≡ true
     → HostResends past s
 unfolding is_lapse is_hello is_reclaim is_restarted is_answer goes_as sends_bye byes_at has_bye claims_at raises_at
-    answers_at has_claim gives_as greets_welcome gives_late byes_late claims_late late_right lapse_tests greeted
+    answers_at has_claim gives_as fetch_late greets_welcome gives_late byes_late claims_late late_right lapse_tests greeted
     learns_restart gives_restarted restart_right claims_only answered_all resend_tests is_bye is_local no_asked
 resends_meet site past s e =
     let t = all_true (resend_tests site past s) e in
@@ -602,7 +642,7 @@ take_tests past s =
 
 pub takes_meet : (past : List Step) (s : Step) → passes (take_tests past s) ≡ true → HostTakes past s
 unfolding is_lapse is_hello is_reclaim is_restarted is_answer goes_as sends_bye byes_at has_bye claims_at raises_at
-    answers_at has_claim gives_as greets_welcome gives_late byes_late claims_late late_right lapse_tests greeted
+    answers_at has_claim gives_as fetch_late greets_welcome gives_late byes_late claims_late late_right lapse_tests greeted
     learns_restart gives_restarted restart_right claims_only answered_all resend_tests taken_or_held take_tests is_bye
     is_local no_asked
 takes_meet past s e =

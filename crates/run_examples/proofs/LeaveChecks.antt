@@ -1,4 +1,8 @@
 -- The rules of lines, of leaving and of ending for a host's step, computed. A step that evicts passes no test here.
+use Rattle.world_steps.specs.Sends.{Says}
+use Rattle.world_host.specs.Knowing.{FindsFile}
+use Rattle.world_steps.specs.Lists.{EachOnce}
+use Rattle.world_steps.specs.Sends.{HasSaid}
 use Rattle.std.proofs.Common.{Bool, List, None, Option, Some, [], ap, arith, false, inl, inr, length, refl, subst}
 use Rattle.std.proofs.Common.{suc, sym, true}
 use Rattle.std.proofs.Common.{if◌then◌else◌, ℕ, zero, ◌&&◌, ◌+◌, ◌++◌, ◌||◌, ◌==◌, ◌∙◌, ◌∷◌, ◌≡◌, ◌≤◌, ◌<◌, ◌⊎◌}
@@ -30,16 +34,15 @@ use Rattle.rpc_types.specs.declared.message.Body.TheVariants.{Hello, Down, Bye}
 use Rattle.rpc_types.specs.declared.message.Message.{Message}
 use Rattle.tree_laws.specs.Parts.{Nature}
 use Rattle.world_host.specs.Dirty.{IsDirtyUnder}
-use Rattle.world_host.specs.HostAnswers.{FindsFile}
 use Rattle.world_host.specs.HostLeaves.{HasIdle, HostLeaves, IsIdle, MayEvict, MayLeave}
-use Rattle.world_host.specs.HostLines.{DoesDeed, HostEnds, HostLines, NoneUsed, SaysBye, TakenBefore}
-use Rattle.world_host.specs.Knowing.{EachOnce, Stance}
-use Rattle.world_host.specs.Labels.{FreesPinned, InUse, IsUsed, end_of}
+use Rattle.world_host.specs.HostLines.{DoesDeed, HostEnds, HostLines, TakenBefore}
+use Rattle.world_host.specs.Knowing.{Stance}
+use Rattle.world_host.specs.Labels.{FreesPinned, InUse, IsUsed, NoneUsed, end_of}
 use Rattle.world_host.specs.OpenCalls.{Begins, IsOpen, IsTurn, NoneOpen, calls_begun}
 use Rattle.world_host.specs.Views.{sees}
 use Rattle.world_journal.specs.Lines.{IsNextLine, lines_gone}
 use Rattle.world_steps.specs.Lists.{In}
-use Rattle.world_steps.specs.Sends.{HasGreeted, HasSaidBye, Said, Sends, Stops}
+use Rattle.world_steps.specs.Sends.{HasGreeted, Said, Sends, Stops}
 use Rattle.world_steps.specs.Tokens.{Drops, Held}
 use Rattle.world_steps.specs.declared.applied.Admission.{Admission}
 use Rattle.world_steps.specs.declared.applied.Applied.{Applied}
@@ -53,7 +56,7 @@ use Rattle.world_steps.specs.declared.step.Cause.TheVariants.{End, Flushed}
 use Rattle.world_steps.specs.declared.step.Labelled.{Labelled}
 use Rattle.world_steps.specs.declared.step.Step.{Step}
 use Rattle.run_examples.proofs.Tests.{AllTrue, passes, all_true, implies, so, is_not, not_is, at_all, some_in, any_of}
-use Rattle.run_examples.proofs.Tests.{is_none}
+use Rattle.run_examples.proofs.Tests.{is_none, none_is}
 use Rattle.run_examples.proofs.Tests.{none_in, same_server, server_is, servers, fid_is, fids, same_token, token_is}
 use Rattle.run_examples.proofs.Tests.{same_end, end_is, id_is, in_filter, in_front, in_back, in_split}
 use Rattle.run_examples.proofs.Words.{at_sends, drops_it, drops_yes, held, held_in, hand, in_said, said, recalled}
@@ -67,7 +70,7 @@ use Rattle.run_examples.proofs.CallWords.{begins_in, begins_now, entered, in_beg
 use Rattle.run_examples.proofs.CallWords.{the_call, turns}
 use Rattle.run_examples.proofs.StanceChecks.{own_of, seen_in, stance_of, stance_tests}
 use Rattle.run_examples.proofs.AnswerChecks.{call_is, cover_all, covers_it, no_asked, same_call}
-use Rattle.run_examples.proofs.LapseChecks.{bye_body, hello_body, is_hello, none_is, not_asked}
+use Rattle.run_examples.proofs.LapseChecks.{bye_body, hello_body, is_hello, not_asked}
 
 unfoldable pub is_end : Cause → Bool
 is_end End = true
@@ -112,7 +115,7 @@ no_more {A = A} (x ∷ xs) ys once all =
 unfoldable pub idle : List Step → List Token
 idle past = filter (λ t. not (is_used past t.id)) (held past)
 
-idle_in : (past : List Step) (t : Token) → IsIdle past t → In t (idle past)
+pub idle_in : (past : List Step) (t : Token) → IsIdle past t → In t (idle past)
 unfolding is_end idle is_bye
 idle_in past t (h, n) =
     in_filter (λ (t : Token). not (is_used past t.id)) (held past) t (held_in past t h) (not_is (is_used past t.id)
@@ -222,7 +225,7 @@ line_tests site lines servers limit past s =
     ∷ is_local site past
     ∷ []
 
-none_open_is : (site : ServerId) (past : List Step) → is_local site past ≡ true → is_none
+pub none_open_is : (site : ServerId) (past : List Step) → is_local site past ≡ true → is_none
     (open_calls site past) ≡ true → NoneOpen past
 unfolding is_end idle few_idle all_dropped begins_as says_down deed_right next_right is_stop_deed is_stop_line
     line_right line_tests is_bye
@@ -376,7 +379,7 @@ module _ (site : ServerId) (roster : Roster) (host : HostId) (user : User) (past
   finds : (place : Place) (fid : Fid) (o : Option FilesetId) → seen_in (entered site (s
       ∷ past)) place.server place.fileset ≡ o
       → finds_from site user past s place fid o ≡ true
-      → FindsFile roster host past s (stance_of site roster host user past s acts known) place fid
+      → FindsFile (stance_of site roster host user past s acts known) place fid
   unfolding finds_from
   finds place fid None is e = absurd (cc)
   finds place fid (Some id) is e =
@@ -390,7 +393,7 @@ module _ (site : ServerId) (roster : Roster) (host : HostId) (user : User) (past
   synced : (t : Token) (k : ℕ) (call : Call) → IsTurn past s k call → syncs_by site user past s t call ≡ true
       → IsDirtyUnder past s t
       → (k : ℕ) × (place : Place) × (stance : Stance roster host past s) × IsTurn past s k (Sync place)
-      × FindsFile roster host past s stance place t.fid × IsDirtyUnder past s t
+      × FindsFile stance place t.fid × IsDirtyUnder past s t
   synced t k (Sync place) turn e d = (
     k,
     place,
@@ -484,6 +487,10 @@ bye_right past s m =
     && (is_none (held (s ∷ past)) && (is_end s.cause || list_any
     (λ k. is_bye k.body && same_server k.server m.server) (said past))))
 
+unfoldable pub at_its_end : Why → Bool
+at_its_end Ended = true
+at_its_end _ = false
+
 unfoldable pub end_right : ServerId → List Line → ℕ → List Step → Step → List Bool
 end_right site lines limit past s =
     (lines_gone past == length lines)
@@ -491,7 +498,7 @@ end_right site lines limit past s =
     ∷ few_idle past limit
     ∷ (not (is_none (begins_now s)) || (not (is_none s.dropped) || says is_bye s))
     ∷ list_all (implied_right past) (begins_now s)
-    ∷ (is_none s.dropped || (is_none (in_use past) && all_dropped past s))
+    ∷ list_all (λ (l : Leave). implies (at_its_end l.why) (is_none (in_use past) && all_dropped past s)) s.dropped
     ∷ []
 
 unfoldable pub end_tests : ServerId → List Line → ℕ → List Step → Step → List Bool
@@ -502,7 +509,7 @@ end_tests site lines limit past s =
 some_one : {A : Type 0} (xs : List A) → not (is_none xs) ≡ true → (x : A) × In x xs
 unfolding is_end idle few_idle all_dropped begins_as says_down deed_right next_right is_stop_deed is_stop_line
     line_right line_tests finds_it finds_from syncs_token last_use may_leave is_evict leave_tests taken_before
-    is_first_use ends_first implied_right bye_right end_right end_tests is_bye
+    is_first_use ends_first implied_right bye_right at_its_end end_right end_tests is_bye
 some_one [] e = absurd (cc)
 some_one (x ∷ xs) e = (x, inl refl)
 
@@ -510,7 +517,7 @@ pub ends_meet : (site : ServerId) (lines : List Line) (limit : ℕ) (past : List
     → passes (end_tests site lines limit past s) ≡ true → HostEnds lines limit past s
 unfolding says is_end idle few_idle all_dropped begins_as says_down deed_right next_right is_stop_deed is_stop_line
     line_right line_tests finds_it finds_from syncs_token last_use may_leave is_evict leave_tests taken_before
-    is_first_use ends_first implied_right bye_right end_right end_tests is_bye
+    is_first_use ends_first implied_right bye_right at_its_end end_right end_tests is_bye
 ends_meet site lines limit past s e =
     let t = all_true (end_tests site lines limit past s) e in
     let local = t.1.1.0 in
@@ -539,15 +546,12 @@ ends_meet site lines limit past s e =
                   (in_use past) other w.1 (used_in past other x)) (taken_before_is past other q.0 b),
             ),
           );
-      drops = λ l c m.
-          elim (or_cases (is_none s.dropped) (is_none (in_use past) && all_dropped past s) (at_end t.0 c).1.1.1.1.1.0) [
-            | inl x ↦ absurd (none_in s.dropped l x m)
-            | inr x ↦ (let p = and_parts (is_none (in_use past)) (all_dropped past s) x in (
-              λ u y. none_in
-                  (in_use past) u p.0 (used_in past u y),
-              all_dropped_is past s p.1,
-            ))
-          ];
+      drops = λ l c m w.
+          let x = so (at_its_end l.why) (is_none (in_use past) && all_dropped past s)
+          (at_all (λ (l : Leave). implies (at_its_end l.why) (is_none (in_use past) && all_dropped past s)) s.dropped l
+          (at_end t.0 c).1.1.1.1.1.0 m) (subst (λ y. at_its_end y ≡ true) (sym w) refl) in
+          let p = and_parts (is_none (in_use past)) (all_dropped past s) x in
+          (λ u y. none_in (in_use past) u p.0 (used_in past u y), all_dropped_is past s p.1);
       bye = λ v (e, n, p). byes t.1.0 v e n p;
     }
   where
@@ -558,7 +562,7 @@ ends_meet site lines limit past s e =
 
     does : (not (is_none (begins_now s)) || (not (is_none s.dropped) || says is_bye s)) ≡ true
         → ((k : ℕ) × (call : Call) × Begins s k call) ⊎ (((l : Leave) × In l s.dropped) ⊎ ((v : ServerId)
-        × SaysBye s v))
+        × Says s v Bye))
     does t =
         elim (or_cases (not (is_none (begins_now s))) (not (is_none s.dropped) || says is_bye s) t) [
           | inl x ↦ (let p = some_one (begins_now s) x in inl (p.0.k, p.0.call, in_begins s p.0 p.1))
@@ -573,7 +577,7 @@ ends_meet site lines limit past s e =
         ]
 
     byes : list_all (bye_right past s) s.sent ≡ true → (v : ServerId) (e n : ℕ) → Sends s v e n Bye
-        → HasGreeted past v × ((t : Token) → Held (s ∷ past) t → ⊥) × ((s.cause ≡ End) ⊎ HasSaidBye past v)
+        → HasGreeted past v × ((t : Token) → Held (s ∷ past) t → ⊥) × ((s.cause ≡ End) ⊎ HasSaid past v Bye)
     byes t v e n p =
         let a = list_any (λ k. is_hello k.body && same_server k.server v) (said past) in
         let b = is_end s.cause || list_any (λ k. is_bye k.body && same_server k.server v) (said past) in

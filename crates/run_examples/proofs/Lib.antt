@@ -1,5 +1,6 @@
 pub mod Tests
 pub mod Words
+pub mod FetchWords
 pub mod TokenChecks
 pub mod LabelWords
 pub mod DirtWords
@@ -11,7 +12,13 @@ pub mod GiveChecks
 pub mod LapseChecks
 pub mod LeaveChecks
 pub mod HostChecks
+pub mod EvictChecks
+pub mod FetchChecks
 pub mod Examples
+pub mod MoreExamples
 pub mod ServerWords
 pub mod ServerChecks
 pub mod ServerExamples
+pub mod ClaimExample
+pub mod GrantWords
+pub mod WantExample

@@ -1,4 +1,6 @@
 -- The rules of a server's step in which no want waits, nothing is decided, and words alone are sent, computed.
+use Rattle.world_steps.specs.Lists.{Each}
+use Rattle.world_steps.specs.Acts.{admitting, deciding, sending}
 use Rattle.std.proofs.Common.{Bool, List, None, Option, Some, [], ap, false, inl, inr, refl, subst, suc, sym, true}
 use Rattle.std.proofs.Common.{if◌then◌else◌, ℕ, ◌&&◌, ◌++◌, ◌||◌, ◌==◌, ◌∙◌, ◌∷◌, ◌≡◌, ◌<◌, ◌≢◌, ◌⊎◌}
 use Rattle.std.proofs.lemmas.Bool.{and_parts, and_from, or_cases, or_left, or_right, eqb-true, eq-eqb}
@@ -35,7 +37,7 @@ use Rattle.world_server.specs.ServerAnswers.{HeardNow, SentNow, ServerAnswers, T
 use Rattle.world_server.specs.ServerApplies.{ServerApplies, by_cause, decisions}
 use Rattle.world_server.specs.ServerDecides.{HasDecided, MayDecideAll}
 use Rattle.world_server.specs.ServerRules.{ServerLines, ServerMeets}
-use Rattle.world_server.specs.ServerSends.{HasSent, IsAskedBack, MaySend, MaySendEach}
+use Rattle.world_server.specs.ServerSends.{HasSent, IsAskedBack, MaySend}
 use Rattle.world_server.specs.Wants.{Waits, body_of}
 use Rattle.world_steps.specs.Acts.{Act, admitted_by, after_cause, after_step, epoch, sent_by, written_by}
 use Rattle.world_steps.specs.Acts.Act.{Took, Sent, Wants, Writes, Admits, Reserves}
@@ -45,7 +47,7 @@ use Rattle.world_steps.specs.Hosts.{HasReclaimed, IsDown, IsLive, NoGrace, TookN
 use Rattle.world_steps.specs.Lists.{In}
 use Rattle.world_steps.specs.Places.{Here}
 use Rattle.world_steps.specs.ServerTokens.{ServerTokens}
-use Rattle.world_steps.specs.TokenRuns.{MayAdmitAll, MaySendAll, MayWriteAll, ServerStep}
+use Rattle.world_steps.specs.TokenRuns.{ServerStep}
 use Rattle.world_steps.specs.declared.applied.Admission.{Admission}
 use Rattle.world_steps.specs.declared.applied.Applied.{Applied as AppliedOf}
 use Rattle.world_steps.specs.declared.applied.Applied.TheVariants.{Wants as IsWanted, Done as IsDone}
@@ -64,12 +66,13 @@ use Rattle.run_examples.proofs.Words.{by_message}
 use Rattle.run_examples.proofs.TokenChecks.{is_bye, is_down}
 use Rattle.run_examples.proofs.AnswerChecks.{no_asked}
 use Rattle.run_examples.proofs.LapseChecks.{bye_body, is_hello, is_lapse, is_reclaim, is_restarted, lapse_cause}
-use Rattle.run_examples.proofs.LapseChecks.{none_is, not_asked}
+use Rattle.run_examples.proofs.LapseChecks.{not_asked}
+use Rattle.run_examples.proofs.Tests.{none_is}
 use Rattle.run_examples.proofs.LapseChecks.{restarted_body}
 use Rattle.run_examples.proofs.ServerWords.{applied, applied_yes, down, down_is, heard, listed_heard, live, live_is}
 use Rattle.run_examples.proofs.ServerWords.{live_yes}
 use Rattle.run_examples.proofs.ServerWords.{reclaimed, reclaimed_is, reclaimed_yes, waiting, waits_in}
-use Rattle.run_examples.proofs.ServerWords.{claimless, here, here_yes, no_claim}
+use Rattle.run_examples.proofs.ServerWords.{claimants, claims_in, here, here_yes}
 
 -- words that bring and ask nothing: Gone, Bye and Restarted
 unfoldable pub is_word : Body → Bool
@@ -93,7 +96,7 @@ sends_words server past (m ∷ ms) =
     && sends_words server (Sent m.host m.epoch m.moves m.body ∷ past) ms
 
 -- what a doing that is no word of interest needs of the rules of tokens
-word_may : (server : ServerId) (past : List Act) (h : HostId) (e n : ℕ) (b : Body) → e ≡ epoch past → is_word b ≡ true
+pub word_may : (server : ServerId) (past : List Act) (h : HostId) (e n : ℕ) (b : Body) → e ≡ epoch past → is_word b ≡ true
     → gone_right server past h n b ≡ true → ServerTokens server past (Sent h e n b)
 unfolding is_word gone_right sends_words is_bye is_down is_restarted is_lapse
 word_may server past h e n b now word gone = record {
@@ -138,7 +141,7 @@ word_may server past h e n b now word gone = record {
         )
 
 words_may : (server : ServerId) (ms : List Message) (past : List Act) → sends_words server past ms ≡ true
-    → MaySendAll server ms past
+    → Each (ServerTokens server) (sending ms) past
 unfolding is_word gone_right sends_words is_bye is_down is_restarted is_lapse
 words_may server [] past t = tt
 words_may server (m ∷ ms) past t =
@@ -151,9 +154,9 @@ words_may server (m ∷ ms) past t =
       words_may server ms (Sent m.host m.epoch m.moves m.body ∷ past) p.1,
     )
 
-word_send : (server : ServerId) (tree : Tree) (s : Step) (past : List Act) (h : HostId) (e n : ℕ) (b : Body)
+pub word_send : (server : ServerId) (tree : Tree) (s : Step) (past : List Act) (h : HostId) (e n : ℕ) (b : Body)
     → is_word b ≡ true
-    → MaySend server tree past s (Sent h e n b)
+    → MaySend server tree s past (Sent h e n b)
 unfolding is_word gone_right sends_words is_bye is_down is_restarted is_lapse
 word_send server tree s past h e n b word = record {
   grants = λ k f m g x. absurd (not_word (Grant g) refl (of_body k f m (Grant g) x));
@@ -169,7 +172,7 @@ word_send server tree s past h e n b word = record {
 
 words_send : (server : ServerId) (tree : Tree) (s : Step) (ms : List Message) (past : List Act)
     → sends_words server past ms ≡ true
-    → MaySendEach server tree s ms past
+    → Each (MaySend server tree s) (sending ms) past
 unfolding is_word gone_right sends_words is_bye is_down is_restarted is_lapse
 words_send server tree s [] past t = tt
 words_send server tree s (m ∷ ms) past t =
@@ -254,7 +257,7 @@ tells_restart past s h = implies (live past h) (sends_to s h is_restarted)
 unfoldable pub tells_again : List Act → Step → HostId → Bool
 tells_again past s h = implies (live past h && not (reclaimed past h)) (sends_to s h is_restarted)
 
--- the message is no Hello, no claim and no request, and is of the present epoch or a Down
+-- the message is no Hello and no claim, and is of the present epoch or a Down
 unfoldable pub server_cause : Cause → Bool
 server_cause (Came m) = true
 server_cause (Restart n) = true
@@ -264,24 +267,35 @@ server_cause _ = false
 unfoldable pub is_plain : Body → Bool
 is_plain Hello = false
 is_plain (Reclaim claim) = false
-is_plain (Fetch f) = false
-is_plain (Change c) = false
 is_plain _ = true
+
+-- nor is it a request
+unfoldable pub asks_none : Body → Bool
+asks_none (Fetch f) = false
+asks_none (Change c) = false
+asks_none _ = true
 
 unfoldable pub comes_right : List Act → Step → Message → Bool
 comes_right past s m =
     (is_plain m.body && ((m.epoch == epoch past) || is_down m.body))
     && (implies (is_bye m.body) (sends_to s m.host is_bye) && implies (is_taken past m) (gives_gone s m m.body))
 
-unfoldable pub server_tests : ServerId → List Act → Step → List Bool
-server_tests server past s =
+-- what is answered at once
+unfoldable pub reply_tests : ServerId → List Act → Step → List Bool
+reply_tests server past s =
     by_message true (comes_right past s) s.cause
     ∷ list_all (bye_only past s.cause) s.sent
     ∷ implies (is_restart s.cause) (list_all (tells_restart past s) (heard past))
     ∷ implies (is_lapse s.cause) (list_all (tells_again past s) (heard past))
     ∷ list_all (restarted_only past s.cause) s.sent
     ∷ list_all (λ k. gone_only past s.cause k k.body) s.sent
-    ∷ claimless (after_cause s.cause past)
+    ∷ list_all (reclaimed past) (claimants (after_cause s.cause past))
+    ∷ []
+
+unfoldable pub server_tests : ServerId → List Act → Step → List Bool
+server_tests server past s =
+    passes (reply_tests server past s)
+    ∷ by_message true (λ m. asks_none m.body) s.cause
     ∷ (is_none (waiting (written_by s past)) && is_none (waiting (after_step s past)))
     ∷ sends_words server (admitted_by s past) s.sent
     ∷ is_none s.admitted ∷ is_none s.reserved ∷ is_none (decisions s.applied)
@@ -290,7 +304,7 @@ server_tests server past s =
 
 rest : (x : AppliedOf) (xs : List AppliedOf) → is_none (decisions (x ∷ xs)) ≡ true → is_none (decisions xs) ≡ true
 unfolding is_word gone_right sends_words is_to sends_to is_gone is_restart is_taken gives_gone gives_number gone_only
-    bye_only restarted_only tells_restart tells_again server_cause is_plain comes_right server_tests is_bye is_down
+    bye_only restarted_only tells_restart tells_again server_cause is_plain comes_right asks_none reply_tests server_tests is_bye is_down
     is_restarted is_lapse
 rest (IsWanted w) xs t = absurd (cc)
 rest (IsDone w) xs t = absurd (cc)
@@ -298,7 +312,7 @@ rest x xs t = t
 
 none_wanted : (xs : List AppliedOf) (w : Wanted) → is_none (decisions xs) ≡ true → In (IsWanted w) xs → ⊥
 unfolding is_word gone_right sends_words is_to sends_to is_gone is_restart is_taken gives_gone gives_number gone_only
-    bye_only restarted_only tells_restart tells_again server_cause is_plain comes_right server_tests is_bye is_down
+    bye_only restarted_only tells_restart tells_again server_cause is_plain comes_right asks_none reply_tests server_tests is_bye is_down
     is_restarted is_lapse
 none_wanted [] w t m = elim m [ ]
 none_wanted (x ∷ xs) w t (inl p) = (let q = subst (λ y. is_none (decisions (y ∷ xs)) ≡ true) (sym p) t in cc)
@@ -306,16 +320,16 @@ none_wanted (x ∷ xs) w t (inr m) = none_wanted xs w (rest x xs t) m
 
 none_done : (xs : List AppliedOf) (w : Written) → is_none (decisions xs) ≡ true → In (IsDone w) xs → ⊥
 unfolding is_word gone_right sends_words is_to sends_to is_gone is_restart is_taken gives_gone gives_number gone_only
-    bye_only restarted_only tells_restart tells_again server_cause is_plain comes_right server_tests is_bye is_down
+    bye_only restarted_only tells_restart tells_again server_cause is_plain comes_right asks_none reply_tests server_tests is_bye is_down
     is_restarted is_lapse
 none_done [] w t m = elim m [ ]
 none_done (x ∷ xs) w t (inl p) = (let q = subst (λ y. is_none (decisions (y ∷ xs)) ≡ true) (sym p) t in cc)
 none_done (x ∷ xs) w t (inr m) = none_done xs w (rest x xs t) m
 
 none_write : (server : ServerId) (xs : List AppliedOf) (past : List Act) → is_none (decisions xs) ≡ true
-    → MayWriteAll server xs past
+    → Each (ServerTokens server) (deciding xs) past
 unfolding is_word gone_right sends_words is_to sends_to is_gone is_restart is_taken gives_gone gives_number gone_only
-    bye_only restarted_only tells_restart tells_again server_cause is_plain comes_right server_tests is_bye is_down
+    bye_only restarted_only tells_restart tells_again server_cause is_plain comes_right asks_none reply_tests server_tests is_bye is_down
     is_restarted is_lapse
 none_write server [] past t = tt
 none_write server (IsWanted w ∷ xs) past t = absurd (cc)
@@ -326,15 +340,15 @@ none_decide : (server : ServerId) (tree : Tree) (before past : List Act) (s : St
     → is_none xs ≡ true
     → MayDecideAll server tree before past s xs
 unfolding is_word gone_right sends_words is_to sends_to is_gone is_restart is_taken gives_gone gives_number gone_only
-    bye_only restarted_only tells_restart tells_again server_cause is_plain comes_right server_tests is_bye is_down
+    bye_only restarted_only tells_restart tells_again server_cause is_plain comes_right asks_none reply_tests server_tests is_bye is_down
     is_restarted is_lapse
 none_decide server tree before past s [] t = tt
 none_decide server tree before past s (x ∷ xs) t = absurd (cc)
 
 none_admit : (server : ServerId) (xs : List Admission) (past : List Act) → is_none xs ≡ true
-    → MayAdmitAll server xs past
+    → Each (ServerTokens server) (admitting xs) past
 unfolding is_word gone_right sends_words is_to sends_to is_gone is_restart is_taken gives_gone gives_number gone_only
-    bye_only restarted_only tells_restart tells_again server_cause is_plain comes_right server_tests is_bye is_down
+    bye_only restarted_only tells_restart tells_again server_cause is_plain comes_right asks_none reply_tests server_tests is_bye is_down
     is_restarted is_lapse
 none_admit server [] past t = tt
 none_admit server (x ∷ xs) past t = absurd (cc)
@@ -343,14 +357,14 @@ none_admit server (x ∷ xs) past t = absurd (cc)
 at_message : (f : Message → Bool) (s : Step) (m : Message) → by_message true f s.cause ≡ true → s.cause ≡ Came m
     → f m ≡ true
 unfolding is_word gone_right sends_words is_to sends_to is_gone is_restart is_taken gives_gone gives_number gone_only
-    bye_only restarted_only tells_restart tells_again server_cause is_plain comes_right server_tests is_bye is_down
+    bye_only restarted_only tells_restart tells_again server_cause is_plain comes_right asks_none reply_tests server_tests is_bye is_down
     is_restarted is_lapse
 at_message f s m t c = subst (λ x. by_message true f x ≡ true) c t
 
-none_reserved : (server : ServerId) (past : List Act) (tokens : List Token) → is_none tokens ≡ true
+pub none_reserved : (server : ServerId) (past : List Act) (tokens : List Token) → is_none tokens ≡ true
     → ServerTokens server past (Reserves tokens)
 unfolding is_word gone_right sends_words is_to sends_to is_gone is_restart is_taken gives_gone gives_number gone_only
-    bye_only restarted_only tells_restart tells_again server_cause is_plain comes_right server_tests is_bye is_down
+    bye_only restarted_only tells_restart tells_again server_cause is_plain comes_right asks_none reply_tests server_tests is_bye is_down
     is_restarted is_lapse
 none_reserved server past [] t = record {
   epochs = λ h e n b x. absurd (cc);
@@ -398,8 +412,13 @@ module _ (server : ServerId) (past : List Act) (s : Step) where
       and_from (live past m.host) (m.epoch == epoch past) (live_is past m.host (subst (λ y. IsLive past y)
       (sym at) l)) (eq-eqb m.epoch (epoch past) e)
 
-  answers_from : AllTrue (server_tests server past s) → ServerAnswers server past s
-  unfolding server_tests is_bye bye_only restarted_only gone_only tells_restart tells_again gives_gone gives_number
+  unasked : by_message true (λ m. asks_none m.body) s.cause ≡ true → (h : HostId) (b : Body) → asks_none b ≡ false
+      → HeardNow s h b → ⊥
+  unasked t h b no_ (m, c, at, is) =
+      let p : asks_none b ≡ true = subst (λ x. asks_none x ≡ true) is (at_message (λ m. asks_none m.body) s m t c) in cc
+
+  pub answers_from : AllTrue (reply_tests server past s) → ServerAnswers server past s
+  unfolding reply_tests is_bye bye_only restarted_only gone_only tells_restart tells_again gives_gone gives_number
       is_gone is_taken is_restart is_down is_restarted is_lapse is_plain
   answers_from (comes_, (byes_, (restart_, (again_, (only_, (gones_, (claims_, _))))))) = record {
     hello_old = λ h x l old. absurd (plain comes_ h Hello refl x);
@@ -457,7 +476,8 @@ module _ (server : ServerId) (past : List Act) (s : Step) where
         (λ k. gone_only past s.cause k k.body) s.sent k gones_ i) in
         subst (λ y. (moves : ℕ) × (g : Give) × TakenNow past s y moves (GiveBack g) × (number_of g ≡ n)) at
         (gone_heard k.host n s.cause refl p);
-    claim_now = λ h n claim x no_ l all. absurd (no_claim (after_cause s.cause past) h n claim claims_ x);
+    claim_now = λ h n claim x no_ l all. absurd (no_ (reclaimed_yes past h (at_all (reclaimed past)
+        (claimants (after_cause s.cause past)) h claims_ (claims_in (after_cause s.cause past) h n claim x))));
     claim_again = λ h n claim x r. absurd (plain comes_ h (Reclaim claim) refl (x.0.0, x.0.1, x.0.2, x.0.5));
   }
     where
@@ -497,8 +517,8 @@ module _ (server : ServerId) (past : List Act) (s : Step) where
 
   decided_from : (tree : Tree) → AllTrue (server_tests server past s) → HasDecided server tree past
       (written_by s past) s
-  unfolding server_tests is_plain
-  decided_from tree (comes_, (_, (_, (_, (_, (_, (_, (waits_, _)))))))) = record {
+  unfolding server_tests asks_none
+  decided_from tree (_, (asks_, (waits_, _))) = record {
     news = λ h n r x. absurd (asks h n r x.taken);
     refused = λ w c refusal x is so y. none w x;
     effects = λ w c x is e no_ y. none w x;
@@ -510,14 +530,14 @@ module _ (server : ServerId) (past : List Act) (s : Step) where
           (waiting (after_step s past))) waits_).0 (waits_in (written_by s past) w x)
 
       asks : (h : HostId) (n : ℕ) (r : Request) → TakenNow past s h n (body_of r) → ⊥
-      asks h n (AsksFetch f) x = plain comes_ h (Fetch f) refl (x.0.0, x.0.1, x.0.2, x.0.5)
-      asks h n (AsksChange c) x = plain comes_ h (Change c) refl (x.0.0, x.0.1, x.0.2, x.0.5)
+      asks h n (AsksFetch f) x = unasked asks_ h (Fetch f) refl (x.0.0, x.0.1, x.0.2, x.0.5)
+      asks h n (AsksChange c) x = unasked asks_ h (Change c) refl (x.0.0, x.0.1, x.0.2, x.0.5)
 
   sent_from : (tree : Tree) → AllTrue (server_tests server past s) → HasSent server tree past (after_step s past) s
-  unfolding server_tests is_plain
-  sent_from tree (comes_, (_, (_, (_, (_, (_, (_, (waits_, (_, (_, (_, (none_, _)))))))))))) = record {
+  unfolding server_tests asks_none
+  sent_from tree (_, (asks_, (waits_, (_, (_, (_, (none_, _))))))) = record {
     written = λ w m. absurd (none_done s.applied w none_ m);
-    repeats = λ h n c d x. absurd (plain comes_ h (Change c) refl (x.0.0, x.0.1, x.0.2, x.0.5));
+    repeats = λ h n c d x. absurd (unasked asks_ h (Change c) refl (x.0.0, x.0.1, x.0.2, x.0.5));
     grants = λ w f x is y. none w x;
     uses = λ w c x is u no_ y. none w x;
     others = λ w c x is u no_ row y. none w x;
@@ -532,7 +552,7 @@ module _ (server : ServerId) (past : List Act) (s : Step) where
 
   tokens_from : AllTrue (server_tests server past s) → ServerStep server past s
   unfolding server_tests
-  tokens_from (_, (_, (_, (_, (_, (_, (_, (_, (words_, (admits_, (reserves_, (none_, _)))))))))))) = record {
+  tokens_from (_, (_, (_, (words_, (admits_, (reserves_, (none_, _))))))) = record {
     writes = none_write server s.applied (after_cause s.cause past) none_;
     admits = none_admit server s.admitted (written_by s past) admits_;
     sends = words_may server s.sent (admitted_by s past) words_;
@@ -545,55 +565,7 @@ module _ (server : ServerId) (past : List Act) (s : Step) where
   unfolding server_tests server_cause
   lines_from lines steps restarts cause wrote (
     _,
-    (
-      _,
-      (
-        _,
-        (
-          _,
-          (
-            _,
-            (
-              _,
-              (
-                _,
-                (
-                  _,
-                  (
-                    _,
-                    (
-                      _,
-                      (
-                        _,
-                        (
-                          _,
-                          (
-                            a,
-                            (
-                              b,
-                              (
-                                c,
-                                (
-                                  d,
-                                  (
-                                    e,
-                                    (f, _),
-                                  ),
-                                ),
-                              ),
-                            ),
-                          ),
-                        ),
-                      ),
-                    ),
-                  ),
-                ),
-              ),
-            ),
-          ),
-        ),
-      ),
-    ),
+    (_, (_, (_, (_, (_, (_, (a, (b, (c, (d, (e, (f, _)))))))))))),
   ) = record {
     bare = λ n at. absurd (let p = subst (λ x. server_cause x ≡ true) at cause in cc);
     restarts = restarts;
@@ -621,14 +593,14 @@ pub server_meets : (script : Script) (start : Tree) (server : ServerId) (steps :
     → server_cause s.cause ≡ true → s.wrote ≡ None → passes (server_tests server past s) ≡ true
     → ServerMeets script start server steps past s
 unfolding is_word gone_right sends_words is_to sends_to is_gone is_restart is_taken gives_gone gives_number gone_only
-    bye_only restarted_only tells_restart tells_again server_cause is_plain comes_right server_tests is_bye is_down
+    bye_only restarted_only tells_restart tells_again server_cause is_plain comes_right asks_none reply_tests server_tests is_bye is_down
     is_restarted is_lapse
 server_meets script start server steps past s applies restarts cause wrote e =
     let t = all_true (server_tests server past s) e in
     record {
       tokens = tokens_from server past s t;
       lines = lines_from server past s (lines_of script (Server server)) steps restarts cause wrote t;
-      answers = answers_from server past s t;
+      answers = answers_from server past s (all_true (reply_tests server past s) t.0);
       works = record {
         applies = applies;
         decides = decide t;
@@ -641,12 +613,13 @@ server_meets script start server steps past s applies restarts cause wrote e =
     decide : AllTrue (server_tests server past s)
         → MayDecideAll server (kept_through s.cause (by_cause s.applied) (kept start server steps)) past
         (after_cause s.cause past) s (decisions s.applied)
-    decide (_, (_, (_, (_, (_, (_, (_, (_, (_, (_, (_, (none_, _)))))))))))) =
+    decide (_, (_, (_, (_, (_, (_, (none_, _))))))) =
         none_decide server (kept_through s.cause (by_cause s.applied) (kept start server steps)) past
         (after_cause s.cause past) s (decisions s.applied) none_
 
     send : AllTrue (server_tests server past s)
-        → MaySendEach server (kept_through s.cause s.applied (kept start server steps)) s s.sent (admitted_by s past)
-    send (_, (_, (_, (_, (_, (_, (_, (_, (words_, _))))))))) =
+        → Each (MaySend server (kept_through s.cause s.applied (kept start server steps)) s) (sending s.sent)
+        (admitted_by s past)
+    send (_, (_, (_, (words_, _)))) =
         words_send server (kept_through s.cause s.applied (kept start server steps)) s s.sent
         (admitted_by s past) words_

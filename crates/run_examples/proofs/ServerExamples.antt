@@ -41,11 +41,12 @@ use Rattle.run_examples.proofs.LapseChecks.{is_lapse, is_restarted}
 use Rattle.run_examples.proofs.ServerWords.{takes_down, takes_hello, down, listed, takes_bye, goes_away, away}
 use Rattle.run_examples.proofs.ServerWords.{live, heard_from, heard, begins, admits_host, reclaimed, here}
 use Rattle.run_examples.proofs.ServerWords.{takes_give, applied, decides, wanted_by, unwants, waiting, claims}
+use Rattle.run_examples.proofs.ServerWords.{claimant, claimants}
 use Rattle.run_examples.proofs.ServerWords.{claimless, live_yes, here_yes, applied_is, down_is}
 use Rattle.run_examples.proofs.ServerChecks.{is_word, gone_right, sends_words, is_to, sends_to, is_gone}
 use Rattle.run_examples.proofs.ServerChecks.{is_restart, is_taken, gives_gone, gives_number, gone_only, bye_only}
 use Rattle.run_examples.proofs.ServerChecks.{restarted_only, tells_restart, tells_again, server_cause, is_plain}
-use Rattle.run_examples.proofs.ServerChecks.{comes_right, server_tests, server_meets}
+use Rattle.run_examples.proofs.ServerChecks.{asks_none, comes_right, reply_tests, server_tests, server_meets}
 
 -- what comes is neither a give-back nor a Down: nothing is applied by it
 unfoldable pub stores_none : Body → Bool
@@ -57,10 +58,19 @@ unfoldable pub applies_none : Cause → Bool
 applies_none (Came m) = stores_none m.body
 applies_none _ = true
 
-abbrev tree_at : List Step → Tree
+-- all words of the tests
+unfoldable pub served_words : ℕ
+unfolding home tree_given stores_none applies_none is_bye is_down no_asked is_lapse is_restarted takes_down
+    takes_hello down listed takes_bye goes_away away live heard_from heard begins admits_host reclaimed here
+    takes_give applied decides wanted_by unwants waiting claims claimless is_word gone_right sends_words is_to
+    sends_to is_gone is_restart is_taken gives_gone gives_number gone_only bye_only restarted_only tells_restart
+    tells_again server_cause is_plain comes_right asks_none reply_tests server_tests claimant claimants
+served_words = 0
+
+abbrev pub tree_at : List Step → Tree
 tree_at steps = kept file_tree site_one steps
 
-none_applied : (tree : Tree) (past : List Act) (s : Step) → applies_none s.cause ≡ true → by_cause s.applied ≡ []
+pub none_applied : (tree : Tree) (past : List Act) (s : Step) → applies_none s.cause ≡ true → by_cause s.applied ≡ []
     → list_all is_decision (decisions s.applied) ≡ true → s.reserved ≡ [] → ServerApplies site_one tree past s
 unfolding applies_none stores_none
 none_applied tree past s t none all free = record {
@@ -76,7 +86,7 @@ none_applied tree past s t none all free = record {
 }
 
 -- the same message
-message_is : (s : Step) (m n : Message) → s.cause ≡ Came m → s.cause ≡ Came n → m ≡ n
+pub message_is : (s : Step) (m n : Message) → s.cause ≡ Came m → s.cause ≡ Came n → m ≡ n
 message_is s m n a b = let p : Came m ≡ Came n = sym a ∙ b in cc
 
 gift_applied : (past : List Act) (steps : List Step) → FirstGiven site_one past stores client gift
@@ -112,15 +122,11 @@ down_applied tree past up = record {
   reserves = λ t m. elim m [ ];
 }
 
-abbrev past_of : List Step → List Act
+abbrev pub past_of : List Step → List Act
 past_of steps = acts 1 site_one steps
 
 first_gift : FirstGiven site_one (past_of served) stores client gift
-unfolding home tree_given stores_none applies_none is_bye is_down no_asked is_lapse is_restarted takes_down
-    takes_hello down listed takes_bye goes_away away live heard_from heard begins admits_host reclaimed here
-    takes_give applied decides wanted_by unwants waiting claims claimless is_word gone_right sends_words is_to
-    sends_to is_gone is_restart is_taken gives_gone gives_number gone_only bye_only restarted_only tells_restart
-    tells_again server_cause is_plain comes_right server_tests
+unfolding served_words
 first_gift = (
   (
     0,
@@ -135,44 +141,28 @@ first_gift = (
 )
 
 pub stores_meets : ServerMeets writing file_tree site_one (served) (past_of (served)) (stores)
-unfolding home tree_given stores_none applies_none is_bye is_down no_asked is_lapse is_restarted takes_down
-    takes_hello down listed takes_bye goes_away away live heard_from heard begins admits_host reclaimed here
-    takes_give applied decides wanted_by unwants waiting claims claimless is_word gone_right sends_words is_to
-    sends_to is_gone is_restart is_taken gives_gone gives_number gone_only bye_only restarted_only tells_restart
-    tells_again server_cause is_plain comes_right server_tests
+unfolding served_words
 stores_meets = server_meets writing file_tree site_one (served) (past_of (served)) (stores)
     (gift_applied (past_of served) served first_gift refl)
     (λ n c. absurd (let p = c in cc)) refl refl refl
 
 pub stores_lapse : ServerMeets writing file_tree site_one (stores ∷ served) (past_of (stores ∷ served))
     (server_lapses [])
-unfolding home tree_given stores_none applies_none is_bye is_down no_asked is_lapse is_restarted takes_down
-    takes_hello down listed takes_bye goes_away away live heard_from heard begins admits_host reclaimed here
-    takes_give applied decides wanted_by unwants waiting claims claimless is_word gone_right sends_words is_to
-    sends_to is_gone is_restart is_taken gives_gone gives_number gone_only bye_only restarted_only tells_restart
-    tells_again server_cause is_plain comes_right server_tests
+unfolding served_words
 stores_lapse = server_meets writing file_tree site_one (stores ∷ served) (past_of (stores ∷ served)) (server_lapses [])
     (none_applied (tree_at (stores ∷ served)) (past_of (stores ∷ served)) (server_lapses []) refl refl refl refl)
     (λ n c. absurd (let p = c in cc)) refl refl refl
 
 pub returned_meets : ServerMeets writing file_tree site_one (stores ∷ served) (past_of (stores ∷ served))
     (hears_returned)
-unfolding home tree_given stores_none applies_none is_bye is_down no_asked is_lapse is_restarted takes_down
-    takes_hello down listed takes_bye goes_away away live heard_from heard begins admits_host reclaimed here
-    takes_give applied decides wanted_by unwants waiting claims claimless is_word gone_right sends_words is_to
-    sends_to is_gone is_restart is_taken gives_gone gives_number gone_only bye_only restarted_only tells_restart
-    tells_again server_cause is_plain comes_right server_tests
+unfolding served_words
 returned_meets = server_meets writing file_tree site_one (stores ∷ served) (past_of (stores ∷ served)) (hears_returned)
     (none_applied (tree_at (stores ∷ served)) (past_of (stores ∷ served)) hears_returned refl refl refl refl)
     (λ n c. absurd (let p = c in cc)) refl refl refl
 
 pub returned_lapse : ServerMeets writing file_tree site_one (hears_returned ∷ stores ∷ served) (past_of
     (hears_returned ∷ stores ∷ served)) (server_lapses [])
-unfolding home tree_given stores_none applies_none is_bye is_down no_asked is_lapse is_restarted takes_down
-    takes_hello down listed takes_bye goes_away away live heard_from heard begins admits_host reclaimed here
-    takes_give applied decides wanted_by unwants waiting claims claimless is_word gone_right sends_words is_to
-    sends_to is_gone is_restart is_taken gives_gone gives_number gone_only bye_only restarted_only tells_restart
-    tells_again server_cause is_plain comes_right server_tests
+unfolding served_words
 returned_lapse = server_meets writing file_tree site_one (hears_returned ∷ stores ∷ served) (past_of (hears_returned
     ∷ stores ∷ served)) (server_lapses [])
     (none_applied (tree_at (hears_returned ∷ stores ∷ served)) (past_of (hears_returned ∷ stores ∷ served))
@@ -180,22 +170,14 @@ returned_lapse = server_meets writing file_tree site_one (hears_returned ∷ sto
     (λ n c. absurd (let p = c in cc)) refl refl refl
 
 pub down_meets : ServerMeets writing file_tree site_one (served) (past_of (served)) (hears_down)
-unfolding home tree_given stores_none applies_none is_bye is_down no_asked is_lapse is_restarted takes_down
-    takes_hello down listed takes_bye goes_away away live heard_from heard begins admits_host reclaimed here
-    takes_give applied decides wanted_by unwants waiting claims claimless is_word gone_right sends_words is_to
-    sends_to is_gone is_restart is_taken gives_gone gives_number gone_only bye_only restarted_only tells_restart
-    tells_again server_cause is_plain comes_right server_tests
+unfolding served_words
 down_meets = server_meets writing file_tree site_one (served) (past_of (served)) (hears_down)
     (down_applied (tree_at served) (past_of served) (λ x. let p = down_is (past_of served) client x in cc))
     (λ n c. absurd (let p = c in cc)) refl refl refl
 
 pub down_lapse : ServerMeets writing file_tree site_one (hears_down ∷ served) (past_of (hears_down ∷ served))
     (server_lapses [])
-unfolding home tree_given stores_none applies_none is_bye is_down no_asked is_lapse is_restarted takes_down
-    takes_hello down listed takes_bye goes_away away live heard_from heard begins admits_host reclaimed here
-    takes_give applied decides wanted_by unwants waiting claims claimless is_word gone_right sends_words is_to
-    sends_to is_gone is_restart is_taken gives_gone gives_number gone_only bye_only restarted_only tells_restart
-    tells_again server_cause is_plain comes_right server_tests
+unfolding served_words
 down_lapse = server_meets writing file_tree site_one (hears_down ∷ served) (past_of (hears_down ∷ served))
     (server_lapses [])
     (none_applied (tree_at (hears_down ∷ served)) (past_of (hears_down ∷ served))
@@ -204,11 +186,7 @@ down_lapse = server_meets writing file_tree site_one (hears_down ∷ served) (pa
 
 pub bye_meets : ServerMeets writing file_tree site_one (hears_returned ∷ stores ∷ served) (past_of (hears_returned
     ∷ stores ∷ served)) (answers_bye)
-unfolding home tree_given stores_none applies_none is_bye is_down no_asked is_lapse is_restarted takes_down
-    takes_hello down listed takes_bye goes_away away live heard_from heard begins admits_host reclaimed here
-    takes_give applied decides wanted_by unwants waiting claims claimless is_word gone_right sends_words is_to
-    sends_to is_gone is_restart is_taken gives_gone gives_number gone_only bye_only restarted_only tells_restart
-    tells_again server_cause is_plain comes_right server_tests
+unfolding served_words
 bye_meets = server_meets writing file_tree site_one (hears_returned ∷ stores ∷ served) (past_of (hears_returned
     ∷ stores ∷ served)) (answers_bye)
     (none_applied (tree_at (hears_returned ∷ stores ∷ served)) (past_of (hears_returned ∷ stores
@@ -217,11 +195,7 @@ bye_meets = server_meets writing file_tree site_one (hears_returned ∷ stores �
 
 pub bye_lapse : ServerMeets writing file_tree site_one (answers_bye ∷ hears_returned ∷ stores ∷ served) (past_of
     (answers_bye ∷ hears_returned ∷ stores ∷ served)) (server_lapses [])
-unfolding home tree_given stores_none applies_none is_bye is_down no_asked is_lapse is_restarted takes_down
-    takes_hello down listed takes_bye goes_away away live heard_from heard begins admits_host reclaimed here
-    takes_give applied decides wanted_by unwants waiting claims claimless is_word gone_right sends_words is_to
-    sends_to is_gone is_restart is_taken gives_gone gives_number gone_only bye_only restarted_only tells_restart
-    tells_again server_cause is_plain comes_right server_tests
+unfolding served_words
 bye_lapse = server_meets writing file_tree site_one (answers_bye ∷ hears_returned ∷ stores ∷ served) (past_of
     (answers_bye ∷ hears_returned ∷ stores ∷ served)) (server_lapses [])
     (none_applied (tree_at (answers_bye ∷ hears_returned ∷ stores ∷ served)) (past_of (answers_bye ∷ hears_returned
@@ -229,11 +203,7 @@ bye_lapse = server_meets writing file_tree site_one (answers_bye ∷ hears_retur
     (λ n c. absurd (let p = c in cc)) refl refl refl
 
 pub restarts_meets : ServerMeets restarting file_tree site_one (served) (past_of (served)) (restarts)
-unfolding home tree_given stores_none applies_none is_bye is_down no_asked is_lapse is_restarted takes_down
-    takes_hello down listed takes_bye goes_away away live heard_from heard begins admits_host reclaimed here
-    takes_give applied decides wanted_by unwants waiting claims claimless is_word gone_right sends_words is_to
-    sends_to is_gone is_restart is_taken gives_gone gives_number gone_only bye_only restarted_only tells_restart
-    tells_again server_cause is_plain comes_right server_tests
+unfolding served_words
 restarts_meets = server_meets restarting file_tree site_one (served) (past_of (served)) (restarts)
     (none_applied (tree_at served) (past_of served) restarts refl refl refl refl)
     (λ n c. (
@@ -247,11 +217,7 @@ restarts_meets = server_meets restarting file_tree site_one (served) (past_of (s
 
 pub restarts_lapse : ServerMeets restarting file_tree site_one (restarts ∷ served) (past_of (restarts ∷ served))
     (server_lapses (from_server Restarted ∷ []))
-unfolding home tree_given stores_none applies_none is_bye is_down no_asked is_lapse is_restarted takes_down
-    takes_hello down listed takes_bye goes_away away live heard_from heard begins admits_host reclaimed here
-    takes_give applied decides wanted_by unwants waiting claims claimless is_word gone_right sends_words is_to
-    sends_to is_gone is_restart is_taken gives_gone gives_number gone_only bye_only restarted_only tells_restart
-    tells_again server_cause is_plain comes_right server_tests
+unfolding served_words
 restarts_lapse = server_meets restarting file_tree site_one (restarts ∷ served) (past_of (restarts ∷ served))
     (server_lapses (from_server Restarted ∷ []))
     (none_applied (tree_at (restarts ∷ served)) (past_of (restarts ∷ served)) (server_lapses (from_server Restarted

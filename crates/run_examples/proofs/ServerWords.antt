@@ -225,7 +225,7 @@ unfoldable pub begins : Act → Bool
 begins (Begins e) = true
 begins _ = false
 
-begin_yes : (a : Act) → begins a ≡ true → IsBegin a
+pub begin_yes : (a : Act) → begins a ≡ true → IsBegin a
 unfolding takes_down takes_hello down listed takes_bye goes_away away live heard_from heard begins
 begin_yes (Begins e) t = (e, refl)
 begin_yes a t = absurd (cc)
@@ -261,11 +261,10 @@ reclaimed_yes (a ∷ past) h t =
             | inr q ↦ (
                 let r = and_parts (takes_hello h a) (not (listed past h) && not (down past h)) q in
                 let u = and_parts (not (listed past h)) (not (down past h)) r.1 in
+                let unlisted : Listed past h → ⊥ = λ x. is_not (listed past h) u.0 (listed_is past h x) in
                 inl (inr (
-                  hello_heard h a r.0,
-                  λ x. is_not (listed past h) u.0 (listed_is past h x),
-                  λ x. is_not
-                      (down past h) u.1 (down_is past h x),
+                  inl (hello_heard h a r.0, unlisted, λ x. is_not (down past h) u.1 (down_is past h x)),
+                  unlisted,
                 ))
                 )
           ]
@@ -283,10 +282,11 @@ reclaimed_is (a ∷ past) h (inl x) =
     or_left (admits_host h a || n) (reclaimed past h && not (begins a))
     (elim x [
       | inl y ↦ or_left (admits_host h a) n (subst (λ z. admits_host h z ≡ true) (sym y.1) (hosts h h refl))
-      | inr y ↦ or_right (admits_host h a) n
+      | inr (inl y, unlisted) ↦ or_right (admits_host h a) n
           (and_from (takes_hello h a) (not (listed past h) && not (down past h)) (heard_hello h a y.0)
           (and_from (not (listed past h)) (not (down past h)) (not_is (listed past h) (λ e. y.1
           (listed_yes past h e))) (not_is (down past h) (λ e. y.2 (down_yes past h e)))))
+      | inr (inr y, unlisted) ↦ absurd (unlisted y)
     ])
 reclaimed_is (a ∷ past) h (inr x) =
     or_right (admits_host h a || (takes_hello h a && (not (listed past h) && not (down past h))))
@@ -495,3 +495,27 @@ no_claim (a ∷ past) h n claim t x =
         | inr q ↦ no_claim past h n claim q y.0
       ])
     ]
+
+-- the hosts whose claims were taken in this epoch
+unfoldable pub claimant : Act → List HostId
+claimant (Took host e n (Reclaim claim)) = host ∷ []
+claimant _ = []
+
+unfoldable pub claimants : List Act → List HostId
+claimants [] = []
+claimants (a ∷ past) = claimant a ++ (if begins a then [] else claimants past)
+
+in_unless : {A : Type 0} (b : Bool) (x : A) (xs : List A) → (b ≡ true → ⊥) → In x xs → In x (if b then [] else xs)
+in_unless true x xs unless m = absurd (unless refl)
+in_unless false x xs unless m = m
+
+pub claims_in : (past : List Act) (h : HostId) (n : ℕ) (claim : ReclaimOf) → TookNow past h n (Reclaim claim)
+    → In h (claimants past)
+unfolding claimant claimants
+claims_in [] h n claim x = elim x [ ]
+claims_in (a ∷ past) h n claim (inl x) =
+    in_front h (claimant a) (if begins a then [] else claimants past)
+    (subst (λ y. In h (claimant y)) (sym x.0) (inl refl))
+claims_in (a ∷ past) h n claim (inr x) =
+    in_back h (claimant a) (if begins a then [] else claimants past)
+    (in_unless (begins a) h (claimants past) (λ e. x.1 (begin_yes a e)) (claims_in past h n claim x.0))

@@ -1,4 +1,5 @@
 -- Where a host stands in a step, computed.
+use Rattle.world_steps.specs.Lists.{EachOnce}
 use Rattle.std.proofs.Common.{Bool, List, None, Option, Some, [], ap, false, inl, inr, refl, subst, sym, true}
 use Rattle.std.proofs.Common.{if◌then◌else◌, ℕ, ◌&&◌, ◌++◌, ◌||◌, ◌==◌, ◌∙◌, ◌∷◌, ◌≡◌, ◌⊎◌, ◌↔◌, cond}
 use Rattle.std.proofs.lemmas.Bool.{and_parts, and_from, or_cases, or_left, or_right, eqb-true, eq-eqb}
@@ -20,7 +21,7 @@ use Rattle.dfs_tree.specs.declared.tree.OpenUse.{OpenUse}
 use Rattle.tok_types.specs.declared.token.Kind.{Kind}
 use Rattle.tok_types.specs.declared.token.Kind.TheVariants.{Bytes, Status, Lock as LockToken, Opening}
 use Rattle.tok_types.specs.declared.token.Token.{Token}
-use Rattle.world_host.specs.Knowing.{EachOnce, Entered, HasLabel, IsLock, IsOpening, Knows, NeedsServer, Stance}
+use Rattle.world_host.specs.Knowing.{Entered, HasLabel, IsLock, IsOpening, Knows, NeedsServer, Stance}
 use Rattle.world_host.specs.Labels.{FreesPinned, InUse, IsEnding}
 use Rattle.world_steps.specs.Lists.{In}
 use Rattle.world_steps.specs.Tokens.{AtHand, Held}
@@ -233,7 +234,7 @@ own_of site host past s = record {
   seen = λ server name. seen_in (entered site (s ∷ past)) server name;
 }
 
-once_from : {A : Type 0} (alike : A → A → Bool) (xs : List A) → ((x : A) → alike x x ≡ true) → apart alike xs ≡ true
+pub once_from : {A : Type 0} (alike : A → A → Bool) (xs : List A) → ((x : A) → alike x x ≡ true) → apart alike xs ≡ true
     → EachOnce xs
 unfolding labels lock_by opening_by locks_of opens_of needs_server is_lock_kind is_open_kind gives_with gives_label
     leads seen_in one_id each_one_id

@@ -471,3 +471,7 @@ is_none (x ∷ xs) = false
 pub none_in : {A : Type 0} (xs : List A) (x : A) → is_none xs ≡ true → In x xs → ⊥
 none_in [] x e m = elim m [ ]
 none_in (y ∷ ys) x e m = cc
+
+pub none_is : {A : Type 0} (xs : List A) → is_none xs ≡ true → xs ≡ []
+none_is [] e = refl
+none_is (x ∷ xs) e = absurd (cc)

@@ -1,4 +1,5 @@
 -- The rules of tokens for a host's step, computed: where each test passes the rules hold.
+use Rattle.world_steps.specs.Sends.{HasSaid}
 use Rattle.std.proofs.Common.{Bool, List, [], ap, false, inl, inr, refl, subst, sym, true}
 use Rattle.std.proofs.Common.{ℕ, ◌&&◌, ◌++◌, ◌||◌, ◌==◌, ◌∙◌, ◌∷◌, ◌≡◌, ◌⊎◌, ◌<◌}
 use Rattle.std.proofs.lemmas.Bool.{and_parts, and_from, or_cases, eqb-true, eq-eqb, ltb-true, lt-ltb}
@@ -27,7 +28,7 @@ use Rattle.world_steps.specs.HostTokens.{Claims, HostTokens, IsClaimed, IsInGive
 use Rattle.world_steps.specs.Lists.{In}
 use Rattle.world_steps.specs.Places.{Place, place}
 use Rattle.world_steps.specs.Requests.{Asking, Changing}
-use Rattle.world_steps.specs.Sends.{HasSaidBye, Said, Sends, Stops}
+use Rattle.world_steps.specs.Sends.{Said, Sends, Stops}
 use Rattle.world_steps.specs.Tokens.{AtHand, Drops, Leaves}
 use Rattle.world_steps.specs.declared.step.Step.{Step}
 use Rattle.run_examples.proofs.Tests.{AllTrue, passes, all_true, implies, so, is_not, at_all, some_in, any_of, apart}
@@ -378,7 +379,7 @@ quits site past s t v e n p =
 
 no_bye : (site : ServerId) (past : List Step) (s : Step) → implies (says asks s) (list_all (λ m. not (is_bye m.body))
     (said past)) ≡ true
-    → (v : ServerId) (e n : ℕ) (b : Body) → asks b ≡ true → Sends s v e n b → (w : ServerId) → HasSaidBye past w → ⊥
+    → (v : ServerId) (e n : ℕ) (b : Body) → asks b ≡ true → Sends s v e n b → (w : ServerId) → HasSaid past w Bye → ⊥
 unfolding is_down is_bye says is_place goes_right of_file was_made follows asks shares claimed names_it in_give
     names_all is_due claim_tests is_claim goes_to may_return is_settled had leaves_all token_tests
 no_bye site past s t v e n b is p w h =

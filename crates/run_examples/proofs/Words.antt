@@ -1,4 +1,5 @@
 -- What a host's steps tell, as plain data: each word of the rules on tokens is membership in a list that is computed.
+use Rattle.world_steps.specs.Gives.{GiveOpen}
 use Rattle.std.proofs.Common.{Bool, List, [], ap, false, inl, inr, refl, subst, sym, true, if◌then◌else◌}
 use Rattle.std.proofs.Common.{ℕ, ◌&&◌, ◌++◌, ◌||◌, ◌==◌, ◌∙◌, ◌∷◌, ◌≡◌, ◌⊎◌, ◌<◌}
 use Rattle.std.proofs.lemmas.Bool.{and_parts, and_from, or_cases, or_left, or_right, eqb-true, eq-eqb, ltb-true, lt-ltb}
@@ -26,7 +27,7 @@ use Rattle.rpc_types.specs.declared.telling.Grant.{Grant as GrantOf}
 use Rattle.rpc_types.specs.declared.tokens.Revoke.{Revoke as RevokeOf}
 use Rattle.world_steps.specs.Epochs.{About, Comes, ComesIn, IsWelcome, Renews, epoch_at}
 use Rattle.world_steps.specs.Floors.{AboveFloor, Answers, Uses}
-use Rattle.world_steps.specs.Gives.{IsKnown, IsOutstanding, Known, Learns, Made, Makes, NoGiveOpen, Waits, number_of}
+use Rattle.world_steps.specs.Gives.{IsKnown, IsOutstanding, Known, Learns, Made, Makes, Waits, number_of}
 use Rattle.world_steps.specs.Lists.{In}
 use Rattle.world_steps.specs.Places.{place}
 use Rattle.world_steps.specs.Requests.{Asking, Changing, Settles}
@@ -408,12 +409,12 @@ in_made (s ∷ past) g i = elim (in_split g s.made (made past) i) [ inl p ↦ in
 unfoldable pub none_open : List Step → Fid → Bool
 none_open past fid = list_all (λ g. implies (same_fid g.fid fid) (is_known past (number_of g))) (made past)
 
-pub none_open_yes : (past : List Step) (fid : Fid) → none_open past fid ≡ true → NoGiveOpen past fid
+pub none_open_yes : (past : List Step) (fid : Fid) → none_open past fid ≡ true → GiveOpen past fid → ⊥
 unfolding said is_about is_present learnt_by learnt known is_known drops_it held holds_id ever returned_by returned
     given gives_it leaves_it owned made none_open
-none_open_yes past fid e g m f =
-    known_yes past (number_of g) (so (same_fid g.fid fid) (is_known past (number_of g)) (at_all (λ g. implies
-    (same_fid g.fid fid) (is_known past (number_of g))) (made past) g e (made_in past g m)) (fids g.fid fid f))
+none_open_yes past fid e (g, m, f, open_) =
+    open_ (known_yes past (number_of g) (so (same_fid g.fid fid) (is_known past (number_of g)) (at_all (λ g. implies
+    (same_fid g.fid fid) (is_known past (number_of g))) (made past) g e (made_in past g m)) (fids g.fid fid f)))
 
 unfoldable pub is_waited : List Step → Give → Give → Bool
 is_waited past g k =
@@ -1033,7 +1034,7 @@ above_yes (s ∷ past) fid stamp e =
         (place past fid.fileset).server) (place past fid.fileset).moves (Revoke r) t c) (fids r.fid fid f))
 
     brings : by_message true (λ m. floor_by fid stamp m.body) s.cause ≡ true
-        → (w : Bring) → Answers past s w → AboveFloor past w.fid w.stamp → NoGiveOpen past w.fid → w.fid ≡ fid
+        → (w : Bring) → Answers past s w → AboveFloor past w.fid w.stamp → (GiveOpen past w.fid → ⊥) → w.fid ≡ fid
         → w.stamp < stamp
     brings t w (inl (g, c, is, a)) up free f =
         let p = so (same_fid g.bring.fid fid) (nat_lt g.bring.stamp stamp) (at_comes

@@ -1,21 +1,26 @@
 -- What the examples show: each step meets all rules of its host, after the steps that led to it; and so does a lapse
 -- after it.
-use Rattle.std.specs.Prelude.{List, [], ◌∷◌}
+use Rattle.std.specs.Prelude.{List, [], false, true, ◌∷◌}
 use Rattle.dfs_base.specs.declared.ids.Node.TheVariants.{Server}
 use Rattle.script_lines.specs.declared.script.Deed.TheVariants.{Call as MakesCall, Restart, Stop}
 use Rattle.script_lines.specs.declared.script.Script.{Script}
-use Rattle.rpc_types.specs.declared.message.Body.TheVariants.{GiveBack, Bye, Restarted}
+use Rattle.rpc_types.specs.declared.message.Body.TheVariants.{GiveBack, Revoke, Bye, Restarted}
 use Rattle.rpc_types.specs.declared.message.Message.{Message}
 use Rattle.world_host.specs.HostRules.{HostMeets}
 use Rattle.world_server.specs.ServerRules.{ServerMeets}
 use Rattle.world_steps.specs.Acts.{acts}
-use Rattle.world_steps.specs.Worked.{client, from_server, site_one, to_server}
+use Rattle.world_steps.specs.Worked.{client, from_server, site_one, to_host, to_server}
 use Rattle.world_steps.specs.declared.step.Step.{Step}
 use Rattle.run_examples.specs.Steps.{asks_lock, asks_update, begin, claims_all, claims_gift, ends, frees, gift, gives}
-use Rattle.run_examples.specs.Steps.{grown}
+use Rattle.run_examples.specs.Steps.{asks_file, asks_for, asks_root, enters, evicted, evicts, file, frees_last, greets}
+use Rattle.run_examples.specs.Steps.{calls_back, grown, needs, recall, returns_all, shared, stores_and_grants}
+use Rattle.run_examples.specs.Steps.{unlocks_last}
+use Rattle.world_journal.specs.Worked.{roster}
+use Rattle.dfs_objects.specs.Spans.{span_between}
+use Rattle.tok_types.specs.declared.token.Kind.TheVariants.{Bytes, Status}
 use Rattle.run_examples.specs.Steps.{grows, hears_bye, keeps, lapses, learns, learns_freed, lock_gift, locked, locks}
 use Rattle.run_examples.specs.Steps.{reclaimed}
-use Rattle.run_examples.specs.Steps.{answers_bye, file_tree, hears_down, hears_returned, restarts, served}
+use Rattle.run_examples.specs.Steps.{admits, answers_bye, file_tree, hears_down, hears_returned, restarts, served}
 use Rattle.run_examples.specs.Steps.{server_lapses}
 use Rattle.run_examples.specs.Steps.{stores}
 use Rattle.run_examples.specs.Steps.{restarted, restarted_late, says_bye, script_of, stops, takes_lock, unlocks, writes}
@@ -29,6 +34,13 @@ stopping = script_of (MakesCall writes ∷ Stop ∷ [])
 abbrev pub locking : Script
 locking = script_of (MakesCall locks ∷ MakesCall unlocks ∷ [])
 
+abbrev pub locking_alone : Script
+locking_alone = script_of (MakesCall locks ∷ [])
+
+-- a script whose host caches four tokens at most
+abbrev pub caching : Script
+caching = record writing { roster = record roster { hosts = record { user = 0; limit = 4 } ∷ [] } }
+
 -- a script in which the server restarts
 abbrev pub restarting : Script
 restarting = record writing { lines = record { number = 8; node = Server site_one; deed = Restart } ∷ [] }
@@ -37,6 +49,14 @@ restarting = record writing { lines = record { number = 8; node = Server site_on
 abbrev pub Meets : Script → List Step → Step → List Message → Type 0
 Meets script past s again =
     HostMeets script client past s × HostMeets script client (s ∷ past) (lapses again)
+
+-- A host asks for the status of a file that it doesn't know, and then for what its Write lacks; a lapse asks again.
+abbrev pub WriteIsAskedFor : Type 0
+WriteIsAskedFor =
+    Meets writing (asks_root ∷ enters writes ∷ greets writes ∷ []) asks_file
+    (asks_for 2 file (needs file (Status false) ∷ []) ∷ [])
+    × Meets writing (begin writes) asks_update
+    (asks_for 3 file (needs file (Status true) ∷ needs file (Bytes true (span_between 0 1024)) ∷ []) ∷ [])
 
 -- a Write that grows its file, is answered when the tokens come that it lacked
 abbrev pub WriteIsAnswered : Type 0
@@ -77,6 +97,18 @@ LockIsKept =
     × Meets locking (keeps ∷ locked) frees (to_server 1 (GiveBack lock_gift) ∷ [])
     × Meets locking (frees ∷ keeps ∷ locked) learns_freed []
 
+-- At the end the host itself ends a use that no server has to learn of, and returns its token with all others; another
+-- use it gives back.
+abbrev pub UseIsEnded : Type 0
+UseIsEnded =
+    Meets locking_alone locked unlocks_last []
+    × Meets locking_alone (unlocks_last ∷ locked) returns_all []
+    × Meets locking_alone (keeps ∷ locked) frees_last (to_server 1 (GiveBack lock_gift) ∷ [])
+
+-- A host that caches too many tokens evicts one; what is dirty under it goes into a give-back.
+abbrev pub EvictionIsAllowed : Type 0
+EvictionIsAllowed = Meets caching grown evicts (to_server 1 (GiveBack evicted) ∷ [])
+
 -- so does a step of the server, from a tree that has the file on, after its own steps
 abbrev pub Serves : Script → List Step → Step → List Message → Type 0
 Serves script past s again =
@@ -84,10 +116,18 @@ Serves script past s again =
     × ServerMeets script file_tree site_one (s ∷ past) (acts 1 site_one (s ∷ past)) (server_lapses again)
 
 -- A give-back is stored and answered by Gone; a Returned is heard; a host goes down, once, or says Bye, which is
--- answered; a restart tells each host, and a lapse those again that haven't reclaimed.
+-- answered; a restart tells each host, and a lapse those again that haven't reclaimed; a claim is admitted and answered.
 pub record ServerReacts : Type 0 where
   pub gift_stored : Serves writing served stores []
   pub returned_heard : Serves writing (stores ∷ served) hears_returned []
   pub down_heard : Serves writing served hears_down []
   pub bye_answered : Serves writing (hears_returned ∷ stores ∷ served) answers_bye []
   pub restart_told : Serves restarting served restarts (from_server Restarted ∷ [])
+  pub claim_admitted : Serves restarting (restarts ∷ served) admits []
+
+-- A Fetch that a granted token blocks makes its server ask the token back, and again at a lapse; it is granted when the
+-- token has come back, on what is kept then.
+abbrev pub BlockedFetchIsGranted : Type 0
+BlockedFetchIsGranted =
+    Serves writing shared calls_back (to_host (Revoke (recall 4)) ∷ [])
+    × Serves writing (calls_back ∷ shared) stores_and_grants []

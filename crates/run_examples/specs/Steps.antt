@@ -1,4 +1,8 @@
 -- Steps of a host in states that runs reach, as plain data. Lists of steps have the newest first.
+use Rattle.dfs_base.specs.declared.ids.HostId.{HostId}
+use Rattle.rpc_types.specs.declared.tokens.Revoke.{Revoke as RevokeOf}
+use Rattle.rpc_types.specs.declared.telling.Grant.{Grant as GrantOf}
+use Rattle.world_steps.specs.declared.applied.Wanted.{Wanted}
 use Rattle.std.specs.Prelude.{Bool, List, None, Option, Some, [], codes, false, if◌then◌else◌, suc, true, ℕ, ◌∷◌}
 use Rattle.dfs_base.specs.declared.ids.Fid.{Fid}
 use Rattle.dfs_base.specs.declared.ids.Node.TheVariants.{Host}
@@ -33,25 +37,24 @@ use Rattle.rpc_types.specs.declared.asking.Fetch.{Fetch as FetchOf}
 use Rattle.world_steps.specs.declared.applied.Applied.{Applied as AppliedOf}
 use Rattle.world_steps.specs.declared.applied.Applied.TheVariants.{Stored, IsDown as GoesDown, Wants}
 use Rattle.world_steps.specs.declared.applied.Request.TheVariants.{Fetch as AsksFetch, Change as AsksChange}
+use Rattle.world_steps.specs.Nodes.{bare}
 use Rattle.world_steps.specs.Gives.{number_of}
 use Rattle.world_steps.specs.Worked.{access, client, entered, from_server, no_fid, root, serves, site_one, to_host}
 use Rattle.world_steps.specs.Worked.{to_server, welcome}
 use Rattle.world_steps.specs.declared.applied.Answer.{Answer}
 use Rattle.world_steps.specs.declared.applied.Leave.{Leave}
 use Rattle.world_steps.specs.declared.applied.Why.{Why}
-use Rattle.world_steps.specs.declared.applied.Why.TheVariants.{Revoked, Asked as AskedBack, Ended, Stopped}
+use Rattle.world_steps.specs.declared.applied.Why.TheVariants.{Revoked, Evicted, Asked as AskedBack, Ended, Stopped}
 use Rattle.world_steps.specs.declared.step.Asked.{Asked}
 use Rattle.world_steps.specs.declared.step.Cause.{Cause}
-use Rattle.world_steps.specs.declared.step.Cause.TheVariants.{Line, Message as Came, Lapse, End, Restart}
+use Rattle.world_steps.specs.declared.step.Cause.TheVariants.{Line, Message as Came, Lapse, Evict, End, Restart}
 use Rattle.world_steps.specs.declared.step.Labelled.{Labelled}
 use Rattle.world_steps.specs.declared.step.Step.{Step}
 
 -- what a host does in a step
 abbrev pub acts : Cause → Option Asked → List Token → List Answer → Option Fid → List Labelled → List Give → List Leave
     → List Message → Step
-acts cause asked taken answers wrote begun made dropped sent = record {
-  node = Host client;
-  cause = cause;
+acts cause asked taken answers wrote begun made dropped sent = record (bare (Host client) cause) {
   asked = asked;
   taken = taken;
   answers = answers;
@@ -59,10 +62,7 @@ acts cause asked taken answers wrote begun made dropped sent = record {
   begun = begun;
   made = made;
   dropped = dropped;
-  applied = [];
-  admitted = [];
   sent = sent;
-  reserved = [];
 }
 
 -- it takes tokens, and sends
@@ -335,6 +335,32 @@ frees =
 abbrev pub learns_freed : Step
 learns_freed = hears (to_host (Gone (number_of lock_gift))) [] []
 
+-- Where the lines have gone, the host itself ends the use of a lock that no server asked back; then it returns all that
+-- it holds. The use of one that was kept is given back, for an implied call.
+abbrev pub unlocks_last : Step
+unlocks_last = acts End None [] (answer 2 unlocks true ∷ []) None [] [] [] []
+
+abbrev pub returns_all : Step
+returns_all =
+    acts End None [] [] None [] []
+    (leaves Ended root_status ∷ leaves Ended root_entries ∷ leaves Ended file_status ∷ leaves Ended file_lock ∷ [])
+    (to_server 1 (Returned (record { fid = root; ids = root_status.id ∷ root_entries.id ∷ [] }))
+    ∷ to_server 1 (Returned (record { fid = file; ids = file_status.id ∷ file_lock.id ∷ [] }))
+    ∷ [])
+
+abbrev pub frees_last : Step
+frees_last =
+    acts End (Some (record { k = 2; call = unlocks })) [] [] None [] (lock_gift ∷ []) (leaves AskedBack file_lock ∷ [])
+    (to_server 1 (GiveBack lock_gift) ∷ [])
+
+-- A host that caches one token more than it may evicts the one over the file's bytes. These are dirty and go into a
+-- give-back, and the length with them.
+abbrev pub evicted : Give
+evicted = record gift { ids = file_bytes.id ∷ [] }
+
+abbrev pub evicts : Step
+evicts = acts Evict None [] [] None [] (evicted ∷ []) (leaves Evicted file_bytes ∷ []) (to_server 1 (GiveBack evicted) ∷ [])
+
 -- The server of the same run: it welcomes the host, tells it the number of the fileset, and grants what is asked.
 abbrev pub wants : FetchOf → AppliedOf
 wants fetch = Wants (record { host = client; request = AsksFetch fetch; moves = 0; needs = fetch.needs })
@@ -348,17 +374,23 @@ fetched fetch grant = serves (Came (to_server 1 (Fetch fetch))) (wants fetch ∷
 abbrev pub enter : ChangeOf
 enter = record { number = 1; fileset = record { 0 = 0 }; fid = no_fid; enter = true; k = 1; call = writes }
 
-abbrev pub served : List Step
-served =
+abbrev pub serves_update : Step
+serves_update =
     fetched (fetch_of 3 file (needs file (Status true) ∷ needs file (Bytes true (span_between 0 1024)) ∷ []))
     (grants 3 file 2 (file_update ∷ file_bytes ∷ []) false [])
-    ∷ fetched (fetch_of 2 file (needs file (Status false) ∷ [])) (grants 2 file 1 (file_status ∷ []) false [])
+
+abbrev pub served_first : List Step
+served_first =
+    fetched (fetch_of 2 file (needs file (Status false) ∷ [])) (grants 2 file 1 (file_status ∷ []) false [])
     ∷ fetched (fetch_of 1 root (needs root (Status false) ∷ needs root (Bytes false whole) ∷ []))
     (grants 1 root 1 (root_status ∷ root_entries ∷ []) true (entry ∷ []))
     ∷ serves (Came (to_server 1 (Change enter)))
     (Wants (record { host = client; request = AsksChange enter; moves = 0; needs = [] }) ∷ []) []
     (to_host (Done entered) ∷ [])
     ∷ serves (Came (to_server 0 Hello)) [] [] (to_host (Reclaimed welcome) ∷ []) ∷ []
+
+abbrev pub served : List Step
+served = serves_update ∷ served_first
 
 -- the tree at the start: the root has the file, which is empty
 abbrev pub file_tree : Tree
@@ -396,5 +428,57 @@ answers_bye = serves (Came (to_server 1 Bye)) [] [] (to_host Bye ∷ [])
 abbrev pub restarts : Step
 restarts = serves (Restart 8) [] [] (from_server Restarted ∷ [])
 
+-- the host claims what it holds, and all is granted again
+abbrev pub admits : Step
+admits =
+    serves (Came claims_all) [] (record { host = client; tokens = all_tokens } ∷ [])
+    (from_server (Reclaimed welcome) ∷ [])
+
 abbrev pub server_lapses : List Message → Step
 server_lapses sent = serves Lapse [] [] sent
+
+-- A second host asks for the status of the file, which the first may change: the server asks the token back, and again
+-- at a lapse. When the first has given it back the Fetch is granted, with the length that is kept now.
+abbrev pub other : HostId
+other = record { 0 = 2 }
+
+abbrev pub from_other : ℕ → Body → Message
+from_other epoch body = record (to_server epoch body) { host = other }
+
+abbrev pub to_other : Body → Message
+to_other body = record (to_host body) { host = other }
+
+abbrev pub shared : List Step
+shared = serves (Came (from_other 0 Hello)) [] [] (to_other (Reclaimed welcome) ∷ []) ∷ served
+
+abbrev pub other_fetch : FetchOf
+other_fetch = fetch_of 1 file (needs file (Status false) ∷ [])
+
+abbrev pub other_want : Wanted
+other_want = record { host = other; request = AsksFetch other_fetch; moves = 0; needs = other_fetch.needs }
+
+abbrev pub recall : ℕ → RevokeOf
+recall stamp = record { fid = file; stamp = stamp; ids = file_update.id ∷ [] }
+
+abbrev pub calls_back : Step
+calls_back =
+    serves (Came (from_other 1 (Fetch other_fetch))) (Wants other_want ∷ []) [] (to_host (Revoke (recall 3)) ∷ [])
+
+abbrev pub calls_again : Step
+calls_again = server_lapses (to_host (Revoke (recall 4)) ∷ [])
+
+abbrev pub other_status : Token
+other_status = record (token 6 file (Status false)) { host = other }
+
+abbrev pub other_grant : GrantOf
+other_grant = record {
+  bring = record { number = 1; fid = file; stamp = 4; tokens = other_status ∷ [] };
+  status = Some (record (status_of false) { length = 2 });
+  pieces = [];
+  entries = [];
+}
+
+abbrev pub stores_and_grants : Step
+stores_and_grants =
+    serves (Came (to_server 1 (GiveBack gift))) (Stored client file (span_between 0 2 ∷ []) (Some 2) ∷ []) []
+    (to_host (Gone (number_of gift)) ∷ to_other (Grant other_grant) ∷ [])

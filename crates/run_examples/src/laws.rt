@@ -1,5 +1,12 @@
-ghost use Rattle.run_examples.specs.Laws.{WriteIsAnswered, RevokeIsAnswered, RestartIsAnswered};
-ghost use Rattle.run_examples.specs.Laws.{StopIsAllowed, EndIsAllowed, LockIsKept, ServerReacts};
+ghost use Rattle.run_examples.specs.Laws.{WriteIsAskedFor, WriteIsAnswered, RevokeIsAnswered, RestartIsAnswered};
+ghost use Rattle.run_examples.specs.Laws.{StopIsAllowed, EndIsAllowed, LockIsKept, UseIsEnded, EvictionIsAllowed};
+ghost use Rattle.run_examples.specs.Laws.{BlockedFetchIsGranted, ServerReacts};
+
+/// A Write asks for the status of a file that its host doesn't know, and then to change the status and the block that it
+/// lacks; at a lapse it asks again.
+pub fn a_write_is_asked_for()
+    ensures { WriteIsAskedFor }
+{}
 
 /// A Write that grows its file meets all rules of a host, where the tokens come that it lacked; and so does a lapse
 /// after it.
@@ -35,8 +42,25 @@ pub fn a_lock_is_kept()
     ensures { LockIsKept }
 {}
 
+/// At the end the use of a lock is ended by the host alone where no server asked its token back, and else by a give-back.
+pub fn a_use_is_ended()
+    ensures { UseIsEnded }
+{}
+
+/// A host that caches one token more than it may evicts one; the bytes that are dirty under it are given back, and a
+/// lapse gives them back again.
+pub fn an_eviction_is_allowed()
+    ensures { EvictionIsAllowed }
+{}
+
 /// A server stores a give-back and answers by Gone, hears a Returned, learns once that a host is down, answers a Bye,
-/// and tells a restart; at a lapse it tells those again that haven't reclaimed, and else does nothing.
+/// tells a restart, and admits a claim; at a lapse it tells those again that haven't reclaimed, and else does nothing.
 pub fn a_server_reacts()
     ensures { ServerReacts }
+{}
+
+/// A Fetch that another host's token blocks makes its server ask the token back, and again at a lapse; when the token has
+/// come back the Fetch is granted, and the Grant tells what is kept then.
+pub fn a_blocked_fetch_is_granted()
+    ensures { BlockedFetchIsGranted }
 {}

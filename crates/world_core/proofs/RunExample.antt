@@ -9,6 +9,7 @@ use Rattle.world_journal.specs.Lines.{lines_gone, lines_of}
 use Rattle.world_journal.specs.Worked.{owner, roster, script, start}
 use Rattle.world_steps.specs.Lists.{In}
 use Rattle.world_steps.specs.Nodes.{own}
+use Rattle.world_steps.specs.Places.{home}
 use Rattle.world_steps.specs.Sends.{HasGreeted, HasStopped, Said}
 use Rattle.world_steps.specs.TokenRuns.{IsFrom}
 use Rattle.world_steps.specs.Worked.{asks_for, client, enter, entered, enters, fetches, from_cache, granted, grants}
@@ -220,12 +221,15 @@ unfolding answer_to answer_for new_fileset_answer new_fileset_target room_for ne
 with_lists = refl
 
 start_is_valid : IsValid start
+unfolding home
 start_is_valid = record {
   well_formed = subst IsWellFormed with_lists
       (formed_entry with_home (CallEntry client 1 sets (answer_to with_home client sets).reply) with_home_formed refl refl);
   at_rest = refl;
   locks = refl;
   opens = refl;
+  unmoved = refl;
+  at_home = refl;
 }
 
 pub is_run : IsRun script worked_journal

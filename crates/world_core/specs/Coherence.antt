@@ -1,5 +1,7 @@
 -- What a run promises of its hosts' caches: calls are answered from cache exactly where tokens cover their need, and
 -- tokens leave with cause. Lists of steps have the newest first.
+use Rattle.world_host.specs.Knowing.{Stance, look_of}
+use Rattle.world_steps.specs.Lists.{Always}
 use Rattle.std.specs.Prelude.{List, Some, [], true, ℕ, ◌↔◌, ◌∷◌, ◌≡◌}
 use Rattle.dfs_base.specs.declared.ids.HostId.{HostId}
 use Rattle.dfs_base.specs.declared.ids.Node.{Node}
@@ -24,17 +26,12 @@ use Rattle.dfs_base.specs.declared.ids.Node.TheVariants.{Host, Server}
 use Rattle.world_steps.specs.declared.applied.Answer.{Answer}
 use Rattle.dfs_tree.specs.declared.tree.Tree.{Tree}
 
--- the host can answer the call by itself on the tree before the step, under the tokens that it holds before the step
+-- from where the host stands in the step, it can answer the call by itself on the tree before the step
 pub record CoveredOnTree (start : Tree) (host : HostId) (past : List Step) (s : Step) (call : Call) : Type 0 where
-  pub user : User
-  pub acts_for : user_of start.roster host ≡ Some user
-  pub knowledge : Own
-  pub knows : Knows host (own host past) s knowledge
-  pub held : List Token
-  pub holds : (t : Token) → In t held ↔ Held (own host past) t
+  pub stance : Stance start.roster host (own host past) s
   pub reply : Reply
-  pub covered : IsCovered held (tree_view (tree_at start past)) (call_look knowledge host user call)
-  pub settled : reply_now (outcome (tree_view (tree_at start past)) (call_look knowledge host user call)) ≡ Some reply
+  pub covered : IsCovered stance.held (tree_view (tree_at start past)) (look_of stance call)
+  pub settled : reply_now (outcome (tree_view (tree_at start past)) (look_of stance call)) ≡ Some reply
 
 -- the step that begins a call answers it exactly where it can; it then sends nothing, and takes and drops no token
 pub record CachedAt (start : Tree) (host : HostId) (past : List Step) (s : Step) : Type 0 where
@@ -44,23 +41,14 @@ pub record CachedAt (start : Tree) (host : HostId) (past : List Step) (s : Step)
       → Begins s a.k a.call × CoveredOnTree start host past s a.call
   pub quiet : (a : Answer) → In a s.answers → a.first ≡ true → (s.sent ≡ []) × (s.taken ≡ []) × (s.dropped ≡ [])
 
-abbrev pub CachedStep : Tree → Node → List Step → Step → Type 0
-CachedStep start (Host host) past s = CachedAt start host past s
-CachedStep start (Server server) past s = Unit {0}
-
--- so it is in each step
+-- so it is in each step of a host
 abbrev pub CachedExactly : Tree → List Step → Type 0
-CachedExactly start [] = Unit {0}
-CachedExactly start (s ∷ past) = CachedExactly start past × CachedStep start s.node past s
-
-abbrev pub LeavesWithCause : Tree → Node → List Step → Step → Type 0
-LeavesWithCause start (Host host) past s = HostLeaves start.roster host (limit_of start.roster host) (own host past) s
-LeavesWithCause start (Server server) past s = Unit {0}
+CachedExactly start past = Always (λ before s. (host : HostId) → s.node ≡ Host host → CachedAt start host before s) past
 
 -- in each step what leaves a host does so with cause
 abbrev pub DroppedWithCause : Tree → List Step → Type 0
-DroppedWithCause start [] = Unit {0}
-DroppedWithCause start (s ∷ past) = DroppedWithCause start past × LeavesWithCause start s.node past s
+DroppedWithCause start past = Always (λ before s. (host : HostId) → s.node ≡ Host host
+    → HostLeaves start.roster host (limit_of start.roster host) (own host before) s) past
 
 -- after each step no two hosts that haven't stopped hold conflicting tokens
 abbrev pub NeverInConflict : List Step → Type 0

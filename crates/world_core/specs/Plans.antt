@@ -14,7 +14,7 @@ use Rattle.script_lines.specs.declared.script.PlanLine.{PlanLine}
 use Rattle.script_lines.specs.declared.script.Script.{Script}
 use Rattle.world_core.specs.Runs.{IsRaised, past_of}
 use Rattle.world_journal.specs.declared.journal.Journal.{Journal}
-use Rattle.world_journal.specs.Lines.{is_node}
+use Rattle.world_steps.specs.Nodes.{is_node}
 use Rattle.world_steps.specs.declared.step.Step.{Step}
 use Rattle.dfs_base.specs.declared.ids.Node.TheVariants.{Host, Server}
 use Rattle.script_lines.specs.declared.script.PlanDeed.TheVariants.{Drop, Hold, Again}

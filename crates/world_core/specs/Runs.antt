@@ -1,4 +1,7 @@
 -- Runs of a script. Lists of steps have the newest first.
+use Rattle.world_steps.specs.Places.{home}
+use Rattle.std.specs.Prelude.{◌&&◌, ◌==◌}
+use Rattle.world_steps.specs.Lists.{Always, Once, after}
 use Rattle.std.specs.List.{list_all}
 use Rattle.std.specs.Prelude.{List, [], length, true, ℕ, ◌∷◌, ◌≡◌, ◌≢◌, ◌≤◌, ◌⊎◌}
 use Rattle.dfs_base.specs.declared.ids.HostId.{HostId}
@@ -27,12 +30,15 @@ use Rattle.world_steps.specs.declared.step.Cause.TheVariants.{Line as LineOf}
 use Rattle.dfs_tree.specs.declared.tree.Tree.{Tree}
 use Rattle.dfs_tree.specs.WellFormed.{IsWellFormed}
 
--- a tree from which runs start: well formed, with nothing unsaved or in use
+-- a tree from which runs start: well formed, with nothing unsaved or in use, and each fileset where it was made
 pub record IsValid (tree : Tree) : Type 0 where
   pub well_formed : IsWellFormed tree
   pub at_rest : list_all is_at_rest tree.filesets ≡ true
   pub locks : tree.locks ≡ []
   pub opens : tree.opens ≡ []
+  pub unmoved : tree.away ≡ []
+  pub at_home : list_all (λ fileset. (fileset.server.0 == (home fileset.id).0) && (fileset.moves == 0)) tree.filesets
+      ≡ true
 
 -- a step of a node meets its rules, and its cause was sent before
 abbrev pub StepMeets : Script → Tree → (ServerId → ℕ) → Node → List Step → Step → Type 0
@@ -48,15 +54,12 @@ IsLine script node n line = In line (lines_of script node) × (line.number ≡ n
 
 -- an earlier step raised the flag
 abbrev pub IsRaised : Script → List Step → List ℕ → Type 0
-IsRaised script [] flag = ⊥
-IsRaised script (s ∷ past) flag =
-    ((n : ℕ) × (line : Line) × (s.cause ≡ LineOf n) × IsLine script s.node n line × (line.deed ≡ Raise flag))
-    ⊎ IsRaised script past flag
+IsRaised script past flag = Once (λ before s. (n : ℕ) × (line : Line)
+    × (s.cause ≡ LineOf n) × IsLine script s.node n line × (line.deed ≡ Raise flag)) past
 
 -- a host is done: all its lines have gone, and it has stopped, or has the Bye of each server that it greeted
 abbrev pub HostIsDone : Script → HostId → List Step → Type 0
-HostIsDone script host past =
-    (lines_gone (own host past) ≡ length (lines_of script (Host host)))
+HostIsDone script host past = (lines_gone (own host past) ≡ length (lines_of script (Host host)))
     × (HasStopped (own host past) ⊎ ((v : ServerId) → HasGreeted (own host past) v → HasBye (own host past) v))
 
 -- A step that passes an `await` stands after the one that raised the flag; a line of another host, after the setup
@@ -75,20 +78,13 @@ TakesPart script (Server server) = In server (servers_of script.roster)
 -- each step meets the rules of its node, the flags are met, and each message that is sent is its node's own, and
 -- sound
 abbrev pub StepsMeet : Script → Tree → (ServerId → ℕ) → List Step → Type 0
-StepsMeet script start firsts [] = Unit {0}
-StepsMeet script start firsts (s ∷ past) =
-    StepsMeet script start firsts past
-    × (StepMeets script start firsts s.node past s × FlagsMet script past s × TakesPart script s.node
-    × ((m : Message) → In m s.sent → IsFrom s.node m × IsSound script.roster m))
-
--- steps after some others, the newest first
-abbrev pub newest_first : List Step → List Step → List Step
-newest_first [] past = past
-newest_first (s ∷ steps) past = newest_first steps (s ∷ past)
+StepsMeet script start firsts past =
+    Always (λ before s. StepMeets script start firsts s.node before s × FlagsMet script before s
+    × TakesPart script s.node × ((m : Message) → In m s.sent → IsFrom s.node m × IsSound script.roster m)) past
 
 -- the steps of a journal
 abbrev pub past_of : Journal → List Step
-past_of journal = newest_first journal.steps []
+past_of journal = after journal.steps []
 
 -- the epoch in which each server starts
 abbrev pub firsts_of : Journal → ServerId → ℕ
@@ -109,5 +105,4 @@ pub record IsEnded (script : Script) (journal : Journal) : Type 0 where
   pub lines : (server : ServerId) → In server (servers_of script.roster)
       → lines_gone (served server (past_of journal)) ≡ length (lines_of script (Server server))
   pub servers : (server : ServerId) (host : HostId) → In server (servers_of script.roster)
-      → let past = acts (firsts_of journal server) server (past_of journal) in
-      Listed past host → Away past host
+      → let past = acts (firsts_of journal server) server (past_of journal) in Listed past host → Away past host

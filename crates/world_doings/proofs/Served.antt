@@ -1,5 +1,7 @@
 -- The doings of a server's step, one after the other: each meets the rules of tokens, and they are those of the step.
-use Rattle.std.proofs.Common.{◌≡◌, ℕ, ◌<◌, suc, List, [], ◌∷◌, ◌∙◌, subst, refl, arith}
+use Rattle.world_steps.specs.Acts.{admitting, deciding, sending}
+use Rattle.world_steps.specs.Lists.{Each, after}
+use Rattle.std.proofs.Common.{◌≡◌, ℕ, ◌<◌, suc, List, [], ◌∷◌, ◌++◌, ◌∙◌, subst, refl, arith}
 use Rattle.dfs_base.specs.declared.ids.HostId.{HostId}
 use Rattle.dfs_base.specs.declared.ids.ServerId.{ServerId}
 use Rattle.tok_types.specs.declared.token.Token.{Token}
@@ -14,19 +16,19 @@ use Rattle.world_steps.specs.declared.step.Cause.TheVariants.{Message as Came, L
 use Rattle.world_steps.specs.declared.step.Cause.TheVariants.{Flushed}
 use Rattle.world_steps.specs.declared.step.Step.{Step}
 use Rattle.world_steps.specs.Sends.{Said}
-use Rattle.world_steps.specs.Acts.{Act, epoch, after_cause, after_written, after_admitted, after_sent, written_by}
+use Rattle.world_steps.specs.Acts.{Act, epoch, after_cause, written_by}
 use Rattle.world_steps.specs.Acts.{admitted_by, sent_by, after_step}
 use Rattle.world_steps.specs.Acts.Act.{Begins, Took, Flushes, Wants, Writes, Admits, Sent, Reserves}
 use Rattle.world_steps.specs.Hosts.{IsBegin}
 use Rattle.world_steps.specs.Grants.{Granted}
 use Rattle.world_steps.specs.ServerTokens.{ServerTokens}
-use Rattle.world_steps.specs.TokenRuns.{MayWriteAll, MayAdmitAll, MaySendAll, ServerStep}
+use Rattle.world_steps.specs.TokenRuns.{ServerStep}
 use Rattle.world_steps.proofs.Owed.{Owed}
 use Rattle.world_steps.proofs.Invariant.{Alone}
 use Rattle.world_steps.proofs.ServerAct.{served_act, link_act}
 use Rattle.world_steps.proofs.ServerBegin.{served_begin, link_begin}
 use Rattle.world_steps.proofs.Law.{AtServer}
-use Rattle.world_doings.specs.Doings.{Each, after, doings, doings_admitted, doings_cause, doings_sent, doings_written}
+use Rattle.world_doings.specs.Doings.{doings, doings_cause}
 
 -- a doing that sends, admits, writes and keeps nothing needs no leave
 took_may : (v : ServerId) (S : List Act) (h : HostId) (e n : ℕ) (b : Body) → ServerTokens v S (Took h e n b)
@@ -104,24 +106,24 @@ module _ (own_of : HostId → List Step) (alone : (h : HostId) → Alone (own_of
         };
   }
 
-  sents : (ms : List Message) (S more : List Act) → MaySendAll v ms S → Each (Next own_of v) more (after_sent ms S)
-      → Each (Next own_of v) (doings_sent ms more) S
+  sents : (ms : List Message) (S more : List Act) → Each (ServerTokens v) (sending ms) S → Each (Next own_of v) more (after (sending ms) S)
+      → Each (Next own_of v) (sending ms ++ more) S
   sents [] S more may rest = rest
   sents (m ∷ ms) S more may rest = (
     act S (Sent m.host m.epoch m.moves m.body) may.0 (λ p. let q = p.1 in cc) refl (λ h e n b p. absurd (cc)),
     sents ms (Sent m.host m.epoch m.moves m.body ∷ S) more may.1 rest,
   )
 
-  admits : (cs : List Admission) (S more : List Act) → MayAdmitAll v cs S
-      → Each (Next own_of v) more (after_admitted cs S) → Each (Next own_of v) (doings_admitted cs more) S
+  admits : (cs : List Admission) (S more : List Act) → Each (ServerTokens v) (admitting cs) S
+      → Each (Next own_of v) more (after (admitting cs) S) → Each (Next own_of v) (admitting cs ++ more) S
   admits [] S more may rest = rest
   admits (c ∷ cs) S more may rest = (
     act S (Admits c.host c.tokens) may.0 (λ p. let q = p.1 in cc) refl (λ h e n b p. absurd (cc)),
     admits cs (Admits c.host c.tokens ∷ S) more may.1 rest,
   )
 
-  writes : (xs : List Applied) (S more : List Act) → MayWriteAll v xs S → Each (Next own_of v) more (after_written xs S)
-      → Each (Next own_of v) (doings_written xs more) S
+  writes : (xs : List Applied) (S more : List Act) → Each (ServerTokens v) (deciding xs) S → Each (Next own_of v) more (after (deciding xs) S)
+      → Each (Next own_of v) (deciding xs ++ more) S
   writes [] S more may rest = rest
   writes (IsWanted x ∷ xs) S more may rest = (
     act S (Wants x) may.0 (λ p. let q = p.1 in cc) refl (λ h e n b p. absurd (cc)),
@@ -177,17 +179,17 @@ module _ (own_of : HostId → List Step) (alone : (h : HostId) → Alone (own_of
         tt,
       ))))
 
-after_sents : (ms : List Message) (S more : List Act) → after (doings_sent ms more) S ≡ after more (after_sent ms S)
+after_sents : (ms : List Message) (S more : List Act) → after (sending ms ++ more) S ≡ after more (after (sending ms) S)
 after_sents [] S more = refl
 after_sents (m ∷ ms) S more = after_sents ms (Sent m.host m.epoch m.moves m.body ∷ S) more
 
 after_admits : (cs : List Admission) (S more : List Act)
-    → after (doings_admitted cs more) S ≡ after more (after_admitted cs S)
+    → after (admitting cs ++ more) S ≡ after more (after (admitting cs) S)
 after_admits [] S more = refl
 after_admits (c ∷ cs) S more = after_admits cs (Admits c.host c.tokens ∷ S) more
 
 after_writes : (xs : List Applied) (S more : List Act)
-    → after (doings_written xs more) S ≡ after more (after_written xs S)
+    → after (deciding xs ++ more) S ≡ after more (after (deciding xs) S)
 after_writes [] S more = refl
 after_writes (IsWanted x ∷ xs) S more = after_writes xs (Wants x ∷ S) more
 after_writes (IsDone x ∷ xs) S more = after_writes xs (Writes x ∷ S) more

@@ -1,6 +1,7 @@
 -- A step's doings are those after which it is done.
+use Rattle.world_steps.specs.Lists.{after}
 use Rattle.std.specs.Prelude.{List, ◌≡◌}
-use Rattle.world_doings.specs.Doings.{after, doings}
+use Rattle.world_doings.specs.Doings.{doings}
 use Rattle.world_steps.specs.Acts.{Act, after_step}
 use Rattle.world_steps.specs.declared.step.Step.{Step}
 

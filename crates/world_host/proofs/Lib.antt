@@ -1,3 +1,4 @@
 pub mod Resting
 pub mod Plain
 pub mod RunSteps
+pub mod Evicting

@@ -190,6 +190,6 @@ module _ (a b : Token) (past : List Step) (cause : Cause) (asked : Option Asked)
       after = λ c. absurd (no_end c);
       does = λ c. absurd (no_end c);
       implied = λ k call c. absurd (no_end c);
-      drops = λ l c. absurd (no_end c);
+      drops = λ l c m w. absurd (no_end c);
       bye = λ v x. absurd (only v _ _ Bye x.2);
     }

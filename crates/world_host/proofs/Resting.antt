@@ -1,4 +1,5 @@
 -- A host at rest meets all its rules in a lapse in which it does nothing.
+use Rattle.world_steps.specs.Nodes.{bare}
 use Rattle.std.proofs.Common.{List, arith, inl, inr, length, refl, ℕ, ◌∷◌}
 use Rattle.dfs_base.specs.declared.ids.FilesetId.{FilesetId}
 use Rattle.dfs_base.specs.declared.ids.HostId.{HostId}
@@ -27,7 +28,7 @@ use Rattle.world_steps.specs.Sends.{Sends}
 use Rattle.world_steps.specs.Tokens.{Owns}
 use Rattle.world_steps.specs.declared.step.Step.{Step}
 use Rattle.script_lines.specs.declared.script.Line.{Line as ScriptLine}
-use Rattle.world_host.specs.Rest.{rests, IsAtRest, HostMayRest}
+use Rattle.world_host.specs.Rest.{IsAtRest, HostMayRest}
 use Rattle.world_steps.specs.declared.step.Cause.TheVariants.{Message as Came, Lapse, Line, Evict, End, Flushed, Restart}
 use Rattle.rpc_types.specs.declared.message.Body.TheVariants.{Hello, Fetch, Grant, Change, Done, Revoke, Returned, Kept, GiveBack, Gone, Reclaim, Reclaimed, Restarted, Down, Bye}
 use Rattle.rpc_types.specs.declared.message.Body.{Body}
@@ -39,7 +40,7 @@ use Rattle.dfs_base.specs.declared.ids.Node.TheVariants.{Host}
 
 module _ (roster : Roster) (host : HostId) (past : List Step) (rest : IsAtRest roster host past) where
   abbrev s : Step
-  s = rests host
+  s = bare (Host host) Lapse
 
   none_comes : (v : ServerId) (e n : ℕ) (b : Body) → ComesIn s v e n b → ⊥
   none_comes v e n b c = let p = c.1 in cc
@@ -87,6 +88,7 @@ module _ (roster : Roster) (host : HostId) (past : List Step) (rest : IsAtRest r
     asked = λ a c m. elim m [ ];
     answers_one = omega arith;
     answers_alone = λ a fs n m. elim m [ ];
+    keeps = λ a m. elim m [ ];
     writes = λ a fid from bytes m. elim m [ ];
     writes_only = λ fid e. absurd (cc);
     locks = λ a fid writing span m. elim m [ ];
@@ -179,7 +181,7 @@ module _ (roster : Roster) (host : HostId) (past : List Step) (rest : IsAtRest r
     after = λ c. absurd (cc);
     does = λ c. absurd (cc);
     implied = λ k call c. absurd (cc);
-    drops = λ l c. absurd (cc);
+    drops = λ l c m w. absurd (cc);
     bye = λ v b. absurd (none_sent _ _ _ _ b.2);
   }
 

@@ -495,6 +495,7 @@ no_answers past s stance none unwritten unbegun turn cant = record {
   asked = λ a c m. absurd (gone a m);
   answers_one = subst (λ (xs : List Answer). length xs ≤ 1) (sym none) (omega arith);
   answers_alone = λ a fs n m. absurd (gone a m);
+  keeps = λ a m. absurd (gone a m);
   writes = λ a fid from bytes m. absurd (gone a m);
   writes_only = λ fid e. absurd (let p = sym unwritten ∙ e in cc);
   locks = λ a fid writing span m. absurd (gone a m);
@@ -587,19 +588,19 @@ none_open_five c (inl e) = cc
 none_open_five c (inr o) = none_open_four c o.0
 
 -- first the host asks for the fileset's number
-asks_one : verdict_in roster client [] greets stance_one stat ≡ Asks (EnterAt site_one)
+asks_one : verdict_in stance_one stat ≡ Asks (EnterAt site_one)
 unfolding call_look stance_one
 asks_one = refl
 
-covered_one : IsCovered [] (sees [] greets) (look_of roster client [] greets stance_one stat)
+covered_one : IsCovered [] (sees [] greets) (look_of stance_one stat)
 unfolding call_look stance_one
 covered_one = tt
 
-asks_two : verdict_in roster client one enters stance_two stat ≡ Asks (EnterAt site_one)
+asks_two : verdict_in stance_two stat ≡ Asks (EnterAt site_one)
 unfolding call_look stance_two
 asks_two = refl
 
-covered_two : IsCovered [] (sees one enters) (look_of roster client one enters stance_two stat)
+covered_two : IsCovered [] (sees one enters) (look_of stance_two stat)
 unfolding call_look stance_two
 covered_two = tt
 
@@ -643,7 +644,7 @@ welcome_two = inl (welcome, (to_host (Reclaimed welcome), refl, refl, refl, refl
 new_enter : IsNewChange roster client one enters stance_two site_one 0 enter
 unfolding stance_two
 new_enter = record {
-  next = record { above = λ c h f. absurd (none_said c h.0 h.1 h.2 h.3); after = inl refl };
+  next = record { above = λ m x. absurd (none_said x.0 x.1.0 x.1.1 x.1.2 x.1.3); after = inl refl };
   is_open = is_open_two;
   question = EnterAt site_one;
   asks = inl (asks_two, covered_two, refl);
@@ -675,12 +676,12 @@ asks_enters = record {
 new_fetch : IsNewFetch roster client two (fetches whole) stance_three (asks_for whole)
 unfolding stance_three
 new_fetch = record {
-  next = record { above = λ f h at. absurd (none_said f h.0 h.1 h.2 h.3); after = inl refl };
+  next = record { above = λ m x. absurd (none_said x.0 x.1.0 x.1.1 x.1.2 x.1.3); after = inl refl };
   no_give = λ g. young_three.no_made g.0 g.1;
   call = the_call;
   is_open = is_open_three;
   need = record { fid = root; kind = Status false };
-  fetched = tt;
+  fetched = λ u. u;
   file = refl;
   first = first_lack;
   needs = OfDirectory (inl refl) refl;
@@ -762,7 +763,7 @@ can_four : CanAnswer roster client three (takes whole) stance_four stat facts
 unfolding call_look stat_look stance_four
 can_four = record { covered = (refl, (refl, tt)); settled = refl }
 
-replies_four : verdict_in roster client three (takes whole) stance_four stat ≡ Replies facts
+replies_four : verdict_in stance_four stat ≡ Replies facts
 unfolding call_look stat_look stance_four
 replies_four = refl
 
@@ -770,15 +771,16 @@ can_five : CanAnswer roster client four from_cache stance_five stat facts
 unfolding call_look stat_look stance_five
 can_five = record { covered = (refl, (refl, tt)); settled = refl }
 
-replies_five : verdict_in roster client four from_cache stance_five stat ≡ Replies facts
+replies_five : verdict_in stance_five stat ≡ Replies facts
 unfolding call_look stat_look stance_five
 replies_five = refl
 
 -- a step that answers the Stat alone, with what it shows
 module _ (past : List Step) (s : Step) (stance : Stance roster client past s) (k : ℕ) (is_first : Bool)
     (one_answer : s.answers ≡ answer k is_first ∷ []) (unwritten : s.wrote ≡ None) (unbegun : s.begun ≡ []) (unasked : s.asked ≡ None)
+    (undropped : s.dropped ≡ []) (unmade : s.made ≡ [])
     (its_turn : IsTurn past s k stat) (turn : (j : ℕ) (call : Call) → IsTurn past s j call → (k ≡ j) × (stat ≡ call))
-    (can : CanAnswer roster client past s stance stat facts) (is : verdict_in roster client past s stance stat ≡ Replies facts)
+    (can : CanAnswer roster client past s stance stat facts) (is : verdict_in stance stat ≡ Replies facts)
     (was : (is_first ≡ true) ⊎ ((is_first ≡ false) × GoesOn past s k stat)) (alone : (fs : FilesetId) (n : ℕ) → Asking (s ∷ past) fs n → ⊥) where
   it : (a : Answer) → In a s.answers → answer k is_first ≡ a
   it a m = go (subst (In a) one_answer m)
@@ -790,8 +792,8 @@ module _ (past : List Step) (s : Step) (stance : Stance roster client past s) (k
   fresh : (u : Labelled) → In u s.begun → ⊥
   fresh u m = subst (In u) unbegun m
 
-  shown : (a : Answer) → In a s.answers → Replies facts ≡ verdict_in roster client past s stance a.call
-  shown a m = sym is ∙ ap (λ (x : Answer). verdict_in roster client past s stance x.call) (it a m)
+  shown : (a : Answer) → In a s.answers → Replies facts ≡ verdict_in stance a.call
+  shown a m = sym is ∙ ap (λ (x : Answer). verdict_in stance x.call) (it a m)
 
   answers_stat : HostAnswers roster client past s stance
   answers_stat = record {
@@ -801,6 +803,7 @@ module _ (past : List Step) (s : Step) (stance : Stance roster client past s) (k
     asked = λ a c m e. absurd (let p = sym unasked ∙ e in cc);
     answers_one = subst (λ (xs : List Answer). length xs ≤ 1) (sym one_answer) (omega arith);
     answers_alone = λ a fs n m. alone fs n;
+    keeps = λ a m. (undropped, unmade);
     writes = λ a fid from bytes m e. absurd (let p = shown a m ∙ e in cc);
     writes_only = λ fid e. absurd (let p = sym unwritten ∙ e in cc);
     locks = λ a fid writing span m e. absurd (let p = shown a m ∙ e in cc);
@@ -879,7 +882,7 @@ above = inr (
 )
 
 used : Uses three (takes whole) (granted whole).bring
-used = (inl (granted whole, grant_about, refl, asking), above, λ g m. absurd (young_three.no_made g m))
+used = (inl (granted whole, grant_about, refl, asking), above, λ o. young_three.no_made o.0 o.1)
 
 fid_of : (t : Token) → In t (granted whole).bring.tokens → t.fid ≡ root
 fid_of t (inl e) = ap (λ (x : Token). x.fid) e
@@ -1012,7 +1015,7 @@ meets_takes = record {
     once = λ t u m n. two_of t u (one_of t m) (one_of u n);
   };
   stance = stance_four;
-  answers = answers_stat three (takes whole) stance_four 1 false refl refl refl refl (inr (is_open_three, not_ended_four)) turn_four can_four replies_four (inr (refl, (is_open_three, not_ended_four))) none_asking_four;
+  answers = answers_stat three (takes whole) stance_four 1 false refl refl refl refl refl refl (inr (is_open_three, not_ended_four)) turn_four can_four replies_four (inr (refl, (is_open_three, not_ended_four))) none_asking_four;
   asks = asks_nothing three (takes whole) stance_four takes_nothing none_asking_four none_changing_four none_open_four;
   gives = gives first second three (takes whole).cause (takes whole).asked (takes whole).answers (takes whole).taken [] young_three plain_takes;
   revoked = revoked first second three (takes whole).cause (takes whole).asked (takes whole).answers (takes whole).taken [] young_three plain_takes (no_revoke three (takes whole) (to_host (Grant (granted whole))) refl tt) (no_restarted three (takes whole) (to_host (Grant (granted whole))) refl tt) no_reclaimed_four (λ c. cc) (λ c. cc) (λ c. cc);
@@ -1031,7 +1034,7 @@ meets_from_cache = record {
   tokens = may_cache;
   takes = takes_all four from_cache refl (λ w t a. absurd (none_answers_line four from_cache 7 refl w a));
   stance = stance_five;
-  answers = answers_stat four from_cache stance_five 2 true refl refl refl refl begun turn_five can_five replies_five (inl refl) none_asking_five;
+  answers = answers_stat four from_cache stance_five 2 true refl refl refl refl refl refl begun turn_five can_five replies_five (inl refl) none_asking_five;
   asks = asks_nothing four from_cache stance_five cache_nothing none_asking_five none_changing_five none_open_five;
   gives = gives first second four from_cache.cause from_cache.asked from_cache.answers [] [] young_four plain_cache;
   revoked = revoked first second four from_cache.cause from_cache.asked from_cache.answers [] [] young_four plain_cache (no_revoke_line from_cache 7 refl) (no_restarted_line from_cache 7 refl) (no_reclaimed_line four from_cache 7 refl) (λ c. cc) (λ c. cc) (λ c. cc);

@@ -1,7 +1,8 @@
 -- How a host answers calls: on its view, under the tokens that it has.
-use Rattle.std.specs.Prelude.{Bool, List, Ok, Some, false, length, true, ℕ, ◌∷◌, ◌≡◌, ◌≤◌, ◌⊎◌}
-use Rattle.dfs_base.specs.declared.ids.Fid.{Fid}
+use Rattle.world_host.specs.Knowing.{FindsFile, IsCoveredIn}
 use Rattle.dfs_base.specs.declared.ids.FilesetId.{FilesetId}
+use Rattle.std.specs.Prelude.{Bool, List, Some, [], false, length, true, ℕ, ◌∷◌, ◌≡◌, ◌≤◌, ◌⊎◌}
+use Rattle.dfs_base.specs.declared.ids.Fid.{Fid}
 use Rattle.dfs_base.specs.declared.ids.HostId.{HostId}
 use Rattle.dfs_base.specs.declared.ids.OpenKind.{OpenKind}
 use Rattle.dfs_base.specs.declared.span.Span.{Span}
@@ -9,16 +10,12 @@ use Rattle.dfs_calls.specs.declared.call.Call.{Call}
 use Rattle.dfs_calls.specs.declared.reply.Reply.{Reply}
 use Rattle.dfs_calls.specs.declared.roster.Roster.{Roster}
 use Rattle.dfs_needs.specs.Calls.{reply_now}
-use Rattle.dfs_needs.specs.Looks.{IsCovered, outcome}
-use Rattle.dfs_needs.specs.Walks.{file_look, root_of}
 use Rattle.rpc_types.specs.declared.giving.Give.{Give}
 use Rattle.tok_types.specs.declared.token.Token.{Token}
-use Rattle.tree_laws.specs.Parts.{Nature}
 use Rattle.world_host.specs.Dirty.{IsDirtyUnder}
-use Rattle.world_host.specs.Knowing.{Stance, look_of, verdict_in}
+use Rattle.world_host.specs.Knowing.{Stance, verdict_in}
 use Rattle.world_host.specs.Labels.{FreesPinned, GivesUse, end_of}
 use Rattle.world_host.specs.OpenCalls.{GoesOn, IsTurn}
-use Rattle.world_host.specs.Views.{sees}
 use Rattle.world_steps.specs.Gives.{Makes}
 use Rattle.world_steps.specs.Lists.{In}
 use Rattle.world_steps.specs.Requests.{Asking}
@@ -33,18 +30,12 @@ use Rattle.dfs_needs.specs.Calls.Verdict.{Writes, Locks, Opens}
 use Rattle.world_steps.specs.declared.applied.Answer.{Answer}
 use Rattle.dfs_calls.specs.declared.place.Place.{Place}
 
--- from where a host stands, the call's walk and need, made on the view, lack no token
-abbrev pub IsCoveredIn :
-    (roster : Roster) (host : HostId) (past : List Step) (s : Step) → Stance roster host past s → Call → Type 0
-IsCoveredIn roster host past s stance call =
-    IsCovered stance.held (sees past s) (look_of roster host past s stance call)
-
 -- the host can answer the call by itself, with this reply
 pub record CanAnswer
     (roster : Roster) (host : HostId) (past : List Step) (s : Step) (stance : Stance roster host past s)
     (call : Call) (reply : Reply) : Type 0 where
-  pub covered : IsCoveredIn roster host past s stance call
-  pub settled : reply_now (verdict_in roster host past s stance call) ≡ Some reply
+  pub covered : IsCoveredIn stance call
+  pub settled : reply_now (verdict_in stance call) ≡ Some reply
 
 -- the label and the token are those of a lock or open call
 abbrev pub IsExact : Call → Labelled → Type 0
@@ -53,18 +44,9 @@ IsExact (Lock label place writing from len) usage =
 IsExact (OpenFile label place kind) usage = (usage.label ≡ label) × (usage.token.kind ≡ Opening kind)
 IsExact _ usage = ⊥
 
--- the place of a Sync leads to the file, and the walk lacks no token
-abbrev pub FindsFile :
-    (roster : Roster) (host : HostId) (past : List Step) (s : Step) → Stance roster host past s → Place → Fid → Type 0
-FindsFile roster host past s stance place fid =
-    (id : FilesetId) × (nature : Nature) × (stance.own.seen place.server place.fileset ≡ Some id)
-    × IsCovered stance.held (sees past s) (file_look stance.user (root_of id) place.path)
-    × (outcome (sees past s) (file_look stance.user (root_of id) place.path) ≡ Ok (fid, nature))
-
 -- How a step answers the call that it begins, or that goes on.
 pub record HostAnswers
-    (roster : Roster) (host : HostId) (past : List Step) (s : Step) (stance : Stance roster host past s)
-    : Type 0 where
+    (roster : Roster) (host : HostId) (past : List Step) (s : Step) (stance : Stance roster host past s) : Type 0 where
   -- it answers exactly where it can, and the reply is the call table's on the view
   pub answers : (a : Answer) → In a s.answers
       → (a.host ≡ host) × IsTurn past s a.k a.call × CanAnswer roster host past s stance a.call a.reply
@@ -76,26 +58,25 @@ pub record HostAnswers
   -- at most one call, and no Fetch is outstanding then
   pub answers_one : length s.answers ≤ 1
   pub answers_alone : (a : Answer) (fileset : FilesetId) (n : ℕ) → In a s.answers → Asking (s ∷ past) fileset n → ⊥
+  -- such a step keeps what the host has: nothing leaves it, and nothing is given back
+  pub keeps : (a : Answer) → In a s.answers → (s.dropped ≡ []) × (s.made ≡ [])
   -- an answered Write changes the file that its walk found, and nothing else does
   pub writes : (a : Answer) (fid : Fid) (from : ℕ) (bytes : List ℕ) → In a s.answers
-      → verdict_in roster host past s stance a.call ≡ Writes fid from bytes → s.wrote ≡ Some fid
+      → verdict_in stance a.call ≡ Writes fid from bytes → s.wrote ≡ Some fid
   pub writes_only : (fid : Fid) → s.wrote ≡ Some fid
-      → (a : Answer) × (from : ℕ) × (bytes : List ℕ) × In a s.answers
-      × (verdict_in roster host past s stance a.call ≡ Writes fid from bytes)
+      → (a : Answer) × (from : ℕ) × (bytes : List ℕ) × In a s.answers × (verdict_in stance a.call ≡ Writes fid from bytes)
   -- an answered Lock or OpenFile takes its label, with the exact token on the file that its walk found
   pub locks : (a : Answer) (fid : Fid) (writing : Bool) (span : Span) → In a s.answers
-      → verdict_in roster host past s stance a.call ≡ Locks fid writing span
+      → verdict_in stance a.call ≡ Locks fid writing span
       → (u : Labelled) × In u s.begun × IsExact a.call u × (u.token.fid ≡ fid) × (u.token.kind ≡ LockToken writing span)
-  pub opens : (a : Answer) (fid : Fid) (kind : OpenKind) → In a s.answers
-      → verdict_in roster host past s stance a.call ≡ Opens fid kind
+  pub opens : (a : Answer) (fid : Fid) (kind : OpenKind) → In a s.answers → verdict_in stance a.call ≡ Opens fid kind
       → (u : Labelled) × In u s.begun × IsExact a.call u × (u.token.fid ≡ fid)
   pub begins : (u : Labelled) → In u s.begun
       → (a : Answer) × In a s.answers × (a.reply ≡ Fine) × IsExact a.call u × AtHand s past u.token
   pub begins_one : (u w : Labelled) → In u s.begun → In w s.begun → u ≡ w
   -- a Sync whose walk lacks no token gives back each token of its file under which something is dirty
   pub syncs : (k : ℕ) (place : Place) (fid : Fid) (t : Token) → IsTurn past s k (Sync place)
-      → FindsFile roster host past s stance place fid → AtHand s past t → t.fid ≡ fid → IsDirtyUnder past s t
-      → Makes s t.id
+      → FindsFile stance place fid → AtHand s past t → t.fid ≡ fid → IsDirtyUnder past s t → Makes s t.id
   -- the last use of a pinned token is ended by a give-back
   pub frees : (k : ℕ) (u : Labelled) → IsTurn past s k (end_of u) → FreesPinned past u
       → (g : Give) × In g s.made × GivesUse g u

@@ -1,4 +1,6 @@
 -- What a host asks for, for its open call: one request at a time, under the tokens that it keeps.
+use Rattle.world_steps.specs.Grants.{IsUseKind}
+use Rattle.world_steps.specs.Gives.{GiveOpen}
 use Rattle.std.specs.List.{list_any}
 use Rattle.std.specs.Prelude.{IsTrue, List, Some, [], false, suc, true, ℕ, ◌<◌, ◌∷◌, ◌≡◌, ◌⊎◌}
 use Rattle.dfs_base.specs.Spans.{has_byte}
@@ -47,21 +49,18 @@ HasFetched past f = (v : ServerId) × (e n : ℕ) × Said past v e n (Fetch f)
 abbrev pub HasChanged : List Step → ServerId → ChangeOf → Type 0
 HasChanged past server c = (v : ServerId) × (e n : ℕ) × Said past v e n (Change c) × (c.fileset.0 ≡ 0 → v ≡ server)
 
--- the number is the next one of the Fetches of a fileset, of the Changes of a fileset: they begin at 1
-pub record IsNextFetch (past : List Step) (fileset : FilesetId) (n : ℕ) : Type 0 where
-  pub above : (f : FetchOf) → HasFetched past f → f.fid.fileset ≡ fileset → f.number < n
-  pub after : (n ≡ 1) ⊎ ((f : FetchOf) × HasFetched past f × (f.fid.fileset ≡ fileset) × (suc f.number ≡ n))
+-- a number that Fetches of a fileset, Changes of a fileset, have had
+abbrev pub IsFetchNumber : List Step → FilesetId → ℕ → Type 0
+IsFetchNumber past fileset n = (f : FetchOf) × HasFetched past f × (f.fid.fileset ≡ fileset) × (f.number ≡ n)
 
-pub record IsNextChange (past : List Step) (server : ServerId) (fileset : FilesetId) (n : ℕ) : Type 0 where
-  pub above : (c : ChangeOf) → HasChanged past server c → c.fileset ≡ fileset → c.number < n
-  pub after : (n ≡ 1) ⊎ ((c : ChangeOf) × HasChanged past server c × (c.fileset ≡ fileset) × (suc c.number ≡ n))
+abbrev pub IsChangeNumber : List Step → ServerId → FilesetId → ℕ → Type 0
+IsChangeNumber past server fileset n =
+    (c : ChangeOf) × HasChanged past server c × (c.fileset ≡ fileset) × (c.number ≡ n)
 
--- whether a host asks by a Fetch for such a token; else by a Change
-abbrev pub IsFetched : Kind → Type 0
-IsFetched (Bytes update span) = Unit {0}
-IsFetched (Status update) = Unit {0}
-IsFetched (LockToken writing span) = ⊥
-IsFetched (Opening kind) = ⊥
+-- the number is the next one after some: they begin at 1
+pub record IsNext (IsNumber : ℕ → Type 0) (n : ℕ) : Type 0 where
+  pub above : (m : ℕ) → IsNumber m → m < n
+  pub after : (n ≡ 1) ⊎ ((m : ℕ) × IsNumber m × (suc m ≡ n))
 
 -- the object is a directory: it is a root, or the host sees it under a token
 abbrev pub IsDirectory : List Step → Step → List Token → Fid → Type 0
@@ -77,8 +76,7 @@ Lacks held needs fid need = In need needs × (need.fid ≡ fid) × (Covers held 
 -- Each position that a need of bytes asks for lies in a need that the tokens lack, and isn't covered itself; any
 -- other need is one that they lack.
 abbrev pub AsksMissing : List Token → List Need → Fid → Kind → Type 0
-AsksMissing held needs fid (Bytes update span) =
-    (at : ℕ) → IsTrue (has_byte span at)
+AsksMissing held needs fid (Bytes update span) = (at : ℕ) → IsTrue (has_byte span at)
     → (list_any (covers_byte fid update at) held ≡ false)
     × ((of : Span) × Lacks held needs fid (record { fid = fid; kind = Bytes update of }) × IsTrue (has_byte of at))
 AsksMissing held needs fid kind = Lacks held needs fid (record { fid = fid; kind = kind })
@@ -92,8 +90,7 @@ pub record LackingNeeds (held : List Token) (needs : List Need) (fid : Fid) (ask
 -- What a Fetch asks for. Of a directory, its status and all its entries together; of another object whose status
 -- isn't held, that alone; else what the call's needs of the object lack.
 pub data FetchNeeds
-    (past : List Step) (s : Step) (held : List Token) (needs : List Need) (fid : Fid) (asked : List Need)
-    : Type 0 where
+    (past : List Step) (s : Step) (held : List Token) (needs : List Need) (fid : Fid) (asked : List Need) : Type 0 where
   OfDirectory : IsDirectory past s held fid
       → asked ≡ record { fid = fid; kind = Status false } ∷ record { fid = fid; kind = Bytes false whole } ∷ []
       → FetchNeeds past s held needs fid asked
@@ -102,40 +99,36 @@ pub data FetchNeeds
   OfFile : (IsDirectory past s held fid → ⊥) → Covers held (record { fid = fid; kind = Status false })
       → LackingNeeds held needs fid asked → FetchNeeds past s held needs fid asked
 
--- a give-back of the file was made, and isn't known as applied
-abbrev pub GiveOpen : List Step → Fid → Type 0
-GiveOpen past fid = (give : Give) × Made past give × (give.fid ≡ fid) × (IsKnown past give → ⊥)
-
 module _ (roster : Roster) (host : HostId) (past : List Step) (s : Step) (stance : Stance roster host past s) where
   -- the first need of the call that the kept tokens lack
   abbrev pub FirstLack : Call → Need → Type 0
-  FirstLack call need = IsFirstLack stance.kept (needs_in roster host past s stance call) need
+  FirstLack call need = IsFirstLack stance.kept (needs_in stance call) need
 
   -- what a server is asked about the call: what the host itself can't tell, once its needs are met; or the lock or
   -- open token that it lacks alone
   abbrev pub AsksServer : Call → Question → Fid → Type 0
   AsksServer call question fid =
-      ((verdict_in roster host past s stance call ≡ Asks question)
-      × IsCovered stance.kept (sees past s) (look_of roster host past s stance call) × (fid ≡ no_fid))
-      ⊎ ((need : Need) × FirstLack call need × (IsFetched need.kind → ⊥) × (need.fid ≡ fid)
+      ((verdict_in stance call ≡ Asks question)
+      × IsCovered stance.kept (sees past s) (look_of stance call) × (fid ≡ no_fid))
+      ⊎ ((need : Need) × FirstLack call need × IsUseKind need.kind × (need.fid ≡ fid)
       × (question ≡ ChangeIn need.fid.fileset))
 
   -- A Fetch is new: it is for the first object of the open call that lacks a token, and for what it lacks, and no
   -- give-back of the object is on its way.
   pub record IsNewFetch (f : FetchOf) : Type 0 where
-    pub next : IsNextFetch past f.fid.fileset f.number
+    pub next : IsNext (IsFetchNumber past f.fid.fileset) f.number
     pub no_give : GiveOpen (s ∷ past) f.fid → ⊥
     pub call : Asked
     pub is_open : IsOpen (s ∷ past) call
     pub need : Need
-    pub fetched : IsFetched need.kind
+    pub fetched : IsUseKind need.kind → ⊥
     pub file : need.fid ≡ f.fid
     pub first : FirstLack call.call need
-    pub needs : FetchNeeds past s stance.kept (needs_in roster host past s stance call.call) f.fid f.needs
+    pub needs : FetchNeeds past s stance.kept (needs_in stance call.call) f.fid f.needs
 
   -- A Change is new: it asks the server about the open call.
   pub record IsNewChange (v : ServerId) (n : ℕ) (c : ChangeOf) : Type 0 where
-    pub next : IsNextChange past v c.fileset c.number
+    pub next : IsNext (IsChangeNumber past v c.fileset) c.number
     pub is_open : IsOpen (s ∷ past) (record { k = c.k; call = c.call })
     pub question : Question
     pub asks : AsksServer c.call question c.fid
@@ -147,8 +140,7 @@ module _ (roster : Roster) (host : HostId) (past : List Step) (s : Step) (stance
   abbrev pub AwaitsGone : Call → Type 0
   AwaitsGone call =
       ((need : Need) × FirstLack call need × GiveOpen (s ∷ past) need.fid)
-      ⊎ ((verdict_in roster host past s stance call ≡ Gives)
-      × ((give : Give) × Made (s ∷ past) give × (IsKnown (s ∷ past) give → ⊥)))
+      ⊎ ((verdict_in stance call ≡ Gives) × ((give : Give) × Made (s ∷ past) give × (IsKnown (s ∷ past) give → ⊥)))
 
   -- the server that the open call goes to next, as far as the host knows
   abbrev pub GoesTo : Call → ServerId → Type 0
@@ -171,8 +163,7 @@ module _ (roster : Roster) (host : HostId) (past : List Step) (s : Step) (stance
         → Asking (s ∷ past) fs n → Changing (s ∷ past) v gs m → ⊥
     -- a server is greeted once, before anything is asked of it, for an open call; until it welcomes the host nothing
     -- is
-    pub greets : (v : ServerId) (e n : ℕ) → Sends s v e n Hello
-        → (IsWelcome (s ∷ past) v → ⊥)
+    pub greets : (v : ServerId) (e n : ℕ) → Sends s v e n Hello → (IsWelcome (s ∷ past) v → ⊥)
         × (((s.cause ≡ Lapse) × HasGreeted past v)
         ⊎ ((HasGreeted past v → ⊥) × ((call : Asked) × IsOpen (s ∷ past) call × GoesTo call.call v)))
     pub fetches_welcome : (v : ServerId) (e n : ℕ) (f : FetchOf) → Sends s v e n (Fetch f) → IsWelcome (s ∷ past) v

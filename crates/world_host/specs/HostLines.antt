@@ -1,4 +1,9 @@
 -- A host's lines, and how it ends.
+use Rattle.world_steps.specs.Sends.{HasSaid}
+use Rattle.world_steps.specs.Nodes.{IsBare}
+use Rattle.world_host.specs.Labels.{NoneUsed}
+use Rattle.world_steps.specs.Lists.{Once}
+use Rattle.world_steps.specs.Sends.{Says}
 use Rattle.std.specs.Prelude.{List, None, [], length, suc, ℕ, ◌∷◌, ◌≡◌, ◌⊎◌}
 use Rattle.dfs_base.specs.declared.ids.ServerId.{ServerId}
 use Rattle.dfs_calls.specs.declared.call.Call.{Call}
@@ -8,11 +13,12 @@ use Rattle.tok_types.specs.declared.token.Token.{Token}
 use Rattle.world_host.specs.HostLeaves.{MayEvict}
 use Rattle.world_host.specs.Labels.{InUse, end_of}
 use Rattle.world_host.specs.OpenCalls.{Begins, NoneOpen, calls_begun}
-use Rattle.world_journal.specs.Lines.{IsBare, IsNextLine, lines_gone}
+use Rattle.world_journal.specs.Lines.{IsNextLine, lines_gone}
 use Rattle.world_steps.specs.Lists.{In}
-use Rattle.world_steps.specs.Sends.{HasGreeted, HasSaidBye, Sends, Stops}
+use Rattle.world_steps.specs.Sends.{HasGreeted, Sends, Stops}
 use Rattle.world_steps.specs.Tokens.{Drops, Held}
 use Rattle.world_steps.specs.declared.applied.Leave.{Leave}
+use Rattle.world_steps.specs.declared.applied.Why.TheVariants.{Ended}
 use Rattle.world_steps.specs.declared.step.Labelled.{Labelled}
 use Rattle.world_steps.specs.declared.step.Step.{Step}
 use Rattle.rpc_types.specs.declared.message.Body.TheVariants.{Down, Bye}
@@ -31,8 +37,7 @@ abbrev pub DoesDeed : List ServerId → List Step → Step → Deed → Type 0
 DoesDeed servers past s (MakesCall call) = Begins s (suc (calls_begun past)) call
 DoesDeed servers past s (Raise flag) = IsBare s
 DoesDeed servers past s (Await flag) = IsBare s
-DoesDeed servers past s Stop =
-    ((v : ServerId) → In v servers → (e n : ℕ) × Sends s v e n Down) × ((t : Token) → Held past t → Drops s t)
+DoesDeed servers past s Stop = ((v : ServerId) → In v servers → Says s v Down) × ((t : Token) → Held past t → Drops s t)
     × (s.asked ≡ None) × (s.answers ≡ []) × (s.made ≡ [])
 DoesDeed servers past s Restarts = ⊥
 
@@ -53,32 +58,21 @@ pub record HostLines (lines : List Line) (servers : List ServerId) (limit : ℕ)
 
 -- a label was taken before another
 abbrev pub TakenBefore : List Step → Labelled → Labelled → Type 0
-TakenBefore [] u other = ⊥
-TakenBefore (s ∷ past) u other = (In other s.begun × InUse past u) ⊎ TakenBefore past u other
-
--- no label is in use
-abbrev pub NoneUsed : List Step → Type 0
-NoneUsed past = (u : Labelled) → InUse past u → ⊥
-
--- a Bye is due to the server
-abbrev pub SaysBye : Step → ServerId → Type 0
-SaysBye s v = (e n : ℕ) × Sends s v e n Bye
+TakenBefore past u other = Once (λ before s. In other s.begun × InUse before u) past
 
 -- When its lines have gone a host ends the use of its labels, in the order in which they were taken, by implied
 -- calls; then it gives back and returns all that it holds; then it says Bye to each server that it greeted.
 pub record HostEnds (lines : List Line) (limit : ℕ) (past : List Step) (s : Step) : Type 0 where
   pub after : s.cause ≡ End → (lines_gone past ≡ length lines) × NoneOpen past × (MayEvict past limit → ⊥)
-  pub does : s.cause ≡ End
-      → ((k : ℕ) × (call : Call) × Begins s k call)
-      ⊎ (((l : Leave) × In l s.dropped) ⊎ ((v : ServerId) × SaysBye s v))
+  pub does : s.cause ≡ End → ((k : ℕ) × (call : Call) × Begins s k call)
+      ⊎ (((l : Leave) × In l s.dropped) ⊎ ((v : ServerId) × Says s v Bye))
   -- an implied call has the next number, and ends the use of the label that was taken first
-  pub implied : (k : ℕ) (call : Call) → s.cause ≡ End → Begins s k call
-      → (k ≡ suc (calls_begun past))
+  pub implied : (k : ℕ) (call : Call) → s.cause ≡ End → Begins s k call → (k ≡ suc (calls_begun past))
       × ((u : Labelled) × InUse past u × (call ≡ end_of u)
       × ((other : Labelled) → InUse past other → TakenBefore past other u → ⊥))
-  -- what is held leaves at once, when no label is in use
-  pub drops : (l : Leave) → s.cause ≡ End → In l s.dropped → NoneUsed past × ((t : Token) → Held past t → Drops s t)
+  -- what is held leaves at once, when no label is in use; but for a pinned token, that goes back with its last use
+  pub drops : (l : Leave) → s.cause ≡ End → In l s.dropped → l.why ≡ Ended → NoneUsed past × ((t : Token) → Held past t → Drops s t)
   -- a Bye goes to a server that was greeted, when nothing is held, and again at a lapse or when the server has
   -- restarted
-  pub bye : (v : ServerId) → SaysBye s v
-      → HasGreeted past v × ((t : Token) → Held (s ∷ past) t → ⊥) × ((s.cause ≡ End) ⊎ HasSaidBye past v)
+  pub bye : (v : ServerId) → Says s v Bye
+      → HasGreeted past v × ((t : Token) → Held (s ∷ past) t → ⊥) × ((s.cause ≡ End) ⊎ HasSaid past v Bye)

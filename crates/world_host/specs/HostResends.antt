@@ -1,4 +1,7 @@
 -- What a host sends again, and when.
+use Rattle.world_steps.specs.Lists.{Once}
+use Rattle.world_steps.specs.Places.{IsAt, IsDecidedAt}
+use Rattle.world_steps.specs.Sends.{HasSaid}
 use Rattle.std.specs.Prelude.{List, None, [], ℕ, ◌∷◌, ◌≡◌, ◌⊎◌}
 use Rattle.dfs_base.specs.declared.ids.ServerId.{ServerId}
 use Rattle.rpc_types.specs.declared.giving.Give.{Give}
@@ -7,7 +10,7 @@ use Rattle.world_steps.specs.Epochs.{Comes, ComesIn, IsWelcome, Raises, epoch_at
 use Rattle.world_steps.specs.Gives.{IsOutstanding}
 use Rattle.world_steps.specs.Places.{place}
 use Rattle.world_steps.specs.Requests.{Asking, Changing}
-use Rattle.world_steps.specs.Sends.{HasGreeted, HasSaidBye, Sends}
+use Rattle.world_steps.specs.Sends.{HasGreeted, Sends}
 use Rattle.world_steps.specs.declared.step.Step.{Step}
 use Rattle.rpc_types.specs.declared.message.Body.{Body}
 use Rattle.rpc_types.specs.declared.message.Body.TheVariants.{
@@ -34,21 +37,17 @@ Claimed (s ∷ past) server =
 
 -- the server has said Bye
 abbrev pub HasBye : List Step → ServerId → Type 0
-HasBye [] server = ⊥
-HasBye (s ∷ past) server = ((e n : ℕ) × ComesIn s server e n Bye) ⊎ HasBye past server
+HasBye past server = Once (λ before s. (e n : ℕ) × ComesIn s server e n Bye) past
 
 -- The message is outstanding at a server, with so many moves. A claim is another matter: it is made anew each time.
 abbrev pub Outstanding : List Step → ServerId → ℕ → Body → Type 0
 Outstanding past server n Hello = HasGreeted past server × (IsWelcome past server → ⊥) × (n ≡ 0)
 Outstanding past server n (Fetch f) =
-    HasFetched past f × Asking past f.fid.fileset f.number
-    × (place past f.fid.fileset ≡ record { server = server; moves = n })
+    HasFetched past f × Asking past f.fid.fileset f.number × IsAt past f.fid.fileset server n
 Outstanding past server n (Change c) =
-    HasChanged past server c × Changing past server c.fileset c.number
-    × (((c.fileset.0 ≡ 0) × (n ≡ 0)) ⊎ (place past c.fileset ≡ record { server = server; moves = n }))
-Outstanding past server n (GiveBack g) =
-    IsOutstanding past g × (place past g.fid.fileset ≡ record { server = server; moves = n })
-Outstanding past server n Bye = HasSaidBye past server × (HasBye past server → ⊥) × (n ≡ 0)
+    HasChanged past server c × Changing past server c.fileset c.number × IsDecidedAt past c.fileset server n
+Outstanding past server n (GiveBack g) = IsOutstanding past g × IsAt past g.fid.fileset server n
+Outstanding past server n Bye = HasSaid past server Bye × (HasBye past server → ⊥) × (n ≡ 0)
 Outstanding past server n _ = ⊥
 
 -- no give-back: those are sent again at the Restarted

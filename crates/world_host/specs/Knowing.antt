@@ -1,4 +1,10 @@
 -- What a host knows of itself, and has, when a step answers a call and when it asks.
+use Rattle.dfs_calls.specs.declared.place.Place.{Place as NamedPlace}
+use Rattle.dfs_needs.specs.Looks.{IsCovered}
+use Rattle.dfs_needs.specs.Walks.{file_look, root_of}
+use Rattle.tree_laws.specs.Parts.{Nature}
+use Rattle.std.specs.Prelude.{Ok}
+use Rattle.world_steps.specs.Lists.{EachOnce, Once}
 use Rattle.std.specs.Prelude.{Bool, List, Some, [], false, true, ℕ, ◌↔◌, ◌∷◌, ◌≡◌, ◌⊎◌}
 use Rattle.dfs_base.specs.declared.ids.Fid.{Fid}
 use Rattle.dfs_base.specs.declared.ids.FilesetId.{FilesetId}
@@ -36,22 +42,19 @@ use Rattle.dfs_calls.specs.declared.call.Call.{Call}
 -- the step tells the host the number of a fileset that a server and a name lead to: the Done of an entering Change
 -- counts
 abbrev pub Enters : List Step → Step → ServerId → List ℕ → FilesetId → Type 0
-Enters past s server name id =
-    (change : ChangeOf) × (done : DoneOf) × (epoch : ℕ) × (moves : ℕ)
+Enters past s server name id = (change : ChangeOf) × (done : DoneOf) × (epoch : ℕ) × (moves : ℕ)
     × Said past server epoch moves (Change change) × (change.enter ≡ true)
     × (fileset_of change.call ≡ Some (server, name))
     × Counts past s server done × (done.bring.number ≡ change.number) × (done.fileset ≡ change.fileset)
     × (done.outcome ≡ IsFileset id)
 
 abbrev pub Entered : List Step → ServerId → List ℕ → FilesetId → Type 0
-Entered [] server name id = ⊥
-Entered (s ∷ past) server name id = Enters past s server name id ⊎ Entered past server name id
+Entered past server name id = Once (λ before s. Enters before s server name id) past
 
 -- whether a question only enters a fileset
 abbrev pub is_entering : Question → Bool
 is_entering (EnterAt server) = true
-is_entering (ChangeIn fileset) = false
-is_entering (ChangeAt server) = false
+is_entering _ = false
 
 -- where a question goes: to where its fileset is, as far as the host knows, or to the server that it names
 abbrev pub stay_asked : List Step → Question → Place
@@ -69,26 +72,18 @@ NeedsServer past s usage = FreesPinned past usage ⊎ IsEnding past s usage
 
 -- a lock, an open file under a label
 abbrev pub IsLock : HostId → LockUse → Labelled → Type 0
-IsLock host lock usage =
-    (lock.host ≡ host) × (lock.label ≡ usage.label) × (lock.fid ≡ usage.token.fid)
+IsLock host lock usage = (lock.host ≡ host) × (lock.label ≡ usage.label) × (lock.fid ≡ usage.token.fid)
     × (usage.token.kind ≡ LockToken lock.writing lock.span)
 
 abbrev pub IsOpening : HostId → OpenUse → Labelled → Type 0
-IsOpening host opened usage =
-    (opened.host ≡ host) × (opened.label ≡ usage.label) × (opened.fid ≡ usage.token.fid)
+IsOpening host opened usage = (opened.host ≡ host) × (opened.label ≡ usage.label) × (opened.fid ≡ usage.token.fid)
     × (usage.token.kind ≡ Opening opened.kind)
-
--- each element stands in the list once
-abbrev pub EachOnce : {A : Type 0} → List A → Type 0
-EachOnce [] = Unit {0}
-EachOnce (x ∷ xs) = (In x xs → ⊥) × EachOnce xs
 
 -- What a host knows of itself in a step, once it has learnt what the cause tells.
 pub record Knows (host : HostId) (past : List Step) (s : Step) (own : Own) : Type 0 where
   pub locks : (lock : LockUse) → In lock own.locks ↔ ((u : Labelled) × HasLabel past s u × IsLock host lock u)
   pub locks_once : EachOnce own.locks
-  pub opens : (opened : OpenUse) →
-      In opened own.opens ↔ ((u : Labelled) × HasLabel past s u × IsOpening host opened u)
+  pub opens : (opened : OpenUse) → In opened own.opens ↔ ((u : Labelled) × HasLabel past s u × IsOpening host opened u)
   pub opens_once : EachOnce own.opens
   pub gives_lock : (label : List ℕ) → (own.gives_lock label ≡ true)
       ↔ ((lock : LockUse) × (u : Labelled) × (u.label ≡ label) × IsLock host lock u × NeedsServer past s u)
@@ -111,15 +106,24 @@ pub record Stance (roster : Roster) (host : HostId) (past : List Step) (s : Step
   pub kept : List Token
   pub keeps : (token : Token) → In token kept ↔ Held (s ∷ past) token
 
--- what a call looks at from there, what it needs, and what the host makes of it
-abbrev pub look_of :
-    (roster : Roster) (host : HostId) (past : List Step) (s : Step) → Stance roster host past s → Call → Look Verdict
-look_of roster host past s stance call = call_look stance.own host stance.user call
+module _ {roster : Roster} {host : HostId} {past : List Step} {s : Step} where
+  -- what a call looks at from there, what it needs, and what the host makes of it
+  abbrev pub look_of : Stance roster host past s → Call → Look Verdict
+  look_of stance call = call_look stance.own host stance.user call
 
-abbrev pub needs_in :
-    (roster : Roster) (host : HostId) (past : List Step) (s : Step) → Stance roster host past s → Call → List Need
-needs_in roster host past s stance call = needs_of (sees past s) (look_of roster host past s stance call)
+  abbrev pub needs_in : Stance roster host past s → Call → List Need
+  needs_in stance call = needs_of (sees past s) (look_of stance call)
 
-abbrev pub verdict_in :
-    (roster : Roster) (host : HostId) (past : List Step) (s : Step) → Stance roster host past s → Call → Verdict
-verdict_in roster host past s stance call = outcome (sees past s) (look_of roster host past s stance call)
+  abbrev pub verdict_in : Stance roster host past s → Call → Verdict
+  verdict_in stance call = outcome (sees past s) (look_of stance call)
+
+  -- the call's walk and need, made on the view, lack no token
+  abbrev pub IsCoveredIn : Stance roster host past s → Call → Type 0
+  IsCoveredIn stance call = IsCovered stance.held (sees past s) (look_of stance call)
+
+  -- the place of a Sync leads to the file, and the walk lacks no token
+  abbrev pub FindsFile : Stance roster host past s → NamedPlace → Fid → Type 0
+  FindsFile stance place fid =
+      (id : FilesetId) × (nature : Nature) × (stance.own.seen place.server place.fileset ≡ Some id)
+      × IsCovered stance.held (sees past s) (file_look stance.user (root_of id) place.path)
+      × (outcome (sees past s) (file_look stance.user (root_of id) place.path) ≡ Ok (fid, nature))

@@ -13,3 +13,4 @@ pub mod HostLines
 pub mod HostRules
 pub mod Rest
 pub mod Worked
+pub mod Evictions

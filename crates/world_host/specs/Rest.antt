@@ -1,5 +1,6 @@
 -- A host at rest may do nothing: then no rule is in another's way.
-use Rattle.std.specs.Prelude.{List, None, [], ℕ}
+use Rattle.world_steps.specs.Nodes.{bare}
+use Rattle.std.specs.Prelude.{List, ℕ}
 use Rattle.dfs_base.specs.declared.ids.FilesetId.{FilesetId}
 use Rattle.dfs_base.specs.declared.ids.HostId.{HostId}
 use Rattle.dfs_base.specs.declared.ids.ServerId.{ServerId}
@@ -16,24 +17,6 @@ use Rattle.world_steps.specs.declared.step.Cause.TheVariants.{Lapse}
 use Rattle.dfs_base.specs.declared.ids.Node.TheVariants.{Host}
 use Rattle.rpc_types.specs.declared.message.Body.{Body}
 
--- the step of a lapse in which a host does nothing
-abbrev pub rests : HostId → Step
-rests host = record {
-  node = Host host;
-  cause = Lapse;
-  asked = None;
-  taken = [];
-  answers = [];
-  wrote = None;
-  begun = [];
-  made = [];
-  dropped = [];
-  applied = [];
-  admitted = [];
-  sent = [];
-  reserved = [];
-}
-
 -- A host that hasn't stopped is at rest: no call is open, and it waits for no answer.
 pub record IsAtRest (roster : Roster) (host : HostId) (past : List Step) : Type 0 where
   pub live : HasStopped past → ⊥
@@ -42,9 +25,8 @@ pub record IsAtRest (roster : Roster) (host : HostId) (past : List Step) : Type 
   pub none_changed : (v : ServerId) (fs : FilesetId) (n : ℕ) → Changing past v fs n → ⊥
   pub none_outstanding : (v : ServerId) (n : ℕ) (b : Body) → Outstanding past v n b → ⊥
   pub none_claimed : (v : ServerId) → Claimed past v → ⊥
-  pub stance : Stance roster host past (rests host)
+  pub stance : Stance roster host past (bare (Host host) Lapse)
 
 abbrev pub HostMayRest : Type 0
-HostMayRest =
-    (script : Script) (host : HostId) (past : List Step) → IsAtRest script.roster host past
-    → HostMeets script host past (rests host)
+HostMayRest = (script : Script) (host : HostId) (past : List Step) → IsAtRest script.roster host past
+    → HostMeets script host past (bare (Host host) Lapse)

@@ -1,4 +1,5 @@
 -- Steps of the small run's host after the run.
+use Rattle.world_steps.specs.Nodes.{bare}
 use Rattle.std.specs.Prelude.{List, None, [], false, ◌∷◌}
 use Rattle.world_steps.specs.Acts.{epoch}
 use Rattle.world_steps.specs.Worked.{client, enters, fetches, from_cache, greets, root, site_one, takes, to_host}
@@ -23,21 +24,7 @@ after_run = from_cache ∷ takes whole ∷ fetches whole ∷ enters ∷ greets �
 
 -- a message comes, tokens leave, and a message is sent
 abbrev pub reacts : Message → List Leave → List Message → Step
-reacts message dropped sent = record {
-  node = Host client;
-  cause = Came message;
-  asked = None;
-  taken = [];
-  answers = [];
-  wrote = None;
-  begun = [];
-  made = [];
-  dropped = dropped;
-  applied = [];
-  admitted = [];
-  sent = sent;
-  reserved = [];
-}
+reacts message dropped sent = record (bare (Host client) (Came message)) { dropped = dropped; sent = sent }
 
 -- the server asks for the first token, and the host returns it
 abbrev pub asked_back : RevokeOf

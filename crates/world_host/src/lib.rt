@@ -5,5 +5,5 @@
 mod laws;
 mod worked;
 
-pub use laws::host_may_rest;
+pub use laws::{host_may_rest, the_oldest_goes};
 pub use worked::a_host_runs;

@@ -1,4 +1,5 @@
 -- Which lines of a script are a node's, how many of them have gone, and who takes part. Steps have the newest first.
+use Rattle.world_steps.specs.Nodes.{is_node}
 use Rattle.std.specs.List.{enumerate_from}
 use Rattle.std.specs.Option.{option_map_or}
 use Rattle.std.specs.Prelude.{Bool, List, None, Some, [], false, filter, if◌then◌else◌, map, max, slice_get}
@@ -14,12 +15,6 @@ use Rattle.script_lines.specs.declared.script.Script.{Script}
 use Rattle.world_steps.specs.declared.step.Cause.{Cause}
 use Rattle.world_steps.specs.declared.step.Step.{Step}
 use Rattle.world_steps.specs.declared.step.Cause.TheVariants.{Line as LineOf, Restart}
-
--- whether two nodes are one
-abbrev pub is_node : Node → Node → Bool
-is_node (Host host) (Host other) = host.0 == other.0
-is_node (Server server) (Server other) = server.0 == other.0
-is_node _ _ = false
 
 -- the host that makes the filesets before the others begin
 abbrev pub setup : HostId
@@ -59,17 +54,3 @@ lines_gone (s ∷ past) = goes_with s.cause + lines_gone past
 -- the next of some lines, of this number
 abbrev pub IsNextLine : List Line → List Step → ℕ → Line → Type 0
 IsNextLine lines past number line = (slice_get lines (lines_gone past) ≡ Some line) × (line.number ≡ number)
-
--- the step has its cause, and nothing else happens in it
-pub record IsBare (s : Step) : Type 0 where
-  pub asked : s.asked ≡ None
-  pub taken : s.taken ≡ []
-  pub answers : s.answers ≡ []
-  pub wrote : s.wrote ≡ None
-  pub begun : s.begun ≡ []
-  pub made : s.made ≡ []
-  pub dropped : s.dropped ≡ []
-  pub applied : s.applied ≡ []
-  pub admitted : s.admitted ≡ []
-  pub sent : s.sent ≡ []
-  pub reserved : s.reserved ≡ []

@@ -1,4 +1,6 @@
 -- In every run the labels in use in the tree are those of the hosts, and those that a give-back on its way ends.
+use Rattle.world_steps.specs.Lists.{Each, after}
+use Rattle.world_steps.proofs.Words.{acts_after, own_after}
 use Rattle.std.proofs.Common.{◌≡◌, ℕ, ◌<◌, ◌≤◌, ◌⊎◌, List, [], ◌∷◌, inl, inr, sym, ◌∙◌, ap, subst}
 use Rattle.std.proofs.Common.{refl, arith}
 use Rattle.std.proofs.lemmas.Bool.{cases_lt}
@@ -14,7 +16,7 @@ use Rattle.rpc_types.specs.declared.message.Body.TheVariants.{GiveBack, Kept}
 use Rattle.tok_types.specs.declared.token.Token.{Token}
 use Rattle.tok_types.specs.declared.token.TokenId.{TokenId}
 use Rattle.world_doings.proofs.Served.{Next, after_doings, each_next}
-use Rattle.world_doings.specs.Doings.{Each, after, doings}
+use Rattle.world_doings.specs.Doings.{doings}
 use Rattle.world_host.specs.Labels.{EndsUse, GivesUse, InUse, IsUsed}
 use Rattle.world_doings.proofs.Words.{host_split, server_split, taken_is}
 use Rattle.world_labels.proofs.Words.{is_named, owns_ever, pinned_granted, pinned_kept, said_kept}
@@ -25,13 +27,13 @@ use Rattle.world_steps.proofs.Law.{AtServer, Whole, always}
 use Rattle.world_steps.proofs.Owed.{Owed}
 use Rattle.world_steps.proofs.Words.{made_at, made_left, of_one}
 use Rattle.world_steps.specs.Acts.Act.{Took}
-use Rattle.world_steps.specs.Acts.{Act, acts, acts_after, after_step, epoch}
+use Rattle.world_steps.specs.Acts.{Act, acts, after_step, epoch}
 use Rattle.world_steps.specs.Gives.{Made, number_of}
 use Rattle.world_steps.specs.Grants.{Applied, Applies, Granted}
 use Rattle.world_steps.specs.HostTokens.{HostTokens}
 use Rattle.world_steps.specs.Hosts.{Away, HasReclaimed, TakesOf}
 use Rattle.world_steps.specs.Lists.{In}
-use Rattle.world_steps.specs.Nodes.{own, own_after}
+use Rattle.world_steps.specs.Nodes.{own}
 use Rattle.world_steps.specs.Places.{home}
 use Rattle.world_steps.specs.Sends.{HasKept, Said}
 use Rattle.world_steps.specs.TokenRuns.{IsTokenRun, StepMay}

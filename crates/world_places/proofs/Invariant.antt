@@ -1,5 +1,6 @@
 -- What every run keeps at the parts of objects: of a host alone; of a host, the tree and a server; of the tree and a
 -- server.
+use Rattle.rpc_types.specs.declared.message.Body.TheVariants.{Bye}
 use Rattle.std.proofs.Common.{◌≡◌, ℕ, ◌<◌, ◌≤◌, ◌⊎◌, ◌==◌, ◌&&◌, ◌||◌, not, Bool, true, false, Some, None, List, []}
 use Rattle.std.proofs.Common.{◌∷◌, sym, ◌∙◌, ap, subst, inl, inr, refl, arith, eqb-true}
 use Rattle.dfs_base.specs.declared.ids.HostId.{HostId}
@@ -21,9 +22,9 @@ use Rattle.world_steps.specs.declared.step.Step.{Step}
 use Rattle.world_steps.specs.Lists.{In}
 use Rattle.world_steps.specs.Epochs.{epoch_at}
 use Rattle.world_steps.specs.Gives.{Made, IsKnown, number_of}
-use Rattle.world_steps.specs.Sends.{HasSaidBye}
 use Rattle.world_steps.specs.Tokens.{Owns}
 use Rattle.world_steps.specs.Requests.{Asking}
+use Rattle.world_steps.specs.Sends.{HasSaid as HasTold}
 use Rattle.world_steps.specs.Floors.{AboveFloor}
 use Rattle.world_steps.specs.Acts.{Act, SentTo}
 use Rattle.world_steps.specs.Hosts.{Away, TakesOf}
@@ -45,7 +46,7 @@ pub record Alike (c : Contents) (A : List Step) : Type 0 where
   -- a token is issued by the server of its file
   pub owned_at : (t : Token) → Owns A t → t.id.server ≡ site t.fid
   -- a host that has said Bye has nothing on its way
-  pub bye_given : (v : ServerId) (g : Give) (p : Part) (x : Seen p) → HasSaidBye A v → Made A g → c.gives g p ≡ Some x
+  pub bye_given : (v : ServerId) (g : Give) (p : Part) (x : Seen p) → HasTold A v Bye → Made A g → c.gives g p ≡ Some x
       → IsKnown A g
 
 -- the object is a directory at the server, if it is there

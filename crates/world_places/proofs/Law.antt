@@ -1,4 +1,6 @@
 -- In every run what is so at the parts of objects is kept, and the laws follow.
+use Rattle.world_steps.specs.Lists.{Each, after}
+use Rattle.world_steps.proofs.Words.{acts_after, own_after}
 use Rattle.std.proofs.Common.{◌≡◌, ℕ, ◌==◌, ◌<◌, ◌≤◌, ◌⊎◌, true, false, Bool, if◌then◌else◌, Some, List, []}
 use Rattle.std.proofs.Common.{◌∷◌, inl, inr, sym, ◌∙◌, ap, subst, refl, eqb-true}
 use Rattle.dfs_base.specs.declared.ids.HostId.{HostId}
@@ -10,12 +12,12 @@ use Rattle.tok_types.specs.declared.token.Token.{Token}
 use Rattle.rpc_types.specs.declared.message.Body.{Body}
 use Rattle.rpc_types.specs.declared.giving.Give.{Give}
 use Rattle.world_steps.specs.declared.step.Step.{Step}
-use Rattle.world_steps.specs.Nodes.{own, own_after}
+use Rattle.world_steps.specs.Nodes.{own}
 use Rattle.world_steps.specs.Epochs.{ComesIn}
 use Rattle.world_steps.specs.Sends.{HasStopped}
 use Rattle.world_steps.specs.Gives.{number_of}
 use Rattle.world_steps.specs.Tokens.{AtHand, Held, Owns}
-use Rattle.world_steps.specs.Acts.{Act, SentTo, acts, acts_after, after_step}
+use Rattle.world_steps.specs.Acts.{Act, SentTo, acts, after_step}
 use Rattle.world_steps.specs.Acts.Act.{Begins}
 use Rattle.world_steps.specs.Hosts.{Away}
 use Rattle.world_steps.specs.Grants.{Applied}
@@ -28,7 +30,7 @@ use Rattle.tree_laws.specs.Parts.{Part, Seen, Cell, present}
 use Rattle.tree_laws.specs.Parts.Part.{ByteAt, Size, Traits}
 use Rattle.dfs_needs.specs.Shows.{shows}
 use Rattle.world_places.specs.Cells.{by, written}
-use Rattle.world_doings.specs.Doings.{Each, after, doings}
+use Rattle.world_doings.specs.Doings.{doings}
 use Rattle.world_places.specs.Deeds.{Deed, acts_in}
 use Rattle.world_places.specs.Contents.{AreAlike, Contents, HaveRoots, site, view, sees, OwnsUpdate, HostShows}
 use Rattle.world_places.specs.Contents.{ServerShows, IsWritable}

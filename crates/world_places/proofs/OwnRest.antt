@@ -63,8 +63,12 @@ module _ (c : Contents) (h : HostId) (v : ServerId) (A : List Step) (s : Step) (
       go (inr b) =
           elim u.owned.0 [
             | inl taken ↦ (let t = o.may.takes u.token taken in
-                b.not_applied (o.link.known (number_of g) (ap site b.file ∙ home)
-                (t.1.2 g b.made (b.file ∙ (sym u.file ∙ t.3)))))
+                t.1.2 (
+                  g,
+                  b.made,
+                  b.file ∙ (sym u.file ∙ t.3),
+                  λ known. b.not_applied (o.link.known (number_of g) (ap site b.file ∙ home) known),
+                ))
             | inr w ↦ o.shown.open_free q f x g home b
                 (record { token = u.token; owned = w; file = u.file; covers = u.covers; update = u.update })
           ]

@@ -1,4 +1,5 @@
 -- A host's step keeps what is so of the host alone.
+use Rattle.rpc_types.specs.declared.message.Body.TheVariants.{Bye}
 use Rattle.std.proofs.Common.{◌≡◌, ℕ, ◌||◌, not, true, false, Bool, Some, is_some, List, ◌∷◌, inl, inr, sym}
 use Rattle.std.proofs.Common.{subst}
 use Rattle.std.proofs.lemmas.Bool.{and_parts, or_cases}
@@ -10,10 +11,10 @@ use Rattle.rpc_types.specs.declared.asking.Fetch.{Fetch as FetchOf}
 use Rattle.rpc_types.specs.declared.giving.Give.{Give}
 use Rattle.world_steps.specs.declared.step.Step.{Step}
 use Rattle.world_steps.specs.Lists.{In}
-use Rattle.world_steps.specs.Sends.{HasSaidBye}
 use Rattle.world_steps.specs.Gives.{Made, IsKnown}
 use Rattle.world_steps.specs.Tokens.{Owns}
 use Rattle.world_steps.specs.Requests.{Asking}
+use Rattle.world_steps.specs.Sends.{HasSaid as HasTold}
 use Rattle.world_steps.specs.HostTokens.{HostTokens}
 use Rattle.world_steps.proofs.Invariant.{Alone}
 use Rattle.tree_laws.specs.Parts.{Part, Seen}
@@ -52,7 +53,7 @@ module _ (c : Contents) (A : List Step) (s : Step) (rules : HostShows c A s) whe
         ]
 
     -- after its Bye a host takes nothing
-    no_take : (v : ServerId) (t : Token) → HasSaidBye A v → In t s.taken → ⊥
+    no_take : (v : ServerId) (t : Token) → HasTold A v Bye → In t s.taken → ⊥
     no_take v t bye m =
         let w = may.takes t m in
         elim w.1.0 [
@@ -60,7 +61,7 @@ module _ (c : Contents) (A : List Step) (s : Step) (rules : HostShows c A s) whe
           | inr a ↦ alone.bye_changing v _ a.0.fileset w.0.number bye a.3
         ]
 
-    given_later : (v : ServerId) (g : Give) (p : Part) (x : Seen p) → HasSaidBye A v → In g s.made
+    given_later : (v : ServerId) (g : Give) (p : Part) (x : Seen p) → HasTold A v Bye → In g s.made
         → c.gives g p ≡ Some x → ⊥
     given_later v g (ByteAt q) x bye m has = let u = seen.dirty_owned q g.fid (rules.gives.gives_dirty g q x m has) in
         alone.bye_held u.token v bye u.owned
@@ -72,7 +73,7 @@ module _ (c : Contents) (A : List Step) (s : Step) (rules : HostShows c A s) whe
     given_later v g Traits x bye m has = elim (c.gives_data g Traits x has) [ ]
     given_later v g Entries x bye m has = elim (c.gives_data g Entries x has) [ ]
 
-    bye' : (v : ServerId) (g : Give) (p : Part) (x : Seen p) → HasSaidBye (s ∷ A) v → Made (s ∷ A) g
+    bye' : (v : ServerId) (g : Give) (p : Part) (x : Seen p) → HasTold (s ∷ A) v Bye → Made (s ∷ A) g
         → c.gives g p ≡ Some x → IsKnown (s ∷ A) g
     bye' v g p x (d, n, inl y) m has = may.bye_gives v d n g y m
     bye' v g p x (d, n, inr y) (inl m) has = absurd (given_later v g p x (d, n, y) m has)

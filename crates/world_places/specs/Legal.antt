@@ -1,4 +1,5 @@
 -- The tree of a run, part by part, and what holds of it. Lists of steps have the newest first.
+use Rattle.world_steps.specs.Lists.{Each, after}
 use Rattle.std.specs.Prelude.{List, None, Some, [], if◌then◌else◌, true, ℕ, ◌==◌, ◌∷◌, ◌≡◌, ◌<◌, ◌≤◌, ◌⊎◌}
 use Rattle.dfs_base.specs.declared.ids.Fid.{Fid}
 use Rattle.dfs_base.specs.declared.ids.HostId.{HostId}
@@ -12,7 +13,7 @@ use Rattle.world_places.specs.Cells.Does.{Nothing, Sets}
 use Rattle.world_places.specs.Contents.{AreAlike, Bars, Contents, HaveRoots, HostShows, IsData, IsThere, IsWritable}
 use Rattle.world_places.specs.Contents.{ServerShows, dirty, kept}
 use Rattle.world_places.specs.Contents.{OwnsUpdate, sees, site, view}
-use Rattle.world_doings.specs.Doings.{Each, after, doings}
+use Rattle.world_doings.specs.Doings.{doings}
 use Rattle.world_places.specs.Deeds.{Deed, acts_in}
 use Rattle.tree_laws.specs.Parts.{Cell, Part, Seen, Written, present}
 use Rattle.tree_laws.specs.Parts.Part.{ByteAt, Size, Traits}

@@ -1,3 +1,4 @@
 pub mod Still
 pub mod Resting
 pub mod RunSteps
+pub mod Turning

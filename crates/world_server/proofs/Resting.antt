@@ -1,4 +1,5 @@
 -- A settled server meets all its rules in a lapse in which it does nothing.
+use Rattle.world_steps.specs.Nodes.{bare}
 use Rattle.std.proofs.Common.{List, [], inl, inr, not, refl, subst, sym, ℕ, ◌∷◌, ◌≡◌}
 use Rattle.dfs_base.specs.declared.ids.HostId.{HostId}
 use Rattle.dfs_base.specs.declared.ids.ServerId.{ServerId}
@@ -16,7 +17,7 @@ use Rattle.world_steps.specs.TokenRuns.{ServerStep}
 use Rattle.world_steps.specs.declared.step.Step.{Step}
 use Rattle.script_lines.specs.declared.script.Line.{Line as ScriptLine}
 use Rattle.world_server.specs.Kept.{kept}
-use Rattle.world_server.specs.Rest.{rests, IsSettled, ServerMayRest}
+use Rattle.world_server.specs.Rest.{IsSettled, ServerMayRest}
 use Rattle.world_steps.specs.Acts.{Act}
 use Rattle.world_steps.specs.Acts.Act.{Begins, Took, Flushes, Wants, Writes, Admits, Sent, Reserves}
 use Rattle.world_steps.specs.declared.step.Cause.TheVariants.{Message as Came, Lapse, Line, Restart, Evict, End, Flushed}
@@ -29,7 +30,7 @@ use Rattle.world_server.proofs.Still.{can_grant, ready, waited, asked_back}
 
 module _ (server : ServerId) (tree : Tree) (past : List Act) (settled : IsSettled server tree past) where
   abbrev s : Step
-  s = rests server
+  s = bare (Server server) Lapse
 
   none_heard : (h : HostId) (b : Body) → HeardNow s h b → ⊥
   none_heard h b x = let p = x.1 in cc

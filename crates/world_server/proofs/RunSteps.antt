@@ -333,7 +333,7 @@ meets_welcomes = record {
   };
 }
   where
-    quiet_send : (past : List Act) (b : Body) → ((g : GrantOf) → b ≡ Grant g → ⊥) → ((d : DoneOf) → b ≡ Done d → ⊥) → ((r : RevokeOf) → b ≡ Revoke r → ⊥) → MaySend site_one tree past welcomes (Sent client 1 0 b)
+    quiet_send : (past : List Act) (b : Body) → ((g : GrantOf) → b ≡ Grant g → ⊥) → ((d : DoneOf) → b ≡ Done d → ⊥) → ((r : RevokeOf) → b ≡ Revoke r → ⊥) → MaySend site_one tree welcomes past (Sent client 1 0 b)
     quiet_send past b no_grant no_done no_revoke = record {
       grants = λ h e n g p. absurd (no_grant g (let q : b ≡ Grant g = cc in q));
       dones = λ h e n d p. absurd (no_done d (let q : b ≡ Done d = cc in q));
@@ -406,7 +406,7 @@ settles_enter = record {
   so = IsEntered home_fileset (site_one, codes "home") refl refl named refl refl;
 }
 
-sends_entered : MaySend site_one tree (Wants wants_enter ∷ entering) tells (Sent client 1 0 (Done entered))
+sends_entered : MaySend site_one tree tells (Wants wants_enter ∷ entering) (Sent client 1 0 (Done entered))
 sends_entered = record {
   grants = λ h e n g p. absurd (cc);
   dones = λ h e n d p. its h e n d (let q : client ≡ h = cc in q) (let q : 0 ≡ n = cc in q) (let q : entered ≡ d = cc in q);
@@ -513,7 +513,7 @@ grants_so = record {
   tells = λ t part m s. tells_kept part;
 }
 
-sends_grant : MaySend site_one tree (Wants (wants_root whole) ∷ fetching) (grants whole) (Sent client 1 0 (Grant (granted whole)))
+sends_grant : MaySend site_one tree (grants whole) (Wants (wants_root whole) ∷ fetching) (Sent client 1 0 (Grant (granted whole)))
 sends_grant = record {
   grants = λ h e n g p. its h n g (let q : client ≡ h = cc in q) (let q : 0 ≡ n = cc in q) (let q : granted whole ≡ g = cc in q);
   dones = λ h e n d p. absurd (cc);

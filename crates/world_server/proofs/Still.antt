@@ -61,7 +61,7 @@ module _ (server : ServerId) (past : List Act) where
 
   over_back : NoGrace (a ∷ past) → NoGrace past
   over_back g h x = elim (g h (inr x.0, λ w. x.1 (away h w))) [
-    | inl y ↦ absurd (elim y [ inl z ↦ (let p = z.1 in cc) | inr z ↦ heard h Hello z.0 ])
+    | inl y ↦ absurd (elim y [ inl z ↦ (let p = z.1 in cc) | inr z ↦ elim z.0 [ inl q ↦ heard h Hello q.0 | inr q ↦ z.1 q ] ])
     | inr y ↦ y.0
   ]
 
@@ -87,7 +87,7 @@ module _ (server : ServerId) (past : List Act) where
   is_pinned t p g = (inr p, is_granted t g)
 
   is_reserved : (t : Token) → Reserved past t → Reserved (a ∷ past) t
-  is_reserved t r = inr (r, not_begun, λ x. cc)
+  is_reserved t r = inr (r, λ x. elim x [ inl b ↦ not_begun b | inr f ↦ cc ])
 
   decides : (h : HostId) (r : Request) → Decides a h r → ⊥
   decides h (Asks f) x = let p = x.3 in cc

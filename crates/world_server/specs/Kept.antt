@@ -45,8 +45,7 @@ content_given pieces given (File list kept unsaved len) =
 
 -- whether what is given of a file can be kept: the file is there, and its fileset is no clone
 abbrev pub takes_gifts : Tree → Fid → Bool
-takes_gifts tree fid =
-    option_map_or (λ fileset. not fileset.read_only && is_file_at fileset fid)
+takes_gifts tree fid = option_map_or (λ fileset. not fileset.read_only && is_file_at fileset fid)
     (find (has_id fid.fileset) tree.filesets) false
 
 unfoldable pub tree_given : Tree → Fid → List Piece → Option ℕ → Tree

@@ -6,3 +6,4 @@ pub mod ServerDecides
 pub mod ServerSends
 pub mod ServerRules
 pub mod Rest
+pub mod Turns

@@ -1,4 +1,5 @@
 -- A server that is settled may do nothing: then no rule is in another's way.
+use Rattle.world_steps.specs.Nodes.{bare}
 use Rattle.std.specs.Prelude.{List, None, [], ◌≡◌}
 use Rattle.dfs_base.specs.declared.ids.ServerId.{ServerId}
 use Rattle.dfs_tree.specs.declared.tree.Tree.{Tree}
@@ -19,24 +20,6 @@ use Rattle.rpc_types.specs.declared.asking.Change.{Change as ChangeOf}
 use Rattle.dfs_calls.specs.declared.reply.Refusal.{Refusal}
 use Rattle.world_steps.specs.Acts.{Act}
 
--- the step of a lapse in which a server does nothing
-abbrev pub rests : ServerId → Step
-rests server = record {
-  node = Server server;
-  cause = Lapse;
-  asked = None;
-  taken = [];
-  answers = [];
-  wrote = None;
-  begun = [];
-  made = [];
-  dropped = [];
-  applied = [];
-  admitted = [];
-  sent = [];
-  reserved = [];
-}
-
 -- A server is settled: each live host has reclaimed, no want that waits can go on, and no token is asked back.
 pub record IsSettled (server : ServerId) (tree : Tree) (past : List Act) : Type 0 where
   pub over : NoGrace past
@@ -45,6 +28,5 @@ pub record IsSettled (server : ServerId) (tree : Tree) (past : List Act) : Type 
   pub none_asked_back : (t : Token) → IsAskedBack server past t → ⊥
 
 abbrev pub ServerMayRest : Type 0
-ServerMayRest =
-    (script : Script) (start : Tree) (server : ServerId) (steps : List Step) (past : List Act)
-    → IsSettled server (kept start server steps) past → ServerMeets script start server steps past (rests server)
+ServerMayRest = (script : Script) (start : Tree) (server : ServerId) (steps : List Step) (past : List Act)
+    → IsSettled server (kept start server steps) past → ServerMeets script start server steps past (bare (Server server) Lapse)

@@ -1,4 +1,6 @@
 -- How a server admits messages, and what it answers at once. `past` is the server's earlier doings.
+use Rattle.world_steps.specs.Hosts.{InEpoch}
+use Rattle.world_steps.specs.ServerTokens.{HasAll}
 use Rattle.std.specs.Prelude.{List, [], ℕ, ◌<◌, ◌∷◌, ◌≡◌, ◌≢◌, ◌⊎◌}
 use Rattle.dfs_base.specs.declared.ids.HostId.{HostId}
 use Rattle.dfs_base.specs.declared.ids.ServerId.{ServerId}
@@ -8,7 +10,7 @@ use Rattle.rpc_types.specs.declared.message.Message.{Message}
 use Rattle.tok_types.specs.declared.token.Token.{Token}
 use Rattle.world_steps.specs.Gives.{NamesGive, number_of}
 use Rattle.world_steps.specs.Grants.{GivenUp}
-use Rattle.world_steps.specs.Hosts.{Enlists, HasEnded, HasReclaimed, IsBegin, IsLive, Listed, TookNow, TookOf}
+use Rattle.world_steps.specs.Hosts.{Enlists, HasReclaimed, IsLive, Listed, TookNow, TookOf}
 use Rattle.world_steps.specs.Lists.{In}
 use Rattle.world_steps.specs.Places.{Here}
 use Rattle.world_steps.specs.declared.applied.Admission.{Admission}
@@ -41,15 +43,12 @@ HeardNow s host body = (m : Message) × (s.cause ≡ Came m) × (m.host ≡ host
 
 -- the step takes this: its cause is the message, of a live host and of the present epoch
 abbrev pub TakenNow : List Act → Step → HostId → ℕ → Body → Type 0
-TakenNow past s host moves body =
-    ((m : Message) × (s.cause ≡ Came m)
-    × (m.host ≡ host) × (m.epoch ≡ epoch past) × (m.moves ≡ moves) × (m.body ≡ body))
-    × IsLive past host
+TakenNow past s host moves body = ((m : Message) × (s.cause ≡ Came m)
+    × (m.host ≡ host) × (m.epoch ≡ epoch past) × (m.moves ≡ moves) × (m.body ≡ body)) × IsLive past host
 
 -- the host came on the list in this epoch
 abbrev pub ListedNow : List Act → HostId → Type 0
-ListedNow [] host = ⊥
-ListedNow (a ∷ past) host = Enlists past a host ⊎ (ListedNow past host × (IsBegin a → ⊥))
+ListedNow past host = InEpoch (λ before a. Enlists before a host) past
 
 -- a Reclaimed with empty lists
 abbrev pub empty : ReclaimedOf
@@ -57,7 +56,7 @@ empty = record { applied = []; left_out = [] }
 
 -- A Reclaimed tells of a claim: which of its give-backs were taken, and which of its tokens aren't granted again,
 -- since the host has given them up.
-pub record Says (server : ServerId) (past : List Act) (host : HostId) (claim : ReclaimOf) (answer : ReclaimedOf)
+pub record AnswersClaim (server : ServerId) (past : List Act) (host : HostId) (claim : ReclaimOf) (answer : ReclaimedOf)
     : Type 0 where
   pub applied : (g : Give) → TookOf server past host g.fid.fileset (GiveBack g) → NamesGive claim.numbers g
       → In (number_of g) answer.applied
@@ -65,17 +64,10 @@ pub record Says (server : ServerId) (past : List Act) (host : HostId) (claim : R
       → (g : Give) × TookOf server past host g.fid.fileset (GiveBack g) × NamesGive claim.numbers g × (number_of g ≡ n)
   pub left_out : (t : Token) → In t claim.tokens → GivenUp server past host t.id → In t.id answer.left_out
 
--- each give-back that the claim names as outstanding, of a fileset that is here, was taken in this epoch
-abbrev pub HasAll : ServerId → List Act → HostId → ReclaimOf → Type 0
-HasAll server past host claim =
-    (o : Outstanding) → In o claim.numbers → 0 < o.give → Here server past o.fileset o.moves
-    → (g : Give) × TookOf server past host o.fileset (GiveBack g) × (g.fid.fileset ≡ o.fileset) × (g.number ≡ o.give)
-
 -- the step admits the host's claim, and tells what became of it
 abbrev pub AdmitsNow : ServerId → List Act → Step → HostId → ReclaimOf → Type 0
-AdmitsNow server past s host claim =
-    ((c : Admission) × In c s.admitted × (c.host ≡ host))
-    × ((answer : ReclaimedOf) × SentNow s host (Reclaimed answer) × Says server past host claim answer)
+AdmitsNow server past s host claim = ((c : Admission) × In c s.admitted × (c.host ≡ host))
+    × ((answer : ReclaimedOf) × SentNow s host (Reclaimed answer) × AnswersClaim server past host claim answer)
 
 pub record ServerAnswers (server : ServerId) (past : List Act) (s : Step) : Type 0 where
   -- a Hello of a live host that came on the list in an older epoch is answered by Restarted; any other, but of a
@@ -83,9 +75,9 @@ pub record ServerAnswers (server : ServerId) (past : List Act) (s : Step) : Type
   pub hello_old : (h : HostId) → HeardNow s h Hello → IsLive past h → (ListedNow past h → ⊥) → SentNow s h Restarted
   pub hello : (h : HostId) → HeardNow s h Hello → (IsDown past h → ⊥) → ((IsLive past h → ⊥) ⊎ ListedNow past h)
       → SentNow s h (Reclaimed empty)
-  -- a Bye of a host that isn't on the list, or has ended, is answered by Bye, and so is one of the present epoch
+  -- a Bye of a host that isn't live is answered by Bye, but of one that is down, and so is one of the present epoch
   pub bye : (h : HostId) → HeardNow s h Bye → (IsDown past h → ⊥)
-      → ((Listed past h → ⊥) ⊎ HasEnded past h) ⊎ ((n : ℕ) × TakenNow past s h n Bye) → SentNow s h Bye
+      → (IsLive past h → ⊥) ⊎ ((n : ℕ) × TakenNow past s h n Bye) → SentNow s h Bye
   pub bye_only : (h : HostId) → SentNow s h Bye → HeardNow s h Bye × (IsDown past h → ⊥)
   -- any other message of a live host and another epoch is answered by Restarted, and has no other effect
   pub late : (h : HostId) (m : Message) → s.cause ≡ Came m → m.host ≡ h → IsLive past h → m.epoch ≢ epoch past
@@ -94,8 +86,7 @@ pub record ServerAnswers (server : ServerId) (past : List Act) (s : Step) : Type
   pub restarted : (line : ℕ) (h : HostId) → s.cause ≡ Restart line → IsLive past h → SentNow s h Restarted
   pub restarted_again : (h : HostId) → s.cause ≡ Lapse → IsLive past h → (HasReclaimed past h → ⊥)
       → SentNow s h Restarted
-  pub restarted_only : (h : HostId) → SentNow s h Restarted
-      → IsLive past h
+  pub restarted_only : (h : HostId) → SentNow s h Restarted → IsLive past h
       × (((body : Body) × HeardNow s h body) ⊎ (((line : ℕ) × (s.cause ≡ Restart line)) ⊎ (s.cause ≡ Lapse)))
   -- a give-back that is taken was applied, now or earlier, and is answered by Gone
   pub gone : (h : HostId) (n : ℕ) (g : Give) → TakenNow past s h n (GiveBack g) → Here server past g.fid.fileset n
@@ -105,8 +96,7 @@ pub record ServerAnswers (server : ServerId) (past : List Act) (s : Step) : Type
   -- a claim counts in the step after which each give-back that it waits for was taken, and is answered then
   pub claim_now : (h : HostId) (n : ℕ) (claim : ReclaimOf) → TookNow (after_cause s.cause past) h n (Reclaim claim)
       → (HasReclaimed past h → ⊥) → IsLive (after_cause s.cause past) h
-      → HasAll server (after_cause s.cause past) h claim
-      → AdmitsNow server (after_cause s.cause past) s h claim
+      → HasAll server (after_cause s.cause past) h claim → AdmitsNow server (after_cause s.cause past) s h claim
   -- one of a host that has reclaimed in this epoch changes nothing, and is answered as before
   pub claim_again : (h : HostId) (n : ℕ) (claim : ReclaimOf) → TakenNow past s h n (Reclaim claim) → HasReclaimed past h
       → (answer : ReclaimedOf) × (k : ℕ) × SentTo past h (epoch past) k (Reclaimed answer)

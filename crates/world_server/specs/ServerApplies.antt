@@ -77,8 +77,7 @@ stored_of tree host give =
 
 -- the call that a give-back ends
 abbrev pub ended_by : HostId → Give → List Applied
-ended_by host give =
-    option_map_or
+ended_by host give = option_map_or
     (λ ends. EndsCall (record { host = host; k = ends.k; call = ends.call; reply = Fine; first = false }) ∷ [])
     give.ends []
 

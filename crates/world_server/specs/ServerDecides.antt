@@ -1,5 +1,7 @@
 -- How a server makes wants and decides Changes. `tree` are its kept filesets at the moment, `past` its doings so
 -- far.
+use Rattle.world_steps.specs.Acts.{decisions_of}
+use Rattle.world_steps.specs.Lists.{after}
 use Rattle.std.specs.Prelude.{List, [], false, true, ℕ, ◌∷◌, ◌≡◌, ◌≢◌, ◌⊎◌}
 use Rattle.dfs_base.specs.declared.ids.FilesetId.{FilesetId}
 use Rattle.dfs_base.specs.declared.ids.HostId.{HostId}
@@ -27,7 +29,7 @@ use Rattle.world_steps.specs.declared.applied.Applied.TheVariants.{Wants, Done}
 use Rattle.world_steps.specs.declared.applied.Applied.{Applied}
 use Rattle.world_steps.specs.declared.applied.Wanted.{Wanted}
 use Rattle.world_steps.specs.declared.applied.Written.{Written}
-use Rattle.world_steps.specs.Acts.{Act, after_cause, after_written}
+use Rattle.world_steps.specs.Acts.{Act, after_cause}
 
 -- a request is about filesets themselves, or about one that is here in the stay that it is of
 abbrev pub IsHere : ServerId → List Act → FilesetId → ℕ → Type 0
@@ -109,8 +111,7 @@ pub record IsWrittenSo (server : ServerId) (tree : Tree) (past : List Act) (writ
 
 -- one decision: a request makes its want, with what it needs now; or a Change is written down
 abbrev pub MayDecide : ServerId → Tree → List Act → List Act → Step → Applied → Type 0
-MayDecide server tree before past s (Wants w) =
-    (w.needs ≡ needs_for tree w.host w.request)
+MayDecide server tree before past s (Wants w) = (w.needs ≡ needs_for tree w.host w.request)
     × (IsNewRequest server before past s w.host w.moves w.request ⊎ ((old : Wanted) × IsAnew server tree past old w))
 MayDecide server tree before past s (Done written) = IsWrittenSo server tree past written
 MayDecide server tree before past s _ = ⊥
@@ -118,9 +119,8 @@ MayDecide server tree before past s _ = ⊥
 -- all decisions of a step, one after the other
 abbrev pub MayDecideAll : ServerId → Tree → List Act → List Act → Step → List Applied → Type 0
 MayDecideAll server tree before past s [] = Unit {0}
-MayDecideAll server tree before past s (x ∷ xs) =
-    MayDecide server tree before past s x
-    × MayDecideAll server (kept_after s.cause tree x) before (after_written (x ∷ []) past) s xs
+MayDecideAll server tree before past s (x ∷ xs) = MayDecide server tree before past s x
+    × MayDecideAll server (kept_after s.cause tree x) before (after (decisions_of x) past) s xs
 
 -- What is so once a step has decided: `before` are the doings before it, `past` those so far, `tree` its kept
 -- filesets.
@@ -130,8 +130,7 @@ pub record HasDecided (server : ServerId) (tree : Tree) (before past : List Act)
       → (w : Wanted) × In (Wants w) s.applied × (w.host ≡ h) × (w.request ≡ r)
   -- a Change that the call table refuses is decided when it could be, and outside a grace period when it is taken
   pub refused : (w : Wanted) (c : ChangeOf) (refusal : Refusal) → Waits past w → w.request ≡ Changes c
-      → RefusedOn tree w.host c refusal
-      → IsReady server past w
+      → RefusedOn tree w.host c refusal → IsReady server past w
       ⊎ (NoGrace past × IsNewRequest server before (after_cause s.cause before) s w.host w.moves w.request) → ⊥
   -- one that could be decided has its effect, or is refused for a pinned token, or its want is made anew
   pub effects : (w : Wanted) (c : ChangeOf) → Waits past w → w.request ≡ Changes c → has_effect c ≡ true

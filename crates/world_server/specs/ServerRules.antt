@@ -1,14 +1,18 @@
 -- All rules of a server, on a step and its own earlier steps.
+use Rattle.world_steps.specs.Nodes.{IsBare}
+use Rattle.world_server.specs.ServerSends.{MaySend}
+use Rattle.world_steps.specs.Acts.{sending}
+use Rattle.world_steps.specs.Lists.{Each}
 use Rattle.std.specs.Prelude.{List, None, [], ℕ, ◌≡◌}
 use Rattle.dfs_base.specs.declared.ids.ServerId.{ServerId}
 use Rattle.dfs_tree.specs.declared.tree.Tree.{Tree}
 use Rattle.script_lines.specs.declared.script.Line.{Line}
 use Rattle.script_lines.specs.declared.script.Script.{Script}
-use Rattle.world_journal.specs.Lines.{IsBare, IsNextLine, lines_of}
+use Rattle.world_journal.specs.Lines.{IsNextLine, lines_of}
 use Rattle.world_server.specs.Kept.{kept, kept_through}
 use Rattle.world_server.specs.ServerAnswers.{ServerAnswers}
 use Rattle.world_server.specs.ServerDecides.{HasDecided, MayDecideAll}
-use Rattle.world_server.specs.ServerSends.{HasSent, MaySendEach}
+use Rattle.world_server.specs.ServerSends.{HasSent}
 use Rattle.world_steps.specs.TokenRuns.{ServerStep}
 use Rattle.world_steps.specs.declared.step.Step.{Step}
 use Rattle.world_server.specs.ServerApplies.{ServerApplies, by_cause, decisions}
@@ -34,13 +38,12 @@ pub record ServerWorks (server : ServerId) (tree : Tree) (past : List Act) (s : 
   pub decides : MayDecideAll server (kept_through s.cause (by_cause s.applied) tree) past (after_cause s.cause past) s
       (decisions s.applied)
   pub decided : HasDecided server (kept_through s.cause s.applied tree) past (written_by s past) s
-  pub sends : MaySendEach server (kept_through s.cause s.applied tree) s s.sent (admitted_by s past)
+  pub sends : Each (MaySend server (kept_through s.cause s.applied tree) s) (sending s.sent) (admitted_by s past)
   pub sent : HasSent server (kept_through s.cause s.applied tree) past (after_step s past) s
 
 -- `steps` are the server's own earlier steps, `past` its doings in them
 pub record ServerMeets
-    (script : Script) (start : Tree) (server : ServerId) (steps : List Step) (past : List Act) (s : Step)
-    : Type 0 where
+    (script : Script) (start : Tree) (server : ServerId) (steps : List Step) (past : List Act) (s : Step) : Type 0 where
   pub tokens : ServerStep server past s
   pub lines : ServerLines (lines_of script (Server server)) steps s
   pub answers : ServerAnswers server past s

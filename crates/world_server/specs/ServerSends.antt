@@ -1,5 +1,7 @@
 -- What a server sends of what it decides. `tree` are its kept filesets once the step has decided, `past` its doings
 -- so far.
+use Rattle.world_steps.specs.Hosts.{InEpoch}
+use Rattle.world_steps.specs.Lists.{Once}
 use Rattle.std.specs.Prelude.{IsTrue, List, None, Ok, Some, [], true, ℕ, ◌∷◌, ◌≡◌, ◌≤◌, ◌⊎◌}
 use Rattle.dfs_base.specs.declared.ids.FilesetId.{FilesetId}
 use Rattle.dfs_base.specs.declared.ids.HostId.{HostId}
@@ -58,8 +60,7 @@ pub record IsEmptyGrant (g : GrantOf) : Type 0 where
 
 -- it tells what is kept of each part that a token which it brings shows
 abbrev pub TellsKept : Tree → GrantOf → Type 0
-TellsKept tree g =
-    (t : Token) (part : Part) → In t g.bring.tokens → IsTrue (shows t.kind part)
+TellsKept tree g = (t : Token) (part : Part) → In t g.bring.tokens → IsTrue (shows t.kind part)
     → told g part ≡ (cell_at tree g.bring.fid part).kept
 
 -- A Grant answers a Fetch that waits and can be granted.
@@ -106,16 +107,12 @@ pub record SettlesSo (server : ServerId) (tree : Tree) (past : List Act) (h : Ho
 
 -- an earlier doing wrote the host's Change of this Done down, with its reply
 abbrev pub HasWritten : List Act → HostId → DoneOf → Type 0
-HasWritten [] h d = ⊥
-HasWritten (a ∷ past) h d =
-    ((w : Written) × (a ≡ Writes w) × (w.answer.host ≡ h) × (w.fileset ≡ d.fileset) × (w.number ≡ d.bring.number)
-    × (d.outcome ≡ HasReply w.answer.reply))
-    ⊎ HasWritten past h d
+HasWritten past h d = Once (λ before a. (w : Written) × (a ≡ Writes w) × (w.answer.host ≡ h) × (w.fileset ≡ d.fileset)
+    × (w.number ≡ d.bring.number) × (d.outcome ≡ HasReply w.answer.reply)) past
 
 -- no Change of a higher number of the host and the fileset was answered
 abbrev pub IsLast : List Act → HostId → DoneOf → Type 0
-IsLast past h d =
-    (e n : ℕ) (other : DoneOf) → SentTo past h e n (Done other) → other.fileset ≡ d.fileset
+IsLast past h d = (e n : ℕ) (other : DoneOf) → SentTo past h e n (Done other) → other.fileset ≡ d.fileset
     → other.bring.number ≤ d.bring.number
 
 -- Again is said in place of an earlier Granted of this epoch whose token isn't granted any more
@@ -136,10 +133,8 @@ pub data DoneFor (server : ServerId) (tree : Tree) (past : List Act) (h : HostId
 
 -- a Revoke of this epoch named the token
 abbrev pub Revoked : List Act → Token → Type 0
-Revoked [] t = ⊥
-Revoked (a ∷ past) t =
-    ((e n : ℕ) × (r : RevokeOf) × (a ≡ Sent t.host e n (Revoke r)) × In t.id r.ids)
-    ⊎ (Revoked past t × (IsBegin a → ⊥))
+Revoked past t =
+    InEpoch (λ before a. (e n : ℕ) × (r : RevokeOf) × (a ≡ Sent t.host e n (Revoke r)) × In t.id r.ids) past
 
 -- a granted token that isn't pinned is in the way of a want that waits, and the grace period is over
 pub record IsAskedBack (server : ServerId) (past : List Act) (t : Token) : Type 0 where
@@ -151,21 +146,13 @@ pub record IsAskedBack (server : ServerId) (past : List Act) (t : Token) : Type 
   pub blocks_it : Blocks w t
 
 -- What a server may send next.
-pub record MaySend (server : ServerId) (tree : Tree) (past : List Act) (s : Step) (a : Act) : Type 0 where
+pub record MaySend (server : ServerId) (tree : Tree) (s : Step) (past : List Act) (a : Act) : Type 0 where
   pub grants : (h : HostId) (e n : ℕ) (g : GrantOf) → a ≡ Sent h e n (Grant g) → GrantsSo server tree past h n g
   pub dones : (h : HostId) (e n : ℕ) (d : DoneOf) → a ≡ Sent h e n (Done d)
       → IsLive past h × IsHere server past d.fileset n × DoneFor server tree past h n d
   -- a token is asked back while it is in the way of a want: once, and again at a lapse
   pub revokes : (h : HostId) (e n : ℕ) (r : RevokeOf) (i : TokenId) → a ≡ Sent h e n (Revoke r) → In i r.ids
-      → (t : Token) × (t.id ≡ i) × (t.host ≡ h) × IsAskedBack server past t
-      × ((Revoked past t → ⊥) ⊎ (s.cause ≡ Lapse))
-
--- it may send each of these messages, one after the other
-abbrev pub MaySendEach : ServerId → Tree → Step → List Message → List Act → Type 0
-MaySendEach server tree s [] past = Unit {0}
-MaySendEach server tree s (m ∷ ms) past =
-    MaySend server tree past s (Sent m.host m.epoch m.moves m.body)
-    × MaySendEach server tree s ms (Sent m.host m.epoch m.moves m.body ∷ past)
+      → (t : Token) × (t.id ≡ i) × (t.host ≡ h) × IsAskedBack server past t × ((Revoked past t → ⊥) ⊎ (s.cause ≡ Lapse))
 
 -- the step answers the host's Change of this fileset and number
 abbrev pub AnswersChange : Step → HostId → FilesetId → ℕ → Type 0

@@ -1,4 +1,5 @@
 -- The wants of requests: which one waits, what for, and in what order. `past` is the server's earlier doings.
+use Rattle.world_steps.specs.Lists.{Since}
 use Rattle.std.specs.Option.{option_map_or}
 use Rattle.std.specs.Prelude.{Bool, IsTrue, List, [], false, if◌then◌else◌, not, true, ℕ, ◌&&◌, ◌∷◌, ◌≡◌, ◌≤◌, ◌⊎◌}
 use Rattle.dfs_base.specs.declared.ids.HostId.{HostId}
@@ -79,8 +80,7 @@ SameNumber _ _ = ⊥
 
 -- the doing decides the host's request: it writes the Change down, or sends the Grant or Done of its number
 abbrev pub Decides : Act → HostId → Request → Type 0
-Decides a host (Asks fetch) =
-    (e n : ℕ) × (grant : GrantOf) × (a ≡ Sent host e n (Grant grant))
+Decides a host (Asks fetch) = (e n : ℕ) × (grant : GrantOf) × (a ≡ Sent host e n (Grant grant))
     × (grant.bring.fid.fileset ≡ fetch.fid.fileset) × (grant.bring.number ≡ fetch.number)
 Decides a host (Changes change) =
     ((written : Written) × (a ≡ Writes written) × (written.answer.host ≡ host)
@@ -98,14 +98,12 @@ Unwants past a w =
 
 -- the want waits in the queue: it was made, and nothing has taken it from there since
 abbrev pub Waits : List Act → Wanted → Type 0
-Waits [] w = ⊥
-Waits (a ∷ past) w = (a ≡ Wants w) ⊎ (Waits past w × (Unwants past a w → ⊥))
+Waits past w = Since (λ before a. a ≡ Wants w) (λ before a. Unwants before a w) past
 
 -- of two wants that wait the first was made before the second
 abbrev pub Before : List Act → Wanted → Wanted → Type 0
 Before [] w v = ⊥
-Before (a ∷ past) w v =
-    ((Waits past w × (a ≡ Wants v)) ⊎ Before past w v) × Waits (a ∷ past) w × Waits (a ∷ past) v
+Before (a ∷ past) w v = ((Waits past w × (a ≡ Wants v)) ⊎ Before past w v) × Waits (a ∷ past) w × Waits (a ∷ past) v
 
 -- no request of the host and this number waits
 abbrev pub NoneWaits : List Act → HostId → Request → Type 0

@@ -5,5 +5,5 @@
 mod laws;
 mod worked;
 
-pub use laws::server_may_rest;
+pub use laws::{server_may_rest, wants_are_served_in_turn};
 pub use worked::a_server_serves;

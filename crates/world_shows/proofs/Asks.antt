@@ -181,8 +181,8 @@ module _ (c : Contents) (same : IsOfJournal c) (script : Script) (host : HostId)
 
   new_asks : (f : FetchOf) → Fetches s f → IsNewFetch script.roster host past s m.stance f → Asks c past s f
   new_asks f q new = record {
-    new = λ g said files numbers. (let lt = new.next.above g said files in omega (arith, lt, numbers));
-    free = free f q (needs_in script.roster host past s m.stance new.call.call) f.needs new.needs;
+    new = λ g said files numbers. (let lt = new.next.above g.number (g, said, files, refl) in omega (arith, lt, numbers));
+    free = free f q (needs_in m.stance new.call.call) f.needs new.needs;
     back = λ g made file never. new.no_give (g, made, file, never);
   }
 

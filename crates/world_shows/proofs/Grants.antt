@@ -1,4 +1,8 @@
 -- What a server's Grants bring.
+use Rattle.world_steps.specs.Lists.{Each, after}
+use Rattle.world_steps.specs.Acts.{admitting, deciding, sending}
+use Rattle.world_server.specs.ServerSends.{MaySend}
+use Rattle.world_steps.proofs.Words.{acts_after}
 use Rattle.std.proofs.Common.{◌≡◌, ℕ, suc, List, [], ◌∷◌, inl, inr, sym, ◌∙◌, subst, refl}
 use Rattle.dfs_base.specs.declared.ids.HostId.{HostId}
 use Rattle.dfs_base.specs.declared.ids.Node.{Node}
@@ -20,13 +24,13 @@ use Rattle.world_server.specs.ServerAnswers.{TakenNow}
 use Rattle.world_server.specs.ServerApplies.{by_cause, decisions}
 use Rattle.world_server.specs.ServerDecides.{MayDecideAll}
 use Rattle.world_server.specs.ServerRules.{ServerMeets}
-use Rattle.world_server.specs.ServerSends.{GrantsSo, MaySendEach}
+use Rattle.world_server.specs.ServerSends.{GrantsSo}
 use Rattle.world_server.specs.Wants.{Waits, body_of}
 use Rattle.world_shows.specs.Laws.{EachSent, GrantsAreAsked, GrantsAtNode, GrantsBringNeeds}
 use Rattle.world_steps.specs.Acts.Act.{Admits, Begins, Flushes, Reserves, Sent, Took, Wants, Writes}
-use Rattle.world_steps.specs.Acts.{Act, acts, acts_after, admitted_by, after_admitted, after_cause, after_sent}
+use Rattle.world_steps.specs.Acts.{Act, acts, admitted_by, after_cause}
 use Rattle.world_steps.specs.Acts.{after_step}
-use Rattle.world_steps.specs.Acts.{after_written, epoch, sent_by, written_by}
+use Rattle.world_steps.specs.Acts.{epoch, sent_by, written_by}
 use Rattle.world_steps.specs.Hosts.{IsBegin, TookNow}
 use Rattle.world_steps.specs.Lists.{In}
 use Rattle.world_steps.specs.Nodes.{served}
@@ -54,13 +58,13 @@ on : (S : List Act) (a : Act) → ((w : Wanted) → a ≡ Wants w → ⊥) → A
 on S a never old w (inl e) = absurd (never w e)
 on S a never old w (inr k) = inr (old w k.0, λ b. k.1 (inr (inr (inr b))))
 
-sents : (ms : List Message) (S : List Act) → AllTaken S → AllTaken (after_sent ms S)
+sents : (ms : List Message) (S : List Act) → AllTaken S → AllTaken (after (sending ms) S)
 sents [] S old = old
 sents (m ∷ ms) S old =
     sents ms (Sent m.host m.epoch m.moves m.body ∷ S)
     (on S (Sent m.host m.epoch m.moves m.body) (λ w e. absurd (cc)) old)
 
-admits : (cs : List Admission) (S : List Act) → AllTaken S → AllTaken (after_admitted cs S)
+admits : (cs : List Admission) (S : List Act) → AllTaken S → AllTaken (after (admitting cs) S)
 admits [] S old = old
 admits (c ∷ cs) S old =
     admits cs (Admits c.host c.tokens ∷ S) (on S (Admits c.host c.tokens) (λ w e. absurd (cc)) old)
@@ -90,7 +94,7 @@ taken_took S s h n b ((m, cause, host, now, moves, body), live) =
     (inl ((λ i. Took (host i) (now i) (moves i) (body i)), live))
 
 -- the decisions alone make wants
-same_decisions : (xs : List Applied) (S : List Act) → after_written xs S ≡ after_written (decisions xs) S
+same_decisions : (xs : List Applied) (S : List Act) → after (deciding xs) S ≡ after (deciding (decisions xs)) S
 same_decisions [] S = refl
 same_decisions (IsWanted x ∷ xs) S = refl
 same_decisions (IsDone x ∷ xs) S = refl
@@ -110,7 +114,7 @@ module _ (v : ServerId) (before : List Act) (s : Step) where
   heard_on S a quiet old h n b t = inr (old h n b t, quiet)
 
   decides : (xs : List Applied) (tree : Tree) (S : List Act) → MayDecideAll v tree before S s xs → AllTaken S
-      → Heard S → AllTaken (after_written xs S)
+      → Heard S → AllTaken (after (deciding xs) S)
   decides [] tree S may old heard = old
   decides (IsWanted x ∷ xs) tree S may old heard =
       decides xs (kept_after s.cause tree (IsWanted x)) (Wants x ∷ S) may.1 now
@@ -169,7 +173,7 @@ module _ (script : Script) (start : Tree) (v : ServerId) (steps : List Step) (S 
     ],
   )
 
-  each_sent : (tree : Tree) (ms : List Message) (S : List Act) → AllTaken S → MaySendEach v tree s ms S
+  each_sent : (tree : Tree) (ms : List Message) (S : List Act) → AllTaken S → Each (MaySend v tree s) (sending ms) S
       → EachSent GrantsAreAsked ms S
   each_sent tree [] S taken may = tt
   each_sent tree (x ∷ ms) S taken may = (

@@ -1,4 +1,5 @@
 -- In a run each host's own steps meet its rules.
+use Rattle.world_steps.proofs.Words.{own_after}
 use Rattle.std.proofs.Common.{ℕ, List, [], ◌∷◌, subst}
 use Rattle.dfs_base.specs.declared.ids.HostId.{HostId}
 use Rattle.dfs_base.specs.declared.ids.Node.{Node}
@@ -12,7 +13,7 @@ use Rattle.world_places.specs.Contents.{Contents}
 use Rattle.world_shows.specs.Laws.{AtNode, EachOwn, HoldsForHosts, HoldsInRuns}
 use Rattle.world_shows.specs.Steps.{HostRun, IsOfJournal}
 use Rattle.world_steps.proofs.Words.{if_host}
-use Rattle.world_steps.specs.Nodes.{own, own_after}
+use Rattle.world_steps.specs.Nodes.{own}
 use Rattle.world_steps.specs.declared.step.Step.{Step}
 
 module _ (script : Script) (start : Tree) (firsts : ServerId → ℕ) where

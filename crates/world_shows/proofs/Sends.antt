@@ -1,4 +1,6 @@
 -- What a server's Dones bring.
+use Rattle.world_steps.specs.Lists.{Each}
+use Rattle.world_steps.specs.Acts.{sending}
 use Rattle.std.proofs.Common.{◌≡◌, ℕ, Bool, true, false, if◌then◌else◌, Option, Some, None, List, [], ◌∷◌, inl, inr}
 use Rattle.std.proofs.Common.{sym, subst, refl}
 use Rattle.std.proofs.lemmas.Bool.{false≢true}
@@ -40,7 +42,7 @@ use Rattle.tree_laws.specs.Parts.Part.{ByteAt, Entries, Size, Traits}
 use Rattle.world_core.specs.Runs.{IsRun, StepMeets, StepsMeet, firsts_of, past_of}
 use Rattle.world_journal.specs.declared.journal.Journal.{Journal}
 use Rattle.world_server.specs.Kept.{kept, kept_through}
-use Rattle.world_server.specs.ServerSends.{DoneFor, MaySend, MaySendEach, SettledSo}
+use Rattle.world_server.specs.ServerSends.{DoneFor, MaySend, SettledSo}
 use Rattle.world_server.specs.ServerSends.DoneFor.{OfWritten, Repeated, Settled, TakenBack}
 use Rattle.world_server.specs.ServerSends.SettledSo.{IsEntered, NamesOther, TakesToken}
 use Rattle.world_server.specs.Wants.{is_use, row_needs}
@@ -50,7 +52,6 @@ use Rattle.world_steps.specs.Acts.{Act, SentTo, acts, admitted_by, epoch}
 use Rattle.world_steps.specs.Lists.{In}
 use Rattle.world_steps.specs.Nodes.{served}
 use Rattle.world_steps.specs.ServerTokens.{ServerTokens}
-use Rattle.world_steps.specs.TokenRuns.{MaySendAll}
 use Rattle.world_steps.specs.declared.step.Step.{Step}
 
 -- needs that show no part
@@ -134,12 +135,13 @@ module _ (v : ServerId) (tree : Tree) (s : Step) where
       by (NamesOther uses accepted other ready outcome none) = no_tokens t d.bring.tokens none i
       by (IsEntered fileset place enters named known outcome none) = no_tokens t d.bring.tokens none i
 
-  one_sent : (S : List Act) (a : Act) → MaySend v tree S s a → ServerTokens v S a → DonesAreBlind S a
+  one_sent : (S : List Act) (a : Act) → MaySend v tree s S a → ServerTokens v S a → DonesAreBlind S a
   one_sent S a sends tokens h e n p d t is i cov =
       subst (λ j. SentTo S h j n (Done d)) (sym (tokens.epochs h e n (Done d) is))
       (done_blind S h n d (sends.dones h e n d is).2 t p i cov)
 
-  pub each_sent : (ms : List Message) (S : List Act) → MaySendEach v tree s ms S → MaySendAll v ms S
+  pub each_sent : (ms : List Message) (S : List Act) → Each (MaySend v tree s) (sending ms) S
+      → Each (ServerTokens v) (sending ms) S
       → EachSent DonesAreBlind ms S
   each_sent [] S sends tokens = tt
   each_sent (m ∷ ms) S sends tokens = (

@@ -1,4 +1,5 @@
 -- What a host shows by the tokens that it takes is what the rules of contents want.
+use Rattle.world_steps.specs.Lists.{after}
 use Rattle.std.proofs.Common.{◌≡◌, ℕ, ◌⊎◌, ◌&&◌, Bool, true, false, if◌then◌else◌, Some, None, List, [], ◌∷◌}
 use Rattle.std.proofs.Common.{inl, inr, sym, ◌∙◌, ap, subst, refl}
 use Rattle.std.proofs.lemmas.Bool.{and_parts}

@@ -231,7 +231,7 @@ module _ (whole : Span) where
   epoch_there = ap (epoch_at three) at_one
 
   pub used : Uses three (takes whole) (granted whole).bring
-  used = (inl (granted whole, (to_host (Grant (granted whole)), refl, sym at_one, sym epoch_there, refl, refl), refl, asking), above, λ g m. elim m [ inl e ↦ elim e [ ] | inr e ↦ elim e [ inl f ↦ elim f [ ] | inr f ↦ elim f [ inl p ↦ elim p [ ] | inr p ↦ elim p [ ] ] ] ])
+  used = (inl (granted whole, (to_host (Grant (granted whole)), refl, sym at_one, sym epoch_there, refl, refl), refl, asking), above, λ o. elim o.1 [ inl e ↦ elim e [ ] | inr e ↦ elim e [ inl f ↦ elim f [ ] | inr f ↦ elim f [ inl p ↦ elim p [ ] | inr p ↦ elim p [ ] ] ] ])
 
   none_held : (t : Token) → Held three t → ⊥
   none_held t k = elim k.0 [ inl e ↦ elim e [ ] | inr k ↦ elim k.0 [ inl e ↦ elim e [ ] | inr k ↦ elim k.0 [ inl e ↦ elim e [ ] | inr k ↦ elim k [ ] ] ] ]
@@ -368,7 +368,7 @@ module _ (whole : Span) where
     listed = inl ((0, 0, refl), unlisted client, down client);
     listed_is = λ h l. elim l [ inl p ↦ (let q = p.0.2 in cc) | inr p ↦ absurd (unlisted h p) ];
     here = λ h w. elim w [ inl p ↦ elim p [ inl q ↦ (let r = q.2 in cc) | inr q ↦ (let r = q.0.1 in cc) ] | inr p ↦ elim p [ inl q ↦ elim q [ inl r ↦ (let x = r.2 in cc) | inr r ↦ (let x = r.0.1 in cc) ] | inr q ↦ elim q [ ] ] ];
-    reclaimed = inl (inr ((0, 0, refl), unlisted client, down client));
+    reclaimed = inl (inr (inl ((0, 0, refl), unlisted client, down client), unlisted client));
     none_issued = λ t k i. elim i [ inl p ↦ no_bring (Took client 0 0 Hello) hello_none p.0 p.1 k.moves p.2 p.3 | inr p ↦ elim p [ inl q ↦ no_bring (Begins 1) (begins_none 1) q.0 q.1 k.moves q.2 q.3 | inr q ↦ elim q [ ] ] ];
     none_granted = λ t g. elim g [ inl p ↦ elim p [ inl q ↦ no_bring (Took client 0 0 Hello) hello_none q.1.0 q.1.1 q.0.moves q.1.2 q.1.3 | inr q ↦ (let r = q.1 in cc) ] | inr p ↦ elim p.0 [ inl q ↦ elim q [ inl r ↦ no_bring (Begins 1) (begins_none 1) r.1.0 r.1.1 r.0.moves r.1.2 r.1.3 | inr r ↦ (let x = r.1 in cc) ] | inr q ↦ elim q.0 [ ] ] ];
     none_told = λ x t. elim t [ inl p ↦ elim p [ inl q ↦ no_bring (Took client 0 0 Hello) hello_none q.0 q.1 q.2 q.3 q.4 | inr q ↦ (let r = q.4 in cc) ] | inr p ↦ elim p.0 [ inl q ↦ elim q [ inl r ↦ no_bring (Begins 1) (begins_none 1) r.0 r.1 r.2 r.3 r.4 | inr r ↦ (let y = r.4 in cc) ] | inr q ↦ elim q.0 [ ] ] ];

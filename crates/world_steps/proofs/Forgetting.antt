@@ -21,9 +21,9 @@ module _ (v : ServerId) (past : List Act) (n : ℕ) where
   forgotten = record {
     granted = none_granted;
     pinned = λ t p. none_granted t p.1;
-    reserved = λ t r. elim r [ inl x ↦ (let q = x.1 in cc) | inr x ↦ x.1 (n, refl) ];
-    reclaimed = λ h r. elim r [ inl x ↦ elim x [ inl y ↦ (let q = y.1 in cc) | inr y ↦ (let q = y.0.2 in cc) ] | inr x ↦ x.1 (n, refl) ];
-    given_up = λ h i g. elim g [ inl x ↦ elim x.1 [ inl y ↦ (let q = y.2.0 in cc) | inr y ↦ y.1 (n, refl) ] | inr x ↦ elim x.1 [ inl y ↦ (let q = y.2.0 in cc) | inr y ↦ y.1 (n, refl) ] ];
+    reserved = λ t r. elim r [ inl x ↦ (let q = x.1 in cc) | inr x ↦ x.1 (inl (n, refl)) ];
+    reclaimed = λ h r. elim r [ inl x ↦ elim x [ inl y ↦ (let q = y.1 in cc) | inr y ↦ elim y.0 [ inl z ↦ (let q = z.0.2 in cc) | inr z ↦ y.1 z ] ] | inr x ↦ x.1 (n, refl) ];
+    given_up = λ h i g. elim g [ inl x ↦ elim x [ inl y ↦ (let q = y.1.2.0 in cc) | inr y ↦ (let q = y.1.2.0 in cc) ] | inr x ↦ x.1 (n, refl) ];
     told = λ f x t. elim t [ inl y ↦ elim y [ inl z ↦ elim z.4 [ inl g ↦ (let q = g.1 in cc) | inr g ↦ (let q = g.1 in cc) ] | inr z ↦ (let q = z.4 in cc) ] | inr y ↦ y.1 (n, refl) ];
   }
 
@@ -45,7 +45,7 @@ pub forgetting : Forgetting
 forgetting = record {
   restart = forgotten;
   lasting = kept;
-  flush = λ past t r. elim r [ inl x ↦ (let q = x.1 in cc) | inr x ↦ x.2 refl ];
+  flush = λ past t r. elim r [ inl x ↦ (let q = x.1 in cc) | inr x ↦ x.1 (inr refl) ];
   hosts = λ v past t. (
     (λ g. elim g [ inl x ↦ absurd (flush_none t x) | inr x ↦ x.0 ]),
     λ g. inr (

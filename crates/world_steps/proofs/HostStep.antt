@@ -1,4 +1,6 @@
 -- A step of the host keeps what it has by itself, and what it has with each server.
+use Rattle.rpc_types.specs.declared.message.Body.TheVariants.{Bye}
+use Rattle.world_steps.specs.Sends.{HasSaid}
 use Rattle.std.proofs.Common.{◌≡◌, ℕ, ◌<◌, ◌≤◌, ◌⊎◌, List, ◌∷◌, inl, inr, sym, ◌∙◌, ap, subst, refl, arith}
 use Rattle.std.proofs.lemmas.Bool.{cases_lt}
 use Rattle.dfs_base.specs.declared.ids.HostId.{HostId}
@@ -19,7 +21,7 @@ use Rattle.world_steps.specs.declared.step.Step.{Step}
 use Rattle.world_steps.specs.Lists.{In}
 use Rattle.world_steps.specs.Places.{home, place}
 use Rattle.world_steps.specs.Epochs.{epoch_at, Raises, ComesIn, About, Renews}
-use Rattle.world_steps.specs.Sends.{Sends, Said, HasReturned, HasStopped, HasSaidBye}
+use Rattle.world_steps.specs.Sends.{Sends, Said, HasReturned, HasStopped}
 use Rattle.world_steps.specs.Gives.{number_of, Made, Known, IsKnown, Waits, NamesGive}
 use Rattle.world_steps.specs.Tokens.{Held, Owns, AtHand, EverHeld, Left}
 use Rattle.world_steps.specs.Requests.{Asking, Changing}
@@ -70,19 +72,19 @@ alone_step A s alone may = record { said_made = made'; said_epoch = epoch'; said
     one' g (inl m) = may.makes_from g m
     one' g (inr m) = alone.from_one g m
 
-    asking' : (v : ServerId) (fs : FilesetId) (n : ℕ) → HasSaidBye (s ∷ A) v → Asking (s ∷ A) fs n → ⊥
+    asking' : (v : ServerId) (fs : FilesetId) (n : ℕ) → HasSaid (s ∷ A) v Bye → Asking (s ∷ A) fs n → ⊥
     asking' v fs n (d, m, inl e) a = may.bye_asking v d m fs n e a
     asking' v fs n (d, m, inr e) a = elim a.0 [ inl q ↦ (may.fetches q.0 q.1.0 q.1.1 q.1.2 q.1.3).1 v (d, m, e) | inr q ↦ alone.bye_asking v fs n (d, m, e) q ]
 
-    changing' : (v w : ServerId) (fs : FilesetId) (n : ℕ) → HasSaidBye (s ∷ A) v → Changing (s ∷ A) w fs n → ⊥
+    changing' : (v w : ServerId) (fs : FilesetId) (n : ℕ) → HasSaid (s ∷ A) v Bye → Changing (s ∷ A) w fs n → ⊥
     changing' v w fs n (d, m, inl e) a = may.bye_changing v w d m fs n e a
     changing' v w fs n (d, m, inr e) a = elim a.0 [ inl q ↦ (may.changes q.0 q.1.0 q.1.1 q.1.2 q.1.3).1 v (d, m, e) | inr q ↦ alone.bye_changing v w fs n (d, m, e) q ]
 
-    unasked : (v : ServerId) (w : Bring) → HasSaidBye A v → Answers A s w → ⊥
+    unasked : (v : ServerId) (w : Bring) → HasSaid A v Bye → Answers A s w → ⊥
     unasked v w e (inl q) = alone.bye_asking v w.fid.fileset w.number e q.3
     unasked v w e (inr q) = alone.bye_changing v (place A w.fid.fileset).server q.0.fileset w.number e q.3
 
-    held' : (t : Token) (v : ServerId) → HasSaidBye (s ∷ A) v → Owns (s ∷ A) t → ⊥
+    held' : (t : Token) (v : ServerId) → HasSaid (s ∷ A) v Bye → Owns (s ∷ A) t → ⊥
     held' t v (d, m, inl e) k = may.bye_held v d m t e k
     held' t v (d, m, inr e) k = elim k.0 [ inl i ↦ (let w = may.takes t i in unasked v w.0 (d, m, e) w.1.0) | inr o ↦ alone.bye_held t v (d, m, e) o ]
 

@@ -1,4 +1,6 @@
 -- What every run keeps.
+use Rattle.rpc_types.specs.declared.message.Body.TheVariants.{Bye}
+use Rattle.world_steps.specs.Sends.{HasSaid}
 use Rattle.std.proofs.Common.{◌≡◌, ℕ, ◌<◌, ◌≤◌, ◌⊎◌, true, List}
 use Rattle.dfs_base.specs.declared.ids.HostId.{HostId}
 use Rattle.dfs_base.specs.declared.ids.ServerId.{ServerId}
@@ -22,7 +24,7 @@ use Rattle.world_steps.specs.declared.step.Step.{Step}
 use Rattle.world_steps.specs.Lists.{In}
 use Rattle.world_steps.specs.Places.{home, place, Here}
 use Rattle.world_steps.specs.Epochs.{epoch_at}
-use Rattle.world_steps.specs.Sends.{Said, HasReturned, HasStopped, HasSaidBye}
+use Rattle.world_steps.specs.Sends.{Said, HasReturned, HasStopped}
 use Rattle.world_steps.specs.Gives.{number_of, Made, Known, IsKnown, NamesGive}
 use Rattle.world_steps.specs.Tokens.{Left, Held, Owns, EverHeld}
 use Rattle.world_steps.specs.Requests.{Asking, Changing}
@@ -110,9 +112,9 @@ pub record Alone (A : List Step) : Type 0 where
   pub claim_moves : (v : ServerId) (e n : ℕ) (c : ReclaimOf) (o : Outstanding) → Said A v e n (Reclaim c) → In o c.numbers → o.moves ≡ (place A o.fileset).moves
   pub numbers : (g k : Give) → Made A g → Made A k → g.fid.fileset ≡ k.fid.fileset → g.number ≡ k.number → g ≡ k
   pub from_one : (g : Give) → Made A g → 0 < g.number
-  pub bye_asking : (v : ServerId) (fs : FilesetId) (n : ℕ) → HasSaidBye A v → Asking A fs n → ⊥
-  pub bye_changing : (v w : ServerId) (fs : FilesetId) (n : ℕ) → HasSaidBye A v → Changing A w fs n → ⊥
-  pub bye_held : (t : Token) (v : ServerId) → HasSaidBye A v → Owns A t → ⊥
+  pub bye_asking : (v : ServerId) (fs : FilesetId) (n : ℕ) → HasSaid A v Bye → Asking A fs n → ⊥
+  pub bye_changing : (v w : ServerId) (fs : FilesetId) (n : ℕ) → HasSaid A v Bye → Changing A w fs n → ⊥
+  pub bye_held : (t : Token) (v : ServerId) → HasSaid A v Bye → Owns A t → ⊥
   pub owns : (t : Token) → Held A t → Owns A t
   pub holds : (HasStopped A → ⊥) → (t : Token) → Owns A t → Held A t
 
@@ -152,4 +154,4 @@ pub record Link (h : HostId) (v : ServerId) (A : List Step) (S : List Act) : Typ
   pub claim_owed : (c : ReclaimOf) (t : Token) → Claiming v S h A c → (Away S h → ⊥) → In t c.tokens → Owed v S t ⊎ ((g : Give) × Made A g × In t.id g.ids × NamesGive c.numbers g)
   pub granted_owed : (t : Token) → t.host ≡ h → Granted v S t → Owed v S t
   pub left_out : (e n : ℕ) (r : ReclaimedOf) (i : TokenId) → SentTo S h e n (Reclaimed r) → In i r.left_out → Left A i
-  pub away : Away S h → HasStopped A ⊎ HasSaidBye A v
+  pub away : Away S h → HasStopped A ⊎ HasSaid A v Bye

@@ -1,4 +1,7 @@
 -- Every run keeps the invariant, and the laws follow from it.
+use Rattle.world_steps.proofs.Words.{acts_after, own_after}
+use Rattle.world_steps.specs.Acts.{admitting, deciding, sending}
+use Rattle.world_steps.specs.Lists.{Each, In, after}
 use Rattle.std.proofs.Common.{◌≡◌, ℕ, ◌<◌, suc, true, List, [], ◌∷◌, inl, inr, sym, ◌∙◌, ap, subst, refl, arith}
 use Rattle.dfs_base.specs.declared.ids.HostId.{HostId}
 use Rattle.dfs_base.specs.declared.ids.ServerId.{ServerId}
@@ -8,7 +11,9 @@ use Rattle.dfs_base.specs.declared.ids.Node.TheVariants.{Host, Server}
 use Rattle.tok_types.specs.declared.token.Token.{Token}
 use Rattle.tok_types.specs.Conflicts.{conflict}
 use Rattle.rpc_types.specs.declared.message.Body.{Body}
-use Rattle.rpc_types.specs.declared.message.Body.TheVariants.{GiveBack}
+use Rattle.rpc_types.specs.declared.message.Body.TheVariants.{GiveBack, Reclaimed}
+use Rattle.rpc_types.specs.declared.giving.Give.{Give}
+use Rattle.rpc_types.specs.declared.giving.Reclaimed.{Reclaimed as ReclaimedOf}
 use Rattle.rpc_types.specs.declared.message.Message.{Message}
 use Rattle.rpc_types.specs.declared.giving.AppliedGive.{AppliedGive}
 use Rattle.world_steps.specs.declared.applied.Admission.{Admission}
@@ -17,26 +22,65 @@ use Rattle.world_steps.specs.declared.applied.Applied.TheVariants.{Stored, Ends,
 use Rattle.world_steps.specs.declared.step.Cause.{Cause}
 use Rattle.world_steps.specs.declared.step.Cause.TheVariants.{Message as Came, Line, Restart, Lapse, Evict, End, Flushed}
 use Rattle.world_steps.specs.declared.step.Step.{Step}
-use Rattle.world_steps.specs.Places.{home}
-use Rattle.world_steps.specs.Nodes.{own, own_after}
+use Rattle.world_steps.specs.Places.{Here, home}
+use Rattle.world_steps.specs.Nodes.{own}
 use Rattle.world_steps.specs.Epochs.{ComesIn}
 use Rattle.world_steps.specs.Sends.{Said, HasStopped}
-use Rattle.world_steps.specs.Gives.{number_of}
+use Rattle.world_steps.specs.Gives.{Made, number_of}
 use Rattle.world_steps.specs.Tokens.{Held}
 use Rattle.world_steps.specs.HostTokens.{HostTokens}
-use Rattle.world_steps.specs.Acts.{Act, epoch, SentTo, after_cause, after_written, after_admitted, after_sent, written_by, admitted_by, sent_by, after_step, acts, acts_after}
+use Rattle.world_steps.specs.Acts.{Act, epoch, SentTo, after_cause, written_by, admitted_by, sent_by, after_step, acts}
 use Rattle.world_steps.specs.Acts.Act.{Begins, Took, Flushes, Wants, Writes, Admits, Sent, Reserves}
-use Rattle.world_steps.specs.Hosts.{Away, TakesOf, HasReclaimed, IsBegin}
-use Rattle.world_steps.specs.Grants.{Granted, Applied as IsApplied, WasApplied}
+use Rattle.world_steps.specs.Hosts.{Away, TakesOf, HasReclaimed, IsBegin, TookEver}
+use Rattle.world_steps.specs.Grants.{Granted, Reserved, Applied as IsApplied, WasApplied}
 use Rattle.world_steps.specs.ServerTokens.{ServerTokens}
-use Rattle.world_steps.specs.TokenRuns.{MayWriteAll, MayAdmitAll, MaySendAll, StepMay, IsTokenRun}
-use Rattle.world_steps.specs.TokenLaws.{NoConflict, GrantsApart, GrantedHere, HeldGranted, NoneRefused, GivenEnded, NonePassed, GivesOnce, ChangesOnce, OnceEach, ReservedApart, TokensAreSafe, AreAlwaysSafe, TokensNeverConflict}
+use Rattle.world_steps.specs.TokenRuns.{StepMay, IsTokenRun}
+use Rattle.world_steps.specs.TokenLaws.{NoConflict, GivesOnce, ChangesOnce, TokensAreSafe, AreAlwaysSafe, TokensNeverConflict}
 use Rattle.world_steps.proofs.Owed.{Owed}
 use Rattle.world_steps.proofs.Words.{of_one, if_host, if_server, made_at}
 use Rattle.world_steps.proofs.Invariant.{Served, Alone, Link}
 use Rattle.world_steps.proofs.HostStep.{alone_step, host_step}
 use Rattle.world_steps.proofs.ServerAct.{served_act, link_act}
 use Rattle.world_steps.proofs.ServerBegin.{served_begin, link_begin}
+
+-- the law, part by part
+abbrev GrantsApart : (ServerId → ℕ) → List Step → Type 0
+GrantsApart firsts past =
+    (v w : ServerId) (t u : Token) → Granted v (acts (firsts v) v past) t → Granted w (acts (firsts w) w past) u
+    → conflict t u ≡ true → ⊥
+
+abbrev GrantedHere : (ServerId → ℕ) → List Step → Type 0
+GrantedHere firsts past =
+    (v : ServerId) (t : Token) → Granted v (acts (firsts v) v past) t
+    → (moves : ℕ) × Here v (acts (firsts v) v past) t.fid.fileset moves
+
+abbrev HeldGranted : (ServerId → ℕ) → List Step → Type 0
+HeldGranted firsts past =
+    (h : HostId) (v : ServerId) (t : Token) → (HasStopped (own h past) → ⊥) → Held (own h past) t → t.id.server ≡ v
+    → HasReclaimed (acts (firsts v) v past) h → Granted v (acts (firsts v) v past) t
+
+abbrev NoneRefused : (ServerId → ℕ) → List Step → Type 0
+NoneRefused firsts past =
+    (h : HostId) (v : ServerId) (e n : ℕ) (r : ReclaimedOf) (t : Token)
+    → SentTo (acts (firsts v) v past) h e n (Reclaimed r) → In t.id r.left_out → Held (own h past) t → ⊥
+
+abbrev GivenEnded : (ServerId → ℕ) → List Step → Type 0
+GivenEnded firsts past =
+    (h : HostId) (v : ServerId) (g : Give) (t : Token) → Made (own h past) g → In t.id g.ids → t.host ≡ h
+    → IsApplied v (acts (firsts v) v past) h (number_of g) → Granted v (acts (firsts v) v past) t → ⊥
+
+abbrev NonePassed : (ServerId → ℕ) → List Step → Type 0
+NonePassed firsts past =
+    (h : HostId) (v : ServerId) (g : Give) → Made (own h past) g → IsApplied v (acts (firsts v) v past) h (number_of g)
+    → TookEver v (acts (firsts v) v past) h g.fid.fileset (GiveBack g)
+
+abbrev OnceEach : (ServerId → ℕ) → List Step → Type 0
+OnceEach firsts past = (v : ServerId) → GivesOnce v (acts (firsts v) v past) × ChangesOnce (acts (firsts v) v past)
+
+abbrev ReservedApart : (ServerId → ℕ) → List Step → Type 0
+ReservedApart firsts past =
+    (v : ServerId) (r t : Token) → Reserved (acts (firsts v) v past) r → Granted v (acts (firsts v) v past) t
+    → conflict t r ≡ true → ⊥
 
 pub record AtServer (own_of : HostId → List Step) (v : ServerId) (S : List Act) : Type 0 where
   pub served : Served v S
@@ -88,11 +132,11 @@ module _ (own_of : HostId → List Step) (alone : (h : HostId) → Alone (own_of
         changes = (at.changes, λ w e old. may.writes_once w e (w.number, omega arith, old));
       }
 
-  sends : (ms : List Message) (S : List Act) → AtServer own_of v S → MaySendAll v ms S → AtServer own_of v (after_sent ms S)
+  sends : (ms : List Message) (S : List Act) → AtServer own_of v S → Each (ServerTokens v) (sending ms) S → AtServer own_of v (after (sending ms) S)
   sends [] S at may = at
   sends (m ∷ ms) S at may = sends ms (Sent m.host m.epoch m.moves m.body ∷ S) (act S (Sent m.host m.epoch m.moves m.body) at may.0 (λ p. let q = p.1 in cc) refl (λ h e n b p. absurd (cc))) may.1
 
-  writes : (xs : List Applied) (S : List Act) → AtServer own_of v S → MayWriteAll v xs S → AtServer own_of v (after_written xs S)
+  writes : (xs : List Applied) (S : List Act) → AtServer own_of v S → Each (ServerTokens v) (deciding xs) S → AtServer own_of v (after (deciding xs) S)
   writes [] S at may = at
   writes (IsWanted x ∷ xs) S at may = writes xs (Wants x ∷ S) (act S (Wants x) at may.0 (λ p. let q = p.1 in cc) refl (λ h e n b p. absurd (cc))) may.1
   writes (IsDone x ∷ xs) S at may = writes xs (Writes x ∷ S) (act S (Writes x) at may.0 (λ p. let q = p.1 in cc) refl (λ h e n b p. absurd (cc))) may.1
@@ -100,7 +144,7 @@ module _ (own_of : HostId → List Step) (alone : (h : HostId) → Alone (own_of
   writes (Stored h f ss n ∷ xs) S at may = writes xs S at may
   writes (IsDown h ∷ xs) S at may = writes xs S at may
 
-  admits : (cs : List Admission) (S : List Act) → AtServer own_of v S → MayAdmitAll v cs S → AtServer own_of v (after_admitted cs S)
+  admits : (cs : List Admission) (S : List Act) → AtServer own_of v S → Each (ServerTokens v) (admitting cs) S → AtServer own_of v (after (admitting cs) S)
   admits [] S at may = at
   admits (c ∷ cs) S at may = admits cs (Admits c.host c.tokens ∷ S) (act S (Admits c.host c.tokens) at may.0 (λ p. let q = p.1 in cc) refl (λ h e n b p. absurd (cc))) may.1
 

@@ -1,4 +1,6 @@
 -- The rules of tokens admit a restart, a claim and a give-back.
+use Rattle.world_steps.specs.Sends.{HasSaid}
+use Rattle.world_steps.proofs.Words.{given_up}
 use Rattle.std.proofs.Common.{◌≡◌, ℕ, ◌<◌, ◌⊎◌, false, List, [], ◌∷◌, inl, inr, sym, ◌∙◌, ap, subst, refl, arith}
 use Rattle.dfs_base.specs.declared.ids.HostId.{HostId}
 use Rattle.dfs_base.specs.declared.ids.ServerId.{ServerId}
@@ -30,7 +32,7 @@ use Rattle.world_steps.specs.Lists.{In}
 use Rattle.world_steps.specs.Places.{home}
 use Rattle.world_steps.specs.Nodes.{own}
 use Rattle.world_steps.specs.Epochs.{epoch_at}
-use Rattle.world_steps.specs.Sends.{Sends, Said, Returns, HasStopped, HasSaidBye}
+use Rattle.world_steps.specs.Sends.{Sends, Said, Returns, HasStopped}
 use Rattle.world_steps.specs.Gives.{number_of, Made, IsKnown}
 use Rattle.world_steps.specs.Tokens.{Held, AtHand, Drops, Leaves}
 use Rattle.world_steps.specs.Requests.{Changing}
@@ -83,7 +85,7 @@ stays a S live down bye = (inr live.0, λ w. elim w [ inl g ↦ elim g [ inl d �
 
 back : (a : Act) (S : List Act) → ((ts : List Token) → a ≡ Admits client ts → ⊥) → ((e n : ℕ) → a ≡ Took client e n Hello → ⊥) → HasReclaimed (a ∷ S) client → HasReclaimed S client
 back a S claims hello (inl (inl z)) = absurd (claims z.0 z.1)
-back a S claims hello (inl (inr z)) = absurd (hello z.0.0 z.0.1 z.0.2)
+back a S claims hello (inl (inr z)) = absurd (elim z.0 [ inl p ↦ hello p.0.0 p.0.1 p.0.2 | inr p ↦ z.1 p ])
 back a S claims hello (inr y) = y.0
 
 fresh_none : (a : Act) → ((h : HostId) (e n : ℕ) (g : GrantOf) → a ≡ Sent h e n (Grant g) → ⊥) → ((h : HostId) (e n : ℕ) (d : DoneOf) → a ≡ Sent h e n (Done d) → ⊥) → ((h : HostId) (ts : List Token) → a ≡ Admits h ts → ⊥) → (t : Token) → IsNewlyGranted a t → ⊥
@@ -140,7 +142,7 @@ module _ (whole : Span) where
       let r1 = back (Took client 2 0 (Reclaim (claim whole))) began_again (λ ts p. cc) (λ e n p. cc) r in
       let r2 = back (Reserves []) (Sent client 2 0 Restarted ∷ Begins 2 ∷ before) (λ ts p. cc) (λ e n p. cc) r1 in
       let r3 = back (Sent client 2 0 Restarted) (Begins 2 ∷ before) (λ ts p. cc) (λ e n p. cc) r2 in
-      elim r3 [ inl y ↦ elim y [ inl z ↦ (let q = z.1 in cc) | inr z ↦ (let q = z.0.2 in cc) ] | inr y ↦ y.1 (2, refl) ]
+      elim r3 [ inl y ↦ elim y [ inl z ↦ (let q = z.1 in cc) | inr z ↦ elim z.0 [ inl p ↦ (let q = p.0.2 in cc) | inr p ↦ z.1 p ] ] | inr y ↦ y.1 (2, refl) ]
 
   not_granted : (t : Token) → Granted site_one asked_again t → ⊥
   not_granted t g =
@@ -150,8 +152,11 @@ module _ (whole : Span) where
       elim g3 [ inl n ↦ fresh_none (Begins 2) (λ h e n w p. cc) (λ h e n w p. cc) (λ h ts p. cc) t n | inr y ↦ y.1 (2, refl) ]
 
   not_given_up : (i : TokenId) → GivenUp site_one asked_again client i → ⊥
-  not_given_up i (inl l) = let q = took_only l.0.fid.fileset (GiveBack l.0) l.1 in cc
-  not_given_up i (inr l) = let q = took_only l.0.fid.fileset (Returned l.0) l.1 in cc
+  not_given_up i given =
+      elim (given_up site_one asked_again client i given) [
+        | inl l ↦ (let q = took_only l.0.fid.fileset (GiveBack l.0) l.1 in cc)
+        | inr l ↦ (let q = took_only l.0.fid.fileset (Returned l.0) l.1 in cc)
+      ]
 
   -- what both tokens have
   both : (P : Token → Type 0) → P first → P second → (t : Token) → In t (claim whole).tokens → P t
@@ -337,7 +342,7 @@ module _ (whole : Span) where
   dropped_is t (l, inl e, at) = ap (λ (x : Leave). x.token) (sym e) ∙ at
   dropped_is t (l, inr e, at) = elim e [ ]
 
-  said_six_bye : (v : ServerId) → HasSaidBye six v → ⊥
+  said_six_bye : (v : ServerId) → HasSaid six v Bye → ⊥
   said_six_bye v (e, n, inl p) = (let q = (only_claim v e n Bye p).3 in cc)
   said_six_bye v (e, n, inr p) = said_five v e n Bye p
 

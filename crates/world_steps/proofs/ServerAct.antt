@@ -1,4 +1,6 @@
 -- A doing of a server but the begin of an epoch keeps what it has by itself, and what it has with each host.
+use Rattle.world_steps.specs.Sends.{HasSaid}
+use Rattle.world_steps.proofs.Words.{TookGiven, given_up, gives_up}
 use Rattle.std.proofs.Common.{◌≡◌, ℕ, ◌<◌, ◌≤◌, ◌⊎◌, true, List, [], ◌∷◌, inl, inr, sym, ◌∙◌, ap, subst, refl, arith}
 use Rattle.std.proofs.lemmas.Bool.{cases_lt}
 use Rattle.dfs_base.specs.declared.ids.HostId.{HostId}
@@ -25,7 +27,7 @@ use Rattle.world_steps.specs.declared.step.Step.{Step}
 use Rattle.world_steps.specs.Lists.{In}
 use Rattle.world_steps.specs.Places.{home, Here}
 use Rattle.world_steps.specs.Epochs.{epoch_at}
-use Rattle.world_steps.specs.Sends.{Said, HasReturned, HasStopped, HasSaidBye}
+use Rattle.world_steps.specs.Sends.{Said, HasReturned, HasStopped}
 use Rattle.world_steps.specs.Gives.{number_of, Made, NamesGive}
 use Rattle.world_steps.specs.Tokens.{Left, Owns}
 use Rattle.world_steps.specs.Floors.{AboveFloor}
@@ -194,7 +196,7 @@ module _ (v : ServerId) (S : List Act) (a : Act) (served : Served v S) (may : Se
 
   -- no grace period begins but with an epoch
   grace_on : NoGrace S → NoGrace (a ∷ S)
-  grace_on over k (inl hello, live) = inl (inr hello)
+  grace_on over k (inl hello, live) = inl (inr (inl hello, hello.1))
   grace_on over k (inr l, live) = inr (over k (l, λ w. live (inr w)), quiet)
 
   keeps_brings : (ts : List Token) (t : Token) (k : Mark) → a ≡ Reserves ts → Issues a t k → ⊥
@@ -205,7 +207,7 @@ module _ (v : ServerId) (S : List Act) (a : Act) (served : Served v S) (may : Se
   reserved' r (inl (ts, e, m)) =
       let over = (may.reserves ts r r e m).0 in
       (grace_on over, λ t o x. elim o [ inl i ↦ keeps_brings ts t i.0 e i.1 | inr p ↦ (may.reserves ts r t e m).1 (served.owed_granted t p.0 (over t.host (served.owed_live t p.0))) (conflict_both r t ∙ x) ])
-  reserved' r (inr (k, _, _)) =
+  reserved' r (inr (k, _)) =
       let old = served.reserved r k in
       (grace_on old.0, λ t o x. elim (owes t o) [ inl n ↦ n.1.may.free t r n.1.in_it (inr k) x | inr p ↦ old.1 t p x ])
 
@@ -243,8 +245,11 @@ module _ (h : HostId) (v : ServerId) (A : List Step) (S : List Act) (a : Act) (s
 
   -- what its host has given up has left it
   given_up_left : (i : TokenId) → GivenUp v S h i → Left A i
-  given_up_left i (inl l) = made_left A l.0 i (now_made l.0.fid.fileset l.0 l.1) l.2
-  given_up_left i (inr l) = returned_left A i (now_returned l.0.fid.fileset l.0 i l.1 l.2)
+  given_up_left i given =
+      elim (given_up v S h i given) [
+        | inl l ↦ made_left A l.0 i (now_made l.0.fid.fileset l.0 l.1) l.2
+        | inr l ↦ returned_left A i (now_returned l.0.fid.fileset l.0 i l.1 l.2)
+      ]
 
   -- a host's claim that the doing lets count
   claiming : (ts : List Token) (m : MayAdmit v S h ts) → Claiming v S h A m.claim
@@ -270,7 +275,7 @@ module _ (h : HostId) (v : ServerId) (A : List Step) (S : List Act) (a : Act) (s
       let same_give = o.3 in
       let w = p.waited o.0 o.1 (omega arith) (named_here p.claim o.0 (claiming ts p) o.1 (ap home o.2 ∙ link.made_id g i k n at)) in
       let is : w.0 ≡ g = alone.numbers w.0 g (now_made o.0.fileset w.0 w.1) k (w.2 ∙ o.2) (w.3 ∙ o.3) in
-      inl (g, subst (λ (y : Give). TookOf v S h g.fid.fileset (GiveBack y)) is (subst (λ (f : FilesetId). TookOf v S h f (GiveBack w.0)) o.2 w.1), n)
+      gives_up v S h g i (subst (λ (y : Give). TookOf v S h g.fid.fileset (GiveBack y)) is (subst (λ (f : FilesetId). TookOf v S h f (GiveBack w.0)) o.2 w.1)) n
 
   -- an issued token that a claim names, and that the host hasn't given up, is granted by it
   admitted_is : (ts : List Token) (p : MayAdmit v S h ts) (t : Token) (x : Mark) → Issued S t x → t.host ≡ h → In t p.claim.tokens → (GivenUp v S h t.id → ⊥) → In t ts
@@ -360,9 +365,12 @@ module _ (h : HostId) (v : ServerId) (A : List Step) (S : List Act) (a : Act) (s
           let files = ap (λ (y : Give). y.fid.fileset) (sym one) in
           not (inl (k, subst (λ (f : FilesetId). TakesOf v S a h f (GiveBack k)) files took, files, (let e : g.number ≡ k.number = ap (λ (y : Give). y.number) one in omega arith)))
 
-      given_up : (x : OwedId v S h i) → GivenUp v S h x.token.id → Applied v S h (number_of g)
-      given_up x (inl l) = subst (λ (y : Give). Applied v S h (number_of y)) (link.made_once l.0 g i at (now_made l.0.fid.fileset l.0 l.1) m (subst (λ y. In y l.0.ids) x.same l.2) n) (took_applied v S h l.0 l.1)
-      given_up x (inr l) = link.returned i g at (now_returned l.0.fid.fileset l.0 i l.1 (subst (λ y. In y l.0.ids) x.same l.2)) m n
+      by_either : (x : OwedId v S h i) → TookGiven v S h x.token.id → Applied v S h (number_of g)
+      by_either x (inl l) = subst (λ (y : Give). Applied v S h (number_of y)) (link.made_once l.0 g i at (now_made l.0.fid.fileset l.0 l.1) m (subst (λ y. In y l.0.ids) x.same l.2) n) (took_applied v S h l.0 l.1)
+      by_either x (inr l) = link.returned i g at (now_returned l.0.fid.fileset l.0 i l.1 (subst (λ y. In y l.0.ids) x.same l.2)) m n
+
+      given_applied : (x : OwedId v S h i) → GivenUp v S h x.token.id → Applied v S h (number_of g)
+      given_applied x l = by_either x (given_up v S h x.token.id l)
 
       admitted : (x : OwedId v S h i) (ts : List Token) → a ≡ Admits h ts → In x.token ts
       admitted x ts q =
@@ -373,7 +381,7 @@ module _ (h : HostId) (v : ServerId) (A : List Step) (S : List Act) (a : Act) (s
           let j = link.ever u.0 ever.1 ever.0 in
           let k = served.owed_issued x.token x.owed in
           let one : u.0 ≡ x.token = (served.unique u.0 x.token j.0 k.0 j.1 k.1 (u.2 ∙ sym x.same)).0 in
-          admitted_is ts p x.token k.0 k.1 x.host (subst (λ (y : Token). In y p.claim.tokens) one u.1) (λ l. not (inr (given_up x l)))
+          admitted_is ts p x.token k.0 k.1 x.host (subst (λ (y : Token). In y p.claim.tokens) one u.1) (λ l. not (inr (given_applied x l)))
 
   applied_now : (g k : Give) → Made A g → TakesOf v S a h g.fid.fileset (GiveBack k) → k.fid.fileset ≡ g.fid.fileset → g.number ≤ k.number → Applied v S h (number_of g) ⊎ (k ≡ g)
   applied_now g k m e f le =
@@ -447,7 +455,7 @@ module _ (h : HostId) (v : ServerId) (A : List Step) (S : List Act) (a : Act) (s
           let c = claiming ts w in
           elim (link.claim_spent w.claim g t c (w.sound t i).0 m n r) [
             | inl o ↦ (w.sound t i).3 (named_given ts w g t.id m n (alone.claim_ever v c.epoch_is c.moves w.claim t c.said (w.sound t i).0).1 o)
-            | inr o ↦ (w.sound t i).3 (inl (g, o, n))
+            | inr o ↦ (w.sound t i).3 (gives_up v S h g t.id o n)
           ]
 
       go : Applied v (a ∷ S) h (number_of g) → Granted v (a ∷ S) t → ⊥
@@ -470,7 +478,7 @@ module _ (h : HostId) (v : ServerId) (A : List Step) (S : List Act) (a : Act) (s
   left_out' d n r i (inl e) m = given_up_left i (may.left_out h d n r i e m)
   left_out' d n r i (inr o) m = link.left_out d n r i o m
 
-  away' : Away (a ∷ S) h → HasStopped A ⊎ HasSaidBye A v
+  away' : Away (a ∷ S) h → HasStopped A ⊎ HasSaid A v Bye
   away' (inl (inl (d, n, e))) = inl (v, d, n, came d n Down e)
   away' (inl (inr e)) = inr (epoch S, e.0.0, came (epoch S) e.0.0 Bye e.0.1)
   away' (inr o) = link.away o

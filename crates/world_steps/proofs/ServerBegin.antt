@@ -45,7 +45,7 @@ module _ (v : ServerId) (S : List Act) (n : ℕ) where
 
   not_reclaimed : (h : HostId) → HasReclaimed (Begins n ∷ S) h → ⊥
   not_reclaimed h (inl (inl (ts, e))) = cc
-  not_reclaimed h (inl (inr e)) = (let q = e.0.2 in cc)
+  not_reclaimed h (inl (inr e)) = elim e.0 [ inl z ↦ (let q = z.0.2 in cc) | inr z ↦ e.1 z ]
   not_reclaimed h (inr (r, q)) = q (n, refl)
 
   was_away : (h : HostId) → Away (Begins n ∷ S) h → Away S h
@@ -79,7 +79,7 @@ module _ (v : ServerId) (S : List Act) (n : ℕ) where
     reclaimed = λ h d m r k p i. inr (served.reclaimed h d m r k (was_sent h d m (Reclaimed r) p) i);
     sent_epoch = λ h d m b p. (let le = served.sent_epoch h d m b (was_sent h d m b p) in omega arith);
     apart = λ t u o p. served.apart t u (was_owed t o) (was_owed u p);
-    reserved = λ r k. elim k [ inl x ↦ absurd (let q = x.1 in cc) | inr x ↦ absurd (x.1 (n, refl)) ];
+    reserved = λ r k. elim k [ inl x ↦ absurd (let q = x.1 in cc) | inr x ↦ absurd (x.1 (inl (n, refl))) ];
   }
 
   pub link_begin : (h : HostId) (A : List Step) → epoch S < n → Alone A → Link h v A S → Link h v A (Begins n ∷ S)

@@ -1,8 +1,12 @@
 -- How the words follow from one another.
+use Rattle.world_steps.specs.Acts.{after_step}
+use Rattle.world_steps.specs.Nodes.{is_node}
 use Rattle.std.proofs.Common.{◌≡◌, ℕ, ◌⊎◌, ◌==◌, ◌&&◌, ◌≤◌, nat_lt, not, Bool, true, false, if◌then◌else◌, List, [], ◌∷◌, inl, inr, sym, ◌∙◌, ap, refl, arith, eqb-true, ltb-true}
 use Rattle.std.proofs.lemmas.Bool.{and_parts, false≢true}
 use Rattle.dfs_base.specs.declared.ids.HostId.{HostId}
 use Rattle.dfs_base.specs.declared.ids.ServerId.{ServerId}
+use Rattle.dfs_base.specs.declared.ids.Node.{Node}
+use Rattle.dfs_base.specs.declared.ids.Node.TheVariants.{Host, Server}
 use Rattle.dfs_base.specs.declared.ids.Fid.{Fid}
 use Rattle.dfs_base.specs.declared.ids.FilesetId.{FilesetId}
 use Rattle.dfs_base.specs.Ids.{same_fid}
@@ -29,7 +33,7 @@ use Rattle.world_steps.specs.Tokens.{Left}
 use Rattle.world_steps.specs.Places.{Place, home, Here}
 use Rattle.world_steps.specs.Acts.{Act}
 use Rattle.world_steps.specs.Hosts.{TookOf, TookEver}
-use Rattle.world_steps.specs.Grants.{Mark, Brings, Applied}
+use Rattle.world_steps.specs.Grants.{Mark, Brings, Applied, GivenUp}
 
 pub said_returned : (A : List Step) (v : ServerId) (e n : ℕ) (named : Named) (i : TokenId) → Said A v e n (Returned named) → In i named.ids → HasReturned A i
 said_returned [] v e n named i p m = elim p [ ]
@@ -108,6 +112,35 @@ pub took_applied : (v : ServerId) (S : List Act) (h : HostId) (g : Give) → Too
 took_applied v [] h g e = elim e [ ]
 took_applied v (a ∷ S) h g (inl e) = inl (g, e, refl, omega arith)
 took_applied v (a ∷ S) h g (inr e) = inr (took_applied v S h g e.0)
+
+-- what the host gave up in this epoch, by a give-back or by a Returned that was taken in it
+abbrev pub TookGiven : ServerId → List Act → HostId → TokenId → Type 0
+TookGiven v S h i =
+    ((give : Give) × TookOf v S h give.fid.fileset (GiveBack give) × In i give.ids)
+    ⊎ ((named : Named) × TookOf v S h named.fid.fileset (Returned named) × In i named.ids)
+
+pub given_up : (v : ServerId) (S : List Act) (h : HostId) (i : TokenId) → GivenUp v S h i → TookGiven v S h i
+given_up v [] h i e = elim e [ ]
+given_up v (a ∷ S) h i (inl (inl (w, e, m))) = inr (w, inl e, m)
+given_up v (a ∷ S) h i (inl (inr (g, e, m))) = inl (g, inl e, m)
+given_up v (a ∷ S) h i (inr (e, quiet)) =
+    elim (given_up v S h i e) [
+      | inl l ↦ inl (l.0, inr (l.1, quiet), l.2)
+      | inr l ↦ inr (l.0, inr (l.1, quiet), l.2)
+    ]
+
+pub gives_up : (v : ServerId) (S : List Act) (h : HostId) (g : Give) (i : TokenId)
+    → TookOf v S h g.fid.fileset (GiveBack g) → In i g.ids → GivenUp v S h i
+gives_up v [] h g i e m = elim e [ ]
+gives_up v (a ∷ S) h g i (inl e) m = inl (inr (g, e, m))
+gives_up v (a ∷ S) h g i (inr e) m = inr (gives_up v S h g i e.0 m, e.1)
+
+-- the steps of a host, and the doings of a server, after a step of a node
+abbrev pub own_after : HostId → Node → Step → List Step → List Step
+own_after host node step steps = if is_node node (Host host) then step ∷ steps else steps
+
+abbrev pub acts_after : ServerId → Node → Step → List Act → List Act
+acts_after server node step past = if is_node node (Server server) then after_step step past else past
 
 -- where the host's epoch comes from
 pub record From (c : Cause) (v : ServerId) (n : ℕ) : Type 0 where

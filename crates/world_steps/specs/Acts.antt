@@ -1,4 +1,7 @@
 -- A server's doings: each step of it, taken apart in order. All lists of doings have the newest first.
+use Rattle.std.specs.Prelude.{flat_map, map}
+use Rattle.world_steps.specs.Lists.{Once, after}
+use Rattle.world_steps.specs.Nodes.{is_node}
 use Rattle.std.specs.Prelude.{◌≡◌, ℕ, suc, ◌==◌, ◌⊎◌, if◌then◌else◌, List, [], ◌∷◌}
 use Rattle.dfs_base.specs.declared.ids.HostId.{HostId}
 use Rattle.dfs_base.specs.declared.ids.ServerId.{ServerId}
@@ -45,8 +48,7 @@ epoch (a ∷ past) = epoch_after a (epoch past)
 
 -- it sent the host this, in an epoch, with this number of moves
 abbrev pub SentTo : List Act → HostId → ℕ → ℕ → Body → Type 0
-SentTo [] host e moves body = ⊥
-SentTo (a ∷ past) host e moves body = (a ≡ Sent host e moves body) ⊎ SentTo past host e moves body
+SentTo past host e moves body = Once (λ before a. a ≡ Sent host e moves body) past
 
 -- the cause of a step is taken; a line `restart` raises the epoch by one
 abbrev pub after_cause : Cause → List Act → List Act
@@ -55,40 +57,37 @@ after_cause (Restart line) past = Begins (suc (epoch past)) ∷ past
 after_cause Flushed past = Flushes ∷ past
 after_cause _ past = past
 
--- wants are made and Changes written down, in order; the rest of what is applied belongs to the cause
-abbrev pub after_written : List Applied → List Act → List Act
-after_written [] past = past
-after_written (IsWanted wanted ∷ rest) past = after_written rest (Wants wanted ∷ past)
-after_written (IsDone written ∷ rest) past = after_written rest (Writes written ∷ past)
-after_written (_ ∷ rest) past = after_written rest past
+-- wants are made and Changes written down; the rest of what is applied belongs to the cause
+abbrev pub decisions_of : Applied → List Act
+decisions_of (IsWanted wanted) = Wants wanted ∷ []
+decisions_of (IsDone written) = Writes written ∷ []
+decisions_of _ = []
 
-abbrev pub after_admitted : List Admission → List Act → List Act
-after_admitted [] past = past
-after_admitted (c ∷ cs) past = after_admitted cs (Admits c.host c.tokens ∷ past)
+abbrev pub deciding : List Applied → List Act
+deciding applied = flat_map decisions_of applied
 
-abbrev pub after_sent : List Message → List Act → List Act
-after_sent [] past = past
-after_sent (m ∷ ms) past = after_sent ms (Sent m.host m.epoch m.moves m.body ∷ past)
+abbrev pub admitting : List Admission → List Act
+admitting admitted = map (λ claim. Admits claim.host claim.tokens) admitted
+
+abbrev pub sending : List Message → List Act
+sending sent = map (λ m. Sent m.host m.epoch m.moves m.body) sent
 
 -- where a step of the server has come: wants are made and Changes written down; claims are granted; all is sent
 abbrev pub written_by : Step → List Act → List Act
-written_by step past = after_written step.applied (after_cause step.cause past)
+written_by step past = after (deciding step.applied) (after_cause step.cause past)
 
 abbrev pub admitted_by : Step → List Act → List Act
-admitted_by step past = after_admitted step.admitted (written_by step past)
+admitted_by step past = after (admitting step.admitted) (written_by step past)
 
 abbrev pub sent_by : Step → List Act → List Act
-sent_by step past = after_sent step.sent (admitted_by step past)
+sent_by step past = after (sending step.sent) (admitted_by step past)
 
 -- the doings after a step of the server
 abbrev pub after_step : Step → List Act → List Act
 after_step step past = Reserves step.reserved ∷ sent_by step past
 
-abbrev pub acts_after : ServerId → Node → Step → List Act → List Act
-acts_after server (Host other) step past = past
-acts_after server (Server other) step past = if other.0 == server.0 then after_step step past else past
-
 -- the doings of a server that starts in an epoch
 abbrev pub acts : ℕ → ServerId → List Step → List Act
 acts first server [] = Begins first ∷ []
-acts first server (step ∷ past) = acts_after server step.node step (acts first server past)
+acts first server (step ∷ past) =
+    if is_node step.node (Server server) then after_step step (acts first server past) else acts first server past

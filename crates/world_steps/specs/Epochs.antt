@@ -1,4 +1,5 @@
 -- A host's epoch at each server, and the messages that come to it. `past` is the host's own earlier steps.
+use Rattle.world_steps.specs.Lists.{Once}
 use Rattle.std.specs.Prelude.{◌≡◌, ℕ, ◌<◌, ◌⊎◌, ◌==◌, ◌&&◌, nat_lt, Bool, if◌then◌else◌, List, [], ◌∷◌}
 use Rattle.dfs_base.specs.declared.ids.ServerId.{ServerId}
 use Rattle.dfs_base.specs.declared.ids.FilesetId.{FilesetId}
@@ -32,8 +33,7 @@ Raises past step server = epoch_at past server < epoch_at (step ∷ past) server
 
 -- the step's cause is a message of this server, epoch and number of moves, with this body
 abbrev pub ComesIn : Step → ServerId → ℕ → ℕ → Body → Type 0
-ComesIn step server epoch moves body =
-    (m : Message) × (step.cause ≡ Came m)
+ComesIn step server epoch moves body = (m : Message) × (step.cause ≡ Came m)
     × (m.server ≡ server) × (m.epoch ≡ epoch) × (m.moves ≡ moves) × (m.body ≡ body)
 
 -- It speaks of no fileset, and is of the host's present epoch. The host ignores what is of another epoch, but for
@@ -44,8 +44,7 @@ Comes past step server body = ComesIn step server (epoch_at past server) 0 body
 -- It speaks of the fileset: it is of the server where the host takes the fileset to be, of the host's present epoch
 -- there, and of the fileset's present stay. The host ignores what is of another stay.
 abbrev pub About : List Step → Step → FilesetId → Body → Type 0
-About past step fileset body =
-    ComesIn step (place past fileset).server (epoch_at past (place past fileset).server)
+About past step fileset body = ComesIn step (place past fileset).server (epoch_at past (place past fileset).server)
     (place past fileset).moves body
 
 -- the floors of a fileset's files begin anew: the epoch of its server rises, or the host learns that it moved
@@ -55,7 +54,5 @@ Renews past step fileset =
 
 -- the host has taken a Reclaimed that it didn't ignore: it has greeted the server, and knows the server's epoch
 abbrev pub IsWelcome : List Step → ServerId → Type 0
-IsWelcome [] server = ⊥
-IsWelcome (step ∷ past) server =
-    ((answer : ReclaimedOf) × ComesIn step server (epoch_at (step ∷ past) server) 0 (Reclaimed answer))
-    ⊎ IsWelcome past server
+IsWelcome past server = Once (λ before step. (answer : ReclaimedOf)
+    × ComesIn step server (epoch_at (step ∷ before) server) 0 (Reclaimed answer)) past

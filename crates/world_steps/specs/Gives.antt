@@ -1,4 +1,5 @@
 -- A host's give-backs: made, outstanding, known as applied.
+use Rattle.world_steps.specs.Lists.{Once}
 use Rattle.std.specs.Prelude.{◌≡◌, ◌<◌, ◌⊎◌, List, [], ◌∷◌}
 use Rattle.dfs_base.specs.declared.ids.Fid.{Fid}
 use Rattle.dfs_base.specs.declared.ids.ServerId.{ServerId}
@@ -18,8 +19,7 @@ number_of give = record { fileset = give.fid.fileset; number = give.number }
 
 -- an earlier step made the give-back
 abbrev pub Made : List Step → Give → Type 0
-Made [] give = ⊥
-Made (step ∷ past) give = In give step.made ⊎ Made past give
+Made past give = Once (λ before step. In give step.made) past
 
 -- a give-back that the step makes names the token
 abbrev pub Makes : Step → TokenId → Type 0
@@ -34,15 +34,14 @@ Learns past step number =
 
 -- the give-back of this number is known as applied
 abbrev pub Known : List Step → AppliedGive → Type 0
-Known [] number = ⊥
-Known (step ∷ past) number = Learns past step number ⊎ Known past number
+Known past number = Once (λ before step. Learns before step number) past
 
 abbrev pub IsKnown : List Step → Give → Type 0
 IsKnown past give = Known past (number_of give)
 
--- no give-back of the file is made and not known as applied
-abbrev pub NoGiveOpen : List Step → Fid → Type 0
-NoGiveOpen past fid = (give : Give) → Made past give → give.fid ≡ fid → IsKnown past give
+-- a give-back of the file was made, and isn't known as applied
+abbrev pub GiveOpen : List Step → Fid → Type 0
+GiveOpen past fid = (give : Give) × Made past give × (give.fid ≡ fid) × (IsKnown past give → ⊥)
 
 -- an earlier give-back of the same fileset isn't known as applied, so this one waits: one is outstanding per fileset
 abbrev pub Waits : List Step → Give → Type 0

@@ -1,4 +1,6 @@
 -- The tokens that a server has granted, and those of its exporter.
+use Rattle.world_steps.specs.Lists.{Once, Since}
+use Rattle.world_steps.specs.Hosts.{InEpoch}
 use Rattle.std.specs.Prelude.{◌≡◌, ℕ, ◌≤◌, ◌⊎◌, List, [], ◌∷◌}
 use Rattle.dfs_base.specs.declared.ids.HostId.{HostId}
 use Rattle.dfs_base.specs.declared.ids.ServerId.{ServerId}
@@ -40,8 +42,7 @@ Issues a token mark =
 
 -- an earlier one did
 abbrev pub Issued : List Act → Token → Mark → Type 0
-Issued [] token mark = ⊥
-Issued (a ∷ past) token mark = Issues a token mark ⊎ Issued past token mark
+Issued past token mark = Once (λ before a. Issues a token mark) past
 
 -- a Returned or a give-back of the host names the token
 abbrev pub Names : ServerId → List Act → Act → HostId → TokenId → Type 0
@@ -75,23 +76,18 @@ Pinned server [] token = ⊥
 Pinned server (a ∷ past) token =
     (((named : Named) × TakesOf server past a token.host named.fid.fileset (Kept named) × In token.id named.ids
     × IsUseKind token.kind × Granted server past token)
-    ⊎ Pinned server past token)
-    × Granted server (a ∷ past) token
+    ⊎ Pinned server past token) × Granted server (a ∷ past) token
 
 -- the exporter keeps the token: what it was taken for isn't on the server's disk yet
 abbrev pub Reserved : List Act → Token → Type 0
-Reserved [] token = ⊥
-Reserved (a ∷ past) token =
-    ((tokens : List Token) × (a ≡ Reserves tokens) × In token tokens)
-    ⊎ (Reserved past token × (IsBegin a → ⊥) × (a ≡ Flushes → ⊥))
+Reserved past token = Since (λ before a. (tokens : List Token) × (a ≡ Reserves tokens) × In token tokens)
+    (λ before a. IsBegin a ⊎ (a ≡ Flushes)) past
 
 -- the host's give-back of this number is applied: it, or one of a higher number, was taken
 abbrev pub Applied : ServerId → List Act → HostId → AppliedGive → Type 0
-Applied server [] host number = ⊥
-Applied server (a ∷ past) host number =
-    ((give : Give) × TakesOf server past a host number.fileset (GiveBack give) × (give.fid.fileset ≡ number.fileset)
-    × (number.number ≤ give.number))
-    ⊎ Applied server past host number
+Applied server past host number =
+    Once (λ before a. (give : Give) × TakesOf server before a host number.fileset (GiveBack give)
+    × (give.fid.fileset ≡ number.fileset) × (number.number ≤ give.number)) past
 
 -- the doing applies the host's give-back: it takes it, and neither it nor a later one of its fileset was taken before
 abbrev pub Applies : ServerId → List Act → Act → HostId → Give → Type 0
@@ -100,23 +96,18 @@ Applies server past a host give =
 
 -- an earlier doing applied a give-back of this number
 abbrev pub WasApplied : ServerId → List Act → HostId → AppliedGive → Type 0
-WasApplied server [] host number = ⊥
-WasApplied server (a ∷ past) host number =
-    ((give : Give) × Applies server past a host give × (number_of give ≡ number)) ⊎ WasApplied server past host number
+WasApplied server past host number =
+    Once (λ before a. (give : Give) × Applies server before a host give × (number_of give ≡ number)) past
 
 -- a give-back or a Returned of the host that was taken in this epoch names the token
 abbrev pub GivenUp : ServerId → List Act → HostId → TokenId → Type 0
-GivenUp server past host id =
-    ((give : Give) × TookOf server past host give.fid.fileset (GiveBack give) × In id give.ids)
-    ⊎ ((named : Named) × TookOf server past host named.fid.fileset (Returned named) × In id named.ids)
+GivenUp server past host id = InEpoch (λ before a. Names server before a host id) past
 
 -- the host's Change of this fileset and number was written down
 abbrev pub WasWritten : List Act → HostId → FilesetId → ℕ → Type 0
-WasWritten [] host fileset number = ⊥
-WasWritten (a ∷ past) host fileset number =
-    ((written : Written) × (a ≡ Writes written) × (written.answer.host ≡ host) × (written.fileset ≡ fileset)
-    × (written.number ≡ number))
-    ⊎ WasWritten past host fileset number
+WasWritten past host fileset number =
+    Once (λ before a. (written : Written) × (a ≡ Writes written) × (written.answer.host ≡ host)
+    × (written.fileset ≡ fileset) × (written.number ≡ number)) past
 
 -- it, or one of a higher number, was: its number is durable
 abbrev pub IsDurable : List Act → HostId → FilesetId → ℕ → Type 0

@@ -1,7 +1,7 @@
 -- At which server a fileset is. A stay of a fileset begins when it comes to a server; it is known by the server and by
 -- how often the fileset has moved. So far a fileset stays where it was made: `place` and `Here` then speak of its first
 -- stay alone.
-use Rattle.std.specs.Prelude.{◌≡◌, ℕ, ◌/◌, List}
+use Rattle.std.specs.Prelude.{◌≡◌, ◌⊎◌, ℕ, ◌/◌, List}
 use Rattle.dfs_base.specs.declared.ids.ServerId.{ServerId}
 use Rattle.dfs_base.specs.declared.ids.FilesetId.{FilesetId}
 use Rattle.world_steps.specs.declared.step.Step.{Step}
@@ -23,6 +23,14 @@ birth fileset = record { server = home fileset; moves = 0 }
 -- where a host takes a fileset to be, after these steps of its own
 abbrev pub place : List Step → FilesetId → Place
 place past fileset = birth fileset
+
+abbrev pub IsAt : List Step → FilesetId → ServerId → ℕ → Type 0
+IsAt past fileset server moves = place past fileset ≡ record { server = server; moves = moves }
+
+-- where a host takes a call about a fileset to be decided; calls about filesets themselves, under fileset 0, have no
+-- moves
+abbrev pub IsDecidedAt : List Step → FilesetId → ServerId → ℕ → Type 0
+IsDecidedAt past fileset server moves = ((fileset.0 ≡ 0) × (moves ≡ 0)) ⊎ IsAt past fileset server moves
 
 -- the fileset is at the server in this stay, after these doings of the server
 abbrev pub Here : ServerId → List Act → FilesetId → ℕ → Type 0

@@ -59,20 +59,24 @@ pub record MayBring (server : ServerId) (past : List Act) (host : HostId) (moves
 
 -- the host asked for what the Grant brings, in this epoch and stay
 abbrev pub AskedFetch : List Act → HostId → ℕ → GrantOf → Type 0
-AskedFetch past host moves grant =
-    (fetch : FetchOf) × TookNow past host moves (Fetch fetch)
+AskedFetch past host moves grant = (fetch : FetchOf) × TookNow past host moves (Fetch fetch)
     × (fetch.number ≡ grant.bring.number) × (fetch.fid ≡ grant.bring.fid)
 
 -- the host asked for what the Done brings, in this epoch and stay
 abbrev pub AskedChange : List Act → HostId → ℕ → DoneOf → Type 0
-AskedChange past host moves done =
-    (change : ChangeOf) × TookNow past host moves (Change change)
+AskedChange past host moves done = (change : ChangeOf) × TookNow past host moves (Change change)
     × (change.number ≡ done.bring.number) × (change.fileset ≡ done.fileset) × (done.fileset ≡ done.bring.fid.fileset)
 
 -- the claim says of the token's fileset how often it has moved, and it is here in that stay
 abbrev pub ClaimsHere : ServerId → List Act → ReclaimOf → Token → Type 0
 ClaimsHere server past claim token =
     (o : Outstanding) × In o claim.numbers × (o.fileset ≡ token.fid.fileset) × Here server past o.fileset o.moves
+
+-- each give-back that the claim names as outstanding, of a fileset that is here in the stay that it names, was taken in
+-- this epoch
+abbrev pub HasAll : ServerId → List Act → HostId → ReclaimOf → Type 0
+HasAll server past host claim = (o : Outstanding) → In o claim.numbers → 0 < o.give → Here server past o.fileset o.moves
+    → (g : Give) × TookOf server past host o.fileset (GiveBack g) × (g.fid.fileset ≡ o.fileset) × (g.number ≡ o.give)
 
 -- a token of this number is granted
 abbrev pub IsGrantedId : ServerId → List Act → TokenId → Type 0
@@ -85,15 +89,12 @@ pub record MayAdmit (server : ServerId) (past : List Act) (host : HostId) (token
   pub claim : ReclaimOf
   pub moves : ℕ
   pub took : TookNow past host moves (Reclaim claim)
-  -- It waited until each give-back was taken in this epoch that it names as outstanding, but for those of filesets that
-  -- aren't here in the stay that it names.
-  pub waited : (o : Outstanding) → In o claim.numbers → 0 < o.give → Here server past o.fileset o.moves
-      → (g : Give) × TookOf server past host o.fileset (GiveBack g) × (g.fid.fileset ≡ o.fileset) × (g.number ≡ o.give)
+  -- it waited for the give-backs that it names
+  pub waited : HasAll server past host claim
   -- All its tokens are granted but these: those whose fileset isn't here in the stay that it names; those that a
   -- give-back or a Returned names that was taken in this epoch; and those whose number is granted already, or stands
   -- earlier in it.
-  pub sound : (t : Token) → In t tokens
-      → In t claim.tokens × (t.host ≡ host) × ClaimsHere server past claim t
+  pub sound : (t : Token) → In t tokens → In t claim.tokens × (t.host ≡ host) × ClaimsHere server past claim t
       × (GivenUp server past host t.id → ⊥) × (IsGrantedId server past t.id → ⊥)
   pub whole : (t : Token) → In t claim.tokens → ClaimsHere server past claim t → (GivenUp server past host t.id → ⊥)
       → (IsGrantedId server past t.id → ⊥) → (u : Token) × In u tokens × (u.id ≡ t.id)
@@ -128,8 +129,7 @@ pub record ServerTokens (server : ServerId) (past : List Act) (a : Act) : Type 0
   pub admits : (h : HostId) (tokens : List Token) → a ≡ Admits h tokens → MayAdmit server past h tokens
   -- A Change is written down once, and after no later one of its host and fileset, over all epochs; and in the epoch in
   -- which it was taken, so nothing decided stays unwritten over a restart.
-  pub writes : (w : Written) → a ≡ Writes w
-      → (c : ChangeOf) × (n : ℕ) × TookNow past w.answer.host n (Change c)
+  pub writes : (w : Written) → a ≡ Writes w → (c : ChangeOf) × (n : ℕ) × TookNow past w.answer.host n (Change c)
       × (c.fileset ≡ w.fileset) × (c.number ≡ w.number) × (c.k ≡ w.answer.k) × (c.call ≡ w.answer.call)
   pub writes_once : (w : Written) → a ≡ Writes w → IsDurable past w.answer.host w.fileset w.number → ⊥
   -- what the exporter keeps conflicts with no granted token, and is kept in no grace period

@@ -1,4 +1,5 @@
 -- The stamps under which a server has told of a file in this epoch.
+use Rattle.world_steps.specs.Hosts.{InEpoch}
 use Rattle.std.specs.Prelude.{◌≡◌, ℕ, ◌⊎◌, List, [], ◌∷◌}
 use Rattle.dfs_base.specs.declared.ids.HostId.{HostId}
 use Rattle.dfs_base.specs.declared.ids.Fid.{Fid}
@@ -20,5 +21,4 @@ Tells a fid stamp =
 
 -- an earlier one did, in this epoch
 abbrev pub Told : List Act → Fid → ℕ → Type 0
-Told [] fid stamp = ⊥
-Told (a ∷ past) fid stamp = Tells a fid stamp ⊎ (Told past fid stamp × (IsBegin a → ⊥))
+Told past fid stamp = InEpoch (λ before a. Tells a fid stamp) past

@@ -1,4 +1,6 @@
 -- Lists of steps that meet the rules of tokens.
+use Rattle.world_steps.specs.Acts.{admitting, deciding, sending}
+use Rattle.world_steps.specs.Lists.{Each}
 use Rattle.std.specs.Prelude.{◌≡◌, ℕ, ◌<◌, List, [], ◌∷◌}
 use Rattle.dfs_base.specs.declared.ids.HostId.{HostId}
 use Rattle.dfs_base.specs.declared.ids.ServerId.{ServerId}
@@ -19,46 +21,21 @@ use Rattle.world_steps.specs.Acts.{Act, SentTo, after_cause, written_by, admitte
 use Rattle.world_steps.specs.Acts.Act.{Wants, Writes, Admits, Sent, Reserves}
 use Rattle.world_steps.specs.ServerTokens.{ServerTokens}
 
--- the server may make each want and write down each Change among what is applied, one after the other
-abbrev pub MayWriteAll : ServerId → List Applied → List Act → Type 0
-MayWriteAll server [] past = Unit {0}
-MayWriteAll server (IsWanted wanted ∷ rest) past =
-    ServerTokens server past (Wants wanted) × MayWriteAll server rest (Wants wanted ∷ past)
-MayWriteAll server (IsDone written ∷ rest) past =
-    ServerTokens server past (Writes written) × MayWriteAll server rest (Writes written ∷ past)
-MayWriteAll server (_ ∷ rest) past = MayWriteAll server rest past
-
--- the server may grant each of these claims, one after the other
-abbrev pub MayAdmitAll : ServerId → List Admission → List Act → Type 0
-MayAdmitAll server [] past = Unit {0}
-MayAdmitAll server (c ∷ cs) past =
-    ServerTokens server past (Admits c.host c.tokens) × MayAdmitAll server cs (Admits c.host c.tokens ∷ past)
-
--- the server may send each of these messages, one after the other
-abbrev pub MaySendAll : ServerId → List Message → List Act → Type 0
-MaySendAll server [] past = Unit {0}
-MaySendAll server (m ∷ ms) past =
-    ServerTokens server past (Sent m.host m.epoch m.moves m.body)
-    × MaySendAll server ms (Sent m.host m.epoch m.moves m.body ∷ past)
-
 -- what a server may do with tokens in a step: each of its doings, one after the other, after its earlier ones
 pub record ServerStep (server : ServerId) (past : List Act) (s : Step) : Type 0 where
-  pub writes : MayWriteAll server s.applied (after_cause s.cause past)
-  pub admits : MayAdmitAll server s.admitted (written_by s past)
-  pub sends : MaySendAll server s.sent (admitted_by s past)
+  pub writes : Each (ServerTokens server) (deciding s.applied) (after_cause s.cause past)
+  pub admits : Each (ServerTokens server) (admitting s.admitted) (written_by s past)
+  pub sends : Each (ServerTokens server) (sending s.sent) (admitted_by s past)
   pub reserves : ServerTokens server (sent_by s past) (Reserves s.reserved)
 
 -- a message that is the cause of a host's step is addressed to it, and its server sent it in an earlier step
 abbrev pub CameToHost : (ServerId → ℕ) → HostId → List Step → Step → Type 0
-CameToHost firsts host past s =
-    (m : Message) → s.cause ≡ Came m
-    → (m.host ≡ host) × (m.direction ≡ ToHost)
+CameToHost firsts host past s = (m : Message) → s.cause ≡ Came m → (m.host ≡ host) × (m.direction ≡ ToHost)
     × SentTo (acts (firsts m.server) m.server past) host m.epoch m.moves m.body
 
 -- a message that is the cause of a server's step is addressed to it, and its host sent it in an earlier step
 abbrev pub CameToServer : ServerId → List Step → Step → Type 0
-CameToServer server past s =
-    (m : Message) → s.cause ≡ Came m
+CameToServer server past s = (m : Message) → s.cause ≡ Came m
     → (m.server ≡ server) × (m.direction ≡ ToServer) × Said (own m.host past) server m.epoch m.moves m.body
 
 -- the messages that a node sends are its own

@@ -1,4 +1,5 @@
 -- The tokens that a host has.
+use Rattle.world_steps.specs.Lists.{Once, Still}
 use Rattle.std.specs.Prelude.{◌≡◌, ◌⊎◌, List, [], ◌∷◌}
 use Rattle.tok_types.specs.declared.token.TokenId.{TokenId}
 use Rattle.tok_types.specs.declared.token.Token.{Token}
@@ -14,8 +15,7 @@ Drops step token = (leave : Leave) × In leave step.dropped × (leave.token ≡ 
 
 -- the host holds the token: it was taken and hasn't been dropped
 abbrev pub Held : List Step → Token → Type 0
-Held [] token = ⊥
-Held (step ∷ past) token = (In token step.taken ⊎ Held past token) × (Drops step token → ⊥)
+Held past token = Still (λ before step. In token step.taken) (λ before step. Drops step token) past
 
 -- the token is there once the step has taken what it takes
 abbrev pub AtHand : Step → List Step → Token → Type 0
@@ -27,8 +27,7 @@ HoldsId past id = (token : Token) × Held past token × (token.id ≡ id)
 
 -- the token was taken
 abbrev pub EverHeld : List Step → Token → Type 0
-EverHeld [] token = ⊥
-EverHeld (step ∷ past) token = In token step.taken ⊎ EverHeld past token
+EverHeld past token = Once (λ before step. In token step.taken) past
 
 -- the token leaves for the server: a give-back that the step makes, or a Returned of the step, names it
 abbrev pub Leaves : Step → TokenId → Type 0
@@ -36,10 +35,8 @@ Leaves step id = Makes step id ⊎ Returns step id
 
 -- it left in an earlier step
 abbrev pub Left : List Step → TokenId → Type 0
-Left [] id = ⊥
-Left (step ∷ past) id = Leaves step id ⊎ Left past id
+Left past id = Once (λ before step. Leaves step id) past
 
 -- the host owns the token: it was taken and hasn't left; it is held, or was held when the host stopped
 abbrev pub Owns : List Step → Token → Type 0
-Owns [] token = ⊥
-Owns (step ∷ past) token = (In token step.taken ⊎ Owns past token) × (Leaves step token.id → ⊥)
+Owns past token = Still (λ before step. In token step.taken) (λ before step. Leaves step token.id) past

@@ -1,6 +1,7 @@
 -- A small run: a host greets a server, enters a fileset, asks for its root, gets tokens, answers a call under them, and
 -- answers the next call from its cache. Then the server restarts; the host claims its tokens, and they are granted
 -- again; and it gives one back.
+use Rattle.world_steps.specs.Nodes.{bare}
 use Rattle.std.specs.Prelude.{ℕ, Bool, true, false, List, [], ◌∷◌, Option, Some, None, codes}
 use Rattle.dfs_base.specs.declared.ids.HostId.{HostId}
 use Rattle.dfs_base.specs.declared.ids.ServerId.{ServerId}
@@ -90,39 +91,13 @@ access =
 
 -- a step that takes tokens, answers and sends, and does nothing else
 abbrev pub plain : Node → Cause → Option Asked → List Answer → List Token → List Message → Step
-plain node cause asked answers taken sent = record {
-  node = node;
-  cause = cause;
-  asked = asked;
-  taken = taken;
-  answers = answers;
-  wrote = None;
-  begun = [];
-  made = [];
-  dropped = [];
-  applied = [];
-  admitted = [];
-  sent = sent;
-  reserved = [];
-}
+plain node cause asked answers taken sent =
+    record (bare node cause) { asked = asked; taken = taken; answers = answers; sent = sent }
 
 -- a step of the server that takes a message, applies, grants claims and sends, and does nothing else
 abbrev pub serves : Cause → List AppliedOf → List Admission → List Message → Step
-serves cause applied admitted sent = record {
-  node = Server site_one;
-  cause = cause;
-  asked = None;
-  taken = [];
-  answers = [];
-  wrote = None;
-  begun = [];
-  made = [];
-  dropped = [];
-  applied = applied;
-  admitted = admitted;
-  sent = sent;
-  reserved = [];
-}
+serves cause applied admitted sent =
+    record (bare (Server site_one) cause) { applied = applied; admitted = admitted; sent = sent }
 
 abbrev pub to_server : ℕ → Body → Message
 to_server epoch body = record {
@@ -272,20 +247,10 @@ give whole = record {
 }
 
 abbrev pub gives : Span → Step
-gives whole = record {
-  node = Host client;
-  cause = Came (from_server (Reclaimed claimed));
-  asked = None;
-  taken = [];
-  answers = [];
-  wrote = None;
-  begun = [];
+gives whole = record (bare (Host client) (Came (from_server (Reclaimed claimed)))) {
   made = give whole ∷ [];
   dropped = record { token = token 2 (Bytes false whole); why = Evicted } ∷ [];
-  applied = [];
-  admitted = [];
   sent = to_server 2 (GiveBack (give whole)) ∷ [];
-  reserved = [];
 }
 
 abbrev pub stores : Span → Step

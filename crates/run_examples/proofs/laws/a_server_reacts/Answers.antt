@@ -1,3 +1,4 @@
+use Rattle.run_examples.proofs.ClaimExample.{admits_lapse, admits_meets}
 use Rattle.run_examples.proofs.ServerExamples.{bye_lapse, bye_meets, down_lapse, down_meets, restarts_lapse, restarts_meets}
 use Rattle.run_examples.proofs.ServerExamples.{returned_lapse, returned_meets, stores_lapse, stores_meets}
 use Rattle.run_examples.proofs.laws.a_server_reacts.Goals as goal
@@ -9,4 +10,5 @@ returns c = record {
   down_heard = (down_meets, down_lapse);
   bye_answered = (bye_meets, bye_lapse);
   restart_told = (restarts_meets, restarts_lapse);
+  claim_admitted = (admits_meets, admits_lapse);
 }

@@ -1,0 +1,396 @@
+-- All rules of a host's step that sends a new Fetch, computed.
+use Rattle.std.proofs.Common.{Bool, List, None, Option, Some, [], ap, false, inl, inr, refl, subst, suc, sym, true}
+use Rattle.std.proofs.Common.{ℕ, ◌&&◌, ◌||◌, ◌==◌, ◌∙◌, ◌∷◌, ◌≡◌, ◌<◌, ◌⊎◌}
+use Rattle.std.proofs.lemmas.Bool.{and_from, and_parts, eqb-true, ltb-true, or_cases}
+use Rattle.std.specs.Prelude.{if◌then◌else◌, nat_lt, not}
+use Rattle.std.specs.List.{list_all, list_any}
+use Rattle.dfs_base.specs.Ids.{same_fid}
+use Rattle.dfs_base.specs.declared.ids.Fid.{Fid}
+use Rattle.dfs_base.specs.declared.ids.FilesetId.{FilesetId}
+use Rattle.dfs_base.specs.declared.ids.HostId.{HostId}
+use Rattle.dfs_base.specs.declared.ids.ServerId.{ServerId}
+use Rattle.dfs_base.specs.declared.ids.Node.TheVariants.{Host}
+use Rattle.dfs_base.specs.declared.user.User.{User}
+use Rattle.dfs_calls.specs.Rosters.{user_of}
+use Rattle.dfs_calls.specs.declared.roster.Roster.{Roster}
+use Rattle.dfs_needs.specs.Looks.{IsFirstLack}
+use Rattle.dfs_needs.specs.Walks.{root_of}
+use Rattle.rpc_types.specs.declared.asking.Change.{Change as ChangeOf}
+use Rattle.rpc_types.specs.declared.asking.Fetch.{Fetch as FetchOf}
+use Rattle.rpc_types.specs.declared.message.Body.{Body}
+use Rattle.rpc_types.specs.declared.message.Body.TheVariants.{Hello, Fetch, Change}
+use Rattle.rpc_types.specs.declared.message.Message.{Message}
+use Rattle.script_lines.specs.declared.script.Script.{Script}
+use Rattle.tok_types.specs.Covers.{Covers, covers_byte, kind_covers_byte}
+use Rattle.tok_types.specs.declared.token.Kind.{Kind}
+use Rattle.tok_types.specs.declared.token.Kind.TheVariants.{Bytes, Status, Lock as LockToken, Opening}
+use Rattle.tok_types.specs.declared.token.Need.{Need}
+use Rattle.tok_types.specs.declared.token.Token.{Token}
+use Rattle.tree_laws.specs.Parts.{Nature}
+use Rattle.tree_laws.specs.Parts.Part.{Traits}
+use Rattle.world_host.specs.HostAsks.{AsksMissing, FetchNeeds, HasFetched, HostAsks, IsDirectory, IsFetchNumber, IsNewFetch}
+use Rattle.world_host.specs.HostAsks.{IsNext, Lacks, LackingNeeds}
+use Rattle.world_host.specs.HostAsks.FetchNeeds.{OfFile, OfUnknown}
+use Rattle.world_host.specs.HostRules.{HostMeets}
+use Rattle.world_host.specs.Views.{sees}
+use Rattle.world_journal.specs.Lines.{limit_of, lines_of, servers_of}
+use Rattle.world_steps.specs.Epochs.{IsWelcome}
+use Rattle.world_steps.specs.Grants.{IsUseKind}
+use Rattle.rpc_types.specs.declared.giving.AppliedGive.{AppliedGive}
+use Rattle.world_steps.specs.Lists.{In}
+use Rattle.world_steps.specs.Requests.{Asking, Changing, Fetches}
+use Rattle.world_steps.specs.Sends.{Said, Sends}
+use Rattle.world_steps.specs.declared.step.Asked.{Asked}
+use Rattle.world_steps.specs.declared.step.Step.{Step}
+use Rattle.run_examples.proofs.Tests.{AllTrue, all_true, any_of, at_all, fid_is, fids, fileset_is, implies, is_none, is_not}
+use Rattle.run_examples.proofs.Tests.{kind_is, kinds, list_is, none_in, not_is, number_is, passes, same_fileset, same_kind}
+use Rattle.run_examples.proofs.Tests.{filesets, same_list, same_number, so, some_in}
+use Rattle.run_examples.proofs.Words.{asking, asking_in, at_said, changing, held, in_asking, in_said, is_welcome, none_open}
+use Rattle.run_examples.proofs.Words.{none_open_yes, numbered, said, welcome_yes}
+use Rattle.run_examples.proofs.TokenChecks.{at_site, token_tests, tokens_meet}
+use Rattle.run_examples.proofs.LabelWords.{is_local}
+use Rattle.run_examples.proofs.FetchWords.{asking_yes, is_asking, need_is, same_need}
+use Rattle.run_examples.proofs.CallWords.{in_open, open_calls}
+use Rattle.run_examples.proofs.StanceChecks.{stance_of, stance_tests}
+use Rattle.run_examples.proofs.AnswerChecks.{answer_tests, answers_meet, covers_it, covers_yes, lacks_is, lacks_it, needs_at}
+use Rattle.run_examples.proofs.AskChecks.{one_of, one_or_none}
+use Rattle.run_examples.proofs.GiveChecks.{give_tests, gives_meet, recall_tests, revoked_meet}
+use Rattle.run_examples.proofs.LapseChecks.{resend_tests, resends_meet, take_tests, takes_meet}
+use Rattle.run_examples.proofs.LeaveChecks.{end_tests, ends_meet, leave_tests, leaves_meet, line_tests, lines_meet}
+
+-- the first need that tokens lack
+unfoldable pub is_first_lack : List Token → List Need → Need → Bool
+is_first_lack kept [] need = false
+is_first_lack kept (n ∷ ns) need =
+    (lacks_it kept n && same_need n need) || (covers_it kept n && is_first_lack kept ns need)
+
+first_lack_is : (kept : List Token) (needs : List Need) (need : Need) → is_first_lack kept needs need ≡ true
+    → IsFirstLack kept needs need
+unfolding is_first_lack
+first_lack_is kept [] need e = absurd (cc)
+first_lack_is kept (n ∷ ns) need e =
+    elim (or_cases (lacks_it kept n && same_need n need) (covers_it kept n && is_first_lack kept ns need) e) [
+      | inl x ↦ (
+          let p = and_parts (lacks_it kept n) (same_need n need) x in
+          inl (lacks_is kept n p.0, need_is n need p.1)
+          )
+      | inr x ↦ (
+          let p = and_parts (covers_it kept n) (is_first_lack kept ns need) x in
+          inr (covers_yes kept n p.0, first_lack_is kept ns need p.1)
+          )
+    ]
+
+-- no token has bytes of the file
+unfoldable pub is_bytes : Kind → Bool
+is_bytes (Bytes update span) = true
+is_bytes _ = false
+
+unfoldable pub no_bytes : Fid → Token → Bool
+no_bytes fid t = not (same_fid t.fid fid && is_bytes t.kind)
+
+byte_none : (b update : Bool) (at : ℕ) (k : Kind) → not (b && is_bytes k) ≡ true
+    → (b && kind_covers_byte update at k) ≡ false
+unfolding is_bytes
+byte_none false update at k e = refl
+byte_none true update at (Bytes u span) e = absurd (cc)
+byte_none true update at (Status u) e = refl
+byte_none true update at (LockToken w span) e = refl
+byte_none true update at (Opening kind) e = refl
+
+both_false : (a b : Bool) → a ≡ false → b ≡ false → (a || b) ≡ false
+both_false false b p q = q
+both_false true b p q = absurd (cc)
+
+none_covered : (fid : Fid) (update : Bool) (at : ℕ) (held : List Token) → list_all (no_bytes fid) held ≡ true
+    → list_any (covers_byte fid update at) held ≡ false
+unfolding no_bytes
+none_covered fid update at [] e = refl
+none_covered fid update at (t ∷ ts) e =
+    let p = and_parts (no_bytes fid t) (list_all (no_bytes fid) ts) e in
+    both_false (covers_byte fid update at t) (list_any (covers_byte fid update at) ts)
+    (byte_none (same_fid t.fid fid) update at t.kind p.0) (none_covered fid update at ts p.1)
+
+missing_kind : (held : List Token) (needs : List Need) (fid : Fid) (k : Kind) → In (record { fid = fid; kind = k }) needs
+    → (Covers held (record { fid = fid; kind = k }) → ⊥) → list_all (no_bytes fid) held ≡ true
+    → AsksMissing held needs fid k
+missing_kind held needs fid (Bytes update span) m lack none = λ at inside. (
+  none_covered fid update at held none,
+  (span, (m, refl, lack), inside),
+)
+missing_kind held needs fid (Status update) m lack none = (m, refl, lack)
+missing_kind held needs fid (LockToken writing span) m lack none = (m, refl, lack)
+missing_kind held needs fid (Opening kind) m lack none = (m, refl, lack)
+
+-- what is asked is what the tokens lack of the file
+unfoldable pub is_asked : List Token → Fid → List Need → Need → Bool
+is_asked held fid asked n =
+    implies (same_fid n.fid fid && not (covers_it held n)) (list_any (same_need n) asked)
+
+unfoldable pub is_lacked : List Token → List Need → Fid → Need → Bool
+is_lacked held needs fid n = same_fid n.fid fid && (lacks_it held n && list_any (same_need n) needs)
+
+unfoldable pub lacking_right : List Token → List Need → Fid → List Need → Bool
+lacking_right held needs fid asked =
+    list_all (no_bytes fid) held && (list_all (is_asked held fid asked) needs && list_all (is_lacked held needs fid) asked)
+
+lacking_is : (held : List Token) (needs : List Need) (fid : Fid) (asked : List Need)
+    → lacking_right held needs fid asked ≡ true → LackingNeeds held needs fid asked
+unfolding is_asked is_lacked lacking_right
+lacking_is held needs fid asked e =
+    let a = list_all (no_bytes fid) held in
+    let b = list_all (is_asked held fid asked) needs in
+    let c = list_all (is_lacked held needs fid) asked in
+    let p = and_parts a (b && c) e in
+    let q = and_parts b c p.1 in
+    record {
+      missing = λ n m.
+          let x = and_parts (same_fid n.fid fid) (lacks_it held n && list_any (same_need n) needs)
+          (at_all (is_lacked held needs fid) asked n q.1 m) in
+          let y = and_parts (lacks_it held n) (list_any (same_need n) needs) x.1 in
+          let z = some_in (same_need n) needs y.1 in
+          let f = fid_is n.fid fid x.0 in
+          let is : In n needs = subst (λ k. In k needs) (sym (need_is n z.0 z.2)) z.1 in
+          let kind_of : n ≡ record { fid = fid; kind = n.kind } = λ i. record { fid = f i; kind = n.kind } in (
+            f,
+            missing_kind held needs fid n.kind (subst (λ k. In k needs) kind_of is)
+                (subst (λ k. Covers held k → ⊥) kind_of (lacks_is held n y.0)) p.0,
+          );
+      whole = λ n tokens (m, f, lack) all more.
+          let x = so (same_fid n.fid fid && not (covers_it held n)) (list_any (same_need n) asked)
+          (at_all (is_asked held fid asked) needs n q.0 m)
+          (and_from (same_fid n.fid fid) (not (covers_it held n)) (fids n.fid fid f)
+          (not_is (covers_it held n) (λ t. lack (covers_yes held n t)))) in
+          let y = some_in (same_need n) asked x in
+          all n (subst (λ k. In k asked) (sym (need_is n y.0 y.2)) y.1);
+    }
+
+unfoldable pub sees_dir : Option Nature → Bool
+sees_dir (Some nature) = nature.dir
+sees_dir None = false
+
+not_dir : (past : List Step) (s : Step) (held : List Token) (fid : Fid) → same_fid fid (root_of fid.fileset) ≡ false
+    → sees_dir (sees past s fid Traits) ≡ false → IsDirectory past s held fid → ⊥
+unfolding sees_dir
+not_dir past s held fid a b (inl root) = let p = fids fid (root_of fid.fileset) root in cc
+not_dir past s held fid a b (inr (cov, (nature, seen, dir))) =
+    let p : nature.dir ≡ false = subst (λ o. sees_dir o ≡ false) seen b in cc
+
+abbrev pub status_need : Fid → Need
+status_need fid = record { fid = fid; kind = Status false }
+
+unfoldable pub fetch_right : List Token → List Need → Fid → List Need → Bool
+fetch_right held needs fid asked =
+    (covers_it held (status_need fid) && lacking_right held needs fid asked)
+    || (lacks_it held (status_need fid) && same_list same_need asked (status_need fid ∷ []))
+
+fetch_is : (past : List Step) (s : Step) (held : List Token) (needs : List Need) (fid : Fid) (asked : List Need)
+    → (IsDirectory past s held fid → ⊥) → fetch_right held needs fid asked ≡ true
+    → FetchNeeds past s held needs fid asked
+unfolding fetch_right
+fetch_is past s held needs fid asked none e =
+    let a = covers_it held (status_need fid) in
+    let b = lacks_it held (status_need fid) in
+    elim (or_cases (a && lacking_right held needs fid asked) (b && same_list same_need asked (status_need fid ∷ [])) e) [
+      | inl x ↦ (
+          let p = and_parts a (lacking_right held needs fid asked) x in
+          OfFile none (covers_yes held (status_need fid) p.0) (lacking_is held needs fid asked p.1)
+          )
+      | inr x ↦ (
+          let p = and_parts b (same_list same_need asked (status_need fid ∷ [])) x in
+          OfUnknown none (lacks_is held (status_need fid) p.0)
+          (list_is same_need need_is asked (status_need fid ∷ []) p.1)
+          )
+    ]
+
+-- the numbers of Fetches
+unfoldable pub is_below : FetchOf → Body → Bool
+is_below f (Fetch g) = implies (same_fileset g.fid.fileset f.fid.fileset) (nat_lt g.number f.number)
+is_below f _ = true
+
+unfoldable pub is_before : FetchOf → Body → Bool
+is_before f (Fetch g) = same_fileset g.fid.fileset f.fid.fileset && (suc g.number == f.number)
+is_before f _ = false
+
+before_is : (f : FetchOf) (b : Body) → is_before f b ≡ true
+    → (g : FetchOf) × (b ≡ Fetch g) × (g.fid.fileset ≡ f.fid.fileset) × (suc g.number ≡ f.number)
+unfolding is_before
+before_is f (Fetch g) e =
+    let p = and_parts (same_fileset g.fid.fileset f.fid.fileset) (suc g.number == f.number) e in
+    (g, refl, fileset_is g.fid.fileset f.fid.fileset p.0, eqb-true (suc g.number) f.number p.1)
+before_is f b e = absurd (cc)
+
+unfoldable pub next_tests : List Step → FetchOf → List Bool
+next_tests past f =
+    list_all (λ k. is_below f k.body) (said past)
+    ∷ ((f.number == 1) || list_any (λ k. is_before f k.body) (said past))
+    ∷ []
+
+next_is : (past : List Step) (f : FetchOf) → passes (next_tests past f) ≡ true
+    → IsNext (IsFetchNumber past f.fid.fileset) f.number
+unfolding next_tests is_below
+next_is past f e =
+    let t = all_true (next_tests past f) e in
+    record {
+      above = λ m (g, (v, d, n, x), files, number).
+          let p = at_said (λ k. is_below f k.body) past v d n (Fetch g) t.0 x in
+          let q = so (same_fileset g.fid.fileset f.fid.fileset) (nat_lt g.number f.number) p.1
+          (filesets g.fid.fileset f.fid.fileset files) in
+          subst (λ k. k < f.number) number (ltb-true g.number f.number q);
+      after = elim (or_cases (f.number == 1) (list_any (λ k. is_before f k.body) (said past)) t.1.0) [
+        | inl x ↦ inl (eqb-true f.number 1 x)
+        | inr x ↦ (
+            let k = some_in (λ (k : Message). is_before f k.body) (said past) x in
+            let g = before_is f k.0.body k.2 in
+            inr (
+              g.0.number,
+              (
+                g.0,
+                (
+                  k.0.server,
+                  k.0.epoch,
+                  k.0.moves,
+                  subst (λ b. Said past k.0.server k.0.epoch k.0.moves b) g.1 (in_said past k.0 k.1),
+                ),
+                g.2,
+                refl,
+              ),
+              g.3,
+            )
+            )
+      ];
+    }
+
+unfoldable pub is_fetched : Kind → Bool
+is_fetched (Bytes update span) = true
+is_fetched (Status update) = true
+is_fetched _ = false
+
+fetched_is : (k : Kind) → is_fetched k ≡ true → IsUseKind k → ⊥
+unfolding is_fetched
+fetched_is (Bytes update span) e u = u
+fetched_is (Status update) e u = u
+fetched_is k e u = absurd (cc)
+
+unfoldable pub fetch_tests : ServerId → HostId → User → List Step → Step → Message → FetchOf → Asked → Need → List Bool
+fetch_tests site host user past s m f c need =
+    passes (next_tests past f)
+    ∷ none_open (s ∷ past) f.fid
+    ∷ is_welcome (s ∷ past) m.server
+    ∷ one_or_none (asking (s ∷ past))
+    ∷ one_or_none (changing site (s ∷ past))
+    ∷ is_none (changing site (s ∷ past))
+    ∷ is_asking (s ∷ past) f
+    ∷ is_first_lack (held (s ∷ past)) (needs_at site host user past s c.call) need
+    ∷ same_fid need.fid f.fid
+    ∷ is_fetched need.kind
+    ∷ fetch_right (held (s ∷ past)) (needs_at site host user past s c.call) f.fid f.needs
+    ∷ not (same_fid f.fid (root_of f.fid.fileset))
+    ∷ not (sees_dir (sees past s f.fid Traits))
+    ∷ is_local site (s ∷ past)
+    ∷ []
+
+not_true : (b : Bool) → not b ≡ true → b ≡ false
+not_true true e = absurd (cc)
+not_true false e = refl
+
+module _ (site : ServerId) (roster : Roster) (host : HostId) (user : User) (past : List Step) (s : Step)
+    (acts : user_of roster host ≡ Some user) (known : passes (stance_tests site host past s) ≡ true)
+    (m : Message) (f : FetchOf) (c : Asked) (need : Need) (sent : s.sent ≡ m ∷ []) (body : m.body ≡ Fetch f)
+    (opened : In c (open_calls site (s ∷ past)))
+    (e : passes (fetch_tests site host user past s m f c need) ≡ true) where
+  only : (v : ServerId) (d n : ℕ) (b : Body) (p : Sends s v d n b) → (Fetch f ≡ b) × (m.server ≡ v)
+  only v d n b p =
+      let is : p.0 ≡ m = elim (subst (In p.0) sent p.1) [ inl q ↦ q | inr q ↦ elim q [ ] ] in
+      (sym body ∙ (ap (λ (x : Message). x.body) (sym is) ∙ p.5), ap (λ (x : Message). x.server) (sym is) ∙ p.2)
+
+  tests : AllTrue (fetch_tests site host user past s m f c need)
+  tests = all_true (fetch_tests site host user past s m f c need) e
+
+  asks : Asking (s ∷ past) f.fid.fileset f.number
+  unfolding fetch_tests
+  asks = asking_yes (s ∷ past) f tests.1.1.1.1.1.1.0
+
+  new_fetch : IsNewFetch roster host past s (stance_of site roster host user past s acts known) f
+  unfolding fetch_tests
+  new_fetch =
+      let tail = tests.1.1.1.1.1.1.1 in
+      let last = tail.1.1.1.1 in
+      record {
+        next = next_is past f tests.0;
+        no_give = none_open_yes (s ∷ past) f.fid tests.1.0;
+        call = c;
+        is_open = in_open site (s ∷ past) c last.1.1.0 opened;
+        need = need;
+        fetched = fetched_is need.kind tail.1.1.0;
+        file = fid_is need.fid f.fid tail.1.0;
+        first = first_lack_is (held (s ∷ past)) (needs_at site host user past s c.call) need tail.0;
+        needs = fetch_is past s (held (s ∷ past)) (needs_at site host user past s c.call) f.fid f.needs
+            (not_dir past s (held (s ∷ past)) f.fid (not_true (same_fid f.fid (root_of f.fid.fileset)) last.0)
+            (not_true (sees_dir (sees past s f.fid Traits)) last.1.0)) tail.1.1.1.0;
+      }
+
+  pub fetches_meet : HostAsks roster host past s (stance_of site roster host user past s acts known)
+  unfolding fetch_tests is_local
+  fetches_meet =
+      let local = tests.1.1.1.1.1.1.1.1.1.1.1.1.1.0 in
+      record {
+        fetches = λ g p.
+            let q = (only p.0 p.1 p.2 (Fetch g) p.3).0 in
+            let is : f ≡ g = cc in
+            inr (subst (IsNewFetch roster host past s (stance_of site roster host user past s acts known)) is new_fetch);
+        changes = λ v d n g p. absurd (let q = (only v d n (Change g) p).0 in cc);
+        one_fetch = λ fs gs n k a b.
+            let p = one_of (asking (s ∷ past)) (numbered fs n) (numbered gs k) tests.1.1.1.0 (asking_in (s ∷ past) fs n a)
+            (asking_in (s ∷ past) gs k b) in
+            (ap (λ (x : AppliedGive). x.fileset) p, ap (λ (x : AppliedGive). x.number) p);
+        one_change = λ v w fs gs n k a b.
+            let p = one_of (changing site (s ∷ past)) (numbered fs n) (numbered gs k) tests.1.1.1.1.0
+            (at_site site (s ∷ past) v fs n local a) (at_site site (s ∷ past) w gs k local b) in
+            (ap (λ (x : AppliedGive). x.fileset) p, ap (λ (x : AppliedGive). x.number) p);
+        one_of_both = λ v fs gs n k a b.
+            none_in (changing site (s ∷ past)) (numbered gs k) tests.1.1.1.1.1.0 (at_site site (s ∷ past) v gs k local b);
+        greets = λ v d n p. absurd (let q = (only v d n Hello p).0 in cc);
+        fetches_welcome = λ v d n g p.
+            subst (IsWelcome (s ∷ past)) (only v d n (Fetch g) p).1 (welcome_yes (s ∷ past) m.server tests.1.1.0);
+        changes_welcome = λ v d n g p. absurd (let q = (only v d n (Change g) p).0 in cc);
+        asks = λ call o up. inl (f.fid.fileset, f.number, asks);
+      }
+
+-- the other rules
+unfoldable pub other_tests : ServerId → Script → HostId → User → List Step → Step → List Bool
+other_tests site script host user past s =
+    passes (token_tests site past s)
+    ∷ passes (take_tests past s)
+    ∷ passes (answer_tests site host user past s)
+    ∷ passes (give_tests site past s)
+    ∷ passes (recall_tests past s)
+    ∷ passes (resend_tests site past s)
+    ∷ passes (leave_tests site user past s)
+    ∷ passes (line_tests site (lines_of script (Host host)) (servers_of script.roster)
+    (limit_of script.roster host) past s)
+    ∷ passes (end_tests site (lines_of script (Host host)) (limit_of script.roster host) past s)
+    ∷ is_local site past
+    ∷ []
+
+pub asking_meets : (site : ServerId) (script : Script) (host : HostId) (user : User) (past : List Step) (s : Step)
+    (acts : user_of script.roster host ≡ Some user) (known : passes (stance_tests site host past s) ≡ true)
+    → HostAsks script.roster host past s (stance_of site script.roster host user past s acts known)
+    → passes (other_tests site script host user past s) ≡ true → HostMeets script host past s
+unfolding other_tests
+asking_meets site script host user past s acts known asks e =
+    let t = all_true (other_tests site script host user past s) e in
+    record {
+      tokens = tokens_meet site past s t.0;
+      takes = takes_meet past s t.1.0;
+      stance = stance_of site script.roster host user past s acts known;
+      answers = answers_meet site script.roster host user past s acts known t.1.1.0;
+      asks = asks;
+      gives = gives_meet site past s t.1.1.1.0;
+      revoked = revoked_meet past s t.1.1.1.1.0;
+      resends = resends_meet site past s t.1.1.1.1.1.0;
+      leaves = leaves_meet site script.roster host user past s acts known t.1.1.1.1.1.1.1.1.1.0
+          (limit_of script.roster host) t.1.1.1.1.1.1.0;
+      lines = lines_meet site (lines_of script (Host host)) (servers_of script.roster)
+          (limit_of script.roster host) past s t.1.1.1.1.1.1.1.0;
+      ends = ends_meet site (lines_of script (Host host)) (limit_of script.roster host) past s t.1.1.1.1.1.1.1.1.0;
+    }
