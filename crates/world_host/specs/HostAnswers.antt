@@ -64,7 +64,8 @@ pub record HostAnswers
   pub writes : (a : Answer) (fid : Fid) (from : ℕ) (bytes : List ℕ) → In a s.answers
       → verdict_in stance a.call ≡ Writes fid from bytes → s.wrote ≡ Some fid
   pub writes_only : (fid : Fid) → s.wrote ≡ Some fid
-      → (a : Answer) × (from : ℕ) × (bytes : List ℕ) × In a s.answers × (verdict_in stance a.call ≡ Writes fid from bytes)
+      → (a : Answer) × (from : ℕ) × (bytes : List ℕ) × In a s.answers
+      × (verdict_in stance a.call ≡ Writes fid from bytes)
   -- an answered Lock or OpenFile takes its label, with the exact token on the file that its walk found
   pub locks : (a : Answer) (fid : Fid) (writing : Bool) (span : Span) → In a s.answers
       → verdict_in stance a.call ≡ Locks fid writing span

@@ -71,7 +71,8 @@ pub record HostEnds (lines : List Line) (limit : ℕ) (past : List Step) (s : St
       × ((u : Labelled) × InUse past u × (call ≡ end_of u)
       × ((other : Labelled) → InUse past other → TakenBefore past other u → ⊥))
   -- what is held leaves at once, when no label is in use; but for a pinned token, that goes back with its last use
-  pub drops : (l : Leave) → s.cause ≡ End → In l s.dropped → l.why ≡ Ended → NoneUsed past × ((t : Token) → Held past t → Drops s t)
+  pub drops : (l : Leave) → s.cause ≡ End → In l s.dropped → l.why ≡ Ended
+      → NoneUsed past × ((t : Token) → Held past t → Drops s t)
   -- a Bye goes to a server that was greeted, when nothing is held, and again at a lapse or when the server has
   -- restarted
   pub bye : (v : ServerId) → Says s v Bye

@@ -29,4 +29,5 @@ pub record IsSettled (server : ServerId) (tree : Tree) (past : List Act) : Type 
 
 abbrev pub ServerMayRest : Type 0
 ServerMayRest = (script : Script) (start : Tree) (server : ServerId) (steps : List Step) (past : List Act)
-    → IsSettled server (kept start server steps) past → ServerMeets script start server steps past (bare (Server server) Lapse)
+    → IsSettled server (kept start server steps) past
+    → ServerMeets script start server steps past (bare (Server server) Lapse)
