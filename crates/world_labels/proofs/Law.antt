@@ -17,7 +17,7 @@ use Rattle.tok_types.specs.declared.token.Token.{Token}
 use Rattle.tok_types.specs.declared.token.TokenId.{TokenId}
 use Rattle.world_doings.proofs.Served.{Next, after_doings, each_next}
 use Rattle.world_doings.specs.Doings.{doings}
-use Rattle.world_host.specs.Labels.{EndsUse, GivesUse, InUse, IsUsed}
+use Rattle.world_host.specs.Labels.{EndsUse, GivesUse, HasBegun, InUse, IsUsed}
 use Rattle.world_doings.proofs.Words.{host_split, server_split, taken_is}
 use Rattle.world_labels.proofs.Words.{is_named, owns_ever, pinned_granted, pinned_kept, said_kept}
 use Rattle.world_labels.specs.Uses.{Frees, FreesAny, HostUses, Locked, LockedAfter, LockedGranted, LocksApart}
@@ -60,6 +60,7 @@ pub record Uses (h : HostId) (v : ServerId) (A : List Step) (S : List Act) (lk :
   pub kept_locked : (g : Give) (i : TokenId) → i.server ≡ v → Made A g → In i g.ids → HasKept A i
       → (Applied v S h (number_of g) → ⊥) → (Away S h → ⊥)
       → ((u : Labelled) → u.token.id ≡ i → GivesUse g u → lk u → ⊥) → ⊥
+  pub locked_begun : (u : Labelled) → u.token.id.server ≡ v → lk u → HasBegun A u
 
 labels_step : (A : List Step) (s : Step) → Labels A → HostUses A s → Labels (s ∷ A)
 labels_step A s old rules = record { use_owned = owned; kept_use = kept }
@@ -100,6 +101,7 @@ same_uses h v A S old new to back x = record {
   kept_locked = λ g i at m n k not live never.
       x.kept_locked g i at m n k not live
       (λ u same gives l. never u same gives (to u (ap (λ (j : TokenId). j.server) same ∙ at) l));
+  locked_begun = λ u at l. x.locked_begun u at (back u at l);
 }
 
 module _ (h : HostId) (v : ServerId) (A : List Step) (S : List Act) (s : Step) (lk : Labelled → Type 0)
@@ -163,11 +165,21 @@ module _ (h : HostId) (v : ServerId) (A : List Step) (S : List Act) (s : Step) (
       old.kept_locked g i at m n q not live
       (λ u same gives l. never u same gives (inr (
         l,
-        λ e. not (next.known (number_of g) (next.made_id g i (inr m) n at) (rules.ends_known u g e m gives)),
+        λ e. rules.ends_known u g e (old.locked_begun u (ap (λ (j : TokenId). j.server) same ∙ at) l) m gives
+            (λ k. not (next.known (number_of g) (next.made_id g i (inr m) n at) k)),
       )))
 
+  locked_begun' : (u : Labelled) → u.token.id.server ≡ v → now u → HasBegun (s ∷ A) u
+  locked_begun' u at (inl m) = inl m
+  locked_begun' u at (inr x) = inr (old.locked_begun u at x.0)
+
   uses_step : Uses h v (s ∷ A) S now
-  uses_step = record { locked_is = locked_is'; use_locked = use_locked'; kept_locked = kept_locked' }
+  uses_step = record {
+    locked_is = locked_is';
+    use_locked = use_locked';
+    kept_locked = kept_locked';
+    locked_begun = locked_begun';
+  }
 
 -- a server's doing, a restart too
 module _ (h : HostId) (v : ServerId) (A : List Step) (S : List Act) (a : Act) (alone : Alone A) (link : Link h v A S)
@@ -250,7 +262,12 @@ module _ (h : HostId) (v : ServerId) (A : List Step) (S : List Act) (a : Act) (a
       ))
 
   uses_act : Uses h v A (a ∷ S) left
-  uses_act = record { locked_is = locked_is''; use_locked = use_locked''; kept_locked = kept_locked'' }
+  uses_act = record {
+    locked_is = locked_is'';
+    use_locked = use_locked'';
+    kept_locked = kept_locked'';
+    locked_begun = λ u at x. old.locked_begun u at x.0;
+  }
 
 -- a server's doings, one after the other
 serve : (own_of : HostId → List Step) (alone : (h : HostId) → Alone (own_of h)) (h : HostId) (v : ServerId)
@@ -368,6 +385,7 @@ module _ (firsts : ServerId → ℕ) where
       locked_is = λ u at e. elim e [ ];
       use_locked = λ u at e. elim e [ ];
       kept_locked = λ g i at m. elim m [ ];
+      locked_begun = λ u at e. elim e [ ];
     };
   }
   all_uses (s ∷ past) run rules =

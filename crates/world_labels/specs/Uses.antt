@@ -10,7 +10,7 @@ use Rattle.tok_types.specs.Conflicts.{conflict}
 use Rattle.tok_types.specs.declared.token.Token.{Token}
 use Rattle.tok_types.specs.declared.token.TokenId.{TokenId}
 use Rattle.world_doings.specs.Doings.{doings}
-use Rattle.world_host.specs.Labels.{EndsUse, GivesUse, InUse, IsUsed}
+use Rattle.world_host.specs.Labels.{EndsUse, GivesUse, HasBegun, InUse, IsUsed}
 use Rattle.world_steps.specs.Acts.Act.{Took}
 use Rattle.world_steps.specs.Acts.{Act, acts}
 use Rattle.world_steps.specs.Gives.{IsKnown, Made}
@@ -42,7 +42,8 @@ pub record HostUses (past : List Step) (s : Step) : Type 0 where
       → (IsUsed (s ∷ past) u.token.id → ⊥) → ⊥
   -- nor a use that a give-back of the step, or one on its way, ends
   pub ends_apart : (u : Labelled) (g : Give) → EndsUse s u → In g s.made → GivesUse g u → ⊥
-  pub ends_known : (u : Labelled) (g : Give) → EndsUse s u → Made past g → GivesUse g u → IsKnown (s ∷ past) g
+  pub ends_known : (u : Labelled) (g : Give) → EndsUse s u → HasBegun past u → Made past g → GivesUse g u
+      → (IsKnown (s ∷ past) g → ⊥) → ⊥
 
 abbrev pub StepUses : Node → List Step → Step → Type 0
 StepUses (Host host) past s = HostUses (own host past) s

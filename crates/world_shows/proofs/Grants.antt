@@ -22,7 +22,7 @@ use Rattle.world_journal.specs.declared.journal.Journal.{Journal}
 use Rattle.world_server.specs.Kept.{kept, kept_after, kept_through}
 use Rattle.world_server.specs.ServerAnswers.{TakenNow}
 use Rattle.world_server.specs.ServerApplies.{by_cause, decisions}
-use Rattle.world_server.specs.ServerDecides.{MayDecideAll}
+use Rattle.world_server.specs.ServerDecides.{MayDecide, MayDecideAll}
 use Rattle.world_server.specs.ServerRules.{ServerMeets}
 use Rattle.world_server.specs.ServerSends.{GrantsSo}
 use Rattle.world_server.specs.Wants.{Waits, body_of}
@@ -40,6 +40,7 @@ use Rattle.world_steps.specs.declared.applied.Applied.TheVariants.{Done as IsDon
 use Rattle.world_steps.specs.declared.applied.Applied.TheVariants.{Wants as IsWanted}
 use Rattle.world_steps.specs.declared.applied.Request.{Request}
 use Rattle.world_steps.specs.declared.applied.Wanted.{Wanted}
+use Rattle.world_steps.specs.declared.applied.Written.{Written}
 use Rattle.world_steps.specs.declared.step.Cause.{Cause}
 use Rattle.world_steps.specs.declared.step.Cause.TheVariants.{End, Evict, Flushed, Lapse, Line, Message as Came}
 use Rattle.world_steps.specs.declared.step.Cause.TheVariants.{Restart}
@@ -47,10 +48,10 @@ use Rattle.world_steps.specs.declared.step.Step.{Step}
 use Rattle.world_steps.proofs.Words.{if_server}
 
 -- a request that waits was taken in this epoch
-abbrev IsTaken : List Act → Wanted → Type 0
+abbrev pub IsTaken : List Act → Wanted → Type 0
 IsTaken S w = TookNow S w.host w.moves (body_of w.request)
 
-abbrev AllTaken : List Act → Type 0
+abbrev pub AllTaken : List Act → Type 0
 AllTaken S = (w : Wanted) → Waits S w → IsTaken S w
 
 -- what is no want changes nothing of that
@@ -74,7 +75,7 @@ begins : (S : List Act) (n : ℕ) → AllTaken (Begins n ∷ S)
 begins S n w (inl e) = absurd (let q : Begins n ≡ Wants w = e in cc)
 begins S n w (inr k) = absurd (k.1 (inr (inr (inr (n, refl)))))
 
-causes : (c : Cause) (S : List Act) → AllTaken S → AllTaken (after_cause c S)
+pub causes : (c : Cause) (S : List Act) → AllTaken S → AllTaken (after_cause c S)
 causes (Came m) S old = on S (Took m.host m.epoch m.moves m.body) (λ w e. absurd (cc)) old
 causes (Restart line) S old = begins S (suc (epoch S))
 causes Flushed S old = on S Flushes (λ w e. absurd (cc)) old
@@ -87,7 +88,7 @@ causes End S old = old
 message_of : (c : Cause) (m n : Message) → c ≡ Came m → c ≡ Came n → m ≡ n
 message_of c m n p q = let r : Came m ≡ Came n = sym p ∙ q in cc
 
-taken_took : (S : List Act) (s : Step) (h : HostId) (n : ℕ) (b : Body) → TakenNow S s h n b
+pub taken_took : (S : List Act) (s : Step) (h : HostId) (n : ℕ) (b : Body) → TakenNow S s h n b
     → TookNow (after_cause s.cause S) h n b
 taken_took S s h n b ((m, cause, host, now, moves, body), live) =
     subst (λ c. TookNow (after_cause c S) h n b) (sym cause)
@@ -107,21 +108,19 @@ same_want v w e = cc
 
 module _ (v : ServerId) (before : List Act) (s : Step) where
   -- what the step takes was taken
-  abbrev Heard : List Act → Type 0
+  abbrev pub Heard : List Act → Type 0
   Heard S = (h : HostId) (n : ℕ) (b : Body) → TakenNow before s h n b → TookNow S h n b
 
   heard_on : (S : List Act) (a : Act) → (IsBegin a → ⊥) → Heard S → Heard (a ∷ S)
   heard_on S a quiet old h n b t = inr (old h n b t, quiet)
 
-  decides : (xs : List Applied) (tree : Tree) (S : List Act) → MayDecideAll v tree before S s xs → AllTaken S
-      → Heard S → AllTaken (after (deciding xs) S)
-  decides [] tree S may old heard = old
-  decides (IsWanted x ∷ xs) tree S may old heard =
-      decides xs (kept_after s.cause tree (IsWanted x)) (Wants x ∷ S) may.1 now
-      (heard_on S (Wants x) (λ b. let q = b.1 in cc) heard)
+  -- after one decision what waits was taken, and so was what the step takes
+  pub wanted : (x : Wanted) (tree : Tree) (S : List Act) → MayDecide v tree before S s (IsWanted x) → AllTaken S
+      → Heard S → AllTaken (Wants x ∷ S) × Heard (Wants x ∷ S)
+  wanted x tree S may old heard = (now, heard_on S (Wants x) (λ b. let q = b.1 in cc) heard)
     where
       took : IsTaken S x
-      took = elim may.0.1 [
+      took = elim may.1 [
         | inl new ↦ heard x.host x.moves (body_of x.request) new.taken
         | inr k ↦ subst (λ (z : Wanted). TookNow S z.host z.moves (body_of z.request)) k.1.same (old k.0 k.1.waits)
       ]
@@ -133,9 +132,21 @@ module _ (v : ServerId) (before : List Act) (s : Step) where
             λ b. (let q = b.1 in cc),
           )
       now w (inr k) = inr (old w k.0, λ b. k.1 (inr (inr (inr b))))
+
+  pub written_down : (x : Written) (S : List Act) → AllTaken S → Heard S
+      → AllTaken (Writes x ∷ S) × Heard (Writes x ∷ S)
+  written_down x S old heard =
+      (on S (Writes x) (λ w e. absurd (cc)) old, heard_on S (Writes x) (λ b. let q = b.1 in cc) heard)
+
+  decides : (xs : List Applied) (tree : Tree) (S : List Act) → MayDecideAll v tree before S s xs → AllTaken S
+      → Heard S → AllTaken (after (deciding xs) S)
+  decides [] tree S may old heard = old
+  decides (IsWanted x ∷ xs) tree S may old heard =
+      let q = wanted x tree S may.0 old heard in
+      decides xs (kept_after s.cause tree (IsWanted x)) (Wants x ∷ S) may.1 q.0 q.1
   decides (IsDone x ∷ xs) tree S may old heard =
-      decides xs (kept_after s.cause tree (IsDone x)) (Writes x ∷ S) may.1
-      (on S (Writes x) (λ w e. absurd (cc)) old) (heard_on S (Writes x) (λ b. let q = b.1 in cc) heard)
+      let q = written_down x S old heard in
+      decides xs (kept_after s.cause tree (IsDone x)) (Writes x ∷ S) may.1 q.0 q.1
   decides (Ends x ∷ xs) tree S may old heard = elim may.0 [ ]
   decides (Stored h f ss n ∷ xs) tree S may old heard = elim may.0 [ ]
   decides (IsDown h ∷ xs) tree S may old heard = elim may.0 [ ]
@@ -199,7 +210,7 @@ module _ (script : Script) (start : Tree) (firsts : ServerId → ℕ) where
       (λ e. subst (λ w. AllTaken (after_step s (acts (firsts w) w past))) e
       (done script start k (served k past) (acts (firsts k) k past) s m.0 (old k))) (old v)
 
-  all_taken : (past : List Step) → StepsMeet script start firsts past → (v : ServerId)
+  pub all_taken : (past : List Step) → StepsMeet script start firsts past → (v : ServerId)
       → AllTaken (acts (firsts v) v past)
   all_taken [] run v = first v
   all_taken (s ∷ past) run v = after_node s.node past s run.1.0 (all_taken past run.0) v
@@ -209,7 +220,7 @@ module _ (script : Script) (start : Tree) (firsts : ServerId → ℕ) where
   at_node (Host host) past s m old = tt
   at_node (Server v) past s m old = all_sent script start v (served v past) (acts (firsts v) v past) s m.0 (old v)
 
-  bring_needs : (past : List Step) → StepsMeet script start firsts past → GrantsBringNeeds firsts past
+  pub bring_needs : (past : List Step) → StepsMeet script start firsts past → GrantsBringNeeds firsts past
   bring_needs [] run = tt
   bring_needs (s ∷ past) run = (bring_needs past run.0, at_node s.node past s run.1.0 (all_taken past run.0))
 

@@ -24,7 +24,7 @@ module _ (script : Script) (start : Tree) (firsts : ServerId → ℕ) where
       (λ e. (run, subst (λ (j : HostId). HostMeets script j (own j past) s) e m.0)) run
   own_step (Server k) past s h run m = run
 
-  own_run : (past : List Step) → StepsMeet script start firsts past → (h : HostId) → HostRun script h (own h past)
+  pub own_run : (past : List Step) → StepsMeet script start firsts past → (h : HostId) → HostRun script h (own h past)
   own_run [] run h = tt
   own_run (s ∷ past) run h = own_step s.node past s h (own_run past run.0 h) run.1.0
 

@@ -157,7 +157,7 @@ module _ (script : Script) (start : Tree) (firsts : ServerId → ℕ) where
       each_sent v (kept_through s.cause s.applied (kept start v (served v past))) s s.sent
       (admitted_by s (acts (firsts v) v past)) m.0.works.sends m.0.tokens.sends
 
-  show_nothing : (past : List Step) → StepsMeet script start firsts past → DonesShowNothing firsts past
+  pub show_nothing : (past : List Step) → StepsMeet script start firsts past → DonesShowNothing firsts past
   show_nothing [] run = tt
   show_nothing (s ∷ past) run = (show_nothing past run.0, at_node s.node past s run.1.0)
 

@@ -143,7 +143,7 @@ writes_same past s f at one = go (writes_to s f) s.answers one
         ∙ sym (any_rest a rest at (λ b m. one b a (inr m) (inl refl)))
 
 -- a list of at most one has one alone
-one_alone : (xs : List Answer) → length xs ≤ 1 → (a b : Answer) → In a xs → In b xs → a ≡ b
+pub one_alone : (xs : List Answer) → length xs ≤ 1 → (a b : Answer) → In a xs → In b xs → a ≡ b
 one_alone [] le a b m n = elim m [ ]
 one_alone (x ∷ []) le a b (inl e) (inl d) = e ∙ sym d
 one_alone (x ∷ []) le a b (inl e) (inr n) = elim n [ ]

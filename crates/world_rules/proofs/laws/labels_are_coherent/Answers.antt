@@ -1,0 +1,14 @@
+use Rattle.world_rules.proofs.laws.labels_are_coherent.Goals as goal
+use Rattle.world_core.specs.Runs.{firsts_of, past_of}
+use Rattle.world_labels.proofs.Law.{locked_granted, locks_apart, pinned_locked}
+use Rattle.world_rules.proofs.Uses.{run_tokens, run_uses}
+
+pub returns : goal.returns
+returns c = record {
+  granted = λ script journal run.
+      locked_granted (firsts_of journal) (past_of journal) (run_tokens script journal run) (run_uses script journal run);
+  apart = λ script journal run.
+      locks_apart (firsts_of journal) (past_of journal) (run_tokens script journal run) (run_uses script journal run);
+  pinned = λ script journal run.
+      pinned_locked (firsts_of journal) (past_of journal) (run_tokens script journal run) (run_uses script journal run);
+}
