@@ -1,17 +1,16 @@
 -- The rules of answers for a host's step, computed; of what it asks, where it asks nothing new.
-use Rattle.std.proofs.Common.{Bool, List, None, Option, Some, [], ap, arith, false, inl, inr, refl, subst, suc, sym}
+use Rattle.std.proofs.Common.{Bool, List, None, Option, Some, [], arith, false, inl, inr, refl, subst, sym}
 use Rattle.std.proofs.Common.{length, lit≤, true}
-use Rattle.std.proofs.Common.{if◌then◌else◌, ℕ, ◌&&◌, ◌++◌, ◌||◌, ◌==◌, ◌∙◌, ◌∷◌, ◌≡◌, ◌≤◌, ◌<◌, ◌⊎◌}
-use Rattle.std.proofs.lemmas.Bool.{and_parts, and_from, or_cases, or_left, or_right, eqb-true, eq-eqb, leb-true}
+use Rattle.std.proofs.Common.{ℕ, ◌&&◌, ◌||◌, ◌==◌, ◌∙◌, ◌∷◌, ◌≡◌, ◌≤◌, ◌<◌}
+use Rattle.std.proofs.lemmas.Bool.{and_parts, and_from, or_cases, eqb-true, leb-true}
 use Rattle.std.proofs.lemmas.Bool.{le-leb, ltb-true}
 use Rattle.std.proofs.lemmas.Bool.{lt-ltb}
-use Rattle.std.specs.Prelude.{IsTrue, not, flat_map, nat_le, nat_lt}
-use Rattle.std.specs.List.{filter, list_all, list_any}
+use Rattle.std.specs.Prelude.{not, nat_le, nat_lt}
+use Rattle.std.specs.List.{list_all, list_any}
 use Rattle.dfs_base.specs.Ids.{same_fid}
 use Rattle.dfs_base.specs.Name.{same_name}
 use Rattle.dfs_base.specs.Spans.{has_byte}
 use Rattle.dfs_base.specs.declared.ids.Fid.{Fid}
-use Rattle.dfs_base.specs.declared.ids.FilesetId.{FilesetId}
 use Rattle.dfs_base.specs.declared.ids.HostId.{HostId}
 use Rattle.dfs_base.specs.declared.ids.OpenKind.{OpenKind}
 use Rattle.dfs_base.specs.declared.ids.ServerId.{ServerId}
@@ -19,59 +18,43 @@ use Rattle.dfs_base.specs.declared.span.Span.{Span}
 use Rattle.dfs_base.specs.declared.user.User.{User}
 use Rattle.dfs_calls.specs.Rosters.{user_of}
 use Rattle.dfs_calls.specs.declared.call.Call.{Call}
-use Rattle.dfs_calls.specs.declared.call.Call.TheVariants.{Read, Write, Stat, Sync, Lock, Unlock, OpenFile, CloseFile}
+use Rattle.dfs_calls.specs.declared.call.Call.TheVariants.{Write, Stat, Sync, Lock, Unlock, OpenFile, CloseFile}
 use Rattle.dfs_calls.specs.declared.place.Place.{Place}
 use Rattle.dfs_calls.specs.declared.reply.Reply.{Reply}
 use Rattle.dfs_calls.specs.declared.reply.Reply.TheVariants.{Ok as Fine, Bytes as BytesReply}
 use Rattle.dfs_calls.specs.declared.roster.Roster.{Roster}
 use Rattle.dfs_needs.specs.Calls.{Verdict, call_look, reply_now}
-use Rattle.dfs_needs.specs.Calls.Verdict.{Gives, Writes, Locks, Opens}
-use Rattle.dfs_needs.specs.Looks.{CoverAll, IsCovered, IsFirstLack, Look, needs_of, outcome}
-use Rattle.dfs_needs.specs.Walks.{file_look, root_of}
+use Rattle.dfs_needs.specs.Calls.Verdict.{Writes, Locks, Opens}
+use Rattle.dfs_needs.specs.Looks.{CoverAll, Look, needs_of, outcome}
 use Rattle.tok_types.specs.Covers.{Covers, covers_alone, covers_byte, does_for, kind_covers_byte}
-use Rattle.tok_types.specs.Conflicts.{same_id}
 use Rattle.tok_types.specs.declared.token.Kind.{Kind}
 use Rattle.tok_types.specs.declared.token.Kind.TheVariants.{Bytes, Status, Lock as LockToken, Opening}
 use Rattle.tok_types.specs.declared.token.Need.{Need}
 use Rattle.tok_types.specs.declared.token.Token.{Token}
-use Rattle.rpc_types.specs.declared.asking.Change.{Change as ChangeOf}
-use Rattle.rpc_types.specs.declared.asking.Fetch.{Fetch as FetchOf}
-use Rattle.rpc_types.specs.declared.giving.AppliedGive.{AppliedGive}
-use Rattle.rpc_types.specs.declared.giving.Give.{Give}
-use Rattle.rpc_types.specs.declared.message.Body.{Body}
-use Rattle.rpc_types.specs.declared.message.Body.TheVariants.{Hello, Fetch, Change}
-use Rattle.world_host.specs.HostAnswers.{CanAnswer, HostAnswers, IsExact}
-use Rattle.world_host.specs.HostAsks.{AwaitsGone, HostAsks}
-use Rattle.world_host.specs.Dirty.{IsDirtyUnder}
-use Rattle.world_host.specs.Knowing.{FindsFile, Stance, verdict_in}
-use Rattle.world_host.specs.Labels.{FreesPinned, GivesUse, end_of}
-use Rattle.world_host.specs.OpenCalls.{GoesOn, IsOpen, IsTurn}
+use Rattle.world_host.specs.HostAnswers.{HostAnswers, IsExact}
+use Rattle.world_host.specs.Knowing.{Stance}
+use Rattle.world_host.specs.Labels.{end_of}
+use Rattle.world_host.specs.OpenCalls.{GoesOn}
 use Rattle.world_host.specs.Views.{sees}
-use Rattle.world_steps.specs.Gives.{IsKnown, Made, Makes, number_of}
 use Rattle.world_steps.specs.Lists.{In}
-use Rattle.world_steps.specs.Requests.{Asking, Changing}
-use Rattle.world_steps.specs.Sends.{Sends}
-use Rattle.world_steps.specs.Tokens.{AtHand}
 use Rattle.world_steps.specs.declared.applied.Answer.{Answer}
 use Rattle.world_steps.specs.declared.step.Asked.{Asked}
 use Rattle.world_steps.specs.declared.step.Labelled.{Labelled}
 use Rattle.world_steps.specs.declared.step.Step.{Step}
-use Rattle.run_examples.proofs.Tests.{AllTrue, passes, all_true, implies, so, clash, is_not, not_is, at_all, some_in}
+use Rattle.run_examples.proofs.Tests.{AllTrue, passes, all_true, implies, so, is_not, at_all, some_in}
 use Rattle.run_examples.proofs.Tests.{any_of}
-use Rattle.run_examples.proofs.Tests.{is_none, none_in, none_is, same_server, same_fileset, same_host, host_is, server_is}
-use Rattle.run_examples.proofs.Tests.{fid_is, fids}
-use Rattle.run_examples.proofs.Tests.{same_kind, kind_is, kinds, same_bool, bool_is, name_is, names, same_token}
+use Rattle.run_examples.proofs.Tests.{is_none, none_in, none_is, same_server, same_host, host_is, server_is}
+use Rattle.run_examples.proofs.Tests.{fid_is}
+use Rattle.run_examples.proofs.Tests.{same_kind, kind_is, same_bool, bool_is, name_is, same_token}
 use Rattle.run_examples.proofs.Tests.{token_is, same_end}
-use Rattle.run_examples.proofs.Tests.{end_is, same_is, number_is}
-use Rattle.run_examples.proofs.Words.{at_sends, asking, asking_in, in_asking, changing, numbered, hand, hand_in}
+use Rattle.run_examples.proofs.Words.{asking, asking_in, numbered, hand, hand_in}
 use Rattle.run_examples.proofs.Words.{in_hand, held}
-use Rattle.run_examples.proofs.Words.{gives_it, gives_yes, in_changing, is_known, known_is, made, in_made}
-use Rattle.run_examples.proofs.TokenChecks.{at_site, says}
-use Rattle.run_examples.proofs.LabelWords.{in_use, in_used, used_in, frees, frees_is, gives_use, gives_use_yes}
+use Rattle.run_examples.proofs.Words.{gives_it, gives_yes}
+use Rattle.run_examples.proofs.LabelWords.{in_use, used_in, frees, frees_is, gives_use, gives_use_yes}
 use Rattle.run_examples.proofs.LabelWords.{is_fine, fine_is}
-use Rattle.run_examples.proofs.LabelWords.{is_local, local_tail, end_same}
+use Rattle.run_examples.proofs.LabelWords.{is_local, end_same}
 use Rattle.run_examples.proofs.DirtWords.{dirty_under, dirty_under_is}
-use Rattle.run_examples.proofs.CallWords.{open_calls, open_in, in_open, goes_on, in_goes, turns, turns_in, in_turns}
+use Rattle.run_examples.proofs.CallWords.{goes_on, in_goes, turns, turns_in}
 use Rattle.run_examples.proofs.CallWords.{the_call}
 use Rattle.run_examples.proofs.StanceChecks.{own_of, stance_of, stance_tests}
 

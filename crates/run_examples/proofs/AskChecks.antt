@@ -6,8 +6,8 @@ use Rattle.world_steps.specs.Epochs.{IsWelcome}
 use Rattle.world_steps.specs.Sends.{Said}
 use Rattle.rpc_types.specs.declared.message.Message.{Message}
 use Rattle.world_steps.specs.Gives.{GiveOpen}
-use Rattle.std.proofs.Common.{Bool, List, None, Option, Some, [], ap, false, inl, inr, refl, subst, sym, true}
-use Rattle.std.proofs.Common.{ℕ, ◌&&◌, ◌++◌, ◌||◌, ◌==◌, ◌∙◌, ◌∷◌, ◌≡◌, ◌⊎◌}
+use Rattle.std.proofs.Common.{Bool, List, Some, [], ap, false, inl, inr, refl, subst, sym, true}
+use Rattle.std.proofs.Common.{ℕ, ◌&&◌, ◌||◌, ◌∙◌, ◌∷◌, ◌≡◌}
 use Rattle.std.proofs.lemmas.Bool.{and_parts, or_cases}
 use Rattle.std.specs.Prelude.{not}
 use Rattle.std.specs.List.{list_all, list_any}
@@ -25,29 +25,25 @@ use Rattle.dfs_needs.specs.Calls.Verdict.{Gives}
 use Rattle.dfs_needs.specs.Looks.{IsFirstLack}
 use Rattle.tok_types.specs.declared.token.Need.{Need}
 use Rattle.tok_types.specs.declared.token.Token.{Token}
-use Rattle.rpc_types.specs.declared.asking.Change.{Change as ChangeOf}
 use Rattle.rpc_types.specs.declared.asking.Fetch.{Fetch as FetchOf}
 use Rattle.rpc_types.specs.declared.giving.AppliedGive.{AppliedGive}
 use Rattle.rpc_types.specs.declared.giving.Give.{Give}
 use Rattle.rpc_types.specs.declared.message.Body.{Body}
 use Rattle.rpc_types.specs.declared.message.Body.TheVariants.{Hello, Fetch, Change}
 use Rattle.world_host.specs.HostAsks.{AwaitsGone, HostAsks}
-use Rattle.world_host.specs.Knowing.{Stance}
-use Rattle.world_host.specs.OpenCalls.{IsOpen}
-use Rattle.world_steps.specs.Gives.{IsKnown, Made, number_of}
+use Rattle.world_steps.specs.Gives.{number_of}
 use Rattle.world_steps.specs.Lists.{In}
-use Rattle.world_steps.specs.Requests.{Asking, Changing}
+use Rattle.world_steps.specs.Requests.{Asking}
 use Rattle.world_steps.specs.Sends.{Sends}
 use Rattle.world_steps.specs.declared.step.Asked.{Asked}
 use Rattle.world_steps.specs.declared.step.Step.{Step}
-use Rattle.run_examples.proofs.Tests.{AllTrue, passes, all_true, is_not, at_all, some_in, is_none, none_in, fid_is}
-use Rattle.run_examples.proofs.Tests.{same_number}
+use Rattle.run_examples.proofs.Tests.{passes, all_true, is_not, at_all, some_in, is_none, none_in, fid_is}
 use Rattle.run_examples.proofs.Words.{at_sends, asking, asking_in, changing, numbered, held, is_known, known_is, made}
 use Rattle.run_examples.proofs.Words.{in_made}
-use Rattle.run_examples.proofs.TokenChecks.{at_site, goes_to}
+use Rattle.run_examples.proofs.TokenChecks.{at_site}
 use Rattle.run_examples.proofs.LabelWords.{is_local}
 use Rattle.run_examples.proofs.CallWords.{open_calls, open_in, the_call}
-use Rattle.run_examples.proofs.StanceChecks.{own_of, stance_of, stance_tests}
+use Rattle.run_examples.proofs.StanceChecks.{stance_of, stance_tests}
 use Rattle.run_examples.proofs.AnswerChecks.{covers_it, covers_yes, lacks_is, lacks_it, needs_at, verdict_at}
 
 unfoldable pub asks_new : Body → Bool

@@ -1,29 +1,14 @@
 -- Open calls, and what a host knows of itself, as plain data.
 use Rattle.std.proofs.Common.{Bool, List, None, Option, Some, [], ap, false, inl, inr, refl, subst, sym, true}
-use Rattle.std.proofs.Common.{if◌then◌else◌, ℕ, ◌&&◌, ◌++◌, ◌||◌, ◌==◌, ◌∙◌, ◌∷◌, ◌≡◌, ◌⊎◌, ◌↔◌}
+use Rattle.std.proofs.Common.{if◌then◌else◌, ℕ, ◌&&◌, ◌++◌, ◌||◌, ◌==◌, ◌∙◌, ◌∷◌, ◌≡◌}
 use Rattle.std.proofs.lemmas.Bool.{and_parts, and_from, or_cases, or_left, or_right, eqb-true, eq-eqb}
 use Rattle.std.specs.Prelude.{not, flat_map}
-use Rattle.std.specs.List.{filter, find, list_all, list_any}
-use Rattle.std.specs.Option.{option_map}
-use Rattle.dfs_base.specs.Name.{same_name}
-use Rattle.dfs_base.specs.declared.ids.Fid.{Fid}
+use Rattle.std.specs.List.{filter, list_all, list_any}
 use Rattle.dfs_base.specs.declared.ids.FilesetId.{FilesetId}
-use Rattle.dfs_base.specs.declared.ids.HostId.{HostId}
 use Rattle.dfs_base.specs.declared.ids.ServerId.{ServerId}
-use Rattle.dfs_base.specs.declared.user.User.{User}
-use Rattle.dfs_calls.specs.Rosters.{user_of}
 use Rattle.dfs_calls.specs.declared.call.Call.{Call}
 use Rattle.dfs_calls.specs.declared.reply.Reply.{Reply}
-use Rattle.dfs_calls.specs.declared.roster.Roster.{Roster}
-use Rattle.dfs_needs.specs.Calls.{Own}
 use Rattle.dfs_needs.specs.Questions.{fileset_of}
-use Rattle.dfs_tree.specs.declared.tree.LockUse.{LockUse}
-use Rattle.dfs_tree.specs.declared.tree.OpenUse.{OpenUse}
-use Rattle.tok_types.specs.declared.token.Kind.{Kind}
-use Rattle.tok_types.specs.declared.token.Kind.TheVariants.{Bytes, Status, Lock as LockToken, Opening}
-use Rattle.tok_types.specs.declared.token.Token.{Token}
-use Rattle.rpc_types.specs.declared.asking.Change.{Change as ChangeOf}
-use Rattle.rpc_types.specs.declared.giving.AppliedGive.{AppliedGive}
 use Rattle.rpc_types.specs.declared.giving.Ends.{Ends}
 use Rattle.rpc_types.specs.declared.giving.Give.{Give}
 use Rattle.rpc_types.specs.declared.message.Body.{Body}
@@ -32,35 +17,27 @@ use Rattle.rpc_types.specs.declared.message.Message.{Message}
 use Rattle.rpc_types.specs.declared.telling.Done.{Done as DoneOf}
 use Rattle.rpc_types.specs.declared.telling.DoneIs.{DoneIs}
 use Rattle.rpc_types.specs.declared.telling.DoneIs.TheVariants.{Known as IsFileset, Reply as HasReply}
-use Rattle.world_host.specs.Dirty.{IsClean}
-use Rattle.world_host.specs.Knowing.{Entered, Enters, HasLabel, IsLock, IsOpening, Knows, NeedsServer, Stance}
-use Rattle.world_host.specs.Labels.{InUse, IsEnding}
+use Rattle.world_host.specs.Knowing.{Entered, Enters}
 use Rattle.world_host.specs.OpenCalls.{Begins, Counts, GoesOn, IsEnded, IsOpen, IsTurn, LearnsEnd}
-use Rattle.world_steps.specs.Gives.{IsKnown, Learns, Made, number_of}
+use Rattle.world_steps.specs.Gives.{number_of}
 use Rattle.world_steps.specs.Lists.{In}
-use Rattle.world_steps.specs.Requests.{Changing}
 use Rattle.world_steps.specs.Sends.{Said}
-use Rattle.world_steps.specs.Tokens.{AtHand, Held}
 use Rattle.world_steps.specs.declared.applied.Answer.{Answer}
 use Rattle.world_steps.specs.declared.step.Asked.{Asked}
-use Rattle.world_steps.specs.declared.step.Labelled.{Labelled}
 use Rattle.world_steps.specs.declared.step.Step.{Step}
-use Rattle.run_examples.proofs.Tests.{implies, so, clash, is_not, not_is, at_all, some_in, any_of, in_front, in_back}
+use Rattle.run_examples.proofs.Tests.{is_not, not_is, at_all, some_in, any_of, in_front, in_back}
 use Rattle.run_examples.proofs.Tests.{in_split}
 use Rattle.run_examples.proofs.Tests.{in_filter, from_filter, in_flat, from_flat, if_in, in_if, same_server}
 use Rattle.run_examples.proofs.Tests.{same_fileset}
-use Rattle.run_examples.proofs.Tests.{server_is, servers, fileset_is, filesets, same_is, name_is, names, same_number}
+use Rattle.run_examples.proofs.Tests.{server_is, servers, fileset_is, filesets, same_number}
 use Rattle.run_examples.proofs.Tests.{number_is, numbers}
-use Rattle.run_examples.proofs.Words.{said, in_said, at_said, said_in, learnt, learns_in, in_learns, is_known}
+use Rattle.run_examples.proofs.Words.{said, in_said, said_in, learnt, learns_in, in_learns, is_known}
 use Rattle.run_examples.proofs.Words.{known_yes, known_is}
-use Rattle.run_examples.proofs.Words.{made, made_in, in_made, hand, hand_in, in_hand, held, held_in, in_held}
-use Rattle.run_examples.proofs.LabelWords.{begun, in_begun, begun_in, in_use, in_used, used_in, frees, frees_yes}
-use Rattle.run_examples.proofs.LabelWords.{frees_is}
-use Rattle.run_examples.proofs.LabelWords.{is_ending, ending_yes, ending_is, is_local, local_tail, counted}
+use Rattle.run_examples.proofs.Words.{made, made_in, in_made}
+use Rattle.run_examples.proofs.LabelWords.{is_local, local_tail, counted}
 use Rattle.run_examples.proofs.LabelWords.{in_counted, counted_in}
-use Rattle.run_examples.proofs.LabelWords.{counts_to, counts_here, all_so, all_not}
+use Rattle.run_examples.proofs.LabelWords.{counts_to, counts_here, all_not}
 use Rattle.run_examples.proofs.TokenChecks.{goes_to}
-use Rattle.run_examples.proofs.DirtWords.{is_clean, clean_yes, clean_is}
 
 unfoldable pub ends_k : Option Ends → ℕ → Bool
 ends_k None k = false

@@ -1,59 +1,43 @@
 -- A server that has restarted admits a claim: all rules, for this one step.
-use Rattle.std.proofs.Common.{List, None, [], ap, arith, inl, inr, refl, subst, suc, sym, true, false, Bool}
-use Rattle.std.proofs.Common.{ℕ, ◌&&◌, ◌<◌, ◌∙◌, ◌∷◌, ◌≡◌, ◌⊎◌, ◌||◌}
+use Rattle.std.proofs.Common.{List, [], ap, arith, inl, inr, refl, subst, sym, true, false, Bool}
+use Rattle.std.proofs.Common.{ℕ, ◌&&◌, ◌<◌, ◌∙◌, ◌∷◌, ◌≡◌, ◌||◌}
 use Rattle.std.proofs.lemmas.Bool.{and_parts, or_cases}
 use Rattle.std.specs.Prelude.{not}
-use Rattle.std.specs.List.{list_all}
 use Rattle.dfs_base.specs.declared.ids.FilesetId.{FilesetId}
 use Rattle.dfs_base.specs.declared.ids.HostId.{HostId}
 use Rattle.dfs_base.specs.declared.ids.ServerId.{ServerId}
 use Rattle.dfs_base.specs.declared.ids.Node.TheVariants.{Server}
-use Rattle.rpc_types.specs.declared.asking.Change.{Change as ChangeOf}
-use Rattle.rpc_types.specs.declared.asking.Fetch.{Fetch as FetchOf}
-use Rattle.rpc_types.specs.declared.giving.AppliedGive.{AppliedGive}
 use Rattle.rpc_types.specs.declared.giving.Give.{Give}
 use Rattle.rpc_types.specs.declared.giving.Outstanding.{Outstanding}
 use Rattle.rpc_types.specs.declared.giving.Reclaim.{Reclaim as ReclaimOf}
 use Rattle.rpc_types.specs.declared.giving.Reclaimed.{Reclaimed as ReclaimedOf}
 use Rattle.rpc_types.specs.declared.message.Body.{Body}
 use Rattle.rpc_types.specs.declared.message.Body.TheVariants.{Hello, Fetch, Grant, Change, Done, Revoke, Returned}
-use Rattle.rpc_types.specs.declared.message.Body.TheVariants.{GiveBack, Gone, Reclaim, Reclaimed, Restarted, Down, Bye}
+use Rattle.rpc_types.specs.declared.message.Body.TheVariants.{GiveBack, Gone, Reclaim, Reclaimed, Restarted, Bye}
 use Rattle.rpc_types.specs.declared.message.Message.{Message}
-use Rattle.rpc_types.specs.declared.telling.Done.{Done as DoneOf}
-use Rattle.rpc_types.specs.declared.telling.Grant.{Grant as GrantOf}
-use Rattle.rpc_types.specs.declared.tokens.Revoke.{Revoke as RevokeOf}
 use Rattle.tok_types.specs.declared.token.Token.{Token}
 use Rattle.tok_types.specs.declared.token.TokenId.{TokenId}
 use Rattle.world_journal.specs.Lines.{lines_of}
 use Rattle.world_server.specs.ServerAnswers.{AdmitsNow, AnswersClaim, HeardNow, SentNow, ServerAnswers, TakenNow}
-use Rattle.world_server.specs.ServerDecides.{HasDecided}
 use Rattle.world_server.specs.ServerRules.{ServerLines, ServerMeets}
-use Rattle.world_server.specs.ServerSends.{HasSent, MaySend}
 use Rattle.world_server.specs.Wants.{Waits, body_of}
-use Rattle.world_server.specs.Kept.{kept_through}
 use Rattle.world_steps.specs.Acts.{Act, admitted_by, after_cause, after_step, sent_by, written_by}
-use Rattle.world_steps.specs.Acts.Act.{Took, Admits, Sent, Reserves}
-use Rattle.world_steps.specs.Gives.{number_of}
+use Rattle.world_steps.specs.Acts.Act.{Took, Admits, Sent}
 use Rattle.world_steps.specs.Grants.{Granted, GivenUp}
 use Rattle.world_steps.specs.Hosts.{HasReclaimed, TookNow, TookOf}
 use Rattle.world_steps.specs.Lists.{In}
-use Rattle.world_steps.specs.Places.{home}
-use Rattle.world_steps.specs.ServerTokens.{ClaimsHere, IsGrantedId, MayAdmit, ServerTokens}
+use Rattle.world_steps.specs.ServerTokens.{ClaimsHere, MayAdmit, ServerTokens}
 use Rattle.world_steps.specs.TokenRuns.{ServerStep}
 use Rattle.world_steps.specs.Worked.{client, from_server, root, site_one, welcome}
-use Rattle.world_steps.specs.declared.applied.Applied.TheVariants.{Done as IsDone}
 use Rattle.world_steps.specs.declared.applied.Request.{Request}
 use Rattle.world_steps.specs.declared.applied.Request.TheVariants.{Fetch as AsksFetch, Change as AsksChange}
 use Rattle.world_steps.specs.declared.applied.Wanted.{Wanted}
-use Rattle.world_steps.specs.declared.step.Cause.{Cause}
-use Rattle.world_steps.specs.declared.step.Cause.TheVariants.{Message as Came, Line, Restart, Lapse, Evict, End}
-use Rattle.world_steps.specs.declared.step.Step.{Step}
 use Rattle.run_examples.specs.Laws.{restarting}
 use Rattle.run_examples.specs.Steps.{admits, all_tokens, claim, claims_all, file_tree, restarts, served, server_lapses}
-use Rattle.run_examples.proofs.Tests.{apart, at_all, fileset_is, host_is, ids, is_not, none_in, only_one, same_fileset}
+use Rattle.run_examples.proofs.Tests.{at_all, fileset_is, host_is, ids, is_not, only_one, same_fileset}
 use Rattle.run_examples.proofs.Tests.{same_host}
 use Rattle.run_examples.proofs.LapseChecks.{same_token_id}
-use Rattle.run_examples.proofs.ServerWords.{begin_yes, begins, claimless, here_yes, live_yes, no_claim, reclaimed_is}
+use Rattle.run_examples.proofs.ServerWords.{begin_yes, begins, here_yes, live_yes, no_claim, reclaimed_is}
 use Rattle.run_examples.proofs.ServerWords.{waiting, waits_in}
 use Rattle.run_examples.proofs.ServerChecks.{none_reserved, server_meets}
 use Rattle.run_examples.proofs.ServerExamples.{message_is, none_applied, past_of, served_words, tree_at}

@@ -1,11 +1,10 @@
 -- What a host has written and not given back, as plain data.
-use Rattle.std.proofs.Common.{Bool, List, None, Option, Some, [], ap, arith, false, inl, inr, length, refl, subst}
+use Rattle.std.proofs.Common.{Bool, List, None, Option, Some, [], arith, false, inl, inr, length, refl, subst}
 use Rattle.std.proofs.Common.{suc, sym, true}
-use Rattle.std.proofs.Common.{if◌then◌else◌, ℕ, zero, ◌&&◌, ◌+◌, ◌++◌, ◌||◌, ◌∙◌, ◌∷◌, ◌≡◌, ◌≤◌, ◌<◌, ◌⊎◌}
+use Rattle.std.proofs.Common.{if◌then◌else◌, ℕ, zero, ◌&&◌, ◌+◌, ◌++◌, ◌||◌, ◌∷◌, ◌≡◌, ◌≤◌, ◌<◌, ◌⊎◌}
 use Rattle.std.proofs.lemmas.Bool.{and_parts, and_from, or_cases, or_left, or_right, cases_lt, leb-true, ltb-true}
 use Rattle.std.specs.Prelude.{not, flat_map, nat_le, nat_lt, is_some}
 use Rattle.std.specs.List.{filter, list_all, list_any}
-use Rattle.std.specs.Option.{option_map_or}
 use Rattle.dfs_base.specs.Ids.{same_fid}
 use Rattle.dfs_base.specs.Spans.{has_byte}
 use Rattle.dfs_base.specs.declared.ids.Fid.{Fid}
@@ -21,16 +20,15 @@ use Rattle.world_host.specs.Dirty.{ByteIsDirty, HasLength, IsClean, IsDirtyUnder
 use Rattle.world_host.specs.Dirty.{LengthIsDirty}
 use Rattle.world_host.specs.Dirty.{TakesStatus, UpdatesByte, UpdatesStatus, gives_at, is_dirty, writes_at, writes_byte}
 use Rattle.world_host.specs.Views.{sees, writes_to}
-use Rattle.world_steps.specs.Gives.{IsKnown, Made, number_of}
+use Rattle.world_steps.specs.Gives.{number_of}
 use Rattle.world_steps.specs.Lists.{In}
-use Rattle.world_steps.specs.Tokens.{AtHand}
 use Rattle.world_steps.specs.declared.applied.Answer.{Answer}
 use Rattle.world_steps.specs.declared.step.Step.{Step}
-use Rattle.run_examples.proofs.Tests.{implies, so, clash, is_not, not_is, at_all, some_in, any_of, in_front, in_back}
+use Rattle.run_examples.proofs.Tests.{implies, so, is_not, not_is, at_all, some_in, any_of, in_front, in_back}
 use Rattle.run_examples.proofs.Tests.{in_split}
-use Rattle.run_examples.proofs.Tests.{in_filter, from_filter, in_flat, from_flat, if_in, in_if, fid_is, fids}
+use Rattle.run_examples.proofs.Tests.{in_filter, from_filter, in_flat, if_in, in_if, fid_is, fids}
 use Rattle.run_examples.proofs.Tests.{same_kind, kind_is}
-use Rattle.run_examples.proofs.Tests.{kinds, same_length, length_is, length_same, same_bool, bool_is, bools}
+use Rattle.run_examples.proofs.Tests.{kinds, same_length, length_is, length_same}
 use Rattle.run_examples.proofs.Words.{made, made_in, in_made, is_known, known_yes, known_is, hand, hand_in, in_hand}
 use Rattle.run_examples.proofs.LabelWords.{all_so}
 

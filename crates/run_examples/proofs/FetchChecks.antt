@@ -1,12 +1,11 @@
 -- All rules of a host's step that sends a new Fetch, computed.
 use Rattle.std.proofs.Common.{Bool, List, None, Option, Some, [], ap, false, inl, inr, refl, subst, suc, sym, true}
-use Rattle.std.proofs.Common.{ℕ, ◌&&◌, ◌||◌, ◌==◌, ◌∙◌, ◌∷◌, ◌≡◌, ◌<◌, ◌⊎◌}
+use Rattle.std.proofs.Common.{ℕ, ◌&&◌, ◌||◌, ◌==◌, ◌∙◌, ◌∷◌, ◌≡◌, ◌<◌}
 use Rattle.std.proofs.lemmas.Bool.{and_from, and_parts, eqb-true, ltb-true, or_cases}
-use Rattle.std.specs.Prelude.{if◌then◌else◌, nat_lt, not}
+use Rattle.std.specs.Prelude.{nat_lt, not}
 use Rattle.std.specs.List.{list_all, list_any}
 use Rattle.dfs_base.specs.Ids.{same_fid}
 use Rattle.dfs_base.specs.declared.ids.Fid.{Fid}
-use Rattle.dfs_base.specs.declared.ids.FilesetId.{FilesetId}
 use Rattle.dfs_base.specs.declared.ids.HostId.{HostId}
 use Rattle.dfs_base.specs.declared.ids.ServerId.{ServerId}
 use Rattle.dfs_base.specs.declared.ids.Node.TheVariants.{Host}
@@ -15,7 +14,6 @@ use Rattle.dfs_calls.specs.Rosters.{user_of}
 use Rattle.dfs_calls.specs.declared.roster.Roster.{Roster}
 use Rattle.dfs_needs.specs.Looks.{IsFirstLack}
 use Rattle.dfs_needs.specs.Walks.{root_of}
-use Rattle.rpc_types.specs.declared.asking.Change.{Change as ChangeOf}
 use Rattle.rpc_types.specs.declared.asking.Fetch.{Fetch as FetchOf}
 use Rattle.rpc_types.specs.declared.message.Body.{Body}
 use Rattle.rpc_types.specs.declared.message.Body.TheVariants.{Hello, Fetch, Change}
@@ -28,8 +26,8 @@ use Rattle.tok_types.specs.declared.token.Need.{Need}
 use Rattle.tok_types.specs.declared.token.Token.{Token}
 use Rattle.tree_laws.specs.Parts.{Nature}
 use Rattle.tree_laws.specs.Parts.Part.{Traits}
-use Rattle.world_host.specs.HostAsks.{AsksMissing, FetchNeeds, HasFetched, HostAsks, IsDirectory, IsFetchNumber, IsNewFetch}
-use Rattle.world_host.specs.HostAsks.{IsNext, Lacks, LackingNeeds}
+use Rattle.world_host.specs.HostAsks.{AsksMissing, FetchNeeds, HostAsks, IsDirectory, IsFetchNumber, IsNewFetch}
+use Rattle.world_host.specs.HostAsks.{IsNext, LackingNeeds}
 use Rattle.world_host.specs.HostAsks.FetchNeeds.{OfFile, OfUnknown}
 use Rattle.world_host.specs.HostRules.{HostMeets}
 use Rattle.world_host.specs.Views.{sees}
@@ -38,14 +36,14 @@ use Rattle.world_steps.specs.Epochs.{IsWelcome}
 use Rattle.world_steps.specs.Grants.{IsUseKind}
 use Rattle.rpc_types.specs.declared.giving.AppliedGive.{AppliedGive}
 use Rattle.world_steps.specs.Lists.{In}
-use Rattle.world_steps.specs.Requests.{Asking, Changing, Fetches}
+use Rattle.world_steps.specs.Requests.{Asking}
 use Rattle.world_steps.specs.Sends.{Said, Sends}
 use Rattle.world_steps.specs.declared.step.Asked.{Asked}
 use Rattle.world_steps.specs.declared.step.Step.{Step}
-use Rattle.run_examples.proofs.Tests.{AllTrue, all_true, any_of, at_all, fid_is, fids, fileset_is, implies, is_none, is_not}
-use Rattle.run_examples.proofs.Tests.{kind_is, kinds, list_is, none_in, not_is, number_is, passes, same_fileset, same_kind}
-use Rattle.run_examples.proofs.Tests.{filesets, same_list, same_number, so, some_in}
-use Rattle.run_examples.proofs.Words.{asking, asking_in, at_said, changing, held, in_asking, in_said, is_welcome, none_open}
+use Rattle.run_examples.proofs.Tests.{AllTrue, all_true, at_all, fid_is, fids, fileset_is, implies, is_none}
+use Rattle.run_examples.proofs.Tests.{list_is, none_in, not_is, passes, same_fileset}
+use Rattle.run_examples.proofs.Tests.{filesets, same_list, so, some_in}
+use Rattle.run_examples.proofs.Words.{asking, asking_in, at_said, changing, held, in_said, is_welcome, none_open}
 use Rattle.run_examples.proofs.Words.{none_open_yes, numbered, said, welcome_yes}
 use Rattle.run_examples.proofs.TokenChecks.{at_site, token_tests, tokens_meet}
 use Rattle.run_examples.proofs.LabelWords.{is_local}

@@ -1,14 +1,13 @@
 -- The rules of give-backs and Revokes for a host's step, computed.
 use Rattle.std.proofs.Common.{Bool, List, None, Option, Some, [], ap, arith, false, inl, inr, length, refl, subst}
 use Rattle.std.proofs.Common.{suc, sym, true, zero}
-use Rattle.std.proofs.Common.{if◌then◌else◌, ℕ, ◌&&◌, ◌+◌, ◌++◌, ◌-◌, ◌||◌, ◌==◌, ◌∙◌, ◌∷◌, ◌≡◌, ◌≤◌, ◌<◌, ◌⊎◌}
-use Rattle.std.proofs.lemmas.Bool.{and_parts, and_from, or_cases, or_left, or_right, eqb-true, eq-eqb, leb-true}
+use Rattle.std.proofs.Common.{if◌then◌else◌, ℕ, ◌&&◌, ◌-◌, ◌||◌, ◌==◌, ◌∙◌, ◌∷◌, ◌≡◌, ◌≤◌, ◌<◌}
+use Rattle.std.proofs.lemmas.Bool.{and_parts, and_from, or_cases, or_left, or_right, eqb-true, leb-true}
 use Rattle.std.specs.Prelude.{not, flat_map, is_some, nat_le, slice_get}
-use Rattle.std.specs.List.{filter, list_all, list_any}
+use Rattle.std.specs.List.{list_all, list_any}
 use Rattle.dfs_base.specs.Ids.{same_fid}
 use Rattle.dfs_base.specs.declared.ids.Fid.{Fid}
 use Rattle.dfs_base.specs.declared.ids.ServerId.{ServerId}
-use Rattle.dfs_calls.specs.declared.call.Call.{Call}
 use Rattle.dfs_calls.specs.declared.part.Piece.{Piece}
 use Rattle.tok_types.specs.Conflicts.{same_id}
 use Rattle.tok_types.specs.declared.token.Token.{Token}
@@ -17,31 +16,30 @@ use Rattle.rpc_types.specs.declared.giving.Ends.{Ends}
 use Rattle.rpc_types.specs.declared.giving.Give.{Give}
 use Rattle.rpc_types.specs.declared.message.Body.{Body}
 use Rattle.rpc_types.specs.declared.message.Body.TheVariants.{GiveBack}
-use Rattle.rpc_types.specs.declared.message.Message.{Message}
 use Rattle.tree_laws.specs.Parts.Part.{ByteAt, Size}
 use Rattle.world_journal.specs.Told.{byte_in, byte_of}
-use Rattle.world_host.specs.Dirty.{ByteIsDirty, LengthIsDirty, UpdatesByte, is_dirty}
-use Rattle.world_host.specs.HostGives.{DirtyLength, HasByte, HasDirty, HostAnswersRevoke, HostGives, HostRevoked}
+use Rattle.world_host.specs.Dirty.{UpdatesByte, is_dirty}
+use Rattle.world_host.specs.HostGives.{DirtyLength, HasDirty, HostAnswersRevoke, HostGives, HostRevoked}
 use Rattle.world_host.specs.HostGives.{OwnsUpdate}
-use Rattle.world_host.specs.Labels.{FreesPinned, GivesUse, InUse, IsUsed, end_of}
+use Rattle.world_host.specs.Labels.{FreesPinned, IsUsed, end_of}
 use Rattle.world_host.specs.OpenCalls.{IsOpen}
 use Rattle.world_host.specs.Views.{sees, view}
-use Rattle.world_steps.specs.Gives.{IsKnown, IsOutstanding, Made, Makes, number_of}
+use Rattle.world_steps.specs.Gives.{IsKnown, Made, number_of}
 use Rattle.world_steps.specs.Lists.{In}
 use Rattle.world_steps.specs.Places.{Place, place}
-use Rattle.world_steps.specs.Sends.{Sends, SendsTo}
-use Rattle.world_steps.specs.Tokens.{AtHand, Held, Owns}
+use Rattle.world_steps.specs.Sends.{SendsTo}
+use Rattle.world_steps.specs.Tokens.{Held}
 use Rattle.world_steps.specs.declared.step.Asked.{Asked}
 use Rattle.world_steps.specs.declared.step.Labelled.{Labelled}
 use Rattle.world_steps.specs.declared.step.Step.{Step}
 use Rattle.run_examples.proofs.Tests.{AllTrue, passes, all_true, implies, so, is_not, not_is, at_all, some_in, any_of}
 use Rattle.run_examples.proofs.Tests.{apart}
-use Rattle.run_examples.proofs.Tests.{in_front, in_back, in_split, in_flat, same_fileset, fileset_is, fid_is, fids}
+use Rattle.run_examples.proofs.Tests.{in_front, in_back, same_fileset, fileset_is, fid_is, fids}
 use Rattle.run_examples.proofs.Tests.{id_is, ids}
-use Rattle.run_examples.proofs.Tests.{only_one, same_token, token_is, tokens, same_length, length_is, same_give}
+use Rattle.run_examples.proofs.Tests.{only_one, same_token, token_is, same_length, length_is, same_give}
 use Rattle.run_examples.proofs.Tests.{give_is}
-use Rattle.run_examples.proofs.Tests.{same_end, end_is, name_is, server_is}
-use Rattle.run_examples.proofs.Words.{made, made_in, in_made, is_known, known_yes, known_is, hand, hand_in, in_hand}
+use Rattle.run_examples.proofs.Tests.{same_end, end_is}
+use Rattle.run_examples.proofs.Words.{made, made_in, in_made, is_known, known_is, hand, hand_in, in_hand}
 use Rattle.run_examples.proofs.Words.{held, held_in, in_held}
 use Rattle.run_examples.proofs.Words.{holds_id, holds_yes, holds_is, owned, owned_in, in_owned, is_first, first_yes}
 use Rattle.run_examples.proofs.Words.{first_is}
@@ -49,7 +47,7 @@ use Rattle.run_examples.proofs.Words.{recalled, is_recalled, recalled_in, return
 use Rattle.run_examples.proofs.Words.{gives_it, gives_yes}
 use Rattle.run_examples.proofs.Words.{kept_now, in_kept, kept_in}
 use Rattle.run_examples.proofs.TokenChecks.{is_place, place_is}
-use Rattle.run_examples.proofs.LabelWords.{in_use, in_used, used_in, frees, frees_yes, gives_use, gives_use_yes}
+use Rattle.run_examples.proofs.LabelWords.{in_use, used_in, frees, frees_yes, gives_use, gives_use_yes}
 use Rattle.run_examples.proofs.LabelWords.{is_used, is_used_yes}
 use Rattle.run_examples.proofs.LabelWords.{is_used_is, is_local}
 use Rattle.run_examples.proofs.CallWords.{open_calls, in_open, the_call}

@@ -1,24 +1,21 @@
 -- Which tokens a server may have granted, which stamps it told, what it revoked and pinned: as plain data.
-use Rattle.std.proofs.Common.{Bool, List, Some, [], ap, false, inl, inr, refl, subst, sym, true}
-use Rattle.std.proofs.Common.{ℕ, ◌&&◌, ◌++◌, ◌<◌, ◌||◌, ◌==◌, ◌∙◌, ◌∷◌, ◌≡◌, ◌⊎◌}
+use Rattle.std.proofs.Common.{Bool, List, [], ap, false, inl, inr, refl, subst, sym, true}
+use Rattle.std.proofs.Common.{ℕ, ◌&&◌, ◌++◌, ◌<◌, ◌||◌, ◌∙◌, ◌∷◌, ◌≡◌}
 use Rattle.std.proofs.lemmas.Bool.{and_parts, ltb-true, or_cases}
 use Rattle.std.specs.Prelude.{nat_lt, not}
 use Rattle.std.specs.List.{list_all}
 use Rattle.dfs_base.specs.Ids.{same_fid}
 use Rattle.dfs_base.specs.declared.ids.Fid.{Fid}
-use Rattle.dfs_base.specs.declared.ids.HostId.{HostId}
 use Rattle.dfs_base.specs.declared.ids.ServerId.{ServerId}
-use Rattle.rpc_types.specs.declared.message.Body.TheVariants.{Fetch, Grant, Done, Revoke, Returned, Kept, GiveBack, Gone}
+use Rattle.rpc_types.specs.declared.message.Body.TheVariants.{Grant, Done, Revoke, Returned, Kept, GiveBack}
 use Rattle.rpc_types.specs.declared.message.Body.TheVariants.{Down, Bye}
 use Rattle.rpc_types.specs.declared.telling.Bring.{Bring}
-use Rattle.rpc_types.specs.declared.telling.Done.{Done as DoneOf}
-use Rattle.rpc_types.specs.declared.telling.Grant.{Grant as GrantOf}
 use Rattle.tok_types.specs.declared.token.Token.{Token}
 use Rattle.world_server.specs.ServerSends.{Revoked}
 use Rattle.world_steps.specs.Acts.{Act, epoch}
-use Rattle.world_steps.specs.Acts.Act.{Begins, Took, Flushes, Wants, Writes, Admits, Sent, Reserves}
+use Rattle.world_steps.specs.Acts.Act.{Begins, Took, Admits, Sent, Reserves}
 use Rattle.world_steps.specs.Grants.{Granted, Issued, Issues, Mark, Pinned, Reserved}
-use Rattle.world_steps.specs.Hosts.{IsBegin, IsLive, NoGrace}
+use Rattle.world_steps.specs.Hosts.{NoGrace}
 use Rattle.world_steps.specs.Lists.{In}
 use Rattle.world_steps.specs.Stamps.{Tells, Told}
 use Rattle.run_examples.proofs.Tests.{at_all, fids, implies, in_back, in_front, is_none, is_not, none_in, so}

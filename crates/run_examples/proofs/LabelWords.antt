@@ -1,9 +1,9 @@
 -- Labels, calls and filesets that a host knows, as plain data.
 use Rattle.std.proofs.Common.{Bool, List, None, Option, Some, [], ap, false, inl, inr, refl, subst, sym, true}
-use Rattle.std.proofs.Common.{if◌then◌else◌, ℕ, ◌&&◌, ◌++◌, ◌||◌, ◌==◌, ◌∙◌, ◌∷◌, ◌≡◌, ◌⊎◌}
-use Rattle.std.proofs.lemmas.Bool.{and_parts, and_from, or_cases, or_left, or_right, eqb-true, eq-eqb}
+use Rattle.std.proofs.Common.{if◌then◌else◌, ℕ, ◌&&◌, ◌++◌, ◌∙◌, ◌∷◌, ◌≡◌}
+use Rattle.std.proofs.lemmas.Bool.{and_parts, and_from}
 use Rattle.std.proofs.lemmas.List.Folds.{list_all-append}
-use Rattle.std.specs.Prelude.{not, flat_map}
+use Rattle.std.specs.Prelude.{not}
 use Rattle.std.specs.List.{filter, list_all, list_any}
 use Rattle.dfs_base.specs.Name.{same_name}
 use Rattle.dfs_base.specs.declared.ids.FilesetId.{FilesetId}
@@ -11,44 +11,32 @@ use Rattle.dfs_base.specs.declared.ids.ServerId.{ServerId}
 use Rattle.dfs_calls.specs.declared.call.Call.{Call}
 use Rattle.dfs_calls.specs.declared.reply.Reply.{Reply}
 use Rattle.dfs_calls.specs.declared.reply.Reply.TheVariants.{Ok as Fine}
-use Rattle.dfs_needs.specs.Questions.{fileset_of}
 use Rattle.tok_types.specs.Conflicts.{same_id}
 use Rattle.tok_types.specs.declared.token.Kind.{Kind}
 use Rattle.tok_types.specs.declared.token.Kind.TheVariants.{Bytes, Status, Lock, Opening}
 use Rattle.tok_types.specs.declared.token.TokenId.{TokenId}
-use Rattle.rpc_types.specs.declared.asking.Change.{Change as ChangeOf}
-use Rattle.rpc_types.specs.declared.giving.AppliedGive.{AppliedGive}
 use Rattle.rpc_types.specs.declared.giving.Ends.{Ends}
 use Rattle.rpc_types.specs.declared.giving.Give.{Give}
 use Rattle.rpc_types.specs.declared.message.Body.{Body}
 use Rattle.rpc_types.specs.declared.message.Body.TheVariants.{Change, Done}
 use Rattle.rpc_types.specs.declared.message.Message.{Message}
 use Rattle.rpc_types.specs.declared.telling.Done.{Done as DoneOf}
-use Rattle.rpc_types.specs.declared.telling.DoneIs.{DoneIs}
-use Rattle.rpc_types.specs.declared.telling.DoneIs.TheVariants.{Known as IsFileset, Reply as HasReply}
-use Rattle.world_host.specs.Knowing.{Entered, Enters}
 use Rattle.world_host.specs.Labels.{EndsUse, FreesPinned, GivesUse, HasBegun, InUse, IsEnding, IsUsed, end_call, end_of}
-use Rattle.world_host.specs.OpenCalls.{Begins, Counts, GoesOn, IsEnded, IsOpen, IsTurn, LearnsEnd}
-use Rattle.world_steps.specs.Epochs.{epoch_at}
-use Rattle.world_steps.specs.Gives.{IsKnown, Learns, Made, number_of}
+use Rattle.world_host.specs.OpenCalls.{Counts}
+use Rattle.world_steps.specs.Gives.{number_of}
 use Rattle.world_steps.specs.Lists.{In}
-use Rattle.world_steps.specs.Places.{place}
 use Rattle.world_steps.specs.Requests.{Changing, Settles}
-use Rattle.world_steps.specs.Sends.{Said}
-use Rattle.world_steps.specs.declared.applied.Answer.{Answer}
-use Rattle.world_steps.specs.declared.step.Asked.{Asked}
 use Rattle.world_steps.specs.declared.step.Cause.{Cause}
 use Rattle.world_steps.specs.declared.step.Cause.TheVariants.{Message as Came}
 use Rattle.world_steps.specs.declared.step.Labelled.{Labelled}
 use Rattle.world_steps.specs.declared.step.Step.{Step}
-use Rattle.run_examples.proofs.Tests.{implies, so, clash, is_not, not_is, at_all, some_in, any_of, in_front, in_back}
+use Rattle.run_examples.proofs.Tests.{implies, so, is_not, not_is, at_all, some_in, any_of, in_front, in_back}
 use Rattle.run_examples.proofs.Tests.{in_split}
-use Rattle.run_examples.proofs.Tests.{in_filter, from_filter, in_flat, from_flat, if_in, in_if, same_server}
-use Rattle.run_examples.proofs.Tests.{same_fileset}
-use Rattle.run_examples.proofs.Tests.{server_is, servers, fileset_is, filesets, same_is, id_is, ids, name_is, names}
+use Rattle.run_examples.proofs.Tests.{in_filter, from_filter, if_in, in_if}
+use Rattle.run_examples.proofs.Tests.{server_is, id_is, ids, name_is, names}
 use Rattle.run_examples.proofs.Tests.{same_end, end_is}
 use Rattle.run_examples.proofs.Tests.{same_token, token_is, tokens, same_number, number_is, numbers}
-use Rattle.run_examples.proofs.Words.{by_message, said, at_said, in_said, learnt, learns_in, in_learns, is_known}
+use Rattle.run_examples.proofs.Words.{by_message, said, at_said, is_known}
 use Rattle.run_examples.proofs.Words.{known_yes, known_is}
 use Rattle.run_examples.proofs.Words.{made, made_in, in_made, numbered, changing, changing_in, in_changing, moved}
 use Rattle.run_examples.proofs.Words.{was_said, has_kept}

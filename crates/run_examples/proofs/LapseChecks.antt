@@ -1,42 +1,35 @@
 -- The rules of what a host sends again and which tokens it takes, computed.
 use Rattle.run_examples.proofs.FetchWords.{asking_is, asking_yes, fetch_body, is_asking, is_fetch}
-use Rattle.std.proofs.Common.{Bool, List, None, Option, Some, [], ap, arith, false, inl, inr, refl, subst, suc, sym}
+use Rattle.std.proofs.Common.{Bool, List, None, Option, Some, [], ap, false, inl, inr, refl, subst, sym}
 use Rattle.std.proofs.Common.{true}
-use Rattle.std.proofs.Common.{if◌then◌else◌, ℕ, ◌&&◌, ◌++◌, ◌||◌, ◌==◌, ◌∙◌, ◌∷◌, ◌≡◌, ◌≤◌, ◌<◌, ◌⊎◌}
-use Rattle.std.proofs.lemmas.Bool.{and_parts, and_from, or_cases, or_left, or_right, eqb-true, eq-eqb, ltb-true, lt-ltb}
+use Rattle.std.proofs.Common.{ℕ, ◌&&◌, ◌||◌, ◌==◌, ◌∙◌, ◌∷◌, ◌≡◌, ◌⊎◌}
+use Rattle.std.proofs.lemmas.Bool.{and_parts, and_from, or_cases, or_left, or_right, eqb-true, ltb-true, lt-ltb}
 use Rattle.std.specs.Prelude.{not, nat_lt}
-use Rattle.std.specs.List.{filter, list_all, list_any}
-use Rattle.dfs_base.specs.declared.ids.FilesetId.{FilesetId}
+use Rattle.std.specs.List.{list_all, list_any}
 use Rattle.dfs_base.specs.declared.ids.ServerId.{ServerId}
 use Rattle.tok_types.specs.Conflicts.{same_id}
 use Rattle.tok_types.specs.declared.token.Token.{Token}
-use Rattle.rpc_types.specs.declared.asking.Change.{Change as ChangeOf}
 use Rattle.rpc_types.specs.declared.asking.Fetch.{Fetch as FetchOf}
-use Rattle.rpc_types.specs.declared.giving.AppliedGive.{AppliedGive}
 use Rattle.rpc_types.specs.declared.giving.Give.{Give}
 use Rattle.rpc_types.specs.declared.giving.Reclaim.{Reclaim as ReclaimOf}
 use Rattle.rpc_types.specs.declared.giving.Reclaimed.{Reclaimed as ReclaimedOf}
 use Rattle.rpc_types.specs.declared.message.Body.{Body}
-use Rattle.rpc_types.specs.declared.message.Body.TheVariants.{Hello, Fetch, Grant, Change, Done, Revoke, Returned}
-use Rattle.rpc_types.specs.declared.message.Body.TheVariants.{Kept, GiveBack}
-use Rattle.rpc_types.specs.declared.message.Body.TheVariants.{Gone, Reclaim, Reclaimed, Restarted, Down, Bye, NotHere}
-use Rattle.rpc_types.specs.declared.message.Body.TheVariants.{Ship, Shipped}
+use Rattle.rpc_types.specs.declared.message.Body.TheVariants.{Hello, Fetch, Change}
+use Rattle.rpc_types.specs.declared.message.Body.TheVariants.{GiveBack}
+use Rattle.rpc_types.specs.declared.message.Body.TheVariants.{Reclaim, Reclaimed, Restarted, Bye}
 use Rattle.rpc_types.specs.declared.message.Message.{Message}
 use Rattle.rpc_types.specs.declared.telling.Bring.{Bring}
 use Rattle.world_host.specs.HostResends.{Claimed, ClaimsAt, HasBye, HostResends, IsOther, LearnsRestart, Outstanding}
 use Rattle.world_host.specs.HostTakes.{HostTakes}
-use Rattle.world_steps.specs.Epochs.{Comes, ComesIn, Raises, epoch_at}
-use Rattle.world_steps.specs.Floors.{Uses}
-use Rattle.world_steps.specs.Gives.{IsOutstanding, Made}
+use Rattle.world_steps.specs.Epochs.{Comes, ComesIn, epoch_at}
 use Rattle.world_steps.specs.Lists.{In}
 use Rattle.world_steps.specs.Places.{Place, place}
 use Rattle.world_steps.specs.Sends.{HasGreeted, Said, Sends}
-use Rattle.world_steps.specs.Tokens.{HoldsId}
 use Rattle.world_steps.specs.declared.step.Asked.{Asked}
 use Rattle.world_steps.specs.declared.step.Cause.{Cause}
 use Rattle.world_steps.specs.declared.step.Cause.TheVariants.{Message as Came, Lapse}
 use Rattle.world_steps.specs.declared.step.Step.{Step}
-use Rattle.run_examples.proofs.Tests.{AllTrue, passes, all_true, implies, so, clash, is_not, not_is, at_all, some_in}
+use Rattle.run_examples.proofs.Tests.{AllTrue, passes, all_true, implies, so, is_not, not_is, at_all, some_in}
 use Rattle.run_examples.proofs.Tests.{any_of, apart}
 use Rattle.run_examples.proofs.Tests.{is_none, none_in, none_is, only_one, same_server, server_is, servers, same_give, give_is}
 use Rattle.run_examples.proofs.Tests.{same_is}
@@ -44,9 +37,9 @@ use Rattle.run_examples.proofs.Tests.{id_is, ids}
 use Rattle.run_examples.proofs.Words.{by_message, told, cause_is, at_comes, at_sends, at_said, said, said_in, in_said}
 use Rattle.run_examples.proofs.Words.{made, made_in}
 use Rattle.run_examples.proofs.Words.{in_made, is_first, first_yes, first_is, numbered, asking, asking_in, is_welcome}
-use Rattle.run_examples.proofs.Words.{welcome_is, welcome_yes, changing}
+use Rattle.run_examples.proofs.Words.{welcome_yes, changing}
 use Rattle.run_examples.proofs.Words.{holds_id, holds_yes, brought, used_in}
-use Rattle.run_examples.proofs.TokenChecks.{at_site, goes_to, is_bye, is_place, place_is}
+use Rattle.run_examples.proofs.TokenChecks.{at_site, is_bye, is_place, place_is}
 use Rattle.run_examples.proofs.LabelWords.{is_local}
 use Rattle.run_examples.proofs.GiveChecks.{is_give, give_body}
 use Rattle.run_examples.proofs.AnswerChecks.{no_asked}

@@ -3,10 +3,10 @@ use Rattle.world_steps.specs.Sends.{Says}
 use Rattle.world_host.specs.Knowing.{FindsFile}
 use Rattle.world_steps.specs.Lists.{EachOnce}
 use Rattle.world_steps.specs.Sends.{HasSaid}
-use Rattle.std.proofs.Common.{Bool, List, None, Option, Some, [], ap, arith, false, inl, inr, length, refl, subst}
+use Rattle.std.proofs.Common.{Bool, List, None, Option, Some, [], arith, false, inl, inr, length, refl, subst}
 use Rattle.std.proofs.Common.{suc, sym, true}
-use Rattle.std.proofs.Common.{if◌then◌else◌, ℕ, zero, ◌&&◌, ◌+◌, ◌++◌, ◌||◌, ◌==◌, ◌∙◌, ◌∷◌, ◌≡◌, ◌≤◌, ◌<◌, ◌⊎◌}
-use Rattle.std.proofs.lemmas.Bool.{and_parts, and_from, or_cases, or_left, or_right, eqb-true, eq-eqb, leb-true}
+use Rattle.std.proofs.Common.{ℕ, ◌&&◌, ◌||◌, ◌==◌, ◌∙◌, ◌∷◌, ◌≡◌, ◌≤◌, ◌⊎◌}
+use Rattle.std.proofs.lemmas.Bool.{and_parts, and_from, or_cases, or_left, or_right, eqb-true, leb-true}
 use Rattle.std.specs.Prelude.{not, nat_le, slice_get}
 use Rattle.std.specs.List.{filter, list_all, list_any}
 use Rattle.dfs_base.specs.declared.ids.Fid.{Fid}
@@ -21,7 +21,7 @@ use Rattle.dfs_calls.specs.declared.call.Call.TheVariants.{Sync}
 use Rattle.dfs_calls.specs.declared.place.Place.{Place}
 use Rattle.dfs_calls.specs.declared.reply.Refusal.{Refusal}
 use Rattle.dfs_calls.specs.declared.roster.Roster.{Roster}
-use Rattle.dfs_needs.specs.Looks.{CoverAll, IsCovered, Look, needs_of, outcome}
+use Rattle.dfs_needs.specs.Looks.{needs_of, outcome}
 use Rattle.dfs_needs.specs.Walks.{file_look, root_of}
 use Rattle.script_lines.specs.declared.script.Deed.{Deed}
 use Rattle.script_lines.specs.declared.script.Deed.TheVariants.{Call as MakesCall, Stop}
@@ -29,23 +29,20 @@ use Rattle.script_lines.specs.declared.script.Line.{Line}
 use Rattle.std.specs.Prelude.{Result, Ok, Err}
 use Rattle.tok_types.specs.Conflicts.{same_id}
 use Rattle.tok_types.specs.declared.token.Token.{Token}
-use Rattle.rpc_types.specs.declared.message.Body.{Body}
 use Rattle.rpc_types.specs.declared.message.Body.TheVariants.{Hello, Down, Bye}
 use Rattle.rpc_types.specs.declared.message.Message.{Message}
 use Rattle.tree_laws.specs.Parts.{Nature}
 use Rattle.world_host.specs.Dirty.{IsDirtyUnder}
-use Rattle.world_host.specs.HostLeaves.{HasIdle, HostLeaves, IsIdle, MayEvict, MayLeave}
+use Rattle.world_host.specs.HostLeaves.{HostLeaves, IsIdle, MayEvict, MayLeave}
 use Rattle.world_host.specs.HostLines.{DoesDeed, HostEnds, HostLines, TakenBefore}
 use Rattle.world_host.specs.Knowing.{Stance}
-use Rattle.world_host.specs.Labels.{FreesPinned, InUse, IsUsed, NoneUsed, end_of}
-use Rattle.world_host.specs.OpenCalls.{Begins, IsOpen, IsTurn, NoneOpen, calls_begun}
+use Rattle.world_host.specs.Labels.{end_of}
+use Rattle.world_host.specs.OpenCalls.{Begins, IsTurn, NoneOpen, calls_begun}
 use Rattle.world_host.specs.Views.{sees}
 use Rattle.world_journal.specs.Lines.{IsNextLine, lines_gone}
 use Rattle.world_steps.specs.Lists.{In}
-use Rattle.world_steps.specs.Sends.{HasGreeted, Said, Sends, Stops}
+use Rattle.world_steps.specs.Sends.{HasGreeted, Said, Sends}
 use Rattle.world_steps.specs.Tokens.{Drops, Held}
-use Rattle.world_steps.specs.declared.applied.Admission.{Admission}
-use Rattle.world_steps.specs.declared.applied.Applied.{Applied}
 use Rattle.world_steps.specs.declared.applied.Leave.{Leave}
 use Rattle.world_steps.specs.declared.applied.Why.{Why}
 use Rattle.world_steps.specs.declared.applied.Why.TheVariants.{Revoked, Evicted, Asked, Ended, Stopped}
@@ -57,18 +54,18 @@ use Rattle.world_steps.specs.declared.step.Labelled.{Labelled}
 use Rattle.world_steps.specs.declared.step.Step.{Step}
 use Rattle.run_examples.proofs.Tests.{AllTrue, passes, all_true, implies, so, is_not, not_is, at_all, some_in, any_of}
 use Rattle.run_examples.proofs.Tests.{is_none, none_is}
-use Rattle.run_examples.proofs.Tests.{none_in, same_server, server_is, servers, fid_is, fids, same_token, token_is}
-use Rattle.run_examples.proofs.Tests.{same_end, end_is, id_is, in_filter, in_front, in_back, in_split}
+use Rattle.run_examples.proofs.Tests.{none_in, same_server, server_is, servers, fid_is, same_token, token_is}
+use Rattle.run_examples.proofs.Tests.{same_end, end_is, in_filter}
 use Rattle.run_examples.proofs.Words.{at_sends, drops_it, drops_yes, held, held_in, hand, in_said, said, recalled}
 use Rattle.run_examples.proofs.Words.{is_recalled}
-use Rattle.run_examples.proofs.TokenChecks.{is_bye, is_down, says, says_it, stops_it, stops_yes, down_is}
+use Rattle.run_examples.proofs.TokenChecks.{is_bye, is_down, says, stops_it, stops_yes, down_is}
 use Rattle.run_examples.proofs.LabelWords.{in_use, in_used, used_in, frees, frees_yes, is_local, is_used, is_used_is}
-use Rattle.run_examples.proofs.LabelWords.{is_used_yes, same_use, use_is}
+use Rattle.run_examples.proofs.LabelWords.{is_used_yes, same_use}
 use Rattle.run_examples.proofs.LabelWords.{use_same}
 use Rattle.run_examples.proofs.DirtWords.{dirty_under, dirty_under_yes}
 use Rattle.run_examples.proofs.CallWords.{begins_in, begins_now, entered, in_begins, in_turns, open_calls, open_in}
 use Rattle.run_examples.proofs.CallWords.{the_call, turns}
-use Rattle.run_examples.proofs.StanceChecks.{own_of, seen_in, stance_of, stance_tests}
+use Rattle.run_examples.proofs.StanceChecks.{seen_in, stance_of, stance_tests}
 use Rattle.run_examples.proofs.AnswerChecks.{call_is, cover_all, covers_it, no_asked, same_call}
 use Rattle.run_examples.proofs.LapseChecks.{bye_body, hello_body, is_hello, not_asked}
 

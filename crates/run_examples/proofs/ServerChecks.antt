@@ -1,49 +1,39 @@
 -- The rules of a server's step in which no want waits, nothing is decided, and words alone are sent, computed.
 use Rattle.world_steps.specs.Lists.{Each}
 use Rattle.world_steps.specs.Acts.{admitting, deciding, sending}
-use Rattle.std.proofs.Common.{Bool, List, None, Option, Some, [], ap, false, inl, inr, refl, subst, suc, sym, true}
-use Rattle.std.proofs.Common.{if◌then◌else◌, ℕ, ◌&&◌, ◌++◌, ◌||◌, ◌==◌, ◌∙◌, ◌∷◌, ◌≡◌, ◌<◌, ◌≢◌, ◌⊎◌}
-use Rattle.std.proofs.lemmas.Bool.{and_parts, and_from, or_cases, or_left, or_right, eqb-true, eq-eqb}
-use Rattle.std.specs.Prelude.{not, slice_get}
-use Rattle.std.specs.List.{filter, list_all, list_any}
-use Rattle.dfs_base.specs.declared.ids.FilesetId.{FilesetId}
+use Rattle.std.proofs.Common.{Bool, List, None, [], false, inl, inr, refl, subst, sym, true}
+use Rattle.std.proofs.Common.{ℕ, ◌&&◌, ◌||◌, ◌==◌, ◌∙◌, ◌∷◌, ◌≡◌}
+use Rattle.std.proofs.lemmas.Bool.{and_parts, and_from, or_cases, eqb-true, eq-eqb}
+use Rattle.std.specs.Prelude.{not}
+use Rattle.std.specs.List.{list_all, list_any}
 use Rattle.dfs_base.specs.declared.ids.HostId.{HostId}
 use Rattle.dfs_base.specs.declared.ids.ServerId.{ServerId}
 use Rattle.dfs_base.specs.declared.ids.Node.TheVariants.{Server}
 use Rattle.dfs_tree.specs.declared.tree.Tree.{Tree}
-use Rattle.script_lines.specs.declared.script.Deed.{Deed}
 use Rattle.script_lines.specs.declared.script.Deed.TheVariants.{Restart as Restarts}
 use Rattle.script_lines.specs.declared.script.Line.{Line}
 use Rattle.script_lines.specs.declared.script.Script.{Script}
 use Rattle.tok_types.specs.declared.token.Token.{Token}
-use Rattle.tok_types.specs.declared.token.TokenId.{TokenId}
-use Rattle.rpc_types.specs.declared.asking.Change.{Change as ChangeOf}
-use Rattle.rpc_types.specs.declared.asking.Fetch.{Fetch as FetchOf}
 use Rattle.rpc_types.specs.declared.giving.AppliedGive.{AppliedGive}
 use Rattle.rpc_types.specs.declared.giving.Give.{Give}
-use Rattle.rpc_types.specs.declared.giving.Reclaim.{Reclaim as ReclaimOf}
-use Rattle.rpc_types.specs.declared.giving.Reclaimed.{Reclaimed as ReclaimedOf}
 use Rattle.rpc_types.specs.declared.message.Body.{Body}
-use Rattle.rpc_types.specs.declared.message.Body.TheVariants.{Hello, Fetch, Grant, Change, Done, Revoke, Returned}
-use Rattle.rpc_types.specs.declared.message.Body.TheVariants.{Kept, GiveBack}
+use Rattle.rpc_types.specs.declared.message.Body.TheVariants.{Hello, Fetch, Grant, Change, Done, Revoke}
+use Rattle.rpc_types.specs.declared.message.Body.TheVariants.{GiveBack}
 use Rattle.rpc_types.specs.declared.message.Body.TheVariants.{Gone, Reclaim, Reclaimed, Restarted, Down, Bye}
 use Rattle.rpc_types.specs.declared.message.Message.{Message}
-use Rattle.rpc_types.specs.declared.telling.Done.{Done as DoneOf}
-use Rattle.rpc_types.specs.declared.telling.Grant.{Grant as GrantOf}
-use Rattle.rpc_types.specs.declared.tokens.Revoke.{Revoke as RevokeOf}
-use Rattle.world_journal.specs.Lines.{IsNextLine, lines_gone, lines_of}
+use Rattle.world_journal.specs.Lines.{IsNextLine, lines_of}
 use Rattle.world_server.specs.Kept.{kept, kept_through}
 use Rattle.world_server.specs.ServerAnswers.{HeardNow, SentNow, ServerAnswers, TakenNow}
 use Rattle.world_server.specs.ServerApplies.{ServerApplies, by_cause, decisions}
 use Rattle.world_server.specs.ServerDecides.{HasDecided, MayDecideAll}
 use Rattle.world_server.specs.ServerRules.{ServerLines, ServerMeets}
-use Rattle.world_server.specs.ServerSends.{HasSent, IsAskedBack, MaySend}
+use Rattle.world_server.specs.ServerSends.{HasSent, MaySend}
 use Rattle.world_server.specs.Wants.{Waits, body_of}
 use Rattle.world_steps.specs.Acts.{Act, admitted_by, after_cause, after_step, epoch, sent_by, written_by}
-use Rattle.world_steps.specs.Acts.Act.{Took, Sent, Wants, Writes, Admits, Reserves}
+use Rattle.world_steps.specs.Acts.Act.{Sent, Reserves}
 use Rattle.world_steps.specs.Gives.{number_of}
 use Rattle.world_steps.specs.Grants.{Applied}
-use Rattle.world_steps.specs.Hosts.{HasReclaimed, IsDown, IsLive, NoGrace, TookNow}
+use Rattle.world_steps.specs.Hosts.{IsDown, IsLive}
 use Rattle.world_steps.specs.Lists.{In}
 use Rattle.world_steps.specs.Places.{Here}
 use Rattle.world_steps.specs.ServerTokens.{ServerTokens}
@@ -56,22 +46,21 @@ use Rattle.world_steps.specs.declared.applied.Request.TheVariants.{Fetch as Asks
 use Rattle.world_steps.specs.declared.applied.Wanted.{Wanted}
 use Rattle.world_steps.specs.declared.applied.Written.{Written}
 use Rattle.world_steps.specs.declared.step.Cause.{Cause}
-use Rattle.world_steps.specs.declared.step.Cause.TheVariants.{Message as Came, Line as LineOf, Restart, Lapse, Evict}
-use Rattle.world_steps.specs.declared.step.Cause.TheVariants.{End, Flushed}
+use Rattle.world_steps.specs.declared.step.Cause.TheVariants.{Message as Came, Restart, Lapse}
 use Rattle.world_steps.specs.declared.step.Step.{Step}
-use Rattle.run_examples.proofs.Tests.{AllTrue, passes, all_true, implies, so, is_not, not_is, at_all, some_in, any_of}
+use Rattle.run_examples.proofs.Tests.{AllTrue, passes, all_true, implies, so, is_not, not_is, at_all, some_in}
 use Rattle.run_examples.proofs.Tests.{is_none}
-use Rattle.run_examples.proofs.Tests.{none_in, same_host, host_is, hosts, same_number, number_is, numbers}
+use Rattle.run_examples.proofs.Tests.{none_in, same_host, host_is, same_number, number_is}
 use Rattle.run_examples.proofs.Words.{by_message}
 use Rattle.run_examples.proofs.TokenChecks.{is_bye, is_down}
 use Rattle.run_examples.proofs.AnswerChecks.{no_asked}
-use Rattle.run_examples.proofs.LapseChecks.{bye_body, is_hello, is_lapse, is_reclaim, is_restarted, lapse_cause}
+use Rattle.run_examples.proofs.LapseChecks.{bye_body, is_lapse, is_restarted, lapse_cause}
 use Rattle.run_examples.proofs.LapseChecks.{not_asked}
 use Rattle.run_examples.proofs.Tests.{none_is}
 use Rattle.run_examples.proofs.LapseChecks.{restarted_body}
 use Rattle.run_examples.proofs.ServerWords.{applied, applied_yes, down, down_is, heard, listed_heard, live, live_is}
 use Rattle.run_examples.proofs.ServerWords.{live_yes}
-use Rattle.run_examples.proofs.ServerWords.{reclaimed, reclaimed_is, reclaimed_yes, waiting, waits_in}
+use Rattle.run_examples.proofs.ServerWords.{reclaimed, reclaimed_yes, waiting, waits_in}
 use Rattle.run_examples.proofs.ServerWords.{claimants, claims_in, here, here_yes}
 
 -- words that bring and ask nothing: Gone, Bye and Restarted

@@ -1,19 +1,16 @@
 -- The examples of a server: each test is computed.
-use Rattle.std.proofs.Common.{List, None, [], ap, inl, inr, refl, subst, sym, ℕ, ◌++◌, ◌∙◌, ◌∷◌, ◌≡◌, true, false, Bool}
+use Rattle.std.proofs.Common.{List, [], ap, refl, subst, sym, ℕ, ◌++◌, ◌∙◌, ◌∷◌, ◌≡◌, true, false, Bool}
 use Rattle.std.specs.List.{list_all}
 use Rattle.dfs_base.specs.declared.ids.HostId.{HostId}
-use Rattle.dfs_base.specs.declared.ids.ServerId.{ServerId}
 use Rattle.dfs_base.specs.declared.ids.Node.TheVariants.{Server}
 use Rattle.dfs_tree.specs.declared.tree.Tree.{Tree}
 use Rattle.script_lines.specs.declared.script.Deed.TheVariants.{Restart as Restarts}
-use Rattle.script_lines.specs.declared.script.Line.{Line}
 use Rattle.rpc_types.specs.declared.giving.Give.{Give}
 use Rattle.rpc_types.specs.declared.message.Body.{Body}
 use Rattle.rpc_types.specs.declared.message.Body.TheVariants.{GiveBack, Down}
 use Rattle.rpc_types.specs.declared.message.Message.{Message}
 use Rattle.world_server.specs.Kept.{kept, tree_given}
-use Rattle.world_server.specs.ServerAnswers.{HeardNow, TakenNow}
-use Rattle.world_server.specs.ServerApplies.{FirstDown, FirstGiven, ServerApplies, by_cause, decisions, ended_by}
+use Rattle.world_server.specs.ServerApplies.{FirstGiven, ServerApplies, by_cause, decisions, ended_by}
 use Rattle.world_server.specs.ServerApplies.{is_decision}
 use Rattle.world_server.specs.ServerApplies.{stored_of}
 use Rattle.world_server.specs.ServerRules.{ServerMeets}
@@ -24,17 +21,14 @@ use Rattle.world_steps.specs.Lists.{In}
 use Rattle.world_steps.specs.Places.{home}
 use Rattle.world_steps.specs.Worked.{client, from_server, site_one, to_server}
 use Rattle.rpc_types.specs.declared.message.Body.TheVariants.{Restarted}
-use Rattle.world_steps.specs.declared.applied.Applied.{Applied as AppliedOf}
 use Rattle.world_steps.specs.declared.applied.Applied.TheVariants.{IsDown as GoesDown}
 use Rattle.world_steps.specs.declared.step.Cause.{Cause}
-use Rattle.world_steps.specs.declared.step.Cause.TheVariants.{Message as Came, Restart, Lapse}
+use Rattle.world_steps.specs.declared.step.Cause.TheVariants.{Message as Came, Restart}
 use Rattle.world_steps.specs.declared.step.Step.{Step}
-use Rattle.tok_types.specs.declared.token.Token.{Token}
 use Rattle.run_examples.specs.Laws.{restarting, writing}
 use Rattle.run_examples.specs.Steps.{answers_bye, file_tree, gift, hears_down, hears_returned, restarts, served}
 use Rattle.run_examples.specs.Steps.{server_lapses}
 use Rattle.run_examples.specs.Steps.{stores}
-use Rattle.run_examples.proofs.Tests.{is_none, implies}
 use Rattle.run_examples.proofs.TokenChecks.{is_bye, is_down}
 use Rattle.run_examples.proofs.AnswerChecks.{no_asked}
 use Rattle.run_examples.proofs.LapseChecks.{is_lapse, is_restarted}

@@ -1,38 +1,31 @@
 -- What a server's doings tell, as plain data.
-use Rattle.std.proofs.Common.{Bool, List, None, Option, Some, [], ap, false, inl, inr, refl, subst, suc, sym, true}
-use Rattle.std.proofs.Common.{if◌then◌else◌, ℕ, ◌&&◌, ◌++◌, ◌||◌, ◌==◌, ◌∙◌, ◌∷◌, ◌≡◌, ◌≤◌, ◌⊎◌}
+use Rattle.std.proofs.Common.{Bool, List, [], ap, false, inl, inr, refl, subst, sym, true}
+use Rattle.std.proofs.Common.{if◌then◌else◌, ℕ, ◌&&◌, ◌++◌, ◌||◌, ◌==◌, ◌∷◌, ◌≡◌, ◌≤◌}
 use Rattle.std.proofs.lemmas.Bool.{and_parts, and_from, or_cases, or_left, or_right, eqb-true, eq-eqb, leb-true, le-leb}
 use Rattle.std.specs.Prelude.{not, nat_le}
-use Rattle.std.specs.List.{filter, list_all, list_any}
+use Rattle.std.specs.List.{filter}
 use Rattle.dfs_base.specs.declared.ids.FilesetId.{FilesetId}
 use Rattle.dfs_base.specs.declared.ids.HostId.{HostId}
 use Rattle.dfs_base.specs.declared.ids.ServerId.{ServerId}
 use Rattle.tok_types.specs.declared.token.Token.{Token}
-use Rattle.rpc_types.specs.declared.asking.Change.{Change as ChangeOf}
-use Rattle.rpc_types.specs.declared.asking.Fetch.{Fetch as FetchOf}
 use Rattle.rpc_types.specs.declared.giving.AppliedGive.{AppliedGive}
 use Rattle.rpc_types.specs.declared.giving.Give.{Give}
 use Rattle.rpc_types.specs.declared.giving.Reclaim.{Reclaim as ReclaimOf}
-use Rattle.rpc_types.specs.declared.message.Body.{Body}
 use Rattle.rpc_types.specs.declared.message.Body.TheVariants.{Hello, Grant, Done, GiveBack, Reclaim, Down, Bye}
-use Rattle.rpc_types.specs.declared.telling.Done.{Done as DoneOf}
-use Rattle.rpc_types.specs.declared.telling.Grant.{Grant as GrantOf}
 use Rattle.world_server.specs.Wants.{Decides, Unwants, Waits}
 use Rattle.world_steps.specs.Acts.{Act, epoch}
-use Rattle.world_steps.specs.Acts.Act.{Begins, Took, Flushes, Wants, Writes, Admits, Sent, Reserves}
-use Rattle.world_steps.specs.Gives.{number_of}
-use Rattle.world_steps.specs.Grants.{Applied, Granted, IsNewlyGranted}
-use Rattle.world_steps.specs.Hosts.{Away, Ends, Enlists, GoesAway, HasReclaimed, Hears, IsBegin, IsDown, IsLive}
-use Rattle.world_steps.specs.Hosts.{Listed, Takes}
-use Rattle.world_steps.specs.Hosts.{TakesOf, TookNow, TookOf}
+use Rattle.world_steps.specs.Acts.Act.{Begins, Took, Wants, Admits, Sent}
+use Rattle.world_steps.specs.Grants.{Applied}
+use Rattle.world_steps.specs.Hosts.{Away, GoesAway, HasReclaimed, Hears, IsBegin, IsDown, IsLive}
+use Rattle.world_steps.specs.Hosts.{Listed}
+use Rattle.world_steps.specs.Hosts.{TakesOf, TookNow}
 use Rattle.world_steps.specs.Lists.{In}
 use Rattle.world_steps.specs.Places.{Here, Place, birth, home}
 use Rattle.world_steps.specs.declared.applied.Request.{Request}
 use Rattle.world_steps.specs.declared.applied.Request.TheVariants.{Fetch as Asks, Change as Changes}
 use Rattle.world_steps.specs.declared.applied.Wanted.{Wanted}
-use Rattle.run_examples.proofs.Tests.{is_not, not_is, some_in, any_of, in_front, in_back, in_split, in_filter}
-use Rattle.run_examples.proofs.Tests.{from_filter}
-use Rattle.run_examples.proofs.Tests.{if_in, in_if, same_host, host_is, hosts, same_server, server_is, servers}
+use Rattle.run_examples.proofs.Tests.{is_not, not_is, in_front, in_back, in_filter}
+use Rattle.run_examples.proofs.Tests.{same_host, host_is, hosts, same_server, server_is, servers}
 use Rattle.run_examples.proofs.Tests.{same_fileset}
 use Rattle.run_examples.proofs.Tests.{fileset_is, filesets, same_is}
 

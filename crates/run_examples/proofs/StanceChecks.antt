@@ -1,11 +1,10 @@
 -- Where a host stands in a step, computed.
 use Rattle.world_steps.specs.Lists.{EachOnce}
-use Rattle.std.proofs.Common.{Bool, List, None, Option, Some, [], ap, false, inl, inr, refl, subst, sym, true}
-use Rattle.std.proofs.Common.{if◌then◌else◌, ℕ, ◌&&◌, ◌++◌, ◌||◌, ◌==◌, ◌∙◌, ◌∷◌, ◌≡◌, ◌⊎◌, ◌↔◌, cond}
-use Rattle.std.proofs.lemmas.Bool.{and_parts, and_from, or_cases, or_left, or_right, eqb-true, eq-eqb}
+use Rattle.std.proofs.Common.{Bool, List, None, Option, Some, [], false, inl, inr, refl, subst, sym, true}
+use Rattle.std.proofs.Common.{if◌then◌else◌, ℕ, ◌&&◌, ◌++◌, ◌||◌, ◌∙◌, ◌∷◌, ◌≡◌}
+use Rattle.std.proofs.lemmas.Bool.{and_parts, and_from, or_cases, or_left, or_right}
 use Rattle.std.specs.Prelude.{not, flat_map}
-use Rattle.std.specs.List.{filter, find, list_all, list_any}
-use Rattle.std.specs.Option.{option_map}
+use Rattle.std.specs.List.{filter, list_all, list_any}
 use Rattle.dfs_base.specs.Name.{same_name}
 use Rattle.dfs_base.specs.declared.ids.FilesetId.{FilesetId}
 use Rattle.dfs_base.specs.declared.ids.HostId.{HostId}
@@ -19,21 +18,18 @@ use Rattle.dfs_needs.specs.Calls.{Own}
 use Rattle.dfs_tree.specs.declared.tree.LockUse.{LockUse}
 use Rattle.dfs_tree.specs.declared.tree.OpenUse.{OpenUse}
 use Rattle.tok_types.specs.declared.token.Kind.{Kind}
-use Rattle.tok_types.specs.declared.token.Kind.TheVariants.{Bytes, Status, Lock as LockToken, Opening}
-use Rattle.tok_types.specs.declared.token.Token.{Token}
-use Rattle.world_host.specs.Knowing.{Entered, HasLabel, IsLock, IsOpening, Knows, NeedsServer, Stance}
-use Rattle.world_host.specs.Labels.{FreesPinned, InUse, IsEnding}
+use Rattle.tok_types.specs.declared.token.Kind.TheVariants.{Lock as LockToken, Opening}
+use Rattle.world_host.specs.Knowing.{HasLabel, IsLock, IsOpening, Knows, NeedsServer, Stance}
 use Rattle.world_steps.specs.Lists.{In}
-use Rattle.world_steps.specs.Tokens.{AtHand, Held}
 use Rattle.world_steps.specs.declared.step.Labelled.{Labelled}
 use Rattle.world_steps.specs.declared.step.Step.{Step}
-use Rattle.run_examples.proofs.Tests.{AllTrue, passes, all_true, implies, so, is_not, not_is, at_all, some_in, any_of}
+use Rattle.run_examples.proofs.Tests.{passes, all_true, implies, so, is_not, at_all, some_in, any_of}
 use Rattle.run_examples.proofs.Tests.{apart}
 use Rattle.run_examples.proofs.Tests.{in_front, in_back, in_split, in_filter, from_filter, in_flat, from_flat}
 use Rattle.run_examples.proofs.Tests.{same_server}
-use Rattle.run_examples.proofs.Tests.{same_fileset, server_is, servers, fileset_is, filesets, name_is, names, clash}
+use Rattle.run_examples.proofs.Tests.{same_fileset, server_is, servers, fileset_is, name_is, names, clash}
 use Rattle.run_examples.proofs.Words.{hand, hand_in, in_hand, held, held_in, in_held}
-use Rattle.run_examples.proofs.LabelWords.{begun, in_begun, begun_in, in_use, in_used, used_in, frees, frees_yes}
+use Rattle.run_examples.proofs.LabelWords.{begun, begun_in, in_use, in_used, used_in, frees, frees_yes}
 use Rattle.run_examples.proofs.LabelWords.{frees_is}
 use Rattle.run_examples.proofs.LabelWords.{is_ending, ending_yes, ending_is, is_local}
 use Rattle.run_examples.proofs.DirtWords.{is_clean, clean_yes, clean_is}

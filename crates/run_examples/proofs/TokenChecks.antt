@@ -1,8 +1,8 @@
 -- The rules of tokens for a host's step, computed: where each test passes the rules hold.
 use Rattle.world_steps.specs.Sends.{HasSaid}
 use Rattle.std.proofs.Common.{Bool, List, [], ap, false, inl, inr, refl, subst, sym, true}
-use Rattle.std.proofs.Common.{ℕ, ◌&&◌, ◌++◌, ◌||◌, ◌==◌, ◌∙◌, ◌∷◌, ◌≡◌, ◌⊎◌, ◌<◌}
-use Rattle.std.proofs.lemmas.Bool.{and_parts, and_from, or_cases, eqb-true, eq-eqb, ltb-true, lt-ltb}
+use Rattle.std.proofs.Common.{ℕ, ◌&&◌, ◌||◌, ◌==◌, ◌∙◌, ◌∷◌, ◌≡◌}
+use Rattle.std.proofs.lemmas.Bool.{and_parts, and_from, or_cases, eqb-true, ltb-true, lt-ltb}
 use Rattle.std.specs.Prelude.{not, nat_lt}
 use Rattle.std.specs.List.{list_all, list_any}
 use Rattle.dfs_base.specs.Ids.{same_fid}
@@ -11,9 +11,6 @@ use Rattle.dfs_base.specs.declared.ids.ServerId.{ServerId}
 use Rattle.tok_types.specs.Conflicts.{same_id}
 use Rattle.tok_types.specs.declared.token.Token.{Token}
 use Rattle.tok_types.specs.declared.token.TokenId.{TokenId}
-use Rattle.rpc_types.specs.declared.asking.Change.{Change as ChangeOf}
-use Rattle.rpc_types.specs.declared.asking.Fetch.{Fetch as FetchOf}
-use Rattle.rpc_types.specs.declared.giving.AppliedGive.{AppliedGive}
 use Rattle.rpc_types.specs.declared.giving.Give.{Give}
 use Rattle.rpc_types.specs.declared.giving.Outstanding.{Outstanding}
 use Rattle.rpc_types.specs.declared.giving.Reclaim.{Reclaim as ReclaimOf}
@@ -21,28 +18,25 @@ use Rattle.rpc_types.specs.declared.message.Body.{Body}
 use Rattle.rpc_types.specs.declared.message.Body.TheVariants.{Fetch, Change, Returned, Kept, GiveBack, Reclaim, Down}
 use Rattle.rpc_types.specs.declared.message.Body.TheVariants.{Bye}
 use Rattle.rpc_types.specs.declared.message.Message.{Message}
-use Rattle.rpc_types.specs.declared.tokens.Named.{Named}
 use Rattle.world_steps.specs.Epochs.{epoch_at}
-use Rattle.world_steps.specs.Gives.{IsKnown, IsOutstanding, Made, NamesGive, Waits, number_of}
+use Rattle.world_steps.specs.Gives.{NamesGive, number_of}
 use Rattle.world_steps.specs.HostTokens.{Claims, HostTokens, IsClaimed, IsInGive}
 use Rattle.world_steps.specs.Lists.{In}
-use Rattle.world_steps.specs.Places.{Place, place}
-use Rattle.world_steps.specs.Requests.{Asking, Changing}
-use Rattle.world_steps.specs.Sends.{Said, Sends, Stops}
-use Rattle.world_steps.specs.Tokens.{AtHand, Drops, Leaves}
+use Rattle.world_steps.specs.Places.{place}
+use Rattle.world_steps.specs.Requests.{Changing}
+use Rattle.world_steps.specs.Sends.{Sends, Stops}
 use Rattle.world_steps.specs.declared.step.Step.{Step}
 use Rattle.run_examples.proofs.Tests.{AllTrue, passes, all_true, implies, so, is_not, at_all, some_in, any_of, apart}
 use Rattle.run_examples.proofs.Tests.{only_one}
 use Rattle.run_examples.proofs.Tests.{is_none, none_in, same_server, same_fileset, server_is, servers, fileset_is}
 use Rattle.run_examples.proofs.Tests.{filesets}
-use Rattle.run_examples.proofs.Tests.{same_is, fid_is, fids, id_is, ids, same_token, token_is, tokens, same_number}
+use Rattle.run_examples.proofs.Tests.{fid_is, id_is, ids, same_token, token_is, same_number}
 use Rattle.run_examples.proofs.Tests.{number_is}
 use Rattle.run_examples.proofs.Tests.{numbers, same_give, give_is}
 use Rattle.run_examples.proofs.Words.{told, at_sends, at_said, said, in_made, made_in, made, is_known, known_yes}
-use Rattle.run_examples.proofs.Words.{known_is}
-use Rattle.run_examples.proofs.Words.{drops_it, drops_yes, drops_is, held, held_in, in_held, hand, hand_in, in_hand}
+use Rattle.run_examples.proofs.Words.{drops_it, drops_yes, held, held_in, in_held, hand, hand_in, in_hand}
 use Rattle.run_examples.proofs.Words.{holds_id}
-use Rattle.run_examples.proofs.Words.{holds_yes, holds_is, ever, in_ever, returned, returned_in, leaves_it}
+use Rattle.run_examples.proofs.Words.{holds_is, ever, in_ever, returned, returned_in, leaves_it}
 use Rattle.run_examples.proofs.Words.{leaves_yes, leaves_is}
 use Rattle.run_examples.proofs.Words.{owned, owned_in, waits, waits_yes, is_first, first_yes, first_is, numbered}
 use Rattle.run_examples.proofs.Words.{asking, asking_in}

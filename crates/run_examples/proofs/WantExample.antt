@@ -1,22 +1,16 @@
 -- A server asks a token back for a Fetch, asks again at a lapse, and grants the Fetch when the token has come back: all
 -- rules, for these steps.
-use Rattle.std.proofs.Common.{Bool, List, None, Option, Some, [], ap, arith, false, inl, inr, refl, subst, suc, sym, true}
-use Rattle.std.proofs.Common.{ℕ, ◌&&◌, ◌++◌, ◌<◌, ◌∙◌, ◌∷◌, ◌≡◌, ◌⊎◌}
-use Rattle.std.proofs.lemmas.Bool.{and_parts, ltb-true}
+use Rattle.std.proofs.Common.{Bool, List, None, Some, [], ap, false, inl, inr, refl, subst, sym, true}
+use Rattle.std.proofs.Common.{ℕ, ◌++◌, ◌<◌, ◌∙◌, ◌∷◌, ◌≡◌, ◌⊎◌}
+use Rattle.std.proofs.lemmas.Bool.{ltb-true}
 use Rattle.std.specs.Prelude.{IsTrue, nat_lt, not}
 use Rattle.std.specs.List.{list_all}
-use Rattle.dfs_base.specs.declared.ids.FilesetId.{FilesetId}
 use Rattle.dfs_base.specs.declared.ids.HostId.{HostId}
-use Rattle.dfs_base.specs.declared.ids.Node.TheVariants.{Server}
-use Rattle.dfs_calls.specs.declared.reply.Refusal.{Refusal}
 use Rattle.dfs_filesets.specs.Updates.{updated}
 use Rattle.dfs_needs.specs.Shows.{shows}
 use Rattle.dfs_tree.specs.declared.tree.Tree.{Tree}
 use Rattle.rpc_types.specs.declared.asking.Change.{Change as ChangeOf}
-use Rattle.rpc_types.specs.declared.asking.Fetch.{Fetch as FetchOf}
-use Rattle.rpc_types.specs.declared.giving.AppliedGive.{AppliedGive}
 use Rattle.rpc_types.specs.declared.giving.Give.{Give}
-use Rattle.rpc_types.specs.declared.giving.Reclaimed.{Reclaimed as ReclaimedOf}
 use Rattle.rpc_types.specs.declared.message.Body.{Body}
 use Rattle.rpc_types.specs.declared.message.Body.TheVariants.{Fetch, Grant, Change, Done, Revoke, GiveBack, Gone, Reclaimed}
 use Rattle.rpc_types.specs.declared.message.Body.TheVariants.{Hello, Down, Bye}
@@ -25,34 +19,29 @@ use Rattle.world_steps.specs.Stamps.{Told}
 use Rattle.world_steps.specs.declared.applied.Applied.TheVariants.{Wants as IsWanted, Done as IsDone}
 use Rattle.world_steps.specs.declared.step.Cause.TheVariants.{Lapse}
 use Rattle.rpc_types.specs.declared.telling.Bring.{Bring}
-use Rattle.rpc_types.specs.declared.telling.Done.{Done as DoneOf}
 use Rattle.rpc_types.specs.declared.telling.Grant.{Grant as GrantOf}
 use Rattle.rpc_types.specs.declared.tokens.Revoke.{Revoke as RevokeOf}
 use Rattle.tok_types.specs.Conflicts.{blocks, conflict, need_of, wants_conflict}
 use Rattle.tok_types.specs.declared.token.Kind.TheVariants.{Status}
 use Rattle.world_journal.specs.Told.{told}
 use Rattle.world_server.specs.ServerApplies.{FirstGiven, ServerApplies, by_cause, ended_by, stored_of}
-use Rattle.tok_types.specs.declared.token.Need.{Need}
 use Rattle.tok_types.specs.declared.token.Token.{Token}
 use Rattle.tok_types.specs.declared.token.TokenId.{TokenId}
 use Rattle.tree_laws.specs.Parts.{Part, cell_at}
 use Rattle.tree_laws.specs.Parts.Part.{ByteAt, Size, Traits, Entries}
-use Rattle.world_journal.specs.Lines.{lines_of}
 use Rattle.world_server.specs.Kept.{kept_through}
 use Rattle.world_server.specs.ServerAnswers.{HeardNow, SentNow, TakenNow}
-use Rattle.world_server.specs.ServerDecides.{HasDecided, IsNewRequest, RefusedOn}
-use Rattle.world_server.specs.ServerRules.{ServerLines, ServerMeets}
-use Rattle.world_server.specs.ServerSends.{AreNeeds, GrantsSo, HasSent, IsAskedBack, MaySend, Revoked, TellsKept}
+use Rattle.world_server.specs.ServerDecides.{IsNewRequest}
+use Rattle.world_server.specs.ServerRules.{ServerMeets}
+use Rattle.world_server.specs.ServerSends.{GrantsSo, HasSent, IsAskedBack, MaySend, Revoked}
 use Rattle.world_server.specs.Wants.{Blocks, CanGrant, Waits, asker, body_of}
-use Rattle.world_steps.specs.Acts.{Act, epoch, admitted_by, after_cause, after_step, sent_by, written_by}
+use Rattle.world_steps.specs.Acts.{Act, epoch, after_cause, after_step, sent_by, written_by}
 use Rattle.world_steps.specs.Acts.Act.{Begins, Took, Wants, Sent, Reserves}
 use Rattle.world_steps.specs.Gives.{number_of}
-use Rattle.world_steps.specs.Grants.{Granted, Issued, Mark, Reserved}
-use Rattle.world_steps.specs.Hosts.{TookNow}
+use Rattle.world_steps.specs.Grants.{Granted, Reserved}
 use Rattle.world_steps.specs.Lists.{In}
-use Rattle.world_steps.specs.Places.{Here, home}
+use Rattle.world_steps.specs.Places.{Here}
 use Rattle.world_steps.specs.ServerTokens.{AskedFetch, MayBring, ServerTokens}
-use Rattle.world_steps.specs.TokenRuns.{ServerStep}
 use Rattle.world_steps.specs.Worked.{client, site_one, to_host, to_server, welcome}
 use Rattle.world_steps.specs.declared.applied.Request.{Request}
 use Rattle.world_steps.specs.declared.applied.Request.TheVariants.{Fetch as AsksFetch, Change as AsksChange}
@@ -61,9 +50,9 @@ use Rattle.world_steps.specs.declared.applied.Written.{Written}
 use Rattle.world_steps.specs.declared.step.Step.{Step}
 use Rattle.run_examples.specs.Laws.{writing}
 use Rattle.run_examples.specs.Steps.{calls_again, calls_back, file, file_bytes, file_tree, file_update, from_other, gift, other}
-use Rattle.run_examples.specs.Steps.{other_fetch, other_grant, other_status, other_want, recall, served, served_first, server_lapses}
-use Rattle.run_examples.specs.Steps.{serves_update, shared, status_of, stores_and_grants, to_other}
-use Rattle.run_examples.proofs.Tests.{all_true, at_all, implies, is_none, none_in, same_token, so, token_is, tokens}
+use Rattle.run_examples.specs.Steps.{other_fetch, other_grant, other_status, other_want, recall, served_first, server_lapses}
+use Rattle.run_examples.specs.Steps.{serves_update, shared, status_of, stores_and_grants}
+use Rattle.run_examples.proofs.Tests.{all_true, at_all, implies, none_in, same_token, so, token_is, tokens}
 use Rattle.run_examples.proofs.ServerWords.{applied_is, heard, here_yes, live_yes, reclaimed, waiting, waits_in}
 use Rattle.run_examples.proofs.ServerChecks.{answers_from, none_reserved, reply_tests, server_meets, word_may, word_send}
 use Rattle.run_examples.proofs.ServerExamples.{message_is, none_applied, past_of, served_words, tree_at}

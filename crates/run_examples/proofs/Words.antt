@@ -1,7 +1,7 @@
 -- What a host's steps tell, as plain data: each word of the rules on tokens is membership in a list that is computed.
 use Rattle.world_steps.specs.Gives.{GiveOpen}
 use Rattle.std.proofs.Common.{Bool, List, [], ap, false, inl, inr, refl, subst, sym, true, if◌then◌else◌}
-use Rattle.std.proofs.Common.{ℕ, ◌&&◌, ◌++◌, ◌||◌, ◌==◌, ◌∙◌, ◌∷◌, ◌≡◌, ◌⊎◌, ◌<◌}
+use Rattle.std.proofs.Common.{ℕ, ◌&&◌, ◌++◌, ◌||◌, ◌==◌, ◌∙◌, ◌∷◌, ◌≡◌, ◌<◌}
 use Rattle.std.proofs.lemmas.Bool.{and_parts, and_from, or_cases, or_left, or_right, eqb-true, eq-eqb, ltb-true, lt-ltb}
 use Rattle.std.specs.Prelude.{not, nat_lt, flat_map}
 use Rattle.std.specs.List.{filter, list_all, list_any}
@@ -25,19 +25,18 @@ use Rattle.rpc_types.specs.declared.telling.Bring.{Bring}
 use Rattle.rpc_types.specs.declared.telling.Done.{Done as DoneOf}
 use Rattle.rpc_types.specs.declared.telling.Grant.{Grant as GrantOf}
 use Rattle.rpc_types.specs.declared.tokens.Revoke.{Revoke as RevokeOf}
-use Rattle.world_steps.specs.Epochs.{About, Comes, ComesIn, IsWelcome, Renews, epoch_at}
+use Rattle.world_steps.specs.Epochs.{About, ComesIn, IsWelcome, epoch_at}
 use Rattle.world_steps.specs.Floors.{AboveFloor, Answers, Uses}
-use Rattle.world_steps.specs.Gives.{IsKnown, IsOutstanding, Known, Learns, Made, Makes, Waits, number_of}
+use Rattle.world_steps.specs.Gives.{IsOutstanding, Known, Learns, Made, Makes, Waits, number_of}
 use Rattle.world_steps.specs.Lists.{In}
 use Rattle.world_steps.specs.Places.{place}
 use Rattle.world_steps.specs.Requests.{Asking, Changing, Settles}
 use Rattle.world_steps.specs.Sends.{HasKept, Keeps, Returns, Said, Sends}
 use Rattle.world_steps.specs.Tokens.{AtHand, Drops, EverHeld, Held, HoldsId, Leaves, Owns}
-use Rattle.world_steps.specs.declared.applied.Leave.{Leave}
 use Rattle.world_steps.specs.declared.step.Cause.{Cause}
 use Rattle.world_steps.specs.declared.step.Cause.TheVariants.{Message as Came}
 use Rattle.world_steps.specs.declared.step.Step.{Step}
-use Rattle.run_examples.proofs.Tests.{implies, so, clash, is_not, not_is, at_all, some_in, any_of, in_front, in_back}
+use Rattle.run_examples.proofs.Tests.{implies, so, is_not, not_is, at_all, some_in, any_of, in_front, in_back}
 use Rattle.run_examples.proofs.Tests.{in_split}
 use Rattle.run_examples.proofs.Tests.{in_filter, from_filter, in_flat, from_flat, if_in, in_if, same_server}
 use Rattle.run_examples.proofs.Tests.{same_fileset}

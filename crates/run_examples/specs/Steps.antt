@@ -14,7 +14,6 @@ use Rattle.dfs_calls.specs.declared.place.Place.{Place}
 use Rattle.dfs_calls.specs.declared.reply.Reply.TheVariants.{Ok as Fine}
 use Rattle.dfs_objects.specs.Spans.{span_between, whole}
 use Rattle.script_lines.specs.declared.script.Deed.{Deed}
-use Rattle.script_lines.specs.declared.script.Deed.TheVariants.{Call as MakesCall, Stop}
 use Rattle.script_lines.specs.declared.script.Line.{Line as LineOf}
 use Rattle.script_lines.specs.declared.script.Script.{Script}
 use Rattle.tok_types.specs.declared.token.Kind.{Kind}
@@ -22,7 +21,6 @@ use Rattle.tok_types.specs.declared.token.Kind.TheVariants.{Bytes, Status, Lock 
 use Rattle.tok_types.specs.declared.token.Need.{Need}
 use Rattle.tok_types.specs.declared.token.Token.{Token}
 use Rattle.rpc_types.specs.declared.asking.Change.{Change as ChangeOf}
-use Rattle.rpc_types.specs.declared.giving.Ends.{Ends}
 use Rattle.rpc_types.specs.declared.giving.Give.{Give}
 use Rattle.rpc_types.specs.declared.giving.Reclaim.{Reclaim as ReclaimOf}
 use Rattle.rpc_types.specs.declared.message.Body.{Body}

@@ -21,10 +21,9 @@ use Rattle.script_lines.specs.declared.script.Line.{Line as ScriptLine}
 use Rattle.world_steps.specs.declared.step.Cause.TheVariants.{Line, Message as Came}
 use Rattle.rpc_types.specs.declared.message.Body.{Body}
 use Rattle.rpc_types.specs.declared.message.Body.TheVariants.{Hello, Fetch, Grant, Change, Done, Reclaimed}
-use Rattle.rpc_types.specs.declared.message.Direction.TheVariants.{ToServer, ToHost, BetweenServers}
+use Rattle.rpc_types.specs.declared.message.Direction.TheVariants.{ToServer, ToHost}
 use Rattle.rpc_types.specs.declared.message.Message.{Message}
 use Rattle.dfs_objects.specs.Spans.{whole}
-use Rattle.dfs_calls.specs.declared.part.Status.{Status as StatusOf}
 use Rattle.dfs_calls.specs.declared.entry.Entry.TheVariants.{Call as CallEntry}
 use Rattle.dfs_calls.specs.declared.call.Call.TheVariants.{NewFileset}
 use Rattle.dfs_tree.proofs.Kept.{formed_start, formed_entry}
@@ -47,7 +46,6 @@ use Rattle.world_host.proofs.RunSteps.{meets_greets, meets_enters, meets_fetches
 use Rattle.world_server.proofs.RunSteps.{meets_welcomes, meets_tells, meets_grants}
 use Rattle.world_steps.specs.Acts.{SentTo, acts}
 use Rattle.world_steps.specs.TokenRuns.{CameToHost, CameToServer}
-use Rattle.dfs_base.specs.declared.ids.FilesetId.{FilesetId}
 
 abbrev firsts : ServerId → ℕ
 firsts = firsts_of worked_journal

@@ -2,27 +2,21 @@
 -- tokens leave with cause. Lists of steps have the newest first.
 use Rattle.world_host.specs.Knowing.{Stance, look_of}
 use Rattle.world_steps.specs.Lists.{Always}
-use Rattle.std.specs.Prelude.{List, Some, [], true, ℕ, ◌↔◌, ◌∷◌, ◌≡◌}
+use Rattle.std.specs.Prelude.{List, Some, [], true, ℕ, ◌∷◌, ◌≡◌}
 use Rattle.dfs_base.specs.declared.ids.HostId.{HostId}
-use Rattle.dfs_base.specs.declared.ids.Node.{Node}
-use Rattle.dfs_base.specs.declared.user.User.{User}
-use Rattle.dfs_calls.specs.Rosters.{user_of}
 use Rattle.dfs_calls.specs.declared.call.Call.{Call}
 use Rattle.dfs_calls.specs.declared.reply.Reply.{Reply}
-use Rattle.dfs_needs.specs.Calls.{Own, call_look, reply_now}
+use Rattle.dfs_needs.specs.Calls.{reply_now}
 use Rattle.dfs_needs.specs.Looks.{IsCovered, outcome, tree_view}
-use Rattle.tok_types.specs.declared.token.Token.{Token}
 use Rattle.world_host.specs.HostLeaves.{HostLeaves}
-use Rattle.world_host.specs.Knowing.{Knows}
 use Rattle.world_host.specs.OpenCalls.{Begins}
 use Rattle.world_journal.specs.Histories.{tree_at}
 use Rattle.world_journal.specs.Lines.{limit_of}
 use Rattle.world_steps.specs.Lists.{In}
 use Rattle.world_steps.specs.Nodes.{own}
 use Rattle.world_steps.specs.TokenLaws.{NoConflict}
-use Rattle.world_steps.specs.Tokens.{Held}
 use Rattle.world_steps.specs.declared.step.Step.{Step}
-use Rattle.dfs_base.specs.declared.ids.Node.TheVariants.{Host, Server}
+use Rattle.dfs_base.specs.declared.ids.Node.TheVariants.{Host}
 use Rattle.world_steps.specs.declared.applied.Answer.{Answer}
 use Rattle.dfs_tree.specs.declared.tree.Tree.{Tree}
 

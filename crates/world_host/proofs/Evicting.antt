@@ -1,10 +1,10 @@
 -- A host evicts the token that was last used longest ago.
-use Rattle.std.proofs.Common.{List, [], ℕ, arith, inl, inr, length, refl, suc, ◌∷◌, ◌≡◌, ◌≤◌}
+use Rattle.std.proofs.Common.{List, [], ℕ, arith, inl, inr, length, refl, suc, ◌∷◌, ◌≤◌}
 use Rattle.dfs_base.specs.declared.ids.HostId.{HostId}
 use Rattle.dfs_calls.specs.declared.roster.Roster.{Roster}
 use Rattle.tok_types.specs.declared.token.Token.{Token}
 use Rattle.world_host.specs.Evictions.{OldestGoes}
-use Rattle.world_host.specs.HostLeaves.{IsIdle, IsOldest, LastUsed, UsesToken}
+use Rattle.world_host.specs.HostLeaves.{LastUsed}
 use Rattle.world_steps.specs.declared.step.Step.{Step}
 
 pub last_before : (roster : Roster) (host : HostId) (past : List Step) (t : Token) (n : ℕ)

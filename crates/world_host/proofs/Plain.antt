@@ -1,5 +1,5 @@
 -- Steps of the small run's host: they only send requests, and take and answer; the rules on what they don't do.
-use Rattle.std.proofs.Common.{Bool, List, Option, [], ap, arith, false, inl, inr, length, refl, suc, sym, true, ℕ}
+use Rattle.std.proofs.Common.{Bool, List, Option, [], ap, arith, false, inl, inr, refl, suc, sym, true, ℕ}
 use Rattle.std.proofs.Common.{◌&&◌, ◌||◌, ◌∙◌, ◌∷◌, ◌≡◌, ◌⊎◌}
 use Rattle.dfs_base.specs.declared.ids.Fid.{Fid}
 use Rattle.dfs_base.specs.declared.ids.ServerId.{ServerId}
@@ -21,11 +21,11 @@ use Rattle.world_steps.specs.Lists.{In}
 use Rattle.world_steps.specs.Places.{place}
 use Rattle.world_steps.specs.Sends.{Returns, Said, Sends}
 use Rattle.world_steps.specs.Tokens.{Held, HoldsId, Owns}
-use Rattle.world_steps.specs.Worked.{client, fetches, plain, takes}
+use Rattle.world_steps.specs.Worked.{client, plain, takes}
 use Rattle.world_steps.specs.declared.step.Step.{Step}
 use Rattle.world_steps.specs.declared.step.Cause.{Cause}
-use Rattle.world_steps.specs.declared.step.Cause.TheVariants.{Message as Came, Lapse, Line, Evict, End, Flushed, Restart}
-use Rattle.rpc_types.specs.declared.message.Body.TheVariants.{Hello, Fetch, Grant, Change, Done, Revoke, Returned, Kept, GiveBack, Gone, Reclaim, Reclaimed, Restarted, Down, Bye}
+use Rattle.world_steps.specs.declared.step.Cause.TheVariants.{Lapse, Evict, End}
+use Rattle.rpc_types.specs.declared.message.Body.TheVariants.{Hello, Fetch, Change, Revoke, Returned, Kept, GiveBack, Reclaim, Reclaimed, Restarted, Down, Bye}
 use Rattle.rpc_types.specs.declared.message.Body.{Body}
 use Rattle.rpc_types.specs.declared.tokens.Revoke.{Revoke as RevokeOf}
 use Rattle.rpc_types.specs.declared.giving.Reclaimed.{Reclaimed as ReclaimedOf}

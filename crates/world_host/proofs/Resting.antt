@@ -1,6 +1,6 @@
 -- A host at rest meets all its rules in a lapse in which it does nothing.
 use Rattle.world_steps.specs.Nodes.{bare}
-use Rattle.std.proofs.Common.{List, arith, inl, inr, length, refl, ℕ, ◌∷◌}
+use Rattle.std.proofs.Common.{List, arith, inl, inr, refl, ℕ, ◌∷◌}
 use Rattle.dfs_base.specs.declared.ids.FilesetId.{FilesetId}
 use Rattle.dfs_base.specs.declared.ids.HostId.{HostId}
 use Rattle.dfs_base.specs.declared.ids.ServerId.{ServerId}
@@ -22,17 +22,14 @@ use Rattle.world_steps.specs.Epochs.{ComesIn}
 use Rattle.world_steps.specs.Floors.{Uses}
 use Rattle.world_steps.specs.Gives.{Learns, Made, Waits}
 use Rattle.world_steps.specs.HostTokens.{HostTokens}
-use Rattle.world_steps.specs.Places.{place}
 use Rattle.world_steps.specs.Requests.{Asking, Changing}
 use Rattle.world_steps.specs.Sends.{Sends}
 use Rattle.world_steps.specs.Tokens.{Owns}
 use Rattle.world_steps.specs.declared.step.Step.{Step}
 use Rattle.script_lines.specs.declared.script.Line.{Line as ScriptLine}
 use Rattle.world_host.specs.Rest.{IsAtRest, HostMayRest}
-use Rattle.world_steps.specs.declared.step.Cause.TheVariants.{Message as Came, Lapse, Line, Evict, End, Flushed, Restart}
-use Rattle.rpc_types.specs.declared.message.Body.TheVariants.{Hello, Fetch, Grant, Change, Done, Revoke, Returned, Kept, GiveBack, Gone, Reclaim, Reclaimed, Restarted, Down, Bye}
+use Rattle.world_steps.specs.declared.step.Cause.TheVariants.{Lapse}
 use Rattle.rpc_types.specs.declared.message.Body.{Body}
-use Rattle.rpc_types.specs.declared.telling.Done.{Done as DoneOf}
 use Rattle.rpc_types.specs.declared.telling.Bring.{Bring}
 use Rattle.rpc_types.specs.declared.giving.Give.{Give}
 use Rattle.world_steps.specs.declared.step.Asked.{Asked}

@@ -9,11 +9,9 @@ use Rattle.dfs_base.specs.declared.ids.ServerId.{ServerId}
 use Rattle.dfs_needs.specs.Calls.{Own, call_look, reply_now, stat_look}
 use Rattle.dfs_needs.specs.Looks.{IsCovered}
 use Rattle.dfs_needs.specs.Questions.{fileset_of}
-use Rattle.dfs_tree.specs.Opens.{is_open}
 use Rattle.rpc_types.specs.Soundness.{no_fid}
 use Rattle.tok_types.specs.declared.token.Token.{Token}
 use Rattle.tok_types.specs.declared.token.TokenId.{TokenId}
-use Rattle.tree_laws.specs.Parts.{settled}
 use Rattle.world_host.proofs.Plain.{IsPlain, IsYoung, young_first, young_more, few, may, gives, revoked, resends, leaves, ends}
 use Rattle.world_host.specs.Dirty.{IsClean, IsDirtyUnder, UpdatesStatus}
 use Rattle.world_host.specs.HostAnswers.{CanAnswer, HostAnswers}
@@ -33,7 +31,6 @@ use Rattle.world_steps.specs.Epochs.{About, Comes, ComesIn, IsWelcome, epoch_at}
 use Rattle.world_steps.specs.Floors.{AboveFloor, Answers, Uses}
 use Rattle.world_steps.specs.HostTokens.{HostTokens}
 use Rattle.world_steps.specs.Lists.{In}
-use Rattle.world_steps.specs.Nodes.{own}
 use Rattle.world_steps.specs.Requests.{Asking, Changing, Settles}
 use Rattle.world_steps.specs.Sends.{HasGreeted, Said, Sends, Stops}
 use Rattle.world_steps.specs.Tokens.{AtHand, Held, HoldsId}
@@ -43,9 +40,8 @@ use Rattle.world_steps.specs.declared.step.Step.{Step}
 use Rattle.dfs_objects.specs.Spans.{whole}
 use Rattle.std.specs.Cmp.Lexicographic.{pointwise}
 use Rattle.std.proofs.lemmas.Bool.{and_parts}
-use Rattle.world_steps.specs.declared.step.Cause.{Cause}
-use Rattle.world_steps.specs.declared.step.Cause.TheVariants.{Message as Came, Lapse, Line, Evict, End, Flushed, Restart}
-use Rattle.rpc_types.specs.declared.message.Body.TheVariants.{Hello, Fetch, Grant, Change, Done, Revoke, Returned, Kept, GiveBack, Gone, Reclaim, Reclaimed, Restarted, Down, Bye}
+use Rattle.world_steps.specs.declared.step.Cause.TheVariants.{Message as Came, Line, Evict, Flushed, Restart}
+use Rattle.rpc_types.specs.declared.message.Body.TheVariants.{Hello, Fetch, Grant, Change, Done, Revoke, Reclaimed, Restarted, Down}
 use Rattle.rpc_types.specs.declared.message.Body.{Body}
 use Rattle.rpc_types.specs.declared.message.Message.{Message}
 use Rattle.rpc_types.specs.declared.tokens.Revoke.{Revoke as RevokeOf}
@@ -56,7 +52,6 @@ use Rattle.rpc_types.specs.declared.telling.DoneIs.TheVariants.{Known, Reply as 
 use Rattle.rpc_types.specs.declared.telling.Grant.{Grant as GrantOf}
 use Rattle.rpc_types.specs.declared.asking.Fetch.{Fetch as FetchOf}
 use Rattle.rpc_types.specs.declared.asking.Change.{Change as ChangeOf}
-use Rattle.rpc_types.specs.declared.giving.Give.{Give}
 use Rattle.world_steps.specs.declared.step.Asked.{Asked}
 use Rattle.world_steps.specs.declared.step.Labelled.{Labelled}
 use Rattle.world_steps.specs.declared.applied.Answer.{Answer}
@@ -64,12 +59,11 @@ use Rattle.dfs_base.specs.declared.ids.Node.TheVariants.{Host}
 use Rattle.dfs_calls.specs.declared.call.Call.{Call}
 use Rattle.dfs_calls.specs.declared.call.Call.TheVariants.{Sync}
 use Rattle.dfs_calls.specs.declared.reply.Reply.{Reply}
-use Rattle.dfs_needs.specs.Calls.Verdict.{Replies, Asks, Writes, Locks, Opens}
+use Rattle.dfs_needs.specs.Calls.Verdict.{Replies, Asks}
 use Rattle.dfs_needs.specs.Questions.Question.{EnterAt}
 use Rattle.tok_types.specs.declared.token.Kind.{Kind}
 use Rattle.tok_types.specs.declared.token.Kind.TheVariants.{Bytes, Status, Lock, Opening}
 use Rattle.script_lines.specs.declared.script.Deed.TheVariants.{Call as MakesCall}
-use Rattle.script_lines.specs.declared.script.Line.{Line as LineOf}
 use Rattle.world_steps.specs.Places.{Place, place, home}
 
 abbrev pub one : List Step

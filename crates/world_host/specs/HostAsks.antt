@@ -35,7 +35,7 @@ use Rattle.dfs_objects.specs.Spans.{whole}
 use Rattle.rpc_types.specs.declared.message.Body.TheVariants.{Hello, Fetch, Change}
 use Rattle.rpc_types.specs.declared.asking.Fetch.{Fetch as FetchOf}
 use Rattle.rpc_types.specs.declared.asking.Change.{Change as ChangeOf}
-use Rattle.tok_types.specs.declared.token.Kind.TheVariants.{Bytes, Status, Lock as LockToken, Opening}
+use Rattle.tok_types.specs.declared.token.Kind.TheVariants.{Bytes, Status}
 use Rattle.dfs_needs.specs.Calls.Verdict.{Gives, Asks}
 use Rattle.tree_laws.specs.Parts.Part.{Traits}
 use Rattle.world_steps.specs.declared.step.Cause.TheVariants.{Lapse}

@@ -15,7 +15,7 @@ use Rattle.world_host.specs.Labels.{InUse, end_of}
 use Rattle.world_host.specs.OpenCalls.{Begins, NoneOpen, calls_begun}
 use Rattle.world_journal.specs.Lines.{IsNextLine, lines_gone}
 use Rattle.world_steps.specs.Lists.{In}
-use Rattle.world_steps.specs.Sends.{HasGreeted, Sends, Stops}
+use Rattle.world_steps.specs.Sends.{HasGreeted, Stops}
 use Rattle.world_steps.specs.Tokens.{Drops, Held}
 use Rattle.world_steps.specs.declared.applied.Leave.{Leave}
 use Rattle.world_steps.specs.declared.applied.Why.TheVariants.{Ended}

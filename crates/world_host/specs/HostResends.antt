@@ -8,7 +8,6 @@ use Rattle.rpc_types.specs.declared.giving.Give.{Give}
 use Rattle.world_host.specs.HostAsks.{HasChanged, HasFetched}
 use Rattle.world_steps.specs.Epochs.{Comes, ComesIn, IsWelcome, Raises, epoch_at}
 use Rattle.world_steps.specs.Gives.{IsOutstanding}
-use Rattle.world_steps.specs.Places.{place}
 use Rattle.world_steps.specs.Requests.{Asking, Changing}
 use Rattle.world_steps.specs.Sends.{HasGreeted, Sends}
 use Rattle.world_steps.specs.declared.step.Step.{Step}

@@ -5,7 +5,7 @@ use Rattle.dfs_needs.specs.Walks.{file_look, root_of}
 use Rattle.tree_laws.specs.Parts.{Nature}
 use Rattle.std.specs.Prelude.{Ok}
 use Rattle.world_steps.specs.Lists.{EachOnce, Once}
-use Rattle.std.specs.Prelude.{Bool, List, Some, [], false, true, ℕ, ◌↔◌, ◌∷◌, ◌≡◌, ◌⊎◌}
+use Rattle.std.specs.Prelude.{Bool, List, Some, false, true, ℕ, ◌↔◌, ◌∷◌, ◌≡◌, ◌⊎◌}
 use Rattle.dfs_base.specs.declared.ids.Fid.{Fid}
 use Rattle.dfs_base.specs.declared.ids.FilesetId.{FilesetId}
 use Rattle.dfs_base.specs.declared.ids.HostId.{HostId}
@@ -33,7 +33,7 @@ use Rattle.rpc_types.specs.declared.message.Body.TheVariants.{Change}
 use Rattle.rpc_types.specs.declared.asking.Change.{Change as ChangeOf}
 use Rattle.rpc_types.specs.declared.telling.Done.{Done as DoneOf}
 use Rattle.rpc_types.specs.declared.telling.DoneIs.TheVariants.{Known as IsFileset}
-use Rattle.dfs_needs.specs.Looks.{View, Look}
+use Rattle.dfs_needs.specs.Looks.{Look}
 use Rattle.dfs_needs.specs.Questions.Question.{EnterAt, ChangeIn, ChangeAt}
 use Rattle.dfs_needs.specs.Questions.{Question, fileset_of}
 use Rattle.world_steps.specs.Places.{Place, place}

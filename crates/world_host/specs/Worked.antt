@@ -1,7 +1,6 @@
 -- Steps of the small run's host after the run.
 use Rattle.world_steps.specs.Nodes.{bare}
-use Rattle.std.specs.Prelude.{List, None, [], false, ◌∷◌}
-use Rattle.world_steps.specs.Acts.{epoch}
+use Rattle.std.specs.Prelude.{List, [], false, ◌∷◌}
 use Rattle.world_steps.specs.Worked.{client, enters, fetches, from_cache, greets, root, site_one, takes, to_host}
 use Rattle.world_steps.specs.Worked.{to_server, token}
 use Rattle.world_steps.specs.declared.step.Step.{Step}

@@ -2,7 +2,7 @@
 use Rattle.world_steps.specs.Nodes.{is_node}
 use Rattle.std.specs.List.{enumerate_from}
 use Rattle.std.specs.Option.{option_map_or}
-use Rattle.std.specs.Prelude.{Bool, List, None, Some, [], false, filter, if◌then◌else◌, map, max, slice_get}
+use Rattle.std.specs.Prelude.{List, Some, [], filter, if◌then◌else◌, map, max, slice_get}
 use Rattle.std.specs.Prelude.{unwrap_or, ℕ, ◌+◌, ◌-◌, ◌==◌, ◌∷◌, ◌≡◌}
 use Rattle.dfs_base.specs.declared.ids.HostId.{HostId}
 use Rattle.dfs_base.specs.declared.ids.Node.{Node}

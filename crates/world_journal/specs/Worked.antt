@@ -4,9 +4,7 @@ use Rattle.dfs_base.specs.declared.user.User.{User}
 use Rattle.dfs_calls.specs.declared.roster.Roster.{Roster}
 use Rattle.dfs_objects.specs.declared.content.Object.{Object}
 use Rattle.script_lines.specs.declared.script.Script.{Script}
-use Rattle.world_journal.specs.Lines.{setup}
-use Rattle.world_steps.specs.Places.{home}
-use Rattle.dfs_base.specs.declared.ids.Node.TheVariants.{Host, Server}
+use Rattle.dfs_base.specs.declared.ids.Node.TheVariants.{Host}
 use Rattle.script_lines.specs.declared.script.Deed.TheVariants.{Call as MakesCall}
 use Rattle.dfs_tree.specs.declared.tree.Tree.{Tree}
 use Rattle.dfs_filesets.specs.declared.fileset.Fileset.{Fileset}

@@ -1,6 +1,6 @@
 -- A settled server meets all its rules in a lapse in which it does nothing.
 use Rattle.world_steps.specs.Nodes.{bare}
-use Rattle.std.proofs.Common.{List, [], inl, inr, not, refl, subst, sym, ℕ, ◌∷◌, ◌≡◌}
+use Rattle.std.proofs.Common.{List, [], inl, inr, refl, subst, sym, ℕ, ◌∷◌, ◌≡◌}
 use Rattle.dfs_base.specs.declared.ids.HostId.{HostId}
 use Rattle.dfs_base.specs.declared.ids.ServerId.{ServerId}
 use Rattle.dfs_tree.specs.declared.tree.Tree.{Tree}
@@ -19,13 +19,11 @@ use Rattle.script_lines.specs.declared.script.Line.{Line as ScriptLine}
 use Rattle.world_server.specs.Kept.{kept}
 use Rattle.world_server.specs.Rest.{IsSettled, ServerMayRest}
 use Rattle.world_steps.specs.Acts.{Act}
-use Rattle.world_steps.specs.Acts.Act.{Begins, Took, Flushes, Wants, Writes, Admits, Sent, Reserves}
-use Rattle.world_steps.specs.declared.step.Cause.TheVariants.{Message as Came, Lapse, Line, Restart, Evict, End, Flushed}
-use Rattle.rpc_types.specs.declared.message.Body.TheVariants.{Hello, Fetch, Grant, Change, Done, Revoke, Returned, Kept, GiveBack, Gone, Reclaim, Reclaimed, Restarted, Down, Bye}
+use Rattle.world_steps.specs.Acts.Act.{Reserves}
+use Rattle.world_steps.specs.declared.step.Cause.TheVariants.{Lapse}
+use Rattle.rpc_types.specs.declared.message.Body.TheVariants.{Hello, Change, GiveBack, Gone, Reclaim, Restarted, Down, Bye}
 use Rattle.rpc_types.specs.declared.message.Body.{Body}
-use Rattle.rpc_types.specs.declared.giving.Reclaim.{Reclaim as ReclaimOf}
 use Rattle.dfs_base.specs.declared.ids.Node.TheVariants.{Server}
-use Rattle.world_steps.specs.declared.applied.Request.{Request}
 use Rattle.world_server.proofs.Still.{can_grant, ready, waited, asked_back}
 
 module _ (server : ServerId) (tree : Tree) (past : List Act) (settled : IsSettled server tree past) where

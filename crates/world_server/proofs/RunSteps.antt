@@ -1,5 +1,5 @@
 -- The server of the small run meets all its rules in each of its steps.
-use Rattle.std.proofs.Common.{List, None, Ok, [], ap, codes, false, inl, inr, not, refl, subst, sym, true, ℕ, ◌∙◌}
+use Rattle.std.proofs.Common.{List, None, Ok, [], ap, codes, false, inl, inr, refl, subst, sym, true, ℕ, ◌∙◌}
 use Rattle.std.proofs.Common.{◌∷◌, ◌≡◌}
 use Rattle.std.specs.List.{list_all}
 use Rattle.dfs_base.specs.declared.ids.FilesetId.{FilesetId}
@@ -20,7 +20,7 @@ use Rattle.world_steps.specs.Grants.{Granted, Pinned, WasWritten}
 use Rattle.world_steps.specs.Hosts.{HasReclaimed, Hears, IsLive, NoGrace, TookNow}
 use Rattle.world_steps.specs.Lists.{In}
 use Rattle.world_steps.specs.Places.{Here}
-use Rattle.world_steps.specs.Worked.{asks_for, client, enter, entered, enters, facts, granted, grants, root, site_one}
+use Rattle.world_steps.specs.Worked.{asks_for, client, enter, entered, facts, granted, grants, root, site_one}
 use Rattle.world_steps.specs.Worked.{stat, tells, to_host, to_server, token, wants_enter, wants_root, welcome, welcomes}
 use Rattle.world_steps.specs.declared.step.Step.{Step}
 use Rattle.dfs_calls.specs.declared.reply.Reply.TheVariants.{Refused}
@@ -28,34 +28,27 @@ use Rattle.world_server.specs.ServerApplies.{ServerApplies, by_cause, decisions,
 use Rattle.world_server.specs.Kept.{kept}
 use Rattle.dfs_objects.specs.Spans.{whole}
 use Rattle.world_steps.specs.Acts.{Act, SentTo, epoch}
-use Rattle.world_steps.specs.Acts.Act.{Begins, Took, Flushes, Wants, Writes, Admits, Sent, Reserves}
+use Rattle.world_steps.specs.Acts.Act.{Begins, Took, Wants, Writes, Sent, Reserves}
 use Rattle.world_steps.specs.declared.step.Cause.{Cause}
-use Rattle.world_steps.specs.declared.step.Cause.TheVariants.{Message as Came, Lapse, Line, Restart, Evict, End, Flushed}
-use Rattle.rpc_types.specs.declared.message.Body.TheVariants.{Hello, Fetch, Grant, Change, Done, Revoke, Returned, Kept, GiveBack, Gone, Reclaim, Reclaimed, Restarted, Down, Bye}
+use Rattle.world_steps.specs.declared.step.Cause.TheVariants.{Message as Came, Lapse, Line, Restart, Evict, End}
+use Rattle.rpc_types.specs.declared.message.Body.TheVariants.{Hello, Fetch, Grant, Change, Done, Revoke, GiveBack, Gone, Reclaim, Reclaimed, Restarted, Down, Bye}
 use Rattle.rpc_types.specs.declared.message.Body.{Body}
 use Rattle.rpc_types.specs.declared.message.Message.{Message}
 use Rattle.rpc_types.specs.declared.giving.Reclaim.{Reclaim as ReclaimOf}
-use Rattle.rpc_types.specs.declared.telling.Bring.{Bring}
 use Rattle.rpc_types.specs.declared.telling.Done.{Done as DoneOf}
 use Rattle.rpc_types.specs.declared.telling.Grant.{Grant as GrantOf}
 use Rattle.rpc_types.specs.declared.tokens.Revoke.{Revoke as RevokeOf}
 use Rattle.rpc_types.specs.declared.asking.Fetch.{Fetch as FetchOf}
 use Rattle.rpc_types.specs.declared.asking.Change.{Change as ChangeOf}
-use Rattle.rpc_types.specs.declared.giving.Give.{Give}
 use Rattle.dfs_base.specs.declared.ids.Node.TheVariants.{Server}
-use Rattle.world_steps.specs.declared.applied.Applied.{Applied}
-use Rattle.world_steps.specs.declared.applied.Applied.TheVariants.{Wants as WantsNow, Done as DoneNow}
 use Rattle.world_steps.specs.declared.applied.Request.{Request}
 use Rattle.world_steps.specs.declared.applied.Request.TheVariants.{Fetch as Asks, Change as Changes}
 use Rattle.world_steps.specs.declared.applied.Wanted.{Wanted}
 use Rattle.world_steps.specs.declared.applied.Written.{Written}
 use Rattle.tok_types.specs.declared.token.Kind.TheVariants.{Bytes, Status}
 use Rattle.tree_laws.specs.Parts.Part.{ByteAt, Size, Traits, Entries}
-use Rattle.world_steps.specs.Grants.{Mark}
-use Rattle.world_steps.specs.Places.{home, birth}
+use Rattle.world_steps.specs.Places.{home}
 use Rattle.dfs_tree.specs.declared.tree.Tree.{Tree}
-use Rattle.dfs_calls.specs.declared.call.Call.{Call}
-use Rattle.dfs_calls.specs.declared.reply.Reply.{Reply}
 use Rattle.dfs_calls.specs.declared.reply.Refusal.{Refusal}
 use Rattle.world_journal.specs.Told.{told as told_of}
 use Rattle.dfs_tree.specs.Answers.{answer_to, answer_for, fileset_row}
@@ -65,7 +58,7 @@ use Rattle.dfs_filesets.specs.Telling.{stat_reply}
 use Rattle.dfs_filesets.specs.Walk.{target}
 use Rattle.world_server.specs.ServerSends.SettledSo.{IsEntered}
 use Rattle.world_server.specs.ServerSends.DoneFor.{Settled}
-use Rattle.world_steps.proofs.Example.{IsNew, still_new, took_dull, wants_dull, reserves_dull, greeted as greeted_new, welcomed_new, told_new, asked_new, welcomes_may, tells_may, grants_may}
+use Rattle.world_steps.proofs.Example.{IsNew, still_new, took_dull, wants_dull, welcomed_new, told_new, asked_new, welcomes_may, tells_may, grants_may}
 
 at_one : home root.fileset ≡ site_one
 unfolding home

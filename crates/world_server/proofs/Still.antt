@@ -11,9 +11,9 @@ use Rattle.world_steps.specs.Hosts.{GoesAway, HasReclaimed, Hears, IsBegin, IsDo
 use Rattle.world_steps.specs.Grants.{Names}
 use Rattle.world_steps.specs.Hosts.{Away}
 use Rattle.world_steps.specs.Acts.{Act}
-use Rattle.world_steps.specs.Acts.Act.{Begins, Took, Flushes, Wants, Writes, Admits, Sent, Reserves}
+use Rattle.world_steps.specs.Acts.Act.{Reserves}
 use Rattle.rpc_types.specs.declared.message.Body.{Body}
-use Rattle.rpc_types.specs.declared.message.Body.TheVariants.{Hello, Fetch, Grant, Change, Done, Revoke, Returned, Kept, GiveBack, Down, Bye}
+use Rattle.rpc_types.specs.declared.message.Body.TheVariants.{Hello, Down}
 use Rattle.world_steps.specs.declared.applied.Request.{Request}
 use Rattle.world_steps.specs.declared.applied.Request.TheVariants.{Fetch as Asks, Change as Changes}
 use Rattle.world_steps.specs.declared.applied.Wanted.{Wanted}

@@ -1,5 +1,5 @@
 -- Wants are served in the order in which they were made.
-use Rattle.std.proofs.Common.{List, [], ℕ, inl, inr, refl, sym, ◌∙◌, ◌∷◌, ◌≡◌}
+use Rattle.std.proofs.Common.{List, [], inl, inr, refl, sym, ◌∙◌, ◌∷◌, ◌≡◌}
 use Rattle.dfs_calls.specs.declared.reply.Refusal.{Refusal}
 use Rattle.dfs_calls.specs.declared.reply.Reply.{Reply}
 use Rattle.dfs_base.specs.declared.ids.HostId.{HostId}
@@ -9,9 +9,9 @@ use Rattle.rpc_types.specs.declared.asking.Change.{Change as ChangeOf}
 use Rattle.world_server.specs.ServerDecides.{DecidedSo, RefusedOn}
 use Rattle.world_server.specs.ServerDecides.DecidedSo.{HasEffect, IsRefused, MeetsPinned}
 use Rattle.world_server.specs.Turns.{ServedInTurn}
-use Rattle.world_server.specs.Wants.{Before, Decides, IsBehind, IsReady, Unwants, Waits}
+use Rattle.world_server.specs.Wants.{Before, Decides, IsBehind, IsReady, Waits}
 use Rattle.world_steps.specs.Acts.{Act}
-use Rattle.world_steps.specs.Acts.Act.{Sent, Wants, Writes}
+use Rattle.world_steps.specs.Acts.Act.{Wants}
 use Rattle.world_steps.specs.declared.applied.Request.{Request}
 use Rattle.world_steps.specs.declared.applied.Request.TheVariants.{Fetch as Asks, Change as Changes}
 use Rattle.world_steps.specs.declared.applied.Wanted.{Wanted}

@@ -1,6 +1,6 @@
 -- A server that is settled may do nothing: then no rule is in another's way.
 use Rattle.world_steps.specs.Nodes.{bare}
-use Rattle.std.specs.Prelude.{List, None, [], ◌≡◌}
+use Rattle.std.specs.Prelude.{List, ◌≡◌}
 use Rattle.dfs_base.specs.declared.ids.ServerId.{ServerId}
 use Rattle.dfs_tree.specs.declared.tree.Tree.{Tree}
 use Rattle.script_lines.specs.declared.script.Script.{Script}
@@ -17,7 +17,6 @@ use Rattle.world_steps.specs.declared.applied.Request.TheVariants.{Fetch as Asks
 use Rattle.world_steps.specs.declared.applied.Wanted.{Wanted}
 use Rattle.rpc_types.specs.declared.asking.Fetch.{Fetch as FetchOf}
 use Rattle.rpc_types.specs.declared.asking.Change.{Change as ChangeOf}
-use Rattle.dfs_calls.specs.declared.reply.Refusal.{Refusal}
 use Rattle.world_steps.specs.Acts.{Act}
 
 -- A server is settled: each live host has reclaimed, no want that waits can go on, and no token is asked back.

@@ -1,7 +1,7 @@
 -- How a server admits messages, and what it answers at once. `past` is the server's earlier doings.
 use Rattle.world_steps.specs.Hosts.{InEpoch}
 use Rattle.world_steps.specs.ServerTokens.{HasAll}
-use Rattle.std.specs.Prelude.{List, [], ℕ, ◌<◌, ◌∷◌, ◌≡◌, ◌≢◌, ◌⊎◌}
+use Rattle.std.specs.Prelude.{List, [], ℕ, ◌≡◌, ◌≢◌, ◌⊎◌}
 use Rattle.dfs_base.specs.declared.ids.HostId.{HostId}
 use Rattle.dfs_base.specs.declared.ids.ServerId.{ServerId}
 use Rattle.rpc_types.specs.declared.giving.AppliedGive.{AppliedGive}
@@ -10,7 +10,7 @@ use Rattle.rpc_types.specs.declared.message.Message.{Message}
 use Rattle.tok_types.specs.declared.token.Token.{Token}
 use Rattle.world_steps.specs.Gives.{NamesGive, number_of}
 use Rattle.world_steps.specs.Grants.{GivenUp}
-use Rattle.world_steps.specs.Hosts.{Enlists, HasReclaimed, IsLive, Listed, TookNow, TookOf}
+use Rattle.world_steps.specs.Hosts.{Enlists, HasReclaimed, IsLive, TookNow, TookOf}
 use Rattle.world_steps.specs.Lists.{In}
 use Rattle.world_steps.specs.Places.{Here}
 use Rattle.world_steps.specs.declared.applied.Admission.{Admission}
@@ -27,7 +27,6 @@ use Rattle.rpc_types.specs.declared.message.Body.TheVariants.{
   Down,
   Bye,
 }
-use Rattle.rpc_types.specs.declared.giving.Outstanding.{Outstanding}
 use Rattle.rpc_types.specs.declared.giving.Reclaim.{Reclaim as ReclaimOf}
 use Rattle.rpc_types.specs.declared.giving.Reclaimed.{Reclaimed as ReclaimedOf}
 use Rattle.world_steps.specs.declared.step.Cause.TheVariants.{Message as Came, Restart, Lapse}

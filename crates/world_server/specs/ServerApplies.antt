@@ -21,8 +21,6 @@ use Rattle.world_steps.specs.declared.step.Step.{Step}
 use Rattle.world_steps.specs.Hosts.{IsDown}
 use Rattle.dfs_calls.specs.declared.reply.Reply.TheVariants.{Ok as Fine}
 use Rattle.rpc_types.specs.declared.message.Body.TheVariants.{GiveBack, Down}
-use Rattle.rpc_types.specs.declared.giving.Ends.{Ends}
-use Rattle.world_steps.specs.declared.applied.Answer.{Answer}
 use Rattle.world_steps.specs.declared.applied.Applied.TheVariants.{
   Stored,
   Ends as EndsCall,

@@ -2,7 +2,7 @@
 -- so far.
 use Rattle.world_steps.specs.Hosts.{InEpoch}
 use Rattle.world_steps.specs.Lists.{Once}
-use Rattle.std.specs.Prelude.{IsTrue, List, None, Ok, Some, [], true, ℕ, ◌∷◌, ◌≡◌, ◌≤◌, ◌⊎◌}
+use Rattle.std.specs.Prelude.{IsTrue, List, None, Ok, Some, [], true, ℕ, ◌≡◌, ◌≤◌, ◌⊎◌}
 use Rattle.dfs_base.specs.declared.ids.FilesetId.{FilesetId}
 use Rattle.dfs_base.specs.declared.ids.HostId.{HostId}
 use Rattle.dfs_base.specs.declared.ids.ServerId.{ServerId}
@@ -10,7 +10,6 @@ use Rattle.dfs_needs.specs.Questions.{fileset_of}
 use Rattle.dfs_needs.specs.Shows.{shows}
 use Rattle.dfs_tree.specs.Finding.{fileset_named}
 use Rattle.dfs_tree.specs.declared.tree.Tree.{Tree}
-use Rattle.rpc_types.specs.declared.message.Message.{Message}
 use Rattle.tok_types.specs.Conflicts.{need_of}
 use Rattle.tok_types.specs.declared.token.Need.{Need}
 use Rattle.tok_types.specs.declared.token.Token.{Token}
@@ -20,12 +19,11 @@ use Rattle.world_server.specs.ServerAnswers.{SentNow, TakenNow}
 use Rattle.world_server.specs.ServerDecides.{IsHere, IsOfRow, NotRefused}
 use Rattle.world_server.specs.Wants.{Blocks, CanGrant, IsReady, Waits, is_use}
 use Rattle.world_steps.specs.Grants.{Granted, Pinned}
-use Rattle.world_steps.specs.Hosts.{IsBegin, IsLive, NoGrace}
+use Rattle.world_steps.specs.Hosts.{IsLive, NoGrace}
 use Rattle.world_steps.specs.Lists.{In}
 use Rattle.world_steps.specs.declared.step.Step.{Step}
 use Rattle.world_journal.specs.Told.{told}
-use Rattle.rpc_types.specs.declared.message.Body.TheVariants.{Grant, Done, Revoke, Fetch, Change}
-use Rattle.rpc_types.specs.declared.message.Body.{Body}
+use Rattle.rpc_types.specs.declared.message.Body.TheVariants.{Grant, Done, Revoke, Change}
 use Rattle.rpc_types.specs.declared.asking.Fetch.{Fetch as FetchOf}
 use Rattle.rpc_types.specs.declared.asking.Change.{Change as ChangeOf}
 use Rattle.rpc_types.specs.declared.telling.Grant.{Grant as GrantOf}

@@ -1,5 +1,5 @@
 -- Wants are served in the order in which they were made.
-use Rattle.std.specs.Prelude.{IsTrue, List, ℕ, ◌∷◌, ◌≡◌, ◌⊎◌}
+use Rattle.std.specs.Prelude.{IsTrue, List, ℕ, ◌∷◌, ◌≡◌}
 use Rattle.dfs_base.specs.declared.ids.HostId.{HostId}
 use Rattle.dfs_base.specs.declared.ids.ServerId.{ServerId}
 use Rattle.dfs_calls.specs.declared.reply.Refusal.{Refusal}

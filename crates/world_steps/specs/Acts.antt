@@ -2,11 +2,10 @@
 use Rattle.std.specs.Prelude.{flat_map, map}
 use Rattle.world_steps.specs.Lists.{Once, after}
 use Rattle.world_steps.specs.Nodes.{is_node}
-use Rattle.std.specs.Prelude.{◌≡◌, ℕ, suc, ◌==◌, ◌⊎◌, if◌then◌else◌, List, [], ◌∷◌}
+use Rattle.std.specs.Prelude.{◌≡◌, ℕ, suc, if◌then◌else◌, List, [], ◌∷◌}
 use Rattle.dfs_base.specs.declared.ids.HostId.{HostId}
 use Rattle.dfs_base.specs.declared.ids.ServerId.{ServerId}
-use Rattle.dfs_base.specs.declared.ids.Node.{Node}
-use Rattle.dfs_base.specs.declared.ids.Node.TheVariants.{Host, Server}
+use Rattle.dfs_base.specs.declared.ids.Node.TheVariants.{Server}
 use Rattle.tok_types.specs.declared.token.Token.{Token}
 use Rattle.rpc_types.specs.declared.message.Body.{Body}
 use Rattle.rpc_types.specs.declared.message.Message.{Message}

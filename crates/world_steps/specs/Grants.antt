@@ -21,7 +21,7 @@ use Rattle.world_steps.specs.Lists.{In}
 use Rattle.world_steps.specs.Gives.{number_of}
 use Rattle.world_steps.specs.Acts.{Act}
 use Rattle.world_steps.specs.Acts.Act.{Flushes, Writes, Admits, Sent, Reserves}
-use Rattle.world_steps.specs.Hosts.{TakesOf, GoesAway, TookOf, IsBegin}
+use Rattle.world_steps.specs.Hosts.{TakesOf, GoesAway, IsBegin}
 
 -- by what a message that brings tokens is known: the stay of the fileset that it is of, and its serial stamp
 pub record Mark : Type 0 where

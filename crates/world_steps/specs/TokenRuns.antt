@@ -8,9 +8,6 @@ use Rattle.dfs_base.specs.declared.ids.Node.{Node}
 use Rattle.dfs_base.specs.declared.ids.Node.TheVariants.{Host, Server}
 use Rattle.rpc_types.specs.declared.message.Direction.TheVariants.{ToServer, ToHost}
 use Rattle.rpc_types.specs.declared.message.Message.{Message}
-use Rattle.world_steps.specs.declared.applied.Admission.{Admission}
-use Rattle.world_steps.specs.declared.applied.Applied.{Applied}
-use Rattle.world_steps.specs.declared.applied.Applied.TheVariants.{Wants as IsWanted, Done as IsDone}
 use Rattle.world_steps.specs.declared.step.Cause.TheVariants.{Message as Came}
 use Rattle.world_steps.specs.declared.step.Step.{Step}
 use Rattle.world_steps.specs.Lists.{In}
@@ -18,7 +15,7 @@ use Rattle.world_steps.specs.Nodes.{own}
 use Rattle.world_steps.specs.Sends.{Said}
 use Rattle.world_steps.specs.HostTokens.{HostTokens}
 use Rattle.world_steps.specs.Acts.{Act, SentTo, after_cause, written_by, admitted_by, sent_by, acts}
-use Rattle.world_steps.specs.Acts.Act.{Wants, Writes, Admits, Sent, Reserves}
+use Rattle.world_steps.specs.Acts.Act.{Reserves}
 use Rattle.world_steps.specs.ServerTokens.{ServerTokens}
 
 -- what a server may do with tokens in a step: each of its doings, one after the other, after its earlier ones
