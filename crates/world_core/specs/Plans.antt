@@ -11,6 +11,7 @@ use Rattle.rpc_types.specs.declared.message.Message.{Message}
 use Rattle.script_lines.specs.declared.script.Script.{Script}
 use Rattle.world_core.specs.Runs.{IsRaised, past_of}
 use Rattle.world_journal.specs.declared.journal.Journal.{Journal}
+use Rattle.world_steps.specs.Lists.{Always}
 use Rattle.world_steps.specs.declared.step.Cause.TheVariants.{Message as Came, Lapse}
 use Rattle.world_steps.specs.declared.step.Step.{Step}
 use Rattle.world_ways.specs.Ends.{resender}
@@ -55,10 +56,6 @@ pub record KeepsPlan (script : Script) (start : List Tree) (past : List Step) (s
       → Counted (λ (p : Posted). (p.fate ≡ Lost) × (resender p.message ≡ s.node)) (posted script (sent_in past)) k
       → n ≤ due_first start s.node + k
 
-abbrev pub KeepPlan : Script → List Tree → List Step → Type 0
-KeepPlan script start [] = Unit {0}
-KeepPlan script start (s ∷ past) = KeepPlan script start past × KeepsPlan script start past s
-
 -- a journal is planned by a script
 abbrev pub IsPlanned : Script → Journal → Type 0
-IsPlanned script journal = KeepPlan script journal.start (past_of journal)
+IsPlanned script journal = Always (KeepsPlan script journal.start) (past_of journal)
