@@ -37,6 +37,7 @@ pub record IsKept (tree : Tree) : Type 0 where
 -- a give-back leaves such a tree, and changes the parts as said
 pub record GivesKeep : Type 0 where
   pub parts : (tree : Tree) (fid : Fid) (pieces : List Piece) (given : Option ℕ) (other : Fid) (part : Part)
-      → IsKept tree → kept_view (tree_given tree fid pieces given) other part ≡ view_given tree fid pieces given other part
+      → IsKept tree
+      → kept_view (tree_given tree fid pieces given) other part ≡ view_given tree fid pieces given other part
   pub kept : (tree : Tree) (fid : Fid) (pieces : List Piece) (given : Option ℕ)
       → IsKept tree → IfSome given (λ n. n ≤ FILE_BYTES_MAX) → IsKept (tree_given tree fid pieces given)
