@@ -142,6 +142,11 @@ changes_in tells view slot n page blocks result old new tx changed named some fe
   only = only;
 }
 
+-- room that is enough for more
+pub more_room : {T E : Type 0} (result : Result T E) (a b m n : ℕ) → m ≤ n → OnOk result (a ≤ b + m) → OnOk result (a ≤ b + n)
+more_room (Ok value) a b m n few le = omega (arith, few, le)
+more_room (Err error) a b m n few le = tt
+
 -- no block less
 pub no_more : {T E : Type 0} (result : Result T E) (a b : ℕ) → OnOk result (a ≤ b) → OnOk result (a ≤ b + 0)
 no_more (Ok value) a b le = omega (arith, le)

@@ -19,7 +19,7 @@ changed_where [] i f g same = refl
 changed_where (x ∷ xs) zero f g same = ap (λ y. y ∷ xs) (same x refl)
 changed_where (x ∷ xs) (suc i) f g same = ap (λ ys. x ∷ ys) (changed_where xs i f g same)
 
-slot_twice : (slots : ℕ → List Anode) (slot : ℕ) (a b : List Anode) → with_slot slot b (with_slot slot a slots) ≡ with_slot slot b slots
+pub slot_twice : (slots : ℕ → List Anode) (slot : ℕ) (a b : List Anode) → with_slot slot b (with_slot slot a slots) ≡ with_slot slot b slots
 slot_twice slots slot a b = λ i s. by s (s == slot) i
   where
     by : (s : ℕ) (c : Bool) → (if c then b else (if c then a else slots s)) ≡ (if c then b else slots s)

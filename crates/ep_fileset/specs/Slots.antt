@@ -19,6 +19,7 @@ use Rattle.std.specs.Prelude.{
   [],
   ◌∷◌,
   length,
+  map,
   None,
   Some,
   is_none,
@@ -51,7 +52,7 @@ use Rattle.ep_anode.specs.Changes.{WroteLoose}
 use Rattle.ep_anode.specs.Faults.{IsNodeFault}
 use Rattle.ep_anode.specs.Room.{free_blocks, MayPutAll, PutsPages}
 use Rattle.ep_anode.specs.declared.fault.NodeFault.{NodeFault}
-use Rattle.ep_objects.specs.Objects.{anode_at, with_anode, KeepsNow}
+use Rattle.ep_objects.specs.Objects.{anode_at, with_slot, with_anode, KeepsNow}
 
 -- the pages of a slot's anodes, and those of counts
 abbrev pub slot_pages : ℕ → ℕ → Bool
@@ -195,3 +196,15 @@ blank_content dir = if dir then Dir [] ([] ∷ [] ∷ [] ∷ []) else File [] []
 abbrev pub IsBlank : ℕ → ℕ → Bool → (ℕ → List Anode) → Type 0
 IsBlank slot anode dir slots =
     option_map (λ object. object.content) (anode_at (slots slot) anode).object ≡ Some (blank_content dir)
+
+-- whether all anodes of a slot are free
+abbrev pub AllVacant : ℕ → (ℕ → List Anode) → Type 0
+AllVacant slot slots = (anode : ℕ) → 1 ≤ anode → anode ≤ 64 → IsVacant slot anode slots
+
+-- a slot whose anodes are all freed
+abbrev pub slot_freed : ℕ → (ℕ → List Anode) → ℕ → List Anode
+slot_freed slot slots = with_slot slot (map anode_freed (slots slot)) slots
+
+-- a slot that has what another one has
+abbrev pub slot_copied : ℕ → ℕ → (ℕ → List Anode) → ℕ → List Anode
+slot_copied from to slots = with_slot to (slots from) slots

@@ -7,15 +7,19 @@
 #![tactic(auto)]
 
 mod bytes;
+mod giving;
 mod lists;
 mod making;
 mod names;
 mod objects;
 mod place;
+mod whole;
 
 pub use bytes::truncate;
+pub use giving::give;
 pub use lists::set_list;
 pub use making::{make, occupy};
 pub use names::{enter, leave, rename};
 pub use objects::{copy_anode, unmake, vacate};
 pub use place::anode_page;
+pub use whole::{clear_slot, copy_slot};
