@@ -187,7 +187,7 @@ module _ (script : Script) (start : Tree) (firsts : ServerId → ℕ) (past : Li
   on_said S a never old h e n b (inr i) = old h e n b i
 
   -- a Change that waits is sound
-  waits_sound : (S : List Act) → AllTaken S → AllSaid S → (w : Wanted) (c : ChangeOf) → Waits S w
+  pub waits_sound : (S : List Act) → AllTaken S → AllSaid S → (w : Wanted) (c : ChangeOf) → Waits S w
       → w.request ≡ Changes c → (keeps_limit c.call ≡ true) × (c.enter ≡ false → is_change c.call ≡ true)
   waits_sound S taken said w c waits is =
       let took : TookNow S w.host w.moves (Change c) =
@@ -196,21 +196,25 @@ module _ (script : Script) (start : Tree) (firsts : ServerId → ℕ) (past : Li
       change_sound script v c (said_sound script start firsts w.host v i.0 w.moves (Change c) past run
       (said w.host i.0 w.moves (Change c) i.1))
 
-  written_kept : (tree : Tree) (S : List Act) → IsKept tree → AllTaken S → AllSaid S → (x : Written)
-      → IsWrittenSo v tree S x → IsKept (kept_after s.cause tree (IsDone x))
-  written_kept tree S k taken said x so =
-      after_reply tree x.answer k (λ e. accepted e so.so)
+  -- so is one that is written down and not refused
+  pub written_sound : (tree : Tree) (S : List Act) → AllTaken S → AllSaid S → (x : Written) → IsWrittenSo v tree S x
+      → is_refusal x.answer.reply ≡ false → (keeps_limit x.answer.call ≡ true) × (is_change x.answer.call ≡ true)
+  written_sound tree S taken said x so e = accepted so.so
     where
       sound : (keeps_limit so.change.call ≡ true) × (so.change.enter ≡ false → is_change so.change.call ≡ true)
       sound = waits_sound S taken said so.w so.change so.waits so.request
 
-      accepted : is_refusal x.answer.reply ≡ false → DecidedSo v tree S so.w so.change x.answer.reply
+      accepted : DecidedSo v tree S so.w so.change x.answer.reply
           → (keeps_limit x.answer.call ≡ true) × (is_change x.answer.call ≡ true)
-      accepted e (IsRefused refusal on is) = absurd (refused_is x.answer.reply refusal is e)
-      accepted e (MeetsPinned not row can is) = absurd (refused_is x.answer.reply _ is e)
-      accepted e (HasEffect effect row can is) =
+      accepted (IsRefused refusal on is) = absurd (refused_is x.answer.reply refusal is e)
+      accepted (MeetsPinned not row can is) = absurd (refused_is x.answer.reply _ is e)
+      accepted (HasEffect effect row can is) =
           subst (λ (call : Call). (keeps_limit call ≡ true) × (is_change call ≡ true)) (sym so.call)
           (sound.0, sound.1 (has_effect_enters so.change effect))
+
+  written_kept : (tree : Tree) (S : List Act) → IsKept tree → AllTaken S → AllSaid S → (x : Written)
+      → IsWrittenSo v tree S x → IsKept (kept_after s.cause tree (IsDone x))
+  written_kept tree S k taken said x so = after_reply tree x.answer k (written_sound tree S taken said x so)
 
   decided_kept : (xs : List Applied) (tree : Tree) (S : List Act) → MayDecideAll v tree before S s xs → IsKept tree
       → AllTaken S → Heard v before s S → AllSaid S → IsKept (kept_through s.cause xs tree)
@@ -247,7 +251,7 @@ stored_some tree h g host f spans n i =
     by false i = absurd (ends g.ends i)
 
 -- what a step applies is what its cause applies, and then what it decides
-split : (cause : Cause) (xs : List Applied) (tree : Tree) → kept_through cause xs tree
+pub split : (cause : Cause) (xs : List Applied) (tree : Tree) → kept_through cause xs tree
     ≡ kept_through cause (decisions xs) (kept_through cause (by_cause xs) tree)
 split cause [] tree = refl
 split cause (x ∷ xs) tree = go (split cause xs (kept_after cause tree x)) (is_decision x)
@@ -274,7 +278,7 @@ module _ (script : Script) (start : Tree) (firsts : ServerId → ℕ) (past : Li
       subst (λ (z : Body). IsBody script.roster k.message z) (k.body ∙ body) k.sound.body in
       b.size
 
-  sizes : (host : HostId) (f : Fid) (spans : List Span) (n : ℕ) → In (Stored host f spans (Some n)) (by_cause s.applied)
+  pub sizes : (host : HostId) (f : Fid) (spans : List Span) (n : ℕ) → In (Stored host f spans (Some n)) (by_cause s.applied)
       → n ≤ FILE_BYTES_MAX
   sizes host f spans n i = go (nat_le n FILE_BYTES_MAX) refl
     where
@@ -305,7 +309,7 @@ module _ (script : Script) (start : Tree) (firsts : ServerId → ℕ) (past : Li
           let q : nat_le n 65536 ≡ true = grind (arith, common_steps, k) in
           false≢true (sym e ∙ q)))
 
-  cause_kept : (xs : List Applied) (tree : Tree)
+  pub cause_kept : (xs : List Applied) (tree : Tree)
       → ((host : HostId) (f : Fid) (spans : List Span) (n : ℕ) → In (Stored host f spans (Some n)) (by_cause xs)
       → n ≤ FILE_BYTES_MAX) → IsKept tree → IsKept (kept_through s.cause (by_cause xs) tree)
   cause_kept [] tree most k = k

@@ -39,10 +39,10 @@ one_of P (y ∷ ys) x all (inl e) = subst P (sym e) all.0
 one_of P (y ∷ ys) x all (inr i) = one_of P ys x all.1 i
 
 module _ (script : Script) (v : ServerId) where
-  abbrev Good : Token → Type 0
+  abbrev pub Good : Token → Type 0
   Good t = IsHost script.roster t.host × HasRoom t.kind
 
-  abbrev AllGood : List Act → Type 0
+  abbrev pub AllGood : List Act → Type 0
   AllGood S = (t : Token) → Granted v S t → Good t
 
   good_token : (m : Message) → IsSound script.roster m → (t : Token) → IsToken m t → Good t
@@ -101,11 +101,11 @@ module _ (script : Script) (v : ServerId) where
   writes (Stored h f ss n ∷ xs) S old = writes xs S old
   writes (IsDown h ∷ xs) S old = writes xs S old
 
-  plain : (S : List Act) (a : Act) → ((h : HostId) (e n : ℕ) (b : Body) → a ≡ Sent h e n b → ⊥)
+  pub plain : (S : List Act) (a : Act) → ((h : HostId) (e n : ℕ) (b : Body) → a ≡ Sent h e n b → ⊥)
       → ((h : HostId) (ts : List Token) → a ≡ Admits h ts → ⊥) → AllGood S → AllGood (a ∷ S)
   plain S a no_send no_admit old = other S a (dull a no_send no_admit) old
 
-  causes : (c : Cause) (S : List Act) → AllGood S → AllGood (after_cause c S)
+  pub causes : (c : Cause) (S : List Act) → AllGood S → AllGood (after_cause c S)
   causes (Came m) S old = plain S (Took m.host m.epoch m.moves m.body) (λ h e n b q. cc) (λ h ts q. cc) old
   causes (Restart line) S old = plain S (Begins (suc (epoch S))) (λ h e n b q. cc) (λ h ts q. cc) old
   causes Flushed S old = plain S Flushes (λ h e n b q. cc) (λ h ts q. cc) old
@@ -183,7 +183,7 @@ module _ (script : Script) (start : Tree) (firsts : ServerId → ℕ) where
       → AllGood script w (after_step s (acts (firsts w) w past))) e (step script k start firsts past run s m sound) old)
       old
 
-  all_good : (past : List Step) → StepsMeet script start firsts past → (v : ServerId)
+  pub all_good : (past : List Step) → StepsMeet script start firsts past → (v : ServerId)
       → AllGood script v (acts (firsts v) v past)
   all_good [] run v =
       plain script v [] (Begins (firsts v)) (λ h e n b q. cc) (λ h ts q. cc) (λ t g. elim g [ ])

@@ -25,7 +25,7 @@ use Rattle.world_steps.specs.Nodes.{own}
 use Rattle.world_steps.specs.declared.step.Step.{Step}
 
 module _ (script : Script) (start : Tree) (firsts : ServerId → ℕ) (c : Contents) (same : IsOfJournal c) where
-  host_shows : (h : HostId) (past : List Step) (s : Step) → StepsMeet script start firsts past
+  pub host_shows : (h : HostId) (past : List Step) (s : Step) → StepsMeet script start firsts past
       → StepMeets script start firsts (Host h) past s → HostShows c (own h past) s
   host_shows h past s steps m =
       let A = own h past in

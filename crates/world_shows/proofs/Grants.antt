@@ -95,7 +95,7 @@ taken_took S s h n b ((m, cause, host, now, moves, body), live) =
     (inl ((λ i. Took (host i) (now i) (moves i) (body i)), live))
 
 -- the decisions alone make wants
-same_decisions : (xs : List Applied) (S : List Act) → after (deciding xs) S ≡ after (deciding (decisions xs)) S
+pub same_decisions : (xs : List Applied) (S : List Act) → after (deciding xs) S ≡ after (deciding (decisions xs)) S
 same_decisions [] S = refl
 same_decisions (IsWanted x ∷ xs) S = refl
 same_decisions (IsDone x ∷ xs) S = refl
@@ -168,7 +168,7 @@ module _ (script : Script) (start : Tree) (v : ServerId) (steps : List Step) (S 
       on (sent_by s S) (Reserves s.reserved) (λ w e. absurd (cc)) (sents s.sent (admitted_by s S) admitted)
 
   -- a Grant brings what a Fetch that was taken asks for
-  granted : (tree : Tree) (S : List Act) → AllTaken S → (h : HostId) (n : ℕ) (g : GrantOf) → GrantsSo v tree S h n g
+  pub granted : (tree : Tree) (S : List Act) → AllTaken S → (h : HostId) (n : ℕ) (g : GrantOf) → GrantsSo v tree S h n g
       → (f : FetchOf) × (k : ℕ) × TookNow S h k (Fetch f) × (f.number ≡ g.bring.number) × (f.fid ≡ g.bring.fid)
       × ((t : Token) → In t g.bring.tokens → In (need_of t) f.needs)
   granted tree S taken h n g k = (

@@ -135,7 +135,7 @@ module _ (v : ServerId) (tree : Tree) (s : Step) where
       by (NamesOther uses accepted other ready outcome none) = no_tokens t d.bring.tokens none i
       by (IsEntered fileset place enters named known outcome none) = no_tokens t d.bring.tokens none i
 
-  one_sent : (S : List Act) (a : Act) → MaySend v tree s S a → ServerTokens v S a → DonesAreBlind S a
+  pub one_sent : (S : List Act) (a : Act) → MaySend v tree s S a → ServerTokens v S a → DonesAreBlind S a
   one_sent S a sends tokens h e n p d t is i cov =
       subst (λ j. SentTo S h j n (Done d)) (sym (tokens.epochs h e n (Done d) is))
       (done_blind S h n d (sends.dones h e n d is).2 t p i cov)
