@@ -1,19 +1,17 @@
 -- How what is dirty changes.
-use Rattle.std.proofs.Common.{◌≡◌, ℕ, Bool, true, false, ◌==◌, ◌&&◌, ◌||◌, not, cond, List, [], ◌∷◌, length, Option, Some, None, is_none, unwrap_or, refl, sym, ap, subst, ◌∙◌, arith, rules}
+use Rattle.std.proofs.Common.{◌≡◌, ℕ, Bool, true, false, ◌==◌, ◌&&◌, ◌||◌, not, cond, List, [], ◌∷◌, length, Option, Some, None, is_none, unwrap_or, refl, sym, ap, ◌∙◌, arith, rules}
 use Rattle.std.specs.Ordering.{nat_cmp, is_eq, ordering_then}
 use Rattle.std.specs.declared.cmp.Ordering.{Ordering}
 use Rattle.std.specs.declared.cmp.Ordering.TheVariants.{Less, Equal, Greater}
-use Rattle.std.specs.BTreeMap.{BTreeMap, get, is_at}
-use Rattle.std.proofs.lemmas.Bool.{cases_Bool, eqb-true}
+use Rattle.std.specs.BTreeMap.{get, is_at}
 use Rattle.std.proofs.lemmas.Bool.Decides.{nat_tests}
-use Rattle.std.proofs.lemmas.Grind.{common_steps}
 use Rattle.dfs_base.specs.Ids.{same_fid}
 use Rattle.dfs_base.specs.Spans.{has_byte, in_spans}
 use Rattle.dfs_base.specs.declared.ids.Fid.{Fid}
 use Rattle.dfs_base.specs.declared.span.Span.{Span}
 use Rattle.tok_ranges.specs.Positions.{Joins, Leaves}
 use Rattle.cm_dirty.specs.Files.{FileKey, key_of, key_cmp, clean, is_clean}
-use Rattle.cm_dirty.specs.Dirtiness.{file_at, spans_of, length_of, is_dirty, Puts, Adds, Cuts, SetsLength}
+use Rattle.cm_dirty.specs.Dirtiness.{file_at, length_of, is_dirty, Puts, Adds, Cuts, SetsLength}
 use Rattle.cm_dirty.specs.declared.dirty.Dirty.{Dirty}
 use Rattle.cm_dirty.specs.declared.file.DirtyFile.{DirtyFile}
 

@@ -9,7 +9,7 @@ use Rattle.std.proofs.lemmas.Map.Views.{any-filter_same}
 use Rattle.dfs_base.specs.Ids.{same_fid}
 use Rattle.dfs_base.specs.declared.ids.Fid.{Fid}
 use Rattle.cm_dirty.specs.Files.{FileKey, key_of, fid_of, key_cmp, clean, is_clean}
-use Rattle.cm_dirty.specs.Dirtiness.{file_at, dirty_files}
+use Rattle.cm_dirty.specs.Dirtiness.{file_at}
 use Rattle.cm_dirty.specs.FileLaws.{FilesRise, FilesAreDirty}
 use Rattle.cm_dirty.specs.declared.dirty.Dirty.{Dirty}
 use Rattle.cm_dirty.specs.declared.file.DirtyFile.{DirtyFile}

@@ -1,15 +1,13 @@
 -- The laws of give-backs.
-use Rattle.std.proofs.Common.{◌≡◌, ℕ, Bool, true, false, ◌==◌, ◌||◌, not, cond, List, [], ◌∷◌, ◌++◌, drop, Option, Some, None, append-nil, refl, sym, ap, ◌∙◌, arith, rules}
-use Rattle.std.specs.List.{filter, list_any}
+use Rattle.std.proofs.Common.{◌≡◌, Bool, true, false, ◌==◌, ◌||◌, cond, List, [], ◌∷◌, ◌++◌, refl, ap, ◌∙◌, arith}
+use Rattle.std.specs.List.{list_any}
 use Rattle.std.proofs.lemmas.Bool.{cases_Bool}
 use Rattle.std.proofs.lemmas.List.Elements.{filter-append}
-use Rattle.std.proofs.lemmas.Grind.{common_steps}
 use Rattle.dfs_base.specs.declared.ids.FilesetId.{FilesetId}
-use Rattle.rpc_types.specs.declared.giving.Give.{Give}
 use Rattle.rpc_types.specs.declared.message.Message.{Message}
 use Rattle.rpc_types.specs.declared.message.Body.TheVariants.{GiveBack}
-use Rattle.cm_giveback.specs.Giving.{Giving, is_of, is_of_file, names, of_fileset, is_outstanding, after_add, after_gone, without_first}
-use Rattle.cm_giveback.specs.GiveLaws.{AddsAt, Adds, TakesOutAt, TakesOut}
+use Rattle.cm_giveback.specs.Giving.{is_of, is_of_file, names, of_fileset, is_outstanding, without_first}
+use Rattle.cm_giveback.specs.GiveLaws.{Adds, TakesOut}
 use Rattle.cm_giveback.proofs.Counting.{last_with}
 use Rattle.cm_giveback.proofs.Staying.{first_left, others_left, apart_of}
 

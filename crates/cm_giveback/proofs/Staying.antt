@@ -1,16 +1,16 @@
 -- Give-backs stay sound.
-use Rattle.std.proofs.Common.{◌≡◌, ℕ, zero, suc, ◌+◌, ◌≤◌, Bool, true, false, ◌==◌, not, cond, IsTrue, List, [], ◌∷◌, ◌++◌, length, map, take, drop, All, Option, Some, None, is_some, append-nil, refl, sym, ap, subst, ◌∙◌, arith, rules}
-use Rattle.std.specs.List.{find, filter, prefix_len, before_first, after_first}
+use Rattle.std.proofs.Common.{◌≡◌, ℕ, suc, ◌+◌, Bool, true, false, ◌==◌, not, cond, IsTrue, List, [], ◌∷◌, ◌++◌, length, map, take, drop, All, Option, Some, None, is_some, append-nil, refl, sym, ap, subst, ◌∙◌, arith, rules}
+use Rattle.std.specs.List.{filter, before_first, after_first}
 use Rattle.std.specs.Option.{option_map_or}
-use Rattle.std.proofs.lemmas.Bool.{cases_Bool, eqb-true}
+use Rattle.std.proofs.lemmas.Bool.{eqb-true}
 use Rattle.std.proofs.lemmas.List.Elements.{All-push, All-append, All-take, All-drop, filter-append}
 use Rattle.std.proofs.lemmas.Grind.{common_steps}
 use Rattle.dfs_base.specs.declared.ids.FilesetId.{FilesetId}
 use Rattle.rpc_types.specs.declared.giving.Give.{Give}
 use Rattle.rpc_types.specs.declared.message.Message.{Message}
 use Rattle.cm_giveback.specs.Counters.{last_of, with_last}
-use Rattle.cm_giveback.specs.Giving.{Giving, give_of, number_of, is_of, is_next, counted, after_add, is_outstanding}
-use Rattle.cm_giveback.specs.Giving.{without_first, after_gone, of_fileset, GoOnTo, IsSound}
+use Rattle.cm_giveback.specs.Giving.{Giving, give_of, number_of, is_of, is_next, counted, after_add}
+use Rattle.cm_giveback.specs.Giving.{without_first, of_fileset, GoOnTo, IsSound}
 use Rattle.cm_giveback.proofs.Places.{place}
 use Rattle.cm_giveback.proofs.Counting.{last_with}
 

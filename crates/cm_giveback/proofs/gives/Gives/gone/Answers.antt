@@ -1,5 +1,5 @@
 use Rattle.std.proofs.Common.{◌≡◌, false, ◌==◌, None, Some, subst, ap, sym, ◌∙◌}
-use Rattle.std.specs.List.{position, find}
+use Rattle.std.specs.List.{position}
 use Rattle.std.proofs.lemmas.Bool.{eq-eqb}
 use Rattle.cm_giveback.specs.Giving.{Giving, IsSound, is_of, number_of, gone, after_gone, without_first}
 use Rattle.cm_giveback.proofs.Places.{found_at, found_nowhere, left_without}
