@@ -13,7 +13,7 @@ use Rattle.rpc_types.specs.declared.message.Body.TheVariants.{NotHere, Ship, Shi
 use Rattle.world_places.proofs.Cells.{cases_host}
 use Rattle.world_steps.specs.Acts.Act.{Admits, Begins, Flushes, Reserves, Sent, Took, Wants, Writes}
 use Rattle.world_steps.specs.Acts.{Act, epoch}
-use Rattle.world_steps.specs.Hosts.{Away, Ends, GoesAway, Hears, IsDown, IsLive, Listed}
+use Rattle.world_steps.specs.Hosts.{Away, Ends, Hears, IsDown, IsLive, Listed}
 use Rattle.world_steps.specs.Places.{Here, home}
 
 -- it is one of these four, or none

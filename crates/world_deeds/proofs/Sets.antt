@@ -32,7 +32,7 @@ use Rattle.tok_types.specs.declared.token.Need.{Need}
 use Rattle.tree_laws.proofs.Steps.{fid_is}
 use Rattle.tree_laws.specs.Parts.{Cell, Nature, Part, Seen, cell_at, cell_found, cell_in, no_cell, object_in}
 use Rattle.tree_laws.specs.Parts.Part.{ByteAt, Entries, Size, Traits}
-use Rattle.world_deeds.specs.Doing.{changes, comes, sets_part, wanted_by}
+use Rattle.world_deeds.specs.Doing.{changes, comes, wanted_by}
 use Rattle.world_places.specs.Cells.{Does, kept_after}
 use Rattle.world_places.specs.Cells.Does.{Nothing, Sets}
 

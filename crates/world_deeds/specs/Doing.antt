@@ -25,17 +25,12 @@ use Rattle.world_places.specs.Contents.{site}
 use Rattle.world_places.specs.Deeds.{Deed}
 use Rattle.world_server.specs.Kept.{is_refusal, kept, kept_after, kept_through, length_given, pieces_in}
 use Rattle.world_server.specs.ServerApplies.{by_cause, decisions}
-use Rattle.world_steps.specs.Acts.Act.{Admits, Reserves, Sent, Wants, Writes}
+use Rattle.world_steps.specs.Acts.Act.{Reserves, Wants, Writes}
 use Rattle.world_steps.specs.Acts.{Act, acts, admitting, sending}
 use Rattle.world_doings.specs.Doings.{doings_cause}
 use Rattle.world_steps.specs.Nodes.{served}
 use Rattle.world_steps.specs.declared.applied.Applied.{Applied}
-use Rattle.world_steps.specs.declared.applied.Applied.TheVariants.{
-  Stored,
-  IsDown,
-  Wants as IsWanted,
-  Done as IsDone,
-}
+use Rattle.world_steps.specs.declared.applied.Applied.TheVariants.{Stored, IsDown, Wants as IsWanted, Done as IsDone}
 use Rattle.world_steps.specs.declared.applied.Written.{Written}
 use Rattle.world_steps.specs.declared.step.Cause.{Cause}
 use Rattle.world_steps.specs.declared.step.Step.{Step}
