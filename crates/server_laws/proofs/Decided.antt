@@ -1,11 +1,10 @@
 -- What a server decides on what it keeps is what the tree decides.
-use Rattle.std.proofs.Common.{◌≡◌, ℕ, nat_lt, Bool, true, false, ◌&&◌, List, [], ◌∷◌, Some, refl, sym, ap, ◌∙◌, subst}
+use Rattle.std.proofs.Common.{◌≡◌, ℕ, nat_lt, ◌&&◌, List, [], ◌∷◌, refl, ap, ◌∙◌, subst}
 use Rattle.std.specs.Prelude.{map}
 use Rattle.std.specs.List.{list_all}
 use Rattle.dfs_filesets.specs.declared.fileset.Fileset.{Fileset}
 use Rattle.dfs_tree.specs.Answers.{answer_to}
 use Rattle.dfs_tree.specs.WellFormed.{ids_rise}
-use Rattle.dfs_tree.specs.declared.tree.Tree.{Tree}
 use Rattle.dfs_wants.proofs.Alike.{changes_are_alike}
 use Rattle.dfs_wants.proofs.WantsKept.{wants_are_kept}
 use Rattle.dfs_wants.specs.Kept.{kept_answer, kept_fileset, kept_tree}
@@ -13,7 +12,6 @@ use Rattle.dfs_wants.specs.Laws.{NothingUnsaved}
 use Rattle.dfs_wants.specs.Wants.{want}
 use Rattle.server_laws.specs.Decided.{ServersDecideAlike}
 use Rattle.server_laws.specs.Idle.{idle, idle_answer}
-use Rattle.server_laws.specs.Known.{SameAt}
 use Rattle.server_laws.specs.Laws.{AnswersSame}
 use Rattle.server_laws.proofs.Idle.{others_mind_no_uses}
 use Rattle.server_laws.proofs.Same.{calls_hang_on_their_server}

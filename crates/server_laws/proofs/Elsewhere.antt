@@ -1,7 +1,6 @@
 -- A call at a server changes nothing that the server doesn't know.
-use Rattle.std.proofs.Common.{◌≡◌, ◌≢◌, ℕ, ◌+◌, ◌-◌, ◌==◌, Bool, true, false, ◌||◌, not, List, [], ◌∷◌, Option, Some, None, Result, Ok, Err, refl, sym, ap, ◌∙◌, subst, arith, rules}
-use Rattle.std.specs.Prelude.{filter, slice_get, if◌then◌else◌}
-use Rattle.std.specs.List.{list_any}
+use Rattle.std.proofs.Common.{◌≡◌, ◌≢◌, ℕ, ◌+◌, ◌==◌, Bool, true, false, ◌||◌, not, List, [], Option, Some, None, Result, Ok, Err, refl, sym, ap, ◌∙◌, subst}
+use Rattle.std.specs.Prelude.{filter, if◌then◌else◌}
 use Rattle.dfs_base.specs.Outcomes.{and_then, either}
 use Rattle.dfs_base.specs.declared.ids.HostId.{HostId}
 use Rattle.dfs_base.specs.declared.ids.ServerId.{ServerId}
@@ -21,13 +20,12 @@ use Rattle.dfs_tree.specs.Founding.{clone_answer, clone_target, new_fileset_answ
 use Rattle.dfs_tree.specs.Locks.{has_lock, lock_answer, lock_check, unlock_answer}
 use Rattle.dfs_tree.specs.Opens.{close_answer, has_open, open_answer, open_check}
 use Rattle.dfs_tree.specs.Uses.{is_used}
-use Rattle.dfs_tree.specs.declared.tree.Away.{Away}
 use Rattle.dfs_tree.specs.declared.tree.ServerRoom.{ServerRoom}
 use Rattle.dfs_tree.specs.declared.tree.Tree.{Tree}
 use Rattle.dfs_tree.proofs.Kept.{cloned_parts, cloned_so}
 use Rattle.dfs_tree.proofs.Places.{equal_is}
 use Rattle.tree_laws.proofs.Steps.{same_number}
-use Rattle.server_laws.specs.Known.{IsAt, SameAt, filesets_of, is_known, is_record_of, records_of}
+use Rattle.server_laws.specs.Known.{IsAt, filesets_of, is_known, is_record_of, records_of}
 use Rattle.server_laws.specs.Laws.{CallsStayAtTheirServer, OthersStay, StaysElsewhere}
 use Rattle.server_laws.proofs.Lists.{filter_twice, insert_beside, or_left}
 use Rattle.server_laws.proofs.Rooms.{rooms_stay}

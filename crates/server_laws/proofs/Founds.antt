@@ -1,16 +1,14 @@
 -- What a server's names lead to hangs on what it knows.
-use Rattle.std.proofs.Common.{◌≡◌, ℕ, ◌==◌, Bool, true, false, ◌&&◌, ◌||◌, not, List, [], ◌∷◌, Option, Some, None, Result, Ok, refl, sym, ap, ◌∙◌, subst, rules}
-use Rattle.std.specs.Prelude.{filter, if◌then◌else◌}
+use Rattle.std.proofs.Common.{◌≡◌, ℕ, ◌==◌, Bool, true, false, ◌||◌, not, List, Option, Some, None, Ok, refl, sym, ap, ◌∙◌, subst, rules}
+use Rattle.std.specs.Prelude.{if◌then◌else◌}
 use Rattle.std.specs.List.{find, list_any}
 use Rattle.std.specs.Option.{option_map}
 use Rattle.dfs_base.specs.Name.{same_name}
 use Rattle.dfs_base.specs.Outcomes.{and_then}
-use Rattle.dfs_base.specs.declared.ids.FilesetId.{FilesetId}
 use Rattle.dfs_base.specs.declared.ids.ServerId.{ServerId}
 use Rattle.dfs_base.specs.declared.user.User.{User}
-use Rattle.dfs_calls.specs.declared.reply.Refusal.{Refusal}
 use Rattle.dfs_calls.specs.declared.reply.Refusal.TheVariants.{NoFileset, NotHome}
-use Rattle.dfs_objects.proofs.Observed.{and_left, and_right}
+use Rattle.dfs_objects.proofs.Observed.{and_left}
 use Rattle.dfs_filesets.specs.declared.fileset.Fileset.{Fileset}
 use Rattle.dfs_filesets.specs.Checks.{unless}
 use Rattle.dfs_filesets.specs.Founding.{control_check}

@@ -1,5 +1,5 @@
 -- Which answers don't hang on what is in use.
-use Rattle.std.proofs.Common.{◌≡◌, ℕ, Bool, true, false, List, Option, Some, None, Result, Ok, Err, refl, ap, rules}
+use Rattle.std.proofs.Common.{◌≡◌, ℕ, false, Option, Some, None, Result, Ok, Err, refl, ap}
 use Rattle.std.specs.Prelude.{slice_get}
 use Rattle.dfs_base.specs.Outcomes.{either}
 use Rattle.dfs_base.specs.declared.ids.HostId.{HostId}

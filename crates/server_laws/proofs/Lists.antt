@@ -1,6 +1,6 @@
 -- What stays of a list when only what passes a test counts.
-use Rattle.std.proofs.Common.{◌≡◌, ℕ, zero, suc, ◌+◌, nat_lt, Bool, true, false, ◌&&◌, ◌||◌, not, cond, List, [], ◌∷◌, Option, Some, None, length, refl, sym, ap, ◌∙◌, subst, arith, rules}
-use Rattle.std.specs.Prelude.{slice_get, slice_set, insert, filter, unwrap_or}
+use Rattle.std.proofs.Common.{◌≡◌, ℕ, zero, suc, ◌+◌, nat_lt, Bool, true, false, ◌||◌, not, cond, List, [], ◌∷◌, Some, None, length, refl, sym, ap, ◌∙◌, subst, arith, rules}
+use Rattle.std.specs.Prelude.{slice_get, slice_set, insert, filter}
 use Rattle.std.specs.List.{find, list_any, list_all, prefix_len, position, count_by}
 use Rattle.std.proofs.lemmas.Grind.{common_steps}
 use Rattle.dfs_base.specs.declared.ids.FilesetId.{FilesetId}

@@ -1,18 +1,16 @@
 -- A move that a server refuses by itself is refused alike wherever the same is kept of the server.
 use Rattle.std.proofs.Common.{◌≡◌, ◌⊎◌, ℕ, ◌==◌, nat_le, nat_lt, ◌+◌, Bool, true, false, ◌&&◌, ◌||◌, not, List, [], ◌∷◌, Option, Some, None, Result, Ok, Err, inl, inr, refl, sym, ap, ◌∙◌, subst, rules}
 use Rattle.std.specs.Prelude.{slice_get}
-use Rattle.std.specs.List.{find, list_all, list_any}
+use Rattle.std.specs.List.{list_all, list_any}
 use Rattle.dfs_base.specs.Name.{same_name}
-use Rattle.dfs_base.specs.Outcomes.{and_then, either}
-use Rattle.dfs_base.specs.declared.ids.HostId.{HostId}
+use Rattle.dfs_base.specs.Outcomes.{and_then}
 use Rattle.dfs_base.specs.declared.ids.ServerId.{ServerId}
 use Rattle.dfs_base.specs.declared.limits.TheConstants.{FILESETS_MAX}
 use Rattle.dfs_base.specs.declared.user.User.{User}
 use Rattle.dfs_calls.specs.Rosters.{user_of}
 use Rattle.dfs_calls.specs.declared.call.Call.TheVariants.{MoveFileset}
 use Rattle.dfs_calls.specs.declared.reply.Refusal.{Refusal}
-use Rattle.dfs_calls.specs.declared.reply.Refusal.TheVariants.{Denied, Exists, InUse, NoFileset, NoRoom, TooMany}
-use Rattle.dfs_calls.specs.declared.reply.Reply.{Reply}
+use Rattle.dfs_calls.specs.declared.reply.Refusal.TheVariants.{Exists, InUse, NoFileset, NoRoom, TooMany}
 use Rattle.dfs_calls.specs.declared.reply.Reply.TheVariants.{Ok as Done, Refused}
 use Rattle.dfs_objects.proofs.Observed.{and_left, and_right}
 use Rattle.dfs_filesets.specs.declared.fileset.Fileset.{Fileset}
@@ -22,7 +20,7 @@ use Rattle.dfs_filesets.specs.Founding.{control_check}
 use Rattle.dfs_filesets.specs.Promises.{promise}
 use Rattle.dfs_tree.specs.Answers.{answer_for, answer_to, for_user}
 use Rattle.dfs_tree.specs.Away.{has_away, is_away_named}
-use Rattle.dfs_tree.specs.Finding.{Answer, fileset_place, found_or, is_here, is_named, leads_to, refuse}
+use Rattle.dfs_tree.specs.Finding.{fileset_place, found_or, is_here, leads_to}
 use Rattle.dfs_tree.specs.Founding.{blocks_for, count_at, promised_at, room_of, slot_for}
 use Rattle.dfs_tree.specs.Moving.{is_fileset_used, is_taken_by_other, leave_check, move_answer, move_room, move_source, move_target, with_moved}
 use Rattle.dfs_tree.specs.declared.tree.Away.{Away}

@@ -1,7 +1,6 @@
 -- What is wanted for a call hangs on what its server knows.
 use Rattle.std.proofs.Common.{◌≡◌, ℕ, false, List, refl, sym, ap, subst}
 use Rattle.std.specs.List.{flat_map}
-use Rattle.dfs_base.specs.Outcomes.{and_then}
 use Rattle.dfs_base.specs.declared.ids.ServerId.{ServerId}
 use Rattle.dfs_base.specs.declared.user.User.{User}
 use Rattle.dfs_calls.specs.declared.call.Call.{Call}
@@ -9,7 +8,7 @@ use Rattle.dfs_calls.specs.declared.call.Call.TheVariants.{NewFileset, Create, M
 use Rattle.dfs_tree.specs.Finding.{fileset_named}
 use Rattle.dfs_tree.specs.declared.tree.Tree.{Tree}
 use Rattle.dfs_wants.specs.Wants.{all_of, files_of, want, want_for, want_in}
-use Rattle.server_laws.specs.Known.{IsAt, SameAt}
+use Rattle.server_laws.specs.Known.{SameAt}
 use Rattle.server_laws.specs.Wanted.{WantsHangOnTheirServer}
 use Rattle.server_laws.proofs.Founds.{same_named, same_source}
 

@@ -1,5 +1,5 @@
 -- What a server knows of a tree.
-use Rattle.std.specs.Prelude.{◌≡◌, ◌==◌, Bool, ◌||◌, not, List, filter}
+use Rattle.std.specs.Prelude.{◌≡◌, ◌==◌, Bool, ◌||◌, List, filter}
 use Rattle.std.specs.List.{list_any}
 use Rattle.dfs_base.specs.declared.ids.ServerId.{ServerId}
 use Rattle.dfs_calls.specs.declared.call.Call.{Call}

@@ -8,7 +8,7 @@ use Rattle.dfs_tree.specs.Finding.{Answer}
 use Rattle.dfs_tree.specs.Founding.{room_of}
 use Rattle.dfs_tree.specs.WellFormed.{ids_rise}
 use Rattle.dfs_tree.specs.declared.tree.Tree.{Tree}
-use Rattle.server_laws.specs.Known.{IsAt, SameAt, SameUses, filesets_of, is_known, records_of}
+use Rattle.server_laws.specs.Known.{IsAt, SameAt, SameUses, is_known, records_of}
 
 -- Two answers are the same for a server: the reply, and what is left.
 pub record AnswersSame (server : ServerId) (a b : Answer) : Type 0 where
