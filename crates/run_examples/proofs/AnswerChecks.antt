@@ -388,6 +388,7 @@ answer_tests site host user past s =
     ∷ is_short s.answers
     ∷ (is_none s.answers || is_none (asking (s ∷ past)))
     ∷ (is_none s.answers || (is_none s.dropped && is_none s.made))
+    ∷ (list_all (λ a. not a.first) s.answers || is_none s.sent)
     ∷ list_all (λ a. wrote_right s.wrote (verdict_at site host user past s a.call)) s.answers
     ∷ written_right site host user past s s.wrote
     ∷ list_all (λ a. lock_right s a.call (verdict_at site host user past s a.call)) s.answers
@@ -469,7 +470,10 @@ module _ (site : ServerId) (roster : Roster) (host : HostId) (user : User) (past
             one_,
             (
               alone_,
-              (keeps_, (writes_, (only_, (locks_, (begins_, (begins_one_, (syncs_, (frees_, (local_, _))))))))),
+              (
+                keeps_,
+                (quiet_, (writes_, (only_, (locks_, (begins_, (begins_one_, (syncs_, (frees_, (local_, _))))))))),
+              ),
             ),
           ),
         ),
@@ -521,6 +525,12 @@ module _ (site : ServerId) (roster : Roster) (host : HostId) (user : User) (past
         let p = and_parts (is_none s.dropped) (is_none s.made)
         (answered_none s a (is_none s.dropped && is_none s.made) keeps_ m) in
         (none_is s.dropped p.0, none_is s.made p.1);
+    quiet = λ a m e. elim (or_cases (list_all (λ a. not a.first) s.answers) (is_none s.sent) quiet_) [
+      | inl p ↦
+          let q = at_all (λ a. not a.first) s.answers a p m in
+          absurd (let r : not true ≡ true = subst (λ b. not b ≡ true) e q in cc)
+      | inr p ↦ none_is s.sent p
+    ];
     writes = λ a fid from bytes m is.
         file_is fid s.wrote (subst (λ v. wrote_right s.wrote v ≡ true) is (at_all (λ a. wrote_right s.wrote
         (verdict_at site host user past s a.call)) s.answers a writes_ m));

@@ -86,6 +86,7 @@ module _ (roster : Roster) (host : HostId) (past : List Step) (rest : IsAtRest r
     answers_one = omega arith;
     answers_alone = λ a fs n m. elim m [ ];
     keeps = λ a m. elim m [ ];
+    quiet = λ a m. elim m [ ];
     writes = λ a fid from bytes m. elim m [ ];
     writes_only = λ fid e. absurd (cc);
     locks = λ a fid writing span m. elim m [ ];

@@ -60,6 +60,8 @@ pub record HostAnswers
   pub answers_alone : (a : Answer) (fileset : FilesetId) (n : ℕ) → In a s.answers → Asking (s ∷ past) fileset n → ⊥
   -- such a step keeps what the host has: nothing leaves it, and nothing is given back
   pub keeps : (a : Answer) → In a s.answers → (s.dropped ≡ []) × (s.made ≡ [])
+  -- a call that is answered in the step that begins it is answered in silence
+  pub quiet : (a : Answer) → In a s.answers → a.first ≡ true → s.sent ≡ []
   -- an answered Write changes the file that its walk found, and nothing else does
   pub writes : (a : Answer) (fid : Fid) (from : ℕ) (bytes : List ℕ) → In a s.answers
       → verdict_in stance a.call ≡ Writes fid from bytes → s.wrote ≡ Some fid

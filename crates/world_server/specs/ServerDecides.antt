@@ -2,7 +2,7 @@
 -- far.
 use Rattle.world_steps.specs.Acts.{decisions_of}
 use Rattle.world_steps.specs.Lists.{after}
-use Rattle.std.specs.Prelude.{List, [], false, true, ℕ, ◌∷◌, ◌≡◌, ◌≢◌, ◌⊎◌}
+use Rattle.std.specs.Prelude.{Bool, List, [], false, true, ℕ, ◌∷◌, ◌≡◌, ◌≢◌, ◌⊎◌}
 use Rattle.dfs_base.specs.declared.ids.FilesetId.{FilesetId}
 use Rattle.dfs_base.specs.declared.ids.HostId.{HostId}
 use Rattle.dfs_base.specs.declared.ids.ServerId.{ServerId}
@@ -12,7 +12,7 @@ use Rattle.dfs_tree.specs.declared.tree.Tree.{Tree}
 use Rattle.world_server.specs.Kept.{kept_after}
 use Rattle.world_server.specs.ServerAnswers.{TakenNow}
 use Rattle.world_server.specs.Wants.{CanGrant, CanRefuse, IsOld, IsReady, NoneWaits, Waits, body_of, has_effect}
-use Rattle.world_server.specs.Wants.{needs_for, row_needs}
+use Rattle.world_server.specs.Wants.{is_move, needs_for, row_needs}
 use Rattle.world_steps.specs.Hosts.{NoGrace}
 use Rattle.world_steps.specs.Lists.{In}
 use Rattle.world_steps.specs.Places.{Here, place}
@@ -21,7 +21,7 @@ use Rattle.dfs_calls.specs.declared.call.Call.{Call}
 use Rattle.dfs_calls.specs.declared.call.Call.TheVariants.{Lock, OpenFile}
 use Rattle.dfs_calls.specs.declared.reply.Reply.TheVariants.{Refused}
 use Rattle.dfs_calls.specs.declared.reply.Refusal.{Refusal}
-use Rattle.dfs_calls.specs.declared.reply.Refusal.TheVariants.{Locked, OpenConflict, InUse, NoFileset}
+use Rattle.dfs_calls.specs.declared.reply.Refusal.TheVariants.{Locked, OpenConflict, InUse, NoFileset, NoRoom, TooMany}
 use Rattle.world_steps.specs.declared.applied.Request.{Request}
 use Rattle.world_steps.specs.declared.applied.Request.TheVariants.{Fetch as Asks, Change as Changes}
 use Rattle.rpc_types.specs.declared.asking.Change.{Change as ChangeOf}
@@ -53,10 +53,19 @@ pub record IsNewRequest
 abbrev pub kept_reply : Tree → HostId → Call → Reply
 kept_reply tree host call = (answer_to tree host call).reply
 
--- the call table refuses the Change on the kept filesets; one that enters a fileset, where that isn't there
+-- whether a server can tell by itself that a move is refused so: not where the other server lacks room, of which it
+-- keeps nothing
+abbrev pub tells_alone : Refusal → Bool
+tells_alone TooMany = false
+tells_alone NoRoom = false
+tells_alone _ = true
+
+-- the call table refuses the Change on the kept filesets; one that enters a fileset, where that isn't there; a move, by
+-- what the server can tell alone
 abbrev pub RefusedOn : Tree → HostId → ChangeOf → Refusal → Type 0
 RefusedOn tree host change refusal =
     (kept_reply tree host change.call ≡ Refused refusal) × (change.enter ≡ true → refusal ≡ NoFileset)
+    × (is_move change.call ≡ true → tells_alone refusal ≡ true)
 
 abbrev pub NotRefused : Tree → HostId → ChangeOf → Type 0
 NotRefused tree host change = (refusal : Refusal) → RefusedOn tree host change refusal → ⊥
