@@ -26,7 +26,7 @@ use Rattle.dfs_tree.proofs.Kept.{cloned_parts, cloned_so}
 use Rattle.dfs_tree.proofs.Places.{equal_is}
 use Rattle.tree_laws.proofs.Steps.{same_number}
 use Rattle.server_laws.specs.Known.{IsAt, filesets_of, is_known, is_record_of, records_of}
-use Rattle.server_laws.specs.Laws.{CallsStayAtTheirServer, OthersStay, StaysElsewhere}
+use Rattle.server_laws.specs.Laws.{CallsStayAtTheirServer, OthersStay, PartsAreSame, StaysElsewhere}
 use Rattle.server_laws.proofs.Lists.{filter_twice, insert_beside, or_left}
 use Rattle.server_laws.proofs.Rooms.{rooms_stay}
 use Rattle.server_laws.proofs.Rows.{IsPlaced, placed, row, row_refused, row_stays, row_there}
@@ -152,3 +152,18 @@ others_stay tree server other host call none at differ =
     apart : (xs : List Fileset) →
         filter (λ fileset. (fileset.server.0 == other.0) || false) (filter (λ x. not ((x.server.0 == server.0) || false)) xs) ≡ filter (λ fileset. (fileset.server.0 == other.0) || false) xs
     apart xs = filter_twice (λ fileset. (fileset.server.0 == other.0) || false) (λ x. not ((x.server.0 == server.0) || false)) xs (λ fileset h. elsewhere_at server other differ fileset (fileset.server.0 == server.0) refl h)
+
+-- a server's filesets by themselves
+pub parts_are_same : PartsAreSame
+parts_are_same tree server none = record {
+  roster = refl;
+  room = refl;
+  filesets =
+      mine (filter (λ fileset. fileset.server.0 == server.0) tree.filesets)
+      ∙ filter_twice (λ fileset. (fileset.server.0 == server.0) || false) (λ fileset. fileset.server.0 == server.0) tree.filesets (λ fileset h. or_false (fileset.server.0 == server.0) h)
+      ∙ sym (mine tree.filesets);
+  records = refl;
+}
+  where
+    mine : (xs : List Fileset) → filter (is_known (records_of server tree) server) xs ≡ filter (λ fileset. (fileset.server.0 == server.0) || false) xs
+    mine xs = ap (λ records. filter (is_known (filter (is_record_of server) records) server) xs) none

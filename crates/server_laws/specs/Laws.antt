@@ -1,5 +1,5 @@
 -- What the answer to a call hangs on.
-use Rattle.std.specs.Prelude.{◌≡◌, ◌≢◌, [], true, not, filter}
+use Rattle.std.specs.Prelude.{◌≡◌, ◌≢◌, ◌==◌, [], true, not, filter}
 use Rattle.dfs_base.specs.declared.ids.HostId.{HostId}
 use Rattle.dfs_base.specs.declared.ids.ServerId.{ServerId}
 use Rattle.dfs_calls.specs.declared.call.Call.{Call}
@@ -44,3 +44,9 @@ OthersStay =
     (tree : Tree) (server other : ServerId) (host : HostId) (call : Call) →
     tree.away ≡ [] → IsAt server call → other ≢ server →
     SameAt other tree (answer_to tree host call).tree
+
+-- the filesets of a server, apart from all others, are the same for it
+abbrev pub PartsAreSame : Type 0
+PartsAreSame =
+    (tree : Tree) (server : ServerId) → tree.away ≡ [] →
+    SameAt server (record tree { filesets = filter (λ fileset. fileset.server.0 == server.0) tree.filesets }) tree

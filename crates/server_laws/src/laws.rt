@@ -1,18 +1,19 @@
 //! Each function does nothing, and what it ensures is a law.
 ghost use Rattle.server_laws.specs.Decided.{ServersDecideAlike};
 ghost use Rattle.server_laws.specs.Idle.{MovesAreRefusedAlike, OthersMindNoUses};
-ghost use Rattle.server_laws.specs.Laws.{CallsHangOnTheirServer, CallsStayAtTheirServer, OthersStay};
+ghost use Rattle.server_laws.specs.Laws.{CallsHangOnTheirServer, CallsStayAtTheirServer, OthersStay, PartsAreSame};
 ghost use Rattle.server_laws.specs.Uses.{LocksMindUses, OpensMindUses, RemovesMindUses};
 ghost use Rattle.server_laws.specs.Wanted.{WantsHangOnTheirServer};
 
 /// What a call at a server is answered, and what it leaves there, hangs on the server's filesets, records and room, and
 /// on what is in use; it changes nothing else. Where no fileset has moved away, it leaves all the same for any other
-/// server. What is wanted for a call hangs on the same.
+/// server. What is wanted for a call hangs on the same. The server's filesets apart from all others are the same for it.
 pub fn server_law()
     ensures same { CallsHangOnTheirServer }
     ensures stays { CallsStayAtTheirServer }
     ensures others { OthersStay }
     ensures wants { WantsHangOnTheirServer }
+    ensures parts { PartsAreSame }
 {}
 
 /// Locks and open files bear on no call but a Remove, those about labels, and a move. A Remove is refused for a file in

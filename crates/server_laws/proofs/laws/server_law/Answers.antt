@@ -1,4 +1,4 @@
-use Rattle.server_laws.proofs.Elsewhere.{calls_stay_at_their_server, others_stay}
+use Rattle.server_laws.proofs.Elsewhere.{calls_stay_at_their_server, others_stay, parts_are_same}
 use Rattle.server_laws.proofs.Same.{calls_hang_on_their_server}
 use Rattle.server_laws.proofs.Wanted.{wants_hang_on_their_server}
 use Rattle.server_laws.proofs.laws.server_law.Goals as goal
@@ -9,4 +9,5 @@ returns c = record {
   stays = calls_stay_at_their_server;
   others = others_stay;
   wants = wants_hang_on_their_server;
+  parts = parts_are_same;
 }
