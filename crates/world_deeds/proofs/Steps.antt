@@ -26,7 +26,7 @@ use Rattle.std.specs.Prelude.{filter, if◌then◌else◌}
 use Rattle.tok_types.specs.declared.token.Token.{Token}
 use Rattle.tree_laws.specs.Parts.{cell_in}
 use Rattle.tree_laws.specs.Parts.Part.{Traits}
-use Rattle.world_core.specs.Runs.{StepMeets, StepsMeet, firsts_of, past_of}
+use Rattle.world_core.specs.Runs.{IsRun, StepMeets, StepsMeet, firsts_of, past_of}
 use Rattle.world_deeds.proofs.Caused.{at_first, first_deed as caused_deed, no_message, shows_first}
 use Rattle.world_deeds.proofs.Changed.{changed_at, shows_change}
 use Rattle.world_deeds.proofs.Sent.{At, fine_sent, quiet, unsent}
@@ -35,6 +35,7 @@ use Rattle.world_deeds.specs.Doing.{writes}
 use Rattle.world_deeds.specs.Instance.{IsOfRun, RunsMeetContents}
 use Rattle.world_doings.proofs.Served.{after_doings}
 use Rattle.world_doings.specs.Doings.{doings, doings_cause}
+use Rattle.world_journal.specs.declared.journal.Journal.{Journal}
 use Rattle.world_kept.proofs.Alike.{filesets_are_alike}
 use Rattle.world_kept.proofs.Starts.{starts_kept}
 use Rattle.world_kept.specs.Gives.{IsKept}
@@ -42,7 +43,7 @@ use Rattle.world_legal.proofs.Keeping.{cause_kept, sizes, split, written_sound}
 use Rattle.world_legal.proofs.Tokens.{AllGood, all_good, causes as causes_good, plain}
 use Rattle.world_places.specs.Contents.{AreAlike, Contents, HaveRoots, ServerShows}
 use Rattle.world_places.specs.Deeds.{Deed, acts_in}
-use Rattle.world_places.specs.Legal.{ContentsRun, StepShows, first_deed, served as served_deeds, served_after}
+use Rattle.world_places.specs.Legal.{ContentsRun, StepShows, served as served_deeds, served_after}
 use Rattle.world_rules.proofs.Servers.{cause_heard, heard}
 use Rattle.world_rules.proofs.Shown.{host_shows}
 use Rattle.world_server.specs.Kept.{kept, kept_after, kept_through}
@@ -348,11 +349,11 @@ acts_after_deeds (d ∷ deeds) D = acts_after_deeds deeds (d ∷ D)
 module _ (script : Script) (start : Tree) (firsts : ServerId → ℕ) (c : Contents) (of_run : IsOfRun start firsts c)
     (limit : length script.roster.hosts ≤ 16) where
   -- what a server has done, and keeps
-  record Stands (v : ServerId) (D : List Deed) (S : List Act) (L : List Step) : Type 0 where
-    doings_are : acts_in D ≡ S
-    at : At c v D (kept start v L)
+  pub record Stands (v : ServerId) (D : List Deed) (S : List Act) (L : List Step) : Type 0 where
+    pub doings_are : acts_in D ≡ S
+    pub at : At c v D (kept start v L)
 
-  abbrev StandsNow : List Step → ServerId → Type 0
+  abbrev pub StandsNow : List Step → ServerId → Type 0
   StandsNow past v = Stands v (served_deeds c (firsts v) v past) (acts (firsts v) v past) (served v past)
 
   given : (past : List Step) (run : StepsMeet script start firsts past) (v : ServerId) (s : Step)
@@ -430,7 +431,7 @@ module _ (script : Script) (start : Tree) (firsts : ServerId → ℕ) (c : Conte
       go false e = all v
 
   module _ (starts : (v : ServerId) → StandsNow [] v) (alike : (v : ServerId) → AreAlike c v [] × HaveRoots c v []) where
-    all_stand : (past : List Step) → StepsMeet script start firsts past → (v : ServerId) → StandsNow past v
+    pub all_stand : (past : List Step) → StepsMeet script start firsts past → (v : ServerId) → StandsNow past v
     all_stand [] run v = starts v
     all_stand (s ∷ past) run v =
         next s.node past s (of_run.deeds past s) run.0 run.1.0 (all_stand past run.0) v
@@ -488,31 +489,42 @@ hosts_limit roster e =
     && is_between CACHED_TOKENS_MIN CACHED_TOKENS_MAX line.limit) roster.hosts) e in
     grind (arith, common_steps, test)
 
-pub runs_meet : RunsMeetContents
-runs_meet script journal run c of_run =
-    all_meet script run.start (firsts_of journal) c of_run
-    (subst (λ (r : Roster). length r.hosts ≤ 16) run.roster
-    (hosts_limit run.start.roster run.valid.well_formed.roster)) starts alike (past_of journal) run.steps
-  where
-    starts : (v : ServerId) → Stands script run.start (firsts_of journal) c of_run
-        (subst (λ (r : Roster). length r.hosts ≤ 16) run.roster
-        (hosts_limit run.start.roster run.valid.well_formed.roster)) v
-        (first_deed (firsts_of journal v) ∷ []) (Begins (firsts_of journal v) ∷ []) []
-    starts v = record {
-      doings_are = refl;
-      at = record {
-        shows = λ f p home_is. of_run.start_is f p
-            ∙ sym (ap (λ o. (cell_in o f p).kept) (found_there f.fileset v home_is run.start.filesets run.valid.at_home));
-        keeps = starts_kept run.start v
-            (record { formed = run.valid.well_formed; rests = run.valid.at_rest }) run.valid.unmoved;
-      };
-    }
+module _ (script : Script) (journal : Journal) (run : IsRun script journal) (c : Contents)
+    (of_run : IsOfRun run.start (firsts_of journal) c) where
+  pub limit : length script.roster.hosts ≤ 16
+  limit =
+      subst (λ (r : Roster). length r.hosts ≤ 16) run.roster
+      (hosts_limit run.start.roster run.valid.well_formed.roster)
 
-    alike : (v : ServerId) → AreAlike c v [] × HaveRoots c v []
-    alike v =
-        let all = filesets_are_alike run.start run.valid.well_formed in (
-          (λ f g a b home one e d. all.alike f g a b one (sym (of_run.start_is f Traits) ∙ e)
-              (sym (of_run.start_is g Traits) ∙ d)),
-          (λ fs a home e. all.roots fs a (sym (of_run.start_is (root_of fs) Traits)
-              ∙ (ap (λ (f : Fid). c.start f Traits) (sym (of_run.hosts.root fs)) ∙ e))),
-        )
+  starts : (v : ServerId) → StandsNow script run.start (firsts_of journal) c of_run limit [] v
+  starts v = record {
+    doings_are = refl;
+    at = record {
+      shows = λ f p home_is. of_run.start_is f p
+          ∙ sym (ap (λ o. (cell_in o f p).kept) (found_there f.fileset v home_is run.start.filesets run.valid.at_home));
+      keeps = starts_kept run.start v
+          (record { formed = run.valid.well_formed; rests = run.valid.at_rest }) run.valid.unmoved;
+    };
+  }
+
+  alike : (v : ServerId) → AreAlike c v [] × HaveRoots c v []
+  alike v =
+      let all = filesets_are_alike run.start run.valid.well_formed in (
+        (λ f g a b home one e d. all.alike f g a b one (sym (of_run.start_is f Traits) ∙ e)
+            (sym (of_run.start_is g Traits) ∙ d)),
+        (λ fs a home e. all.roots fs a (sym (of_run.start_is (root_of fs) Traits)
+            ∙ (ap (λ (f : Fid). c.start f Traits) (sym (of_run.hosts.root fs)) ∙ e))),
+      )
+
+  -- what each server keeps by its deeds is what its kept filesets show
+  pub deeds_stand : (past : List Step) → StepsMeet script run.start (firsts_of journal) past → (v : ServerId)
+      → StandsNow script run.start (firsts_of journal) c of_run limit past v
+  deeds_stand past steps v =
+      all_stand script run.start (firsts_of journal) c of_run limit starts alike past steps v
+
+  pub deeds_meet : (past : List Step) → StepsMeet script run.start (firsts_of journal) past
+      → ContentsRun c (firsts_of journal) past
+  deeds_meet past steps = all_meet script run.start (firsts_of journal) c of_run limit starts alike past steps
+
+pub runs_meet : RunsMeetContents
+runs_meet script journal run c of_run = deeds_meet script journal run c of_run (past_of journal) run.steps
