@@ -1,0 +1,9 @@
+pub mod Sound
+pub mod Knowing
+pub mod Writing
+pub mod Answering
+pub mod Labels
+pub mod HostLaw
+pub mod Storing
+pub mod Causing
+pub mod ServerLaw
