@@ -9,8 +9,8 @@ use Rattle.dfs_objects.proofs.Rising.{before_trans}
 use Rattle.ep_layout.specs.Numbers.{number_at}
 use Rattle.ep_anode.specs.Node.{pointer_of, pointer_at}
 use Rattle.ep_anode.proofs.Pointers.{pointer_front}
-use Rattle.ep_pages.specs.Words.{each_below}
-use Rattle.ep_pages.specs.Anode.{is_object, is_object_page, is_length, has_no_hole, page_pointer, bytes_in}
+use Rattle.ep_pages.specs.Words.{each_below, are_zero, is_name_at}
+use Rattle.ep_pages.specs.Anode.{is_object, is_object_page, is_length, are_lists, has_no_hole, page_pointer, bytes_in}
 use Rattle.ep_pages.specs.Blocks.{is_entry, is_entry_block, entry_name, entry_anode}
 use Rattle.ep_pages.specs.Header.{is_header, is_limit}
 use Rattle.ep_pages.specs.declared.header.SlotState.{SlotState}
@@ -20,9 +20,8 @@ use Rattle.ep_image.specs.Aggregate.{Aggregate, server_page, header_page, anode_
 use Rattle.ep_image.specs.Slots.{state_at, is_whole, is_slot_free, is_slot_header, is_first, limit_of, usable, has_root}
 use Rattle.ep_image.specs.Anodes.{is_slot_anode, is_root_place, is_root_page, entries_in, entry_blocks, entry_pointer, entry_bytes, is_directory_block, is_readable, link_of, links_at}
 use Rattle.ep_image.specs.Reach.{links_of}
-use Rattle.ep_image.specs.Faults.{faults_in}
 use Rattle.ep_image.specs.declared.found.Link.{Link}
-use Rattle.image_laws.proofs.Clean.{header_right, anode_right, directory_right}
+use Rattle.image_laws.proofs.Clean.{IsRightSlot, anode_right, directory_right}
 use Rattle.image_laws.proofs.Finding.{each_at, each_all, all_joined, all_listed}
 
 whole_usable : (state : SlotState) (header : List ℕ) → is_whole state ≡ true → usable state header ≡ limit_of header
@@ -43,90 +42,52 @@ whole_root Arriving header whole = absurd (false≢true whole)
 whole_root Gone header whole = absurd (false≢true whole)
 whole_root Unknown header whole = absurd (false≢true whole)
 
-module _ (disk : Aggregate) (clean : faults_in disk ≡ []) (slot : ℕ) (lt : slot < 16) (whole : is_whole (state_at disk slot) ≡ true) where
+module _ (disk : Aggregate) (slot : ℕ) (right : IsRightSlot disk slot) where
   abbrev pub page : ℕ → List ℕ
   page i = anode_page disk slot i
 
-  abbrev pub header : List ℕ
-  header = header_page disk slot
-
-  abbrev pub objects : ℕ
-  objects = number_at 4 8 header
-
-  used : is_slot_free disk slot ≡ false
-  used = elim (cases_Bool (is_slot_free disk slot)) [
-    | inl is ↦
-        let free : state_at disk slot ≡ Free = cond-true (is_slot_free disk slot) Free _ is in
-        absurd (false≢true (ap is_whole (sym free) ∙ whole))
-    | inr not_so ↦ not_so
-  ]
-
-  header_is : is_header disk.server (server_page disk) header ≡ true
-  unfolding is_slot_header
-  header_is = (and_parts (is_header disk.server (server_page disk) header) (is_first disk slot) (sym (cond-false (is_slot_free disk slot) _ _ used) ∙ header_right disk clean slot lt)).0
-
-  limit_is : is_limit objects ≡ true
-  unfolding is_header
-  limit_is = (and_parts _ _ (and_parts _ _ (and_parts _ _ header_is).0).0).1
-
-  pub few_objects : (1 ≤ objects) × (objects ≤ 64)
-  few_objects = let parts = and_parts (nat_le 1 objects) (nat_le objects 64) limit_is in (leb-true 1 objects parts.0, leb-true objects 64 parts.1)
-
-  usable_is : usable (state_at disk slot) header ≡ objects
-  usable_is = whole_usable (state_at disk slot) header whole ∙ cond-true (is_limit objects) objects 64 limit_is
-
-  -- the page of an anode that isn't free
-  pub record IsUsedPage (i : ℕ) : Type 0 where
-    pub object : is_object_page disk.blocks (page i) ≡ true
-    pub below : i < objects
-    pub root : is_root_place disk slot i ≡ true → is_root_page (page i) ≡ true
-
-  root_or : (a b : Bool) → (not a || b) ≡ true → a ≡ true → b ≡ true
-  root_or a b either is = sym (λ j. not (is j) || b) ∙ either
-
-  pub used_page : (i : ℕ) → i < 64 → (byte_at (page i) 0 == 0) ≡ false → IsUsedPage i
+  -- the page of an anode that isn't free is that of a file or directory
+  pub object_is : (i : ℕ) → i < 64 → (byte_at (page i) 0 == 0) ≡ false → is_object_page disk.blocks (page i) ≡ true
   unfolding is_slot_anode
-  used_page i low kind =
-      let all = sym (cond-false (byte_at (page i) 0 == 0) _ _ kind) ∙ anode_right disk clean slot lt i low in
-      let two = and_parts (is_object_page disk.blocks (page i) && nat_lt i (usable (state_at disk slot) header)) (not (is_root_place disk slot i) || is_root_page (page i)) all in
-      let one = and_parts (is_object_page disk.blocks (page i)) (nat_lt i (usable (state_at disk slot) header)) two.0 in
-      record {
-        object = one.0;
-        below = ltb-true i objects (sym (λ j. nat_lt i (usable_is j)) ∙ one.1);
-        root = root_or (is_root_place disk slot i) (is_root_page (page i)) two.1;
-      }
-
-  root_place : is_root_place disk slot 0 ≡ true
-  root_place = whole_root (state_at disk slot) header whole
-
-  -- the root
-  pub root_kind : (byte_at (page 0) 0 == 0) ≡ false
-  unfolding is_slot_anode
-  root_kind = elim (cases_Bool (byte_at (page 0) 0 == 0)) [
-    | inl is ↦
-        let all = sym (cond-true (byte_at (page 0) 0 == 0) _ _ is) ∙ anode_right disk clean slot lt 0 (omega arith) in
-        absurd (false≢true (sym (λ j. not (root_place j)) ∙ (and_parts _ (not (is_root_place disk slot 0)) all).1))
-    | inr not_so ↦ not_so
-  ]
-
-  pub root_page : is_root_page (page 0) ≡ true
-  root_page = (used_page 0 (omega arith) root_kind).root root_place
+  object_is i low kind =
+      let all = sym (cond-false (byte_at (page i) 0 == 0) _ _ kind) ∙ anode_right disk slot right i low in
+      let two = and_parts (is_object_page disk.blocks (page i) && nat_lt i (usable (state_at disk slot) (header_page disk slot))) (not (is_root_place disk slot i) || is_root_page (page i)) all in
+      (and_parts (is_object_page disk.blocks (page i)) (nat_lt i (usable (state_at disk slot) (header_page disk slot))) two.0).0
 
   -- a file or directory
   pub record IsObjectPage (i : ℕ) : Type 0 where
     pub object : is_object (page i) ≡ true
+    pub first : are_zero 1 3 (page i) ≡ true
     pub length_is : is_length (page i) ≡ true
     pub pointers : each_below (λ w. nat_le (page_pointer w (page i)) disk.blocks) 16 ≡ true
+    pub lists : are_lists (page i) ≡ true
     pub holes : has_no_hole (page i) ≡ true
+    pub owner : is_name_at 76 (page i) ≡ true
+    pub group : is_name_at 137 (page i) ≡ true
+    pub rest : are_zero 198 314 (page i) ≡ true
 
   pub object_page : (i : ℕ) → is_object_page disk.blocks (page i) ≡ true → IsObjectPage i
   unfolding is_object_page
   object_page i is =
-      let a = (and_parts _ _ (and_parts _ _ (and_parts _ _ is).0).0).0 in
-      let b = and_parts _ (has_no_hole (page i)) a in
-      let d = and_parts _ (each_below (λ w. nat_le (page_pointer w (page i)) disk.blocks) 16) (and_parts _ _ b.0).0 in
+      let g = and_parts _ (are_zero 198 314 (page i)) is in
+      let h = and_parts _ (is_name_at 137 (page i)) g.0 in
+      let o = and_parts _ (is_name_at 76 (page i)) h.0 in
+      let b = and_parts _ (has_no_hole (page i)) o.0 in
+      let c = and_parts _ (are_lists (page i)) b.0 in
+      let d = and_parts _ (each_below (λ w. nat_le (page_pointer w (page i)) disk.blocks) 16) c.0 in
       let e = and_parts _ (is_length (page i)) d.0 in
-      record { object = (and_parts (is_object (page i)) _ e.0).0; length_is = e.1; pointers = d.1; holes = b.1 }
+      let f = and_parts (is_object (page i)) (are_zero 1 3 (page i)) e.0 in
+      record {
+        object = f.0;
+        first = f.1;
+        length_is = e.1;
+        pointers = d.1;
+        lists = c.1;
+        holes = b.1;
+        owner = o.1;
+        group = h.1;
+        rest = g.1;
+      }
 
   -- a directory
   module _ (i : ℕ) (low : i < 64) (dir : (byte_at (page i) 0 == 1) ≡ true) where
@@ -134,21 +95,21 @@ module _ (disk : Aggregate) (clean : faults_in disk ≡ []) (slot : ℕ) (lt : s
     kind = ap (λ b. b == 0) (eqb-true (byte_at (page i) 0) 1 dir)
 
     pub dir_page : IsObjectPage i
-    dir_page = object_page i (used_page i low kind).object
+    dir_page = object_page i (object_is i low kind)
 
     abbrev size : ℕ
     size = number_at 4 8 (page i)
 
-    few_entries : size ≤ 64
+    pub few_entries : size ≤ 64
     few_entries = leb-true size 64 (sym (cond-true (byte_at (page i) 0 == 1) (nat_le size 64) _ dir) ∙ dir_page.length_is)
 
-    dir_bytes : bytes_in (page i) ≡ 72 * size
+    pub dir_bytes : bytes_in (page i) ≡ 72 * size
     dir_bytes = (λ j. min (cond-true (byte_at (page i) 0 == 1) (72 * size) size dir j) 65536) ∙ (let few = few_entries in omega (arith, few))
 
     pub entries_are : entries_in (page i) ≡ size
     entries_are = cond-true (byte_at (page i) 0 == 1) (bytes_in (page i) / 72) 0 dir ∙ (let e = dir_bytes in omega (arith, e))
 
-    named_block : (n : ℕ) → n < entry_blocks (page i) → names_block disk (entry_pointer disk slot i n) ≡ true
+    pub named_block : (n : ℕ) → n < entry_blocks (page i) → names_block disk (entry_pointer disk slot i n) ≡ true
     named_block n below =
         let few = few_entries in
         let count = entries_are in
@@ -177,7 +138,7 @@ module _ (disk : Aggregate) (clean : faults_in disk ≡ []) (slot : ℕ) (lt : s
         ]
 
     block_right : (n : ℕ) → n < entry_blocks (page i) → is_directory_block disk slot i n ≡ true
-    block_right n below = directory_right disk clean slot lt i n low dir_page.object below (named_block n below)
+    block_right n below = directory_right disk slot right i n low dir_page.object below (named_block n below)
 
     readable : is_readable disk slot i ≡ true
     readable = each_all (λ n. names_block disk (entry_pointer disk slot i n) && is_directory_block disk slot i n) (entry_blocks (page i)) (λ n below. and_from (names_block disk (entry_pointer disk slot i n)) (is_directory_block disk slot i n) (named_block n below) (block_right n below))
@@ -190,7 +151,7 @@ module _ (disk : Aggregate) (clean : faults_in disk ≡ []) (slot : ℕ) (lt : s
     abbrev pub bytes : List ℕ
     bytes = entry_bytes disk slot i
 
-    entry_right : (e : ℕ) → e < entries_in (page i) → is_entry bytes e ≡ true
+    pub entry_right : (e : ℕ) → e < entries_in (page i) → is_entry bytes e ≡ true
     unfolding is_entry_block
     entry_right e below =
         let n : ℕ = 72 * e / 1024 in
@@ -225,7 +186,7 @@ module _ (disk : Aggregate) (clean : faults_in disk ≡ []) (slot : ℕ) (lt : s
         ]
 
   -- an anode that is no directory has no entries
-  no_links : (i : ℕ) → (byte_at (page i) 0 == 1) ≡ false → links_at disk slot i ≡ []
+  pub no_links : (i : ℕ) → (byte_at (page i) 0 == 1) ≡ false → links_at disk slot i ≡ []
   unfolding links_at joined
   no_links i no_dir =
       let none : entries_in (page i) ≡ 0 = cond-false (byte_at (page i) 0 == 1) (bytes_in (page i) / 72) 0 no_dir in
@@ -253,3 +214,69 @@ module _ (disk : Aggregate) (clean : faults_in disk ≡ []) (slot : ℕ) (lt : s
 
   pub links_known : AllByRecursion IsLink (links_of disk slot)
   links_known = all_joined IsLink (links_at disk slot) 64 links_in
+
+module _ (disk : Aggregate) (slot : ℕ) (right : IsRightSlot disk slot) (whole : is_whole (state_at disk slot) ≡ true) where
+  abbrev pub header : List ℕ
+  header = header_page disk slot
+
+  abbrev pub objects : ℕ
+  objects = number_at 4 8 header
+
+  used : is_slot_free disk slot ≡ false
+  used = elim (cases_Bool (is_slot_free disk slot)) [
+    | inl is ↦
+        let free : state_at disk slot ≡ Free = cond-true (is_slot_free disk slot) Free _ is in
+        absurd (false≢true (ap is_whole (sym free) ∙ whole))
+    | inr not_so ↦ not_so
+  ]
+
+  header_is : is_header disk.server (server_page disk) header ≡ true
+  unfolding is_slot_header
+  header_is = (and_parts (is_header disk.server (server_page disk) header) (is_first disk slot) (sym (cond-false (is_slot_free disk slot) _ _ used) ∙ right.header)).0
+
+  limit_is : is_limit objects ≡ true
+  unfolding is_header
+  limit_is = (and_parts _ _ (and_parts _ _ (and_parts _ _ header_is).0).0).1
+
+  pub few_objects : (1 ≤ objects) × (objects ≤ 64)
+  few_objects = let parts = and_parts (nat_le 1 objects) (nat_le objects 64) limit_is in (leb-true 1 objects parts.0, leb-true objects 64 parts.1)
+
+  usable_is : usable (state_at disk slot) header ≡ objects
+  usable_is = whole_usable (state_at disk slot) header whole ∙ cond-true (is_limit objects) objects 64 limit_is
+
+  -- the page of an anode that isn't free
+  pub record IsUsedPage (i : ℕ) : Type 0 where
+    pub object : is_object_page disk.blocks (anode_page disk slot i) ≡ true
+    pub below : i < objects
+    pub root : is_root_place disk slot i ≡ true → is_root_page (anode_page disk slot i) ≡ true
+
+  root_or : (a b : Bool) → (not a || b) ≡ true → a ≡ true → b ≡ true
+  root_or a b either is = sym (λ j. not (is j) || b) ∙ either
+
+  pub used_page : (i : ℕ) → i < 64 → (byte_at (anode_page disk slot i) 0 == 0) ≡ false → IsUsedPage i
+  unfolding is_slot_anode
+  used_page i low kind =
+      let all = sym (cond-false (byte_at (anode_page disk slot i) 0 == 0) _ _ kind) ∙ anode_right disk slot right i low in
+      let two = and_parts (is_object_page disk.blocks (anode_page disk slot i) && nat_lt i (usable (state_at disk slot) header)) (not (is_root_place disk slot i) || is_root_page (anode_page disk slot i)) all in
+      let one = and_parts (is_object_page disk.blocks (anode_page disk slot i)) (nat_lt i (usable (state_at disk slot) header)) two.0 in
+      record {
+        object = one.0;
+        below = ltb-true i objects (sym (λ j. nat_lt i (usable_is j)) ∙ one.1);
+        root = root_or (is_root_place disk slot i) (is_root_page (anode_page disk slot i)) two.1;
+      }
+
+  root_place : is_root_place disk slot 0 ≡ true
+  root_place = whole_root (state_at disk slot) header whole
+
+  -- the root
+  pub root_kind : (byte_at (anode_page disk slot 0) 0 == 0) ≡ false
+  unfolding is_slot_anode
+  root_kind = elim (cases_Bool (byte_at (anode_page disk slot 0) 0 == 0)) [
+    | inl is ↦
+        let all = sym (cond-true (byte_at (anode_page disk slot 0) 0 == 0) _ _ is) ∙ anode_right disk slot right 0 (omega arith) in
+        absurd (false≢true (sym (λ j. not (root_place j)) ∙ (and_parts _ (not (is_root_place disk slot 0)) all).1))
+    | inr not_so ↦ not_so
+  ]
+
+  pub root_page : is_root_page (anode_page disk slot 0) ≡ true
+  root_page = (used_page 0 (omega arith) root_kind).root root_place

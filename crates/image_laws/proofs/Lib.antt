@@ -7,3 +7,4 @@ pub mod Finding
 pub mod Contents
 pub mod Formed
 pub mod One
+pub mod Treed

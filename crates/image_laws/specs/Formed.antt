@@ -2,7 +2,10 @@
 use Rattle.std.specs.Prelude.{◌≡◌, ◌<◌, ℕ, List, [], Some, true}
 use Rattle.dfs_filesets.specs.WellFormed.{IsWellFormed}
 use Rattle.ep_image.specs.Aggregate.{Aggregate}
-use Rattle.ep_image.specs.Slots.{state_at, is_whole}
+use Rattle.ep_image.specs.Joined.{joined}
+use Rattle.ep_image.specs.Slots.{state_at, is_whole, is_slot_header}
+use Rattle.ep_image.specs.Anodes.{anode_faults}
+use Rattle.ep_image.specs.Reach.{reach_faults}
 use Rattle.ep_image.specs.Faults.{faults_in}
 use Rattle.ep_image.specs.Image.{Image, image_of, fileset_of}
 
@@ -11,6 +14,11 @@ use Rattle.ep_image.specs.Image.{Image, image_of, fileset_of}
 abbrev pub FilesetsAreFormed : Type 0
 FilesetsAreFormed = (disk : Aggregate) → faults_in disk ≡ [] → (slot : ℕ) → slot < 16
     → is_whole (state_at disk slot) ≡ true → IsWellFormed (fileset_of disk slot)
+
+-- And a fileset that is a tree has no faults of reach, where its slot's header and anodes are right.
+abbrev pub FormedIsReached : Type 0
+FormedIsReached = (disk : Aggregate) (slot : ℕ) → is_slot_header disk slot ≡ true
+    → joined (anode_faults disk slot) 64 ≡ [] → IsWellFormed (fileset_of disk slot) → reach_faults disk slot ≡ []
 
 -- a disk has at most one image, for one server
 abbrev pub ImageIsOne : Type 0

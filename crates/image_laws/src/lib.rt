@@ -2,7 +2,7 @@
 #![tactic(auto)]
 
 ghost use Rattle.image_laws.specs.Fresh.{FreshHasNone, CountIsTold};
-ghost use Rattle.image_laws.specs.Formed.{FilesetsAreFormed, ImageIsOne};
+ghost use Rattle.image_laws.specs.Formed.{FilesetsAreFormed, FormedIsReached, ImageIsOne};
 ghost use Rattle.image_laws.specs.Reached.{ReachIsLeast, RootIsReached, StepsLead};
 
 /// An aggregate without filesets has no faults where its counts are zero, as after a format. A count that isn't zero is
@@ -20,8 +20,10 @@ pub fn reach_law()
 {}
 
 /// A disk without faults holds filesets that are trees where they are writable, clones or leaving, and has at most one
-/// image. Of a fileset that arrives nothing is said: its directories may name objects that haven't come.
+/// image. Of a fileset that arrives nothing is said: its directories may name objects that haven't come. And a fileset
+/// that is a tree is reached as the rules want it.
 pub fn formed_law()
     ensures formed { FilesetsAreFormed }
+    ensures reached { FormedIsReached }
     ensures one { ImageIsOne }
 {}
