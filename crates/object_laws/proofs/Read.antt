@@ -26,6 +26,7 @@ use Rattle.ep_pages.specs.Anode.{unique_of, bytes_in}
 use Rattle.ep_pages.specs.Blocks.{entry_of}
 use Rattle.ep_image.specs.Aggregate.{Aggregate, page_of, header_page, anode_page, anode_number, node_at, block_under}
 use Rattle.ep_image.specs.Anodes.{entries_in, entry_blocks, entry_bytes}
+use Rattle.ep_image.specs.Lists.{list_in}
 use Rattle.ep_image.specs.Image.{list_of, file_bytes, entries_of, content_of, anode_of, fileset_of}
 use Rattle.page_laws.proofs.Lists.{saved_is_read}
 use Rattle.dfs_base.specs.Name.{is_name}
@@ -40,7 +41,7 @@ no_entry = record { name = []; anode = 0; unique = 0 }
 
 module _ (disk : Aggregate) (slots : ℕ → List Anode) (keeps : Keeps slots disk) (slot n : ℕ) (low : slot < 16) (some : 1 ≤ n) (few : n ≤ 64) where
   -- what the anode's page and blocks hold
-  kept_is : kept_at disk.image (node_at disk slot (n - 1)) ≡ kept_of (anode_at (slots slot) n)
+  pub kept_is : kept_at disk.image (node_at disk slot (n - 1)) ≡ kept_of (anode_at (slots slot) n)
   kept_is =
       let at : anode_number slot (n - 1) ≡ page_for slot n = omega (arith, some) in
       (λ i. kept_at disk.image (node_of disk.blocks disk.image (page_of disk (at i))))
@@ -49,12 +50,12 @@ module _ (disk : Aggregate) (slots : ℕ → List Anode) (keeps : Keeps slots di
   -- an object there
   module _ (unique : ℕ) (owner group : List ℕ) (content : Content)
       (is : kept_at disk.image (node_at disk slot (n - 1)) ≡ object_kept unique (record { owner = owner; group = group; content = content })) where
-    list_read : (w : ℕ) (list : List AccessEntry) → w < 3 → slice_get (lists_in content) w ≡ Some list → FitsList list → list_of disk slot (n - 1) w ≡ list
-    list_read w list lt there fits =
+    -- the block of a list is read as it
+    pub block_read : (w : ℕ) (list : List AccessEntry) → w < 3 → slice_get (lists_in content) w ≡ Some list → FitsList list → list_in (block_under disk (pointer_of (node_at disk slot (n - 1)) w)) ≡ Some list
+    block_read w list lt there fits =
         let block : List ℕ = block_under disk (pointer_of (node_at disk slot (n - 1)) w) in
         let size = under_size disk.blocks disk.image (pointer_of (node_at disk slot (n - 1)) w) in
-        let read = saved_is_read list block size bytes_here (record { bytes = same; list = fits.0; each = fits.1 }) in
-        λ i. unwrap_or (read i) []
+        saved_is_read list block size bytes_here (record { bytes = same; list = fits.0; each = fits.1 })
       where
         cell_is : (k : ℕ) → k < 1024 → cell disk.image (node_at disk slot (n - 1)) w k ≡ get_or (list_bytes list) k 0
         cell_is k low_k =
@@ -71,13 +72,23 @@ module _ (disk : Aggregate) (slots : ℕ → List Anode) (keeps : Keeps slots di
         bytes_here : (k : ℕ) → byte_at (block_under disk (pointer_of (node_at disk slot (n - 1)) w)) k < 256
         bytes_here k = under_bytes disk.blocks disk.image (pointer_of (node_at disk slot (n - 1)) w) keeps.bytes k
 
+    list_read : (w : ℕ) (list : List AccessEntry) → w < 3 → slice_get (lists_in content) w ≡ Some list → FitsList list → list_of disk slot (n - 1) w ≡ list
+    list_read w list lt there fits = let read = block_read w list lt there fits in λ i. unwrap_or (read i) []
+
+    -- and its first byte is how many entries it has
+    pub list_cell : (w : ℕ) (list : List AccessEntry) → w < 3 → slice_get (lists_in content) w ≡ Some list → cell disk.image (node_at disk slot (n - 1)) w 0 ≡ length list
+    list_cell w list lt there =
+        let a : nat_lt w 3 ≡ true = grind (arith, nat_tests, lt) in
+        (λ i. if sym a i && true then cell disk.image (node_at disk slot (n - 1)) w 0 else 0)
+        ∙ (λ i. (is i).lists w 0) ∙ (λ i. get_or (option_map_or list_bytes (there i) []) 0 0)
+
     unique_read : unique_of (anode_page disk slot (n - 1)) ≡ unique
     unique_read = λ i. (is i).unique
 
-    owner_read : IsTrue (is_name owner) → name_at 76 (anode_page disk slot (n - 1)) ≡ owner
+    pub owner_read : IsTrue (is_name owner) → name_at 76 (anode_page disk slot (n - 1)) ≡ owner
     owner_read name = name_read (anode_page disk slot (n - 1)) 76 owner (λ i. (is i).owner) (name_short owner name)
 
-    group_read : IsTrue (is_name group) → name_at 137 (anode_page disk slot (n - 1)) ≡ group
+    pub group_read : IsTrue (is_name group) → name_at 137 (anode_page disk slot (n - 1)) ≡ group
     group_read name = name_read (anode_page disk slot (n - 1)) 137 group (λ i. (is i).group) (name_short group name)
 
     -- a byte below the end of its content
@@ -86,25 +97,25 @@ module _ (disk : Aggregate) (slots : ℕ → List Anode) (keeps : Keeps slots di
         let a : nat_lt k (bytes_in (anode_page disk slot (n - 1))) ≡ true = grind (arith, nat_tests, lt) in
         (λ i. if sym a i then cell disk.image (node_at disk slot (n - 1)) (pointer_at (k / 1024)) (k % 1024) else 0) ∙ (λ i. (is i).content k)
 
-    kind_read : byte_at (anode_page disk slot (n - 1)) 0 ≡ (if is_dir content then 1 else 2)
+    pub kind_read : byte_at (anode_page disk slot (n - 1)) 0 ≡ (if is_dir content then 1 else 2)
     kind_read = λ i. (is i).kind
 
-    length_read : number_at 4 8 (anode_page disk slot (n - 1)) ≡ length_kept content
+    pub length_read : number_at 4 8 (anode_page disk slot (n - 1)) ≡ length_kept content
     length_read = λ i. (is i).length
 
   -- a directory
   module _ (unique : ℕ) (owner group : List ℕ) (entries : List DirEntry) (lists : List (List AccessEntry)) (fits : FitsContent (Dir entries lists))
       (is : kept_at disk.image (node_at disk slot (n - 1)) ≡ object_kept unique (record { owner = owner; group = group; content = Dir entries lists })) where
-    dir_kind : byte_at (anode_page disk slot (n - 1)) 0 ≡ 1
+    pub dir_kind : byte_at (anode_page disk slot (n - 1)) 0 ≡ 1
     dir_kind = kind_read unique owner group (Dir entries lists) is
 
-    dir_length : number_at 4 8 (anode_page disk slot (n - 1)) ≡ length entries
+    pub dir_length : number_at 4 8 (anode_page disk slot (n - 1)) ≡ length entries
     dir_length = length_read unique owner group (Dir entries lists) is
 
-    one_test : (byte_at (anode_page disk slot (n - 1)) 0 == 1) ≡ true
+    pub one_test : (byte_at (anode_page disk slot (n - 1)) 0 == 1) ≡ true
     one_test = let e = dir_kind in grind (arith, nat_tests, e)
 
-    dir_bytes : bytes_in (anode_page disk slot (n - 1)) ≡ 72 * length entries
+    pub dir_bytes : bytes_in (anode_page disk slot (n - 1)) ≡ 72 * length entries
     dir_bytes =
         let e = one_test in
         let f = dir_length in
@@ -112,13 +123,13 @@ module _ (disk : Aggregate) (slots : ℕ → List Anode) (keeps : Keeps slots di
         (λ i. min (if e i then 72 * number_at 4 8 (anode_page disk slot (n - 1)) else number_at 4 8 (anode_page disk slot (n - 1))) 65536)
         ∙ (λ i. min (72 * f i) 65536) ∙ omega (arith, le)
 
-    dir_count : entries_in (anode_page disk slot (n - 1)) ≡ length entries
+    pub dir_count : entries_in (anode_page disk slot (n - 1)) ≡ length entries
     dir_count =
         let e = one_test in
         let f = dir_bytes in
         (λ i. if e i then f i / 72 else 0) ∙ omega arith
 
-    entry_byte : (k : ℕ) → k < 72 * length entries → byte_at (entry_bytes disk slot (n - 1)) k ≡ get_or (bytes_of entries) k 0
+    pub entry_byte : (k : ℕ) → k < 72 * length entries → byte_at (entry_bytes disk slot (n - 1)) k ≡ get_or (bytes_of entries) k 0
     entry_byte k lt =
         let count = dir_count in
         let size = dir_bytes in
@@ -127,7 +138,7 @@ module _ (disk : Aggregate) (slots : ℕ → List Anode) (keeps : Keeps slots di
         ∙ under_cell disk.image (node_at disk slot (n - 1)) (pointer_at (k / 1024)) (k % 1024) (omega arith)
         ∙ byte_read unique owner group (Dir entries lists) is k (omega (arith, size, lt))
 
-    entries_read : entries_of disk slot (n - 1) ≡ entries
+    pub entries_read : entries_of disk slot (n - 1) ≡ entries
     entries_read =
         listed_is (entry_of (entry_bytes disk slot (n - 1))) entries (entries_in (anode_page disk slot (n - 1))) no_entry (sym dir_count)
         (λ e lt. (let count = dir_count in entry_read entries (entry_bytes disk slot (n - 1)) e no_entry fits.1 fits.2 (omega (arith, count, lt)) entry_byte))
@@ -157,13 +168,13 @@ module _ (disk : Aggregate) (slots : ℕ → List Anode) (keeps : Keeps slots di
   -- a file
   module _ (unique : ℕ) (owner group : List ℕ) (list : List AccessEntry) (kept : List ℕ) (fits : FitsContent (File list kept [] None))
       (is : kept_at disk.image (node_at disk slot (n - 1)) ≡ object_kept unique (record { owner = owner; group = group; content = File list kept [] None })) where
-    file_kind : byte_at (anode_page disk slot (n - 1)) 0 ≡ 2
+    pub file_kind : byte_at (anode_page disk slot (n - 1)) 0 ≡ 2
     file_kind = kind_read unique owner group (File list kept [] None) is
 
-    not_one : (byte_at (anode_page disk slot (n - 1)) 0 == 1) ≡ false
+    pub not_one : (byte_at (anode_page disk slot (n - 1)) 0 == 1) ≡ false
     not_one = let e = file_kind in grind (arith, nat_tests, e)
 
-    file_size : bytes_in (anode_page disk slot (n - 1)) ≡ length kept
+    pub file_size : bytes_in (anode_page disk slot (n - 1)) ≡ length kept
     file_size =
         let e = not_one in
         let f = length_read unique owner group (File list kept [] None) is in
