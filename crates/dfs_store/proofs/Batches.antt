@@ -1,33 +1,8 @@
 -- What the first acts of a batch make.
-use Rattle.std.proofs.Common.{
-  ◌≡◌,
-  ◌<◌,
-  ◌≤◌,
-  ℕ,
-  zero,
-  suc,
-  ◌+◌,
-  List,
-  [],
-  ◌∷◌,
-  ◌++◌,
-  length,
-  get_or,
-  take,
-  refl,
-  sym,
-  ap,
-  ◌∙◌,
-  subst,
-  arith,
-  Result,
-  Ok,
-  Err,
-}
+use Rattle.std.proofs.Common.{◌≡◌, ◌<◌, ◌≤◌, ℕ, zero, suc, ◌+◌, List, [], ◌∷◌, ◌++◌, length, get_or, take, sym, ap, ◌∙◌, subst, arith, Result, Ok, Err}
 use Rattle.std.specs.Prelude.{OnErr}
 use Rattle.rpc_types.specs.Soundness.{Each}
 use Rattle.store_acts.specs.declared.act.Act.{Act}
-use Rattle.store_state.specs.declared.done.Done.{Done}
 use Rattle.store_state.specs.declared.state.StoreState.{StoreState}
 use Rattle.store_acts.specs.Acts.{act_done, state_after, dones_of}
 use Rattle.store_acts.specs.Sound.{IsAct, KeepsLimits}

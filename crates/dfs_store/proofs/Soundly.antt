@@ -1,42 +1,6 @@
 -- What is told is within the limits of a message.
-use Rattle.std.proofs.Common.{
-  ◌≡◌,
-  ◌≢◌,
-  ◌≤◌,
-  ◌<◌,
-  ℕ,
-  zero,
-  suc,
-  ◌+◌,
-  ◌-◌,
-  ◌==◌,
-  nat_le,
-  Bool,
-  true,
-  false,
-  ◌&&◌,
-  if◌then◌else◌,
-  IsTrue,
-  List,
-  [],
-  ◌∷◌,
-  length,
-  take,
-  drop,
-  inl,
-  inr,
-  Option,
-  Some,
-  None,
-  is_some,
-  refl,
-  sym,
-  ap,
-  ◌∙◌,
-  subst,
-  arith,
-}
-use Rattle.std.specs.Prelude.{IfSome, slice_get}
+use Rattle.std.proofs.Common.{◌≡◌, ◌≤◌, ℕ, zero, suc, ◌+◌, ◌-◌, ◌==◌, nat_le, Bool, true, false, ◌&&◌, if◌then◌else◌, IsTrue, List, [], ◌∷◌, length, take, drop, inl, inr, Option, Some, None, is_some, refl, subst, arith}
+use Rattle.std.specs.Prelude.{slice_get}
 use Rattle.std.specs.List.{list_all}
 use Rattle.std.specs.Option.{option_and_then, option_map, option_map_or}
 use Rattle.std.proofs.lemmas.Bool.{leb-true}
@@ -48,8 +12,6 @@ use Rattle.dfs_base.specs.declared.ids.FilesetId.{FilesetId}
 use Rattle.dfs_base.specs.declared.limits.TheConstants.{FILE_BYTES_MAX, OBJECTS_MAX}
 use Rattle.dfs_base.specs.declared.span.Span.{Span}
 use Rattle.dfs_calls.specs.declared.part.DirEntry.{DirEntry}
-use Rattle.dfs_calls.specs.declared.part.Piece.{Piece}
-use Rattle.dfs_calls.specs.declared.part.Status.{Status}
 use Rattle.dfs_calls.specs.declared.roster.Roster.{Roster}
 use Rattle.dfs_calls.specs.declared.ship.Mover.{Mover}
 use Rattle.dfs_objects.specs.declared.content.Anode.{Anode}
@@ -60,9 +22,8 @@ use Rattle.dfs_objects.specs.Sound.{names_rise}
 use Rattle.dfs_filesets.specs.declared.fileset.Fileset.{Fileset}
 use Rattle.dfs_filesets.specs.Laws.{lists_in, entries_in}
 use Rattle.dfs_filesets.specs.Walk.{object_at, unique_at}
-use Rattle.rpc_types.specs.Soundness.{Each, IsTold, IsPart, IsHead, AreFileBytes, NamesRise}
+use Rattle.rpc_types.specs.Soundness.{Each, IsTold, IsPart, AreFileBytes, NamesRise}
 use Rattle.store_state.specs.declared.state.Holding.{Holding}
-use Rattle.dfs_store.specs.declared.told.Slot.{Slot}
 use Rattle.store_state.specs.declared.state.StoreState.{StoreState}
 use Rattle.store_acts.specs.Parts.{
   is_tellable,
@@ -89,7 +50,7 @@ use Rattle.dfs_store.specs.Reading.{
 }
 use Rattle.dfs_store.specs.Sound.{IsSlot, IsMover, IsLeavingOf}
 use Rattle.store_acts.specs.Sound.{IsHolding, KeepsLimits}
-use Rattle.store_state.specs.State.{is_of, slot_so, held_so}
+use Rattle.store_state.specs.State.{is_of, slot_so}
 use Rattle.store_acts.proofs.Limits.{Slots, held_fits}
 
 both : (a b : Bool) → (a && b) ≡ true → (a ≡ true) × (b ≡ true)

@@ -1,5 +1,5 @@
 -- What is seen of a store in memory.
-use Rattle.std.specs.Prelude.{◌+◌, true, false}
+use Rattle.std.specs.Prelude.{◌+◌, ⊤, false}
 use Rattle.dfs_store.specs.declared.map_store.MapStore.{MapStore}
 use Rattle.store_state.specs.declared.state.StoreState.{StoreState}
 use Rattle.dfs_store.specs.Views.{View}
@@ -12,7 +12,7 @@ kept_in store = store.state
 abbrev pub map_view : MapStore → View
 map_view store = record {
   state = kept_in store;
-  ready = true;
+  ready = ⊤;
   wear = store.state.epoch + store.state.ship;
   faults = 0;
   last_failed = false;

@@ -1,5 +1,5 @@
 -- What is told by a store, and asked of it, within limits.
-use Rattle.std.specs.Prelude.{◌≡◌, ◌≤◌, ℕ, true, Option, Some}
+use Rattle.std.specs.Prelude.{◌≡◌, ◌≤◌, ℕ, true, Some}
 use Rattle.dfs_base.specs.declared.ids.FilesetId.{FilesetId}
 use Rattle.dfs_base.specs.declared.limits.TheConstants.{OBJECTS_MAX}
 use Rattle.dfs_calls.specs.declared.roster.Roster.{Roster}

@@ -1,14 +1,14 @@
 -- What is seen of a store.
-use Rattle.std.specs.Prelude.{◌≡◌, ◌≤◌, ◌<◌, ℕ, ◌+◌, Bool, IsTrue, Result, Err, OnOk}
+use Rattle.std.specs.Prelude.{◌≡◌, ◌≤◌, ◌<◌, ℕ, Bool, IsTrue, Result, Err}
 use Rattle.dfs_store.specs.declared.store.StoreFault.{StoreFault}
 use Rattle.dfs_store.specs.declared.store.StoreFault.TheVariants.{Failed}
 use Rattle.store_state.specs.declared.state.StoreState.{StoreState}
 
-pub record View : Type 0 where
+pub record View : Type 1 where
   -- what it keeps; of a store that doesn't tell it the server and the roster alone
   pub state : StoreState
-  -- whether it may be asked. After a fault it may be so only once it was opened anew.
-  pub ready : Bool
+  -- that it may be asked. After a fault it may be so only once it was opened anew.
+  pub ready : Type 0
   -- how worn it is: each batch, and each opening, adds as many as a batch can have acts, at most
   pub wear : ℕ
   -- the count of faults of its disk, and whether the disk's last call failed
@@ -30,5 +30,5 @@ pub record IsAsked {T : Type 0} (tells : Type 0) (result : Result T StoreFault) 
   pub same : IsSameStore old new
   pub state : tells → new.state ≡ old.state
   pub wear : new.wear ≡ old.wear
-  pub ready : (result ≡ Err Failed → ⊥) → IsTrue new.ready
+  pub ready : (result ≡ Err Failed → ⊥) → new.ready
   pub blame : IsBlamed result old new

@@ -1,4 +1,4 @@
-ghost use Rattle.std.specs.Prelude.{◌≡◌, ◌≤◌, ◌<◌, ◌+◌, ◌^◌, ℕ, IsTrue, [], length, take, IfOk, OnOk, OnErr};
+ghost use Rattle.std.specs.Prelude.{◌≡◌, ◌≤◌, ◌<◌, ◌+◌, ◌^◌, ℕ, [], length, take, IfOk, OnOk, OnErr};
 ghost use Rattle.dfs_base.specs.declared.limits.TheConstants.{OBJECTS_MAX, FILE_BYTES_MAX, BATCH_ACTS_MAX};
 ghost use Rattle.rpc_types.specs.Soundness.{Each, IsHost, IsCall, IsPart, IsTold, NamesRise, IsMove};
 ghost use Rattle.store_acts.specs.Acts.{state_after, dones_of};
@@ -66,7 +66,7 @@ pub trait Store {
     /// Does up to `BATCH_ACTS_MAX` acts, in their order, and answers what became of each.
     fn apply(&mut self, batch: &[Act]) -> Result<Items<Done>, StoreFault>
         requires acts { AreActs (view self.old).state.roster (view self.old).state.server batch.now }
-        requires ready { IsTrue (view self.old).ready }
+        requires ready { (view self.old).ready }
         requires wear { (view self.old).wear < 2 ^ 47 }
         ensures dones { tells → AllFit (view self.old).state batch.now
             → IfOk result (λ dones. dones ≡ dones_of (view self.old).state batch.now) }
@@ -75,7 +75,7 @@ pub trait Store {
         ensures fault { tells → AllFit (view self.old).state batch.now → OnErr result ((k : ℕ)
             × (k ≤ length batch.now) × ((view self.new).state ≡ state_after (view self.old).state (take k batch.now))) }
         ensures same { IsSameStore (view self.old) (view self.new) }
-        ensures ready { OnOk result (IsTrue (view self.new).ready) }
+        ensures ready { OnOk result (view self.new).ready }
         ensures wear { (view self.new).wear ≤ (view self.old).wear + BATCH_ACTS_MAX }
         ensures blame { IsBlamed result (view self.old) (view self.new) };
 
@@ -84,7 +84,7 @@ pub trait Store {
         requires wear { (view self.old).wear < 2 ^ 47 }
         ensures state { tells → (view self.new).state ≡ (view self.old).state }
         ensures same { IsSameStore (view self.old) (view self.new) }
-        ensures ready { OnOk result (IsTrue (view self.new).ready) }
+        ensures ready { OnOk result (view self.new).ready }
         ensures wear { (view self.new).wear ≤ (view self.old).wear + BATCH_ACTS_MAX }
         ensures blame { IsBlamed result (view self.old) (view self.new) };
 
@@ -111,25 +111,25 @@ pub trait Store {
         requires call { IsCall (view self.old).state.roster call.now }
         requires own { IsFor (view self.old).state.server call.now }
         requires stays { IsMove call.now → ⊥ }
-        requires ready { IsTrue (view self.old).ready }
+        requires ready { (view self.old).ready }
         ensures reply { tells → IfOk result (λ reply. reply ≡ (answer_to (view self.old).state host call.now).reply) }
         ensures asked { IsAsked tells result (view self.old) (view self.new) };
 
     /// The filesets that are here or leaving.
     fn kept(&mut self) -> Result<Kept, StoreFault>
-        requires ready { IsTrue (view self.old).ready }
+        requires ready { (view self.old).ready }
         ensures kept { tells → IfOk result (λ kept. kept ≡ kept_of (view self.old).state) }
         ensures asked { IsAsked tells result (view self.old) (view self.new) };
 
     /// The fileset of a name that is here.
     fn find(&mut self, name: &Name) -> Result<Option<FilesetId>, StoreFault>
-        requires ready { IsTrue (view self.old).ready }
+        requires ready { (view self.old).ready }
         ensures found { tells → IfOk result (λ found. found ≡ found_named (view self.old).state name.now) }
         ensures asked { IsAsked tells result (view self.old) (view self.new) };
 
     /// The objects of a fileset that is here, its directories too, in the order of their anodes; at most `OBJECTS_MAX`.
     fn files(&mut self, fileset: FilesetId) -> Result<Items<Fid>, StoreFault>
-        requires ready { IsTrue (view self.old).ready }
+        requires ready { (view self.old).ready }
         ensures files { tells → IfOk result (λ files. files ≡ files_of (view self.old).state fileset) }
         ensures few { IfOk result (λ files. length files ≤ OBJECTS_MAX) }
         ensures own { IfOk result (λ files. Each (λ fid. fid.fileset ≡ fileset) files) }
@@ -137,27 +137,27 @@ pub trait Store {
 
     /// Where a place leads a user, in the fileset of the place's name that is here.
     fn walk(&mut self, user: &User, place: &Place) -> Result<Looked, StoreFault>
-        requires ready { IsTrue (view self.old).ready }
+        requires ready { (view self.old).ready }
         ensures looked { tells → IfOk result (λ looked. looked ≡ looked_up (view self.old).state user.now place.now) }
         ensures asked { IsAsked tells result (view self.old) (view self.new) };
 
     /// What is told of an object; none where it isn't there.
     fn status(&mut self, fid: Fid) -> Result<Option<Status>, StoreFault>
-        requires ready { IsTrue (view self.old).ready }
+        requires ready { (view self.old).ready }
         ensures status { tells → IfOk result (λ status. status ≡ status_told (view self.old).state fid) }
         ensures sound { IfOk result (λ status. IsTold status [] []) }
         ensures asked { IsAsked tells result (view self.old) (view self.new) };
 
     /// The bytes of a file in a span, as many as there are; none of a directory, or where the file isn't there.
     fn bytes(&mut self, fid: Fid, span: Span) -> Result<Items<u8>, StoreFault>
-        requires ready { IsTrue (view self.old).ready }
+        requires ready { (view self.old).ready }
         ensures bytes { tells → IfOk result (λ bytes. bytes ≡ bytes_told (view self.old).state fid span) }
         ensures sound { IfOk result (λ bytes. span.from + length bytes ≤ FILE_BYTES_MAX) }
         ensures asked { IsAsked tells result (view self.old) (view self.new) };
 
     /// The entries of a directory, in the order of their names; none of a file, or where the directory isn't there.
     fn entries(&mut self, fid: Fid) -> Result<Items<DirEntry>, StoreFault>
-        requires ready { IsTrue (view self.old).ready }
+        requires ready { (view self.old).ready }
         ensures entries { tells → IfOk result (λ entries. entries ≡ entries_told (view self.old).state fid) }
         ensures few { IfOk result (λ entries. length entries ≤ OBJECTS_MAX) }
         ensures order { IfOk result (λ entries. NamesRise entries) }
@@ -165,7 +165,7 @@ pub trait Store {
 
     /// The slots that are used, in the order of the table.
     fn slots(&mut self) -> Result<Items<Slot>, StoreFault>
-        requires ready { IsTrue (view self.old).ready }
+        requires ready { (view self.old).ready }
         ensures slots { tells → IfOk result (λ slots. slots ≡ slots_from 0 (view self.old).state.slots) }
         ensures sound { IfOk result (λ slots. Each (IsSlot (view self.old).state.roster) slots) }
         ensures asked { IsAsked tells result (view self.old) (view self.new) };
@@ -180,7 +180,7 @@ pub trait Store {
         requires leaving { tells → IsLeavingOf (view self.old).state fileset at }
         requires limit { at ≤ OBJECTS_MAX }
         requires mover { IsMover (view self.old).state.roster mover.now }
-        requires ready { IsTrue (view self.old).ready }
+        requires ready { (view self.old).ready }
         ensures part { tells → IfOk result (λ part. part ≡ shipped (view self.old).state fileset at mover.now) }
         ensures sound { IfOk result (λ part. IsPart (view self.old).state.roster at part) }
         ensures asked { IsAsked tells result (view self.old) (view self.new) };

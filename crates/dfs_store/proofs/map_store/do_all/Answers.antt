@@ -1,4 +1,4 @@
-use Rattle.std.proofs.Common.{◌≡◌, ◌≤◌, ◌+◌, ◌++◌, ◌∷◌, [], take, sym, ap, ◌∙◌, arith}
+use Rattle.std.proofs.Common.{◌+◌, ◌++◌, ◌∷◌, [], take, sym, ap, ◌∙◌, arith}
 use Rattle.store_acts.specs.Acts.{act_done, dones_of}
 use Rattle.dfs_store.proofs.Batches.{Reached, reached_next, dones_next, on_err}
 use Rattle.dfs_store.proofs.map_store.do_all.Goals as goal
