@@ -3,39 +3,54 @@
 //! number of rows.
 #![tactic(auto)]
 
-mod reading;
-mod telling;
-mod world;
+mod steps;
 
 use anyhow::Result;
-use world::World;
+use dfs_tree::Tree;
+use std::io;
+use steps::{new_tree, tell};
+use table_words::{Text, Words};
 
-// Judges one line of the table: a comment, the start of a new tree, or a row. Answers whether it was a row, and prints
-// one whose reply isn't the wanted one.
-fn judge(rt: &(impl Print + AllocGlobal), world: &mut World, line: &str) -> Result<bool> {
+// Judges one line: a comment, or a row. Answers whether it was a row, and prints one whose reply isn't the wanted one.
+fn judge(rt: &(impl Print + AllocGlobal), tree: &mut Tree, line: &str) -> Result<bool> {
     let line = line.trim();
     if line.is_empty() || line.starts_with("#") {
         return Ok(false);
     }
-    if line == "tree" {
-        *world = World::new(rt.alloc())?;
-        return Ok(false);
-    }
     let (row, wanted) = line.split_once(" = ").unwrap_or((line, ""));
-    let told = world.told(row.trim())?;
+    let mut text = Text::new(rt.alloc());
+    tell(tree, &mut Words::new(rt.alloc(), row.trim()), &mut text)?;
+    let told = text.line()?;
     if told.as_str() != wanted.trim() {
         println!(rt; "{row}: {told}, and not {wanted}")?;
     }
     Ok(true)
 }
 
-fn main(rt: HostRuntime) -> Result<()> {
-    let mut world = World::new(rt.alloc())?;
+// Judges lines in their order, and answers how many of them were rows.
+fn judge_all(rt: &(impl Print + AllocGlobal), tree: &mut Tree, lines: &str) -> Result<u64> {
     let mut rows = 0u64;
-    for line in rt.lines(rt.alloc()) {
-        if judge(&rt, &mut world, line?.as_str())? {
+    for line in lines.lines() {
+        if judge(rt, tree, line)? {
             rows = rows.saturating_add(1);
         }
+    }
+    Ok(rows)
+}
+
+// Judges lines on a new tree.
+fn judge_anew(rt: &(impl Print + AllocGlobal), lines: &str) -> Result<u64> {
+    let mut tree = new_tree(rt.alloc())?;
+    let rows = judge_all(rt, &mut tree, lines);
+    drop(tree);
+    rows
+}
+
+fn main(rt: HostRuntime) -> Result<()> {
+    let table = io::read_to_string(rt.alloc(), rt.reader())?;
+    let mut rows = 0u64;
+    for lines in table.as_str().split("\ntree\n") {
+        rows = rows.saturating_add(judge_anew(&rt, lines)?);
     }
     println!(rt; "{rows} rows")?;
     Ok(())

@@ -1,7 +1,10 @@
 //! What the words of a row say.
 
 use anyhow::{Context, Result, bail};
-use dfs_base::{AccessEntry, AccessList, Items, Name, OpenKind, Rights, ServerId, User, Who};
+use dfs_base::{
+    AccessEntry, AccessList, Fid, FilesetId, HostId, Items, Name, OpenKind, Rights, ServerId, User,
+    Who,
+};
 use dfs_calls::{Call, Place, Which};
 use std::alloc::Global;
 
@@ -13,24 +16,81 @@ pub struct Words<'a> {
 }
 
 impl<'a> Words<'a> {
+    /// The words of a row.
     pub fn new(alloc: Global, row: &'a str) -> Words<'a> {
         Words { alloc, left: row }
     }
 
+    /// The next word, empty at the end.
     pub fn next(&mut self) -> &'a str {
         let (word, rest) = self.left.split_once(' ').unwrap_or((self.left, ""));
         self.left = rest;
         word
     }
 
+    /// All that are left.
+    pub fn rest(&self) -> &'a str {
+        self.left
+    }
+
+    /// Where what is read is put.
+    pub fn alloc(&self) -> Global {
+        self.alloc
+    }
+
+    /// Whether none is left.
+    pub fn is_empty(&self) -> bool {
+        self.left.is_empty()
+    }
+
+    /// A number.
     pub fn number(&mut self) -> Result<u32> {
         self.next().parse::<u32>().context("a number")
     }
 
-    pub fn name(&mut self) -> Result<Name> {
-        name(self.alloc, self.next())
+    /// A number of up to 64 bits.
+    pub fn long(&mut self) -> Result<u64> {
+        self.next().parse::<u64>().context("a number")
     }
 
+    /// A host, as `c1`.
+    pub fn host(&mut self) -> Result<HostId> {
+        host(self.next())
+    }
+
+    /// `0`, or `sK.N` by the server that made it and its number there.
+    pub fn fileset(&mut self) -> Result<FilesetId> {
+        let word = self.next();
+        let Some((maker, number)) = word.split_once('.') else {
+            return Ok(FilesetId(0));
+        };
+        let number = number.parse::<u32>().context("a fileset")?;
+        Ok(FilesetId((u32::from(server(maker)?.0) * 65_536).wrapping_add(number)))
+    }
+
+    /// A fileset, an anode and its unique number.
+    pub fn fid(&mut self) -> Result<Fid> {
+        let fileset = self.fileset()?;
+        let anode = self.number()?;
+        let unique = self.number()?;
+        Ok(Fid {
+            fileset,
+            anode,
+            unique,
+        })
+    }
+
+    /// A name.
+    pub fn name(&mut self) -> Result<Name> {
+        let word = self.next();
+        self.named(word)
+    }
+
+    fn named(&self, word: &str) -> Result<Name> {
+        name(self.alloc, word)
+    }
+
+    /// A place.
     pub fn place(&mut self) -> Result<Place> {
         place(self.alloc, self.next())
     }
@@ -43,120 +103,119 @@ impl<'a> Words<'a> {
         Ok(AccessList::new(self.alloc, entries.as_slice())?)
     }
 
-    fn user(&mut self) -> Result<User> {
+    /// A user of the group dev.
+    pub fn user(&mut self) -> Result<User> {
         user(self.alloc, self.next(), "dev")
     }
 
-    fn bytes(&mut self) -> Result<Items<u8>> {
+    /// Bytes, in quotes or not.
+    pub fn bytes(&mut self) -> Result<Items<u8>> {
         let word = self.next();
         Ok(Items::from_slice(self.alloc, word.trim_matches('"').as_bytes())?)
     }
 
     /// A call. Places are at server 1 where the path names no other.
     pub fn call(&mut self) -> Result<Call> {
-        Ok(match self.next() {
-            "fileset" => self.new_fileset()?,
-            "create" => Call::Create {
+        match self.next() {
+            "fileset" => self.new_fileset(),
+            "create" => Ok(Call::Create {
                 place: self.place()?,
-            },
-            "mkdir" => Call::MakeDir {
+            }),
+            "mkdir" => Ok(Call::MakeDir {
                 place: self.place()?,
-            },
-            "remove" => Call::Remove {
+            }),
+            "remove" => Ok(Call::Remove {
                 place: self.place()?,
-            },
-            "rename" => self.rename()?,
-            "truncate" => self.truncate()?,
-            "setacl" => self.set_access()?,
-            "clone" => self.clone_fileset()?,
-            "read" => self.read()?,
-            "write" => self.write()?,
-            "list" => Call::List {
-                place: self.place()?,
-            },
-            "stat" => Call::Stat {
-                place: self.place()?,
-            },
-            "getacl" => self.get_access()?,
-            "sync" => Call::Sync {
-                place: self.place()?,
-            },
-            word => self.use_call(word)?,
-        })
-    }
-
-    fn use_call(&mut self, word: &str) -> Result<Call> {
-        Ok(match word {
-            "lock" => self.lock()?,
-            "unlock" => Call::Unlock {
-                label: self.name()?,
-            },
-            "open" => self.open()?,
-            "close" => Call::CloseFile {
-                label: self.name()?,
-            },
-            _ => self.move_call(word)?,
-        })
-    }
-
-    fn move_call(&mut self, word: &str) -> Result<Call> {
-        match word {
+            }),
+            "rename" => self.rename(),
+            "truncate" => self.truncate(),
+            "setacl" => self.set_access(),
+            "clone" => self.clone_fileset(),
             "move" => self.move_fileset(),
+            word => self.look_or_use(word),
+        }
+    }
+
+    fn look_or_use(&mut self, word: &str) -> Result<Call> {
+        match word {
+            "read" => self.read(),
+            "write" => self.write(),
+            "list" => Ok(Call::List {
+                place: self.place()?,
+            }),
+            "stat" => Ok(Call::Stat {
+                place: self.place()?,
+            }),
+            "getacl" => self.get_access(),
+            "sync" => Ok(Call::Sync {
+                place: self.place()?,
+            }),
+            "lock" => self.lock(),
+            "unlock" => Ok(Call::Unlock {
+                label: self.name()?,
+            }),
+            "open" => self.open(),
+            "close" => Ok(Call::CloseFile {
+                label: self.name()?,
+            }),
             _ => bail!("no call: {word}"),
         }
     }
 
-    fn server(&mut self) -> Result<ServerId> {
+    /// A server, as `s1`.
+    pub fn server(&mut self) -> Result<ServerId> {
         server(self.next())
     }
 
     fn new_fileset(&mut self) -> Result<Call> {
         let server = self.server()?;
-        let name = self.name()?;
+        let name = self.next();
         let objects = self.number()?;
-        let owner = self.user()?;
         Ok(Call::NewFileset {
             server,
-            name,
+            name: self.named(name)?,
             objects,
-            owner,
+            owner: self.user()?,
         })
     }
 
     fn rename(&mut self) -> Result<Call> {
-        let from = self.place()?;
-        let to = self.place()?;
-        Ok(Call::Rename { from, to })
+        Ok(Call::Rename {
+            from: self.place()?,
+            to: self.place()?,
+        })
     }
 
     fn truncate(&mut self) -> Result<Call> {
-        let place = self.place()?;
+        let path = self.next();
         let length = self.number()?;
+        let place = place(self.alloc, path)?;
         Ok(Call::Truncate { place, length })
     }
 
     fn set_access(&mut self) -> Result<Call> {
-        let place = self.place()?;
+        let path = self.next();
         let which = which(self.next());
-        let list = self.list()?;
-        Ok(Call::SetAcl { place, which, list })
+        Ok(Call::SetAcl {
+            place: place(self.alloc, path)?,
+            which,
+            list: self.list()?,
+        })
     }
 
     fn clone_fileset(&mut self) -> Result<Call> {
-        let server = self.server()?;
-        let fileset = self.name()?;
-        let new = self.name()?;
         Ok(Call::CloneFileset {
-            server,
-            fileset,
-            new,
+            server: self.server()?,
+            fileset: self.name()?,
+            new: self.name()?,
         })
     }
 
     fn move_fileset(&mut self) -> Result<Call> {
         let server = self.server()?;
-        let fileset = self.name()?;
+        let name = self.next();
         let to = self.server()?;
+        let fileset = self.named(name)?;
         Ok(Call::MoveFileset {
             server,
             fileset,
@@ -165,34 +224,39 @@ impl<'a> Words<'a> {
     }
 
     fn read(&mut self) -> Result<Call> {
-        let place = self.place()?;
+        let path = self.next();
         let from = self.number()?;
         let len = self.number()?;
+        let place = place(self.alloc, path)?;
         Ok(Call::Read { place, from, len })
     }
 
     fn write(&mut self) -> Result<Call> {
-        let place = self.place()?;
+        let path = self.next();
         let from = self.number()?;
-        let bytes = self.bytes()?;
-        Ok(Call::Write { place, from, bytes })
+        Ok(Call::Write {
+            place: place(self.alloc, path)?,
+            from,
+            bytes: self.bytes()?,
+        })
     }
 
     fn get_access(&mut self) -> Result<Call> {
-        let place = self.place()?;
-        let which = which(self.next());
-        Ok(Call::GetAcl { place, which })
+        Ok(Call::GetAcl {
+            place: self.place()?,
+            which: which(self.next()),
+        })
     }
 
     fn lock(&mut self) -> Result<Call> {
-        let label = self.name()?;
-        let place = self.place()?;
+        let label = self.next();
+        let path = self.next();
         let writing = self.next() == "write";
         let from = self.number()?;
         let len = self.number()?;
         Ok(Call::Lock {
-            label,
-            place,
+            label: self.named(label)?,
+            place: place(self.alloc, path)?,
             writing,
             from,
             len,
@@ -200,30 +264,44 @@ impl<'a> Words<'a> {
     }
 
     fn open(&mut self) -> Result<Call> {
-        let label = self.name()?;
-        let place = self.place()?;
-        let kind = open_kind(self.next());
-        Ok(Call::OpenFile { label, place, kind })
+        Ok(Call::OpenFile {
+            label: self.name()?,
+            place: self.place()?,
+            kind: open_kind(self.next()),
+        })
     }
 }
 
 /// A user of some groups, with `+` between them.
 pub fn user(alloc: Global, text: &str, groups: &str) -> Result<User> {
-    let mut names = Items::new(alloc);
-    for group in groups.split('+') {
-        names.push(name(alloc, group)?)?;
-    }
     Ok(User {
         name: name(alloc, text)?,
-        groups: names,
+        groups: names(alloc, groups, '+')?,
     })
+}
+
+// The names between marks.
+fn names(alloc: Global, text: &str, mark: char) -> Result<Items<Name>> {
+    let mut names = Items::new(alloc);
+    for part in text.split(mark) {
+        if !part.is_empty() {
+            names.push(name(alloc, part)?)?;
+        }
+    }
+    Ok(names)
 }
 
 fn name(alloc: Global, text: &str) -> Result<Name> {
     Ok(Name::new(alloc, text.as_bytes())?)
 }
 
-/// `s1` to `s4`.
+/// `c0`, `c1` and so on.
+pub fn host(text: &str) -> Result<HostId> {
+    let number = text.strip_prefix("c").unwrap_or("");
+    Ok(HostId(number.parse::<u8>().context("a host")?))
+}
+
+/// `s1`, `s2` and so on.
 pub fn server(text: &str) -> Result<ServerId> {
     let number = text.strip_prefix("s").unwrap_or("");
     Ok(ServerId(number.parse::<u8>().context("a server")?))
@@ -234,16 +312,10 @@ fn place(alloc: Global, text: &str) -> Result<Place> {
     let (at, path) = text.split_once(':').unwrap_or(("s1", text));
     let path = path.strip_prefix("/").unwrap_or("");
     let (fileset, rest) = path.split_once('/').unwrap_or((path, ""));
-    let mut names = Items::new(alloc);
-    for part in rest.split('/') {
-        if !part.is_empty() {
-            names.push(name(alloc, part)?)?;
-        }
-    }
     Ok(Place {
         server: server(at)?,
         fileset: name(alloc, fileset)?,
-        path: names,
+        path: names(alloc, rest, '/')?,
     })
 }
 
