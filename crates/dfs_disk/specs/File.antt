@@ -1,5 +1,5 @@
 -- A disk over a file, which tells nothing of its bytes.
-use Rattle.std.specs.Prelude.{[], IsTrue, Result, IsErr}
+use Rattle.std.specs.Prelude.{◌≡◌, [], false, IsTrue, Result, IsErr}
 use Rattle.dfs_base.specs.View.{View}
 use Rattle.dfs_disk.specs.declared.file.FileDisk.{FileDisk}
 
@@ -19,6 +19,12 @@ untold_view disk = record {
 -- a sync failed: what was written since the one before may be lost
 abbrev pub IsLost : FileDisk → Type 0
 IsLost disk = IsTrue disk.lost
+
+-- a disk that has counted no fault, and isn't lost
+pub record IsWhole (disk : FileDisk) : Type 0 where
+  pub faults : disk.faults ≡ 0
+  pub passes : disk.failed ≡ false
+  pub kept : disk.lost ≡ false
 
 -- once lost, every call fails
 pub record FailsForGood {T E : Type 0} (result : Result T E) (old new : FileDisk) : Type 0 where

@@ -36,13 +36,13 @@ pub struct FileDisk {
 }
 
 impl FileDisk {
-    ghost use Rattle.dfs_disk.specs.File.{IsLost, FailsForGood};
+    ghost use Rattle.dfs_disk.specs.File.{IsLost, FailsForGood, IsWhole};
 
-    /// Opens the file, or makes an empty one and syncs its folder. `Failed` is the system's refusal.
-    pub fn open_or_make<F: Files<File = File>>(
-        rt: &F,
-        name: &str,
-    ) -> Result<FileDisk, FileRefused> {
+    /// Opens the file, or makes an empty one and syncs its folder. The disk has counted no fault. `Failed` is the
+    /// system's refusal.
+    pub fn open_or_make<F: Files<File = File>>(rt: &F, name: &str) -> Result<FileDisk, FileRefused>
+        ensures { IfOk result (λ disk. IsWhole disk) }
+    {
         match opened_or_made(rt, name) {
             Ok(file) => Ok(FileDisk {
                 file,
