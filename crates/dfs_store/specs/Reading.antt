@@ -1,5 +1,26 @@
 -- What a store tells.
-use Rattle.std.specs.Prelude.{ℕ, ◌+◌, ◌-◌, ◌==◌, Bool, ◌||◌, if◌then◌else◌, List, [], ◌∷◌, take, drop, slice_get, Option, Some, None, is_some, unwrap_or, Result, Ok}
+use Rattle.std.specs.Prelude.{
+  ℕ,
+  ◌+◌,
+  ◌-◌,
+  ◌==◌,
+  Bool,
+  ◌||◌,
+  if◌then◌else◌,
+  List,
+  [],
+  ◌∷◌,
+  take,
+  drop,
+  slice_get,
+  Option,
+  Some,
+  None,
+  is_some,
+  unwrap_or,
+  Result,
+  Ok,
+}
 use Rattle.std.specs.Option.{option_map, option_map_or, option_and_then}
 use Rattle.dfs_base.specs.Outcomes.{and_then, either}
 use Rattle.dfs_base.specs.declared.ids.Fid.{Fid}

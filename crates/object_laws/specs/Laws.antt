@@ -1,5 +1,25 @@
 -- What an aggregate keeps is what its image has.
-use Rattle.std.specs.Prelude.{◌≡◌, ◌≢◌, ◌≤◌, ◌<◌, ℕ, ◌+◌, ◌-◌, ◌*◌, ◌/◌, ◌%◌, ◌&&◌, Bool, true, false, nat_le, is_some, List, [], take}
+use Rattle.std.specs.Prelude.{
+  ◌≡◌,
+  ◌≢◌,
+  ◌≤◌,
+  ◌<◌,
+  ℕ,
+  ◌+◌,
+  ◌-◌,
+  ◌*◌,
+  ◌/◌,
+  ◌%◌,
+  ◌&&◌,
+  Bool,
+  true,
+  false,
+  nat_le,
+  is_some,
+  List,
+  [],
+  take,
+}
 use Rattle.std.specs.List.{list_all}
 use Rattle.std.specs.Option.{option_map_or}
 use Rattle.dfs_base.specs.Image.{byte_at}
@@ -86,8 +106,8 @@ abbrev pub leads_within : Content → Bool
 leads_within (Dir entries lists) = list_all (λ entry. nat_le 1 entry.anode && nat_le entry.anode 64) entries
 leads_within (File list kept unsaved len) = true
 
--- An anode may stand at place i of a slot: a slot that is free has none, one that isn't lets its first ones be used, and
--- the first may have to be a root.
+-- An anode may stand at place i of a slot: a slot that is free has none, one that isn't lets its first ones be
+-- used, and the first may have to be a root.
 pub record FitsPlace (disk : Aggregate) (slot i : ℕ) (anode : Anode) : Type 0 where
   pub unused : is_slot_free disk slot ≡ true → anode ≡ unused_anode
   pub below : is_some anode.object ≡ true → i < usable (state_at disk slot) (header_page disk slot)
