@@ -1,0 +1,4 @@
+pub mod Record
+pub mod Said
+pub mod Stored
+pub mod Laws
