@@ -1,0 +1,93 @@
+//! A host's parts by example. Standard input is a table: each row is a step or a look, and behind ` = ` the answer that
+//! is wanted from the steps so far. Every row that gets another one is printed, and at the end the number of rows.
+#![tactic(auto)]
+
+mod caching;
+mod dirtying;
+mod giving;
+mod labelling;
+mod reading;
+
+use anyhow::{Result, bail};
+use cm_cache::Cache;
+use cm_dirty::Dirty;
+use cm_giveback::Gives;
+use cm_locks::Uses;
+use reading::Words;
+use std::alloc::Global;
+
+// What the steps are made on.
+#[derive(Drop)]
+struct Parts {
+    alloc: Global,
+    uses: Uses,
+    dirty: Dirty,
+    gives: Gives,
+    cache: Cache,
+}
+
+impl Parts {
+    fn new(alloc: Global) -> Result<Parts> {
+        let cache = Cache::new(alloc)?;
+        Ok(Parts {
+            alloc,
+            uses: Uses::new(alloc),
+            dirty: Dirty::new(alloc),
+            gives: Gives::new(alloc),
+            cache,
+        })
+    }
+
+    // What is told to a row.
+    fn told(&mut self, row: &str) -> Result<String> {
+        let mut words = Words::new(row);
+        match words.next() {
+            "label" => labelling::told(self.alloc, &mut self.uses, &mut words),
+            "dirty" => dirtying::told(self.alloc, &mut self.dirty, &mut words),
+            "cache" => caching::told(self.alloc, &mut self.cache, &mut words),
+            "give" => giving::told(self.alloc, &mut self.gives, &mut words),
+            word => bail!("no step: {word}"),
+        }
+    }
+}
+
+// Judges one line: a comment or a row. Answers whether it was a row, and prints one whose answer isn't the wanted one.
+fn judge(rt: &(impl Print + AllocGlobal), parts: &mut Parts, line: &str) -> Result<bool> {
+    let line = line.trim();
+    if line.is_empty() || line.starts_with("#") {
+        return Ok(false);
+    }
+    let (row, wanted) = line.split_once(" =").unwrap_or((line, ""));
+    let told = parts.told(row.trim())?;
+    if told.as_str().trim() != wanted.trim() {
+        println!(rt; "{row}: {told}, and not {wanted}")?;
+    }
+    Ok(true)
+}
+
+// Judges each line of standard input, and answers how many rows there were.
+fn judge_all(rt: &(impl Input + Print + AllocGlobal), parts: &mut Parts) -> Result<u64> {
+    let mut rows = 0u64;
+    for line in rt.lines(rt.alloc()) {
+        if judge(rt, parts, line?.as_str())? {
+            rows = rows.saturating_add(1);
+        }
+    }
+    cm_dirty::dirty_files_law(&parts.dirty);
+    parts.uses.laws();
+    parts.gives.laws();
+    parts.cache.laws();
+    Ok(rows)
+}
+
+fn main(rt: HostRuntime) -> Result<()> {
+    cm_locks::uses_law();
+    cm_giveback::gives_law();
+    cm_cache::cache_law();
+    let mut parts = Parts::new(rt.alloc())?;
+    let judged = judge_all(&rt, &mut parts);
+    drop(parts);
+    let rows = judged?;
+    println!(rt; "{rows} rows")?;
+    Ok(())
+}
