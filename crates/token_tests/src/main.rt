@@ -10,17 +10,13 @@ mod telling;
 mod world;
 
 use anyhow::Result;
+use std::io;
 use world::World;
 
-// Judges one line: a comment, the start of everything anew, or a row. Answers whether it was a row, and prints one
-// whose answer isn't the wanted one.
+// Judges one line: a comment, or a row. Answers whether it was a row, and prints one whose answer isn't the wanted one.
 fn judge(rt: &(impl Print + AllocGlobal), world: &mut World, line: &str) -> Result<bool> {
     let line = line.trim();
     if line.is_empty() || line.starts_with("#") {
-        return Ok(false);
-    }
-    if line == "new" {
-        *world = World::new(rt.alloc());
         return Ok(false);
     }
     let (row, wanted) = line.split_once(" =").unwrap_or((line, ""));
@@ -29,6 +25,25 @@ fn judge(rt: &(impl Print + AllocGlobal), world: &mut World, line: &str) -> Resu
         println!(rt; "{row}: {told}, and not {wanted}")?;
     }
     Ok(true)
+}
+
+// Judges lines in their order, and answers how many of them were rows.
+fn judge_all(rt: &(impl Print + AllocGlobal), world: &mut World, lines: &str) -> Result<u64> {
+    let mut rows = 0u64;
+    for line in lines.lines() {
+        if judge(rt, world, line)? {
+            rows = rows.saturating_add(1);
+        }
+    }
+    Ok(rows)
+}
+
+// Judges lines where everything starts anew.
+fn judge_anew(rt: &(impl Print + AllocGlobal), lines: &str) -> Result<u64> {
+    let mut world = World::new(rt.alloc());
+    let rows = judge_all(rt, &mut world, lines);
+    drop(world);
+    rows
 }
 
 fn main(rt: HostRuntime) -> Result<()> {
@@ -41,12 +56,10 @@ fn main(rt: HostRuntime) -> Result<()> {
     tok_manager::peace_law();
     tok_manager::ready_law();
     tok_manager::admit_law();
-    let mut world = World::new(rt.alloc());
+    let table = io::read_to_string(rt.alloc(), rt.reader())?;
     let mut rows = 0u64;
-    for line in rt.lines(rt.alloc()) {
-        if judge(&rt, &mut world, line?.as_str())? {
-            rows = rows.saturating_add(1);
-        }
+    for lines in table.as_str().split("\nnew\n") {
+        rows = rows.saturating_add(judge_anew(&rt, lines)?);
     }
     println!(rt; "{rows} rows")?;
     Ok(())

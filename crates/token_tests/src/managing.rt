@@ -61,7 +61,9 @@ fn lose(
         "forget" => forget(alloc, manager, words),
         _ => {
             let copy = manager.copy()?;
-            look(alloc, &copy, word, words)
+            let said = look(alloc, &copy, word, words);
+            drop(copy);
+            said
         }
     }
 }

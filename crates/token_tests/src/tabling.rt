@@ -25,7 +25,12 @@ pub fn table_text(alloc: Global, table: &mut TokenTable, words: &mut Words) -> R
             table.drop_host(words.host()?);
             Ok(String::new(alloc))
         }
-        word => look(alloc, &table.copy()?, word, words),
+        word => {
+            let copy = table.copy()?;
+            let said = look(alloc, &copy, word, words);
+            drop(copy);
+            said
+        }
     }
 }
 
