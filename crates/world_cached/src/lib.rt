@@ -1,0 +1,7 @@
+//! Caches in runs: at the end of an ended run nothing is left in them. The protocol is this project's own, after Kazar
+//! et al., "DEcorum File System Architectural Overview", 1990.
+#![tactic(auto)]
+
+mod laws;
+
+pub use laws::an_ended_run_leaves_nothing_unsaved;
