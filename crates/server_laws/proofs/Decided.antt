@@ -21,7 +21,7 @@ all_kept : (id : ℕ) (xs : List Fileset) → list_all (λ other. nat_lt id othe
 all_kept id [] = refl
 all_kept id (x ∷ xs) = ap (λ t. nat_lt id x.id.0 && t) (all_kept id xs)
 
-rise_kept : (xs : List Fileset) → ids_rise (map kept_fileset xs) ≡ ids_rise xs
+pub rise_kept : (xs : List Fileset) → ids_rise (map kept_fileset xs) ≡ ids_rise xs
 rise_kept [] = refl
 rise_kept (x ∷ xs) = ap (λ t. t && ids_rise (map kept_fileset xs)) (all_kept x.id.0 xs) ∙ ap (λ t. list_all (λ other. nat_lt x.id.0 other.id.0) xs && t) (rise_kept xs)
 

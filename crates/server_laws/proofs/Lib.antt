@@ -10,3 +10,4 @@ pub mod Idle
 pub mod Moves
 pub mod Uses
 pub mod Decided
+pub mod Refused

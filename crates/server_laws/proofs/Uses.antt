@@ -49,7 +49,7 @@ use Rattle.server_laws.proofs.Rows.{IsPlaced, placed, row, row_refused, row_ther
 use Rattle.server_laws.proofs.Rows.IsPlaced.{Nowhere, There}
 
 module _ (tree : Tree) (host : HostId) (user : User) (acts : user_of tree.roster host ≡ Some user) where
-  for_its : (call : Call) → answer_to tree host call ≡ answer_for tree host call user
+  pub for_its : (call : Call) → answer_to tree host call ≡ answer_for tree host call user
   unfolding answer_to
   for_its call = ap (λ (o : Option User). for_user tree o (answer_for tree host call)) acts
 

@@ -5,6 +5,8 @@ use Rattle.dfs_base.specs.declared.ids.ServerId.{ServerId}
 use Rattle.dfs_base.specs.declared.user.User.{User}
 use Rattle.dfs_calls.specs.Rosters.{user_of}
 use Rattle.dfs_calls.specs.declared.call.Call.{Call}
+use Rattle.dfs_calls.specs.declared.reply.Refusal.{Refusal}
+use Rattle.dfs_calls.specs.declared.reply.Reply.TheVariants.{Refused}
 use Rattle.dfs_needs.specs.Questions.{is_change}
 use Rattle.dfs_tree.specs.Answers.{answer_to}
 use Rattle.dfs_tree.specs.WellFormed.{IsWellFormed, ids_rise}
@@ -25,3 +27,12 @@ ServersDecideAlike =
     minds_uses call ≡ false → NothingUnsaved tree (want kept user call) →
     ((answer_to kept host call).reply ≡ (answer_to tree host call).reply)
     × SameAt server (answer_to kept host call).tree (kept_tree (answer_to tree host call).tree)
+
+-- One that the server refuses on what it keeps the tree refuses alike, whatever is unsaved.
+abbrev pub ServersRefuseAlike : Type 0
+ServersRefuseAlike =
+    (server : ServerId) (kept tree : Tree) (host : HostId) (user : User) (call : Call) (refusal : Refusal) →
+    IsWellFormed tree → ids_rise kept.filesets ≡ true → SameAt server kept (kept_tree tree) → kept.locks ≡ [] →
+    kept.opens ≡ [] → user_of tree.roster host ≡ Some user → is_change call ≡ true → IsAt server call →
+    minds_uses call ≡ false → (answer_to kept host call).reply ≡ Refused refusal →
+    (answer_to tree host call).reply ≡ Refused refusal

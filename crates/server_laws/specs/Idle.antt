@@ -43,7 +43,7 @@ pub record IsOfServer (server : ServerId) (tree : Tree) : Type 0 where
   pub locks : tree.locks ≡ []
   pub opens : tree.opens ≡ []
 
--- a move that a server refuses on what it keeps is refused alike wherever the same is kept of the server, but for a lack
+-- a move that a server refuses on what it keeps is refused alike wherever the same is kept of the server, but for want
 -- of room
 abbrev pub MovesAreRefusedAlike : Type 0
 MovesAreRefusedAlike =

@@ -3,8 +3,9 @@ use Rattle.std.specs.Prelude.{◌≡◌, ◌==◌, Bool, ◌||◌, List, filter}
 use Rattle.std.specs.List.{list_any}
 use Rattle.dfs_base.specs.declared.ids.ServerId.{ServerId}
 use Rattle.dfs_calls.specs.declared.call.Call.{Call}
-use Rattle.dfs_calls.specs.declared.call.Call.TheVariants.{NewFileset, Create, MakeDir, Remove, Rename, Truncate, SetAcl}
-use Rattle.dfs_calls.specs.declared.call.Call.TheVariants.{CloneFileset, Read, Write, List as ListNames, Stat, GetAcl, Sync}
+use Rattle.dfs_calls.specs.declared.call.Call.TheVariants.{NewFileset, Create, MakeDir, Remove, Rename, Truncate}
+use Rattle.dfs_calls.specs.declared.call.Call.TheVariants.{SetAcl, CloneFileset, Read, Write, List as ListNames}
+use Rattle.dfs_calls.specs.declared.call.Call.TheVariants.{Stat, GetAcl, Sync}
 use Rattle.dfs_calls.specs.declared.call.Call.TheVariants.{Lock, Unlock, OpenFile, CloseFile, MoveFileset}
 use Rattle.dfs_filesets.specs.declared.fileset.Fileset.{Fileset}
 use Rattle.dfs_tree.specs.Finding.{has_id}
