@@ -18,7 +18,7 @@ use Rattle.dfs_base.specs.declared.span.Span.{Span}
 use Rattle.dfs_base.specs.declared.user.User.{User}
 use Rattle.dfs_calls.specs.Rosters.{user_of}
 use Rattle.dfs_calls.specs.declared.call.Call.{Call}
-use Rattle.dfs_calls.specs.declared.call.Call.TheVariants.{Write, Stat, Sync, Lock, Unlock, OpenFile, CloseFile}
+use Rattle.dfs_calls.specs.declared.call.Call.TheVariants.{Read, Write, Stat, Sync, Lock, Unlock, OpenFile, CloseFile}
 use Rattle.dfs_calls.specs.declared.place.Place.{Place}
 use Rattle.dfs_calls.specs.declared.reply.Reply.{Reply}
 use Rattle.dfs_calls.specs.declared.reply.Reply.TheVariants.{Ok as Fine, Bytes as BytesReply}
@@ -91,6 +91,7 @@ place_same a b e =
 unfoldable pub same_call : Call → Call → Bool
 same_call (Stat a) (Stat b) = same_place a b
 same_call (Sync a) (Sync b) = same_place a b
+same_call (Read a n k) (Read b m j) = same_place a b && ((n == m) && (k == j))
 same_call (Write a n x) (Write b m y) = same_place a b && ((n == m) && same_name x y)
 same_call (Lock l a w n k) (Lock m b v o j) = (same_name l m && same_place a b) && (same_bool w v && ((n == o) &&
     (k == j)))
@@ -102,6 +103,13 @@ pub call_is : (a b : Call) → same_call a b ≡ true → a ≡ b
 unfolding same_place same_call
 call_is (Stat a) (Stat b) e = let p = place_same a b e in λ i. Stat (p i)
 call_is (Sync a) (Sync b) e = let p = place_same a b e in λ i. Sync (p i)
+call_is (Read a n k) (Read b m j) e =
+    let p = and_parts (same_place a b) ((n == m) && (k == j)) e in
+    let q = and_parts (n == m) (k == j) p.1 in
+    let u = place_same a b p.0 in
+    let v = eqb-true n m q.0 in
+    let w = eqb-true k j q.1 in
+    λ i. Read (u i) (v i) (w i)
 call_is (Write a n x) (Write b m y) e =
     let p = and_parts (same_place a b) ((n == m) && same_name x y) e in
     let q = and_parts (n == m) (same_name x y) p.1 in

@@ -1,19 +1,17 @@
 -- The rules of asking for a host's step that asks nothing new, computed.
-use Rattle.run_examples.proofs.FetchWords.{asking_yes, fetch_body, is_asking, is_fetch, one_number, one_number_of}
-use Rattle.run_examples.proofs.Words.{in_asking, in_said, is_welcome, said, welcome_yes}
+use Rattle.run_examples.proofs.FetchWords.{asking_yes, fetch_body, is_asking, is_fetch}
+use Rattle.run_examples.proofs.Words.{in_said, said}
 use Rattle.world_host.specs.HostAsks.{HasFetched}
-use Rattle.world_steps.specs.Epochs.{IsWelcome}
 use Rattle.world_steps.specs.Sends.{Said}
 use Rattle.rpc_types.specs.declared.message.Message.{Message}
 use Rattle.world_steps.specs.Gives.{GiveOpen}
-use Rattle.std.proofs.Common.{Bool, List, Some, [], ap, false, inl, inr, refl, subst, sym, true}
-use Rattle.std.proofs.Common.{ℕ, ◌&&◌, ◌||◌, ◌∙◌, ◌∷◌, ◌≡◌}
+use Rattle.std.proofs.Common.{Bool, List, Some, [], false, inl, inr, refl, subst, sym, true}
+use Rattle.std.proofs.Common.{◌&&◌, ◌||◌, ◌∙◌, ◌∷◌, ◌≡◌}
 use Rattle.std.proofs.lemmas.Bool.{and_parts, or_cases}
 use Rattle.std.specs.Prelude.{not}
-use Rattle.std.specs.List.{list_all, list_any}
+use Rattle.std.specs.List.{list_any}
 use Rattle.dfs_base.specs.Ids.{same_fid}
 use Rattle.dfs_base.specs.declared.ids.Fid.{Fid}
-use Rattle.dfs_base.specs.declared.ids.FilesetId.{FilesetId}
 use Rattle.dfs_base.specs.declared.ids.HostId.{HostId}
 use Rattle.dfs_base.specs.declared.ids.ServerId.{ServerId}
 use Rattle.dfs_base.specs.declared.user.User.{User}
@@ -30,19 +28,16 @@ use Rattle.rpc_types.specs.declared.giving.AppliedGive.{AppliedGive}
 use Rattle.rpc_types.specs.declared.giving.Give.{Give}
 use Rattle.rpc_types.specs.declared.message.Body.{Body}
 use Rattle.rpc_types.specs.declared.message.Body.TheVariants.{Hello, Fetch, Change}
-use Rattle.world_host.specs.HostAsks.{AwaitsGone, HostAsks}
+use Rattle.world_host.specs.HostAsks.{AwaitsGone}
 use Rattle.world_steps.specs.Gives.{number_of}
 use Rattle.world_steps.specs.Lists.{In}
 use Rattle.world_steps.specs.Requests.{Asking}
-use Rattle.world_steps.specs.Sends.{Sends}
 use Rattle.world_steps.specs.declared.step.Asked.{Asked}
 use Rattle.world_steps.specs.declared.step.Step.{Step}
-use Rattle.run_examples.proofs.Tests.{passes, all_true, is_not, at_all, some_in, is_none, none_in, fid_is}
-use Rattle.run_examples.proofs.Words.{at_sends, asking, asking_in, changing, numbered, held, is_known, known_is, made}
+use Rattle.run_examples.proofs.Tests.{passes, is_not, some_in, is_none, none_in, fid_is}
+use Rattle.run_examples.proofs.Words.{held, is_known, known_is, made}
 use Rattle.run_examples.proofs.Words.{in_made}
-use Rattle.run_examples.proofs.TokenChecks.{at_site}
-use Rattle.run_examples.proofs.LabelWords.{is_local}
-use Rattle.run_examples.proofs.CallWords.{open_calls, open_in, the_call}
+use Rattle.run_examples.proofs.CallWords.{the_call}
 use Rattle.run_examples.proofs.StanceChecks.{stance_of, stance_tests}
 use Rattle.run_examples.proofs.AnswerChecks.{covers_it, covers_yes, lacks_is, lacks_it, needs_at, verdict_at}
 
@@ -121,24 +116,9 @@ one_of (z ∷ zs) x y e (inl p) (inl q) = p ∙ sym q
 one_of (z ∷ zs) x y e (inr p) n = absurd (none_in zs x e p)
 one_of (z ∷ zs) x y e (inl p) (inr q) = absurd (none_in zs y e q)
 
-unfoldable pub ask_tests : ServerId → HostId → User → List Step → Step → List Bool
-ask_tests site host user past s =
-    list_all (λ m. asks_again past m.body) s.sent
-    ∷ one_number (asking (s ∷ past))
-    ∷ one_or_none (changing site (s ∷ past))
-    ∷ (is_none (asking (s ∷ past)) || is_none (changing site (s ∷ past)))
-    ∷ (not (is_none (asking (s ∷ past))) || list_all (waits_right site host user past s) (open_calls site (s ∷ past)))
-    ∷ is_local site (s ∷ past)
-    ∷ list_all (λ m. is_welcome (s ∷ past) m.server || not (asks_new m.body)) s.sent
-    ∷ []
-
 module _ (site : ServerId) (roster : Roster) (host : HostId) (user : User) (past : List Step) (s : Step)
     (acts : user_of roster host ≡ Some user) (known : passes (stance_tests site host past s) ≡ true) where
-  none_new : list_all (λ m. asks_again past m.body) s.sent ≡ true → (v : ServerId) (e n : ℕ) (b : Body)
-      → asks_again past b ≡ false → Sends s v e n b → ⊥
-  none_new t v e n b is p = let q = at_sends (λ m. asks_again past m.body) s v e n b t p in cc
-
-  again : (f : FetchOf) → asks_again past (Fetch f) ≡ true → HasFetched past f × Asking past f.fid.fileset f.number
+  pub again : (f : FetchOf) → asks_again past (Fetch f) ≡ true → HasFetched past f × Asking past f.fid.fileset f.number
   unfolding asks_again
   again f t =
       let p = and_parts (list_any (λ k. is_fetch f k.body) (said past)) (is_asking past f) t in
@@ -152,17 +132,7 @@ module _ (site : ServerId) (roster : Roster) (host : HostId) (user : User) (past
         asking_yes past f p.1,
       )
 
-  -- some request is outstanding
-  some_asked : not (is_none (asking (s ∷ past))) ≡ true → (fs : FilesetId) × (n : ℕ) × Asking (s ∷ past) fs n
-  some_asked t = go (asking (s ∷ past)) refl t
-    where
-      go : (xs : List AppliedGive) → asking (s ∷ past) ≡ xs → not (is_none xs) ≡ true
-          → (fs : FilesetId) × (n : ℕ) × Asking (s ∷ past) fs n
-      go [] is e = absurd (cc)
-      go (x ∷ xs) is e =
-          (x.fileset, x.number, in_asking (s ∷ past) x.fileset x.number (subst (In x) (sym is) (inl refl)))
-
-  awaits : (call : Call) → waits_right site host user past s (the_call 0 call) ≡ true
+  pub awaits : (call : Call) → waits_right site host user past s (the_call 0 call) ≡ true
       → AwaitsGone roster host past s (stance_of site roster host user past s acts known) call
   unfolding waits_right
   awaits call e =
@@ -185,48 +155,3 @@ module _ (site : ServerId) (roster : Roster) (host : HostId) (user : User) (past
             )
             )
       ]
-
-  at_all_welcome : (v : ServerId) (f : FetchOf) → (is_welcome (s ∷ past) v || not (asks_new (Fetch f))) ≡ true
-      → IsWelcome (s ∷ past) v
-  unfolding asks_new
-  at_all_welcome v f t =
-      elim (or_cases (is_welcome (s ∷ past) v) (not (asks_new (Fetch f))) t) [
-        | inl x ↦ welcome_yes (s ∷ past) v x
-        | inr x ↦ absurd (cc)
-      ]
-
-  pub asks_meet : passes (ask_tests site host user past s) ≡ true
-      → HostAsks roster host past s (stance_of site roster host user past s acts known)
-  unfolding ask_tests asks_new asks_again is_local waits_right
-  asks_meet e =
-      let t = all_true (ask_tests site host user past s) e in
-      let local = t.1.1.1.1.1.0 in
-      record {
-        fetches = λ f p. inl (again f (at_sends (λ m. asks_again past m.body) s p.0 p.1 p.2 (Fetch f) t.0 p.3));
-        changes = λ v e n c p. absurd (none_new t.0 v e n (Change c) refl p);
-        one_fetch = λ fs gs n m a b.
-            let p = one_number_of (asking (s ∷ past)) (numbered fs n) (numbered gs m) t.1.0 (asking_in (s ∷ past) fs n a)
-            (asking_in (s ∷ past) gs m b) in
-            (ap (λ (x : AppliedGive). x.fileset) p, ap (λ (x : AppliedGive). x.number) p);
-        one_change = λ v w fs gs n m a b.
-            let p = one_of (changing site (s ∷ past)) (numbered fs n) (numbered gs m) t.1.1.0 (at_site site (s
-            ∷ past) v fs n local a) (at_site site (s ∷ past) w gs m local b) in
-            (ap (λ (x : AppliedGive). x.fileset) p, ap (λ (x : AppliedGive). x.number) p);
-        one_of_both = λ v fs gs n m a b.
-            elim (or_cases (is_none (asking (s ∷ past))) (is_none (changing site (s ∷ past))) t.1.1.1.0) [
-              | inl x ↦ none_in (asking (s ∷ past)) (numbered fs n) x (asking_in (s ∷ past) fs n a)
-              | inr x ↦ none_in (changing site (s ∷ past)) (numbered gs m) x (at_site site (s ∷ past) v gs m local b)
-            ];
-        greets = λ v e n p. absurd (none_new t.0 v e n Hello refl p);
-        fetches_welcome = λ v e n f p.
-            at_all_welcome v f (at_sends (λ m. is_welcome (s ∷ past) m.server || not (asks_new m.body)) s v e n (Fetch f)
-            t.1.1.1.1.1.1.0 p);
-        changes_welcome = λ v e n c p. absurd (none_new t.0 v e n (Change c) refl p);
-        asks = λ call o up.
-            elim (or_cases (not (is_none (asking (s ∷ past)))) (list_all (waits_right site host user past s)
-            (open_calls site (s ∷ past))) t.1.1.1.1.0) [
-              | inl x ↦ inl (some_asked x)
-              | inr x ↦ inr (inr (inl (awaits call.call (at_all (waits_right site host user past s)
-                  (open_calls site (s ∷ past)) call x (open_in site (s ∷ past) call local o)))))
-            ];
-      }

@@ -113,21 +113,17 @@ updates_is t fid at u =
     and_from (same_fid t.fid fid) (kind_updates t.kind at) (fids t.fid fid u.1)
     (subst (λ k. kind_updates k at ≡ true) (sym u.2) u.3)
 
-unfoldable pub is_status : Kind → Bool
-is_status (Status true) = true
-is_status _ = false
-
 unfoldable pub updates_status : Token → Fid → Bool
 updates_status t fid = same_fid t.fid fid && same_kind t.kind (Status true)
 
 pub status_yes : (t : Token) (fid : Fid) → updates_status t fid ≡ true → UpdatesStatus t fid
-unfolding range written_at spots_of spots kind_updates updates_byte is_status updates_status
+unfolding range written_at spots_of spots kind_updates updates_byte updates_status
 status_yes t fid e =
     let p = and_parts (same_fid t.fid fid) (same_kind t.kind (Status true)) e in
     (fid_is t.fid fid p.0, kind_is t.kind (Status true) p.1)
 
 pub status_is : (t : Token) (fid : Fid) → UpdatesStatus t fid → updates_status t fid ≡ true
-unfolding range written_at spots_of spots kind_updates updates_byte is_status updates_status
+unfolding range written_at spots_of spots kind_updates updates_byte updates_status
 status_is t fid u =
     and_from (same_fid t.fid fid) (same_kind t.kind (Status true)) (fids t.fid fid u.0) (kinds t.kind (Status true) u.1)
 
@@ -135,11 +131,11 @@ unfoldable pub takes_status : Step → Fid → Bool
 takes_status s fid = list_any (λ t. updates_status t fid) s.taken
 
 pub takes_status_yes : (s : Step) (fid : Fid) → takes_status s fid ≡ true → TakesStatus s fid
-unfolding range written_at spots_of spots kind_updates updates_byte is_status updates_status takes_status
+unfolding range written_at spots_of spots kind_updates updates_byte updates_status takes_status
 takes_status_yes s fid e = let p = some_in (λ t. updates_status t fid) s.taken e in (p.0, p.1, status_yes p.0 fid p.2)
 
 pub takes_status_is : (s : Step) (fid : Fid) → TakesStatus s fid → takes_status s fid ≡ true
-unfolding range written_at spots_of spots kind_updates updates_byte is_status updates_status takes_status
+unfolding range written_at spots_of spots kind_updates updates_byte updates_status takes_status
 takes_status_is s fid x = any_of (λ t. updates_status t fid) s.taken x.0 x.1 (status_is x.0 fid x.2)
 
 -- the last length that was given back
@@ -147,17 +143,17 @@ unfoldable pub has_length : Fid → Give → Bool
 has_length fid g = same_fid g.fid fid && is_some g.length
 
 some_length : (o : Option ℕ) → is_some o ≡ true → (n : ℕ) × (o ≡ Some n)
-unfolding range written_at spots_of spots kind_updates updates_byte is_status updates_status takes_status has_length
+unfolding range written_at spots_of spots kind_updates updates_byte updates_status takes_status has_length
 some_length None e = absurd (cc)
 some_length (Some n) e = (n, refl)
 
 has_length_yes : (fid : Fid) (g : Give) → has_length fid g ≡ true → HasLength g fid
-unfolding range written_at spots_of spots kind_updates updates_byte is_status updates_status takes_status has_length
+unfolding range written_at spots_of spots kind_updates updates_byte updates_status takes_status has_length
 has_length_yes fid g e =
     let p = and_parts (same_fid g.fid fid) (is_some g.length) e in (fid_is g.fid fid p.0, some_length g.length p.1)
 
 has_length_is : (fid : Fid) (g : Give) → HasLength g fid → has_length fid g ≡ true
-unfolding range written_at spots_of spots kind_updates updates_byte is_status updates_status takes_status has_length
+unfolding range written_at spots_of spots kind_updates updates_byte updates_status takes_status has_length
 has_length_is fid g x =
     and_from (same_fid g.fid fid) (is_some g.length) (fids g.fid fid x.0) (subst (λ o. is_some o ≡ true)
     (sym x.1.1) refl)
@@ -171,8 +167,7 @@ last_lengths (s ∷ past) fid =
     filter (has_length fid) s.made ++ (if not (newer s fid) then last_lengths past fid else [])
 
 pub last_in : (past : List Step) (fid : Fid) (g : Give) → IsLastLength past fid g → In g (last_lengths past fid)
-unfolding range written_at spots_of spots kind_updates updates_byte is_status updates_status takes_status has_length
-    newer last_lengths
+unfolding range written_at spots_of spots kind_updates updates_byte updates_status takes_status has_length newer last_lengths
 last_in [] fid g x = elim x [ ]
 last_in (s ∷ past) fid g (inl x) =
     in_front g (filter (has_length fid) s.made) (if not (newer s fid) then last_lengths past fid else [])
@@ -186,8 +181,7 @@ last_in (s ∷ past) fid g (inr x) =
     ])) (last_in past fid g x.0))
 
 pub in_last : (past : List Step) (fid : Fid) (g : Give) → In g (last_lengths past fid) → IsLastLength past fid g
-unfolding range written_at spots_of spots kind_updates updates_byte is_status updates_status takes_status has_length
-    newer last_lengths
+unfolding range written_at spots_of spots kind_updates updates_byte updates_status takes_status has_length newer last_lengths
 in_last [] fid g i = elim i [ ]
 in_last (s ∷ past) fid g i =
     elim (in_split g (filter (has_length fid) s.made) (if not (newer s fid) then last_lengths past fid else []) i) [
@@ -212,8 +206,7 @@ length_clean past s fid = not (takes_status s fid) && list_any (has_present past
 
 pub length_clean_yes : (past : List Step) (s : Step) (fid : Fid) → length_clean past s fid ≡ true
     → LengthIsClean past s fid
-unfolding range written_at spots_of spots kind_updates updates_byte is_status updates_status takes_status has_length
-    newer last_lengths has_present length_clean
+unfolding range written_at spots_of spots kind_updates updates_byte updates_status takes_status has_length newer last_lengths has_present length_clean
 length_clean_yes past s fid e =
     let p = and_parts (not (takes_status s fid)) (list_any (has_present past s fid) (last_lengths past fid)) e in
     let q = some_in (has_present past s fid) (last_lengths past fid) p.1 in
@@ -229,8 +222,7 @@ length_clean_yes past s fid e =
 
 pub length_clean_is : (past : List Step) (s : Step) (fid : Fid) → LengthIsClean past s fid
     → length_clean past s fid ≡ true
-unfolding range written_at spots_of spots kind_updates updates_byte is_status updates_status takes_status has_length
-    newer last_lengths has_present length_clean
+unfolding range written_at spots_of spots kind_updates updates_byte updates_status takes_status has_length newer last_lengths has_present length_clean
 length_clean_is past s fid c =
     and_from (not (takes_status s fid)) (list_any (has_present past s fid) (last_lengths past fid))
     (not_is (takes_status s fid) (λ e. c.since (takes_status_yes s fid e)))
@@ -243,15 +235,13 @@ unfoldable pub length_dirty : List Step → Step → Token → Bool
 length_dirty past s t = updates_status t t.fid && not (length_clean past s t.fid)
 
 pub length_dirty_yes : (past : List Step) (s : Step) (t : Token) → length_dirty past s t ≡ true → LengthIsDirty past s t
-unfolding range written_at spots_of spots kind_updates updates_byte is_status updates_status takes_status has_length
-    newer last_lengths has_present length_clean length_dirty
+unfolding range written_at spots_of spots kind_updates updates_byte updates_status takes_status has_length newer last_lengths has_present length_clean length_dirty
 length_dirty_yes past s t e =
     let p = and_parts (updates_status t t.fid) (not (length_clean past s t.fid)) e in
     (status_yes t t.fid p.0, λ c. is_not (length_clean past s t.fid) p.1 (length_clean_is past s t.fid c))
 
 pub length_dirty_is : (past : List Step) (s : Step) (t : Token) → LengthIsDirty past s t → length_dirty past s t ≡ true
-unfolding range written_at spots_of spots kind_updates updates_byte is_status updates_status takes_status has_length
-    newer last_lengths has_present length_clean length_dirty
+unfolding range written_at spots_of spots kind_updates updates_byte updates_status takes_status has_length newer last_lengths has_present length_clean length_dirty
 length_dirty_is past s t d =
     and_from (updates_status t t.fid) (not (length_clean past s t.fid)) (status_is t t.fid d.0)
     (not_is (length_clean past s t.fid) (λ e. d.1 (length_clean_yes past s t.fid e)))
@@ -260,13 +250,11 @@ unfoldable pub byte_dirty : List Step → Token → ℕ → Bool
 byte_dirty past t at = updates_byte t t.fid at && is_dirty past t.fid at
 
 pub byte_dirty_is : (past : List Step) (t : Token) (at : ℕ) → ByteIsDirty past t at → byte_dirty past t at ≡ true
-unfolding range written_at spots_of spots kind_updates updates_byte is_status updates_status takes_status has_length
-    newer last_lengths has_present length_clean length_dirty byte_dirty
+unfolding range written_at spots_of spots kind_updates updates_byte updates_status takes_status has_length newer last_lengths has_present length_clean length_dirty byte_dirty
 byte_dirty_is past t at d = and_from (updates_byte t t.fid at) (is_dirty past t.fid at) (updates_is t t.fid at d.0) d.1
 
 pub byte_dirty_yes : (past : List Step) (t : Token) (at : ℕ) → byte_dirty past t at ≡ true → ByteIsDirty past t at
-unfolding range written_at spots_of spots kind_updates updates_byte is_status updates_status takes_status has_length
-    newer last_lengths has_present length_clean length_dirty byte_dirty
+unfolding range written_at spots_of spots kind_updates updates_byte updates_status takes_status has_length newer last_lengths has_present length_clean length_dirty byte_dirty
 byte_dirty_yes past t at e =
     let p = and_parts (updates_byte t t.fid at) (is_dirty past t.fid at) e in (updates_yes t t.fid at p.0, p.1)
 
@@ -274,8 +262,7 @@ unfoldable pub dirty_under : List Step → Step → Token → Bool
 dirty_under past s t = list_any (byte_dirty past t) (spots past t.fid) || length_dirty past s t
 
 pub dirty_under_yes : (past : List Step) (s : Step) (t : Token) → dirty_under past s t ≡ true → IsDirtyUnder past s t
-unfolding range written_at spots_of spots kind_updates updates_byte is_status updates_status takes_status has_length
-    newer last_lengths has_present length_clean length_dirty byte_dirty dirty_under
+unfolding range written_at spots_of spots kind_updates updates_byte updates_status takes_status has_length newer last_lengths has_present length_clean length_dirty byte_dirty dirty_under
 dirty_under_yes past s t e =
     elim (or_cases (list_any (byte_dirty past t) (spots past t.fid)) (length_dirty past s t) e) [
       | inl p ↦ (let q = some_in (byte_dirty past t) (spots past t.fid) p in inl (q.0, byte_dirty_yes past t q.0 q.2))
@@ -283,8 +270,7 @@ dirty_under_yes past s t e =
     ]
 
 pub dirty_under_is : (past : List Step) (s : Step) (t : Token) → IsDirtyUnder past s t → dirty_under past s t ≡ true
-unfolding range written_at spots_of spots kind_updates updates_byte is_status updates_status takes_status has_length
-    newer last_lengths has_present length_clean length_dirty byte_dirty dirty_under
+unfolding range written_at spots_of spots kind_updates updates_byte updates_status takes_status has_length newer last_lengths has_present length_clean length_dirty byte_dirty dirty_under
 dirty_under_is past s t (inl d) =
     or_left (list_any (byte_dirty past t) (spots past t.fid)) (length_dirty past s t)
     (any_of (byte_dirty past t) (spots past t.fid) d.0 (dirty_in past t.fid d.0 d.1.1) (byte_dirty_is past t d.0 d.1))
@@ -297,8 +283,7 @@ is_clean past s fid =
     && list_all (λ g. implies (same_fid g.fid fid) (is_known (s ∷ past) (number_of g))) (made past)
 
 pub clean_yes : (past : List Step) (s : Step) (fid : Fid) → is_clean past s fid ≡ true → IsClean past s fid
-unfolding range written_at spots_of spots kind_updates updates_byte is_status updates_status takes_status has_length
-    newer last_lengths has_present length_clean length_dirty byte_dirty dirty_under is_clean
+unfolding range written_at spots_of spots kind_updates updates_byte updates_status takes_status has_length newer last_lengths has_present length_clean length_dirty byte_dirty dirty_under is_clean
 clean_yes past s fid e =
     let p = and_parts (list_all (λ t. implies (same_fid t.fid fid) (not (dirty_under past s t))) (hand s past))
     (list_all (λ g. implies (same_fid g.fid fid) (is_known (s ∷ past) (number_of g))) (made past)) e in
@@ -315,8 +300,7 @@ clean_yes past s fid e =
     }
 
 pub clean_is : (past : List Step) (s : Step) (fid : Fid) → IsClean past s fid → is_clean past s fid ≡ true
-unfolding range written_at spots_of spots kind_updates updates_byte is_status updates_status takes_status has_length
-    newer last_lengths has_present length_clean length_dirty byte_dirty dirty_under is_clean
+unfolding range written_at spots_of spots kind_updates updates_byte updates_status takes_status has_length newer last_lengths has_present length_clean length_dirty byte_dirty dirty_under is_clean
 clean_is past s fid c =
     and_from (list_all (λ t. implies (same_fid t.fid fid) (not (dirty_under past s t))) (hand s past)) (list_all
     (λ g. implies (same_fid g.fid fid) (is_known (s ∷ past) (number_of g))) (made past))

@@ -32,7 +32,7 @@ use Rattle.run_examples.proofs.LabelWords.{is_local, is_used, is_used_is}
 use Rattle.run_examples.proofs.CallWords.{begins_in, begins_now, open_calls, the_call}
 use Rattle.run_examples.proofs.StanceChecks.{once_from, stance_of, stance_tests}
 use Rattle.run_examples.proofs.AnswerChecks.{answer_tests, answers_meet, needs_at}
-use Rattle.run_examples.proofs.AskChecks.{ask_tests, asks_meet}
+use Rattle.run_examples.proofs.AskTests.{all_asked, asking_tests}
 use Rattle.run_examples.proofs.GiveChecks.{give_tests, gives_meet, recall_tests, revoked_meet}
 use Rattle.run_examples.proofs.LapseChecks.{resend_tests, resends_meet, take_tests, takes_meet}
 use Rattle.run_examples.proofs.LeaveChecks.{end_tests, ends_meet, idle, idle_in, none_open_is}
@@ -96,7 +96,7 @@ evict_tests site script host user before last s t =
     ∷ passes (token_tests site (last ∷ before) s)
     ∷ passes (take_tests (last ∷ before) s)
     ∷ passes (answer_tests site host user (last ∷ before) s)
-    ∷ passes (ask_tests site host user (last ∷ before) s)
+    ∷ passes (asking_tests site host user (last ∷ before) s)
     ∷ passes (give_tests site (last ∷ before) s)
     ∷ passes (recall_tests (last ∷ before) s)
     ∷ passes (resend_tests site (last ∷ before) s)
@@ -177,7 +177,7 @@ module _ (site : ServerId) (script : Script) (host : HostId) (user : User) (befo
         takes = takes_meet past s all.1.1.0;
         stance = stance_of site script.roster host user past s acts known;
         answers = answers_meet site script.roster host user past s acts known all.1.1.1.0;
-        asks = asks_meet site script.roster host user past s acts known all.1.1.1.1.0;
+        asks = all_asked site script.roster host user past s acts known all.1.1.1.1.0;
         gives = gives_meet site past s all.1.1.1.1.1.0;
         revoked = revoked_meet past s all.1.1.1.1.1.1.0;
         resends = resends_meet site past s all.1.1.1.1.1.1.1.0;

@@ -26,7 +26,7 @@ use Rattle.run_examples.proofs.LabelWords.{same_use, begun, is_fine, ends_use, e
 use Rattle.run_examples.proofs.LabelWords.{in_use, is_used, frees as frees_, is_late, is_ending, is_local}
 use Rattle.run_examples.proofs.LabelWords.{counted_by, counted}
 use Rattle.run_examples.proofs.DirtWords.{range, written_at, spots_of, spots, kind_updates, updates_byte}
-use Rattle.run_examples.proofs.DirtWords.{is_status, updates_status, takes_status, has_length, newer}
+use Rattle.run_examples.proofs.DirtWords.{updates_status, takes_status, has_length, newer}
 use Rattle.run_examples.proofs.DirtWords.{last_lengths, has_present, length_clean, length_dirty, byte_dirty}
 use Rattle.run_examples.proofs.DirtWords.{dirty_under, is_clean}
 use Rattle.run_examples.proofs.CallWords.{ends_k, tells_end, learns_end, has_reply, is_ended, asked_in}
@@ -41,8 +41,6 @@ use Rattle.run_examples.proofs.AnswerChecks.{answered_right, cant, turn_right, i
 use Rattle.run_examples.proofs.AnswerChecks.{writes_file, written_right, is_lock_of, is_exact}
 use Rattle.run_examples.proofs.AnswerChecks.{takes_lock as takes_lock_, lock_right, begun_right, is_sync, synced}
 use Rattle.run_examples.proofs.AnswerChecks.{ends_in, freed_right, is_first_or_on, no_asked, answer_tests}
-use Rattle.run_examples.proofs.AskChecks.{asks_new, asks_again, is_gives, is_open_give, lack_waits, waits_right, one_or_none}
-use Rattle.run_examples.proofs.AskChecks.{ask_tests}
 use Rattle.run_examples.proofs.GiveChecks.{positions, owns_update, gives_byte, leaves_byte, byte_right}
 use Rattle.run_examples.proofs.GiveChecks.{byte_saved, dirty_length, has_seen, takes_length, length_kept}
 use Rattle.run_examples.proofs.GiveChecks.{frees_by, is_call, ends_right, is_give, sends_give, was_first}
@@ -60,37 +58,14 @@ use Rattle.run_examples.proofs.LeaveChecks.{deed_right, next_right, is_stop_deed
 use Rattle.run_examples.proofs.LeaveChecks.{line_tests, finds_it, finds_from, syncs_token, last_use, may_leave}
 use Rattle.run_examples.proofs.LeaveChecks.{is_evict, leave_tests, taken_before, is_first_use, ends_first}
 use Rattle.run_examples.proofs.LeaveChecks.{at_its_end, implied_right, bye_right, end_right, end_tests}
+use Rattle.run_examples.proofs.AskTests.{ask_words}
 use Rattle.run_examples.proofs.HostChecks.{host_tests, host_meets}
 use Rattle.run_examples.proofs.FetchWords.{is_asking, is_fetch, one_number}
 use Rattle.run_examples.proofs.LapseChecks.{fetch_late, fetches_as}
 
 -- all words of the tests
 unfoldable pub computed : ℕ
-unfolding home call_look write_look lock_look said is_about is_present learnt_by learnt known is_known drops_it held
-    holds_id ever returned_by returned given gives_it leaves_it owned made none_open is_waited waits is_first
-    fetched_by granted_by answered asking is_at changed_by settles_it settled_by settled changing welcomed_by welcomed
-    welcomes is_welcome kept_by kept_now has_kept floor_by renews is_above recalled_by recalled brought_by uses_by
-    takes_by may_take brought is_down is_bye says is_place goes_right of_file was_made follows asks shares claimed
-    names_it in_give names_all is_due claim_tests is_claim goes_to may_return is_settled had leaves_all token_tests
-    same_use begun is_fine ends_use ends_by gives_use stays_used in_use is_used frees_ is_late is_ending is_local
-    counted_by counted range written_at spots_of spots kind_updates updates_byte is_status updates_status takes_status
-    has_length newer last_lengths has_present length_clean length_dirty byte_dirty dirty_under is_clean ends_k
-    tells_end learns_end has_reply is_ended asked_in stays_open open_calls begun_by begins_now goes_on turns led_place
-    led_by led_of enters_now entered labels lock_by opening_by locks_of opens_of needs_server is_lock_kind
-    is_open_kind gives_with gives_label leads seen_in one_id each_one_id stance_tests same_place same_call same_reply
-    spans_all covers_kind covers_it lacks_kind lacks_it replies_so no_reply is_that answered_right cant turn_right
-    is_short is_file wrote_right writes_file written_right is_lock_of is_exact takes_lock_ lock_right begun_right
-    is_sync synced ends_in freed_right is_first_or_on no_asked answer_tests asks_new asks_again is_gives is_open_give
-    lack_waits waits_right one_or_none ask_tests positions owns_update gives_byte leaves_byte byte_right byte_saved
-    dirty_length has_seen takes_length length_kept frees_by is_call ends_right is_give sends_give was_first sent_right
-    is_next same_file used_right length_right length_too give_tests left_dirty has_dirty is_dirty_id is_on_way
-    stays_back gives_again revoke_tests kept_right recall_tests is_lapse is_hello is_reclaim is_restarted is_answer
-    goes_as sends_bye byes_at has_bye claims_at raises_at answers_at has_claim gives_as is_fetch is_asking one_number fetches_as
-    fetch_late greets_welcome gives_late byes_late claims_late late_right lapse_tests greeted learns_restart
-    gives_restarted restart_right claims_only answered_all resend_tests taken_or_held take_tests is_end idle few_idle
-    all_dropped begins_as says_down deed_right next_right is_stop_deed is_stop_line line_right line_tests finds_it
-    finds_from syncs_token last_use may_leave is_evict leave_tests taken_before is_first_use ends_first implied_right
-    bye_right at_its_end end_right end_tests host_tests
+unfolding home call_look write_look lock_look said is_about is_present learnt_by learnt known is_known drops_it held holds_id ever returned_by returned given gives_it leaves_it owned made none_open is_waited waits is_first fetched_by granted_by answered asking is_at changed_by settles_it settled_by settled changing welcomed_by welcomed welcomes is_welcome kept_by kept_now has_kept floor_by renews is_above recalled_by recalled brought_by uses_by takes_by may_take brought is_down is_bye says is_place goes_right of_file was_made follows asks shares claimed names_it in_give names_all is_due claim_tests is_claim goes_to may_return is_settled had leaves_all token_tests same_use begun is_fine ends_use ends_by gives_use stays_used in_use is_used frees_ is_late is_ending is_local counted_by counted range written_at spots_of spots kind_updates updates_byte updates_status takes_status has_length newer last_lengths has_present length_clean length_dirty byte_dirty dirty_under is_clean ends_k tells_end learns_end has_reply is_ended asked_in stays_open open_calls begun_by begins_now goes_on turns led_place led_by led_of enters_now entered labels lock_by opening_by locks_of opens_of needs_server is_lock_kind is_open_kind gives_with gives_label leads seen_in one_id each_one_id stance_tests same_place same_call same_reply spans_all covers_kind covers_it lacks_kind lacks_it replies_so no_reply is_that answered_right cant turn_right is_short is_file wrote_right writes_file written_right is_lock_of is_exact takes_lock_ lock_right begun_right is_sync synced ends_in freed_right is_first_or_on no_asked answer_tests ask_words positions owns_update gives_byte leaves_byte byte_right byte_saved dirty_length has_seen takes_length length_kept frees_by is_call ends_right is_give sends_give was_first sent_right is_next same_file used_right length_right length_too give_tests left_dirty has_dirty is_dirty_id is_on_way stays_back gives_again revoke_tests kept_right recall_tests is_lapse is_hello is_reclaim is_restarted is_answer goes_as sends_bye byes_at has_bye claims_at raises_at answers_at has_claim gives_as is_fetch is_asking one_number fetches_as fetch_late greets_welcome gives_late byes_late claims_late late_right lapse_tests greeted learns_restart gives_restarted restart_right claims_only answered_all resend_tests taken_or_held take_tests is_end idle few_idle all_dropped begins_as says_down deed_right next_right is_stop_deed is_stop_line line_right line_tests finds_it finds_from syncs_token last_use may_leave is_evict leave_tests taken_before is_first_use ends_first implied_right bye_right at_its_end end_right end_tests host_tests
 computed = 0
 
 pub grows_meets : HostMeets writing client (asks_update ∷ begin writes) (grows)

@@ -1,24 +1,16 @@
 -- All rules of a host's step that sends a new Fetch, computed.
-use Rattle.std.proofs.Common.{Bool, List, None, Option, Some, [], ap, false, inl, inr, refl, subst, suc, sym, true}
-use Rattle.std.proofs.Common.{ℕ, ◌&&◌, ◌||◌, ◌==◌, ◌∙◌, ◌∷◌, ◌≡◌, ◌<◌}
+use Rattle.std.proofs.Common.{Bool, List, None, Option, Some, [], false, inl, inr, refl, subst, suc, sym, true}
+use Rattle.std.proofs.Common.{ℕ, ◌&&◌, ◌||◌, ◌==◌, ◌∷◌, ◌≡◌, ◌<◌}
 use Rattle.std.proofs.lemmas.Bool.{and_from, and_parts, eqb-true, ltb-true, or_cases}
 use Rattle.std.specs.Prelude.{nat_lt, not}
 use Rattle.std.specs.List.{list_all, list_any}
 use Rattle.dfs_base.specs.Ids.{same_fid}
 use Rattle.dfs_base.specs.declared.ids.Fid.{Fid}
-use Rattle.dfs_base.specs.declared.ids.HostId.{HostId}
-use Rattle.dfs_base.specs.declared.ids.ServerId.{ServerId}
-use Rattle.dfs_base.specs.declared.ids.Node.TheVariants.{Host}
-use Rattle.dfs_base.specs.declared.user.User.{User}
-use Rattle.dfs_calls.specs.Rosters.{user_of}
-use Rattle.dfs_calls.specs.declared.roster.Roster.{Roster}
-use Rattle.dfs_needs.specs.Looks.{IsFirstLack}
 use Rattle.dfs_needs.specs.Walks.{root_of}
 use Rattle.rpc_types.specs.declared.asking.Fetch.{Fetch as FetchOf}
 use Rattle.rpc_types.specs.declared.message.Body.{Body}
-use Rattle.rpc_types.specs.declared.message.Body.TheVariants.{Hello, Fetch, Change}
+use Rattle.rpc_types.specs.declared.message.Body.TheVariants.{Fetch}
 use Rattle.rpc_types.specs.declared.message.Message.{Message}
-use Rattle.script_lines.specs.declared.script.Script.{Script}
 use Rattle.tok_types.specs.Covers.{Covers, covers_byte, kind_covers_byte}
 use Rattle.tok_types.specs.declared.token.Kind.{Kind}
 use Rattle.tok_types.specs.declared.token.Kind.TheVariants.{Bytes, Status, Lock as LockToken, Opening}
@@ -26,57 +18,21 @@ use Rattle.tok_types.specs.declared.token.Need.{Need}
 use Rattle.tok_types.specs.declared.token.Token.{Token}
 use Rattle.tree_laws.specs.Parts.{Nature}
 use Rattle.tree_laws.specs.Parts.Part.{Traits}
-use Rattle.world_host.specs.HostAsks.{AsksMissing, FetchNeeds, HostAsks, IsDirectory, IsFetchNumber, IsNewFetch}
+use Rattle.world_host.specs.HostAsks.{AsksMissing, FetchNeeds, IsDirectory, IsFetchNumber}
 use Rattle.world_host.specs.HostAsks.{IsNext, LackingNeeds}
 use Rattle.world_host.specs.HostAsks.FetchNeeds.{OfFile, OfUnknown}
-use Rattle.world_host.specs.HostRules.{HostMeets}
 use Rattle.world_host.specs.Views.{sees}
-use Rattle.world_journal.specs.Lines.{limit_of, lines_of, servers_of}
-use Rattle.world_steps.specs.Epochs.{IsWelcome}
 use Rattle.world_steps.specs.Grants.{IsUseKind}
-use Rattle.rpc_types.specs.declared.giving.AppliedGive.{AppliedGive}
 use Rattle.world_steps.specs.Lists.{In}
-use Rattle.world_steps.specs.Requests.{Asking}
-use Rattle.world_steps.specs.Sends.{Said, Sends}
-use Rattle.world_steps.specs.declared.step.Asked.{Asked}
+use Rattle.world_steps.specs.Sends.{Said}
 use Rattle.world_steps.specs.declared.step.Step.{Step}
-use Rattle.run_examples.proofs.Tests.{AllTrue, all_true, at_all, fid_is, fids, fileset_is, implies, is_none}
-use Rattle.run_examples.proofs.Tests.{list_is, none_in, not_is, passes, same_fileset}
+use Rattle.run_examples.proofs.Tests.{all_true, at_all, fid_is, fids, fileset_is, implies}
+use Rattle.run_examples.proofs.Tests.{list_is, not_is, passes, same_fileset}
 use Rattle.run_examples.proofs.Tests.{filesets, same_list, so, some_in}
-use Rattle.run_examples.proofs.Words.{asking, asking_in, at_said, changing, held, in_said, is_welcome, none_open}
-use Rattle.run_examples.proofs.Words.{none_open_yes, numbered, said, welcome_yes}
-use Rattle.run_examples.proofs.TokenChecks.{at_site, token_tests, tokens_meet}
-use Rattle.run_examples.proofs.LabelWords.{is_local}
-use Rattle.run_examples.proofs.FetchWords.{asking_yes, is_asking, need_is, same_need}
-use Rattle.run_examples.proofs.CallWords.{in_open, open_calls}
-use Rattle.run_examples.proofs.StanceChecks.{stance_of, stance_tests}
-use Rattle.run_examples.proofs.AnswerChecks.{answer_tests, answers_meet, covers_it, covers_yes, lacks_is, lacks_it, needs_at}
-use Rattle.run_examples.proofs.AskChecks.{one_of, one_or_none}
-use Rattle.run_examples.proofs.GiveChecks.{give_tests, gives_meet, recall_tests, revoked_meet}
-use Rattle.run_examples.proofs.LapseChecks.{resend_tests, resends_meet, take_tests, takes_meet}
-use Rattle.run_examples.proofs.LeaveChecks.{end_tests, ends_meet, leave_tests, leaves_meet, line_tests, lines_meet}
-
--- the first need that tokens lack
-unfoldable pub is_first_lack : List Token → List Need → Need → Bool
-is_first_lack kept [] need = false
-is_first_lack kept (n ∷ ns) need =
-    (lacks_it kept n && same_need n need) || (covers_it kept n && is_first_lack kept ns need)
-
-first_lack_is : (kept : List Token) (needs : List Need) (need : Need) → is_first_lack kept needs need ≡ true
-    → IsFirstLack kept needs need
-unfolding is_first_lack
-first_lack_is kept [] need e = absurd (cc)
-first_lack_is kept (n ∷ ns) need e =
-    elim (or_cases (lacks_it kept n && same_need n need) (covers_it kept n && is_first_lack kept ns need) e) [
-      | inl x ↦ (
-          let p = and_parts (lacks_it kept n) (same_need n need) x in
-          inl (lacks_is kept n p.0, need_is n need p.1)
-          )
-      | inr x ↦ (
-          let p = and_parts (covers_it kept n) (is_first_lack kept ns need) x in
-          inr (covers_yes kept n p.0, first_lack_is kept ns need p.1)
-          )
-    ]
+use Rattle.run_examples.proofs.Words.{at_said, held, in_said}
+use Rattle.run_examples.proofs.Words.{said}
+use Rattle.run_examples.proofs.FetchWords.{need_is, same_need}
+use Rattle.run_examples.proofs.AnswerChecks.{covers_it, covers_yes, lacks_is, lacks_it}
 
 -- no token has bytes of the file
 unfoldable pub is_bytes : Kind → Bool
@@ -166,7 +122,7 @@ unfoldable pub sees_dir : Option Nature → Bool
 sees_dir (Some nature) = nature.dir
 sees_dir None = false
 
-not_dir : (past : List Step) (s : Step) (held : List Token) (fid : Fid) → same_fid fid (root_of fid.fileset) ≡ false
+pub not_dir : (past : List Step) (s : Step) (held : List Token) (fid : Fid) → same_fid fid (root_of fid.fileset) ≡ false
     → sees_dir (sees past s fid Traits) ≡ false → IsDirectory past s held fid → ⊥
 unfolding sees_dir
 not_dir past s held fid a b (inl root) = let p = fids fid (root_of fid.fileset) root in cc
@@ -181,7 +137,7 @@ fetch_right held needs fid asked =
     (covers_it held (status_need fid) && lacking_right held needs fid asked)
     || (lacks_it held (status_need fid) && same_list same_need asked (status_need fid ∷ []))
 
-fetch_is : (past : List Step) (s : Step) (held : List Token) (needs : List Need) (fid : Fid) (asked : List Need)
+pub fetch_is : (past : List Step) (s : Step) (held : List Token) (needs : List Need) (fid : Fid) (asked : List Need)
     → (IsDirectory past s held fid → ⊥) → fetch_right held needs fid asked ≡ true
     → FetchNeeds past s held needs fid asked
 unfolding fetch_right
@@ -223,7 +179,7 @@ next_tests past f =
     ∷ ((f.number == 1) || list_any (λ k. is_before f k.body) (said past))
     ∷ []
 
-next_is : (past : List Step) (f : FetchOf) → passes (next_tests past f) ≡ true
+pub next_is : (past : List Step) (f : FetchOf) → passes (next_tests past f) ≡ true
     → IsNext (IsFetchNumber past f.fid.fileset) f.number
 unfolding next_tests is_below
 next_is past f e =
@@ -263,132 +219,12 @@ is_fetched (Bytes update span) = true
 is_fetched (Status update) = true
 is_fetched _ = false
 
-fetched_is : (k : Kind) → is_fetched k ≡ true → IsUseKind k → ⊥
+pub fetched_is : (k : Kind) → is_fetched k ≡ true → IsUseKind k → ⊥
 unfolding is_fetched
 fetched_is (Bytes update span) e u = u
 fetched_is (Status update) e u = u
 fetched_is k e u = absurd (cc)
 
-unfoldable pub fetch_tests : ServerId → HostId → User → List Step → Step → Message → FetchOf → Asked → Need → List Bool
-fetch_tests site host user past s m f c need =
-    passes (next_tests past f)
-    ∷ none_open (s ∷ past) f.fid
-    ∷ is_welcome (s ∷ past) m.server
-    ∷ one_or_none (asking (s ∷ past))
-    ∷ one_or_none (changing site (s ∷ past))
-    ∷ is_none (changing site (s ∷ past))
-    ∷ is_asking (s ∷ past) f
-    ∷ is_first_lack (held (s ∷ past)) (needs_at site host user past s c.call) need
-    ∷ same_fid need.fid f.fid
-    ∷ is_fetched need.kind
-    ∷ fetch_right (held (s ∷ past)) (needs_at site host user past s c.call) f.fid f.needs
-    ∷ not (same_fid f.fid (root_of f.fid.fileset))
-    ∷ not (sees_dir (sees past s f.fid Traits))
-    ∷ is_local site (s ∷ past)
-    ∷ []
-
-not_true : (b : Bool) → not b ≡ true → b ≡ false
+pub not_true : (b : Bool) → not b ≡ true → b ≡ false
 not_true true e = absurd (cc)
 not_true false e = refl
-
-module _ (site : ServerId) (roster : Roster) (host : HostId) (user : User) (past : List Step) (s : Step)
-    (acts : user_of roster host ≡ Some user) (known : passes (stance_tests site host past s) ≡ true)
-    (m : Message) (f : FetchOf) (c : Asked) (need : Need) (sent : s.sent ≡ m ∷ []) (body : m.body ≡ Fetch f)
-    (opened : In c (open_calls site (s ∷ past)))
-    (e : passes (fetch_tests site host user past s m f c need) ≡ true) where
-  only : (v : ServerId) (d n : ℕ) (b : Body) (p : Sends s v d n b) → (Fetch f ≡ b) × (m.server ≡ v)
-  only v d n b p =
-      let is : p.0 ≡ m = elim (subst (In p.0) sent p.1) [ inl q ↦ q | inr q ↦ elim q [ ] ] in
-      (sym body ∙ (ap (λ (x : Message). x.body) (sym is) ∙ p.5), ap (λ (x : Message). x.server) (sym is) ∙ p.2)
-
-  tests : AllTrue (fetch_tests site host user past s m f c need)
-  tests = all_true (fetch_tests site host user past s m f c need) e
-
-  asks : Asking (s ∷ past) f.fid.fileset f.number
-  unfolding fetch_tests
-  asks = asking_yes (s ∷ past) f tests.1.1.1.1.1.1.0
-
-  new_fetch : IsNewFetch roster host past s (stance_of site roster host user past s acts known) f
-  unfolding fetch_tests
-  new_fetch =
-      let tail = tests.1.1.1.1.1.1.1 in
-      let last = tail.1.1.1.1 in
-      record {
-        next = next_is past f tests.0;
-        no_give = none_open_yes (s ∷ past) f.fid tests.1.0;
-        call = c;
-        is_open = in_open site (s ∷ past) c last.1.1.0 opened;
-        need = need;
-        fetched = fetched_is need.kind tail.1.1.0;
-        file = fid_is need.fid f.fid tail.1.0;
-        first = first_lack_is (held (s ∷ past)) (needs_at site host user past s c.call) need tail.0;
-        needs = fetch_is past s (held (s ∷ past)) (needs_at site host user past s c.call) f.fid f.needs
-            (not_dir past s (held (s ∷ past)) f.fid (not_true (same_fid f.fid (root_of f.fid.fileset)) last.0)
-            (not_true (sees_dir (sees past s f.fid Traits)) last.1.0)) tail.1.1.1.0;
-      }
-
-  pub fetches_meet : HostAsks roster host past s (stance_of site roster host user past s acts known)
-  unfolding fetch_tests is_local
-  fetches_meet =
-      let local = tests.1.1.1.1.1.1.1.1.1.1.1.1.1.0 in
-      record {
-        fetches = λ g p.
-            let q = (only p.0 p.1 p.2 (Fetch g) p.3).0 in
-            let is : f ≡ g = cc in
-            inr (subst (IsNewFetch roster host past s (stance_of site roster host user past s acts known)) is new_fetch);
-        changes = λ v d n g p. absurd (let q = (only v d n (Change g) p).0 in cc);
-        one_fetch = λ fs gs n k a b.
-            let p = one_of (asking (s ∷ past)) (numbered fs n) (numbered gs k) tests.1.1.1.0 (asking_in (s ∷ past) fs n a)
-            (asking_in (s ∷ past) gs k b) in
-            (ap (λ (x : AppliedGive). x.fileset) p, ap (λ (x : AppliedGive). x.number) p);
-        one_change = λ v w fs gs n k a b.
-            let p = one_of (changing site (s ∷ past)) (numbered fs n) (numbered gs k) tests.1.1.1.1.0
-            (at_site site (s ∷ past) v fs n local a) (at_site site (s ∷ past) w gs k local b) in
-            (ap (λ (x : AppliedGive). x.fileset) p, ap (λ (x : AppliedGive). x.number) p);
-        one_of_both = λ v fs gs n k a b.
-            none_in (changing site (s ∷ past)) (numbered gs k) tests.1.1.1.1.1.0 (at_site site (s ∷ past) v gs k local b);
-        greets = λ v d n p. absurd (let q = (only v d n Hello p).0 in cc);
-        fetches_welcome = λ v d n g p.
-            subst (IsWelcome (s ∷ past)) (only v d n (Fetch g) p).1 (welcome_yes (s ∷ past) m.server tests.1.1.0);
-        changes_welcome = λ v d n g p. absurd (let q = (only v d n (Change g) p).0 in cc);
-        asks = λ call o up. inl (f.fid.fileset, f.number, asks);
-      }
-
--- the other rules
-unfoldable pub other_tests : ServerId → Script → HostId → User → List Step → Step → List Bool
-other_tests site script host user past s =
-    passes (token_tests site past s)
-    ∷ passes (take_tests past s)
-    ∷ passes (answer_tests site host user past s)
-    ∷ passes (give_tests site past s)
-    ∷ passes (recall_tests past s)
-    ∷ passes (resend_tests site past s)
-    ∷ passes (leave_tests site user past s)
-    ∷ passes (line_tests site (lines_of script (Host host)) (servers_of script.roster)
-    (limit_of script.roster host) past s)
-    ∷ passes (end_tests site (lines_of script (Host host)) (limit_of script.roster host) past s)
-    ∷ is_local site past
-    ∷ []
-
-pub asking_meets : (site : ServerId) (script : Script) (host : HostId) (user : User) (past : List Step) (s : Step)
-    (acts : user_of script.roster host ≡ Some user) (known : passes (stance_tests site host past s) ≡ true)
-    → HostAsks script.roster host past s (stance_of site script.roster host user past s acts known)
-    → passes (other_tests site script host user past s) ≡ true → HostMeets script host past s
-unfolding other_tests
-asking_meets site script host user past s acts known asks e =
-    let t = all_true (other_tests site script host user past s) e in
-    record {
-      tokens = tokens_meet site past s t.0;
-      takes = takes_meet past s t.1.0;
-      stance = stance_of site script.roster host user past s acts known;
-      answers = answers_meet site script.roster host user past s acts known t.1.1.0;
-      asks = asks;
-      gives = gives_meet site past s t.1.1.1.0;
-      revoked = revoked_meet past s t.1.1.1.1.0;
-      resends = resends_meet site past s t.1.1.1.1.1.0;
-      leaves = leaves_meet site script.roster host user past s acts known t.1.1.1.1.1.1.1.1.1.0
-          (limit_of script.roster host) t.1.1.1.1.1.1.0;
-      lines = lines_meet site (lines_of script (Host host)) (servers_of script.roster)
-          (limit_of script.roster host) past s t.1.1.1.1.1.1.1.0;
-      ends = ends_meet site (lines_of script (Host host)) (limit_of script.roster host) past s t.1.1.1.1.1.1.1.1.0;
-    }

@@ -1,7 +1,7 @@
 -- Fetches that are outstanding, as plain data.
 use Rattle.std.proofs.Common.{Bool, List, [], false, inl, inr, refl, subst, sym, true}
 use Rattle.std.proofs.Common.{◌&&◌, ◌==◌, ◌∙◌, ◌∷◌, ◌≡◌}
-use Rattle.std.proofs.lemmas.Bool.{and_from, and_parts, eqb-true}
+use Rattle.std.proofs.lemmas.Bool.{and_parts, eqb-true}
 use Rattle.std.specs.List.{list_all, list_any}
 use Rattle.dfs_base.specs.Ids.{same_fid}
 use Rattle.rpc_types.specs.declared.asking.Fetch.{Fetch as FetchOf}
@@ -12,7 +12,7 @@ use Rattle.tok_types.specs.declared.token.Need.{Need}
 use Rattle.world_steps.specs.Lists.{In}
 use Rattle.world_steps.specs.Requests.{Asking}
 use Rattle.world_steps.specs.declared.step.Step.{Step}
-use Rattle.run_examples.proofs.Tests.{any_of, at_all, fid_is, fids, kind_is, kinds, list_is, number_is, numbers, same_kind, same_list}
+use Rattle.run_examples.proofs.Tests.{any_of, at_all, fid_is, kind_is, list_is, number_is, numbers, same_kind, same_list}
 use Rattle.run_examples.proofs.Tests.{same_number, some_in}
 use Rattle.run_examples.proofs.Words.{asking, asking_in, in_asking, numbered}
 
@@ -25,10 +25,6 @@ need_is a b e =
     let f = fid_is a.fid b.fid p.0 in
     let k = kind_is a.kind b.kind p.1 in
     λ i. record { fid = f i; kind = k i }
-
-pub needs_same : (a : Need) → same_need a a ≡ true
-needs_same a =
-    and_from (same_fid a.fid a.fid) (same_kind a.kind a.kind) (fids a.fid a.fid refl) (kinds a.kind a.kind refl)
 
 abbrev pub same_fetch : FetchOf → FetchOf → Bool
 same_fetch a b = (a.number == b.number) && (same_fid a.fid b.fid && same_list same_need a.needs b.needs)

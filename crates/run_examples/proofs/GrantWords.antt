@@ -7,13 +7,11 @@ use Rattle.std.specs.List.{list_all}
 use Rattle.dfs_base.specs.Ids.{same_fid}
 use Rattle.dfs_base.specs.declared.ids.Fid.{Fid}
 use Rattle.dfs_base.specs.declared.ids.ServerId.{ServerId}
-use Rattle.rpc_types.specs.declared.message.Body.TheVariants.{Grant, Done, Revoke, Returned, Kept, GiveBack}
-use Rattle.rpc_types.specs.declared.message.Body.TheVariants.{Down, Bye}
+use Rattle.rpc_types.specs.declared.message.Body.TheVariants.{Grant, Done, Revoke, Kept}
 use Rattle.rpc_types.specs.declared.telling.Bring.{Bring}
 use Rattle.tok_types.specs.declared.token.Token.{Token}
-use Rattle.world_server.specs.ServerSends.{Revoked}
-use Rattle.world_steps.specs.Acts.{Act, epoch}
-use Rattle.world_steps.specs.Acts.Act.{Begins, Took, Admits, Sent, Reserves}
+use Rattle.world_steps.specs.Acts.{Act}
+use Rattle.world_steps.specs.Acts.Act.{Took, Admits, Sent, Reserves}
 use Rattle.world_steps.specs.Grants.{Granted, Issued, Issues, Mark, Pinned, Reserved}
 use Rattle.world_steps.specs.Hosts.{NoGrace}
 use Rattle.world_steps.specs.Lists.{In}
@@ -52,41 +50,6 @@ granted_in server (a ∷ past) t (inl (inl (k, x))) = in_front t (brings a) (bro
 granted_in server (a ∷ past) t (inl (inr (tokens, is, m))) =
     in_front t (brings a) (brought_ever past) (subst (λ x. In t (brings x)) (sym is) m)
 granted_in server (a ∷ past) t (inr (g, _, _, _)) = in_back t (brings a) (brought_ever past) (granted_in server past t g)
-
--- doings by which no token ends
-unfoldable pub is_calm : Act → Bool
-is_calm (Begins e) = false
-is_calm (Took h e n (Returned named)) = false
-is_calm (Took h e n (GiveBack give)) = false
-is_calm (Took h e n Down) = false
-is_calm (Took h e n Bye) = false
-is_calm _ = true
-
-not_calm : (a b : Act) → is_calm a ≡ true → is_calm b ≡ false → a ≡ b → ⊥
-not_calm a b t f is = let p : is_calm b ≡ true = subst (λ x. is_calm x ≡ true) is t in cc
-
-stays_one : (server : ServerId) (a : Act) (past : List Act) (t : Token) → is_calm a ≡ true → Granted server past t
-    → Granted server (a ∷ past) t
-unfolding is_calm
-stays_one server a past t calm g = inr (
-  g,
-  λ (e, is). not_calm a (Begins e) calm refl is,
-  λ x. elim x [
-    | inl (named, (n, here, (is, live)), m) ↦ not_calm a (Took t.host (epoch past) n (Returned named)) calm refl is
-    | inr (give, (n, here, (is, live)), m) ↦ not_calm a (Took t.host (epoch past) n (GiveBack give)) calm refl is
-  ],
-  λ x. elim x [
-    | inl (e, n, is) ↦ not_calm a (Took t.host e n Down) calm refl is
-    | inr ((n, is), listed, up) ↦ not_calm a (Took t.host (epoch past) n Bye) calm refl is
-  ],
-)
-
-pub stays_granted : (server : ServerId) (acts past : List Act) (t : Token) → list_all is_calm acts ≡ true
-    → Granted server past t → Granted server (acts ++ past) t
-stays_granted server [] past t calm g = g
-stays_granted server (a ∷ acts) past t calm g =
-    let p = and_parts (is_calm a) (list_all is_calm acts) calm in
-    stays_one server a (acts ++ past) t p.0 (stays_granted server acts past t p.1 g)
 
 -- all stamps of a file in this epoch lie below one
 unfoldable pub is_below : Fid → ℕ → Act → Bool
@@ -143,19 +106,6 @@ none_pinned server (a ∷ past) t e (inl (named, (n, here, (is, live)), _, _, _)
     is_not (is_kept a) p.0 (subst (λ x. is_kept x ≡ true) (sym is) refl)
 none_pinned server (a ∷ past) t e (inr x, g) =
     none_pinned server past t (and_parts (not (is_kept a)) (list_all (λ a. not (is_kept a)) past) e).1 x
-
-unfoldable pub is_revoke : Act → Bool
-is_revoke (Sent h e n (Revoke r)) = true
-is_revoke _ = false
-
-pub none_revoked : (past : List Act) (t : Token) → list_all (λ a. not (is_revoke a)) past ≡ true → Revoked past t → ⊥
-unfolding is_revoke
-none_revoked [] t e x = elim x [ ]
-none_revoked (a ∷ past) t e (inl (h, n, r, is, m)) =
-    let p = and_parts (not (is_revoke a)) (list_all (λ a. not (is_revoke a)) past) e in
-    is_not (is_revoke a) p.0 (subst (λ x. is_revoke x ≡ true) (sym is) refl)
-none_revoked (a ∷ past) t e (inr (x, quiet)) =
-    none_revoked past t (and_parts (not (is_revoke a)) (list_all (λ a. not (is_revoke a)) past) e).1 x
 
 unfoldable pub keeps_none : Act → Bool
 keeps_none (Reserves tokens) = is_none tokens

@@ -13,7 +13,7 @@ use Rattle.run_examples.proofs.Tests.{passes, all_true}
 use Rattle.run_examples.proofs.TokenChecks.{token_tests, tokens_meet}
 use Rattle.run_examples.proofs.StanceChecks.{stance_of, stance_tests}
 use Rattle.run_examples.proofs.AnswerChecks.{answer_tests, answers_meet}
-use Rattle.run_examples.proofs.AskChecks.{ask_tests, asks_meet}
+use Rattle.run_examples.proofs.AskTests.{all_asked, asking_tests}
 use Rattle.run_examples.proofs.GiveChecks.{give_tests, gives_meet, recall_tests, revoked_meet}
 use Rattle.run_examples.proofs.LapseChecks.{resend_tests, resends_meet, take_tests, takes_meet}
 use Rattle.run_examples.proofs.LeaveChecks.{end_tests, ends_meet, leave_tests, leaves_meet, line_tests, lines_meet}
@@ -25,7 +25,7 @@ host_tests site script host user past s =
     ∷ passes (token_tests site past s)
     ∷ passes (take_tests past s)
     ∷ passes (answer_tests site host user past s)
-    ∷ passes (ask_tests site host user past s)
+    ∷ passes (asking_tests site host user past s)
     ∷ passes (give_tests site past s)
     ∷ passes (recall_tests past s)
     ∷ passes (resend_tests site past s)
@@ -47,7 +47,7 @@ host_meets site script host user past s acts e =
       takes = takes_meet past s t.1.1.0;
       stance = stance_of site script.roster host user past s acts t.0;
       answers = answers_meet site script.roster host user past s acts t.0 t.1.1.1.0;
-      asks = asks_meet site script.roster host user past s acts t.0 t.1.1.1.1.0;
+      asks = all_asked site script.roster host user past s acts t.0 t.1.1.1.1.0;
       gives = gives_meet site past s t.1.1.1.1.1.0;
       revoked = revoked_meet past s t.1.1.1.1.1.1.0;
       resends = resends_meet site past s t.1.1.1.1.1.1.1.0;

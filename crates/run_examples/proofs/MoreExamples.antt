@@ -1,5 +1,5 @@
 -- More examples: each test is computed.
-use Rattle.std.proofs.Common.{[], false, inl, refl, true, ◌∷◌, ℕ}
+use Rattle.std.proofs.Common.{[], false, refl, true, ◌∷◌, ℕ}
 use Rattle.dfs_objects.specs.Spans.{span_between}
 use Rattle.rpc_types.specs.declared.message.Body.TheVariants.{GiveBack}
 use Rattle.tok_types.specs.declared.token.Kind.TheVariants.{Bytes, Status}
@@ -12,14 +12,10 @@ use Rattle.run_examples.specs.Steps.{file_bytes, frees_last, greets, grows, grow
 use Rattle.run_examples.specs.Steps.{needs, returns_all, unlocks_last, writes}
 use Rattle.run_examples.proofs.Examples.{computed}
 use Rattle.run_examples.proofs.EvictChecks.{evict_meets, evict_tests, may_evict, uses_now}
-use Rattle.run_examples.proofs.FetchChecks.{asking_meets, fetch_right, fetch_tests, fetches_meet, is_asked, is_before}
-use Rattle.run_examples.proofs.FetchChecks.{is_below, is_bytes, is_fetched, is_first_lack, is_lacked, lacking_right}
-use Rattle.run_examples.proofs.FetchChecks.{next_tests, no_bytes, other_tests, sees_dir}
 use Rattle.run_examples.proofs.HostChecks.{host_meets}
 
-unfoldable more : ℕ
-unfolding computed evict_tests may_evict uses_now fetch_right fetch_tests is_asked is_before is_below is_bytes
-    is_fetched is_first_lack is_lacked lacking_right next_tests no_bytes other_tests sees_dir
+unfoldable pub more : ℕ
+unfolding computed evict_tests may_evict uses_now
 more = 0
 
 pub unlocks_meets : HostMeets locking_alone client locked unlocks_last
@@ -61,14 +57,9 @@ evicts_lapse =
     host_meets site_one caching client owner (evicts ∷ grown) (lapses (to_server 1 (GiveBack evicted) ∷ [])) refl refl
 
 pub asks_file_meets : HostMeets writing client (asks_root ∷ enters writes ∷ greets writes ∷ []) asks_file
-unfolding more
+unfolding computed
 asks_file_meets =
-    let past = asks_root ∷ enters writes ∷ greets writes ∷ [] in
-    let asked = asks_for 2 file (needs file (Status false) ∷ []) in
-    asking_meets site_one writing client owner past asks_file refl refl
-    (fetches_meet site_one writing.roster client owner past asks_file refl refl asked
-    (record { number = 2; fid = file; needs = needs file (Status false) ∷ [] }) (record { k = 1; call = writes })
-    (needs file (Status false)) refl refl (inl refl) refl) refl
+    host_meets site_one writing client owner (asks_root ∷ enters writes ∷ greets writes ∷ []) asks_file refl refl
 
 pub asks_file_lapse : HostMeets writing client (begin writes)
     (lapses (asks_for 2 file (needs file (Status false) ∷ []) ∷ []))
@@ -78,13 +69,8 @@ asks_file_lapse =
     (lapses (asks_for 2 file (needs file (Status false) ∷ []) ∷ [])) refl refl
 
 pub asks_update_meets : HostMeets writing client (begin writes) asks_update
-unfolding more
-asks_update_meets =
-    let wanted = needs file (Status true) ∷ needs file (Bytes true (span_between 0 1024)) ∷ [] in
-    asking_meets site_one writing client owner (begin writes) asks_update refl refl
-    (fetches_meet site_one writing.roster client owner (begin writes) asks_update refl refl (asks_for 3 file wanted)
-    (record { number = 3; fid = file; needs = wanted }) (record { k = 1; call = writes })
-    (needs file (Status true)) refl refl (inl refl) refl) refl
+unfolding computed
+asks_update_meets = host_meets site_one writing client owner (begin writes) asks_update refl refl
 
 pub asks_update_lapse : HostMeets writing client (asks_update ∷ begin writes)
     (lapses (asks_for 3 file (needs file (Status true) ∷ needs file (Bytes true (span_between 0 1024)) ∷ []) ∷ []))

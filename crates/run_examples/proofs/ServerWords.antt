@@ -3,7 +3,6 @@ use Rattle.std.proofs.Common.{Bool, List, [], ap, false, inl, inr, refl, subst, 
 use Rattle.std.proofs.Common.{if◌then◌else◌, ℕ, ◌&&◌, ◌++◌, ◌||◌, ◌==◌, ◌∷◌, ◌≡◌, ◌≤◌}
 use Rattle.std.proofs.lemmas.Bool.{and_parts, and_from, or_cases, or_left, or_right, eqb-true, eq-eqb, leb-true, le-leb}
 use Rattle.std.specs.Prelude.{not, nat_le}
-use Rattle.std.specs.List.{filter}
 use Rattle.dfs_base.specs.declared.ids.FilesetId.{FilesetId}
 use Rattle.dfs_base.specs.declared.ids.HostId.{HostId}
 use Rattle.dfs_base.specs.declared.ids.ServerId.{ServerId}
@@ -12,9 +11,8 @@ use Rattle.rpc_types.specs.declared.giving.AppliedGive.{AppliedGive}
 use Rattle.rpc_types.specs.declared.giving.Give.{Give}
 use Rattle.rpc_types.specs.declared.giving.Reclaim.{Reclaim as ReclaimOf}
 use Rattle.rpc_types.specs.declared.message.Body.TheVariants.{Hello, Grant, Done, GiveBack, Reclaim, Down, Bye}
-use Rattle.world_server.specs.Wants.{Decides, Unwants, Waits}
 use Rattle.world_steps.specs.Acts.{Act, epoch}
-use Rattle.world_steps.specs.Acts.Act.{Begins, Took, Wants, Admits, Sent}
+use Rattle.world_steps.specs.Acts.Act.{Begins, Took, Admits, Sent}
 use Rattle.world_steps.specs.Grants.{Applied}
 use Rattle.world_steps.specs.Hosts.{Away, GoesAway, HasReclaimed, Hears, IsBegin, IsDown, IsLive}
 use Rattle.world_steps.specs.Hosts.{Listed}
@@ -23,8 +21,7 @@ use Rattle.world_steps.specs.Lists.{In}
 use Rattle.world_steps.specs.Places.{Here, Place, birth, home}
 use Rattle.world_steps.specs.declared.applied.Request.{Request}
 use Rattle.world_steps.specs.declared.applied.Request.TheVariants.{Fetch as Asks, Change as Changes}
-use Rattle.world_steps.specs.declared.applied.Wanted.{Wanted}
-use Rattle.run_examples.proofs.Tests.{is_not, not_is, in_front, in_back, in_filter}
+use Rattle.run_examples.proofs.Tests.{is_not, not_is, in_front, in_back}
 use Rattle.run_examples.proofs.Tests.{same_host, host_is, hosts, same_server, server_is, servers}
 use Rattle.run_examples.proofs.Tests.{same_fileset}
 use Rattle.run_examples.proofs.Tests.{fileset_is, filesets, same_is}
@@ -140,7 +137,7 @@ taken_bye h now n a is =
 unfoldable pub goes_away : List Act → Act → HostId → Bool
 goes_away past a h = takes_down h a || (takes_bye h (epoch past) a && (listed past h && not (down past h)))
 
-away_yes_now : (past : List Act) (a : Act) (h : HostId) → goes_away past a h ≡ true → GoesAway past a h
+pub away_yes_now : (past : List Act) (a : Act) (h : HostId) → goes_away past a h ≡ true → GoesAway past a h
 unfolding takes_down takes_hello down listed takes_bye goes_away
 away_yes_now past a h t =
     elim (or_cases (takes_down h a) (takes_bye h (epoch past) a && (listed past h && not (down past h))) t) [
@@ -152,7 +149,7 @@ away_yes_now past a h t =
           )
     ]
 
-away_is_now : (past : List Act) (a : Act) (h : HostId) → GoesAway past a h → goes_away past a h ≡ true
+pub away_is_now : (past : List Act) (a : Act) (h : HostId) → GoesAway past a h → goes_away past a h ≡ true
 unfolding takes_down takes_hello down listed takes_bye goes_away
 away_is_now past a h (inl x) = or_left (takes_down h a) (takes_bye h (epoch past) a && (listed past h && not
     (down past h))) (heard_down h a x)
@@ -223,7 +220,7 @@ unfolding takes_down takes_hello down listed takes_bye goes_away away live heard
 begin_yes (Begins e) t = (e, refl)
 begin_yes a t = absurd (cc)
 
-begin_is : (a : Act) → IsBegin a → begins a ≡ true
+pub begin_is : (a : Act) → IsBegin a → begins a ≡ true
 unfolding takes_down takes_hello down listed takes_bye goes_away away live heard_from heard begins
 begin_is a (e, is) = subst (λ x. begins x ≡ true) (sym is) refl
 
@@ -354,7 +351,7 @@ applied_yes server (a ∷ past) h number t =
       | inr p ↦ inr (applied_yes server past h number p)
     ]
 
-here_is : (server : ServerId) (fs : FilesetId) (n : ℕ) → birth fs ≡ record { server = server; moves = n }
+pub here_is : (server : ServerId) (fs : FilesetId) (n : ℕ) → birth fs ≡ record { server = server; moves = n }
     → here server fs n ≡ true
 unfolding takes_down takes_hello down listed takes_bye goes_away away live heard_from heard begins admits_host
     reclaimed here takes_give applied
@@ -398,96 +395,10 @@ decides h (Sent host e n (Done d)) (Changes c) =
     same_host host h && (same_fileset d.fileset c.fileset && (d.bring.number == c.number))
 decides h a r = false
 
-decides_yes : (h : HostId) (a : Act) (r : Request) → decides h a r ≡ true → Decides a h r
-unfolding takes_down takes_hello down listed takes_bye goes_away away live heard_from heard begins admits_host
-    reclaimed here takes_give applied decides
-decides_yes h (Sent host e n (Grant g)) (Asks f) t =
-    let p = and_parts (same_host host h) (same_fileset g.bring.fid.fileset f.fid.fileset &&
-    (g.bring.number == f.number)) t in
-    let q = and_parts (same_fileset g.bring.fid.fileset f.fid.fileset) (g.bring.number == f.number) p.1 in
-    let hh = host_is host h p.0 in (
-      e,
-      n,
-      g,
-      (λ i. Sent (hh i) e n (Grant g)),
-      fileset_is g.bring.fid.fileset f.fid.fileset q.0,
-      eqb-true
-          g.bring.number f.number q.1,
-    )
-decides_yes h (Sent host e n (Done d)) (Changes c) t =
-    let p = and_parts (same_host host h) (same_fileset d.fileset c.fileset && (d.bring.number == c.number)) t in
-    let q = and_parts (same_fileset d.fileset c.fileset) (d.bring.number == c.number) p.1 in
-    let hh = host_is host h p.0 in
-    inr (
-      e,
-      n,
-      d,
-      (λ i. Sent (hh i) e n (Done d)),
-      fileset_is d.fileset c.fileset q.0,
-      eqb-true d.bring.number
-          c.number q.1,
-    )
-decides_yes h a r t = absurd (cc)
-
-unfoldable pub wanted_by : Act → List Wanted
-wanted_by (Wants w) = w ∷ []
-wanted_by _ = []
-
-unfoldable pub unwants : List Act → Act → Wanted → Bool
-unwants past a w = decides w.host a w.request || (goes_away past a w.host || begins a)
-
-unfoldable pub waiting : List Act → List Wanted
-waiting [] = []
-waiting (a ∷ past) = wanted_by a ++ filter (λ w. not (unwants past a w)) (waiting past)
-
-unwants_yes : (past : List Act) (a : Act) (w : Wanted) → unwants past a w ≡ true → Unwants past a w
-unfolding takes_down takes_hello down listed takes_bye goes_away away live heard_from heard begins admits_host
-    reclaimed here takes_give applied decides wanted_by unwants waiting
-unwants_yes past a w t =
-    elim (or_cases (decides w.host a w.request) (goes_away past a w.host || begins a) t) [
-      | inl p ↦ inl (decides_yes w.host a w.request p)
-      | inr p ↦ inr (inr (elim (or_cases (goes_away past a w.host) (begins a) p) [
-        | inl q ↦ inl
-            (away_yes_now past a w.host q)
-        | inr q ↦ inr (begin_yes a q)
-      ]))
-    ]
-
-pub waits_in : (past : List Act) (w : Wanted) → Waits past w → In w (waiting past)
-unfolding takes_down takes_hello down listed takes_bye goes_away away live heard_from heard begins admits_host
-    reclaimed here takes_give applied decides wanted_by unwants waiting
-waits_in [] w x = elim x [ ]
-waits_in (a ∷ past) w (inl e) =
-    in_front w (wanted_by a) (filter (λ w. not (unwants past a w)) (waiting past)) (subst (λ y. In w (wanted_by y))
-    (sym e) (inl refl))
-waits_in (a ∷ past) w (inr x) =
-    in_back w (wanted_by a) (filter (λ w. not (unwants past a w)) (waiting past))
-    (in_filter (λ w. not (unwants past a w)) (waiting past) w (waits_in past w x.0) (not_is (unwants past a w)
-    (λ e. x.1 (unwants_yes past a w e))))
-
 -- no claim was taken in this epoch
 unfoldable pub claims : Act → Bool
 claims (Took host e n (Reclaim claim)) = true
 claims _ = false
-
-unfoldable pub claimless : List Act → Bool
-claimless [] = true
-claimless (a ∷ past) = not (claims a) && (begins a || claimless past)
-
-pub no_claim : (past : List Act) (h : HostId) (n : ℕ) (claim : ReclaimOf) → claimless past ≡ true → TookNow past h n
-    (Reclaim claim) → ⊥
-unfolding begins claims claimless
-no_claim [] h n claim t x = elim x [ ]
-no_claim (a ∷ past) h n claim t x =
-    let p = and_parts (not (claims a)) (begins a || claimless past) t in
-    elim x [
-      | inl y ↦ is_not (claims a) p.0 (subst (λ z. claims z ≡ true) (sym y.0) refl)
-      | inr y ↦ (elim (or_cases (begins a) (claimless past) p.1) [
-        | inl q ↦ y.1
-            (begin_yes a q)
-        | inr q ↦ no_claim past h n claim q y.0
-      ])
-    ]
 
 -- the hosts whose claims were taken in this epoch
 unfoldable pub claimant : Act → List HostId

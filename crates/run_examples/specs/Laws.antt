@@ -1,6 +1,11 @@
 -- What the examples show: each step meets all rules of its host, after the steps that led to it; and so does a lapse
 -- after it.
-use Rattle.std.specs.Prelude.{List, [], false, true, ◌∷◌}
+use Rattle.std.specs.Prelude.{List, [], false, length, suc, true, ◌∷◌}
+use Rattle.dfs_base.specs.declared.ids.HostId.{HostId}
+use Rattle.dfs_calls.specs.declared.roster.Roster.{Roster}
+use Rattle.tok_types.specs.declared.token.Token.{Token}
+use Rattle.world_host.specs.HostLeaves.{LastUsed}
+use Rattle.world_steps.specs.Lists.{In}
 use Rattle.dfs_base.specs.declared.ids.Node.TheVariants.{Server}
 use Rattle.script_lines.specs.declared.script.Deed.TheVariants.{Call as MakesCall, Restart, Stop}
 use Rattle.script_lines.specs.declared.script.Script.{Script}
@@ -131,3 +136,8 @@ abbrev pub BlockedFetchIsGranted : Type 0
 BlockedFetchIsGranted =
     Serves writing shared calls_back (to_host (Revoke (recall 4)) ∷ [])
     × Serves writing (calls_back ∷ shared) stores_and_grants []
+
+-- A token that a host's step takes counts as used by it, and so isn't the oldest while another idle one was used earlier.
+abbrev pub TakenIsUsed : Type 0
+TakenIsUsed = (roster : Roster) (host : HostId) (past : List Step) (s : Step) (t : Token) → In t s.taken
+    → LastUsed roster host (s ∷ past) t (suc (length past))

@@ -1,6 +1,6 @@
 ghost use Rattle.run_examples.specs.Laws.{WriteIsAskedFor, WriteIsAnswered, RevokeIsAnswered, RestartIsAnswered};
 ghost use Rattle.run_examples.specs.Laws.{StopIsAllowed, EndIsAllowed, LockIsKept, UseIsEnded, EvictionIsAllowed};
-ghost use Rattle.run_examples.specs.Laws.{BlockedFetchIsGranted, ServerReacts};
+ghost use Rattle.run_examples.specs.Laws.{BlockedFetchIsGranted, ServerReacts, TakenIsUsed};
 
 /// A Write asks for the status of a file that its host doesn't know, and then to change the status and the block that it
 /// lacks; at a lapse it asks again.
@@ -63,4 +63,9 @@ pub fn a_server_reacts()
 /// come back the Fetch is granted, and the Grant tells what is kept then.
 pub fn a_blocked_fetch_is_granted()
     ensures { BlockedFetchIsGranted }
+{}
+
+/// A token that a host's step takes counts as used by that step.
+pub fn what_is_taken_is_used()
+    ensures { TakenIsUsed }
 {}

@@ -7,5 +7,5 @@ mod laws;
 pub use laws::{
     a_blocked_fetch_is_granted, a_growing_write_is_answered, a_lock_is_kept, a_restart_is_answered,
     a_revoke_is_answered, a_server_reacts, a_stop_is_allowed, a_use_is_ended, a_write_is_asked_for,
-    an_end_is_allowed, an_eviction_is_allowed,
+    an_end_is_allowed, an_eviction_is_allowed, what_is_taken_is_used,
 };

@@ -1,4 +1,4 @@
-use Rattle.run_examples.proofs.WantExample.{calls_lapse, calls_meets, grants_lapse, grants_meets}
+use Rattle.run_examples.proofs.ServerExamples.{calls_lapse, calls_meets, grants_lapse, grants_meets}
 use Rattle.run_examples.proofs.laws.a_blocked_fetch_is_granted.Goals as goal
 
 pub returns : goal.returns

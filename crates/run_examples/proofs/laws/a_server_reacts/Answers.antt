@@ -1,4 +1,4 @@
-use Rattle.run_examples.proofs.ClaimExample.{admits_lapse, admits_meets}
+use Rattle.run_examples.proofs.ServerExamples.{admits_lapse, admits_meets}
 use Rattle.run_examples.proofs.ServerExamples.{bye_lapse, bye_meets, down_lapse, down_meets, restarts_lapse, restarts_meets}
 use Rattle.run_examples.proofs.ServerExamples.{returned_lapse, returned_meets, stores_lapse, stores_meets}
 use Rattle.run_examples.proofs.laws.a_server_reacts.Goals as goal

@@ -1,0 +1,1030 @@
+-- How a server decides and sends, computed.
+use Rattle.dfs_base.specs.Ids.{same_fid}
+use Rattle.dfs_base.specs.declared.ids.FilesetId.{FilesetId}
+use Rattle.dfs_base.specs.declared.ids.HostId.{HostId}
+use Rattle.dfs_base.specs.declared.ids.ServerId.{ServerId}
+use Rattle.dfs_calls.specs.declared.call.Call.{Call}
+use Rattle.dfs_calls.specs.declared.call.Call.TheVariants.{Lock}
+use Rattle.dfs_calls.specs.declared.reply.Refusal.{Refusal}
+use Rattle.dfs_calls.specs.declared.reply.Refusal.TheVariants.{Locked}
+use Rattle.dfs_calls.specs.declared.reply.Reply.{Reply}
+use Rattle.dfs_calls.specs.declared.reply.Reply.TheVariants.{Refused}
+use Rattle.dfs_filesets.specs.declared.fileset.Fileset.{Fileset}
+use Rattle.dfs_needs.specs.Questions.{fileset_of}
+use Rattle.dfs_tree.specs.Finding.{fileset_named}
+use Rattle.dfs_tree.specs.declared.tree.Tree.{Tree}
+use Rattle.rpc_types.specs.declared.asking.Change.{Change as ChangeOf}
+use Rattle.rpc_types.specs.declared.asking.Fetch.{Fetch as FetchOf}
+use Rattle.rpc_types.specs.declared.message.Body.{Body}
+use Rattle.rpc_types.specs.declared.message.Body.TheVariants.{Change, Done, Fetch, Grant, Revoke}
+use Rattle.rpc_types.specs.declared.message.Message.{Message}
+use Rattle.rpc_types.specs.declared.telling.Done.{Done as DoneOf}
+use Rattle.rpc_types.specs.declared.telling.DoneIs.{DoneIs}
+use Rattle.rpc_types.specs.declared.telling.DoneIs.TheVariants.{Reply as HasReply, Known as IsFileset}
+use Rattle.rpc_types.specs.declared.telling.DoneIs.TheVariants.{Granted as IsGranted}
+use Rattle.rpc_types.specs.declared.telling.Grant.{Grant as GrantOf}
+use Rattle.rpc_types.specs.declared.tokens.Revoke.{Revoke as RevokeOf}
+use Rattle.run_examples.proofs.AnswerChecks.{call_is, same_call, same_place}
+use Rattle.run_examples.proofs.FetchWords.{fetch_body, is_fetch, need_is, same_need}
+use Rattle.run_examples.proofs.LapseChecks.{is_lapse, lapse_cause}
+use Rattle.run_examples.proofs.MayTests.{exporter_free, free_yes, fresh_durable, fresh_sent, fresh_written, is_fresh}
+use Rattle.run_examples.proofs.MayTests.{may_words, over, over_yes}
+use Rattle.run_examples.proofs.ServerChecks.{is_taken}
+use Rattle.run_examples.proofs.ServerLists.{asked_is, granted, granted_is, granted_yes, in_ids, pinned, pinned_is}
+use Rattle.run_examples.proofs.ServerLists.{pinned_yes, queue, queue_is, queue_yes, revoked, revoked_is, revoked_yes}
+use Rattle.run_examples.proofs.ServerLists.{same_asked, tokens_in}
+use Rattle.run_examples.proofs.ServerWords.{here, here_yes, live, live_yes}
+use Rattle.run_examples.proofs.Tests.{AllTrue, all_true, any_of, at_all, bool_is, fid_is, fileset_is, filesets}
+use Rattle.run_examples.proofs.Tests.{host_is, hosts, id_is, implies, is_none, is_not, list_is, none_is, passes}
+use Rattle.run_examples.proofs.Tests.{same_bool, same_fileset, same_host, same_list, same_token, so, some_in}
+use Rattle.run_examples.proofs.Words.{by_message}
+use Rattle.run_examples.specs.Laws.{writing}
+use Rattle.run_examples.specs.Steps.{label, needs}
+use Rattle.std.proofs.Common.{Bool, Err, List, None, Ok, Option, Result, Some, [], ap, arith, false, inl, inr, refl}
+use Rattle.std.proofs.Common.{subst, sym, true, ℕ, ◌&&◌, ◌==◌, ◌||◌, ◌∙◌, ◌∷◌, ◌≡◌, ◌≤◌}
+use Rattle.std.proofs.lemmas.Bool.{and_from, and_parts, eqb-true, leb-true, or_cases}
+use Rattle.std.specs.List.{list_all, list_any}
+use Rattle.std.specs.Prelude.{nat_le, not, ◌⊎◌}
+use Rattle.tok_types.specs.Conflicts.{blocks, need_of, same_id, wants_conflict}
+use Rattle.tok_types.specs.declared.token.Need.{Need}
+use Rattle.tok_types.specs.declared.token.Token.{Token}
+use Rattle.tok_types.specs.declared.token.TokenId.{TokenId}
+use Rattle.tree_laws.specs.Parts.{cell_at}
+use Rattle.tree_laws.specs.Parts.Part.{Traits}
+use Rattle.world_server.specs.Kept.{is_refusal, kept_after}
+use Rattle.world_server.specs.ServerAnswers.{SentNow, TakenNow}
+use Rattle.world_server.specs.ServerDecides.{HasDecided, IsAskedHere, IsHere, IsNewRequest, IsOfRow, MayDecide}
+use Rattle.world_server.specs.ServerDecides.{MayDecideAll, NotRefused, kept_reply, refusal_of}
+use Rattle.world_server.specs.ServerDecides.DecidedSo.{MeetsPinned}
+use Rattle.world_server.specs.ServerSends.{AnswersChange, AreNeeds, DoneFor, GrantsSo, HasSent, HasWritten}
+use Rattle.world_server.specs.ServerSends.{IsAskedBack, IsLast, MaySend, Revoked, TellsKept}
+use Rattle.world_server.specs.ServerSends.DoneFor.{OfWritten, Settled}
+use Rattle.world_server.specs.ServerSends.SettledSo.{IsEntered, TakesToken}
+use Rattle.world_server.specs.Wants.{Before, CanGrant, CanRefuse, IsBehind, IsOld, IsReady, Waits, asker, body_of}
+use Rattle.world_server.specs.Wants.{has_effect, is_use, needs_for, row_needs}
+use Rattle.world_steps.specs.Acts.{Act, SentTo, decisions_of, epoch, sending}
+use Rattle.world_steps.specs.Acts.Act.{Sent, Writes}
+use Rattle.world_steps.specs.Hosts.{IsLive}
+use Rattle.world_steps.specs.Lists.{Each, In, Once, after}
+use Rattle.world_steps.specs.Places.{place}
+use Rattle.world_steps.specs.declared.applied.Applied.{Applied as AppliedOf}
+use Rattle.world_steps.specs.declared.applied.Applied.TheVariants.{Done as IsDone, Wants as IsWanted}
+use Rattle.world_steps.specs.declared.applied.Request.{Request}
+use Rattle.world_steps.specs.declared.applied.Request.TheVariants.{Fetch as Asks, Change as Changes}
+use Rattle.world_steps.specs.declared.applied.Wanted.{Wanted}
+use Rattle.world_steps.specs.declared.applied.Written.{Written}
+use Rattle.world_steps.specs.declared.step.Cause.{Cause}
+use Rattle.world_steps.specs.declared.step.Cause.TheVariants.{Message as Came, Lapse}
+use Rattle.world_steps.specs.declared.step.Step.{Step}
+
+unfoldable pub accepted : Tree → HostId → ChangeOf → Bool
+accepted tree h c = not (is_refusal (kept_reply tree h c.call))
+
+unfoldable pub row_right : Tree → Wanted → ChangeOf → Bool
+row_right tree w c = same_list same_need w.needs (row_needs tree w.host c)
+
+unfoldable pub in_way : Wanted → Token → Bool
+in_way w t = blocks (asker w) w.needs t
+
+unfoldable pub is_ahead : Wanted → Wanted → Bool
+is_ahead w v = wants_conflict (asker w) w.needs (asker v) v.needs
+
+unfoldable pub grant_tests : ServerId → List Act → Wanted → List Bool
+grant_tests server past w =
+    over past
+    ∷ list_all (λ t. not (in_way w t)) (granted server past)
+    ∷ exporter_free past
+    ∷ list_all (λ v. not (is_ahead w v)) (queue past)
+    ∷ []
+
+unfoldable pub refuse_tests : ServerId → List Act → Wanted → List Bool
+refuse_tests server past w =
+    over past
+    ∷ list_any (in_way w) (pinned server past)
+    ∷ list_all (λ v. not (is_ahead w v)) (queue past)
+    ∷ []
+
+-- a token that isn't pinned is in the way of a want that waits
+unfoldable pub is_stuck : ServerId → List Act → Wanted → Bool
+is_stuck server past w =
+    list_any (in_way w) (granted server past) && list_all (λ t. not (in_way w t)) (pinned server past)
+
+unfoldable pub meets_needs : List Need → List Token → Bool
+meets_needs needs ts =
+    list_all (λ t. list_any (same_need (need_of t)) needs) ts
+    && list_all (λ n. list_any (λ t. same_need (need_of t) n) ts) needs
+
+-- requests, part by part
+unfoldable pub same_change : ChangeOf → ChangeOf → Bool
+same_change a b =
+    ((a.number == b.number) && (same_fileset a.fileset b.fileset && same_fid a.fid b.fid))
+    && (same_bool a.enter b.enter && ((a.k == b.k) && same_call a.call b.call))
+
+unfoldable pub is_body_of : Request → Body → Bool
+is_body_of (Asks f) (Fetch g) = is_fetch f (Fetch g)
+is_body_of (Changes c) (Change d) = same_change d c
+is_body_of _ _ = false
+
+unfoldable pub asks_such : Request → (FetchOf → Bool) → Bool
+asks_such (Asks f) test = test f
+asks_such (Changes c) test = false
+
+unfoldable pub changes_such : Request → (ChangeOf → Bool) → Bool
+changes_such (Changes c) test = test c
+changes_such (Asks f) test = false
+
+-- only Changes have to pass the test
+unfoldable pub where_change : Request → (ChangeOf → Bool) → Bool
+where_change (Changes c) test = test c
+where_change (Asks f) test = true
+
+-- what may be decided
+unfoldable pub is_here_now : ServerId → FilesetId → ℕ → Bool
+is_here_now server fs n = ((fs.0 == 0) && (n == 0)) || here server fs n
+
+unfoldable pub asked_here : ServerId → ℕ → Request → Bool
+asked_here server n (Asks f) = here server f.fid.fileset n
+asked_here server n (Changes c) = is_here_now server c.fileset n
+
+unfoldable pub new_numbered : List Act → HostId → Request → Bool
+new_numbered past h (Asks f) = true
+new_numbered past h (Changes c) = is_fresh past h c.fileset c.number
+
+unfoldable pub comes_as : List Act → Wanted → Message → Bool
+comes_as before w m =
+    (is_taken before m && (same_host m.host w.host && (m.moves == w.moves))) && is_body_of w.request m.body
+
+unfoldable pub is_new : ServerId → List Act → List Act → Step → Wanted → Bool
+is_new server before past s w =
+    (by_message false (comes_as before w) s.cause && asked_here server w.moves w.request)
+    && (new_numbered past w.host w.request
+    && list_all (λ v. not (same_host v.host w.host && same_asked v.request w.request)) (queue past))
+
+unfoldable pub needs_right : Tree → Wanted → Request → Bool
+needs_right tree w (Asks f) = same_list same_need w.needs f.needs
+needs_right tree w (Changes c) = row_right tree w c
+
+unfoldable pub is_locked : Reply → Bool
+is_locked (Refused Locked) = true
+is_locked _ = false
+
+unfoldable pub is_lock_call : Call → Bool
+is_lock_call (Lock label place writing from len) = true
+is_lock_call _ = false
+
+-- a use that meets a pinned token is refused
+unfoldable pub writes_so : ServerId → Tree → List Act → Written → Wanted → ChangeOf → Bool
+writes_so server tree past d w c =
+    ((same_fileset d.fileset c.fileset && (d.number == c.number)) && ((d.answer.k == c.k) && same_call d.answer.call c.call))
+    && ((accepted tree w.host c && row_right tree w c)
+    && (passes (refuse_tests server past w) && (is_locked d.answer.reply && is_lock_call c.call)))
+
+unfoldable pub decides_right : ServerId → Tree → List Act → List Act → Step → AppliedOf → Bool
+decides_right server tree before past s (IsWanted w) = needs_right tree w w.request && is_new server before past s w
+decides_right server tree before past s (IsDone d) =
+    not d.answer.first
+    && list_any (λ w. same_host d.answer.host w.host && changes_such w.request (writes_so server tree past d w))
+    (queue past)
+decides_right server tree before past s _ = false
+
+unfoldable pub all_decided : ServerId → Tree → List Act → List Act → Step → List AppliedOf → Bool
+all_decided server tree before past s [] = true
+all_decided server tree before past s (x ∷ xs) =
+    decides_right server tree before past s x
+    && all_decided server (kept_after s.cause tree x) before (after (decisions_of x) past) s xs
+
+-- what is so once it has decided
+unfoldable pub wants_it : HostId → Body → AppliedOf → Bool
+wants_it h b (IsWanted w) = same_host w.host h && is_body_of w.request b
+wants_it h b _ = false
+
+unfoldable pub is_request : Body → Bool
+is_request (Fetch f) = true
+is_request (Change c) = true
+is_request _ = false
+
+unfoldable pub wanted_now : Step → Message → Bool
+wanted_now s m = implies (is_request m.body) (list_any (wants_it m.host m.body) s.applied)
+
+unfoldable pub left_open : ServerId → Tree → List Act → Wanted → ChangeOf → Bool
+left_open server tree past w c =
+    (accepted tree w.host c && not (has_effect c)) && list_all (λ t. not (in_way w t)) (pinned server past)
+
+unfoldable pub decided_tests : ServerId → Tree → List Act → Step → List Bool
+decided_tests server tree past s =
+    by_message true (wanted_now s) s.cause
+    ∷ list_all (λ w. where_change w.request (left_open server tree past w)) (queue past)
+    ∷ []
+
+-- what may be sent
+unfoldable pub there_right : {A : Type 0} → Option A → Bool
+there_right None = false
+there_right (Some x) = true
+
+unfoldable pub grants_such : GrantOf → FetchOf → Bool
+grants_such g f =
+    ((g.bring.number == f.number) && same_fid g.bring.fid f.fid) && meets_needs f.needs g.bring.tokens
+
+unfoldable pub grants_for : ServerId → List Act → HostId → ℕ → GrantOf → Wanted → Bool
+grants_for server past h n g w =
+    ((same_host w.host h && (w.moves == n)) && passes (grant_tests server past w)) && asks_such w.request (grants_such g)
+
+unfoldable pub is_not_above : HostId → DoneOf → Act → Bool
+is_not_above h d (Sent host e n (Done o)) =
+    implies (same_host host h && same_fileset o.fileset d.fileset) (nat_le o.bring.number d.bring.number)
+is_not_above h d _ = true
+
+unfoldable pub wrote_so : HostId → DoneOf → Reply → Act → Bool
+wrote_so h d reply (Writes w) =
+    ((same_host w.answer.host h && same_fileset w.fileset d.fileset) && (w.number == d.bring.number))
+    && (is_locked reply && is_locked w.answer.reply)
+wrote_so h d reply _ = false
+
+unfoldable pub found_right : FilesetId → Result Fileset Refusal → Bool
+found_right id (Ok fileset) = same_fileset fileset.id id
+found_right id (Err refusal) = false
+
+unfoldable pub named_right : Tree → FilesetId → Option (ServerId × List ℕ) → Bool
+named_right tree id None = false
+named_right tree id (Some place) = found_right id (fileset_named tree place.0 place.1)
+
+unfoldable pub enters_such : Tree → DoneOf → FilesetId → ChangeOf → Bool
+enters_such tree d id c =
+    (same_fileset d.fileset c.fileset && (d.bring.number == c.number))
+    && (c.enter && named_right tree id (fileset_of c.call))
+
+unfoldable pub uses_such : ServerId → Tree → List Act → DoneOf → Wanted → ChangeOf → Bool
+uses_such server tree past d w c =
+    (same_fileset d.fileset c.fileset && (d.bring.number == c.number))
+    && ((is_use c.call && accepted tree w.host c)
+    && ((row_right tree w c && passes (grant_tests server past w)) && meets_needs w.needs d.bring.tokens))
+
+unfoldable pub settles_for : HostId → ℕ → (Wanted → ChangeOf → Bool) → Wanted → Bool
+settles_for h n test w = (same_host w.host h && (w.moves == n)) && changes_such w.request (test w)
+
+unfoldable pub outcome_right : ServerId → Tree → List Act → HostId → ℕ → DoneOf → DoneIs → Bool
+outcome_right server tree past h n d (HasReply reply) =
+    is_none d.bring.tokens && (list_all (is_not_above h d) past && list_any (wrote_so h d reply) past)
+outcome_right server tree past h n d (IsFileset id) =
+    is_none d.bring.tokens && list_any (settles_for h n (λ w. enters_such tree d id)) (queue past)
+outcome_right server tree past h n d IsGranted =
+    list_any (settles_for h n (uses_such server tree past d)) (queue past)
+outcome_right server tree past h n d _ = false
+
+unfoldable pub blocks_some : ServerId → List Act → Token → Bool
+blocks_some server past t = list_any (λ w. in_way w t) (queue past)
+
+unfoldable pub asks_back : ServerId → List Act → Step → HostId → TokenId → Token → Bool
+asks_back server past s h i t =
+    ((same_id t.id i && same_host t.host h) && blocks_some server past t)
+    && (not (list_any (same_token t) (pinned server past)) && (not (revoked past t) || is_lapse s.cause))
+
+unfoldable pub send_right : ServerId → Tree → Step → List Act → Act → Bool
+send_right server tree s past (Sent h e n (Grant g)) =
+    there_right ((cell_at tree g.bring.fid Traits).kept) && list_any (grants_for server past h n g) (queue past)
+send_right server tree s past (Sent h e n (Done d)) =
+    (live past h && is_here_now server d.fileset n) && outcome_right server tree past h n d d.outcome
+send_right server tree s past (Sent h e n (Revoke r)) =
+    over past && list_all (λ i. list_any (asks_back server past s h i) (granted server past)) r.ids
+send_right server tree s past _ = true
+
+unfoldable pub sends_right : ServerId → Tree → Step → List Act → List Act → Bool
+sends_right server tree s [] past = true
+sends_right server tree s (a ∷ more) past =
+    send_right server tree s past a && sends_right server tree s more (a ∷ past)
+
+-- what is so at the end
+unfoldable pub done_body : Body → FilesetId → ℕ → (DoneIs → Bool) → Bool
+done_body (Done d) fs n such = (same_fileset d.fileset fs && (d.bring.number == n)) && such d.outcome
+done_body _ fs n such = false
+
+unfoldable pub is_done_of : HostId → FilesetId → ℕ → (DoneIs → Bool) → Message → Bool
+is_done_of h fs n such m = same_host m.host h && done_body m.body fs n such
+
+unfoldable pub locked_reply : DoneIs → Bool
+locked_reply (HasReply reply) = is_locked reply
+locked_reply _ = false
+
+unfoldable pub answered_now : Step → AppliedOf → Bool
+answered_now s (IsDone w) =
+    is_locked w.answer.reply && list_any (is_done_of w.answer.host w.fileset w.number locked_reply) s.sent
+answered_now s _ = true
+
+unfoldable pub first_asked : List Act → Step → Message → Body → Bool
+first_asked before s m (Change c) =
+    is_fresh before m.host c.fileset c.number || list_any (is_done_of m.host c.fileset c.number (λ o. true)) s.sent
+first_asked before s m _ = true
+
+-- a Revoke of the step names the token
+unfoldable pub recalls_it : Token → Body → Bool
+recalls_it t (Revoke r) = list_any (same_id t.id) r.ids
+recalls_it t _ = false
+
+unfoldable pub recalls_again : Step → Token → Bool
+recalls_again s t = list_any (λ k. same_host k.host t.host && recalls_it t k.body) s.sent
+
+unfoldable pub sent_tests : ServerId → List Act → List Act → Step → List Bool
+sent_tests server before past s =
+    list_all (answered_now s) s.applied
+    ∷ by_message true (λ m. first_asked before s m m.body) s.cause
+    ∷ list_all (is_stuck server past) (queue past)
+    ∷ list_all (λ t. implies (blocks_some server past t) (revoked past t)) (granted server past)
+    ∷ implies (is_lapse s.cause)
+    (list_all (λ t. implies (blocks_some server past t) (recalls_again s t)) (granted server past))
+    ∷ []
+
+unfoldable pub send_words : ℕ
+unfolding may_words same_call same_place is_fetch accepted row_right in_way is_ahead grant_tests refuse_tests is_stuck meets_needs same_change is_body_of
+    asks_such changes_such where_change is_here_now asked_here new_numbered comes_as is_new needs_right is_locked
+    is_lock_call writes_so decides_right all_decided wants_it is_request wanted_now left_open decided_tests there_right
+    grants_such grants_for is_not_above wrote_so found_right named_right enters_such uses_such settles_for outcome_right
+    blocks_some asks_back send_right sends_right is_done_of done_body locked_reply answered_now first_asked recalls_it recalls_again sent_tests
+send_words = 0
+
+-- each test, and what it tells
+abbrev Such : (FetchOf → Bool) → Request → Type 0
+Such test r = (f : FetchOf) × (r ≡ Asks f) × (test f ≡ true)
+
+asks_yes : (r : Request) (test : FetchOf → Bool) → asks_such r test ≡ true → Such test r
+unfolding send_words
+asks_yes (Asks f) test e = (f, refl, e)
+asks_yes (Changes c) test e = absurd (cc)
+
+changes_yes : (r : Request) (test : ChangeOf → Bool) → changes_such r test ≡ true
+    → (c : ChangeOf) × (r ≡ Changes c) × (test c ≡ true)
+unfolding send_words
+changes_yes (Changes c) test e = (c, refl, e)
+changes_yes (Asks f) test e = absurd (cc)
+
+change_where : (r : Request) (test : ChangeOf → Bool) (c : ChangeOf) → where_change r test ≡ true → r ≡ Changes c
+    → test c ≡ true
+unfolding send_words
+change_where r test c e is =
+    let p : where_change (Changes c) test ≡ true = subst (λ x. where_change x test ≡ true) is e in p
+
+change_same : (a b : ChangeOf) → same_change a b ≡ true → a ≡ b
+unfolding send_words
+change_same a b e =
+    let x = (a.number == b.number) && (same_fileset a.fileset b.fileset && same_fid a.fid b.fid) in
+    let y = same_bool a.enter b.enter && ((a.k == b.k) && same_call a.call b.call) in
+    let p = and_parts x y e in
+    let q = and_parts (a.number == b.number) (same_fileset a.fileset b.fileset && same_fid a.fid b.fid) p.0 in
+    let r = and_parts (same_fileset a.fileset b.fileset) (same_fid a.fid b.fid) q.1 in
+    let t = and_parts (same_bool a.enter b.enter) ((a.k == b.k) && same_call a.call b.call) p.1 in
+    let u = and_parts (a.k == b.k) (same_call a.call b.call) t.1 in
+    let n = eqb-true a.number b.number q.0 in
+    let f = fileset_is a.fileset b.fileset r.0 in
+    let g = fid_is a.fid b.fid r.1 in
+    let w = bool_is a.enter b.enter t.0 in
+    let k = eqb-true a.k b.k u.0 in
+    let c = call_is a.call b.call u.1 in
+    λ i. record { number = n i; fileset = f i; fid = g i; enter = w i; k = k i; call = c i }
+
+body_is : (r : Request) (b : Body) → is_body_of r b ≡ true → b ≡ body_of r
+unfolding send_words
+body_is (Asks f) (Fetch g) e = fetch_body f (Fetch g) e
+body_is (Changes c) (Change d) e = let p = change_same d c e in λ i. Change (p i)
+body_is r b e = absurd (cc)
+
+-- a request that has this body is this one
+request_is : (r q : Request) (b : Body) → is_body_of r b ≡ true → b ≡ body_of q → r ≡ q
+unfolding send_words
+request_is (Asks f) (Asks g) b e is =
+    let p : Fetch g ≡ Fetch f = sym is ∙ body_is (Asks f) b e in let q : g ≡ f = cc in λ i. Asks (sym q i)
+request_is (Changes c) (Changes d) b e is =
+    let p : Change d ≡ Change c = sym is ∙ body_is (Changes c) b e in let q : d ≡ c = cc in λ i. Changes (sym q i)
+request_is (Asks f) (Changes d) b e is =
+    absurd (let p : Change d ≡ Fetch f = sym is ∙ body_is (Asks f) b e in cc)
+request_is (Changes c) (Asks g) b e is =
+    absurd (let p : Fetch g ≡ Change c = sym is ∙ body_is (Changes c) b e in cc)
+
+accepted_is : (tree : Tree) (h : HostId) (c : ChangeOf) → accepted tree h c ≡ true → NotRefused tree h c
+unfolding send_words
+accepted_is tree h c e refusal (is, _, _) =
+    is_not (is_refusal (kept_reply tree h c.call)) e (subst (λ x. is_refusal x ≡ true) (sym is) refl)
+
+row_is : (tree : Tree) (w : Wanted) (c : ChangeOf) → row_right tree w c ≡ true → IsOfRow tree w c
+unfolding send_words
+row_is tree w c e = list_is same_need need_is w.needs (row_needs tree w.host c) e
+
+before_waits : (past : List Act) (v w : Wanted) → Before past v w → Waits past v
+before_waits [] v w b = elim b [ ]
+before_waits (a ∷ past) v w b = b.1
+
+none_ahead : (past : List Act) (w : Wanted) → list_all (λ v. not (is_ahead w v)) (queue past) ≡ true
+    → IsBehind past w → ⊥
+unfolding is_ahead
+none_ahead past w e (v, b, c) =
+    is_not (is_ahead w v) (at_all (λ v. not (is_ahead w v)) (queue past) v e (queue_is past v (before_waits past v w b))) c
+
+can_yes : (server : ServerId) (past : List Act) (w : Wanted) → passes (grant_tests server past w) ≡ true
+    → CanGrant server past w
+unfolding grant_tests in_way
+can_yes server past w e =
+    let t = all_true (grant_tests server past w) e in
+    record {
+      over = over_yes past t.0;
+      free = λ u held b. elim held [
+        | inl g ↦ is_not (in_way w u) (at_all (λ u. not (in_way w u)) (granted server past) u t.1.0
+            (granted_is server past u g)) b
+        | inr r ↦ free_yes past u t.1.1.0 r
+      ];
+      first = none_ahead past w t.1.1.1.0;
+    }
+
+refuse_yes : (server : ServerId) (past : List Act) (w : Wanted) → passes (refuse_tests server past w) ≡ true
+    → CanRefuse server past w
+unfolding refuse_tests in_way
+refuse_yes server past w e =
+    let t = all_true (refuse_tests server past w) e in
+    let p = some_in (in_way w) (pinned server past) t.1.0 in
+    record {
+      over = over_yes past t.0;
+      pinned = (p.0, pinned_yes server past p.0 p.1, p.2);
+      first = none_ahead past w t.1.1.0;
+    }
+
+none_pinned : (server : ServerId) (past : List Act) (w : Wanted)
+    → list_all (λ t. not (in_way w t)) (pinned server past) ≡ true → CanRefuse server past w → ⊥
+unfolding in_way
+none_pinned server past w e can =
+    is_not (in_way w can.pinned.0) (at_all (λ t. not (in_way w t)) (pinned server past) can.pinned.0 e
+    (pinned_is server past can.pinned.0 can.pinned.1)) can.pinned.2
+
+stuck_grant : (server : ServerId) (past : List Act) (w : Wanted) → is_stuck server past w ≡ true
+    → CanGrant server past w → ⊥
+unfolding is_stuck in_way
+stuck_grant server past w e can =
+    let p = some_in (in_way w) (granted server past) (and_parts (list_any (in_way w) (granted server past))
+    (list_all (λ t. not (in_way w t)) (pinned server past)) e).0 in
+    can.free p.0 (inl (granted_yes server past p.0 p.1)) p.2
+
+stuck_ready : (server : ServerId) (past : List Act) (w : Wanted) → is_stuck server past w ≡ true
+    → IsReady server past w → ⊥
+unfolding is_stuck
+stuck_ready server past w e (inl can) = stuck_grant server past w e can
+stuck_ready server past w e (inr can) =
+    none_pinned server past w (and_parts (list_any (in_way w) (granted server past))
+    (list_all (λ t. not (in_way w t)) (pinned server past)) e).1 can
+
+needs_are : (needs : List Need) (ts : List Token) → meets_needs needs ts ≡ true → AreNeeds needs ts
+unfolding meets_needs
+needs_are needs ts e =
+    let p = and_parts (list_all (λ t. list_any (same_need (need_of t)) needs) ts)
+    (list_all (λ n. list_any (λ t. same_need (need_of t) n) ts) needs) e in
+    record {
+      sound = λ t m.
+          let q = some_in (same_need (need_of t)) needs (at_all (λ t. list_any (same_need (need_of t)) needs) ts t p.0 m) in
+          subst (λ x. In x needs) (sym (need_is (need_of t) q.0 q.2)) q.1;
+      whole = λ n m.
+          let q = some_in (λ t. same_need (need_of t) n) ts
+          (at_all (λ n. list_any (λ t. same_need (need_of t) n) ts) needs n p.1 m) in
+          (q.0, q.1, need_is (need_of q.0) n q.2);
+    }
+
+here_either : (server : ServerId) (past : List Act) (fs : FilesetId) (n : ℕ) → is_here_now server fs n ≡ true
+    → IsHere server past fs n
+unfolding is_here_now
+here_either server past fs n e =
+    elim (or_cases ((fs.0 == 0) && (n == 0)) (here server fs n) e) [
+      | inl p ↦ (let q = and_parts (fs.0 == 0) (n == 0) p in inl (eqb-true fs.0 0 q.0, eqb-true n 0 q.1))
+      | inr p ↦ inr (here_yes server past fs n p)
+    ]
+
+-- the cause
+pub at_cause : (f : Message → Bool) (s : Step) (m : Message) → by_message true f s.cause ≡ true → s.cause ≡ Came m
+    → f m ≡ true
+at_cause f s m t c = subst (λ x. by_message true f x ≡ true) c t
+
+came : (f : Message → Bool) (c : Cause) → by_message false f c ≡ true → (m : Message) × (c ≡ Came m) × (f m ≡ true)
+came f (Came m) e = (m, refl, e)
+came f c e = absurd (cc)
+
+taken_yes : (past : List Act) (m : Message) → is_taken past m ≡ true → IsLive past m.host × (m.epoch ≡ epoch past)
+unfolding is_taken
+taken_yes past m e =
+    let p = and_parts (live past m.host) (m.epoch == epoch past) e in
+    (live_yes past m.host p.0, eqb-true m.epoch (epoch past) p.1)
+
+new_yes : (server : ServerId) (before past : List Act) (s : Step) (w : Wanted) → is_new server before past s w ≡ true
+    → IsNewRequest server before past s w.host w.moves w.request
+unfolding send_words
+new_yes server before past s w e =
+    let alone_ = list_all (λ v. not (same_host v.host w.host && same_asked v.request w.request)) (queue past) in
+    let x = by_message false (comes_as before w) s.cause && asked_here server w.moves w.request in
+    let p = and_parts x (new_numbered past w.host w.request && alone_) e in
+    let q = and_parts (by_message false (comes_as before w) s.cause) (asked_here server w.moves w.request) p.0 in
+    let r = and_parts (new_numbered past w.host w.request) alone_ p.1 in
+    let c = came (comes_as before w) s.cause q.0 in
+    let m = c.0 in
+    let a = and_parts (is_taken before m && (same_host m.host w.host && (m.moves == w.moves)))
+    (is_body_of w.request m.body) c.2 in
+    let b = and_parts (is_taken before m) (same_host m.host w.host && (m.moves == w.moves)) a.0 in
+    let d = and_parts (same_host m.host w.host) (m.moves == w.moves) b.1 in
+    let at = host_is m.host w.host d.0 in
+    let t = taken_yes before m b.0 in
+    record {
+      taken = (
+        (m, c.1, at, t.1, eqb-true m.moves w.moves d.1, body_is w.request m.body a.1),
+        subst (λ h. IsLive before h) at t.0,
+      );
+      here = here_it w.request q.1;
+      fresh = fresh_it w.request r.0;
+      alone = λ v waits h same.
+          is_not (same_host v.host w.host && same_asked v.request w.request)
+          (at_all (λ v. not (same_host v.host w.host && same_asked v.request w.request)) (queue past) v r.1
+          (queue_is past v waits))
+          (and_from (same_host v.host w.host) (same_asked v.request w.request) (hosts v.host w.host h)
+          (asked_is v.request w.request same));
+    }
+  where
+    here_it : (r : Request) → asked_here server w.moves r ≡ true → IsAskedHere server before w.moves r
+    here_it (Asks f) t = here_yes server before f.fid.fileset w.moves t
+    here_it (Changes c) t = here_either server before c.fileset w.moves t
+
+    fresh_it : (r : Request) → new_numbered past w.host r ≡ true → IsOld past w.host r → ⊥
+    fresh_it (Asks f) t old = old
+    fresh_it (Changes c) t (inl x) = fresh_durable past w.host c.fileset c.number t x
+    fresh_it (Changes c) t (inr (n, d, x, f, k)) =
+        let low = fresh_sent past w.host c.fileset c.number t (epoch past) n d x f in omega (arith, low, k)
+
+locked_is : (r : Reply) → is_locked r ≡ true → r ≡ Refused Locked
+unfolding is_locked
+locked_is (Refused Locked) e = refl
+locked_is r e = absurd (cc)
+
+lock_refusal : (c : Call) → is_lock_call c ≡ true → refusal_of c ≡ Locked
+unfolding is_lock_call
+lock_refusal (Lock label place writing from len) e = refl
+lock_refusal c e = absurd (cc)
+
+one_right : (server : ServerId) (tree : Tree) (before past : List Act) (s : Step) (x : AppliedOf)
+    → decides_right server tree before past s x ≡ true → MayDecide server tree before past s x
+unfolding send_words
+one_right server tree before past s (IsWanted w) e =
+    let p = and_parts (needs_right tree w w.request) (is_new server before past s w) e in
+    (needs_it w.request p.0, inl (new_yes server before past s w p.1))
+  where
+    needs_it : (r : Request) → needs_right tree w r ≡ true → w.needs ≡ needs_for tree w.host r
+    needs_it (Asks f) t = list_is same_need need_is w.needs f.needs t
+    needs_it (Changes c) t = row_is tree w c t
+one_right server tree before past s (IsDone d) e =
+    let test = λ (w : Wanted). same_host d.answer.host w.host && changes_such w.request (writes_so server tree past d w) in
+    let p = and_parts (not d.answer.first) (list_any test (queue past)) e in
+    let q = some_in test (queue past) p.1 in
+    let w = q.0 in
+    let r = and_parts (same_host d.answer.host w.host) (changes_such w.request (writes_so server tree past d w)) q.2 in
+    let c = changes_yes w.request (writes_so server tree past d w) r.1 in
+    let x = (same_fileset d.fileset c.0.fileset && (d.number == c.0.number)) && ((d.answer.k == c.0.k) &&
+    same_call d.answer.call c.0.call) in
+    let y = passes (refuse_tests server past w) && (is_locked d.answer.reply && is_lock_call c.0.call) in
+    let a = and_parts x ((accepted tree w.host c.0 && row_right tree w c.0) && y) c.2 in
+    let b = and_parts (same_fileset d.fileset c.0.fileset && (d.number == c.0.number)) ((d.answer.k == c.0.k) &&
+    same_call d.answer.call c.0.call) a.0 in
+    let b1 = and_parts (same_fileset d.fileset c.0.fileset) (d.number == c.0.number) b.0 in
+    let b2 = and_parts (d.answer.k == c.0.k) (same_call d.answer.call c.0.call) b.1 in
+    let f = and_parts (accepted tree w.host c.0 && row_right tree w c.0) y a.1 in
+    let f1 = and_parts (accepted tree w.host c.0) (row_right tree w c.0) f.0 in
+    let g = and_parts (passes (refuse_tests server past w)) (is_locked d.answer.reply && is_lock_call c.0.call) f.1 in
+    let g1 = and_parts (is_locked d.answer.reply) (is_lock_call c.0.call) g.1 in
+    record {
+      w = w;
+      waits = queue_yes past w q.1;
+      change = c.0;
+      request = c.1;
+      host = host_is d.answer.host w.host r.0;
+      fileset = fileset_is d.fileset c.0.fileset b1.0;
+      number = eqb-true d.number c.0.number b1.1;
+      k = eqb-true d.answer.k c.0.k b2.0;
+      call = call_is d.answer.call c.0.call b2.1;
+      later = not_first d.answer.first p.0;
+      so = MeetsPinned (accepted_is tree w.host c.0 f1.0) (row_is tree w c.0 f1.1) (refuse_yes server past w g.0)
+          (locked_is d.answer.reply g1.0 ∙ ap Refused (sym (lock_refusal c.0.call g1.1)));
+    }
+  where
+    not_first : (b : Bool) → not b ≡ true → b ≡ false
+    not_first true t = absurd (cc)
+    not_first false t = refl
+one_right server tree before past s x e = absurd (cc)
+
+pub decides_all : (server : ServerId) (tree : Tree) (before past : List Act) (s : Step) (xs : List AppliedOf)
+    → all_decided server tree before past s xs ≡ true → MayDecideAll server tree before past s xs
+unfolding all_decided
+decides_all server tree before past s [] e = tt
+decides_all server tree before past s (x ∷ xs) e =
+    let more = all_decided server (kept_after s.cause tree x) before (after (decisions_of x) past) s xs in
+    let p = and_parts (decides_right server tree before past s x) more e in (
+      one_right server tree before past s x p.0,
+      decides_all server (kept_after s.cause tree x) before (after (decisions_of x) past) s xs p.1,
+    )
+
+-- what was decided
+pub has_decided : (server : ServerId) (tree : Tree) (before past : List Act) (s : Step)
+    → passes (decided_tests server tree past s) ≡ true → HasDecided server tree before past s
+unfolding send_words
+has_decided server tree before past s e = record {
+  news = λ h n r x. news h n r x.taken;
+  refused = λ w c refusal waits is so_ ready. accepted_is tree w.host c (parts w c waits is).0 refusal so_;
+  effects = λ w c waits is effect ok ready. is_not (has_effect c) (parts w c waits is).1 effect;
+  pinned = λ w c waits is row ok can. none_pinned server past w (parts w c waits is).2 can;
+}
+  where
+    t : AllTrue (decided_tests server tree past s)
+    t = all_true (decided_tests server tree past s) e
+
+    parts : (w : Wanted) (c : ChangeOf) → Waits past w → w.request ≡ Changes c
+        → (accepted tree w.host c ≡ true) × (not (has_effect c) ≡ true)
+        × (list_all (λ t. not (in_way w t)) (pinned server past) ≡ true)
+    parts w c waits is =
+        let pins_ = list_all (λ t. not (in_way w t)) (pinned server past) in
+        let p = and_parts (accepted tree w.host c && not (has_effect c)) pins_
+        (change_where w.request (left_open server tree past w) c
+        (at_all (λ w. where_change w.request (left_open server tree past w)) (queue past) w t.1.0 (queue_is past w waits))
+        is) in
+        let q = and_parts (accepted tree w.host c) (not (has_effect c)) p.0 in
+        (q.0, q.1, p.1)
+
+    asked : (r : Request) → is_request (body_of r) ≡ true
+    asked (Asks f) = refl
+    asked (Changes c) = refl
+
+    found : (h : HostId) (m : Message) (b : Body) (r : Request) (x : AppliedOf) → In x s.applied
+        → wants_it m.host b x ≡ true → b ≡ body_of r → m.host ≡ h
+        → (w : Wanted) × In (IsWanted w) s.applied × (w.host ≡ h) × (w.request ≡ r)
+    found h m b r (IsWanted w) i x is at =
+        let p = and_parts (same_host w.host m.host) (is_body_of w.request b) x in
+        (w, i, host_is w.host m.host p.0 ∙ at, request_is w.request r b p.1 is)
+    found h m b r x i y is at = absurd (cc)
+
+    news : (h : HostId) (n : ℕ) (r : Request) → TakenNow before s h n (body_of r)
+        → (w : Wanted) × In (IsWanted w) s.applied × (w.host ≡ h) × (w.request ≡ r)
+    news h n r ((m, c, at, _, _, is), _) =
+        let p = so (is_request m.body) (list_any (wants_it m.host m.body) s.applied)
+        (at_cause (wanted_now s) s m t.0 c) (subst (λ b. is_request b ≡ true) (sym is) (asked r)) in
+        let q = some_in (wants_it m.host m.body) s.applied p in
+        found h m m.body r q.0 q.1 q.2 is at
+
+-- what is told by the Grants of a list of messages
+abbrev pub TellsBody : Tree → Body → Type 0
+TellsBody tree (Grant g) = TellsKept tree g
+TellsBody tree _ = Unit {0}
+
+abbrev pub TellsAll : Tree → List Message → Type 0
+TellsAll tree [] = Unit {0}
+TellsAll tree (m ∷ ms) = TellsBody tree m.body × TellsAll tree ms
+
+abbrev TellsAct : Tree → Act → Type 0
+TellsAct tree (Sent h e n b) = TellsBody tree b
+TellsAct tree _ = Unit {0}
+
+there_is : {A : Type 0} (o : Option A) → there_right o ≡ true → o ≡ None → ⊥
+unfolding there_right
+there_is None e is = cc
+there_is (Some x) e is = cc
+
+grant_so : (server : ServerId) (tree : Tree) (past : List Act) (h : HostId) (n : ℕ) (g : GrantOf)
+    → TellsKept tree g → there_right ((cell_at tree g.bring.fid Traits).kept) ≡ true
+    → list_any (grants_for server past h n g) (queue past) ≡ true → GrantsSo server tree past h n g
+unfolding send_words
+grant_so server tree past h n g tells there e =
+    let q = some_in (grants_for server past h n g) (queue past) e in
+    let w = q.0 in
+    let p = and_parts ((same_host w.host h && (w.moves == n)) && passes (grant_tests server past w))
+    (asks_such w.request (grants_such g)) q.2 in
+    let r = and_parts (same_host w.host h && (w.moves == n)) (passes (grant_tests server past w)) p.0 in
+    let k = and_parts (same_host w.host h) (w.moves == n) r.0 in
+    let f = asks_yes w.request (grants_such g) p.1 in
+    let a = and_parts ((g.bring.number == f.0.number) && same_fid g.bring.fid f.0.fid)
+    (meets_needs f.0.needs g.bring.tokens) f.2 in
+    let b = and_parts (g.bring.number == f.0.number) (same_fid g.bring.fid f.0.fid) a.0 in
+    record {
+      w = w;
+      waits = queue_yes past w q.1;
+      fetch = f.0;
+      request = f.1;
+      host = host_is w.host h k.0;
+      moves = eqb-true w.moves n k.1;
+      number = eqb-true g.bring.number f.0.number b.0;
+      fid = fid_is g.bring.fid f.0.fid b.1;
+      free = can_yes server past w r.1;
+      brings = inl (there_is ((cell_at tree g.bring.fid Traits).kept) there, needs_are f.0.needs g.bring.tokens a.1);
+      tells = tells;
+    }
+
+module _ (server : ServerId) (tree : Tree) (past : List Act) (h : HostId) (n : ℕ) (d : DoneOf) where
+  last_yes : list_all (is_not_above h d) past ≡ true → IsLast past h d
+  unfolding is_not_above
+  last_yes t e m o x f = go past t x
+    where
+      go : (past : List Act) → list_all (is_not_above h d) past ≡ true → SentTo past h e m (Done o)
+          → o.bring.number ≤ d.bring.number
+      go [] t x = elim x [ ]
+      go (a ∷ past) t (inl is) =
+          let p = (and_parts (is_not_above h d a) (list_all (is_not_above h d) past) t).0 in
+          let q : is_not_above h d (Sent h e m (Done o)) ≡ true = subst (λ x. is_not_above h d x ≡ true) is p in
+          leb-true o.bring.number d.bring.number (so (same_host h h && same_fileset o.fileset d.fileset)
+          (nat_le o.bring.number d.bring.number) q (and_from (same_host h h) (same_fileset o.fileset d.fileset)
+          (hosts h h refl) (filesets o.fileset d.fileset f)))
+      go (a ∷ past) t (inr x) = go past (and_parts (is_not_above h d a) (list_all (is_not_above h d) past) t).1 x
+
+  wrote_yes : (reply : Reply) → d.outcome ≡ HasReply reply → list_any (wrote_so h d reply) past ≡ true
+      → HasWritten past h d
+  unfolding wrote_so
+  wrote_yes reply is t = go past t
+    where
+      now : (a : Act) → wrote_so h d reply a ≡ true
+          → (w : Written) × (a ≡ Writes w) × (w.answer.host ≡ h) × (w.fileset ≡ d.fileset)
+          × (w.number ≡ d.bring.number) × (d.outcome ≡ HasReply w.answer.reply)
+      now (Writes w) e =
+          let x = (same_host w.answer.host h && same_fileset w.fileset d.fileset) && (w.number == d.bring.number) in
+          let p = and_parts x (is_locked reply && is_locked w.answer.reply) e in
+          let q = and_parts (same_host w.answer.host h && same_fileset w.fileset d.fileset) (w.number == d.bring.number)
+          p.0 in
+          let r = and_parts (same_host w.answer.host h) (same_fileset w.fileset d.fileset) q.0 in
+          let k = and_parts (is_locked reply) (is_locked w.answer.reply) p.1 in (
+            w,
+            refl,
+            host_is w.answer.host h r.0,
+            fileset_is w.fileset d.fileset r.1,
+            eqb-true w.number d.bring.number q.1,
+            is ∙ ap HasReply (locked_is reply k.0 ∙ sym (locked_is w.answer.reply k.1)),
+          )
+      now a e = absurd (cc)
+
+      go : (past : List Act) → list_any (wrote_so h d reply) past ≡ true → HasWritten past h d
+      go [] e = absurd (cc)
+      go (a ∷ past) e =
+          elim (or_cases (wrote_so h d reply a) (list_any (wrote_so h d reply) past) e) [
+            | inl p ↦ inl (now a p)
+            | inr p ↦ inr (go past p)
+          ]
+
+  abbrev Named : FilesetId → ChangeOf → Type 0
+  Named id c = (place : ServerId × List ℕ) × (fileset : Fileset) × (fileset_of c.call ≡ Some place)
+      × (fileset_named tree place.0 place.1 ≡ Ok fileset) × (fileset.id ≡ id)
+
+  named_yes : (id : FilesetId) (c : ChangeOf) (o : Option (ServerId × List ℕ)) → fileset_of c.call ≡ o
+      → named_right tree id o ≡ true → Named id c
+  unfolding named_right found_right
+  named_yes id c None is e = absurd (none e)
+    where
+      none : named_right tree id None ≡ true → ⊥
+      none e = cc
+  named_yes id c (Some place) is e = go (fileset_named tree place.0 place.1) refl (as_found e)
+    where
+      as_found : named_right tree id (Some place) ≡ true → found_right id (fileset_named tree place.0 place.1) ≡ true
+      as_found e = e
+
+      go : (r : Result Fileset Refusal) → fileset_named tree place.0 place.1 ≡ r → found_right id r ≡ true → Named id c
+      go (Ok fileset) at e = (place, fileset, is, at, fileset_is fileset.id id e)
+      go (Err refusal) at e = absurd (cc)
+
+  abbrev SettledBy : (Wanted → ChangeOf → Bool) → Type 0
+  SettledBy test = (w : Wanted) × (c : ChangeOf) × Waits past w × (w.request ≡ Changes c) × (w.host ≡ h) × (w.moves ≡ n)
+      × (test w c ≡ true)
+
+  settled_yes : (test : Wanted → ChangeOf → Bool) → list_any (settles_for h n test) (queue past) ≡ true → SettledBy test
+  unfolding settles_for
+  settled_yes test e =
+      let q = some_in (settles_for h n test) (queue past) e in
+      let w = q.0 in
+      let p = and_parts (same_host w.host h && (w.moves == n)) (changes_such w.request (test w)) q.2 in
+      let r = and_parts (same_host w.host h) (w.moves == n) p.0 in
+      let c = changes_yes w.request (test w) p.1 in
+      (w, c.0, queue_yes past w q.1, c.1, host_is w.host h r.0, eqb-true w.moves n r.1, c.2)
+
+  outcome_is : (o : DoneIs) → d.outcome ≡ o → outcome_right server tree past h n d o ≡ true
+      → DoneFor server tree past h n d
+  unfolding outcome_right enters_such uses_such
+  outcome_is (HasReply reply) is e =
+      let x = list_all (is_not_above h d) past && list_any (wrote_so h d reply) past in
+      let p = and_parts (is_none d.bring.tokens) x e in
+      let q = and_parts (list_all (is_not_above h d) past) (list_any (wrote_so h d reply) past) p.1 in
+      OfWritten (wrote_yes reply is q.1) (none_is d.bring.tokens p.0) (last_yes q.0)
+  outcome_is (IsFileset id) is e =
+      let test = λ (w : Wanted). enters_such tree d id in
+      let p = and_parts (is_none d.bring.tokens) (list_any (settles_for h n test) (queue past)) e in
+      let s = settled_yes test p.1 in
+      let c = s.1 in
+      let q = and_parts (same_fileset d.fileset c.fileset && (d.bring.number == c.number))
+      (c.enter && named_right tree id (fileset_of c.call)) s.6 in
+      let r = and_parts (same_fileset d.fileset c.fileset) (d.bring.number == c.number) q.0 in
+      let k = and_parts c.enter (named_right tree id (fileset_of c.call)) q.1 in
+      let f = named_yes id c (fileset_of c.call) refl k.1 in
+      Settled (record {
+        w = s.0;
+        waits = s.2;
+        change = c;
+        request = s.3;
+        host = s.4;
+        moves = s.5;
+        fileset = fileset_is d.fileset c.fileset r.0;
+        number = eqb-true d.bring.number c.number r.1;
+        so = IsEntered f.1 f.0 k.0 f.2 f.3 (is ∙ ap IsFileset (sym f.4)) (none_is d.bring.tokens p.0);
+      })
+  outcome_is IsGranted is e =
+      let s = settled_yes (uses_such server tree past d) e in
+      let w = s.0 in
+      let c = s.1 in
+      let x = (row_right tree w c && passes (grant_tests server past w)) && meets_needs w.needs d.bring.tokens in
+      let q = and_parts (same_fileset d.fileset c.fileset && (d.bring.number == c.number))
+      ((is_use c.call && accepted tree w.host c) && x) s.6 in
+      let r = and_parts (same_fileset d.fileset c.fileset) (d.bring.number == c.number) q.0 in
+      let k = and_parts (is_use c.call && accepted tree w.host c) x q.1 in
+      let u = and_parts (is_use c.call) (accepted tree w.host c) k.0 in
+      let v = and_parts (row_right tree w c && passes (grant_tests server past w)) (meets_needs w.needs d.bring.tokens) k.1 in
+      let y = and_parts (row_right tree w c) (passes (grant_tests server past w)) v.0 in
+      Settled (record {
+        w = w;
+        waits = s.2;
+        change = c;
+        request = s.3;
+        host = s.4;
+        moves = s.5;
+        fileset = fileset_is d.fileset c.fileset r.0;
+        number = eqb-true d.bring.number c.number r.1;
+        so = TakesToken u.0 (accepted_is tree w.host c u.1) (row_is tree w c y.0) (can_yes server past w y.1) is
+            (needs_are w.needs d.bring.tokens v.1);
+      })
+  outcome_is o is e = absurd (cc)
+
+back_is : (server : ServerId) (past : List Act) (s : Step) (h : HostId) (i : TokenId) → over past ≡ true
+    → list_any (asks_back server past s h i) (granted server past) ≡ true
+    → (t : Token) × (t.id ≡ i) × (t.host ≡ h) × IsAskedBack server past t
+    × ((Revoked past t → ⊥) ⊎ (s.cause ≡ Lapse))
+unfolding asks_back blocks_some in_way
+back_is server past s h i o e =
+    let p = some_in (asks_back server past s h i) (granted server past) e in
+    let t = p.0 in
+    let y = not (revoked past t) || is_lapse s.cause in
+    let x = not (list_any (same_token t) (pinned server past)) && y in
+    let q = and_parts ((same_id t.id i && same_host t.host h) && list_any (λ w. in_way w t) (queue past)) x p.2 in
+    let r = and_parts (same_id t.id i && same_host t.host h) (list_any (λ w. in_way w t) (queue past)) q.0 in
+    let k = and_parts (same_id t.id i) (same_host t.host h) r.0 in
+    let u = and_parts (not (list_any (same_token t) (pinned server past))) y q.1 in
+    let w = some_in (λ w. in_way w t) (queue past) r.1 in (
+      t,
+      id_is t.id i k.0,
+      host_is t.host h k.1,
+      record {
+        over = over_yes past o;
+        granted = granted_yes server past t p.1;
+        unpinned = λ pin. is_not (list_any (same_token t) (pinned server past)) u.0
+            (tokens_in t (pinned server past) (pinned_is server past t pin));
+        w = w.0;
+        waits = queue_yes past w.0 w.1;
+        blocks_it = w.2;
+      },
+      elim (or_cases (not (revoked past t)) (is_lapse s.cause) u.1) [
+        | inl z ↦ inl (λ v. is_not (revoked past t) z (revoked_is past t v))
+        | inr z ↦ inr (lapse_cause s.cause z)
+      ],
+    )
+
+may_send : (server : ServerId) (tree : Tree) (s : Step) (past : List Act) (a : Act) → TellsAct tree a
+    → send_right server tree s past a ≡ true → MaySend server tree s past a
+unfolding send_right
+may_send server tree s past a tells e = record {
+  grants = λ h f n g is.
+      let p = and_parts (there_right ((cell_at tree g.bring.fid Traits).kept))
+      (list_any (grants_for server past h n g) (queue past)) (at (Sent h f n (Grant g)) is) in
+      grant_so server tree past h n g (subst (TellsAct tree) is tells) p.0 p.1;
+  dones = λ h f n d is.
+      let p = and_parts (live past h && is_here_now server d.fileset n) (outcome_right server tree past h n d d.outcome)
+      (at (Sent h f n (Done d)) is) in
+      let q = and_parts (live past h) (is_here_now server d.fileset n) p.0 in (
+        live_yes past h q.0,
+        here_either server past d.fileset n q.1,
+        outcome_is server tree past h n d d.outcome refl p.1,
+      );
+  revokes = λ h f n r i is m.
+      let p = and_parts (over past) (list_all (λ i. list_any (asks_back server past s h i) (granted server past)) r.ids)
+      (at (Sent h f n (Revoke r)) is) in
+      let q = back_is server past s h i p.0
+      (at_all (λ i. list_any (asks_back server past s h i) (granted server past)) r.ids i p.1 m) in
+      (q.0, q.1, q.2, q.3, q.4);
+}
+  where
+    at : (x : Act) → a ≡ x → send_right server tree s past x ≡ true
+    at x is = subst (λ y. send_right server tree s past y ≡ true) is e
+
+pub sends_all : (server : ServerId) (tree : Tree) (s : Step) (ms : List Message) (past : List Act) → TellsAll tree ms
+    → sends_right server tree s (sending ms) past ≡ true → Each (MaySend server tree s) (sending ms) past
+unfolding sends_right
+sends_all server tree s [] past tells e = tt
+sends_all server tree s (m ∷ ms) past tells e =
+    let a = Sent m.host m.epoch m.moves m.body in
+    let p = and_parts (send_right server tree s past a) (sends_right server tree s (sending ms) (a ∷ past)) e in
+    (may_send server tree s past a tells.0 p.0, sends_all server tree s ms (a ∷ past) tells.1 p.1)
+
+-- the end of a step
+done_at : (such : DoneIs → Bool) (m : Message) (b : Body) (fs : FilesetId) (n : ℕ) → m.body ≡ b
+    → done_body b fs n such ≡ true
+    → (d : DoneOf) × (m.body ≡ Done d) × (d.fileset ≡ fs) × (d.bring.number ≡ n) × (such d.outcome ≡ true)
+unfolding done_body
+done_at such m (Done d) fs n is e =
+    let p = and_parts (same_fileset d.fileset fs && (d.bring.number == n)) (such d.outcome) e in
+    let q = and_parts (same_fileset d.fileset fs) (d.bring.number == n) p.0 in
+    (d, is, fileset_is d.fileset fs q.0, eqb-true d.bring.number n q.1, p.1)
+done_at such m b fs n is e = absurd (cc)
+
+done_sent : (s : Step) (h : HostId) (fs : FilesetId) (n : ℕ) (such : DoneIs → Bool)
+    → list_any (is_done_of h fs n such) s.sent ≡ true
+    → (d : DoneOf) × SentNow s h (Done d) × (d.fileset ≡ fs) × (d.bring.number ≡ n) × (such d.outcome ≡ true)
+unfolding is_done_of
+done_sent s h fs n such e =
+    let p = some_in (is_done_of h fs n such) s.sent e in
+    let q = and_parts (same_host p.0.host h) (done_body p.0.body fs n such) p.2 in
+    let r = done_at such p.0 p.0.body fs n refl q.1 in
+    (r.0, (p.0, p.1, host_is p.0.host h q.0, r.1), r.2, r.3, r.4)
+
+reply_locked : (o : DoneIs) → locked_reply o ≡ true → o ≡ HasReply (Refused Locked)
+unfolding locked_reply
+reply_locked (HasReply r) e = ap HasReply (locked_is r e)
+reply_locked o e = absurd (cc)
+
+pub has_sent : (server : ServerId) (tree : Tree) (before past : List Act) (s : Step)
+    → passes (sent_tests server before past s) ≡ true → HasSent server tree before past s
+unfolding sent_tests answered_now first_asked is_lapse blocks_some in_way recalls_it recalls_again
+has_sent server tree before past s e = record {
+  written = λ w m.
+      let p = and_parts (is_locked w.answer.reply) (list_any (is_done_of w.answer.host w.fileset w.number locked_reply)
+      s.sent) (at_all (answered_now s) s.applied (IsDone w) t.0 m) in
+      let q = done_sent s w.answer.host w.fileset w.number locked_reply p.1 in (
+        q.0,
+        q.1,
+        reply_locked q.0.outcome q.4 ∙ ap HasReply (sym (locked_is w.answer.reply p.0)),
+        q.2,
+        q.3,
+      );
+  repeats = λ h n c d x here_ f k last was. repeats h n c d x f k was;
+  grants = λ w f waits is can. stuck_grant server past w (stuck w waits) can;
+  uses = λ w c waits is use_ ok can. stuck_grant server past w (stuck w waits) can;
+  others = λ w c waits is use_ ok row ready. stuck_ready server past w (stuck w waits) ready;
+  enters = λ w c waits is enter_ ok can. stuck_grant server past w (stuck w waits) can;
+  revokes = λ u k. revoked_yes past u (back u k);
+  revokes_again = λ u c k.
+      let all_ = λ (t : Token). implies (blocks_some server past t) (recalls_again s t) in
+      let p = so (blocks_some server past u) (recalls_again s u)
+      (at_all all_ (granted server past) u (so (is_lapse s.cause) (list_all all_ (granted server past)) t.1.1.1.1.0
+      (lapse c)) (granted_is server past u k.granted)) (some_blocked u k) in
+      let q = some_in (λ (m : Message). same_host m.host u.host && recalls_it u m.body) s.sent p in
+      let r = and_parts (same_host q.0.host u.host) (recalls_it u q.0.body) q.2 in
+      let z = recalled u q.0.body r.1 in
+      (z.0, (q.0, q.1, host_is q.0.host u.host r.0, z.1), z.2);
+}
+  where
+    t : AllTrue (sent_tests server before past s)
+    t = all_true (sent_tests server before past s) e
+
+    stuck : (w : Wanted) → Waits past w → is_stuck server past w ≡ true
+    stuck w waits = at_all (is_stuck server past) (queue past) w t.1.1.0 (queue_is past w waits)
+
+    lapse : s.cause ≡ Lapse → is_lapse s.cause ≡ true
+    lapse c = subst (λ x. is_lapse x ≡ true) (sym c) refl
+
+    some_blocked : (u : Token) → IsAskedBack server past u → blocks_some server past u ≡ true
+    some_blocked u k = any_of (λ w. in_way w u) (queue past) k.w (queue_is past k.w k.waits) k.blocks_it
+
+    recalled : (u : Token) (b : Body) → recalls_it u b ≡ true → (r : RevokeOf) × (b ≡ Revoke r) × In u.id r.ids
+    recalled u (Revoke r) e = (r, refl, in_ids u.id r.ids e)
+    recalled u b e = absurd (cc)
+
+    back : (u : Token) → IsAskedBack server past u → revoked past u ≡ true
+    back u k =
+        so (blocks_some server past u) (revoked past u)
+        (at_all (λ t. implies (blocks_some server past t) (revoked past t)) (granted server past) u t.1.1.1.0
+        (granted_is server past u k.granted))
+        (some_blocked u k)
+
+    repeats : (h : HostId) (n : ℕ) (c : ChangeOf) (d : DoneOf) → TakenNow before s h n (Change c) → d.fileset ≡ c.fileset
+        → d.bring.number ≡ c.number
+        → HasWritten before h d ⊎ ((m : ℕ) × SentTo before h (epoch before) m (Done d))
+        → AnswersChange s h c.fileset c.number
+    repeats h n c d ((m, is, at, _, _, body), _) f k was =
+        let p : first_asked before s m (Change c) ≡ true =
+        subst (λ b. first_asked before s m b ≡ true) body (at_cause (λ m. first_asked before s m m.body) s m t.1.0 is) in
+        let fresh_ = is_fresh before m.host c.fileset c.number in
+        elim (or_cases fresh_ (list_any (is_done_of m.host c.fileset c.number (λ o. true)) s.sent) p) [
+          | inl q ↦ absurd (never (subst (λ h. is_fresh before h c.fileset c.number ≡ true) at q) f k was)
+          | inr q ↦ (
+              let r = done_sent s m.host c.fileset c.number (λ o. true) q in
+              (r.0, subst (λ h. SentNow s h (Done r.0)) at r.1, r.2, r.3)
+              )
+        ]
+      where
+        once_of : (past : List Act) → HasWritten past h d
+            → (w : Written) × Once (λ before a. a ≡ Writes w) past × (w.answer.host ≡ h) × (w.fileset ≡ d.fileset)
+            × (w.number ≡ d.bring.number)
+        once_of [] x = elim x [ ]
+        once_of (a ∷ past) (inl (w, is, at, f, k, _)) = (w, inl is, at, f, k)
+        once_of (a ∷ past) (inr x) = let r = once_of past x in (r.0, inr r.1, r.2, r.3, r.4)
+
+        never : is_fresh before h c.fileset c.number ≡ true → d.fileset ≡ c.fileset → d.bring.number ≡ c.number
+            → HasWritten before h d ⊎ ((m : ℕ) × SentTo before h (epoch before) m (Done d)) → ⊥
+        never t f k (inl x) =
+            let r = once_of before x in
+            let low = fresh_written before h c.fileset c.number t r.0 r.1 r.2 (r.3 ∙ f) in
+            let e = r.4 ∙ k in omega (arith, low, e)
+        never t f k (inr (m, x)) =
+            let low = fresh_sent before h c.fileset c.number t (epoch before) m d x f in omega (arith, low, k)

@@ -1,0 +1,7 @@
+pub mod Prefixes
+pub mod HostSteps
+pub mod ServerSteps
+pub mod Sound
+pub mod RunWords
+pub mod Run
+pub mod Ended
