@@ -11,7 +11,7 @@ use Rattle.ep_log.specs.Puts.{page_of}
 use Rattle.ep_log.specs.State.{State, with_put, put_of}
 use Rattle.ep_space.specs.Counts.{count_page, count_now, count_settled}
 use Rattle.ep_anode.specs.Node.{pointer_of, pointer_at, map_under, cell, names, no_names, node_in, SameFacts, HasNoBlocks}
-use Rattle.ep_anode.specs.Anode.{anode_of, anode_in, byte_length, text_at, content_at, freed, made, IsPage, IsTidy, IsBare}
+use Rattle.ep_anode.specs.Anode.{Anode, anode_of, anode_in, byte_length, text_at, content_at, freed, bare_anode, IsPage, IsTidy, IsBare}
 use Rattle.ep_anode.specs.Changes.{is_shared, Moves, Turns, Turned, Made}
 use Rattle.ep_anode.specs.declared.node.Node.{Node}
 use Rattle.ep_anode.proofs.Counting.{none_many}
@@ -152,13 +152,17 @@ freed_turned page slot unique node cleared old before mid middle new after bytes
 }
 
 -- and one that was made
-pub made_there : (page slot : ℕ) (dir : Bool) (kind unique : ℕ) (owner group bytes was : List ℕ) (old new : State) (before after : List ℕ) → page < 1058 → IsPage kind unique owner group bytes → kind ≡ (if dir then 1 else 2)
-    → unique ≡ (anode_in old before page).unique + 1 → new ≡ with_put old (put_of slot page was bytes)
+pub bare_made : (page slot kind unique : ℕ) (owner group bytes was : List ℕ) (old new : State) (before after : List ℕ) → page < 1058 → IsPage kind unique owner group bytes
+    → new ≡ with_put old (put_of slot page was bytes)
     → ((image : List ℕ) (p : ℕ) → page_of new.entries new.puts image p ≡ (if page == p then bytes else page_of old.entries old.puts image p)) → after ≡ before
-    → Made page (made dir owner group (anode_in old before page)) old before new after
-made_there page slot dir kind unique owner group bytes was old new before after low is_page kind_is number is pages quiet = record {
+    → Made page (bare_anode kind unique owner group) old before new after
+bare_made page slot kind unique owner group bytes was old new before after low is_page is pages quiet = record {
   turns = turns_own page no_names (node_in new after page) old before new after (alone_here page slot kind unique owner group bytes was is_page old new before after low is pages quiet)
       (put_turns page slot kind unique owner group bytes was is_page old new before after low is pages quiet no_names no_names old before (record { counts = λ b lt. refl; settled = λ b lt. refl; pages = λ p lt. refl }) (λ b. refl));
-  anode_is = put_anode page slot kind unique owner group bytes was is_page old new before after low is pages quiet
-      ∙ (λ i. record { kind = kind_is i; unique = number i; length = 0; owner = owner; group = group; lists = λ which k. 0; content = λ k. 0 });
+  anode_is = put_anode page slot kind unique owner group bytes was is_page old new before after low is pages quiet;
 }
+
+-- said of the pages before a call that only reads
+pub made_after : (page : ℕ) (anode other : Anode) (old mid new : State) (before middle after : List ℕ) → mid ≡ old → middle ≡ before → anode ≡ other → Made page anode mid middle new after → Made page other old before new after
+made_after page anode other old mid new before middle after same quiet is made =
+    subst (λ (a : Anode). Made page a old before new after) is (subst (λ (s : State). Made page anode s before new after) same (subst (λ (l : List ℕ). Made page anode mid l new after) quiet made))

@@ -71,17 +71,21 @@ anode_of image node = record {
 abbrev pub anode_in : State → List ℕ → ℕ → Anode
 anode_in state image p = anode_of image (node_in state image p)
 
--- a new file or directory
-abbrev pub made : Bool → List ℕ → List ℕ → Anode → Anode
-made dir owner group anode = record {
-  kind = if dir then 1 else 2;
-  unique = anode.unique + 1;
+-- an anode of length 0 with empty lists
+abbrev pub bare_anode : ℕ → ℕ → List ℕ → List ℕ → Anode
+bare_anode kind unique owner group = record {
+  kind = kind;
+  unique = unique;
   length = 0;
   owner = owner;
   group = group;
   lists = λ which k. 0;
   content = λ k. 0;
 }
+
+-- a new file or directory
+abbrev pub made : Bool → List ℕ → List ℕ → Anode → Anode
+made dir owner group anode = bare_anode (if dir then 1 else 2) (anode.unique + 1) owner group
 
 -- bytes under a piece from one on
 abbrev pub over : ℕ → List ℕ → (ℕ → ℕ) → ℕ → ℕ
@@ -122,15 +126,7 @@ with_list which bytes anode = record anode {
 
 -- a free anode that keeps its unique number
 abbrev pub freed : Anode → Anode
-freed anode = record {
-  kind = 0;
-  unique = anode.unique;
-  length = 0;
-  owner = [];
-  group = [];
-  lists = λ which k. 0;
-  content = λ k. 0;
-}
+freed anode = bare_anode 0 anode.unique [] []
 
 -- the page of an anode of length 0 without blocks
 pub record IsPage (kind unique : ℕ) (owner group page : List ℕ) : Type 0 where

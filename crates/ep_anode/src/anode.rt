@@ -5,7 +5,8 @@ ghost use Rattle.dfs_base.specs.Crash.{IsQuiet};
 ghost use Rattle.ep_log.specs.Log.{disk_of, state_of, slot_of, IsSoundLog};
 ghost use Rattle.ep_anode.specs.Room.{with_counts, is_page, free_blocks, MayPutAll, PutsPages};
 ghost use Rattle.ep_anode.specs.Node.{names, no_names, node_in};
-ghost use Rattle.ep_anode.specs.Anode.{anode_in, made, names_past, written, ended, with_length, freed, IsTidy, IsBare};
+ghost use Rattle.ep_anode.specs.Anode.{anode_in, bare_anode, made, names_past, written, ended, with_length, freed};
+ghost use Rattle.ep_anode.specs.Anode.{IsTidy, IsBare};
 ghost use Rattle.ep_anode.specs.Changes.{own_names, WroteLoose, Changed, Made, SharesBlocks, AreCounted, AreFew};
 ghost use Rattle.ep_anode.specs.Faults.{IsNodeFault};
 
@@ -183,6 +184,44 @@ pub fn cut<D: Disk>(log: &mut Log<D>, tx: &mut Tx, page: u32, length: u32) -> Re
     Ok(())
 }
 
+/// Makes an anode of a kind, 0 free, 1 a directory and 2 a file, and of a unique number in the page of a free one: of
+/// length 0, with empty lists. Its owner and group, of a free one empty, have 60 bytes at most. `page` is the anode's
+/// metadata page.
+///
+/// Room: no block; the transaction may put the page. `Failed`: mount the log again. `Memory`: nothing is put.
+pub fn create_as<D: Disk>(
+    log: &mut Log<D>,
+    tx: &mut Tx,
+    page: u32,
+    kind: u8,
+    unique: u32,
+    owner: &[u8],
+    group: &[u8],
+) -> Result<(), NodeFault>
+    requires sound { IsSoundLog D.tells D.view log.old }
+    requires may { MayPutAll (is_page page) (state_of log.old) (slot_of tx.old) }
+    requires page { page < 1058 }
+    requires owner { length owner.now ≤ 60 }
+    requires group { length group.now ≤ 60 }
+    ensures sound { IsSoundLog D.tells D.view log.new }
+    ensures tx { tx.new ≡ tx.old }
+    ensures puts { PutsPages (is_page page) (slot_of tx.old) (state_of log.old) (state_of log.new) }
+    ensures made { D.tells → OnOk result (Made page (bare_anode kind unique owner.now group.now)
+        (state_of log.old) (D.view (disk_of log.old)).image (state_of log.new) (D.view (disk_of log.new)).image) }
+    ensures bare { D.tells → OnOk result
+        (IsBare (D.view (disk_of log.new)).image (node_in (state_of log.new) (D.view (disk_of log.new)).image page)) }
+    ensures err { OnErr result (state_of log.new ≡ state_of log.old) }
+    ensures room { D.tells → OnOk result (free_blocks (state_of log.old) (D.view (disk_of log.old)).image
+        ≤ free_blocks (state_of log.new) (D.view (disk_of log.new)).image) }
+    ensures quiet { IsQuiet (D.view (disk_of log.old)) (D.view (disk_of log.new)) }
+    ensures counted { (D.view (disk_of log.old)).faults ≤ (D.view (disk_of log.new)).faults }
+    ensures only { IfErr result (λ fault. IsNodeFault fault (D.view (disk_of log.old)) (D.view (disk_of log.new))) }
+{
+    let new = anode_page(kind, unique, owner, group);
+    log.put(tx, page, &new)?;
+    Ok(())
+}
+
 /// Makes a new file or directory in the page of a free anode: of length 0, with empty lists, and with the next unique
 /// number, which it answers. `page` is the anode's metadata page.
 ///
@@ -221,8 +260,8 @@ pub fn create<D: Disk>(
     log.page(page, &mut old)?;
     let unique = u32_at(&old, UNIQUE_AT).saturating_add(1);
     let kind = if dir { DIRECTORY } else { FILE };
-    let new = anode_page(kind, unique, owner.as_bytes(), group.as_bytes());
-    log.put(tx, page, &new)?;
+    let (owner, group) = (owner.as_bytes(), group.as_bytes());
+    create_as(log, tx, page, kind, unique, owner, group)?;
     Ok(unique)
 }
 

@@ -5,17 +5,8 @@ ghost use Rattle.dfs_base.specs.Crash.{IsQuiet};
 ghost use Rattle.ep_log.specs.Log.{disk_of, state_of, slot_of, IsSoundLog};
 ghost use Rattle.ep_space.specs.Counts.{count_now};
 ghost use Rattle.ep_anode.specs.Room.{one, are_counts, free_blocks, MayPutAll, PutsPages};
-ghost use Rattle.ep_anode.specs.Node.{
-  pointer_of,
-  is_pointer,
-  map_under,
-  names,
-  names_below,
-  no_names,
-  node_in,
-  SameFacts,
-  PointsTo,
-};
+ghost use Rattle.ep_anode.specs.Node.{pointer_of, is_pointer, map_under, names, names_below, no_names};
+ghost use Rattle.ep_anode.specs.Node.{node_in, SameFacts, PointsTo};
 ghost use Rattle.ep_anode.specs.Anode.{bytes_of, content_at};
 ghost use Rattle.ep_anode.specs.Changes.{WroteLoose, Moves, AreCounted, AreFew, IsTaken, Replaced};
 ghost use Rattle.ep_space.specs.Faults.{IsCountFault, IsTakeFault};

@@ -14,7 +14,9 @@ mod owning;
 mod parts;
 mod writing;
 
-pub use anode::{clone_of, create, cut, length_of, read_at, remove, write_at, write_end};
+pub use anode::{
+    clone_of, create, create_as, cut, length_of, read_at, remove, write_at, write_end,
+};
 pub use fault::NodeFault;
 pub use lists::{read_list, write_list};
 pub use node::BLOCK;

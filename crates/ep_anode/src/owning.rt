@@ -4,15 +4,8 @@ ghost use Rattle.dfs_base.specs.Crash.{IsQuiet};
 ghost use Rattle.ep_log.specs.Log.{disk_of, state_of, slot_of, IsSoundLog};
 ghost use Rattle.ep_anode.specs.Room.{are_counts, free_blocks, MayPutAll, PutsPages};
 ghost use Rattle.ep_anode.specs.Node.{names, node_in};
-ghost use Rattle.ep_anode.specs.Changes.{
-  is_shared as shared_of,
-  own_names,
-  left_names,
-  Moves,
-  AreCounted,
-  AreFew,
-  Owned,
-};
+ghost use Rattle.ep_anode.specs.Changes.{is_shared as shared_of, own_names, left_names, Moves};
+ghost use Rattle.ep_anode.specs.Changes.{AreCounted, AreFew, Owned};
 ghost use Rattle.ep_space.specs.Faults.{IsCountFault};
 
 use crate::blocks::{clear, load, share_all};

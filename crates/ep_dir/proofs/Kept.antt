@@ -89,3 +89,7 @@ length-filter test (entry ∷ entries) = by (test entry) (length-filter test ent
     by : (b : Bool) → length (filter test entries) ≤ length entries → length (if b then entry ∷ filter test entries else filter test entries) ≤ suc (length entries)
     by true rest = omega (arith, rest)
     by false rest = omega (arith, rest)
+
+-- other entries in place of all
+pub ended_all : (anode : Anode) (entries made : List DirEntry) (piece : List ℕ) → IsDirectory entries anode → EachFits made → piece ≡ bytes_of made → ended 0 piece anode ≡ with_entries made anode
+ended_all anode entries made piece is each laid = ended_is anode entries made 0 piece is each (omega arith) (sym laid)

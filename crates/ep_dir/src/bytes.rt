@@ -12,6 +12,7 @@ ghost use Rattle.std.specs.Prelude.{
   List,
   IfOk,
   IfSome,
+  OnOk,
   length,
   take,
   drop,
@@ -20,7 +21,8 @@ ghost use Rattle.std.specs.Prelude.{
 };
 ghost use Rattle.std.specs.Int.{w32, from_be_bytes};
 ghost use Rattle.dfs_calls.specs.declared.part.DirEntry.{DirEntry as Entry};
-ghost use Rattle.ep_dir.specs.Entries.{entry_bytes, numbers_of, name_in, AreEntries, IsNamedAt, IsPlace};
+ghost use Rattle.ep_dir.specs.Entries.{entry_bytes, bytes_of, numbers_of, name_in};
+ghost use Rattle.ep_dir.specs.Entries.{IsEntry, EachFits, AreEntries, IsNamedAt, IsPlace};
 ghost use Rattle.dfs_base.specs.Name.{is_before, same_name};
 
 use dfs_base::{Items, Name, NoMemory};
@@ -40,6 +42,22 @@ const ANODE_AT: usize = 64;
 
 const UNIQUE_AT: usize = 68;
 
+// Appends an entry.
+fn push_entry(bytes: &mut Vec<u8>, name: &Name, anode: u32, unique: u32) -> Result<(), AllocError>
+    ensures items { OnOk result (bytes.new.items
+        ≡ bytes.old.items ++ entry_bytes (record { name = name.now; anode = anode; unique = unique })) }
+    ensures fits { OnOk result (IsEntry (record { name = name.now; anode = anode; unique = unique })) }
+{
+    let name = name.as_bytes();
+    let zeros: &[u8] = &[0; 63];
+    bytes.push(name.len() as u8)?;
+    bytes.extend_from_slice(name)?;
+    bytes.extend_from_slice(&zeros[name.len()..])?;
+    bytes.extend_from_slice(&anode.to_be_bytes())?;
+    bytes.extend_from_slice(&unique.to_be_bytes())?;
+    Ok(())
+}
+
 // An entry, and the bytes behind it.
 pub fn entry_before(
     alloc: Global,
@@ -51,15 +69,21 @@ pub fn entry_before(
     ensures { IfOk result
         (λ bytes. bytes.items ≡ entry_bytes (record { name = name.now; anode = anode; unique = unique }) ++ rest.now) }
 {
-    let name = name.as_bytes();
-    let zeros: &[u8] = &[0; 63];
     let mut bytes = Vec::new(alloc);
-    bytes.push(name.len() as u8)?;
-    bytes.extend_from_slice(name)?;
-    bytes.extend_from_slice(&zeros[name.len()..])?;
-    bytes.extend_from_slice(&anode.to_be_bytes())?;
-    bytes.extend_from_slice(&unique.to_be_bytes())?;
+    push_entry(&mut bytes, name, anode, unique)?;
     bytes.extend_from_slice(rest)?;
+    Ok(bytes)
+}
+
+// The bytes of entries.
+pub fn bytes_of(alloc: Global, entries: &[DirEntry]) -> Result<Vec<u8>, AllocError>
+    ensures items { IfOk result (λ bytes. bytes.items ≡ bytes_of entries.now) }
+    ensures fits { OnOk result (EachFits entries.now) }
+{
+    let mut bytes = Vec::new(alloc);
+    for entry in entries {
+        push_entry(&mut bytes, &entry.name, entry.anode, entry.unique)?;
+    }
     Ok(bytes)
 }
 

@@ -1,8 +1,9 @@
 // The calls on directories.
-ghost use Rattle.std.specs.Prelude.{◌≡◌, ◌<◌, ◌≤◌, ◌+◌, ◌*◌, ℕ, List, None, IfOk, IfErr, OnOk, length, take};
+ghost use Rattle.std.specs.Prelude.{◌≡◌, ◌<◌, ◌≤◌, ◌+◌, ◌*◌, ℕ, List, None, IfOk, IfErr, OnOk, length, take, true};
 ghost use Rattle.dfs_base.specs.Crash.{IsQuiet};
 ghost use Rattle.dfs_calls.specs.declared.part.DirEntry.{DirEntry as Entry};
 ghost use Rattle.dfs_objects.specs.Entries.{entry_named};
+ghost use Rattle.dfs_objects.specs.Sound.{names_rise};
 ghost use Rattle.ep_log.specs.Log.{disk_of, state_of, slot_of, IsSoundLog};
 ghost use Rattle.ep_anode.specs.Room.{with_counts, free_blocks, MayPutAll, PutsPages};
 ghost use Rattle.ep_anode.specs.Node.{names, node_in};
@@ -12,7 +13,8 @@ ghost use Rattle.ep_anode.specs.Faults.{IsNodeFault};
 ghost use Rattle.ep_dir.specs.Entries.{numbers_of, entered, without, with_entries, AreEntries, IsDirectory};
 
 use crate::bytes::{
-    BYTES_MAX, ENTRIES_MAX, ENTRY, entries_in, entry_before, numbers_named, place_named, place_of,
+    BYTES_MAX, ENTRIES_MAX, ENTRY, bytes_of, entries_in, entry_before, numbers_named, place_named,
+    place_of,
 };
 use dfs_base::{Disk, Items, Name, NoMemory, Span};
 use dfs_calls::DirEntry;
@@ -198,4 +200,49 @@ pub fn drop_name<D: Disk>(
     };
     let at = ENTRY * i;
     write_end(log, tx, page, at as u32, &bytes[at + ENTRY..])
+}
+
+/// Puts entries, at most 64 in the order of their names, in place of those of a directory. `page` is the directory's
+/// metadata page.
+///
+/// Room: seven free blocks; the transaction may put the page and all pages of counts. `Failed`: mount the log again.
+/// `Memory`: undo the transaction, which may hold some of the puts.
+pub fn set_entries<D: Disk>(
+    alloc: Global,
+    log: &mut Log<D>,
+    tx: &mut Tx,
+    page: u32,
+    entries: &[DirEntry],
+) -> Result<(), NodeFault>
+    requires sound { IsSoundLog D.tells D.view log.old }
+    requires may { MayPutAll (with_counts page) (state_of log.old) (slot_of tx.old) }
+    requires page { page < 1058 }
+    requires most { length entries.now ≤ 64 }
+    requires rise { names_rise entries.now ≡ true }
+    requires named { D.tells → AreCounted (names (node_in (state_of log.old) (D.view (disk_of log.old)).image page))
+        (state_of log.old) (D.view (disk_of log.old)).image }
+    requires few { D.tells → AreFew (names (node_in (state_of log.old) (D.view (disk_of log.old)).image page))
+        (state_of log.old) (D.view (disk_of log.old)).image }
+    requires room { D.tells → 7 ≤ free_blocks (state_of log.old) (D.view (disk_of log.old)).image }
+    ensures sound { IsSoundLog D.tells D.view log.new }
+    ensures tx { tx.new ≡ tx.old }
+    ensures puts { PutsPages (with_counts page) (slot_of tx.old) (state_of log.old) (state_of log.new) }
+    ensures changed { D.tells → (others : List Entry) → IsDirectory others (anode_in (state_of log.old)
+        (D.view (disk_of log.old)).image page) → OnOk result (Changed page (with_entries entries.now)
+        (state_of log.old) (D.view (disk_of log.old)).image (state_of log.new) (D.view (disk_of log.new)).image) }
+    ensures directory { D.tells → (others : List Entry) → IsDirectory others (anode_in (state_of log.old)
+        (D.view (disk_of log.old)).image page) → OnOk result (IsDirectory entries.now
+        (anode_in (state_of log.new) (D.view (disk_of log.new)).image page)) }
+    ensures room { D.tells → OnOk result (free_blocks (state_of log.old) (D.view (disk_of log.old)).image
+        ≤ free_blocks (state_of log.new) (D.view (disk_of log.new)).image + 7) }
+    ensures wrote { D.tells → WroteLoose (own_names (state_of log.old)
+        (D.view (disk_of log.old)).image (node_in (state_of log.old) (D.view (disk_of log.old)).image page))
+        (state_of log.old) (D.view (disk_of log.old)) (D.view (disk_of log.new)) }
+    ensures counted { (D.view (disk_of log.old)).faults ≤ (D.view (disk_of log.new)).faults }
+    ensures only { IfErr result (λ fault. IsNodeFault fault (D.view (disk_of log.old)) (D.view (disk_of log.new))) }
+{
+    match bytes_of(alloc, entries) {
+        Ok(bytes) => write_end(log, tx, page, 0, bytes.as_slice()),
+        Err(_) => Err(NodeFault::Memory),
+    }
 }

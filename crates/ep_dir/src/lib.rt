@@ -5,4 +5,4 @@
 mod bytes;
 mod dir;
 
-pub use dir::{add, drop_name, find, list};
+pub use dir::{add, drop_name, find, list, set_entries};
