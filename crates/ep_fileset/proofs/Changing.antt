@@ -198,7 +198,7 @@ blame_later : (fault : NodeFault) (first second last : View) → first.faults �
 blame_later Failed first second last le blame = ((let rose = blame.0 in omega (arith, le, rose)), blame.1)
 blame_later Memory first second last le blame = tt
 
-blame_result : {T : Type 0} (result : Result T NodeFault) (first second last : View) → first.faults ≤ second.faults
+pub blame_result : {T : Type 0} (result : Result T NodeFault) (first second last : View) → first.faults ≤ second.faults
     → IfErr result (λ fault. IsNodeFault fault second last) → IfErr result (λ fault. IsNodeFault fault first last)
 blame_result (Ok value) first second last le blame = tt
 blame_result (Err fault) first second last le blame = blame_later fault first second last le blame

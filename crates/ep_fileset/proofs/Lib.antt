@@ -2,7 +2,9 @@ pub mod Changing
 pub mod Twice
 pub mod Steps
 pub mod Turns
+pub mod Arrived
 pub mod Pieces
 pub mod Looking
+pub mod Read
 pub mod Patching
 pub mod EachAnode

@@ -19,7 +19,7 @@ use Rattle.dfs_objects.specs.Objects.{is_dir, list_index, content_with_list}
 use Rattle.dfs_filesets.specs.Creation.{is_vacant}
 use Rattle.dfs_filesets.specs.Laws.{lists_in}
 use Rattle.ep_objects.specs.Objects.{anode_at, with_anode}
-use Rattle.ep_fileset.specs.Slots.{has_list, HasList, IsDir, TakesObject, IsBlank, blank_content, is_new, used_by}
+use Rattle.ep_fileset.specs.Slots.{has_list, HasList, IsDir, TakesObject, IsBlank, blank_content, is_new, is_listed, emptied, used_by}
 use Rattle.dfs_filesets.specs.Creation.{occupied}
 use Rattle.std.proofs.Common.{length-set}
 use Rattle.ep_fileset.proofs.Twice.{anode_twice, anode_where, anode_here, anode_keeps}
@@ -144,12 +144,19 @@ blank_made slots slot n dir other owner group some there same =
 pub used_turn : (slots : ℕ → List Anode) (slot n unique : ℕ) (object : Object) → (anode_at (slots slot) n).unique + 1 ≡ unique → with_anode slot n (used_by object) slots ≡ with_anode slot n (occupied unique object) slots
 used_turn slots slot n unique object is = anode_where slots slot n (used_by object) (occupied unique object) (λ i. occupied (is i) object (anode_at (slots slot) n))
 
--- a new file has its list
-new_file : (list : List AccessEntry) (kept : List ℕ) (unsaved : List Unsaved) (len : Option UnsavedLength) → is_new (File list kept unsaved len) ≡ true → File list kept unsaved len ≡ File list [] [] None
-new_file list [] [] None is = refl
-new_file list [] [] (Some length) is = absurd (grind (arith, is))
-new_file list [] (byte ∷ unsaved) len is = absurd (grind (arith, is))
-new_file list (byte ∷ kept) unsaved len is = absurd (grind (arith, is))
+-- what is new is empty, and has its lists
+pub new_emptied : (content : Content) → is_new content ≡ true → emptied content ≡ content
+new_emptied (Dir [] lists) is = refl
+new_emptied (Dir (entry ∷ entries) lists) is = absurd (grind (arith, is))
+new_emptied (File list [] [] None) is = refl
+new_emptied (File list [] [] (Some length)) is = absurd (grind (arith, is))
+new_emptied (File list [] (byte ∷ unsaved) len) is = absurd (grind (arith, is))
+new_emptied (File list (byte ∷ kept) unsaved len) is = absurd (grind (arith, is))
+
+pub new_listed : (content : Content) → is_new content ≡ true → is_listed content ≡ true
+new_listed (Dir [] lists) is = is
+new_listed (Dir (entry ∷ entries) lists) is = absurd (grind (arith, is))
+new_listed (File list kept unsaved len) is = refl
 
 pub blank_file : (slots : ℕ → List Anode) (slot n : ℕ) (content : Content) (list : List AccessEntry) (kept : List ℕ) (unsaved : List Unsaved) (len : Option UnsavedLength) → content ≡ File list kept unsaved len
     → IsBlank slot n (is_dir content) slots → option_map (λ (object : Object). object.content) (anode_at (slots slot) n).object ≡ Some (File [] [] [] None)
@@ -164,15 +171,14 @@ file_has slots slot n is = by (anode_at (slots slot) n).object is
     by (Some object) is = (let same : object.content ≡ File [] [] [] None = cc in λ i. nat_lt (list_index Own) (length (lists_in (same i))))
 
 pub file_turn : (slots : ℕ → List Anode) (slot n : ℕ) (content : Content) (list : List AccessEntry) (kept : List ℕ) (unsaved : List Unsaved) (len : Option UnsavedLength) → content ≡ File list kept unsaved len
-    → is_new content ≡ true → IsBlank slot n (is_dir content) slots
-    → with_anode slot n (anode_changed (content_with_list Own list)) slots ≡ with_anode slot n (anode_changed (λ blank. content)) slots
-file_turn slots slot n content list kept unsaved len at new is =
-    let empty = new_file list kept unsaved len ((λ i. is_new (sym at i)) ∙ new) in
-    anode_where slots slot n (anode_changed (content_with_list Own list)) (anode_changed (λ blank. content))
-    (by (anode_at (slots slot) n).object (blank_file slots slot n content list kept unsaved len at is) (sym (at ∙ empty)))
+    → IsBlank slot n (is_dir content) slots
+    → with_anode slot n (anode_changed (content_with_list Own list)) slots ≡ with_anode slot n (anode_changed (λ blank. emptied content)) slots
+file_turn slots slot n content list kept unsaved len at is =
+    anode_where slots slot n (anode_changed (content_with_list Own list)) (anode_changed (λ blank. emptied content))
+    (by (anode_at (slots slot) n).object (blank_file slots slot n content list kept unsaved len at is) (λ i. emptied (sym at i)))
   where
-    by : (o : Option Object) → option_map (λ (object : Object). object.content) o ≡ Some (File [] [] [] None) → File list [] [] None ≡ content
-        → anode_changed (content_with_list Own list) (record { unique = (anode_at (slots slot) n).unique; object = o }) ≡ anode_changed (λ blank. content) (record { unique = (anode_at (slots slot) n).unique; object = o })
+    by : (o : Option Object) → option_map (λ (object : Object). object.content) o ≡ Some (File [] [] [] None) → File list [] [] None ≡ emptied content
+        → anode_changed (content_with_list Own list) (record { unique = (anode_at (slots slot) n).unique; object = o }) ≡ anode_changed (λ blank. emptied content) (record { unique = (anode_at (slots slot) n).unique; object = o })
     by None is whole = refl
     by (Some object) is whole =
         let same : object.content ≡ File [] [] [] None = cc in

@@ -36,7 +36,7 @@ none_of : {A : Type 0} (o : Option A) → is_none o ≡ true → o ≡ None
 none_of None e = refl
 none_of (Some x) e = absurd (grind (arith, e))
 
-both : (a b : Bool) → (a && b) ≡ true → (a ≡ true) × (b ≡ true)
+pub both : (a b : Bool) → (a && b) ≡ true → (a ≡ true) × (b ≡ true)
 both true true e = (refl, refl)
 both true false e = absurd (grind (arith, e))
 both false b e = absurd (grind (arith, e))
@@ -208,7 +208,7 @@ module _ (slots : ℕ → List Anode) (slot n : ℕ) (low : slot < 16) (some : 1
       made (on_ok_two result (λ (s : SharesBlocks (node_in old before source) (node_in new after page)) (t : IsTidy after (node_in new after page)). (s, t)) shares tidy)
 
 -- objects that are being made
-nothing_listed : (dir : Bool) (v k : ℕ) → list_byte (lists_in (blank_content dir)) v k ≡ 0
+pub nothing_listed : (dir : Bool) (v k : ℕ) → list_byte (lists_in (blank_content dir)) v k ≡ 0
 nothing_listed dir v k = by dir (nat_lt k 1024) v k
   where
     no_byte : (k : ℕ) → ◌≡◌ {A = ℕ} (get_or (0 ∷ []) k 0) 0

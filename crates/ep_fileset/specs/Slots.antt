@@ -38,6 +38,7 @@ use Rattle.dfs_objects.specs.Changes.{anode_changed, anode_freed}
 use Rattle.dfs_objects.specs.Entries.{entry_named, content_with_entry, content_without_entry}
 use Rattle.dfs_objects.specs.declared.content.Object.{Object}
 use Rattle.dfs_objects.specs.Objects.{is_dir, list_index}
+use Rattle.dfs_objects.specs.Sound.{names_rise}
 use Rattle.dfs_filesets.specs.Laws.{lists_in}
 use Rattle.dfs_filesets.specs.Creation.{is_vacant, occupied}
 use Rattle.dfs_filesets.specs.declared.creating.Creation.{Creation}
@@ -173,6 +174,23 @@ is_new (Dir [] lists) = length lists == 3
 is_new (File list [] [] None) = true
 is_new _ = false
 
+-- whether a directory has three lists
+abbrev pub is_listed : Content → Bool
+is_listed (Dir entries lists) = length lists == 3
+is_listed (File list kept unsaved len) = true
+
+-- the same without entries or bytes
+abbrev pub emptied : Content → Content
+emptied (Dir entries lists) = Dir [] lists
+emptied (File list kept unsaved len) = File list [] [] None
+
+-- an object that is kept whole: a directory of at most 64 entries in the order of their names, with three lists, or a
+-- file of at most 65,536 bytes of which nothing is unsaved
+abbrev pub is_whole : Content → Bool
+is_whole (Dir entries lists) = nat_le (length entries) 64 && (length lists == 3) && names_rise entries
+is_whole (File list kept [] None) = nat_le (length kept) 65536
+is_whole _ = false
+
 -- an anode in its next use, with its object
 abbrev pub used_by : Object → Anode → Anode
 used_by object free = occupied (free.unique + 1) object free
@@ -208,3 +226,12 @@ slot_freed slot slots = with_slot slot (map anode_freed (slots slot)) slots
 -- a slot that has what another one has
 abbrev pub slot_copied : ℕ → ℕ → (ℕ → List Anode) → ℕ → List Anode
 slot_copied from to slots = with_slot to (slots from) slots
+
+-- a free anode of a unique number
+abbrev pub numbered : ℕ → Anode → Anode
+numbered unique free = record { unique = unique; object = None }
+
+-- an object whose lists are those of a content, and that has no entries or bytes yet
+abbrev pub IsEmptied : ℕ → ℕ → Content → (ℕ → List Anode) → Type 0
+IsEmptied slot anode content slots =
+    option_map (λ object. object.content) (anode_at (slots slot) anode).object ≡ Some (emptied content)

@@ -58,7 +58,7 @@ fn put_pieces(bytes: &mut Items<u8>, from: u32, pieces: &[Piece])
 }
 
 // So many zeros.
-fn zeros(alloc: Global, count: usize) -> Result<Vec<u8>, NodeFault>
+pub fn zeros(alloc: Global, count: usize) -> Result<Vec<u8>, NodeFault>
     ensures size { IfOk result (λ bytes. vec_len bytes ≡ count) }
     ensures only { IfErr result (λ fault. fault ≡ Memory) }
 {

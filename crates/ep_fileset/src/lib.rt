@@ -6,6 +6,7 @@
 //! logged, and their blocks are written anew.
 #![tactic(auto)]
 
+mod arriving;
 mod bytes;
 mod giving;
 mod lists;
@@ -13,8 +14,10 @@ mod making;
 mod names;
 mod objects;
 mod place;
+mod reading;
 mod whole;
 
+pub use arriving::put_anode;
 pub use bytes::truncate;
 pub use giving::give;
 pub use lists::set_list;
@@ -22,4 +25,5 @@ pub use making::{make, occupy};
 pub use names::{enter, leave, rename};
 pub use objects::{copy_anode, unmake, vacate};
 pub use place::anode_page;
+pub use reading::{kept_anode, kept_anodes};
 pub use whole::{clear_slot, copy_slot};

@@ -13,6 +13,8 @@ ghost use Rattle.ep_fileset.specs.Slots.{
   MayMake,
   made,
   is_new,
+  is_listed,
+  emptied,
   used_by,
   blank_content,
   Held,
@@ -90,7 +92,7 @@ fn fill<D: Disk>(
 }
 
 // What a name is, as a fact.
-fn known(name: &Name)
+pub fn known(name: &Name)
     ensures { IsTrue (is_name name.now) }
 {
     name.as_bytes();
@@ -120,8 +122,8 @@ fn fill_three<D: Disk>(
     fill(alloc, log, tx, slot, anode, Which::Dirs, lists.get(2))
 }
 
-// Saves the lists of a new object.
-fn fill_all<D: Disk>(
+// Saves the lists of an object that is being made.
+pub fn fill_all<D: Disk>(
     alloc: Global,
     log: &mut Log<D>,
     tx: &mut Tx,
@@ -132,11 +134,11 @@ fn fill_all<D: Disk>(
     requires slot { slot < 16 }
     requires first { 1 ≤ anode }
     requires last { anode ≤ 64 }
-    requires new { is_new content.now ≡ true }
+    requires listed { is_listed content.now ≡ true }
     requires may { MayTurn HeldNow D.tells D.view (IsBlank slot anode (is_dir content.now)) slot 6 log.old tx.old }
     ensures turned { Turned HeldNow D.tells D.view (IsBlank slot anode (is_dir content.now))
-        (with_anode slot anode (anode_changed (λ blank. content.now))) result log.old log.new }
-    ensures fits { D.tells → OnOk result (FitsContent content.now) }
+        (with_anode slot anode (anode_changed (λ blank. emptied content.now))) result log.old log.new }
+    ensures fits { D.tells → OnOk result (FitsContent (emptied content.now)) }
     ensures changes { ChangesSlot D.tells D.view slot 6 result log.old log.new tx.old tx.new }
 {
     match content {

@@ -2,17 +2,21 @@ use Rattle.std.proofs.Common.{ℕ, ◌∙◌, List, subst, arith}
 use Rattle.std.specs.Prelude.{Err}
 use Rattle.std.proofs.lemmas.Result.{err_from_is_err_and}
 use Rattle.dfs_objects.specs.declared.content.Anode.{Anode}
+use Rattle.dfs_objects.specs.declared.content.Content.{Content}
 use Rattle.dfs_objects.specs.Changes.{anode_changed}
 use Rattle.dfs_objects.specs.Objects.{is_dir}
 use Rattle.ep_log.specs.Log.{disk_of, state_of}
 use Rattle.ep_files.specs.Holds.{HoldsNow}
-use Rattle.ep_objects.specs.Objects.{with_anode, kept_anodes, HeldNow}
+use Rattle.ep_objects.specs.Objects.{with_anode, kept_anodes, FitsContent, HeldNow}
 use Rattle.ep_objects.proofs.Keeping.{held_of, fits_changed, each_changed}
-use Rattle.ep_fileset.specs.Slots.{IsBlank, TakesObject, used_by, blank_content}
+use Rattle.ep_fileset.specs.Slots.{IsBlank, TakesObject, emptied, used_by, blank_content}
 use Rattle.ep_fileset.proofs.Changing.{may_after, may_held, changes_then, changes_failed, changes_value, changes_as}
-use Rattle.ep_fileset.proofs.Steps.{blank_made}
+use Rattle.ep_fileset.proofs.Steps.{blank_made, new_emptied, new_listed}
 use Rattle.ep_fileset.proofs.Twice.{anode_twice}
 use Rattle.ep_fileset.proofs.making.occupy.Goals as goal
+
+pub fill_all-requires-clause-listed : goal.fill_all-requires-clause-listed
+fill_all-requires-clause-listed g c = new_listed c.args.object.now.content c.requires.new
 
 pub fill_all-requires-clause-may : goal.fill_all-requires-clause-may
 fill_all-requires-clause-may g c =
@@ -35,11 +39,13 @@ returns-clause-kept g c = λ told slots keeps takes.
     (let held = held_of slots (state_of c.args.log.now) (g.D.Disk.view (disk_of c.args.log.now)).image keeps in
     let first = c.in_ok-unique.ensures.turned told slots held takes in
     let last = c.in_ok-fill_all.ensures.turned told ((with_anode c.args.slot c.args.anode (used_by (record { owner = c.args.object.now.owner; group = c.args.object.now.group; content = blank_content c.is_dir-dir.result }))) slots) first (blank_made slots c.args.slot c.args.anode c.is_dir-dir.result (is_dir c.args.object.now.content) c.args.object.now.owner c.args.object.now.group c.requires.first (let full = held.count c.args.slot c.requires.slot in let few = c.requires.last in omega (arith, full, few)) c.is_dir-dir.ensures) in
+    let empty = new_emptied c.args.object.now.content c.requires.new in
     record {
       held = subst (λ (s : ℕ → List Anode). HoldsNow (kept_anodes s) (state_of c.fill_all.new.log) (g.D.Disk.view (disk_of c.fill_all.new.log)).image)
-          (anode_twice slots c.args.slot c.args.anode (anode_changed (λ blank. c.args.object.now.content)) (used_by (record { owner = c.args.object.now.owner; group = c.args.object.now.group; content = blank_content c.is_dir-dir.result }))) last.held;
+          (anode_twice slots c.args.slot c.args.anode (anode_changed (λ blank. emptied c.args.object.now.content)) (used_by (record { owner = c.args.object.now.owner; group = c.args.object.now.group; content = blank_content c.is_dir-dir.result }))
+          ∙ (λ i. with_anode c.args.slot c.args.anode (used_by (record { owner = c.args.object.now.owner; group = c.args.object.now.group; content = empty i })) slots)) last.held;
       each = each_changed slots c.args.slot _ keeps.each (fits_changed (slots c.args.slot) c.args.anode (used_by c.args.object.now) (keeps.each c.args.slot c.requires.slot) c.requires.first c.requires.last
-          (record { owner = c.known.ensures; group = c.known-2.ensures; content = c.in_ok-fill_all.ensures.fits told }));
+          (record { owner = c.known.ensures; group = c.known-2.ensures; content = subst (λ (content : Content). FitsContent content) empty (c.in_ok-fill_all.ensures.fits told) }));
     })
 
 pub returns-clause-changes : goal.returns-clause-changes
