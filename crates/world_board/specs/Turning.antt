@@ -1,5 +1,5 @@
 -- What a turn at the board does.
-use Rattle.std.specs.Prelude.{List, None, Option, Some, [], ℕ, ◌++◌, ◌<◌, ◌∷◌, ◌≡◌}
+use Rattle.std.specs.Prelude.{List, None, Option, Some, [], flat_map, ℕ, ◌++◌, ◌<◌, ◌∷◌, ◌≡◌}
 use Rattle.dfs_base.specs.declared.ids.Node.{Node}
 use Rattle.world_steps.specs.declared.step.Step.{Step}
 use Rattle.world_board.specs.Hubs.{AreGiven, Hubbed, after, gift_for, given_of, with_sent, with_steps, without}
@@ -42,3 +42,7 @@ pub record HasTurned (before after : Posted) (node : Node) (steps : List Step) (
 pub record IsOf (first : Hubbed) (board : Posted) : Type 0 where
   pub hub : board.hub ≡ after first board.turns
   pub given : AreGiven first board.turns
+
+-- the steps of turns, in order: those of a journal
+abbrev pub steps_of : List Turn → List Step
+steps_of turns = flat_map (λ t. t.steps) turns

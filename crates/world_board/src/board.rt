@@ -154,7 +154,8 @@ fn begin(follows: &mut Items<Follow>, node: Node)
     }
 }
 
-fn nodes_of(script: &Script) -> Result<Items<Node>, NoMemory>
+/// Who takes part in a script: the setup host, the other hosts, the servers. The only error is that memory ran out.
+pub fn nodes_of(script: &Script) -> Result<Items<Node>, NoMemory>
     requires hosts { length script.now.roster.hosts ≤ HOSTS_MAX }
     requires servers { script.now.servers ≤ SERVERS_MAX }
     ensures { IfOk result (λ nodes. nodes ≡ nodes_of script.now) }

@@ -1,5 +1,9 @@
-use dfs_base::{Items, Name, Node};
+ghost use Rattle.std.specs.Prelude.{◌≡◌, IfOk};
+ghost use Rattle.world_board.specs.Turning.{steps_of};
+
+use dfs_base::{Items, Name, NoMemory, Node};
 use rpc_types::Message;
+use std::alloc::Global;
 use world_steps::Step;
 
 /// What a node is given in a turn.
@@ -48,4 +52,16 @@ pub enum Turned {
     Idle,
     /// The node has ended, and there was nothing for it.
     Ended,
+}
+
+/// The steps of turns, in order: those of a journal. The only error is that memory ran out.
+pub fn steps_of(alloc: Global, turns: Items<Turn>) -> Result<Items<Step>, NoMemory>
+    ensures { IfOk result (λ steps. steps ≡ steps_of turns) }
+{
+    let mut steps = Vec::new(alloc);
+    for turn in turns.into_vec() {
+        let mut own = turn.steps.into_vec();
+        steps.append(&mut own)?;
+    }
+    Ok(Items::from_vec(steps))
 }

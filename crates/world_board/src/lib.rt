@@ -9,9 +9,9 @@ mod laws;
 mod pending;
 mod tie;
 
-pub use board::Board;
+pub use board::{Board, nodes_of};
 pub use follow::{Follow, Mark};
-pub use given::{Gift, Given, Turn, Turned};
+pub use given::{Gift, Given, Turn, Turned, steps_of};
 pub use laws::a_turn_goes_on;
 pub use pending::Pending;
 pub use tie::Tie;

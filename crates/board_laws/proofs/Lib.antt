@@ -1,0 +1,17 @@
+pub mod Boards
+pub mod Embeds
+pub mod Counts
+pub mod Members
+pub mod Names
+pub mod Nodes
+pub mod Nets
+pub mod Rounds
+pub mod Gifts
+pub mod Fitting
+pub mod Planned
+pub mod Lines
+pub mod Followed
+pub mod Raising
+pub mod Telling
+pub mod Causes
+pub mod Whole
