@@ -1,0 +1,130 @@
+-- In every run servers decide Changes legally.
+use Rattle.dfs_base.specs.declared.ids.HostId.{HostId}
+use Rattle.dfs_base.specs.declared.ids.Node.{Node}
+use Rattle.dfs_base.specs.declared.ids.Node.TheVariants.{Host, Server}
+use Rattle.dfs_base.specs.declared.ids.ServerId.{ServerId}
+use Rattle.dfs_calls.specs.Limits.{keeps_limit}
+use Rattle.dfs_needs.specs.Questions.{is_change}
+use Rattle.dfs_tree.specs.Answers.{answer_to}
+use Rattle.dfs_tree.specs.declared.tree.Tree.{Tree}
+use Rattle.rpc_types.specs.declared.message.Body.{Body}
+use Rattle.script_lines.specs.declared.script.Script.{Script}
+use Rattle.std.proofs.Common.{Bool, List, arith, false, inl, inr, length, refl, subst, true, ℕ, ◌∷◌, ◌≡◌, ◌≤◌}
+use Rattle.std.specs.Prelude.{[], if◌then◌else◌}
+use Rattle.tok_types.specs.declared.token.Token.{Token}
+use Rattle.world_changes.proofs.Deciding.{legal_change}
+use Rattle.world_changes.specs.Agreement.{AgreesKept, DecidesLegally, EachChange, IsLegalChange, IsMeant}
+use Rattle.world_changes.specs.Agreement.{ServersDecideLegally}
+use Rattle.world_core.specs.Runs.{StepMeets, StepsMeet, firsts_of, past_of}
+use Rattle.world_contents.proofs.Instance.{contents_of, is_of_run}
+use Rattle.world_deeds.proofs.Steps.{limit}
+use Rattle.world_kept.proofs.Starts.{starts_kept}
+use Rattle.world_kept.specs.Gives.{IsKept}
+use Rattle.world_legal.proofs.Keeping.{all_kept, answer_kept, cause_kept, sizes, written_sound}
+use Rattle.world_legal.proofs.Tokens.{AllGood, all_good, causes as causes_good, plain}
+use Rattle.world_rules.proofs.Servers.{cause_heard, heard}
+use Rattle.world_server.specs.Kept.{is_refusal, kept, kept_after, kept_first, kept_through}
+use Rattle.world_server.specs.ServerApplies.{by_cause, decisions}
+use Rattle.world_server.specs.ServerDecides.{MayDecideAll}
+use Rattle.world_shows.proofs.Grants.{AllTaken, Heard, all_taken, causes as causes_taken, taken_took, wanted, written_down}
+use Rattle.world_steps.specs.Acts.Act.{Took, Wants, Writes}
+use Rattle.world_steps.specs.Acts.{Act, acts, after_cause}
+use Rattle.world_steps.specs.Grants.{Granted}
+use Rattle.world_steps.specs.Lists.{Always, In}
+use Rattle.world_steps.specs.Nodes.{own, served}
+use Rattle.world_steps.specs.Sends.{Said}
+use Rattle.world_steps.specs.declared.applied.Applied.{Applied}
+use Rattle.world_steps.specs.declared.applied.Applied.TheVariants.{Done as IsDone, Ends, IsDown, Stored}
+use Rattle.world_steps.specs.declared.applied.Applied.TheVariants.{Wants as IsWanted}
+use Rattle.world_steps.specs.declared.applied.Written.{Written}
+use Rattle.world_steps.specs.declared.step.Step.{Step}
+
+module _ (script : Script) (start : Tree) (firsts : ServerId → ℕ) (past : List Step)
+    (run : StepsMeet script start firsts past) (v : ServerId) (s : Step)
+    (few : length script.roster.hosts ≤ 16) where
+  abbrev AllSaid : List Act → Type 0
+  AllSaid S = (h : HostId) (e n : ℕ) (b : Body) → In (Took h e n b) S → Said (own h past) v e n b
+
+  on_said : (S : List Act) (a : Act) → ((h : HostId) (e n : ℕ) (b : Body) → Took h e n b ≡ a → ⊥) → AllSaid S
+      → AllSaid (a ∷ S)
+  on_said S a never old h e n b (inl q) = absurd (never h e n b q)
+  on_said S a never old h e n b (inr i) = old h e n b i
+
+  low : (S : List Act) → AllGood script v S → (t : Token) → Granted v S t → t.host.0 ≤ 16
+  low S good t g =
+      let here : t.host.0 ≤ length script.roster.hosts = (good t g).0 in
+      let most = few in
+      omega (arith, here, most)
+
+  -- what is kept after a Change is well formed, with nothing unsaved
+  next : (K : Tree) (x : Written) → IsKept K
+      → (is_refusal x.answer.reply ≡ false → (keeps_limit x.answer.call ≡ true) × (is_change x.answer.call ≡ true))
+      → IsKept (kept_after s.cause K (IsDone x))
+  next K x k sound = go (is_refusal x.answer.reply) refl
+    where
+      go : (b : Bool) → is_refusal x.answer.reply ≡ b
+          → IsKept (if b then K else (answer_to K x.answer.host x.answer.call).tree)
+      go true e = k
+      go false e = let q = sound e in answer_kept K k x.answer.host x.answer.call q.0 q.1
+
+  abbrev Legally : List Act → Tree → Written → Type 0
+  Legally before kept_is x =
+      (tree_is : Tree) → AgreesKept v before kept_is tree_is → IsMeant v x → IsLegalChange v s.cause kept_is x tree_is
+
+  decides : (xs : List Applied) (S0 S : List Act) (K : Tree) → MayDecideAll v K S0 S s xs → IsKept K → AllTaken S
+      → Heard v S0 s S → AllSaid S → AllGood script v S → EachChange Legally s.cause K S xs
+  decides [] S0 S K may k taken heard said good = tt
+  decides (IsWanted x ∷ xs) S0 S K may k taken heard said good =
+      let q = wanted v S0 s x K S may.0 taken heard in
+      decides xs S0 (Wants x ∷ S) K may.1 k q.0 q.1 (on_said S (Wants x) (λ h e n b p. cc) said)
+      (plain script v S (Wants x) (λ h e n b q. cc) (λ h ts q. cc) good)
+  decides (IsDone x ∷ xs) S0 S K may k taken heard said good =
+      let q = written_down v S0 s x S taken heard in (
+        (λ tree_is agree meant. legal_change v s.cause S K x may.0 k (low S good) tree_is agree meant),
+        decides xs S0 (Writes x ∷ S) (kept_after s.cause K (IsDone x)) may.1
+            (next K x k (written_sound script start firsts past run v s K S taken said x may.0)) q.0 q.1
+            (on_said S (Writes x) (λ h e n b p. cc) said)
+            (plain script v S (Writes x) (λ h e n b q. cc) (λ h ts q. cc) good),
+      )
+  decides (Ends x ∷ xs) S0 S K may k taken heard said good = elim may.0 [ ]
+  decides (Stored h f ss n ∷ xs) S0 S K may k taken heard said good = elim may.0 [ ]
+  decides (IsDown h ∷ xs) S0 S K may k taken heard said good = elim may.0 [ ]
+
+  abbrev Decides : Type 0
+  Decides =
+      EachChange Legally s.cause (kept_through s.cause (by_cause s.applied) (kept start v (served v past)))
+      (after_cause s.cause (acts (firsts v) v past)) (decisions s.applied)
+
+  step : StepMeets script start firsts (Server v) past s → IsKept (kept start v (served v past)) → Decides
+  step m k =
+      let S = acts (firsts v) v past in
+      decides (decisions s.applied) S (after_cause s.cause S)
+      (kept_through s.cause (by_cause s.applied) (kept start v (served v past))) m.0.works.decides
+      (cause_kept script start firsts past run v s m s.applied (kept start v (served v past))
+      (sizes script start firsts past run v s m) k)
+      (causes_taken s.cause S (all_taken script start firsts past run v)) (taken_took S s)
+      (λ h e n b i. cause_heard h e n b script start firsts past run v s m.1
+      (heard h e n b script start firsts past run v) i)
+      (causes_good script v s.cause S (all_good script start firsts past run v))
+
+module _ (script : Script) (start : Tree) (firsts : ServerId → ℕ) (few : length script.roster.hosts ≤ 16)
+    (first : (v : ServerId) → IsKept (kept_first start v)) where
+  at_node : (n : Node) (past : List Step) (s : Step) (run : StepsMeet script start firsts past)
+      → StepMeets script start firsts n past s → (v : ServerId) → n ≡ Server v
+      → Decides script start firsts past run v s few
+  at_node (Host h) past s run m v e = cc
+  at_node (Server k) past s run m v e =
+      let same : k ≡ v = let q : Server k ≡ Server v = e in cc in
+      subst (λ w. Decides script start firsts past run w s few) same
+      (step script start firsts past run k s few m (all_kept script start firsts first past run k))
+
+  pub all_decide : (past : List Step) → StepsMeet script start firsts past → Always (DecidesLegally start firsts) past
+  all_decide [] run = tt
+  all_decide (s ∷ past) run = (all_decide past run.0, λ v e. at_node s.node past s run.0 run.1.0 v e)
+
+pub servers_decide : ServersDecideLegally
+servers_decide script journal run =
+    all_decide script run.start (firsts_of journal)
+    (limit script journal run (contents_of run.start (firsts_of journal)) (is_of_run run.start (firsts_of journal)))
+    (λ v. starts_kept run.start v (record { formed = run.valid.well_formed; rests = run.valid.at_rest })
+    run.valid.unmoved) (past_of journal) run.steps

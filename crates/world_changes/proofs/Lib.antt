@@ -1,0 +1,4 @@
+pub mod Setting
+pub mod Homes
+pub mod Deciding
+pub mod ChangeLaw
