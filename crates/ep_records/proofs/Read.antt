@@ -40,7 +40,8 @@ use Rattle.object_laws.proofs.Parts.{listed_is}
 use Rattle.object_laws.proofs.Read.{fileset_read}
 use Rattle.ep_records.specs.Record.{stay_of, anodes_held, holding_of, held_in, host_known, ship_taken, record_of}
 use Rattle.ep_records.specs.Said.{stay_said, header_said, host_said, taken_said}
-use Rattle.ep_records.specs.Stored.{StaysRight, IsStorable, SaysHolding, SaysSlot, SaysRecord}
+use Rattle.record_laws.specs.Stored.{StaysRight, IsStorable}
+use Rattle.ep_records.specs.Stored.{SaysHolding, SaysSlot, SaysRecord}
 use Rattle.ep_records.specs.Laws.{RecordIsRead}
 use Rattle.ep_records.proofs.Stated.{stays_are_said}
 

@@ -70,7 +70,8 @@ use Rattle.object_laws.proofs.Judged.{anodes_are_right}
 use Rattle.object_laws.proofs.Ordered.{counts_are_right}
 use Rattle.ep_records.specs.Said.{stay_said, header_said, host_said, taken_said}
 use Rattle.ep_records.specs.Laws.{RecordHasNoFaults}
-use Rattle.ep_records.specs.Stored.{IsOther, StaysRight, IsStored, IsStorable, SaysHolding, SaysNothing, SaysSlot, SaysRecord}
+use Rattle.record_laws.specs.Stored.{IsOther, StaysRight, IsStored, IsStorable}
+use Rattle.ep_records.specs.Stored.{SaysHolding, SaysNothing, SaysSlot, SaysRecord}
 use Rattle.ep_records.proofs.Read as read
 
 no_fault : (test : Bool) (place : ℕ) (rule : Rule) → test ≡ true → unless test place rule ≡ []

@@ -18,7 +18,8 @@ use Rattle.ep_image.specs.Faults.{faults_in}
 use Rattle.object_laws.specs.Laws.{Keeps, IsInOrder}
 use Rattle.ep_records.specs.Record.{stay_of, holding_of, record_of, record_in}
 use Rattle.ep_records.specs.Said.{header_said, facts_said}
-use Rattle.ep_records.specs.Stored.{IsStorable, SaysRecord}
+use Rattle.record_laws.specs.Stored.{IsStorable}
+use Rattle.ep_records.specs.Stored.{SaysRecord}
 
 -- a header that is made of a holding says how its fileset stays
 abbrev pub StaysAreSaid : Type 0

@@ -19,6 +19,7 @@ use Rattle.std.specs.Prelude.{
   Some,
   None,
 }
+use Rattle.std.specs.List.{list_all}
 use Rattle.std.specs.Option.{option_map, option_map_or, option_and_then}
 use Rattle.dfs_base.specs.declared.access.AccessEntry.{AccessEntry}
 use Rattle.dfs_base.specs.declared.limits.TheConstants.{FILE_BYTES_MAX, OBJECTS_MAX}
@@ -44,6 +45,10 @@ use Rattle.store_state.specs.Giving.{put_pieces}
 abbrev pub is_tellable : Content → Bool
 is_tellable (Dir entries lists) = nat_le (length entries) OBJECTS_MAX && (length lists == 3) && names_rise entries
 is_tellable (File list kept unsaved len) = nat_le (length kept) FILE_BYTES_MAX
+
+-- whether those of some anodes are
+abbrev pub are_told : List Anode → Bool
+are_told anodes = list_all (λ anode. option_map_or (λ object. is_tellable object.content) anode.object true) anodes
 
 abbrev pub tellable_or_none : Object → Option Object
 tellable_or_none object = if is_tellable object.content then Some object else None

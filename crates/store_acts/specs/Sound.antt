@@ -1,6 +1,7 @@
 -- What acts a store takes, and what it keeps within limits.
 use Rattle.std.specs.Prelude.{
   ◌≡◌,
+  ◌≢◌,
   ◌≤◌,
   ◌<◌,
   ℕ,
@@ -19,7 +20,9 @@ use Rattle.std.specs.Prelude.{
   Option,
   Some,
   IfSome,
+  IsTrue,
 }
+use Rattle.dfs_base.specs.Name.{is_name}
 use Rattle.dfs_base.specs.declared.ids.FilesetId.{FilesetId}
 use Rattle.dfs_base.specs.declared.ids.ServerId.{ServerId}
 use Rattle.dfs_base.specs.declared.limits.TheConstants.{
@@ -79,7 +82,7 @@ use Rattle.store_state.specs.declared.state.Stay.TheVariants.{Writable, Clone, L
 use Rattle.store_state.specs.declared.state.StoreState.{StoreState}
 use Rattle.store_acts.specs.Acts.{act_done}
 use Rattle.store_state.specs.Sought.{awaits}
-use Rattle.store_acts.specs.Parts.{part_of}
+use Rattle.store_acts.specs.Parts.{are_told, part_of}
 use Rattle.store_state.specs.State.{held_so}
 
 -- a new fileset is the store's server's
@@ -158,16 +161,27 @@ pub record IsTakenSoFar (fileset : Fileset) (at : ℕ) (holding : Holding) : Typ
 -- a part fits: it is one of some fileset, as those that were taken before it
 pub record FitsAt (state : StoreState)
     (from : ServerId) (ship : ℕ) (id : FilesetId) (moves at : ℕ) (told : ShipPart) (fileset : Fileset) : Type 0 where
+  pub other : from.0 ≢ state.server.0
   pub allowed : IsAllowed state id
+  pub named : IsTrue (is_name fileset.name)
   pub well_formed : IsWellFormed fileset
   pub settled : is_at_rest fileset ≡ true
+  pub whole : are_told fileset.anodes ≡ true
   pub writable : fileset.read_only ≡ false
   pub part : IsPartOf fileset at told
   pub taken : (holding : Holding)
       → held_so (awaits id from ship moves at) state.slots ≡ Some holding → IsTakenSoFar fileset at holding
 
--- an act that leaves what a disk can hold
+-- a fileset that a call makes gets a name
+abbrev pub HasName : Call → Type 0
+HasName (NewFileset at name objects owner) = IsTrue (is_name name)
+HasName (CloneFileset at name new) = IsTrue (is_name new)
+HasName _ = Unit {0}
+
+-- an act that leaves what a disk can hold: filesets have names, and leave for other servers and come from such
 abbrev pub Fits : StoreState → Act → Type 0
+Fits state (Do host number call) = HasName call
+Fits state (Leave id to) = to.0 ≢ state.server.0
 Fits state (Part from ship id moves at part) = (fileset : Fileset) × FitsAt state from ship id moves at part fileset
 Fits state _ = Unit {0}
 
