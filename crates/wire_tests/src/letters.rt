@@ -78,8 +78,18 @@ struct Ends {
 
 fn ends_of(letter: Letter) -> Ends {
     match (letter.from, letter.to) {
-        (Node::Host(host), Node::Server(server)) => between(Direction::ToServer, host, server, server),
-        (Node::Server(server), Node::Host(host)) => between(Direction::ToHost, host, server, server),
+        (Node::Host(host), Node::Server(server)) => between(
+            Direction::ToServer,
+            host,
+            server,
+            server,
+        ),
+        (Node::Server(server), Node::Host(host)) => between(
+            Direction::ToHost,
+            host,
+            server,
+            server,
+        ),
         (Node::Server(server), Node::Server(last)) => {
             between(Direction::BetweenServers, HostId(0), server, last)
         }
