@@ -1,5 +1,5 @@
 -- What a server refuses on what it keeps the tree refuses alike.
-use Rattle.std.proofs.Common.{◌≡◌, ◌≤◌, ℕ, zero, suc, ◌+◌, ◌-◌, ◌==◌, ◌/◌, ◌%◌, nat_lt, Bool, true, false, if◌then◌else◌, List, [], ◌∷◌, length, Option, Some, None, Result, Ok, Err, refl, sym, ap, ◌∙◌, subst, arith, rules}
+use Rattle.std.proofs.Common.{◌≡◌, ◌≤◌, ℕ, suc, ◌+◌, ◌-◌, ◌==◌, ◌/◌, ◌%◌, nat_lt, Bool, true, false, if◌then◌else◌, List, [], ◌∷◌, length, Option, Some, None, Result, Ok, Err, refl, sym, ap, ◌∙◌, arith, rules}
 use Rattle.std.specs.Prelude.{map, slice_get, option_and_then}
 use Rattle.std.specs.List.{find}
 use Rattle.std.proofs.lemmas.Grind.{common_steps}
@@ -50,8 +50,7 @@ use Rattle.dfs_wants.specs.Kept.{content_settled, kept_fileset, kept_tree}
 use Rattle.dfs_wants.specs.Laws.{is_of_names}
 use Rattle.tree_laws.proofs.Steps.{formed_found, no_dir, no_file}
 use Rattle.server_laws.specs.Decided.{ServersRefuseAlike}
-use Rattle.server_laws.specs.Idle.{idle, idle_answer, minds_uses}
-use Rattle.server_laws.specs.Known.{SameAt}
+use Rattle.server_laws.specs.Idle.{idle, minds_uses}
 use Rattle.server_laws.specs.Laws.{AnswersSame}
 use Rattle.server_laws.proofs.Decided.{rise_kept}
 use Rattle.server_laws.proofs.Idle.{others_mind_no_uses}
