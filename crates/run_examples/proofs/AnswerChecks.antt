@@ -47,7 +47,8 @@ use Rattle.run_examples.proofs.Tests.{is_none, none_in, none_is, same_server, sa
 use Rattle.run_examples.proofs.Tests.{fid_is}
 use Rattle.run_examples.proofs.Tests.{same_kind, kind_is, same_bool, bool_is, name_is, same_token}
 use Rattle.run_examples.proofs.Tests.{token_is, same_end}
-use Rattle.run_examples.proofs.Words.{asking, asking_in, numbered, hand, hand_in}
+use Rattle.run_examples.proofs.TokenChecks.{at_site}
+use Rattle.run_examples.proofs.Words.{asking, asking_in, changing, numbered, hand, hand_in}
 use Rattle.run_examples.proofs.Words.{in_hand, held}
 use Rattle.run_examples.proofs.Words.{gives_it, gives_yes}
 use Rattle.run_examples.proofs.LabelWords.{in_use, used_in, frees, frees_is, gives_use, gives_use_yes}
@@ -395,6 +396,7 @@ answer_tests site host user past s =
     ∷ (is_none s.answers || no_asked s.asked)
     ∷ is_short s.answers
     ∷ (is_none s.answers || is_none (asking (s ∷ past)))
+    ∷ (is_none s.answers || (is_none (changing site (s ∷ past)) && is_local site (s ∷ past)))
     ∷ (is_none s.answers || (is_none s.dropped && is_none s.made))
     ∷ (list_all (λ a. not a.first) s.answers || is_none s.sent)
     ∷ list_all (λ a. wrote_right s.wrote (verdict_at site host user past s a.call)) s.answers
@@ -465,7 +467,7 @@ module _ (site : ServerId) (roster : Roster) (host : HostId) (user : User) (past
 
   answers_from : AllTrue (answer_tests site host user past s) → HostAnswers roster host past s its
   unfolding answered_right turn_right cant is_short wrote_right written_right begun_right synced ends_in freed_right
-      is_first_or_on answer_tests no_reply is_sync
+      is_first_or_on answer_tests no_reply is_sync is_local
   answers_from (
     answers_,
     (
@@ -479,8 +481,11 @@ module _ (site : ServerId) (roster : Roster) (host : HostId) (user : User) (past
             (
               alone_,
               (
-                keeps_,
-                (quiet_, (writes_, (only_, (locks_, (begins_, (begins_one_, (syncs_, (frees_, (local_, _))))))))),
+                settled_,
+                (
+                  keeps_,
+                  (quiet_, (writes_, (only_, (locks_, (begins_, (begins_one_, (syncs_, (frees_, (local_, _))))))))),
+                ),
               ),
             ),
           ),
@@ -529,6 +534,10 @@ module _ (site : ServerId) (roster : Roster) (host : HostId) (user : User) (past
     answers_one = short_len s.answers one_;
     answers_alone = λ a fs n m x. none_in (asking (s ∷ past)) (numbered fs n) (answered_none s a (is_none (asking (s
         ∷ past))) alone_ m) (asking_in (s ∷ past) fs n x);
+    answers_settled = λ a v fs n m x.
+        let p = and_parts (is_none (changing site (s ∷ past))) (is_local site (s ∷ past))
+        (answered_none s a (is_none (changing site (s ∷ past)) && is_local site (s ∷ past)) settled_ m) in
+        none_in (changing site (s ∷ past)) (numbered fs n) p.0 (at_site site (s ∷ past) v fs n p.1 x);
     keeps = λ a m.
         let p = and_parts (is_none s.dropped) (is_none s.made)
         (answered_none s a (is_none s.dropped && is_none s.made) keeps_ m) in

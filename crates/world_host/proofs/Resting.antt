@@ -85,6 +85,7 @@ module _ (roster : Roster) (host : HostId) (past : List Step) (rest : IsAtRest r
     asked = λ a c m. elim m [ ];
     answers_one = omega arith;
     answers_alone = λ a fs n m. elim m [ ];
+    answers_settled = λ a v fs n m. elim m [ ];
     keeps = λ a m. elim m [ ];
     quiet = λ a m. elim m [ ];
     writes = λ a fid from bytes m. elim m [ ];

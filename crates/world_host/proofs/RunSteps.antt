@@ -489,6 +489,7 @@ no_answers past s stance none unwritten unbegun turn cant = record {
   asked = λ a c m. absurd (gone a m);
   answers_one = subst (λ (xs : List Answer). length xs ≤ 1) (sym none) (omega arith);
   answers_alone = λ a fs n m. absurd (gone a m);
+  answers_settled = λ a v fs n m. absurd (gone a m);
   keeps = λ a m. absurd (gone a m);
   quiet = λ a m. absurd (gone a m);
   writes = λ a fid from bytes m. absurd (gone a m);
@@ -776,7 +777,8 @@ module _ (past : List Step) (s : Step) (stance : Stance roster client past s) (k
     (undropped : s.dropped ≡ []) (unmade : s.made ≡ []) (unsent : s.sent ≡ [])
     (its_turn : IsTurn past s k stat) (turn : (j : ℕ) (call : Call) → IsTurn past s j call → (k ≡ j) × (stat ≡ call))
     (can : CanAnswer roster client past s stance stat facts) (is : verdict_in stance stat ≡ Replies facts)
-    (was : (is_first ≡ true) ⊎ ((is_first ≡ false) × GoesOn past s k stat)) (alone : (fs : FilesetId) (n : ℕ) → Asking (s ∷ past) fs n → ⊥) where
+    (was : (is_first ≡ true) ⊎ ((is_first ≡ false) × GoesOn past s k stat)) (alone : (fs : FilesetId) (n : ℕ) → Asking (s ∷ past) fs n → ⊥)
+    (none_changing : (v : ServerId) (fs : FilesetId) (n : ℕ) → Changing (s ∷ past) v fs n → ⊥) where
   it : (a : Answer) → In a s.answers → answer k is_first ≡ a
   it a m = go (subst (In a) one_answer m)
     where
@@ -798,6 +800,7 @@ module _ (past : List Step) (s : Step) (stance : Stance roster client past s) (k
     asked = λ a c m e. absurd (let p = sym unasked ∙ e in cc);
     answers_one = subst (λ (xs : List Answer). length xs ≤ 1) (sym one_answer) (omega arith);
     answers_alone = λ a fs n m. alone fs n;
+    answers_settled = λ a v fs n m. none_changing v fs n;
     keeps = λ a m. (undropped, unmade);
     quiet = λ a m e. unsent;
     writes = λ a fid from bytes m e. absurd (let p = shown a m ∙ e in cc);
@@ -1011,7 +1014,7 @@ meets_takes = record {
     once = λ t u m n. two_of t u (one_of t m) (one_of u n);
   };
   stance = stance_four;
-  answers = answers_stat three (takes whole) stance_four 1 false refl refl refl refl refl refl refl (inr (is_open_three, not_ended_four)) turn_four can_four replies_four (inr (refl, (is_open_three, not_ended_four))) none_asking_four;
+  answers = answers_stat three (takes whole) stance_four 1 false refl refl refl refl refl refl refl (inr (is_open_three, not_ended_four)) turn_four can_four replies_four (inr (refl, (is_open_three, not_ended_four))) none_asking_four none_changing_four;
   asks = asks_nothing three (takes whole) stance_four takes_nothing none_asking_four none_changing_four none_open_four;
   gives = gives first second three (takes whole).cause (takes whole).asked (takes whole).answers (takes whole).taken [] young_three plain_takes;
   revoked = revoked first second three (takes whole).cause (takes whole).asked (takes whole).answers (takes whole).taken [] young_three plain_takes (no_revoke three (takes whole) (to_host (Grant (granted whole))) refl tt) (no_restarted three (takes whole) (to_host (Grant (granted whole))) refl tt) no_reclaimed_four (λ c. cc) (λ c. cc) (λ c. cc);
@@ -1030,7 +1033,7 @@ meets_from_cache = record {
   tokens = may_cache;
   takes = takes_all four from_cache refl (λ w t a. absurd (none_answers_line four from_cache 7 refl w a));
   stance = stance_five;
-  answers = answers_stat four from_cache stance_five 2 true refl refl refl refl refl refl refl begun turn_five can_five replies_five (inl refl) none_asking_five;
+  answers = answers_stat four from_cache stance_five 2 true refl refl refl refl refl refl refl begun turn_five can_five replies_five (inl refl) none_asking_five none_changing_five;
   asks = asks_nothing four from_cache stance_five cache_nothing none_asking_five none_changing_five none_open_five;
   gives = gives first second four from_cache.cause from_cache.asked from_cache.answers [] [] young_four plain_cache;
   revoked = revoked first second four from_cache.cause from_cache.asked from_cache.answers [] [] young_four plain_cache (no_revoke_line from_cache 7 refl) (no_restarted_line from_cache 7 refl) (no_reclaimed_line four from_cache 7 refl) (λ c. cc) (λ c. cc) (λ c. cc);
