@@ -21,6 +21,7 @@ use Rattle.run_examples.proofs.Tests.{at_all, implies, same_server, server_is}
 use Rattle.run_examples.proofs.TokenChecks.{is_bye}
 use Rattle.run_examples.proofs.Words.{at_said, said}
 use Rattle.run_examples.specs.Steps.{at_file, other}
+use Rattle.run_worked.proofs.Planned.{planned}
 use Rattle.run_worked.proofs.HostSteps.{host_words}
 use Rattle.run_worked.proofs.Prefixes.{tree_words, until_52}
 use Rattle.run_worked.proofs.Run.{run_52}
@@ -198,6 +199,7 @@ free_so = refl
 pub is_whole : IsWhole
 is_whole = record {
   run = is_run;
+  planned = planned;
   ended = run_ended;
   history = refl;
   legal = legal;

@@ -4,4 +4,5 @@ pub mod ServerSteps
 pub mod Sound
 pub mod RunWords
 pub mod Run
+pub mod Planned
 pub mod Ended

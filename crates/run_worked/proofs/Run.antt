@@ -42,11 +42,11 @@ use Rattle.world_steps.specs.declared.step.Cause.TheVariants.{Message as Came}
 use Rattle.world_steps.specs.declared.step.Step.{Step}
 
 -- the message that is the cause of a step
-abbrev message_in : Cause → Message
+abbrev pub message_in : Cause → Message
 message_in (Came m) = m
 message_in _ = to_server 0 Hello
 
-abbrev message : Step → Message
+abbrev pub message : Step → Message
 message s = message_in s.cause
 
 pub run_1 : StepsMeet script start firsts until_1

@@ -32,7 +32,7 @@ abbrev pub firsts : ServerId → ℕ
 firsts = firsts_of journal
 
 -- an element at a place in a list
-at_place : {A : Type 0} (n : ℕ) (xs : List A) (x : A) → slice_get xs n ≡ Some x → In x xs
+pub at_place : {A : Type 0} (n : ℕ) (xs : List A) (x : A) → slice_get xs n ≡ Some x → In x xs
 at_place n [] x e = absurd (cc)
 at_place zero (y ∷ ys) x e = inl (let p : Some y ≡ Some x = e in cc)
 at_place (suc n) (y ∷ ys) x e = inr (at_place n ys x e)
@@ -43,7 +43,7 @@ sent_at (a ∷ past) h e n b (inl p) = inl (sym p)
 sent_at (a ∷ past) h e n b (inr m) = inr (sent_at past h e n b m)
 
 -- a cause was sent before: by the server as its doing of some place, by a host as its message of some place
-cause_of : (s : Step) (m n : Message) → s.cause ≡ Came m → s.cause ≡ Came n → m ≡ n
+pub cause_of : (s : Step) (m n : Message) → s.cause ≡ Came m → s.cause ≡ Came n → m ≡ n
 cause_of s m n a b = let p : Came m ≡ Came n = sym a ∙ b in cc
 
 pub to_a_host : (host : HostId) (past : List Step) (s : Step) (at : ℕ) (m : Message) → s.cause ≡ Came m → m.host ≡ host

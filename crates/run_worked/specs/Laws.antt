@@ -5,12 +5,14 @@ use Rattle.dfs_tree.specs.Histories.{IsHistory, after_history, lost_in}
 use Rattle.run_examples.specs.Steps.{other}
 use Rattle.run_worked.specs.Journal.{entries, journal, reads, script, start}
 use Rattle.std.specs.Prelude.{[], codes, ◌≡◌}
+use Rattle.world_core.specs.Plans.{IsPlanned}
 use Rattle.world_core.specs.Runs.{IsEnded, IsRun}
 use Rattle.world_journal.specs.Histories.{history_of}
 
 pub record IsWhole : Type 0 where
-  -- all rules admit it, and it is ended
+  -- all rules admit it; it keeps to the plan of its script; and it is ended
   pub run : IsRun script journal
+  pub planned : IsPlanned script journal
   pub ended : IsEnded script journal
   -- its history is this one
   pub history : history_of journal.steps ≡ entries
