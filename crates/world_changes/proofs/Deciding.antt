@@ -18,26 +18,29 @@ use Rattle.dfs_calls.specs.declared.reply.Refusal.TheVariants.{Denied}
 use Rattle.dfs_calls.specs.declared.reply.Reply.{Reply}
 use Rattle.dfs_calls.specs.declared.reply.Reply.TheVariants.{Refused}
 use Rattle.dfs_calls.specs.declared.roster.Roster.{Roster}
-use Rattle.dfs_filesets.specs.Changing.{set_access_target}
+use Rattle.dfs_filesets.specs.Changing.{set_access_target, write_target}
 use Rattle.dfs_filesets.specs.Renaming.{rename_target}
 use Rattle.dfs_filesets.specs.declared.fileset.Fileset.{Fileset}
 use Rattle.dfs_needs.proofs.Showing.{tokens_show_parts}
 use Rattle.dfs_needs.specs.Looks.{kept_view}
+use Rattle.dfs_needs.specs.Questions.{is_change}
 use Rattle.dfs_needs.specs.Shows.{needs_show, needs_update, shows}
 use Rattle.dfs_tree.proofs.Refusals.{refused_call}
 use Rattle.dfs_tree.specs.Answers.{answer_for, answer_to, for_user}
+use Rattle.dfs_tree.specs.Founding.{clone_source}
 use Rattle.dfs_tree.specs.Finding.{fileset_named, has_id, same_fileset}
 use Rattle.dfs_tree.specs.WellFormed.{ids_rise}
 use Rattle.dfs_tree.specs.declared.tree.Away.{Away}
 use Rattle.dfs_tree.specs.declared.tree.Tree.{Tree}
-use Rattle.dfs_wants.proofs.Alike.{changes_are_alike, names_change_alike}
+use Rattle.dfs_wants.proofs.Alike.{changes_are_alike}
 use Rattle.dfs_wants.proofs.Settled.{kept_is_settled}
 use Rattle.dfs_wants.proofs.WantsKept.{wants_are_kept}
 use Rattle.dfs_wants.proofs.WantsThere.{wants_are_there}
 use Rattle.dfs_wants.specs.Kept.{kept_answer, kept_fileset, kept_tree}
-use Rattle.dfs_wants.specs.Laws.{DecidesAlike, NothingUnsaved, is_of_names}
-use Rattle.dfs_wants.specs.Wants.{want, want_for, want_in}
+use Rattle.dfs_wants.specs.Laws.{DecidesAlike, NothingUnsaved}
+use Rattle.dfs_wants.specs.Wants.{all_of, files_of, want, want_for, want_in}
 use Rattle.server_laws.proofs.Idle.{others_mind_no_uses}
+use Rattle.server_laws.proofs.Refused.{servers_refuse_alike}
 use Rattle.server_laws.proofs.Same.{calls_hang_on_their_server}
 use Rattle.server_laws.proofs.Wanted.{wants_hang_on_their_server}
 use Rattle.server_laws.specs.Idle.{idle, idle_answer, minds_uses}
@@ -48,9 +51,9 @@ use Rattle.std.proofs.Common.{is_some, nat_le, nat_lt, not, refl, subst, sym, tr
 use Rattle.std.proofs.Common.{◌∙◌, ◌∷◌, ◌≡◌, ◌≤◌}
 use Rattle.std.proofs.lemmas.Bool.{and_parts, eqb-true, false≢true, ne_eqb}
 use Rattle.std.proofs.lemmas.Grind.{common_steps}
-use Rattle.std.specs.List.{filter, find, list_all, list_any}
+use Rattle.std.specs.List.{filter, find, flat_map, list_all, list_any}
 use Rattle.std.specs.Option.{option_map_or}
-use Rattle.std.specs.Prelude.{[], if◌then◌else◌, is_none, map, ◌⊎◌}
+use Rattle.std.specs.Prelude.{[], if◌then◌else◌, is_none, map}
 use Rattle.tok_types.specs.Conflicts.{any_conflict, blocks, kinds_conflict, need_of}
 use Rattle.tok_types.specs.declared.token.Kind.{Kind}
 use Rattle.tok_types.specs.declared.token.Kind.TheVariants.{Bytes, Lock as LockKind, Opening, Status}
@@ -70,7 +73,7 @@ use Rattle.world_places.specs.Cells.{Does, cell_after}
 use Rattle.world_places.specs.Cells.Does.{Nothing}
 use Rattle.world_places.specs.Contents.{site}
 use Rattle.world_server.specs.Kept.{is_refusal}
-use Rattle.world_server.specs.ServerDecides.{DecidedSo, IsOfRow, IsWrittenSo, kept_reply, refusal_of}
+use Rattle.world_server.specs.ServerDecides.{DecidedSo, IsOfRow, IsWrittenSo, kept_reply}
 use Rattle.world_server.specs.ServerDecides.DecidedSo.{HasEffect, IsRefused, MeetsPinned}
 use Rattle.world_server.specs.Wants.{CanGrant, CanRefuse, asker, asker_of, exporter, has_effect, is_move}
 use Rattle.world_server.specs.Wants.{is_use, row_needs}
@@ -208,7 +211,7 @@ plain_for (Ok x) f all = all x
 plain_for (Err refusal) f all = refl
 
 module _ (tree : Tree) (user : User) where
-  plain_want : (call : Call) → is_of_names call ≡ true → minds_uses call ≡ false → AllPlain (want tree user call)
+  plain_want : (call : Call) → is_change call ≡ true → minds_uses call ≡ false → AllPlain (want tree user call)
   unfolding want want_in
   plain_want (NewFileset server name objects owner) n m = refl
   plain_want (Create place) n m =
@@ -233,8 +236,15 @@ module _ (tree : Tree) (user : User) where
   plain_want (OpenFile label place kind) n m = absurd (false≢true (sym m))
   plain_want (CloseFile label) n m = absurd (false≢true (sym m))
   plain_want (MoveFileset server name to) n m = absurd (false≢true (sym m))
-  plain_want (Truncate place len) n m = absurd (false≢true n)
-  plain_want (CloneFileset server source new) n m = absurd (false≢true n)
+  plain_want (Truncate place len) n m =
+      plain_for (fileset_named tree place.server place.fileset) _ (λ fileset.
+      plain_for (write_target fileset user place.path len) _ (λ anode. refl))
+  plain_want (CloneFileset server source new) n m =
+      plain_for (clone_source tree user server source) _ (λ fileset. plain_files (files_of fileset))
+    where
+      plain_files : (fids : List Fid) → AllPlain (flat_map (all_of false) fids)
+      plain_files [] = refl
+      plain_files (f ∷ fids) = plain_files fids
   plain_want (Read place from len) n m = absurd (false≢true n)
   plain_want (Write place from bytes) n m = absurd (false≢true n)
   plain_want (ListNames place) n m = absurd (false≢true n)
@@ -391,6 +401,22 @@ module _ (v : ServerId) (cause : Cause) (S : List Act) (K : Tree) (x : Written) 
   homes_then : are_home T' ≡ true
   homes_then = homes_after T agree.homes host call no_move
 
+  -- what is refused changes nothing
+  refused_legal : (refusal : Refusal) → x.answer.reply ≡ Refused refusal → (answer_to T host call).reply ≡ Refused refusal
+      → IsLegalChange v cause K x T
+  refused_legal refusal said refused =
+      let e : is_refusal x.answer.reply ≡ true = ap is_refusal said in
+      let stays : T' ≡ T = refused_call T host call refusal refused in
+      record {
+        reply = said ∙ sym refused;
+        same = subst (λ (b : Bool). SameAt v (if b then K else K') (kept_tree T')) (sym e)
+            (subst (λ (t : Tree). SameAt v K (kept_tree t)) (sym stays) agree.same);
+        homes = homes_then;
+        cells = λ f p at. ap (λ (t : Tree). cell_at t f p) stays
+            ∙ ap (λ (b : Bool). cell_after p (if b then Nothing else
+            changes (wanted_by K host call) K (if b then K else K') f p) (cell_at T f p)) (sym e);
+      }
+
   module _ (alike : DecidesAlike T host call) (reply_kept : x.answer.reply ≡ (answer_to K host call).reply)
       (saved : is_refusal x.answer.reply ≡ false → (user : User) → user_of T.roster host ≡ Some user
       → NothingUnsaved T (want T user call)) where
@@ -438,20 +464,6 @@ module _ (v : ServerId) (cause : Cause) (S : List Act) (K : Tree) (x : Written) 
         below (LockKind writing span) e = false≢true e
         below (Opening kind) e = false≢true e
 
-    refused_legal : is_refusal x.answer.reply ≡ true → IsLegalChange v cause K x T
-    refused_legal e =
-        let r = refusal_of_it x.answer.reply e in
-        let stays : T' ≡ T = refused_call T host call r.0 (sym reply_is ∙ r.1) in
-        record {
-          reply = reply_is;
-          same = subst (λ (b : Bool). SameAt v (if b then K else K') (kept_tree T')) (sym e)
-              (subst (λ (t : Tree). SameAt v K (kept_tree t)) (sym stays) agree.same);
-          homes = homes_then;
-          cells = λ f p at. ap (λ (t : Tree). cell_at t f p) stays
-              ∙ ap (λ (b : Bool). cell_after p (if b then Nothing else
-              changes (wanted_by K host call) K (if b then K else K') f p) (cell_at T f p)) (sym e);
-        }
-
     settled_legal : is_refusal x.answer.reply ≡ false → Granting → (user : User) → user_of T.roster host ≡ Some user
         → IsLegalChange v cause K x T
     settled_legal e g user is = record {
@@ -483,6 +495,21 @@ module _ (v : ServerId) (cause : Cause) (S : List Act) (K : Tree) (x : Written) 
   unfolding answer_to
   nobody_refused e = ap (λ (o : Option User). (for_user T o (answer_for T host call)).reply) e
 
+  -- what is refused on what is kept is refused by the tree
+  refused_alike : (refusal : Refusal) → (answer_to K host call).reply ≡ Refused refusal
+      → (answer_to T host call).reply ≡ Refused refusal
+  refused_alike refusal said = go (user_of T.roster host) refl
+    where
+      go : (o : Option User) → user_of T.roster host ≡ o → (answer_to T host call).reply ≡ Refused refusal
+      go None e = sym (answers_same (nobody_alike e)).reply ∙ said
+      go (Some user) e =
+          servers_refuse_alike v K T host user call refusal agree.formed keeps.formed.ordered agree.same agree.locks
+          agree.opens e meant.change meant.here meant.minds_none said
+
+  by_refusal : (refusal : Refusal) → x.answer.reply ≡ Refused refusal → (answer_to K host call).reply ≡ Refused refusal
+      → IsLegalChange v cause K x T
+  by_refusal refusal said kept_refused = refused_legal refusal said (refused_alike refusal kept_refused)
+
   by_grant : Granting → x.answer.reply ≡ (answer_to K host call).reply → IsLegalChange v cause K x T
   by_grant g reply_kept = go (is_refusal x.answer.reply) refl (user_of T.roster host) refl
     where
@@ -491,21 +518,15 @@ module _ (v : ServerId) (cause : Cause) (S : List Act) (K : Tree) (x : Written) 
 
       go : (b : Bool) → is_refusal x.answer.reply ≡ b → (o : Option User) → user_of T.roster host ≡ o
           → IsLegalChange v cause K x T
-      go true e o is = refused_legal alike reply_kept (λ f user is. nothing g user is) e
+      go true e o is = let r = refusal_of_it x.answer.reply e in by_refusal r.0 r.1 (sym reply_kept ∙ r.1)
       go false e (Some user) is = settled_legal alike reply_kept (λ f user is. nothing g user is) e g user is
       go false e None is =
           absurd (false≢true (sym e
           ∙ ap is_refusal (reply_kept ∙ ((answers_same alike).reply ∙ nobody_refused is))))
 
-  by_names : is_of_names call ≡ true → (r : Refusal) → x.answer.reply ≡ Refused r
-      → x.answer.reply ≡ (answer_to K host call).reply → IsLegalChange v cause K x T
-  by_names names r refused reply_kept =
-      refused_legal (names_change_alike T host call agree.formed names) reply_kept
-      (λ f. absurd (false≢true (sym f ∙ ap is_refusal refused))) (ap is_refusal refused)
-
   -- a pinned token is in the way of no such Change
-  not_pinned : is_of_names call ≡ true → IsOfRow K k.w k.change → CanRefuse v S k.w → ⊥
-  not_pinned names row can =
+  not_pinned : IsOfRow K k.w k.change → CanRefuse v S k.w → ⊥
+  not_pinned row can =
       let t = can.pinned in
       let way = (and_parts (not (t.0.host.0 == (asker k.w).0)) (any_conflict (need_of t.0) k.w.needs) t.2).1 in
       none_in_way t.0 (pinned_use v S t.0 t.1) (row_needs K k.w.host k.change)
@@ -517,20 +538,13 @@ module _ (v : ServerId) (cause : Cause) (S : List Act) (K : Tree) (x : Written) 
       plain_row true o = refl
       plain_row false None = refl
       plain_row false (Some user) =
-          plain_want K user k.change.call (ap is_of_names (sym k.call) ∙ names)
+          plain_want K user k.change.call (ap is_change (sym k.call) ∙ meant.change)
           (ap minds_uses (sym k.call) ∙ meant.minds_none)
 
-  refusal_no : (r : Refusal) → x.answer.reply ≡ Refused r → is_refusal x.answer.reply ≡ false → ⊥
-  refusal_no r e f = false≢true (sym f ∙ ap is_refusal e)
-
   pub legal_change : IsLegalChange v cause K x T
-  legal_change = by k.so meant.kind
+  legal_change = by k.so
     where
-      by : DecidedSo v K S k.w k.change x.answer.reply
-          → (is_of_names call ≡ true) ⊎ (is_refusal x.answer.reply ≡ false) → IsLegalChange v cause K x T
-      by (HasEffect effect row can is) kind = by_grant (granted_so effect row can) (is ∙ kept_reply_same)
-      by (IsRefused refusal on is) (inl names) =
-          by_names names refusal is (is ∙ (sym on.0 ∙ kept_reply_same))
-      by (IsRefused refusal on is) (inr none) = absurd (refusal_no refusal is none)
-      by (MeetsPinned not_refused row can is) (inl names) = absurd (not_pinned names row can)
-      by (MeetsPinned not_refused row can is) (inr none) = absurd (refusal_no (refusal_of k.change.call) is none)
+      by : DecidedSo v K S k.w k.change x.answer.reply → IsLegalChange v cause K x T
+      by (HasEffect effect row can is) = by_grant (granted_so effect row can) (is ∙ kept_reply_same)
+      by (IsRefused refusal on is) = by_refusal refusal is (sym kept_reply_same ∙ on.0)
+      by (MeetsPinned not_refused row can is) = absurd (not_pinned row can)

@@ -1,6 +1,6 @@
 -- A tree that agrees with what a server keeps, where the server decides a Change. Doings have the newest first.
 use Rattle.std.specs.List.{list_all}
-use Rattle.std.specs.Prelude.{ℕ, List, Some, [], false, true, ◌==◌, ◌∷◌, ◌≡◌, ◌⊎◌}
+use Rattle.std.specs.Prelude.{ℕ, List, Some, [], false, true, ◌==◌, ◌∷◌, ◌≡◌}
 use Rattle.dfs_base.specs.declared.ids.Fid.{Fid}
 use Rattle.dfs_base.specs.declared.ids.ServerId.{ServerId}
 use Rattle.dfs_filesets.specs.declared.fileset.Fileset.{Fileset}
@@ -9,7 +9,6 @@ use Rattle.dfs_tree.specs.Answers.{answer_to}
 use Rattle.dfs_tree.specs.WellFormed.{IsWellFormed}
 use Rattle.dfs_tree.specs.declared.tree.Tree.{Tree}
 use Rattle.dfs_wants.specs.Kept.{kept_tree}
-use Rattle.dfs_wants.specs.Laws.{is_of_names}
 use Rattle.script_lines.specs.declared.script.Script.{Script}
 use Rattle.server_laws.specs.Idle.{minds_uses}
 use Rattle.server_laws.specs.Known.{IsAt, SameAt}
@@ -20,7 +19,7 @@ use Rattle.world_deeds.specs.Doing.{writes}
 use Rattle.world_journal.specs.declared.journal.Journal.{Journal}
 use Rattle.world_places.specs.Cells.{cell_after}
 use Rattle.world_places.specs.Contents.{OverUpdate, site}
-use Rattle.world_server.specs.Kept.{is_refusal, kept, kept_after, kept_through}
+use Rattle.world_server.specs.Kept.{kept, kept_after, kept_through}
 use Rattle.world_server.specs.ServerApplies.{by_cause, decisions}
 use Rattle.world_steps.specs.Acts.Act.{Writes}
 use Rattle.world_steps.specs.Acts.{Act, acts, after_cause, decisions_of}
@@ -58,13 +57,11 @@ pub record AgreesKept (v : ServerId) (past : List Act) (kept_is tree_is : Tree) 
   pub granted : NoGrace past → (f : Fid) (p : Part) (u : Unsaved (Seen p)) → site f ≡ v
       → (cell_at tree_is f p).unsaved ≡ Some u → (t : Token) × Granted v past t × OverUpdate t f p
 
--- A Change that is written down: a call of this server that looks at no locks and open files. Of truncations and of
--- clones those that aren't refused are meant.
+-- A Change that is written down: a call of this server that looks at no locks and open files.
 pub record IsMeant (v : ServerId) (x : Written) : Type 0 where
   pub change : is_change x.answer.call ≡ true
   pub minds_none : minds_uses x.answer.call ≡ false
   pub here : IsAt v x.answer.call
-  pub kind : (is_of_names x.answer.call ≡ true) ⊎ (is_refusal x.answer.reply ≡ false)
 
 -- It is legal: its reply is the tree's. What the server keeps then is what is kept of the tree then, and the cells of
 -- the server's files are those that the doing leaves.

@@ -3,8 +3,7 @@ ghost use Rattle.world_changes.specs.Agreement.{ServersDecideLegally};
 /// In every run each Change that a server writes down, of those that look at no locks and open files, has the reply of
 /// each tree that agrees with what the server keeps there, and leaves of that tree what the server keeps then and the
 /// cells that the doing leaves. A tree agrees that is well formed, with no fileset moved, with the server's filesets,
-/// room and records; and with nothing unsaved but under granted tokens for update, when no grace period is on. Of
-/// truncations and of clones it holds of those that aren't refused.
+/// room and records; and with nothing unsaved but under granted tokens for update, when no grace period is on.
 pub fn servers_decide_legally()
     ensures { ServersDecideLegally }
 {}
