@@ -2,3 +2,4 @@ pub mod Setting
 pub mod Homes
 pub mod Deciding
 pub mod ChangeLaw
+pub mod Granting

@@ -5,4 +5,4 @@
 
 mod laws;
 
-pub use laws::servers_decide_legally;
+pub use laws::{servers_decide_legally, unsaved_is_granted};
