@@ -1,1 +1,4 @@
+pub mod Lists
+pub mod Stances
+pub mod Answered
 pub mod Ended
