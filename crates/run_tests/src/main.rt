@@ -17,6 +17,7 @@ fn judge(rt: &(impl Print + AllocGlobal), row: &Row) -> Result<()> {
     let mut sink = MemSink::new(alloc, row.failing_writes.as_slice())?;
     let outcome = run(alloc, row.words.as_slice(), &mut source, &mut sink);
     let status = outcome.status.code();
+    drop(outcome);
     if status != row.status || !row.takes(sink.bytes()) {
         let output = String::from_utf8_lossy(alloc, sink.bytes())?;
         let name = row.name.as_str();
