@@ -1,3 +1,5 @@
 pub mod Parts
 pub mod Slots
 pub mod Mounted
+pub mod Told
+pub mod Held

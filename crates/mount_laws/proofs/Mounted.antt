@@ -106,7 +106,7 @@ sum_listed f value (suc n) = sum_by-append f (listed value n) (value n ∷ []) �
 
 module _ (disk : Aggregate) (roster : Roster) (clean : faults_in disk ≡ []) (format : byte_at (server_page disk) 29 ≡ 2) where
   -- what is held in a slot
-  held_of : (s : ℕ) → s < 16 → held_in (slots_of disk) s ≡ (if is_taken_slot (state_at disk s) then Some (holding_of (slot_image disk s)) else None)
+  pub held_of : (s : ℕ) → s < 16 → held_in (slots_of disk) s ≡ (if is_taken_slot (state_at disk s) then Some (holding_of (slot_image disk s)) else None)
   held_of s low = ap (option_map holding_of) (find_slot (λ k. is_taken_slot (state_at disk k)) (slot_image disk) (λ k. refl) s 16 low) ∙ by (is_taken_slot (state_at disk s))
     where
       by : (b : Bool) → option_map holding_of (if b then Some (slot_image disk s) else None) ≡ (if b then Some (holding_of (slot_image disk s)) else None)

@@ -72,7 +72,7 @@ module _ (disk : Aggregate) (clean : faults_in disk ≡ []) (format : byte_at (s
   sound = headers_sound disk.server (server_page disk) (header_page disk s) format header_is.0
 
   -- its parts
-  moves_part : are_sound_moves disk.server (server_of (server_page disk)).ship said said.state ≡ true
+  pub moves_part : are_sound_moves disk.server (server_of (server_page disk)).ship said said.state ≡ true
   moves_part = (and_parts (is_taken_slot said.state && is_id disk.server (server_of (server_page disk)).next said.id.0 && is_limit said.objects) _ sound).1
 
   id_part : is_id disk.server (server_of (server_page disk)).next said.id.0 ≡ true

@@ -1,10 +1,11 @@
 //! What mounting a disk begins with. The function does nothing, and what it ensures is a law.
 #![tactic(auto)]
 
-ghost use Rattle.mount_laws.specs.Laws.{FaultlessIsStorable};
+ghost use Rattle.mount_laws.specs.Laws.{FaultlessIsStorable, FaultlessSays};
 
 /// The record of a disk without faults, in format 2, is one that a disk can have, where the servers that its headers
-/// name are declared.
+/// name are declared. And its pages say this record.
 pub fn mount_law()
-    ensures { FaultlessIsStorable }
+    ensures storable { FaultlessIsStorable }
+    ensures says { FaultlessSays }
 {}
