@@ -1,6 +1,6 @@
 ghost use Rattle.std.specs.Prelude.{◌≡◌, ◌+◌, ◌≤◌, length, IfOk, OnOk};
 ghost use Rattle.dfs_base.specs.View.{View, IsCounted};
-ghost use Rattle.dfs_base.specs.Image.{byte_at, bytes_from, Torn, Holds};
+ghost use Rattle.dfs_base.specs.Image.{AreBytes, bytes_from, Torn, Holds};
 ghost use Rattle.dfs_base.specs.Crash.{IsSettled, IsQuiet, ChangesBy};
 
 use crate::errors::Failed;
@@ -45,4 +45,7 @@ pub trait Disk {
 
     /// The disk as it reads is one of its images.
     ghost reads_one: { (disk : Self) → tells → (view disk).may_leave (view disk).image };
+
+    /// What it holds are bytes.
+    ghost has_bytes: { (disk : Self) → tells → AreBytes (view disk).image };
 }

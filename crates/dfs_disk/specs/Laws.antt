@@ -7,7 +7,7 @@ use Rattle.dfs_disk.specs.declared.memory.MemDisk.{MemDisk}
 use Rattle.dfs_disk.specs.Replay.{State, at_first, after_act, state_after, IsOutcome}
 use Rattle.dfs_disk.specs.Paste.{is_torn}
 use Rattle.dfs_disk.specs.Memory.{disk_bytes, disk_acts, disk_calls, is_last_failed, MayLeave, LeftSince}
-use Rattle.dfs_base.specs.Image.{Torn}
+use Rattle.dfs_base.specs.Image.{AreBytes, Torn}
 use Rattle.dfs_base.specs.View.{View}
 
 -- a range that kept its bytes is one that may be torn
@@ -30,6 +30,9 @@ reads_outcome state (act ∷ acts) reads = reads_outcome (after_act state act) a
 pub disk_reads_one : (disk : MemDisk) → MayLeave disk (disk_bytes disk)
 disk_reads_one disk =
     subst (MayLeave disk) (sym disk.replayed) (reads_outcome (at_first disk.start) (disk_acts disk) refl)
+
+pub disk_has_bytes : (disk : MemDisk) → AreBytes (disk_bytes disk)
+disk_has_bytes disk = disk.bytes_are
 
 pub disk_counts_now : (disk : MemDisk) (t : ℕ) (c : List ℕ)
     → t ≤ length (disk_acts disk) → MayLeave disk c → LeftSince disk t c

@@ -19,8 +19,12 @@ use Rattle.std.proofs.Common.{
   replicate,
   get_or,
   refl,
+  sym,
   ◌∙◌,
   ap,
+  subst,
+  inl,
+  inr,
   arith,
 }
 use Rattle.std.proofs.lemmas.List.{
@@ -33,7 +37,8 @@ use Rattle.std.proofs.lemmas.List.{
   get_or-take,
   get_or-drop,
 }
-use Rattle.dfs_base.specs.Image.{byte_at, Torn, Holds}
+use Rattle.std.proofs.lemmas.Bool.{cases_lt}
+use Rattle.dfs_base.specs.Image.{AreBytes, byte_at, Torn, Holds}
 use Rattle.dfs_outside.proofs.Image.{bytes_from-is}
 use Rattle.dfs_disk.specs.Replay.{overwritten}
 
@@ -78,6 +83,18 @@ module _ (at : ℕ) (piece old : List ℕ) where
       let e : at + j - at ≡ j = omega arith in
       get_or-append_right (take at grown) (piece ++ drop (at + n) grown) at (at + j) 0 front (omega arith)
       ∙ ap (byte_at (piece ++ drop (at + n) grown)) e ∙ get_or_append_left piece (drop (at + n) grown) 0 j lt
+
+  pub are_bytes : AreBytes piece → AreBytes old → AreBytes (overwritten at piece old)
+  are_bytes new kept k = elim (cases_lt k at) [
+    | inl lt ↦ subst (λ b. b < 256) (sym (before k lt)) (kept k)
+    | inr from ↦ elim (cases_lt k (at + n)) [
+      | inl lt ↦
+          let e : at + (k - at) ≡ k = omega arith in
+          subst (λ b. b < 256) (sym (inside (k - at) (omega arith)) ∙ ap (byte_at (overwritten at piece old)) e)
+          (new (k - at))
+      | inr behind ↦ subst (λ b. b < 256) (sym (after k (omega arith))) (kept k)
+    ]
+  ]
 
   length-overwritten : length (overwritten at piece old) ≡ max (length old) (at + n)
   length-overwritten =

@@ -140,6 +140,8 @@ impl Disk for FileDisk {
 
     ghost reads_one = { λ disk told. told };
 
+    ghost has_bytes = { λ disk told. absurd told };
+
     fn length(&mut self) -> Result<u64, Failed>
         ensures answer { ⊥ → IfOk result (λ n. n ≡ length (untold_view self.old).image) }
         ensures quiet { IsQuiet (untold_view self.old) (untold_view self.new) }

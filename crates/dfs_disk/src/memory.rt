@@ -20,7 +20,7 @@ ghost use Rattle.std.specs.Prelude.{
 };
 ghost use Rattle.dfs_base.specs.Crash.{IsSettled, IsQuiet, ChangesBy};
 ghost use Rattle.dfs_base.specs.Faults.{RoseBy};
-ghost use Rattle.dfs_base.specs.Image.{bytes_from, Torn, Holds};
+ghost use Rattle.dfs_base.specs.Image.{AreBytes, bytes_from, Torn, Holds};
 ghost use Rattle.dfs_base.specs.View.{IsCounted};
 ghost use Rattle.dfs_base.specs.declared.limits.TheConstants.{DISK_END};
 ghost use Rattle.dfs_outside.specs.Calls.{new_calls, IsCall};
@@ -47,6 +47,7 @@ pub struct MemDisk {
     calls: Calls,
     failed: bool,
     ghost replayed: { bytes.items ≡ (state_after (at_first start) acts.items).reads },
+    ghost bytes_are: { AreBytes bytes.items },
 }
 
 impl MemDisk {
@@ -163,13 +164,15 @@ fn synced(acts: &mut Vec<Act>) -> Result<(), AllocError>
 
 impl Disk for MemDisk {
     ghost use Rattle.dfs_disk.specs.Memory.{disk_bytes, disk_calls};
-    ghost use Rattle.dfs_disk.specs.Laws.{disk_view, disk_reads_one};
+    ghost use Rattle.dfs_disk.specs.Laws.{disk_has_bytes, disk_reads_one, disk_view};
 
     ghost tells = { ⊤ };
 
     ghost view = { disk_view };
 
     ghost reads_one = { λ disk _. disk_reads_one disk };
+
+    ghost has_bytes = { λ disk _. disk_has_bytes disk };
 
     fn length(&mut self) -> Result<u64, Failed>
         ensures answer { ⊤ → IfOk result (λ n. n ≡ length (disk_bytes self.old)) }

@@ -1,6 +1,9 @@
 -- What an outcome of the top call says.
 use Rattle.std.specs.Prelude.{◌≡◌, ◌⊎◌, ℕ, Bool, true, false, List, [], Option, Some, None, Result, Ok, Err}
 use Rattle.dfs_base.specs.Faults.{RoseBy}
+use Rattle.dfs_calls.specs.declared.roster.Roster.{Roster}
+use Rattle.dfs_tree.specs.declared.tree.Tree.{Tree}
+use Rattle.plain_service.specs.declared.played.Played.{Played}
 use Rattle.script_lines.specs.declared.script.Script.{Script}
 use Rattle.run_script.specs.declared.refused.ScriptRefused.{ScriptRefused}
 use Rattle.command_words.specs.declared.command.Command.{Command}
@@ -48,14 +51,23 @@ may_end None _ = false
 may_end (Some command) NoCommand = false
 may_end (Some command) _ = true
 
+-- the script, the tree and the play of an outcome without a run
+abbrev pub no_roster : Roster
+no_roster = record { users = []; hosts = []; capacity = [] }
+
+abbrev pub no_script : Script
+no_script = record { servers = 0; roster = no_roster; setup = []; plan = []; net = None; lines = [] }
+
+abbrev pub no_tree : Tree
+no_tree = record { roster = no_roster; servers = []; filesets = []; away = []; locks = []; opens = [] }
+
+abbrev pub no_play : Played
+no_play = record { start = no_tree; history = []; last = no_tree; order = [] }
+
 -- nothing ran
 pub record IsEmpty (outcome : Outcome) : Type 0 where
-  pub history : outcome.played.history ≡ []
-  pub order : outcome.played.order ≡ []
-  pub start : outcome.played.start.filesets ≡ []
-  pub last : outcome.played.last.filesets ≡ []
-  pub setup : outcome.lines.setup ≡ []
-  pub lines : outcome.lines.lines ≡ []
+  pub played : outcome.played ≡ no_play
+  pub lines : outcome.lines ≡ no_script
 
 -- a script ran, and the sink got the output, or a part of it; or memory ran out
 pub record RanSo {told : Type 0}

@@ -1,5 +1,5 @@
-ghost use Rattle.std.specs.Prelude.{◌≡◌, []};
-ghost use Rattle.dfs_service.specs.Outcomes.{code_of, IsEmpty};
+ghost use Rattle.std.specs.Prelude.{◌≡◌};
+ghost use Rattle.dfs_service.specs.Outcomes.{code_of, IsEmpty, no_roster as none, no_tree as nothing};
 
 use dfs_base::Items;
 use dfs_calls::Roster;
@@ -77,7 +77,7 @@ pub(crate) fn without_run(alloc: Global, status: Status) -> Outcome
 }
 
 fn no_tree(alloc: Global) -> Tree
-    ensures { result.filesets ≡ [] }
+    ensures { result ≡ nothing }
 {
     Tree {
         roster: no_roster(alloc),
@@ -89,7 +89,9 @@ fn no_tree(alloc: Global) -> Tree
     }
 }
 
-fn no_roster(alloc: Global) -> Roster {
+fn no_roster(alloc: Global) -> Roster
+    ensures { result ≡ none }
+{
     Roster {
         users: Items::new(alloc),
         hosts: Items::new(alloc),

@@ -1,5 +1,6 @@
 -- What is seen of a store.
-use Rattle.std.specs.Prelude.{◌≡◌, ◌≤◌, ◌<◌, ℕ, Bool, IsTrue, Result, Err}
+use Rattle.std.specs.Prelude.{◌≡◌, ◌≤◌, ℕ, Bool, IsTrue, Result, Err}
+use Rattle.dfs_base.specs.Faults.{RoseBy}
 use Rattle.dfs_store.specs.declared.store.StoreFault.{StoreFault}
 use Rattle.dfs_store.specs.declared.store.StoreFault.TheVariants.{Failed}
 use Rattle.store_state.specs.declared.state.StoreState.{StoreState}
@@ -18,7 +19,7 @@ pub record View : Type 1 where
 -- the disk's count doesn't fall, and a store fails only where it rose and the disk's last call failed
 pub record IsBlamed {T : Type 0} (result : Result T StoreFault) (old new : View) : Type 0 where
   pub counted : old.faults ≤ new.faults
-  pub cause : result ≡ Err Failed → (old.faults < new.faults) × IsTrue new.last_failed
+  pub cause : result ≡ Err Failed → RoseBy 1 old.faults new.faults × IsTrue new.last_failed
 
 -- what a store is made for stays
 pub record IsSameStore (old new : View) : Type 0 where

@@ -74,6 +74,22 @@ impl MapStore {
             state: StoreState::new(alloc, server, roster)?,
         })
     }
+
+    /// The store with this record, which is within the limits.
+    pub fn from_state(state: StoreState) -> MapStore
+        requires { KeepsLimits state }
+        ensures { kept_in result ≡ state }
+    {
+        MapStore { state }
+    }
+
+    /// What it keeps.
+    pub fn state(&self) -> &StoreState
+        ensures kept { result.now ≡ kept_in self.now }
+        ensures limits { KeepsLimits result.now }
+    {
+        &self.state
+    }
 }
 
 impl Store for MapStore {

@@ -1,6 +1,7 @@
 -- Anodes before and after a change.
 use Rattle.std.proofs.Common.{◌≡◌, ◌≢◌, ◌<◌, ◌≤◌, ◌⊎◌, ℕ, ◌+◌, ◌-◌, ◌*◌, ◌/◌, ◌%◌, List, [], length, get_or, refl, sym, ◌∙◌, ap, subst, inl, inr, arith}
 use Rattle.std.specs.Prelude.{Bool, true, false, ◌==◌, ◌&&◌, if◌then◌else◌, nat_lt, nat_le, max, min}
+use Rattle.std.proofs.lemmas.Bool.{cases_eq}
 use Rattle.std.proofs.lemmas.Bool.Decides.{nat_tests}
 use Rattle.dfs_base.specs.Image.{byte_at, bytes_from}
 use Rattle.dfs_base.specs.View.{View}
@@ -10,9 +11,9 @@ use Rattle.ep_layout.proofs.Bytes.{number-same}
 use Rattle.ep_log.specs.State.{State}
 use Rattle.ep_anode.specs.Node.{pointer_of, pointer_at, byte_under, cell, names, node_in, HasLength, SameFacts}
 use Rattle.ep_anode.specs.Anode.{Anode, anode_of, byte_length, bytes_of, length_for, text_at, content_at, over, written, IsTidy, with_list}
-use Rattle.ep_anode.specs.Changes.{is_shared, IsLoose, WritesLoose, Turns, Laid, Saved, Turned, WroteLoose, Replaced, Renews}
+use Rattle.ep_anode.specs.Changes.{IsSpare, is_shared, IsLoose, WritesLoose, Turns, Laid, Saved, Turned, WroteLoose, Replaced, Renews}
 use Rattle.ep_anode.specs.declared.node.Node.{Node}
-use Rattle.ep_anode.proofs.Renewing.{renews_on, renews_as}
+use Rattle.ep_anode.proofs.Renewing.{renews_on, renews_as, ranged_on}
 use Rattle.ep_anode.proofs.Counting.{same_many}
 use Rattle.ep_anode.proofs.Pointers.{pointer_front, pointer_back, number_apart}
 use Rattle.dfs_outside.proofs.Runs.{wider_changes}
@@ -175,14 +176,19 @@ cut_over image node bytes kept last e k = by (nat_lt k last) refl
 
 -- the whole: bytes laid anew, a length, and the anode put in its page
 module _ (page n kept from : ℕ) (piece : List ℕ) (node laid sized stored : Node) (old mid new : State) (before middle after : List ℕ) (blocks : mid.superblock.blocks ≡ old.superblock.blocks)
-    (done : Laid kept from piece node old before laid mid middle) (facts : SameFacts node laid) (has : HasLength n laid sized) (saved : Saved page sized mid middle stored new after) (facts_2 : SameFacts sized stored) where
+    (done : Laid kept from piece node old before laid mid middle) (facts : SameFacts node laid) (has : HasLength n laid sized) (saved : Saved page sized mid middle stored new after) (facts_2 : SameFacts sized stored) (there : node.blocks ≡ old.superblock.blocks) where
   same_names : (b : ℕ) → names sized b ≡ names laid b
   same_names = names_same laid sized (length_pointers n laid sized has)
+
+  renews_stored : Renews (names node) (names stored) old before
+  renews_stored = renews_on (names node) (names laid) (names stored) old mid before middle blocks done.moves.counts done.renews
+      (renews_as (names sized) (names stored) (names laid) (names stored) mid middle (λ b. sym (same_names b)) (λ b. refl) saved.renews)
 
   pub turns_on : Turns page (names node) (names (node_in new after page)) old before new after
   turns_on = subst (λ (x : Node). Turns page (names node) (names x) old before new after) (sym saved.there) (record {
     counts = λ b lt. (let e = done.moves.counts b lt in let f = saved.turns.counts b (omega (arith, blocks, lt)) in let h = same_names b in omega (arith, e, f, h));
     settled = λ b lt. saved.turns.settled b (omega (arith, blocks, lt)) ∙ done.moves.settled b lt;
+    tail = λ b spare. saved.turns.tail b (subst (λ (m : ℕ). IsSpare m b) (sym blocks) spare) ∙ done.moves.tail b spare;
     pages = λ p low apart. saved.turns.pages p low apart ∙ done.moves.pages p low;
   })
 
@@ -221,6 +227,9 @@ module _ (page n kept from : ℕ) (piece : List ℕ) (node laid sized stored : N
     behind = λ k le lt. facts_2.behind k le ∙ (let e = has.map in λ i. byte_at (e i) k) ∙ facts.behind k le ∙ tidy.behind k le lt;
     past = λ k le lt same. cells_on k lt ∙ past k (omega (arith, bytes_on, le)) lt (same ∙ (λ i. bytes_on i / 1024)) tidy;
     none = λ i lt le. (let p = pointer_in i lt in pointer_on (pointer_at i) p.1 p.2 ∙ gone i lt (omega (arith, bytes_on, le)) tidy);
+    range = ranged_on node stored old before there (facts_2.blocks ∙ has.blocks ∙ facts.blocks) renews_stored tidy.range;
+    lists = λ w lt zero. pointer_on w (omega arith) (λ e. absurd (omega (arith, e, lt))) ∙ done.own w lt ∙ tidy.lists w lt
+        (λ k low. sym (cell_on w k (omega arith) (λ e. absurd (omega (arith, e, lt))) low ∙ done.lists w k lt low) ∙ zero k low);
   }
 
   pub turned_on : (update : Anode → Anode) (content : ℕ → ℕ) → record (anode_of before node) { length = n; content = content } ≡ update (anode_of before node)
@@ -231,8 +240,7 @@ module _ (page n kept from : ℕ) (piece : List ℕ) (node laid sized stored : N
   turned_on update content is same past gone = record {
     turns = turns_on;
     renews = subst (λ (x : Node). Renews (names node) (names x) old before) (sym saved.there)
-        (renews_on (names node) (names laid) (names stored) old mid before middle blocks done.moves.counts done.renews
-        (renews_as (names sized) (names stored) (names laid) (names stored) mid middle (λ b. sym (same_names b)) (λ b. refl) saved.renews));
+        renews_stored;
     anode = (λ i. anode_of after (saved.there i))
         ∙ anode_as before after node stored n content beside_on length_on (λ v k below lt. cell_on v k (omega arith) (λ e. absurd (omega (arith, e, below))) lt ∙ done.lists v k below lt)
         (λ k. content_by after stored (byte_length (byte_at node.page 0) n) (over from piece (λ m. content_at before node kept m)) (length_most (byte_at node.page 0) n)
@@ -351,7 +359,8 @@ module _ (node laid : Node) (facts : SameFacts node laid) (end : ℕ) where
 -- a list that was written
 module _ (page which : ℕ) (bytes : List ℕ) (node changed stored : Node) (old mid new : State) (before middle after : List ℕ) (low : which < 3) (blocks : mid.superblock.blocks ≡ old.superblock.blocks)
     (replaced : Replaced which (λ k. get_or bytes k 0) node old before changed mid middle) (facts : SameFacts node changed) (others : (v : ℕ) → v < 68 → v ≢ which → pointer_of changed v ≡ pointer_of node v)
-    (saved : Saved page changed mid middle stored new after) (facts_2 : SameFacts changed stored) where
+    (saved : Saved page changed mid middle stored new after) (facts_2 : SameFacts changed stored) (there : node.blocks ≡ old.superblock.blocks)
+    (none : ((k : ℕ) → k < 1024 → get_or bytes k 0 ≡ 0) → pointer_of changed which ≡ 0) where
   list_beside : SameBeside node.page stored.page
   list_beside = record {
     low = λ k lt. facts_2.rest k (inl (omega arith)) ∙ facts.rest k (inl (omega arith));
@@ -404,8 +413,18 @@ module _ (page which : ℕ) (bytes : List ℕ) (node changed stored : Node) (old
   list_here w k false a b c true e = let is : w ≡ which = grind (arith, nat_tests) in let high : 3 ≤ w = grind (arith, nat_tests) in absurd (omega arith)
   list_here w k false a b c false e = refl
 
+  list_zero : IsTidy before node → (w : ℕ) → w < 3 → ((k : ℕ) → k < 1024 → cell after stored w k ≡ 0) → (w ≡ which) ⊎ (w ≢ which) → pointer_of changed w ≡ 0
+  list_zero tidy w lt zero (inr other) =
+      others w (omega arith) other ∙ tidy.lists w lt (λ k below. sym (list_other w k (omega arith) (λ e. absurd (omega (arith, e, lt))) other below) ∙ zero k below)
+  list_zero tidy w lt zero (inl here) = (λ i. pointer_of changed (here i)) ∙ none (λ k below. sym (mine k below) ∙ (λ i. cell after stored (sym here i) k) ∙ zero k below)
+    where
+      mine : (k : ℕ) → k < 1024 → cell after stored which k ≡ get_or bytes k 0
+      mine k below = (let e : (which == which) ≡ true = grind (arith, nat_tests) in
+          list_cell which k (omega arith) (λ is. absurd (omega (arith, is, low))) below ∙ (λ i. if e i then get_or bytes k 0 else cell before node which k))
+
   pub list_turned : Turned page (with_list which bytes) node old before new after
   list_turned =
+      let renews_stored = renews_on (names node) (names changed) (names stored) old mid before middle blocks replaced.moves.counts replaced.renews saved.renews in
       let kind = list_beside.low 0 (omega arith) in
       let unique = number-same 4 4 4 stored.page node.page (λ j lt. list_beside.low (4 + j) (omega arith)) in
       let owner = text_same node.page stored.page 76 (omega arith) list_beside in
@@ -415,10 +434,11 @@ module _ (page which : ℕ) (bytes : List ℕ) (node changed stored : Node) (old
         turns = subst (λ (x : Node). Turns page (names node) (names x) old before new after) (sym saved.there) (record {
           counts = λ b lt. (let e = replaced.moves.counts b lt in let f = saved.turns.counts b (omega (arith, blocks, lt)) in omega (arith, e, f));
           settled = λ b lt. saved.turns.settled b (omega (arith, blocks, lt)) ∙ replaced.moves.settled b lt;
+          tail = λ b spare. saved.turns.tail b (subst (λ (m : ℕ). IsSpare m b) (sym blocks) spare) ∙ replaced.moves.tail b spare;
           pages = λ p up apart. saved.turns.pages p up apart ∙ replaced.moves.pages p up;
         });
         renews = subst (λ (x : Node). Renews (names node) (names x) old before) (sym saved.there)
-            (renews_on (names node) (names changed) (names stored) old mid before middle blocks replaced.moves.counts replaced.renews saved.renews);
+            renews_stored;
         anode = (λ i. anode_of after (saved.there i)) ∙ (λ i. record {
           kind = kind i;
           unique = unique i;
@@ -435,6 +455,8 @@ module _ (page which : ℕ) (bytes : List ℕ) (node changed stored : Node) (old
           behind = λ k le lt. facts_2.behind k le ∙ facts.behind k le ∙ tidy.behind k le lt;
           past = list_past tidy;
           none = λ i lt le. list_none tidy i lt le;
+          range = ranged_on node stored old before there (facts_2.blocks ∙ facts.blocks) renews_stored tidy.range;
+          lists = λ w lt zero. saved.pointers w (omega arith) (λ e. absurd (omega (arith, e, lt))) ∙ list_zero tidy w lt zero (cases_eq w which);
         });
         alone = subst (λ (x : Node). is_shared new after x ≡ false) (sym saved.there) saved.alone;
       }

@@ -8,7 +8,7 @@ use Rattle.ep_log.specs.State.{State}
 use Rattle.ep_space.specs.Counts.{count_now}
 use Rattle.ep_anode.specs.Room.{one, how_many}
 use Rattle.ep_anode.specs.Node.{pointer_of, is_pointer, byte_under, cell, names, no_names, PointsTo}
-use Rattle.ep_anode.specs.Changes.{is_shared, SameBlock, AreCounted, Moves, IsTaken, Replaced}
+use Rattle.ep_anode.specs.Changes.{IsSpare, is_shared, SameBlock, AreCounted, Moves, IsTaken, Replaced}
 use Rattle.ep_anode.specs.declared.node.Node.{Node}
 use Rattle.ep_anode.proofs.Counting.{many_but, one_of_many}
 
@@ -70,6 +70,15 @@ cell_none image node w k points = λ i. byte_under node.blocks image (points i) 
 pub alone_none : (state : State) (image : List ℕ) (node : Node) → pointer_of node 15 ≡ 0 → is_shared state image node ≡ false
 alone_none state image node zero = λ i. is_pointer node.blocks (zero i) && nat_lt 1 (count_now state image (zero i - 1))
 
+-- or one that no other pointer names
+pub alone_by : (state : State) (image : List ℕ) (node : Node) → (pointer_of node 15 ≡ 0) ⊎ (count_now state image (pointer_of node 15 - 1) ≡ 1) → is_shared state image node ≡ false
+alone_by state image node (inl zero) = alone_none state image node zero
+alone_by state image node (inr once) = (λ i. is_pointer node.blocks (pointer_of node 15) && nat_lt 1 (once i)) ∙ by (is_pointer node.blocks (pointer_of node 15))
+  where
+    by : (a : Bool) → (a && nat_lt 1 1) ≡ false
+    by true = refl
+    by false = refl
+
 -- a block that a pointer names is in use
 pub in_use : (node : Node) (w : ℕ) (state : State) (image : List ℕ) → node.blocks ≡ state.superblock.blocks → AreCounted (names node) state image → w < 68
     → is_pointer node.blocks (pointer_of node w) ≡ true → 1 ≤ count_now state image (pointer_of node w - 1)
@@ -116,9 +125,10 @@ module _ (w : ℕ) (node changed : Node) (old : State) (before after : List ℕ)
     moves = record {
       counts = λ b low. (let e = moves.counts b low in let f = named_but node changed w pointer b lt points in let g = one_other pointer (b + 1) (omega (arith, zero)) in omega (arith, e, f, g));
       settled = moves.settled;
+      tail = moves.tail;
       pages = moves.pages;
     };
-    renews = λ b low. inl (let f = named_but node changed w pointer b lt points in let g = one_other pointer (b + 1) (omega (arith, zero)) in omega (arith, f, g));
+    renews = λ b. inl (let f = named_but node changed w pointer b lt points in let g = one_other pointer (b + 1) (omega (arith, zero)) in omega (arith, f, g));
     cells = cells_by no_names (λ b low used k below. ap (λ (l : List ℕ). byte_at l (block_start (pages_of old.superblock.blocks) b + k)) quiet) (λ k low. cell_none after changed w k (points.here ∙ zero));
   }
 
@@ -129,22 +139,25 @@ module _ (w : ℕ) (node changed : Node) (old : State) (before after : List ℕ)
     moves = record {
       counts = λ b low. (let e = taken.moves.counts b low in let h = moves.counts b (omega (arith, same, low)) in let f = named_but node changed w pointer b lt points in let g : one (pointer == b + 1) ≡ one (block + 1 == b + 1) = (λ i. one (is i == b + 1)) in omega (arith, e, f, g, h));
       settled = λ b low. moves.settled b (omega (arith, same, low)) ∙ taken.moves.settled b low;
+      tail = λ b spare. moves.tail b (subst (λ (m : ℕ). IsSpare m b) (sym same) spare) ∙ taken.moves.tail b spare;
       pages = λ p low. moves.pages p low ∙ taken.moves.pages p low;
     };
-    renews = λ b low. renewed b low (pointer == b + 1) refl;
+    renews = λ b. renewed b (pointer == b + 1) refl;
     cells = cells_by (λ k. get_or bytes k 0) (λ b low used k below. ap (λ (l : List ℕ). byte_at l (block_start (pages_of old.superblock.blocks) b + k)) quiet ∙ taken.others b (λ e. unused b e used) k below) (λ k low. here k low);
   }
     where
-      renewed : (b : ℕ) → b < old.superblock.blocks → (mine : Bool) → (pointer == b + 1) ≡ mine → (names changed b ≤ names node b) ⊎ ((count_now old before b ≤ names node b) × (names changed b ≤ 1))
-      renewed b low true e =
+      renewed : (b : ℕ) → (mine : Bool) → (pointer == b + 1) ≡ mine → (names changed b ≤ names node b) ⊎ ((b < old.superblock.blocks) × (count_now old before b ≤ names node b) × (names changed b ≤ 1))
+      renewed b true e =
           let same : pointer ≡ b + 1 = grind (arith, nat_tests, e) in
           let here : block ≡ b = omega (arith, same, is) in
           let none : count_now old before b ≡ 0 = ap (count_now old before) (sym here) ∙ taken.free.now in
+          let there = taken.free.there in
+          let low : b < old.superblock.blocks = omega (arith, here, there) in
           let all = counted b low in
           let f = named_but node changed w pointer b lt points in
           let m : one (pointer == b + 1) ≡ 1 = (λ i. one (e i)) in
-          inr (omega (arith, none), omega (arith, none, all, f, m))
-      renewed b low false e =
+          inr (low, omega (arith, none), omega (arith, none, all, f, m))
+      renewed b false e =
           let f = named_but node changed w pointer b lt points in
           let m : one (pointer == b + 1) ≡ 0 = (λ i. one (e i)) in
           inl (omega (arith, f, m))

@@ -10,7 +10,7 @@ use Rattle.ep_anode.specs.Node.{pointer_at, cell, names, node_in}
 use Rattle.ep_anode.specs.Anode.{Anode, anode_of, byte_length, bytes_of, freed, IsTidy, IsBare}
 use Rattle.ep_anode.specs.Room.{are_counts, with_counts, MayPutAll, PutsPages}
 use Rattle.ep_space.specs.Counts.{count_now}
-use Rattle.ep_anode.specs.Changes.{WroteLoose, AreCounted, own_names, left_names, Moves, Owned, Turned, Changed}
+use Rattle.ep_anode.specs.Changes.{IsSpare, WroteLoose, AreCounted, own_names, left_names, Moves, Owned, Turned, Changed}
 use Rattle.ep_anode.specs.declared.node.Node.{Node}
 use Rattle.ep_anode.proofs.Cells.{cell_same}
 use Rattle.ep_anode.proofs.Laid.{pointer_in}
@@ -19,6 +19,7 @@ use Rattle.ep_anode.proofs.Sharing.{counted_own, turns_own}
 use Rattle.ep_anode.proofs.Anodes.{anode_kept}
 use Rattle.ep_anode.proofs.Saving.{counts_in}
 use Rattle.ep_anode.proofs.Moving.{puts_then, puts_wider, wrote_more, wrote_quiet}
+use Rattle.ep_anode.proofs.Renewing.{ranged_fewer}
 
 module _ (page : ℕ) (update : Anode → Anode) (node : Node) (old mid new : State) (before middle after : List ℕ) (blocks : mid.superblock.blocks ≡ old.superblock.blocks) (quiet : middle ≡ before)
     (owned : Owned (node_in old before page) node) (moves : Moves (own_names old before (node_in old before page)) (names node) old before mid middle) (turned : Turned page update node mid middle new after)
@@ -47,24 +48,28 @@ module _ (page : ℕ) (update : Anode → Anode) (node : Node) (old mid new : St
     behind = λ k le lt. owned.facts.behind k le ∙ tidy.behind k le lt;
     past = λ k le lt same. (let p = pointer_in (k / 1024) (omega arith) in cell_owned (pointer_at (k / 1024)) (k % 1024) p.1 p.2 (omega arith) ∙ tidy.past k (omega (arith, bytes_owned, le)) lt (same ∙ (λ i. bytes_owned i / 1024)));
     none = λ i lt le. (let p = pointer_in i lt in owned.pointers (pointer_at i) p.1 p.2 ∙ tidy.none i lt (omega (arith, bytes_owned, le)));
+    range = ranged_fewer (node_in old before page) node owned.facts.blocks (λ b le. (let e = left b in omega (arith, e))) tidy.range;
+    lists = λ w lt zero. owned.pointers w (omega arith) (λ e. absurd (omega (arith, e, lt)))
+        ∙ tidy.lists w lt (λ k low. sym (cell_owned w k (omega arith) (λ e. absurd (omega (arith, e, lt))) low) ∙ zero k low);
   }
 
-  renewed_on : (b : ℕ) → b < old.superblock.blocks → (names (node_in new after page) b ≤ names node b) ⊎ ((count_now mid middle b ≤ names node b) × (names (node_in new after page) b ≤ 1))
+  renewed_on : (b : ℕ) → b < old.superblock.blocks → (names (node_in new after page) b ≤ names node b) ⊎ ((b < mid.superblock.blocks) × (count_now mid middle b ≤ names node b) × (names (node_in new after page) b ≤ 1))
       → (names (node_in new after page) b ≤ left_names old before (node_in old before page) b)
       ⊎ ((count_now old before b ≤ own_names old before (node_in old before page) b) × (names (node_in new after page) b ≤ 1))
   renewed_on b lt (inl e) = inl (let f = left b in omega (arith, e, f))
-  renewed_on b lt (inr e) = inr ((let m = moves.counts b lt in let f = e.0 in omega (arith, m, f)), e.1)
+  renewed_on b lt (inr e) = inr ((let m = moves.counts b lt in let f = e.1 in omega (arith, m, f)), e.2)
 
   pub changed_on : Changed page update old before new after
   changed_on = record {
     turns = turns_own page (own_names old before (node_in old before page)) (node_in new after page) old before new after turned.alone (record {
       counts = λ b lt. (let e = moves.counts b lt in let f = turned.turns.counts b (omega (arith, blocks, lt)) in omega (arith, e, f));
       settled = λ b lt. turned.turns.settled b (omega (arith, blocks, lt)) ∙ moves.settled b lt;
+      tail = λ b spare. turned.turns.tail b (subst (λ (m : ℕ). IsSpare m b) (sym blocks) spare) ∙ moves.tail b spare;
       pages = λ p low apart. turned.turns.pages p low apart ∙ moves.pages p low;
     });
     anode = turned.anode ∙ ap update anode_owned;
     tidy = λ tidy. turned.tidy (tidy_owned tidy);
-    renewed = inr (record { alone = turned.alone; pointers = λ b lt. renewed_on b lt (turned.renews b (omega (arith, blocks, lt))) });
+    renewed = inr (record { alone = turned.alone; pointers = λ b lt. renewed_on b lt (turned.renews b) });
   }
 
 -- an anode that was freed
@@ -78,6 +83,7 @@ freed_changed page node old mid new before middle after same quiet is named turn
       turns = turns_own page (own_names old before (node_in old before page)) (node_in new after page) old before new after turned_2.alone (record {
         counts = λ b lt. (let e = turned_2.turns.counts b lt in let f = named b in omega (arith, e, f));
         settled = turned_2.turns.settled;
+        tail = turned_2.turns.tail;
         pages = turned_2.turns.pages;
       });
       anode = turned_2.anode ∙ (λ i. record { kind = 0; unique = number_at 4 4 (is i); length = 0; owner = []; group = []; lists = λ which k. 0; content = λ k. 0 });
@@ -108,4 +114,4 @@ pub wrote_names : (page : ℕ) (node : Node) (old mid : State) (first second las
 wrote_names page node old mid first second last same quiet is wrote = wrote_own (own_names old first.image (node_in old first.image page)) (names node) old mid first second last (λ i. (same i).superblock.blocks)
     (subst (λ (s : State). Moves (own_names old first.image (node_in old first.image page)) (names node) old first.image s second.image) (sym same)
     (subst (λ (l : List ℕ). Moves (own_names old first.image (node_in old first.image page)) (names node) old first.image old l) (sym quiet.image)
-    (record { counts = λ b lt. (let e = is b in omega (arith, e)); settled = λ b lt. refl; pages = λ p lt. refl }))) quiet wrote
+    (record { counts = λ b lt. (let e = is b in omega (arith, e)); settled = λ b lt. refl; tail = λ b spare. refl; pages = λ p lt. refl }))) quiet wrote

@@ -10,9 +10,9 @@ use Rattle.ep_layout.proofs.Bytes.{number-same}
 use Rattle.ep_log.specs.Puts.{page_of}
 use Rattle.ep_log.specs.State.{State, with_put, put_of}
 use Rattle.ep_space.specs.Counts.{count_page, count_now, count_settled}
-use Rattle.ep_anode.specs.Node.{pointer_of, pointer_at, is_pointer, map_under, cell, names, names_below, no_names, node_of, node_in, PointsTo, SameFacts}
+use Rattle.ep_anode.specs.Node.{pointer_of, pointer_at, is_pointer, map_under, cell, names, names_below, no_names, node_of, node_in, PointsTo, SameFacts, IsRanged}
 use Rattle.ep_anode.specs.Anode.{anode_of, byte_length, bytes_of, names_past, IsTidy}
-use Rattle.ep_anode.specs.Changes.{own_names, AreCounted, AreFew, Moves, Turns, Saved, Cloned, Made, SharesBlocks}
+use Rattle.ep_anode.specs.Changes.{IsSpare, own_names, AreCounted, AreFew, Moves, Turns, Saved, Cloned, Made, SharesBlocks}
 use Rattle.ep_anode.specs.declared.node.Node.{Node}
 use Rattle.ep_anode.proofs.Counting.{same_many, many_le, many_rest, many_none}
 use Rattle.ep_anode.proofs.Pointers.{pointer_front, pointer_back}
@@ -22,6 +22,7 @@ use Rattle.ep_anode.proofs.Moving.{now_same, settled_put}
 use Rattle.ep_anode.proofs.Plain.{zero_number}
 use Rattle.ep_anode.proofs.Sharing.{below_all, below_none, below_next, own_alone, own_shared, turns_own}
 use Rattle.ep_anode.proofs.Anodes.{anode_kept}
+use Rattle.ep_anode.proofs.Renewing.{ranged_fewer, ranged_on}
 
 -- fewer pointers
 pub names_fewer : (source copy : Node) → ((w : ℕ) → w < 68 → (pointer_of copy w ≡ 0) ⊎ (pointer_of copy w ≡ pointer_of source w)) → (b : ℕ) → names copy b ≤ names source b
@@ -108,37 +109,41 @@ module _ (page slot : ℕ) (copy : Node) (old : State) (before : List ℕ) (mid 
     turns = subst (λ (x : Node). Turns page no_names (own_names new after x) old before new after) (sym sharing_there) (record {
       counts = λ b lt. (let e = counts_added b lt in let f = own_added b in omega (arith, e, f));
       settled = λ b lt. ap (λ (l : List ℕ). count_settled new l b) quiet ∙ settled_put mid new slot page was copy.page middle b is ∙ moves.settled b lt;
+      tail = λ b spare. ap (λ (l : List ℕ). count_now new l b) quiet ∙ now_same mid new middle middle b (aside (count_page b) (omega arith)) ∙ moves.tail b spare;
       pages = λ p up apart. ap (λ (l : List ℕ). page_of new.entries new.puts l p) quiet ∙ aside p (λ e. apart (sym e)) ∙ moves.pages p up;
     });
     facts = subst (λ (x : Node). SameFacts copy x) (sym sharing_there) (record { blocks = refl; rest = λ k beside. refl; behind = λ k le. refl });
+    range = λ ranged. subst (λ (x : Node). IsRanged x) (sym sharing_there) ranged;
     pointers = λ v below apart. ap (λ (x : Node). pointer_of x v) sharing_there;
     cells = λ v k below apart lt. ap (λ (x : Node). cell after x v k) sharing_there ∙ ap (λ (l : List ℕ). cell l copy v k) (quiet ∙ same);
   }
 
+pub names_cut : (copy cut : Node) → PointsTo 15 0 copy cut → (b : ℕ) → names cut b ≤ names copy b
+names_cut copy cut points b = let e = named_but copy cut 15 0 b (omega arith) points in let f = one_other 0 (b + 1) (omega arith) in omega (arith, e, f)
+
 -- or one with an indirect block of its own
 module _ (page : ℕ) (copy cut stored : Node) (old mid new : State) (before middle after : List ℕ) (same_mid : mid.superblock.blocks ≡ old.superblock.blocks) (points : PointsTo 15 0 copy cut)
-    (moves : Moves (names_below 0 cut) (names_below 68 cut) old before mid middle) (same : middle ≡ before) (saved : Saved page cut mid middle stored new after) (facts : SameFacts cut stored) where
+    (moves : Moves (names_below 0 cut) (names_below 68 cut) old before mid middle) (same : middle ≡ before) (saved : Saved page cut mid middle stored new after) (facts : SameFacts cut stored) (there : copy.blocks ≡ old.superblock.blocks) where
   pub copy_cloned : Cloned page copy old before new after
   copy_cloned = record {
     turns = subst (λ (x : Node). Turns page no_names (own_names new after x) old before new after) (sym saved.there)
         (turns_own page no_names stored old before new after saved.alone (record {
           counts = λ b lt. (let e = moves.counts b lt in let none = below_none cut b in let all = below_all cut b in let f = saved.turns.counts b (omega (arith, same_mid, lt)) in omega (arith, e, none, all, f));
           settled = λ b lt. saved.turns.settled b (omega (arith, same_mid, lt)) ∙ moves.settled b lt;
+          tail = λ b spare. saved.turns.tail b (subst (λ (m : ℕ). IsSpare m b) (sym same_mid) spare) ∙ moves.tail b spare;
           pages = λ p up apart. saved.turns.pages p up apart ∙ moves.pages p up;
         }));
     facts = subst (λ (x : Node). SameFacts copy x) (sym saved.there) (record { blocks = facts.blocks ∙ points.blocks; rest = λ k beside. facts.rest k beside ∙ points.rest k beside; behind = λ k le. facts.behind k le ∙ points.behind k le });
+    range = λ ranged. subst (λ (x : Node). IsRanged x) (sym saved.there) (ranged_on cut stored mid middle (points.blocks ∙ there ∙ sym same_mid) facts.blocks saved.renews (ranged_fewer copy cut points.blocks (λ b le. names_cut copy cut points b) ranged));
     pointers = λ v below apart. ap (λ (x : Node). pointer_of x v) saved.there ∙ saved.pointers v below apart ∙ points.others v below apart;
     cells = λ v k below apart lt. ap (λ (x : Node). cell after x v k) saved.there ∙ saved.cells v k below apart lt ∙ ap (λ (l : List ℕ). cell l cut v k) same
         ∙ cell_same before before copy cut v k points.blocks (points.others v below apart) lt (λ valid j below_2. refl);
   }
 
-pub names_cut : (copy cut : Node) → PointsTo 15 0 copy cut → (b : ℕ) → names cut b ≤ names copy b
-names_cut copy cut points b = let e = named_but copy cut 15 0 b (omega arith) points in let f = one_other 0 (b + 1) (omega arith) in omega (arith, e, f)
-
 -- the copy that either put is one of the source
 module _ (page : ℕ) (source copy : Node) (old new : State) (before after : List ℕ) (facts : SameFacts source copy) (gone : (i : ℕ) → i < 64 → bytes_of source ≤ 1024 * i → pointer_of copy (pointer_at i) ≡ 0)
     (kept : (i : ℕ) → i < 64 → 1024 * i < bytes_of source → pointer_of copy (pointer_at i) ≡ pointer_of source (pointer_at i)) (lists : (w : ℕ) → w < 3 → pointer_of copy w ≡ pointer_of source w)
-    (cloned : Cloned page copy old before new after) where
+    (cloned : Cloned page copy old before new after) (fewer : (w : ℕ) → w < 68 → (pointer_of copy w ≡ 0) ⊎ (pointer_of copy w ≡ pointer_of source w)) where
   there_facts : SameFacts source (node_in new after page)
   there_facts = record { blocks = cloned.facts.blocks ∙ facts.blocks; rest = λ k beside. cloned.facts.rest k beside ∙ facts.rest k beside; behind = λ k le. cloned.facts.behind k le ∙ facts.behind k le }
 
@@ -178,6 +183,8 @@ module _ (page : ℕ) (source copy : Node) (old new : State) (before after : Lis
     behind = λ k le lt. there_facts.behind k le ∙ tidy.behind k le lt;
     past = λ k le lt same. past_there tidy k (omega (arith, bytes_there, le)) lt (same ∙ (λ i. bytes_there i / 1024)) (nat_lt (1024 * (k / 1024)) (bytes_of source)) refl;
     none = λ i lt le. gone_there i lt (omega (arith, bytes_there, le));
+    range = cloned.range (ranged_fewer source copy facts.blocks (λ b le. names_fewer source copy fewer b) tidy.range);
+    lists = λ w lt zero. cloned.pointers w (omega arith) (λ e. absurd (omega (arith, e, lt))) ∙ lists w lt ∙ tidy.lists w lt (λ k low. sym (list_there w k lt low) ∙ zero k low);
   }
     where
       past_there : IsTidy before source → (k : ℕ) → bytes_of source ≤ k → k < 65536 → k / 1024 ≡ bytes_of source / 1024 → (inside : Bool) → nat_lt (1024 * (k / 1024)) (bytes_of source) ≡ inside

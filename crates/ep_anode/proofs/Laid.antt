@@ -6,7 +6,7 @@ use Rattle.std.proofs.lemmas.Bool.{cases_eq}
 use Rattle.ep_log.specs.State.{State}
 use Rattle.ep_anode.specs.Node.{pointer_of, pointer_at, cell, names}
 use Rattle.ep_anode.specs.Anode.{content_at, over}
-use Rattle.ep_anode.specs.Changes.{Moves, AreCounted, Renews, Replaced, Laid}
+use Rattle.ep_anode.specs.Changes.{IsSpare, Moves, AreCounted, Renews, Replaced, Laid}
 use Rattle.ep_anode.specs.declared.node.Node.{Node}
 use Rattle.ep_anode.proofs.Renewing.{renews_on}
 
@@ -65,8 +65,8 @@ replaced_as w bytes other node old before changed new after same replaced = reco
 pub stays : (i kept from : ℕ) (piece : List ℕ) (node : Node) (state : State) (image : List ℕ) → ((k : ℕ) → k < 1024 → over from piece (λ m. content_at image node kept m) (1024 * i + k) ≡ cell image node (pointer_at i) k)
     → Replaced (pointer_at i) (λ k. over from piece (λ m. content_at image node kept m) (1024 * i + k)) node state image node state image
 stays i kept from piece node state image same = record {
-  moves = record { counts = λ b lt. refl; settled = λ b lt. refl; pages = λ p lt. refl };
-  renews = λ b lt. inl (omega arith);
+  moves = record { counts = λ b lt. refl; settled = λ b lt. refl; tail = λ b spare. refl; pages = λ p lt. refl };
+  renews = λ b. inl (omega arith);
   cells = λ v k below low. by v k low (v == pointer_at i) refl;
 }
   where
@@ -103,8 +103,8 @@ pub record LaidBelow (i kept from : ℕ) (piece : List ℕ) (node : Node) (old :
 
 pub laid_none : (kept from : ℕ) (piece : List ℕ) (node : Node) (old : State) (before : List ℕ) → LaidBelow 0 kept from piece node old before node old before
 laid_none kept from piece node old before = record {
-  moves = record { counts = λ b lt. refl; settled = λ b lt. refl; pages = λ p lt. refl };
-  renews = λ b lt. inl (omega arith);
+  moves = record { counts = λ b lt. refl; settled = λ b lt. refl; tail = λ b spare. refl; pages = λ p lt. refl };
+  renews = λ b. inl (omega arith);
   done = λ j k none low. absurd (omega arith);
   left = λ v k below low apart. refl;
   past = λ j none le high. absurd (omega arith);
@@ -116,6 +116,7 @@ pub moves_on : (named named_2 named_3 : ℕ → ℕ) (old mid new : State) (firs
 moves_on named named_2 named_3 old mid new first second last blocks one two = record {
   counts = λ b lt. (let e = one.counts b lt in let f = two.counts b (omega (arith, blocks)) in omega (arith, e, f));
   settled = λ b lt. two.settled b (omega (arith, blocks)) ∙ one.settled b lt;
+  tail = λ b spare. two.tail b (subst (λ (m : ℕ). IsSpare m b) (sym blocks) spare) ∙ one.tail b spare;
   pages = λ p lt. two.pages p lt ∙ one.pages p lt;
 }
 
@@ -172,6 +173,7 @@ laid_all kept from piece node old before changed new after laid = record {
   renews = laid.renews;
   cells = λ i k lt low. laid.done i k lt low;
   lists = λ v k below low. laid.left v k (omega arith) low (λ j lt. (let e = pointer_in j lt in let f = e.0 in λ is. absurd (omega (arith, f, is))));
+  own = λ v below. laid.rest v (omega arith) (λ j lt. (let e = pointer_in j lt in let f = e.0 in λ is. absurd (omega (arith, f, is))));
   past = laid.past;
   same = λ i lt le high. laid.same i lt le high;
 }

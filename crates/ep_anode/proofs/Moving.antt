@@ -17,7 +17,7 @@ use Rattle.ep_log.specs.State.{State, with_put, put_of}
 use Rattle.ep_space.specs.Counts.{count_page, count_place, count_now, count_settled, HasPut, SetsCount}
 use Rattle.ep_space.proofs.Words.{page_there}
 use Rattle.ep_anode.specs.Room.{one, are_counts, MayPutAll, PutsPages}
-use Rattle.ep_anode.specs.Changes.{IsLoose, SameBlock, WritesLoose, WroteLoose, Moves}
+use Rattle.ep_anode.specs.Changes.{IsSpare, IsLoose, SameBlock, WritesLoose, WroteLoose, Moves}
 use Rattle.ep_anode.proofs.Putting.{puts_one}
 
 -- puts of pages, one after another
@@ -76,6 +76,7 @@ pub moves_then : (dropped set dropped_2 set_2 : ℕ → ℕ) (old mid new : Stat
 moves_then dropped set dropped_2 set_2 old mid new first second last blocks one two = record {
   counts = λ b lt. (let e = one.counts b lt in let f = two.counts b (omega (arith, blocks)) in omega (arith, e, f));
   settled = λ b lt. two.settled b (omega (arith, blocks)) ∙ one.settled b lt;
+  tail = λ b spare. two.tail b (subst (λ (m : ℕ). IsSpare m b) (sym blocks) spare) ∙ one.tail b spare;
   pages = λ p lt. two.pages p lt ∙ one.pages p lt;
 }
 
@@ -85,15 +86,17 @@ pub moves_as : (dropped set dropped_2 set_2 : ℕ → ℕ) (old new : State) (be
 moves_as dropped set dropped_2 set_2 old new before after same moves = record {
   counts = λ b lt. (let e = moves.counts b lt in let f = same b lt in omega (arith, e, f));
   settled = moves.settled;
+  tail = moves.tail;
   pages = moves.pages;
 }
 
 -- a count that was set
-pub moves_set : (block n slot : ℕ) (dropped set : ℕ → ℕ) (old new : State) (image : List ℕ) → HasPut slot block old new → SetsCount block n old new image
+pub moves_set : (block n slot : ℕ) (dropped set : ℕ → ℕ) (old new : State) (image : List ℕ) → HasPut slot block old new → SetsCount block n old new image → block < old.superblock.blocks
     → n + dropped block ≡ count_now old image block + set block → ((b : ℕ) → b ≢ block → dropped b ≡ set b) → Moves dropped set old image new image
-moves_set block n slot dropped set old new image put sets here others = record {
+moves_set block n slot dropped set old new image put sets low here others = record {
   counts = λ b lt. by b (cases_eq b block);
   settled = λ b lt. settled_put old new slot (count_page block) put.0 put.1 image b put.2;
+  tail = λ b spare. sets.others b (λ e. (let high = spare.0 in absurd (omega (arith, e, high, low))));
   pages = sets.pages;
 }
   where
@@ -174,5 +177,5 @@ loose_torn named state image block loose c d torn = record {
 pub wrote_after : (named other : ℕ → ℕ) (old mid : State) (first second last : View) → named ≡ other → mid ≡ old → IsQuiet first second → WroteLoose named mid second last → WroteLoose other old first last
 wrote_after named other old mid first second last same state quiet wrote =
     let moves : Moves other other old first.image mid second.image = subst (λ (s : State). Moves other other old first.image s second.image) (sym state) (subst (λ (l : List ℕ). Moves other other old first.image old l) (sym quiet.image)
-    (record { counts = λ b lt. refl; settled = λ b lt. refl; pages = λ p lt. refl })) in
+    (record { counts = λ b lt. refl; settled = λ b lt. refl; tail = λ b spare. refl; pages = λ p lt. refl })) in
     wrote_more other other old mid first second last (λ i. (state i).superblock.blocks) moves (wrote_quiet other old first second quiet) (subst (λ (f : ℕ → ℕ). WroteLoose f mid second last) same wrote)

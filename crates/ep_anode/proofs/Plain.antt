@@ -71,6 +71,8 @@ tidy_page image node kind unique owner group is none zero = record {
   behind = λ k le lt. zero k lt;
   past = λ k le lt e. cell_none image node (pointer_at (k / 1024)) (k % 1024) (none (pointer_at (k / 1024)) (pointer_in (k / 1024) (omega arith)).1);
   none = λ i lt le. none (pointer_at i) (pointer_in i lt).1;
+  range = λ w lt. (let e = none w lt in omega (arith, e));
+  lists = λ w lt empty. none w (omega (arith, lt));
 }
 
 -- the anode of such a page
@@ -133,6 +135,7 @@ module _ (page slot kind unique : ℕ) (owner group bytes was : List ℕ) (is_pa
   put_turns named left old before moves none = record {
     counts = λ b lt. (let e = moves.counts b lt in let f = ap (λ (l : List ℕ). count_now new l b) quiet ∙ now_same mid new middle middle b (beside (count_page b) (omega arith)) in let h = none b in let n = names_none (node_in new after page) none_here b in omega (arith, e, f, h, n));
     settled = λ b lt. ap (λ (l : List ℕ). count_settled new l b) quiet ∙ settled_put mid new slot page was bytes middle b is ∙ moves.settled b lt;
+    tail = λ b spare. ap (λ (l : List ℕ). count_now new l b) quiet ∙ now_same mid new middle middle b (beside (count_page b) (omega arith)) ∙ moves.tail b spare;
     pages = λ p lt apart. ap (λ (l : List ℕ). page_of new.entries new.puts l p) quiet ∙ beside p (λ e. apart (sym e)) ∙ moves.pages p lt;
   }
 
@@ -143,7 +146,7 @@ pub freed_turned : (page slot unique : ℕ) (node cleared : Node) (old : State) 
     → Turned page freed node old before new after
 freed_turned page slot unique node cleared old before mid middle new after bytes was low is_page number facts none moves is pages quiet = record {
   turns = put_turns page slot 0 unique [] [] bytes was is_page mid new middle after low is pages quiet (names node) (names cleared) old before moves (names_none cleared none);
-  renews = λ b lt. inl (let e = names_none (node_in new after page) (bare_here page slot 0 unique [] [] bytes was is_page mid new middle after low is pages quiet).none b in omega (arith, e));
+  renews = λ b. inl (let e = names_none (node_in new after page) (bare_here page slot 0 unique [] [] bytes was is_page mid new middle after low is pages quiet).none b in omega (arith, e));
   anode = put_anode page slot 0 unique [] [] bytes was is_page mid new middle after low is pages quiet
       ∙ (let e = number ∙ number-same 4 4 4 cleared.page node.page (λ j lt. facts.rest (4 + j) (inl (omega arith))) in
       λ i. record { kind = 0; unique = e i; length = 0; owner = []; group = []; lists = λ which k. 0; content = λ k. 0 });
@@ -158,7 +161,7 @@ pub bare_made : (page slot kind unique : ℕ) (owner group bytes was : List ℕ)
     → Made page (bare_anode kind unique owner group) old before new after
 bare_made page slot kind unique owner group bytes was old new before after low is_page is pages quiet = record {
   turns = turns_own page no_names (node_in new after page) old before new after (alone_here page slot kind unique owner group bytes was is_page old new before after low is pages quiet)
-      (put_turns page slot kind unique owner group bytes was is_page old new before after low is pages quiet no_names no_names old before (record { counts = λ b lt. refl; settled = λ b lt. refl; pages = λ p lt. refl }) (λ b. refl));
+      (put_turns page slot kind unique owner group bytes was is_page old new before after low is pages quiet no_names no_names old before (record { counts = λ b lt. refl; settled = λ b lt. refl; tail = λ b spare. refl; pages = λ p lt. refl }) (λ b. refl));
   anode_is = put_anode page slot kind unique owner group bytes was is_page old new before after low is pages quiet;
 }
 

@@ -78,6 +78,7 @@ saved page slot node old before changed mid middle new after was low blocks same
   turns = record {
     counts = λ b lt. (let e = replaced.moves.counts b lt in let f = ap (λ (l : List ℕ). count_now new l b) quiet ∙ now_same mid new middle middle b (beside (count_page b) (omega arith)) in omega (arith, e, f));
     settled = λ b lt. ap (λ (l : List ℕ). count_settled new l b) quiet ∙ settled_put mid new slot page was changed.page middle b is ∙ replaced.moves.settled b lt;
+    tail = λ b spare. ap (λ (l : List ℕ). count_now new l b) quiet ∙ now_same mid new middle middle b (beside (count_page b) (omega arith)) ∙ replaced.moves.tail b spare;
     pages = λ p lt apart. ap (λ (l : List ℕ). page_of new.entries new.puts l p) quiet ∙ beside p (λ e. apart (sym e)) ∙ replaced.moves.pages p lt;
   };
   renews = replaced.renews;

@@ -5,7 +5,7 @@ use Rattle.ep_log.specs.State.{State}
 use Rattle.ep_space.specs.Counts.{count_now}
 use Rattle.ep_anode.specs.Room.{one, how_many, free_blocks}
 use Rattle.ep_anode.specs.Node.{pointer_of, is_pointer, names, names_below, no_names}
-use Rattle.ep_anode.specs.Changes.{is_shared, own_names, AreCounted, AreFew, Moves, Turns, Replaced}
+use Rattle.ep_anode.specs.Changes.{IsSpare, is_shared, own_names, AreCounted, AreFew, Moves, Turns, Replaced}
 use Rattle.ep_anode.specs.declared.node.Node.{Node}
 use Rattle.ep_anode.proofs.Counting.{many_upto, many_next}
 use Rattle.ep_anode.proofs.Cells.{may_give, pointer_facts, one_same}
@@ -34,6 +34,7 @@ pub moves_shared : (from w : ℕ) (node : Node) (old mid new : State) (first sec
 moves_shared from w node old mid new first second last blocks one_by two = record {
   counts = λ b lt. (let e = one_by.counts b lt in let f = two.counts b (omega (arith, blocks, lt)) in let h = below_next w node b in omega (arith, e, f, h));
   settled = λ b lt. two.settled b (omega (arith, blocks, lt)) ∙ one_by.settled b lt;
+  tail = λ b spare. two.tail b (subst (λ (m : ℕ). IsSpare m b) (sym blocks) spare) ∙ one_by.tail b spare;
   pages = λ p lt. two.pages p lt ∙ one_by.pages p lt;
 }
 
@@ -87,13 +88,14 @@ pub turns_own : (page : ℕ) (dropped : ℕ → ℕ) (node : Node) (old : State)
 turns_own page dropped node old before new after alone turns = record {
   counts = λ b lt. (let e = turns.counts b lt in let f = own_alone new after node b alone in omega (arith, e, f));
   settled = turns.settled;
+  tail = turns.tail;
   pages = turns.pages;
 }
 
 pub moves_alone : (node : Node) (old new : State) (before after : List ℕ) → new ≡ old → after ≡ before → is_shared old before node ≡ false → Moves (own_names old before node) (names node) old before new after
 moves_alone node old new before after same quiet alone =
     subst (λ (s : State). Moves (own_names old before node) (names node) old before s after) (sym same) (subst (λ (l : List ℕ). Moves (own_names old before node) (names node) old before old l) (sym quiet)
-    (record { counts = λ b lt. (let e = own_alone old before node b alone in omega (arith, e)); settled = λ b lt. refl; pages = λ p lt. refl }))
+    (record { counts = λ b lt. (let e = own_alone old before node b alone in omega (arith, e)); settled = λ b lt. refl; tail = λ b spare. refl; pages = λ p lt. refl }))
 
 -- the pointers of a shared one are added
 pub counted_shared : (node : Node) (old mid : State) (before middle : List ℕ) → mid.superblock.blocks ≡ old.superblock.blocks → AreCounted (names node) old before → Moves (names_below 16 node) (names_below 68 node) old before mid middle → AreCounted (names node) mid middle
@@ -106,5 +108,6 @@ pub moves_detached : (node detached : Node) (old mid new : State) (first second 
 moves_detached node detached old mid new first second last blocks shared one_by replaced = record {
   counts = λ b lt. (let e = one_by.counts b lt in let f = replaced.moves.counts b (omega (arith, blocks, lt)) in let all = below_all node b in let own = own_shared old first node b shared in omega (arith, e, f, all, own));
   settled = λ b lt. replaced.moves.settled b (omega (arith, blocks, lt)) ∙ one_by.settled b lt;
+  tail = λ b spare. replaced.moves.tail b (subst (λ (m : ℕ). IsSpare m b) (sym blocks) spare) ∙ one_by.tail b spare;
   pages = λ p lt. replaced.moves.pages p lt ∙ one_by.pages p lt;
 }

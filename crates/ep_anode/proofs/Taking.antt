@@ -43,6 +43,7 @@ module _ (block slot : ℕ) (old mid new : State) (first second last : View) (ma
     moves = record {
       counts = λ b lt. (let e = moved.counts b lt in let f = now_same mid new second.image last.image b (pages (count_page b) (omega (arith, half_same, page_there b old.superblock.blocks lt))) ∙ ap (λ (l : List ℕ). count_now mid l b) quiet.image in omega (arith, e, f));
       settled = λ b lt. settled_after b lt ∙ moved.settled b lt;
+      tail = λ b spare. (let low = spare.1 in now_same mid new second.image last.image b (pages (count_page b) (omega (arith, half_same, low))) ∙ ap (λ (l : List ℕ). count_now mid l b) quiet.image ∙ moved.tail b spare);
       pages = λ p lt. pages p (omega (arith, half_same)) ∙ ap (λ (l : List ℕ). page_of mid.entries mid.puts l p) quiet.image ∙ moved.pages p lt;
     };
     holds = λ k lt. held_byte (block_start (pages_of old.superblock.blocks) block) bytes last.image (subst (λ (n : ℕ). Holds (block_start n block) bytes last.image) half_same holds) k (omega (arith, size));
@@ -51,7 +52,7 @@ module _ (block slot : ℕ) (old mid new : State) (first second last : View) (ma
     where
       moved : Moves (λ other. 0) (λ other. one (block + 1 == other + 1)) old first.image mid first.image
       moved = (let e = free.now in let f = one_same (block + 1) (block + 1) refl in
-          moves_set block 1 slot (λ (other : ℕ). 0) (λ (other : ℕ). one (block + 1 == other + 1)) old mid first.image put sets (omega (arith, e, f)) (λ b apart. sym (one_other (block + 1) (b + 1) (λ is. apart (omega arith)))))
+          moves_set block 1 slot (λ (other : ℕ). 0) (λ (other : ℕ). one (block + 1 == other + 1)) old mid first.image put sets free.there (omega (arith, e, f)) (λ b apart. sym (one_other (block + 1) (b + 1) (λ is. apart (omega arith)))))
 
       settled_after : (b : ℕ) → b < old.superblock.blocks → count_settled new last.image b ≡ count_settled mid first.image b
       settled_after b lt =

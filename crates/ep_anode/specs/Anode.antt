@@ -27,7 +27,7 @@ use Rattle.dfs_base.specs.Image.{byte_at, bytes_from}
 use Rattle.ep_layout.specs.Numbers.{number_at}
 use Rattle.ep_log.specs.State.{State}
 use Rattle.ep_anode.specs.Room.{how_many}
-use Rattle.ep_anode.specs.Node.{pointer_of, pointer_at, cell, node_in, HasNoBlocks}
+use Rattle.ep_anode.specs.Node.{pointer_of, pointer_at, cell, node_in, HasNoBlocks, IsRanged}
 use Rattle.ep_anode.specs.declared.node.Node.{Node}
 
 -- An anode: its kind (0 free, 1 directory, 2 file); its unique number; its length, of a directory in entries and else
@@ -142,7 +142,8 @@ pub record IsPage (kind unique : ℕ) (owner group page : List ℕ) : Type 0 whe
   pub group_rest : (k : ℕ) → 138 + length group ≤ k → k < 512 → byte_at page k ≡ 0
 
 -- The bytes that no field of an anode names are zero: in its page, behind the pointers of its indirect block, and past
--- the end of its bytes in their last block. No pointer is past that end.
+-- the end of its bytes in their last block. No pointer is past that end, and none is out of range. A list that is zero
+-- has no block.
 pub record IsTidy (image : List ℕ) (node : Node) : Type 0 where
   pub first : (k : ℕ) → 1 ≤ k → k < 4 → byte_at node.page k ≡ 0
   pub owner : (k : ℕ) → 77 + byte_at node.page 76 ≤ k → k < 137 → byte_at node.page k ≡ 0
@@ -151,6 +152,8 @@ pub record IsTidy (image : List ℕ) (node : Node) : Type 0 where
   pub past : (k : ℕ) → bytes_of node ≤ k
       → k < 65536 → k / 1024 ≡ bytes_of node / 1024 → cell image node (pointer_at (k / 1024)) (k % 1024) ≡ 0
   pub none : (i : ℕ) → i < 64 → bytes_of node ≤ 1024 * i → pointer_of node (pointer_at i) ≡ 0
+  pub range : IsRanged node
+  pub lists : (w : ℕ) → w < 3 → ((k : ℕ) → k < 1024 → cell image node w k ≡ 0) → pointer_of node w ≡ 0
 
 -- how many pointers of an anode's indirect block are past the end of its bytes
 abbrev pub names_past : Node → ℕ

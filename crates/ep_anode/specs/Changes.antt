@@ -9,6 +9,7 @@ use Rattle.std.specs.Prelude.{
   ◌+◌,
   ◌*◌,
   ◌-◌,
+  ◌/◌,
   ◌&&◌,
   Bool,
   false,
@@ -36,6 +37,7 @@ use Rattle.ep_anode.specs.Node.{
   no_names,
   node_in,
   SameFacts,
+  IsRanged,
 }
 use Rattle.ep_anode.specs.Room.{one}
 use Rattle.ep_anode.specs.declared.node.Node.{Node}
@@ -62,12 +64,17 @@ pub record WroteLoose (named : ℕ → ℕ) (state : State) (old new : View) : T
   pub reads : WritesLoose named state old.image old.image new.image
   pub crash : ChangesBy (WritesLoose named state old.image) old new
 
--- the counts move with the pointers that were dropped and set
+-- the place for a count of no block, in the last page of counts
+abbrev pub IsSpare : ℕ → ℕ → Type 0
+IsSpare blocks block = (blocks ≤ block) × (block < 256 * ((blocks + 255) / 256))
+
+-- the counts move with the pointers that were dropped and set, and those of no block stay
 pub record Moves (dropped set : ℕ → ℕ) (old : State) (before : List ℕ) (new : State) (after : List ℕ) : Type 0 where
   pub counts : (block : ℕ) → block < old.superblock.blocks
       → count_now new after block + dropped block ≡ count_now old before block + set block
   pub settled : (block : ℕ)
       → block < old.superblock.blocks → count_settled new after block ≡ count_settled old before block
+  pub tail : (block : ℕ) → IsSpare old.superblock.blocks block → count_now new after block ≡ count_now old before block
   pub pages : (p : ℕ) → p < 1058 → page_of new.entries new.puts after p ≡ page_of old.entries old.puts before p
 
 -- the same, but for the page of the anode
@@ -77,6 +84,7 @@ pub record Turns (page : ℕ)
       → count_now new after block + dropped block ≡ count_now old before block + set block
   pub settled : (block : ℕ)
       → block < old.superblock.blocks → count_settled new after block ≡ count_settled old before block
+  pub tail : (block : ℕ) → IsSpare old.superblock.blocks block → count_now new after block ≡ count_now old before block
   pub pages : (p : ℕ) → p < 1058
       → (p ≡ page → ⊥) → page_of new.entries new.puts after p ≡ page_of old.entries old.puts before p
 
@@ -101,8 +109,8 @@ AreCounted named state image = (block : ℕ) → block < state.superblock.blocks
 
 -- A block is named by no more pointers than were dropped. Or else none but these named it, and one names it now.
 abbrev pub Renews : (ℕ → ℕ) → (ℕ → ℕ) → State → List ℕ → Type 0
-Renews dropped set state image = (block : ℕ) → block < state.superblock.blocks
-    → (set block ≤ dropped block) ⊎ ((count_now state image block ≤ dropped block) × (set block ≤ 1))
+Renews dropped set state image = (block : ℕ) → (set block ≤ dropped block)
+    ⊎ ((block < state.superblock.blocks) × (count_now state image block ≤ dropped block) × (set block ≤ 1))
 
 -- The pointers that an anode begins a change with: all but the one of an indirect block that is left to others.
 abbrev pub left_names : State → List ℕ → Node → ℕ → ℕ
@@ -134,6 +142,7 @@ pub record Laid (kept from : ℕ) (piece : List ℕ)
   pub cells : (i k : ℕ) → i < 64 → k < 1024
       → cell after changed (pointer_at i) k ≡ over from piece (λ m. content_at before node kept m) (1024 * i + k)
   pub lists : (v k : ℕ) → v < 3 → k < 1024 → cell after changed v k ≡ cell before node v k
+  pub own : (v : ℕ) → v < 3 → pointer_of changed v ≡ pointer_of node v
   pub past : (i : ℕ) → i < 64 → kept ≤ 1024 * i → from + length piece ≤ 1024 * i → pointer_of changed (pointer_at i) ≡ 0
   pub same : (i : ℕ) → i < 64 → 1024 * i + 1024 ≤ kept
       → from + length piece ≤ 1024 * i → pointer_of changed (pointer_at i) ≡ pointer_of node (pointer_at i)
@@ -193,6 +202,7 @@ pub record Made (page : ℕ) (anode : Anode) (old : State) (before : List ℕ) (
 pub record Cloned (page : ℕ) (node : Node) (old : State) (before : List ℕ) (new : State) (after : List ℕ) : Type 0 where
   pub turns : Turns page no_names (own_names new after (node_in new after page)) old before new after
   pub facts : SameFacts node (node_in new after page)
+  pub range : IsRanged node → IsRanged (node_in new after page)
   pub pointers : (v : ℕ) → v < 68 → (v ≡ 15 → ⊥) → pointer_of (node_in new after page) v ≡ pointer_of node v
   pub cells : (v k : ℕ) → v < 68
       → (v ≡ 15 → ⊥) → k < 1024 → cell after (node_in new after page) v k ≡ cell before node v k

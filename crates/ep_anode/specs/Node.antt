@@ -96,3 +96,7 @@ pub record HasLength (n : ℕ) (old new : Node) : Type 0 where
 -- an anode without blocks
 abbrev pub HasNoBlocks : Node → Type 0
 HasNoBlocks node = (w : ℕ) → w < 68 → pointer_of node w ≡ 0
+
+-- no pointer is out of range
+abbrev pub IsRanged : Node → Type 0
+IsRanged node = (w : ℕ) → w < 68 → pointer_of node w ≤ node.blocks

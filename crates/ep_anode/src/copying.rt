@@ -1,7 +1,6 @@
 // Copies of anodes, which name the blocks of their sources.
 ghost use Rattle.std.specs.Prelude.{◌≡◌, ◌<◌, ◌≤◌, ◌+◌, ℕ, IfErr, OnOk, min};
 ghost use Rattle.dfs_base.specs.Crash.{IsQuiet};
-ghost use Rattle.ep_layout.specs.Numbers.{number_at};
 ghost use Rattle.ep_log.specs.Log.{disk_of, state_of, slot_of, IsSoundLog};
 ghost use Rattle.ep_anode.specs.Room.{with_counts, free_blocks, MayPutAll, PutsPages};
 ghost use Rattle.ep_anode.specs.Node.{pointer_of, map_under, names, no_names, node_in};

@@ -41,7 +41,8 @@ pub fn read_list<D: Disk>(
     Ok(())
 }
 
-/// Writes the block of a list: 0 own, 1 files, 2 dirs. The old one is given up. `page` is the anode's metadata page.
+/// Writes the block of a list: 0 own, 1 files, 2 dirs. The old one is given up, and a list that is zero has none.
+/// `page` is the anode's metadata page.
 ///
 /// Room: two free blocks, for the list and for the indirect block; the transaction may put the anode's page and all
 /// pages of counts. `Failed`: mount the log again. `Memory`: undo the transaction, which may hold some of the puts.

@@ -1,11 +1,12 @@
 // Writes to an anode's bytes.
-ghost use Rattle.std.specs.Prelude.{◌/◌, ◌≡◌, ◌<◌, ◌≤◌, ◌+◌, ◌-◌, ◌*◌, ℕ, false, IfErr, OnOk, length};
+ghost use Rattle.std.specs.Prelude.{◌/◌, ◌≡◌, ◌<◌, ◌≤◌, ◌⊎◌, ◌+◌, ◌-◌, ◌*◌, ℕ, IfErr, OnOk, length};
 ghost use Rattle.std.proofs.Common.{get_or};
 ghost use Rattle.ep_log.specs.Log.{disk_of, state_of, slot_of, IsSoundLog};
 ghost use Rattle.ep_anode.specs.Room.{are_counts, with_counts, free_blocks, blocks_written, MayPutAll, PutsPages};
 ghost use Rattle.ep_anode.specs.Node.{pointer_of, pointer_at as pointer_for, names, SameFacts};
 ghost use Rattle.ep_anode.specs.Anode.{content_at, over, written, ended, with_length, with_list};
-ghost use Rattle.ep_anode.specs.Changes.{is_shared, WroteLoose, AreCounted, Replaced, Laid, Saved, Turned};
+ghost use Rattle.ep_anode.specs.Changes.{WroteLoose, AreCounted, Replaced, Laid, Saved, Turned};
+ghost use Rattle.ep_space.specs.Counts.{count_now};
 ghost use Rattle.ep_space.specs.Faults.{IsTakeFault};
 
 use crate::blocks::{clear, read_part, replace};
@@ -140,10 +141,17 @@ pub fn lay<D: Disk>(
     Ok(())
 }
 
-// Writes the indirect block anew, where it names any block.
-fn write_map<D: Disk>(log: &mut Log<D>, tx: &mut Tx, node: &mut Node) -> Result<(), SpaceFault>
+// Writes the block of a pointer of an anode's page anew. It has none where it is zero.
+fn write_under<D: Disk>(
+    log: &mut Log<D>,
+    tx: &mut Tx,
+    node: &mut Node,
+    w: u32,
+    bytes: &[u8; BLOCK],
+) -> Result<(), SpaceFault>
     requires sound { IsSoundLog D.tells D.view log.old }
     requires may { MayPutAll are_counts (state_of log.old) (slot_of tx.old) }
+    requires pointer { w < 16 }
     requires blocks { node.old.blocks ≡ (state_of log.old).superblock.blocks }
     requires named { D.tells → AreCounted (names node.old) (state_of log.old) (D.view (disk_of log.old)).image }
     requires room { D.tells → 1 ≤ free_blocks (state_of log.old) (D.view (disk_of log.old)).image }
@@ -151,25 +159,25 @@ fn write_map<D: Disk>(log: &mut Log<D>, tx: &mut Tx, node: &mut Node) -> Result<
     ensures tx { tx.new ≡ tx.old }
     ensures puts { PutsPages are_counts (slot_of tx.old) (state_of log.old) (state_of log.new) }
     ensures facts { SameFacts node.old node.new }
-    ensures replaced { D.tells → OnOk result (Replaced 15 (λ k. get_or node.old.map k 0) node.old (state_of log.old)
+    ensures replaced { D.tells → OnOk result (Replaced w (λ k. get_or bytes.now k 0) node.old (state_of log.old)
         (D.view (disk_of log.old)).image node.new (state_of log.new) (D.view (disk_of log.new)).image) }
+    ensures none { ((k : ℕ) → k < 1024 → get_or bytes.now k 0 ≡ 0) → OnOk result (pointer_of node.new w ≡ 0) }
+    ensures fresh { D.tells → OnOk result ((pointer_of node.new w ≡ 0)
+        ⊎ (count_now (state_of log.new) (D.view (disk_of log.new)).image (pointer_of node.new w - 1) ≡ 1)) }
     ensures room { D.tells → OnOk result (free_blocks (state_of log.old) (D.view (disk_of log.old)).image
         ≤ free_blocks (state_of log.new) (D.view (disk_of log.new)).image + 1) }
     ensures wrote { D.tells
         → WroteLoose (names node.old) (state_of log.old) (D.view (disk_of log.old)) (D.view (disk_of log.new)) }
-    ensures others { (v : ℕ) → v < 68 → (v ≡ 15 → ⊥) → pointer_of node.new v ≡ pointer_of node.old v }
-    ensures alone { D.tells
-        → OnOk result (is_shared (state_of log.new) (D.view (disk_of log.new)).image node.new ≡ false) }
+    ensures others { (v : ℕ) → v < 68 → (v ≡ w → ⊥) → pointer_of node.new v ≡ pointer_of node.old v }
     ensures map { node.new.map ≡ node.old.map }
     ensures counted { (D.view (disk_of log.old)).faults ≤ (D.view (disk_of log.new)).faults }
     ensures only { IfErr result
         (λ fault. IsTakeFault (D.tells → ⊥) fault (D.view (disk_of log.old)) (D.view (disk_of log.new))) }
 {
-    let map = node.map;
-    if is_zero(&map) {
-        clear(log, tx, node, INDIRECT)
+    if is_zero(bytes) {
+        clear(log, tx, node, w)
     } else {
-        replace(log, tx, node, INDIRECT, &map)
+        replace(log, tx, node, w, bytes)
     }
 }
 
@@ -200,7 +208,8 @@ pub fn save<D: Disk>(
     ensures only { IfErr result
         (λ fault. IsTakeFault (D.tells → ⊥) fault (D.view (disk_of log.old)) (D.view (disk_of log.new))) }
 {
-    write_map(log, tx, node)?;
+    let map = node.map;
+    write_under(log, tx, node, INDIRECT, &map)?;
     log.put(tx, page, &node.page)?;
     Ok(())
 }
@@ -345,6 +354,6 @@ pub fn list_node<D: Disk>(
     ensures only { IfErr result
         (λ fault. IsTakeFault (D.tells → ⊥) fault (D.view (disk_of log.old)) (D.view (disk_of log.new))) }
 {
-    replace(log, tx, node, which, bytes)?;
+    write_under(log, tx, node, which, bytes)?;
     save(log, tx, page, node)
 }

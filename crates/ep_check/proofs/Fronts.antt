@@ -12,7 +12,7 @@ use Rattle.ep_layout.specs.declared.superblock.Superblock.{Superblock}
 use Rattle.ep_layout.proofs.Unique.{superblock_unique}
 use Rattle.ep_log.specs.Mount.{AreSettled}
 use Rattle.ep_image.specs.Joined.{listed}
-use Rattle.ep_image.specs.Aggregate.{is_blank, superblock_of}
+use Rattle.ep_image.specs.Aggregate.{aggregate_of, is_blank, superblock_of}
 use Rattle.ep_image.specs.Faults.{faults_of, faults_in, faults_behind, faults_under, one_fault}
 use Rattle.ep_image.specs.declared.fault.Rule.TheVariants as rules
 use Rattle.ep_image.proofs.Front.{blank_passes, unblank_fails, superblock_some, superblock_is}
@@ -76,6 +76,9 @@ same_pages pages value n size each =
     same_lists pages (listed value n) (size ∙ sym (length-listed value n))
     (λ k other lt. same_get pages k other [] lt ∙ each k lt ∙ sym (get_or-listed value n k other (omega (arith, size, lt))))
 
+some_same : (a b : Half) → Some a ≡ Some b → a ≡ b
+some_same a b e = cc
+
 module _ (image : List ℕ) (superblock : Superblock) (is : IsSuperblock superblock image) where
   abbrev half_of : Option Half
   half_of = used_half (pages_of superblock.blocks) image
@@ -94,6 +97,17 @@ module _ (image : List ℕ) (superblock : Superblock) (is : IsSuperblock superbl
       same_pages metadata.pages.items (pages_in are.half image) (pages_of superblock.blocks) (settled_size metadata.pages.items are) are.each in
       (λ j. faults_in (record { server = server j; blocks = blocks j; pages = pages j; image = image }))
       ∙ ap (λ half. faults_behind superblock half image) (sym used)
+
+  -- which is the aggregate behind the log
+  pub settled_aggregate : (metadata : Metadata) → metadata.server ≡ superblock.server → metadata.blocks ≡ superblock.blocks → AreSettled image metadata.pages.items → (half : Half) → half_of ≡ Some half
+      → over metadata image ≡ aggregate_of superblock half image
+  settled_aggregate metadata server blocks are half is_used =
+      let same : are.superblock ≡ superblock = superblock_unique are.superblock superblock image are.log.front is in
+      let used : half_of ≡ Some are.half = ap (λ (s : Superblock). used_half (pages_of s.blocks) image) (sym same) ∙ are.log.used in
+      let one : are.half ≡ half = some_same are.half half (sym used ∙ is_used) in
+      let pages : metadata.pages.items ≡ listed (pages_in are.half image) (pages_of superblock.blocks) =
+      same_pages metadata.pages.items (pages_in are.half image) (pages_of superblock.blocks) (settled_size metadata.pages.items are) are.each in
+      (λ j. record { server = server j; blocks = blocks j; pages = pages j; image = image }) ∙ (λ j. aggregate_of superblock (one j) image)
 
   -- where there is no log, no half is used
   pub no_log : (place : ℕ) → HasNoLog place image → one_fault 512 rules.Log ≡ faults_behind superblock half_of image

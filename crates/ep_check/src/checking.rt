@@ -112,7 +112,7 @@ pub(crate) fn finish(
 }
 
 // The faults of metadata: all, or else at least the first.
-fn faults_found<D: Disk>(
+pub(crate) fn faults_found<D: Disk>(
     alloc: Global,
     disk: &mut D,
     metadata: &Metadata,

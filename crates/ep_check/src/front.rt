@@ -74,7 +74,7 @@ fn settled<D: Disk>(
 }
 
 // Whether a log's superblock is that of an aggregate.
-fn is_aggregate(superblock: &Superblock) -> bool
+pub(crate) fn is_aggregate(superblock: &Superblock) -> bool
     ensures { result ≡ (nat_le 1 superblock.now.server && nat_le superblock.now.server 4
         && nat_le 1092 superblock.now.blocks) }
 {

@@ -9,9 +9,11 @@ mod fault;
 mod found;
 mod front;
 mod look;
+mod mountable;
 mod parts;
 mod shared;
 
 pub use checking::{check, check_first};
 pub use fault::CheckRefused;
+pub use mountable::refusal;
 pub use shared::check_shared;

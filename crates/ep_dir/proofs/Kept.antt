@@ -55,7 +55,7 @@ changed_as page update other old mid new before middle after same quiet is chang
 pub changed_none : (page : ℕ) (update : Anode → Anode) (old new : State) (before after : List ℕ) → new ≡ old → after ≡ before → anode_in old before page ≡ update (anode_in old before page) → Changed page update old before new after
 changed_none page update old new before after same quiet is = subst (λ (s : State). Changed page update old before s after) (sym same) (subst (λ (l : List ℕ). Changed page update old before old l) (sym quiet)
     (record {
-      turns = record { counts = λ b lt. refl; settled = λ b lt. refl; pages = λ p low apart. refl };
+      turns = record { counts = λ b lt. refl; settled = λ b lt. refl; tail = λ b spare. refl; pages = λ p low apart. refl };
       anode = is;
       tidy = λ tidy. tidy;
       renewed = inl (refl, refl);

@@ -10,7 +10,7 @@ use Rattle.ep_log.specs.declared.put.Put.{Put}
 use Rattle.ep_space.specs.Counts.{count_page, count_place, count_now}
 use Rattle.ep_anode.specs.Anode.{Anode, anode_in, bytes_of, names_past, IsTidy, IsBare}
 use Rattle.ep_anode.specs.Node.{pointer_of, pointer_at, is_pointer, names, names_below, no_names, cell, node_of, node_in, HasNoBlocks}
-use Rattle.ep_anode.specs.Changes.{is_shared, own_names, left_names, WritesLoose, Turns, AreCounted, Changed, IsRenewed, Made, SharesBlocks}
+use Rattle.ep_anode.specs.Changes.{IsSpare, is_shared, own_names, left_names, WritesLoose, Turns, AreCounted, Changed, IsRenewed, Made, SharesBlocks}
 use Rattle.ep_anode.specs.declared.node.Node.{Node}
 use Rattle.ep_anode.proofs.Counting.{none_many, same_many}
 use Rattle.ep_anode.proofs.Cells.{pointer_facts, named_some, one_same, alone_none}
@@ -20,7 +20,7 @@ use Rattle.ep_anode.proofs.Laid.{pointer_in}
 use Rattle.ep_anode.proofs.Plain.{names_none}
 use Rattle.ep_anode.proofs.Moving.{loose_same}
 use Rattle.ep_anode.proofs.Apart.{node_stays, anode_stays, cell_stays}
-use Rattle.ep_files.specs.Holds.{is_anode, set_at, HoldsNow}
+use Rattle.ep_files.specs.Holds.{is_anode, slot_at, set_at, HoldsNow, NamesApart}
 use Rattle.ep_files.proofs.Nodes.{anode_low, below_named, own_invalid, own_shared, own_of, rest_of, names_valid, other_page, page_other, rest_names, own_is, shared_is, counts_are}
 use Rattle.ep_files.proofs.Turning.{names_some, holds_with, own_new}
 
@@ -104,6 +104,8 @@ tidy_same image after node cells tidy = record {
   owner = tidy.owner;
   group = tidy.group;
   behind = tidy.behind;
+  range = tidy.range;
+  lists = λ w lt zero. tidy.lists w lt (λ k low. sym (cells w k (omega (arith, lt)) low) ∙ zero k low);
   past = λ k le lt same. (let p = pointer_in (k / 1024) (omega arith) in cells (pointer_at (k / 1024)) (k % 1024) p.1 (omega arith) ∙ tidy.past k le lt same);
   none = tidy.none;
 }
@@ -148,6 +150,10 @@ module _ (anodes : ℕ → Anode) (page : ℕ) (is : is_anode page ≡ true) (an
   tidy_others q a apart = subst (λ (n : Node). IsTidy after n) (sym (node_same q a apart)) (tidy_same before after (node_in old before q)
       (cell_stays (own_names old before (node_in old before page)) q old new before after refl (counted q a apart) writes (page_stays q a apart)) (held.tidy q a))
 
+  tail_now : (b : ℕ) → IsSpare old.superblock.blocks b → number_at 2 (count_place b) (page_of new.entries new.puts after (count_page b)) ≡ 0
+  unfolding count_now
+  tail_now b spare = turns.tail b spare ∙ held.tail b spare
+
   -- and no other pointer names its indirect block
   module _ (alone : is_shared new after (node_in new after page) ≡ false)
       (pointers : (block : ℕ) → block < old.superblock.blocks
@@ -169,6 +175,19 @@ module _ (anodes : ℕ → Anode) (page : ℕ) (is : is_anode page ≡ true) (an
         by : (names (node_in new after page) b ≤ left_names old before (node_in old before page) b) ⊎ ((count_now old before b ≤ own_names old before (node_in old before page) b) × (names (node_in new after page) b ≤ 1)) → names (node_in new after page) b ≤ 1
         by (inl e) = let f = left_le old before (node_in old before page) b in let g = held.once page b is lt in omega (arith, e, f, g)
         by (inr e) = e.1
+
+    slots_new : (q b : ℕ) → is_anode q ≡ true → q ≢ page → slot_at page ≡ slot_at q → b < old.superblock.blocks → names (node_in new after page) b + names (node_in old before q) b ≤ 1
+    slots_new q b a apart same lt = by (pointers b lt)
+      where
+        by : (names (node_in new after page) b ≤ left_names old before (node_in old before page) b) ⊎ ((count_now old before b ≤ own_names old before (node_in old before page) b) × (names (node_in new after page) b ≤ 1))
+            → names (node_in new after page) b + names (node_in old before q) b ≤ 1
+        by (inl e) = let f = left_le old before (node_in old before page) b in let g = held.slots page q b is a (λ here. apart (sym here)) same lt in omega (arith, e, f, g)
+        by (inr e) =
+            let c = counts_now anodes old before held page is b lt in
+            let f = rest_names old.superblock.blocks (pages_of_log old before) before page q b a apart in
+            let g = e.0 in
+            let h = e.1 in
+            omega (arith, c, f, g, h)
 
     here_new : (q w b : ℕ) → is_anode q ≡ true → q ≢ page → b < old.superblock.blocks → pointer_of (node_in new after page) 15 ≡ b + 1 → w < 68 → w ≢ 15 → pointer_of (node_in old before q) w ≢ b + 1
     here_new q w b a apart low here lt other there =
@@ -222,11 +241,12 @@ module _ (anodes : ℕ → Anode) (page : ℕ) (is : is_anode page ≡ true) (an
 
     pub turned_held : HoldsNow (set_at page anode anodes) new after
     turned_held = holds_with old.superblock.blocks (pages_of_log old before) (pages_of_log new after) before after page is node_same anodes held anode anode_is anode_same tidy_others tidy bare
-        (λ b lt. count_number b lt ∙ (λ i. rest_of old.superblock.blocks (pages_of_log old before) before page b + sym (own_number b) i)) once_new here_new there_new
+        (λ b lt. count_number b lt ∙ (λ i. rest_of old.superblock.blocks (pages_of_log old before) before page b + sym (own_number b) i)) tail_now once_new slots_new here_new there_new
 
   -- or it has the pointers of another page's
   module _ (from : ℕ) (is_from : is_anode from ≡ true) (other : from ≢ page) (none : HasNoBlocks (node_in old before page))
-      (pointers : (w : ℕ) → w < 68 → pointer_of (node_in (record old { puts = puts }) after page) w ≡ pointer_of (node_in old before from) w) where
+      (pointers : (w : ℕ) → w < 68 → pointer_of (node_in (record old { puts = puts }) after page) w ≡ pointer_of (node_in old before from) w)
+      (clear : (q b : ℕ) → is_anode q ≡ true → q ≢ page → slot_at page ≡ slot_at q → b < old.superblock.blocks → names (node_in old before from) b + names (node_in old before q) b ≤ 1) where
     source : Node
     source = node_in old before from
 
@@ -245,6 +265,9 @@ module _ (anodes : ℕ → Anode) (page : ℕ) (is : is_anode page ≡ true) (an
 
     once_copy : (b : ℕ) → b < old.superblock.blocks → names (node_in new after page) b ≤ 1
     once_copy b lt = let e = names_copy b in let f = held.once from b is_from lt in omega (arith, e, f)
+
+    slots_copy : (q b : ℕ) → is_anode q ≡ true → q ≢ page → slot_at page ≡ slot_at q → b < old.superblock.blocks → names (node_in new after page) b + names (node_in old before q) b ≤ 1
+    slots_copy q b a apart same lt = let e = names_copy b in let f = clear q b a apart same lt in omega (arith, e, f)
 
     here_copy : (q w b : ℕ) → is_anode q ≡ true → q ≢ page → b < old.superblock.blocks → pointer_of (node_in new after page) 15 ≡ b + 1 → w < 68 → w ≢ 15 → pointer_of (node_in old before q) w ≢ b + 1
     here_copy q w b a apart low here lt off there = held.apart from q w b is_from a low (sym (pointers 15 (omega arith)) ∙ here) lt off there
@@ -282,7 +305,7 @@ module _ (anodes : ℕ → Anode) (page : ℕ) (is : is_anode page ≡ true) (an
 
     pub copied_held : HoldsNow (set_at page anode anodes) new after
     copied_held = holds_with old.superblock.blocks (pages_of_log old before) (pages_of_log new after) before after page is node_same anodes held anode anode_is anode_same tidy_others tidy bare
-        (λ b lt. count_is b lt ∙ (λ i. rest_of old.superblock.blocks (pages_of_log old before) before page b + sym (own_copy b) i)) once_copy here_copy there_copy
+        (λ b lt. count_is b lt ∙ (λ i. rest_of old.superblock.blocks (pages_of_log old before) before page b + sym (own_copy b) i)) tail_now once_copy slots_copy here_copy there_copy
 
 -- an anode that is the same
 same_held : (anodes : ℕ → Anode) (page : ℕ) (anode : Anode) (state : State) (image : List ℕ) → HoldsNow anodes state image → anode_in state image page ≡ anode
@@ -290,10 +313,12 @@ same_held : (anodes : ℕ → Anode) (page : ℕ) (anode : Anode) (state : State
 same_held anodes page anode state image held there bare = record {
   anode = λ p a. by p a (p == page) refl;
   counts = held.counts;
+  tail = held.tail;
   once = held.once;
   apart = held.apart;
   tidy = held.tidy;
   bare = λ p a. none p a (p == page) refl;
+  slots = held.slots;
 }
   where
     by : (p : ℕ) → is_anode p ≡ true → (c : Bool) → (p == page) ≡ c → anode_in state image p ≡ (if c then anode else anodes p)
@@ -335,6 +360,7 @@ turns_made : (page : ℕ) (set : ℕ → ℕ) (old new : State) (before after : 
 turns_made page set old new before after none turns = record {
   counts = λ b lt. (let e = turns.counts b lt in let f = own_none old before (node_in old before page) none b in omega (arith, e, f));
   settled = turns.settled;
+  tail = turns.tail;
   pages = turns.pages;
 }
 
@@ -397,13 +423,14 @@ copy_pointers image source copy tidy shares w lt = by (nat_lt w 3) refl (nat_lt 
 
 copied_puts : (anodes : ℕ → Anode) (from page : ℕ) → is_anode from ≡ true → is_anode page ≡ true → from ≢ page → (old : State) (puts : List Put) (before after : List ℕ) → HoldsNow anodes old before → (anodes page).kind ≡ 0
     → Made page (anode_in old before from) old before (record old { puts = puts }) after → SharesBlocks (node_in old before from) (node_in (record old { puts = puts }) after page)
-    → IsTidy after (node_in (record old { puts = puts }) after page) → WritesLoose no_names old before before after → HoldsNow (set_at page (anodes from) anodes) (record old { puts = puts }) after
-copied_puts anodes from page is_from is apart old puts before after held free there shares tidy writes =
+    → IsTidy after (node_in (record old { puts = puts }) after page) → WritesLoose no_names old before before after → NamesApart page (node_in old before from) old before
+    → HoldsNow (set_at page (anodes from) anodes) (record old { puts = puts }) after
+copied_puts anodes from page is_from is apart old puts before after held free there shares tidy writes clear =
     copied_held anodes page is (anodes from) old puts before after held
     (turns_made page (own_names (record old { puts = puts }) after (node_in (record old { puts = puts }) after page)) old (record old { puts = puts }) before after none there.turns)
     (writes_wider old before before after (own_names old before (node_in old before page)) writes)
     (there.anode_is ∙ held.anode from is_from) tidy (λ gone w lt. pointers w lt ∙ held.bare from is_from gone w lt)
-    from is_from apart none pointers
+    from is_from apart none pointers clear
   where
     none : HasNoBlocks (node_in old before page)
     none = held.bare page is free
@@ -413,9 +440,23 @@ copied_puts anodes from page is_from is apart old puts before after held free th
 
 pub holds_copied : (anodes : ℕ → Anode) (from page : ℕ) → is_anode from ≡ true → is_anode page ≡ true → from ≢ page → (old new : State) (before after : List ℕ) → new ≡ record old { puts = new.puts } → HoldsNow anodes old before → (anodes page).kind ≡ 0
     → Made page (anode_in old before from) old before new after → SharesBlocks (node_in old before from) (node_in new after page)
-    → IsTidy after (node_in new after page) → WritesLoose no_names old before before after → HoldsNow (set_at page (anodes from) anodes) new after
-holds_copied anodes from page is_from is apart old new before after rest held free there shares tidy writes =
+    → IsTidy after (node_in new after page) → WritesLoose no_names old before before after → NamesApart page (node_in old before from) old before → HoldsNow (set_at page (anodes from) anodes) new after
+holds_copied anodes from page is_from is apart old new before after rest held free there shares tidy writes clear =
     subst (λ (s : State). HoldsNow (set_at page (anodes from) anodes) s after) (sym rest)
     (copied_puts anodes from page is_from is apart old new.puts before after held free (subst (λ (s : State). Made page (anode_in old before from) old before s after) rest there)
     (subst (λ (s : State). SharesBlocks (node_in old before from) (node_in s after page)) rest shares)
-    (subst (λ (s : State). IsTidy after (node_in s after page)) rest tidy) writes)
+    (subst (λ (s : State). IsTidy after (node_in s after page)) rest tidy) writes clear)
+
+-- the pointers of the copy are those of its source
+pub copied_pointers : (anodes : ℕ → Anode) (from page : ℕ) (old new : State) (before after : List ℕ) → is_anode from ≡ true → HoldsNow anodes old before → SharesBlocks (node_in old before from) (node_in new after page)
+    → (w : ℕ) → w < 68 → pointer_of (node_in new after page) w ≡ pointer_of (node_in old before from) w
+copied_pointers anodes from page old new before after is_from held shares = copy_pointers before (node_in old before from) (node_in new after page) (held.tidy from is_from) shares
+
+-- and the other anodes are the same
+pub made_beside : (anodes : ℕ → Anode) (page q : ℕ) (anode : Anode) (old new : State) (before after : List ℕ) → is_anode q ≡ true → q ≢ page → HoldsNow anodes old before → new ≡ record old { puts = new.puts }
+    → Made page anode old before new after → WritesLoose no_names old before before after → node_in new after q ≡ node_in old before q
+made_beside anodes page q anode old new before after is apart held rest made writes =
+    node_stays no_names q old new before after (λ i. (rest i).superblock.blocks) counted writes (made.turns.pages q (anode_low q is) apart)
+  where
+    counted : AreCounted (λ b. no_names b + names (node_in old before q) b) old before
+    counted b lt = let e = counted_all anodes old before held q is b lt in omega (arith, e)

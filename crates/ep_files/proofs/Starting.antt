@@ -1,5 +1,5 @@
 -- A new aggregate has no anodes.
-use Rattle.std.proofs.Common.{◌≡◌, ◌<◌, ◌≤◌, ℕ, ◌+◌, List, [], get_or, refl, sym, ◌∙◌, subst, arith}
+use Rattle.std.proofs.Common.{◌≡◌, ◌<◌, ◌≤◌, ℕ, ◌+◌, ◌/◌, List, [], get_or, refl, sym, ◌∙◌, subst, arith}
 use Rattle.std.specs.Prelude.{Bool, true, false, if◌then◌else◌, replicate}
 use Rattle.std.proofs.lemmas.Bool.Decides.{nat_tests}
 use Rattle.std.proofs.lemmas.List.{get_or-replicate}
@@ -59,9 +59,8 @@ module _ (blocks : ℕ) (pages : ℕ → List ℕ) (image : List ℕ) (blank : (
   none_at : (p : ℕ) → is_anode p ≡ true → HasNoBlocks (node_of blocks image (pages p))
   none_at p is = subst (λ (n : Node). HasNoBlocks n) (sym (page_blank p is)) (none blocks image)
 
-  count_zero : (b : ℕ) → b < blocks → number_at 2 (count_place b) (pages (count_page b)) ≡ 0
-  count_zero b lt =
-      let there = page_there b blocks lt in
+  count_zero : (b : ℕ) → count_page b < 1058 + (blocks + 255) / 256 → number_at 2 (count_place b) (pages (count_page b)) ≡ 0
+  count_zero b there =
       let e = blank (count_page b) (omega arith) (omega (arith, there)) in
       (λ i. number_at 2 (count_place b) (e i)) ∙ zero_two (count_place b) (omega arith)
     where
@@ -89,9 +88,14 @@ module _ (blocks : ℕ) (pages : ℕ → List ℕ) (image : List ℕ) (blank : (
   pub holds_new : Holds (λ p. no_anode) blocks pages image
   holds_new = record {
     anode = λ p is. (λ i. anode_of image (page_blank p is i)) ∙ anode_none image (node_of blocks image blank_page) 0 0 [] [] blank_is (none blocks image);
-    counts = λ b lt. count_zero b lt ∙ sym (none_named b);
+    counts = λ b lt. count_zero b (page_there b blocks lt) ∙ sym (none_named b);
+    tail = λ b spare. count_zero b (let low = spare.1 in omega (arith, low));
     once = λ p b is lt. (let e = names_none (node_of blocks image (pages p)) (none_at p is) b in omega (arith, e));
     apart = λ p q w b is other lt here low off there. (let z = none_at p is 15 (omega arith) in omega (arith, z, here));
     tidy = λ p is. subst (λ (n : Node). IsTidy image n) (sym (page_blank p is)) (tidy_page image (node_of blocks image blank_page) 0 0 [] [] blank_is (none blocks image) (map_zero blocks image));
     bare = λ p is free. none_at p is;
+    slots = λ p q b is other apart same lt.
+        (let e = names_none (node_of blocks image (pages p)) (none_at p is) b in
+        let f = names_none (node_of blocks image (pages q)) (none_at q other) b in
+        omega (arith, e, f));
   }

@@ -127,6 +127,8 @@ module _ (anodes : ℕ → Anode) (blocks : ℕ) (old new : ℕ → List ℕ) (b
     owner = tidy.owner;
     group = tidy.group;
     behind = tidy.behind;
+    range = tidy.range;
+    lists = λ w lt zero. tidy.lists w lt (λ k low. sym (cell_kept q w k is (omega (arith, lt)) low) ∙ zero k low);
     past = λ k le lt block. (let p = pointer_in (k / 1024) (omega arith) in cell_kept q (pointer_at (k / 1024)) (k % 1024) is p.1 (omega arith) ∙ tidy.past k le lt block);
     none = tidy.none;
   }
@@ -159,15 +161,18 @@ module _ (anodes : ℕ → Anode) (blocks : ℕ) (old new : ℕ → List ℕ) (b
   all_kept b = total_same (page_names blocks old before b) (indirect_of blocks old before) (map_names blocks before b) (page_names blocks new after b) (indirect_of blocks new after) (map_names blocks after b) blocks
       (λ p lt. front_kept b p) (λ p lt. indirect_kept p) (λ m lt on. names_kept b m on)
 
-  count_kept : (b : ℕ) → b < blocks → number_at 2 (count_place b) (new (count_page b)) ≡ number_at 2 (count_place b) (old (count_page b))
-  count_kept b lt = let there = page_there b blocks lt in let e = pages (count_page b) (omega (arith, there)) in λ i. number_at 2 (count_place b) (e i)
+  count_kept : (b : ℕ) → count_page b < 1058 + (blocks + 255) / 256 → number_at 2 (count_place b) (new (count_page b)) ≡ number_at 2 (count_place b) (old (count_page b))
+  count_kept b there = let e = pages (count_page b) (omega (arith, there)) in λ i. number_at 2 (count_place b) (e i)
 
   pub holds_kept : Holds anodes blocks new after
   holds_kept = record {
     anode = λ p is. anode_kept p is ∙ held.anode p is;
-    counts = λ b lt. count_kept b lt ∙ held.counts b lt ∙ sym (all_kept b);
+    counts = λ b lt. count_kept b (page_there b blocks lt) ∙ held.counts b lt ∙ sym (all_kept b);
+    tail = λ b spare. count_kept b (let low = spare.1 in omega (arith, low)) ∙ held.tail b spare;
     once = λ p b is lt. subst (λ (n : Node). names n b ≤ 1) (sym (node_kept p is)) (held.once p b is lt);
     apart = λ p q w b a c low here lt other there. held.apart p q w b a c low ((λ i. pointer_of (sym (node_kept p a) i) 15) ∙ here) lt other ((λ i. pointer_of (sym (node_kept q c) i) w) ∙ there);
     tidy = λ p is. subst (λ (n : Node). IsTidy after n) (sym (node_kept p is)) (tidy_kept p is);
     bare = λ p is free. subst (λ (n : Node). HasNoBlocks n) (sym (node_kept p is)) (held.bare p is free);
+    slots = λ p q b a c off same lt. subst (λ (n : Node). names n b + names (node_of blocks after (new q)) b ≤ 1) (sym (node_kept p a))
+        (subst (λ (n : Node). names (node_of blocks before (old p)) b + names n b ≤ 1) (sym (node_kept q c)) (held.slots p q b a c off same lt));
   }

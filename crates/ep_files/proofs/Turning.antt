@@ -6,11 +6,12 @@ use Rattle.std.proofs.lemmas.Bool.Decides.{nat_tests}
 use Rattle.ep_layout.specs.Numbers.{number_at}
 use Rattle.ep_space.specs.Counts.{count_page, count_place}
 use Rattle.ep_anode.specs.Anode.{Anode, anode_of, IsTidy}
+use Rattle.ep_anode.specs.Changes.{IsSpare}
 use Rattle.ep_anode.specs.Node.{pointer_of, is_pointer, map_under, names, names_below, node_of, HasNoBlocks}
 use Rattle.ep_anode.specs.Room.{how_many}
 use Rattle.ep_anode.specs.declared.node.Node.{Node}
 use Rattle.ep_anode.proofs.Cells.{pointer_facts, named_some}
-use Rattle.ep_files.specs.Holds.{is_anode, page_names, indirect_of, map_names, set_at, Holds}
+use Rattle.ep_files.specs.Holds.{is_anode, slot_at, page_names, indirect_of, map_names, set_at, Holds}
 use Rattle.ep_files.proofs.Sums.{many_some, many_two}
 use Rattle.ep_files.proofs.Totals.{beside, indirect_as, total_same}
 use Rattle.ep_files.proofs.Nodes.{all_split, map_pointer, own_of, rest_of, with_others, own_alone, own_invalid, other_page, rest_names}
@@ -81,7 +82,9 @@ module _ (blocks : ℕ) (old new : ℕ → List ℕ) (before after : List ℕ) (
       (tidy : IsTidy after (node_of blocks after (new page)))
       (bare : anode.kind ≡ 0 → HasNoBlocks (node_of blocks after (new page)))
       (moves : (b : ℕ) → b < blocks → number_at 2 (count_place b) (new (count_page b)) ≡ rest_of blocks old before page b + own_of blocks new after page b)
+      (tail : (b : ℕ) → IsSpare blocks b → number_at 2 (count_place b) (new (count_page b)) ≡ 0)
       (once : (b : ℕ) → b < blocks → names (node_of blocks after (new page)) b ≤ 1)
+      (slots_here : (q b : ℕ) → is_anode q ≡ true → q ≢ page → slot_at page ≡ slot_at q → b < blocks → names (node_of blocks after (new page)) b + names (node_of blocks before (old q)) b ≤ 1)
       (apart_here : (q w b : ℕ) → is_anode q ≡ true → q ≢ page → b < blocks → pointer_of (node_of blocks after (new page)) 15 ≡ b + 1 → w < 68 → w ≢ 15 → pointer_of (node_of blocks before (old q)) w ≢ b + 1)
       (apart_there : (p w b : ℕ) → is_anode p ≡ true → p ≢ page → b < blocks → pointer_of (node_of blocks before (old p)) 15 ≡ b + 1 → w < 68 → w ≢ 15 → pointer_of (node_of blocks after (new page)) w ≢ b + 1) where
     set_here : set_at page anode anodes page ≡ anode
@@ -97,6 +100,25 @@ module _ (blocks : ℕ) (old new : ℕ → List ℕ) (before after : List ℕ) (
     once_is : (p b : ℕ) → is_anode p ≡ true → b < blocks → (p ≡ page) ⊎ (p ≢ page) → names (node_of blocks after (new p)) b ≤ 1
     once_is p b a lt (inl here) = subst (λ (x : ℕ). names (node_of blocks after (new x)) b ≤ 1) (sym here) (once b lt)
     once_is p b a lt (inr apart) = let f = held.once p b a lt in let e : names (node_of blocks after (new p)) b ≡ names (node_of blocks before (old p)) b = (λ i. names (stay p a apart i) b) in omega (arith, e, f)
+
+    slots_is : (p q b : ℕ) → is_anode p ≡ true → is_anode q ≡ true → p ≢ q → slot_at p ≡ slot_at q → b < blocks → (p ≡ page) ⊎ (p ≢ page) → (q ≡ page) ⊎ (q ≢ page)
+        → names (node_of blocks after (new p)) b + names (node_of blocks after (new q)) b ≤ 1
+    slots_is p q b a c off same lt (inl e) (inl f) = absurd (off (e ∙ sym f))
+    slots_is p q b a c off same lt (inl e) (inr f) =
+        let s = slots_here q b c f ((λ i. slot_at (sym e i)) ∙ same) lt in
+        let m : names (node_of blocks after (new p)) b ≡ names (node_of blocks after (new page)) b = (λ i. names (node_of blocks after (new (e i))) b) in
+        let n : names (node_of blocks after (new q)) b ≡ names (node_of blocks before (old q)) b = (λ i. names (stay q c f i) b) in
+        omega (arith, s, m, n)
+    slots_is p q b a c off same lt (inr e) (inl f) =
+        let s = slots_here p b a e ((λ i. slot_at (sym f i)) ∙ sym same) lt in
+        let m : names (node_of blocks after (new q)) b ≡ names (node_of blocks after (new page)) b = (λ i. names (node_of blocks after (new (f i))) b) in
+        let n : names (node_of blocks after (new p)) b ≡ names (node_of blocks before (old p)) b = (λ i. names (stay p a e i) b) in
+        omega (arith, s, m, n)
+    slots_is p q b a c off same lt (inr e) (inr f) =
+        let s = held.slots p q b a c off same lt in
+        let m : names (node_of blocks after (new p)) b ≡ names (node_of blocks before (old p)) b = (λ i. names (stay p a e i) b) in
+        let n : names (node_of blocks after (new q)) b ≡ names (node_of blocks before (old q)) b = (λ i. names (stay q c f i) b) in
+        omega (arith, s, m, n)
 
     tidy_is : (p : ℕ) → is_anode p ≡ true → (p ≡ page) ⊎ (p ≢ page) → IsTidy after (node_of blocks after (new p))
     tidy_is p a (inl here) = subst (λ (x : ℕ). IsTidy after (node_of blocks after (new x))) (sym here) tidy
@@ -120,10 +142,12 @@ module _ (blocks : ℕ) (old new : ℕ → List ℕ) (before after : List ℕ) (
     holds_with = record {
       anode = λ p a. anode_is p a (cases_eq p page);
       counts = λ b lt. moves b lt ∙ (λ i. sym (rest_stays b) i + own_of blocks new after page b) ∙ sym (all_split blocks new after page is b);
+      tail = tail;
       once = λ p b a lt. once_is p b a lt (cases_eq p page);
       apart = λ p q w b a c low here lt other there. apart_is p q w b a c low here lt other there (cases_eq p page) (cases_eq q page);
       tidy = λ p a. tidy_is p a (cases_eq p page);
       bare = λ p a. bare_is p a (cases_eq p page);
+      slots = λ p q b a c off same lt. slots_is p q b a c off same lt (cases_eq p page) (cases_eq q page);
     }
 
   -- its own pointers, where the counts say that its indirect block isn't shared

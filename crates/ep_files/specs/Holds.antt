@@ -7,8 +7,10 @@ use Rattle.ep_log.specs.Puts.{page_of}
 use Rattle.ep_log.specs.State.{State}
 use Rattle.ep_space.specs.Counts.{count_page, count_place}
 use Rattle.ep_anode.specs.Anode.{Anode, anode_of, byte_length, IsTidy}
-use Rattle.ep_anode.specs.Node.{pointer_of, names, names_below, map_under, node_of, HasNoBlocks}
+use Rattle.ep_anode.specs.Changes.{IsSpare}
+use Rattle.ep_anode.specs.Node.{pointer_of, names, names_below, map_under, node_of, node_in, HasNoBlocks}
 use Rattle.ep_anode.specs.Room.{how_many}
+use Rattle.ep_anode.specs.declared.node.Node.{Node}
 
 -- The pages of anodes: the server has two pages, and each slot of a fileset 66, of which the first two aren't anodes'.
 abbrev pub is_anode : ℕ → Bool
@@ -43,13 +45,21 @@ abbrev pub pointers_to : ℕ → (ℕ → List ℕ) → List ℕ → ℕ → ℕ
 pointers_to blocks pages image block =
     total (page_names blocks pages image block) (indirect_of blocks pages image) (map_names blocks image block) blocks
 
--- Pages and blocks hold these anodes: the counts are those of the pointers, no anode names a block twice, an indirect
--- block is named as such alone, all bytes without a meaning are zero, and a free anode has no blocks.
+-- the slot of an anode's page
+abbrev pub slot_at : ℕ → ℕ
+slot_at p = (p - 2) / 66
+
+-- Pages and blocks hold these anodes: the counts are those of the pointers, and those of no block are zero; no anode
+-- names a block twice, and no two of a slot name one; an indirect block is named as such alone; all bytes without a
+-- meaning are zero; and a free anode has no blocks.
 pub record Holds (anodes : ℕ → Anode) (blocks : ℕ) (pages : ℕ → List ℕ) (image : List ℕ) : Type 0 where
   pub anode : (p : ℕ) → is_anode p ≡ true → anode_of image (node_of blocks image (pages p)) ≡ anodes p
   pub counts : (block : ℕ) → block < blocks
       → number_at 2 (count_place block) (pages (count_page block)) ≡ pointers_to blocks pages image block
+  pub tail : (block : ℕ) → IsSpare blocks block → number_at 2 (count_place block) (pages (count_page block)) ≡ 0
   pub once : (p block : ℕ) → is_anode p ≡ true → block < blocks → names (node_of blocks image (pages p)) block ≤ 1
+  pub slots : (p q block : ℕ) → is_anode p ≡ true → is_anode q ≡ true → p ≢ q → slot_at p ≡ slot_at q
+      → block < blocks → names (node_of blocks image (pages p)) block + names (node_of blocks image (pages q)) block ≤ 1
   pub apart : (p q w block : ℕ) → is_anode p ≡ true → is_anode q ≡ true → block < blocks
       → pointer_of (node_of blocks image (pages p)) 15 ≡ block + 1
       → w < 68 → w ≢ 15 → pointer_of (node_of blocks image (pages q)) w ≡ block + 1 → ⊥
@@ -71,6 +81,12 @@ no_anode = record {
 -- what a log holds now
 abbrev pub HoldsNow : (ℕ → Anode) → State → List ℕ → Type 0
 HoldsNow anodes state image = Holds anodes state.superblock.blocks (λ p. page_of state.entries state.puts image p) image
+
+-- an anode names no block that another one in a page's slot names
+abbrev pub NamesApart : ℕ → Node → State → List ℕ → Type 0
+NamesApart page node state image = (other block : ℕ) → is_anode other ≡ true → other ≢ page
+    → slot_at page ≡ slot_at other → block < state.superblock.blocks
+    → names node block + names (node_in state image other) block ≤ 1
 
 -- stage k of a log's pages: after the first k of the transactions that ended since the last force
 abbrev pub stage_of : State → List ℕ → ℕ → ℕ → List ℕ

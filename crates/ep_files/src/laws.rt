@@ -16,6 +16,7 @@ ghost use Rattle.ep_anode.specs.Changes.{Changed, Made, SharesBlocks};
 ghost use Rattle.dfs_calls.specs.declared.part.DirEntry.{DirEntry};
 ghost use Rattle.ep_dir.specs.Entries.{with_entries, IsDirectory};
 ghost use Rattle.ep_files.specs.Holds.{is_anode, set_at, Holds, HoldsNow, stage_of, no_anode, all_blocks};
+ghost use Rattle.ep_files.specs.Holds.{NamesApart};
 
 /// A new aggregate, whose pages are zero but for the server's, has no anodes.
 pub fn new_holds()
@@ -72,7 +73,8 @@ pub fn made_holds()
         → HoldsNow (set_at page anode anodes) new after }
 {}
 
-/// A call that copies an anode into the page of a free one adds the copy to all.
+/// A call that copies an anode into the page of a free one adds the copy to all, where no other anode of its slot names
+/// a block that the source names.
 pub fn copied_holds()
     ensures { (anodes : ℕ → Anode) (from page : ℕ) (old new : State) (before after : List ℕ)
         → is_anode from ≡ true → is_anode page ≡ true → from ≢ page
@@ -80,6 +82,7 @@ pub fn copied_holds()
         → Made page (anode_in old before from) old before new after
         → SharesBlocks (node_in old before from) (node_in new after page)
         → IsTidy after (node_in new after page) → WritesLoose no_names old before before after
+        → NamesApart page (node_in old before from) old before
         → HoldsNow (set_at page (anodes from) anodes) new after }
 {}
 

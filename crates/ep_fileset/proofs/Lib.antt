@@ -8,3 +8,4 @@ pub mod Looking
 pub mod Read
 pub mod Patching
 pub mod EachAnode
+pub mod Copies

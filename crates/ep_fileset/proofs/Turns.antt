@@ -26,7 +26,7 @@ use Rattle.ep_anode.proofs.Counting.{none_many}
 use Rattle.ep_acl.specs.Lists.{list_bytes, HoldsList}
 use Rattle.ep_dir.specs.Entries.{entered, without, with_entries, IsDirectory}
 use Rattle.ep_objects.specs.Objects.{list_byte, object_kept, kept_of, page_for, anode_at, with_anode, FitsContent, KeepsNow, HeldNow}
-use Rattle.ep_files.specs.Holds.{no_anode}
+use Rattle.ep_files.specs.Holds.{no_anode, NamesApart}
 use Rattle.ep_objects.proofs.Contents.{with_list_kept, with_length_kept, directory_kept, list_fits, truncated_fits, freed_kept, vacant_kind}
 use Rattle.ep_objects.proofs.Keeping.{in_page, content_there, fits_there, anode_there, kept_there, content_turned, made_turned, keeps_changed, keeps_copied, keeps_content}
 use Rattle.ep_fileset.specs.Slots.{HasList, is_file, IsFile, IsDir, takes_name, TakesName, IsVacant, TakesObject, used_by, blank_content}
@@ -196,15 +196,15 @@ module _ (slots : ℕ → List Anode) (slot n : ℕ) (low : slot < 16) (some : 1
       changed bare
 
   -- and one that is copied
-  pub copy_turns : (from source : ℕ) → source ≡ page_for from n → from < 16 → from ≢ slot → IsVacant slot n slots → WritesLoose no_names old before before after
+  pub copy_turns : (from source : ℕ) → source ≡ page_for from n → from < 16 → from ≢ slot → IsVacant slot n slots → NamesApart (page_for slot n) (node_in old before (page_for from n)) old before → WritesLoose no_names old before before after
       → OnOk result (Made page (anode_in old before source) old before new after)
       → OnOk result (SharesBlocks (node_in old before source) (node_in new after page))
       → OnOk result (IsTidy after (node_in new after page))
       → OnOk result (KeepsNow (with_anode slot n (λ free. anode_at (slots from) n) slots) new after)
-  copy_turns from source of from_low apart vacant writes made shares tidy = on_ok_two result
+  copy_turns from source of from_low apart vacant clear writes made shares tidy = on_ok_two result
       (λ (m : Made page (anode_in old before source) old before new after) (more : SharesBlocks (node_in old before source) (node_in new after page) × IsTidy after (node_in new after page)).
       keeps_copied slots slot n low some few page at (λ free. anode_at (slots from) n) old new before after rest keeps ((keeps.each from from_low).each n some few) from n source of from_low some few
-      (λ e. apart (omega (arith, e))) (vacant_kind (anode_at (slots slot) n) vacant) m more.0 more.1 writes refl)
+      (λ e. apart (omega (arith, e))) (vacant_kind (anode_at (slots slot) n) vacant) m more.0 more.1 writes clear refl)
       made (on_ok_two result (λ (s : SharesBlocks (node_in old before source) (node_in new after page)) (t : IsTidy after (node_in new after page)). (s, t)) shares tidy)
 
 -- objects that are being made

@@ -3,6 +3,7 @@ use Rattle.std.specs.Prelude.{
   ◌≡◌,
   ◌≤◌,
   ◌<◌,
+  ◌⊎◌,
   ℕ,
   ◌+◌,
   ◌*◌,
@@ -51,9 +52,11 @@ use Rattle.ep_log.specs.declared.log.Log.{Log}
 use Rattle.ep_space.specs.Counts.{count_now}
 use Rattle.ep_anode.specs.Changes.{WroteLoose}
 use Rattle.ep_anode.specs.Faults.{IsNodeFault}
+use Rattle.ep_anode.specs.Node.{pointer_of, node_in}
 use Rattle.ep_anode.specs.Room.{free_blocks, MayPutAll, PutsPages}
 use Rattle.ep_anode.specs.declared.fault.NodeFault.{NodeFault}
-use Rattle.ep_objects.specs.Objects.{anode_at, with_slot, with_anode, KeepsNow}
+use Rattle.ep_anode.specs.declared.node.Node.{Node}
+use Rattle.ep_objects.specs.Objects.{anode_at, page_for, with_slot, with_anode, KeepsNow}
 
 -- the pages of a slot's anodes, and those of counts
 abbrev pub slot_pages : ℕ → ℕ → Bool
@@ -146,9 +149,20 @@ abbrev pub TakesName : ℕ → ℕ → List ℕ → (ℕ → List Anode) → Typ
 TakesName slot anode name slots =
     option_map_or (λ object. takes_name name object.content) (anode_at (slots slot) anode).object false ≡ true
 
+-- two anodes name the same blocks
+abbrev pub SamePointers : Node → Node → Type 0
+SamePointers source copy = (w : ℕ) → w < 68 → pointer_of copy w ≡ pointer_of source w
+
 -- whether an anode is free
 abbrev pub IsVacant : ℕ → ℕ → (ℕ → List Anode) → Type 0
 IsVacant slot anode slots = is_none (anode_at (slots slot) anode).object ≡ true
+
+-- What a log keeps where a slot is being made of another one: each of its anodes is free, or names the blocks that the
+-- other one's anode of its number names.
+pub record CopiesNow (from to : ℕ) (slots : ℕ → List Anode) (state : State) (image : List ℕ) : Type 0 where
+  pub keeps : KeepsNow slots state image
+  pub copies : (anode : ℕ) → 1 ≤ anode → anode ≤ 64 → IsVacant to anode slots
+      ⊎ SamePointers (node_in state image (page_for from anode)) (node_in state image (page_for to anode))
 
 -- an entry that moves from a directory to one that takes its name
 abbrev pub MayMove : ℕ → Move → (ℕ → List Anode) → Type 0

@@ -2,7 +2,8 @@
 ghost use Rattle.std.specs.Prelude.{◌≤◌, ◌<◌, ◌≢◌, ⊤};
 ghost use Rattle.dfs_objects.specs.Changes.{anode_freed};
 ghost use Rattle.ep_objects.specs.Objects.{anode_at, with_anode};
-ghost use Rattle.ep_fileset.specs.Slots.{IsVacant, IsDir, removed, MayChange, TurnsInto, ChangesSlot};
+ghost use Rattle.ep_fileset.specs.Slots.{IsVacant, IsDir, CopiesNow, removed};
+ghost use Rattle.ep_fileset.specs.Slots.{MayTurn, Turned, MayChange, TurnsInto, ChangesSlot};
 
 use crate::names::leave;
 use crate::place::anode_page;
@@ -30,7 +31,7 @@ pub fn vacate<D: Disk>(
 }
 
 /// Gives a free anode what the anode of the same number in another slot has, and its unique number. The blocks of the
-/// object are shared.
+/// object are shared. The slot has no blocks but those of such copies.
 ///
 /// It needs no block. `Failed`: mount the log again. `Memory`: undo the transaction, which may hold some puts.
 pub fn copy_anode<D: Disk>(
@@ -45,8 +46,8 @@ pub fn copy_anode<D: Disk>(
     requires apart { from ≢ to }
     requires first { 1 ≤ anode }
     requires last { anode ≤ 64 }
-    requires may { MayChange D.tells D.view (IsVacant to anode) to 0 log.old tx.old }
-    ensures kept { TurnsInto D.tells D.view (IsVacant to anode)
+    requires may { MayTurn (CopiesNow from to) D.tells D.view (IsVacant to anode) to 0 log.old tx.old }
+    ensures kept { Turned (CopiesNow from to) D.tells D.view (IsVacant to anode)
         (λ slots. with_anode to anode (λ free. anode_at (slots from) anode) slots) result log.old log.new }
     ensures changes { ChangesSlot D.tells D.view to 0 result log.old log.new tx.old tx.new }
 {

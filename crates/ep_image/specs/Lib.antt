@@ -7,4 +7,5 @@ pub mod Reach
 pub mod Counts
 pub mod Faults
 pub mod Image
+pub mod Refused
 pub mod Laws

@@ -23,4 +23,4 @@ pub use all_pages::settled_pages;
 pub use fault::LogFault;
 pub use kept::Tx;
 pub use log::Log;
-pub use read::{found_superblock, is_blank};
+pub use read::{found_superblock, is_blank, read_used};

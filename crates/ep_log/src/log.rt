@@ -103,6 +103,31 @@ impl<D: Disk> Log<D> {
         }
     }
 
+    /// Mounts the log on its own disk again, as after a force that failed. What was put or ended and not forced is gone.
+    /// The errors are those of `mount`, after which it is to be mounted once more; `NotALog` comes only where the disk
+    /// holds another log than this one left, or none. A crash at any moment of the call leaves what a crash in `mount`
+    /// leaves.
+    pub fn reopen(&mut self) -> Result<(), LogFault>
+        ensures sound { OnOk result (IsSoundLog D.tells D.view self.new) }
+        ensures mounted { D.tells → OnOk result (IsMounted (D.view (disk_of self.old)).image
+            (D.view (disk_of self.new)).image (state_of self.new)) }
+        ensures fresh { OnOk result
+            (state_of self.new ≡ fresh_state (state_of self.new).superblock (state_of self.new).half) }
+        ensures settled { OnOk result (IsSettled (D.view (disk_of self.new))) }
+        ensures err { OnErr result (state_of self.new ≡ state_of self.old) }
+        ensures crash { D.tells → LeavesOnly (IsSameLog (D.view (disk_of self.old)).image)
+            (D.view (disk_of self.old)) (D.view (disk_of self.new)) }
+        ensures left { D.tells → OnErr result (IsQuietOr (IsSameLog (D.view (disk_of self.old)).image)
+            (D.view (disk_of self.old)) (D.view (disk_of self.new))) }
+        ensures counted { (D.view (disk_of self.old)).faults ≤ (D.view (disk_of self.new)).faults }
+        ensures only { IfErr result
+            (λ fault. IsMountFault D.tells fault (D.view (disk_of self.old)) (D.view (disk_of self.new))) }
+    {
+        let kept = mounted(self.kept.pages.alloc(), &mut self.disk)?;
+        self.kept = kept;
+        Ok(())
+    }
+
     /// The disk. What the log keeps in memory is gone.
     pub fn into_disk(self) -> D
         ensures { result ≡ disk_of self }

@@ -58,7 +58,7 @@ fn header_of<D: Disk>(disk: &mut D, start: u64) -> Result<Header, Failed>
     Ok(read_header(&bytes))
 }
 
-// The half that is used, where one is.
+/// The half of the log that is used, before so many metadata pages, where one is. The only error is the disk's.
 pub fn read_used<D: Disk>(disk: &mut D, pages: u32) -> Result<Option<Half>, Failed>
     ensures used { D.tells → IfOk result (λ half. half ≡ used_in pages (D.view disk.old).image) }
     ensures placed { IfOk result (λ half. IfSome half (λ half. IsPlaced pages half)) }

@@ -10,7 +10,7 @@ ghost use Rattle.ep_anode.specs.Anode.{Anode as Kept, anode_in, IsTidy, IsBare};
 ghost use Rattle.ep_anode.specs.Changes.{own_names, WritesLoose, Changed, Made, SharesBlocks};
 ghost use Rattle.ep_anode.specs.Node.{node_in, no_names, HasNoBlocks};
 ghost use Rattle.ep_anode.specs.Room.{free_blocks};
-ghost use Rattle.ep_files.specs.Holds.{is_anode, no_anode, sum_below};
+ghost use Rattle.ep_files.specs.Holds.{is_anode, no_anode, sum_below, NamesApart};
 ghost use Rattle.ep_objects.specs.Objects.{
   kept_of,
   page_for,
@@ -64,7 +64,8 @@ pub fn made_keeps()
         → KeepsNow (with_anode slot anode change slots) new after }
 {}
 
-/// And one that copies an anode, of which this slot then keeps what the other one keeps.
+/// And one that copies an anode, of which this slot then keeps what the other one keeps, where no other anode of this
+/// slot names a block of the copied one.
 pub fn copied_keeps()
     ensures { (slots : ℕ → List Anode) (from one slot anode : ℕ) (old new : State) (before after : List ℕ)
         → from < 16 → 1 ≤ one → one ≤ 64 → slot < 16 → 1 ≤ anode → anode ≤ 64
@@ -73,6 +74,7 @@ pub fn copied_keeps()
         → Made (page_for slot anode) (anode_in old before (page_for from one)) old before new after
         → SharesBlocks (node_in old before (page_for from one)) (node_in new after (page_for slot anode))
         → IsTidy after (node_in new after (page_for slot anode)) → WritesLoose no_names old before before after
+        → NamesApart (page_for slot anode) (node_in old before (page_for from one)) old before
         → KeepsNow (with_anode slot anode (λ free. anode_at (slots from) one) slots) new after }
 {}
 

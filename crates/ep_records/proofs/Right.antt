@@ -65,7 +65,7 @@ use Rattle.ep_files.specs.Holds.{no_anode}
 use Rattle.ep_objects.specs.Objects.{object_kept, kept_of, anode_at, FitsObject, FitsContent}
 use Rattle.object_laws.proofs.Parts.{listed_is}
 use Rattle.object_laws.proofs.Read.{kept_is}
-use Rattle.object_laws.specs.Laws.{Keeps, IsInOrder, FitsPlace, leads_within}
+use Rattle.object_laws.specs.Laws.{Keeps, FitsPlace, leads_within}
 use Rattle.object_laws.proofs.Judged.{anodes_are_right}
 use Rattle.object_laws.proofs.Ordered.{counts_are_right}
 use Rattle.ep_records.specs.Said.{stay_said, header_said, host_said, taken_said}
@@ -165,7 +165,7 @@ leaving_same (stays.Leaving to ship) = refl
 leaving_same (stays.Arriving from ship parts) = refl
 leaving_same (stays.Gone to) = refl
 
-module _ (disk : Aggregate) (state : StoreState) (slots : ℕ → List Anode) (storable : IsStorable state) (keeps : Keeps slots disk) (order : IsInOrder disk) (says : SaysRecord state slots (page_of disk))
+module _ (disk : Aggregate) (state : StoreState) (slots : ℕ → List Anode) (storable : IsStorable state) (keeps : Keeps slots disk) (says : SaysRecord state slots (page_of disk))
     (server : disk.server ≡ state.server.0) (blocks : disk.blocks ≡ state.capacity + 1024) where
   format : byte_at (server_page disk) 29 ≡ 2
   unfolding server_of
@@ -513,7 +513,7 @@ module _ (disk : Aggregate) (state : StoreState) (slots : ℕ → List Anode) (s
       by None none nothing = record {
         header_right = free_header s low none nothing;
         numbers_right_too = free_numbers s low none nothing;
-        anodes = anodes_are_right disk slots keeps order s low (λ i few. free_place s low none nothing i few);
+        anodes = anodes_are_right disk slots keeps s low (λ i few. free_place s low none nothing i few);
         reach = no_reach s (λ j. is_whole (free_state s low none nothing j));
       }
       by (Some holding) is slot = record {
@@ -527,7 +527,7 @@ module _ (disk : Aggregate) (state : StoreState) (slots : ℕ → List Anode) (s
           header_good = cond-false (is_slot_free disk s) _ _ (used s low holding is slot) ∙ and_from (is_header disk.server (server_page disk) (header_page disk s)) (is_first disk s) (header_sound s low holding is slot) (first_right s low holding is)
 
           anodes_good : joined (anode_faults disk s) 64 ≡ []
-          anodes_good = anodes_are_right disk slots keeps order s low (λ i few. place_right s low holding is slot i few)
+          anodes_good = anodes_are_right disk slots keeps s low (λ i few. place_right s low holding is slot i few)
 
           off : (stay : Stay) → holding.stay ≡ stay → is_whole (stay_said stay).state ≡ false → reach_faults disk s ≡ []
           off stay e no_whole = no_reach s ((λ j. is_whole (state_is s low holding is slot j)) ∙ ap (λ t. is_whole (stay_said t).state) e ∙ no_whole)
@@ -626,7 +626,7 @@ module _ (disk : Aggregate) (state : StoreState) (slots : ℕ → List Anode) (s
   pub clean : faults_in disk ≡ []
   unfolding faults_in slot_faults
   clean =
-      let each_count = counts_are_right disk slots keeps order (λ s low. (slot_right s low).header_right) (λ s low. (slot_right s low).anodes) in
+      let each_count = counts_are_right disk slots keeps (λ s low. (slot_right s low).header_right) (λ s low. (slot_right s low).anodes) in
       let one = no_fault (is_server_page (server_page disk)) (page_start 0) rules.ServerPage server_right in
       let two = no_fault (is_numbers_page (page_of disk 1)) (page_start 1) rules.CallNumbers numbers_right in
       let three = nothing_joined (slot_faults disk) 16 (λ s low.
@@ -639,4 +639,4 @@ module _ (disk : Aggregate) (state : StoreState) (slots : ℕ → List Anode) (s
       λ j. ((((one j ++ two j) ++ three j) ++ four j) ++ five j) ++ six j
 
 pub record_has_no_faults : RecordHasNoFaults
-record_has_no_faults disk state slots storable keeps order says server blocks = clean disk state slots storable keeps order says server blocks
+record_has_no_faults disk state slots storable keeps says server blocks = clean disk state slots storable keeps says server blocks

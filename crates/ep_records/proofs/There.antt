@@ -27,12 +27,12 @@ not_blank (x ∷ bytes) gate (inr (inr closed)) = closed.0 gate
 
 pub record_is_there : RecordIsThere
 unfolding image_of faults_of
-record_is_there bytes superblock half state slots log storable keeps order says server blocks least =
+record_is_there bytes superblock half state slots log storable keeps says server blocks least =
     let shown : is_blank bytes ≡ false = unblank_fails bytes (not_blank bytes log.front.named.gate) in
     let first = storable.first in
     let last = storable.last in
     let is : superblock_of bytes ≡ Some superblock = superblock_some bytes superblock log.front (omega (arith, server, first)) (omega (arith, server, last)) (omega (arith, blocks, least)) in
-    let clean = record_has_no_faults (aggregate_of superblock half bytes) state slots storable keeps order says server blocks in
+    let clean = record_has_no_faults (aggregate_of superblock half bytes) state slots storable keeps says server blocks in
     let behind : faults_behind superblock (used_half (pages_of superblock.blocks) bytes) bytes ≡ [] = ap (λ (h : Option Half). faults_behind superblock h bytes) log.used ∙ clean in
     let faults : faults_of bytes ≡ [] = cond-false (is_blank bytes) [] (faults_under (superblock_of bytes) bytes) shown ∙ ap (λ (o : Option Superblock). faults_under o bytes) is ∙ behind in
     let none : (length (faults_of bytes) == 0) ≡ true = ap (λ (l : List Fault). length l == 0) faults in

@@ -15,7 +15,7 @@ use Rattle.ep_image.specs.Image.{slot_image, image_in}
 use Rattle.dfs_base.specs.Image.{byte_at}
 use Rattle.image_laws.specs.Fresh.{IsEmpty}
 use Rattle.ep_image.specs.Faults.{faults_in}
-use Rattle.object_laws.specs.Laws.{Keeps, IsInOrder}
+use Rattle.object_laws.specs.Laws.{Keeps}
 use Rattle.ep_records.specs.Record.{stay_of, holding_of, record_of, record_in}
 use Rattle.ep_records.specs.Said.{header_said, facts_said}
 use Rattle.record_laws.specs.Stored.{IsStorable}
@@ -42,17 +42,16 @@ RecordIsRead = (disk : Aggregate) (state : StoreState) (slots : ℕ → List Ano
     → Keeps slots disk → SaysRecord state slots (page_of disk) → disk.server ≡ state.server.0
     → disk.blocks ≡ state.capacity + 1024 → record_of state.roster (image_in disk) ≡ state
 
--- And such a disk has no faults, where its pointers and counts are in order.
+-- And such a disk has no faults.
 abbrev pub RecordHasNoFaults : Type 0
 RecordHasNoFaults = (disk : Aggregate) (state : StoreState) (slots : ℕ → List Anode) → IsStorable state
-    → Keeps slots disk → IsInOrder disk → SaysRecord state slots (page_of disk) → disk.server ≡ state.server.0
+    → Keeps slots disk → SaysRecord state slots (page_of disk) → disk.server ≡ state.server.0
     → disk.blocks ≡ state.capacity + 1024 → faults_in disk ≡ []
 
 -- So the bytes of a disk have this record, where its log has such pages.
 abbrev pub RecordIsThere : Type 0
 RecordIsThere = (bytes : List ℕ) (superblock : Superblock) (half : Half) (state : StoreState) (slots : ℕ → List Anode)
     → HasLog superblock half bytes → IsStorable state → Keeps slots (aggregate_of superblock half bytes)
-    → IsInOrder (aggregate_of superblock half bytes)
     → SaysRecord state slots (page_of (aggregate_of superblock half bytes)) → superblock.server ≡ state.server.0
     → superblock.blocks ≡ state.capacity + 1024 → 68 ≤ state.capacity
     → record_in state.roster state.server bytes ≡ Some state

@@ -23,7 +23,7 @@ pub fn new_law()
 {}
 
 /// Where the pages of a disk say a record that it can have, and its slots keep the anodes, the image of the disk is this
-/// record; and it has no faults, where its pointers and counts are in order.
+/// record; and it has no faults.
 pub fn read_law()
     ensures record { RecordIsRead }
     ensures faults { RecordHasNoFaults }

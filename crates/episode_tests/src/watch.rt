@@ -27,6 +27,8 @@ impl<D: Disk> Disk for Watched<D> {
 
     ghost reads_one = { λ watched told. absurd told };
 
+    ghost has_bytes = { λ watched told. absurd told };
+
     fn length(&mut self) -> Result<u64, Failed> {
         self.disk.length()
     }

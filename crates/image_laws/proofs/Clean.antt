@@ -21,11 +21,11 @@ use Rattle.ep_image.specs.declared.fault.Fault.{Fault}
 use Rattle.ep_image.specs.declared.fault.Rule.{Rule}
 use Rattle.ep_image.specs.declared.fault.Rule.TheVariants as rules
 
-append_none : {A : Type 0} (xs ys : List A) → xs ++ ys ≡ [] → (xs ≡ []) × (ys ≡ [])
+pub append_none : {A : Type 0} (xs ys : List A) → xs ++ ys ≡ [] → (xs ≡ []) × (ys ≡ [])
 append_none [] ys none = (refl, none)
 append_none (x ∷ xs) ys none = absurd (cc)
 
-part_none : {A : Type 0} (part : ℕ → List A) (n k : ℕ) → k < n → joined part n ≡ [] → part k ≡ []
+pub part_none : {A : Type 0} (part : ℕ → List A) (n k : ℕ) → k < n → joined part n ≡ [] → part k ≡ []
 unfolding joined
 part_none part zero k lt none = absurd (omega arith)
 part_none part (suc n) k lt none =

@@ -8,3 +8,4 @@ pub mod Contents
 pub mod Formed
 pub mod One
 pub mod Treed
+pub mod Mounted

@@ -1,3 +1,4 @@
 pub mod Fresh
 pub mod Reached
 pub mod Formed
+pub mod Mounted

@@ -3,6 +3,7 @@
 
 ghost use Rattle.image_laws.specs.Fresh.{FreshHasNone, CountIsTold};
 ghost use Rattle.image_laws.specs.Formed.{FilesetsAreFormed, FormedIsReached, ImageIsOne};
+ghost use Rattle.image_laws.specs.Mounted.{FirstFaultIsPlace, MountedHasLog, MountedIsImage};
 ghost use Rattle.image_laws.specs.Reached.{ReachIsLeast, RootIsReached, StepsLead};
 
 /// An aggregate without filesets has no faults where its counts are zero, as after a format. A count that isn't zero is
@@ -26,4 +27,12 @@ pub fn formed_law()
     ensures formed { FilesetsAreFormed }
     ensures reached { FormedIsReached }
     ensures one { ImageIsOne }
+{}
+
+/// A disk is mounted for a server exactly where it has an image for it, which isn't worn and names declared servers
+/// alone. Where it is refused for a fault, the place is that of its first one.
+pub fn refused_law()
+    ensures image { MountedIsImage }
+    ensures log { MountedHasLog }
+    ensures fault { FirstFaultIsPlace }
 {}

@@ -3,3 +3,4 @@ pub mod Slots
 pub mod Mounted
 pub mod Told
 pub mod Held
+pub mod Unrefused

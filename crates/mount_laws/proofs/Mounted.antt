@@ -48,7 +48,7 @@ use Rattle.ep_records.specs.Record.{anodes_held, held_in, holding_of, host_known
 use Rattle.record_laws.specs.Stored.{AreTwo, IsStored, IsStorable}
 use Rattle.mount_laws.specs.Laws.{AreDeclared, FaultlessIsStorable}
 use Rattle.mount_laws.proofs.Parts.{all_right, each_listed, listed_length, total_le, total_more}
-use Rattle.mount_laws.proofs.Slots.{calls_are, header_is, limit_part, stored}
+use Rattle.mount_laws.proofs.Slots.{calls_are, header_is, limit_part, stay_declared, stored}
 
 -- what is kept of hosts
 numbers_kept : (page : List ℕ) → is_numbers_page page ≡ true → AreRecords (records_of page)
@@ -255,7 +255,7 @@ module _ (disk : Aggregate) (roster : Roster) (clean : faults_in disk ≡ []) (f
       by s low true taken =
           let bounds = limit_part disk clean format s low taken in
           let holding : IsHolding roster (holding_of (slot_image disk s)) = record {
-            stay = declared s low taken;
+            stay = stay_declared disk clean format s low taken roster (declared s low);
             least = bounds.0;
             most = bounds.1;
             records = numbers_kept (numbers_page disk s) (calls_are disk clean format s low taken);

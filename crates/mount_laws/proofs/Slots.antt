@@ -1,5 +1,5 @@
 -- What is held in a slot of a disk without faults.
-use Rattle.std.proofs.Common.{◌≡◌, ◌<◌, ◌≤◌, ℕ, zero, suc, ◌-◌, ◌/◌, ◌%◌, List, [], ◌∷◌, take, inl, inr, refl, sym, ◌∙◌, ap, arith}
+use Rattle.std.proofs.Common.{◌≡◌, ◌<◌, ◌≤◌, ℕ, zero, suc, ◌-◌, ◌/◌, ◌%◌, List, [], ◌∷◌, length, take, inl, inr, refl, sym, ◌∙◌, ap, arith}
 use Rattle.std.specs.Prelude.{Bool, true, false, ◌==◌, ◌&&◌, ◌||◌, not, nat_le, nat_lt, if◌then◌else◌, Option, Some, None, slice_get}
 use Rattle.std.specs.List.{list_all}
 use Rattle.std.specs.Option.{option_map_or, option_and_then}
@@ -14,7 +14,8 @@ use Rattle.dfs_objects.specs.declared.content.Content.TheVariants.{Dir, File}
 use Rattle.dfs_objects.specs.declared.content.Object.{Object}
 use Rattle.dfs_filesets.specs.Walk.{object_at, unique_at}
 use Rattle.dfs_filesets.specs.WellFormed.{entry_at, entry_in, is_settled}
-use Rattle.store_acts.specs.Sound.{IsAllowed}
+use Rattle.rpc_types.specs.Soundness.{IsServer}
+use Rattle.store_acts.specs.Sound.{IsAllowed, IsStay}
 use Rattle.store_state.specs.declared.state.StoreState.{StoreState}
 use Rattle.ep_layout.specs.Numbers.{number_at}
 use Rattle.ep_pages.specs.Anode.{unique_of}
@@ -33,6 +34,7 @@ use Rattle.ep_image.specs.Anodes.{entries_in, entry_bytes, is_root_place, is_roo
 use Rattle.ep_image.specs.Faults.{faults_in}
 use Rattle.ep_image.specs.Image.{anode_of, content_of, entries_of, file_bytes, fileset_of, image_in, is_clone, list_of, slot_image}
 use Rattle.ep_image.specs.Joined.{listed}
+use Rattle.ep_image.specs.Refused.{is_declared}
 use Rattle.ep_image.specs.Slots.{state_at, is_first, is_slot_free, is_slot_header, is_slot_numbers, has_root, is_whole}
 use Rattle.image_laws.proofs.Clean.{IsRightSlot, slot_right, anode_right}
 use Rattle.image_laws.proofs.Contents as kinds
@@ -276,6 +278,29 @@ module _ (disk : Aggregate) (clean : faults_in disk ≡ []) (format : byte_at (s
   stays roster Gone e moves =
       let a = and_parts (is_other disk.server said.other && (said.ship == 0)) (said.parts == 0) moves in
       (refl, ap is_clone e, other_is (and_parts (is_other disk.server said.other) (said.ship == 0) a.0).0)
+
+  -- the other server that it names is declared
+  pub stay_declared : (roster : Roster) → is_declared (length roster.capacity) disk s ≡ true → IsStay roster (stay_for said.state said)
+  unfolding header_of
+  stay_declared roster is = by said.state refl moves_part
+    where
+      named : is_other disk.server said.other ≡ true → IsServer roster (record { 0 = said.other })
+      named other = record { first = (other_is other).0; last = leb-true (byte_at (header_page disk s) 73) (length roster.capacity) is }
+
+      by : (state : SlotState) → state_at disk s ≡ state → are_sound_moves disk.server (server_of (server_page disk)).ship said state ≡ true → IsStay roster (stay_for state said)
+      by Free e moves = absurd (false≢true (ap is_taken_slot (sym e) ∙ taken))
+      by Unknown e moves = absurd (false≢true (ap is_taken_slot (sym e) ∙ taken))
+      by Writable e moves = tt
+      by Clone e moves = tt
+      by Leaving e moves =
+          let a = and_parts (is_other disk.server said.other && nat_le said.ship (server_of (server_page disk)).ship) (said.parts == 0) moves in
+          named (and_parts (is_other disk.server said.other) (nat_le said.ship (server_of (server_page disk)).ship) a.0).0
+      by Arriving e moves =
+          let a = and_parts (is_other disk.server said.other && nat_le 1 said.parts) (nat_le said.parts said.objects) moves in
+          named (and_parts (is_other disk.server said.other) (nat_le 1 said.parts) a.0).0
+      by Gone e moves =
+          let a = and_parts (is_other disk.server said.other && (said.ship == 0)) (said.parts == 0) moves in
+          named (and_parts (is_other disk.server said.other) (said.ship == 0) a.0).0
 
   pub stored : (roster : Roster) → IsStored (record_of roster (image_in disk)) (holding_of (slot_image disk s))
   unfolding header_of

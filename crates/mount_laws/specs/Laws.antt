@@ -1,23 +1,24 @@
 -- What mounting a disk begins with.
-use Rattle.std.specs.Prelude.{◌≡◌, ◌≤◌, ◌<◌, ℕ, true, [], length}
+use Rattle.std.specs.Prelude.{◌≡◌, ◌≤◌, ◌<◌, ℕ, true, List, [], length, Some, None}
 use Rattle.dfs_base.specs.Image.{byte_at}
 use Rattle.dfs_base.specs.declared.limits.TheConstants.{SERVERS_MAX}
 use Rattle.dfs_calls.specs.declared.roster.Roster.{Roster}
-use Rattle.store_acts.specs.Sound.{IsStay}
-use Rattle.ep_pages.specs.Header.{header_of, is_taken_slot}
-use Rattle.ep_image.specs.Aggregate.{Aggregate, server_page, header_page, page_of}
+use Rattle.dfs_base.specs.declared.ids.ServerId.{ServerId}
+use Rattle.ep_layout.specs.Half.{HasLog}
+use Rattle.ep_layout.specs.declared.half.Half.{Half}
+use Rattle.ep_layout.specs.declared.superblock.Superblock.{Superblock}
+use Rattle.ep_image.specs.Aggregate.{Aggregate, aggregate_of, server_page, page_of}
 use Rattle.ep_image.specs.Faults.{faults_in}
 use Rattle.ep_image.specs.Image.{image_in}
-use Rattle.ep_image.specs.Slots.{state_at}
+use Rattle.ep_image.specs.Refused.{is_declared, refused_at}
 use Rattle.object_laws.specs.Laws.{anodes_of}
 use Rattle.ep_records.specs.Stored.{SaysRecord}
-use Rattle.ep_records.specs.Record.{record_of, stay_of}
+use Rattle.ep_records.specs.Record.{record_of, record_in}
 use Rattle.record_laws.specs.Stored.{IsStorable}
 
 -- the other servers that headers name are declared
 abbrev pub AreDeclared : Roster → Aggregate → Type 0
-AreDeclared roster disk = (slot : ℕ) → slot < 16 → is_taken_slot (state_at disk slot) ≡ true
-    → IsStay roster (stay_of (header_of (server_page disk) (header_page disk slot)))
+AreDeclared roster disk = (slot : ℕ) → slot < 16 → is_declared (length roster.capacity) disk slot ≡ true
 
 -- Where a disk in format 2 has no faults, its record is one that a disk can have.
 abbrev pub FaultlessIsStorable : Type 0
@@ -29,3 +30,19 @@ FaultlessIsStorable = (disk : Aggregate) (roster : Roster) → faults_in disk �
 abbrev pub FaultlessSays : Type 0
 FaultlessSays = (disk : Aggregate) (roster : Roster) → faults_in disk ≡ [] → byte_at (server_page disk) 29 ≡ 2
     → SaysRecord (record_of roster (image_in disk)) (anodes_of disk) (page_of disk)
+
+-- What a mount of these bytes begins with: an aggregate of the server, without faults, whose record they have; and in
+-- format 2 it is one that a disk can have.
+pub record IsMounted (server : ServerId) (roster : Roster) (bytes : List ℕ) (disk : Aggregate) : Type 0 where
+  pub clean : faults_in disk ≡ []
+  pub own : disk.server ≡ server.0
+  pub declared : AreDeclared roster disk
+  pub record_is : record_in roster server bytes ≡ Some (record_of roster (image_in disk))
+  pub storable : byte_at (server_page disk) 29 ≡ 2 → length roster.capacity ≤ SERVERS_MAX
+      → IsStorable (record_of roster (image_in disk))
+
+-- so it is where a mount isn't refused
+abbrev pub UnrefusedIsMounted : Type 0
+UnrefusedIsMounted = (server : ServerId) (roster : Roster) (bytes : List ℕ) (superblock : Superblock) (half : Half)
+    → HasLog superblock half bytes → refused_at server.0 (length roster.capacity) bytes ≡ None
+    → IsMounted server roster bytes (aggregate_of superblock half bytes)

@@ -44,8 +44,8 @@ use Rattle.page_laws.proofs.Lists.{read_is_saved}
 use Rattle.ep_image.proofs.Words.{zeros_are}
 use Rattle.ep_objects.specs.Objects.{list_byte, bytes_kept, length_kept, object_kept, kept_of, page_for, anode_at, kept_anodes, FitsList, FitsContent, FitsObject}
 use Rattle.ep_objects.proofs.Places.{kept_here, anode_here}
-use Rattle.object_laws.specs.Laws.{Keeps, AreTrimmed, anodes_of, FaultlessKeeps, FaultlessIsInOrder}
-use Rattle.object_laws.proofs.Parts.{under_cell, under_size, under_bytes, joined_size, joined_byte}
+use Rattle.object_laws.specs.Laws.{Keeps, AreTrimmed, anodes_of, IsInOrder, FaultlessKeeps, FaultlessIsInOrder}
+use Rattle.object_laws.proofs.Parts.{empty_list, under_cell, under_size, under_bytes, joined_size, joined_byte}
 use Rattle.object_laws.proofs.Spelled.{each_fits, bytes_spelled}
 use Rattle.object_laws.proofs.Firsts.{page_at}
 use Rattle.object_laws.proofs.Counted.{free_page, free_map, free_blocks, number_none, counts_hold, once_holds, apart_holds, slot_apart, tail_holds}
@@ -73,7 +73,7 @@ some_is : {X : Type 0} (o : Option (List X)) → is_some o ≡ true → o ≡ So
 some_is (Some xs) is = refl
 some_is None is = absurd (false≢true is)
 
-module _ (disk : Aggregate) (rights : (slot : ℕ) → slot < 16 → IsRightSlot disk slot) (trim : AreTrimmed disk) (bytes : (k : ℕ) → byte_at disk.image k < 256) (slot i : ℕ) (low : slot < 16) (few : i < 64) where
+module _ (disk : Aggregate) (rights : (slot : ℕ) → slot < 16 → IsRightSlot disk slot) (order : IsInOrder disk) (trim : AreTrimmed disk) (bytes : (k : ℕ) → byte_at disk.image k < 256) (slot i : ℕ) (low : slot < 16) (few : i < 64) where
   abbrev page : List ℕ
   page = anode_page disk slot i
 
@@ -130,6 +130,8 @@ module _ (disk : Aggregate) (rights : (slot : ℕ) → slot < 16 → IsRightSlot
       behind = λ k le lt. free_map disk rights slot i low few free k lt;
       past = (trim slot i low few).past;
       none = (trim slot i low few).none;
+      range = λ w lt. order.range slot i w low few lt;
+      lists = λ w lt empty. free_blocks disk rights slot i low few free w (omega (arith, lt));
     }
 
   -- a file or directory
@@ -155,19 +157,6 @@ module _ (disk : Aggregate) (rights : (slot : ℕ) → slot < 16 → IsRightSlot
             zeros_are node.map 208 816 (and_parts _ (are_zero 208 816 node.map) all).1 k le (omega (arith, lt))
         by false e = ap (λ (l : List ℕ). byte_at l k) (cond-false (is_pointer disk.blocks (number_at 4 72 page)) _ _ e) ∙ get_or-replicate 1024 k 0 0 lt
 
-    tidy_used : IsTidy disk.image node
-    tidy_used = record {
-      first = λ k some lt. zeros_are page 1 3 facts.first k some (omega (arith, lt));
-      owner = λ k le lt. owner_named.fill k le (omega (arith, lt));
-      group = λ k le lt. elim (cases_lt k 198) [
-        | inl front ↦ group_named.fill k le (omega (arith, front))
-        | inr back ↦ zeros_are page 198 314 facts.rest k back (omega (arith, lt))
-      ];
-      behind = map_zero;
-      past = (trim slot i low few).past;
-      none = (trim slot i low few).none;
-    }
-
     -- the list that a pointer names
     holds_list : (w : ℕ) → w < 3 → (page_pointer w page == 0) ≡ false → HoldsList (list_of disk slot i w) (byte_at (block_under disk (pointer_of node w)))
     holds_list w lt some =
@@ -188,6 +177,28 @@ module _ (disk : Aggregate) (rights : (slot : ℕ) → slot < 16 → IsRightSlot
 
     no_list_cell : (w k : ℕ) → w < 16 → (page_pointer w page == 0) ≡ true → cell disk.image node w k ≡ 0
     no_list_cell w k lt none = cell_none disk.image node w k (pointer_front node w lt ∙ eqb-true (page_pointer w page) 0 none)
+
+    -- a list that is zero
+    no_list : (w : ℕ) → w < 3 → ((k : ℕ) → k < 1024 → cell disk.image node w k ≡ 0) → (page_pointer w page == 0) ≡ true
+    no_list w lt empty = elim (cases_Bool (page_pointer w page == 0)) [
+      | inl none ↦ none
+      | inr some ↦ absurd (empty_list (list_of disk slot i w) (fits_list w lt some) (sym (list_cell w 0 lt some (omega arith)) ∙ empty 0 (omega arith)))
+    ]
+
+    tidy_used : IsTidy disk.image node
+    tidy_used = record {
+      first = λ k some lt. zeros_are page 1 3 facts.first k some (omega (arith, lt));
+      owner = λ k le lt. owner_named.fill k le (omega (arith, lt));
+      group = λ k le lt. elim (cases_lt k 198) [
+        | inl front ↦ group_named.fill k le (omega (arith, front))
+        | inr back ↦ zeros_are page 198 314 facts.rest k back (omega (arith, lt))
+      ];
+      behind = map_zero;
+      past = (trim slot i low few).past;
+      none = (trim slot i low few).none;
+      range = λ w lt. order.range slot i w low few lt;
+      lists = λ w lt empty. pointer_front node w (omega (arith, lt)) ∙ eqb-true (page_pointer w page) 0 (no_list w lt empty);
+    }
 
     -- its lists, where each that there is was read
     lists_are : (lists : List (List AccessEntry))
@@ -424,7 +435,7 @@ module _ (disk : Aggregate) (rights : (slot : ℕ) → slot < 16 → IsRightSlot
   ]
 
 -- all of them
-module _ (disk : Aggregate) (rights : (slot : ℕ) → slot < 16 → IsRightSlot disk slot) (right : (p : ℕ) → p < (disk.blocks + 255) / 256 → is_count_page disk p ≡ true) (trim : AreTrimmed disk) (bytes : (k : ℕ) → byte_at disk.image k < 256) where
+module _ (disk : Aggregate) (rights : (slot : ℕ) → slot < 16 → IsRightSlot disk slot) (right : (p : ℕ) → p < (disk.blocks + 255) / 256 → is_count_page disk p ≡ true) (order : IsInOrder disk) (trim : AreTrimmed disk) (bytes : (k : ℕ) → byte_at disk.image k < 256) where
   -- the place of a page
   place : (p : ℕ) → is_anode p ≡ true → (slot : ℕ) × (i : ℕ) × (slot < 16) × (i < 64) × (p ≡ page_at slot i)
   place p is =
@@ -449,7 +460,7 @@ module _ (disk : Aggregate) (rights : (slot : ℕ) → slot < 16 → IsRightSlot
       let z : page_at slot i ≡ page_for slot (i + 1) = omega arith in
       let back : i + 1 - 1 ≡ i = omega arith in
       (λ j. kept_at disk.image (node_of disk.blocks disk.image (page_of disk (eq j))))
-      ∙ (here disk rights trim bytes slot i low few).kept
+      ∙ (here disk rights order trim bytes slot i low few).kept
       ∙ (λ j. kept_of (anode_of disk slot (sym back j)))
       ∙ (λ j. kept_of (sym (listed_at slot (i + 1) (omega arith) (omega (arith, few))) j))
       ∙ sym (kept_here (anodes_of disk) slot (i + 1) low (omega arith) (omega (arith, few)))
@@ -467,7 +478,20 @@ module _ (disk : Aggregate) (rights : (slot : ℕ) → slot < 16 → IsRightSlot
         let f = t.4 in
         apart_holds disk rights right s.0 s.1 t.0 t.1 w b s.2 s.3 t.2 t.3 lt ((λ j. pointer_of (node_of disk.blocks disk.image (page_of disk (sym e j))) 15) ∙ map_is) below other
         ((λ j. pointer_of (node_of disk.blocks disk.image (page_of disk (sym f j))) w) ∙ is);
-    tidy = λ p is. (let at = place p is in subst (λ (q : ℕ). IsTidy disk.image (node_of disk.blocks disk.image (page_of disk q))) (sym at.4) (here disk rights trim bytes at.0 at.1 at.2 at.3).tidy);
+    tidy = λ p is. (let at = place p is in subst (λ (q : ℕ). IsTidy disk.image (node_of disk.blocks disk.image (page_of disk q))) (sym at.4) (here disk rights order trim bytes at.0 at.1 at.2 at.3).tidy);
+    tail = λ b spare. order.tail b spare.0 spare.1;
+    slots = λ p q b is_p is_q apart same lt.
+        let s = place p is_p in
+        let t = place q is_q in
+        let e = s.4 in
+        let f = t.4 in
+        let few_s = s.3 in
+        let few_t = t.3 in
+        let one_slot : t.0 ≡ s.0 = omega (arith, e, f, same, few_s, few_t) in
+        let g : q ≡ page_at s.0 t.1 = f ∙ (λ j. page_at (one_slot j) t.1) in
+        let both = order.apart s.0 s.1 t.1 b s.2 s.3 t.3 (λ is. apart (e ∙ (λ j. page_at s.0 (is j)) ∙ sym g)) lt in
+        subst (λ (x : ℕ). names (node_of disk.blocks disk.image (page_of disk x)) b + names (node_of disk.blocks disk.image (page_of disk q)) b ≤ 1) (sym e)
+        (subst (λ (x : ℕ). names (node_of disk.blocks disk.image (page_of disk (page_at s.0 s.1))) b + names (node_of disk.blocks disk.image (page_of disk x)) b ≤ 1) (sym g) both);
     bare = λ p is kind.
         let at = place p is in
         let e = at.4 in
@@ -480,7 +504,7 @@ module _ (disk : Aggregate) (rights : (slot : ℕ) → slot < 16 → IsRightSlot
     held = holds;
     each = λ slot low. record {
       count = length-listed (anode_of disk slot) 64;
-      each = λ n some few. subst (λ (a : Anode). IfSome a.object FitsObject) (sym (listed_at slot n some few)) (here disk rights trim bytes slot (n - 1) low (omega (arith, some, few))).fits;
+      each = λ n some few. subst (λ (a : Anode). IfSome a.object FitsObject) (sym (listed_at slot n some few)) (here disk rights order trim bytes slot (n - 1) low (omega (arith, some, few))).fits;
     };
     bytes = bytes;
   }
@@ -541,4 +565,4 @@ faultless_in_order disk clean =
     }
 
 pub faultless_keeps : FaultlessKeeps
-faultless_keeps disk clean trim bytes = kept disk (λ slot low. slot_right disk clean slot low) (λ p below. count_right disk clean 0 (omega arith) p below) trim bytes
+faultless_keeps disk clean trim bytes = kept disk (λ slot low. slot_right disk clean slot low) (λ p below. count_right disk clean 0 (omega arith) p below) (faultless_in_order disk clean) trim bytes

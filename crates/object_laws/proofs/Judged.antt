@@ -43,8 +43,9 @@ use Rattle.image_laws.proofs.Finding.{each_all}
 use Rattle.image_laws.proofs.Treed.{nothing_joined}
 use Rattle.ep_objects.specs.Objects.{object_kept, kept_of, page_for, anode_at, FitsList, FitsObject}
 use Rattle.ep_objects.proofs.Places.{page_is}
+use Rattle.object_laws.proofs.Orderly.{kept_in_order}
 use Rattle.object_laws.specs.Laws.{Keeps, IsInOrder, FitsPlace, leads_within, AnodesAreRight}
-use Rattle.object_laws.proofs.Parts.{name_read, under_cell, under_size, joined_byte, entry_read}
+use Rattle.object_laws.proofs.Parts.{empty_list, name_read, under_cell, under_size, joined_byte, entry_read}
 use Rattle.object_laws.proofs.Read as read
 use Rattle.object_laws.proofs.Counted.{number_none}
 use Rattle.object_laws.proofs.Firsts.{page_at}
@@ -71,10 +72,6 @@ name_stands at page name is named zeros =
     and_from (nat_le (byte_at page at) 60 && is_name (name_at at page)) (are_zero (at + 1 + byte_at page at) (60 - byte_at page at) page)
     (and_from (nat_le (byte_at page at) 60) (is_name (name_at at page)) (le-leb (byte_at page at) 60 (omega (arith, size, few))) (ap is_name (name_read page at name is few) ∙ named))
     (zeros_pass page (at + 1 + byte_at page at) (60 - byte_at page at) (λ k low high. zeros k low (omega (arith, high, size, few))))
-
-empty_list : (list : List AccessEntry) → FitsList list → length list ≡ 0 → ⊥
-empty_list [] fits e = false≢true fits.0
-empty_list (x ∷ list) fits e = omega (arith, e)
 
 no_fault : (test : Bool) (place : ℕ) (rule : Rule) → test ≡ true → unless test place rule ≡ []
 no_fault test place rule is = cond-true test [] _ is
@@ -566,5 +563,5 @@ module _ (disk : Aggregate) (slots : ℕ → List Anode) (keeps : Keeps slots di
       by unique (Some object) same there fits is = by_content unique object.owner object.group object.content same there fits is
 
 pub anodes_are_right : AnodesAreRight
-anodes_are_right disk slots keeps order slot low places =
-    nothing_joined (anode_faults disk slot) 64 (λ i few. right disk slots keeps order slot i low few (places i few))
+anodes_are_right disk slots keeps slot low places =
+    nothing_joined (anode_faults disk slot) 64 (λ i few. right disk slots keeps (kept_in_order disk slots keeps) slot i low few (places i few))

@@ -4,5 +4,6 @@ pub mod Spelled
 pub mod Firsts
 pub mod Counted
 pub mod Faultless
+pub mod Orderly
 pub mod Ordered
 pub mod Judged

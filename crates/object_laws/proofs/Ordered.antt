@@ -24,6 +24,7 @@ use Rattle.dfs_objects.specs.declared.content.Anode.{Anode}
 use Rattle.ep_objects.specs.Objects.{page_for}
 use Rattle.ep_objects.proofs.Places.{page_is}
 use Rattle.object_laws.specs.Laws.{Keeps, IsInOrder, CountsAreRight}
+use Rattle.object_laws.proofs.Orderly.{kept_in_order}
 use Rattle.object_laws.proofs.Firsts.{page_at}
 use Rattle.object_laws.proofs.Counted.{is_free, no_uses, count_uses, slot_here, counted_are}
 
@@ -215,4 +216,4 @@ module _ (disk : Aggregate) (slots : ℕ → List Anode) (keeps : Keeps slots di
               λ i. number_at 2 (a i) (page_of disk (c i))
 
 pub counts_are_right : CountsAreRight
-counts_are_right disk slots keeps order headers anodes p below = counts_right disk slots keeps order (λ slot low. record { header = headers slot low; anodes = anodes slot low }) p below
+counts_are_right disk slots keeps headers anodes p below = counts_right disk slots keeps (kept_in_order disk slots keeps) (λ slot low. record { header = headers slot low; anodes = anodes slot low }) p below

@@ -2,10 +2,11 @@
 use Rattle.std.proofs.Common.{◌≡◌, ◌<◌, ◌≤◌, ◌⊎◌, ℕ, zero, suc, ◌+◌, ◌-◌, ◌*◌, ◌/◌, ◌%◌, List, [], ◌∷◌, length, take, drop, get_or, refl, sym, ◌∙◌, ap, inl, inr, arith}
 use Rattle.std.specs.Prelude.{Bool, true, false, if◌then◌else◌, min, replicate}
 use Rattle.std.specs.Int.{w32, from_be_bytes}
-use Rattle.std.proofs.lemmas.Bool.{cases_lt}
+use Rattle.std.proofs.lemmas.Bool.{cases_lt, false≢true}
 use Rattle.std.proofs.lemmas.List.{length-append, get_or_append_left, get_or-append_right, get_or_past, get_or-replicate, get_or-drop, get_or-take, length-replicate, length-drop, length-take-le}
 use Rattle.byteorder.specs.Endian.{big_number}
 use Rattle.dfs_base.specs.Image.{byte_at, bytes_from}
+use Rattle.dfs_base.specs.declared.access.AccessEntry.{AccessEntry}
 use Rattle.dfs_calls.specs.declared.part.DirEntry.{DirEntry}
 use Rattle.dfs_outside.proofs.Image.{length-bytes_from, get_or-bytes_from, bytes_from-same}
 use Rattle.ep_layout.specs.Numbers.{number_at}
@@ -18,6 +19,7 @@ use Rattle.ep_dir.specs.Entries.{bytes_of, EachFits, AreEntries}
 use Rattle.ep_dir.proofs.Laid.{length-bytes_of, size_there, name_there, anode_there, unique_there, short_at}
 use Rattle.ep_dir.proofs.Places.{some_at}
 use Rattle.dfs_objects.specs.Sound.{names_rise}
+use Rattle.ep_objects.specs.Objects.{FitsList}
 use Rattle.ep_pages.specs.Words.{name_at}
 use Rattle.ep_pages.specs.Blocks.{entry_of}
 use Rattle.ep_image.specs.Joined.{joined, listed}
@@ -168,3 +170,8 @@ entry_read entries bytes e other each rise lt same =
     let found = some_at e entries lt in
     let is : get_or entries e other ≡ found.0 = (let z : e ≡ e + 0 = omega arith in ap (λ j. get_or entries j other) z) ∙ sym (get_or-drop e entries 0 other) ∙ ap (λ (xs : List DirEntry). get_or xs 0 other) found.2 in
     entry_is entries bytes e each rise lt same found.0 found.1 found.2 ∙ sym is
+
+-- an access list has entries
+pub empty_list : (list : List AccessEntry) → FitsList list → length list ≡ 0 → ⊥
+empty_list [] fits e = false≢true fits.0
+empty_list (x ∷ list) fits e = omega (arith, e)

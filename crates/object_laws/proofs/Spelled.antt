@@ -6,7 +6,7 @@ use Rattle.std.proofs.lemmas.Bool.{cases_lt, and_parts, leb-true}
 use Rattle.std.proofs.lemmas.List.{length-append, get_or_append_left, get_or-append_right, get_or-replicate, length-replicate, get_or-drop}
 use Rattle.std.proofs.lemmas.Nat.{be_bytes_4}
 use Rattle.byteorder.specs.Numbers.{big_from-lt}
-use Rattle.dfs_base.specs.Image.{byte_at, bytes_from}
+use Rattle.dfs_base.specs.Image.{AreBytes, byte_at, bytes_from}
 use Rattle.dfs_base.specs.Name.{is_name}
 use Rattle.dfs_calls.specs.declared.part.DirEntry.{DirEntry}
 use Rattle.dfs_outside.proofs.Image.{length-bytes_from, get_or-bytes_from}
@@ -19,7 +19,6 @@ use Rattle.ep_pages.specs.Words.{are_zero, name_at, is_name_at}
 use Rattle.ep_pages.specs.Blocks.{is_entry, entry_of}
 use Rattle.ep_image.specs.Joined.{joined, listed}
 use Rattle.ep_image.proofs.Joined.{length-listed, get_or-listed}
-use Rattle.page_laws.specs.Laws.{AreBytes}
 use Rattle.ep_image.proofs.Words.{zeros_are}
 
 -- a byte of an entry among those of all

@@ -94,9 +94,13 @@ pub record IsInOrder (disk : Aggregate) : Type 0 where
 abbrev pub FaultlessIsInOrder : Type 0
 FaultlessIsInOrder = (disk : Aggregate) → faults_in disk ≡ [] → IsInOrder disk
 
--- and counts that are kept are right where they are, and where the slots are
+-- and where it keeps anodes
+abbrev pub KeptIsInOrder : Type 0
+KeptIsInOrder = (disk : Aggregate) (slots : ℕ → List Anode) → Keeps slots disk → IsInOrder disk
+
+-- and counts that are kept are right where the slots are
 abbrev pub CountsAreRight : Type 0
-CountsAreRight = (disk : Aggregate) (slots : ℕ → List Anode) → Keeps slots disk → IsInOrder disk
+CountsAreRight = (disk : Aggregate) (slots : ℕ → List Anode) → Keeps slots disk
     → ((slot : ℕ) → slot < 16 → is_slot_header disk slot ≡ true)
     → ((slot : ℕ) → slot < 16 → joined (anode_faults disk slot) 64 ≡ [])
     → (p : ℕ) → p < (disk.blocks + 255) / 256 → is_count_page disk p ≡ true
@@ -117,6 +121,6 @@ pub record FitsPlace (disk : Aggregate) (slot i : ℕ) (anode : Anode) : Type 0 
 
 -- anodes that are kept have no faults where they may stand
 abbrev pub AnodesAreRight : Type 0
-AnodesAreRight = (disk : Aggregate) (slots : ℕ → List Anode) → Keeps slots disk → IsInOrder disk → (slot : ℕ)
-    → slot < 16 → ((i : ℕ) → i < 64 → FitsPlace disk slot i (anode_at (slots slot) (i + 1)))
+AnodesAreRight = (disk : Aggregate) (slots : ℕ → List Anode) → Keeps slots disk → (slot : ℕ) → slot < 16
+    → ((i : ℕ) → i < 64 → FitsPlace disk slot i (anode_at (slots slot) (i + 1)))
     → joined (anode_faults disk slot) 64 ≡ []

@@ -8,6 +8,7 @@ ghost use Rattle.object_laws.specs.Laws.{
   FaultlessIsInOrder,
   FaultlessKeeps,
   FilesetIsRead,
+  KeptIsInOrder,
   KeptIsRead,
 };
 
@@ -24,6 +25,11 @@ pub fn image_law()
 pub fn faultless_law()
     ensures keeps { FaultlessKeeps }
     ensures order { FaultlessIsInOrder }
+{}
+
+/// Where an aggregate keeps anodes, its pointers and counts are in order.
+pub fn order_law()
+    ensures { KeptIsInOrder }
 {}
 
 /// The counts of an aggregate are those that the rules want, where they are kept, and its slots have no faults.

@@ -4,7 +4,7 @@ use Rattle.std.specs.Prelude.{not, ◌||◌, ◌==◌, nat_le, nat_lt, if◌then
 use Rattle.std.specs.List.{list_all, list_any}
 use Rattle.std.proofs.lemmas.Bool.{and_parts, and_from, le-leb, lt-ltb, leb-true, eqb-true, eq-eqb, not-true, cases_lt}
 use Rattle.std.proofs.lemmas.List.{take-append-drop, get_or_past, get_or-drop, get_or_append_left, get_or-append-add}
-use Rattle.dfs_base.specs.Image.{byte_at}
+use Rattle.dfs_base.specs.Image.{AreBytes, byte_at}
 use Rattle.dfs_base.specs.Name.{is_name, is_separator}
 use Rattle.dfs_base.specs.Access.{is_access_list}
 use Rattle.dfs_base.specs.declared.access.AccessEntry.{AccessEntry}
@@ -29,7 +29,6 @@ use Rattle.ep_acl.specs.Lists.{
 }
 use Rattle.ep_acl.proofs.Laid.{name_short, entries_few, list_few, starts_take}
 use Rattle.ep_image.specs.Lists.{list_before, list_in}
-use Rattle.page_laws.specs.Laws.{AreBytes}
 use Rattle.page_laws.specs.Lists.{SavedIsRead, ReadIsSaved}
 
 -- a number below 256 in one byte

@@ -2,7 +2,7 @@
 use Rattle.std.proofs.Common.{◌≡◌, ◌<◌, ℕ, zero, suc, ◌+◌, ◌*◌, List, [], ◌∷◌, length, get_or, inl, inr, refl, sym, ◌∙◌, ap, arith, ◌⊎◌}
 use Rattle.std.specs.Prelude.{Bool, true, false, min, ◌&&◌, ◌==◌, if◌then◌else◌}
 use Rattle.std.proofs.lemmas.Bool.{and_parts, cases_Bool, cases_eq, cond-true, cond-false, cond_both, eqb-true, leb-true, false≢true}
-use Rattle.dfs_base.specs.Image.{byte_at}
+use Rattle.dfs_base.specs.Image.{AreBytes, byte_at}
 use Rattle.ep_layout.specs.Numbers.{number_at}
 use Rattle.ep_pages.specs.Words.{each_below, are_zero, name_at, is_name_at}
 use Rattle.ep_pages.specs.Server.{is_taken, is_rest, is_server_page, server_of, taken_at}
@@ -12,7 +12,7 @@ use Rattle.ep_pages.specs.declared.header.SlotState.{SlotState}
 use Rattle.ep_pages.specs.declared.header.SlotState.TheVariants.{Free, Writable, Clone, Leaving, Arriving, Gone, Unknown}
 use Rattle.dfs_outside.proofs.Image.{length-bytes_from}
 use Rattle.ep_pages.specs.Anode.{is_object_page, is_free_page}
-use Rattle.page_laws.specs.Laws.{AreBytes, ServerPagesAreOne, NumbersPagesAreOne, HeadersAreOne, ObjectPagesAreOne, FreePagesAreOne}
+use Rattle.page_laws.specs.Laws.{ServerPagesAreOne, NumbersPagesAreOne, HeadersAreOne, ObjectPagesAreOne, FreePagesAreOne}
 use Rattle.ep_pages.specs.declared.server.TakenShip.{TakenShip}
 use Rattle.page_laws.proofs.Same.{SameIn, then_same, one_same, zeros_same, bytes_same, number_same, name_same}
 

@@ -5,11 +5,10 @@ use Rattle.std.proofs.lemmas.Bool.{and_parts, cases_eq, cases_lt, eqb-true, leb-
 use Rattle.std.proofs.lemmas.Nat.{div-mul-add}
 use Rattle.byteorder.specs.Endian.{big_from}
 use Rattle.byteorder.specs.Numbers.{big_from-lt}
-use Rattle.dfs_base.specs.Image.{byte_at, bytes_from}
+use Rattle.dfs_base.specs.Image.{AreBytes, byte_at, bytes_from}
 use Rattle.dfs_outside.proofs.Image.{get_or-bytes_from}
 use Rattle.ep_layout.specs.Numbers.{number_at}
 use Rattle.ep_pages.specs.Words.{are_zero, name_at, is_name_at}
-use Rattle.page_laws.specs.Laws.{AreBytes}
 
 -- equal bytes from a place on up to another
 abbrev pub SameIn : List ℕ → List ℕ → ℕ → ℕ → Type 0

@@ -1,15 +1,12 @@
 -- What makes the definitions of pages believable: each of their bytes is judged, or is part of what the page says.
 use Rattle.std.specs.Prelude.{◌≡◌, ◌<◌, ℕ, ◌*◌, List, true}
-use Rattle.dfs_base.specs.Image.{byte_at}
+use Rattle.dfs_base.specs.Image.{AreBytes, byte_at}
 use Rattle.ep_layout.specs.Numbers.{number_at}
 use Rattle.ep_pages.specs.Words.{name_at}
 use Rattle.ep_pages.specs.Server.{is_server_page, server_of}
 use Rattle.ep_pages.specs.Numbers.{is_numbers_page, record_at}
 use Rattle.ep_pages.specs.Header.{is_header, header_of}
 use Rattle.ep_pages.specs.Anode.{is_object_page, is_free_page, page_pointer, unique_of}
-
-abbrev pub AreBytes : List ℕ → Type 0
-AreBytes bytes = (k : ℕ) → byte_at bytes k < 256
 
 -- the same bytes of a page
 abbrev pub SamePage : List ℕ → List ℕ → Type 0

@@ -1,10 +1,9 @@
 -- An access list in a block, as it is saved and as it is read to judge a disk.
 use Rattle.std.specs.Prelude.{◌≡◌, ℕ, List, Some, length}
-use Rattle.dfs_base.specs.Image.{byte_at}
+use Rattle.dfs_base.specs.Image.{AreBytes, byte_at}
 use Rattle.dfs_base.specs.declared.access.AccessEntry.{AccessEntry}
 use Rattle.ep_acl.specs.Lists.{HoldsList}
 use Rattle.ep_image.specs.Lists.{list_in}
-use Rattle.page_laws.specs.Laws.{AreBytes}
 
 -- what is saved as a list is read as this list
 abbrev pub SavedIsRead : Type 0

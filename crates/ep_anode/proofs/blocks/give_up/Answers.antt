@@ -31,7 +31,7 @@ returns-clause-moves g c = λ told.
     let mine = one_same c.args.pointer (block + 1) (omega arith) in
     let dropped = λ (b : ℕ). one (c.args.pointer == b + 1) in
     subst (λ (l : List ℕ). Moves dropped no_names old image (state_of c.give.new.log) l) (sym c.give.ensures.quiet.image)
-    (moves_set block (count_now old image block - 1) (slot_of c.args.tx.now) dropped no_names old (state_of c.give.new.log) image c.in_ok-give.ensures.put (c.in_ok-give.ensures.count told)
+    (moves_set block (count_now old image block - 1) (slot_of c.args.tx.now) dropped no_names old (state_of c.give.new.log) image c.in_ok-give.ensures.put (c.in_ok-give.ensures.count told) (omega arith)
     (omega (arith, counted, mine)) (λ b apart. one_other c.args.pointer (b + 1) (λ e. apart (omega arith))))
 
 pub returns-clause-room : goal.returns-clause-room

@@ -35,5 +35,5 @@ returns-clause-moves g c = λ told.
     let mine = one_same c.args.pointer (block + 1) (omega arith) in
     let set = λ (b : ℕ). one (c.args.pointer == b + 1) in
     subst (λ (l : List ℕ). Moves no_names set old image (state_of c.share.new.log) l) (sym c.share.ensures.quiet.image)
-    (moves_set block (count_now old image block + 1) (slot_of c.args.tx.now) no_names set old (state_of c.share.new.log) image c.in_ok-share.ensures.put (c.in_ok-share.ensures.count told)
+    (moves_set block (count_now old image block + 1) (slot_of c.args.tx.now) no_names set old (state_of c.share.new.log) image c.in_ok-share.ensures.put (c.in_ok-share.ensures.count told) (omega arith)
     (omega (arith, mine)) (λ b apart. sym (one_other c.args.pointer (b + 1) (λ e. apart (omega arith)))))

@@ -33,7 +33,7 @@ pub returns-clause-cloned : goal.returns-clause-cloned
 returns-clause-cloned g c = λ told.
     let rest = c.share_all.ensures.puts.rest in
     on_ok_weaker c.save.result (λ saved. copy_cloned c.args.page c.args.copy.now c.set_pointer.new.self c.save.new.node (state_of c.args.log.now) (state_of c.share_all.new.log) (state_of c.save.new.log) _ _ _ (λ i. (rest i).superblock.blocks) c.set_pointer.ensures
-    (c.in_ok-share_all.ensures.moves told) c.share_all.ensures.quiet.image saved c.save.ensures.facts) (c.save.ensures.saved told)
+    (c.in_ok-share_all.ensures.moves told) c.share_all.ensures.quiet.image saved c.save.ensures.facts c.requires.blocks) (c.save.ensures.saved told)
 
 pub returns-clause-wrote : goal.returns-clause-wrote
 returns-clause-wrote g c = λ told.

@@ -48,7 +48,7 @@ returns-clause-turned g c = λ told.
     let within = c.requires.within in
     let far = ended_far (byte_at node.page 0) c.length_for-length.result end n within in
     on_ok_weaker c.save.result (λ saved. turned_on c.args.page _ _ _ _ node c.lay.new.node c.set_length.new.self c.save.new.node (state_of c.args.log.now) (state_of c.lay.new.log) (state_of c.save.new.log) before _ _
-    (λ i. (same i).superblock.blocks) (c.in_ok-lay.ensures.laid told) c.lay.ensures.facts c.set_length.ensures saved c.save.ensures.facts
+    (λ i. (same i).superblock.blocks) (c.in_ok-lay.ensures.laid told) c.lay.ensures.facts c.set_length.ensures saved c.save.ensures.facts c.requires.blocks
     (ended c.args.from c.args.piece.now) (λ k. if nat_lt k end then over c.args.from c.args.piece.now (λ m. content_at before node (bytes_of node) m) k else 0)
     (λ i. record (anode_of before node) { length = n i; content = λ k. if nat_lt k end then over c.args.from c.args.piece.now (λ m. content_at before node (bytes_of node) m) k else 0 })
     (ended_cut before node (bytes_of node) c.min-kept.result (byte_length (byte_at node.page 0) c.length_for-length.result) c.args.from c.args.piece.now kept far)

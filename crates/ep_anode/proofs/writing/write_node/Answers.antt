@@ -43,7 +43,7 @@ returns-clause-turned g c = λ told.
     let how : (c.if-bytes-end.kept ≡ bytes_of node) ⊎ ((c.if-bytes-end.kept ≡ 65536) × (c.args.from + length c.args.piece.now ≤ bytes_of node)) =
     elim c.if-bytes-end.branch [ then-bytes-end w ↦ inl (omega (arith, bytes, w.kept-is)) | else-bytes-end w ↦ inr (omega (arith, bytes, w.kept-is), omega (arith, bytes, w.if-bytes-end)) ] in
     on_ok_weaker c.save.result (λ saved. turned_on c.args.page _ _ _ _ node c.lay.new.node c.reach.new.self c.save.new.node (state_of c.args.log.now) (state_of c.lay.new.log) (state_of c.save.new.log) before _ _
-    (λ i. (same i).superblock.blocks) (c.in_ok-lay.ensures.laid told) c.lay.ensures.facts c.reach.ensures saved c.save.ensures.facts
+    (λ i. (same i).superblock.blocks) (c.in_ok-lay.ensures.laid told) c.lay.ensures.facts c.reach.ensures saved c.save.ensures.facts c.requires.blocks
     (written c.args.from c.args.piece.now) (over c.args.from c.args.piece.now (λ k. content_at before node (bytes_of node) k)) (written_is node c.lay.new.node c.lay.ensures.facts _ before c.args.from c.args.piece.now refl c.requires.some) (written_cut node c.lay.new.node c.lay.ensures.facts _ before c.args.from c.if-bytes-end.kept c.args.piece.now refl c.requires.within how)
     (written_past node c.lay.new.node c.lay.ensures.facts _ before c.args.from c.if-bytes-end.kept c.args.piece.now refl c.requires.within how)
     (written_gone node c.lay.new.node c.lay.ensures.facts _ before (state_of c.args.log.now) (state_of c.lay.new.log) _ c.args.from c.if-bytes-end.kept c.args.piece.now refl c.requires.within how (c.in_ok-lay.ensures.laid told))) (c.save.ensures.saved told)

@@ -1,11 +1,11 @@
 use Rattle.std.proofs.Common.{ℕ}
 use Rattle.std.specs.Prelude.{Ok}
-use Rattle.ep_fileset.specs.Slots.{AllVacant, TurnsInto, ChangesSlot}
+use Rattle.ep_fileset.specs.Slots.{AllVacant, CopiesNow, Turned, ChangesSlot}
 use Rattle.ep_fileset.proofs.EachAnode.{copied_to}
 use Rattle.ep_fileset.proofs.whole.copy_slot.Given as goal
 
 abbrev pub invariant-loop-i : goal.invariant-loop-i
 invariant-loop-i g l = record {
-  kept : TurnsInto {T = ℕ} g.D.Disk.tells g.D.Disk.view (AllVacant l.to) (copied_to l.from l.to l.i) (Ok 0) l.initial.log l.log;
+  kept : Turned {T = ℕ} (CopiesNow l.from l.to) g.D.Disk.tells g.D.Disk.view (AllVacant l.to) (copied_to l.from l.to l.i) (Ok 0) l.initial.log l.log;
   changes : ChangesSlot {T = ℕ} g.D.Disk.tells g.D.Disk.view l.to 0 (Ok 0) l.initial.log l.log l.initial.tx l.tx;
 }

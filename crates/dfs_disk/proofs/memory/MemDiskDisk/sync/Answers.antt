@@ -5,7 +5,7 @@ use Rattle.dfs_disk.proofs.memory.MemDiskDisk.sync.Goals as goal
 
 pub invariant_of-self-in-Ok : goal.invariant_of-self-in-Ok
 invariant_of-self-in-Ok c = let disk = c.args.self.now in
-    record { replayed = disk.replayed ∙ sym (sync_bytes disk.start disk.acts.items c.synced.new.acts.items c.in-Ok.ensures.noted) }
+    record { replayed = disk.replayed ∙ sym (sync_bytes disk.start disk.acts.items c.synced.new.acts.items c.in-Ok.ensures.noted); bytes_are = disk.bytes_are }
 
 pub returns-in-Ok-clause-durable : goal.returns-in-Ok-clause-durable
 returns-in-Ok-clause-durable c = let disk = c.args.self.now in

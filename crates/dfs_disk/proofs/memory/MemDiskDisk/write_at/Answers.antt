@@ -1,13 +1,13 @@
 use Rattle.std.proofs.Common.{inl, inr, ⊎_elim, length, sym, ◌∙◌, subst, arith}
-use Rattle.dfs_base.specs.Image.{Torn, Holds}
-use Rattle.dfs_disk.specs.Paste.{is_torn, is_held}
+use Rattle.dfs_base.specs.Image.{AreBytes, Torn, Holds}
+use Rattle.dfs_disk.specs.Paste.{are_bytes, is_torn, is_held}
 use Rattle.dfs_disk.specs.declared.act.Act.TheVariants.{Wrote, Tore}
 use Rattle.dfs_disk.proofs.Noted.{tore_now, tore_any, write_bytes, write_now, write_any, nothing_else, kept, longer}
 use Rattle.dfs_disk.proofs.memory.MemDiskDisk.write_at.Goals as goal
 
 -- a write that failed changes nothing that a read gives
 pub invariant_of-self : goal.invariant_of-self
-invariant_of-self c = let disk = c.args.self.now in record { replayed = disk.replayed ∙ sym (c.tore.ensures.reads disk.start) }
+invariant_of-self c = let disk = c.args.self.now in record { replayed = disk.replayed ∙ sym (c.tore.ensures.reads disk.start); bytes_are = disk.bytes_are }
 
 pub returns-in-Ok-clause-crash : goal.returns-in-Ok-clause-crash
 returns-in-Ok-clause-crash c =
@@ -28,10 +28,10 @@ pub returns-in-Ok-clause-tears : goal.returns-in-Ok-clause-tears
 returns-in-Ok-clause-tears c =
     inl (tore_any c.args.self.now.start c.args.self.now.acts.items c.tore.new.acts.items c.args.at (length c.args.piece.now) c.in-Ok.ensures.noted)
 
-pub invariant_of-self-in-Ok-wrote : goal.invariant_of-self-in-Ok-wrote
-invariant_of-self-in-Ok-wrote c =
+pub invariant_of-self-in-Ok-wrote-clause-replayed : goal.invariant_of-self-in-Ok-wrote-clause-replayed
+invariant_of-self-in-Ok-wrote-clause-replayed c =
     let disk = c.args.self.now in
-    record { replayed = write_bytes disk.start disk.acts.items c.wrote.new.acts.items c.args.at c.args.piece.now c.in-Ok-wrote.ensures.noted disk.bytes.items c.wrote.new.bytes.items disk.replayed c.in-Ok-wrote.ensures.bytes }
+    write_bytes disk.start disk.acts.items c.wrote.new.acts.items c.args.at c.args.piece.now c.in-Ok-wrote.ensures.noted disk.bytes.items c.wrote.new.bytes.items disk.replayed c.in-Ok-wrote.ensures.bytes
 
 pub returns-in-Ok-wrote-clause-written : goal.returns-in-Ok-wrote-clause-written
 returns-in-Ok-wrote-clause-written c = λ _.
@@ -60,3 +60,8 @@ returns-in-Ok-wrote-clause-crash c =
 pub returns-in-Ok-wrote-clause-tears : goal.returns-in-Ok-wrote-clause-tears
 returns-in-Ok-wrote-clause-tears c =
     inl (write_any c.args.self.now.start c.args.self.now.acts.items c.wrote.new.acts.items c.args.at c.args.piece.now c.in-Ok-wrote.ensures.noted)
+
+pub invariant_of-self-in-Ok-wrote-clause-bytes_are : goal.invariant_of-self-in-Ok-wrote-clause-bytes_are
+invariant_of-self-in-Ok-wrote-clause-bytes_are c =
+    let disk = c.args.self.now in
+    subst AreBytes (sym c.in-Ok-wrote.ensures.bytes) (are_bytes c.args.at c.args.piece.now disk.bytes.items (λ k. omega (arith, c.type_inv.piece k)) disk.bytes_are)

@@ -1,0 +1,16 @@
+pub mod Beside
+pub mod Same
+pub mod Room
+pub mod Freed
+pub mod Transacting
+pub mod Stepping
+pub mod Saying
+pub mod Touching
+pub mod Making
+pub mod Renewing
+pub mod Giving
+pub mod Cloning
+pub mod Booting
+pub mod Landing
+pub mod Chaining
+pub mod Outcomes

@@ -1,0 +1,17 @@
+use Rattle.std.proofs.Common.{◌≡◌, ◌+◌, ℕ, List, Option, Some, sym, subst, ◌∙◌}
+use Rattle.std.specs.Prelude.{slice_get}
+use Rattle.dfs_objects.specs.declared.content.Anode.{Anode}
+use Rattle.ep_log.specs.Log.{disk_of, state_of}
+use Rattle.ep_objects.specs.Objects.{KeepsNow}
+use Rattle.ep_acts.specs.Anodes.{IsOne, renewed}
+use Rattle.ep_acts.proofs.Renewing.{anode_stays}
+use Rattle.ep_acts.proofs.anodes.renew.Goals as goal
+
+stays : (before after : Option Anode) (was is now : Anode) → Some was ≡ before → Some is ≡ after → was ≡ is → IsOne before now → renewed after now ≡ now
+stays before after was is now b a same one = (λ i. renewed (sym a i) now) ∙ sym same ∙ sym (subst (λ (o : Option Anode). IsOne o now) (sym b) one)
+
+pub returns-in-Some-Some-clause-kept : goal.returns-in-Some-Some-clause-kept
+returns-in-Some-Some-clause-kept g c = λ told slots held one.
+    (let same = stays (slice_get c.args.before.now c.args.at) (slice_get c.args.after.now c.args.at) c.in-Some-Some.was.now c.in-Some-Some.is'.now _ c.in-Some-Some.ensures c.in-Some-Some.ensures' (c.same_anode.ensures c.if-same_anode.true) one in
+    subst (λ (s : ℕ → List Anode). KeepsNow s (state_of c.args.log.now) (g.D.Disk.view (disk_of c.args.log.now)).image)
+    (sym (anode_stays c.args.slot (c.args.at + 1) (renewed (slice_get c.args.after.now c.args.at)) slots same)) held)

@@ -1,0 +1,12 @@
+//! The aggregate of a server: its filesets, the numbers of its hosts' requests and its facts, on a disk behind a
+//! write-ahead log, with a copy in memory of which all that is told comes.
+//!
+//! After S. Chutani et al., "The Episode File System", 1992: an aggregate holds many filesets, shares its blocks among
+//! them, and is recovered by its log.
+#![tactic(auto)]
+
+mod aggregate;
+mod refused;
+
+pub use aggregate::Aggregate;
+pub use refused::MountRefused;

@@ -1,0 +1,39 @@
+ghost use Rattle.std.specs.Prelude.{◌≡◌};
+ghost use Rattle.ep_aggregate.specs.Refused.{log_refused};
+ghost use Rattle.ep_aggregate.specs.declared.refused.MountRefused.TheVariants.{Memory};
+
+use dfs_base::NoMemory;
+use ep_log::LogFault;
+
+/// Why a disk wasn't mounted, or formatted.
+#[derive(Clone, Copy, Debug)]
+pub enum MountRefused {
+    /// The bytes of the disk are no aggregate of the server that can be mounted. The place, in bytes, is that of the
+    /// first page or block that breaks a rule, or of the number that is worn; 0 of a blank disk, and of another
+    /// server's.
+    NotAggregate(u64),
+    /// The disk failed, and its count of faults rose.
+    Failed,
+    /// Memory ran out.
+    Memory,
+}
+
+// A log that was judged answers nothing else.
+impl From<LogFault> for MountRefused {
+    ghost from_gives = { λ fault e. e ≡ log_refused fault };
+
+    fn from(fault: LogFault) -> Self {
+        match fault {
+            LogFault::Failed => MountRefused::Failed,
+            LogFault::Memory | LogFault::Full { .. } | LogFault::NotALog(_) => MountRefused::Memory,
+        }
+    }
+}
+
+impl From<NoMemory> for MountRefused {
+    ghost from_gives = { λ _ e. e ≡ Memory };
+
+    fn from(_error: NoMemory) -> Self {
+        MountRefused::Memory
+    }
+}
