@@ -83,6 +83,10 @@ accepted tree h c = not (is_refusal (kept_reply tree h c.call))
 unfoldable pub row_right : Tree → Wanted → ChangeOf → Bool
 row_right tree w c = same_list same_need w.needs (row_needs tree w.host c)
 
+-- a lock's or an open's row is on the file that the host found
+unfoldable pub of_row : Tree → Wanted → ChangeOf → Bool
+of_row tree w c = row_right tree w c && list_all (λ need. same_fid need.fid c.fid) w.needs
+
 unfoldable pub in_way : Wanted → Token → Bool
 in_way w t = blocks (asker w) w.needs t
 
@@ -176,7 +180,7 @@ is_lock_call _ = false
 unfoldable pub writes_so : ServerId → Tree → List Act → Written → Wanted → ChangeOf → Bool
 writes_so server tree past d w c =
     ((same_fileset d.fileset c.fileset && (d.number == c.number)) && ((d.answer.k == c.k) && same_call d.answer.call c.call))
-    && ((accepted tree w.host c && row_right tree w c)
+    && ((accepted tree w.host c && of_row tree w c)
     && (passes (refuse_tests server past w) && (is_locked d.answer.reply && is_lock_call c.call)))
 
 unfoldable pub decides_right : ServerId → Tree → List Act → List Act → Step → AppliedOf → Bool
@@ -257,7 +261,7 @@ unfoldable pub uses_such : ServerId → Tree → List Act → DoneOf → Wanted 
 uses_such server tree past d w c =
     (same_fileset d.fileset c.fileset && (d.bring.number == c.number))
     && ((is_use c.call && accepted tree w.host c)
-    && ((row_right tree w c && passes (grant_tests server past w)) && meets_needs w.needs d.bring.tokens))
+    && ((of_row tree w c && passes (grant_tests server past w)) && meets_needs w.needs d.bring.tokens))
 
 unfoldable pub settles_for : HostId → ℕ → (Wanted → ChangeOf → Bool) → Wanted → Bool
 settles_for h n test w = (same_host w.host h && (w.moves == n)) && changes_such w.request (test w)
@@ -334,7 +338,7 @@ sent_tests server before past s =
     ∷ []
 
 unfoldable pub send_words : ℕ
-unfolding may_words same_call same_place is_fetch accepted row_right in_way is_ahead grant_tests refuse_tests is_stuck meets_needs same_change is_body_of
+unfolding may_words same_call same_place is_fetch accepted row_right of_row in_way is_ahead grant_tests refuse_tests is_stuck meets_needs same_change is_body_of
     asks_such changes_such where_change is_here_now asked_here new_numbered comes_as is_new needs_right is_locked
     is_lock_call writes_so decides_right all_decided wants_it is_request wanted_now left_open decided_tests there_right
     grants_such grants_for is_not_above wrote_so found_right named_right enters_such uses_such settles_for outcome_right
@@ -403,9 +407,15 @@ unfolding send_words
 accepted_is tree h c e refusal (is, _, _) =
     is_not (is_refusal (kept_reply tree h c.call)) e (subst (λ x. is_refusal x ≡ true) (sym is) refl)
 
-row_is : (tree : Tree) (w : Wanted) (c : ChangeOf) → row_right tree w c ≡ true → IsOfRow tree w c
+row_is : (tree : Tree) (w : Wanted) (c : ChangeOf) → row_right tree w c ≡ true → w.needs ≡ row_needs tree w.host c
 unfolding send_words
 row_is tree w c e = list_is same_need need_is w.needs (row_needs tree w.host c) e
+
+of_row_is : (tree : Tree) (w : Wanted) (c : ChangeOf) → of_row tree w c ≡ true → IsOfRow tree w c
+unfolding send_words
+of_row_is tree w c e =
+    let p = and_parts (row_right tree w c) (list_all (λ need. same_fid need.fid c.fid) w.needs) e in
+    (row_is tree w c p.0, λ _ need i. fid_is need.fid c.fid (at_all (λ need. same_fid need.fid c.fid) w.needs need p.1 i))
 
 before_waits : (past : List Act) (v w : Wanted) → Before past v w → Waits past v
 before_waits [] v w b = elim b [ ]
@@ -578,13 +588,13 @@ one_right server tree before past s (IsDone d) e =
     let x = (same_fileset d.fileset c.0.fileset && (d.number == c.0.number)) && ((d.answer.k == c.0.k) &&
     same_call d.answer.call c.0.call) in
     let y = passes (refuse_tests server past w) && (is_locked d.answer.reply && is_lock_call c.0.call) in
-    let a = and_parts x ((accepted tree w.host c.0 && row_right tree w c.0) && y) c.2 in
+    let a = and_parts x ((accepted tree w.host c.0 && of_row tree w c.0) && y) c.2 in
     let b = and_parts (same_fileset d.fileset c.0.fileset && (d.number == c.0.number)) ((d.answer.k == c.0.k) &&
     same_call d.answer.call c.0.call) a.0 in
     let b1 = and_parts (same_fileset d.fileset c.0.fileset) (d.number == c.0.number) b.0 in
     let b2 = and_parts (d.answer.k == c.0.k) (same_call d.answer.call c.0.call) b.1 in
-    let f = and_parts (accepted tree w.host c.0 && row_right tree w c.0) y a.1 in
-    let f1 = and_parts (accepted tree w.host c.0) (row_right tree w c.0) f.0 in
+    let f = and_parts (accepted tree w.host c.0 && of_row tree w c.0) y a.1 in
+    let f1 = and_parts (accepted tree w.host c.0) (of_row tree w c.0) f.0 in
     let g = and_parts (passes (refuse_tests server past w)) (is_locked d.answer.reply && is_lock_call c.0.call) f.1 in
     let g1 = and_parts (is_locked d.answer.reply) (is_lock_call c.0.call) g.1 in
     record {
@@ -598,7 +608,7 @@ one_right server tree before past s (IsDone d) e =
       k = eqb-true d.answer.k c.0.k b2.0;
       call = call_is d.answer.call c.0.call b2.1;
       later = not_first d.answer.first p.0;
-      so = MeetsPinned (accepted_is tree w.host c.0 f1.0) (row_is tree w c.0 f1.1) (refuse_yes server past w g.0)
+      so = MeetsPinned (accepted_is tree w.host c.0 f1.0) (of_row_is tree w c.0 f1.1) (refuse_yes server past w g.0)
           (locked_is d.answer.reply g1.0 ∙ ap Refused (sym (lock_refusal c.0.call g1.1)));
     }
   where
@@ -826,14 +836,14 @@ module _ (server : ServerId) (tree : Tree) (past : List Act) (h : HostId) (n : �
       let s = settled_yes (uses_such server tree past d) e in
       let w = s.0 in
       let c = s.1 in
-      let x = (row_right tree w c && passes (grant_tests server past w)) && meets_needs w.needs d.bring.tokens in
+      let x = (of_row tree w c && passes (grant_tests server past w)) && meets_needs w.needs d.bring.tokens in
       let q = and_parts (same_fileset d.fileset c.fileset && (d.bring.number == c.number))
       ((is_use c.call && accepted tree w.host c) && x) s.6 in
       let r = and_parts (same_fileset d.fileset c.fileset) (d.bring.number == c.number) q.0 in
       let k = and_parts (is_use c.call && accepted tree w.host c) x q.1 in
       let u = and_parts (is_use c.call) (accepted tree w.host c) k.0 in
-      let v = and_parts (row_right tree w c && passes (grant_tests server past w)) (meets_needs w.needs d.bring.tokens) k.1 in
-      let y = and_parts (row_right tree w c) (passes (grant_tests server past w)) v.0 in
+      let v = and_parts (of_row tree w c && passes (grant_tests server past w)) (meets_needs w.needs d.bring.tokens) k.1 in
+      let y = and_parts (of_row tree w c) (passes (grant_tests server past w)) v.0 in
       Settled (record {
         w = w;
         waits = s.2;
@@ -843,7 +853,7 @@ module _ (server : ServerId) (tree : Tree) (past : List Act) (h : HostId) (n : �
         moves = s.5;
         fileset = fileset_is d.fileset c.fileset r.0;
         number = eqb-true d.bring.number c.number r.1;
-        so = TakesToken u.0 (accepted_is tree w.host c u.1) (row_is tree w c y.0) (can_yes server past w y.1) is
+        so = TakesToken u.0 (accepted_is tree w.host c u.1) (of_row_is tree w c y.0) (can_yes server past w y.1) is
             (needs_are w.needs d.bring.tokens v.1);
       })
   outcome_is o is e = absurd (cc)

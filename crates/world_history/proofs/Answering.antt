@@ -1,4 +1,10 @@
 -- What a host answers is the reply of a tree that agrees with the run, and leaves the cells that the run has then.
+use Rattle.std.proofs.Common.{Bool, Err, List, None, Ok, Option, Result, Some, ap, false, inl, length, nat_le, nat_lt}
+use Rattle.std.proofs.Common.{not, refl, subst, sym, true, ℕ, ◌&&◌, ◌+◌, ◌==◌, ◌||◌, ◌∙◌, ◌∷◌, ◌≡◌, ◌≤◌}
+use Rattle.std.proofs.lemmas.Bool.{eqb-true}
+use Rattle.std.proofs.lemmas.List.Sums.{length-filter}
+use Rattle.std.specs.List.{filter, list_any}
+use Rattle.std.specs.Prelude.{[], count_by, if◌then◌else◌}
 use Rattle.dfs_base.specs.Name.{same_name}
 use Rattle.dfs_base.specs.Outcomes.{and_then, either}
 use Rattle.dfs_base.specs.declared.ids.Fid.{Fid}
@@ -12,16 +18,14 @@ use Rattle.dfs_base.specs.declared.span.Span.{Span}
 use Rattle.dfs_base.specs.declared.user.User.{User}
 use Rattle.dfs_calls.specs.Rosters.{user_of}
 use Rattle.dfs_calls.specs.declared.call.Call.{Call}
-use Rattle.dfs_calls.specs.declared.call.Call.TheVariants.{CloneFileset, CloseFile, Create, GetAcl}
-use Rattle.dfs_calls.specs.declared.call.Call.TheVariants.{List as ListNames, Lock as LockCall, MakeDir}
-use Rattle.dfs_calls.specs.declared.call.Call.TheVariants.{MoveFileset, NewFileset, OpenFile, Read, Remove}
-use Rattle.dfs_calls.specs.declared.call.Call.TheVariants.{Rename, SetAcl, Stat, Sync, Truncate, Unlock}
-use Rattle.dfs_calls.specs.declared.call.Call.TheVariants.{Write}
+use Rattle.dfs_calls.specs.declared.call.Call.TheVariants.{CloneFileset, CloseFile, Create, GetAcl, List as ListNames}
+use Rattle.dfs_calls.specs.declared.call.Call.TheVariants.{Lock as LockCall, MakeDir, MoveFileset, NewFileset}
+use Rattle.dfs_calls.specs.declared.call.Call.TheVariants.{OpenFile, Read, Remove, Rename, SetAcl, Stat, Sync}
+use Rattle.dfs_calls.specs.declared.call.Call.TheVariants.{Truncate, Unlock, Write}
 use Rattle.dfs_calls.specs.declared.place.Place.{Place}
 use Rattle.dfs_calls.specs.declared.reply.Refusal.{Refusal}
-use Rattle.dfs_calls.specs.declared.reply.Refusal.TheVariants.{AlreadyLocked, AlreadyOpened, Locked}
-use Rattle.dfs_calls.specs.declared.reply.Refusal.TheVariants.{NotLocked, NotOpened, OpenConflict, TooBig}
-use Rattle.dfs_calls.specs.declared.reply.Refusal.TheVariants.{TooMany}
+use Rattle.dfs_calls.specs.declared.reply.Refusal.TheVariants.{AlreadyLocked, AlreadyOpened, Locked, NotLocked}
+use Rattle.dfs_calls.specs.declared.reply.Refusal.TheVariants.{NotOpened, OpenConflict, TooBig, TooMany}
 use Rattle.dfs_calls.specs.declared.reply.Reply.{Reply}
 use Rattle.dfs_calls.specs.declared.reply.Reply.TheVariants.{Ok as Done, Refused}
 use Rattle.dfs_calls.specs.declared.roster.Roster.{Roster}
@@ -35,8 +39,8 @@ use Rattle.dfs_needs.proofs.Present.{answers_leave_all, synced_part}
 use Rattle.dfs_needs.proofs.Replies.{covered_answers}
 use Rattle.dfs_needs.proofs.Rows.{sync_seen, write_seen, written_verdict}
 use Rattle.dfs_needs.proofs.Written.{after_call, fate_home}
-use Rattle.dfs_needs.specs.Calls.{Own, Verdict, call_look, change_look, from_root, in_place, judged}
-use Rattle.dfs_needs.specs.Calls.{lock_look, open_look, refuse, reply_now, sync_look, write_look}
+use Rattle.dfs_needs.specs.Calls.{Own, Verdict, call_look, change_look, from_root, in_place, judged, lock_look}
+use Rattle.dfs_needs.specs.Calls.{open_look, refuse, reply_now, sync_look, write_look}
 use Rattle.dfs_needs.specs.Calls.Verdict.{Asks, Frees, Gives, Locks, Opens, Replies, Writes}
 use Rattle.dfs_needs.specs.Laws.{AgreeUnder, IsTold, Stands, tree_reply}
 use Rattle.dfs_needs.specs.Looks.{IsCovered, Look, View, checked, outcome, refuse_if, tree_view}
@@ -55,13 +59,6 @@ use Rattle.dfs_tree.specs.declared.tree.OpenUse.{OpenUse}
 use Rattle.dfs_tree.specs.declared.tree.Tree.{Tree}
 use Rattle.host_laws.specs.Losses.{use_of}
 use Rattle.script_lines.specs.declared.script.Script.{Script}
-use Rattle.std.proofs.Common.{Bool, Err, List, None, Ok, Option, Result, Some, ap, false, inl, length, nat_le}
-use Rattle.std.proofs.Common.{nat_lt, not, refl, subst, sym, true, ℕ, ◌&&◌, ◌+◌, ◌==◌, ◌||◌, ◌∙◌, ◌∷◌, ◌≡◌}
-use Rattle.std.proofs.Common.{◌≤◌}
-use Rattle.std.proofs.lemmas.Bool.{eqb-true}
-use Rattle.std.proofs.lemmas.List.Sums.{length-filter}
-use Rattle.std.specs.List.{filter, list_any}
-use Rattle.std.specs.Prelude.{[], count_by, if◌then◌else◌}
 use Rattle.tok_types.specs.declared.token.Kind.TheVariants.{Lock as LockKind, Status}
 use Rattle.tree_laws.specs.Fates.{Fate, after_fate, if_reached, is_of}
 use Rattle.tree_laws.specs.Fates.Fate.{IsSynced, Stays}
@@ -77,9 +74,9 @@ use Rattle.world_places.specs.Cells.{written}
 use Rattle.world_places.specs.Contents.{Contents}
 use Rattle.world_places.specs.Legal.{LegalStep, tree}
 use Rattle.world_rules.proofs.Answers.{covered_in}
+use Rattle.world_rules.proofs.Views.{one_alone}
 use Rattle.world_rules.proofs.WriteLooks.{of_write}
-use Rattle.world_shows.proofs.Views.{one_alone}
-use Rattle.world_shows.specs.Steps.{IsOfJournal, Written, written_by, written_in}
+use Rattle.world_rules.specs.Steps.{IsOfJournal, Written, written_by, written_in}
 use Rattle.world_steps.specs.Lists.{In}
 use Rattle.world_steps.specs.Nodes.{own}
 use Rattle.world_steps.specs.declared.applied.Answer.{Answer}

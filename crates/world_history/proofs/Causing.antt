@@ -1,5 +1,10 @@
 -- In every run what a server stores, and loses, by the cause of a step is so in each tree with the cells of the run.
-use Rattle.world_steps.specs.declared.applied.Applied.{Applied}
+use Rattle.std.proofs.Common.{Bool, List, None, Option, Some, ap, false, inl, inr, is_some, length, nat_lt, not, refl}
+use Rattle.std.proofs.Common.{subst, sym, true, ℕ, ◌&&◌, ◌++◌, ◌<◌, ◌==◌, ◌||◌, ◌∙◌, ◌∷◌, ◌≡◌}
+use Rattle.std.proofs.lemmas.Bool.{and_parts, eqb-false, eqb-true, false≢true}
+use Rattle.std.specs.List.{find, list_all}
+use Rattle.std.specs.Option.{option_map_or}
+use Rattle.std.specs.Prelude.{[], if◌then◌else◌, map}
 use Rattle.dfs_base.specs.Ids.{same_fid}
 use Rattle.dfs_base.specs.declared.ids.Fid.{Fid}
 use Rattle.dfs_base.specs.declared.ids.FilesetId.{FilesetId}
@@ -15,6 +20,7 @@ use Rattle.dfs_needs.specs.Looks.{kept_view}
 use Rattle.dfs_tree.proofs.Followed.{same_fid_itself}
 use Rattle.dfs_tree.specs.Finding.{has_id}
 use Rattle.dfs_tree.specs.Histories.{IsLegal, after_entry}
+use Rattle.dfs_tree.specs.Losses.{is_at}
 use Rattle.dfs_tree.specs.WellFormed.{IsWellFormed}
 use Rattle.dfs_tree.specs.declared.tree.Tree.{Tree}
 use Rattle.rpc_types.specs.Soundness.{IsBody, IsGiveBack}
@@ -24,13 +30,6 @@ use Rattle.rpc_types.specs.declared.message.Body.{Body}
 use Rattle.rpc_types.specs.declared.message.Body.TheVariants.{Down, GiveBack}
 use Rattle.rpc_types.specs.declared.message.Message.{Message}
 use Rattle.script_lines.specs.declared.script.Script.{Script}
-use Rattle.std.proofs.Common.{Bool, List, None, Option, Some, ap, false, inl, inr, is_some, length, nat_lt}
-use Rattle.std.proofs.Common.{not, refl, subst, sym, true, ℕ, ◌&&◌, ◌++◌, ◌<◌, ◌==◌, ◌||◌, ◌∙◌, ◌∷◌, ◌≡◌}
-use Rattle.std.proofs.lemmas.Bool.{and_parts, eqb-false, eqb-true, false≢true}
-use Rattle.dfs_tree.specs.Losses.{is_at}
-use Rattle.std.specs.List.{find, list_all}
-use Rattle.std.specs.Option.{option_map_or}
-use Rattle.std.specs.Prelude.{[], if◌then◌else◌, map}
 use Rattle.tree_laws.proofs.Steps.{fid_is, same_number}
 use Rattle.tree_laws.proofs.TreeFates.{parts_change_so}
 use Rattle.tree_laws.specs.Fates.{after_fate, without}
@@ -38,28 +37,26 @@ use Rattle.tree_laws.specs.Fates.Fate.{IsForgotten, Stays}
 use Rattle.tree_laws.specs.Parts.{Cell, Nature, Part, Seen, Written, cell_at, cell_in, no_cell}
 use Rattle.tree_laws.specs.Parts.Part.{ByteAt, Entries, Size, Traits}
 use Rattle.world_core.specs.Runs.{StepMeets, StepsMeet}
-use Rattle.world_deeds.proofs.Bodies.{cases_nat, down, here, is_down, is_give, live, server_is}
-use Rattle.world_deeds.proofs.Caused.{no_message}
-use Rattle.world_deeds.proofs.Sent.{At}
-use Rattle.world_deeds.specs.Doing.{decided, deeds_at, does_first, does_nothing, stores_part, stores_some}
-use Rattle.world_deeds.specs.Doing.{with_doing}
-use Rattle.world_deeds.specs.Instance.{IsOfRun}
 use Rattle.world_doings.specs.Doings.{doings_cause}
 use Rattle.world_history.proofs.Storing.{gift_file, stores_cells, stores_legally}
 use Rattle.world_history.specs.Agreement.{AreHome, CausedCells, CellsAgree}
 use Rattle.world_journal.specs.Told.{byte_of}
-use Rattle.world_legal.proofs.Sound.{said_sound}
 use Rattle.world_places.proofs.Law.{Kept}
 use Rattle.world_places.specs.Cells.{Does, by, cell_after, kept_after as kept_after_part}
 use Rattle.world_places.specs.Cells.Does.{Loses, Nothing}
 use Rattle.world_places.specs.Contents.{Contents, IsData, kept as kept_deeds, site}
 use Rattle.world_places.specs.Deeds.{Deed, acts_in}
-use Rattle.world_places.specs.Legal.{LegalDoing, LegalDoings, LegalSize, LegalStep, tree}
-use Rattle.world_places.specs.Legal.{served as served_deeds}
+use Rattle.world_places.specs.Legal.{LegalDoing, LegalDoings, LegalSize, LegalStep, tree, served as served_deeds}
+use Rattle.world_rules.proofs.Bodies.{cases_nat, down, here, is_down, is_give, live, server_is}
+use Rattle.world_rules.proofs.Caused.{no_message}
+use Rattle.world_rules.proofs.Sent.{At}
+use Rattle.world_rules.proofs.Sound.{said_sound}
+use Rattle.world_rules.proofs.Words.{any_in, both, in_any}
+use Rattle.world_rules.specs.Doing.{decided, deeds_at, does_first, does_nothing, stores_part, stores_some, with_doing}
+use Rattle.world_rules.specs.Instance.{IsOfRun}
 use Rattle.world_server.specs.Kept.{kept, kept_through, length_given, pieces_in, pieces_of, takes_gifts}
-use Rattle.world_server.specs.ServerApplies.{FirstDown, FirstGiven, ServerApplies, by_cause, decisions}
-use Rattle.world_server.specs.ServerApplies.{ended_by, is_decision, span_of, stored_of}
-use Rattle.world_shows.proofs.Words.{any_in, both, in_any}
+use Rattle.world_server.specs.ServerApplies.{FirstDown, FirstGiven, ServerApplies, by_cause, decisions, ended_by}
+use Rattle.world_server.specs.ServerApplies.{is_decision, span_of, stored_of}
 use Rattle.world_steps.proofs.Words.{made_at}
 use Rattle.world_steps.specs.Acts.{Act, acts, admitting, epoch, sending}
 use Rattle.world_steps.specs.Acts.Act.{Reserves, Took}
@@ -69,10 +66,11 @@ use Rattle.world_steps.specs.Hosts.{IsDown as IsDownHost, IsLive}
 use Rattle.world_steps.specs.Lists.{In}
 use Rattle.world_steps.specs.Nodes.{served}
 use Rattle.world_steps.specs.Places.{Here, home}
+use Rattle.world_steps.specs.declared.applied.Applied.{Applied}
 use Rattle.world_steps.specs.declared.applied.Applied.TheVariants.{Ends, IsDown, Stored}
 use Rattle.world_steps.specs.declared.step.Cause.{Cause}
-use Rattle.world_steps.specs.declared.step.Cause.TheVariants.{End, Evict, Flushed, Lapse, Line}
-use Rattle.world_steps.specs.declared.step.Cause.TheVariants.{Message as Came, Restart}
+use Rattle.world_steps.specs.declared.step.Cause.TheVariants.{End, Evict, Flushed, Lapse, Line, Message as Came}
+use Rattle.world_steps.specs.declared.step.Cause.TheVariants.{Restart}
 use Rattle.world_steps.specs.declared.step.Step.{Step}
 
 -- what is applied stands in what the cause applies, or is decided

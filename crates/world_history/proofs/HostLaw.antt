@@ -1,4 +1,9 @@
 -- In every run hosts answer legally, on each tree that agrees with the run.
+use Rattle.std.proofs.Common.{Bool, Err, List, None, Ok, Option, Result, Some, ap, false, nat_le, not, refl, subst}
+use Rattle.std.proofs.Common.{sym, true, ℕ, ◌&&◌, ◌+◌, ◌==◌, ◌||◌, ◌∙◌, ◌∷◌, ◌≡◌}
+use Rattle.std.proofs.lemmas.Bool.{and_parts, false≢true}
+use Rattle.std.specs.List.{list_any}
+use Rattle.std.specs.Prelude.{[], if◌then◌else◌}
 use Rattle.dfs_base.specs.Ids.{same_fid}
 use Rattle.dfs_base.specs.Opens.{opens_conflict}
 use Rattle.dfs_base.specs.Outcomes.{either}
@@ -36,18 +41,12 @@ use Rattle.dfs_tree.specs.declared.tree.LockUse.{LockUse}
 use Rattle.dfs_tree.specs.declared.tree.OpenUse.{OpenUse}
 use Rattle.dfs_tree.specs.declared.tree.Tree.{Tree}
 use Rattle.script_lines.specs.declared.script.Script.{Script}
-use Rattle.std.proofs.Common.{Bool, Err, List, None, Ok, Option, Result, Some, ap, false, nat_le, not, refl}
-use Rattle.std.proofs.Common.{subst, sym, true, ℕ, ◌&&◌, ◌+◌, ◌==◌, ◌||◌, ◌∙◌, ◌∷◌, ◌≡◌}
-use Rattle.std.proofs.lemmas.Bool.{and_parts, false≢true}
-use Rattle.std.specs.List.{list_any}
-use Rattle.std.specs.Prelude.{[], if◌then◌else◌}
 use Rattle.tok_types.specs.Conflicts.{kinds_conflict}
 use Rattle.tok_types.specs.declared.token.Kind.TheVariants.{Lock as LockToken, Opening}
 use Rattle.tree_laws.proofs.Steps.{fid_is, same_number}
 use Rattle.tree_laws.specs.Fates.{is_of}
 use Rattle.tree_laws.specs.Parts.{Cell, Part, Seen, cell_at}
 use Rattle.world_core.specs.Runs.{StepMeets, StepsMeet, firsts_of, past_of}
-use Rattle.world_deeds.proofs.Steps.{runs_meet}
 use Rattle.world_history.proofs.Answering.{SameLabels, cells_left, reply_is}
 use Rattle.world_history.proofs.Knowing.{is_clean}
 use Rattle.world_history.proofs.Labels.{same_labels}
@@ -61,9 +60,10 @@ use Rattle.world_places.proofs.Law.{Kept, coherent}
 use Rattle.world_places.specs.Cells.{written}
 use Rattle.world_places.specs.Contents.{Contents}
 use Rattle.world_places.specs.Legal.{ContentsRun, LegalStep, tree, tree_after}
+use Rattle.world_rules.proofs.DeedSteps.{runs_meet}
 use Rattle.world_rules.proofs.Uses.{run_tokens}
-use Rattle.world_shows.proofs.Words.{any_in, both}
-use Rattle.world_shows.specs.Steps.{IsOfJournal}
+use Rattle.world_rules.proofs.Words.{any_in, both}
+use Rattle.world_rules.specs.Steps.{IsOfJournal}
 use Rattle.world_steps.proofs.Law.{Whole, always}
 use Rattle.world_steps.proofs.Words.{acts_after, own_after}
 use Rattle.world_steps.specs.Acts.{acts}
@@ -74,7 +74,7 @@ use Rattle.world_steps.specs.declared.applied.Answer.{Answer}
 use Rattle.world_steps.specs.declared.step.Labelled.{Labelled}
 use Rattle.world_steps.specs.declared.step.Step.{Step}
 
-any_false : {X : Type 0} (test : X → Bool) (xs : List X) → ((x : X) → In x xs → test x ≡ true → ⊥)
+pub any_false : {X : Type 0} (test : X → Bool) (xs : List X) → ((x : X) → In x xs → test x ≡ true → ⊥)
     → list_any test xs ≡ false
 any_false test xs never = go (list_any test xs) refl
   where
@@ -82,7 +82,7 @@ any_false test xs never = go (list_any test xs) refl
     go true e = let x = any_in test xs e in absurd (never x.0 x.1 x.2)
     go false e = e
 
-two_hosts : (a b : HostId) → not (a.0 == b.0) ≡ true → a ≡ b → ⊥
+pub two_hosts : (a b : HostId) → not (a.0 == b.0) ≡ true → a ≡ b → ⊥
 two_hosts a b e same =
     false≢true (sym (ap not (ap (λ (k : HostId). k.0 == b.0) same ∙ same_number b.0)) ∙ e)
 

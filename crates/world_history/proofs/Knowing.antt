@@ -1,4 +1,8 @@
 -- What a host sees, and calls clean, when it answers, is so in a tree that agrees with the run.
+use Rattle.std.proofs.Common.{Bool, List, None, Option, Some, ap, false, inl, inr, refl, subst, sym, true, ℕ, ◌&&◌}
+use Rattle.std.proofs.Common.{◌||◌, ◌∙◌, ◌∷◌, ◌≡◌, ◌≤◌}
+use Rattle.std.proofs.lemmas.Bool.{and_parts, eqb-true, false≢true}
+use Rattle.std.specs.Prelude.{[], map}
 use Rattle.dfs_base.specs.Ids.{same_fid}
 use Rattle.dfs_base.specs.declared.ids.Fid.{Fid}
 use Rattle.dfs_base.specs.declared.ids.HostId.{HostId}
@@ -13,10 +17,6 @@ use Rattle.dfs_tree.specs.WellFormed.{IsWellFormed}
 use Rattle.dfs_tree.specs.declared.tree.Tree.{Tree}
 use Rattle.rpc_types.specs.declared.giving.Give.{Give}
 use Rattle.script_lines.specs.declared.script.Script.{Script}
-use Rattle.std.proofs.Common.{Bool, List, None, Option, Some, ap, false, inl, inr, refl, subst, sym, true, ℕ}
-use Rattle.std.proofs.Common.{◌&&◌, ◌||◌, ◌∙◌, ◌∷◌, ◌≡◌, ◌≤◌}
-use Rattle.std.proofs.lemmas.Bool.{and_parts, eqb-true, false≢true}
-use Rattle.std.specs.Prelude.{[], map}
 use Rattle.tok_types.specs.Conflicts.{need_of}
 use Rattle.tok_types.specs.declared.token.Token.{Token}
 use Rattle.tree_laws.proofs.Steps.{fid_is}
@@ -35,11 +35,11 @@ use Rattle.world_places.specs.Cells.{by}
 use Rattle.world_places.specs.Contents.{Contents, MadeSince, dirty, sees, site, view}
 use Rattle.world_places.specs.Deeds.{acts_in}
 use Rattle.world_places.specs.Legal.{LegalStep, served as served_deeds, tree}
-use Rattle.world_shows.proofs.Gives.{owns_held}
-use Rattle.world_shows.proofs.Runs.{own_run}
-use Rattle.world_shows.proofs.Views.{dirty_same, sees_same}
-use Rattle.world_shows.proofs.Words.{update_byte, update_size}
-use Rattle.world_shows.specs.Steps.{HostRun, IsOfJournal}
+use Rattle.world_rules.proofs.Gives.{owns_held}
+use Rattle.world_rules.proofs.Runs.{own_run}
+use Rattle.world_rules.proofs.Views.{dirty_same, sees_same}
+use Rattle.world_rules.proofs.Words.{update_byte, update_size}
+use Rattle.world_rules.specs.Steps.{HostRun, IsOfJournal}
 use Rattle.world_steps.proofs.Invariant.{Link}
 use Rattle.world_steps.proofs.Law.{Whole}
 use Rattle.world_steps.proofs.Words.{own_after}

@@ -1,4 +1,10 @@
 -- A host that has the labels which the tree has in use of it knows them.
+use Rattle.std.proofs.Common.{Bool, List, ap, arith, false, inl, inr, length, not, refl, subst, suc, sym, true, ℕ}
+use Rattle.std.proofs.Common.{◌&&◌, ◌==◌, ◌||◌, ◌∙◌, ◌∷◌, ◌≡◌, ◌≤◌}
+use Rattle.std.proofs.lemmas.Bool.{and_parts, eqb-true, false≢true}
+use Rattle.std.proofs.lemmas.List.Sums.{length-filter}
+use Rattle.std.specs.List.{filter, list_all, list_any}
+use Rattle.std.specs.Prelude.{[], count_by, if◌then◌else◌, ◌↔◌}
 use Rattle.dfs_base.specs.Ids.{same_fid}
 use Rattle.dfs_base.specs.Name.{same_name}
 use Rattle.dfs_base.specs.Opens.{opens_conflict}
@@ -11,15 +17,9 @@ use Rattle.dfs_tree.specs.declared.tree.LockUse.{LockUse}
 use Rattle.dfs_tree.specs.declared.tree.OpenUse.{OpenUse}
 use Rattle.dfs_tree.specs.declared.tree.Tree.{Tree}
 use Rattle.host_laws.specs.Labels.{UsesAgree, each_two, locks_agree, opens_agree}
-use Rattle.std.proofs.Common.{Bool, List, ap, arith, false, inl, inr, length, not, refl, subst, suc, sym, true, ℕ}
-use Rattle.std.proofs.Common.{◌&&◌, ◌==◌, ◌||◌, ◌∙◌, ◌∷◌, ◌≡◌, ◌≤◌}
-use Rattle.std.proofs.lemmas.Bool.{and_parts, eqb-true, false≢true}
-use Rattle.std.proofs.lemmas.List.Sums.{length-filter}
-use Rattle.std.specs.List.{filter, list_all, list_any}
-use Rattle.std.specs.Prelude.{[], count_by, if◌then◌else◌, ◌↔◌}
 use Rattle.tree_laws.proofs.Steps.{same_number}
 use Rattle.world_history.proofs.Answering.{SameLabels}
-use Rattle.world_shows.proofs.Words.{any_in, in_any}
+use Rattle.world_rules.proofs.Words.{any_in, in_any}
 use Rattle.world_steps.specs.Lists.{EachOnce, In}
 
 -- a list without one of its elements
@@ -32,7 +32,7 @@ one_less x (y ∷ ys) (inr i) =
     (y ∷ r.0, ap suc r.1, λ z k two. elim k [ inl q ↦ inl q | inr j ↦ inr (r.2 z j two) ])
 
 -- what stands in it once is no more
-no_more : {X : Type 0} (xs ys : List X) → EachOnce xs → ((x : X) → In x xs → In x ys) → length xs ≤ length ys
+pub no_more : {X : Type 0} (xs ys : List X) → EachOnce xs → ((x : X) → In x xs → In x ys) → length xs ≤ length ys
 no_more [] ys once all = omega arith
 no_more {X} (x ∷ xs) ys once all =
     let r = one_less x ys (all x (inl refl)) in
@@ -57,7 +57,7 @@ any_same test xs ys to back = go (list_any test xs) (list_any test ys) refl refl
         absurd (false≢true (sym p ∙ in_any test xs x.0 (back x.0 x.1 x.2) x.2))
 
 -- what a filter leaves
-in_filter : {X : Type 0} (test : X → Bool) (xs : List X) (x : X) → In x (filter test xs)
+pub in_filter : {X : Type 0} (test : X → Bool) (xs : List X) (x : X) → In x (filter test xs)
     → In x xs × (test x ≡ true)
 in_filter test [] x i = elim i [ ]
 in_filter {X} test (y ∷ ys) x i = go (λ j. in_filter test ys x j) (test y) refl i
@@ -68,7 +68,7 @@ in_filter {X} test (y ∷ ys) x i = go (λ j. in_filter test ys x j) (test y) re
     go rest true e (inr k) = let r = rest k in (inr r.0, r.1)
     go rest false e k = let r = rest k in (inr r.0, r.1)
 
-filter_in : {X : Type 0} (test : X → Bool) (xs : List X) (x : X) → In x xs → test x ≡ true → In x (filter test xs)
+pub filter_in : {X : Type 0} (test : X → Bool) (xs : List X) (x : X) → In x xs → test x ≡ true → In x (filter test xs)
 filter_in test [] x i e = elim i [ ]
 filter_in {X} test (y ∷ ys) x i e = go (λ j. filter_in test ys x j e) (test y) refl i
   where
@@ -78,7 +78,7 @@ filter_in {X} test (y ∷ ys) x i e = go (λ j. filter_in test ys x j e) (test y
     go rest false q (inl r) = absurd (false≢true (sym q ∙ (ap test (sym r) ∙ e)))
     go rest false q (inr k) = rest k
 
-filter_once : {X : Type 0} (test : X → Bool) (xs : List X) → EachOnce xs → EachOnce (filter test xs)
+pub filter_once : {X : Type 0} (test : X → Bool) (xs : List X) → EachOnce xs → EachOnce (filter test xs)
 filter_once test [] once = tt
 filter_once {X} test (x ∷ xs) once = go (test x) (filter_once test xs once.1)
   where
@@ -99,7 +99,7 @@ count_same test xs ys one other to back =
     sym (length-filter test xs) ∙ (same ∙ length-filter test ys)
 
 -- locks that agree, opens that agree, stand each once
-once_of_two : {X : Type 0} (agree : X → X → Bool) → ((x : X) → agree x x ≡ false) → (xs : List X)
+pub once_of_two : {X : Type 0} (agree : X → X → Bool) → ((x : X) → agree x x ≡ false) → (xs : List X)
     → each_two agree xs ≡ true → EachOnce xs
 once_of_two agree never [] e = tt
 once_of_two {X} agree never (x ∷ xs) e =
@@ -112,19 +112,19 @@ once_of_two {X} agree never (x ∷ xs) e =
         false≢true (sym (ap (agree x) (sym k) ∙ never x) ∙ (and_parts (agree x y) (list_all (agree x) ys) all).0)
     alone (y ∷ ys) all (inr k) = alone ys (and_parts (agree x y) (list_all (agree x) ys) all).1 k
 
-lock_alone : (x : LockUse) → locks_agree x x ≡ false
+pub lock_alone : (x : LockUse) → locks_agree x x ≡ false
 lock_alone x =
     ap (λ b. if b then not (same_name x.label x.label) && not (same_fid x.fid x.fid && overlap x.span x.span)
     else not (same_fid x.fid x.fid && overlap x.span x.span) || (not x.writing && not x.writing)) (same_number x.host.0)
     ∙ ap (λ b. not b && not (same_fid x.fid x.fid && overlap x.span x.span)) (same_self x.label)
 
-open_alone : (x : OpenUse) → opens_agree x x ≡ false
+pub open_alone : (x : OpenUse) → opens_agree x x ≡ false
 open_alone x =
     ap (λ b. if b then not (same_name x.label x.label) else not (same_fid x.fid x.fid && opens_conflict x.kind x.kind))
     (same_number x.host.0)
     ∙ ap not (same_self x.label)
 
-of_host : (a b : HostId) → (a.0 == b.0) ≡ true → a ≡ b
+pub of_host : (a b : HostId) → (a.0 == b.0) ≡ true → a ≡ b
 of_host a b e = ap (λ (n : ℕ). record { 0 = n }) (eqb-true a.0 b.0 e)
 
 -- a host's labels and those of the tree: two lists that have the same of the host

@@ -1,3 +1,4 @@
+pub mod Instance
 pub mod Sound
 pub mod Knowing
 pub mod Writing
@@ -7,3 +8,12 @@ pub mod HostLaw
 pub mod Storing
 pub mod Causing
 pub mod ServerLaw
+pub mod Lists
+pub mod Stances
+pub mod Answered
+pub mod Ended
+pub mod Setting
+pub mod Homes
+pub mod Deciding
+pub mod ChangeLaw
+pub mod Granting

@@ -1,5 +1,5 @@
 -- In every run servers store legally, and what they lose by a Down is what the tree forgets.
-use Rattle.world_server.specs.Kept.{kept}
+use Rattle.std.proofs.Common.{List, Option, [], subst, ℕ, ◌∷◌, ◌≡◌}
 use Rattle.dfs_base.specs.declared.ids.Fid.{Fid}
 use Rattle.dfs_base.specs.declared.ids.HostId.{HostId}
 use Rattle.dfs_base.specs.declared.ids.Node.{Node}
@@ -11,13 +11,8 @@ use Rattle.dfs_tree.specs.Histories.{IsLegal, after_entry}
 use Rattle.dfs_tree.specs.WellFormed.{IsWellFormed}
 use Rattle.dfs_tree.specs.declared.tree.Tree.{Tree}
 use Rattle.script_lines.specs.declared.script.Script.{Script}
-use Rattle.std.proofs.Common.{List, Option, [], subst, ℕ, ◌∷◌, ◌≡◌}
 use Rattle.tree_laws.specs.Parts.{Part, cell_at}
 use Rattle.world_core.specs.Runs.{IsRun, StepMeets, StepsMeet, firsts_of, past_of}
-use Rattle.world_deeds.proofs.Sent.{At}
-use Rattle.world_deeds.proofs.Steps.{deeds_stand, runs_meet}
-use Rattle.world_deeds.specs.Doing.{deeds_at}
-use Rattle.world_deeds.specs.Instance.{IsOfRun}
 use Rattle.world_history.proofs.Causing.{cells_lost, cells_stored, legal_store}
 use Rattle.world_history.specs.Agreement.{AreHome, CausedCells, CellsAgree, DownsForget, ServersStoreLegally}
 use Rattle.world_history.specs.Agreement.{StoresLegally}
@@ -26,7 +21,12 @@ use Rattle.world_places.proofs.Law.{Kept, coherent}
 use Rattle.world_places.specs.Contents.{Contents}
 use Rattle.world_places.specs.Deeds.{acts_in}
 use Rattle.world_places.specs.Legal.{ContentsRun, LegalStep, served as served_deeds, tree}
+use Rattle.world_rules.proofs.DeedSteps.{deeds_stand, runs_meet}
+use Rattle.world_rules.proofs.Sent.{At}
 use Rattle.world_rules.proofs.Uses.{run_tokens}
+use Rattle.world_rules.specs.Doing.{deeds_at}
+use Rattle.world_rules.specs.Instance.{IsOfRun}
+use Rattle.world_server.specs.Kept.{kept}
 use Rattle.world_steps.specs.Acts.{acts}
 use Rattle.world_steps.specs.Lists.{Always, In}
 use Rattle.world_steps.specs.Nodes.{served}

@@ -1,4 +1,10 @@
 -- What servers sent is sound; and no host sees a byte where no file has one.
+use Rattle.std.proofs.Common.{Bool, List, None, Option, Some, [], ap, arith, false, inl, inr, length, nat_le, nat_lt}
+use Rattle.std.proofs.Common.{refl, subst, ltb-true, suc, sym, true, ℕ, ◌&&◌, ◌+◌, ◌==◌, ◌∙◌, ◌∷◌, ◌≡◌, ◌≤◌}
+use Rattle.std.proofs.lemmas.Bool.{and_parts}
+use Rattle.std.proofs.lemmas.Grind.{common_steps}
+use Rattle.std.proofs.lemmas.Option.{slice_get_past}
+use Rattle.std.specs.Prelude.{if◌then◌else◌, is_some, slice_get, unwrap_or, ◌-◌}
 use Rattle.dfs_base.specs.Image.{byte_at}
 use Rattle.dfs_base.specs.declared.ids.Fid.{Fid}
 use Rattle.dfs_base.specs.declared.ids.HostId.{HostId}
@@ -8,19 +14,12 @@ use Rattle.dfs_base.specs.declared.ids.ServerId.{ServerId}
 use Rattle.dfs_base.specs.declared.limits.TheConstants.{FILE_BYTES_MAX}
 use Rattle.dfs_calls.specs.declared.part.Piece.{Piece}
 use Rattle.dfs_tree.specs.declared.tree.Tree.{Tree}
-use Rattle.rpc_types.specs.Soundness.{IsBody, IsGrant, IsSound}
-use Rattle.rpc_types.specs.Soundness.{Each as EachSound}
+use Rattle.rpc_types.specs.Soundness.{IsBody, IsGrant, IsSound, Each as EachSound}
 use Rattle.rpc_types.specs.declared.message.Body.{Body}
 use Rattle.rpc_types.specs.declared.message.Body.TheVariants.{Grant}
 use Rattle.rpc_types.specs.declared.message.Message.{Message}
 use Rattle.rpc_types.specs.declared.telling.Grant.{Grant as GrantOf}
 use Rattle.script_lines.specs.declared.script.Script.{Script}
-use Rattle.std.proofs.Common.{Bool, List, None, Option, Some, [], ap, arith, false, inl, inr, length, nat_le, nat_lt, refl}
-use Rattle.std.proofs.Common.{subst, ltb-true, suc, sym, true, ℕ, ◌&&◌, ◌+◌, ◌==◌, ◌∙◌, ◌∷◌, ◌≡◌, ◌≤◌}
-use Rattle.std.proofs.lemmas.Bool.{and_parts}
-use Rattle.std.proofs.lemmas.Grind.{common_steps}
-use Rattle.std.proofs.lemmas.Option.{slice_get_past}
-use Rattle.std.specs.Prelude.{if◌then◌else◌, is_some, slice_get, unwrap_or, ◌-◌}
 use Rattle.tree_laws.specs.Parts.Part.{ByteAt}
 use Rattle.world_core.specs.Runs.{StepMeets, StepsMeet}
 use Rattle.world_host.specs.HostRules.{HostMeets}
@@ -28,11 +27,11 @@ use Rattle.world_host.specs.Views.{is_shown}
 use Rattle.world_journal.specs.Told.{byte_in, byte_of, told}
 use Rattle.world_places.specs.Contents.{Contents, sees, view}
 use Rattle.world_rules.proofs.Answers.{wrote_so}
-use Rattle.world_shows.proofs.Runs.{own_run}
-use Rattle.world_shows.specs.Steps.{HostRun, IsOfJournal, shown, told_by, told_in, written_at, wrote}
+use Rattle.world_rules.proofs.Runs.{own_run}
+use Rattle.world_rules.specs.Steps.{HostRun, IsOfJournal, shown, told_by, told_in, written_at, wrote}
 use Rattle.world_steps.proofs.Words.{if_host, own_after}
-use Rattle.world_steps.specs.Acts.{Act, SentTo, acts, admitted_by, admitting, after_cause, after_step, deciding, epoch}
-use Rattle.world_steps.specs.Acts.{sending, written_by}
+use Rattle.world_steps.specs.Acts.{Act, SentTo, acts, admitted_by, admitting, after_cause, after_step, deciding}
+use Rattle.world_steps.specs.Acts.{epoch, sending, written_by}
 use Rattle.world_steps.specs.Acts.Act.{Admits, Begins, Flushes, Reserves, Sent, Took, Wants, Writes}
 use Rattle.world_steps.specs.Lists.{In, after}
 use Rattle.world_steps.specs.Nodes.{is_node, own}

@@ -1,11 +1,20 @@
 -- What a server stores of a give-back is legal in a tree that agrees with the run, and leaves the cells of the run.
-use Rattle.dfs_calls.specs.declared.entry.Entry.TheVariants.{Stored}
+use Rattle.std.proofs.Common.{Bool, List, None, Option, Some, ap, arith, false, get_or, inl, inr, is_some, length}
+use Rattle.std.proofs.Common.{nat_le, nat_lt, not, refl, subst, sym, true, ℕ, ◌&&◌, ◌+◌, ◌-◌, ◌<◌, ◌==◌, ◌||◌, ◌∙◌}
+use Rattle.std.proofs.Common.{◌∷◌, ◌≡◌, ◌≤◌}
+use Rattle.std.proofs.lemmas.Bool.{and_parts, false≢true}
+use Rattle.std.proofs.lemmas.Grind.{common_steps}
+use Rattle.std.proofs.lemmas.Option.{slice_get-get_or, slice_get_within}
+use Rattle.std.specs.List.{find}
+use Rattle.std.specs.Option.{option_map_or}
+use Rattle.std.specs.Prelude.{[], if◌then◌else◌, map, max, min, slice_get, unwrap_or}
 use Rattle.dfs_base.specs.Ids.{same_fid}
 use Rattle.dfs_base.specs.Spans.{has_byte, in_spans}
 use Rattle.dfs_base.specs.declared.ids.Fid.{Fid}
 use Rattle.dfs_base.specs.declared.ids.HostId.{HostId}
 use Rattle.dfs_base.specs.declared.limits.TheConstants.{FILE_BYTES_MAX}
 use Rattle.dfs_base.specs.declared.span.Span.{Span}
+use Rattle.dfs_calls.specs.declared.entry.Entry.TheVariants.{Stored}
 use Rattle.dfs_calls.specs.declared.part.Piece.{Piece}
 use Rattle.dfs_filesets.specs.Laws.{is_file_at}
 use Rattle.dfs_filesets.specs.Walk.{object_at, unique_at}
@@ -22,15 +31,6 @@ use Rattle.dfs_tree.specs.WellFormed.{IsWellFormed}
 use Rattle.dfs_tree.specs.declared.tree.Tree.{Tree}
 use Rattle.rpc_types.specs.Soundness.{Each as EachSound}
 use Rattle.rpc_types.specs.declared.giving.Give.{Give}
-use Rattle.std.proofs.Common.{Bool, List, None, Option, Some, ap, arith, false, get_or, inl, inr, is_some}
-use Rattle.std.proofs.Common.{length, nat_le, nat_lt, not, refl, subst, sym, true, ℕ, ◌&&◌, ◌+◌, ◌-◌, ◌<◌}
-use Rattle.std.proofs.Common.{◌==◌, ◌||◌, ◌∙◌, ◌∷◌, ◌≡◌, ◌≤◌}
-use Rattle.std.proofs.lemmas.Bool.{and_parts, false≢true}
-use Rattle.std.proofs.lemmas.Grind.{common_steps}
-use Rattle.std.proofs.lemmas.Option.{slice_get-get_or, slice_get_within}
-use Rattle.std.specs.List.{find}
-use Rattle.std.specs.Option.{option_map_or}
-use Rattle.std.specs.Prelude.{[], if◌then◌else◌, map, max, min, slice_get, unwrap_or}
 use Rattle.tree_laws.proofs.Steps.{fid_is, same_number}
 use Rattle.tree_laws.proofs.Stores.{hosts_store_their_own}
 use Rattle.tree_laws.proofs.TreeFates.{parts_change_so}
@@ -39,12 +39,12 @@ use Rattle.tree_laws.specs.Fates.Fate.{IsStored, Stays}
 use Rattle.tree_laws.specs.Parts.{Cell, Nature, Part, Seen, Written, byte_cell, cell_at, cell_found, cell_in}
 use Rattle.tree_laws.specs.Parts.{object_in, present, settled, size_cell}
 use Rattle.tree_laws.specs.Parts.Part.{ByteAt, Entries, Size, Traits}
-use Rattle.world_deeds.specs.Doing.{stores_part, stores_some}
 use Rattle.world_journal.specs.Told.{byte_in, byte_of}
-use Rattle.world_shows.proofs.Words.{both}
 use Rattle.world_places.specs.Cells.{Does, by, cell_after}
 use Rattle.world_places.specs.Cells.Does.{Nothing}
 use Rattle.world_places.specs.Legal.{LegalSize}
+use Rattle.world_rules.proofs.Words.{both}
+use Rattle.world_rules.specs.Doing.{stores_part, stores_some}
 use Rattle.world_server.specs.Kept.{length_given, takes_gifts}
 use Rattle.world_server.specs.ServerApplies.{span_of}
 

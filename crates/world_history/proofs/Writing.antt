@@ -1,4 +1,9 @@
 -- What an answered call leaves of the tree is what the host's step writes.
+use Rattle.std.proofs.Common.{Bool, Err, List, None, Ok, Option, Result, Some, ap, false, length, nat_le, nat_lt}
+use Rattle.std.proofs.Common.{refl, sym, true, ℕ, ◌&&◌, ◌+◌, ◌-◌, ◌==◌, ◌∙◌, ◌∷◌, ◌≡◌}
+use Rattle.std.proofs.lemmas.Bool.{eqb-true}
+use Rattle.std.specs.Option.{option_map_or}
+use Rattle.std.specs.Prelude.{[], if◌then◌else◌}
 use Rattle.dfs_base.specs.Ids.{same_fid}
 use Rattle.dfs_base.specs.Image.{byte_at}
 use Rattle.dfs_base.specs.Outcomes.{either}
@@ -13,17 +18,12 @@ use Rattle.dfs_needs.specs.Calls.{Verdict}
 use Rattle.dfs_needs.specs.Calls.Verdict.{Replies, Writes}
 use Rattle.dfs_tree.specs.Finding.{has_id}
 use Rattle.host_laws.specs.Losses.{use_of}
-use Rattle.std.proofs.Common.{Bool, Err, List, None, Ok, Option, Result, Some, ap, false, length, nat_le}
-use Rattle.std.proofs.Common.{nat_lt, refl, sym, true, ℕ, ◌&&◌, ◌+◌, ◌-◌, ◌==◌, ◌∙◌, ◌∷◌, ◌≡◌}
-use Rattle.std.proofs.lemmas.Bool.{eqb-true}
-use Rattle.std.specs.Option.{option_map_or}
-use Rattle.std.specs.Prelude.{[], if◌then◌else◌}
 use Rattle.tree_laws.specs.Fates.{Cells, after_fate, if_reached, names_use, write_fate}
 use Rattle.tree_laws.specs.Fates.Fate.{IsWritten, Stays}
 use Rattle.tree_laws.specs.Parts.{Cell, Part, Seen, present}
 use Rattle.tree_laws.specs.Parts.Part.{ByteAt, Entries, Size, Traits}
 use Rattle.world_places.specs.Cells.{written}
-use Rattle.world_shows.specs.Steps.{Written, written_at}
+use Rattle.world_rules.specs.Steps.{Written, written_at}
 
 -- what is left of a part by a Write that found its file
 left_by : (h : HostId) (from : ℕ) (byte : ℕ) (bytes : List ℕ) (cells : Cells) (p : Part) (size : ℕ)

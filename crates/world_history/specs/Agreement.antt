@@ -1,4 +1,5 @@
 -- A tree that agrees with a run at a host's step. Lists of steps have the newest first.
+use Rattle.std.specs.Prelude.{List, Ok, Option, if◌then◌else◌, true, ℕ, ◌==◌, ◌∷◌, ◌≡◌, ◌↔◌}
 use Rattle.dfs_base.specs.declared.ids.Fid.{Fid}
 use Rattle.dfs_base.specs.declared.ids.FilesetId.{FilesetId}
 use Rattle.dfs_base.specs.declared.ids.HostId.{HostId}
@@ -16,19 +17,18 @@ use Rattle.dfs_tree.specs.declared.tree.OpenUse.{OpenUse}
 use Rattle.dfs_tree.specs.declared.tree.Tree.{Tree}
 use Rattle.host_laws.specs.Labels.{UsesAgree}
 use Rattle.script_lines.specs.declared.script.Script.{Script}
-use Rattle.std.specs.Prelude.{List, Ok, Option, if◌then◌else◌, true, ℕ, ◌==◌, ◌∷◌, ◌≡◌, ◌↔◌}
 use Rattle.tok_types.specs.Conflicts.{kinds_conflict}
 use Rattle.tok_types.specs.declared.token.Kind.TheVariants.{Lock as LockToken, Opening}
 use Rattle.tree_laws.specs.Parts.{Part, cell_at}
 use Rattle.world_core.specs.Runs.{IsRun, firsts_of, past_of}
-use Rattle.world_deeds.specs.Doing.{does_first}
-use Rattle.world_deeds.specs.Instance.{IsOfRun}
 use Rattle.world_host.specs.Knowing.{Entered, HasLabel, IsLock, IsOpening}
 use Rattle.world_journal.specs.Histories.{call_entry}
 use Rattle.world_journal.specs.declared.journal.Journal.{Journal}
 use Rattle.world_places.specs.Cells.{cell_after}
 use Rattle.world_places.specs.Contents.{Contents, site}
 use Rattle.world_places.specs.Legal.{Cells, tree}
+use Rattle.world_rules.specs.Doing.{does_first}
+use Rattle.world_rules.specs.Instance.{IsOfRun}
 use Rattle.world_server.specs.Kept.{kept}
 use Rattle.world_server.specs.ServerApplies.{by_cause}
 use Rattle.world_steps.specs.Lists.{Always, In}

@@ -1,8 +1,12 @@
-//! The history of a run, entry by entry: what each step answers, stores and decides is legal in a tree that agrees with
-//! the run, and leaves one that agrees with it. The protocol is this project's own, after Kazar et al., "DEcorum File
+//! In every run contents are coherent; and what hosts answer and servers store and decide is legal, entry by entry, on
+//! each tree that agrees with the run there. The protocol is this project's own, after Kazar et al., "DEcorum File
 //! System Architectural Overview", 1990.
 #![tactic(auto)]
 
 mod laws;
 
-pub use laws::{hosts_answer_legally, servers_store_legally};
+pub use laws::{
+    an_ended_run_leaves_nothing_unsaved, calls_are_answered_from_cache_exactly,
+    hosts_answer_legally, runs_are_coherent, servers_decide_legally, servers_store_legally,
+    unsaved_is_granted,
+};

@@ -12,7 +12,7 @@ use Rattle.dfs_base.specs.declared.ids.Node.TheVariants.{Host, Server}
 use Rattle.dfs_base.specs.declared.ids.ServerId.{ServerId}
 use Rattle.rpc_types.specs.declared.giving.Give.{Give}
 use Rattle.rpc_types.specs.declared.message.Body.{Body}
-use Rattle.rpc_types.specs.declared.message.Body.TheVariants.{GiveBack, Kept}
+use Rattle.rpc_types.specs.declared.message.Body.TheVariants.{Bye, GiveBack, Kept}
 use Rattle.tok_types.specs.declared.token.Token.{Token}
 use Rattle.tok_types.specs.declared.token.TokenId.{TokenId}
 use Rattle.world_doings.proofs.Served.{Next, after_doings, each_next}
@@ -28,27 +28,34 @@ use Rattle.world_steps.proofs.Owed.{Owed}
 use Rattle.world_steps.proofs.Words.{made_at, made_left, of_one}
 use Rattle.world_steps.specs.Acts.Act.{Took}
 use Rattle.world_steps.specs.Acts.{Act, acts, after_step, epoch}
-use Rattle.world_steps.specs.Gives.{Made, number_of}
+use Rattle.world_steps.specs.Gives.{IsKnown, Made, number_of}
 use Rattle.world_steps.specs.Grants.{Applied, Applies, Granted}
 use Rattle.world_steps.specs.HostTokens.{HostTokens}
-use Rattle.world_steps.specs.Hosts.{Away, HasReclaimed, TakesOf}
-use Rattle.world_steps.specs.Lists.{In}
+use Rattle.world_steps.specs.Hosts.{Away, Ends, HasReclaimed, TakesOf}
+use Rattle.world_steps.specs.Lists.{In, Once}
 use Rattle.world_steps.specs.Nodes.{own}
 use Rattle.world_steps.specs.Places.{home}
-use Rattle.world_steps.specs.Sends.{HasKept, Said}
+use Rattle.world_steps.specs.Sends.{HasKept, HasSaid, Said}
 use Rattle.world_steps.specs.TokenRuns.{IsTokenRun, StepMay}
 use Rattle.world_steps.specs.Tokens.{EverHeld, Owns}
 use Rattle.world_steps.specs.declared.step.Labelled.{Labelled}
 use Rattle.world_steps.specs.declared.step.Step.{Step}
 
+-- the give-back was made while the label was in use
+abbrev pub Given : List Step → Labelled → Give → Type 0
+Given A u g = Once (λ before s. InUse before u × In g s.made) A
+
 -- of a host alone
 pub record Labels (A : List Step) : Type 0 where
   pub use_owned : (u : Labelled) → InUse A u → Owns A u.token
+  -- with its Bye all of these are known
+  pub bye_known : (u : Labelled) (g : Give) (v : ServerId) → Given A u g → HasSaid A v Bye → IsKnown A g
   pub kept_use : (i : TokenId) → HasKept A i → (IsUsed A i → ⊥) → (((g : Give) × Made A g × In i g.ids) → ⊥) → ⊥
 
 -- a give-back of the host ends the use, and isn't applied
 pub record Ending (A : List Step) (v : ServerId) (S : List Act) (h : HostId) (u : Labelled) (g : Give) : Type 0 where
   pub made : Made A g
+  pub given : Given A u g
   pub gives : GivesUse g u
   pub not_applied : Applied v S h (number_of g) → ⊥
 
@@ -61,10 +68,22 @@ pub record Uses (h : HostId) (v : ServerId) (A : List Step) (S : List Act) (lk :
       → (Applied v S h (number_of g) → ⊥) → (Away S h → ⊥)
       → ((u : Labelled) → u.token.id ≡ i → GivesUse g u → lk u → ⊥) → ⊥
   pub locked_begun : (u : Labelled) → u.token.id.server ≡ v → lk u → HasBegun A u
+  -- a host that has gone away has none
+  pub none_away : (u : Labelled) → u.token.id.server ≡ v → lk u → Away S h → ⊥
 
-labels_step : (A : List Step) (s : Step) → Labels A → HostUses A s → Labels (s ∷ A)
-labels_step A s old rules = record { use_owned = owned; kept_use = kept }
+given_made : (A : List Step) (u : Labelled) (g : Give) → Given A u g → Made A g
+given_made [] u g e = elim e [ ]
+given_made (s ∷ A) u g (inl x) = inl x.1
+given_made (s ∷ A) u g (inr e) = inr (given_made A u g e)
+
+labels_step : (A : List Step) (s : Step) → Alone A → HostTokens A s → Labels A → HostUses A s → Labels (s ∷ A)
+labels_step A s alone may old rules = record { use_owned = owned; bye_known = known; kept_use = kept }
   where
+    known : (u : Labelled) (g : Give) (v : ServerId) → Given (s ∷ A) u g → HasSaid (s ∷ A) v Bye → IsKnown (s ∷ A) g
+    known u g v given (e, n, inl sends) = may.bye_gives v e n g sends (given_made (s ∷ A) u g given)
+    known u g v (inl x) (e, n, inr said) = absurd (alone.bye_held u.token v (e, n, said) (old.use_owned u x.0))
+    known u g v (inr given) (e, n, inr said) = inr (old.bye_known u g v given (e, n, said))
+
     owned : (u : Labelled) → InUse (s ∷ A) u → Owns (s ∷ A) u.token
     owned u (inl m) = rules.begins u m
     owned u (inr x) = (
@@ -92,7 +111,7 @@ labels_step A s old rules = record { use_owned = owned; kept_use = kept }
         (λ g. none (g.0, inr g.1, g.2))
 
 -- the same for an equal table
-same_uses : (h : HostId) (v : ServerId) (A : List Step) (S : List Act) (old new : Labelled → Type 0)
+pub same_uses : (h : HostId) (v : ServerId) (A : List Step) (S : List Act) (old new : Labelled → Type 0)
     → ((u : Labelled) → u.token.id.server ≡ v → old u → new u)
     → ((u : Labelled) → u.token.id.server ≡ v → new u → old u) → Uses h v A S old → Uses h v A S new
 same_uses h v A S old new to back x = record {
@@ -102,11 +121,12 @@ same_uses h v A S old new to back x = record {
       x.kept_locked g i at m n k not live
       (λ u same gives l. never u same gives (to u (ap (λ (j : TokenId). j.server) same ∙ at) l));
   locked_begun = λ u at l. x.locked_begun u at (back u at l);
+  none_away = λ u at l. x.none_away u at (back u at l);
 }
 
 module _ (h : HostId) (v : ServerId) (A : List Step) (S : List Act) (s : Step) (lk : Labelled → Type 0)
     (link : Link h v A S) (next : Link h v (s ∷ A) S) (labels : Labels A) (labels' : Labels (s ∷ A))
-    (may : HostTokens A s) (rules : HostUses A s) (old : Uses h v A S lk) where
+    (alone : Alone (s ∷ A)) (may : HostTokens A s) (rules : HostUses A s) (old : Uses h v A S lk) where
   not_yet : (g : Give) → In g s.made → Applied v S h (number_of g) → ⊥
   not_yet g m a =
       let k = link.applied_made (number_of g) a in
@@ -125,14 +145,19 @@ module _ (h : HostId) (v : ServerId) (A : List Step) (S : List Act) (s : Step) (
         | inl usage ↦ elim (is_named u.token.id s.made) [
           | inl g ↦ inr (
             g.0,
-            record { made = inl g.1; gives = rules.stay.makes_ends g.0 u g.1 usage g.2; not_applied = not_yet g.0 g.1 },
+            record {
+              made = inl g.1;
+              given = inl (usage, g.1);
+              gives = rules.stay.makes_ends g.0 u g.1 usage g.2;
+              not_applied = not_yet g.0 g.1;
+            },
             inr (owns_ever A u.token (labels.use_owned u usage)),
           )
           | inr none ↦ inl (inr (usage, x.1, λ g m k. none g m k.3))
         ]
         | inr g ↦ inr (
           g.0,
-          record { made = inr g.1.made; gives = g.1.gives; not_applied = g.1.not_applied },
+          record { made = inr g.1.made; given = inr g.1.given; gives = g.1.gives; not_applied = g.1.not_applied },
           inr g.2,
         )
       ]
@@ -173,12 +198,21 @@ module _ (h : HostId) (v : ServerId) (A : List Step) (S : List Act) (s : Step) (
   locked_begun' u at (inl m) = inl m
   locked_begun' u at (inr x) = inr (old.locked_begun u at x.0)
 
+  none_away' : (u : Labelled) → u.token.id.server ≡ v → now u → Away S h → ⊥
+  none_away' u at (inl m) away =
+      elim (link.away away) [
+        | inl stopped ↦ may.live stopped
+        | inr (e, n, said) ↦ alone.bye_held u.token v (e, n, inr said) (labels'.use_owned u (inl m))
+      ]
+  none_away' u at (inr x) away = old.none_away u at x.0 away
+
   uses_step : Uses h v (s ∷ A) S now
   uses_step = record {
     locked_is = locked_is';
     use_locked = use_locked';
     kept_locked = kept_locked';
     locked_begun = locked_begun';
+    none_away = none_away';
   }
 
 -- a server's doing, a restart too
@@ -212,6 +246,7 @@ module _ (h : HostId) (v : ServerId) (A : List Step) (S : List Act) (a : Act) (a
       → Ending A v (a ∷ S) h u g
   still u g at none e = record {
     made = e.made;
+    given = e.given;
     gives = e.gives;
     not_applied = λ r. elim (applied_cases g (link.made_id g u.token.id e.made e.gives.3 at) e.made r) [
       | inl q ↦ e.not_applied q
@@ -261,16 +296,32 @@ module _ (h : HostId) (v : ServerId) (A : List Step) (S : List Act) (a : Act) (a
         λ here f. elim f [ inl e ↦ live (inl (inl e)) | inr y ↦ freed u g here m gives not y ],
       ))
 
+  -- a host ends with nothing in use, and with its give-backs known
+  ends_free : (u : Labelled) → u.token.id.server ≡ v → lk u → Ends S a h → ⊥
+  ends_free u at l ends =
+      let bye : HasSaid A v Bye = (epoch S, ends.0.0, heard (epoch S) ends.0.0 Bye ends.0.1) in
+      elim (old.locked_is u at l (old.none_away u at l)) [
+        | inl usage ↦ alone.bye_held u.token v bye (labels.use_owned u usage)
+        | inr g ↦ g.1.not_applied (link.known (number_of g.0) (link.made_id g.0 u.token.id g.1.made g.1.gives.3 at)
+            (labels.bye_known u g.0 v g.1.given bye))
+      ]
+
+  none_away'' : (u : Labelled) → u.token.id.server ≡ v → left u → Away (a ∷ S) h → ⊥
+  none_away'' u at x (inr away) = old.none_away u at x.0 away
+  none_away'' u at x (inl (inl down)) = x.1 at (inl down)
+  none_away'' u at x (inl (inr ends)) = ends_free u at x.0 ends
+
   uses_act : Uses h v A (a ∷ S) left
   uses_act = record {
     locked_is = locked_is'';
     use_locked = use_locked'';
     kept_locked = kept_locked'';
     locked_begun = λ u at x. old.locked_begun u at x.0;
+    none_away = none_away'';
   }
 
 -- a server's doings, one after the other
-serve : (own_of : HostId → List Step) (alone : (h : HostId) → Alone (own_of h)) (h : HostId) (v : ServerId)
+pub serve : (own_of : HostId → List Step) (alone : (h : HostId) → Alone (own_of h)) (h : HostId) (v : ServerId)
     → Labels (own_of h) → (more S : List Act) (lk : Labelled → Type 0) → AtServer own_of v S
     → Each (Next own_of v) more S → Uses h v (own_of h) S lk
     → Uses h v (own_of h) (after more S) (λ u. lk u × (u.token.id.server ≡ v → FreesAny v more S h u → ⊥))
@@ -319,7 +370,7 @@ module _ (firsts : ServerId → ℕ) where
         (λ two. absurd (two refl))) x
 
     labels_own : Labels (s ∷ own k past)
-    labels_own = labels_step (own k past) s (old.labels k) rules
+    labels_own = labels_step (own k past) s (whole.alone k) may.0 (old.labels k) rules
 
     uses_own : (v : ServerId) → Uses k v (s ∷ own k past) (acts (firsts v) v past) (LockedNow (Host k) past s k)
     uses_own v =
@@ -328,8 +379,8 @@ module _ (firsts : ServerId → ℕ) where
         (λ u _ y. elim y [ inl m ↦ inl (refl, m) | inr q ↦ inr (q.0, λ _. q.1) ])
         (λ u _ y. elim y [ inl m ↦ inl m.1 | inr q ↦ inr (q.0, q.1 refl) ])
         (uses_step k v (own k past) (acts (firsts v) v past) s (Locked firsts past k) ((whole.at v).link k)
-        (mine (λ L. Link k v L (acts (firsts v) v past)) ((next.at v).link k)) (old.labels k) labels_own may.0 rules
-        (old.uses k v))
+        (mine (λ L. Link k v L (acts (firsts v) v past)) ((next.at v).link k)) (old.labels k) labels_own
+        (mine Alone (next.alone k)) may.0 rules (old.uses k v))
 
     host_labels : LabelsAfter (Host k) past s
     host_labels h =
@@ -378,14 +429,19 @@ module _ (firsts : ServerId → ℕ) where
       (host_labels k past s whole next may rules old, host_uses k past s whole next may rules old)
   step (Server k) past s whole next may rules old = (old.labels, server_uses k past s whole may old)
 
-  all_uses : (past : List Step) → IsTokenRun firsts past → UsesRun past → AllUses past
+  pub all_uses : (past : List Step) → IsTokenRun firsts past → UsesRun past → AllUses past
   all_uses [] run rules = record {
-    labels = λ h. record { use_owned = λ u e. elim e [ ]; kept_use = λ i e. elim e [ ] };
+    labels = λ h. record {
+      use_owned = λ u e. elim e [ ];
+      bye_known = λ u g v e. elim e [ ];
+      kept_use = λ i e. elim e [ ];
+    };
     uses = λ h v. record {
       locked_is = λ u at e. elim e [ ];
       use_locked = λ u at e. elim e [ ];
       kept_locked = λ g i at m. elim m [ ];
       locked_begun = λ u at e. elim e [ ];
+      none_away = λ u at e. elim e [ ];
     };
   }
   all_uses (s ∷ past) run rules =
@@ -401,7 +457,7 @@ module _ (firsts : ServerId → ℕ) where
     w = always firsts past run
 
     -- a label in use in the tree has a token that is owed
-    locked_owed : (h : HostId) (u : Labelled) → Locked firsts past h u
+    pub locked_owed : (h : HostId) (u : Labelled) → Locked firsts past h u
         → (Away (issuer_acts firsts past u.token) h → ⊥)
         → Owed u.token.id.server (issuer_acts firsts past u.token) u.token × (u.token.host ≡ h)
     locked_owed h u l live =

@@ -1,11 +1,12 @@
 -- What a host changes when it answers a Write, and under which tokens.
-use Rattle.std.proofs.Common.{◌≡◌, ℕ, ◌<◌, ◌≤◌, ◌+◌, ◌-◌, ◌&&◌, Bool, true, false, if◌then◌else◌, nat_lt, nat_le, Option}
-use Rattle.std.proofs.Common.{Some, None, List, [], ◌∷◌, length, min, inl, inr, sym, ◌∙◌, ap, subst, refl, arith}
+use Rattle.std.proofs.Common.{◌≡◌, ℕ, ◌<◌, ◌≤◌, ◌+◌, ◌-◌, ◌&&◌, Bool, true, false, if◌then◌else◌, nat_lt, nat_le}
+use Rattle.std.proofs.Common.{Option, Some, None, List, [], ◌∷◌, length, min, inl, inr, sym, ◌∙◌, ap, subst, refl}
+use Rattle.std.proofs.Common.{arith}
+use Rattle.std.proofs.lemmas.Bool.{and_parts, false≢true}
+use Rattle.std.proofs.lemmas.Grind.{common_steps}
 use Rattle.std.specs.List.{list_any}
 use Rattle.std.specs.Option.{option_map_or}
 use Rattle.std.specs.Prelude.{is_some, unwrap_or}
-use Rattle.std.proofs.lemmas.Bool.{and_parts, false≢true}
-use Rattle.std.proofs.lemmas.Grind.{common_steps}
 use Rattle.dfs_base.specs.Ids.{same_fid}
 use Rattle.dfs_base.specs.Image.{byte_at}
 use Rattle.dfs_base.specs.Spans.{has_byte}
@@ -33,10 +34,10 @@ use Rattle.world_host.specs.Views.{sees as host_sees, writes_to}
 use Rattle.world_journal.specs.Told.{byte_of}
 use Rattle.world_places.specs.Contents.{Contents, Knows, KnowsFile, Over, OwnsUpdate, sees, view}
 use Rattle.world_rules.proofs.Calls.{gives_none, stays}
-use Rattle.world_shows.proofs.Views.{one_alone, sees_same}
+use Rattle.world_rules.proofs.Views.{one_alone, sees_same}
+use Rattle.world_rules.proofs.Words.{any_in}
 use Rattle.world_rules.proofs.WriteLooks.{WriteLook, of_write}
-use Rattle.world_shows.proofs.Words.{any_in}
-use Rattle.world_shows.specs.Steps.{HostRun, IsOfJournal, Written, written_at, written_by, written_in, wrote}
+use Rattle.world_rules.specs.Steps.{HostRun, IsOfJournal, Written, written_at, written_by, written_in, wrote}
 use Rattle.world_steps.specs.Lists.{In}
 use Rattle.world_steps.specs.Tokens.{AtHand, Owns}
 use Rattle.world_steps.specs.declared.applied.Answer.{Answer}

@@ -1,6 +1,6 @@
 -- The calls of a host: one is open at a time, it is the last that was begun, and what a give-back ends is an open call.
-use Rattle.std.proofs.Common.{◌≡◌, ℕ, ◌≤◌, ◌+◌, Bool, true, false, if◌then◌else◌, suc, Some, None, List, []}
-use Rattle.std.proofs.Common.{◌∷◌, Option, length, inl, inr, sym, ◌∙◌, ap, subst, refl, arith}
+use Rattle.std.proofs.Common.{◌≡◌, ℕ, ◌≤◌, ◌+◌, Bool, true, false, if◌then◌else◌, suc, Some, None, List, [], ◌∷◌}
+use Rattle.std.proofs.Common.{Option, length, inl, inr, sym, ◌∙◌, ap, subst, refl, arith}
 use Rattle.std.proofs.lemmas.List.Sums.{sum_by-cons}
 use Rattle.std.specs.Prelude.{cond, count_by, is_some}
 use Rattle.dfs_base.specs.declared.ids.HostId.{HostId}
@@ -8,13 +8,8 @@ use Rattle.dfs_calls.specs.declared.call.Call.{Call}
 use Rattle.rpc_types.specs.declared.giving.Ends.{Ends}
 use Rattle.rpc_types.specs.declared.giving.Give.{Give}
 use Rattle.script_lines.specs.declared.script.Deed.{Deed}
-use Rattle.script_lines.specs.declared.script.Deed.TheVariants.{
-  Call as MakesCall,
-  Raise,
-  Await,
-  Stop,
-  Restart as Restarts,
-}
+use Rattle.script_lines.specs.declared.script.Deed.TheVariants.{Call as MakesCall, Raise, Await, Stop}
+use Rattle.script_lines.specs.declared.script.Deed.TheVariants.{Restart as Restarts}
 use Rattle.script_lines.specs.declared.script.Script.{Script}
 use Rattle.tok_types.specs.declared.token.Token.{Token}
 use Rattle.world_host.specs.HostLines.{DoesDeed}
@@ -22,9 +17,9 @@ use Rattle.world_host.specs.HostRules.{HostMeets}
 use Rattle.world_host.specs.Labels.{InUse, end_of}
 use Rattle.world_host.specs.OpenCalls.{Begins, IsOpen, NoneOpen, calls_begun}
 use Rattle.world_journal.specs.Lines.{servers_of}
-use Rattle.world_shows.proofs.Gives.{held_owns}
-use Rattle.world_shows.proofs.Views.{one_alone}
-use Rattle.world_shows.specs.Steps.{HostRun}
+use Rattle.world_rules.proofs.Gives.{held_owns}
+use Rattle.world_rules.proofs.Views.{one_alone}
+use Rattle.world_rules.specs.Steps.{HostRun}
 use Rattle.world_steps.specs.Gives.{Made}
 use Rattle.world_steps.specs.Lists.{In}
 use Rattle.world_steps.specs.Tokens.{AtHand, Drops, Owns}

@@ -4,20 +4,8 @@ use Rattle.std.proofs.Common.{Result, Ok, Err, inl, inr, sym, ◌∙◌, ap, sub
 use Rattle.std.proofs.lemmas.Bool.{false≢true}
 use Rattle.std.specs.Prelude.{not}
 use Rattle.dfs_base.specs.Access.{allows}
-use Rattle.dfs_base.specs.Outcomes.{either}
+use Rattle.dfs_base.specs.Outcomes.{either, and_then}
 use Rattle.dfs_base.specs.Spans.{has_byte}
-use Rattle.dfs_calls.specs.declared.reply.Refusal.TheVariants.{Denied, IsDir, NotDir}
-use Rattle.dfs_calls.specs.declared.reply.Reply.TheVariants.{Refused}
-use Rattle.dfs_filesets.specs.Rights.{execute_right}
-use Rattle.dfs_filesets.specs.Walk.{entry_or_none}
-use Rattle.dfs_needs.specs.Calls.Verdict.{Replies}
-use Rattle.dfs_needs.specs.Looks.{outcome}
-use Rattle.dfs_needs.specs.Walks.{fid_in, permitted, rights_on}
-use Rattle.dfs_objects.specs.Entries.{entry_named}
-use Rattle.dfs_objects.specs.Spans.{whole}
-use Rattle.dfs_tree.specs.Locks.{has_lock}
-use Rattle.dfs_tree.specs.Opens.{has_open}
-use Rattle.dfs_base.specs.Outcomes.{and_then}
 use Rattle.dfs_base.specs.declared.ids.Fid.{Fid}
 use Rattle.dfs_base.specs.declared.ids.FilesetId.{FilesetId}
 use Rattle.dfs_base.specs.declared.ids.HostId.{HostId}
@@ -27,14 +15,23 @@ use Rattle.dfs_calls.specs.declared.call.Call.{Call}
 use Rattle.dfs_calls.specs.declared.call.Call.TheVariants.{CloseFile, Sync, Unlock}
 use Rattle.dfs_calls.specs.declared.place.Place.{Place}
 use Rattle.dfs_calls.specs.declared.reply.Refusal.{Refusal}
-use Rattle.dfs_calls.specs.declared.reply.Refusal.TheVariants.{NotLocked, NotOpened}
+use Rattle.dfs_calls.specs.declared.reply.Refusal.TheVariants.{Denied, IsDir, NotDir, NotLocked, NotOpened}
+use Rattle.dfs_calls.specs.declared.reply.Reply.TheVariants.{Refused}
+use Rattle.dfs_filesets.specs.Rights.{execute_right}
+use Rattle.dfs_filesets.specs.Walk.{entry_or_none}
 use Rattle.dfs_needs.proofs.Updates.{needs_on}
 use Rattle.dfs_needs.specs.Calls.{Own, call_look, from_root, refuse, sync_look, sync_verdict}
-use Rattle.dfs_needs.specs.Calls.Verdict.{Frees, Gives}
-use Rattle.dfs_needs.specs.Looks.{IsFirstLack, Look, View, after_check, checked, kind_for, look_on, needs_of, refuse_if}
+use Rattle.dfs_needs.specs.Calls.Verdict.{Replies, Frees, Gives}
+use Rattle.dfs_needs.specs.Looks.{outcome, IsFirstLack, Look, View, after_check, checked, kind_for, look_on, needs_of}
+use Rattle.dfs_needs.specs.Looks.{refuse_if}
 use Rattle.dfs_needs.specs.Looks.Look.{Ends, Looks}
 use Rattle.dfs_needs.specs.Shows.{is_update, shows}
-use Rattle.dfs_needs.specs.Walks.{file_look, nature_look, root_of, search_look, step_look, target_look, walk_look}
+use Rattle.dfs_needs.specs.Walks.{fid_in, permitted, rights_on, file_look, nature_look, root_of, search_look}
+use Rattle.dfs_needs.specs.Walks.{step_look, target_look, walk_look}
+use Rattle.dfs_objects.specs.Entries.{entry_named}
+use Rattle.dfs_objects.specs.Spans.{whole}
+use Rattle.dfs_tree.specs.Locks.{has_lock}
+use Rattle.dfs_tree.specs.Opens.{has_open}
 use Rattle.rpc_types.specs.declared.asking.Fetch.{Fetch as FetchOf}
 use Rattle.script_lines.specs.declared.script.Script.{Script}
 use Rattle.tok_types.specs.declared.token.Kind.{Kind}

@@ -17,12 +17,12 @@ use Rattle.tok_types.specs.Conflicts.{need_of}
 use Rattle.tok_types.specs.declared.token.Token.{Token}
 use Rattle.tree_laws.specs.Parts.{Part}
 use Rattle.world_core.specs.Runs.{StepMeets, StepsMeet}
-use Rattle.world_shows.specs.Laws.{DonesAreBlind, DonesShowNothing, EachSent, GrantsAreAsked, GrantsAtNode}
-use Rattle.world_shows.specs.Laws.{GrantsBringNeeds, SentAtNode}
+use Rattle.world_rules.specs.Laws.{DonesAreBlind, DonesShowNothing, EachSent, GrantsAreAsked, GrantsAtNode}
+use Rattle.world_rules.specs.Laws.{GrantsBringNeeds, SentAtNode}
 use Rattle.world_steps.proofs.Words.{acts_after, if_host, if_server, own_after}
+use Rattle.world_steps.specs.Acts.{Act, SentTo, acts, admitted_by, admitting, after_cause, after_step, deciding}
+use Rattle.world_steps.specs.Acts.{epoch, sending, sent_by, written_by}
 use Rattle.world_steps.specs.Acts.Act.{Admits, Begins, Flushes, Reserves, Sent, Took, Wants, Writes}
-use Rattle.world_steps.specs.Acts.{Act, SentTo, acts, admitted_by, admitting, after_cause, after_step, deciding, epoch}
-use Rattle.world_steps.specs.Acts.{sending, sent_by, written_by}
 use Rattle.world_steps.specs.Hosts.{TookNow}
 use Rattle.world_steps.specs.Lists.{In, after}
 use Rattle.world_steps.specs.Nodes.{own}
@@ -30,23 +30,11 @@ use Rattle.world_steps.specs.Sends.{Said}
 use Rattle.world_steps.specs.TokenRuns.{CameToServer}
 use Rattle.world_steps.specs.declared.applied.Admission.{Admission}
 use Rattle.world_steps.specs.declared.applied.Applied.{Applied}
-use Rattle.world_steps.specs.declared.applied.Applied.TheVariants.{
-  Stored,
-  Ends,
-  IsDown,
-  Wants as IsWanted,
-  Done as IsDone,
-}
+use Rattle.world_steps.specs.declared.applied.Applied.TheVariants.{Stored, Ends, IsDown, Wants as IsWanted}
+use Rattle.world_steps.specs.declared.applied.Applied.TheVariants.{Done as IsDone}
 use Rattle.world_steps.specs.declared.step.Cause.{Cause}
-use Rattle.world_steps.specs.declared.step.Cause.TheVariants.{
-  Message as Came,
-  Restart,
-  Flushed,
-  Line,
-  Lapse,
-  Evict,
-  End,
-}
+use Rattle.world_steps.specs.declared.step.Cause.TheVariants.{Message as Came, Restart, Flushed, Line, Lapse, Evict}
+use Rattle.world_steps.specs.declared.step.Cause.TheVariants.{End}
 use Rattle.world_steps.specs.declared.step.Step.{Step}
 
 -- a Fetch that asks for what the Grant brings was taken

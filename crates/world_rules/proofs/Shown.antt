@@ -9,17 +9,17 @@ use Rattle.script_lines.specs.declared.script.Script.{Script}
 use Rattle.world_core.specs.Runs.{StepMeets, StepsMeet, firsts_of, past_of}
 use Rattle.world_places.specs.Contents.{Contents, HostShows}
 use Rattle.world_rules.proofs.Answers.{writes', writes_below', writes_file', writes_kept', writes_only'}
-use Rattle.world_shows.proofs.Asks.{fetches_so}
-use Rattle.world_shows.proofs.Gives.{gives_show}
-use Rattle.world_shows.proofs.Grants.{bring_needs}
-use Rattle.world_shows.proofs.Runs.{own_run}
-use Rattle.world_shows.proofs.Sends.{show_nothing}
+use Rattle.world_rules.proofs.Asks.{fetches_so}
+use Rattle.world_rules.proofs.Gives.{gives_show}
+use Rattle.world_rules.proofs.Grants.{bring_needs}
+use Rattle.world_rules.proofs.Runs.{own_run}
+use Rattle.world_rules.proofs.Sends.{show_nothing}
 use Rattle.world_rules.proofs.Servers.{heard, sensible}
 use Rattle.world_rules.proofs.Stays.{takes_stay}
-use Rattle.world_shows.proofs.Takes.{takes_show}
-use Rattle.world_shows.proofs.Writes.{writes_grow}
-use Rattle.world_shows.specs.Laws.{AtNode, EachOwn, HoldsInRuns}
-use Rattle.world_shows.specs.Steps.{IsOfJournal}
+use Rattle.world_rules.proofs.Takes.{takes_show}
+use Rattle.world_rules.proofs.Writes.{writes_grow}
+use Rattle.world_rules.specs.Laws.{AtNode, EachOwn, HoldsInRuns}
+use Rattle.world_rules.specs.Steps.{IsOfJournal}
 use Rattle.world_steps.specs.Acts.{acts}
 use Rattle.world_steps.specs.Nodes.{own}
 use Rattle.world_steps.specs.declared.step.Step.{Step}

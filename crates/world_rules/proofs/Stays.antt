@@ -15,6 +15,7 @@ use Rattle.rpc_types.specs.declared.message.Message.{Message}
 use Rattle.rpc_types.specs.declared.telling.Bring.{Bring}
 use Rattle.rpc_types.specs.declared.telling.Done.{Done as DoneOf}
 use Rattle.rpc_types.specs.declared.telling.Grant.{Grant as GrantOf}
+use Rattle.rpc_types.specs.declared.tokens.Revoke.{Revoke as RevokeOf}
 use Rattle.script_lines.specs.declared.script.Script.{Script}
 use Rattle.tok_types.specs.Conflicts.{need_of}
 use Rattle.tok_types.specs.declared.token.Token.{Token}
@@ -27,14 +28,13 @@ use Rattle.world_host.specs.Labels.{end_of}
 use Rattle.world_host.specs.OpenCalls.{IsEnded, IsOpen, IsTurn}
 use Rattle.world_journal.specs.Lines.{limit_of}
 use Rattle.world_rules.proofs.Calls.{given_call, one_open, use_owned}
-use Rattle.world_shows.proofs.Gives.{owns_held}
+use Rattle.world_rules.proofs.Gives.{owns_held}
 use Rattle.world_rules.proofs.Reading.{ReadsOnly, Suits, end_suits, new_suits}
 use Rattle.world_rules.proofs.Servers.{Sensible}
-use Rattle.world_shows.proofs.Words.{byte_covers, byte_update, size_covers, size_update}
-use Rattle.world_shows.specs.Steps.{HostRun}
-use Rattle.world_steps.specs.Acts.Act.{Took}
+use Rattle.world_rules.proofs.Words.{byte_covers, byte_update, size_covers, size_update}
+use Rattle.world_rules.specs.Steps.{HostRun}
 use Rattle.world_steps.specs.Acts.{Act, SentTo}
-use Rattle.rpc_types.specs.declared.tokens.Revoke.{Revoke as RevokeOf}
+use Rattle.world_steps.specs.Acts.Act.{Took}
 use Rattle.world_steps.specs.Epochs.{ComesIn}
 use Rattle.world_steps.specs.Floors.{Answers}
 use Rattle.world_steps.specs.Lists.{In}

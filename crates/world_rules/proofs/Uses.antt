@@ -1,15 +1,15 @@
 -- In a run each host's steps meet the rules of labels.
-use Rattle.std.proofs.Common.{◌≡◌, ℕ, ◌⊎◌, Bool, true, false, if◌then◌else◌, Some, None, List, [], ◌∷◌}
-use Rattle.std.proofs.Common.{inl, inr, sym, ◌∙◌, ap, subst, refl, arith}
+use Rattle.std.proofs.Common.{◌≡◌, ℕ, ◌⊎◌, Bool, true, false, if◌then◌else◌, Some, None, List, [], ◌∷◌, inl, inr, sym}
+use Rattle.std.proofs.Common.{◌∙◌, ap, subst, refl, arith}
 use Rattle.std.proofs.lemmas.Bool.{false≢true}
 use Rattle.std.specs.Prelude.{max, not, ◌<◌}
+use Rattle.dfs_base.specs.Name.{same_name}
 use Rattle.dfs_base.specs.declared.ids.HostId.{HostId}
 use Rattle.dfs_base.specs.declared.ids.Node.{Node}
 use Rattle.dfs_base.specs.declared.ids.Node.TheVariants.{Host, Server}
 use Rattle.dfs_base.specs.declared.ids.OpenKind.{OpenKind}
 use Rattle.dfs_base.specs.declared.ids.ServerId.{ServerId}
 use Rattle.dfs_base.specs.declared.span.Span.{Span}
-use Rattle.dfs_base.specs.Name.{same_name}
 use Rattle.dfs_base.specs.declared.user.User.{User}
 use Rattle.dfs_calls.specs.declared.call.Call.{Call}
 use Rattle.dfs_calls.specs.declared.call.Call.TheVariants.{CloseFile, Lock as LockCall, OpenFile, Unlock}
@@ -24,11 +24,11 @@ use Rattle.dfs_needs.specs.Looks.{View, outcome}
 use Rattle.dfs_needs.specs.Looks.Look.{Ends}
 use Rattle.dfs_tree.specs.Locks.{has_lock}
 use Rattle.dfs_tree.specs.Opens.{has_open}
+use Rattle.dfs_tree.specs.declared.tree.Tree.{Tree}
 use Rattle.script_lines.specs.declared.script.Script.{Script}
 use Rattle.tok_types.specs.declared.token.Kind.{Kind}
 use Rattle.tok_types.specs.declared.token.Kind.TheVariants.{Bytes, Lock, Opening, Status}
 use Rattle.tok_types.specs.declared.token.Token.{Token}
-use Rattle.dfs_tree.specs.declared.tree.Tree.{Tree}
 use Rattle.world_core.proofs.TokenRun.{token_run}
 use Rattle.world_core.specs.Runs.{IsRun, StepMeets, StepsMeet, firsts_of, past_of}
 use Rattle.world_host.specs.HostAnswers.{IsExact}
@@ -39,30 +39,30 @@ use Rattle.world_host.specs.Views.{sees as host_sees}
 use Rattle.world_journal.specs.declared.journal.Journal.{Journal}
 use Rattle.world_labels.specs.Uses.{HostUses, StepUses, UsesRun}
 use Rattle.world_rules.proofs.Calls.{gives_none, stays, use_owned}
-use Rattle.world_shows.proofs.Gives.{owns_held}
-use Rattle.world_shows.proofs.Runs.{own_run}
-use Rattle.world_shows.proofs.Views.{one_alone}
-use Rattle.world_shows.specs.Steps.{HostRun}
+use Rattle.world_rules.proofs.Gives.{owns_held}
+use Rattle.world_rules.proofs.Runs.{own_run}
+use Rattle.world_rules.proofs.Views.{one_alone}
+use Rattle.world_rules.specs.Steps.{HostRun}
 use Rattle.world_steps.specs.Lists.{In}
 use Rattle.world_steps.specs.Nodes.{own}
 use Rattle.world_steps.specs.Sends.{HasKept}
-use Rattle.world_steps.specs.Tokens.{Held}
 use Rattle.world_steps.specs.TokenRuns.{IsTokenRun}
+use Rattle.world_steps.specs.Tokens.{Held}
 use Rattle.world_steps.specs.declared.applied.Answer.{Answer}
 use Rattle.world_steps.specs.declared.step.Labelled.{Labelled}
 use Rattle.world_steps.specs.declared.step.Step.{Step}
 
 -- a lock or an open token
-abbrev IsUse : Kind → Type 0
+abbrev pub IsUse : Kind → Type 0
 IsUse k = ((w : Bool) × (span : Span) × (k ≡ Lock w span)) ⊎ ((o : OpenKind) × (k ≡ Opening o))
 
-exact_use : (call : Call) (u : Labelled) → IsExact call u → IsUse u.token.kind
+pub exact_use : (call : Call) (u : Labelled) → IsExact call u → IsUse u.token.kind
 exact_use (LockCall label place writing from len) u x = inl (writing, x.1.0, x.1.1)
 exact_use (OpenFile label place kind) u x = inr (kind, x.1)
 exact_use _ u x = elim x [ ]
 
 -- two labels with one end have one name
-end_label : (k l : Kind) (a b : List ℕ) → end_call k a ≡ end_call l b → a ≡ b
+pub end_label : (k l : Kind) (a b : List ℕ) → end_call k a ≡ end_call l b → a ≡ b
 end_label (Opening j) (Opening k) a b e = let q : CloseFile a ≡ CloseFile b = e in cc
 end_label (Opening j) (Bytes u s) a b e = absurd (let q : CloseFile a ≡ Unlock b = e in cc)
 end_label (Opening j) (Status u) a b e = absurd (let q : CloseFile a ≡ Unlock b = e in cc)
@@ -102,13 +102,13 @@ close_so view own host user label gives e =
 
 module _ (script : Script) (host : HostId) where
   -- what began has a lock or an open token
-  begun_use : (past : List Step) → HostRun script host past → (u : Labelled) → HasBegun past u → IsUse u.token.kind
+  pub begun_use : (past : List Step) → HostRun script host past → (u : Labelled) → HasBegun past u → IsUse u.token.kind
   begun_use [] run u b = elim b [ ]
   begun_use (s ∷ past) run u (inl i) =
       let b = run.1.answers.begins u i in exact_use b.0.call u b.3
   begun_use (s ∷ past) run u (inr b) = begun_use past run.0 u b
 
-  used_begun : (past : List Step) (u : Labelled) → InUse past u → HasBegun past u
+  pub used_begun : (past : List Step) (u : Labelled) → InUse past u → HasBegun past u
   used_begun [] u i = i
   used_begun (s ∷ past) u (inl i) = inl i
   used_begun (s ∷ past) u (inr x) = inr (used_begun past u x.0)

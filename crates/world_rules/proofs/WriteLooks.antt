@@ -1,23 +1,10 @@
 -- What the look of a call has seen, and needs, where it ends in a Write.
-use Rattle.std.proofs.Common.{◌≡◌, ℕ, ◌+◌, Bool, true, false, if◌then◌else◌, nat_lt, Some, None, List, [], ◌∷◌}
-use Rattle.std.proofs.Common.{◌++◌, Option, Result, Ok, Err, length, inl, inr, sym, ◌∙◌, ap, subst, refl}
-use Rattle.std.specs.Prelude.{nat_le}
-use Rattle.std.specs.Prelude.{min, not}
+use Rattle.std.proofs.Common.{◌≡◌, ℕ, ◌+◌, Bool, true, false, if◌then◌else◌, nat_lt, Some, None, List, [], ◌∷◌, ◌++◌}
+use Rattle.std.proofs.Common.{Option, Result, Ok, Err, length, inl, inr, sym, ◌∙◌, ap, subst, refl}
 use Rattle.std.proofs.lemmas.Bool.{false≢true}
+use Rattle.std.specs.Prelude.{nat_le, min, not}
 use Rattle.dfs_base.specs.Access.{allows}
-use Rattle.dfs_base.specs.Outcomes.{and_then}
-use Rattle.dfs_calls.specs.declared.part.DirEntry.{DirEntry}
-use Rattle.dfs_calls.specs.declared.reply.Refusal.TheVariants.{Denied, NotLocked, NotOpened}
-use Rattle.dfs_calls.specs.declared.reply.Reply.TheVariants.{Ok as Done, Bytes as BytesRead, Names, Facts, Access}
-use Rattle.dfs_filesets.specs.Rights.{read_right}
-use Rattle.dfs_filesets.specs.Uses.{is_changing, right_to_open}
-use Rattle.dfs_filesets.specs.Walk.{entry_or_none}
-use Rattle.dfs_needs.specs.Calls.{entries_for, list_for, lock_for, open_for, read_from, refuse}
-use Rattle.dfs_needs.specs.Questions.Question.{ChangeAt, ChangeIn, EnterAt}
-use Rattle.dfs_needs.specs.Walks.{permitted, rights_on, search_look, use_look}
-use Rattle.dfs_objects.specs.Entries.{entry_named, names_of}
-use Rattle.dfs_objects.specs.Spans.{span_between}
-use Rattle.dfs_base.specs.Outcomes.{either}
+use Rattle.dfs_base.specs.Outcomes.{and_then, either}
 use Rattle.dfs_base.specs.declared.ids.Fid.{Fid}
 use Rattle.dfs_base.specs.declared.ids.FilesetId.{FilesetId}
 use Rattle.dfs_base.specs.declared.ids.HostId.{HostId}
@@ -25,44 +12,36 @@ use Rattle.dfs_base.specs.declared.ids.ServerId.{ServerId}
 use Rattle.dfs_base.specs.declared.limits.TheConstants.{FILE_BYTES_MAX, LABELS_MAX}
 use Rattle.dfs_base.specs.declared.user.User.{User}
 use Rattle.dfs_calls.specs.declared.call.Call.{Call}
-use Rattle.dfs_calls.specs.declared.call.Call.TheVariants.{
-  NewFileset,
-  Create,
-  MakeDir,
-  Remove,
-  Rename,
-  Truncate,
-  SetAcl,
-  CloneFileset,
-  Read,
-  Write,
-  List as ListNames,
-  Stat,
-  GetAcl,
-  Sync,
-  Lock,
-  Unlock,
-  OpenFile,
-  CloseFile,
-  MoveFileset,
-}
+use Rattle.dfs_calls.specs.declared.call.Call.TheVariants.{NewFileset, Create, MakeDir, Remove, Rename, Truncate}
+use Rattle.dfs_calls.specs.declared.call.Call.TheVariants.{SetAcl, CloneFileset, Read, Write, List as ListNames, Stat}
+use Rattle.dfs_calls.specs.declared.call.Call.TheVariants.{GetAcl, Sync, Lock, Unlock, OpenFile, CloseFile}
+use Rattle.dfs_calls.specs.declared.call.Call.TheVariants.{MoveFileset}
+use Rattle.dfs_calls.specs.declared.part.DirEntry.{DirEntry}
 use Rattle.dfs_calls.specs.declared.place.Place.{Place}
 use Rattle.dfs_calls.specs.declared.reply.Refusal.{Refusal}
-use Rattle.dfs_calls.specs.declared.reply.Refusal.TheVariants.{AlreadyLocked, AlreadyOpened, IsDir, NoEntry, ReadOnly}
-use Rattle.dfs_calls.specs.declared.reply.Refusal.TheVariants.{TooBig, TooMany}
+use Rattle.dfs_calls.specs.declared.reply.Refusal.TheVariants.{Denied, NotLocked, NotOpened, AlreadyLocked}
+use Rattle.dfs_calls.specs.declared.reply.Refusal.TheVariants.{AlreadyOpened, IsDir, NoEntry, ReadOnly, TooBig}
+use Rattle.dfs_calls.specs.declared.reply.Refusal.TheVariants.{TooMany}
+use Rattle.dfs_calls.specs.declared.reply.Reply.TheVariants.{Ok as Done, Bytes as BytesRead, Names, Facts, Access}
 use Rattle.dfs_calls.specs.declared.reply.Reply.TheVariants.{Refused}
-use Rattle.dfs_filesets.specs.Rights.{write_right}
+use Rattle.dfs_filesets.specs.Rights.{read_right, write_right}
+use Rattle.dfs_filesets.specs.Uses.{is_changing, right_to_open}
+use Rattle.dfs_filesets.specs.Walk.{entry_or_none}
 use Rattle.dfs_needs.proofs.Looking.{outcome_on}
 use Rattle.dfs_needs.proofs.Rows.{outcome_judged}
 use Rattle.dfs_needs.proofs.Updates.{needs_on}
-use Rattle.dfs_needs.specs.Calls.{Own, Verdict, access_look, call_look, change_look, facts_for, fits_file, from_root}
-use Rattle.dfs_needs.specs.Calls.{in_place, judged, list_look, lock_look, open_look, read_look, stat_look, sync_look}
+use Rattle.dfs_needs.specs.Calls.{entries_for, list_for, lock_for, open_for, read_from, refuse, Own, Verdict}
+use Rattle.dfs_needs.specs.Calls.{access_look, call_look, change_look, facts_for, fits_file, from_root, in_place}
+use Rattle.dfs_needs.specs.Calls.{judged, list_look, lock_look, open_look, read_look, stat_look, sync_look}
 use Rattle.dfs_needs.specs.Calls.{sync_verdict, write_look, write_target_look, written_look}
 use Rattle.dfs_needs.specs.Calls.Verdict.{Asks, Frees, Gives, Locks, Opens, Replies, Writes}
 use Rattle.dfs_needs.specs.Looks.{Look, View, after_check, checked, needs_of, outcome, refuse_if, rounded}
 use Rattle.dfs_needs.specs.Looks.Look.{Ends, Takes}
-use Rattle.dfs_needs.specs.Walks.{file_look, fid_in, nature_look, permitted_look, root_of, step_look, target_look}
-use Rattle.dfs_needs.specs.Walks.{walk_look}
+use Rattle.dfs_needs.specs.Questions.Question.{ChangeAt, ChangeIn, EnterAt}
+use Rattle.dfs_needs.specs.Walks.{permitted, rights_on, search_look, use_look, file_look, fid_in, nature_look}
+use Rattle.dfs_needs.specs.Walks.{permitted_look, root_of, step_look, target_look, walk_look}
+use Rattle.dfs_objects.specs.Entries.{entry_named, names_of}
+use Rattle.dfs_objects.specs.Spans.{span_between}
 use Rattle.dfs_tree.specs.Finding.{found_or}
 use Rattle.dfs_tree.specs.Locks.{has_lock, lock_count}
 use Rattle.dfs_tree.specs.Opens.{has_open, open_count}

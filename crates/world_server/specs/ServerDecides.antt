@@ -12,7 +12,8 @@ use Rattle.dfs_tree.specs.declared.tree.Tree.{Tree}
 use Rattle.world_server.specs.Kept.{kept_after}
 use Rattle.world_server.specs.ServerAnswers.{TakenNow}
 use Rattle.world_server.specs.Wants.{CanGrant, CanRefuse, IsOld, IsReady, NoneWaits, Waits, body_of, has_effect}
-use Rattle.world_server.specs.Wants.{is_move, needs_for, row_needs}
+use Rattle.tok_types.specs.declared.token.Need.{Need}
+use Rattle.world_server.specs.Wants.{is_move, is_use, needs_for, row_needs}
 use Rattle.world_steps.specs.Hosts.{NoGrace}
 use Rattle.world_steps.specs.Lists.{In}
 use Rattle.world_steps.specs.Places.{Here, place}
@@ -70,9 +71,13 @@ RefusedOn tree host change refusal =
 abbrev pub NotRefused : Tree → HostId → ChangeOf → Type 0
 NotRefused tree host change = (refusal : Refusal) → RefusedOn tree host change refusal → ⊥
 
--- the want of a Change is still what its row of the call table gives
+-- what a lock or an open wants is on the file that its host found at its path
+abbrev pub IsOnFound : List Need → ChangeOf → Type 0
+IsOnFound needs change = is_use change.call ≡ true → (need : Need) → In need needs → need.fid ≡ change.fid
+
+-- the want of a Change is still what its row of the call table gives, and its path names the file that the host found
 abbrev pub IsOfRow : Tree → Wanted → ChangeOf → Type 0
-IsOfRow tree w change = w.needs ≡ row_needs tree w.host change
+IsOfRow tree w change = (w.needs ≡ row_needs tree w.host change) × IsOnFound w.needs change
 
 -- what a want that meets a pinned token is refused with
 abbrev pub refusal_of : Call → Refusal

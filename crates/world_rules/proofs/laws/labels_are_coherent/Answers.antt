@@ -1,7 +1,7 @@
-use Rattle.world_rules.proofs.laws.labels_are_coherent.Goals as goal
 use Rattle.world_core.specs.Runs.{firsts_of, past_of}
 use Rattle.world_labels.proofs.Law.{locked_granted, locks_apart, pinned_locked}
 use Rattle.world_rules.proofs.Uses.{run_tokens, run_uses}
+use Rattle.world_rules.proofs.laws.labels_are_coherent.Goals as goal
 
 pub returns : goal.returns
 returns c = record {

@@ -1,4 +1,0 @@
-pub mod Lists
-pub mod Stances
-pub mod Answered
-pub mod Ended

@@ -1,4 +1,0 @@
-pub mod Sound
-pub mod Keeping
-pub mod Steps
-pub mod Tokens

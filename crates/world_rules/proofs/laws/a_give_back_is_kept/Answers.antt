@@ -1,0 +1,5 @@
+use Rattle.world_rules.proofs.KeptGives.{gives_keep}
+use Rattle.world_rules.proofs.laws.a_give_back_is_kept.Goals as goal
+
+pub returns : goal.returns
+returns c = gives_keep

@@ -1,0 +1,10 @@
+pub mod Gives
+pub mod Starts
+pub mod Alike
+pub mod Steps
+pub mod Laws
+pub mod Keeping
+pub mod Calls
+pub mod Tokens
+pub mod Doing
+pub mod Instance
