@@ -1,0 +1,4 @@
+pub mod Tellings
+pub mod Beginnings
+pub mod Closings
+pub mod Example

@@ -1,0 +1,35 @@
+-- The passes of the nodes of the ring.
+use Rattle.std.proofs.Common.{◌≡◌, List, [], ◌∷◌, map, length, refl, sym, ap, ◌∙◌, subst}
+use Rattle.std.specs.List.{All}
+use Rattle.std.proofs.lemmas.List.{length-map}
+use Rattle.std.proofs.lemmas.List.Elements.{All-cons, All-head, All-map, All-nil, All-tail}
+use Rattle.world_hub.specs.Meetings.{AreAllPasses}
+use Rattle.world_hub.specs.Views.{HubView, NodeView}
+use Rattle.hub_tests.specs.declared.member.Member.{Member}
+
+abbrev pass_of : Member → NodeView
+pass_of m = m.pass
+
+module _ (hub : HubView) where
+  abbrev Ours : NodeView → Type 0
+  Ours p = p.hub ≡ hub.id
+
+  abbrev HasOurs : Member → Type 0
+  HasOurs m = m.pass.hub ≡ hub.id
+
+  pub ours_of : (members : List Member) (passes : List NodeView) → map (λ (m : Member). m.pass) members ≡ passes
+      → All Ours passes → All HasOurs members
+  ours_of [] passes are h = All-nil HasOurs
+  ours_of (m ∷ ms) passes are h =
+      let all = subst (All Ours) (sym are) h in
+      All-cons HasOurs m ms (All-head Ours m.pass (map pass_of ms) all)
+      (ours_of ms (map pass_of ms) refl (All-tail Ours m.pass (map pass_of ms) all))
+
+  -- they are all passes as before
+  pub all_of : (members worked : List Member) (before passes : List NodeView) → AreAllPasses hub before
+      → map (λ (m : Member). m.pass) members ≡ before → length worked ≡ length members → All HasOurs worked
+      → passes ≡ map (λ (m : Member). m.pass) worked → AreAllPasses hub passes
+  all_of members worked before passes h were count each are = record {
+    of_hub = subst (All Ours) (sym are) (All-map Ours pass_of worked each);
+    all = ap length are ∙ length-map worked pass_of ∙ count ∙ sym (length-map members pass_of) ∙ ap length were ∙ h.all;
+  }
