@@ -340,6 +340,7 @@ changed_list page which block entries old new before after same changed = record
   turns = changed.turns;
   anode = changed.anode ∙ list_same which block entries (anode_in old before page) same;
   tidy = changed.tidy;
+  trimmed = changed.trimmed;
   renewed = changed.renewed;
 }
 

@@ -1,2 +1,12 @@
 pub mod Found
 pub mod Formatted
+pub mod Reformed
+pub mod Left
+pub mod Standing
+pub mod Opened
+pub mod Mounted
+pub mod Steps
+pub mod Leaving
+pub mod Again
+pub mod Mounting
+pub mod Reopened

@@ -1,7 +1,13 @@
 -- Why an aggregate was not opened.
-use Rattle.std.specs.Prelude.{IsTrue, ⊤}
+use Rattle.std.specs.Prelude.{◌≡◌, ℕ, Some, IsTrue, ⊤}
 use Rattle.dfs_base.specs.Faults.{RoseBy}
+use Rattle.dfs_base.specs.Crash.{IsQuiet}
 use Rattle.dfs_base.specs.View.{View}
+use Rattle.ep_anode.specs.declared.fault.NodeFault.{NodeFault}
+use Rattle.ep_anode.specs.declared.fault.NodeFault.TheVariants as nodes
+use Rattle.ep_check.specs.declared.fault.CheckRefused.{CheckRefused}
+use Rattle.ep_check.specs.declared.fault.CheckRefused.TheVariants as checks
+use Rattle.ep_image.specs.Refused.{refused_at}
 use Rattle.ep_log.specs.declared.fault.LogFault.{LogFault}
 use Rattle.ep_log.specs.declared.fault.LogFault.TheVariants as logs
 use Rattle.ep_aggregate.specs.declared.refused.MountRefused.{MountRefused}
@@ -10,6 +16,27 @@ use Rattle.ep_aggregate.specs.declared.refused.MountRefused.TheVariants.{NotAggr
 abbrev pub log_refused : LogFault → MountRefused
 log_refused logs.Failed = Failed
 log_refused _ = Memory
+
+abbrev pub node_refused : NodeFault → MountRefused
+node_refused nodes.Failed = Failed
+node_refused nodes.Memory = Memory
+
+-- where a log is opened that was one
+abbrev pub opening_fault : LogFault → NodeFault
+opening_fault logs.Failed = nodes.Failed
+opening_fault _ = nodes.Memory
+
+abbrev pub check_refused : CheckRefused → MountRefused
+check_refused checks.Failed = Failed
+check_refused checks.Memory = Memory
+
+-- Why a mount for a server was refused, where so many servers are declared: the disk failed, memory ran out, or its
+-- bytes are refused at this place, and none was changed.
+abbrev pub IsRefused : Type 0 → ℕ → ℕ → MountRefused → View → View → Type 0
+IsRefused tells server servers (NotAggregate place) old new =
+    IsQuiet old new × (tells → refused_at server servers old.image ≡ Some place)
+IsRefused tells server servers Failed old new = RoseBy 1 old.faults new.faults × IsTrue new.last_failed
+IsRefused tells server servers Memory old new = ⊤
 
 -- The disk failed, or memory ran out.
 abbrev pub IsOpenFault : MountRefused → View → View → Type 0

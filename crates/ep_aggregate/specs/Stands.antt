@@ -1,5 +1,5 @@
 -- An aggregate that stands.
-use Rattle.std.specs.Prelude.{◌≡◌, ◌≤◌, ℕ, ◌+◌}
+use Rattle.std.specs.Prelude.{◌≡◌, ◌≤◌, ℕ, ◌+◌, true}
 use Rattle.dfs_base.specs.Crash.{IsSettled}
 use Rattle.dfs_base.specs.View.{View}
 use Rattle.dfs_store.specs.MapStores.{kept_in}
@@ -17,7 +17,7 @@ state_in aggregate = kept_in aggregate.store
 abbrev pub disk_in : {D : Type 0} → Aggregate D → D
 disk_in aggregate = disk_of aggregate.log
 
--- A number that rose by as many as acts were done and logs opened since the mount, at most.
+-- A number that rose by so many since the mount, at most.
 abbrev pub IsUnworn : ℕ → ℕ → Type 0
 IsUnworn wear number = number ≤ 9223372036854775808 + wear
 
@@ -36,6 +36,7 @@ pub record StandsOn {D : Type 0}
   pub blocks_are : tells → (state_of log).superblock.blocks ≡ state.capacity + 1024
   pub least : tells → 68 ≤ state.capacity
 
--- An aggregate may be asked: its log holds what it keeps in memory.
+-- An aggregate may be asked: it is open, and its log holds what it keeps in memory.
 abbrev pub Stands : {D : Type 0} → Type 0 → (D → View) → Aggregate D → Type 0
-Stands tells view aggregate = StandsOn tells view (state_in aggregate) aggregate.wear aggregate.log
+Stands tells view aggregate =
+    (aggregate.is_open ≡ true) × StandsOn tells view (state_in aggregate) aggregate.wear aggregate.log

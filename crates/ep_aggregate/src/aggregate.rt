@@ -1,34 +1,68 @@
-ghost use Rattle.std.specs.Prelude.{◌≡◌, ◌≢◌, ◌≤◌, length, IfOk, IfErr};
+ghost use Rattle.std.specs.Prelude.{
+  ◌≡◌,
+  ◌≢◌,
+  ◌≤◌,
+  ◌<◌,
+  ◌+◌,
+  ◌^◌,
+  true,
+  false,
+  None,
+  length,
+  IfOk,
+  IfErr,
+  OnOk,
+  OnErr,
+};
+ghost use Rattle.dfs_base.specs.Crash.{IsSettled};
 ghost use Rattle.dfs_base.specs.Image.{byte_at};
 ghost use Rattle.dfs_base.specs.declared.limits.TheConstants.{SERVERS_MAX, CAPACITY_MIN, CAPACITY_MAX};
 ghost use Rattle.dfs_outside.specs.Runs.{LeavesOnly};
 ghost use Rattle.rpc_types.specs.Soundness.{IsServer};
 ghost use Rattle.store_state.specs.Capacity.{capacity_of};
 ghost use Rattle.store_state.specs.State.{new_state};
+ghost use Rattle.store_state.specs.declared.state.StoreState.{StoreState as State};
+ghost use Rattle.ep_anode.specs.Faults.{IsNodeFault};
+ghost use Rattle.ep_image.specs.Refused.{refused_at};
+ghost use Rattle.ep_log.specs.Contents.{contents_of, last_stage, stage_in};
+ghost use Rattle.ep_log.specs.Log.{disk_of, state_of, IsIdle};
+ghost use Rattle.ep_log.specs.State.{free_in};
+ghost use Rattle.ep_pages.specs.Server.{is_server_page};
 
-use crate::refused::MountRefused;
+use crate::opening::{judge, read_back};
+use crate::refused::{MountRefused, opening_fault};
 use dfs_base::{Disk, NoMemory, ServerId};
 use dfs_calls::Roster;
 use dfs_store::MapStore;
+use ep_anode::NodeFault;
 use ep_log::Log;
 use std::alloc::Global;
 
 // Blocks that are not offered to promises.
 const SPARE: u32 = 1_024;
 
+// Beyond this a number is worn.
+const WORN: u64 = 9_223_372_036_854_775_808;
+
+// By how many generations an opening of the log leaves it at most.
+const OPENING_WEAR: u64 = 2;
+
 /// A server's store on a disk.
 #[derive(Drop)]
 pub struct Aggregate<D: Disk> {
-    log: Log<D>,
+    pub(crate) log: Log<D>,
     // What the log keeps, in memory.
-    store: MapStore,
-    // How many acts were done, and logs opened, since the mount, at most.
-    wear: u64,
+    pub(crate) store: MapStore,
+    // By how much a number rose since the mount, at most.
+    pub(crate) wear: u64,
+    // Whether the log holds what is in memory. Not after a fault, till the log was opened again.
+    pub(crate) is_open: bool,
 }
 
 impl<D: Disk> Aggregate<D> {
-    ghost use Rattle.ep_aggregate.specs.Records.{HasRecord, IsLeftOfFormat};
-    ghost use Rattle.ep_aggregate.specs.Refused.{IsOpenFault};
+    ghost use Rattle.ep_aggregate.specs.Opening.{Opens, IsLeftReformed, HasStore, HoldsStore};
+    ghost use Rattle.ep_aggregate.specs.Records.{HasRecord, HasSameRecord, IsLeftOfFormat};
+    ghost use Rattle.ep_aggregate.specs.Refused.{IsRefused, IsOpenFault};
     ghost use Rattle.ep_aggregate.specs.Stands.{Stands, state_in as kept_in, disk_in};
 
     /// Formats a disk as the aggregate of a server of a roster, with the capacity that the roster gives it. What is on
@@ -69,9 +103,149 @@ impl<D: Disk> Aggregate<D> {
                 log,
                 store,
                 wear: 0,
+                is_open: true,
             }),
             Err((disk, fault)) => Err((disk, MountRefused::from(fault))),
         }
+    }
+
+    /// Mounts the aggregate of a server on a disk. The disk is judged as it is found: it answers `NotAggregate` exactly
+    /// where the bytes have no image for the server, name a server that the roster doesn't declare, or are worn, with
+    /// the place; not a byte is written then. `Failed` comes only where the disk's count of faults rose. Each error
+    /// hands the disk back, with the same record. Else the aggregate keeps the record of the disk's image, and a disk
+    /// of format 1 is one of format 2 from now on. A crash at any moment of the call leaves what a crash before could
+    /// leave, or the same record again.
+    pub fn mount(
+        alloc: Global,
+        disk: D,
+        server: ServerId,
+        roster: &Roster,
+    ) -> Result<Aggregate<D>, (D, MountRefused)>
+        requires servers { length roster.now.capacity ≤ SERVERS_MAX }
+        ensures own { IfOk result (λ aggregate.
+            ((kept_in aggregate).server ≡ server) × ((kept_in aggregate).roster ≡ roster.now)) }
+        ensures taken { D.tells
+            → OnOk result (refused_at server.0 (length roster.now.capacity) (D.view disk).image ≡ None) }
+        ensures stands { IfOk result (λ aggregate. Stands D.tells D.view aggregate) }
+        ensures kept { D.tells → IfOk result
+            (λ aggregate. HasRecord (kept_in aggregate) (D.view disk).image) }
+        ensures record { D.tells → IfOk result (λ aggregate. HasSameRecord roster.now server
+            (D.view disk).image (D.view (disk_in aggregate)).image) }
+        ensures record_err { D.tells → IfErr result
+            (λ e. HasSameRecord roster.now server (D.view disk).image (D.view e.0).image) }
+        ensures crash { D.tells → IfOk result (λ aggregate. LeavesOnly
+            (HasSameRecord roster.now server (D.view disk).image) (D.view disk) (D.view (disk_in aggregate))) }
+        ensures crash_err { D.tells → IfErr result (λ e. LeavesOnly
+            (HasSameRecord roster.now server (D.view disk).image) (D.view disk) (D.view e.0)) }
+        ensures counted { IfOk result (λ aggregate. (D.view disk).faults ≤ (D.view (disk_in aggregate)).faults) }
+        ensures counted_err { IfErr result (λ e. (D.view disk).faults ≤ (D.view e.0).faults) }
+        ensures only { IfErr result
+            (λ e. IsRefused D.tells server.0 (length roster.now.capacity) e.1 (D.view disk) (D.view e.0)) }
+    {
+        let mut disk = disk;
+        if let Err(refused) = judge(alloc, &mut disk, server, roster) {
+            return Err((disk, refused));
+        }
+        match Log::mount(alloc, disk) {
+            Ok(log) => Aggregate::open(alloc, log, server, roster),
+            Err((disk, fault)) => Err((disk, MountRefused::from(fault))),
+        }
+    }
+
+    // The aggregate behind a log just mounted.
+    fn open(
+        alloc: Global,
+        log: Log<D>,
+        server: ServerId,
+        roster: &Roster,
+    ) -> Result<Aggregate<D>, (D, MountRefused)>
+        requires idle { IsIdle D.tells D.view log }
+        requires last { last_stage (contents_of D.view log) ≡ 0 }
+        requires settled { IsSettled (D.view (disk_of log)) }
+        requires room { 3 ≤ free_in (state_of log) }
+        ensures opens { IfOk result (λ aggregate.
+            Opens D.tells D.view server roster.now 9223372036854775808 (kept_in aggregate) log aggregate.log) }
+        ensures wear { IfOk result (λ aggregate. aggregate.wear ≡ 0) }
+        ensures open { IfOk result (λ aggregate. aggregate.is_open ≡ true) }
+        ensures crash { D.tells → is_server_page (stage_in (contents_of D.view log) 0 0) ≡ true
+            → IfOk result (λ aggregate. LeavesOnly
+            (IsLeftReformed D.view log) (D.view (disk_of log)) (D.view (disk_in aggregate))) }
+        ensures crash_err { D.tells → is_server_page (stage_in (contents_of D.view log) 0 0) ≡ true
+            → IfErr result (λ e. LeavesOnly (IsLeftReformed D.view log) (D.view (disk_of log)) (D.view e.0)) }
+        ensures counted { IfOk result
+            (λ aggregate. (D.view (disk_of log)).faults ≤ (D.view (disk_in aggregate)).faults) }
+        ensures counted_err { IfErr result (λ e. (D.view (disk_of log)).faults ≤ (D.view e.0).faults) }
+        ensures only { IfErr result (λ e. IsOpenFault e.1 (D.view (disk_of log)) (D.view e.0)) }
+    {
+        let mut log = log;
+        match read_back(alloc, &mut log, server, roster, WORN) {
+            Ok(state) => Ok(Aggregate {
+                log,
+                store: MapStore::from_state(state),
+                wear: 0,
+                is_open: true,
+            }),
+            Err(fault) => Err((log.into_disk(), MountRefused::from(fault))),
+        }
+    }
+
+    // Reads back what the log holds, which was just mounted again.
+    fn read_again(&mut self) -> Result<(), NodeFault>
+        requires idle { IsIdle D.tells D.view self.old.log }
+        requires last { last_stage (contents_of D.view self.old.log) ≡ 0 }
+        requires settled { IsSettled (D.view (disk_in self.old)) }
+        requires room { 3 ≤ free_in (state_of self.old.log) }
+        requires unworn { self.old.wear < 2 ^ 49 }
+        ensures opens { OnOk result (Opens D.tells D.view (kept_in self.old).server (kept_in self.old).roster
+            (9223372036854775808 + self.old.wear) (kept_in self.new) self.old.log self.new.log) }
+        ensures open { OnOk result (self.new.is_open ≡ true) }
+        ensures shut { OnErr result (self.new.is_open ≡ self.old.is_open) }
+        ensures memory { OnErr result (kept_in self.new ≡ kept_in self.old) }
+        ensures wear { self.new.wear ≡ self.old.wear }
+        ensures crash { D.tells → is_server_page (stage_in (contents_of D.view self.old.log) 0 0) ≡ true
+            → LeavesOnly (IsLeftReformed D.view self.old.log) (D.view (disk_in self.old)) (D.view (disk_in self.new)) }
+        ensures counted { (D.view (disk_in self.old)).faults ≤ (D.view (disk_in self.new)).faults }
+        ensures only { IfErr result
+            (λ fault. IsNodeFault fault (D.view (disk_in self.old)) (D.view (disk_in self.new))) }
+    {
+        let known = self.store.state();
+        let alloc = known.slots.alloc();
+        let most = WORN + self.wear;
+        let state = read_back(alloc, &mut self.log, known.server, &known.roster, most)?;
+        self.store = MapStore::from_state(state);
+        self.is_open = true;
+        Ok(())
+    }
+
+    /// Mounts the log of its own disk again, as after a fault, and reads back what it holds. The errors are `Failed`
+    /// and `Memory`; after either it isn't open, and is to be opened again. How worn the disk is isn't judged. A crash
+    /// at any moment of the call leaves what a crash before could leave, or the same record again.
+    pub(crate) fn open_again(&mut self) -> Result<(), NodeFault>
+        requires unworn { self.old.wear < 2 ^ 48 }
+        ensures stands { (D.tells → (state : State) × HoldsStore D.view state self.old)
+            → OnOk result (Stands D.tells D.view self.new) }
+        ensures state { D.tells → (state : State) → HoldsStore D.view state self.old
+            → OnOk result (kept_in self.new ≡ state) }
+        ensures left { D.tells → (state : State) → HoldsStore D.view state self.old
+            → HasStore self.new.wear state (D.view (disk_in self.new)).image }
+        ensures memory { OnErr result (kept_in self.new ≡ kept_in self.old) }
+        ensures server { (kept_in self.new).server ≡ (kept_in self.old).server }
+        ensures roster { (kept_in self.new).roster ≡ (kept_in self.old).roster }
+        ensures open { OnOk result (self.new.is_open ≡ true) }
+        ensures shut { OnErr result (self.new.is_open ≡ false) }
+        ensures wear { self.new.wear ≡ self.old.wear + 2 }
+        ensures crash { D.tells → (state : State) → HoldsStore D.view state self.old
+            → LeavesOnly (HasRecord state) (D.view (disk_in self.old)) (D.view (disk_in self.new)) }
+        ensures counted { (D.view (disk_in self.old)).faults ≤ (D.view (disk_in self.new)).faults }
+        ensures only { IfErr result
+            (λ fault. IsNodeFault fault (D.view (disk_in self.old)) (D.view (disk_in self.new))) }
+    {
+        self.is_open = false;
+        self.wear += OPENING_WEAR;
+        if let Err(fault) = self.log.reopen() {
+            return Err(opening_fault(fault));
+        }
+        self.read_again()
     }
 
     /// The disk. What is kept in memory is gone.
@@ -82,6 +256,7 @@ impl<D: Disk> Aggregate<D> {
             log,
             store: _store,
             wear: _wear,
+            is_open: _is_open,
         } = self;
         log.into_disk()
     }

@@ -1,11 +1,13 @@
 //! The aggregate of a server: its filesets, the numbers of its hosts' requests and its facts, on a disk behind a
-//! write-ahead log, with a copy in memory of which all that is told comes.
+//! write-ahead log, with a copy in memory of which all that is told comes. It is formatted or mounted. A disk is
+//! judged as it is found, before a byte of it is written.
 //!
 //! After S. Chutani et al., "The Episode File System", 1992: an aggregate holds many filesets, shares its blocks among
 //! them, and is recovered by its log.
 #![tactic(auto)]
 
 mod aggregate;
+mod opening;
 mod refused;
 
 pub use aggregate::Aggregate;

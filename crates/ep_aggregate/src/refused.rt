@@ -1,8 +1,10 @@
 ghost use Rattle.std.specs.Prelude.{◌≡◌};
-ghost use Rattle.ep_aggregate.specs.Refused.{log_refused};
+ghost use Rattle.ep_aggregate.specs.Refused.{log_refused, node_refused, check_refused, opening_fault};
 ghost use Rattle.ep_aggregate.specs.declared.refused.MountRefused.TheVariants.{Memory};
 
 use dfs_base::NoMemory;
+use ep_anode::NodeFault;
+use ep_check::CheckRefused;
 use ep_log::LogFault;
 
 /// Why a disk wasn't mounted, or formatted.
@@ -18,6 +20,17 @@ pub enum MountRefused {
     Memory,
 }
 
+impl From<CheckRefused> for MountRefused {
+    ghost from_gives = { λ refused e. e ≡ check_refused refused };
+
+    fn from(refused: CheckRefused) -> Self {
+        match refused {
+            CheckRefused::Failed => MountRefused::Failed,
+            CheckRefused::Memory => MountRefused::Memory,
+        }
+    }
+}
+
 // A log that was judged answers nothing else.
 impl From<LogFault> for MountRefused {
     ghost from_gives = { λ fault e. e ≡ log_refused fault };
@@ -30,10 +43,31 @@ impl From<LogFault> for MountRefused {
     }
 }
 
+impl From<NodeFault> for MountRefused {
+    ghost from_gives = { λ fault e. e ≡ node_refused fault };
+
+    fn from(fault: NodeFault) -> Self {
+        match fault {
+            NodeFault::Failed => MountRefused::Failed,
+            NodeFault::Memory => MountRefused::Memory,
+        }
+    }
+}
+
 impl From<NoMemory> for MountRefused {
     ghost from_gives = { λ _ e. e ≡ Memory };
 
     fn from(_error: NoMemory) -> Self {
         MountRefused::Memory
+    }
+}
+
+/// What the opening of a log answers that was one: nothing else than that the disk failed, or memory ran out.
+pub(crate) fn opening_fault(fault: LogFault) -> NodeFault
+    ensures { result ≡ opening_fault fault }
+{
+    match fault {
+        LogFault::Failed => NodeFault::Failed,
+        LogFault::Memory | LogFault::Full { .. } | LogFault::NotALog(_) => NodeFault::Memory,
     }
 }

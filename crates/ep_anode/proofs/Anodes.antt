@@ -10,7 +10,7 @@ use Rattle.ep_layout.specs.Numbers.{number_at}
 use Rattle.ep_layout.proofs.Bytes.{number-same}
 use Rattle.ep_log.specs.State.{State}
 use Rattle.ep_anode.specs.Node.{pointer_of, pointer_at, byte_under, cell, names, node_in, HasLength, SameFacts}
-use Rattle.ep_anode.specs.Anode.{Anode, anode_of, byte_length, bytes_of, length_for, text_at, content_at, over, written, IsTidy, with_list}
+use Rattle.ep_anode.specs.Anode.{Anode, anode_of, byte_length, bytes_of, length_for, text_at, content_at, over, written, IsTidy, IsTrimmed, with_list}
 use Rattle.ep_anode.specs.Changes.{IsSpare, is_shared, IsLoose, WritesLoose, Turns, Laid, Saved, Turned, WroteLoose, Replaced, Renews}
 use Rattle.ep_anode.specs.declared.node.Node.{Node}
 use Rattle.ep_anode.proofs.Renewing.{renews_on, renews_as, ranged_on}
@@ -217,16 +217,14 @@ module _ (page n kept from : ℕ) (piece : List ℕ) (node laid sized stored : N
   pointer_on : (v : ℕ) → v < 68 → v ≢ 15 → pointer_of stored v ≡ pointer_of laid v
   pointer_on v below apart = saved.pointers v below apart ∙ length_pointers n laid sized has v
 
-  tidy_on : ((k : ℕ) → byte_length (byte_at node.page 0) n ≤ k → k < 65536 → k / 1024 ≡ byte_length (byte_at node.page 0) n / 1024 → IsTidy before node → over from piece (λ m. content_at before node kept m) k ≡ 0)
-      → ((i : ℕ) → i < 64 → byte_length (byte_at node.page 0) n ≤ 1024 * i → IsTidy before node → pointer_of laid (pointer_at i) ≡ 0)
+  tidy_on : ((k : ℕ) → byte_length (byte_at node.page 0) n ≤ k → k < 65536 → 1024 * (k / 1024) < byte_length (byte_at node.page 0) n → byte_at node.page 0 ≡ 1 → IsTidy before node → over from piece (λ m. content_at before node kept m) k ≡ 0)
       → IsTidy before node → IsTidy after stored
-  tidy_on past gone tidy = record {
+  tidy_on past tidy = record {
     first = λ k some low. beside_on.low k (omega arith) ∙ tidy.first k some low;
     owner = λ k le lt. (let e = beside_on.high 76 (omega arith) in beside_on.high k (omega arith) ∙ tidy.owner k (omega (arith, e, le)) lt);
     group = λ k le lt. (let e = beside_on.high 137 (omega arith) in beside_on.high k (omega arith) ∙ tidy.group k (omega (arith, e, le)) lt);
     behind = λ k le lt. facts_2.behind k le ∙ (let e = has.map in λ i. byte_at (e i) k) ∙ facts.behind k le ∙ tidy.behind k le lt;
-    past = λ k le lt same. cells_on k lt ∙ past k (omega (arith, bytes_on, le)) lt (same ∙ (λ i. bytes_on i / 1024)) tidy;
-    none = λ i lt le. (let p = pointer_in i lt in pointer_on (pointer_at i) p.1 p.2 ∙ gone i lt (omega (arith, bytes_on, le)) tidy);
+    past = λ dir k le lt same. cells_on k lt ∙ past k (omega (arith, bytes_on, le)) lt (omega (arith, bytes_on, same)) (sym (beside_on.low 0 (omega arith)) ∙ dir) tidy;
     range = ranged_on node stored old before there (facts_2.blocks ∙ has.blocks ∙ facts.blocks) renews_stored tidy.range;
     lists = λ w lt zero. pointer_on w (omega arith) (λ e. absurd (omega (arith, e, lt))) ∙ done.own w lt ∙ tidy.lists w lt
         (λ k low. sym (cell_on w k (omega arith) (λ e. absurd (omega (arith, e, lt))) low ∙ done.lists w k lt low) ∙ zero k low);
@@ -234,8 +232,8 @@ module _ (page n kept from : ℕ) (piece : List ℕ) (node laid sized stored : N
 
   pub turned_on : (update : Anode → Anode) (content : ℕ → ℕ) → record (anode_of before node) { length = n; content = content } ≡ update (anode_of before node)
       → ((k : ℕ) → (if nat_lt k (byte_length (byte_at node.page 0) n) then over from piece (λ m. content_at before node kept m) k else 0) ≡ content k)
-      → ((k : ℕ) → byte_length (byte_at node.page 0) n ≤ k → k < 65536 → k / 1024 ≡ byte_length (byte_at node.page 0) n / 1024 → IsTidy before node → over from piece (λ m. content_at before node kept m) k ≡ 0)
-      → ((i : ℕ) → i < 64 → byte_length (byte_at node.page 0) n ≤ 1024 * i → IsTidy before node → pointer_of laid (pointer_at i) ≡ 0)
+      → ((k : ℕ) → byte_length (byte_at node.page 0) n ≤ k → k < 65536 → 1024 * (k / 1024) < byte_length (byte_at node.page 0) n → byte_at node.page 0 ≡ 1 → IsTidy before node → over from piece (λ m. content_at before node kept m) k ≡ 0)
+      → ((i : ℕ) → i < 64 → byte_length (byte_at node.page 0) n ≤ 1024 * i → IsTrimmed node → pointer_of laid (pointer_at i) ≡ 0)
       → Turned page update node old before new after
   turned_on update content is same past gone = record {
     turns = turns_on;
@@ -246,7 +244,8 @@ module _ (page n kept from : ℕ) (piece : List ℕ) (node laid sized stored : N
         (λ k. content_by after stored (byte_length (byte_at node.page 0) n) (over from piece (λ m. content_at before node kept m)) (length_most (byte_at node.page 0) n)
         (λ i j lt low. (let p = pointer_in i lt in cell_on (pointer_at i) j p.1 p.2 low) ∙ done.cells i j lt low) k ∙ same k)
         ∙ is;
-    tidy = λ tidy. subst (λ (x : Node). IsTidy after x) (sym saved.there) (tidy_on past gone tidy);
+    tidy = λ tidy. subst (λ (x : Node). IsTidy after x) (sym saved.there) (tidy_on past tidy);
+    trimmed = λ trimmed. subst IsTrimmed (sym saved.there) (λ i lt le. (let p = pointer_in i lt in pointer_on (pointer_at i) p.1 p.2 ∙ gone i lt (omega (arith, bytes_on, le)) trimmed));
     alone = subst (λ (x : Node). is_shared new after x ≡ false) (sym saved.there) saved.alone;
   }
 
@@ -321,8 +320,8 @@ module _ (node laid : Node) (facts : SameFacts node laid) (end : ℕ) where
       by (inr (e, low)) = inr (e, no_longer (byte_at node.page 0) (number_at 4 8 node.page) end low)
 
   pub written_past : (before : List ℕ) (from kept : ℕ) (piece : List ℕ) → end ≡ from + length piece → end ≤ 65536 → (kept ≡ bytes_of node) ⊎ ((kept ≡ 65536) × (end ≤ bytes_of node))
-      → (k : ℕ) → byte_length (byte_at node.page 0) length_needed ≤ k → k < 65536 → k / 1024 ≡ byte_length (byte_at node.page 0) length_needed / 1024 → IsTidy before node → over from piece (λ m. content_at before node kept m) k ≡ 0
-  written_past before from kept piece is le how k high lt block tidy =
+      → (k : ℕ) → byte_length (byte_at node.page 0) length_needed ≤ k → k < 65536 → 1024 * (k / 1024) < byte_length (byte_at node.page 0) length_needed → byte_at node.page 0 ≡ 1 → IsTidy before node → over from piece (λ m. content_at before node kept m) k ≡ 0
+  written_past before from kept piece is le how k high lt block dir tidy =
       let kind = byte_at node.page 0 in
       let n = number_at 4 8 node.page in
       let same : byte_length kind length_needed ≡ byte_length kind (max n (length_for kind end)) = (λ i. byte_length kind (length_same i)) in
@@ -337,12 +336,12 @@ module _ (node laid : Node) (facts : SameFacts node laid) (end : ℕ) where
           let less = no_longer (byte_at node.page 0) (number_at 4 8 node.page) end low in
           let size : bytes_of node ≡ byte_length (byte_at node.page 0) length_needed = omega (arith, same, more, less) in
           let test : nat_lt k kept ≡ true = (let below : k < kept = omega (arith, e, lt) in grind (arith, nat_tests)) in
-          (λ j. if test j then cell before node (pointer_at (k / 1024)) (k % 1024) else 0) ∙ tidy.past k (omega (arith, size, high)) lt (block ∙ (λ i. sym size i / 1024))
+          (λ j. if test j then cell before node (pointer_at (k / 1024)) (k % 1024) else 0) ∙ tidy.past dir k (omega (arith, size, high)) lt (omega (arith, size, block))
 
-  -- and no pointer is past it
+  -- and no pointer is past it, where none was
   pub written_gone : (before : List ℕ) (old mid : State) (middle : List ℕ) (from kept : ℕ) (piece : List ℕ) → end ≡ from + length piece → end ≤ 65536 → (kept ≡ bytes_of node) ⊎ ((kept ≡ 65536) × (end ≤ bytes_of node))
-      → Laid kept from piece node old before laid mid middle → (i : ℕ) → i < 64 → byte_length (byte_at node.page 0) length_needed ≤ 1024 * i → IsTidy before node → pointer_of laid (pointer_at i) ≡ 0
-  written_gone before old mid middle from kept piece is le how done i lt high tidy =
+      → Laid kept from piece node old before laid mid middle → (i : ℕ) → i < 64 → byte_length (byte_at node.page 0) length_needed ≤ 1024 * i → IsTrimmed node → pointer_of laid (pointer_at i) ≡ 0
+  written_gone before old mid middle from kept piece is le how done i lt high trimmed =
       let kind = byte_at node.page 0 in
       let n = number_at 4 8 node.page in
       let same : byte_length kind length_needed ≡ byte_length kind (max n (length_for kind end)) = (λ j. byte_length kind (length_same j)) in
@@ -354,7 +353,7 @@ module _ (node laid : Node) (facts : SameFacts node laid) (end : ℕ) where
           → end ≤ byte_length (byte_at node.page 0) (max (number_at 4 8 node.page) (length_for (byte_at node.page 0) end))
           → bytes_of node ≤ byte_length (byte_at node.page 0) (max (number_at 4 8 node.page) (length_for (byte_at node.page 0) end)) → pointer_of laid (pointer_at i) ≡ 0
       by (inl e) same far more = done.past i lt (omega (arith, e, same, more, high)) (omega (arith, is, same, far, high))
-      by (inr (e, low)) same far more = done.same i lt (omega (arith, e, lt)) (omega (arith, is, same, far, high)) ∙ tidy.none i lt (omega (arith, same, more, high))
+      by (inr (e, low)) same far more = done.same i lt (omega (arith, e, lt)) (omega (arith, is, same, far, high)) ∙ trimmed i lt (omega (arith, same, more, high))
 
 -- a list that was written
 module _ (page which : ℕ) (bytes : List ℕ) (node changed stored : Node) (old mid new : State) (before middle after : List ℕ) (low : which < 3) (blocks : mid.superblock.blocks ≡ old.superblock.blocks)
@@ -387,18 +386,18 @@ module _ (page which : ℕ) (bytes : List ℕ) (node changed stored : Node) (old
   list_size : bytes_of stored ≡ bytes_of node
   list_size = (let e = list_beside.low 0 (omega arith) in λ i. byte_length (e i) (list_length i))
 
-  list_past : IsTidy before node → (k : ℕ) → bytes_of stored ≤ k → k < 65536 → k / 1024 ≡ bytes_of stored / 1024 → cell after stored (pointer_at (k / 1024)) (k % 1024) ≡ 0
-  list_past tidy k le lt same =
+  list_past : IsTidy before node → byte_at stored.page 0 ≡ 1 → (k : ℕ) → bytes_of stored ≤ k → k < 65536 → 1024 * (k / 1024) < bytes_of stored → cell after stored (pointer_at (k / 1024)) (k % 1024) ≡ 0
+  list_past tidy dir k le lt same =
       let up : k / 1024 < 64 = omega arith in
       let p = pointer_in (k / 1024) up in
       let first = p.0 in
-      list_other (pointer_at (k / 1024)) (k % 1024) p.1 p.2 (λ e. absurd (omega (arith, e, first, low))) (omega arith) ∙ tidy.past k (omega (arith, list_size, le)) lt (same ∙ (λ i. list_size i / 1024))
+      list_other (pointer_at (k / 1024)) (k % 1024) p.1 p.2 (λ e. absurd (omega (arith, e, first, low))) (omega arith) ∙ tidy.past (sym (list_beside.low 0 (omega arith)) ∙ dir) k (omega (arith, list_size, le)) lt (omega (arith, list_size, same))
 
-  list_none : IsTidy before node → (i : ℕ) → i < 64 → bytes_of stored ≤ 1024 * i → pointer_of stored (pointer_at i) ≡ 0
-  list_none tidy i lt le =
+  list_trimmed : IsTrimmed node → IsTrimmed stored
+  list_trimmed trimmed i lt le =
       let p = pointer_in i lt in
       let first = p.0 in
-      saved.pointers (pointer_at i) p.1 p.2 ∙ others (pointer_at i) p.1 (λ e. absurd (omega (arith, e, first, low))) ∙ tidy.none i lt (omega (arith, list_size, le))
+      saved.pointers (pointer_at i) p.1 p.2 ∙ others (pointer_at i) p.1 (λ e. absurd (omega (arith, e, first, low))) ∙ trimmed i lt (omega (arith, list_size, le))
 
   list_here : (w k : ℕ) → (a : Bool) → nat_lt w 3 ≡ a → (b : Bool) → nat_lt k 1024 ≡ b → (mine : Bool) → (w == which) ≡ mine
       → (if a && b then cell after stored w k else 0) ≡ (if mine then (if b then get_or bytes k 0 else 0) else (if a && b then cell before node w k else 0))
@@ -454,10 +453,10 @@ module _ (page which : ℕ) (bytes : List ℕ) (node changed stored : Node) (old
           group = λ k le lt. (let e = list_beside.high 137 (omega arith) in list_beside.high k (omega arith) ∙ tidy.group k (omega (arith, e, le)) lt);
           behind = λ k le lt. facts_2.behind k le ∙ facts.behind k le ∙ tidy.behind k le lt;
           past = list_past tidy;
-          none = λ i lt le. list_none tidy i lt le;
           range = ranged_on node stored old before there (facts_2.blocks ∙ facts.blocks) renews_stored tidy.range;
           lists = λ w lt zero. saved.pointers w (omega arith) (λ e. absurd (omega (arith, e, lt))) ∙ list_zero tidy w lt zero (cases_eq w which);
         });
+        trimmed = λ trimmed. subst IsTrimmed (sym saved.there) (list_trimmed trimmed);
         alone = subst (λ (x : Node). is_shared new after x ≡ false) (sym saved.there) saved.alone;
       }
 

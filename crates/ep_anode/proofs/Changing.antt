@@ -7,14 +7,14 @@ use Rattle.ep_layout.specs.Numbers.{number_at}
 use Rattle.ep_layout.proofs.Bytes.{number-same}
 use Rattle.ep_log.specs.State.{State}
 use Rattle.ep_anode.specs.Node.{pointer_at, cell, names, node_in}
-use Rattle.ep_anode.specs.Anode.{Anode, anode_of, byte_length, bytes_of, freed, IsTidy, IsBare}
+use Rattle.ep_anode.specs.Anode.{Anode, anode_of, byte_length, bytes_of, freed, IsTidy, IsTrimmed, IsBare}
 use Rattle.ep_anode.specs.Room.{are_counts, with_counts, MayPutAll, PutsPages}
 use Rattle.ep_space.specs.Counts.{count_now}
 use Rattle.ep_anode.specs.Changes.{IsSpare, WroteLoose, AreCounted, own_names, left_names, Moves, Owned, Turned, Changed}
 use Rattle.ep_anode.specs.declared.node.Node.{Node}
 use Rattle.ep_anode.proofs.Cells.{cell_same}
 use Rattle.ep_anode.proofs.Laid.{pointer_in}
-use Rattle.ep_anode.proofs.Plain.{names_none}
+use Rattle.ep_anode.proofs.Plain.{names_none, trimmed_none}
 use Rattle.ep_anode.proofs.Sharing.{counted_own, turns_own}
 use Rattle.ep_anode.proofs.Anodes.{anode_kept}
 use Rattle.ep_anode.proofs.Saving.{counts_in}
@@ -46,12 +46,14 @@ module _ (page : ℕ) (update : Anode → Anode) (node : Node) (old mid new : St
     owner = λ k le lt. (let e = owned.facts.rest 76 (inr (omega arith)) in owned.facts.rest k (inr (omega (arith, le))) ∙ tidy.owner k (omega (arith, e, le)) lt);
     group = λ k le lt. (let e = owned.facts.rest 137 (inr (omega arith)) in owned.facts.rest k (inr (omega (arith, le))) ∙ tidy.group k (omega (arith, e, le)) lt);
     behind = λ k le lt. owned.facts.behind k le ∙ tidy.behind k le lt;
-    past = λ k le lt same. (let p = pointer_in (k / 1024) (omega arith) in cell_owned (pointer_at (k / 1024)) (k % 1024) p.1 p.2 (omega arith) ∙ tidy.past k (omega (arith, bytes_owned, le)) lt (same ∙ (λ i. bytes_owned i / 1024)));
-    none = λ i lt le. (let p = pointer_in i lt in owned.pointers (pointer_at i) p.1 p.2 ∙ tidy.none i lt (omega (arith, bytes_owned, le)));
+    past = λ dir k le lt same. (let p = pointer_in (k / 1024) (omega arith) in cell_owned (pointer_at (k / 1024)) (k % 1024) p.1 p.2 (omega arith) ∙ tidy.past (sym (owned.facts.rest 0 (inl (omega arith))) ∙ dir) k (omega (arith, bytes_owned, le)) lt (omega (arith, bytes_owned, same)));
     range = ranged_fewer (node_in old before page) node owned.facts.blocks (λ b le. (let e = left b in omega (arith, e))) tidy.range;
     lists = λ w lt zero. owned.pointers w (omega arith) (λ e. absurd (omega (arith, e, lt)))
         ∙ tidy.lists w lt (λ k low. sym (cell_owned w k (omega arith) (λ e. absurd (omega (arith, e, lt))) low) ∙ zero k low);
   }
+
+  trimmed_owned : IsTrimmed (node_in old before page) → IsTrimmed node
+  trimmed_owned trimmed i lt le = let p = pointer_in i lt in owned.pointers (pointer_at i) p.1 p.2 ∙ trimmed i lt (omega (arith, bytes_owned, le))
 
   renewed_on : (b : ℕ) → b < old.superblock.blocks → (names (node_in new after page) b ≤ names node b) ⊎ ((b < mid.superblock.blocks) × (count_now mid middle b ≤ names node b) × (names (node_in new after page) b ≤ 1))
       → (names (node_in new after page) b ≤ left_names old before (node_in old before page) b)
@@ -69,6 +71,7 @@ module _ (page : ℕ) (update : Anode → Anode) (node : Node) (old mid new : St
     });
     anode = turned.anode ∙ ap update anode_owned;
     tidy = λ tidy. turned.tidy (tidy_owned tidy);
+    trimmed = λ trimmed. turned.trimmed (trimmed_owned trimmed);
     renewed = inr (record { alone = turned.alone; pointers = λ b lt. renewed_on b lt (turned.renews b) });
   }
 
@@ -88,6 +91,7 @@ freed_changed page node old mid new before middle after same quiet is named turn
       });
       anode = turned_2.anode ∙ (λ i. record { kind = 0; unique = number_at 4 4 (is i); length = 0; owner = []; group = []; lists = λ which k. 0; content = λ k. 0 });
       tidy = λ tidy. bare.tidy;
+      trimmed = λ trimmed. trimmed_none (node_in new after page) bare.none;
       renewed = inr (record { alone = turned_2.alone; pointers = λ b lt. inl (let e = names_none (node_in new after page) bare.none b in omega (arith, e)) });
     }
 

@@ -12,9 +12,9 @@ use Rattle.ep_log.specs.State.{State, with_put, put_of}
 use Rattle.ep_space.specs.Counts.{count_page, count_now, count_settled}
 use Rattle.ep_anode.specs.Node.{pointer_of, pointer_at, is_pointer, map_under, cell, names, names_below, no_names, node_of, node_in, PointsTo, SameFacts, IsRanged}
 use Rattle.ep_anode.specs.Anode.{anode_of, byte_length, bytes_of, names_past, IsTidy}
-use Rattle.ep_anode.specs.Changes.{IsSpare, own_names, AreCounted, AreFew, Moves, Turns, Saved, Cloned, Made, SharesBlocks}
+use Rattle.ep_anode.specs.Changes.{IsSpare, own_names, AreCounted, AreFew, Moves, Turns, Saved, Cloned, Made, OwnsMap, SharesBlocks, is_shared}
 use Rattle.ep_anode.specs.declared.node.Node.{Node}
-use Rattle.ep_anode.proofs.Counting.{same_many, many_le, many_rest, many_none}
+use Rattle.ep_anode.proofs.Counting.{same_many, many_le, many_but, many_rest, many_none}
 use Rattle.ep_anode.proofs.Pointers.{pointer_front, pointer_back}
 use Rattle.ep_anode.proofs.Cells.{cell_none, cell_same, named_but, named_some, one_other, one_same, pointer_facts}
 use Rattle.ep_anode.proofs.Laid.{pointer_in, pointer_apart}
@@ -140,6 +140,27 @@ module _ (page : ℕ) (copy cut stored : Node) (old mid new : State) (before mid
         ∙ cell_same before before copy cut v k points.blocks (points.others v below apart) lt (λ valid j below_2. refl);
   }
 
+  -- which was free before
+  one_more : (b : ℕ) → pointer_of stored 15 ≡ b + 1 → names stored b ≡ names cut b + 1
+  unfolding names
+  one_more b here =
+      let but = many_but (λ v. pointer_of cut v == b + 1) (λ v. pointer_of stored v == b + 1) 15 68 (omega arith) (λ v below apart. (let e = saved.pointers v below apart in λ i. sym e i == b + 1)) in
+      let none = one_other (pointer_of cut 15) (b + 1) (λ is. (let zero = points.here in absurd (omega (arith, zero, is)))) in
+      let mine = one_same (pointer_of stored 15) (b + 1) here in
+      omega (arith, but, none, mine)
+
+  pub copy_owns : OwnsMap page old before new after
+  copy_owns = record {
+    alone = subst (λ (x : Node). is_shared new after x ≡ false) (sym saved.there) saved.alone;
+    free = λ b lt here. by b lt (ap (λ (x : Node). pointer_of x 15) (sym saved.there) ∙ here) (saved.renews b);
+  }
+    where
+      by : (b : ℕ) → b < old.superblock.blocks → pointer_of stored 15 ≡ b + 1 → (names stored b ≤ names cut b) ⊎ ((b < mid.superblock.blocks) × (count_now mid middle b ≤ names cut b) × (names stored b ≤ 1)) → count_now old before b ≡ 0
+      by b lt here (inl e) = let more = one_more b here in absurd (omega (arith, e, more))
+      by b lt here (inr e) =
+          let most = e.1 in let m = moves.counts b lt in let none = below_none cut b in let all = below_all cut b in
+          omega (arith, most, m, none, all)
+
 -- the copy that either put is one of the source
 module _ (page : ℕ) (source copy : Node) (old new : State) (before after : List ℕ) (facts : SameFacts source copy) (gone : (i : ℕ) → i < 64 → bytes_of source ≤ 1024 * i → pointer_of copy (pointer_at i) ≡ 0)
     (kept : (i : ℕ) → i < 64 → 1024 * i < bytes_of source → pointer_of copy (pointer_at i) ≡ pointer_of source (pointer_at i)) (lists : (w : ℕ) → w < 3 → pointer_of copy w ≡ pointer_of source w)
@@ -167,34 +188,26 @@ module _ (page : ℕ) (source copy : Node) (old new : State) (before after : Lis
   pub made_of : Made page (anode_of before source) old before new after
   made_of = record { turns = cloned.turns; anode_is = anode_kept before after source (node_in new after page) there_facts list_there byte_there }
 
-  pub shares_of : (names_past source ≡ 0 → pointer_of (node_in new after page) 15 ≡ pointer_of source 15) → SharesBlocks source (node_in new after page)
-  shares_of map = record {
-    past = gone_there;
-    bytes = λ i lt inside. (let p = pointer_in i lt in cloned.pointers (pointer_at i) p.1 p.2 ∙ kept i lt inside);
-    lists = λ w lt. cloned.pointers w (omega arith) (λ e. absurd (omega (arith, e, lt))) ∙ lists w lt;
-    map = map;
-  }
-
-  pub tidy_of : IsTidy before source → IsTidy after (node_in new after page)
+  tidy_of : IsTidy before source → IsTidy after (node_in new after page)
   tidy_of tidy = record {
     first = λ k some low. there_facts.rest k (inl (omega arith)) ∙ tidy.first k some low;
     owner = λ k le lt. (let e = there_facts.rest 76 (inr (omega arith)) in there_facts.rest k (inr (omega (arith, le))) ∙ tidy.owner k (omega (arith, e, le)) lt);
     group = λ k le lt. (let e = there_facts.rest 137 (inr (omega arith)) in there_facts.rest k (inr (omega (arith, le))) ∙ tidy.group k (omega (arith, e, le)) lt);
     behind = λ k le lt. there_facts.behind k le ∙ tidy.behind k le lt;
-    past = λ k le lt same. past_there tidy k (omega (arith, bytes_there, le)) lt (same ∙ (λ i. bytes_there i / 1024)) (nat_lt (1024 * (k / 1024)) (bytes_of source)) refl;
-    none = λ i lt le. gone_there i lt (omega (arith, bytes_there, le));
+    past = λ dir k le lt same. byte_there (k / 1024) (k % 1024) (omega arith) (omega (arith, bytes_there, same)) (omega arith) ∙ tidy.past (sym (there_facts.rest 0 (inl (omega arith))) ∙ dir) k (omega (arith, bytes_there, le)) lt (omega (arith, bytes_there, same));
     range = cloned.range (ranged_fewer source copy facts.blocks (λ b le. names_fewer source copy fewer b) tidy.range);
     lists = λ w lt zero. cloned.pointers w (omega arith) (λ e. absurd (omega (arith, e, lt))) ∙ lists w lt ∙ tidy.lists w lt (λ k low. sym (list_there w k lt low) ∙ zero k low);
   }
-    where
-      past_there : IsTidy before source → (k : ℕ) → bytes_of source ≤ k → k < 65536 → k / 1024 ≡ bytes_of source / 1024 → (inside : Bool) → nat_lt (1024 * (k / 1024)) (bytes_of source) ≡ inside
-          → cell after (node_in new after page) (pointer_at (k / 1024)) (k % 1024) ≡ 0
-      past_there tidy k le lt same true e =
-          let low : 1024 * (k / 1024) < bytes_of source = grind (arith, nat_tests) in
-          byte_there (k / 1024) (k % 1024) (omega arith) low (omega arith) ∙ tidy.past k le lt same
-      past_there tidy k le lt same false e =
-          let high : bytes_of source ≤ 1024 * (k / 1024) = grind (arith, nat_tests) in
-          cell_none after (node_in new after page) (pointer_at (k / 1024)) (k % 1024) (gone_there (k / 1024) (omega arith) high)
+
+  pub shares_of : (names_past source ≡ 0 → pointer_of (node_in new after page) 15 ≡ pointer_of source 15) → (0 < names_past source → OwnsMap page old before new after) → SharesBlocks page source old before new after
+  shares_of map own = record {
+    past = gone_there;
+    bytes = λ i lt inside. (let p = pointer_in i lt in cloned.pointers (pointer_at i) p.1 p.2 ∙ kept i lt inside);
+    lists = λ w lt. cloned.pointers w (omega arith) (λ e. absurd (omega (arith, e, lt))) ∙ lists w lt;
+    map = map;
+    own = own;
+    tidy = tidy_of;
+  }
 
 -- the pointers of an anode without those past its length
 module _ (source copy : Node) (same : (w : ℕ) → w < 68 → ((i : ℕ) → i < 64 → bytes_of source ≤ 1024 * i → w ≢ pointer_at i) → pointer_of copy w ≡ pointer_of source w) where

@@ -11,7 +11,7 @@ use Rattle.ep_log.specs.Puts.{page_of}
 use Rattle.ep_log.specs.State.{State, with_put, put_of}
 use Rattle.ep_space.specs.Counts.{count_page, count_now, count_settled}
 use Rattle.ep_anode.specs.Node.{pointer_of, pointer_at, map_under, cell, names, no_names, node_in, SameFacts, HasNoBlocks}
-use Rattle.ep_anode.specs.Anode.{Anode, anode_of, anode_in, byte_length, text_at, content_at, freed, bare_anode, IsPage, IsTidy, IsBare}
+use Rattle.ep_anode.specs.Anode.{Anode, anode_of, anode_in, byte_length, text_at, content_at, freed, bare_anode, IsPage, IsTidy, IsTrimmed, IsBare}
 use Rattle.ep_anode.specs.Changes.{is_shared, Moves, Turns, Turned, Made}
 use Rattle.ep_anode.specs.declared.node.Node.{Node}
 use Rattle.ep_anode.proofs.Counting.{none_many}
@@ -69,11 +69,14 @@ tidy_page image node kind unique owner group is none zero = record {
   owner = λ k le lt. is.owner_rest k (let e = is.owner_size in omega (arith, e, le)) lt;
   group = λ k le lt. is.group_rest k (let e = is.group_size in omega (arith, e, le)) lt;
   behind = λ k le lt. zero k lt;
-  past = λ k le lt e. cell_none image node (pointer_at (k / 1024)) (k % 1024) (none (pointer_at (k / 1024)) (pointer_in (k / 1024) (omega arith)).1);
-  none = λ i lt le. none (pointer_at i) (pointer_in i lt).1;
+  past = λ dir k le lt e. cell_none image node (pointer_at (k / 1024)) (k % 1024) (none (pointer_at (k / 1024)) (pointer_in (k / 1024) (omega arith)).1);
   range = λ w lt. (let e = none w lt in omega (arith, e));
   lists = λ w lt empty. none w (omega (arith, lt));
 }
+
+-- and it has no pointer past its length
+pub trimmed_none : (node : Node) → HasNoBlocks node → IsTrimmed node
+trimmed_none node none i lt le = none (pointer_at i) (pointer_in i lt).1
 
 -- the anode of such a page
 pub anode_none : (image : List ℕ) (node : Node) (kind unique : ℕ) (owner group : List ℕ) → IsPage kind unique owner group node.page → HasNoBlocks node
@@ -151,6 +154,7 @@ freed_turned page slot unique node cleared old before mid middle new after bytes
       ∙ (let e = number ∙ number-same 4 4 4 cleared.page node.page (λ j lt. facts.rest (4 + j) (inl (omega arith))) in
       λ i. record { kind = 0; unique = e i; length = 0; owner = []; group = []; lists = λ which k. 0; content = λ k. 0 });
   tidy = λ was_tidy. (bare_here page slot 0 unique [] [] bytes was is_page mid new middle after low is pages quiet).tidy;
+  trimmed = λ was_trimmed. trimmed_none (node_in new after page) (bare_here page slot 0 unique [] [] bytes was is_page mid new middle after low is pages quiet).none;
   alone = alone_here page slot 0 unique [] [] bytes was is_page mid new middle after low is pages quiet;
 }
 

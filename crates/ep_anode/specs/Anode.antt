@@ -142,18 +142,21 @@ pub record IsPage (kind unique : ℕ) (owner group page : List ℕ) : Type 0 whe
   pub group_rest : (k : ℕ) → 138 + length group ≤ k → k < 512 → byte_at page k ≡ 0
 
 -- The bytes that no field of an anode names are zero: in its page, behind the pointers of its indirect block, and past
--- the end of its bytes in their last block. No pointer is past that end, and none is out of range. A list that is zero
--- has no block.
+-- the entries of a directory in their last block. No pointer is out of range. A list that is zero has no block. There
+-- may be blocks past the bytes of an anode, and anything past those of a file in their last block.
 pub record IsTidy (image : List ℕ) (node : Node) : Type 0 where
   pub first : (k : ℕ) → 1 ≤ k → k < 4 → byte_at node.page k ≡ 0
   pub owner : (k : ℕ) → 77 + byte_at node.page 76 ≤ k → k < 137 → byte_at node.page k ≡ 0
   pub group : (k : ℕ) → 138 + byte_at node.page 137 ≤ k → k < 512 → byte_at node.page k ≡ 0
   pub behind : (k : ℕ) → 208 ≤ k → k < 1024 → byte_at node.map k ≡ 0
-  pub past : (k : ℕ) → bytes_of node ≤ k
-      → k < 65536 → k / 1024 ≡ bytes_of node / 1024 → cell image node (pointer_at (k / 1024)) (k % 1024) ≡ 0
-  pub none : (i : ℕ) → i < 64 → bytes_of node ≤ 1024 * i → pointer_of node (pointer_at i) ≡ 0
+  pub past : byte_at node.page 0 ≡ 1 → (k : ℕ) → bytes_of node ≤ k
+      → k < 65536 → 1024 * (k / 1024) < bytes_of node → cell image node (pointer_at (k / 1024)) (k % 1024) ≡ 0
   pub range : IsRanged node
   pub lists : (w : ℕ) → w < 3 → ((k : ℕ) → k < 1024 → cell image node w k ≡ 0) → pointer_of node w ≡ 0
+
+-- no pointer of an anode is past the end of its bytes
+abbrev pub IsTrimmed : Node → Type 0
+IsTrimmed node = (i : ℕ) → i < 64 → bytes_of node ≤ 1024 * i → pointer_of node (pointer_at i) ≡ 0
 
 -- how many pointers of an anode's indirect block are past the end of its bytes
 abbrev pub names_past : Node → ℕ

@@ -26,7 +26,7 @@ use Rattle.ep_layout.specs.Places.{block_start, pages_of, SameButBlocks}
 use Rattle.ep_log.specs.Puts.{page_of}
 use Rattle.ep_log.specs.State.{State}
 use Rattle.ep_space.specs.Counts.{count_now, count_settled, IsFree}
-use Rattle.ep_anode.specs.Anode.{Anode, anode_of, anode_in, bytes_of, content_at, names_past, over, IsTidy}
+use Rattle.ep_anode.specs.Anode.{Anode, anode_of, anode_in, bytes_of, content_at, names_past, over, IsTidy, IsTrimmed}
 use Rattle.ep_anode.specs.Node.{
   pointer_of,
   pointer_at,
@@ -171,6 +171,7 @@ pub record Turned (page : ℕ)
   pub renews : Renews (names node) (names (node_in new after page)) old before
   pub anode : anode_in new after page ≡ update (anode_of before node)
   pub tidy : IsTidy before node → IsTidy after (node_in new after page)
+  pub trimmed : IsTrimmed node → IsTrimmed (node_in new after page)
   pub alone : is_shared new after (node_in new after page) ≡ false
 
 -- The pointers of an anode that changed. No other pointer names its indirect block. It names a block no more often than
@@ -190,6 +191,7 @@ pub record Changed (page : ℕ)
       (own_names new after (node_in new after page)) old before new after
   pub anode : anode_in new after page ≡ update (anode_in old before page)
   pub tidy : IsTidy before (node_in old before page) → IsTidy after (node_in new after page)
+  pub trimmed : IsTrimmed (node_in old before page) → IsTrimmed (node_in new after page)
   pub renewed : ((new ≡ old) × (after ≡ before)) ⊎ IsRenewed page old before new after
 
 -- An anode was made in a page that had none. Its own pointers are counted anew, and all other pages of filesets are the
@@ -207,11 +209,20 @@ pub record Cloned (page : ℕ) (node : Node) (old : State) (before : List ℕ) (
   pub cells : (v k : ℕ) → v < 68
       → (v ≡ 15 → ⊥) → k < 1024 → cell after (node_in new after page) v k ≡ cell before node v k
 
+-- An anode has an indirect block of its own, which was free before, or none.
+pub record OwnsMap (page : ℕ) (old : State) (before : List ℕ) (new : State) (after : List ℕ) : Type 0 where
+  pub alone : is_shared new after (node_in new after page) ≡ false
+  pub free : (block : ℕ) → block < old.superblock.blocks
+      → pointer_of (node_in new after page) 15 ≡ block + 1 → count_now old before block ≡ 0
+
 -- A copy names the blocks of its source but for those past the length. It names the indirect block, too, unless this
--- one has pointers past the length.
-pub record SharesBlocks (source copy : Node) : Type 0 where
-  pub past : (i : ℕ) → i < 64 → bytes_of source ≤ 1024 * i → pointer_of copy (pointer_at i) ≡ 0
-  pub bytes : (i : ℕ) → i < 64
-      → 1024 * i < bytes_of source → pointer_of copy (pointer_at i) ≡ pointer_of source (pointer_at i)
-  pub lists : (w : ℕ) → w < 3 → pointer_of copy w ≡ pointer_of source w
-  pub map : names_past source ≡ 0 → pointer_of copy 15 ≡ pointer_of source 15
+-- one has pointers past the length: then it has one of its own.
+pub record SharesBlocks (page : ℕ)
+    (source : Node) (old : State) (before : List ℕ) (new : State) (after : List ℕ) : Type 0 where
+  pub past : (i : ℕ) → i < 64 → bytes_of source ≤ 1024 * i → pointer_of (node_in new after page) (pointer_at i) ≡ 0
+  pub bytes : (i : ℕ) → i < 64 → 1024 * i < bytes_of source
+      → pointer_of (node_in new after page) (pointer_at i) ≡ pointer_of source (pointer_at i)
+  pub lists : (w : ℕ) → w < 3 → pointer_of (node_in new after page) w ≡ pointer_of source w
+  pub map : names_past source ≡ 0 → pointer_of (node_in new after page) 15 ≡ pointer_of source 15
+  pub own : 0 < names_past source → OwnsMap page old before new after
+  pub tidy : IsTidy before source → IsTidy after (node_in new after page)

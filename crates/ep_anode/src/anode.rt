@@ -6,7 +6,7 @@ ghost use Rattle.ep_log.specs.Log.{disk_of, state_of, slot_of, IsSoundLog};
 ghost use Rattle.ep_anode.specs.Room.{with_counts, is_page, free_blocks, MayPutAll, PutsPages};
 ghost use Rattle.ep_anode.specs.Node.{names, no_names, node_in};
 ghost use Rattle.ep_anode.specs.Anode.{anode_in, bare_anode, made, names_past, written, ended, with_length, freed};
-ghost use Rattle.ep_anode.specs.Anode.{IsTidy, IsBare};
+ghost use Rattle.ep_anode.specs.Anode.{IsBare};
 ghost use Rattle.ep_anode.specs.Changes.{own_names, WroteLoose, Changed, Made, SharesBlocks, AreCounted, AreFew};
 ghost use Rattle.ep_anode.specs.Faults.{IsNodeFault};
 
@@ -297,8 +297,8 @@ pub fn remove<D: Disk>(log: &mut Log<D>, tx: &mut Tx, page: u32) -> Result<(), N
 }
 
 /// Copies an anode, with its unique number, into the page of a free one. No block is copied: the copy names those that
-/// the source names, whose counts rise by one, and shares its indirect block. Pointers past the length are left out.
-/// `from` and `to` are metadata pages of anodes.
+/// the source names, whose counts rise by one, and shares its indirect block. Pointers past the length are left out;
+/// an indirect block that has some isn't shared. `from` and `to` are metadata pages of anodes.
 ///
 /// Room: no block, but one for another indirect block where the source's has pointers past the length; the transaction
 /// may put the page `to` and all pages of counts. `Failed`: mount the log again. `Memory`: undo the transaction, which
@@ -319,11 +319,9 @@ pub fn clone_of<D: Disk>(log: &mut Log<D>, tx: &mut Tx, from: u32, to: u32) -> R
     ensures puts { PutsPages (with_counts to) (slot_of tx.old) (state_of log.old) (state_of log.new) }
     ensures made { D.tells → OnOk result (Made to (anode_in (state_of log.old) (D.view (disk_of log.old)).image from)
         (state_of log.old) (D.view (disk_of log.old)).image (state_of log.new) (D.view (disk_of log.new)).image) }
-    ensures shares { D.tells → OnOk result (SharesBlocks (node_in (state_of log.old)
-        (D.view (disk_of log.old)).image from) (node_in (state_of log.new) (D.view (disk_of log.new)).image to)) }
-    ensures tidy { D.tells → IsTidy (D.view (disk_of log.old)).image
-        (node_in (state_of log.old) (D.view (disk_of log.old)).image from) → OnOk result
-        (IsTidy (D.view (disk_of log.new)).image (node_in (state_of log.new) (D.view (disk_of log.new)).image to)) }
+    ensures shares { D.tells → OnOk result
+        (SharesBlocks to (node_in (state_of log.old) (D.view (disk_of log.old)).image from)
+        (state_of log.old) (D.view (disk_of log.old)).image (state_of log.new) (D.view (disk_of log.new)).image) }
     ensures room { D.tells → OnOk result (free_blocks (state_of log.old) (D.view (disk_of log.old)).image
         ≤ free_blocks (state_of log.new) (D.view (disk_of log.new)).image
         + min 1 (names_past (node_in (state_of log.old) (D.view (disk_of log.old)).image from))) }

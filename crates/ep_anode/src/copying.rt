@@ -4,8 +4,8 @@ ghost use Rattle.dfs_base.specs.Crash.{IsQuiet};
 ghost use Rattle.ep_log.specs.Log.{disk_of, state_of, slot_of, IsSoundLog};
 ghost use Rattle.ep_anode.specs.Room.{with_counts, free_blocks, MayPutAll, PutsPages};
 ghost use Rattle.ep_anode.specs.Node.{pointer_of, map_under, names, no_names, node_in};
-ghost use Rattle.ep_anode.specs.Changes.{WroteLoose, AreCounted, AreFew, Cloned, Made, SharesBlocks};
-ghost use Rattle.ep_anode.specs.Anode.{anode_of, names_past, IsTidy};
+ghost use Rattle.ep_anode.specs.Changes.{WroteLoose, AreCounted, AreFew, Cloned, Made, OwnsMap, SharesBlocks};
+ghost use Rattle.ep_anode.specs.Anode.{anode_of, names_past};
 ghost use Rattle.ep_space.specs.Faults.{IsTakeFault, IsCountFault};
 
 use crate::blocks::share_all;
@@ -68,6 +68,8 @@ fn put_copy<D: Disk>(
     ensures puts { PutsPages (with_counts page) (slot_of tx.old) (state_of log.old) (state_of log.new) }
     ensures cloned { D.tells → OnOk result (Cloned page copy.old
         (state_of log.old) (D.view (disk_of log.old)).image (state_of log.new) (D.view (disk_of log.new)).image) }
+    ensures own { D.tells → OnOk result (OwnsMap page
+        (state_of log.old) (D.view (disk_of log.old)).image (state_of log.new) (D.view (disk_of log.new)).image) }
     ensures room { D.tells → OnOk result (free_blocks (state_of log.old) (D.view (disk_of log.old)).image
         ≤ free_blocks (state_of log.new) (D.view (disk_of log.new)).image + 1) }
     ensures wrote { D.tells
@@ -103,10 +105,8 @@ pub fn copy_node<D: Disk>(
     ensures puts { PutsPages (with_counts page) (slot_of tx.old) (state_of log.old) (state_of log.new) }
     ensures made { D.tells → OnOk result (Made page (anode_of (D.view (disk_of log.old)).image source.now)
         (state_of log.old) (D.view (disk_of log.old)).image (state_of log.new) (D.view (disk_of log.new)).image) }
-    ensures shares { D.tells
-        → OnOk result (SharesBlocks source.now (node_in (state_of log.new) (D.view (disk_of log.new)).image page)) }
-    ensures tidy { D.tells → IsTidy (D.view (disk_of log.old)).image source.now → OnOk result
-        (IsTidy (D.view (disk_of log.new)).image (node_in (state_of log.new) (D.view (disk_of log.new)).image page)) }
+    ensures shares { D.tells → OnOk result (SharesBlocks page source.now
+        (state_of log.old) (D.view (disk_of log.old)).image (state_of log.new) (D.view (disk_of log.new)).image) }
     ensures room { D.tells → OnOk result (free_blocks (state_of log.old) (D.view (disk_of log.old)).image
         ≤ free_blocks (state_of log.new) (D.view (disk_of log.new)).image + min 1 (names_past source.now)) }
     ensures wrote { D.tells

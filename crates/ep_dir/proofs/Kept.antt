@@ -50,7 +50,7 @@ pub changed_as : (page : ℕ) (update other : Anode → Anode) (old mid new : St
 changed_as page update other old mid new before middle after same quiet is changed = by (subst (λ (s : State). Changed page update s before new after) same (subst (λ (l : List ℕ). Changed page update mid l new after) quiet changed))
   where
     by : Changed page update old before new after → Changed page other old before new after
-    by there = record { turns = there.turns; anode = there.anode ∙ is; tidy = there.tidy; renewed = there.renewed }
+    by there = record { turns = there.turns; anode = there.anode ∙ is; tidy = there.tidy; trimmed = there.trimmed; renewed = there.renewed }
 
 pub changed_none : (page : ℕ) (update : Anode → Anode) (old new : State) (before after : List ℕ) → new ≡ old → after ≡ before → anode_in old before page ≡ update (anode_in old before page) → Changed page update old before new after
 changed_none page update old new before after same quiet is = subst (λ (s : State). Changed page update old before s after) (sym same) (subst (λ (l : List ℕ). Changed page update old before old l) (sym quiet)
@@ -58,6 +58,7 @@ changed_none page update old new before after same quiet is = subst (λ (s : Sta
       turns = record { counts = λ b lt. refl; settled = λ b lt. refl; tail = λ b spare. refl; pages = λ p low apart. refl };
       anode = is;
       tidy = λ tidy. tidy;
+      trimmed = λ trimmed. trimmed;
       renewed = inl (refl, refl);
     }))
 

@@ -1,5 +1,5 @@
 -- What the calls on anodes leave of all anodes.
-use Rattle.std.proofs.Common.{◌≡◌, ◌≢◌, ◌<◌, ◌≤◌, ◌⊎◌, ℕ, ◌+◌, ◌-◌, ◌*◌, ◌/◌, ◌%◌, List, refl, sym, ◌∙◌, ap, subst, inl, inr, arith}
+use Rattle.std.proofs.Common.{◌≡◌, ◌≢◌, ◌<◌, ◌≤◌, ◌⊎◌, ℕ, zero, suc, ◌+◌, ◌-◌, ◌*◌, ◌/◌, ◌%◌, List, refl, sym, ◌∙◌, ap, subst, inl, inr, arith}
 use Rattle.std.specs.Prelude.{Bool, true, false, ◌==◌, ◌&&◌, not, if◌then◌else◌, nat_lt, nat_le}
 use Rattle.std.proofs.lemmas.Bool.{cases_eq}
 use Rattle.std.proofs.lemmas.Bool.Decides.{nat_tests}
@@ -10,9 +10,9 @@ use Rattle.ep_log.specs.declared.put.Put.{Put}
 use Rattle.ep_space.specs.Counts.{count_page, count_place, count_now}
 use Rattle.ep_anode.specs.Anode.{Anode, anode_in, bytes_of, names_past, IsTidy, IsBare}
 use Rattle.ep_anode.specs.Node.{pointer_of, pointer_at, is_pointer, names, names_below, no_names, cell, node_of, node_in, HasNoBlocks}
-use Rattle.ep_anode.specs.Changes.{IsSpare, is_shared, own_names, left_names, WritesLoose, Turns, AreCounted, Changed, IsRenewed, Made, SharesBlocks}
+use Rattle.ep_anode.specs.Changes.{IsSpare, is_shared, own_names, left_names, WritesLoose, Turns, AreCounted, Changed, IsRenewed, Made, OwnsMap, SharesBlocks}
 use Rattle.ep_anode.specs.declared.node.Node.{Node}
-use Rattle.ep_anode.proofs.Counting.{none_many, same_many}
+use Rattle.ep_anode.proofs.Counting.{none_many, many_le, single_many}
 use Rattle.ep_anode.proofs.Cells.{pointer_facts, named_some, one_same, alone_none}
 use Rattle.ep_anode.proofs.Sharing.{own_alone as names_alone, own_shared as names_shared, own_le}
 use Rattle.ep_anode.proofs.Renewing.{left_shared}
@@ -106,8 +106,7 @@ tidy_same image after node cells tidy = record {
   behind = tidy.behind;
   range = tidy.range;
   lists = λ w lt zero. tidy.lists w lt (λ k low. sym (cells w k (omega (arith, lt)) low) ∙ zero k low);
-  past = λ k le lt same. (let p = pointer_in (k / 1024) (omega arith) in cells (pointer_at (k / 1024)) (k % 1024) p.1 (omega arith) ∙ tidy.past k le lt same);
-  none = tidy.none;
+  past = λ dir k le lt same. (let p = pointer_in (k / 1024) (omega arith) in cells (pointer_at (k / 1024)) (k % 1024) p.1 (omega arith) ∙ tidy.past dir k le lt same);
 }
 
 lt_true : (a b : ℕ) → a < b → nat_lt a b ≡ true
@@ -115,6 +114,34 @@ lt_true a b lt = grind (arith, nat_tests)
 
 not_both : true ≡ false → ⊥
 not_both e = grind (arith, e)
+
+-- an anode whose pointers are another one's, or none, names fewer blocks
+pub names_within : (source copy : Node) → ((w : ℕ) → w < 68 → w ≢ 15 → (pointer_of copy w ≡ 0) ⊎ (pointer_of copy w ≡ pointer_of source w))
+    → (b : ℕ) → (pointer_of copy 15 ≡ b + 1 → pointer_of source 15 ≡ b + 1) → names copy b ≤ names source b
+unfolding names
+names_within source copy fewer b map = many_le (λ w. pointer_of copy w == b + 1) (λ w. pointer_of source w == b + 1) 68 (λ w lt on. by w lt (grind (arith, nat_tests, on)) (cases_eq w 15))
+  where
+    same : (w : ℕ) → pointer_of source w ≡ b + 1 → (pointer_of source w == b + 1) ≡ true
+    same w there = grind (arith, nat_tests, there)
+
+    at : (w : ℕ) → pointer_of copy w ≡ b + 1 → (pointer_of copy w ≡ 0) ⊎ (pointer_of copy w ≡ pointer_of source w) → (pointer_of source w == b + 1) ≡ true
+    at w here (inl empty) = absurd (omega (arith, here, empty))
+    at w here (inr from_it) = same w (sym from_it ∙ here)
+
+    by : (w : ℕ) → w < 68 → pointer_of copy w ≡ b + 1 → (w ≡ 15) ⊎ (w ≢ 15) → (pointer_of source w == b + 1) ≡ true
+    by w lt here (inl is_map) = same w ((λ i. pointer_of source (is_map i)) ∙ map ((λ i. pointer_of copy (sym is_map i)) ∙ here))
+    by w lt here (inr off) = at w here (fewer w lt off)
+
+-- a block that only one pointer may name
+names_once : (node : Node) (b : ℕ) → ((w : ℕ) → w < 68 → pointer_of node w ≡ b + 1 → w ≡ 15) → names node b ≤ 1
+unfolding names
+names_once node b only =
+    let e = many_le (λ w. pointer_of node w == b + 1) (λ w. w == 15) 68 (λ w low on. by w (only w low (grind (arith, nat_tests, on)))) in
+    let f = single_many 15 68 in
+    omega (arith, e, f)
+  where
+    by : (w : ℕ) → w ≡ 15 → (w == 15) ≡ true
+    by w is = grind (arith, nat_tests, is)
 
 -- a pointer to an indirect block is an anode's own
 own_named : (state : State) (image : List ℕ) (node : Node) (m : ℕ) → pointer_of node 15 ≡ m + 1 → 1 ≤ own_names state image node m
@@ -155,13 +182,7 @@ module _ (anodes : ℕ → Anode) (page : ℕ) (is : is_anode page ≡ true) (an
   tail_now b spare = turns.tail b spare ∙ held.tail b spare
 
   -- and no other pointer names its indirect block
-  module _ (alone : is_shared new after (node_in new after page) ≡ false)
-      (pointers : (block : ℕ) → block < old.superblock.blocks
-      → (names (node_in new after page) block ≤ left_names old before (node_in old before page) block)
-      ⊎ ((count_now old before block ≤ own_names old before (node_in old before page) block) × (names (node_in new after page) block ≤ 1))) where
-    rest : ℕ → ℕ
-    rest b = rest_of old.superblock.blocks (pages_of_log old before) before page b
-
+  module _ (alone : is_shared new after (node_in new after page) ≡ false) where
     count_new : (b : ℕ) → b < old.superblock.blocks → count_now new after b ≡ rest_of old.superblock.blocks (pages_of_log old before) before page b + names (node_in new after page) b
     count_new b lt =
         let e = turns.counts b lt in
@@ -169,6 +190,27 @@ module _ (anodes : ℕ → Anode) (page : ℕ) (is : is_anode page ≡ true) (an
         let g = names_alone new after (node_in new after page) b alone in
         omega (arith, e, f, g)
 
+    count_number : (b : ℕ) → b < old.superblock.blocks → number_at 2 (count_place b) (page_of new.entries new.puts after (count_page b)) ≡ rest_of old.superblock.blocks (pages_of_log old before) before page b + names (node_in new after page) b
+    unfolding count_now
+    count_number b lt = count_new b lt
+
+    own_number : (b : ℕ) → own_of old.superblock.blocks (pages_of_log new after) after page b ≡ names (node_in new after page) b
+    unfolding count_now
+    own_number b = own_new old.superblock.blocks (pages_of_log old before) (pages_of_log new after) before after page is node_same b alone count_number
+
+    alone_held : ((b : ℕ) → b < old.superblock.blocks → names (node_in new after page) b ≤ 1)
+        → ((q b : ℕ) → is_anode q ≡ true → q ≢ page → slot_at page ≡ slot_at q → b < old.superblock.blocks → names (node_in new after page) b + names (node_in old before q) b ≤ 1)
+        → ((q w b : ℕ) → is_anode q ≡ true → q ≢ page → b < old.superblock.blocks → pointer_of (node_in new after page) 15 ≡ b + 1 → w < 68 → w ≢ 15 → pointer_of (node_in old before q) w ≢ b + 1)
+        → ((p w b : ℕ) → is_anode p ≡ true → p ≢ page → b < old.superblock.blocks → pointer_of (node_in old before p) 15 ≡ b + 1 → w < 68 → w ≢ 15 → pointer_of (node_in new after page) w ≢ b + 1)
+        → HoldsNow (set_at page anode anodes) new after
+    alone_held once slots here there = holds_with old.superblock.blocks (pages_of_log old before) (pages_of_log new after) before after page is node_same anodes held anode anode_is anode_same tidy_others tidy bare
+        (λ b lt. count_number b lt ∙ (λ i. rest_of old.superblock.blocks (pages_of_log old before) before page b + sym (own_number b) i)) tail_now once slots here there
+
+  -- and it names what it named, or blocks that no other anode named
+  module _ (alone : is_shared new after (node_in new after page) ≡ false)
+      (pointers : (block : ℕ) → block < old.superblock.blocks
+      → (names (node_in new after page) block ≤ left_names old before (node_in old before page) block)
+      ⊎ ((count_now old before block ≤ own_names old before (node_in old before page) block) × (names (node_in new after page) block ≤ 1))) where
     once_new : (b : ℕ) → b < old.superblock.blocks → names (node_in new after page) b ≤ 1
     once_new b lt = by (pointers b lt)
       where
@@ -191,7 +233,7 @@ module _ (anodes : ℕ → Anode) (page : ℕ) (is : is_anode page ≡ true) (an
 
     here_new : (q w b : ℕ) → is_anode q ≡ true → q ≢ page → b < old.superblock.blocks → pointer_of (node_in new after page) 15 ≡ b + 1 → w < 68 → w ≢ 15 → pointer_of (node_in old before q) w ≢ b + 1
     here_new q w b a apart low here lt other there =
-        let c = count_new b low in
+        let c = count_new alone b low in
         let f = rest_names old.superblock.blocks (pages_of_log old before) before page q b a apart in
         let g = named_some (node_in old before q) w b lt there in
         let h = named_some (node_in new after page) 15 b (omega arith) here in
@@ -231,25 +273,13 @@ module _ (anodes : ℕ → Anode) (page : ℕ) (is : is_anode page ≡ true) (an
             let h = e.0 in
             omega (arith, c, f, g, h)
 
-    count_number : (b : ℕ) → b < old.superblock.blocks → number_at 2 (count_place b) (page_of new.entries new.puts after (count_page b)) ≡ rest_of old.superblock.blocks (pages_of_log old before) before page b + names (node_in new after page) b
-    unfolding count_now
-    count_number b lt = count_new b lt
-
-    own_number : (b : ℕ) → own_of old.superblock.blocks (pages_of_log new after) after page b ≡ names (node_in new after page) b
-    unfolding count_now
-    own_number b = own_new old.superblock.blocks (pages_of_log old before) (pages_of_log new after) before after page is node_same b alone count_number
-
     pub turned_held : HoldsNow (set_at page anode anodes) new after
-    turned_held = holds_with old.superblock.blocks (pages_of_log old before) (pages_of_log new after) before after page is node_same anodes held anode anode_is anode_same tidy_others tidy bare
-        (λ b lt. count_number b lt ∙ (λ i. rest_of old.superblock.blocks (pages_of_log old before) before page b + sym (own_number b) i)) tail_now once_new slots_new here_new there_new
+    turned_held = alone_held alone once_new slots_new here_new there_new
 
-  -- or it has the pointers of another page's
+  -- or it has pointers of another page's
   module _ (from : ℕ) (is_from : is_anode from ≡ true) (other : from ≢ page) (none : HasNoBlocks (node_in old before page))
-      (pointers : (w : ℕ) → w < 68 → pointer_of (node_in (record old { puts = puts }) after page) w ≡ pointer_of (node_in old before from) w)
+      (fewer : (w : ℕ) → w < 68 → w ≢ 15 → (pointer_of (node_in (record old { puts = puts }) after page) w ≡ 0) ⊎ (pointer_of (node_in (record old { puts = puts }) after page) w ≡ pointer_of (node_in old before from) w))
       (clear : (q b : ℕ) → is_anode q ≡ true → q ≢ page → slot_at page ≡ slot_at q → b < old.superblock.blocks → names (node_in old before from) b + names (node_in old before q) b ≤ 1) where
-    source : Node
-    source = node_in old before from
-
     none_own : (b : ℕ) → own_names old before (node_in old before page) b ≡ 0
     none_own b = let e = own_le old before (node_in old before page) b in let f = names_none (node_in old before page) none b in omega (arith, e, f)
 
@@ -259,53 +289,99 @@ module _ (anodes : ℕ → Anode) (page : ℕ) (is : is_anode page ≡ true) (an
         let f = counts_now anodes old before held page is b lt in
         omega (arith, e, f)
 
-    names_copy : (b : ℕ) → names (node_in new after page) b ≡ names (node_in old before from) b
-    unfolding names
-    names_copy b = same_many (λ w. pointer_of (node_in new after page) w == b + 1) (λ w. pointer_of (node_in old before from) w == b + 1) 68 (λ w lt. (let e = pointers w lt in λ i. e i == b + 1))
-
-    once_copy : (b : ℕ) → b < old.superblock.blocks → names (node_in new after page) b ≤ 1
-    once_copy b lt = let e = names_copy b in let f = held.once from b is_from lt in omega (arith, e, f)
-
-    slots_copy : (q b : ℕ) → is_anode q ≡ true → q ≢ page → slot_at page ≡ slot_at q → b < old.superblock.blocks → names (node_in new after page) b + names (node_in old before q) b ≤ 1
-    slots_copy q b a apart same lt = let e = names_copy b in let f = clear q b a apart same lt in omega (arith, e, f)
-
-    here_copy : (q w b : ℕ) → is_anode q ≡ true → q ≢ page → b < old.superblock.blocks → pointer_of (node_in new after page) 15 ≡ b + 1 → w < 68 → w ≢ 15 → pointer_of (node_in old before q) w ≢ b + 1
-    here_copy q w b a apart low here lt off there = held.apart from q w b is_from a low (sym (pointers 15 (omega arith)) ∙ here) lt off there
+    -- it names fewer, but for its indirect block
+    names_copy : (b : ℕ) → (pointer_of (node_in new after page) 15 ≡ b + 1 → pointer_of (node_in old before from) 15 ≡ b + 1) → names (node_in new after page) b ≤ names (node_in old before from) b
+    names_copy b map = names_within (node_in old before from) (node_in new after page) fewer b map
 
     there_copy : (p w b : ℕ) → is_anode p ≡ true → p ≢ page → b < old.superblock.blocks → pointer_of (node_in old before p) 15 ≡ b + 1 → w < 68 → w ≢ 15 → pointer_of (node_in new after page) w ≢ b + 1
-    there_copy p w b a apart low here lt off there = held.apart p from w b a is_from low here lt off (sym (pointers w lt) ∙ there)
-
-    own_copy : (b : ℕ) → own_of old.superblock.blocks (pages_of_log new after) after page b ≡ own_names new after (node_in new after page) b
-    own_copy b = by (is_pointer old.superblock.blocks (pointer_of (node_in new after page) 15)) refl
+    there_copy p w b a apart low here lt off there = at (fewer w lt off)
       where
-        by : (c : Bool) → is_pointer old.superblock.blocks (pointer_of (node_in new after page) 15) ≡ c → own_of old.superblock.blocks (pages_of_log new after) after page b ≡ own_names new after (node_in new after page) b
-        by false e =
-            let alone : is_shared new after (node_in new after page) ≡ false = (λ i. e i && nat_lt 1 (count_now new after (pointer_of (node_in new after page) 15 - 1))) in
-            own_invalid old.superblock.blocks (pages_of_log new after) after page is b e ∙ sym (names_alone new after (node_in new after page) b alone)
-        by true e =
-            let facts = pointer_facts old.superblock.blocks (pointer_of (node_in new after page) 15) e in
-            let some = facts.0 in let within = facts.1 in
-            let m : ℕ = pointer_of (node_in new after page) 15 - 1 in
-            let there : pointer_of (node_in new after page) 15 ≡ m + 1 = omega (arith, some) in
-            let low : m < old.superblock.blocks = omega (arith, some, within) in
-            let same : pointer_of (node_in old before from) 15 ≡ m + 1 = sym (pointers 15 (omega arith)) ∙ there in
-            let on = page_other old.superblock.blocks (pages_of_log new after) after page from m is_from other ((λ i. pointer_of (node_same from is_from other i) 15) ∙ same) in
-            let c = count_copy m low in
-            let f = rest_names old.superblock.blocks (pages_of_log old before) before page from m is_from other in
-            let g = named_some (node_in old before from) 15 m (omega arith) same in
-            let h = own_named new after (node_in new after page) m there in
-            let two : 1 < count_now new after m = omega (arith, c, f, g, h) in
-            let yes = lt_true 1 (count_now new after m) two in
-            let shared : is_shared new after (node_in new after page) ≡ true = (λ i. e i && yes i) in
-            own_shared old.superblock.blocks (pages_of_log new after) after page is m b there low on ∙ sym (names_shared new after (node_in new after page) b shared)
+        at : (pointer_of (node_in new after page) w ≡ 0) ⊎ (pointer_of (node_in new after page) w ≡ pointer_of (node_in old before from) w) → ⊥
+        at (inl empty) = omega (arith, there, empty)
+        at (inr from_it) = held.apart p from w b a is_from low here lt off (sym from_it ∙ there)
 
-    count_is : (b : ℕ) → b < old.superblock.blocks → number_at 2 (count_place b) (page_of new.entries new.puts after (count_page b)) ≡ rest_of old.superblock.blocks (pages_of_log old before) before page b + own_names new after (node_in new after page) b
-    unfolding count_now
-    count_is b lt = count_copy b lt
+    -- with its indirect block
+    module _ (map : pointer_of (node_in (record old { puts = puts }) after page) 15 ≡ pointer_of (node_in old before from) 15) where
+      names_shared_copy : (b : ℕ) → names (node_in new after page) b ≤ names (node_in old before from) b
+      names_shared_copy b = names_copy b (λ here. sym map ∙ here)
 
-    pub copied_held : HoldsNow (set_at page anode anodes) new after
-    copied_held = holds_with old.superblock.blocks (pages_of_log old before) (pages_of_log new after) before after page is node_same anodes held anode anode_is anode_same tidy_others tidy bare
-        (λ b lt. count_is b lt ∙ (λ i. rest_of old.superblock.blocks (pages_of_log old before) before page b + sym (own_copy b) i)) tail_now once_copy slots_copy here_copy there_copy
+      once_copy : (b : ℕ) → b < old.superblock.blocks → names (node_in new after page) b ≤ 1
+      once_copy b lt = let e = names_shared_copy b in let f = held.once from b is_from lt in omega (arith, e, f)
+
+      slots_copy : (q b : ℕ) → is_anode q ≡ true → q ≢ page → slot_at page ≡ slot_at q → b < old.superblock.blocks → names (node_in new after page) b + names (node_in old before q) b ≤ 1
+      slots_copy q b a apart same lt = let e = names_shared_copy b in let f = clear q b a apart same lt in omega (arith, e, f)
+
+      here_copy : (q w b : ℕ) → is_anode q ≡ true → q ≢ page → b < old.superblock.blocks → pointer_of (node_in new after page) 15 ≡ b + 1 → w < 68 → w ≢ 15 → pointer_of (node_in old before q) w ≢ b + 1
+      here_copy q w b a apart low here lt off there = held.apart from q w b is_from a low (sym map ∙ here) lt off there
+
+      own_copy : (b : ℕ) → own_of old.superblock.blocks (pages_of_log new after) after page b ≡ own_names new after (node_in new after page) b
+      own_copy b = by (is_pointer old.superblock.blocks (pointer_of (node_in new after page) 15)) refl
+        where
+          by : (c : Bool) → is_pointer old.superblock.blocks (pointer_of (node_in new after page) 15) ≡ c → own_of old.superblock.blocks (pages_of_log new after) after page b ≡ own_names new after (node_in new after page) b
+          by false e =
+              let alone : is_shared new after (node_in new after page) ≡ false = (λ i. e i && nat_lt 1 (count_now new after (pointer_of (node_in new after page) 15 - 1))) in
+              own_invalid old.superblock.blocks (pages_of_log new after) after page is b e ∙ sym (names_alone new after (node_in new after page) b alone)
+          by true e =
+              let facts = pointer_facts old.superblock.blocks (pointer_of (node_in new after page) 15) e in
+              let some = facts.0 in let within = facts.1 in
+              let m : ℕ = pointer_of (node_in new after page) 15 - 1 in
+              let there : pointer_of (node_in new after page) 15 ≡ m + 1 = omega (arith, some) in
+              let low : m < old.superblock.blocks = omega (arith, some, within) in
+              let same : pointer_of (node_in old before from) 15 ≡ m + 1 = sym map ∙ there in
+              let on = page_other old.superblock.blocks (pages_of_log new after) after page from m is_from other ((λ i. pointer_of (node_same from is_from other i) 15) ∙ same) in
+              let c = count_copy m low in
+              let f = rest_names old.superblock.blocks (pages_of_log old before) before page from m is_from other in
+              let g = named_some (node_in old before from) 15 m (omega arith) same in
+              let h = own_named new after (node_in new after page) m there in
+              let two : 1 < count_now new after m = omega (arith, c, f, g, h) in
+              let yes = lt_true 1 (count_now new after m) two in
+              let shared : is_shared new after (node_in new after page) ≡ true = (λ i. e i && yes i) in
+              own_shared old.superblock.blocks (pages_of_log new after) after page is m b there low on ∙ sym (names_shared new after (node_in new after page) b shared)
+
+      count_is : (b : ℕ) → b < old.superblock.blocks → number_at 2 (count_place b) (page_of new.entries new.puts after (count_page b)) ≡ rest_of old.superblock.blocks (pages_of_log old before) before page b + own_names new after (node_in new after page) b
+      unfolding count_now
+      count_is b lt = count_copy b lt
+
+      pub shared_held : HoldsNow (set_at page anode anodes) new after
+      shared_held = holds_with old.superblock.blocks (pages_of_log old before) (pages_of_log new after) before after page is node_same anodes held anode anode_is anode_same tidy_others tidy bare
+          (λ b lt. count_is b lt ∙ (λ i. rest_of old.superblock.blocks (pages_of_log old before) before page b + sym (own_copy b) i)) tail_now once_copy slots_copy here_copy there_copy
+
+    -- or with one of its own, which was free
+    module _ (own : OwnsMap page old before (record old { puts = puts }) after) where
+      free_copy : (b : ℕ) → b < old.superblock.blocks → pointer_of (node_in new after page) 15 ≡ b + 1 → (q : ℕ) → is_anode q ≡ true → names (node_in old before q) b ≡ 0
+      free_copy b lt here q a = let e = own.free b lt here in let f = counted_all anodes old before held q a b lt in omega (arith, e, f)
+
+      once_own : (b : ℕ) → b < old.superblock.blocks → names (node_in new after page) b ≤ 1
+      once_own b lt = by (cases_eq (pointer_of (node_in new after page) 15) (b + 1))
+        where
+          at : names (node_in old before from) b ≡ 0 → (w : ℕ) → w < 68 → pointer_of (node_in new after page) w ≡ b + 1 → (pointer_of (node_in new after page) w ≡ 0) ⊎ (pointer_of (node_in new after page) w ≡ pointer_of (node_in old before from) w) → ⊥
+          at none_there w low here (inl empty) = omega (arith, here, empty)
+          at none_there w low here (inr from_it) = let f = named_some (node_in old before from) w b low (sym from_it ∙ here) in omega (arith, none_there, f)
+
+          only : names (node_in old before from) b ≡ 0 → (w : ℕ) → w < 68 → pointer_of (node_in new after page) w ≡ b + 1 → (w ≡ 15) ⊎ (w ≢ 15) → w ≡ 15
+          only none_there w low here (inl e) = e
+          only none_there w low here (inr off) = absurd (at none_there w low here (fewer w low off))
+
+          by : (pointer_of (node_in new after page) 15 ≡ b + 1) ⊎ (pointer_of (node_in new after page) 15 ≢ b + 1) → names (node_in new after page) b ≤ 1
+          by (inl here) = names_once (node_in new after page) b (λ w low there. only (free_copy b lt here from is_from) w low there (cases_eq w 15))
+          by (inr off) = let e = names_copy b (λ here. absurd (off here)) in let f = held.once from b is_from lt in omega (arith, e, f)
+
+      slots_own : (q b : ℕ) → is_anode q ≡ true → q ≢ page → slot_at page ≡ slot_at q → b < old.superblock.blocks → names (node_in new after page) b + names (node_in old before q) b ≤ 1
+      slots_own q b a apart same lt = by (cases_eq (pointer_of (node_in new after page) 15) (b + 1))
+        where
+          by : (pointer_of (node_in new after page) 15 ≡ b + 1) ⊎ (pointer_of (node_in new after page) 15 ≢ b + 1) → names (node_in new after page) b + names (node_in old before q) b ≤ 1
+          by (inl here) = let e = once_own b lt in let f = free_copy b lt here q a in omega (arith, e, f)
+          by (inr off) = let e = names_copy b (λ here. absurd (off here)) in let f = clear q b a apart same lt in omega (arith, e, f)
+
+      here_own : (q w b : ℕ) → is_anode q ≡ true → q ≢ page → b < old.superblock.blocks → pointer_of (node_in new after page) 15 ≡ b + 1 → w < 68 → w ≢ 15 → pointer_of (node_in old before q) w ≢ b + 1
+      here_own q w b a apart low here lt off there = let e = free_copy b low here q a in let f = named_some (node_in old before q) w b lt there in omega (arith, e, f)
+
+      pub apart_held : HoldsNow (set_at page anode anodes) new after
+      apart_held = alone_held own.alone once_own slots_own here_own there_copy
+
+    pub copied_held : (pointer_of (node_in (record old { puts = puts }) after page) 15 ≡ pointer_of (node_in old before from) 15) ⊎ OwnsMap page old before (record old { puts = puts }) after → HoldsNow (set_at page anode anodes) new after
+    copied_held (inl map) = shared_held map
+    copied_held (inr own) = apart_held own
 
 -- an anode that is the same
 same_held : (anodes : ℕ → Anode) (page : ℕ) (anode : Anode) (state : State) (image : List ℕ) → HoldsNow anodes state image → anode_in state image page ≡ anode
@@ -389,68 +465,79 @@ holds_made anodes page is anode old new before after rest held free quiet there 
     (subst (λ (s : State). IsBare after (node_in s after page)) rest bare))
 
 -- the pointers of a copy
-copy_pointers : (image : List ℕ) (source copy : Node) → IsTidy image source → SharesBlocks source copy → (w : ℕ) → w < 68 → pointer_of copy w ≡ pointer_of source w
-copy_pointers image source copy tidy shares w lt = by (nat_lt w 3) refl (nat_lt w 15) refl (cases_eq w 15)
+pub copied_fewer : (page : ℕ) (source : Node) (old new : State) (before after : List ℕ) → SharesBlocks page source old before new after
+    → (w : ℕ) → w < 68 → w ≢ 15 → (pointer_of (node_in new after page) w ≡ 0) ⊎ (pointer_of (node_in new after page) w ≡ pointer_of source w)
+copied_fewer page source old new before after shares w lt other = by (nat_lt w 3) refl (nat_lt w 15) refl
   where
-    part : (i : ℕ) → i < 64 → (a : Bool) → nat_lt (1024 * i) (bytes_of source) ≡ a → pointer_of copy (pointer_at i) ≡ pointer_of source (pointer_at i)
-    part i low true e = shares.bytes i low (grind (arith, nat_tests, e))
-    part i low false e = let high : bytes_of source ≤ 1024 * i = grind (arith, nat_tests, e) in shares.past i low high ∙ sym (tidy.none i low high)
+    part : (i : ℕ) → i < 64 → (a : Bool) → nat_lt (1024 * i) (bytes_of source) ≡ a → (pointer_of (node_in new after page) (pointer_at i) ≡ 0) ⊎ (pointer_of (node_in new after page) (pointer_at i) ≡ pointer_of source (pointer_at i))
+    part i low true e = inr (shares.bytes i low (grind (arith, nat_tests, e)))
+    part i low false e = inl (shares.past i low (grind (arith, nat_tests, e)))
 
-    past : names_past source ≡ 0
-    past = none_many (λ j. nat_le (bytes_of source) (1024 * (12 + j)) && not (pointer_of source (16 + j) == 0)) 52 (λ j low. far j low (nat_le (bytes_of source) (1024 * (12 + j))) refl)
-      where
-        far : (j : ℕ) → j < 52 → (a : Bool) → nat_le (bytes_of source) (1024 * (12 + j)) ≡ a → (a && not (pointer_of source (16 + j) == 0)) ≡ false
-        far j low true e =
-            let le : bytes_of source ≤ 1024 * (12 + j) = grind (arith, nat_tests, e) in
-            let at : pointer_at (12 + j) ≡ 16 + j = (let off : nat_lt (12 + j) 12 ≡ false = grind (arith, nat_tests) in (λ i. if off i then 12 + j + 3 else 12 + j + 4) ∙ omega arith) in
-            let zero : pointer_of source (16 + j) ≡ 0 = (λ i. pointer_of source (sym at i)) ∙ tidy.none (12 + j) (omega (arith, low)) le in
-            let on : (0 == 0) ≡ true = refl in
-            λ i. not (zero i == 0)
-        far j low false e = refl
+    from_it : (v : ℕ) → v ≡ w → (pointer_of (node_in new after page) v ≡ 0) ⊎ (pointer_of (node_in new after page) v ≡ pointer_of source v) → (pointer_of (node_in new after page) w ≡ 0) ⊎ (pointer_of (node_in new after page) w ≡ pointer_of source w)
+    from_it v is which = subst (λ (x : ℕ). (pointer_of (node_in new after page) x ≡ 0) ⊎ (pointer_of (node_in new after page) x ≡ pointer_of source x)) is which
 
-    by : (a : Bool) → nat_lt w 3 ≡ a → (b : Bool) → nat_lt w 15 ≡ b → (w ≡ 15) ⊎ (w ≢ 15) → pointer_of copy w ≡ pointer_of source w
-    by true e b f which = shares.lists w (grind (arith, nat_tests, e))
-    by false e true f which =
+    by : (a : Bool) → nat_lt w 3 ≡ a → (b : Bool) → nat_lt w 15 ≡ b → (pointer_of (node_in new after page) w ≡ 0) ⊎ (pointer_of (node_in new after page) w ≡ pointer_of source w)
+    by true e b f = inr (shares.lists w (grind (arith, nat_tests, e)))
+    by false e true f =
         let high : 3 ≤ w = grind (arith, nat_tests, e) in
         let low : w < 15 = grind (arith, nat_tests, f) in
         let at : pointer_at (w - 3) ≡ w = (let on : nat_lt (w - 3) 12 ≡ true = grind (arith, nat_tests, high, low) in (λ i. if on i then w - 3 + 3 else w - 3 + 4) ∙ omega (arith, high)) in
-        (λ i. pointer_of copy (sym at i)) ∙ part (w - 3) (omega (arith, low)) (nat_lt (1024 * (w - 3)) (bytes_of source)) refl ∙ (λ i. pointer_of source (at i))
-    by false e false f (inl here) = (λ i. pointer_of copy (here i)) ∙ shares.map past ∙ (λ i. pointer_of source (sym here i))
-    by false e false f (inr other) =
+        from_it (pointer_at (w - 3)) at (part (w - 3) (omega (arith, low)) (nat_lt (1024 * (w - 3)) (bytes_of source)) refl)
+    by false e false f =
         let high : 16 ≤ w = (let ge : 15 ≤ w = grind (arith, nat_tests, f) in omega (arith, ge, other)) in
         let at : pointer_at (w - 4) ≡ w = (let off : nat_lt (w - 4) 12 ≡ false = grind (arith, nat_tests, high) in (λ i. if off i then w - 4 + 3 else w - 4 + 4) ∙ omega (arith, high)) in
-        (λ i. pointer_of copy (sym at i)) ∙ part (w - 4) (omega (arith, lt)) (nat_lt (1024 * (w - 4)) (bytes_of source)) refl ∙ (λ i. pointer_of source (at i))
+        from_it (pointer_at (w - 4)) at (part (w - 4) (omega (arith, lt)) (nat_lt (1024 * (w - 4)) (bytes_of source)) refl)
+
+pub copied_map : (page : ℕ) (source : Node) (old new : State) (before after : List ℕ) → SharesBlocks page source old before new after
+    → (pointer_of (node_in new after page) 15 ≡ pointer_of source 15) ⊎ OwnsMap page old before new after
+copied_map page source old new before after shares = by (names_past source) refl
+  where
+    by : (n : ℕ) → names_past source ≡ n → (pointer_of (node_in new after page) 15 ≡ pointer_of source 15) ⊎ OwnsMap page old before new after
+    by zero e = inl (shares.map e)
+    by (suc n) e = inr (shares.own (omega (arith, e)))
+
+-- a source without blocks has none past its length
+bare_past : (node : Node) → HasNoBlocks node → names_past node ≡ 0
+bare_past node none = none_many (λ j. nat_le (bytes_of node) (1024 * (12 + j)) && not (pointer_of node (16 + j) == 0)) 52 (λ j low. by j low (nat_le (bytes_of node) (1024 * (12 + j))))
+  where
+    by : (j : ℕ) → j < 52 → (a : Bool) → (a && not (pointer_of node (16 + j) == 0)) ≡ false
+    by j low true = (let zero = none (16 + j) (omega (arith, low)) in λ i. not (zero i == 0))
+    by j low false = refl
+
+copied_bare : (page : ℕ) (source : Node) (old new : State) (before after : List ℕ) → SharesBlocks page source old before new after → HasNoBlocks source → HasNoBlocks (node_in new after page)
+copied_bare page source old new before after shares none w lt = by (cases_eq w 15)
+  where
+    at : (pointer_of (node_in new after page) w ≡ 0) ⊎ (pointer_of (node_in new after page) w ≡ pointer_of source w) → pointer_of (node_in new after page) w ≡ 0
+    at (inl empty) = empty
+    at (inr from_it) = from_it ∙ none w lt
+
+    by : (w ≡ 15) ⊎ (w ≢ 15) → pointer_of (node_in new after page) w ≡ 0
+    by (inl is) = (λ i. pointer_of (node_in new after page) (is i)) ∙ shares.map (bare_past source none) ∙ none 15 (omega arith)
+    by (inr off) = at (copied_fewer page source old new before after shares w lt off)
 
 copied_puts : (anodes : ℕ → Anode) (from page : ℕ) → is_anode from ≡ true → is_anode page ≡ true → from ≢ page → (old : State) (puts : List Put) (before after : List ℕ) → HoldsNow anodes old before → (anodes page).kind ≡ 0
-    → Made page (anode_in old before from) old before (record old { puts = puts }) after → SharesBlocks (node_in old before from) (node_in (record old { puts = puts }) after page)
-    → IsTidy after (node_in (record old { puts = puts }) after page) → WritesLoose no_names old before before after → NamesApart page (node_in old before from) old before
+    → Made page (anode_in old before from) old before (record old { puts = puts }) after → SharesBlocks page (node_in old before from) old before (record old { puts = puts }) after
+    → WritesLoose no_names old before before after → NamesApart page (node_in old before from) old before
     → HoldsNow (set_at page (anodes from) anodes) (record old { puts = puts }) after
-copied_puts anodes from page is_from is apart old puts before after held free there shares tidy writes clear =
+copied_puts anodes from page is_from is apart old puts before after held free there shares writes clear =
     copied_held anodes page is (anodes from) old puts before after held
     (turns_made page (own_names (record old { puts = puts }) after (node_in (record old { puts = puts }) after page)) old (record old { puts = puts }) before after none there.turns)
     (writes_wider old before before after (own_names old before (node_in old before page)) writes)
-    (there.anode_is ∙ held.anode from is_from) tidy (λ gone w lt. pointers w lt ∙ held.bare from is_from gone w lt)
-    from is_from apart none pointers clear
+    (there.anode_is ∙ held.anode from is_from) (shares.tidy (held.tidy from is_from))
+    (λ gone. copied_bare page (node_in old before from) old (record old { puts = puts }) before after shares (held.bare from is_from gone))
+    from is_from apart none (copied_fewer page (node_in old before from) old (record old { puts = puts }) before after shares) clear
+    (copied_map page (node_in old before from) old (record old { puts = puts }) before after shares)
   where
     none : HasNoBlocks (node_in old before page)
     none = held.bare page is free
 
-    pointers : (w : ℕ) → w < 68 → pointer_of (node_in (record old { puts = puts }) after page) w ≡ pointer_of (node_in old before from) w
-    pointers = copy_pointers before (node_in old before from) (node_in (record old { puts = puts }) after page) (held.tidy from is_from) shares
-
 pub holds_copied : (anodes : ℕ → Anode) (from page : ℕ) → is_anode from ≡ true → is_anode page ≡ true → from ≢ page → (old new : State) (before after : List ℕ) → new ≡ record old { puts = new.puts } → HoldsNow anodes old before → (anodes page).kind ≡ 0
-    → Made page (anode_in old before from) old before new after → SharesBlocks (node_in old before from) (node_in new after page)
-    → IsTidy after (node_in new after page) → WritesLoose no_names old before before after → NamesApart page (node_in old before from) old before → HoldsNow (set_at page (anodes from) anodes) new after
-holds_copied anodes from page is_from is apart old new before after rest held free there shares tidy writes clear =
+    → Made page (anode_in old before from) old before new after → SharesBlocks page (node_in old before from) old before new after
+    → WritesLoose no_names old before before after → NamesApart page (node_in old before from) old before → HoldsNow (set_at page (anodes from) anodes) new after
+holds_copied anodes from page is_from is apart old new before after rest held free there shares writes clear =
     subst (λ (s : State). HoldsNow (set_at page (anodes from) anodes) s after) (sym rest)
     (copied_puts anodes from page is_from is apart old new.puts before after held free (subst (λ (s : State). Made page (anode_in old before from) old before s after) rest there)
-    (subst (λ (s : State). SharesBlocks (node_in old before from) (node_in s after page)) rest shares)
-    (subst (λ (s : State). IsTidy after (node_in s after page)) rest tidy) writes clear)
-
--- the pointers of the copy are those of its source
-pub copied_pointers : (anodes : ℕ → Anode) (from page : ℕ) (old new : State) (before after : List ℕ) → is_anode from ≡ true → HoldsNow anodes old before → SharesBlocks (node_in old before from) (node_in new after page)
-    → (w : ℕ) → w < 68 → pointer_of (node_in new after page) w ≡ pointer_of (node_in old before from) w
-copied_pointers anodes from page old new before after is_from held shares = copy_pointers before (node_in old before from) (node_in new after page) (held.tidy from is_from) shares
+    (subst (λ (s : State). SharesBlocks page (node_in old before from) old before s after) rest shares) writes clear)
 
 -- and the other anodes are the same
 pub made_beside : (anodes : ℕ → Anode) (page q : ℕ) (anode : Anode) (old new : State) (before after : List ℕ) → is_anode q ≡ true → q ≢ page → HoldsNow anodes old before → new ≡ record old { puts = new.puts }

@@ -2,15 +2,16 @@
 use Rattle.std.proofs.Common.{◌≡◌, ◌≢◌, ◌<◌, ◌≤◌, ℕ, zero, suc, ◌+◌, ◌-◌, ◌*◌, ◌/◌, List, refl, sym, ◌∙◌, arith}
 use Rattle.std.specs.Prelude.{Bool, true, false, ◌==◌, ◌&&◌, not, if◌then◌else◌, nat_lt, min}
 use Rattle.std.proofs.lemmas.Bool.Decides.{nat_tests}
+use Rattle.ep_log.specs.Puts.{page_of}
 use Rattle.ep_log.specs.State.{State}
 use Rattle.ep_space.specs.Counts.{count_now, count_settled}
-use Rattle.ep_anode.specs.Anode.{Anode, bytes_of, byte_length, IsTidy}
-use Rattle.ep_anode.specs.Node.{pointer_of, pointer_at, is_pointer, names, names_below, node_of}
+use Rattle.ep_anode.specs.Anode.{Anode, bytes_of, byte_length, IsTrimmed}
+use Rattle.ep_anode.specs.Node.{pointer_of, pointer_at, is_pointer, names, names_below, node_of, node_in}
 use Rattle.ep_anode.specs.Room.{one, how_many, free_blocks}
 use Rattle.ep_anode.specs.declared.node.Node.{Node}
 use Rattle.ep_anode.proofs.Counting.{same_many, many_le, none_many, single_many}
 use Rattle.ep_anode.proofs.Cells.{pointer_facts}
-use Rattle.ep_files.specs.Holds.{sum_below, is_anode, page_names, indirect_of, map_names, is_indirect, pointers_to, blocks_most, all_blocks, Holds, HoldsNow}
+use Rattle.ep_files.specs.Holds.{sum_below, is_anode, page_names, indirect_of, map_names, is_indirect, pointers_to, pointers_set, all_pointers, blocks_most, HoldsNow}
 use Rattle.ep_files.proofs.Sums.{sum_same, sum_but, sum_le, sum_one, sum_zero, sum_plus, sum_swap, many_sum, many_split}
 use Rattle.ep_files.proofs.Totals.{indirect_some}
 use Rattle.ep_files.proofs.Nodes.{names_valid, names_invalid}
@@ -80,7 +81,7 @@ sum_indirect indirect g blocks =
 abbrev some_pointer : Node → ℕ → Bool
 some_pointer node w = not (pointer_of node w == 0)
 
-names_sum : (node : Node) (blocks : ℕ) → sum_below (λ b. names node b) blocks ≤ how_many (some_pointer node) 68
+names_sum : (node : Node) (blocks : ℕ) → sum_below (λ b. names node b) blocks ≤ pointers_set node
 unfolding names
 names_sum node blocks =
     let a = sum_same (λ b. names node b) (λ b. sum_below (λ w. one (pointer_of node w == b + 1)) 68) blocks (λ b lt. many_sum (λ w. pointer_of node w == b + 1) 68) in
@@ -103,8 +104,8 @@ names_sum node blocks =
             omega (arith, a, b, d)
 
 -- of which those past the end of the bytes are
-past_many : (image : List ℕ) (node : Node) → IsTidy image node → how_many (λ i. some_pointer node (pointer_at i)) 64 ≤ (bytes_of node + 1023) / 1024
-past_many image node tidy =
+past_many : (node : Node) → IsTrimmed node → how_many (λ i. some_pointer node (pointer_at i)) 64 ≤ (bytes_of node + 1023) / 1024
+past_many node trimmed =
     let a = many_le (λ i. not (pointer_of node (pointer_at i) == 0)) (λ i. nat_lt i ((bytes_of node + 1023) / 1024)) 64 (λ i lt on. inside i lt on (nat_lt (1024 * i) (bytes_of node)) refl) in
     let b = lt_many ((bytes_of node + 1023) / 1024) 64 in
     omega (arith, a, b)
@@ -116,7 +117,7 @@ past_many image node tidy =
     inside i lt on true e = lower i (bytes_of node) (grind (arith, nat_tests, e))
     inside i lt on false e =
         let high : bytes_of node ≤ 1024 * i = grind (arith, nat_tests, e) in
-        let none = tidy.none i lt high in
+        let none = trimmed i lt high in
         absurd (let off : not (0 == 0) ≡ true = (λ j. not (sym none j == 0)) ∙ on in grind (arith, off))
 
 one_most : (t : ℕ → Bool) (n : ℕ) → how_many t n ≤ n
@@ -128,8 +129,8 @@ one_most t (suc n) = let rest = one_most t n in by (t n) rest
     by true rest = omega (arith, rest)
     by false rest = omega (arith, rest)
 
-pointers_most : (image : List ℕ) (node : Node) → IsTidy image node → how_many (some_pointer node) 68 ≤ 4 + (bytes_of node + 1023) / 1024
-pointers_most image node tidy =
+pointers_most : (node : Node) → IsTrimmed node → pointers_set node ≤ 4 + (bytes_of node + 1023) / 1024
+pointers_most node trimmed =
     let t : ℕ → Bool = some_pointer node in
     let a = many_split t 3 65 in
     let b = many_split (λ j. t (3 + j)) 12 53 in
@@ -139,7 +140,7 @@ pointers_most image node tidy =
     let f = one_most (λ j. t (3 + (12 + j))) 1 in
     let g = same_many (λ i. t (pointer_at i)) (λ j. t (3 + j)) 12 (λ i lt. front i lt) in
     let h = same_many (λ i. t (pointer_at (12 + i))) (λ j. t (3 + (12 + (1 + j)))) 52 (λ i lt. back i) in
-    let k = past_many image node tidy in
+    let k = past_many node trimmed in
     omega (arith, a, b, c, d, e, f, g, h, k)
   where
     front : (i : ℕ) → i < 12 → some_pointer node (pointer_at i) ≡ some_pointer node (3 + i)
@@ -150,11 +151,11 @@ pointers_most image node tidy =
     back i = (let off : nat_lt (12 + i) 12 ≡ false = grind (arith, nat_tests) in let e : 12 + i + 4 ≡ 3 + (12 + (1 + i)) = omega arith in
         (λ j. some_pointer node (if off j then 12 + i + 3 else 12 + i + 4)) ∙ (λ j. some_pointer node (e j)))
 
-module _ (anodes : ℕ → Anode) (blocks : ℕ) (pages : ℕ → List ℕ) (image : List ℕ) (held : Holds anodes blocks pages image) where
+module _ (blocks : ℕ) (pages : ℕ → List ℕ) (image : List ℕ) where
   -- the pointers of one page's anode
   page_sum : (p : ℕ) → sum_below (λ b. page_names blocks pages image b p) blocks
       + (if is_pointer blocks (indirect_of blocks pages image p) then sum_below (λ b. map_names blocks image b (indirect_of blocks pages image p - 1)) blocks else 0)
-      ≤ (if is_anode p then blocks_most (anodes p) else 0)
+      ≤ (if is_anode p then pointers_set (node_of blocks image (pages p)) else 0)
   page_sum p = by (is_anode p) refl
     where
       all : is_anode p ≡ true → (a : Bool) → is_pointer blocks (pointer_of (node_of blocks image (pages p)) 15) ≡ a
@@ -173,32 +174,20 @@ module _ (anodes : ℕ → Anode) (blocks : ℕ) (pages : ℕ → List ℕ) (ima
           let f = sum_same (λ b. names (node_of blocks image (pages p)) b) (λ b. names_below 16 (node_of blocks image (pages p)) b) blocks (λ b lt. names_invalid blocks image (pages p) b e) in
           omega (arith, f)
 
-      most : is_anode p ≡ true → (a : Bool) → ((anodes p).kind == 0) ≡ a → how_many (some_pointer (node_of blocks image (pages p))) 68 ≤ (if a then 0 else 4 + (byte_length (anodes p).kind (anodes p).length + 1023) / 1024)
-      most is true e =
-          let free = held.bare p is (grind (arith, nat_tests, e)) in
-          let none = none_many (λ w. not (pointer_of (node_of blocks image (pages p)) w == 0)) 68 (λ w lt. (let z = free w lt in λ i. not (z i == 0))) in
-          omega (arith, none)
-      most is false e =
-          let f = pointers_most image (node_of blocks image (pages p)) (held.tidy p is) in
-          let g = held.anode p is in
-          let same : bytes_of (node_of blocks image (pages p)) ≡ byte_length (anodes p).kind (anodes p).length = (λ i. byte_length (g i).kind (g i).length) in
-          omega (arith, f, same)
-
       by : (a : Bool) → is_anode p ≡ a
           → sum_below (λ b. if a then names_below 16 (node_of blocks image (pages p)) b else 0) blocks
           + (if is_pointer blocks (if a then pointer_of (node_of blocks image (pages p)) 15 else 0) then sum_below (λ b. map_names blocks image b ((if a then pointer_of (node_of blocks image (pages p)) 15 else 0) - 1)) blocks else 0)
-          ≤ (if a then blocks_most (anodes p) else 0)
+          ≤ (if a then pointers_set (node_of blocks image (pages p)) else 0)
       by true e =
           let f = all e (is_pointer blocks (pointer_of (node_of blocks image (pages p)) 15)) refl in
           let g = names_sum (node_of blocks image (pages p)) blocks in
-          let h = most e ((anodes p).kind == 0) refl in
-          omega (arith, f, g, h)
+          omega (arith, f, g)
       by false e =
           let f = sum_zero (λ b. 0) blocks (λ b lt. refl) in
           omega (arith, f)
 
   -- and all together
-  pub total_sum : sum_below (λ b. pointers_to blocks pages image b) blocks ≤ all_blocks anodes
+  pub total_sum : sum_below (λ b. pointers_to blocks pages image b) blocks ≤ sum_below (λ p. if is_anode p then pointers_set (node_of blocks image (pages p)) else 0) 1058
   total_sum =
       let a = sum_plus (λ b. sum_below (page_names blocks pages image b) 1058) (λ b. sum_below (λ m. if is_indirect (indirect_of blocks pages image) m then map_names blocks image b m else 0) blocks) blocks in
       let b = sum_swap (λ b p. page_names blocks pages image b p) blocks 1058 in
@@ -208,7 +197,7 @@ module _ (anodes : ℕ → Anode) (blocks : ℕ) (pages : ℕ → List ℕ) (ima
       let e = sum_indirect (indirect_of blocks pages image) (λ m. sum_below (λ b. map_names blocks image b m) blocks) blocks in
       let f = sum_plus (λ p. sum_below (λ b. page_names blocks pages image b p) blocks) (λ p. if is_pointer blocks (indirect_of blocks pages image p) then sum_below (λ b. map_names blocks image b (indirect_of blocks pages image p - 1)) blocks else 0) 1058 in
       let g = sum_le (λ p. sum_below (λ b. page_names blocks pages image b p) blocks + (if is_pointer blocks (indirect_of blocks pages image p) then sum_below (λ b. map_names blocks image b (indirect_of blocks pages image p - 1)) blocks else 0))
-      (λ p. if is_anode p then blocks_most (anodes p) else 0) 1058 (λ p lt. page_sum p) in
+      (λ p. if is_anode p then pointers_set (node_of blocks image (pages p)) else 0) 1058 (λ p lt. page_sum p) in
       omega (arith, a, b, c, d, e, f, g)
     where
       out : (m : ℕ) (a : Bool) → sum_below (λ b. if a then map_names blocks image b m else 0) blocks ≡ (if a then sum_below (λ b. map_names blocks image b m) blocks else 0)
@@ -218,7 +207,7 @@ module _ (anodes : ℕ → Anode) (blocks : ℕ) (pages : ℕ → List ℕ) (ima
 -- a block that is free counts no pointer, and others count some
 pub room_left : (anodes : ℕ → Anode) (state : State) (image : List ℕ) → HoldsNow anodes state image
     → ((b : ℕ) → b < state.superblock.blocks → count_now state image b ≡ 0 → count_settled state image b ≡ 0)
-    → state.superblock.blocks ≤ free_blocks state image + all_blocks anodes
+    → state.superblock.blocks ≤ free_blocks state image + all_pointers state image
 unfolding count_now
 room_left anodes state image held settled =
     let blocks : ℕ = state.superblock.blocks in
@@ -227,7 +216,7 @@ room_left anodes state image held settled =
     let b = many_sum (λ x. not (test x)) blocks in
     let c = sum_le (λ x. one (not (test x))) (λ x. count_now state image x) blocks (λ x lt. used x lt (count_now state image x == 0) refl) in
     let d = sum_same (λ x. count_now state image x) (λ x. pointers_to blocks _ image x) blocks (λ x lt. held.counts x lt) in
-    let e = total_sum anodes blocks _ image held in
+    let e = total_sum blocks (λ p. page_of state.entries state.puts image p) image in
     omega (arith, a, b, c, d, e)
   where
     used : (x : ℕ) → x < state.superblock.blocks → (z : Bool) → (count_now state image x == 0) ≡ z → one (not (z && (count_settled state image x == 0))) ≤ count_now state image x
@@ -240,3 +229,26 @@ room_left anodes state image held settled =
     used x lt false e =
         let some : 1 ≤ count_now state image x = grind (arith, nat_tests, e) in
         omega (arith, some)
+
+-- the pointers of one anode
+module _ (anodes : ℕ → Anode) (page : ℕ) (state : State) (image : List ℕ) (is : is_anode page ≡ true) (held : HoldsNow anodes state image) where
+  pub pointers_free : (anodes page).kind ≡ 0 → pointers_set (node_in state image page) ≡ 0
+  pointers_free free = let none = held.bare page is free in none_many (λ w. not (pointer_of (node_in state image page) w == 0)) 68 (λ w lt. (let z = none w lt in λ i. not (z i == 0)))
+
+  pub pointers_few : pointers_set (node_in state image page) ≤ (if (anodes page).kind == 0 then 0 else 68)
+  pointers_few = by ((anodes page).kind == 0) refl
+    where
+      by : (a : Bool) → ((anodes page).kind == 0) ≡ a → pointers_set (node_in state image page) ≤ (if a then 0 else 68)
+      by true e = let none = pointers_free (grind (arith, nat_tests, e)) in omega (arith, none)
+      by false e = one_most (some_pointer (node_in state image page)) 68
+
+  pub pointers_trimmed : IsTrimmed (node_in state image page) → pointers_set (node_in state image page) ≤ blocks_most (anodes page)
+  pointers_trimmed trimmed = by ((anodes page).kind == 0) refl
+    where
+      by : (a : Bool) → ((anodes page).kind == 0) ≡ a → pointers_set (node_in state image page) ≤ (if a then 0 else 4 + (byte_length (anodes page).kind (anodes page).length + 1023) / 1024)
+      by true e = let none = pointers_free (grind (arith, nat_tests, e)) in omega (arith, none)
+      by false e =
+          let f = pointers_most (node_in state image page) trimmed in
+          let g = held.anode page is in
+          let same : bytes_of (node_in state image page) ≡ byte_length (anodes page).kind (anodes page).length = (λ i. byte_length (g i).kind (g i).length) in
+          omega (arith, f, same)

@@ -129,8 +129,7 @@ module _ (anodes : ℕ → Anode) (blocks : ℕ) (old new : ℕ → List ℕ) (b
     behind = tidy.behind;
     range = tidy.range;
     lists = λ w lt zero. tidy.lists w lt (λ k low. sym (cell_kept q w k is (omega (arith, lt)) low) ∙ zero k low);
-    past = λ k le lt block. (let p = pointer_in (k / 1024) (omega arith) in cell_kept q (pointer_at (k / 1024)) (k % 1024) is p.1 (omega arith) ∙ tidy.past k le lt block);
-    none = tidy.none;
+    past = λ dir k le lt block. (let p = pointer_in (k / 1024) (omega arith) in cell_kept q (pointer_at (k / 1024)) (k % 1024) is p.1 (omega arith) ∙ tidy.past dir k le lt block);
   }
 
   front_kept : (b p : ℕ) → page_names blocks new after b p ≡ page_names blocks old before b p

@@ -1,5 +1,5 @@
 -- All anodes of an aggregate at once.
-use Rattle.std.specs.Prelude.{[], ◌≡◌, ◌≢◌, ◌≤◌, ◌<◌, ℕ, zero, suc, ◌+◌, ◌-◌, ◌*◌, ◌/◌, ◌%◌, ◌==◌, ◌&&◌}
+use Rattle.std.specs.Prelude.{[], ◌≡◌, ◌≢◌, ◌≤◌, ◌<◌, ℕ, zero, suc, ◌+◌, ◌-◌, ◌*◌, ◌/◌, ◌%◌, ◌==◌, ◌&&◌, not}
 use Rattle.std.specs.Prelude.{Bool, true, List, if◌then◌else◌, nat_lt, nat_le, take, drop}
 use Rattle.ep_layout.specs.Numbers.{number_at}
 use Rattle.ep_layout.specs.Pages.{stage}
@@ -96,9 +96,14 @@ stage_of state image k p = stage (take state.forced state.entries) (drop state.f
 abbrev pub set_at : ℕ → Anode → (ℕ → Anode) → ℕ → Anode
 set_at page anode anodes p = if p == page then anode else anodes p
 
--- How many blocks an anode has at most: those of its three lists and of its indirect block, and those of its bytes.
+-- how many pointers of an anode are set, and how many of all anodes
+abbrev pub pointers_set : Node → ℕ
+pointers_set node = how_many (λ w. not (pointer_of node w == 0)) 68
+
+abbrev pub all_pointers : State → List ℕ → ℕ
+all_pointers state image = sum_below (λ p. if is_anode p then pointers_set (node_in state image p) else 0) 1058
+
+-- How many an anode has at most that has none past its length: those of its three lists, the one to its indirect block,
+-- and those of its bytes.
 abbrev pub blocks_most : Anode → ℕ
 blocks_most anode = if anode.kind == 0 then 0 else 4 + (byte_length anode.kind anode.length + 1023) / 1024
-
-abbrev pub all_blocks : (ℕ → Anode) → ℕ
-all_blocks anodes = sum_below (λ p. if is_anode p then blocks_most (anodes p) else 0) 1058

@@ -1,5 +1,5 @@
 // What each call on an anode leaves of all anodes.
-ghost use Rattle.std.specs.Prelude.{◌≡◌, ◌≢◌, ◌<◌, ◌≤◌, ◌+◌, ℕ, List, [], true, take, drop};
+ghost use Rattle.std.specs.Prelude.{◌≡◌, ◌≢◌, ◌<◌, ◌≤◌, ◌==◌, ◌+◌, ℕ, List, [], true, if◌then◌else◌, take, drop};
 ghost use Rattle.ep_layout.specs.Numbers.{number_at};
 ghost use Rattle.ep_layout.specs.Places.{pages_of, SameBlocks};
 ghost use Rattle.ep_layout.specs.Pages.{ends_in, pages_in, HasWhole, LeftFirst};
@@ -8,15 +8,15 @@ ghost use Rattle.ep_log.specs.Contents.{Contents, stage_in, last_stage, AppendsS
 ghost use Rattle.ep_log.specs.Puts.{without};
 ghost use Rattle.ep_log.specs.State.{State};
 ghost use Rattle.ep_space.specs.Counts.{count_page, count_place, count_now, count_settled};
-ghost use Rattle.ep_anode.specs.Anode.{Anode, anode_in, IsTidy, IsBare};
+ghost use Rattle.ep_anode.specs.Anode.{Anode, anode_in, IsTrimmed, IsBare};
 ghost use Rattle.ep_anode.specs.Node.{names, no_names, node_in, HasNoBlocks};
 ghost use Rattle.ep_anode.specs.Room.{free_blocks};
 ghost use Rattle.ep_anode.specs.Changes.{own_names, SameBlock, WritesLoose, AreCounted, AreFew};
 ghost use Rattle.ep_anode.specs.Changes.{Changed, Made, SharesBlocks};
 ghost use Rattle.dfs_calls.specs.declared.part.DirEntry.{DirEntry};
 ghost use Rattle.ep_dir.specs.Entries.{with_entries, IsDirectory};
-ghost use Rattle.ep_files.specs.Holds.{is_anode, set_at, Holds, HoldsNow, stage_of, no_anode, all_blocks};
-ghost use Rattle.ep_files.specs.Holds.{NamesApart};
+ghost use Rattle.ep_files.specs.Holds.{is_anode, set_at, Holds, HoldsNow, stage_of, no_anode};
+ghost use Rattle.ep_files.specs.Holds.{NamesApart, pointers_set, all_pointers, blocks_most};
 
 /// A new aggregate, whose pages are zero but for the server's, has no anodes.
 pub fn new_holds()
@@ -80,8 +80,8 @@ pub fn copied_holds()
         → is_anode from ≡ true → is_anode page ≡ true → from ≢ page
         → HoldsNow anodes old before → new ≡ record old { puts = new.puts } → (anodes page).kind ≡ 0
         → Made page (anode_in old before from) old before new after
-        → SharesBlocks (node_in old before from) (node_in new after page)
-        → IsTidy after (node_in new after page) → WritesLoose no_names old before before after
+        → SharesBlocks page (node_in old before from) old before new after
+        → WritesLoose no_names old before before after
         → NamesApart page (node_in old before from) old before
         → HoldsNow (set_at page (anodes from) anodes) new after }
 {}
@@ -133,13 +133,20 @@ pub fn left_holds()
         → Holds (anodes k) told.state.superblock.blocks (λ p. pages_in left.log.half c p) c }
 {}
 
-/// Room by one law: where each block that no pointer names now is free, as after a force, all blocks are free but those
-/// that the anodes have, which are 4 and those of their bytes each at most.
+/// Room by one law: where each block that no pointer names now is free, as after a force, all blocks are free but one
+/// for each pointer of an anode at most. An anode has 68 pointers at most, and a free one none. One that has none past
+/// its length has 4 and those of its bytes at most.
 pub fn room_holds()
-    ensures { (anodes : ℕ → Anode) (state : State) (image : List ℕ)
+    ensures room { (anodes : ℕ → Anode) (state : State) (image : List ℕ)
         → HoldsNow anodes state image
         → ((b : ℕ) → b < state.superblock.blocks → count_now state image b ≡ 0 → count_settled state image b ≡ 0)
-        → state.superblock.blocks ≤ free_blocks state image + all_blocks anodes }
+        → state.superblock.blocks ≤ free_blocks state image + all_pointers state image }
+    ensures few { (anodes : ℕ → Anode) (page : ℕ) (state : State) (image : List ℕ)
+        → is_anode page ≡ true → HoldsNow anodes state image
+        → pointers_set (node_in state image page) ≤ (if (anodes page).kind == 0 then 0 else 68) }
+    ensures trimmed { (anodes : ℕ → Anode) (page : ℕ) (state : State) (image : List ℕ)
+        → is_anode page ≡ true → HoldsNow anodes state image → IsTrimmed (node_in state image page)
+        → pointers_set (node_in state image page) ≤ blocks_most (anodes page) }
 {}
 
 /// Pages hold their anodes as long as no block changes that they count.

@@ -13,7 +13,6 @@ use Rattle.ep_log.specs.State.{State}
 use Rattle.ep_log.specs.declared.kept.Tx.{Tx}
 use Rattle.ep_log.specs.declared.log.Log.{Log}
 use Rattle.ep_space.specs.Counts.{count_now, count_settled}
-use Rattle.ep_anode.specs.Anode.{IsTidy}
 use Rattle.ep_anode.specs.Changes.{IsLoose, WritesLoose, WroteLoose, AreCounted, AreFew}
 use Rattle.ep_anode.specs.Faults.{IsNodeFault}
 use Rattle.ep_anode.specs.Node.{names, node_in}
@@ -110,10 +109,6 @@ module _ (slot n page : ℕ) (low : slot < 16) (some : 1 ≤ n) (few : n ≤ 64)
   pub may_page : (state : State) (tx : ℕ) → MayPutAll (slot_pages slot) state tx → MayPutAll (is_page page) state tx
   may_page state tx may = may_fewer (is_page page) (with_counts page) state tx page_itself (may_in state tx may)
 
-  -- no pointers are past the end of what is kept there
-  pub past_in : (slots : ℕ → List Anode) (state : State) (image : List ℕ) → KeepsNow slots state image → IsTidy image (node_in state image page)
-  past_in slots state image keeps = subst (λ (p : ℕ). IsTidy image (node_in state image p)) (sym at) (keeps.held.tidy (page_for slot n) (page_is slot n low some few))
-
 -- blocks that no crash needs
 pub wrote_unused : (named : ℕ → ℕ) (state : State) (old new : View) → WroteLoose named state old new → WroteUnused state old new
 wrote_unused named state old new wrote =
@@ -152,9 +147,10 @@ pub no_more : {T E : Type 0} (result : Result T E) (a b : ℕ) → OnOk result (
 no_more (Ok value) a b le = omega (arith, le)
 no_more (Err error) a b le = tt
 
-pub past_more : {T E : Type 0} (result : Result T E) (a b past : ℕ) → past ≡ 0 → OnOk result (a ≤ b + min 1 past) → OnOk result (a ≤ b + 0)
-past_more (Ok value) a b past none le = omega (arith, none, le)
-past_more (Err error) a b past none le = tt
+-- one block less at most
+pub past_more : {T E : Type 0} (result : Result T E) (a b past : ℕ) → OnOk result (a ≤ b + min 1 past) → OnOk result (a ≤ b + 1)
+past_more (Ok value) a b past le = omega (arith, le)
+past_more (Err error) a b past le = tt
 
 -- and what a call keeps that makes an anode
 pub changes_made : {D T : Type 0} (tells : Type 0) (view : D → View) (slot n page : ℕ) (result : Result T NodeFault) (old new : Log D) (tx changed : Tx)
@@ -245,6 +241,20 @@ changes_failed tells view slot a c fault old new tx changed failed = record {
   wrote = failed.wrote;
   counted = failed.counted;
   only = failed.only;
+}
+
+-- or that took fewer blocks
+pub changes_fewer : {D T : Type 0} (tells : Type 0) (view : D → View) (slot a c : ℕ) (result : Result T NodeFault) (old new : Log D) (tx changed : Tx) → a ≤ c
+    → ChangesSlot tells view slot a result old new tx changed → ChangesSlot tells view slot c result old new tx changed
+changes_fewer tells view slot a c result old new tx changed le one = record {
+  sound = one.sound;
+  same = one.same;
+  puts = one.puts;
+  pages = one.pages;
+  room = λ told. more_room result _ _ a c le (one.room told);
+  wrote = one.wrote;
+  counted = one.counted;
+  only = one.only;
 }
 
 -- a condition that is weaker, and less room

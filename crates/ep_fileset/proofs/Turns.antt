@@ -1,6 +1,6 @@
 -- What each call on an anode makes of what its slot keeps.
-use Rattle.std.proofs.Common.{◌≡◌, ◌≢◌, ◌<◌, ◌≤◌, ◌∙◌, ℕ, zero, suc, ◌+◌, ◌*◌, List, [], ◌∷◌, length, get_or, refl, sym, subst, arith}
-use Rattle.std.specs.Prelude.{Bool, true, false, Option, Some, None, Result, OnOk, ◌&&◌, is_none, not, nat_lt, nat_le, ◌==◌, if◌then◌else◌, slice_get}
+use Rattle.std.proofs.Common.{◌≡◌, ◌≢◌, ◌<◌, ◌≤◌, ◌∙◌, ℕ, zero, suc, ◌+◌, List, [], ◌∷◌, length, get_or, refl, sym, subst, arith}
+use Rattle.std.specs.Prelude.{Bool, true, false, Option, Some, None, Result, OnOk, ◌&&◌, is_none, nat_lt, if◌then◌else◌, slice_get}
 use Rattle.std.specs.Option.{option_map_or}
 use Rattle.std.proofs.lemmas.Bool.Decides.{nat_tests}
 use Rattle.std.proofs.lemmas.Result.{on_ok_weaker}
@@ -17,12 +17,10 @@ use Rattle.dfs_objects.specs.Objects.{is_dir, list_index, content_with_list}
 use Rattle.dfs_base.specs.declared.limits.TheConstants.{UNIQUE_MAX}
 use Rattle.dfs_filesets.specs.Laws.{lists_in}
 use Rattle.ep_log.specs.State.{State}
-use Rattle.ep_anode.specs.Anode.{Anode as Kept, anode_in, bytes_of, names_past, made, with_length, with_list, freed, IsTidy, IsBare}
+use Rattle.ep_anode.specs.Anode.{Anode as Kept, anode_in, made, with_length, with_list, freed, IsBare}
 use Rattle.ep_anode.specs.Changes.{own_names, WritesLoose, Changed, Made, SharesBlocks}
-use Rattle.ep_anode.specs.Node.{pointer_of, pointer_at, node_in, no_names}
+use Rattle.ep_anode.specs.Node.{node_in, no_names}
 use Rattle.ep_anode.specs.declared.fault.NodeFault.{NodeFault}
-use Rattle.ep_anode.specs.declared.node.Node.{Node}
-use Rattle.ep_anode.proofs.Counting.{none_many}
 use Rattle.ep_acl.specs.Lists.{list_bytes, HoldsList}
 use Rattle.ep_dir.specs.Entries.{entered, without, with_entries, IsDirectory}
 use Rattle.ep_objects.specs.Objects.{list_byte, object_kept, kept_of, page_for, anode_at, with_anode, FitsContent, KeepsNow, HeldNow}
@@ -40,19 +38,6 @@ pub both : (a b : Bool) → (a && b) ≡ true → (a ≡ true) × (b ≡ true)
 both true true e = (refl, refl)
 both true false e = absurd (grind (arith, e))
 both false b e = absurd (grind (arith, e))
-
--- no pointers are past the end of an anode's bytes
-pub none_past : (image : List ℕ) (node : Node) → IsTidy image node → names_past node ≡ 0
-none_past image node tidy = none_many (λ j. nat_le (bytes_of node) (1024 * (12 + j)) && not (pointer_of node (16 + j) == 0)) 52 (λ j low. far j low (nat_le (bytes_of node) (1024 * (12 + j))) refl)
-  where
-    far : (j : ℕ) → j < 52 → (a : Bool) → nat_le (bytes_of node) (1024 * (12 + j)) ≡ a → (a && not (pointer_of node (16 + j) == 0)) ≡ false
-    far j low true e =
-        let le : bytes_of node ≤ 1024 * (12 + j) = grind (arith, nat_tests, e) in
-        let at : pointer_at (12 + j) ≡ 16 + j = (let off : nat_lt (12 + j) 12 ≡ false = grind (arith, nat_tests) in (λ i. if off i then 12 + j + 3 else 12 + j + 4) ∙ omega arith) in
-        let zero : pointer_of node (16 + j) ≡ 0 = (λ i. pointer_of node (sym at i)) ∙ tidy.none (12 + j) (omega (arith, low)) le in
-        let on : (0 == 0) ≡ true = refl in
-        λ i. not (zero i == 0)
-    far j low false e = refl
 
 module _ (slots : ℕ → List Anode) (slot n : ℕ) (low : slot < 16) (some : 1 ≤ n) (few : n ≤ 64) (page : ℕ) (at : page ≡ page_for slot n)
     (old new : State) (before after : List ℕ) (rest : new ≡ record old { puts = new.puts }) (keeps : KeepsNow slots old before)
@@ -198,14 +183,13 @@ module _ (slots : ℕ → List Anode) (slot n : ℕ) (low : slot < 16) (some : 1
   -- and one that is copied
   pub copy_turns : (from source : ℕ) → source ≡ page_for from n → from < 16 → from ≢ slot → IsVacant slot n slots → NamesApart (page_for slot n) (node_in old before (page_for from n)) old before → WritesLoose no_names old before before after
       → OnOk result (Made page (anode_in old before source) old before new after)
-      → OnOk result (SharesBlocks (node_in old before source) (node_in new after page))
-      → OnOk result (IsTidy after (node_in new after page))
+      → OnOk result (SharesBlocks page (node_in old before source) old before new after)
       → OnOk result (KeepsNow (with_anode slot n (λ free. anode_at (slots from) n) slots) new after)
-  copy_turns from source of from_low apart vacant clear writes made shares tidy = on_ok_two result
-      (λ (m : Made page (anode_in old before source) old before new after) (more : SharesBlocks (node_in old before source) (node_in new after page) × IsTidy after (node_in new after page)).
+  copy_turns from source of from_low apart vacant clear writes made shares = on_ok_two result
+      (λ (m : Made page (anode_in old before source) old before new after) (s : SharesBlocks page (node_in old before source) old before new after).
       keeps_copied slots slot n low some few page at (λ free. anode_at (slots from) n) old new before after rest keeps ((keeps.each from from_low).each n some few) from n source of from_low some few
-      (λ e. apart (omega (arith, e))) (vacant_kind (anode_at (slots slot) n) vacant) m more.0 more.1 writes clear refl)
-      made (on_ok_two result (λ (s : SharesBlocks (node_in old before source) (node_in new after page)) (t : IsTidy after (node_in new after page)). (s, t)) shares tidy)
+      (λ e. apart (omega (arith, e))) (vacant_kind (anode_at (slots slot) n) vacant) m s writes clear refl)
+      made shares
 
 -- objects that are being made
 pub nothing_listed : (dir : Bool) (v k : ℕ) → list_byte (lists_in (blank_content dir)) v k ≡ 0

@@ -1,6 +1,7 @@
 -- What a call that changes a slot asks, and what it keeps.
 use Rattle.std.specs.Prelude.{
   ◌≡◌,
+  ◌≢◌,
   ◌≤◌,
   ◌<◌,
   ◌⊎◌,
@@ -50,12 +51,13 @@ use Rattle.ep_log.specs.State.{State}
 use Rattle.ep_log.specs.declared.kept.Tx.{Tx}
 use Rattle.ep_log.specs.declared.log.Log.{Log}
 use Rattle.ep_space.specs.Counts.{count_now}
+use Rattle.ep_anode.specs.Anode.{IsTrimmed}
 use Rattle.ep_anode.specs.Changes.{WroteLoose}
 use Rattle.ep_anode.specs.Faults.{IsNodeFault}
 use Rattle.ep_anode.specs.Node.{pointer_of, node_in}
 use Rattle.ep_anode.specs.Room.{free_blocks, MayPutAll, PutsPages}
 use Rattle.ep_anode.specs.declared.fault.NodeFault.{NodeFault}
-use Rattle.ep_anode.specs.declared.node.Node.{Node}
+use Rattle.ep_files.specs.Holds.{is_anode}
 use Rattle.ep_objects.specs.Objects.{anode_at, page_for, with_slot, with_anode, KeepsNow}
 
 -- the pages of a slot's anodes, and those of counts
@@ -149,20 +151,26 @@ abbrev pub TakesName : ℕ → ℕ → List ℕ → (ℕ → List Anode) → Typ
 TakesName slot anode name slots =
     option_map_or (λ object. takes_name name object.content) (anode_at (slots slot) anode).object false ≡ true
 
--- two anodes name the same blocks
-abbrev pub SamePointers : Node → Node → Type 0
-SamePointers source copy = (w : ℕ) → w < 68 → pointer_of copy w ≡ pointer_of source w
-
 -- whether an anode is free
 abbrev pub IsVacant : ℕ → ℕ → (ℕ → List Anode) → Type 0
 IsVacant slot anode slots = is_none (anode_at (slots slot) anode).object ≡ true
 
--- What a log keeps where a slot is being made of another one: each of its anodes is free, or names the blocks that the
--- other one's anode of its number names.
+-- The anode of a page is a copy of another one: it names blocks that this one names, none past its length, and maybe an
+-- indirect block that no other anode names.
+pub record IsCopy (from page : ℕ) (state : State) (image : List ℕ) : Type 0 where
+  pub trimmed : IsTrimmed (node_in state image page)
+  pub pointers : (w : ℕ) → w < 68 → w ≢ 15 → (pointer_of (node_in state image page) w ≡ 0)
+      ⊎ (pointer_of (node_in state image page) w ≡ pointer_of (node_in state image from) w)
+  pub map : (pointer_of (node_in state image page) 15 ≡ pointer_of (node_in state image from) 15)
+      ⊎ ((other block : ℕ) → is_anode other ≡ true → other ≢ page → block < state.superblock.blocks
+      → pointer_of (node_in state image page) 15 ≡ block + 1 → pointer_of (node_in state image other) 15 ≢ block + 1)
+
+-- What a log keeps where a slot is being made of another one: each of its anodes is free, or a copy of the other one's
+-- anode of its number.
 pub record CopiesNow (from to : ℕ) (slots : ℕ → List Anode) (state : State) (image : List ℕ) : Type 0 where
   pub keeps : KeepsNow slots state image
   pub copies : (anode : ℕ) → 1 ≤ anode → anode ≤ 64 → IsVacant to anode slots
-      ⊎ SamePointers (node_in state image (page_for from anode)) (node_in state image (page_for to anode))
+      ⊎ IsCopy (page_for from anode) (page_for to anode) state image
 
 -- an entry that moves from a directory to one that takes its name
 abbrev pub MayMove : ℕ → Move → (ℕ → List Anode) → Type 0

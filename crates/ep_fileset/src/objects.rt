@@ -31,9 +31,10 @@ pub fn vacate<D: Disk>(
 }
 
 /// Gives a free anode what the anode of the same number in another slot has, and its unique number. The blocks of the
-/// object are shared. The slot has no blocks but those of such copies.
+/// object are shared, but for those past its length. The slot has no blocks but those of such copies.
 ///
-/// It needs no block. `Failed`: mount the log again. `Memory`: undo the transaction, which may hold some puts.
+/// It needs a block, for another indirect block. `Failed`: mount the log again. `Memory`: undo the transaction, which
+/// may hold some puts.
 pub fn copy_anode<D: Disk>(
     log: &mut Log<D>,
     tx: &mut Tx,
@@ -46,10 +47,10 @@ pub fn copy_anode<D: Disk>(
     requires apart { from ≢ to }
     requires first { 1 ≤ anode }
     requires last { anode ≤ 64 }
-    requires may { MayTurn (CopiesNow from to) D.tells D.view (IsVacant to anode) to 0 log.old tx.old }
+    requires may { MayTurn (CopiesNow from to) D.tells D.view (IsVacant to anode) to 1 log.old tx.old }
     ensures kept { Turned (CopiesNow from to) D.tells D.view (IsVacant to anode)
         (λ slots. with_anode to anode (λ free. anode_at (slots from) anode) slots) result log.old log.new }
-    ensures changes { ChangesSlot D.tells D.view to 0 result log.old log.new tx.old tx.new }
+    ensures changes { ChangesSlot D.tells D.view to 1 result log.old log.new tx.old tx.new }
 {
     clone_of(log, tx, anode_page(from, anode), anode_page(to, anode))
 }

@@ -1,5 +1,7 @@
 // Whole slots.
-ghost use Rattle.std.specs.Prelude.{◌<◌, ◌≢◌, ⊤};
+ghost use Rattle.std.specs.Prelude.{◌<◌, ◌≢◌, ⊤, OnOk};
+ghost use Rattle.ep_log.specs.Log.{disk_of, state_of};
+ghost use Rattle.ep_objects.specs.Objects.{AreTrimmed};
 ghost use Rattle.ep_fileset.specs.Slots.{AllVacant, slot_freed, slot_copied, MayChange, TurnsInto, ChangesSlot};
 
 use crate::objects::{copy_anode, vacate};
@@ -22,9 +24,11 @@ pub fn clear_slot<D: Disk>(log: &mut Log<D>, tx: &mut Tx, slot: u32) -> Result<(
     Ok(())
 }
 
-/// Gives a slot whose anodes are all free what another slot has, as a fileset is cloned. The blocks are shared.
+/// Gives a slot whose anodes are all free what another slot has, as a fileset is cloned. The blocks are shared, but for
+/// those past the length of an anode, which are left out.
 ///
-/// It needs no block. `Failed`: mount the log again. `Memory`: undo the transaction, which may hold some puts.
+/// It needs 64 free blocks, for indirect blocks that have pointers past a length, and so aren't shared. `Failed`: mount
+/// the log again. `Memory`: undo the transaction, which may hold some puts.
 pub fn copy_slot<D: Disk>(
     log: &mut Log<D>,
     tx: &mut Tx,
@@ -34,9 +38,10 @@ pub fn copy_slot<D: Disk>(
     requires from { from < 16 }
     requires slot { to < 16 }
     requires apart { from ≢ to }
-    requires may { MayChange D.tells D.view (AllVacant to) to 0 log.old tx.old }
+    requires may { MayChange D.tells D.view (AllVacant to) to 64 log.old tx.old }
     ensures kept { TurnsInto D.tells D.view (AllVacant to) (slot_copied from to) result log.old log.new }
-    ensures changes { ChangesSlot D.tells D.view to 0 result log.old log.new tx.old tx.new }
+    ensures trimmed { D.tells → OnOk result (AreTrimmed to (state_of log.new) (D.view (disk_of log.new)).image) }
+    ensures changes { ChangesSlot D.tells D.view to 64 result log.old log.new tx.old tx.new }
 {
     for i in 0..64 {
         copy_anode(log, tx, from, to, i + 1)?;

@@ -6,7 +6,7 @@ use Rattle.dfs_base.specs.Crash.{IsQuiet, IsSettled}
 use Rattle.dfs_base.specs.Image.{byte_at}
 use Rattle.dfs_base.specs.View.{View}
 use Rattle.dfs_outside.specs.Runs.{LeavesOnly}
-use Rattle.dfs_outside.proofs.Runs.{quiet, quiet_then, then, weaker}
+use Rattle.dfs_outside.proofs.Runs.{quiet, quiet_settled, quiet_then, then, weaker}
 use Rattle.ep_layout.specs.Pages.{ends_in, redone, HasPages}
 use Rattle.ep_layout.specs.Places.{in_place, SameBlocks}
 use Rattle.ep_layout.specs.declared.half.Half.{Half}
@@ -235,9 +235,14 @@ module _ {D : Type 0} (tells : Type 0) (view : D → View) (slot : ℕ) (facts :
       facts_now : tells → facts ≡ record (server_of (page_in (contents_of view first) 0)) { format = 2 }
       facts_now told = facts_are ∙ (λ i. record (read_is told i) { format = 2 })
 
+      two_now : (page : List ℕ) → SaysFacts facts page → byte_at page 29 ≡ 2
+      unfolding server_of
+      two_now page says = (λ i. (says.says i).format) ∙ (λ i. (facts_are i).format)
+
       reforms_now : IsSoundLog tells view forced → state_of forced ≡ forced_all (state_of put) → (tells → KeepsLast (contents_of view put) (contents_of view forced))
-          → (tells → SameBlocks (state_of put).half.pages (Image put) (Image forced)) → IsSettled (view (disk_of forced)) → Reforms tells view first forced
-      reforms_now sound state stages blocks durable = record {
+          → (tells → SameBlocks (state_of put).half.pages (Image put) (Image forced)) → (tells → (p : ℕ) → page_in (contents_of view forced) p ≡ page_in (contents_of view put) p)
+          → IsSettled (view (disk_of forced)) → Reforms tells view first forced
+      reforms_now sound state stages blocks pages durable = record {
         idle = record { sound = sound; none_open = λ s. (λ i. get_or (state i).reservations s 0) ∙ none_open_put (Ok value) puts s };
         superblock = (λ i. (state i).superblock) ∙ superblock_put (Ok value) puts;
         half = (λ i. (state i).half) ∙ half_put (Ok value) puts;
@@ -246,13 +251,15 @@ module _ {D : Type 0} (tells : Type 0) (view : D → View) (slot : ℕ) (facts :
         pages = λ told server. forced_reforms told server (not_two told) (facts_now told) forced sound state stages blocks durable;
         blocks = λ told. subst (λ (h : Half). SameBlocks h.pages (Image first) (Image forced)) (half_put (Ok value) puts)
             (subst (λ (l : List ℕ). SameBlocks (state_of put).half.pages l (Image forced)) (quiet_put (Ok value) puts).image (blocks told));
+        format = λ told. ap (λ (l : List ℕ). byte_at l 29) (pages told 0) ∙ two_now (page_in (contents_of view put) 0) (puts.first told);
       }
 
       pub reforms_if : {F : Type 0} (result : Result F LogFault) → OnOk result (IsSoundLog tells view forced) → OnOk result (state_of forced ≡ forced_all (state_of put))
           → (tells → OnOk result (KeepsLast (contents_of view put) (contents_of view forced))) → (tells → SameBlocks (state_of put).half.pages (Image put) (Image forced))
+          → (tells → (p : ℕ) → page_in (contents_of view forced) p ≡ page_in (contents_of view put) p)
           → OnOk result (IsSettled (view (disk_of forced))) → OnOk result (Reforms tells view first forced)
-      reforms_if (Ok v) sound state stages blocks durable = reforms_now sound state stages blocks durable
-      reforms_if (Err e) sound state stages blocks durable = tt
+      reforms_if (Ok v) sound state stages blocks pages durable = reforms_now sound state stages blocks pages durable
+      reforms_if (Err e) sound state stages blocks pages durable = tt
 
       abbrev Left : List ℕ → Type 0
       Left c = (pages : ℕ → List ℕ) × IsReformedOr (state_of first).half.pages (stage_in (contents_of view first) 0) pages
@@ -261,6 +268,28 @@ module _ {D : Type 0} (tells : Type 0) (view : D → View) (slot : ℕ) (facts :
       pub crash_now : LeavesOnly (IsLeft (contents_of view put) (view (disk_of put))) (view (disk_of put)) (view (disk_of forced))
           → tells → is_server_page (stage_in (contents_of view first) 0 0) ≡ true → LeavesReformed view first forced
       crash_now run told server = (then) (quiet Left (quiet_put (Ok value) puts)) (weaker run (left_reformed told server (not_two told) (facts_now told)))
+
+-- a log in format 2 of which the server's page was read
+module _ {D : Type 0} (tells : Type 0) (view : D → View) (first read : Log D) (facts : ServerFacts) (same : state_of read ≡ state_of first) (still : IsQuiet (view (disk_of first)) (view (disk_of read))) where
+  contents : contents_of view read ≡ contents_of view first
+  contents = λ i. record { state = same i; image = still.image i }
+
+  two_read : facts ≡ server_of (page_in (contents_of view first) 0) → facts.format ≡ 2 → byte_at (page_in (contents_of view read) 0) 29 ≡ 2
+  unfolding server_of
+  two_read is two = (λ i. byte_at (page_in (contents i) 0) 29) ∙ sym (λ i. (is i).format) ∙ two
+
+  pub formed : IsIdle tells view first → last_stage (contents_of view first) ≡ 0 → IsSettled (view (disk_of first)) → IsSoundLog tells view read → (tells → facts ≡ server_of (page_in (contents_of view first) 0)) → facts.format ≡ 2
+      → Reforms tells view first read
+  formed idle last settled sound read_is two = record {
+    idle = record { sound = sound; none_open = λ s. (λ i. get_or (same i).reservations s 0) ∙ idle.none_open s };
+    superblock = λ i. (same i).superblock;
+    half = λ i. (same i).half;
+    last = (λ i. last_stage (contents i)) ∙ last;
+    settled = quiet_settled still settled;
+    pages = λ told server. inl (λ p lt i. stage_in (contents i) 0 p);
+    blocks = λ told at le i. byte_at (still.image i) at;
+    format = λ told. two_read (read_is told) two;
+  }
 
 one_page : how_many (is_page 0) 1 ≡ 1
 unfolding how_many

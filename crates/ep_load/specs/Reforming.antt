@@ -1,6 +1,7 @@
 -- What a log of format 1 is in format 2.
 use Rattle.std.specs.Prelude.{◌≡◌, ◌⊎◌, ◌≤◌, ◌<◌, ℕ, ◌+◌, true, List, set, Result, OnOk, IfErr}
 use Rattle.dfs_base.specs.Crash.{IsQuiet, IsSettled}
+use Rattle.dfs_base.specs.Image.{byte_at}
 use Rattle.dfs_base.specs.View.{View}
 use Rattle.dfs_outside.specs.Runs.{LeavesOnly}
 use Rattle.ep_layout.specs.Pages.{HasPages}
@@ -37,6 +38,7 @@ pub record Reforms {D : Type 0} (tells : Type 0) (view : D → View) (old new : 
       (stage_in (contents_of view old) 0) (stage_in (contents_of view new) 0)
   pub blocks : tells
       → SameBlocks (state_of old).half.pages (view (disk_of old)).image (view (disk_of new)).image
+  pub format : tells → byte_at (page_in (contents_of view new) 0) 29 ≡ 2
 
 -- What a crash leaves of one: the log with the pages as they were, or with those of format 2.
 abbrev pub LeavesReformed : {D : Type 0} → (D → View) → Log D → Log D → Type 0

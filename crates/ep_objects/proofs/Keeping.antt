@@ -11,7 +11,7 @@ use Rattle.dfs_objects.specs.declared.content.Object.{Object}
 use Rattle.dfs_objects.specs.Changes.{content_changed, anode_changed}
 use Rattle.dfs_objects.specs.Objects.{is_dir}
 use Rattle.ep_log.specs.State.{State}
-use Rattle.ep_anode.specs.Anode.{Anode as Kept, anode_in, IsTidy, IsBare}
+use Rattle.ep_anode.specs.Anode.{Anode as Kept, anode_in, IsBare}
 use Rattle.ep_anode.specs.Changes.{own_names, WritesLoose, Changed, Made, SharesBlocks}
 use Rattle.ep_anode.specs.Node.{node_in, no_names, HasNoBlocks}
 use Rattle.ep_files.specs.Holds.{HoldsNow, NamesApart}
@@ -74,16 +74,16 @@ module _ (slots : ℕ → List Anode) (slot n : ℕ) (low : slot < 16) (some : 1
     -- where it copied one
     pub held_copied : (from m : ℕ) → from < 16 → 1 ≤ m → m ≤ 64 → page_for from m ≢ page_for slot n → (kept_of (anode_at (slots slot) n)).kind ≡ 0
         → Made (page_for slot n) (anode_in old before (page_for from m)) old before new after
-        → SharesBlocks (node_in old before (page_for from m)) (node_in new after (page_for slot n))
-        → IsTidy after (node_in new after (page_for slot n)) → WritesLoose no_names old before before after
+        → SharesBlocks (page_for slot n) (node_in old before (page_for from m)) old before new after
+        → WritesLoose no_names old before before after
         → NamesApart (page_for slot n) (node_in old before (page_for from m)) old before
         → anode_at (slots from) m ≡ change (anode_at (slots slot) n)
         → HoldsNow (kept_anodes (with_slot slot (changed_at (slots slot) (n - 1) change) slots)) new after
-    held_copied from m from_low one most apart free made shares tidy writes clear is =
+    held_copied from m from_low one most apart free made shares writes clear is =
         let source = kept_here slots from m from_low one most in
         subst (λ (anodes : ℕ → Kept). HoldsNow anodes new after) (set_kept slots slot n change low some few there (kept_anodes slots (page_for from m)) (source ∙ ap kept_of is))
         (holds_copied (kept_anodes slots) (page_for from m) (page_for slot n) (page_is from m from_low one most) (page_is slot n low some few) apart old new before after rest held
-        ((λ i. (kept_here slots slot n low some few i).kind) ∙ free) made shares tidy writes clear)
+        ((λ i. (kept_here slots slot n low some few i).kind) ∙ free) made shares writes clear)
 
 -- all that a log holds, where the anode in a page of a slot changed
 module _ (slots : ℕ → List Anode) (slot n : ℕ) (low : slot < 16) (some : 1 ≤ n) (few : n ≤ 64) (page : ℕ) (at : page ≡ page_for slot n)
@@ -112,14 +112,14 @@ module _ (slots : ℕ → List Anode) (slot n : ℕ) (low : slot < 16) (some : 1
       (subst (λ (p : ℕ). Made p anode old before new after) at made) (subst (λ (p : ℕ). IsBare after (node_in new after p)) at bare) is)
 
   pub keeps_copied : (from m source : ℕ) → source ≡ page_for from m → from < 16 → 1 ≤ m → m ≤ 64 → page_for from m ≢ page_for slot n → (kept_of (anode_at (slots slot) n)).kind ≡ 0
-      → Made page (anode_in old before source) old before new after → SharesBlocks (node_in old before source) (node_in new after page)
-      → IsTidy after (node_in new after page) → WritesLoose no_names old before before after → NamesApart (page_for slot n) (node_in old before (page_for from m)) old before
+      → Made page (anode_in old before source) old before new after → SharesBlocks page (node_in old before source) old before new after
+      → WritesLoose no_names old before before after → NamesApart (page_for slot n) (node_in old before (page_for from m)) old before
       → anode_at (slots from) m ≡ change (anode_at (slots slot) n)
       → KeepsNow (with_anode slot n change slots) new after
-  keeps_copied from m source of from_low one most apart free made shares tidy writes clear is = kept_with (held_copied slots slot n low some few there change old new before after rest keeps.held from m from_low one most apart free
+  keeps_copied from m source of from_low one most apart free made shares writes clear is = kept_with (held_copied slots slot n low some few there change old new before after rest keeps.held from m from_low one most apart free
       (subst (λ (p : ℕ). Made (page_for slot n) (anode_in old before p) old before new after) of (subst (λ (p : ℕ). Made p (anode_in old before source) old before new after) at made))
-      (subst (λ (p : ℕ). SharesBlocks (node_in old before p) (node_in new after (page_for slot n))) of (subst (λ (p : ℕ). SharesBlocks (node_in old before source) (node_in new after p)) at shares))
-      (subst (λ (p : ℕ). IsTidy after (node_in new after p)) at tidy) writes clear is)
+      (subst (λ (p : ℕ). SharesBlocks (page_for slot n) (node_in old before p) old before new after) of (subst (λ (p : ℕ). SharesBlocks p (node_in old before source) old before new after) at shares))
+      writes clear is)
 
 -- an anode with an object, whose content passes a test
 pub content_there : (anode : Anode) (test : Content → Bool) → option_map_or (λ (object : Object). test object.content) anode.object false ≡ true

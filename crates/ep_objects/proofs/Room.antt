@@ -1,6 +1,6 @@
 -- How many blocks the objects of all slots have.
-use Rattle.std.proofs.Common.{◌≡◌, ◌<◌, ◌≤◌, ℕ, zero, suc, ◌+◌, ◌-◌, ◌*◌, ◌%◌, List, length, take, get_or, refl, sym, ◌∙◌, arith}
-use Rattle.std.specs.Prelude.{Bool, true, false, ◌&&◌, if◌then◌else◌, nat_lt, nat_le, min, Option, Some, None, IfSome, is_none, unwrap_or, slice_get}
+use Rattle.std.proofs.Common.{◌≡◌, ◌<◌, ◌≤◌, ℕ, zero, suc, ◌+◌, ◌-◌, ◌*◌, ◌%◌, List, length, take, get_or, refl, sym, ◌∙◌, inl, inr, arith}
+use Rattle.std.specs.Prelude.{Bool, true, false, ◌==◌, ◌&&◌, if◌then◌else◌, nat_lt, nat_le, min, Option, Some, None, IfSome, is_none, unwrap_or, slice_get}
 use Rattle.std.specs.List.{sum_by}
 use Rattle.std.specs.Option.{option_map_or}
 use Rattle.std.proofs.Math.Seq.{take-suc}
@@ -16,9 +16,14 @@ use Rattle.dfs_objects.specs.Files.{present_length}
 use Rattle.dfs_objects.specs.Objects.{blocks_of}
 use Rattle.dfs_filesets.specs.Founding.{unused_anode}
 use Rattle.dfs_filesets.specs.Promises.{anode_blocks}
-use Rattle.ep_files.specs.Holds.{sum_below, is_anode, no_anode, blocks_most, all_blocks}
+use Rattle.ep_log.specs.State.{State}
+use Rattle.ep_anode.specs.Anode.{IsTrimmed}
+use Rattle.ep_anode.specs.Node.{node_in}
+use Rattle.ep_files.specs.Holds.{sum_below, is_anode, no_anode, pointers_set, all_pointers, blocks_most}
+use Rattle.ep_files.proofs.Room.{pointers_free, pointers_few, pointers_trimmed}
 use Rattle.ep_files.proofs.Sums.{sum_same, sum_le, sum_zero}
-use Rattle.ep_objects.specs.Objects.{object_kept, kept_of, page_for, anode_at, kept_anodes, FitsContent, FitsObject, AreKept}
+use Rattle.ep_objects.specs.Objects.{object_kept, kept_of, page_for, anode_at, kept_anodes, FitsContent, FitsObject, AreKept, KeepsNow, IsCovered}
+use Rattle.ep_objects.proofs.Contents.{vacant_kind}
 use Rattle.ep_objects.proofs.Places.{page_is, kept_here}
 
 -- the blocks of an object
@@ -120,9 +125,10 @@ slot_few anodes n kept free =
         let none = anode_none (anode_at anodes (j + 1)) (free (j + 1) (omega (arith, high)) (omega (arith, lt))) in
         omega (arith, none)
 
-module _ (slots : ℕ → List Anode) (each : (slot : ℕ) → slot < 16 → AreKept (slots slot)) where
+-- the pointers of the anodes of all slots
+module _ (slots : ℕ → List Anode) (state : State) (image : List ℕ) (keeps : KeepsNow slots state image) where
   at_page : ℕ → ℕ
-  at_page p = if is_anode p then blocks_most (kept_anodes slots p) else 0
+  at_page p = if is_anode p then pointers_set (node_in state image p) else 0
 
   not_anode : (p : ℕ) → (p - 2) % 66 < 2 → at_page p ≡ 0
   unfolding at_page
@@ -130,39 +136,76 @@ module _ (slots : ℕ → List Anode) (each : (slot : ℕ) → slot < 16 → Are
       let off : nat_le 2 ((p - 2) % 66) ≡ false = grind (arith, nat_tests, low) in
       by (nat_le 2 p) (nat_lt p 1058) off
     where
-      by : (a b : Bool) → nat_le 2 ((p - 2) % 66) ≡ false → (if a && b && nat_le 2 ((p - 2) % 66) then blocks_most (kept_anodes slots p) else 0) ≡ 0
-      by true true off = λ i. if off i then blocks_most (kept_anodes slots p) else 0
+      by : (a b : Bool) → nat_le 2 ((p - 2) % 66) ≡ false → (if a && b && nat_le 2 ((p - 2) % 66) then pointers_set (node_in state image p) else 0) ≡ 0
+      by true true off = λ i. if off i then pointers_set (node_in state image p) else 0
       by true false off = refl
       by false b off = refl
 
-  an_anode : (slot j : ℕ) → slot < 16 → j < 64 → at_page (2 + 66 * slot + (2 + j)) ≡ blocks_most (kept_of (anode_at (slots slot) (j + 1)))
+  an_anode : (slot j : ℕ) → slot < 16 → j < 64 → at_page (2 + 66 * slot + (2 + j)) ≡ pointers_set (node_in state image (page_for slot (j + 1)))
   unfolding at_page
   an_anode slot j low lt =
       let is : 2 + 66 * slot + (2 + j) ≡ page_for slot (j + 1) = omega arith in
       let on = page_is slot (j + 1) low (omega arith) (omega (arith, lt)) in
-      (λ i. if is_anode (is i) then blocks_most (kept_anodes slots (is i)) else 0)
-      ∙ (λ i. if on i then blocks_most (kept_anodes slots (page_for slot (j + 1))) else 0)
-      ∙ (λ i. blocks_most (kept_here slots slot (j + 1) low (omega arith) (omega (arith, lt)) i))
+      (λ i. if is_anode (is i) then pointers_set (node_in state image (is i)) else 0)
+      ∙ (λ i. if on i then pointers_set (node_in state image (page_for slot (j + 1))) else 0)
 
-  one_slot : (slot : ℕ) → slot < 16 → sum_below (λ j. at_page (2 + 66 * slot + j)) 66 ≤ sum_by anode_blocks (slots slot)
-  one_slot slot low =
+  kind_there : (slot j : ℕ) → slot < 16 → j < 64 → (kept_anodes slots (page_for slot (j + 1))).kind ≡ (kept_of (anode_at (slots slot) (j + 1))).kind
+  kind_there slot j low lt = λ i. (kept_here slots slot (j + 1) low (omega arith) (omega (arith, lt)) i).kind
+
+  few_here : (slot j : ℕ) → slot < 16 → j < 64 → pointers_set (node_in state image (page_for slot (j + 1))) ≤ 68
+  few_here slot j low lt = by ((kept_anodes slots (page_for slot (j + 1))).kind == 0) (pointers_few (kept_anodes slots) (page_for slot (j + 1)) state image (page_is slot (j + 1) low (omega arith) (omega (arith, lt))) keeps.held)
+    where
+      by : (a : Bool) → pointers_set (node_in state image (page_for slot (j + 1))) ≤ (if a then 0 else 68) → pointers_set (node_in state image (page_for slot (j + 1))) ≤ 68
+      by true le = omega (arith, le)
+      by false le = le
+
+  none_here : (slot j : ℕ) → slot < 16 → j < 64 → is_none (anode_at (slots slot) (j + 1)).object ≡ true → pointers_set (node_in state image (page_for slot (j + 1))) ≡ 0
+  none_here slot j low lt none = pointers_free (kept_anodes slots) (page_for slot (j + 1)) state image (page_is slot (j + 1) low (omega arith) (omega (arith, lt))) keeps.held
+      (kind_there slot j low lt ∙ vacant_kind (anode_at (slots slot) (j + 1)) none)
+
+  trimmed_here : (slot j : ℕ) → slot < 16 → j < 64 → IsTrimmed (node_in state image (page_for slot (j + 1))) → pointers_set (node_in state image (page_for slot (j + 1))) ≤ anode_blocks (anode_at (slots slot) (j + 1))
+  trimmed_here slot j low lt trimmed =
+      let e = pointers_trimmed (kept_anodes slots) (page_for slot (j + 1)) state image (page_is slot (j + 1) low (omega arith) (omega (arith, lt))) keeps.held trimmed in
+      let f = anode_most (anode_at (slots slot) (j + 1)) ((keeps.each slot low).each (j + 1) (omega arith) (omega (arith, lt))) in
+      let same : blocks_most (kept_anodes slots (page_for slot (j + 1))) ≡ blocks_most (kept_of (anode_at (slots slot) (j + 1))) = (λ i. blocks_most (kept_here slots slot (j + 1) low (omega arith) (omega (arith, lt)) i)) in
+      omega (arith, e, f, same)
+
+  -- those of one slot
+  one_slot : (slot blocks : ℕ) → slot < 16 → IsCovered (slots slot) slot state image blocks → sum_below (λ j. at_page (2 + 66 * slot + j)) 66 ≤ blocks
+  one_slot slot blocks low covered =
       let parts = sum_split (λ j. at_page (2 + 66 * slot + j)) 2 64 in
       let front = sum_zero (λ j. at_page (2 + 66 * slot + j)) 2 (λ j lt. not_anode (2 + 66 * slot + j) (omega (arith, lt))) in
-      let some = sum_le (λ j. at_page (2 + 66 * slot + (2 + j))) (λ j. anode_blocks (anode_at (slots slot) (j + 1))) 64
-      (λ j lt. (let e = an_anode slot j low lt in let f = anode_most (anode_at (slots slot) (j + 1)) ((each slot low).each (j + 1) (omega arith) (omega (arith, lt))) in omega (arith, e, f))) in
-      let all = slot_list anode_blocks (slots slot) (each slot low).count in
-      omega (arith, parts, front, some, all)
+      let same = sum_same (λ j. at_page (2 + 66 * slot + (2 + j))) (λ j. pointers_set (node_in state image (page_for slot (j + 1)))) 64 (λ j lt. an_anode slot j low lt) in
+      let some = by covered in
+      omega (arith, parts, front, same, some)
+    where
+      by : IsCovered (slots slot) slot state image blocks → sum_below (λ j. pointers_set (node_in state image (page_for slot (j + 1)))) 64 ≤ blocks
+      by (inl (objects, free, le)) =
+          let few = sum_le (λ j. pointers_set (node_in state image (page_for slot (j + 1)))) (λ j. if nat_lt j objects then 68 else 0) 64 (λ j lt. at j lt (nat_lt j objects) refl) in
+          let all = bounded objects 64 in
+          omega (arith, few, all, le)
+        where
+          at : (j : ℕ) → j < 64 → (a : Bool) → nat_lt j objects ≡ a → pointers_set (node_in state image (page_for slot (j + 1))) ≤ (if a then 68 else 0)
+          at j lt true e = few_here slot j low lt
+          at j lt false e =
+              let high : objects ≤ j = grind (arith, nat_tests, e) in
+              let none = none_here slot j low lt (free (j + 1) (omega (arith, high)) (omega (arith, lt))) in
+              omega (arith, none)
+      by (inr (trimmed, le)) =
+          let few = sum_le (λ j. pointers_set (node_in state image (page_for slot (j + 1)))) (λ j. anode_blocks (anode_at (slots slot) (j + 1))) 64 (λ j lt. trimmed_here slot j low lt (trimmed (j + 1) (omega arith) (omega (arith, lt)))) in
+          let all = slot_list anode_blocks (slots slot) (keeps.each slot low).count in
+          omega (arith, few, all, le)
 
-  all_slots : (k : ℕ) → k ≤ 16 → sum_below at_page (2 + 66 * k) ≤ sum_below (λ slot. sum_by anode_blocks (slots slot)) k
-  all_slots zero le = let none = sum_zero at_page 2 (λ j lt. not_anode j (omega (arith, lt))) in omega (arith, none)
-  all_slots (suc k) le =
-      let rest = all_slots k (omega (arith, le)) in
+  all_slots : (promised : ℕ → ℕ) → ((slot : ℕ) → slot < 16 → IsCovered (slots slot) slot state image (promised slot)) → (k : ℕ) → k ≤ 16 → sum_below at_page (2 + 66 * k) ≤ sum_below promised k
+  all_slots promised covered zero le = let none = sum_zero at_page 2 (λ j lt. not_anode j (omega (arith, lt))) in omega (arith, none)
+  all_slots promised covered (suc k) le =
+      let rest = all_slots promised covered k (omega (arith, le)) in
       let parts = sum_split at_page (2 + 66 * k) 66 in
-      let here = one_slot k (omega (arith, le)) in
+      let here = one_slot k (promised k) (omega (arith, le)) (covered k (omega (arith, le))) in
       let e : 2 + 66 * suc k ≡ 2 + 66 * k + 66 = omega arith in
       let same : sum_below at_page (2 + 66 * suc k) ≡ sum_below at_page (2 + 66 * k + 66) = (λ i. sum_below at_page (e i)) in
-      (let more = sum_more (λ slot. sum_by anode_blocks (slots slot)) k in omega (arith, rest, parts, here, same, more))
+      (let more = sum_more promised k in omega (arith, rest, parts, here, same, more))
 
-  pub all_few : all_blocks (kept_anodes slots) ≤ sum_below (λ slot. sum_by anode_blocks (slots slot)) 16
+  pub all_few : (promised : ℕ → ℕ) → ((slot : ℕ) → slot < 16 → IsCovered (slots slot) slot state image (promised slot)) → all_pointers state image ≤ sum_below promised 16
   unfolding at_page
-  all_few = all_slots 16 (omega arith)
+  all_few promised covered = all_slots promised covered 16 (omega arith)

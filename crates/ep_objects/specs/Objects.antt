@@ -1,6 +1,7 @@
 -- The anodes that keep the objects of filesets.
 use Rattle.std.specs.Prelude.{◌≡◌, ◌≤◌, ◌<◌, ℕ, ◌+◌, ◌-◌, ◌*◌, ◌/◌, ◌%◌, ◌==◌, nat_lt, if◌then◌else◌, true, List}
-use Rattle.std.specs.Prelude.{[], ◌∷◌, length, slice_get, None, IfSome, IsTrue, ⊤, unwrap_or}
+use Rattle.std.specs.Prelude.{[], ◌∷◌, length, slice_get, None, IfSome, IsTrue, ⊤, unwrap_or, ◌⊎◌, is_none}
+use Rattle.std.specs.List.{sum_by}
 use Rattle.std.specs.Option.{option_map_or}
 use Rattle.std.proofs.Common.{get_or}
 use Rattle.dfs_base.specs.Access.{is_access_list}
@@ -14,9 +15,11 @@ use Rattle.dfs_objects.specs.declared.content.Anode.{Anode}
 use Rattle.dfs_objects.specs.Objects.{is_dir}
 use Rattle.dfs_objects.specs.Sound.{names_rise}
 use Rattle.dfs_filesets.specs.Founding.{unused_anode}
+use Rattle.dfs_filesets.specs.Promises.{anode_blocks, new_promise}
 use Rattle.dfs_filesets.specs.Laws.{lists_in}
 use Rattle.ep_log.specs.State.{State}
-use Rattle.ep_anode.specs.Anode.{Anode as Kept}
+use Rattle.ep_anode.specs.Anode.{Anode as Kept, IsTrimmed}
+use Rattle.ep_anode.specs.Node.{node_in}
 use Rattle.ep_acl.specs.Lists.{list_bytes, EachFits as EntriesFit}
 use Rattle.ep_dir.specs.Entries.{bytes_of, EachFits as NamesFit}
 use Rattle.ep_files.specs.Holds.{is_anode, no_anode, HoldsNow}
@@ -100,6 +103,19 @@ pub record AreKept (anodes : List Anode) : Type 0 where
 pub record KeepsNow (slots : ℕ → List Anode) (state : State) (image : List ℕ) : Type 0 where
   pub held : HoldsNow (kept_anodes slots) state image
   pub each : (slot : ℕ) → slot < 16 → AreKept (slots slot)
+
+-- no anode of a slot has pointers past its length
+abbrev pub AreTrimmed : ℕ → State → List ℕ → Type 0
+AreTrimmed slot state image =
+    (anode : ℕ) → 1 ≤ anode → anode ≤ 64 → IsTrimmed (node_in state image (page_for slot anode))
+
+-- So many blocks cover a slot: what a writable fileset is promised whose limit its anodes keep, or else, where none has
+-- pointers past its length, as in a clone, what its objects have.
+abbrev pub IsCovered : List Anode → ℕ → State → List ℕ → ℕ → Type 0
+IsCovered anodes slot state image blocks =
+    ((objects : ℕ) × ((anode : ℕ) → objects < anode → anode ≤ 64 → is_none (anode_at anodes anode).object ≡ true)
+    × (new_promise objects ≤ blocks))
+    ⊎ (AreTrimmed slot state image × (sum_by anode_blocks anodes ≤ blocks))
 
 -- the same of anodes that are being made, of which nothing else is said
 pub record HeldNow (slots : ℕ → List Anode) (state : State) (image : List ℕ) : Type 0 where

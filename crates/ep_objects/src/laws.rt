@@ -6,7 +6,7 @@ ghost use Rattle.dfs_filesets.specs.Founding.{unused_anode};
 ghost use Rattle.dfs_filesets.specs.Promises.{anode_blocks, new_promise};
 ghost use Rattle.ep_log.specs.State.{State};
 ghost use Rattle.ep_space.specs.Counts.{count_now, count_settled};
-ghost use Rattle.ep_anode.specs.Anode.{Anode as Kept, anode_in, IsTidy, IsBare};
+ghost use Rattle.ep_anode.specs.Anode.{Anode as Kept, anode_in, IsBare};
 ghost use Rattle.ep_anode.specs.Changes.{own_names, WritesLoose, Changed, Made, SharesBlocks};
 ghost use Rattle.ep_anode.specs.Node.{node_in, no_names, HasNoBlocks};
 ghost use Rattle.ep_anode.specs.Room.{free_blocks};
@@ -19,6 +19,7 @@ ghost use Rattle.ep_objects.specs.Objects.{
   with_anode,
   FitsObject,
   AreKept,
+  IsCovered,
   KeepsNow,
 };
 
@@ -72,22 +73,23 @@ pub fn copied_keeps()
         → page_for from one ≢ page_for slot anode → KeepsNow slots old before → new ≡ record old { puts = new.puts }
         → (kept_of (anode_at (slots slot) anode)).kind ≡ 0
         → Made (page_for slot anode) (anode_in old before (page_for from one)) old before new after
-        → SharesBlocks (node_in old before (page_for from one)) (node_in new after (page_for slot anode))
-        → IsTidy after (node_in new after (page_for slot anode)) → WritesLoose no_names old before before after
+        → SharesBlocks (page_for slot anode) (node_in old before (page_for from one)) old before new after
+        → WritesLoose no_names old before before after
         → NamesApart (page_for slot anode) (node_in old before (page_for from one)) old before
         → KeepsNow (with_anode slot anode (λ free. anode_at (slots from) one) slots) new after }
 {}
 
-/// Room by promises: an object has at most the blocks that a clone is promised for it, and those of a slot with so many
-/// anodes have at most what a writable fileset of that limit is promised. Where each block that no pointer names now is
-/// free, as after a force, and 1,024 blocks are beyond the blocks of all slots, as promises ensure, so many are free at
-/// least.
+/// Room by promises: objects with so many anodes have at most what a writable fileset of that limit is promised. Where
+/// each block that no pointer names now is free, as after a force, and 1,024 blocks are beyond what covers slots, as
+/// promises do, so many are free at least.
 pub fn room_keeps()
     ensures promise { (anodes : List Anode) (objects : ℕ) → AreKept anodes
         → ((anode : ℕ) → objects < anode → anode ≤ 64 → is_none (anode_at anodes anode).object ≡ true)
         → sum_by anode_blocks anodes ≤ new_promise objects }
-    ensures beyond { (slots : ℕ → List Anode) (state : State) (image : List ℕ) → KeepsNow slots state image
+    ensures beyond { (slots : ℕ → List Anode) (promised : ℕ → ℕ) (state : State) (image : List ℕ)
+        → KeepsNow slots state image
         → ((b : ℕ) → b < state.superblock.blocks → count_now state image b ≡ 0 → count_settled state image b ≡ 0)
-        → sum_below (λ slot. sum_by anode_blocks (slots slot)) 16 + 1024 ≤ state.superblock.blocks
+        → ((slot : ℕ) → slot < 16 → IsCovered (slots slot) slot state image (promised slot))
+        → sum_below promised 16 + 1024 ≤ state.superblock.blocks
         → 1024 ≤ free_blocks state image }
 {}

@@ -27,24 +27,24 @@ use Rattle.ep_acl.specs.Lists.{list_bytes, HoldsList}
 use Rattle.ep_dir.specs.Entries.{bytes_of}
 use Rattle.ep_dir.proofs.Laid.{length-bytes_of}
 use Rattle.ep_files.specs.Holds.{is_anode, no_anode, Holds}
-use Rattle.ep_pages.specs.Words.{are_zero, name_at, is_name_at}
+use Rattle.ep_pages.specs.Words.{each_below, are_zero, name_at, is_name_at}
 use Rattle.ep_pages.specs.Anode.{unique_of, page_pointer, bytes_in}
-use Rattle.ep_pages.specs.Blocks.{map_pointer, is_map, is_entry, entry_of}
+use Rattle.ep_pages.specs.Blocks.{map_pointer, is_map, is_entry, is_entry_block, entry_of}
 use Rattle.ep_image.specs.Aggregate.{Aggregate, page_of, anode_page, node_at, block_under, names_block}
 use Rattle.ep_image.specs.Anodes.{entries_in, entry_blocks, entry_bytes}
 use Rattle.ep_image.specs.Counts.{is_count_page}
 use Rattle.ep_image.specs.Image.{list_of, file_bytes, entries_of, content_of, anode_of}
 use Rattle.ep_image.specs.Lists.{list_in}
 use Rattle.ep_image.proofs.Joined.{length-listed, get_or-listed}
-use Rattle.image_laws.proofs.Clean.{IsRightSlot, slot_right, count_right, list_right, map_right}
-use Rattle.image_laws.proofs.Contents.{IsObjectPage, object_is, object_page, few_entries, dir_bytes, entries_are, entry_right, names_rise_at}
+use Rattle.image_laws.proofs.Clean.{IsRightSlot, slot_right, count_right, directory_right, list_right, map_right}
+use Rattle.image_laws.proofs.Contents.{IsObjectPage, object_is, object_page, few_entries, dir_bytes, entries_are, named_block, entry_right, names_rise_at}
 use Rattle.image_laws.proofs.Finding.{each_at}
 use Rattle.image_laws.proofs.Formed.{rise_all}
 use Rattle.page_laws.proofs.Lists.{read_is_saved}
 use Rattle.ep_image.proofs.Words.{zeros_are}
 use Rattle.ep_objects.specs.Objects.{list_byte, bytes_kept, length_kept, object_kept, kept_of, page_for, anode_at, kept_anodes, FitsList, FitsContent, FitsObject}
 use Rattle.ep_objects.proofs.Places.{kept_here, anode_here}
-use Rattle.object_laws.specs.Laws.{Keeps, AreTrimmed, anodes_of, IsInOrder, FaultlessKeeps, FaultlessIsInOrder}
+use Rattle.object_laws.specs.Laws.{Keeps, anodes_of, IsInOrder, FaultlessKeeps, FaultlessIsInOrder}
 use Rattle.object_laws.proofs.Parts.{empty_list, under_cell, under_size, under_bytes, joined_size, joined_byte}
 use Rattle.object_laws.proofs.Spelled.{each_fits, bytes_spelled}
 use Rattle.object_laws.proofs.Firsts.{page_at}
@@ -69,11 +69,15 @@ named at page is =
       fill = λ k low high. zeros_are page (at + 1 + byte_at page at) (60 - byte_at page at) a.1 k low (omega (arith, high, few));
     }
 
+zero_or : (a : Bool) (x : ℕ) → a ≡ false → (a || (x == 0)) ≡ true → x ≡ 0
+zero_or true x off is = absurd (false≢true (sym off))
+zero_or false x off is = eqb-true x 0 is
+
 some_is : {X : Type 0} (o : Option (List X)) → is_some o ≡ true → o ≡ Some (unwrap_or o [])
 some_is (Some xs) is = refl
 some_is None is = absurd (false≢true is)
 
-module _ (disk : Aggregate) (rights : (slot : ℕ) → slot < 16 → IsRightSlot disk slot) (order : IsInOrder disk) (trim : AreTrimmed disk) (bytes : (k : ℕ) → byte_at disk.image k < 256) (slot i : ℕ) (low : slot < 16) (few : i < 64) where
+module _ (disk : Aggregate) (rights : (slot : ℕ) → slot < 16 → IsRightSlot disk slot) (order : IsInOrder disk) (bytes : (k : ℕ) → byte_at disk.image k < 256) (slot i : ℕ) (low : slot < 16) (few : i < 64) where
   abbrev page : List ℕ
   page = anode_page disk slot i
 
@@ -128,8 +132,7 @@ module _ (disk : Aggregate) (rights : (slot : ℕ) → slot < 16 → IsRightSlot
       owner = λ k le lt. zero_byte k (omega (arith, le)) (omega (arith, lt));
       group = λ k le lt. zero_byte k (omega (arith, le)) lt;
       behind = λ k le lt. free_map disk rights slot i low few free k lt;
-      past = (trim slot i low few).past;
-      none = (trim slot i low few).none;
+      past = λ dir k le lt inside. (let none = free_kind in absurd (omega (arith, dir, none)));
       range = λ w lt. order.range slot i w low few lt;
       lists = λ w lt empty. free_blocks disk rights slot i low few free w (omega (arith, lt));
     }
@@ -185,6 +188,25 @@ module _ (disk : Aggregate) (rights : (slot : ℕ) → slot < 16 → IsRightSlot
       | inr some ↦ absurd (empty_list (list_of disk slot i w) (fits_list w lt some) (sym (list_cell w 0 lt some (omega arith)) ∙ empty 0 (omega arith)))
     ]
 
+    -- behind the entries of a directory its blocks are zero
+    dir_past : byte_at page 0 ≡ 1 → (k : ℕ) → size_of node ≤ k → 1024 * (k / 1024) < size_of node → cell disk.image node (pointer_at (k / 1024)) (k % 1024) ≡ 0
+    unfolding is_entry_block
+    dir_past kind k le inside =
+        let dir : (byte_at page 0 == 1) ≡ true = grind (arith, nat_tests, kind) in
+        let raw : List ℕ = entry_bytes disk slot i in
+        let n : ℕ = k / 1024 in
+        let count = entries_are disk slot (rights slot low) i few dir in
+        let size : size_of node ≡ 72 * number_at 4 8 page = dir_bytes disk slot (rights slot low) i few dir in
+        let below : n < entry_blocks page = omega (arith, inside, size, count) in
+        let right = directory_right disk slot (rights slot low) i n few facts.object below (named_block disk slot (rights slot low) i few dir n below) in
+        let behind = (and_parts _ (each_below (λ j. nat_lt (1024 * n + j) (72 * entries_in page) || (byte_at raw (1024 * n + j) == 0)) 1024) right).1 in
+        let here = each_at (λ j. nat_lt (1024 * n + j) (72 * entries_in page) || (byte_at raw (1024 * n + j) == 0)) 1024 (k % 1024) behind (omega arith) in
+        let whole : 1024 * n + k % 1024 ≡ k = omega arith in
+        let off : nat_lt (1024 * n + k % 1024) (72 * entries_in page) ≡ false = (let high : 72 * entries_in page ≤ 1024 * n + k % 1024 = omega (arith, le, size, count) in grind (arith, nat_tests, high)) in
+        sym (under_cell disk.image node (pointer_at (k / 1024)) (k % 1024) (omega arith))
+        ∙ sym (joined_byte (λ j. block_under disk (pointer_of node (pointer_at j))) (entry_blocks page) k (λ j. under_size disk.blocks disk.image (pointer_of node (pointer_at j))) (omega (arith, below)))
+        ∙ (λ j. byte_at raw (sym whole j)) ∙ zero_or (nat_lt (1024 * n + k % 1024) (72 * entries_in page)) (byte_at raw (1024 * n + k % 1024)) off here
+
     tidy_used : IsTidy disk.image node
     tidy_used = record {
       first = λ k some lt. zeros_are page 1 3 facts.first k some (omega (arith, lt));
@@ -194,8 +216,7 @@ module _ (disk : Aggregate) (rights : (slot : ℕ) → slot < 16 → IsRightSlot
         | inr back ↦ zeros_are page 198 314 facts.rest k back (omega (arith, lt))
       ];
       behind = map_zero;
-      past = (trim slot i low few).past;
-      none = (trim slot i low few).none;
+      past = λ dir k le lt inside. dir_past dir k le inside;
       range = λ w lt. order.range slot i w low few lt;
       lists = λ w lt empty. pointer_front node w (omega (arith, lt)) ∙ eqb-true (page_pointer w page) 0 (no_list w lt empty);
     }
@@ -435,7 +456,7 @@ module _ (disk : Aggregate) (rights : (slot : ℕ) → slot < 16 → IsRightSlot
   ]
 
 -- all of them
-module _ (disk : Aggregate) (rights : (slot : ℕ) → slot < 16 → IsRightSlot disk slot) (right : (p : ℕ) → p < (disk.blocks + 255) / 256 → is_count_page disk p ≡ true) (order : IsInOrder disk) (trim : AreTrimmed disk) (bytes : (k : ℕ) → byte_at disk.image k < 256) where
+module _ (disk : Aggregate) (rights : (slot : ℕ) → slot < 16 → IsRightSlot disk slot) (right : (p : ℕ) → p < (disk.blocks + 255) / 256 → is_count_page disk p ≡ true) (order : IsInOrder disk) (bytes : (k : ℕ) → byte_at disk.image k < 256) where
   -- the place of a page
   place : (p : ℕ) → is_anode p ≡ true → (slot : ℕ) × (i : ℕ) × (slot < 16) × (i < 64) × (p ≡ page_at slot i)
   place p is =
@@ -460,7 +481,7 @@ module _ (disk : Aggregate) (rights : (slot : ℕ) → slot < 16 → IsRightSlot
       let z : page_at slot i ≡ page_for slot (i + 1) = omega arith in
       let back : i + 1 - 1 ≡ i = omega arith in
       (λ j. kept_at disk.image (node_of disk.blocks disk.image (page_of disk (eq j))))
-      ∙ (here disk rights order trim bytes slot i low few).kept
+      ∙ (here disk rights order bytes slot i low few).kept
       ∙ (λ j. kept_of (anode_of disk slot (sym back j)))
       ∙ (λ j. kept_of (sym (listed_at slot (i + 1) (omega arith) (omega (arith, few))) j))
       ∙ sym (kept_here (anodes_of disk) slot (i + 1) low (omega arith) (omega (arith, few)))
@@ -478,7 +499,7 @@ module _ (disk : Aggregate) (rights : (slot : ℕ) → slot < 16 → IsRightSlot
         let f = t.4 in
         apart_holds disk rights right s.0 s.1 t.0 t.1 w b s.2 s.3 t.2 t.3 lt ((λ j. pointer_of (node_of disk.blocks disk.image (page_of disk (sym e j))) 15) ∙ map_is) below other
         ((λ j. pointer_of (node_of disk.blocks disk.image (page_of disk (sym f j))) w) ∙ is);
-    tidy = λ p is. (let at = place p is in subst (λ (q : ℕ). IsTidy disk.image (node_of disk.blocks disk.image (page_of disk q))) (sym at.4) (here disk rights order trim bytes at.0 at.1 at.2 at.3).tidy);
+    tidy = λ p is. (let at = place p is in subst (λ (q : ℕ). IsTidy disk.image (node_of disk.blocks disk.image (page_of disk q))) (sym at.4) (here disk rights order bytes at.0 at.1 at.2 at.3).tidy);
     tail = λ b spare. order.tail b spare.0 spare.1;
     slots = λ p q b is_p is_q apart same lt.
         let s = place p is_p in
@@ -504,7 +525,7 @@ module _ (disk : Aggregate) (rights : (slot : ℕ) → slot < 16 → IsRightSlot
     held = holds;
     each = λ slot low. record {
       count = length-listed (anode_of disk slot) 64;
-      each = λ n some few. subst (λ (a : Anode). IfSome a.object FitsObject) (sym (listed_at slot n some few)) (here disk rights order trim bytes slot (n - 1) low (omega (arith, some, few))).fits;
+      each = λ n some few. subst (λ (a : Anode). IfSome a.object FitsObject) (sym (listed_at slot n some few)) (here disk rights order bytes slot (n - 1) low (omega (arith, some, few))).fits;
     };
     bytes = bytes;
   }
@@ -565,4 +586,4 @@ faultless_in_order disk clean =
     }
 
 pub faultless_keeps : FaultlessKeeps
-faultless_keeps disk clean trim bytes = kept disk (λ slot low. slot_right disk clean slot low) (λ p below. count_right disk clean 0 (omega arith) p below) (faultless_in_order disk clean) trim bytes
+faultless_keeps disk clean bytes = kept disk (λ slot low. slot_right disk clean slot low) (λ p below. count_right disk clean 0 (omega arith) p below) (faultless_in_order disk clean) bytes

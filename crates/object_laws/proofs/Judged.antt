@@ -438,7 +438,7 @@ module _ (disk : Aggregate) (slots : ℕ → List Anode) (keeps : Keeps slots di
         let le = count_few in
         let place : (1024 * n + k) / 1024 ≡ n = omega (arith, lt) in
         raw_cell (1024 * n + k) (omega (arith, block, lt))
-        ∙ tidy.past (1024 * n + k) (omega (arith, bytes, high)) (omega (arith, block, count, le, lt)) (omega (arith, place, bytes, high, block, count, lt))
+        ∙ tidy.past dir_kind (1024 * n + k) (omega (arith, bytes, high)) (omega (arith, block, count, le, lt)) (omega (arith, place, bytes, block, count))
 
     block_right : (n : ℕ) → n < entry_blocks page → is_directory_block disk slot i n ≡ true
     unfolding is_entry_block

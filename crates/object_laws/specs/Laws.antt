@@ -9,7 +9,6 @@ use Rattle.std.specs.Prelude.{
   ◌-◌,
   ◌*◌,
   ◌/◌,
-  ◌%◌,
   ◌&&◌,
   Bool,
   true,
@@ -29,10 +28,8 @@ use Rattle.dfs_objects.specs.declared.content.Content.{Content}
 use Rattle.dfs_objects.specs.declared.content.Content.TheVariants.{Dir, File}
 use Rattle.dfs_filesets.specs.Founding.{unused_anode}
 use Rattle.ep_layout.specs.Numbers.{number_at}
-use Rattle.ep_anode.specs.Anode.{bytes_of}
 use Rattle.ep_space.specs.Counts.{count_page, count_place}
-use Rattle.ep_anode.specs.Node.{pointer_of, pointer_at, names, cell}
-use Rattle.ep_anode.specs.declared.node.Node.{Node}
+use Rattle.ep_anode.specs.Node.{pointer_of, names}
 use Rattle.ep_files.specs.Holds.{Holds}
 use Rattle.ep_image.specs.Aggregate.{Aggregate, page_of, header_page, node_at}
 use Rattle.ep_image.specs.Faults.{faults_in}
@@ -60,23 +57,13 @@ FilesetIsRead = (disk : Aggregate) (slots : ℕ → List Anode) → Keeps slots 
     → number_at 4 8 (header_page disk slot) ≤ 64
     → (fileset_of disk slot).anodes ≡ take (number_at 4 8 (header_page disk slot)) (slots slot)
 
--- The bytes of an anode end where its length says: no pointer is past them, and zeros fill their last block. The rules
--- of a disk don't ask for it of files, since nobody judges what these hold; all that programs write is so.
-pub record IsTrimmed (image : List ℕ) (node : Node) : Type 0 where
-  pub past : (k : ℕ) → bytes_of node ≤ k → k < 65536 → k / 1024 ≡ bytes_of node / 1024
-      → cell image node (pointer_at (k / 1024)) (k % 1024) ≡ 0
-  pub none : (i : ℕ) → i < 64 → bytes_of node ≤ 1024 * i → pointer_of node (pointer_at i) ≡ 0
-
-abbrev pub AreTrimmed : Aggregate → Type 0
-AreTrimmed disk = (slot i : ℕ) → slot < 16 → i < 64 → IsTrimmed disk.image (node_at disk slot i)
-
 -- the anodes of a slot, as the image has them
 abbrev pub anodes_of : Aggregate → ℕ → List Anode
 anodes_of disk slot = listed (anode_of disk slot) 64
 
 -- an aggregate without faults keeps the anodes of its image
 abbrev pub FaultlessKeeps : Type 0
-FaultlessKeeps = (disk : Aggregate) → faults_in disk ≡ [] → AreTrimmed disk
+FaultlessKeeps = (disk : Aggregate) → faults_in disk ≡ []
     → ((k : ℕ) → byte_at disk.image k < 256) → Keeps (anodes_of disk) disk
 
 -- What else the rules ask of pointers and counts: each pointer is a block's number and one, or zero; a file has one

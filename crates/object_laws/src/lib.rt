@@ -19,9 +19,8 @@ pub fn image_law()
     ensures fileset { FilesetIsRead }
 {}
 
-/// An aggregate without faults keeps the anodes of its image, 64 of each slot, where the bytes of each anode end as its
-/// length says: a mount of what any program wrote begins with anodes that are kept. And its pointers and counts are in
-/// order.
+/// An aggregate without faults keeps the anodes of its image, 64 of each slot: a mount of what any program wrote begins
+/// with anodes that are kept. And its pointers and counts are in order.
 pub fn faultless_law()
     ensures keeps { FaultlessKeeps }
     ensures order { FaultlessIsInOrder }

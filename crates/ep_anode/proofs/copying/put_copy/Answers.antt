@@ -8,7 +8,7 @@ use Rattle.ep_anode.proofs.Saving.{counts_in}
 use Rattle.ep_anode.proofs.Moving.{moves_as}
 use Rattle.ep_anode.proofs.Laid.{still_counted}
 use Rattle.ep_anode.proofs.Sharing.{below_all, below_none}
-use Rattle.ep_anode.proofs.Copied.{copy_cloned, names_cut, counted_fewer, few_fewer}
+use Rattle.ep_anode.proofs.Copied.{copy_cloned, copy_owns, names_cut, counted_fewer, few_fewer}
 use Rattle.ep_anode.proofs.Changing.{wrote_own}
 use Rattle.ep_anode.proofs.copying.put_copy.Goals as goal
 
@@ -33,6 +33,12 @@ pub returns-clause-cloned : goal.returns-clause-cloned
 returns-clause-cloned g c = λ told.
     let rest = c.share_all.ensures.puts.rest in
     on_ok_weaker c.save.result (λ saved. copy_cloned c.args.page c.args.copy.now c.set_pointer.new.self c.save.new.node (state_of c.args.log.now) (state_of c.share_all.new.log) (state_of c.save.new.log) _ _ _ (λ i. (rest i).superblock.blocks) c.set_pointer.ensures
+    (c.in_ok-share_all.ensures.moves told) c.share_all.ensures.quiet.image saved c.save.ensures.facts c.requires.blocks) (c.save.ensures.saved told)
+
+pub returns-clause-own : goal.returns-clause-own
+returns-clause-own g c = λ told.
+    let rest = c.share_all.ensures.puts.rest in
+    on_ok_weaker c.save.result (λ saved. copy_owns c.args.page c.args.copy.now c.set_pointer.new.self c.save.new.node (state_of c.args.log.now) (state_of c.share_all.new.log) (state_of c.save.new.log) _ _ _ (λ i. (rest i).superblock.blocks) c.set_pointer.ensures
     (c.in_ok-share_all.ensures.moves told) c.share_all.ensures.quiet.image saved c.save.ensures.facts c.requires.blocks) (c.save.ensures.saved told)
 
 pub returns-clause-wrote : goal.returns-clause-wrote

@@ -46,8 +46,8 @@ returns-clause-turned g c = λ told.
     on_ok_weaker c.save.result (λ saved. turned_on c.args.page _ _ _ _ node c.lay.new.node c.set_length.new.self c.save.new.node (state_of c.args.log.now) (state_of c.lay.new.log) (state_of c.save.new.log) before _ _
     (λ i. (same i).superblock.blocks) (c.in_ok-lay.ensures.laid told) c.lay.ensures.facts c.set_length.ensures saved c.save.ensures.facts c.requires.blocks
     (with_length c.args.length) (λ k. if nat_lt k (byte_length (byte_at node.page 0) c.args.length) then content_at before node (bytes_of node) k else 0) refl (cut_over before node (bytes_of node) c.min-kept.result (byte_length (byte_at node.page 0) c.args.length) (omega (arith, kept, made, whole)))
-    (λ k high lt block tidy. cut_past before node c.min-kept.result (byte_length (byte_at node.page 0) c.args.length) k (omega (arith, kept, made, whole)) high)
-    (λ i lt le tidy. (c.in_ok-lay.ensures.laid told).past i lt (omega (arith, kept, made, whole, le)) (omega arith))) (c.save.ensures.saved told)
+    (λ k high lt block dir tidy. cut_past before node c.min-kept.result (byte_length (byte_at node.page 0) c.args.length) k (omega (arith, kept, made, whole)) high)
+    (λ i lt le trimmed. (c.in_ok-lay.ensures.laid told).past i lt (omega (arith, kept, made, whole, le)) (omega arith))) (c.save.ensures.saved told)
 
 pub returns-clause-room : goal.returns-clause-room
 returns-clause-room g c = λ told.

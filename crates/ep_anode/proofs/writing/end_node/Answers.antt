@@ -52,8 +52,8 @@ returns-clause-turned g c = λ told.
     (ended c.args.from c.args.piece.now) (λ k. if nat_lt k end then over c.args.from c.args.piece.now (λ m. content_at before node (bytes_of node) m) k else 0)
     (λ i. record (anode_of before node) { length = n i; content = λ k. if nat_lt k end then over c.args.from c.args.piece.now (λ m. content_at before node (bytes_of node) m) k else 0 })
     (ended_cut before node (bytes_of node) c.min-kept.result (byte_length (byte_at node.page 0) c.length_for-length.result) c.args.from c.args.piece.now kept far)
-    (λ k high lt block tidy. ended_past before node c.min-kept.result c.args.from c.args.piece.now k (omega (arith, kept)) (omega (arith, far, high)))
-    (λ i lt le tidy. (c.in_ok-lay.ensures.laid told).past i lt (omega (arith, kept, far, le)) (omega (arith, far, le)))) (c.save.ensures.saved told)
+    (λ k high lt block dir tidy. ended_past before node c.min-kept.result c.args.from c.args.piece.now k (omega (arith, kept)) (omega (arith, far, high)))
+    (λ i lt le trimmed. (c.in_ok-lay.ensures.laid told).past i lt (omega (arith, kept, far, le)) (omega (arith, far, le)))) (c.save.ensures.saved told)
 
 pub returns-clause-room : goal.returns-clause-room
 returns-clause-room g c = λ told.

@@ -8,7 +8,7 @@ pub returns-clause-promise : goal.returns-clause-promise
 returns-clause-promise c = λ anodes objects kept free. slot_few anodes objects kept free
 
 pub returns-clause-beyond : goal.returns-clause-beyond
-returns-clause-beyond c = λ slots state image keeps settled promised.
+returns-clause-beyond c = λ slots promised state image keeps settled covered beyond.
     let room = room_left (kept_anodes slots) state image keeps.held settled in
-    let few = all_few slots keeps.each in
-    omega (arith, room, few, promised)
+    let few = all_few slots state image keeps promised covered in
+    omega (arith, room, few, beyond)

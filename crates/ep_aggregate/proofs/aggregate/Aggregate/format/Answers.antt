@@ -16,10 +16,12 @@ returns-in-Ok-format-clause-stands g c =
     let roster = c.args.roster.now in
     let server = c.args.server in
     let capacity : c.state.result.now.capacity ≡ capacity_of roster server = ap (λ (s : StoreState). s.capacity) (c.state.ensures.kept ∙ c.in-Ok.ensures) in
-    let made = c.in-Ok-format.ensures in
-    subst (λ (s : StoreState). StandsOn g.D.Disk.tells g.D.Disk.view s 0 log) (sym c.in-Ok.ensures)
-    (formatted_stands g.D.Disk.tells g.D.Disk.view log server (capacity_of roster server) (c.state.result.now.capacity + 1024) roster (ap (λ (n : ℕ). n + 1024) capacity) made.state made.sound made.formatted made.settled
-    c.requires.declared.first (omega arith) c.requires.servers c.requires.least))
+    let made = c.in-Ok-format.ensures in (
+      refl,
+      subst (λ (s : StoreState). StandsOn g.D.Disk.tells g.D.Disk.view s 0 log) (sym c.in-Ok.ensures)
+          (formatted_stands g.D.Disk.tells g.D.Disk.view log server (capacity_of roster server) (c.state.result.now.capacity + 1024) roster (ap (λ (n : ℕ). n + 1024) capacity) made.state made.sound made.formatted made.settled
+          c.requires.declared.first (omega arith) c.requires.servers c.requires.least),
+    ))
 
 pub returns-in-Ok-format-clause-record : goal.returns-in-Ok-format-clause-record
 returns-in-Ok-format-clause-record g c = λ told.
