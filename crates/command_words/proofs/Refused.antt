@@ -11,7 +11,8 @@ use Rattle.run_gen.specs.declared.script.TheConstants.{CALLS_MAX}
 use Rattle.command_words.specs.declared.parts.Parts.{Parts}
 use Rattle.command_words.specs.Parts.{joined, is_json, is_workers, parts_of}
 use Rattle.command_words.specs.Plain.{is_dashed, is_plain, are_plain}
-use Rattle.command_words.specs.Command.{workers_of, run_of, gen_of, read}
+use Rattle.command_words.specs.Command.{workers_of, run_of, gen_of, check_of, read}
+use Rattle.command_words.specs.Disks.{is_disk_name, disks_at}
 use Rattle.command_words.proofs.Steps.{joined_other}
 
 pub plain_value : (value : List ℕ) (rest : List (List ℕ)) → are_plain (codes "--workers" ∷ value ∷ rest) ≡ (not (is_dashed value) && are_plain rest)
@@ -138,6 +139,31 @@ gen_fails parts h = go parts.others refl
     ] refl
     go (a ∷ b ∷ c ∷ d ∷ words) e = gen_end parts (rw e (grind (arith, common_steps)))
 
+-- no word that begins with a dash is the name of a disk
+names_dashed : (words : List (List ℕ)) → none_dashed words ≡ false → list_all is_disk_name words ≡ false
+names_dashed [] h = cc
+names_dashed ([] ∷ words) h = refl
+names_dashed ((x ∷ word) ∷ words) h = grind (arith, common_steps, names_dashed words)
+
+disks_fail : (words : List (List ℕ)) → none_dashed words ≡ false → result_ok (disks_at words) ≡ None
+unfolding disks_at
+disks_fail [] h = cc
+disks_fail (word ∷ words) h = let no = names_dashed (word ∷ words) h in grind (arith, common_steps, no)
+
+check_without : (parts : Parts) → none_dashed parts.workers ≡ false → result_ok (check_of parts) ≡ None
+unfolding check_of
+check_without parts h = fails_later (end_at parts.json 0) _ (λ _. fails_later (disks_at parts.others) _ (λ _. fails_first (workers_of parts.workers) _ (workers_fail parts.workers h)))
+
+check_others : (parts : Parts) → none_dashed parts.others ≡ false → result_ok (check_of parts) ≡ None
+unfolding check_of
+check_others parts h = fails_later (end_at parts.json 0) _ (λ _. fails_first (disks_at parts.others) _ (disks_fail parts.others h))
+
+check_fails : (parts : Parts) → (none_dashed parts.workers && none_dashed parts.others) ≡ false → result_ok (check_of parts) ≡ None
+check_fails parts h = elim (none_dashed parts.workers) as (λ t. none_dashed parts.workers ≡ t → result_ok (check_of parts) ≡ None) [
+  | true ↦ λ w. check_others parts (rw w at h)
+  | false ↦ λ w. check_without parts w
+] refl
+
 -- words that are not plain have a dash before a value or before another word
 parts_dashed : (words : List (List ℕ)) → list_all is_plain words ≡ false → (none_dashed (map (drop 10) (filter is_workers words)) && none_dashed (filter (λ word. not (is_json word || is_workers word)) words)) ≡ false
 parts_dashed [] h = cc
@@ -148,7 +174,13 @@ pub not_plain : (first : List ℕ) (words : List (List ℕ)) → are_plain words
 unfolding are_plain parts_of read
 not_plain first words h =
     let dashed = parts_dashed (joined words) h in
-    elim (is_word first (codes "run")) as (λ t. result_ok (if t then run_of (parts_of words) else (if is_word first (codes "gen") then gen_of (parts_of words) else Err Word)) ≡ None) [
+    elim (is_word first (codes "run")) as (λ t. result_ok (if t then run_of (parts_of words) else (if is_word first (codes "gen") then gen_of (parts_of words) else (if is_word first (codes "check") then check_of (parts_of words) else Err Word))) ≡ None) [
       | true ↦ run_fails (parts_of words) dashed
-      | false ↦ elim (is_word first (codes "gen")) as (λ t. result_ok (if t then gen_of (parts_of words) else Err Word) ≡ None) [ true ↦ gen_fails (parts_of words) dashed | false ↦ refl ]
+      | false ↦ elim (is_word first (codes "gen")) as (λ t. result_ok (if t then gen_of (parts_of words) else (if is_word first (codes "check") then check_of (parts_of words) else Err Word)) ≡ None) [
+        | true ↦ gen_fails (parts_of words) dashed
+        | false ↦ elim (is_word first (codes "check")) as (λ t. result_ok (if t then check_of (parts_of words) else Err Word) ≡ None) [
+          | true ↦ check_fails (parts_of words) dashed
+          | false ↦ refl
+        ]
+      ]
     ]

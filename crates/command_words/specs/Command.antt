@@ -9,7 +9,9 @@ use Rattle.std.specs.Prelude.{
   [],
   ◌∷◌,
   length,
+  drop,
   Option,
+  option_map,
   Result,
   Ok,
   Err,
@@ -24,7 +26,10 @@ use Rattle.script_words.specs.declared.fault.BadWhy.TheVariants.{Word}
 use Rattle.run_gen.specs.declared.script.TheConstants.{CALLS_MAX}
 use Rattle.command_words.specs.declared.parts.Parts.{Parts}
 use Rattle.command_words.specs.declared.command.Command.{Command}
-use Rattle.command_words.specs.declared.command.Command.TheVariants.{Run, Gen}
+use Rattle.command_words.specs.declared.command.Command.TheVariants.{Play, Check}
+use Rattle.command_words.specs.declared.command.Play.{Play as PlayOf}
+use Rattle.command_words.specs.declared.command.Play.TheVariants.{Run, Gen}
+use Rattle.command_words.specs.Disks.{disks_at}
 use Rattle.command_words.specs.Parts.{parts_of}
 
 -- how many workers there are: one, where nothing is said
@@ -40,7 +45,7 @@ run_of parts = do
   _ ← end_at parts.others 0
   _ ← end_at parts.json 1
   workers ← workers_of parts.workers
-  Ok (Run (length parts.json == 1) workers)
+  Ok (Play (Run (length parts.json == 1) workers))
 
 -- `gen SEED HOSTS CALLS`
 unfoldable pub gen_of : Parts → Result Command BadWhy
@@ -51,21 +56,42 @@ gen_of parts = do
   hosts ← number_at 1 HOSTS_MAX parts.others 1
   calls ← number_at 1 CALLS_MAX parts.others 2
   workers ← workers_of parts.workers
-  Ok (Gen seed hosts calls workers)
+  Ok (Play (Gen seed hosts calls workers))
 
--- `run` or `gen` comes first
+-- `check DISK ..`
+unfoldable pub check_of : Parts → Result Command BadWhy
+check_of parts = do
+  _ ← end_at parts.json 0
+  _ ← disks_at parts.others
+  workers ← workers_of parts.workers
+  Ok (Check workers)
+
+-- `run`, `gen` or `check` comes first
 unfoldable pub read : List (List ℕ) → Result Command BadWhy
 read [] = Err Word
 read (first ∷ words) =
     if is_word first (codes "run") then run_of (parts_of words)
-    else (if is_word first (codes "gen") then gen_of (parts_of words) else Err Word)
+    else (if is_word first (codes "gen") then gen_of (parts_of words)
+    else (if is_word first (codes "check") then check_of (parts_of words) else Err Word))
 
 -- the command that words ask for, where they are in the grammar
 abbrev pub command_of : List (List ℕ) → Option Command
 command_of words = result_ok (read words)
 
 -- what the numbers of a command keep
-abbrev pub IsWithin : Command → Type 0
-IsWithin (Run json workers) = (1 ≤ workers) × (workers ≤ WORKERS_MAX)
-IsWithin (Gen seed hosts calls workers) =
+abbrev pub IsPlayWithin : PlayOf → Type 0
+IsPlayWithin (Run json workers) = (1 ≤ workers) × (workers ≤ WORKERS_MAX)
+IsPlayWithin (Gen seed hosts calls workers) =
     (1 ≤ hosts) × (hosts ≤ HOSTS_MAX) × (1 ≤ calls) × (calls ≤ CALLS_MAX) × (1 ≤ workers) × (workers ≤ WORKERS_MAX)
+
+abbrev pub IsWithin : Command → Type 0
+IsWithin (Play play) = IsPlayWithin play
+IsWithin (Check workers) = (1 ≤ workers) × (workers ≤ WORKERS_MAX)
+
+-- the names of the disks that words name, where they are in the grammar
+abbrev pub names_for : List (List ℕ) → Command → List (List ℕ)
+names_for words (Play play) = []
+names_for words (Check workers) = (parts_of (drop 1 words)).others
+
+abbrev pub disk_names : List (List ℕ) → Option (List (List ℕ))
+disk_names words = option_map (names_for words) (command_of words)

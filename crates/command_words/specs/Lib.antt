@@ -1,4 +1,5 @@
 pub mod Parts
 pub mod Plain
 pub mod Told
+pub mod Disks
 pub mod Command

@@ -1,6 +1,7 @@
 use Rattle.std.specs.Prelude.{ℕ, true, List, [], ◌∷◌, Some, codes, unwrap_or}
 use Rattle.clap.specs.Simple.{App, new_rule, new_shape}
 use Rattle.clap.specs.Walk.{Row, Rule, all_of}
+use Rattle.command_words.specs.declared.parts.Parts.{Parts}
 use Rattle.clap.specs.declared.builder.action.ArgAction.TheVariants.{Append}
 
 -- what `clap` is told of `--json`: it has no value, and each use counts as the text of the word
@@ -35,3 +36,12 @@ told =
 -- the values of an argument, of all its uses
 abbrev pub values_at : List ℕ → List Row → List (List ℕ)
 values_at id rows = unwrap_or (all_of id rows) []
+
+-- those of all three
+abbrev pub parts_in : List Row → Parts
+parts_in rows =
+    record {
+      json = values_at (codes "json") rows;
+      workers = values_at (codes "workers") rows;
+      others = values_at (codes "others") rows;
+    }

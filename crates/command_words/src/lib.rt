@@ -5,4 +5,4 @@ mod command;
 mod parts;
 mod plain;
 
-pub use command::{Command, command_of};
+pub use command::{Command, DISKS_MAX, Play, command_of, disk_names};

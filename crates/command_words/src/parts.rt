@@ -5,7 +5,7 @@ ghost use Rattle.clap.specs.Simple.{app_of};
 ghost use Rattle.clap.specs.Walk.{rows_of};
 ghost use Rattle.command_words.specs.Parts.{parts_of};
 ghost use Rattle.command_words.specs.Plain.{are_plain};
-ghost use Rattle.command_words.specs.Told.{told, values_at};
+ghost use Rattle.command_words.specs.Told.{told, values_at, parts_in};
 
 use clap::error::ErrorKind;
 use clap::{Arg, ArgAction, ArgMatches, Command};
@@ -57,20 +57,45 @@ fn texts_of(alloc: Global, matches: &ArgMatches, id: &str) -> Result<Words, NoMe
     Ok(texts)
 }
 
-/// The parts of these words, as `clap` tells them apart.
-pub(crate) fn parts_of(alloc: Global, words: &[String]) -> Result<Parts, NoMemory>
+// What `clap` finds in these words.
+fn matches_of<'a>(alloc: Global, words: &'a [String]) -> Result<ArgMatches<'a>, NoMemory>
     requires { are_plain (map string_bytes words.now) ≡ true }
-    ensures { IfOk result (λ parts. parts ≡ parts_of (map string_bytes words.now)) }
+    ensures { IfOk result (λ matches. parts_in (rows_of (found_of matches)) ≡ parts_of (map string_bytes words.now)) }
 {
     match told(alloc)?.try_get_matches_from(words) {
-        Ok(matches) => Ok(Parts {
-            json: texts_of(alloc, &matches, "json")?,
-            workers: texts_of(alloc, &matches, "workers")?,
-            others: texts_of(alloc, &matches, "others")?,
-        }),
+        Ok(matches) => Ok(matches),
         Err(error) => match error.kind() {
             ErrorKind::OutOfMemory => Err(NoMemory),
             _ => unreachable!(),
         },
     }
+}
+
+/// The parts of these words, as `clap` tells them apart.
+pub(crate) fn parts_of(alloc: Global, words: &[String]) -> Result<Parts, NoMemory>
+    requires { are_plain (map string_bytes words.now) ≡ true }
+    ensures { IfOk result (λ parts. parts ≡ parts_of (map string_bytes words.now)) }
+{
+    let matches = matches_of(alloc, words)?;
+    Ok(Parts {
+        json: texts_of(alloc, &matches, "json")?,
+        workers: texts_of(alloc, &matches, "workers")?,
+        others: texts_of(alloc, &matches, "others")?,
+    })
+}
+
+/// The words that are no options.
+pub(crate) fn names_of(alloc: Global, words: &[String]) -> Result<Vec<String>, NoMemory>
+    requires { are_plain (map string_bytes words.now) ≡ true }
+    ensures { IfOk result (λ names. map string_bytes names.items ≡ (parts_of (map string_bytes words.now)).others) }
+{
+    let matches = matches_of(alloc, words)?;
+    let mut names = Vec::new(alloc);
+    let Some(values) = matches.get_raw("others") else {
+        return Ok(names);
+    };
+    for value in values {
+        names.push(String::from_str(alloc, value)?)?;
+    }
+    Ok(names)
 }

@@ -1,22 +1,61 @@
 //! The file service as a program: it reads a script from standard input, runs it, and writes what came of it to
-//! standard output. The words are those of the top call, `dfs_service::run`, whose status is the number with which the
-//! program ends.
+//! standard output; or it checks disks, which are files. The words are those of the top call, `dfs_service::run`, whose
+//! status is the number with which the program ends.
 #![tactic(auto)]
 
+ghost use Rattle.std.specs.Prelude.{◌≡◌, length, map, IfOk};
+ghost use Rattle.std.specs.String.{string_bytes};
+ghost use Rattle.command_words.specs.Command.{disk_names};
+ghost use Rattle.dfs_service.specs.Checks.{AreNamed};
+
+use command_words::disk_names;
+use dfs_base::NoMemory;
+use dfs_disk::{FileDisk, FileRefused};
 use dfs_io::{StdSink, StdSource};
-use dfs_service::{Status, run};
+use dfs_service::{Status, refuse_disk, run};
 use std::alloc::AllocError;
 use std::env;
+use std::fs::File;
 use std::io::ErrorKind;
 use std::process::ExitCode;
-use std::rt::Env;
+use std::rt::{Env, Files};
+
+// Why there are no disks.
+#[derive(Clone, Copy)]
+enum NotOpened {
+    // The system refused the file of the disk of this number, from 1.
+    Refused(usize),
+    // Memory ran out.
+    Memory,
+}
+
+impl From<AllocError> for NotOpened {
+    fn from(_: AllocError) -> Self {
+        NotOpened::Memory
+    }
+}
 
 fn main(rt: HostRuntime) -> ExitCode {
     let mut source = StdSource::new(rt.stdin());
     let mut sink = StdSink::new(rt.stdout());
-    let status = match words(&rt) {
-        Ok(words) => run(rt.alloc(), words.as_slice(), &mut source, &mut sink).status,
-        Err(AllocError) => Status::NoMemory,
+    let Ok(words) = words(&rt) else {
+        return ExitCode::from(Status::NoMemory.code());
+    };
+    let status = match disks_of(&rt, words.as_slice()) {
+        Ok(mut disks) => {
+            let disks = disks.as_mut_slice();
+            run(
+                &rt,
+                rt.alloc(),
+                words.as_slice(),
+                &mut source,
+                &mut sink,
+                disks,
+            )
+            .status
+        }
+        Err(NotOpened::Refused(number)) => refuse_disk(rt.alloc(), number, &mut sink).status,
+        Err(NotOpened::Memory) => Status::NoMemory,
     };
     ExitCode::from(status.code())
 }
@@ -37,4 +76,35 @@ fn words(rt: &(impl Env + AllocGlobal)) -> Result<Vec<String>, AllocError> {
         }
     }
     Ok(words)
+}
+
+// The disks that the words name. A file that isn't there is made, empty.
+fn disks_of(
+    rt: &(impl Files<File = File> + AllocGlobal),
+    words: &[String],
+) -> Result<Vec<FileDisk>, NotOpened>
+    ensures { IfOk result (λ disks. AreNamed (disk_names (map string_bytes words.now)) (length disks.items)) }
+{
+    match disk_names(rt.alloc(), words) {
+        Ok(Some(names)) => opened(rt, names.as_slice()),
+        Ok(None) => Ok(Vec::new(rt.alloc())),
+        Err(NoMemory) => Err(NotOpened::Memory),
+    }
+}
+
+fn opened(
+    rt: &(impl Files<File = File> + AllocGlobal),
+    names: &[String],
+) -> Result<Vec<FileDisk>, NotOpened>
+    ensures { IfOk result (λ disks. length disks.items ≡ length names.now) }
+{
+    let mut disks = Vec::new(rt.alloc());
+    for (k, name) in names.iter().enumerate() {
+        match FileDisk::open_or_make(rt, name.as_str()) {
+            Ok(disk) => disks.push(disk).map_err(AllocError::from)?,
+            Err(FileRefused::Failed) => return Err(NotOpened::Refused(k + 1)),
+            Err(FileRefused::Memory) => return Err(NotOpened::Memory),
+        }
+    }
+    Ok(disks)
 }

@@ -7,29 +7,29 @@ use Rattle.run_gen.specs.Workload.{generated}
 use Rattle.run_script.specs.Scripts.{script_of, Refuses}
 use Rattle.run_script.specs.declared.refused.ScriptRefused.TheVariants.{BadLine, Stuck, Memory}
 use Rattle.run_script.specs.declared.refused.ScriptRefused.{ScriptRefused}
-use Rattle.command_words.specs.declared.command.Command.TheVariants.{Run, Gen}
-use Rattle.command_words.specs.declared.command.Command.{Command}
-use Rattle.dfs_service.specs.Scripts.{script_for, is_reading, not_read, IsRead, IsCause}
+use Rattle.command_words.specs.declared.command.Play.TheVariants.{Run, Gen}
+use Rattle.command_words.specs.declared.command.Play.{Play}
+use Rattle.dfs_service.specs.Scripts.{script_for, reads, not_read, IsRead, IsCause}
 use Rattle.dfs_service.specs.declared.script.NotRead.{NotRead}
 use Rattle.dfs_service.specs.declared.script.NotRead.TheVariants.{Input}
 use Rattle.dfs_service.specs.World.{Shown}
 
-reads_so : (command : Command) (bytes : List ℕ) → is_reading (Some command) ≡ true → script_for command bytes ≡ script_of bytes 0
+reads_so : (play : Play) (bytes : List ℕ) → reads play ≡ true → script_for play bytes ≡ script_of bytes 0
 unfolding script_for
 reads_so (Run json workers) bytes h = refl
 reads_so (Gen seed hosts calls workers) bytes h = cc
 
 -- what the bytes of a source are for a command that reads them
-pub was_read : (told : Type 0) (before : Shown told) (command : Command) (bytes : List ℕ) (read : Result Script ScriptRefused) → is_reading (Some command) ≡ true →
-    (told → bytes ≡ take SCRIPT_BYTES before.bytes) → script_of bytes 0 ≡ read → IsRead before command read
-was_read told before command bytes read h had e = record { bytes = bytes; had = had; says = reads_so command bytes h ∙ e }
+pub was_read : (told : Type 0) (before : Shown told) (play : Play) (bytes : List ℕ) (read : Result Script ScriptRefused) → reads play ≡ true →
+    (told → bytes ≡ take SCRIPT_BYTES before.bytes) → script_of bytes 0 ≡ read → IsRead before play read
+was_read told before play bytes read h had e = record { bytes = bytes; had = had; says = reads_so play bytes h ∙ e }
 
 -- why bytes that were read are refused
-pub cause_read : (told : Type 0) (before : Shown told) (command : Command) (bytes : List ℕ) (why : ScriptRefused) (made : NotRead) → is_reading (Some command) ≡ true →
-    (told → bytes ≡ take SCRIPT_BYTES before.bytes) → Refuses why (script_of bytes 0) → made ≡ not_read why → IsCause before command made
-cause_read told before command bytes (BadLine number bad) made h had r e = rw e (was_read told before command bytes (Err (BadLine number bad)) h had r)
-cause_read told before command bytes (Stuck number) made h had r e = rw e (was_read told before command bytes (Err (Stuck number)) h had r)
-cause_read told before command bytes Memory made h had r e = rw e tt
+pub cause_read : (told : Type 0) (before : Shown told) (play : Play) (bytes : List ℕ) (why : ScriptRefused) (made : NotRead) → reads play ≡ true →
+    (told → bytes ≡ take SCRIPT_BYTES before.bytes) → Refuses why (script_of bytes 0) → made ≡ not_read why → IsCause before play made
+cause_read told before play bytes (BadLine number bad) made h had r e = rw e (was_read told before play bytes (Err (BadLine number bad)) h had r)
+cause_read told before play bytes (Stuck number) made h had r e = rw e (was_read told before play bytes (Err (Stuck number)) h had r)
+cause_read told before play bytes Memory made h had r e = rw e tt
 
 pub never_input : (why : ScriptRefused) (made : NotRead) → made ≡ not_read why → IsErrOf {T = Script} (Err made) Input → ⊥
 never_input (BadLine number bad) made e h = cc
@@ -37,6 +37,6 @@ never_input (Stuck number) made e h = cc
 never_input Memory made e h = cc
 
 -- a generated script needs no bytes
-pub was_made : (told : Type 0) (before : Shown told) (command : Command) (seed hosts calls workers : ℕ) (script : Script) → command ≡ Gen seed hosts calls workers → script ≡ generated seed hosts calls → IsRead before command (Ok script)
+pub was_made : (told : Type 0) (before : Shown told) (play : Play) (seed hosts calls workers : ℕ) (script : Script) → play ≡ Gen seed hosts calls workers → script ≡ generated seed hosts calls → IsRead before play (Ok script)
 unfolding script_for
-was_made told before command seed hosts calls workers script e g = rw e (record { bytes = take SCRIPT_BYTES before.bytes; had = λ _. refl; says = ap (λ s. Ok s) (sym g) })
+was_made told before play seed hosts calls workers script e g = rw e (record { bytes = take SCRIPT_BYTES before.bytes; had = λ _. refl; says = ap (λ s. Ok s) (sym g) })

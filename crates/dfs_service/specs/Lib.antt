@@ -4,4 +4,5 @@ pub mod Scripts
 pub mod Engine
 pub mod Output
 pub mod Outcomes
+pub mod Checks
 pub mod Laws

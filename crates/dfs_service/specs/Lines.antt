@@ -20,7 +20,9 @@ use Rattle.run_script.specs.declared.refused.ScriptRefused.TheVariants.{BadLine,
 
 -- the words that the program takes
 unfoldable pub usage_line : List ℕ
-usage_line = codes "usage: dfs_run run [--json] [--workers N] [DISK ...] | gen SEED HOSTS CALLS [--workers N]\n"
+usage_line =
+    codes "usage: dfs_run run [--json] [--workers N] [DISK ...] | gen SEED HOSTS CALLS [--workers N]"
+    ++ codes " | check DISK [DISK ...] [--workers N]\n"
 
 unfoldable pub input_line : List ℕ
 input_line = codes "refused: read fault\n"

@@ -1,5 +1,5 @@
 -- What an outcome of the top call says.
-use Rattle.std.specs.Prelude.{◌≡◌, ◌⊎◌, ℕ, Bool, true, false, List, [], Option, Some, None, Result, Ok, Err}
+use Rattle.std.specs.Prelude.{◌≡◌, ◌⊎◌, ℕ, Bool, true, false, not, List, [], Option, Some, None, Result, Ok, Err}
 use Rattle.dfs_base.specs.Faults.{RoseBy}
 use Rattle.dfs_calls.specs.declared.roster.Roster.{Roster}
 use Rattle.dfs_tree.specs.declared.tree.Tree.{Tree}
@@ -7,6 +7,8 @@ use Rattle.plain_service.specs.declared.played.Played.{Played}
 use Rattle.script_lines.specs.declared.script.Script.{Script}
 use Rattle.run_script.specs.declared.refused.ScriptRefused.{ScriptRefused}
 use Rattle.command_words.specs.declared.command.Command.{Command}
+use Rattle.command_words.specs.declared.command.Command.TheVariants.{Play as Plays, Check}
+use Rattle.command_words.specs.declared.command.Play.{Play}
 use Rattle.dfs_service.specs.declared.outcome.Status.{Status}
 use Rattle.dfs_service.specs.declared.outcome.Status.TheVariants.{
   Done,
@@ -14,7 +16,9 @@ use Rattle.dfs_service.specs.declared.outcome.Status.TheVariants.{
   NoScript,
   NoInput,
   NoOutput,
+  NoDisk,
   NoMemory,
+  HasFaults,
 }
 use Rattle.dfs_service.specs.declared.outcome.Outcome.{Outcome}
 use Rattle.dfs_service.specs.Engine.{HasPlayed}
@@ -29,7 +33,9 @@ code_of NoCommand = 1
 code_of NoScript = 2
 code_of NoInput = 3
 code_of NoOutput = 4
+code_of NoDisk = 5
 code_of NoMemory = 7
+code_of HasFaults = 8
 
 -- whether a script ran
 abbrev pub has_run : Status → Bool
@@ -42,6 +48,25 @@ abbrev pub is_end_of_run : Status → Bool
 is_end_of_run NoMemory = true
 is_end_of_run status = has_run status
 
+-- whether a check of disks can end so where none of them fails
+abbrev pub is_end_of_report : Status → Bool
+is_end_of_report Done = true
+is_end_of_report HasFaults = true
+is_end_of_report NoOutput = true
+is_end_of_report NoMemory = true
+is_end_of_report _ = false
+
+-- and where one may
+abbrev pub is_end_of_check : Status → Bool
+is_end_of_check NoDisk = true
+is_end_of_check status = is_end_of_report status
+
+-- whether only a check of disks can end so
+abbrev pub is_of_check : Status → Bool
+is_of_check HasFaults = true
+is_of_check NoDisk = true
+is_of_check _ = false
+
 -- how a run can end by its words: want of memory can always be, and `NoCommand` is exactly where they aren't in the
 -- grammar
 abbrev pub may_end : Option Command → Status → Bool
@@ -49,7 +74,8 @@ may_end command NoMemory = true
 may_end None NoCommand = true
 may_end None _ = false
 may_end (Some command) NoCommand = false
-may_end (Some command) _ = true
+may_end (Some (Plays play)) status = not (is_of_check status)
+may_end (Some (Check workers)) status = is_end_of_check status
 
 -- the script, the tree and the play of an outcome without a run
 abbrev pub no_roster : Roster
@@ -71,11 +97,11 @@ pub record IsEmpty (outcome : Outcome) : Type 0 where
 
 -- a script ran, and the sink got the output, or a part of it; or memory ran out
 pub record RanSo {told : Type 0}
-    (command : Command) (script : Script) (outcome : Outcome) (before after : Shown told) : Type 0 where
+    (play : Play) (script : Script) (outcome : Outcome) (before after : Shown told) : Type 0 where
   pub ends : is_end_of_run outcome.status ≡ true
   pub lines : has_run outcome.status ≡ true → outcome.lines ≡ script
   pub played : has_run outcome.status ≡ true → HasPlayed outcome.lines outcome.played
-  pub printed : HasPrinted (output_of command outcome.lines outcome.played) outcome.status before after
+  pub printed : HasPrinted (output_of play outcome.lines outcome.played) outcome.status before after
   pub empty : has_run outcome.status ≡ false → IsEmpty outcome
 
 -- nothing ran, and a line says why; or memory ran out
@@ -87,20 +113,20 @@ pub record RefusedSo {told : Type 0}
   pub empty : IsEmpty outcome
 
 -- what was read is no script, and a line says where and why
-pub record IsRefused {reads writes : Type 0} (command : Command) (before after : World reads writes) : Type 0 where
+pub record IsRefused {reads writes : Type 0} (play : Play) (before after : World reads writes) : Type 0 where
   pub why : ScriptRefused
-  pub read : IsRead before.source command (Err why)
+  pub read : IsRead before.source play (Err why)
   pub wrote : writes → Wrote (refusal_line why) before.sink after.sink
 
--- what an outcome says of a command
+-- what an outcome says of a script that is to run
 pub record EndsSo {reads writes : Type 0}
-    (command : Command) (outcome : Outcome) (before after : World reads writes) : Type 0 where
-  pub words : may_end (Some command) outcome.status ≡ true
-  -- a script that ran is the command's, and went as scripts go; `NoScript` has a cause in what was read
-  pub read : has_run outcome.status ≡ true → IsRead before.source command (Ok outcome.lines)
+    (play : Play) (outcome : Outcome) (before after : World reads writes) : Type 0 where
+  pub words : may_end (Some (Plays play)) outcome.status ≡ true
+  -- a script that ran is the one that was asked for, and went as scripts go; `NoScript` has a cause in what was read
+  pub read : has_run outcome.status ≡ true → IsRead before.source play (Ok outcome.lines)
   pub played : has_run outcome.status ≡ true → HasPlayed outcome.lines outcome.played
-  pub refused : outcome.status ≡ NoScript → IsRefused command before after
+  pub refused : outcome.status ≡ NoScript → IsRefused play before after
   -- the sink got the output, or a part of it; or the line of a refusal; or nothing
-  pub printed : HasPrinted (output_of command outcome.lines outcome.played) outcome.status before.sink after.sink
+  pub printed : HasPrinted (output_of play outcome.lines outcome.played) outcome.status before.sink after.sink
   pub input : writes → outcome.status ≡ NoInput → Wrote input_line before.sink after.sink
   pub failed : outcome.status ≡ NoInput → RoseBy 1 before.source.faults after.source.faults

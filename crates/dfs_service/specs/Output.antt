@@ -5,22 +5,22 @@ use Rattle.dfs_io.specs.Whole.{IsAppendedInPart}
 use Rattle.script_lines.specs.declared.script.Script.{Script}
 use Rattle.run_print.specs.Printed.{printed}
 use Rattle.run_print.specs.Summary.{printed_json}
-use Rattle.command_words.specs.declared.command.Command.{Command}
-use Rattle.command_words.specs.declared.command.Command.TheVariants.{Run, Gen}
+use Rattle.command_words.specs.declared.command.Play.{Play}
+use Rattle.command_words.specs.declared.command.Play.TheVariants.{Run, Gen}
 use Rattle.plain_service.specs.declared.played.Played.{Played}
 use Rattle.dfs_service.specs.declared.outcome.Status.{Status}
 use Rattle.dfs_service.specs.declared.outcome.Status.TheVariants.{Done, NoOutput, NoMemory}
 use Rattle.dfs_service.specs.World.{Shown}
 
 -- whether a command writes JSON
-abbrev pub is_json : Command → Bool
+abbrev pub is_json : Play → Bool
 is_json (Run json workers) = json
 is_json (Gen seed hosts calls workers) = true
 
 -- the output of a run
-abbrev pub output_of : Command → Script → Played → List ℕ
-output_of command script played =
-    if is_json command then printed_json script played.start played.history
+abbrev pub output_of : Play → Script → Played → List ℕ
+output_of play script played =
+    if is_json play then printed_json script played.start played.history
     else printed script played.start played.history
 
 -- a line was written: the whole of it, or, where the sink failed, a part of it, from its front

@@ -7,29 +7,36 @@ use Rattle.run_script.specs.declared.refused.ScriptRefused.{ScriptRefused}
 use Rattle.run_script.specs.declared.refused.ScriptRefused.TheVariants.{Memory}
 use Rattle.run_gen.specs.Workload.{generated}
 use Rattle.command_words.specs.declared.command.Command.{Command}
-use Rattle.command_words.specs.declared.command.Command.TheVariants.{Run, Gen}
+use Rattle.command_words.specs.declared.command.Command.TheVariants.{Play as Plays, Check}
+use Rattle.command_words.specs.declared.command.Play.{Play}
+use Rattle.command_words.specs.declared.command.Play.TheVariants.{Run, Gen}
 use Rattle.dfs_service.specs.declared.script.NotRead.{NotRead}
 use Rattle.dfs_service.specs.declared.script.NotRead.TheVariants.{Script as NoScriptFor, Memory as NoMemoryFor}
 use Rattle.dfs_service.specs.World.{Shown}
 
 -- the script that a command runs: what the bytes of the source say, or the generated one
-unfoldable pub script_for : Command → List ℕ → Result Script ScriptRefused
+unfoldable pub script_for : Play → List ℕ → Result Script ScriptRefused
 script_for (Run json workers) bytes = script_of bytes 0
 script_for (Gen seed hosts calls workers) bytes = Ok (generated seed hosts calls)
 
--- whether words make the program read: those of a script that isn't generated
+-- whether a script is read, and not generated
+abbrev pub reads : Play → Bool
+reads (Run json workers) = true
+reads (Gen seed hosts calls workers) = false
+
+-- whether words make the program read
 abbrev pub is_reading : Option Command → Bool
 is_reading None = false
-is_reading (Some (Run json workers)) = true
-is_reading (Some (Gen seed hosts calls workers)) = false
+is_reading (Some (Plays play)) = reads play
+is_reading (Some (Check workers)) = false
 
 -- what bytes of the source, at most `SCRIPT_BYTES` from its front, are for a command; a source that tells nothing may
 -- have had any
 pub record IsRead {told : Type 0}
-    (before : Shown told) (command : Command) (read : Result Script ScriptRefused) : Type 0 where
+    (before : Shown told) (play : Play) (read : Result Script ScriptRefused) : Type 0 where
   pub bytes : List ℕ
   pub had : told → bytes ≡ take SCRIPT_BYTES before.bytes
-  pub says : script_for command bytes ≡ read
+  pub says : script_for play bytes ≡ read
 
 -- why there is no script where bytes are refused
 abbrev pub not_read : ScriptRefused → NotRead
@@ -37,6 +44,6 @@ not_read Memory = NoMemoryFor
 not_read why = NoScriptFor why
 
 -- why there is no script
-abbrev pub IsCause : {told : Type 0} → Shown told → Command → NotRead → Type 0
-IsCause before command (NoScriptFor why) = IsRead before command (Err why)
-IsCause before command _ = Unit {0}
+abbrev pub IsCause : {told : Type 0} → Shown told → Play → NotRead → Type 0
+IsCause before play (NoScriptFor why) = IsRead before play (Err why)
+IsCause before play _ = Unit {0}

@@ -12,7 +12,7 @@ use std::alloc::Global;
 
 /// Runs a script from a tree without filesets on.
 #[tactic(auto, using(crate::proofs::Starts::starts))]
-pub(crate) fn play(alloc: Global, script: &Script) -> Result<Played, NoMemory>
+pub(crate) fn play_script(alloc: Global, script: &Script) -> Result<Played, NoMemory>
     requires sound { IsSound script.now }
     requires goes { stuck_at script.now.lines ≡ None }
     ensures { IfOk result (HasPlayed script.now) }

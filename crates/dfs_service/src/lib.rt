@@ -2,6 +2,7 @@
 //! the words, the script, the engine, the output.
 #![tactic(auto)]
 
+mod check;
 mod engine;
 mod laws;
 mod lines;
@@ -12,4 +13,5 @@ mod top;
 
 pub use laws::{losses_law, replies_law};
 pub use outcome::{Outcome, Status};
+pub use output::refuse_disk;
 pub use top::run;

@@ -11,7 +11,7 @@ use std::alloc::Global;
 /// How a run ended.
 #[derive(Clone, Copy, Debug, PartialEq, Eq)]
 pub enum Status {
-    /// The script ran, and the sink got the whole output.
+    /// The script ran, or the disks were checked and none has a fault; and the sink got the whole output.
     Done,
     /// The words aren't in the grammar.
     NoCommand,
@@ -19,10 +19,14 @@ pub enum Status {
     NoScript,
     /// The source failed.
     NoInput,
-    /// The script ran, and the sink failed, which got a part of the output, from its front.
+    /// The script ran, or the disks were checked, and the sink failed, which got a part of the output, from its front.
     NoOutput,
+    /// A disk failed, and failed again when that was tried once more.
+    NoDisk,
     /// Memory ran out.
     NoMemory,
+    /// The disks were checked, one of them has a fault, and the sink got the whole output.
+    HasFaults,
 }
 
 impl Status {
@@ -36,7 +40,9 @@ impl Status {
             Status::NoScript => 2,
             Status::NoInput => 3,
             Status::NoOutput => 4,
+            Status::NoDisk => 5,
             Status::NoMemory => 7,
+            Status::HasFaults => 8,
         }
     }
 }
@@ -44,7 +50,8 @@ impl Status {
 /// What became of a run.
 #[derive(Drop)]
 pub struct Outcome {
-    /// How it ended. Where it isn't `Done` or `NoOutput` nothing ran, and the other fields are empty.
+    /// How it ended. Where it isn't `Done` or `NoOutput`, or disks were checked, nothing ran, and the other fields are
+    /// empty.
     pub status: Status,
     /// How the script went.
     pub played: Played,

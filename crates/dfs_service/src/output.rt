@@ -1,7 +1,8 @@
 //! The last stage: what came of a run is written, or why there was none.
 ghost use Rattle.std.specs.Prelude.{◌≡◌, IfOk};
 ghost use Rattle.dfs_tree.specs.Histories.{after_history};
-ghost use Rattle.dfs_service.specs.declared.outcome.Status.TheVariants.{NoScript};
+ghost use Rattle.dfs_service.specs.declared.outcome.Status.TheVariants.{NoScript, NoDisk};
+ghost use Rattle.ep_report.specs.Text.{failed_line};
 ghost use Rattle.dfs_service.specs.Lines.{refusal_line};
 ghost use Rattle.dfs_service.specs.Outcomes.{IsEmpty, RefusedSo};
 ghost use Rattle.dfs_service.specs.Output.{is_json, output_of, Wrote};
@@ -9,9 +10,10 @@ ghost use Rattle.dfs_service.specs.World.{shown};
 
 use crate::lines::refusal_line;
 use crate::outcome::{Outcome, Status, without_run};
-use command_words::Command;
+use command_words::Play;
 use dfs_base::{Items, NoMemory, Sink};
 use dfs_io::write_all;
+use ep_report::failed_line;
 use plain_service::Played;
 use run_print::{json_of, text_of};
 use run_script::ScriptRefused;
@@ -21,27 +23,27 @@ use std::alloc::Global;
 /// The output of a script that went so.
 pub(crate) fn output_of(
     alloc: Global,
-    command: Command,
+    play: Play,
     script: &Script,
     played: &Played,
 ) -> Result<Items<u8>, NoMemory>
     requires { played.now.last ≡ after_history played.now.start played.now.history }
-    ensures { IfOk result (λ output. output ≡ output_of command script.now played.now) }
+    ensures { IfOk result (λ output. output ≡ output_of play script.now played.now) }
 {
     let history = played.history.as_slice();
-    if is_json(command) {
+    if is_json(play) {
         json_of(alloc, script, &played.start, history, &played.last)
     } else {
         text_of(alloc, script, &played.start, history, &played.last)
     }
 }
 
-fn is_json(command: Command) -> bool
-    ensures { result ≡ is_json command }
+fn is_json(play: Play) -> bool
+    ensures { result ≡ is_json play }
 {
-    match command {
-        Command::Run { json, .. } => json,
-        Command::Gen { .. } => true,
+    match play {
+        Play::Run { json, .. } => json,
+        Play::Gen { .. } => true,
     }
 }
 
@@ -52,6 +54,18 @@ pub(crate) fn refuse_script<K: Sink>(alloc: Global, why: ScriptRefused, sink: &m
 {
     match refusal_line(alloc, why) {
         Ok(line) => refuse(alloc, Status::NoScript, line.as_slice(), sink),
+        Err(NoMemory) => without_run(alloc, Status::NoMemory),
+    }
+}
+
+/// Writes `refused: disk K failed`, where disks are numbered from 1, and ends without a run. The status is `NoDisk`,
+/// also where the sink fails, which then got a part of the line; or `NoMemory`, and then nothing is written.
+pub fn refuse_disk<K: Sink>(alloc: Global, number: usize, sink: &mut K) -> Outcome
+    ensures refused { RefusedSo NoDisk (failed_line number) result
+        (shown K.tells (K.got sink.old) (K.faults sink.old)) (shown K.tells (K.got sink.new) (K.faults sink.new)) }
+{
+    match failed_line(alloc, number) {
+        Ok(line) => refuse(alloc, Status::NoDisk, line.as_slice(), sink),
         Err(NoMemory) => without_run(alloc, Status::NoMemory),
     }
 }

@@ -5,12 +5,11 @@ ghost use Rattle.dfs_base.specs.declared.limits.TheConstants.{SCRIPT_BYTES};
 ghost use Rattle.script_lines.specs.Sound.{IsSound};
 ghost use Rattle.run_script.specs.Walk.{stuck_at};
 ghost use Rattle.run_script.specs.Scripts.{script_of};
-ghost use Rattle.command_words.specs.Command.{IsWithin};
-ghost use Rattle.command_words.specs.declared.command.Command.TheVariants.{Run};
-ghost use Rattle.dfs_service.specs.Scripts.{IsRead, IsCause, is_reading, not_read};
+ghost use Rattle.command_words.specs.Command.{IsPlayWithin};
+ghost use Rattle.dfs_service.specs.Scripts.{IsRead, IsCause, reads, not_read};
 ghost use Rattle.dfs_service.specs.World.{shown};
 
-use command_words::Command;
+use command_words::Play;
 use dfs_base::{NoMemory, SCRIPT_BYTES, Source};
 use dfs_io::{ReadRefused, read_all};
 use run_gen::generate;
@@ -33,21 +32,21 @@ pub(crate) enum NotRead {
 #[tactic(auto, unfolding(crate::specs::Scripts::script_for))]
 pub(crate) fn script_for<R: Source>(
     alloc: Global,
-    command: Command,
+    play: Play,
     source: &mut R,
 ) -> Result<Script, NotRead>
-    requires within { IsWithin command }
+    requires within { IsPlayWithin play }
     ensures sound { IfOk result (λ script. IsSound script) }
     ensures goes { IfOk result (λ script. stuck_at script.lines ≡ None) }
     ensures read { IfOk result
-        (λ script. IsRead (shown R.tells (R.left source.old) (R.faults source.old)) command (Ok script)) }
-    ensures cause { IfErr result (IsCause (shown R.tells (R.left source.old) (R.faults source.old)) command) }
+        (λ script. IsRead (shown R.tells (R.left source.old) (R.faults source.old)) play (Ok script)) }
+    ensures cause { IfErr result (IsCause (shown R.tells (R.left source.old) (R.faults source.old)) play) }
     ensures input { IsErrOf result NotRead.Input → RoseBy 1 (R.faults source.old) (R.faults source.new) }
-    ensures untouched { is_reading (Some command) ≡ false → source.new ≡ source.old }
+    ensures untouched { reads play ≡ false → source.new ≡ source.old }
 {
-    match command {
-        Command::Run { .. } => read(alloc, command, source),
-        Command::Gen {
+    match play {
+        Play::Run { .. } => read(alloc, play, source),
+        Play::Gen {
             seed,
             hosts,
             calls,
@@ -61,13 +60,13 @@ pub(crate) fn script_for<R: Source>(
 
 // Reads the script of a command that reads one.
 #[tactic(auto, unfolding(crate::specs::Scripts::script_for))]
-fn read<R: Source>(alloc: Global, command: Command, source: &mut R) -> Result<Script, NotRead>
-    requires { is_reading (Some command) ≡ true }
+fn read<R: Source>(alloc: Global, play: Play, source: &mut R) -> Result<Script, NotRead>
+    requires { reads play ≡ true }
     ensures sound { IfOk result (λ script. IsSound script) }
     ensures goes { IfOk result (λ script. stuck_at script.lines ≡ None) }
     ensures read { IfOk result
-        (λ script. IsRead (shown R.tells (R.left source.old) (R.faults source.old)) command (Ok script)) }
-    ensures cause { IfErr result (IsCause (shown R.tells (R.left source.old) (R.faults source.old)) command) }
+        (λ script. IsRead (shown R.tells (R.left source.old) (R.faults source.old)) play (Ok script)) }
+    ensures cause { IfErr result (IsCause (shown R.tells (R.left source.old) (R.faults source.old)) play) }
     ensures input { IsErrOf result NotRead.Input → RoseBy 1 (R.faults source.old) (R.faults source.new) }
 {
     let bytes = match read_all(alloc, source, SCRIPT_BYTES) {

@@ -1,6 +1,6 @@
 -- What the first acts of a batch make.
 use Rattle.std.proofs.Common.{◌≡◌, ◌<◌, ◌≤◌, ℕ, zero, suc, ◌+◌, List, [], ◌∷◌, ◌++◌, length, get_or, take, sym, ap, ◌∙◌, subst, arith, Result, Ok, Err}
-use Rattle.std.specs.Prelude.{OnErr}
+use Rattle.std.specs.Prelude.{OnOk, OnErr}
 use Rattle.rpc_types.specs.Soundness.{Each}
 use Rattle.store_acts.specs.declared.act.Act.{Act}
 use Rattle.store_state.specs.declared.state.StoreState.{StoreState}
@@ -68,3 +68,9 @@ reached_next start now next acts i act r fits h e s =
 pub on_err : {T E : Type 0} (result : Result T E) (P : Type 0) → P → OnErr result P
 on_err (Ok value) P p = tt
 on_err (Err error) P p = p
+
+-- the limits are kept, whether an act was done or not
+pub limits_next : {T E : Type 0} (result : Result T E) (old new : StoreState) (act : Act) → KeepsLimits old → IsAct old.roster old.server act
+    → OnOk result (new ≡ (act_done old act).state) → OnErr result (new ≡ old) → KeepsLimits new
+limits_next (Ok done) old new act limits is made same = subst KeepsLimits (sym made) (act_next old act limits is).limits
+limits_next (Err fault) old new act limits is made same = subst KeepsLimits (sym same) limits

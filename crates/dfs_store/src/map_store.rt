@@ -3,6 +3,7 @@ ghost use Rattle.std.specs.Prelude.{
   ◌≤◌,
   ◌<◌,
   ◌+◌,
+  ◌-◌,
   ◌^◌,
   ⊤,
   ℕ,
@@ -14,10 +15,10 @@ ghost use Rattle.std.specs.Prelude.{
   OnOk,
   OnErr,
 };
-ghost use Rattle.store_acts.specs.Acts.{state_after, dones_of};
+ghost use Rattle.store_acts.specs.Acts.{act_done, state_after, dones_of};
 ghost use Rattle.store_state.specs.Capacity.{capacity_of};
 ghost use Rattle.store_acts.specs.Single.{KeepsLimits-prop};
-ghost use Rattle.store_acts.specs.Sound.{AreActs, KeepsLimits};
+ghost use Rattle.store_acts.specs.Sound.{AreActs, HasNext, IsAct, KeepsLimits};
 ghost use Rattle.store_state.specs.State.{new_state};
 
 use crate::reading::{
@@ -54,6 +55,21 @@ fn do_all(state: &mut StoreState, batch: &[Act]) -> Result<Items<Done>, NoMemory
     Ok(dones)
 }
 
+// Does one act.
+fn do_one(state: &mut StoreState, act: &Act) -> Result<Done, NoMemory>
+    requires act { IsAct state.old.roster state.old.server act.now }
+    requires part { HasNext act.now }
+    requires limits { KeepsLimits state.old }
+    requires epoch { state.old.epoch < 2 ^ 64 - 1 }
+    requires ship { state.old.ship < 2 ^ 64 - 1 }
+    ensures done { IfOk result (λ done. done ≡ (act_done state.old act.now).done) }
+    ensures state { OnOk result (state.new ≡ (act_done state.old act.now).state) }
+    ensures err { OnErr result (state.new ≡ state.old) }
+    ensures limits { KeepsLimits state.new }
+{
+    apply_act(state, act)
+}
+
 /// A store in memory. It never fails, but for want of memory, and it is always ready.
 #[derive(Drop)]
 pub struct MapStore {
@@ -81,6 +97,19 @@ impl MapStore {
         ensures { kept_in result ≡ state }
     {
         MapStore { state }
+    }
+
+    /// Does one act, and answers what became of it. `NoMemory` leaves the store as it was.
+    #[tactic(auto, using(store_acts::proofs::Next::has_next))]
+    pub fn do_act(&mut self, act: &Act) -> Result<Done, NoMemory>
+        requires act { IsAct (kept_in self.old).roster (kept_in self.old).server act.now }
+        requires epoch { (kept_in self.old).epoch < 2 ^ 64 - 1 }
+        requires ship { (kept_in self.old).ship < 2 ^ 64 - 1 }
+        ensures done { IfOk result (λ done. done ≡ (act_done (kept_in self.old) act.now).done) }
+        ensures state { OnOk result (kept_in self.new ≡ (act_done (kept_in self.old) act.now).state) }
+        ensures err { OnErr result (kept_in self.new ≡ kept_in self.old) }
+    {
+        do_one(&mut self.state, act)
     }
 
     /// What it keeps.

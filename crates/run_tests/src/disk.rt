@@ -1,0 +1,68 @@
+//! The disks of the table.
+
+use crate::bytes::bytes_of;
+use anyhow::{Context, Result};
+use dfs_disk::MemDisk;
+use std::alloc::Global;
+
+/// A disk that rows name.
+#[derive(Drop)]
+pub struct NamedDisk {
+    name: String,
+    failing: Vec<u64>,
+    fuse: Option<u64>,
+    bytes: Vec<u8>,
+}
+
+impl NamedDisk {
+    /// Whether it has this name.
+    pub fn is_called(&self, name: &str) -> bool {
+        self.name.as_str() == name
+    }
+
+    /// A disk in memory with its bytes, whose calls fail as it says.
+    pub fn made(&self, alloc: Global) -> Result<MemDisk> {
+        let bytes = self.bytes.as_slice();
+        match self.fuse {
+            Some(passes) => Ok(MemDisk::fuse(alloc, bytes, passes)?),
+            None => Ok(MemDisk::of(alloc, bytes, self.failing.as_slice())?),
+        }
+    }
+
+    /// Whether a disk holds its bytes.
+    pub fn is_held(&self, disk: &MemDisk) -> bool {
+        self.bytes.as_slice() == disk.bytes()
+    }
+}
+
+/// Reads a disk behind the word `disk`: `NAME | FAILING | BYTES`. FAILING is `-`, the numbers of the calls that fail,
+/// or `fuse` and how many calls pass.
+pub fn disk_of(alloc: Global, line: &str) -> Result<NamedDisk> {
+    let (name, rest) = line.split_once('|').context("a name")?;
+    let (failing, bytes) = rest.split_once('|').context("failing calls")?;
+    let failing = failing.trim();
+    let fuse = match failing.strip_prefix("fuse ") {
+        Some(passes) => Some(passes.parse::<u64>().context("how many calls")?),
+        None => None,
+    };
+    Ok(NamedDisk {
+        name: String::from_str(alloc, name.trim())?,
+        failing: if fuse.is_some() {
+            Vec::new(alloc)
+        } else {
+            calls_of(alloc, failing)?
+        },
+        fuse,
+        bytes: bytes_of(alloc, bytes.trim())?,
+    })
+}
+
+fn calls_of(alloc: Global, text: &str) -> Result<Vec<u64>> {
+    let mut calls = Vec::new(alloc);
+    for word in text.split_whitespace() {
+        if word != "-" {
+            calls.push(word.parse::<u64>().context("the number of a call")?)?;
+        }
+    }
+    Ok(calls)
+}
