@@ -10,3 +10,4 @@ pub mod Leaving
 pub mod Again
 pub mod Mounting
 pub mod Reopened
+pub mod Applied

@@ -2,3 +2,4 @@ pub mod Refused
 pub mod Records
 pub mod Stands
 pub mod Opening
+pub mod Applying

@@ -7,6 +7,7 @@
 #![tactic(auto)]
 
 mod aggregate;
+mod applying;
 mod opening;
 mod refused;
 

@@ -1,0 +1,6 @@
+pub mod Promised
+pub mod Going
+pub mod Counts
+pub mod Free
+pub mod Settled
+pub mod Batching

@@ -1,0 +1,44 @@
+use Rattle.std.proofs.Common.{◌≡◌, refl, sym, ap, ◌∙◌, subst}
+use Rattle.std.specs.Prelude.{Bool, true, false, not}
+use Rattle.std.proofs.lemmas.Bool.{false≢true}
+use Rattle.dfs_store.specs.MapStores.{kept_in}
+use Rattle.store_acts.proofs.Next.{act_next}
+use Rattle.store_state.specs.declared.done.Done.{Done}
+use Rattle.store_state.specs.declared.state.StoreState.{StoreState}
+use Rattle.ep_acts.specs.Acts.{act_blocks}
+use Rattle.ep_acts.specs.Records.{HasTables}
+use Rattle.ep_acts.proofs.Outcomes.{keeps_tables}
+use Rattle.ep_batch.proofs.Batching.{does_stale}
+use Rattle.ep_batch.proofs.one.do_one.Goals as goal
+
+isnt : (b : Bool) → not b ≡ true → b ≡ false
+isnt true e = absurd (false≢true e)
+isnt false e = refl
+
+pub returns-then-not-done-clause-server : goal.returns-then-not-done-clause-server
+returns-then-not-done-clause-server g c = ap (λ (s : StoreState). s.server) c.in-Ok-do_act.ensures.state ∙ (act_next (kept_in c.args.store.now) c.args.act.now c.requires.tables.limits c.requires.act).server
+
+pub returns-then-not-done-clause-roster : goal.returns-then-not-done-clause-roster
+returns-then-not-done-clause-roster g c = ap (λ (s : StoreState). s.roster) c.in-Ok-do_act.ensures.state ∙ (act_next (kept_in c.args.store.now) c.args.act.now c.requires.tables.limits c.requires.act).roster
+
+pub returns-in-Ok-put_act-clause-server : goal.returns-in-Ok-put_act-clause-server
+returns-in-Ok-put_act-clause-server g c = ap (λ (s : StoreState). s.server) c.in-Ok-do_act.ensures.state ∙ (act_next (kept_in c.args.store.now) c.args.act.now c.requires.tables.limits c.requires.act).server
+
+pub returns-in-Ok-put_act-clause-roster : goal.returns-in-Ok-put_act-clause-roster
+returns-in-Ok-put_act-clause-roster g c = ap (λ (s : StoreState). s.roster) c.in-Ok-do_act.ensures.state ∙ (act_next (kept_in c.args.store.now) c.args.act.now c.requires.tables.limits c.requires.act).roster
+
+pub returns-clause-server : goal.returns-clause-server
+returns-clause-server g c = ap (λ (s : StoreState). s.server) c.in-Ok-do_act.ensures.state ∙ (act_next (kept_in c.args.store.now) c.args.act.now c.requires.tables.limits c.requires.act).server
+
+pub returns-clause-roster : goal.returns-clause-roster
+returns-clause-roster g c = ap (λ (s : StoreState). s.roster) c.in-Ok-do_act.ensures.state ∙ (act_next (kept_in c.args.store.now) c.args.act.now c.requires.tables.limits c.requires.act).roster
+
+pub returns-then-not-done-clause-does : goal.returns-then-not-done-clause-does
+returns-then-not-done-clause-does g c =
+    let stale : c.in-Ok-do_act.done.fresh ≡ false = isnt c.in-Ok-do_act.done.fresh c.if-not-done.true in
+    does_stale g.D.Disk.tells g.D.Disk.view (act_blocks c.args.act.now) (kept_in c.args.store.now) c.args.act.now c.args.log.now c.in-Ok-do_act.done c.requires.may
+    (ap (λ (d : Done). d.fresh) (sym c.in-Ok-do_act.ensures.done) ∙ stale)
+
+pub put_act-requires-clause-tables : goal.put_act-requires-clause-tables
+put_act-requires-clause-tables g c =
+    subst HasTables (sym (c.state-2.ensures.kept ∙ c.in-Ok-do_act.ensures.state)) (keeps_tables (kept_in c.args.store.now) c.args.act.now c.requires.tables c.requires.act)
