@@ -23,8 +23,9 @@ impl<D: Disk> Aggregate<D> {
 
     /// Does up to `BATCH_ACTS_MAX` acts that fit, in their order, and answers what became of each. All are durable
     /// after `Ok`. A crash at any moment of the call leaves what the first acts of the batch made, up to one of them.
-    /// The errors are `Failed` and `Memory`; after either the disk has what the first acts made, and the aggregate is to
-    /// be opened again.
+    /// The errors are `Failed`, only where the disk's count of faults rose, and `Memory`, also where fewer blocks are
+    /// free than an act may need. After either the disk has what the first acts made, and the aggregate is to be opened
+    /// again.
     pub fn apply_fitting(&mut self, batch: &[Act]) -> Result<Items<Done>, NodeFault>
         requires acts { AreActs (kept_in self.old).roster (kept_in self.old).server batch.now }
         requires fits { D.tells → AllFit (kept_in self.old) batch.now }
