@@ -15,7 +15,8 @@ use Rattle.cm_cache.specs.declared.held.Held.{Held}
 use Rattle.dfs_base.specs.Image.{byte_at}
 use Rattle.cm_cache.specs.Bytes.{told_byte, is_within}
 use Rattle.cm_cache.specs.Files.{FileKey, file_key, same_key, parts_at, IsRoomy}
-use Rattle.cm_cache.specs.Holding.{tokens_of, without_id, with_use, used, shows_byte, tells_of, kind_has_byte, is_status}
+use Rattle.cm_cache.specs.Holding.{tokens_of, without_id, with_use, used}
+use Rattle.cm_cache.specs.Holding.{shows_byte, tells_of, kind_has_byte, is_status}
 use Rattle.cm_cache.specs.Parts.{Parts}
 
 -- the held tokens, and what is kept of each file

@@ -1,4 +1,5 @@
-ghost use Rattle.std.specs.Prelude.{◌≡◌, ◌↔◌, ◌+◌, ◌<◌, ◌≤◌, ℕ, IsTrue, [], None, false, true, length, slice_get, filter};
+ghost use Rattle.std.specs.Prelude.{◌≡◌, ◌↔◌, ◌+◌, ◌<◌, ◌≤◌, ℕ, IsTrue};
+ghost use Rattle.std.specs.Prelude.{[], None, false, true, length, slice_get, filter};
 ghost use Rattle.std.specs.Prelude.{option_copied, OnOk, OnErr, IfOk, is_some};
 ghost use Rattle.std.specs.List.{find, list_any};
 ghost use Rattle.std.specs.Option.{option_map};
@@ -7,7 +8,8 @@ ghost use Rattle.cm_cache.specs.Holding.{IsOnce, has_id, is_id, tokens_of, is_id
 ghost use Rattle.cm_cache.specs.Holding.{kind_has_byte, is_status, promoted};
 ghost use Rattle.cm_cache.specs.Files.{FileKey, file_key, same_key, parts_at, HasRoom, Grows, Learns, Puts};
 ghost use Rattle.cm_cache.specs.Files.{without_token, left, told_under};
-ghost use Rattle.cm_cache.specs.Seen.{seen, after_add, after_drop, after_write, after_length, after_set_use, after_used, of_key};
+ghost use Rattle.cm_cache.specs.Seen.{seen, after_add, after_drop, after_write};
+ghost use Rattle.cm_cache.specs.Seen.{after_length, after_set_use, after_used, of_key};
 
 use crate::file::{File, FileKey, file_key};
 use crate::held::{Held, helps_cover, is_status, kind_has_byte};

@@ -103,10 +103,10 @@ impl<D: Disk> Log<D> {
         }
     }
 
-    /// Mounts the log on its own disk again, as after a force that failed. What was put or ended and not forced is gone.
-    /// The errors are those of `mount`, after which it is to be mounted once more; `NotALog` comes only where the disk
-    /// holds another log than this one left, or none. A crash at any moment of the call leaves what a crash in `mount`
-    /// leaves.
+    /// Mounts the log on its own disk again, as after a force that failed. What was put or ended and not forced is
+    /// gone. The errors are those of `mount`, after which it is to be mounted once more; `NotALog` comes only where
+    /// the disk holds another log than this one left, or none. A crash at any moment of the call leaves what a crash
+    /// in `mount` leaves.
     pub fn reopen(&mut self) -> Result<(), LogFault>
         ensures sound { OnOk result (IsSoundLog D.tells D.view self.new) }
         ensures mounted { D.tells → OnOk result (IsMounted (D.view (disk_of self.old)).image

@@ -1,5 +1,6 @@
 -- A store's record that the pages and blocks of a disk have.
-use Rattle.std.specs.Prelude.{◌≡◌, ◌≤◌, ◌<◌, ℕ, ◌+◌, ◌*◌, true, List, length, take, replicate, Option, Some, None, is_none}
+use Rattle.std.specs.Prelude.{◌≡◌, ◌≤◌, ◌<◌, ℕ, ◌+◌, ◌*◌, true}
+use Rattle.std.specs.Prelude.{List, length, take, replicate, Option, Some, None, is_none}
 use Rattle.dfs_objects.specs.declared.content.Anode.{Anode}
 use Rattle.dfs_filesets.specs.Founding.{unused_anode}
 use Rattle.store_state.specs.State.{held_at}

@@ -9,8 +9,8 @@ ghost use Rattle.ep_records.specs.Laws.{
   StaysAreSaid,
 };
 
-/// Nothing is lost that a disk says in format 2: the header of each fileset and the server's facts are made again of the
-/// record.
+/// Nothing is lost that a disk says in format 2: the header of each fileset and the server's facts are made again of
+/// the record.
 pub fn said_law()
     ensures stays { StaysAreSaid }
     ensures headers { HeadersAreSaid }
@@ -22,8 +22,8 @@ pub fn new_law()
     ensures { EmptyIsNew }
 {}
 
-/// Where the pages of a disk say a record that it can have, and its slots keep the anodes, the image of the disk is this
-/// record; and it has no faults.
+/// Where the pages of a disk say a record that it can have, and its slots keep the anodes, the image of the disk is
+/// this record; and it has no faults.
 pub fn read_law()
     ensures record { RecordIsRead }
     ensures faults { RecordHasNoFaults }

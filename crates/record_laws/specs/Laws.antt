@@ -12,8 +12,8 @@ use Rattle.record_laws.specs.Stored.{IsStorable}
 
 -- acts that fit leave a record that a disk can have
 abbrev pub ActsKeepStorable : Type 0
-ActsKeepStorable = (state : StoreState) (act : Act) → IsStorable state → IsAct state.roster state.server act → Fits state act
-    → IsStorable (act_done state act).state
+ActsKeepStorable = (state : StoreState) (act : Act) → IsStorable state → IsAct state.roster state.server act
+    → Fits state act → IsStorable (act_done state act).state
 
 -- and a new store has one
 abbrev pub NewIsStorable : Type 0

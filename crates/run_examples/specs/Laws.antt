@@ -121,7 +121,8 @@ Serves script past s again =
     × ServerMeets script file_tree site_one (s ∷ past) (acts 1 site_one (s ∷ past)) (server_lapses again)
 
 -- A give-back is stored and answered by Gone; a Returned is heard; a host goes down, once, or says Bye, which is
--- answered; a restart tells each host, and a lapse those again that haven't reclaimed; a claim is admitted and answered.
+-- answered; a restart tells each host, and a lapse those again that haven't reclaimed; a claim is admitted and
+-- answered.
 pub record ServerReacts : Type 0 where
   pub gift_stored : Serves writing served stores []
   pub returned_heard : Serves writing (stores ∷ served) hears_returned []
@@ -137,7 +138,8 @@ BlockedFetchIsGranted =
     Serves writing shared calls_back (to_host (Revoke (recall 4)) ∷ [])
     × Serves writing (calls_back ∷ shared) stores_and_grants []
 
--- A token that a host's step takes counts as used by it, and so isn't the oldest while another idle one was used earlier.
+-- A token that a host's step takes counts as used by it, and so isn't the oldest while another idle one was used
+-- earlier.
 abbrev pub TakenIsUsed : Type 0
 TakenIsUsed = (roster : Roster) (host : HostId) (past : List Step) (s : Step) (t : Token) → In t s.taken
     → LastUsed roster host (s ∷ past) t (suc (length past))

@@ -357,7 +357,8 @@ abbrev pub evicted : Give
 evicted = record gift { ids = file_bytes.id ∷ [] }
 
 abbrev pub evicts : Step
-evicts = acts Evict None [] [] None [] (evicted ∷ []) (leaves Evicted file_bytes ∷ []) (to_server 1 (GiveBack evicted) ∷ [])
+evicts = acts Evict None [] [] None [] (evicted ∷ []) (leaves Evicted file_bytes ∷ [])
+    (to_server 1 (GiveBack evicted) ∷ [])
 
 -- The server of the same run: it welcomes the host, tells it the number of the fileset, and grants what is asked.
 abbrev pub wants : FetchOf → AppliedOf

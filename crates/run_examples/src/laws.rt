@@ -2,8 +2,8 @@ ghost use Rattle.run_examples.specs.Laws.{WriteIsAskedFor, WriteIsAnswered, Revo
 ghost use Rattle.run_examples.specs.Laws.{StopIsAllowed, EndIsAllowed, LockIsKept, UseIsEnded, EvictionIsAllowed};
 ghost use Rattle.run_examples.specs.Laws.{BlockedFetchIsGranted, ServerReacts, TakenIsUsed};
 
-/// A Write asks for the status of a file that its host doesn't know, and then to change the status and the block that it
-/// lacks; at a lapse it asks again.
+/// A Write asks for the status of a file that its host doesn't know, and then to change the status and the block that
+/// it lacks; at a lapse it asks again.
 pub fn a_write_is_asked_for()
     ensures { WriteIsAskedFor }
 {}
@@ -42,7 +42,8 @@ pub fn a_lock_is_kept()
     ensures { LockIsKept }
 {}
 
-/// At the end the use of a lock is ended by the host alone where no server asked its token back, and else by a give-back.
+/// At the end the use of a lock is ended by the host alone where no server asked its token back, and else by a
+/// give-back.
 pub fn a_use_is_ended()
     ensures { UseIsEnded }
 {}
@@ -59,8 +60,8 @@ pub fn a_server_reacts()
     ensures { ServerReacts }
 {}
 
-/// A Fetch that another host's token blocks makes its server ask the token back, and again at a lapse; when the token has
-/// come back the Fetch is granted, and the Grant tells what is kept then.
+/// A Fetch that another host's token blocks makes its server ask the token back, and again at a lapse; when the token
+/// has come back the Fetch is granted, and the Grant tells what is kept then.
 pub fn a_blocked_fetch_is_granted()
     ensures { BlockedFetchIsGranted }
 {}

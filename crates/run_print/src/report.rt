@@ -70,8 +70,8 @@ fn is_down(entry: &Entry) -> bool
     matches!(entry, Entry::Down { .. })
 }
 
-/// The losses of a history from a tree on, as they come: at each host that goes down what it hadn't stored, in bytes and
-/// lengths, by path and position. `NoMemory` comes where memory runs out.
+/// The losses of a history from a tree on, as they come: at each host that goes down what it hadn't stored, in bytes
+/// and lengths, by path and position. `NoMemory` comes where memory runs out.
 pub fn losses_in(alloc: Global, start: &Tree, history: &[Entry]) -> Result<Items<Loss>, NoMemory>
     ensures { IfOk result (λ losses. losses ≡ lost_in start.now history.now) }
 {

@@ -169,7 +169,11 @@ abbrev pub with_capacity : Context → ServerId → ℕ → Context
 with_capacity context server blocks =
     record context {
       capped = context.capped ++ server ∷ [];
-      script = record context.script { roster = record context.script.roster { capacity = slice_set context.script.roster.capacity (server.0 - 1) blocks } };
+      script = record context.script {
+        roster = record context.script.roster {
+          capacity = slice_set context.script.roster.capacity (server.0 - 1) blocks;
+        };
+      };
     }
 
 -- `capacity sK BLOCKS`: once, and before the server has filesets

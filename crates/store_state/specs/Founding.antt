@@ -1,5 +1,6 @@
 -- How filesets come about in a store.
-use Rattle.std.specs.Prelude.{ℕ, ◌+◌, ◌*◌, nat_lt, nat_le, if◌then◌else◌, List, length, slice_set, Option, Some, is_none, unwrap_or, Result, Ok, Err}
+use Rattle.std.specs.Prelude.{ℕ, ◌+◌, ◌*◌, nat_lt, nat_le, if◌then◌else◌, List, length}
+use Rattle.std.specs.Prelude.{slice_set, Option, Some, is_none, unwrap_or, Result, Ok, Err}
 use Rattle.std.specs.List.{list_any, position, sum_by}
 use Rattle.std.specs.Option.{option_map_or}
 use Rattle.dfs_base.specs.Outcomes.{and_then, either}

@@ -83,7 +83,8 @@ HostsAnswerLegally =
 -- the cells after the cause of a server's step: what it stores, or loses
 abbrev pub CausedCells : ServerId → Tree → Step → Cells → Cells
 CausedCells v kept_is s cells f p =
-    if v.0 == (site f).0 then cell_after p (does_first s.cause kept_is (by_cause s.applied) f p) (cells f p) else cells f p
+    if v.0 == (site f).0 then cell_after p (does_first s.cause kept_is (by_cause s.applied) f p) (cells f p)
+    else cells f p
 
 -- each fileset of a tree is where it was made
 abbrev pub AreHome : Tree → Type 0

@@ -25,8 +25,8 @@ pub fn hosts_answer_legally()
 {}
 
 /// In every run what a server stores of a give-back is, in each tree with the cells of the run there, unsaved and its
-/// host's, below the kept length that it leaves, with a legal length; and it leaves the cells that the cause of the step
-/// leaves. So does a Down that is taken.
+/// host's, below the kept length that it leaves, with a legal length; and it leaves the cells that the cause of the
+/// step leaves. So does a Down that is taken.
 pub fn servers_store_legally()
     ensures stores { ServersStoreLegally StoresLegally }
     ensures downs { ServersStoreLegally DownsForget }

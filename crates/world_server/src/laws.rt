@@ -7,8 +7,8 @@ pub fn server_may_rest()
     ensures { ServerMayRest }
 {}
 
-/// Wants are served in the order in which they were made: a later one that conflicts is behind an earlier one until that
-/// is decided, and could not be decided meanwhile.
+/// Wants are served in the order in which they were made: a later one that conflicts is behind an earlier one until
+/// that is decided, and could not be decided meanwhile.
 pub fn wants_are_served_in_turn()
     ensures { ServedInTurn }
 {}
