@@ -1,5 +1,5 @@
-//! One run of the service, from its first step to its end, that all rules admit: so the rules of hosts and servers don't
-//! contradict one another on it, and its history is computed. Each rule is a test on the steps as plain data.
+//! One run of the service, from its first step to its end, that all rules admit: so the rules of hosts and servers
+//! don't contradict one another on it, and its history is computed. Each rule is a test on the steps as plain data.
 #![tactic(auto)]
 
 mod laws;
