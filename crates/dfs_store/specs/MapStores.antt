@@ -13,6 +13,7 @@ abbrev pub map_view : MapStore → View
 map_view store = record {
   state = kept_in store;
   ready = ⊤;
+  mendable = ⊤;
   wear = store.state.epoch + store.state.ship;
   faults = 0;
   last_failed = false;

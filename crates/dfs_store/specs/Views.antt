@@ -10,7 +10,9 @@ pub record View : Type 1 where
   pub state : StoreState
   -- that it may be asked. After a fault it may be so only once it was opened anew.
   pub ready : Type 0
-  -- how worn it is: each batch, and each opening, adds as many as a batch can have acts, at most
+  -- that it may be opened anew, as it always may behind the calls of a store
+  pub mendable : Type 0
+  -- how worn it is: each batch, and each opening, adds one more than a batch can have acts, at most
   pub wear : ℕ
   -- the count of faults of its disk, and whether the disk's last call failed
   pub faults : ℕ
@@ -32,4 +34,5 @@ pub record IsAsked {T : Type 0} (tells : Type 0) (result : Result T StoreFault) 
   pub state : tells → new.state ≡ old.state
   pub wear : new.wear ≡ old.wear
   pub ready : (result ≡ Err Failed → ⊥) → new.ready
+  pub mendable : new.mendable
   pub blame : IsBlamed result old new

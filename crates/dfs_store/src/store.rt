@@ -76,33 +76,40 @@ pub trait Store {
             × (k ≤ length batch.now) × ((view self.new).state ≡ state_after (view self.old).state (take k batch.now))) }
         ensures same { IsSameStore (view self.old) (view self.new) }
         ensures ready { OnOk result (view self.new).ready }
-        ensures wear { (view self.new).wear ≤ (view self.old).wear + BATCH_ACTS_MAX }
+        ensures mendable { (view self.new).mendable }
+        ensures wear { (view self.new).wear ≤ (view self.old).wear + BATCH_ACTS_MAX + 1 }
         ensures blame { IsBlamed result (view self.old) (view self.new) };
 
     /// Makes the store ready again after a fault.
     fn reopen(&mut self) -> Result<(), StoreFault>
+        requires mendable { (view self.old).mendable }
         requires wear { (view self.old).wear < 2 ^ 47 }
         ensures state { tells → (view self.new).state ≡ (view self.old).state }
         ensures same { IsSameStore (view self.old) (view self.new) }
         ensures ready { OnOk result (view self.new).ready }
-        ensures wear { (view self.new).wear ≤ (view self.old).wear + BATCH_ACTS_MAX }
+        ensures mendable { (view self.new).mendable }
+        ensures wear { (view self.new).wear ≤ (view self.old).wear + BATCH_ACTS_MAX + 1 }
         ensures blame { IsBlamed result (view self.old) (view self.new) };
 
     /// How often the server has started, over all runs.
     fn epoch(&self) -> u64
+        requires ready { (view self.now).ready }
         ensures { tells → result ≡ (view self.now).state.epoch };
 
     /// What is known of a host.
     fn host(&self, host: HostId) -> HostState
+        requires ready { (view self.now).ready }
         ensures { tells → result ≡ host_state (view self.now).state host };
 
     /// The number of a host's last give-back on a fileset that was applied; 0 for none, and where the fileset isn't
     /// here.
     fn last_give(&self, host: HostId, fileset: FilesetId) -> u64
+        requires ready { (view self.now).ready }
         ensures { tells → result ≡ last_of (view self.now).state host fileset (λ kept. kept.give) };
 
     /// The number of a host's last change on a fileset that was decided; 0 for none, and where the fileset isn't here.
     fn last_change(&self, host: HostId, fileset: FilesetId) -> u64
+        requires ready { (view self.now).ready }
         ensures { tells → result ≡ last_of (view self.now).state host fileset (λ kept. kept.change) };
 
     /// The reply to a call of a host on what is kept, while nothing is locked or open. Nothing is done.

@@ -217,6 +217,7 @@ fn renew<D: Disk>(
 {
     let anode = at as u32 + 1;
     match (before.at(at), after.at(at)) {
+        (None, None) => Ok(()),
         (Some(was), Some(is)) if same_anode(was, is) => Ok(()),
         (_, Some(is)) => {
             if *room == 0 || !is_whole(after, at) {

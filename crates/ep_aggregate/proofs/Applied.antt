@@ -3,6 +3,8 @@ use Rattle.std.proofs.Common.{◌≡◌, ◌≤◌, ℕ, zero, suc, ◌+◌, Lis
 use Rattle.std.specs.Prelude.{Some}
 use Rattle.dfs_base.specs.Image.{AreBytes}
 use Rattle.dfs_base.specs.View.{View}
+use Rattle.dfs_outside.specs.Runs.{LeavesOnly}
+use Rattle.dfs_outside.proofs.Runs.{weaker}
 use Rattle.dfs_objects.specs.declared.content.Anode.{Anode}
 use Rattle.store_acts.specs.Acts.{act_done}
 use Rattle.store_acts.specs.declared.act.Act.{Act}
@@ -20,13 +22,13 @@ use Rattle.ep_image.specs.Aggregate.{aggregate_of, page_of}
 use Rattle.ep_image.proofs.Joined.{get_or-listed}
 use Rattle.ep_records.proofs.There.{record_is_there}
 use Rattle.ep_load.specs.Loading.{KeepsRecord}
-use Rattle.ep_acts.specs.Records.{HasStage, HasNow}
-use Rattle.ep_acts.proofs.Same.{record_same}
-use Rattle.ep_acts.proofs.Transacting.{stage_now, now_stage}
+use Rattle.ep_batch.specs.Passed.{HasStage, HasNow}
+use Rattle.ep_batch.proofs.Passed.{record_same}
+use Rattle.ep_batch.proofs.Passed.{stage_now, now_stage}
 use Rattle.ep_batch.specs.Stored.{HoldsStore}
 use Rattle.ep_batch.specs.Batch.{first_of, HoldsFirst, Rests}
 use Rattle.ep_batch.proofs.Counts.{act_counted}
-use Rattle.ep_aggregate.specs.Applying.{HasFirst}
+use Rattle.ep_aggregate.specs.Applying.{HasFirst, IsLeftOfBatch}
 use Rattle.ep_aggregate.specs.Records.{HasRecord}
 use Rattle.ep_aggregate.specs.Stands.{StandsOn}
 
@@ -112,3 +114,8 @@ has_first most wear start acts c bytes few fresh epoch ship (k, le, holds) =
         ship = omega (arith, ships, ship, le, few);
       },
     )
+
+-- what a crash in a batch leaves
+pub batch_leaves : (most wear : ℕ) (start : StoreState) (acts : List Act) (old new : View) → length acts ≤ 8 → most ≤ 9223372036854775808 + wear → start.epoch + 8 ≤ 9223372036854775808 + wear → start.ship + 8 ≤ 9223372036854775808 + wear
+    → LeavesOnly (HoldsFirst most start acts) old new → LeavesOnly (IsLeftOfBatch wear start acts) old new
+batch_leaves most wear start acts old new few fresh epoch ship run = weaker run (λ c holds bytes. has_first most wear start acts c bytes few fresh epoch ship holds)

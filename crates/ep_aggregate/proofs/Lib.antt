@@ -11,3 +11,7 @@ pub mod Again
 pub mod Mounting
 pub mod Reopened
 pub mod Applied
+pub mod Seen
+pub mod Mending
+pub mod Asked
+pub mod Acted

@@ -34,14 +34,14 @@ module _ {D : Type 0} (tells : Type 0) (view : D → View) (log : Log D) (sound 
   abbrev held : List Entry
   held = take (state_of log).forced (state_of log).entries
 
-  has_log : HasLog (state_of log).superblock (state_of log).half Image
+  pub has_log : HasLog (state_of log).superblock (state_of log).half Image
   has_log = record {
     front = sound.front told;
     used = subst (λ (n : ℕ). used_half n Image ≡ Some (state_of log).half) sound.many (sound.steady.on_disk told).log.used;
   }
 
   -- its pages there are those of stage 0
-  stage_there : (p : ℕ) → pages_in (state_of log).half Image p ≡ stage_in (contents_of view log) 0 p
+  pub stage_there : (p : ℕ) → pages_in (state_of log).half Image p ≡ stage_in (contents_of view log) 0 p
   unfolding pages_in firsts
   stage_there p =
       (let few = length-take-le (state_of log).forced (state_of log).entries sound.steady.forced_le in

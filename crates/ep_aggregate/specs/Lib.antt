@@ -3,3 +3,4 @@ pub mod Records
 pub mod Stands
 pub mod Opening
 pub mod Applying
+pub mod StoreView

@@ -3,6 +3,8 @@ use Rattle.std.specs.Prelude.{◌≡◌, ℕ, Some, IsTrue, ⊤}
 use Rattle.dfs_base.specs.Faults.{RoseBy}
 use Rattle.dfs_base.specs.Crash.{IsQuiet}
 use Rattle.dfs_base.specs.View.{View}
+use Rattle.dfs_store.specs.declared.store.StoreFault.{StoreFault}
+use Rattle.dfs_store.specs.declared.store.StoreFault.TheVariants as stores
 use Rattle.ep_anode.specs.declared.fault.NodeFault.{NodeFault}
 use Rattle.ep_anode.specs.declared.fault.NodeFault.TheVariants as nodes
 use Rattle.ep_check.specs.declared.fault.CheckRefused.{CheckRefused}
@@ -29,6 +31,11 @@ opening_fault _ = nodes.Memory
 abbrev pub check_refused : CheckRefused → MountRefused
 check_refused checks.Failed = Failed
 check_refused checks.Memory = Memory
+
+-- what a store answers of it
+abbrev pub store_fault : NodeFault → StoreFault
+store_fault nodes.Failed = stores.Failed
+store_fault nodes.Memory = stores.Memory
 
 -- Why a mount for a server was refused, where so many servers are declared: the disk failed, memory ran out, or its
 -- bytes are refused at this place, and none was changed.

@@ -47,7 +47,16 @@ const WORN: u64 = 9_223_372_036_854_775_808;
 // By how many generations an opening of the log leaves it at most.
 const OPENING_WEAR: u64 = 2;
 
-/// A server's store on a disk.
+/// A server's store on a disk: its filesets, the numbers of its hosts' requests and its facts, behind a write-ahead
+/// log, and a copy of them in memory, of which comes all that is told.
+///
+/// A batch of acts is durable after `Ok`: each act is one transaction of the log, and one force behind the last makes
+/// them durable together. A crash in it leaves what the first acts made, up to one of them, and so does an error, after
+/// which memory may be ahead of the disk. So nothing may be asked till `reopen` has mounted the disk again and read
+/// back what is there.
+///
+/// After S. Chutani et al., "The Episode File System", 1992: an aggregate is a disk that many filesets share, and its
+/// log makes what belongs together durable as a whole or not at all.
 #[derive(Drop)]
 pub struct Aggregate<D: Disk> {
     pub(crate) log: Log<D>,
@@ -64,6 +73,7 @@ impl<D: Disk> Aggregate<D> {
     ghost use Rattle.ep_aggregate.specs.Records.{HasRecord, HasSameRecord, IsLeftOfFormat};
     ghost use Rattle.ep_aggregate.specs.Refused.{IsRefused, IsOpenFault};
     ghost use Rattle.ep_aggregate.specs.Stands.{Stands, state_in as kept_in, disk_in};
+    ghost use Rattle.ep_aggregate.specs.StoreView.{IsOpened};
 
     /// Formats a disk as the aggregate of a server of a roster, with the capacity that the roster gives it. What is on
     /// the disk is lost. The errors are `Failed` and `Memory`; either hands the disk back. A crash at any moment of the
@@ -82,6 +92,7 @@ impl<D: Disk> Aggregate<D> {
         ensures new { IfOk result (λ aggregate.
             kept_in aggregate ≡ new_state server (capacity_of roster.now server) roster.now) }
         ensures stands { IfOk result (λ aggregate. Stands D.tells D.view aggregate) }
+        ensures opened { IfOk result (λ aggregate. IsOpened D.tells D.view aggregate) }
         ensures record { D.tells
             → IfOk result (λ aggregate. HasRecord (kept_in aggregate) (D.view (disk_in aggregate)).image) }
         ensures crash { D.tells → byte_at (D.view disk).image 0 ≢ 1 → IfOk result (λ aggregate. LeavesOnly
@@ -127,6 +138,7 @@ impl<D: Disk> Aggregate<D> {
         ensures taken { D.tells
             → OnOk result (refused_at server.0 (length roster.now.capacity) (D.view disk).image ≡ None) }
         ensures stands { IfOk result (λ aggregate. Stands D.tells D.view aggregate) }
+        ensures opened { IfOk result (λ aggregate. IsOpened D.tells D.view aggregate) }
         ensures kept { D.tells → IfOk result
             (λ aggregate. HasRecord (kept_in aggregate) (D.view disk).image) }
         ensures record { D.tells → IfOk result (λ aggregate. HasSameRecord roster.now server

@@ -2,10 +2,8 @@
 ghost use Rattle.std.specs.Prelude.{◌≡◌, ◌≤◌, ◌<◌, ◌+◌, ◌^◌, true, false, length, IfOk, IfErr, OnOk, OnErr};
 ghost use Rattle.dfs_outside.specs.Runs.{LeavesOnly};
 ghost use Rattle.store_acts.specs.Acts.{dones_of, state_after};
-ghost use Rattle.store_acts.specs.Sound.{AllFit, AreActs};
+ghost use Rattle.store_acts.specs.Sound.{AreActs};
 ghost use Rattle.ep_anode.specs.Faults.{IsNodeFault};
-ghost use Rattle.ep_batch.specs.Batch.{HoldsFirst};
-ghost use Rattle.ep_log.specs.Log.{state_of};
 
 use crate::aggregate::Aggregate;
 use dfs_base::{Disk, Items};
@@ -18,17 +16,14 @@ use store_state::Done;
 const BATCH_WEAR: u64 = 9;
 
 impl<D: Disk> Aggregate<D> {
-    ghost use Rattle.ep_aggregate.specs.Applying.{HasFirst};
+    ghost use Rattle.ep_aggregate.specs.Applying.{HasFirst, IsLeftOfBatch};
     ghost use Rattle.ep_aggregate.specs.Stands.{Stands, state_in as kept_in, disk_in};
 
-    /// Does up to `BATCH_ACTS_MAX` acts that fit, in their order, and answers what became of each. All are durable
-    /// after `Ok`. A crash at any moment of the call leaves what the first acts of the batch made, up to one of them.
-    /// The errors are `Failed`, only where the disk's count of faults rose, and `Memory`, also where fewer blocks are
-    /// free than an act may need. After either the disk has what the first acts made, and the aggregate is to be opened
-    /// again.
-    pub fn apply_fitting(&mut self, batch: &[Act]) -> Result<Items<Done>, NodeFault>
+    // Does acts in their order, in memory and on the disk, and answers what became of each. The errors are `Failed`,
+    // only where the disk's count of faults rose, and `Memory`. After either the disk has what the first acts made, and
+    // the aggregate is to be opened again.
+    pub(crate) fn do_batch(&mut self, batch: &[Act]) -> Result<Items<Done>, NodeFault>
         requires acts { AreActs (kept_in self.old).roster (kept_in self.old).server batch.now }
-        requires fits { D.tells → AllFit (kept_in self.old) batch.now }
         requires stands { Stands D.tells D.view self.old }
         requires wear { self.old.wear < 2 ^ 48 }
         ensures dones { IfOk result (λ dones. dones ≡ dones_of (kept_in self.old) batch.now) }
@@ -40,8 +35,7 @@ impl<D: Disk> Aggregate<D> {
         ensures server { (kept_in self.new).server ≡ (kept_in self.old).server }
         ensures roster { (kept_in self.new).roster ≡ (kept_in self.old).roster }
         ensures wear { self.new.wear ≡ self.old.wear + 9 }
-        ensures crash { D.tells → LeavesOnly
-            (HoldsFirst ((state_of self.old.log).half.generation + 9) (kept_in self.old) batch.now)
+        ensures crash { D.tells → LeavesOnly (IsLeftOfBatch self.new.wear (kept_in self.old) batch.now)
             (D.view (disk_in self.old)) (D.view (disk_in self.new)) }
         ensures counted { (D.view (disk_in self.old)).faults ≤ (D.view (disk_in self.new)).faults }
         ensures only { IfErr result

@@ -1,8 +1,9 @@
 ghost use Rattle.std.specs.Prelude.{◌≡◌};
-ghost use Rattle.ep_aggregate.specs.Refused.{log_refused, node_refused, check_refused, opening_fault};
+ghost use Rattle.ep_aggregate.specs.Refused.{log_refused, node_refused, check_refused, opening_fault, store_fault};
 ghost use Rattle.ep_aggregate.specs.declared.refused.MountRefused.TheVariants.{Memory};
 
 use dfs_base::NoMemory;
+use dfs_store::StoreFault;
 use ep_anode::NodeFault;
 use ep_check::CheckRefused;
 use ep_log::LogFault;
@@ -69,5 +70,15 @@ pub(crate) fn opening_fault(fault: LogFault) -> NodeFault
     match fault {
         LogFault::Failed => NodeFault::Failed,
         LogFault::Memory | LogFault::Full { .. } | LogFault::NotALog(_) => NodeFault::Memory,
+    }
+}
+
+/// What a store answers where the disk failed, or memory ran out.
+pub(crate) fn store_fault(fault: NodeFault) -> StoreFault
+    ensures { result ≡ store_fault fault }
+{
+    match fault {
+        NodeFault::Failed => StoreFault::Failed,
+        NodeFault::Memory => StoreFault::Memory,
     }
 }

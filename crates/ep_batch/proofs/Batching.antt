@@ -1,6 +1,6 @@
 -- A batch, act by act.
-use Rattle.std.proofs.Common.{◌≡◌, ◌<◌, ◌≤◌, ℕ, zero, suc, ◌+◌, List, [], ◌∷◌, length, take, get_or, inl, refl, sym, ◌∙◌, ap, subst, arith}
-use Rattle.std.specs.Prelude.{false, Ok}
+use Rattle.std.proofs.Common.{◌≡◌, ◌<◌, ◌≤◌, ℕ, ◌+◌, List, length, get_or, inl, refl, sym, ◌∙◌, ap, subst, arith}
+use Rattle.std.specs.Prelude.{false, Ok, Err}
 use Rattle.std.proofs.lemmas.List.{take_all}
 use Rattle.dfs_base.specs.Crash.{IsQuiet}
 use Rattle.dfs_base.specs.View.{View}
@@ -10,11 +10,11 @@ use Rattle.dfs_outside.proofs.Runs.{quiet, quiet_settled}
 use Rattle.dfs_store.proofs.Batches.{after_next, each_at}
 use Rattle.rpc_types.specs.Soundness.{Each}
 use Rattle.store_acts.specs.Acts.{act_done, state_after}
-use Rattle.store_acts.specs.Sound.{AllFit, Fits, IsAct}
+use Rattle.store_acts.specs.Sound.{IsAct}
 use Rattle.store_acts.specs.declared.act.Act.{Act}
 use Rattle.store_acts.proofs.Next.{act_next}
 use Rattle.store_state.specs.declared.state.StoreState.{StoreState}
-use Rattle.record_laws.proofs.Acts.{acts_keep_storable}
+use Rattle.record_laws.specs.Stored.{IsStorable}
 use Rattle.ep_layout.specs.declared.half.Half.{Half}
 use Rattle.ep_layout.specs.declared.superblock.Superblock.{Superblock}
 use Rattle.ep_log.specs.Contents.{contents_of, last_stage, stage_in}
@@ -34,23 +34,21 @@ use Rattle.ep_batch.specs.Stored.{IsOwn}
 use Rattle.ep_batch.specs.Batch.{first_of, Counts, Goes, HasSome, HoldsFirst, IsDurable, Rests}
 use Rattle.ep_batch.proofs.Counts.{act_counted}
 
--- an act that fits leaves a record that the disk can have
-pub own_next : (state : StoreState) (act : Act) (superblock : Superblock) → IsOwn state superblock → IsAct state.roster state.server act → Fits state act → IsOwn (act_done state act).state superblock
-own_next state act superblock own is fits =
-    let next = act_next state act own.storable.limits is in
-    let same = (act_counted state act).capacity in
-    record {
-      storable = acts_keep_storable state act own.storable is fits;
-      server = own.server ∙ ap (λ (s : ServerId). s.0) (sym next.server);
-      blocks = own.blocks ∙ ap (λ (n : ℕ). n + 1024) (sym same);
-      least = (let least = own.least in omega (arith, same, least));
-    }
+-- an act that leaves a record that a disk can have leaves one that this disk can have
+pub own_next : (state next : StoreState) (act : Act) (superblock : Superblock) → IsOwn state superblock → IsAct state.roster state.server act → next ≡ (act_done state act).state → IsStorable next → IsOwn (act_done state act).state superblock
+own_next state next act superblock own is made storable = record {
+  storable = subst IsStorable made storable;
+  server = own.server ∙ ap (λ (s : ServerId). s.0) (sym (act_next state act own.storable.limits is).server);
+  blocks = own.blocks ∙ ap (λ (n : ℕ). n + 1024) (sym (act_counted state act).capacity);
+  least = (let least = own.least in let same = (act_counted state act).capacity in omega (arith, same, least));
+}
 
--- and each act of a batch that fits does
-pub fits_at : (acts : List Act) (i : ℕ) (act : Act) (state : StoreState) → i < length acts → act ≡ get_or acts i act → AllFit state acts → Fits (state_after state (take i acts)) act
-fits_at [] i act state lt e fits = absurd (omega (arith, lt))
-fits_at (first ∷ acts) zero act state lt e fits = subst (Fits state) (sym e) fits.0
-fits_at (first ∷ acts) (suc i) act state lt e fits = fits_at acts i act (act_done state first).state (omega (arith, lt)) e fits.1
+-- where an act was refused the log is as it was
+pub does_refused : {D T : Type 0} (tells : Type 0) (view : D → View) (blocks : ℕ) (state next : StoreState) (log : Log D) → MayAct tells view blocks state log
+    → DoesAct {D = D} {T = T} tells view blocks next (Err Memory) log log
+does_refused tells view blocks state next log may =
+    does_none tells view blocks state next log log may
+    (keeps_same tells view log log may.idle.sound (same_ended (state_of log) (state_of log) refl) (quiet_none (view (disk_of log))) (omega arith)) refl refl (Err Memory) tt (λ told. tt)
 
 -- a fault of a later step
 pub fault_since : (fault : NodeFault) (first mid last : View) → first.faults ≤ mid.faults → IsNodeFault fault mid last → IsNodeFault fault first last

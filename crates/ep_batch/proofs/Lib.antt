@@ -4,3 +4,4 @@ pub mod Counts
 pub mod Free
 pub mod Settled
 pub mod Batching
+pub mod Passed

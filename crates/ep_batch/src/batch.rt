@@ -4,7 +4,7 @@ ghost use Rattle.dfs_base.specs.declared.limits.TheConstants.{HOSTS_MAX as HOSTS
 ghost use Rattle.dfs_outside.specs.Runs.{LeavesOnly};
 ghost use Rattle.dfs_store.specs.MapStores.{kept_in};
 ghost use Rattle.store_acts.specs.Acts.{dones_of, state_after};
-ghost use Rattle.store_acts.specs.Sound.{AllFit, AreActs};
+ghost use Rattle.store_acts.specs.Sound.{AreActs};
 ghost use Rattle.ep_log.specs.Log.{disk_of, state_of};
 ghost use Rattle.ep_anode.specs.Faults.{IsNodeFault};
 ghost use Rattle.ep_acts.specs.Records.{HasTables};
@@ -36,7 +36,6 @@ fn do_all<D: Disk>(
     batch: &[Act],
 ) -> Result<Items<Done>, NodeFault>
     requires acts { AreActs (kept_in store.old).roster (kept_in store.old).server batch.now }
-    requires fits { D.tells → AllFit (kept_in store.old) batch.now }
     requires rests { Rests D.tells D.view (kept_in store.old) log.old }
     requires tables { HasTables (kept_in store.old) }
     requires unworn { (state_of log.old).half.generation < 2 ^ 64 - 16 }
@@ -73,15 +72,15 @@ fn do_all<D: Disk>(
 /// After `Ok` all are durable, and the log holds what the store has. A crash at any moment of the call leaves what was
 /// there, or what the first acts of the batch made, up to one of them. The errors are `Failed` and `Memory`; after
 /// either the disk has what the first acts made, and the store in memory may be ahead of it: the log is to be mounted
-/// again, and the store to be read anew. `Memory` also says that fewer blocks are free than an act may need, which
-/// promises rule out where no anode of a clone has pointers past its length (`promises_leave_room`).
+/// again, and the store to be read anew. `Memory` also says that an act doesn't fit, as it would leave what no disk can
+/// have (`may_stand`), or that fewer blocks are free than an act may need, which promises rule out where no anode of a
+/// clone has pointers past its length (`promises_leave_room`).
 pub fn put_batch<D: Disk>(
     log: &mut Log<D>,
     store: &mut MapStore,
     batch: &[Act],
 ) -> Result<Items<Done>, NodeFault>
     requires acts { AreActs (kept_in store.old).roster (kept_in store.old).server batch.now }
-    requires fits { D.tells → AllFit (kept_in store.old) batch.now }
     requires rests { Rests D.tells D.view (kept_in store.old) log.old }
     requires unworn { (state_of log.old).half.generation < 2 ^ 64 - 16 }
     requires epoch { (kept_in store.old).epoch < 2 ^ 64 - 16 }

@@ -3,18 +3,43 @@ ghost use Rattle.std.specs.Prelude.{◌≡◌, ◌-◌, ◌<◌, ◌^◌, IfOk, 
 ghost use Rattle.dfs_store.specs.MapStores.{kept_in};
 ghost use Rattle.store_acts.specs.Acts.{act_done};
 ghost use Rattle.store_acts.specs.Sound.{IsAct};
+ghost use Rattle.store_state.specs.declared.state.StoreState.{StoreState as Kept};
+ghost use Rattle.record_laws.specs.Stored.{IsStorable};
+ghost use Rattle.record_fits.specs.Stands.{LeavesStorable};
 ghost use Rattle.ep_acts.specs.Acts.{act_blocks, DoesAct, MayAct};
 ghost use Rattle.ep_acts.specs.Records.{HasTables};
+ghost use Rattle.ep_acts.specs.Touched.{IsMade};
 
 use dfs_base::{Disk, NoMemory};
 use dfs_store::MapStore;
-use ep_acts::{keep_before, put_act};
+use ep_acts::{Before, keep_before, put_act};
 use ep_anode::NodeFault;
 use ep_log::Log;
+use record_fits::may_stand;
 use store_acts::Act;
-use store_state::Done;
+use store_state::{Done, StoreState};
 
-// Does an act in memory, and puts it into the log, unless it isn't done now.
+// Puts what an act left into the log, if a disk can have it. If not it answers `Memory`, and the log is as it was.
+fn put_standing<D: Disk>(
+    log: &mut Log<D>,
+    before: &Before,
+    act: &Act,
+    after: &StoreState,
+) -> Result<(), NodeFault>
+    requires tables { HasTables after.now }
+    requires made { (old : Kept) × IsMade old act.now before.now after.now
+        × MayAct D.tells D.view (act_blocks act.now) old log.old }
+    ensures stands { OnOk result (LeavesStorable act.now after.now) }
+    ensures does { DoesAct D.tells D.view (act_blocks act.now) after.now result log.old log.new }
+{
+    match may_stand(act, after) {
+        Ok(true) => put_act(log, before, act, after),
+        Ok(false) | Err(NoMemory) => Err(NodeFault::Memory),
+    }
+}
+
+// Does an act in memory, and puts it into the log, unless it isn't done now. Where it left what no disk can have it
+// answers `Memory`, and the log is as it was.
 pub(crate) fn do_one<D: Disk>(
     log: &mut Log<D>,
     store: &mut MapStore,
@@ -27,6 +52,7 @@ pub(crate) fn do_one<D: Disk>(
     requires may { MayAct D.tells D.view (act_blocks act.now) (kept_in store.old) log.old }
     ensures done { IfOk result (λ done. done ≡ (act_done (kept_in store.old) act.now).done) }
     ensures state { OnOk result (kept_in store.new ≡ (act_done (kept_in store.old) act.now).state) }
+    ensures storable { OnOk result (IsStorable (kept_in store.old) → IsStorable (kept_in store.new)) }
     ensures server { (kept_in store.new).server ≡ (kept_in store.old).server }
     ensures roster { (kept_in store.new).roster ≡ (kept_in store.old).roster }
     ensures does { DoesAct D.tells D.view (act_blocks act.now) (act_done (kept_in store.old) act.now).state result
@@ -43,7 +69,7 @@ pub(crate) fn do_one<D: Disk>(
     if !done.fresh {
         return Ok(done);
     }
-    match put_act(log, &before, act, store.state()) {
+    match put_standing(log, &before, act, store.state()) {
         Ok(()) => Ok(done),
         Err(fault) => Err(fault),
     }

@@ -2,19 +2,28 @@
 //! behind ` = ` what is wanted. Every row that gets something else is printed, and at the end the number of rows.
 #![tactic(auto)]
 
-mod asking;
-mod doing;
-mod sound;
-mod tried;
-mod world;
+ghost use Rattle.std.specs.Prelude.{IfOk, OnOk};
+ghost use Rattle.dfs_store.specs.MapStores.{map_view};
+ghost use Rattle.store_rows.specs.Standing.{Stands};
+ghost use Rattle.store_rows.specs.Worlds.{BothStand};
 
 use anyhow::Result;
+use dfs_base::ServerId;
+use dfs_calls::Roster;
+use dfs_store::MapStore;
+use std::alloc::Global;
 use std::io;
+use store_rows::{Tried, World, roster};
 use table_words::{Text, Words};
-use world::World;
+
+// The servers' capacities: room for many filesets, and for one of 64 objects and one of 4.
+const CAPACITIES: [u32; 2] = [65_536, 4_624];
 
 // Judges one line: a comment, or a row. Answers whether it was a row, and prints one that doesn't get what is wanted.
-fn judge(rt: &(impl Print + AllocGlobal), world: &mut World, line: &str) -> Result<bool> {
+fn judge(rt: &(impl Print + AllocGlobal), world: &mut World<MapStore>, line: &str) -> Result<bool>
+    requires stand { BothStand map_view world.old }
+    ensures stand { OnOk result (BothStand map_view world.new) }
+{
     let line = line.trim();
     if line.is_empty() || line.starts_with("#") {
         return Ok(false);
@@ -30,7 +39,14 @@ fn judge(rt: &(impl Print + AllocGlobal), world: &mut World, line: &str) -> Resu
 }
 
 // Judges lines in their order, and answers how many of them were rows.
-fn judge_all(rt: &(impl Print + AllocGlobal), world: &mut World, lines: &str) -> Result<u64> {
+fn judge_all(
+    rt: &(impl Print + AllocGlobal),
+    world: &mut World<MapStore>,
+    lines: &str,
+) -> Result<u64>
+    requires stand { BothStand map_view world.old }
+    ensures stand { OnOk result (BothStand map_view world.new) }
+{
     let mut rows = 0u64;
     for line in lines.lines() {
         if judge(rt, world, line)? {
@@ -40,9 +56,31 @@ fn judge_all(rt: &(impl Print + AllocGlobal), world: &mut World, lines: &str) ->
     Ok(rows)
 }
 
+// The new store of a server.
+fn tried(alloc: Global, server: u8, roster: &Roster) -> Result<Tried<MapStore>>
+    ensures stands { IfOk result (λ tried. Stands map_view roster.now tried) }
+{
+    let store = MapStore::new(alloc, ServerId(server), roster)?;
+    Ok(Tried::new(ServerId(server), roster, store))
+}
+
+// The new stores of the two servers of a roster.
+fn world(alloc: Global, roster: Roster) -> Result<World<MapStore>>
+    ensures stand { IfOk result (λ world. BothStand map_view world) }
+{
+    let one = tried(alloc, 1, &roster)?;
+    match tried(alloc, 2, &roster) {
+        Ok(two) => Ok(World::new(roster, one, two)),
+        Err(error) => {
+            drop(one);
+            Err(error)
+        }
+    }
+}
+
 // Judges lines on two new stores.
 fn judge_anew(rt: &(impl Print + AllocGlobal), lines: &str) -> Result<u64> {
-    let mut world = World::new(rt.alloc())?;
+    let mut world = world(rt.alloc(), roster(rt.alloc(), &CAPACITIES)?)?;
     let rows = judge_all(rt, &mut world, lines);
     drop(world);
     rows

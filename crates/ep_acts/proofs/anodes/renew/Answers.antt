@@ -1,6 +1,7 @@
-use Rattle.std.proofs.Common.{◌≡◌, ◌+◌, ℕ, List, Option, Some, sym, subst, ◌∙◌}
-use Rattle.std.specs.Prelude.{slice_get}
+use Rattle.std.proofs.Common.{◌≡◌, ◌+◌, ℕ, List, Option, Some, None, refl, sym, ap, subst, arith, ◌∙◌}
+use Rattle.std.specs.Prelude.{true, slice_get, is_none}
 use Rattle.dfs_objects.specs.declared.content.Anode.{Anode}
+use Rattle.dfs_objects.specs.declared.content.Object.{Object}
 use Rattle.ep_log.specs.Log.{disk_of, state_of}
 use Rattle.ep_objects.specs.Objects.{KeepsNow}
 use Rattle.ep_acts.specs.Anodes.{IsOne, renewed}
@@ -13,5 +14,18 @@ stays before after was is now b a same one = (λ i. renewed (sym a i) now) ∙ s
 pub returns-in-Some-Some-clause-kept : goal.returns-in-Some-Some-clause-kept
 returns-in-Some-Some-clause-kept g c = λ told slots held one.
     (let same = stays (slice_get c.args.before.now c.args.at) (slice_get c.args.after.now c.args.at) c.in-Some-Some.was.now c.in-Some-Some.is'.now _ c.in-Some-Some.ensures c.in-Some-Some.ensures' (c.same_anode.ensures c.if-same_anode.true) one in
+    subst (λ (s : ℕ → List Anode). KeepsNow s (state_of c.args.log.now) (g.D.Disk.view (disk_of c.args.log.now)).image)
+    (sym (anode_stays c.args.slot (c.args.at + 1) (renewed (slice_get c.args.after.now c.args.at)) slots same)) held)
+
+gone : (o : Option Object) → is_none o ≡ true → None ≡ o
+gone None e = refl
+gone (Some object) e = absurd (grind (arith, e))
+
+nothing : (before after : Option Anode) (now : Anode) → None ≡ before → None ≡ after → IsOne before now → renewed after now ≡ now
+nothing before after now b a free = (λ i. renewed (sym a i) now) ∙ ap (λ (o : Option Object). record now { object = o }) (gone now.object (subst (λ (o : Option Anode). IsOne o now) (sym b) free))
+
+pub returns-in-None-None-clause-kept : goal.returns-in-None-None-clause-kept
+returns-in-None-None-clause-kept g c = λ told slots held free.
+    (let same = nothing (slice_get c.args.before.now c.args.at) (slice_get c.args.after.now c.args.at) _ c.in-None-None.ensures c.in-None-None.ensures' free in
     subst (λ (s : ℕ → List Anode). KeepsNow s (state_of c.args.log.now) (g.D.Disk.view (disk_of c.args.log.now)).image)
     (sym (anode_stays c.args.slot (c.args.at + 1) (renewed (slice_get c.args.after.now c.args.at)) slots same)) held)

@@ -2,7 +2,6 @@ use Rattle.std.proofs.Common.{◌≡◌, ◌≤◌, ℕ, ◌+◌, ◌++◌, ◌�
 use Rattle.dfs_store.specs.MapStores.{kept_in}
 use Rattle.dfs_store.proofs.Batches.{dones_next}
 use Rattle.store_acts.specs.Acts.{act_done, dones_of}
-use Rattle.store_acts.specs.Sound.{Fits}
 use Rattle.store_state.specs.declared.state.StoreState.{StoreState}
 use Rattle.ep_log.specs.Contents.{contents_of, last_stage}
 use Rattle.ep_log.specs.Log.{disk_of, state_of}
@@ -13,7 +12,7 @@ use Rattle.ep_acts.specs.Records.{HasStage, HasTables}
 use Rattle.ep_acts.proofs.Outcomes.{keeps_tables}
 use Rattle.ep_batch.specs.Stored.{IsOwn}
 use Rattle.ep_batch.specs.Batch.{Goes}
-use Rattle.ep_batch.proofs.Batching.{act_is, counts_next, fits_at, goes_counted, next_of, own_next}
+use Rattle.ep_batch.proofs.Batching.{act_is, counts_next, goes_counted, next_of, own_next}
 use Rattle.ep_batch.proofs.Counts.{act_counted}
 use Rattle.ep_batch.proofs.Going.{goes_next, goes_failed}
 use Rattle.ep_batch.proofs.Settled.{goes_made, crash_made}
@@ -91,8 +90,9 @@ loop-act-preserved g c =
       tables = subst HasTables (sym c.in_ok-done.ensures.state) (keeps_tables now act inv.tables is);
       goes = goes_next g.D.Disk.tells g.D.Disk.view (c.args.log.now.kept.half.generation + 9) (kept_in c.args.store.now) c.args.batch.now i (g.D.Disk.view (disk_of c.args.log.now)) c.make_room.new.log c.do_one.new.log (act_blocks act) (act_done now act).state c.in_ok-done.done made.0 (omega (arith, lt)) fresh
           (sym c.in_ok-done.ensures.state ∙ next)
-          (λ told. own_next now act _ (subst (λ (s : StoreState). IsOwn s c.make_room.new.log.kept.superblock) (sym inv.state) (made.0.own told)) is
-          (subst (λ (s : StoreState). Fits s act) (sym inv.state) (fits_at acts i act start lt c.act-item.is (c.requires.fits told))))
+          (λ told.
+          (let own = subst (λ (s : StoreState). IsOwn s c.make_room.new.log.kept.superblock) (sym inv.state) (made.0.own told) in
+          own_next now (kept_in c.do_one.new.store) act _ own is c.in_ok-done.ensures.state (c.in_ok-done.ensures.storable own.storable)))
           c.in_ok-done.ensures.does;
       counts = counts_next i start now c.do_one.new.store.state act c.args.log.now c.loop-act.log c.make_room.new.log c.do_one.new.log inv.counts below same c.in_ok-done.ensures.state;
       room = λ told. (let free = c.in_ok-room-2.ensures.free told in let room = c.in_ok-done.ensures.does.room told in omega (arith, free, room));

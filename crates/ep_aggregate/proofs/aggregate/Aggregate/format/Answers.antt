@@ -1,4 +1,5 @@
 use Rattle.std.proofs.Common.{◌≡◌, ◌≤◌, ◌+◌, ℕ, refl, sym, subst, ◌∙◌, ap, arith}
+use Rattle.std.specs.Prelude.{true}
 use Rattle.dfs_outside.proofs.Runs.{weaker}
 use Rattle.dfs_outside.specs.Runs.{LeavesOnly}
 use Rattle.store_state.specs.Capacity.{capacity_of}
@@ -8,6 +9,7 @@ use Rattle.ep_log.specs.Log.{disk_of}
 use Rattle.ep_aggregate.specs.Records.{HasRecord, IsLeftOfFormat}
 use Rattle.ep_aggregate.specs.Stands.{StandsOn}
 use Rattle.ep_aggregate.proofs.Formatted.{formatted_stands, left_format, new_record}
+use Rattle.ep_aggregate.proofs.Mending.{stands_opened}
 use Rattle.ep_aggregate.proofs.aggregate.Aggregate.format.Goals as goal
 
 pub returns-in-Ok-format-clause-stands : goal.returns-in-Ok-format-clause-stands
@@ -51,3 +53,8 @@ returns-in-Err-format-clause-crash_err g c = λ told unset.
     let capacity : c.state.result.now.capacity ≡ capacity_of roster server = ap (λ (s : StoreState). s.capacity) (c.state.ensures.kept ∙ c.in-Ok.ensures) in
     let last : server.0 ≤ 4 = omega arith in
     weaker (c.in-Err-format.ensures.crash_err told unset) (left_format (superblock_of server.0 (c.state.result.now.capacity + 1024)) server (capacity_of roster server) roster refl (ap (λ (n : ℕ). n + 1024) capacity) c.requires.declared.first last c.requires.least))
+
+pub returns-in-Ok-format-clause-opened : goal.returns-in-Ok-format-clause-opened
+returns-in-Ok-format-clause-opened g c =
+    stands_opened g.D.Disk.tells g.D.Disk.view (record { log = c.in-Ok-format.log; store = c.in-Ok.store; wear = 0; is_open = true }) (returns-in-Ok-format-clause-stands g c) refl
+    (λ told. g.met.D.Disk.has_bytes (disk_of c.in-Ok-format.log) told)

@@ -1,4 +1,5 @@
 use Rattle.ep_aggregate.proofs.Leaving.{fresh_idle, judged_leaves}
+use Rattle.ep_aggregate.proofs.Mending.{opened_if}
 use Rattle.ep_aggregate.proofs.Mounted.{page}
 use Rattle.ep_aggregate.proofs.Mounting.{crash_err_if, crash_if, found_mounted, kept_if, record_err_if, record_if, stands_if, vain_record}
 use Rattle.ep_aggregate.proofs.aggregate.Aggregate.mount.Goals as goal
@@ -73,3 +74,6 @@ pub returns-in-Err-mount-clause-crash_err : goal.returns-in-Err-mount-clause-cra
 returns-in-Err-mount-clause-crash_err g c = λ told.
     (let view = g.D.Disk.view in
     judged_leaves (view c.args.disk) (view c.judge.new.disk) (view c.in-Err-mount.disk) c.args.roster.now c.args.server c.in_default.ensures.quiet (c.in-Err-mount.ensures.crash_err told))
+
+pub returns-in-Ok-clause-opened : goal.returns-in-Ok-clause-opened
+returns-in-Ok-clause-opened g c = opened_if g.D.Disk.tells g.D.Disk.view c.open.result (λ disk told. g.met.D.Disk.has_bytes disk told) (returns-in-Ok-clause-stands g c) c.open.ensures.wear

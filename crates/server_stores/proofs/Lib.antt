@@ -1,0 +1,5 @@
+pub mod Tried
+pub mod Blank
+pub mod Backing
+pub mod Limits
+pub mod Lists

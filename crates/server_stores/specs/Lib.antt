@@ -1,0 +1,4 @@
+pub mod View
+pub mod Opening
+pub mod Stores
+pub mod Steps

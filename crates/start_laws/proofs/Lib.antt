@@ -1,0 +1,12 @@
+pub mod Puts
+pub mod Slots
+pub mod Known
+pub mod Places
+pub mod Started
+pub mod Formed
+pub mod Turned
+pub mod Settling
+pub mod Kept
+pub mod Blank
+pub mod Booting
+pub mod Tied

@@ -1,0 +1,4 @@
+pub mod Starts
+pub mod Settles
+pub mod Kept
+pub mod Boots

@@ -1,0 +1,5 @@
+pub mod Tables
+pub mod Grown
+pub mod Numbered
+pub mod Again
+pub mod Tries

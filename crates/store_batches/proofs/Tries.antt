@@ -1,0 +1,106 @@
+-- What a batch leaves that is tried twice, and what batches leave one after the other.
+use Rattle.std.proofs.Common.{◌≡◌, ◌≤◌, ℕ, zero, suc, ◌+◌, ◌-◌, List, [], ◌∷◌, length, take, drop, max, min, refl, sym, subst, ◌∙◌, ap, arith}
+use Rattle.std.proofs.lemmas.List.{length-take, length-drop, take_min}
+use Rattle.rpc_types.specs.Soundness.{Each}
+use Rattle.store_acts.specs.Acts.{act_done, state_after}
+use Rattle.store_acts.specs.Sound.{AllFit, Fits}
+use Rattle.store_acts.specs.declared.act.Act.{Act}
+use Rattle.store_acts.specs.declared.act.Act.TheVariants.{Boot, Epoch, Host, Do, Refuse, Give, Leave, Back, Left, Settle, Part}
+use Rattle.store_state.specs.declared.state.StoreState.{StoreState}
+use Rattle.store_batches.specs.Again.{IsNumbered, AreNew}
+use Rattle.store_batches.proofs.Again.{again_changes_nothing, again_adds_nothing, new_take, new_drop, take_within}
+
+-- whether an act under a number fits hangs on no record
+fits_anywhere : (act : Act) (s t : StoreState) → IsNumbered act → Fits s act → Fits t act
+fits_anywhere (Do host number call) s t n f = f
+fits_anywhere (Refuse host id number refusal) s t n f = f
+fits_anywhere (Give host number fid pieces given) s t n f = f
+fits_anywhere Boot s t n f = absurd n
+fits_anywhere Epoch s t n f = absurd n
+fits_anywhere (Host host known) s t n f = absurd n
+fits_anywhere (Leave id to) s t n f = absurd n
+fits_anywhere (Back host number id refusal) s t n f = absurd n
+fits_anywhere (Left id) s t n f = absurd n
+fits_anywhere (Settle id) s t n f = absurd n
+fits_anywhere (Part from ship id moves at part) s t n f = absurd n
+
+pub all_fit : (acts : List Act) (s t : StoreState) → Each IsNumbered acts → AllFit s acts → AllFit t acts
+all_fit [] s t n f = tt
+all_fit (act ∷ acts) s t n f =
+    (fits_anywhere act s t n.0 f.0, all_fit acts (act_done s act).state (act_done t act).state n.1 f.1)
+
+fit_take : (k : ℕ) (acts : List Act) (s : StoreState) → AllFit s acts → AllFit s (take k acts)
+fit_take zero acts s f = tt
+fit_take (suc k) [] s f = tt
+fit_take (suc k) (act ∷ acts) s f = (f.0, fit_take k acts (act_done s act).state f.1)
+
+fit_drop : (k : ℕ) (acts : List Act) (s : StoreState) → AllFit s acts → AllFit (state_after s (take k acts)) (drop k acts)
+fit_drop zero acts s f = f
+fit_drop (suc k) [] s f = tt
+fit_drop (suc k) (act ∷ acts) s f = fit_drop k acts (act_done s act).state f.1
+
+-- the second try
+pub tried_twice : (start after opened end : StoreState) (batch : List Act) (k : ℕ) → AreNew start batch → after ≡ state_after start (take k batch) → opened ≡ after
+    → end ≡ state_after opened batch → end ≡ state_after start batch
+tried_twice start after opened end batch k h first same second =
+    second ∙ ap (λ s. state_after s batch) (same ∙ first) ∙ again_changes_nothing start batch h k
+
+-- and what it leaves where it fails
+pub failed_twice : (start after opened end : StoreState) (batch : List Act) (k j : ℕ) → AreNew start batch → k ≤ length batch → j ≤ length batch
+    → after ≡ state_after start (take k batch) → opened ≡ after → end ≡ state_after opened (take j batch)
+    → (m : ℕ) × (m ≤ length batch) × (end ≡ state_after start (take m batch))
+failed_twice start after opened end batch k j h low short first same second =
+    (max k j, omega (arith, low, short), second ∙ ap (λ s. state_after s (take j batch)) (same ∙ first) ∙ again_adds_nothing start batch h k j)
+
+-- one batch more
+after_more : (n m : ℕ) (acts : List Act) (s : StoreState) → state_after (state_after s (take n acts)) (take m (drop n acts)) ≡ state_after s (take (n + m) acts)
+after_more zero m acts s = let e : zero + m ≡ m = omega arith in rw e refl
+after_more (suc n) zero [] s = let e : suc n + zero ≡ suc n = omega arith in rw e refl
+after_more (suc n) (suc m) [] s = let e : suc n + suc m ≡ suc (suc (n + m)) = omega arith in rw e refl
+after_more (suc n) m (act ∷ acts) s = let e : suc n + m ≡ suc (n + m) = omega arith in rw e (after_more n m acts (act_done s act).state)
+
+-- a batch of many acts
+abbrev pub batch_in : List Act → ℕ → ℕ → List Act
+batch_in acts from to = take (to - from) (drop from acts)
+
+-- it fits, and is new
+pub batch_new : (start now : StoreState) (acts : List Act) (from to : ℕ) → now ≡ state_after start (take from acts) → AreNew start acts → AreNew now (batch_in acts from to)
+batch_new start now acts from to e h =
+    subst (λ s. AreNew s (batch_in acts from to)) (sym e) (new_take (to - from) (drop from acts) (state_after start (take from acts)) (new_drop from acts start h))
+
+pub batch_fits : (start now : StoreState) (acts : List Act) (from to : ℕ) → now ≡ state_after start (take from acts) → AllFit start acts → AllFit now (batch_in acts from to)
+batch_fits start now acts from to e f =
+    subst (λ s. AllFit s (batch_in acts from to)) (sym e) (fit_take (to - from) (drop from acts) (state_after start (take from acts)) (fit_drop from acts start f))
+
+-- what it leaves
+pub batch_after : (start now next : StoreState) (acts : List Act) (from to : ℕ) → from ≤ to → now ≡ state_after start (take from acts) → next ≡ state_after now (batch_in acts from to)
+    → next ≡ state_after start (take to acts)
+batch_after start now next acts from to low e s =
+    let sum : from + (to - from) ≡ to = omega (arith, low) in
+    s ∙ ap (λ x. state_after x (batch_in acts from to)) e ∙ after_more from (to - from) acts start ∙ ap (λ n. state_after start (take n acts)) sum
+
+-- and where it fails
+pub batch_failed : (start now next : StoreState) (acts : List Act) (from to j : ℕ) → from ≤ length acts → now ≡ state_after start (take from acts)
+    → j ≤ length (batch_in acts from to) → next ≡ state_after now (take j (batch_in acts from to))
+    → (k : ℕ) × (k ≤ length acts) × (next ≡ state_after start (take k acts))
+batch_failed start now next acts from to j low e short s =
+    let size = length-take (to - from) (drop from acts) in
+    let left = length-drop from acts in
+    let part : take j (batch_in acts from to) ≡ take j (drop from acts) = take_within j (to - from) (drop from acts) (omega (arith, size, short)) in (
+      from + j,
+      omega (arith, size, left, low, short),
+      s ∙ ap (state_after now) part ∙ ap (λ x. state_after x (take j (drop from acts))) e ∙ after_more from j acts start,
+    )
+
+-- all of them
+pub take_all : (n : ℕ) (acts : List Act) → length acts ≤ n → take n acts ≡ acts
+take_all zero [] h = refl
+take_all zero (act ∷ acts) h = absurd (omega (arith, h))
+take_all (suc n) [] h = refl
+take_all (suc n) (act ∷ acts) h = ap (λ xs. act ∷ xs) (take_all n acts (omega (arith, h)))
+
+-- a batch that ends with the acts
+pub take_to : (acts : List Act) (to end : ℕ) → to ≡ min (length acts) end → take to acts ≡ take end acts
+take_to acts to end e =
+    let swapped : to ≡ min end (length acts) = omega (arith, e) in
+    ap (λ n. take n acts) swapped ∙ take_min end acts

@@ -1,0 +1,12 @@
+pub mod Keys
+pub mod Slots
+pub mod Called
+pub mod Idle
+pub mod Steps
+pub mod Rows
+pub mod Exact
+pub mod Founds
+pub mod Gives
+pub mod Moved
+pub mod Moves
+pub mod Arrives
