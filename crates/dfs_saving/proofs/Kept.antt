@@ -248,7 +248,7 @@ kept_row test kept fileset in_use host user (Sync place) k h = kept_sync test ke
 kept_row test kept fileset in_use host user _ k h = h
 
 -- the fileset that decides a write is the one that is named
-place_is : {X : Type 0} (p : X → Bool) (xs : List X) (i : ℕ) (x : X) → found_or (position p xs) NoFileset ≡ Ok i → Some x ≡ slice_get xs i → find p xs ≡ Some x
+pub place_is : {X : Type 0} (p : X → Bool) (xs : List X) (i : ℕ) (x : X) → found_or (position p xs) NoFileset ≡ Ok i → Some x ≡ slice_get xs i → find p xs ≡ Some x
 place_is p xs i x =
     elim (nat_lt (prefix_len (λ x. not (p x)) xs) (length xs)) as (λ t. found_or (cond t (Some (prefix_len (λ x. not (p x)) xs)) None) NoFileset ≡ Ok i → Some x ≡ slice_get xs i → find p xs ≡ Some x) [
       | true ↦ λ h there. let same : prefix_len (λ x. not (p x)) xs ≡ i = ok_is _ i h in place_found p xs ∙ ap (λ n. slice_get xs n) same ∙ sym there

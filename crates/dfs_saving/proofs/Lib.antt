@@ -3,7 +3,6 @@ pub mod Contents
 pub mod Kept
 pub mod Apart
 pub mod Stored
-pub mod Owed
 pub mod Histories
 pub mod Between
 pub mod Reached

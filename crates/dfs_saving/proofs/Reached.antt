@@ -1,21 +1,16 @@
 -- What is reached where a host stores all, where others store, and where a host is down.
-use Rattle.std.proofs.Common.{◌≡◌, ◌≢◌, ℕ, zero, suc, ◌+◌, ◌-◌, ◌<◌, ◌==◌, nat_lt, Bool, true, false, ◌||◌, not, cond, List, [], ◌∷◌, ◌++◌, length, get_or, Option, Some, None, refl, sym, ap, ◌∙◌, subst, arith, rules}
+use Rattle.std.proofs.Common.{◌≡◌, ◌≢◌, ℕ, zero, suc, ◌+◌, ◌-◌, ◌<◌, ◌==◌, nat_lt, Bool, true, false, not, cond, List, [], ◌∷◌, ◌++◌, length, get_or, Option, Some, None, refl, sym, ap, ◌∙◌, subst, arith, rules}
 use Rattle.std.specs.Prelude.{slice_get, flat_map, if◌then◌else◌}
-use Rattle.std.specs.List.{find, list_any, list_all, prefix_len}
+use Rattle.std.specs.List.{find, list_all, prefix_len}
 use Rattle.std.specs.Option.{option_map, option_map_or, option_and_then}
 use Rattle.std.proofs.lemmas.Grind.{common_steps}
 use Rattle.dfs_base.specs.Lists.{changed_at}
-use Rattle.dfs_base.specs.Outcomes.{either}
 use Rattle.dfs_base.specs.declared.ids.HostId.{HostId}
 use Rattle.dfs_base.specs.declared.ids.FilesetId.{FilesetId}
-use Rattle.dfs_base.specs.declared.ids.ServerId.{ServerId}
 use Rattle.dfs_base.specs.declared.ids.Fid.{Fid}
 use Rattle.dfs_calls.specs.declared.entry.Entry.{Entry}
 use Rattle.dfs_calls.specs.declared.entry.Entry.TheVariants.{Stored, Down, Left}
-use Rattle.dfs_calls.specs.declared.place.Place.{Place}
-use Rattle.dfs_calls.specs.declared.reply.Refusal.TheVariants.{NoFileset}
 use Rattle.dfs_objects.specs.declared.content.Content.{Content}
-use Rattle.dfs_objects.specs.declared.content.Content.TheVariants.{Dir, File}
 use Rattle.dfs_objects.specs.declared.content.Object.{Object}
 use Rattle.dfs_objects.specs.declared.content.Anode.{Anode}
 use Rattle.dfs_objects.specs.Changes.{anode_changed, content_changed}
@@ -23,35 +18,29 @@ use Rattle.dfs_objects.specs.Losses.{own_spans}
 use Rattle.dfs_objects.specs.Stores.{content_stored, own_length_of, is_storable}
 use Rattle.dfs_objects.proofs.Observed.{and_left, and_right}
 use Rattle.dfs_objects.proofs.Rising.{and_both, all_append, all_implied}
-use Rattle.dfs_objects.proofs.StaysSound.{sound_storable}
 use Rattle.dfs_filesets.specs.declared.fileset.Fileset.{Fileset}
 use Rattle.dfs_filesets.specs.Updates.{updated, changed}
 use Rattle.dfs_filesets.specs.Walk.{object_at, unique_at}
-use Rattle.dfs_filesets.specs.WellFormed.{entry_in, entry_at, leads, IsWellFormed as IsWellFormedFileset}
-use Rattle.dfs_filesets.proofs.Alike.{IsAlike, AreAlike, alike_changed}
-use Rattle.dfs_filesets.proofs.Leads.{some_then, leads_more}
-use Rattle.dfs_filesets.proofs.Observations.{object_from, object_not_zero, object_changed_to}
-use Rattle.dfs_filesets.proofs.StaysWellFormed.{stored_entries}
+use Rattle.dfs_filesets.specs.WellFormed.{IsWellFormed as IsWellFormedFileset}
+use Rattle.dfs_filesets.proofs.Leads.{some_then}
+use Rattle.dfs_filesets.proofs.Observations.{object_from, object_not_zero}
 use Rattle.dfs_tree.specs.declared.tree.Tree.{Tree}
-use Rattle.dfs_tree.specs.Finding.{is_named, is_here, has_this_id, leads_to as finds, has_id, found_or, fileset_named}
-use Rattle.dfs_tree.specs.Away.{away_id}
+use Rattle.dfs_tree.specs.Finding.{has_id}
 use Rattle.dfs_tree.specs.Histories.{IsLegal, after_entry, IsHistory, after_history}
 use Rattle.dfs_tree.specs.Stores.{content_in, stored_tree}
 use Rattle.dfs_tree.specs.WellFormed.{ids_rise, AreWellFormed, IsWellFormed}
-use Rattle.dfs_tree.proofs.Followed.{same_fid_itself}
 use Rattle.dfs_tree.proofs.Inserted.{position_or_end}
-use Rattle.dfs_tree.proofs.Places.{find_all, get_all, found_passes}
-use Rattle.dfs_saving.specs.Unsaved.{anode_content, fileset_contents, all_contents, has_saved, is_only_by, writer_of, is_by_one, content_led_to, content_named, is_alone_at}
-use Rattle.dfs_saving.specs.Stores.{store_of, own_store, others_store, listed, anode_store, anodes_stores, fileset_stores, own_stores, others_store_in, others_store_at}
-use Rattle.dfs_saving.specs.Saving.{is_store_of, StoreOnlyUnsaved, fid_named, is_store_at, StoresAll, StoresOthers}
-use Rattle.dfs_saving.proofs.Between.{all_between, get_between, changed_between, first_found, first_changed, found_between, one_more, length_more}
+use Rattle.dfs_tree.proofs.Places.{get_all}
+use Rattle.dfs_saving.specs.Unsaved.{anode_content, fileset_contents, all_contents, has_saved, is_only_by, writer_of, is_by_one}
+use Rattle.dfs_saving.specs.Stores.{store_of, own_store, listed, anode_store, anodes_stores, fileset_stores, own_stores}
+use Rattle.dfs_saving.specs.Saving.{is_store_of, StoresAll}
+use Rattle.dfs_saving.proofs.Between.{all_between, get_between, changed_between, first_found, first_changed, one_more, length_more}
 use Rattle.dfs_saving.proofs.Contents.{same_host, writer_only, only_other, none_saved}
 use Rattle.dfs_saving.proofs.Histories.{is_no_call, history_append, after_append, leads_to}
 use Rattle.dfs_saving.proofs.Stored.{all_kept, may_store_own, stores_something}
-use Rattle.dfs_saving.proofs.Owed.{writer_else, owed_own}
 
 -- the content of an object that is there
-contents_at : (test : Content → Bool) (anodes : List Anode) (at : ℕ) (object : Object) → list_all (anode_content test) anodes ≡ true → object_at anodes at ≡ Some object → test object.content ≡ true
+pub contents_at : (test : Content → Bool) (anodes : List Anode) (at : ℕ) (object : Object) → list_all (anode_content test) anodes ≡ true → object_at anodes at ≡ Some object → test object.content ≡ true
 contents_at test anodes at object h there =
     let from = object_from anodes at (object_not_zero anodes at object there) in
     let (a, got, its) = some_then (slice_get anodes (at - 1)) (λ a. a.object) object (sym from ∙ there) in
@@ -307,160 +296,9 @@ stores_all host before entries after e f w one =
     = all_flat (is_store_of (λ other. other.0 == host.0)) (fileset_stores host) (λ fileset. own_are_stores host fileset.id 1 fileset.anodes) before.filesets in
     let quiet = all_implied (is_store_of (λ other. other.0 == host.0)) is_no_call (store_no_call (λ other. other.0 == host.0)) all stores in
     let whole : StoresAll host before all (after_history before all) = record {
+      all = refl;
       leads = leads_to before all quiet w one saves.legal;
       stores = stores;
-      owed = owed_own host before;
       saved = subst (λ fs. list_all (fileset_contents (has_saved host)) fs ≡ true) (sym saves.left) saves.saved;
     } in
     subst (λ t. StoresAll host before entries t) (sym f) (subst (λ es. StoresAll host before es (after_history before es)) (sym e) whole)
-
--- nothing unsaved is only any host's
-none_only : (host : HostId) (content : Content) → writer_of content ≡ None → is_only_by host content ≡ true
-none_only host (Dir entries lists) h = refl
-none_only host (File list kept [] None) h = refl
-none_only host (File list kept [] (Some u)) h = absurd (search (rules, h))
-none_only host (File list kept (byte ∷ bytes) len) h = absurd (search (rules, h))
-
--- other hosts store
-pub record OthersSave (host : HostId) (place : Place) (tree : Tree) (entry : Option Entry) : Type 0 where
-  pub legal : IsHistory tree (listed entry)
-  pub stores : list_all (is_store_of (λ other. not (other.0 == host.0))) (listed entry) ≡ true
-  pub owed : StoreOnlyUnsaved tree (listed entry)
-  pub there : list_all (is_store_at (fid_named tree place)) (listed entry) ≡ true
-  pub alone : is_alone_at host (after_history tree (listed entry)) place ≡ true
-
--- where the entries stay, names lead as before
-same_entry : (old new : Fileset) → AreAlike old new → (at : ℕ) (name : List ℕ) → entry_at new.anodes at name ≡ entry_at old.anodes at name
-same_entry old new alike at name = same (object_at old.anodes at) (object_at new.anodes at) (alike.each at)
-  where
-    same : (a b : Option Object) → IsAlike a b → option_and_then (λ object. entry_in object.content name) b ≡ option_and_then (λ object. entry_in object.content name) a
-    same None None h = refl
-    same None (Some b) h = absurd h
-    same (Some a) None h = absurd h
-    same (Some a) (Some b) h = h.0.entries name
-
-changed_id : (o : Option FilesetId) (fileset : Fileset) (at : ℕ) (change : Content → Content) → has_this_id o (changed fileset at change) ≡ has_this_id o fileset
-unfolding updated
-changed_id None fileset at change = refl
-changed_id (Some id) fileset at change = refl
-
-changed_name : (server : ServerId) (name : List ℕ) (fileset : Fileset) (at : ℕ) (change : Content → Content) → is_named server name (changed fileset at change) ≡ is_named server name fileset
-unfolding updated
-changed_name server name fileset at change = refl
-
-changed_named : (tree : Tree) (place : Place) (fileset : Fileset) (at : ℕ) (change : Content → Content) → finds tree place.server place.fileset (changed fileset at change) ≡ finds tree place.server place.fileset fileset
-changed_named tree place fileset at change = by_name (is_here tree.filesets place.server place.fileset)
-  where
-    by_name : (b : Bool) → cond b (is_named place.server place.fileset) (has_this_id (away_id tree.away place.server place.fileset)) (changed fileset at change)
-        ≡ cond b (is_named place.server place.fileset) (has_this_id (away_id tree.away place.server place.fileset)) fileset
-    by_name true = changed_name place.server place.fileset fileset at change
-    by_name false = changed_id (away_id tree.away place.server place.fileset) fileset at change
-
--- a name leads to the same fileset after a store
-any_append : {X : Type 0} (p : X → Bool) (before : List X) (old new : X) (after : List X) → p new ≡ p old → list_any p (before ++ new ∷ after) ≡ list_any p (before ++ old ∷ after)
-any_append p [] old new after h = ap (λ t. t || list_any p after) h
-any_append p (x ∷ before) old new after h = ap (λ t. p x || t) (any_append p before old new after h)
-
-stored_away : (tree : Tree) (writer : HostId) (fid : Fid) (content : Content) → (after_entry tree (store_of writer fid content)).away ≡ tree.away
-unfolding stored_tree
-stored_away tree writer fid content = refl
-
-finds_same : (old new : Tree) (place : Place) → new.away ≡ old.away → is_here new.filesets place.server place.fileset ≡ is_here old.filesets place.server place.fileset → finds new place.server place.fileset ≡ finds old place.server place.fileset
-finds_same old new place a h =
-    ap (λ t. cond t (is_named place.server place.fileset) (has_this_id (away_id new.away place.server place.fileset))) h
-    ∙ ap (λ records. cond (is_here old.filesets place.server place.fileset) (is_named place.server place.fileset) (has_this_id (away_id records place.server place.fileset))) a
-
--- the fid of an anode
-abbrev fid_in : Fileset → ℕ → Fid
-fid_in fileset at = record { fileset = fileset.id; anode = at; unique = unique_at fileset.anodes at }
-
-others_take : (host : HostId) (place : Place) (tree : Tree) → IsWellFormed tree → all_contents is_by_one tree ≡ true → (fileset : Fileset) → find (finds tree place.server place.fileset) tree.filesets ≡ Some fileset →
-    (at : ℕ) → leads fileset.anodes 1 place.path ≡ Some at → (object : Object) → object_at fileset.anodes at ≡ Some object → (writer : HostId) → writer_of object.content ≡ Some writer → (writer.0 == host.0) ≡ false →
-    OthersSave host place tree (Some (store_of writer (record { fileset = fileset.id; anode = at; unique = unique_at fileset.anodes at }) object.content))
-unfolding fileset_named
-others_take host place tree w one fileset found at way object there writer f other =
-    let p : Fileset → Bool = finds tree place.server place.fileset in
-    let stands = found_between p tree.filesets fileset found in
-    let change : Content → Content = all_stored writer object in
-    let new : Fileset = changed fileset at change in
-    let writes : Writes tree stands.before fileset stands.after at object writer = record { formed = w; apart = one; whole = stands.whole; there = there; writer = f } in
-    let sound = (writes_formed tree stands.before fileset stands.after at object writer writes).sound at object there in
-    let may = may_store_own writer object.content f sound (writes_only tree stands.before fileset stands.after at object writer writes) in
-    let alike = alike_changed fileset at object change there (object_not_zero fileset.anodes at object there) (stored_entries writer (own_spans writer object.content) (own_length_of writer object.content) object.content)
-    (λ s. sound_storable writer (own_spans writer object.content) (own_length_of writer object.content) object.content may s) in
-    let leads_there : leads new.anodes 1 place.path ≡ Some at = leads_more fileset.anodes new.anodes (λ b name entry k. same_entry fileset new alike b name ∙ k) place.path 1 at way in
-    let fid : Fid = record { fileset = fileset.id; anode = at; unique = unique_at fileset.anodes at } in
-    let its : fid_named tree place ≡ Some fid
-    = ap (λ o. either (found_or o NoFileset) (λ f. option_map (λ n. fid_in f n) (leads f.anodes 1 place.path)) (λ refusal. None)) found ∙ ap (λ o. option_map (λ n. fid_in fileset n) o) way in
-    let after : Tree = after_entry tree (store_of writer fid object.content) in
-    let left : after.filesets ≡ stands.before ++ new ∷ stands.after = store_leaves tree stands.before fileset stands.after at object writer writes (unique_at fileset.anodes at) in
-    let found_after : find p after.filesets ≡ Some new = ap (find p) left ∙ first_found p stands.before new stands.after stands.none (changed_named tree place fileset at change ∙ found_passes p tree.filesets fileset found) in
-    let here : is_here after.filesets place.server place.fileset ≡ is_here tree.filesets place.server place.fileset
-    = ap (list_any (is_named place.server place.fileset)) left
-    ∙ any_append (is_named place.server place.fileset) stands.before fileset new stands.after (changed_name place.server place.fileset fileset at change)
-    ∙ ap (list_any (is_named place.server place.fileset)) (sym stands.whole) in
-    let finds_after : find (finds after place.server place.fileset) after.filesets ≡ Some new
-    = ap (λ q. find q after.filesets) (finds_same tree after place (stored_away tree writer fid object.content) here) ∙ found_after in
-    let named : content_named after place ≡ Some (change object.content)
-    = ap (λ o. either (found_or o NoFileset) (λ f. content_led_to f place.path) (λ refusal. None)) finds_after
-    ∙ ap (λ o. option_and_then (λ anode. option_map (λ object. object.content) (object_at new.anodes anode)) o) leads_there
-    ∙ ap (λ o. option_map (λ object. object.content) o) (object_changed_to fileset at change object there) in
-    record {
-      legal = (store_legal tree stands.before fileset stands.after at object writer writes (unique_at fileset.anodes at) refl, tt);
-      stores = and_both _ _ (and_both _ _ (ap not other) (stores_something writer object.content f)) refl;
-      owed = λ caller s.
-          let its : fileset_contents (has_saved caller) fileset ≡ true = find_all p (fileset_contents (has_saved caller)) tree.filesets fileset found s in
-          ap (λ t. t || false) (writer_else caller writer object.content f (contents_at (has_saved caller) fileset.anodes at object its there));
-      there = ap (λ o. list_all (is_store_at o) (store_of writer fid object.content ∷ [])) its ∙ and_both _ _ (same_fid_itself fid) refl;
-      alone = ap (λ o. option_map_or (is_only_by host) o true) named ∙ (store_settles tree stands.before fileset stands.after at object writer writes host).1;
-    }
-
-others_save : (host : HostId) (place : Place) (tree : Tree) → IsWellFormed tree → all_contents is_by_one tree ≡ true → OthersSave host place tree (others_store_at host place tree)
-unfolding fileset_named
-others_save host place tree w one = by_fileset (find (finds tree place.server place.fileset) tree.filesets) refl
-  where
-    nothing : (named : Option Content) → content_named tree place ≡ named → option_map_or (is_only_by host) named true ≡ true → OthersSave host place tree None
-    nothing named e h = record { legal = tt; stores = refl; owed = λ caller s. refl; there = refl; alone = ap (λ o. option_map_or (is_only_by host) o true) e ∙ h }
-
-    led : (fileset : Fileset) → find (finds tree place.server place.fileset) tree.filesets ≡ Some fileset → content_named tree place ≡ content_led_to fileset place.path
-    led fileset e = ap (λ o. either (found_or o NoFileset) (λ f. content_led_to f place.path) (λ refusal. None)) e
-
-    at_anode : (fileset : Fileset) → find (finds tree place.server place.fileset) tree.filesets ≡ Some fileset → (at : ℕ) → leads fileset.anodes 1 place.path ≡ Some at → content_named tree place ≡ option_map (λ object. object.content) (object_at fileset.anodes at)
-    at_anode fileset e at f = led fileset e ∙ ap (λ o. option_and_then (λ anode. option_map (λ object. object.content) (object_at fileset.anodes anode)) o) f
-
-    by_writer : (fileset : Fileset) → find (finds tree place.server place.fileset) tree.filesets ≡ Some fileset → (at : ℕ) → leads fileset.anodes 1 place.path ≡ Some at → (object : Object) → object_at fileset.anodes at ≡ Some object →
-        (writer : Option HostId) → writer_of object.content ≡ writer →
-        OthersSave host place tree (option_and_then (λ w. if w.0 == host.0 then None else Some (store_of w (record { fileset = fileset.id; anode = at; unique = unique_at fileset.anodes at }) object.content)) writer)
-    by_writer fileset e at f object g None m = nothing (Some object.content) (at_anode fileset e at f ∙ ap (λ o. option_map (λ object. object.content) o) g) (none_only host object.content m)
-    by_writer fileset e at f object g (Some writer) m =
-        elim (writer.0 == host.0) as (λ t. (writer.0 == host.0) ≡ t →
-        OthersSave host place tree (if t then None else Some (store_of writer (record { fileset = fileset.id; anode = at; unique = unique_at fileset.anodes at }) object.content))) [
-          | true ↦ λ same.
-              let its : fileset_contents is_by_one fileset ≡ true = find_all (finds tree place.server place.fileset) (fileset_contents is_by_one) tree.filesets fileset e one in
-              let only : is_only_by host object.content ≡ true = writer_only host object.content (m ∙ ap Some (same_host writer host same)) (contents_at is_by_one fileset.anodes at object its g) in
-              nothing (Some object.content) (at_anode fileset e at f ∙ ap (λ o. option_map (λ object. object.content) o) g) only
-          | false ↦ λ other. others_take host place tree w one fileset e at f object g writer m other
-        ] refl
-
-    by_object : (fileset : Fileset) → find (finds tree place.server place.fileset) tree.filesets ≡ Some fileset → (at : ℕ) → leads fileset.anodes 1 place.path ≡ Some at → (o : Option Object) → object_at fileset.anodes at ≡ o →
-        OthersSave host place tree (option_and_then (others_store host (record { fileset = fileset.id; anode = at; unique = unique_at fileset.anodes at })) o)
-    by_object fileset e at f None g = nothing None (at_anode fileset e at f ∙ ap (λ o. option_map (λ object. object.content) o) g) refl
-    by_object fileset e at f (Some object) g = by_writer fileset e at f object g (writer_of object.content) refl
-
-    by_anode : (fileset : Fileset) → find (finds tree place.server place.fileset) tree.filesets ≡ Some fileset → (o : Option ℕ) → leads fileset.anodes 1 place.path ≡ o →
-        OthersSave host place tree (option_and_then (λ at. option_and_then (others_store host (record { fileset = fileset.id; anode = at; unique = unique_at fileset.anodes at })) (object_at fileset.anodes at)) o)
-    by_anode fileset e None f = nothing None (led fileset e ∙ ap (λ o. option_and_then (λ anode. option_map (λ object. object.content) (object_at fileset.anodes anode)) o) f) refl
-    by_anode fileset e (Some at) f = by_object fileset e at f (object_at fileset.anodes at) refl
-
-    by_fileset : (o : Option Fileset) → find (finds tree place.server place.fileset) tree.filesets ≡ o → OthersSave host place tree (either (found_or o NoFileset) (others_store_in host place.path) (λ refusal. None))
-    by_fileset None e = nothing None (ap (λ o. either (found_or o NoFileset) (λ f. content_led_to f place.path) (λ refusal. None)) e) refl
-    by_fileset (Some fileset) e = by_anode fileset e (leads fileset.anodes 1 place.path) refl
-
-pub stores_others : (host : HostId) (place : Place) (before : Tree) (entries : List Entry) (after : Tree) → entries ≡ listed (others_store_at host place before) → after ≡ after_history before entries → IsWellFormed before → all_contents is_by_one before ≡ true →
-    StoresOthers host place before entries after
-stores_others host place before entries after e f w one =
-    let all : List Entry = listed (others_store_at host place before) in
-    let saves = others_save host place before w one in
-    let quiet = all_implied (is_store_of (λ other. not (other.0 == host.0))) is_no_call (store_no_call (λ other. not (other.0 == host.0))) all saves.stores in
-    let whole : StoresOthers host place before all (after_history before all) = record { leads = leads_to before all quiet w one saves.legal; stores = saves.stores; owed = saves.owed; there = saves.there; alone = saves.alone } in
-    subst (λ t. StoresOthers host place before entries t) (sym f) (subst (λ es. StoresOthers host place before es (after_history before es)) (sym e) whole)

@@ -6,7 +6,6 @@ use Rattle.std.specs.Prelude.{
   suc,
   ◌+◌,
   ◌==◌,
-  not,
   Bool,
   true,
   false,
@@ -21,7 +20,7 @@ use Rattle.std.specs.Prelude.{
   Some,
   None,
 }
-use Rattle.std.specs.List.{list_all, list_any}
+use Rattle.std.specs.List.{list_all}
 use Rattle.std.specs.Option.{option_map}
 use Rattle.dfs_base.specs.Ids.{same_fid}
 use Rattle.dfs_base.specs.Outcomes.{either}
@@ -37,7 +36,8 @@ use Rattle.dfs_tree.specs.declared.tree.Tree.{Tree}
 use Rattle.dfs_tree.specs.Finding.{fileset_named}
 use Rattle.dfs_tree.specs.Histories.{IsHistory, after_history}
 use Rattle.dfs_tree.specs.WellFormed.{IsWellFormed}
-use Rattle.dfs_saving.specs.Unsaved.{all_contents, has_saved, is_by_one, is_alone_at}
+use Rattle.dfs_saving.specs.Unsaved.{all_contents, has_saved, is_by_one}
+use Rattle.dfs_saving.specs.Stores.{own_stores}
 
 -- whether there are any spans
 abbrev pub has_spans : List Span → Bool
@@ -53,11 +53,6 @@ is_store_of test _ = false
 abbrev pub is_store_by : HostId → Entry → Bool
 is_store_by host (Stored by fid spans len) = by.0 == host.0
 is_store_by host _ = false
-
--- a host that has saved all stores nothing
-abbrev pub StoreOnlyUnsaved : Tree → List Entry → Type 0
-StoreOnlyUnsaved before entries =
-    (host : HostId) → all_contents (has_saved host) before ≡ true → list_any (is_store_by host) entries ≡ false
 
 -- the fid of the object to which the path of a place leads, whoever asks
 abbrev pub fid_named : Tree → Place → Option Fid
@@ -88,21 +83,12 @@ pub record LeadsTo (before : Tree) (entries : List Entry) (after : Tree) : Type 
   pub apart : all_contents is_by_one after ≡ true
   pub saved : (host : HostId) → all_contents (has_saved host) before ≡ true → all_contents (has_saved host) after ≡ true
 
--- a host stores all that it has unsaved
+-- a host stores all that it has unsaved, file by file
 pub record StoresAll (host : HostId) (before : Tree) (entries : List Entry) (after : Tree) : Type 0 where
+  pub all : entries ≡ own_stores host before
   pub leads : LeadsTo before entries after
   pub stores : list_all (is_store_of (λ other. other.0 == host.0)) entries ≡ true
-  pub owed : StoreOnlyUnsaved before entries
   pub saved : all_contents (has_saved host) after ≡ true
-
--- other hosts store what they have unsaved of the file that a place names
-pub record StoresOthers (host : HostId)
-    (place : Place) (before : Tree) (entries : List Entry) (after : Tree) : Type 0 where
-  pub leads : LeadsTo before entries after
-  pub stores : list_all (is_store_of (λ other. not (other.0 == host.0))) entries ≡ true
-  pub owed : StoreOnlyUnsaved before entries
-  pub there : list_all (is_store_at (fid_named before place)) entries ≡ true
-  pub alone : is_alone_at host after place ≡ true
 
 -- a host is down at every server: what it hadn't stored is lost
 pub record DownsAll (host : HostId) (before : Tree) (entries : List Entry) (after : Tree) : Type 0 where

@@ -16,23 +16,18 @@ use Rattle.std.specs.Prelude.{
   option_and_then,
 }
 use Rattle.std.specs.Option.{option_map_or}
-use Rattle.dfs_base.specs.Outcomes.{either}
 use Rattle.dfs_base.specs.declared.ids.HostId.{HostId}
 use Rattle.dfs_base.specs.declared.ids.FilesetId.{FilesetId}
 use Rattle.dfs_base.specs.declared.ids.Fid.{Fid}
 use Rattle.dfs_calls.specs.declared.entry.Entry.{Entry}
 use Rattle.dfs_calls.specs.declared.entry.Entry.TheVariants.{Stored}
-use Rattle.dfs_calls.specs.declared.place.Place.{Place}
 use Rattle.dfs_objects.specs.declared.content.Content.{Content}
 use Rattle.dfs_objects.specs.declared.content.Object.{Object}
 use Rattle.dfs_objects.specs.declared.content.Anode.{Anode}
 use Rattle.dfs_objects.specs.Stores.{own_length_of}
 use Rattle.dfs_objects.specs.Losses.{own_spans}
 use Rattle.dfs_filesets.specs.declared.fileset.Fileset.{Fileset}
-use Rattle.dfs_filesets.specs.Walk.{object_at, unique_at}
-use Rattle.dfs_filesets.specs.WellFormed.{leads}
 use Rattle.dfs_tree.specs.declared.tree.Tree.{Tree}
-use Rattle.dfs_tree.specs.Finding.{fileset_named}
 use Rattle.dfs_saving.specs.Unsaved.{writer_of}
 
 -- a host stores all that it has unsaved of a file
@@ -45,12 +40,6 @@ own_store host fid object =
     if option_map_or (λ writer. writer.0 == host.0) (writer_of object.content) false
     then Some (store_of host fid object.content)
     else None
-
--- what another host than this one has to store of a file
-abbrev pub others_store : HostId → Fid → Object → Option Entry
-others_store host fid object =
-    option_and_then (λ writer. if writer.0 == host.0 then None else Some (store_of writer fid object.content))
-    (writer_of object.content)
 
 -- one entry, where there is one
 abbrev pub listed : Option Entry → List Entry
@@ -74,16 +63,3 @@ fileset_stores host fileset = anodes_stores host fileset.id 1 fileset.anodes
 -- and of a tree
 abbrev pub own_stores : HostId → Tree → List Entry
 own_stores host tree = flat_map (fileset_stores host) tree.filesets
-
--- what another host than this one has to store of the object to which a path leads
-abbrev pub others_store_in : HostId → List (List ℕ) → Fileset → Option Entry
-others_store_in host path fileset =
-    option_and_then (λ at.
-    option_and_then
-    (others_store host (record { fileset = fileset.id; anode = at; unique = unique_at fileset.anodes at }))
-    (object_at fileset.anodes at)) (leads fileset.anodes 1 path)
-
--- and of the object that a place names
-abbrev pub others_store_at : HostId → Place → Tree → Option Entry
-others_store_at host place tree =
-    either (fileset_named tree place.server place.fileset) (others_store_in host place.path) (λ refusal. None)

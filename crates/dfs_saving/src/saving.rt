@@ -1,15 +1,13 @@
-//! How unsaved changes are stored, or lost, so that a history of the tree stays legal. Before a host writes, what
-//! others changed in the file is stored, as it is where their tokens are revoked (Kazar et al., "DEcorum File System
-//! Architectural Overview", 1990).
+//! How unsaved changes are stored, or lost, so that a history of the tree stays legal.
 ghost use Rattle.std.specs.Prelude.{◌≡◌, true, IfOk, OnOk};
 ghost use Rattle.dfs_tree.specs.WellFormed.{IsWellFormed};
 ghost use Rattle.dfs_tree.specs.Histories.{after_history};
 ghost use Rattle.dfs_saving.specs.Unsaved.{all_contents, is_by_one};
-ghost use Rattle.dfs_saving.specs.Saving.{downs_from, StoresAll, StoresOthers, DownsAll};
+ghost use Rattle.dfs_saving.specs.Saving.{downs_from, StoresAll, DownsAll};
 
-use crate::stores::{others_store_at, own_stores};
+use crate::stores::own_stores;
 use dfs_base::{HostId, Items, NoMemory, ServerId};
-use dfs_calls::{Entry, Place};
+use dfs_calls::Entry;
 use dfs_tree::Tree;
 use std::alloc::Global;
 
@@ -22,22 +20,6 @@ pub fn store_all(tree: &mut Tree, host: HostId) -> Result<Items<Entry>, NoMemory
     ensures { IfOk result (λ entries. StoresAll host tree.old entries tree.new) }
 {
     let entries = own_stores(tree, host)?;
-    follow(tree, entries.as_slice())?;
-    Ok(entries)
-}
-
-/// Stores what another host has unsaved of the file that a place names, whoever may go there, and tells the entry by
-/// which it did: none where there is no such host or file. Then the host can write there alone. The tree has to be well
-/// formed, and what each file has unsaved has to be one host's. After `NoMemory` it may be stored or not.
-pub fn store_others(tree: &mut Tree, host: HostId, place: &Place) -> Result<Items<Entry>, NoMemory>
-    requires formed { IsWellFormed tree.old }
-    requires apart { all_contents is_by_one tree.old ≡ true }
-    ensures { IfOk result (λ entries. StoresOthers host place.now tree.old entries tree.new) }
-{
-    let mut entries = Items::new(tree.filesets.alloc());
-    if let Some(entry) = others_store_at(tree, host, place)? {
-        entries.push(entry)?;
-    }
     follow(tree, entries.as_slice())?;
     Ok(entries)
 }

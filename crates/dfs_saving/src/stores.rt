@@ -5,18 +5,14 @@ ghost use Rattle.dfs_saving.specs.Unsaved.{writer_of};
 ghost use Rattle.dfs_saving.specs.Stores.{
   store_of,
   own_store,
-  others_store,
   anode_store,
   fileset_stores,
   own_stores,
-  others_store_in,
-  others_store_at,
 };
 
-use crate::finding::{leads, unique_at};
-use dfs_base::{Fid, HostId, Items, Name, NoMemory};
-use dfs_calls::{Entry, Place};
-use dfs_filesets::{Fileset, object_at};
+use dfs_base::{Fid, HostId, Items, NoMemory};
+use dfs_calls::Entry;
+use dfs_filesets::Fileset;
 use dfs_objects::{Anode, Content, Object};
 use dfs_tree::Tree;
 
@@ -65,50 +61,6 @@ fn own_store(object: &Object, host: HostId, fid: Fid) -> Result<Option<Entry>, N
 {
     match writer_of(&object.content) {
         Some(writer) if writer == host => Ok(Some(store_of(object, host, fid)?)),
-        _ => Ok(None),
-    }
-}
-
-/// What another host than this one has to store of the object that a place names.
-pub(crate) fn others_store_at(
-    tree: &Tree,
-    host: HostId,
-    place: &Place,
-) -> Result<Option<Entry>, NoMemory>
-    ensures { IfOk result (λ entry. entry ≡ others_store_at host place.now tree.now) }
-{
-    match tree.fileset_named(place.server, &place.fileset) {
-        Ok(fileset) => others_store_in(fileset, host, place.path.as_slice()),
-        Err(_) => Ok(None),
-    }
-}
-
-fn others_store_in(
-    fileset: &Fileset,
-    host: HostId,
-    path: &[Name],
-) -> Result<Option<Entry>, NoMemory>
-    ensures { IfOk result (λ entry. entry ≡ others_store_in host path.now fileset.now) }
-{
-    let Some(anode) = leads(&fileset.anodes, path) else {
-        return Ok(None);
-    };
-    let Some(object) = object_at(&fileset.anodes, anode) else {
-        return Ok(None);
-    };
-    let fid = Fid {
-        fileset: fileset.id,
-        anode,
-        unique: unique_at(&fileset.anodes, anode),
-    };
-    others_store(object, host, fid)
-}
-
-fn others_store(object: &Object, host: HostId, fid: Fid) -> Result<Option<Entry>, NoMemory>
-    ensures { IfOk result (λ entry. entry ≡ others_store host fid object.now) }
-{
-    match writer_of(&object.content) {
-        Some(writer) if writer != host => Ok(Some(store_of(object, writer, fid)?)),
         _ => Ok(None),
     }
 }

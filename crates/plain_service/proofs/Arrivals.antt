@@ -1,6 +1,6 @@
 -- How a server learns that a fileset which left it has arrived.
-use Rattle.std.proofs.Common.{◌≡◌, ℕ, zero, suc, ◌==◌, ◌&&◌, ◌||◌, not, Bool, true, false, List, [], ◌∷◌, ◌++◌, Option, Some, None, Result, Ok, Err, refl, sym, ap, subst, append_assoc, ◌∙◌, cond, ◌⊎◌, inl, inr, rules}
-use Rattle.std.specs.Prelude.{filter, insert, map, slice_get, if◌then◌else◌}
+use Rattle.std.proofs.Common.{◌≡◌, ℕ, zero, suc, ◌==◌, ◌||◌, not, Bool, true, false, List, [], ◌∷◌, ◌++◌, Option, Some, None, Result, Ok, Err, refl, sym, ap, subst, append_assoc, ◌∙◌, cond, ◌⊎◌, inl, inr, rules}
+use Rattle.std.specs.Prelude.{filter, insert, slice_get, if◌then◌else◌}
 use Rattle.std.specs.List.{list_all, list_any, find}
 use Rattle.std.specs.Option.{option_map}
 use Rattle.std.proofs.lemmas.Bool.{eqb-true, eq-eqb}
@@ -13,21 +13,24 @@ use Rattle.dfs_calls.specs.Limits.{keeps_limit}
 use Rattle.dfs_calls.specs.declared.call.Call.{Call as CallOf}
 use Rattle.dfs_calls.specs.declared.call.Call.TheVariants.{NewFileset, Create, MakeDir, Remove, Rename, Truncate, SetAcl, CloneFileset, Read, Write, List as ListNames, Stat, GetAcl, Sync, Lock, Unlock, OpenFile, CloseFile, MoveFileset}
 use Rattle.dfs_calls.specs.declared.entry.Entry.{Entry}
-use Rattle.dfs_calls.specs.declared.entry.Entry.TheVariants.{Call as Called, Left}
+use Rattle.dfs_calls.specs.declared.entry.Entry.TheVariants.{Call as Called, Stored, Down, Left}
 use Rattle.dfs_calls.specs.declared.reply.Refusal.{Refusal}
 use Rattle.dfs_calls.specs.declared.reply.Reply.{Reply}
 use Rattle.dfs_calls.specs.declared.reply.Reply.TheVariants.{Ok as Done, Refused}
 use Rattle.dfs_filesets.specs.Rows.{fileset_answer}
 use Rattle.dfs_filesets.specs.declared.fileset.Fileset.{Fileset}
-use Rattle.dfs_saving.specs.Unsaved.{all_contents, is_by_one, is_write_by}
-use Rattle.dfs_saving.proofs.Apart.{stays_apart, roster_stays}
+use Rattle.dfs_calls.specs.declared.place.Place.{Place}
+use Rattle.dfs_saving.specs.Saving.{is_store_of}
+use Rattle.dfs_saving.specs.Stores.{own_stores}
+use Rattle.dfs_saving.specs.Unsaved.{all_contents, has_saved, is_by_one, is_write_by, writes_alone}
+use Rattle.dfs_saving.proofs.Apart.{stays_apart, stays_saved, saved_is_at_rest, roster_stays}
 use Rattle.dfs_tree.specs.Answers.{answer_to, answer_for, answer_at, fileset_row, for_user, deciding_place}
 use Rattle.dfs_tree.specs.Away.{is_away, is_room_kept, with_away, without_away, away_place, room_freed}
 use Rattle.dfs_tree.specs.Finding.{Answer, refuse}
 use Rattle.dfs_tree.specs.Uses.{is_used}
 use Rattle.dfs_calls.specs.Rosters.{user_of}
 use Rattle.dfs_tree.specs.Founding.{new_fileset_answer, new_fileset_target, clone_answer, clone_target}
-use Rattle.dfs_tree.specs.Histories.{after_entry}
+use Rattle.dfs_tree.specs.Histories.{after_history, IsHistory}
 use Rattle.dfs_tree.specs.Locks.{lock_answer, lock_check, unlock_answer, has_lock}
 use Rattle.dfs_tree.specs.Moving.{move_answer, move_target, left_by, with_moved, left_tree}
 use Rattle.dfs_tree.specs.Opens.{open_answer, open_check, close_answer, has_open}
@@ -35,12 +38,14 @@ use Rattle.dfs_tree.specs.WellFormed.{IsWellFormed}
 use Rattle.dfs_tree.specs.declared.tree.Away.{Away}
 use Rattle.dfs_tree.specs.declared.tree.Tree.{Tree}
 use Rattle.dfs_tree.proofs.Kept.{formed_entry, move_ok}
-use Rattle.plain_service.specs.Played.{has_moved, lefts_stand, rooms_free}
+use Rattle.plain_service.specs.Played.{has_moved, rests, written_by, rooms_free}
 use Rattle.plain_service.specs.Uses.{is_done}
-use Rattle.plain_service.specs.Underway.{is_aside, Leads, MakesWay, Makes, kept_room, arrived, arrived_by}
+use Rattle.plain_service.specs.Underway.{is_aside, is_write, Saves, Makes, kept_room, arrived, arrived_by}
 use Rattle.plain_service.specs.declared.past.Past.{Past}
-use Rattle.plain_service.proofs.Goes.{leads_append, leads_call, made_with}
-use Rattle.plain_service.proofs.Histories.{fst_true, snd_true, both_true}
+use Rattle.plain_service.proofs.Goes.{is_quiet, quiet_lefts, quiet_away, quiet_stores, stand_once}
+use Rattle.plain_service.proofs.Histories.{all_so, fst_true, snd_true, both_true}
+use Rattle.plain_service.proofs.Rests.{rest_by_one, rest_saved, rest_alone, rest_entry}
+use Rattle.plain_service.proofs.Written.{StoresOnce, none_flat, write_stores}
 
 -- whether a record keeps no room
 abbrev is_free : Away → Bool
@@ -225,40 +230,151 @@ left_away : (tree : Tree) (server : ServerId) (id : FilesetId) → (left_tree tr
 unfolding left_tree
 left_away tree server id = refl
 
--- a server learns that a fileset has arrived
-leads_left : (tree : Tree) (server : ServerId) (id : FilesetId) → IsWellFormed tree → all_contents is_by_one tree ≡ true → is_room_kept tree.away server id ≡ true → Leads tree (Left server id ∷ []) (left_tree tree server id)
-leads_left tree server id f a k = record {
-  legal = (k, tt);
-  tree = refl;
-  formed = formed_entry tree (Left server id) f k refl;
-  apart = stays_apart tree (Left server id) k a refl;
-  roster = roster_stays tree (Left server id);
-}
+-- a call that is no write
+not_write : (call : CallOf) → is_write call ≡ false → (host other : HostId) (k : ℕ) (reply : Reply) → is_write_by other (Called host k call reply) ≡ false
+not_write (Write place from bytes) w host other k reply = cc
+not_write call w host other k reply = refl
 
--- a call after way was made for it
-pub made_by : (host : HostId) (k : ℕ) (call : CallOf) (reply : Reply) (done : Bool) (before between : Past) (history : List Entry) (tree : Tree) (after : Past) → MakesWay host call before between → keeps_limit call ≡ true →
-    reply ≡ (answer_to between.tree host call).reply → tree ≡ (answer_to between.tree host call).tree → history ≡ between.history ++ Called host k call reply ∷ [] → done ≡ is_done reply →
+-- it leaves nothing unsaved, and a server learns that a fileset has arrived
+pub made_by : (host : HostId) (k : ℕ) (call : CallOf) (reply : Reply) (done : Bool) (before : Past) (history : List Entry) (tree : Tree) (after : Past) → is_write call ≡ false → IsWellFormed before.tree → rests before.tree ≡ true → rooms_free before.tree ≡ true →
+    keeps_limit call ≡ true → reply ≡ (answer_to before.tree host call).reply → tree ≡ (answer_to before.tree host call).tree → history ≡ before.history ++ Called host k call reply ∷ [] → done ≡ is_done reply →
     after ≡ arrived (record { tree = tree; history = history }) → Makes host k call done before after
-made_by host k call reply done before between history tree after w l e t y d z = by (away_answer between.tree host call w.goes.rooms)
+made_by host k call reply done before history tree after w f s r l e t y d z = by (away_answer before.tree host call r)
   where
-    leads : Leads between.tree (Called host k call reply ∷ []) tree
-    leads = leads_call between.tree host k call reply tree w.goes.leads.formed w.goes.leads.apart l e t (w.alone k reply)
+    made : Entry
+    made = Called host k call reply
 
-    by : AwayAfter between.tree call (answer_to between.tree host call) → Makes host k call done before after
+    formed : IsWellFormed (answer_to before.tree host call).tree
+    formed = formed_entry before.tree made f e l
+
+    rest : rests (answer_to before.tree host call).tree ≡ true
+    rest = rest_entry before.tree made s (λ other. not_write call w host other k reply)
+
+    by : AwayAfter before.tree call (answer_to before.tree host call) → Makes host k call done before after
     by (inl (same, unmoved)) =
-        let free : rooms_free tree ≡ true = rw (t, same) w.goes.rooms in
+        let free : rooms_free tree ≡ true = rw (t, same) r in
         let quiet : has_moved call reply ≡ false = rw e unmoved in
         let none : kept_room tree ≡ None = ap (option_map (λ away. (away.server, away.fileset))) (none_kept tree.away free) in
         let here : after ≡ record { tree = tree; history = history } = z ∙ ap (arrived_by (record { tree = tree; history = history })) none in
-        rw here (made_with host k call reply done before between (record { tree = tree; history = history }) [] w leads y (rw quiet refl) free refl (λ other. refl) d)
+        rw here (record {
+          reply = reply;
+          behind = [];
+          asides = refl;
+          goes = record {
+            history = y;
+            leads = record { legal = (e, tt); tree = t; formed = rw t formed; rest = rw t rest; roster = rw t (roster_stays before.tree made) };
+            lefts = rw quiet refl;
+            stores = both_true _ _ s rest;
+            rooms = free;
+          };
+          told = d;
+        })
     by (inr (done_so, (server, (id, one)))) =
         let moved : has_moved call reply ≡ true = rw e done_so in
-        let kept : OneKept tree.away server id = rw t one in
-        let (away, first) = first_kept tree.away server id kept in
-        let some : kept_room tree ≡ Some (away.server, away.fileset) = ap (option_map (λ away. (away.server, away.fileset))) first.first in
-        let last : Past = record { tree = left_tree tree away.server away.fileset; history = history ++ Left away.server away.fileset ∷ [] } in
+        let (away, first) = first_kept (answer_to before.tree host call).tree.away server id one in
+        let some : kept_room tree ≡ Some (away.server, away.fileset) = rw t (ap (option_map (λ away. (away.server, away.fileset))) first.first) in
+        let left : Entry = Left away.server away.fileset in
+        let last : Past = record { tree = left_tree tree away.server away.fileset; history = history ++ left ∷ [] } in
         let here : after ≡ last = z ∙ ap (arrived_by (record { tree = tree; history = history })) some in
-        let more : Leads tree (Left away.server away.fileset ∷ []) last.tree = leads_left tree away.server away.fileset leads.formed leads.apart first.there in
-        let free : rooms_free last.tree ≡ true = rw (left_away tree away.server away.fileset) (freed tree.away server id away first.own kept.all) in
-        let all : history ++ Left away.server away.fileset ∷ [] ≡ between.history ++ Called host k call reply ∷ Left away.server away.fileset ∷ [] = ap (λ l. l ++ Left away.server away.fileset ∷ []) y ∙ append_assoc between.history (Called host k call reply ∷ []) (Left away.server away.fileset ∷ []) in
-        rw here (made_with host k call reply done before between last (Left away.server away.fileset ∷ []) w (leads_append between.tree tree last.tree (Called host k call reply ∷ []) (Left away.server away.fileset ∷ []) leads more) all (rw moved refl) free refl (λ other. refl) d)
+        let settled : rests (left_tree (answer_to before.tree host call).tree away.server away.fileset) ≡ true = rest_entry (answer_to before.tree host call).tree left rest (λ other. refl) in
+        rw here (record {
+          reply = reply;
+          behind = left ∷ [];
+          asides = refl;
+          goes = record {
+            history = ap (λ l. l ++ left ∷ []) y ∙ append_assoc before.history (made ∷ []) (left ∷ []);
+            leads = record {
+              legal = (e, (first.there, tt));
+              tree = ap (λ tree. left_tree tree away.server away.fileset) t;
+              formed = rw t (formed_entry (answer_to before.tree host call).tree left formed first.there refl);
+              rest = rw t settled;
+              roster = rw t (roster_stays (answer_to before.tree host call).tree left ∙ roster_stays before.tree made);
+            };
+            lefts = rw moved refl;
+            stores = both_true _ _ s (both_true _ _ rest settled);
+            rooms = rw (t, left_away (answer_to before.tree host call).tree away.server away.fileset) (freed (answer_to before.tree host call).tree.away server id away first.own one.all);
+          };
+          told = d;
+        })
+
+-- a write
+write_away : (tree : Tree) (host : HostId) (place : Place) (from : ℕ) (bytes : List ℕ) → rooms_free tree ≡ true → (answer_to tree host (Write place from bytes)).tree.away ≡ tree.away
+write_away tree host place from bytes r = by (away_answer tree host (Write place from bytes) r)
+  where
+    by : AwayAfter tree (Write place from bytes) (answer_to tree host (Write place from bytes)) → (answer_to tree host (Write place from bytes)).tree.away ≡ tree.away
+    by (inl (same, unmoved)) = same
+    by (inr (moved, more)) = cc
+
+pub writes_alone_there : (tree : Tree) (host : HostId) (k : ℕ) (call : CallOf) (reply : Reply) → rests tree ≡ true → writes_alone tree (Called host k call reply) ≡ true
+writes_alone_there tree host k (Write place from bytes) reply r = rest_alone host tree place r
+writes_alone_there tree host k call reply r = refl
+
+-- the tree after a call, before what was written is stored
+pub call_formed : (tree : Tree) (host : HostId) (k : ℕ) (call : CallOf) (reply : Reply) → IsWellFormed tree → keeps_limit call ≡ true → reply ≡ (answer_to tree host call).reply → IsWellFormed (answer_to tree host call).tree
+call_formed tree host k call reply f l e = formed_entry tree (Called host k call reply) f e l
+
+pub call_apart : (tree : Tree) (host : HostId) (k : ℕ) (call : CallOf) (reply : Reply) → rests tree ≡ true → reply ≡ (answer_to tree host call).reply → all_contents is_by_one (answer_to tree host call).tree ≡ true
+call_apart tree host k call reply r e = stays_apart tree (Called host k call reply) e (rest_by_one tree r) (writes_alone_there tree host k call reply r)
+
+stores_aside : (test : HostId → Bool) (entries : List Entry) → list_all (is_store_of test) entries ≡ true → list_all is_aside entries ≡ true
+stores_aside test = all_so (is_store_of test) is_aside by
+  where
+    by : (entry : Entry) → is_store_of test entry ≡ true → is_aside entry ≡ true
+    by (Called caller n call reply) h = cc
+    by (Stored host fid spans len) h = refl
+    by (Down host server) h = cc
+    by (Left server id) h = cc
+
+made_write : (host : HostId) (k : ℕ) (place : Place) (from : ℕ) (bytes : List ℕ) (reply : Reply) (done : Bool) (before : Past) (history : List Entry) (tree : Tree) (after : Past) → rests before.tree ≡ true → rooms_free before.tree ≡ true →
+    reply ≡ (answer_to before.tree host (Write place from bytes)).reply → tree ≡ (answer_to before.tree host (Write place from bytes)).tree → history ≡ before.history ++ Called host k (Write place from bytes) reply ∷ [] → done ≡ is_done reply →
+    Saves host (record { tree = tree; history = history }) after → Makes host k (Write place from bytes) done before after
+made_write host k place from bytes reply done before history tree after s r e t y d v = record {
+  reply = reply;
+  behind = v.stored;
+  asides = stores_aside _ v.stored v.stores.stores;
+  goes = record {
+    history = v.history ∙ (ap (λ l. l ++ v.stored) y ∙ append_assoc before.history (made ∷ []) v.stored);
+    leads = record {
+      legal = (e, subst (λ tree. IsHistory tree v.stored) t v.stores.leads.legal);
+      tree = v.stores.leads.tree ∙ ap (λ tree. after_history tree v.stored) t;
+      formed = v.stores.leads.formed;
+      rest = rest;
+      roster = v.stores.leads.roster ∙ rw t (roster_stays before.tree made);
+    };
+    lefts = quiet_lefts v.stored quiet;
+    stores = both_true _ _ s (stand_once host (written_by before.tree made) written v.stored once (λ r. all ∙ none_flat host written.filesets r) (subst (λ tree. rests tree ≡ true) (v.stores.leads.tree ∙ ap (λ tree. after_history tree v.stored) t) rest));
+    rooms = rw (v.stores.leads.tree, quiet_away tree v.stored quiet, t, write_away before.tree host place from bytes r) r;
+  };
+  told = d;
+}
+  where
+    made : Entry
+    made = Called host k (Write place from bytes) reply
+
+    written : Tree
+    written = (answer_to before.tree host (Write place from bytes)).tree
+
+    quiet : list_all is_quiet v.stored ≡ true
+    quiet = quiet_stores _ v.stored v.stores.stores
+
+    all : v.stored ≡ own_stores host written
+    all = v.stores.all ∙ ap (own_stores host) t
+
+    once : StoresOnce host (written_by before.tree made) v.stored
+    once = subst (StoresOnce host (written_by before.tree made)) (sym all) (write_stores before.tree host k place from bytes reply s)
+
+    saved : (other : HostId) → all_contents (has_saved other) after.tree ≡ true
+    saved other = by (host.0 == other.0) refl
+      where
+        by : (v : Bool) → (host.0 == other.0) ≡ v → all_contents (has_saved other) after.tree ≡ true
+        by true same = subst (λ own. all_contents (has_saved own) after.tree ≡ true) (ap (λ n. record { 0 = n }) (eqb-true host.0 other.0 same)) v.stores.saved
+        by false differ = v.stores.leads.saved other (rw t (stays_saved before.tree made other (rest_saved before.tree s other) differ))
+
+    rest : rests after.tree ≡ true
+    rest = saved_is_at_rest after.tree saved
+
+pub made_writing : (host : HostId) (k : ℕ) (call : CallOf) (reply : Reply) (done : Bool) (before : Past) (history : List Entry) (tree : Tree) (after : Past) → is_write call ≡ true → rests before.tree ≡ true → rooms_free before.tree ≡ true →
+    reply ≡ (answer_to before.tree host call).reply → tree ≡ (answer_to before.tree host call).tree → history ≡ before.history ++ Called host k call reply ∷ [] → done ≡ is_done reply →
+    Saves host (record { tree = tree; history = history }) after → Makes host k call done before after
+made_writing host k (Write place from bytes) reply done before history tree after w s r e t y d v = made_write host k place from bytes reply done before history tree after s r e t y d v
+made_writing host k call reply done before history tree after w s r e t y d v = cc

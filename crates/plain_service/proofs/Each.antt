@@ -1,5 +1,5 @@
 -- What each host does in a run.
-use Rattle.std.proofs.Common.{◌≡◌, ℕ, zero, suc, ◌+◌, ◌<◌, ◌==◌, nat_le, ◌&&◌, ◌||◌, not, Bool, true, false, List, [], ◌∷◌, ◌++◌, refl, sym, ap, subst, ◌∙◌, arith, rules}
+use Rattle.std.proofs.Common.{◌≡◌, ℕ, zero, suc, ◌+◌, ◌<◌, ◌==◌, nat_le, ◌&&◌, ◌||◌, Bool, true, false, List, [], ◌∷◌, ◌++◌, refl, sym, ap, subst, ◌∙◌, arith}
 use Rattle.std.specs.Prelude.{filter, if◌then◌else◌}
 use Rattle.std.specs.List.{flat_map, list_any}
 use Rattle.std.proofs.lemmas.Bool.{eqb-true}
@@ -19,8 +19,7 @@ use Rattle.script_lines.specs.declared.script.Line.{Line}
 use Rattle.script_lines.specs.declared.script.Script.{Script}
 use Rattle.plain_service.specs.Calls.{Act, Asks, Falls, Asked, asked_by, calls_of, own_calls, is_asked, falls_from, acts_by, acts_of, act_in, acts_in}
 use Rattle.plain_service.specs.Laws.{CallsFollowLines}
-use Rattle.plain_service.specs.Played.{calls_in, is_own, has_number, next_number, are_numbered, is_implied, stops, stops_at, endings, last_calls, IsPlayed}
-use Rattle.plain_service.specs.declared.played.Played.{Played}
+use Rattle.plain_service.specs.Played.{calls_in, is_own, are_numbered, is_implied, stops, endings, last_calls}
 use Rattle.plain_service.specs.Seats.{lines_at}
 use Rattle.plain_service.proofs.Histories.{fst_true, snd_true, calls_append}
 use Rattle.plain_service.proofs.Steps.{own_append, own_by, stops_append}

@@ -1,5 +1,5 @@
 -- How a host ends what it has in use.
-use Rattle.std.proofs.Common.{◌≡◌, ℕ, ◌+◌, ◌<◌, ◌==◌, nat_lt, Bool, true, false, not, List, [], ◌∷◌, ◌++◌, length, take, get_or, refl, sym, ap, ◌∙◌, arith, length-append, add-one}
+use Rattle.std.proofs.Common.{◌≡◌, ℕ, ◌+◌, ◌<◌, ◌==◌, nat_lt, Bool, true, not, List, [], ◌∷◌, ◌++◌, length, take, get_or, refl, sym, ap, ◌∙◌, arith, length-append, add-one}
 use Rattle.std.specs.Prelude.{map}
 use Rattle.std.specs.List.{list_all}
 use Rattle.std.proofs.Math.Seq.{take-suc}
@@ -10,14 +10,11 @@ use Rattle.std.proofs.lemmas.List.Folds.{list_all-append}
 use Rattle.dfs_base.specs.declared.ids.HostId.{HostId}
 use Rattle.dfs_calls.specs.declared.entry.Entry.{Entry}
 use Rattle.dfs_calls.specs.declared.entry.Entry.TheVariants.{Call as Called, Stored, Down, Left}
-use Rattle.dfs_calls.specs.declared.reply.Reply.{Reply}
-use Rattle.dfs_saving.specs.Unsaved.{is_by_one, all_contents, is_write_by}
 use Rattle.dfs_tree.specs.WellFormed.{IsWellFormed}
 use Rattle.plain_service.specs.Uses.{ending}
-use Rattle.plain_service.specs.Played.{calls_in, is_own, are_numbered, rooms_free}
+use Rattle.plain_service.specs.Played.{calls_in, is_own, are_numbered, rests, rooms_free}
 use Rattle.plain_service.specs.Underway.{is_aside, is_hers, is_above, ending_of, next_from, Makes, Ends}
 use Rattle.plain_service.specs.declared.uses.Use.{Use}
-use Rattle.plain_service.specs.declared.uses.Use.TheVariants.{Lock, Open}
 use Rattle.plain_service.specs.declared.past.Past.{Past}
 use Rattle.plain_service.proofs.Histories.{all_so, both_true, calls_append, next_append, numbered_append, next_foreign, numbered_foreign, stores_foreign}
 use Rattle.plain_service.proofs.Goes.{goes_append, goes_nowhere}
@@ -47,33 +44,24 @@ above_stores n = all_so is_aside (is_above n) by
     by (Down host server) h = cc
     by (Left server id) h = refl
 
-no_ending_writes : (other host : HostId) (k : ℕ) (used : Use) (reply : Reply) → is_write_by other (Called host k (ending used) reply) ≡ false
-no_ending_writes other host k (Lock label) reply = refl
-no_ending_writes other host k (Open label) reply = refl
-
 -- a host's own call among entries that say what became kept
 own_self : (host : HostId) → (host.0 == host.0) ≡ true
 own_self host = eq-eqb host.0 host.0 refl
 
-pub ends_none : (host : HostId) (made : ℕ) (past : Past) → IsWellFormed past.tree → all_contents is_by_one past.tree ≡ true → rooms_free past.tree ≡ true → Ends host made [] past past
-ends_none host made past f a r = record { entries = []; goes = goes_nowhere past f a r; calls = refl; hers = refl; numbered = refl; above = refl; next = omega arith; saved = λ other s. s }
+pub ends_none : (host : HostId) (made : ℕ) (past : Past) → IsWellFormed past.tree → rests past.tree ≡ true → rooms_free past.tree ≡ true → Ends host made [] past past
+ends_none host made past f a r = record { entries = []; goes = goes_nowhere past f a r; calls = refl; hers = refl; numbered = refl; above = refl; next = omega arith }
 
 pub ends_more : (host : HostId) (made k : ℕ) (uses : List Use) (used : Use) (done : Bool) (before between after : Past) → Ends host made uses before between → Makes host k (ending used) done between after →
     k ≡ made + 1 + length uses → Ends host made (uses ++ used ∷ []) before after
 ends_more host made k uses used done before between after e m n =
     let call : Entry = Called host k (ending used) m.reply in
-    let more : List Entry = m.stored ++ call ∷ m.left in
+    let more : List Entry = call ∷ m.behind in
     let own : is_own host call ≡ true = own_self host in
-    let foreign : list_all (λ entry. not (is_own host entry)) m.stored ≡ true = stores_foreign host m.stored m.stores in
-    let behind : list_all (λ entry. not (is_own host entry)) m.left ≡ true = stores_foreign host m.left m.lefts in
-    let same : next_from host k m.stored ≡ k = next_foreign host k m.stored foreign in
-    let number : are_numbered host k (call ∷ m.left) ≡ true = rw (own, eq-eqb k k refl) (numbered_foreign host (k + 1) m.left behind) in
-    let after_more : next_from host k more ≡ k + 1 = rw (next_append host k m.stored (call ∷ m.left), same, own) (next_foreign host (k + 1) m.left behind) in
-    let rest : are_numbered host k more ≡ true = numbered_append host k m.stored (call ∷ m.left) (numbered_foreign host k m.stored foreign) (rw same number) in
+    let behind : list_all (λ entry. not (is_own host entry)) m.behind ≡ true = stores_foreign host m.behind m.asides in
+    let rest : are_numbered host k more ≡ true = rw (own, eq-eqb k k refl) (numbered_foreign host (k + 1) m.behind behind) in
+    let after_more : next_from host k more ≡ k + 1 = rw own (next_foreign host (k + 1) m.behind behind) in
     let at : next_from host (made + 1) e.entries ≡ k = e.next ∙ sym n in
-    let none : calls_in m.stored ≡ [] = calls_stores m.stored m.stores in
-    let quiet : calls_in m.left ≡ [] = calls_stores m.left m.lefts in
-    let one : calls_in more ≡ ending_of host used ∷ [] = rw (calls_append m.stored (call ∷ m.left), none, quiet) refl in
+    let one : calls_in more ≡ ending_of host used ∷ [] = ap (λ calls. ending_of host used ∷ calls) (calls_stores m.behind m.asides) in
     let to : next_from host (made + 1) (e.entries ++ more) ≡ k + 1 = rw (next_append host (made + 1) e.entries more, at) after_more in
     let above : nat_lt made k ≡ true = grind (arith, common_steps) in
     let len : length (uses ++ used ∷ []) ≡ length uses + 1 = length-append uses (used ∷ []) in
@@ -81,11 +69,10 @@ ends_more host made k uses used done before between after e m n =
       entries = e.entries ++ more;
       goes = goes_append before between after e.entries more e.goes m.goes;
       calls = calls_append e.entries more ∙ (ap (λ calls. calls ++ calls_in more) e.calls ∙ (ap (λ calls. map (ending_of host) uses ++ calls) one ∙ sym (map_push (ending_of host) uses used)));
-      hers = all_append (is_hers host) e.entries more e.hers (all_append (is_hers host) m.stored (call ∷ m.left) (hers_stores host m.stored m.stores) (both_true _ _ (rw own refl) (hers_stores host m.left m.lefts)));
+      hers = all_append (is_hers host) e.entries more e.hers (both_true _ _ (rw own refl) (hers_stores host m.behind m.asides));
       numbered = numbered_append host (made + 1) e.entries more e.numbered (rw at rest);
-      above = all_append (is_above made) e.entries more e.above (all_append (is_above made) m.stored (call ∷ m.left) (above_stores made m.stored m.stores) (both_true _ _ above (above_stores made m.left m.lefts)));
+      above = all_append (is_above made) e.entries more e.above (both_true _ _ above (above_stores made m.behind m.asides));
       next = omega arith;
-      saved = λ other s. m.saved other (no_ending_writes other host k used m.reply) (e.saved other s);
     }
 
 pub take_next : {X : Type 0} (uses : List X) (i : ℕ) (used : X) → i < length uses → used ≡ get_or uses i used → take (i + 1) uses ≡ take i uses ++ used ∷ []

@@ -1,29 +1,36 @@
 -- A host makes no call and stores nothing after it is down.
-use Rattle.std.proofs.Common.{◌≡◌, ℕ, zero, suc, ◌+◌, ◌==◌, nat_le, ◌&&◌, ◌||◌, not, Bool, true, false, List, [], ◌∷◌, ◌++◌, length, refl, sym, ap, subst, ◌∙◌, rules}
+use Rattle.std.proofs.Common.{◌≡◌, ℕ, zero, suc, ◌+◌, ◌==◌, nat_le, ◌&&◌, ◌||◌, not, Bool, true, false, List, [], ◌∷◌, ◌++◌, length, Option, Some, None, refl, sym, ap, subst, ◌∙◌}
 use Rattle.std.specs.Prelude.{filter, if◌then◌else◌}
 use Rattle.std.specs.List.{list_any, list_all}
-use Rattle.std.proofs.lemmas.Bool.{eq-eqb}
+use Rattle.std.specs.Option.{option_map}
+use Rattle.std.proofs.lemmas.Bool.{eqb-true, eq-eqb}
 use Rattle.std.proofs.lemmas.List.Elements.{filter-append}
+use Rattle.dfs_base.specs.Ids.{same_fid}
+use Rattle.dfs_base.specs.declared.ids.Fid.{Fid}
 use Rattle.dfs_base.specs.declared.ids.HostId.{HostId}
+use Rattle.dfs_calls.specs.declared.call.Call.{Call as CallOf}
+use Rattle.dfs_calls.specs.declared.call.Call.TheVariants.{Write}
+use Rattle.dfs_calls.specs.declared.reply.Reply.{Reply}
+use Rattle.dfs_tree.specs.declared.tree.Tree.{Tree}
+use Rattle.dfs_tree.specs.Histories.{after_entry, after_history}
+use Rattle.dfs_tree.specs.Stores.{stored_tree}
+use Rattle.dfs_saving.specs.Saving.{fid_named, is_store_by}
 use Rattle.dfs_base.specs.declared.ids.ServerId.{ServerId}
 use Rattle.dfs_base.specs.declared.ids.Node.{Node}
 use Rattle.dfs_base.specs.declared.ids.Node.TheVariants.{Host, Server}
 use Rattle.dfs_calls.specs.declared.entry.Entry.{Entry}
 use Rattle.dfs_calls.specs.declared.entry.Entry.TheVariants.{Call as Called, Stored, Down, Left}
 use Rattle.script_lines.specs.Asks.{call_lines}
-use Rattle.script_lines.specs.Sound.{same_node, is_of, is_stop, stops_last, is_setup_line, is_setup_call, IsSound}
+use Rattle.script_lines.specs.Sound.{same_node, is_of, is_stop, stops_last, is_setup_line, is_setup_call}
 use Rattle.script_lines.specs.declared.script.Deed.{Deed}
 use Rattle.script_lines.specs.declared.script.Deed.TheVariants.{Call, Raise, Await, Stop, Restart}
 use Rattle.script_lines.specs.declared.script.Line.{Line}
 use Rattle.script_lines.specs.declared.script.Script.{Script}
-use Rattle.plain_service.specs.Calls.{Act, Asks, Falls, is_asked, falls_from, acts_of, act_in, acts_in}
+use Rattle.plain_service.specs.Calls.{Act, Asks, Falls, is_asked, falls_from, acts_of, acts_in}
 use Rattle.plain_service.specs.Laws.{DownIsLast}
-use Rattle.plain_service.specs.Played.{calls_in, is_own, is_implied, stops, stops_at, endings, last_calls, stays_idle, IsPlayed}
-use Rattle.plain_service.specs.Underway.{idle_from}
-use Rattle.plain_service.specs.declared.played.Played.{Played}
+use Rattle.plain_service.specs.Played.{calls_in, is_own, is_implied, stops, stops_at, endings, is_due, written_by, stores_stand}
 use Rattle.plain_service.specs.Seats.{lines_at}
 use Rattle.plain_service.proofs.Histories.{fst_true, snd_true, both_true, acts_append}
-use Rattle.plain_service.proofs.Idle.{idle_tail, silent_stores}
 use Rattle.plain_service.proofs.Seats.{same_eq}
 use Rattle.plain_service.proofs.Each.{is_own_asked}
 
@@ -237,6 +244,47 @@ right_none : {X : Type 0} (a b : List X) → a ++ b ≡ [] → b ≡ []
 right_none [] b h = h
 right_none (x ∷ a) b h = cc
 
+-- what was written isn't a host's
+abbrev IsOthers : HostId → Option (HostId × Fid) → Type 0
+IsOthers host written = (by : HostId) (fid : Fid) → (by.0 == host.0) ≡ true → is_due written by fid ≡ false
+
+others_call : (tree : Tree) (host caller : HostId) (n : ℕ) (call : CallOf) (reply : Reply) → (caller.0 == host.0) ≡ false → IsOthers host (written_by tree (Called caller n call reply))
+others_call tree host caller n (Write place from bytes) reply d = named (fid_named tree place)
+  where
+    differs : (by : HostId) → (by.0 == host.0) ≡ true → (v : Bool) → (by.0 == caller.0) ≡ v → (rest : Bool) → (v && rest) ≡ false
+    differs by own false e rest = refl
+    differs by own true e rest = let z : (caller.0 == host.0) ≡ true = eq-eqb caller.0 host.0 (sym (eqb-true by.0 caller.0 e) ∙ eqb-true by.0 host.0 own) in cc
+
+    named : (found : Option Fid) → IsOthers host (option_map (λ fid. (caller, fid)) found)
+    named None by fid own = refl
+    named (Some file) by fid own = differs by own (by.0 == caller.0) refl (same_fid fid file)
+others_call tree host caller n call reply d = λ by fid own. refl
+
+-- a host that calls no more stores no more
+silent_stores : (host : HostId) (written : Option (HostId × Fid)) (tree : Tree) (entries : List Entry) → IsOthers host written → filter (is_own host) entries ≡ [] → stores_stand written tree entries ≡ true → list_any (is_store_by host) entries ≡ false
+silent_stores host written tree [] o h k = refl
+silent_stores host written tree (Called caller n call reply ∷ entries) o h k = by (caller.0 == host.0) refl h (λ e g. silent_stores host (written_by tree (Called caller n call reply)) (after_entry tree (Called caller n call reply)) entries (others_call tree host caller n call reply e) g (snd_true _ _ k))
+  where
+    by : (v : Bool) → (caller.0 == host.0) ≡ v → (if v then Called caller n call reply ∷ filter (is_own host) entries else filter (is_own host) entries) ≡ [] →
+        ((caller.0 == host.0) ≡ false → filter (is_own host) entries ≡ [] → list_any (is_store_by host) entries ≡ false) → list_any (is_store_by host) entries ≡ false
+    by true e g more = cc
+    by false e g more = more e g
+silent_stores host written tree (Stored writer fid spans len ∷ entries) o h k = by (writer.0 == host.0) refl (silent_stores host None (stored_tree tree writer fid spans len) entries (λ by fid own. refl) h (snd_true _ _ k))
+  where
+    by : (v : Bool) → (writer.0 == host.0) ≡ v → list_any (is_store_by host) entries ≡ false → (v || list_any (is_store_by host) entries) ≡ false
+    by true e more = let due : is_due written writer fid ≡ true = fst_true _ _ (fst_true _ _ k) in let no : is_due written writer fid ≡ false = o writer fid e in cc
+    by false e more = more
+silent_stores host written tree (Down other server ∷ entries) o h k = silent_stores host None (after_entry tree (Down other server)) entries (λ by fid own. refl) h (snd_true _ _ k)
+silent_stores host written tree (Left server id ∷ entries) o h k = silent_stores host None (after_entry tree (Left server id)) entries (λ by fid own. refl) h (snd_true _ _ k)
+
+stand_behind : (written : Option (HostId × Fid)) (tree : Tree) (before : List Entry) (host : HostId) (server : ServerId) (after : List Entry) → stores_stand written tree (before ++ Down host server ∷ after) ≡ true →
+    stores_stand None (after_entry (after_history tree before) (Down host server)) after ≡ true
+stand_behind written tree [] host server after h = snd_true _ _ h
+stand_behind written tree (Called caller n call reply ∷ before) host server after h = stand_behind (written_by tree (Called caller n call reply)) (after_entry tree (Called caller n call reply)) before host server after (snd_true _ _ h)
+stand_behind written tree (Stored writer fid spans len ∷ before) host server after h = stand_behind None (stored_tree tree writer fid spans len) before host server after (snd_true _ _ h)
+stand_behind written tree (Down other at ∷ before) host server after h = stand_behind None (after_entry tree (Down other at)) before host server after (snd_true _ _ h)
+stand_behind written tree (Left at id ∷ before) host server after h = stand_behind None (after_entry tree (Left at id)) before host server after (snd_true _ _ h)
+
 pub down_is_last : DownIsLast
 down_is_last script played host server before after s p e =
     let order : List Line = lines_at script.lines played.order in
@@ -251,9 +299,8 @@ down_is_last script played host server before after s p e =
     let none : filter (is_implied script host) played.history ≡ [] = implied_none script host played.history (p.done.implied host ∙ by (stops host lines) refl down) in
     let rest : filter (is_implied script host) after ≡ [] = right_none (filter (is_implied script host) before) _ (sym (filter-append (is_implied script host) before (Down host server ∷ after)) ∙ (ap (filter (is_implied script host)) (sym e) ∙ none)) in
     let calls : filter (is_own host) after ≡ [] = own_none script host after asked rest in
-    let after_down : stays_idle host (if host.0 == host.0 then true else idle_from host false before) after ≡ true =
-    snd_true _ _ (idle_tail host false before (Down host server ∷ after) (subst (λ list. stays_idle host false list ≡ true) e (p.idle host))) in
-    record { calls = calls; stores = silent_stores host after calls (subst (λ t. stays_idle host (if t then true else idle_from host false before) after ≡ true) (eq-eqb host.0 host.0 refl) after_down) }
+    let stores : stores_stand None (after_entry (after_history played.start before) (Down host server)) after ≡ true = stand_behind None played.start before host server after (subst (λ list. stores_stand None played.start list ≡ true) e p.stores) in
+    record { calls = calls; stores = silent_stores host None _ after (λ by fid own. refl) calls stores }
   where
     by : (v : Bool) → stops host (script.setup ++ lines_at script.lines played.order) ≡ v → falls_any host (acts_of (length script.roster.capacity) (script.setup ++ lines_at script.lines played.order)) ≡ true →
         (if v then [] else endings script host played.history) ≡ []

@@ -1,7 +1,8 @@
 pub mod Places
 pub mod Seats
 pub mod Histories
-pub mod Idle
+pub mod Rests
+pub mod Written
 pub mod Goes
 pub mod Arrivals
 pub mod Ending

@@ -18,7 +18,6 @@ use Rattle.dfs_calls.specs.declared.entry.Entry.{Entry}
 use Rattle.dfs_calls.specs.declared.entry.Entry.TheVariants.{Call as Called, Stored, Down, Left}
 use Rattle.dfs_calls.specs.declared.reply.Reply.{Reply}
 use Rattle.dfs_tree.specs.declared.tree.Tree.{Tree}
-use Rattle.dfs_saving.specs.Unsaved.{all_contents, has_saved, is_write_by}
 use Rattle.dfs_saving.specs.Saving.{downs_from}
 use Rattle.script_lines.specs.Asks.{call_lines}
 use Rattle.script_lines.specs.Sound.{is_of, same_node}
@@ -30,14 +29,14 @@ use Rattle.script_lines.specs.declared.script.Script.{Script}
 use Rattle.plain_service.specs.Calls.{Asks, Asked, asked_by, calls_of, own_calls, is_asked, falls_from, acts_by, acts_of, acts_in}
 use Rattle.plain_service.specs.Uses.{uses_from}
 use Rattle.plain_service.specs.Played.{calls_in, is_own, are_numbered, is_implied, stops, stops_at, last_calls}
-use Rattle.plain_service.specs.Underway.{is_down, is_aside, is_hers, is_above, next_from, GoesOn, Saves, IsOpen, IsAtDesk, IsClosed, IsUnderway, AreCounted, HasCalled, HasStopped, HasLeft, IsLast, EndsUnless, HasActed, GoesAlong, AreNew, new_desk, desk_called, desk_stopped, desk_left}
+use Rattle.plain_service.specs.Underway.{is_down, is_aside, is_hers, is_above, next_from, GoesOn, IsOpen, IsAtDesk, IsClosed, IsUnderway, AreCounted, HasCalled, HasStopped, HasLeft, EndsUnless, HasActed, GoesAlong, AreNew, new_desk, desk_called, desk_stopped, desk_left}
 use Rattle.plain_service.specs.declared.past.Past.{Past}
 use Rattle.plain_service.specs.declared.play.Desk.{Desk}
 use Rattle.plain_service.specs.declared.play.Play.{Play}
 use Rattle.plain_service.proofs.Histories.{fst_true, snd_true, both_true, all_so, is_foreign, next_append, numbered_append, uses_append, next_foreign, numbered_foreign, uses_foreign, implied_foreign, stores_foreign, asked_store, down_store, downs_down, downs_foreign, acts_append, acts_none, acts_downs}
 use Rattle.plain_service.proofs.Seats.{place_here, place_other, get_more}
-use Rattle.plain_service.proofs.Goes.{steady_on, goes_append, goes_nowhere, writes_not}
-use Rattle.plain_service.proofs.Ending.{all_append, take_next}
+use Rattle.plain_service.proofs.Goes.{steady_on, goes_nowhere}
+use Rattle.plain_service.proofs.Ending.{take_next}
 use Rattle.dfs_saving.proofs.Lists.{filter_none}
 
 -- what a host is asked for by two lots of lines
@@ -86,17 +85,13 @@ others_desk script done rest history entries host other line desk n d f h = reco
 
 -- nor that one has ended
 pub others_closed : (script : Script) (done : List Line) (before after : Past) (entries : List Entry) (host other : HostId) (line : Line) → line.node ≡ Host host → Differ host other → list_all (is_foreign other) entries ≡ true →
-    GoesOn before entries after → (all_contents (has_saved other) before.tree ≡ true → all_contents (has_saved other) after.tree ≡ true) →
-    IsClosed script done before other → IsClosed script (done ++ line ∷ []) after other
-others_closed script done before after entries host other line n d f g s h = record {
-  implied =
-      let same : filter (is_implied script other) after.history ≡ filter (is_implied script other) before.history = ap (filter (is_implied script other)) g.history ∙ (filter-append (is_implied script other) before.history entries ∙ (rw (implied_foreign script other entries f) (append-nil _))) in
-      let held : uses_from other [] (filter (is_asked script) after.history) ≡ uses_from other [] (filter (is_asked script) before.history) =
-      ap (λ l. uses_from other [] (filter (is_asked script) l)) g.history ∙ (ap (uses_from other []) (filter-append (is_asked script) before.history entries) ∙ (uses_append other [] (filter (is_asked script) before.history) (filter (is_asked script) entries) ∙ uses_foreign other (is_asked script) _ entries f)) in
-      let stopped : stops other (done ++ line ∷ []) ≡ stops other done = stops_append other done (line ∷ []) ∙ (rw (other_stops host other line n d) (or_false (stops other done))) in
-      rw (same, stopped, held) h.implied;
-  saved = s h.saved;
-}
+    GoesOn before entries after → IsClosed script done before.history other → IsClosed script (done ++ line ∷ []) after.history other
+others_closed script done before after entries host other line n d f g h =
+    let same : filter (is_implied script other) after.history ≡ filter (is_implied script other) before.history = ap (filter (is_implied script other)) g.history ∙ (filter-append (is_implied script other) before.history entries ∙ (rw (implied_foreign script other entries f) (append-nil _))) in
+    let held : uses_from other [] (filter (is_asked script) after.history) ≡ uses_from other [] (filter (is_asked script) before.history) =
+    ap (λ l. uses_from other [] (filter (is_asked script) l)) g.history ∙ (ap (uses_from other []) (filter-append (is_asked script) before.history entries) ∙ (uses_append other [] (filter (is_asked script) before.history) (filter (is_asked script) entries) ∙ uses_foreign other (is_asked script) _ entries f)) in
+    let stopped : stops other (done ++ line ∷ []) ≡ stops other done = stops_append other done (line ∷ []) ∙ (rw (other_stops host other line n d) (or_false (stops other done))) in
+    rw (same, stopped, held) h
   where
     or_false : (a : Bool) → (a || false) ≡ a
     or_false true = refl
@@ -122,8 +117,8 @@ pub come_on : (script : Script) (start : Tree) (done now rest left : List Line) 
     are_numbered host (next_from host 1 before.past.history) entries ≡ true → ((other : HostId) → Differ host other → list_all (is_foreign other) entries ≡ true) →
     slice_get before.desks host.0 ≡ Some old → after.desks ≡ set before.desks host.0 new → IsAtDesk script now left (before.past.history ++ entries) host new →
     ((other : HostId) (desk : Desk) → Differ host other → IsAtDesk script done rest before.past.history other desk → IsAtDesk script now left (before.past.history ++ entries) other desk) →
-    ((other : HostId) → Differ host other → filter (is_of (Host other)) left ≡ [] → (filter (is_of (Host other)) rest ≡ []) × (IsClosed script done before.past other → IsClosed script now after.past other)) →
-    (filter (is_of (Host host)) left ≡ [] → IsClosed script now after.past host) →
+    ((other : HostId) → Differ host other → filter (is_of (Host other)) left ≡ [] → (filter (is_of (Host other)) rest ≡ []) × (IsClosed script done before.past.history other → IsClosed script now after.past.history other)) →
+    (filter (is_of (Host host)) left ≡ [] → IsClosed script now after.past.history host) →
     IsUnderway script start now left after
 come_on script start done now rest left entries host old new before after u g acts numbers foreign was desks own others closed ended = record {
   steady = steady_on script start before.past after.past entries u.steady g;
@@ -140,8 +135,8 @@ come_on script start done now rest left entries host old new before after u g ac
     by other (inl q) = subst (λ o. are_numbered o (next_from o 1 before.past.history) entries ≡ true) q numbers
     by other (inr d) = numbered_foreign other (next_from other 1 before.past.history) entries (foreign other d)
 
-    to : (other : HostId) → filter (is_of (Host other)) left ≡ [] → (host ≡ other) ⊎ Differ host other → IsClosed script now after.past other
-    to other e (inl q) = subst (λ o. filter (is_of (Host o)) left ≡ [] → IsClosed script now after.past o) q ended e
+    to : (other : HostId) → filter (is_of (Host other)) left ≡ [] → (host ≡ other) ⊎ Differ host other → IsClosed script now after.past.history other
+    to other e (inl q) = subst (λ o. filter (is_of (Host o)) left ≡ [] → IsClosed script now after.past.history o) q ended e
     to other e (inr d) = let (k, f) = closed other d e in f (u.closed other k)
 
 -- a line of a host is one that it has left
@@ -196,7 +191,7 @@ acted_call script start done rest host call line before after n d counted u h =
     let desk = h.desk in
     let m = h.makes in
     let made : Entry = Called host (desk.calls + 1) call m.reply in
-    let entries : List Entry = m.stored ++ made ∷ m.left in
+    let entries : List Entry = made ∷ m.behind in
     let history = before.past.history in
     let at : IsAtDesk script done (line ∷ rest) history host desk = u.desk host desk h.was in
     let left : 0 < desk.left = (let k = has_left host line rest n in let l = at.left in omega arith) in
@@ -205,36 +200,33 @@ acted_call script start done rest host call line before after n d counted u h =
     let own_asks : own_calls host (line ∷ []) ≡ record { host = host; call = call } ∷ [] = rw (n, d, eq-eqb host.0 host.0 refl) refl in
     let asked : is_asked script made ≡ true = subst (λ k. is_asked script (Called host (k + 1) call m.reply) ≡ true) (sym o.calls) (asked_now script done rest line host call m.reply n d counted) in
     let own : is_own host made ≡ true = eq-eqb host.0 host.0 refl in
-    let kept : filter (is_asked script) entries ≡ made ∷ [] = filter-append (is_asked script) m.stored (made ∷ m.left) ∙ rw (asked_stores script m.stored m.stores, asked, asked_stores script m.left m.lefts) refl in
-    let none : list_all (is_foreign host) m.stored ≡ true = stores_foreign host m.stored m.stores in
-    let behind : list_all (is_foreign host) m.left ≡ true = stores_foreign host m.left m.lefts in
+    let kept : filter (is_asked script) entries ≡ made ∷ [] = rw (asked, asked_stores script m.behind m.asides) refl in
+    let behind : list_all (is_foreign host) m.behind ≡ true = stores_foreign host m.behind m.asides in
+    let others : (other : HostId) → Differ host other → list_all (is_foreign other) entries ≡ true = λ other e. both_true _ _ (own_differs host other (desk.calls + 1) call m.reply e) (stores_foreign other m.behind m.asides) in
     let implied : is_implied script host made ≡ false = rw (own, asked) refl in
-    let told : acts_in script entries ≡ Asks host call ∷ [] = acts_append script m.stored (made ∷ m.left) ∙ rw (acts_none script m.stored (asked_stores script m.stored m.stores) (down_stores m.stored m.stores), asked, acts_none script m.left (asked_stores script m.left m.lefts) (down_stores m.left m.lefts)) refl in
+    let told : acts_in script entries ≡ Asks host call ∷ [] = rw (asked, acts_none script m.behind (asked_stores script m.behind m.asides) (down_stores m.behind m.asides)) refl in
     come_on script start done (done ++ line ∷ []) (line ∷ rest) (line ∷ rest) entries host desk (desk_called desk h.done call) before after u m.goes
     (acts_more (length script.roster.capacity) done line ∙ ap (λ l. acts_of (length script.roster.capacity) done ++ l) (asks ∙ sym told))
-    (rw o.next (numbered_append host (desk.calls + 1) m.stored (made ∷ m.left) (numbered_foreign host (desk.calls + 1) m.stored none) (rw (next_foreign host (desk.calls + 1) m.stored none, own, eq-eqb (desk.calls + 1) (desk.calls + 1) refl) (numbered_foreign host (desk.calls + 1 + 1) m.left behind))))
-    (λ other e. all_append (is_foreign other) m.stored (made ∷ m.left) (stores_foreign other m.stored m.stores) (both_true _ _ (own_differs host other (desk.calls + 1) call m.reply e) (stores_foreign other m.left m.lefts)))
+    (rw (o.next, own, eq-eqb (desk.calls + 1) (desk.calls + 1) refl) (numbered_foreign host (desk.calls + 1 + 1) m.behind behind))
+    others
     h.was h.desks
     (record {
       left = at.left;
       stopped = at.stopped ∙ sym (stops_append host done (line ∷ []) ∙ rw (n, d, eq-eqb host.0 host.0 refl) (or_false (stops host done)));
       going = λ _. record {
         calls = (let e = own_append host done (line ∷ []) in let l = length-append (own_calls host done) (own_calls host (line ∷ [])) in let q = o.calls in let z = ap length own_asks in let y = ap length e in omega arith);
-        next = next_append host 1 history entries ∙ rw (o.next, next_append host (desk.calls + 1) m.stored (made ∷ m.left), next_foreign host (desk.calls + 1) m.stored none, own) (next_foreign host (desk.calls + 1 + 1) m.left behind);
+        next = next_append host 1 history entries ∙ rw (o.next, own) (next_foreign host (desk.calls + 1 + 1) m.behind behind);
         uses = sym (ap (uses_from host []) (filter-append (is_asked script) history entries) ∙ (uses_append host [] (filter (is_asked script) history) (filter (is_asked script) entries) ∙ rw (kept, ← o.uses, eq-eqb host.0 host.0 refl, ← m.told) refl));
-        implied = filter-append (is_implied script host) history entries ∙ (rw (o.implied) (filter-append (is_implied script host) m.stored (made ∷ m.left) ∙ rw (implied_foreign script host m.stored none, implied) (implied_foreign script host m.left behind)));
+        implied = filter-append (is_implied script host) history entries ∙ rw (o.implied, implied) (implied_foreign script host m.behind behind);
       };
     })
-    (λ other k e. others_desk script done (line ∷ rest) history entries host other line k n e (all_append (is_foreign other) m.stored (made ∷ m.left) (stores_foreign other m.stored m.stores) (both_true _ _ (own_differs host other (desk.calls + 1) call m.reply e) (stores_foreign other m.left m.lefts))))
-    (λ other e k. (k, others_closed script done before.past after.past entries host other line n e (all_append (is_foreign other) m.stored (made ∷ m.left) (stores_foreign other m.stored m.stores) (both_true _ _ (own_differs host other (desk.calls + 1) call m.reply e) (stores_foreign other m.left m.lefts))) m.goes (m.saved other (no_write_of other e))))
+    (λ other k e. others_desk script done (line ∷ rest) history entries host other line k n e (others other e))
+    (λ other e k. (k, others_closed script done before.past after.past entries host other line n e (others other e) m.goes))
     (λ e. still_left _ host line rest n e)
   where
     or_false : (a : Bool) → (a || false) ≡ a
     or_false true = refl
     or_false false = refl
-
-    no_write_of : (other : HostId) → Differ host other → is_write_by other (Called host (h.desk.calls + 1) call h.makes.reply) ≡ false
-    no_write_of other e = writes_not host other (h.desk.calls + 1) call h.makes.reply e
 
 -- a host stopped
 pub acted_stop : (script : Script) (start : Tree) (done rest : List Line) (host : HostId) (line : Line) (before after : Play) → line.node ≡ Host host → line.deed ≡ Stop →
@@ -245,7 +237,7 @@ acted_stop script start done rest host line before after n d u h =
     let entries : List Entry = downs_from host 1 servers in
     let history = before.past.history in
     let all : list_all is_down entries ≡ true = downs_down host 1 servers in
-    let goes : GoesOn before.past entries after.past = subst (λ roster. GoesOn before.past (downs_from host 1 (length roster.capacity)) after.past) u.steady.roster h.down.goes in
+    let goes : GoesOn before.past entries after.past = subst (λ roster. GoesOn before.past (downs_from host 1 (length roster.capacity)) after.past) u.steady.roster h.down in
     let at : IsAtDesk script done (line ∷ rest) history host desk = u.desk host desk h.was in
     let left : 0 < desk.left = (let k = has_left host line rest n in let l = at.left in omega arith) in
     let o : IsOpen script done history host desk = at.going left in
@@ -268,7 +260,7 @@ acted_stop script start done rest host line before after n d u h =
       };
     })
     (λ other k e. others_desk script done (line ∷ rest) history entries host other line k n e (downs_foreign other entries all))
-    (λ other e k. (k, others_closed script done before.past after.past entries host other line n e (downs_foreign other entries all) goes (h.down.saved other)))
+    (λ other e k. (k, others_closed script done before.past after.past entries host other line n e (downs_foreign other entries all) goes))
     (λ e. still_left _ host line rest n e)
   where
     or_true : (a : Bool) → (a || true) ≡ true
@@ -293,7 +285,7 @@ acted_none script start done rest line play asks acts stop u = record {
       implied = o.implied;
     };
   };
-  closed = λ host e. let k : IsClosed script done play.past host = u.closed host e in record { implied = rw (stopped host) k.implied; saved = k.saved };
+  closed = λ host e. rw (stopped host) (u.closed host e);
 }
   where
     or_false : (a : Bool) → (a || false) ≡ a
@@ -357,16 +349,13 @@ desk_foreign script done rest history entries other desk f h = record {
   };
 }
 
-closed_foreign : (script : Script) (done : List Line) (before after : Past) (entries : List Entry) (other : HostId) → list_all (is_foreign other) entries ≡ true →
-    GoesOn before entries after → (all_contents (has_saved other) before.tree ≡ true → all_contents (has_saved other) after.tree ≡ true) → IsClosed script done before other → IsClosed script done after other
-closed_foreign script done before after entries other f g s h = record {
-  implied =
-      let same : filter (is_implied script other) after.history ≡ filter (is_implied script other) before.history = ap (filter (is_implied script other)) g.history ∙ (filter-append (is_implied script other) before.history entries ∙ (rw (implied_foreign script other entries f) (append-nil _))) in
-      let held : uses_from other [] (filter (is_asked script) after.history) ≡ uses_from other [] (filter (is_asked script) before.history) =
-      ap (λ l. uses_from other [] (filter (is_asked script) l)) g.history ∙ (ap (uses_from other []) (filter-append (is_asked script) before.history entries) ∙ (uses_append other [] (filter (is_asked script) before.history) (filter (is_asked script) entries) ∙ uses_foreign other (is_asked script) _ entries f)) in
-      rw (same, held) h.implied;
-  saved = s h.saved;
-}
+closed_foreign : (script : Script) (done : List Line) (before after : Past) (entries : List Entry) (other : HostId) → list_all (is_foreign other) entries ≡ true → GoesOn before entries after →
+    IsClosed script done before.history other → IsClosed script done after.history other
+closed_foreign script done before after entries other f g h =
+    let same : filter (is_implied script other) after.history ≡ filter (is_implied script other) before.history = ap (filter (is_implied script other)) g.history ∙ (filter-append (is_implied script other) before.history entries ∙ (rw (implied_foreign script other entries f) (append-nil _))) in
+    let held : uses_from other [] (filter (is_asked script) after.history) ≡ uses_from other [] (filter (is_asked script) before.history) =
+    ap (λ l. uses_from other [] (filter (is_asked script) l)) g.history ∙ (ap (uses_from other []) (filter-append (is_asked script) before.history entries) ∙ (uses_append other [] (filter (is_asked script) before.history) (filter (is_asked script) entries) ∙ uses_foreign other (is_asked script) _ entries f)) in
+    rw (same, held) h
 
 -- a host that has further lines left
 left_more : (script : Script) (start : Tree) (done rest : List Line) (host : HostId) (line : Line) (before after : Play) → line.node ≡ Host host →
@@ -376,19 +365,19 @@ left_more script start done rest host line before after n u h k =
     let at : IsAtDesk script done (line ∷ rest) before.past.history host desk = u.desk host desk h.was in
     let count : desk.left - 1 ≡ length (filter (is_of (Host host)) rest) = (let l = at.left in let m = has_left host line rest n in omega arith) in
     let same : after.past ≡ before.past = h.more (omega arith) in
-    let goes : GoesOn before.past [] after.past = subst (λ past. GoesOn before.past [] past) (sym same) (goes_nowhere before.past u.steady.formed u.steady.apart u.steady.rooms) in
+    let goes : GoesOn before.past [] after.past = subst (λ past. GoesOn before.past [] past) (sym same) (goes_nowhere before.past u.steady.formed u.steady.rest u.steady.rooms) in
     come_on script start done done (line ∷ rest) rest [] host desk (desk_left desk) before after u goes (sym (append-nil _)) refl (λ other d. refl) h.was h.desks
     (desk_foreign script done rest before.past.history [] host (desk_left desk) refl (record { left = count; stopped = at.stopped; going = λ _. let o : IsOpen script done before.past.history host desk = at.going (omega arith) in record { calls = o.calls; next = o.next; uses = o.uses; implied = o.implied } }))
     (λ other d e a. desk_foreign script done rest before.past.history [] other d refl (desk_on script done rest before.past.history host other line d n e a))
-    (λ other e w. (others_left host other line rest n e ∙ w, closed_foreign script done before.past after.past [] other refl goes (subst (λ past. all_contents (has_saved other) before.past.tree ≡ true → all_contents (has_saved other) past.tree ≡ true) (sym same) (λ s. s))))
+    (λ other e w. (others_left host other line rest n e ∙ w, closed_foreign script done before.past after.past [] other refl goes))
     (λ e. let z = ap length e in absurd (omega arith))
 
 -- a host whose last line it was
 left_last : (script : Script) (start : Tree) (done rest : List Line) (host : HostId) (line : Line) (before after : Play) (entries : List Entry) (h : HasLeft host before after) → line.node ≡ Host host →
     IsUnderway script start done (line ∷ rest) before → filter (is_of (Host host)) rest ≡ [] → GoesOn before.past entries after.past → (filter (is_asked script) entries ≡ []) → filter is_down entries ≡ [] →
-    are_numbered host (next_from host 1 before.past.history) entries ≡ true → ((other : HostId) → Differ host other → list_all (is_foreign other) entries ≡ true) → ((other : HostId) → all_contents (has_saved other) before.past.tree ≡ true → all_contents (has_saved other) after.past.tree ≡ true) →
-    calls_in (filter (is_implied script host) entries) ≡ last_calls script done host before.past.history → all_contents (has_saved host) after.past.tree ≡ true → IsUnderway script start done rest after
-left_last script start done rest host line before after entries h n u k goes asked down numbered foreign saved calls all =
+    are_numbered host (next_from host 1 before.past.history) entries ≡ true → ((other : HostId) → Differ host other → list_all (is_foreign other) entries ≡ true) →
+    calls_in (filter (is_implied script host) entries) ≡ last_calls script done host before.past.history → IsUnderway script start done rest after
+left_last script start done rest host line before after entries h n u k goes asked down numbered foreign calls =
     let desk = h.desk in
     let history = before.past.history in
     let at : IsAtDesk script done (line ∷ rest) history host desk = u.desk host desk h.was in
@@ -400,11 +389,8 @@ left_last script start done rest host line before after entries h n u k goes ask
     come_on script start done done (line ∷ rest) rest entries host desk (desk_left desk) before after u goes (sym (rw (acts_none script entries asked down) (append-nil _))) numbered foreign h.was h.desks
     (record { left = count; stopped = at.stopped; going = λ w. absurd (omega arith) })
     (λ other d e a. desk_foreign script done rest history entries other d (foreign other e) (desk_on script done rest history host other line d n e a))
-    (λ other e w. (others_left host other line rest n e ∙ w, closed_foreign script done before.past after.past entries other (foreign other e) goes (saved other)))
-    (λ _. record {
-      implied = ap (λ l. calls_in (filter (is_implied script host) l)) goes.history ∙ (ap calls_in (filter-append (is_implied script host) history entries) ∙ (rw o.implied (rw kept calls)));
-      saved = all;
-    })
+    (λ other e w. (others_left host other line rest n e ∙ w, closed_foreign script done before.past after.past entries other (foreign other e) goes))
+    (λ _. ap (λ l. calls_in (filter (is_implied script host) l)) goes.history ∙ (ap calls_in (filter-append (is_implied script host) history entries) ∙ (rw o.implied (rw kept calls))))
 
 -- a host's calls are those of its lines
 abbrev no_calls : List Asked
@@ -443,7 +429,7 @@ no_more_calls script done rest host c k =
 
 pub left_end : (script : Script) (start : Tree) (done rest : List Line) (host : HostId) (line : Line) (before after : Play) → line.node ≡ Host host → AreCounted script (done ++ rest) →
     IsUnderway script start done (line ∷ rest) before → HasLeft host before after → filter (is_of (Host host)) rest ≡ [] → IsUnderway script start done rest after
-left_end script start done rest host line before after n counted u h k = by h.desk.stopped refl (last.ends)
+left_end script start done rest host line before after n counted u h k = by h.desk.stopped refl (h.last none_left)
   where
     at : IsAtDesk script done (line ∷ rest) before.past.history host h.desk
     at = u.desk host h.desk h.was
@@ -454,30 +440,16 @@ left_end script start done rest host line before after n counted u h k = by h.de
     none_left : h.desk.left - 1 ≡ 0
     none_left = let m = has_left host line rest n in let l = at.left in let z = ap length k in omega arith
 
-    last : IsLast host h.desk.calls h.desk.stopped h.desk.uses before.past after.past
-    last = h.last none_left
-
-    by : (v : Bool) → h.desk.stopped ≡ v → EndsUnless v host h.desk.calls h.desk.uses before.past last.between → IsUnderway script start done rest after
+    by : (v : Bool) → h.desk.stopped ≡ v → EndsUnless v host h.desk.calls h.desk.uses before.past after.past → IsUnderway script start done rest after
     by true e q =
-        let o : IsOpen script done before.past.history host h.desk = at.going left in
-        let s : Saves host before.past after.past = subst (λ past. Saves host past after.past) q last.saves in
-        left_last script start done rest host line before after s.stored h n u k s.goes (asked_stores script s.stored s.stores) (down_stores s.stored s.stores)
-        (numbered_foreign host (next_from host 1 before.past.history) s.stored (stores_foreign host s.stored s.stores)) (λ other d. stores_foreign other s.stored s.stores) s.saved
-        (rw (implied_foreign script host s.stored (stores_foreign host s.stored s.stores), sym at.stopped ∙ e) refl) s.all
+        let goes : GoesOn before.past [] after.past = subst (λ past. GoesOn before.past [] past) (sym q) (goes_nowhere before.past u.steady.formed u.steady.rest u.steady.rooms) in
+        left_last script start done rest host line before after [] h n u k goes refl refl refl (λ other d. refl) (rw (sym at.stopped ∙ e) refl)
     by false e q =
         let o : IsOpen script done before.past.history host h.desk = at.going left in
-        let s : Saves host last.between after.past = last.saves in
-        let entries : List Entry = q.entries ++ s.stored in
         let count : call_lines script host.0 ≡ h.desk.calls = no_more_calls script done rest host counted k ∙ sym o.calls in
         let (p, r) = ends_asked script host h.desk.calls q.entries count q.hers q.above in
-        left_last script start done rest host line before after entries h n u k (goes_append before.past last.between after.past q.entries s.stored q.goes s.goes)
-        (filter-append (is_asked script) q.entries s.stored ∙ rw (p, asked_stores script s.stored s.stores) refl)
-        (filter-append is_down q.entries s.stored ∙ rw (ends_down host q.entries q.hers, down_stores s.stored s.stores) refl)
-        (rw o.next (numbered_append host (h.desk.calls + 1) q.entries s.stored q.numbered (numbered_foreign host (next_from host (h.desk.calls + 1) q.entries) s.stored (stores_foreign host s.stored s.stores))))
-        (λ other d. all_append (is_foreign other) q.entries s.stored (ends_foreign host other d q.entries q.hers) (stores_foreign other s.stored s.stores))
-        (λ other w. s.saved other (q.saved other w))
-        (ap calls_in (filter-append (is_implied script host) q.entries s.stored) ∙ (rw (implied_foreign script host s.stored (stores_foreign host s.stored s.stores), append-nil (filter (is_implied script host) q.entries)) (r ∙ (q.calls ∙ rw (sym at.stopped ∙ e, ← o.uses) refl))))
-        s.all
+        left_last script start done rest host line before after q.entries h n u k q.goes p (ends_down host q.entries q.hers) (rw o.next q.numbered) (λ other d. ends_foreign host other d q.entries q.hers)
+        (r ∙ (q.calls ∙ rw (sym at.stopped ∙ e, ← o.uses) refl))
 
 -- a host has a line less left
 pub left_on : (script : Script) (start : Tree) (done rest : List Line) (host : HostId) (line : Line) (before after : Play) → line.node ≡ Host host → AreCounted script (done ++ rest) →

@@ -1,8 +1,7 @@
 -- A run from its first line to its last.
 use Rattle.std.proofs.Common.{◌≡◌, ℕ, ◌+◌, ◌≤◌, Bool, nat_le, ◌&&◌, true, false, not, List, [], ◌++◌, length, refl, sym, ap, subst, ◌∙◌, arith, rules, length-append}
-use Rattle.std.specs.Prelude.{◌==◌, ◌∷◌, if◌then◌else◌, cond, filter, count_by, IsPermutation, Option, Some, None}
+use Rattle.std.specs.Prelude.{◌==◌, ◌∷◌, if◌then◌else◌, cond, filter, count_by, IsPermutation}
 use Rattle.std.specs.List.{list_all}
-use Rattle.std.specs.Option.{option_map_or}
 use Rattle.std.proofs.lemmas.Grind.{common_steps}
 use Rattle.std.proofs.lemmas.List.{append-nil}
 use Rattle.std.proofs.lemmas.List.Recursion.{is_count_by}
@@ -15,13 +14,7 @@ use Rattle.dfs_calls.specs.Limits.{keeps_limit}
 use Rattle.dfs_calls.specs.declared.call.Call.{Call as CallOf}
 use Rattle.dfs_calls.specs.declared.call.Call.TheVariants.{NewFileset}
 use Rattle.dfs_tree.specs.declared.tree.Tree.{Tree}
-use Rattle.dfs_filesets.specs.WellFormed.{is_settled, is_at_rest}
-use Rattle.dfs_objects.specs.declared.content.Content.{Content}
-use Rattle.dfs_objects.specs.declared.content.Content.TheVariants.{Dir, File}
-use Rattle.dfs_objects.specs.declared.content.Object.{Object}
 use Rattle.dfs_tree.specs.Histories.{after_history}
-use Rattle.dfs_saving.specs.Unsaved.{all_contents, anode_content, fileset_contents, has_saved, is_by_one}
-use Rattle.dfs_saving.proofs.Apart.{saved_is_at_rest}
 use Rattle.script_lines.specs.Asks.{is_host, is_call, is_call_of, call_lines}
 use Rattle.script_lines.specs.Sound.{is_of, is_sound_line, is_sound_deed, is_sound_call, makes_fileset, is_server, is_setup_line, is_setup_call, IsSound}
 use Rattle.script_lines.specs.declared.script.Deed.{Deed}
@@ -32,12 +25,11 @@ use Rattle.run_script.specs.Orders.{IsOrder}
 use Rattle.plain_service.specs.Calls.{Asked, asked_by, calls_of, own_calls}
 use Rattle.plain_service.specs.Played.{IsStart, IsPlayed}
 use Rattle.plain_service.specs.Seats.{is_seated, lines_at, all_places}
-use Rattle.plain_service.specs.Underway.{StaysIdle, IsUnderway, IsFit, AreCounted, GoesAlong, IsNew, may_go, keeps_deed, played_so}
+use Rattle.plain_service.specs.Underway.{IsUnderway, IsFit, AreCounted, GoesAlong, IsNew, may_go, keeps_deed, played_so}
 use Rattle.plain_service.specs.declared.play.Play.{Play}
 use Rattle.plain_service.proofs.Histories.{fst_true, snd_true, both_true, all_so}
 use Rattle.plain_service.proofs.Seats.{same_eq}
 use Rattle.plain_service.proofs.Steps.{own_append, own_by}
-use Rattle.plain_service.proofs.Idle.{stays_nowhere}
 
 le_of : (a b : ℕ) → nat_le a b ≡ true → a ≤ b
 le_of a b h = grind (arith, common_steps, h)
@@ -107,33 +99,13 @@ counted_order script order o host =
     let same : own_calls host order ≡ own_calls host script.lines = own_by host order ∙ (ap calls_of (o.each (Host host)) ∙ sym (own_by host script.lines)) in
     counted_calls host (script.setup ++ script.lines) ∙ ap length (own_append host script.setup script.lines ∙ (ap (λ l. own_calls host script.setup ++ l) (sym same) ∙ sym (own_append host script.setup order)))
 
--- where nothing is unsaved
-settled_by_one : (content : Content) → is_settled content ≡ true → is_by_one content ≡ true
-settled_by_one (Dir entries lists) h = refl
-settled_by_one (File list kept [] None) h = refl
-settled_by_one (File list kept [] (Some len)) h = cc
-settled_by_one (File list kept (byte ∷ unsaved) len) h = cc
-
-settled_saved : (host : HostId) (content : Content) → is_settled content ≡ true → has_saved host content ≡ true
-settled_saved host (Dir entries lists) h = refl
-settled_saved host (File list kept [] None) h = refl
-settled_saved host (File list kept [] (Some len)) h = cc
-settled_saved host (File list kept (byte ∷ unsaved) len) h = cc
-
-rest_all : (test : Content → Bool) → ((content : Content) → is_settled content ≡ true → test content ≡ true) → (tree : Tree) → list_all is_at_rest tree.filesets ≡ true → all_contents test tree ≡ true
-rest_all test f tree h = all_so is_at_rest (fileset_contents test) (λ fileset k. all_so (λ anode. option_map_or (λ object. is_settled object.content) anode.object true) (anode_content test) (λ anode m. by anode.object m) fileset.anodes k) tree.filesets h
-  where
-    by : (object : Option Object) → option_map_or (λ object. is_settled object.content) object true ≡ true → option_map_or (λ object. test object.content) object true ≡ true
-    by None m = refl
-    by (Some object) m = f object.content m
-
 -- before the first line
 pub fit_first : (script : Script) (start : Tree) (play : Play) → IsStart script.roster start → IsNew script start play → IsFit play
-fit_first script start play e n = record { desks = n.desks; formed = rw n.tree e.formed; apart = rw n.tree (rest_all is_by_one settled_by_one start e.rest); rooms = rw n.tree e.rooms }
+fit_first script start play e n = record { desks = n.desks; formed = rw n.tree e.formed; rest = rw n.tree e.rest; rooms = rw n.tree e.rooms }
 
 underway_first : (script : Script) (start : Tree) (order : List Line) (play : Play) → IsOrder script.lines order → IsStart script.roster start → IsNew script start play → IsUnderway script start [] (script.setup ++ order) play
 underway_first script start order play o e n = record {
-  steady = record { legal = rw n.history tt; tree = n.tree ∙ sym (ap (after_history start) n.history); formed = rw n.tree e.formed; apart = rw n.tree (rest_all is_by_one settled_by_one start e.rest); lefts = rw n.history refl; idle = λ host. subst (λ list. StaysIdle host start list play.past.tree) (sym n.history) (subst (λ tree. StaysIdle host start [] tree) (sym n.tree) (stays_nowhere host start)); rooms = rw n.tree e.rooms; roster = rw n.tree e.roster };
+  steady = record { legal = rw n.history tt; tree = n.tree ∙ sym (ap (after_history start) n.history); formed = rw n.tree e.formed; rest = rw n.tree e.rest; lefts = rw n.history refl; stores = rw n.history e.rest; rooms = rw n.tree e.rooms; roster = rw n.tree e.roster };
   acts = rw n.history refl;
   numbered = λ host. rw n.history refl;
   desks = n.desks;
@@ -142,7 +114,7 @@ underway_first script start order play o e n = record {
     stopped = refl;
     going = λ _. record { calls = refl; next = rw n.history refl; uses = rw n.history refl; implied = rw n.history refl };
   });
-  closed = λ host _. record { implied = rw n.history refl; saved = rw n.tree (rest_all (has_saved host) (settled_saved host) start e.rest) };
+  closed = λ host _. rw n.history refl;
 }
 
 -- after the last line
@@ -159,12 +131,11 @@ all_played script start places first between last p o e n a b =
       legal = done.steady.legal;
       places = p;
       order = o;
-      done = record { acts = done.acts; numbered = done.numbered; implied = λ host. (done.closed host refl).implied };
+      done = record { acts = done.acts; numbered = done.numbered; implied = λ host. done.closed host refl };
       last = done.steady.tree;
       lefts = done.steady.lefts;
-      idle = λ host. (done.steady.idle host false (λ never. cc)).0;
+      stores = done.steady.stores;
       rooms = done.steady.rooms;
-      saved = saved_is_at_rest last.past.tree (λ host. (done.closed host refl).saved);
     }
 
 pub ruleset whole = (lines_may, setup_may, lines_seated, fit_first, all_played)

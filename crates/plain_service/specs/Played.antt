@@ -18,22 +18,29 @@ use Rattle.std.specs.Prelude.{
   map,
   filter,
   IsPermutation,
+  Option,
+  Some,
+  None,
 }
 use Rattle.std.specs.List.{flat_map, list_any, list_all}
+use Rattle.std.specs.Option.{option_map}
+use Rattle.dfs_base.specs.Ids.{same_fid}
+use Rattle.dfs_base.specs.declared.ids.Fid.{Fid}
 use Rattle.dfs_base.specs.declared.ids.HostId.{HostId}
 use Rattle.dfs_base.specs.declared.ids.Node.TheVariants.{Host}
 use Rattle.dfs_calls.specs.declared.entry.Entry.{Entry}
 use Rattle.dfs_calls.specs.declared.entry.Entry.TheVariants.{Call as Called, Stored, Down, Left}
 use Rattle.dfs_calls.specs.declared.call.Call.{Call as CallOf}
-use Rattle.dfs_calls.specs.declared.call.Call.TheVariants.{MoveFileset}
+use Rattle.dfs_calls.specs.declared.call.Call.TheVariants.{Write, MoveFileset}
 use Rattle.dfs_calls.specs.declared.reply.Reply.{Reply}
 use Rattle.dfs_calls.specs.declared.reply.Reply.TheVariants.{Ok as Done}
 use Rattle.dfs_calls.specs.declared.roster.Roster.{Roster}
 use Rattle.dfs_tree.specs.declared.tree.Tree.{Tree}
 use Rattle.dfs_tree.specs.WellFormed.{IsWellFormed}
-use Rattle.dfs_tree.specs.Histories.{IsHistory, after_history}
+use Rattle.dfs_tree.specs.Histories.{IsHistory, after_entry, after_history}
+use Rattle.dfs_tree.specs.Stores.{stored_tree}
 use Rattle.dfs_filesets.specs.WellFormed.{is_at_rest}
-use Rattle.dfs_saving.specs.Saving.{is_store_by}
+use Rattle.dfs_saving.specs.Saving.{fid_named}
 use Rattle.script_lines.specs.declared.script.Line.{Line}
 use Rattle.script_lines.specs.declared.script.Script.{Script}
 use Rattle.script_lines.specs.Sound.{is_of, is_stop}
@@ -118,33 +125,44 @@ lefts_stand due (Down host server ∷ entries) = not due && lefts_stand false en
 abbrev pub rooms_free : Tree → Bool
 rooms_free tree = list_all (λ away. not away.room_kept) tree.away
 
--- whether, after an entry, a host is down and has made no call since
-abbrev pub idle_after : HostId → Bool → Entry → Bool
-idle_after host idle (Called caller k call reply) = if caller.0 == host.0 then false else idle
-idle_after host idle (Stored by fid spans len) = idle
-idle_after host idle (Down by server) = if by.0 == host.0 then true else idle
-idle_after host idle (Left server id) = idle
+-- whether nothing is unsaved in a tree
+abbrev pub rests : Tree → Bool
+rests tree = list_all is_at_rest tree.filesets
 
--- whether a host stores nothing from where it is down on, unless it calls again
-abbrev pub stays_idle : HostId → Bool → List Entry → Bool
-stays_idle host idle [] = true
-stays_idle host idle (entry ∷ entries) =
-    not (idle && is_store_by host entry) && stays_idle host (idle_after host idle entry) entries
+-- the host that an entry says to have written, and the file
+abbrev pub written_by : Tree → Entry → Option (HostId × Fid)
+written_by tree (Called host k (Write place from bytes) reply) = option_map (λ fid. (host, fid)) (fid_named tree place)
+written_by tree _ = None
+
+-- whether a host stores of the file that it has just written
+abbrev pub is_due : Option (HostId × Fid) → HostId → Fid → Bool
+is_due None host fid = false
+is_due (Some written) host fid = (host.0 == written.0.0) && same_fid fid written.1
+
+-- whether hosts store at once, where this was just written: what a write leaves unsaved is stored directly behind it,
+-- by that host and of that file, and nothing else is ever stored; before each other entry, and at the end, nothing is
+-- unsaved
+abbrev pub stores_stand : Option (HostId × Fid) → Tree → List Entry → Bool
+stores_stand written tree [] = rests tree
+stores_stand written tree (Stored host fid spans len ∷ entries) =
+    (is_due written host fid && not (rests tree)) && stores_stand None (stored_tree tree host fid spans len) entries
+stores_stand written tree (entry ∷ entries) =
+    rests tree && stores_stand (written_by tree entry) (after_entry tree entry) entries
 
 -- A tree from which a script can be run: it is well formed and has the script's roster, nothing is unsaved, nothing is
 -- in use, and no server keeps room for a fileset that left it.
 pub record IsStart (given : Roster) (tree : Tree) : Type 0 where
   pub formed : IsWellFormed tree
   pub roster : tree.roster ≡ given
-  pub rest : list_all is_at_rest tree.filesets ≡ true
+  pub rest : rests tree ≡ true
   pub locks : tree.locks ≡ []
   pub opens : tree.opens ≡ []
   pub rooms : rooms_free tree ≡ true
 
 -- A script was run on the file tree: what happened is legal; first come the lines that make the filesets, and then all
 -- others, each once, in an order in which each node's lines stay in theirs and each that awaits a flag comes after the
--- one that raised it; a server learns that a fileset has arrived directly behind the move; a host that is down stores
--- nothing any more; and in the end nothing is unsaved, and no server keeps room for a fileset that left it.
+-- one that raised it; a server learns that a fileset has arrived directly behind the move; what a host writes it stores
+-- directly behind the write; and in the end no server keeps room for a fileset that left it.
 pub record IsPlayed (script : Script) (played : Played) : Type 0 where
   pub start : IsStart script.roster played.start
   pub legal : IsHistory played.start played.history
@@ -153,6 +171,5 @@ pub record IsPlayed (script : Script) (played : Played) : Type 0 where
   pub done : IsDoneBy script (script.setup ++ lines_at script.lines played.order) played.history
   pub last : played.last ≡ after_history played.start played.history
   pub lefts : lefts_stand false played.history ≡ true
-  pub idle : (host : HostId) → stays_idle host false played.history ≡ true
-  pub saved : list_all is_at_rest played.last.filesets ≡ true
+  pub stores : stores_stand None played.start played.history ≡ true
   pub rooms : rooms_free played.last ≡ true

@@ -33,6 +33,7 @@ use Rattle.dfs_base.specs.declared.ids.Node.TheVariants.{Host}
 use Rattle.dfs_base.specs.declared.limits.TheConstants.{HOSTS_MAX}
 use Rattle.dfs_calls.specs.Limits.{keeps_limit}
 use Rattle.dfs_calls.specs.declared.call.Call.{Call}
+use Rattle.dfs_calls.specs.declared.call.Call.TheVariants.{Write}
 use Rattle.dfs_calls.specs.declared.entry.Entry.{Entry}
 use Rattle.dfs_calls.specs.declared.entry.Entry.TheVariants.{Call as Called, Stored, Down, Left}
 use Rattle.dfs_calls.specs.declared.reply.Reply.{Reply}
@@ -40,8 +41,7 @@ use Rattle.dfs_tree.specs.declared.tree.Tree.{Tree}
 use Rattle.dfs_tree.specs.Histories.{IsHistory, after_history}
 use Rattle.dfs_tree.specs.WellFormed.{IsWellFormed}
 use Rattle.dfs_tree.specs.Moving.{left_tree}
-use Rattle.dfs_saving.specs.Unsaved.{all_contents, has_saved, is_by_one, is_write_by, writes_alone}
-use Rattle.dfs_saving.specs.Saving.{downs_from}
+use Rattle.dfs_saving.specs.Saving.{downs_from, StoresAll}
 use Rattle.script_lines.specs.declared.script.Deed.{Deed}
 use Rattle.script_lines.specs.declared.script.Deed.TheVariants.{Call as CallDeed, Stop as StopDeed}
 use Rattle.script_lines.specs.declared.script.Line.{Line}
@@ -60,8 +60,8 @@ use Rattle.plain_service.specs.Played.{
   stops,
   last_calls,
   lefts_stand,
-  idle_after,
-  stays_idle,
+  rests,
+  stores_stand,
   rooms_free,
 }
 use Rattle.plain_service.specs.declared.uses.Use.{Use}
@@ -81,39 +81,21 @@ is_aside (Stored host fid spans len) = true
 is_aside (Left server id) = true
 is_aside _ = false
 
--- entries that may come next lead from a tree to another well formed one, in which what each file has unsaved is one
--- host's
+-- entries that may come next lead from a tree to another well formed one, in which nothing is unsaved
 pub record Leads (before : Tree) (entries : List Entry) (after : Tree) : Type 0 where
   pub legal : IsHistory before entries
   pub tree : after ≡ after_history before entries
   pub formed : IsWellFormed after
-  pub apart : all_contents is_by_one after ≡ true
+  pub rest : rests after ≡ true
   pub roster : after.roster ≡ before.roster
-
--- whether, after entries, a host is down and has made no call since
-abbrev pub idle_from : HostId → Bool → List Entry → Bool
-idle_from host idle [] = idle
-idle_from host idle (entry ∷ entries) = idle_from host (idle_after host idle entry) entries
-
--- where a host that is idle has saved all, it stores nothing while it is idle, and so it is after these entries
-abbrev pub StaysIdle : HostId → Tree → List Entry → Tree → Type 0
-StaysIdle host before entries after =
-    (idle : Bool) → (idle ≡ true → all_contents (has_saved host) before ≡ true)
-    → (stays_idle host idle entries ≡ true)
-    × (idle_from host idle entries ≡ true → all_contents (has_saved host) after ≡ true)
 
 -- entries came next, each of which may; no server keeps room then
 pub record GoesOn (before : Past) (entries : List Entry) (after : Past) : Type 0 where
   pub history : after.history ≡ before.history ++ entries
   pub leads : Leads before.tree entries after.tree
   pub lefts : lefts_stand false entries ≡ true
-  pub idle : (host : HostId) → StaysIdle host before.tree entries after.tree
+  pub stores : stores_stand None before.tree entries ≡ true
   pub rooms : rooms_free after.tree ≡ true
-
--- a host that has saved all still has
-abbrev pub StillSaved : HostId → Past → Past → Type 0
-StillSaved host before after =
-    all_contents (has_saved host) before.tree ≡ true → all_contents (has_saved host) after.tree ≡ true
 
 -- the first server that keeps room for a fileset that left it, and the fileset
 abbrev pub kept_room : Tree → Option (ServerId × FilesetId)
@@ -128,37 +110,28 @@ arrived_by past (Some found) =
 abbrev pub arrived : Past → Past
 arrived past = arrived_by past (kept_room past.tree)
 
--- a host made its next call; whatever became kept did so before, and where it moved a fileset a server learnt it
-pub record Makes (host : HostId) (k : ℕ) (call : Call) (done : Bool) (before after : Past) : Type 0 where
-  pub stored : List Entry
-  pub reply : Reply
-  pub left : List Entry
-  pub stores : list_all is_aside stored ≡ true
-  pub lefts : list_all is_aside left ≡ true
-  pub goes : GoesOn before (stored ++ Called host k call reply ∷ left) after
-  pub told : done ≡ is_done reply
-  pub saved : (other : HostId) → is_write_by other (Called host k call reply) ≡ false → StillSaved other before after
+-- whether a call writes
+abbrev pub is_write : Call → Bool
+is_write (Write place from bytes) = true
+is_write _ = false
 
--- before a write of a host nobody else has anything unsaved of the file
-pub record MakesWay (host : HostId) (call : Call) (before after : Past) : Type 0 where
-  pub stored : List Entry
-  pub stores : list_all is_aside stored ≡ true
-  pub goes : GoesOn before stored after
-  pub alone : (k : ℕ) (reply : Reply) → writes_alone after.tree (Called host k call reply) ≡ true
-  pub saved : (other : HostId) → StillSaved other before after
-
--- a host is down at every server
-pub record GoesDown (host : HostId) (before after : Past) : Type 0 where
-  pub goes : GoesOn before (downs_from host 1 (length before.tree.roster.capacity)) after
-  pub saved : (other : HostId) → StillSaved other before after
-
--- a host stored all
+-- a host stored all that it had unsaved
 pub record Saves (host : HostId) (before after : Past) : Type 0 where
   pub stored : List Entry
-  pub stores : list_all is_aside stored ≡ true
-  pub goes : GoesOn before stored after
-  pub all : all_contents (has_saved host) after.tree ≡ true
-  pub saved : (other : HostId) → StillSaved other before after
+  pub history : after.history ≡ before.history ++ stored
+  pub stores : StoresAll host before.tree stored after.tree
+
+-- a host made its next call; what it wrote became kept behind it, and where it moved a fileset a server learnt it
+pub record Makes (host : HostId) (k : ℕ) (call : Call) (done : Bool) (before after : Past) : Type 0 where
+  pub reply : Reply
+  pub behind : List Entry
+  pub asides : list_all is_aside behind ≡ true
+  pub goes : GoesOn before (Called host k call reply ∷ behind) after
+  pub told : done ≡ is_done reply
+
+-- a host is down at every server
+abbrev pub GoesDown : HostId → Past → Past → Type 0
+GoesDown host before after = GoesOn before (downs_from host 1 (length before.tree.roster.capacity)) after
 
 -- the number of a host's next call after entries
 abbrev pub next_from : HostId → ℕ → List Entry → ℕ
@@ -186,16 +159,15 @@ pub record Ends (host : HostId) (made : ℕ) (uses : List Use) (before after : P
   pub numbered : are_numbered host (made + 1) entries ≡ true
   pub above : list_all (is_above made) entries ≡ true
   pub next : next_from host (made + 1) entries ≡ made + 1 + length uses
-  pub saved : (other : HostId) → StillSaved other before after
 
 -- what happened is legal, and led to the tree that is there
 pub record IsSteady (script : Script) (start : Tree) (past : Past) : Type 0 where
   pub legal : IsHistory start past.history
   pub tree : past.tree ≡ after_history start past.history
   pub formed : IsWellFormed past.tree
-  pub apart : all_contents is_by_one past.tree ≡ true
+  pub rest : rests past.tree ≡ true
   pub lefts : lefts_stand false past.history ≡ true
-  pub idle : (host : HostId) → StaysIdle host start past.history past.tree
+  pub stores : stores_stand None start past.history ≡ true
   pub rooms : rooms_free past.tree ≡ true
   pub roster : past.tree.roster ≡ script.roster
 
@@ -213,10 +185,10 @@ pub record IsAtDesk (script : Script)
   pub stopped : desk.stopped ≡ stops host done
   pub going : 0 < desk.left → IsOpen script done history host desk
 
--- a host that has no line left has made its last calls, and has saved all
-pub record IsClosed (script : Script) (done : List Line) (past : Past) (host : HostId) : Type 0 where
-  pub implied : calls_in (filter (is_implied script host) past.history) ≡ last_calls script done host past.history
-  pub saved : all_contents (has_saved host) past.tree ≡ true
+-- a host that has no line left has made its last calls
+abbrev pub IsClosed : Script → List Line → List Entry → HostId → Type 0
+IsClosed script done history host =
+    calls_in (filter (is_implied script host) history) ≡ last_calls script done host history
 
 -- some lines are done, and the rest is left
 pub record IsUnderway (script : Script) (start : Tree) (done rest : List Line) (play : Play) : Type 0 where
@@ -226,7 +198,7 @@ pub record IsUnderway (script : Script) (start : Tree) (done rest : List Line) (
   pub desks : length play.desks ≡ HOSTS_MAX + 1
   pub desk : (host : HostId) (desk : Desk)
       → slice_get play.desks host.0 ≡ Some desk → IsAtDesk script done rest play.past.history host desk
-  pub closed : (host : HostId) → filter (is_of (Host host)) rest ≡ [] → IsClosed script done play.past host
+  pub closed : (host : HostId) → filter (is_of (Host host)) rest ≡ [] → IsClosed script done play.past.history host
 
 -- how many calls a script asks each host for
 abbrev pub AreCounted : Script → List Line → Type 0
@@ -236,7 +208,7 @@ AreCounted script lines = (host : HostId) → call_lines script host.0 ≡ lengt
 pub record IsFit (play : Play) : Type 0 where
   pub desks : length play.desks ≡ HOSTS_MAX + 1
   pub formed : IsWellFormed play.past.tree
-  pub apart : all_contents is_by_one play.past.tree ≡ true
+  pub rest : rests play.past.tree ≡ true
   pub rooms : rooms_free play.past.tree ≡ true
 
 -- what is known of a host after a call of its lines
@@ -270,19 +242,13 @@ abbrev pub EndsUnless : Bool → HostId → ℕ → List Use → Past → Past �
 EndsUnless true host calls uses before after = after ≡ before
 EndsUnless false host calls uses before after = Ends host calls uses before after
 
--- after its last line a host ended what it had in use, and saved all
-pub record IsLast (host : HostId) (calls : ℕ) (stopped : Bool) (uses : List Use) (before after : Past) : Type 0 where
-  pub between : Past
-  pub ends : EndsUnless stopped host calls uses before between
-  pub saves : Saves host between after
-
--- a host has a line less left
+-- a host has a line less left; after its last one it ended what it had in use
 pub record HasLeft (host : HostId) (before after : Play) : Type 0 where
   pub desk : Desk
   pub was : slice_get before.desks host.0 ≡ Some desk
   pub desks : after.desks ≡ slice_set before.desks host.0 (desk_left desk)
   pub more : 0 < desk.left - 1 → after.past ≡ before.past
-  pub last : desk.left - 1 ≡ 0 → IsLast host desk.calls desk.stopped desk.uses before.past after.past
+  pub last : desk.left - 1 ≡ 0 → EndsUnless desk.stopped host desk.calls desk.uses before.past after.past
 
 -- a host did what its line asks for
 abbrev pub HasActed : HostId → Deed → Play → Play → Type 0

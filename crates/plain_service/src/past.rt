@@ -1,20 +1,15 @@
-ghost use Rattle.std.specs.Prelude.{◌≡◌, ◌+◌, ℕ, List, true, None, IfOk, IfSome, OnOk};
-ghost use Rattle.dfs_base.specs.declared.ids.HostId.{HostId as TheHost};
-ghost use Rattle.dfs_calls.specs.declared.call.Call.TheVariants.{Write};
-ghost use Rattle.dfs_calls.specs.declared.entry.Entry.TheVariants.{Call as Called};
-ghost use Rattle.dfs_calls.specs.declared.reply.Reply.{Reply as ReplyOf};
-ghost use Rattle.dfs_tree.specs.declared.tree.Tree.{Tree as TreeOf};
+ghost use Rattle.std.specs.Prelude.{◌≡◌, ◌+◌, true, IfOk, OnOk};
 ghost use Rattle.dfs_calls.specs.Limits.{keeps_limit};
 ghost use Rattle.dfs_tree.specs.WellFormed.{IsWellFormed};
-ghost use Rattle.dfs_saving.specs.Unsaved.{all_contents, is_by_one, writes_alone};
-ghost use Rattle.plain_service.specs.Played.{rooms_free};
+ghost use Rattle.dfs_saving.specs.Unsaved.{all_contents, is_by_one};
+ghost use Rattle.plain_service.specs.Played.{rests, rooms_free};
 ghost use Rattle.plain_service.specs.Uses.{is_done, ending};
-ghost use Rattle.plain_service.specs.Underway.{arrived, kept_room, Makes, MakesWay, GoesDown, Saves, Ends, IsLast};
+ghost use Rattle.plain_service.specs.Underway.{arrived, kept_room, is_write, Makes, GoesDown, Saves, Ends};
 
 use crate::uses::Use;
 use dfs_base::{FilesetId, HostId, Items, NoMemory, Plain, ServerId};
-use dfs_calls::{Call, Entry, Place, Reply};
-use dfs_saving::{down_all, store_all, store_others};
+use dfs_calls::{Call, Entry, Reply};
+use dfs_saving::{down_all, store_all};
 use dfs_tree::Tree;
 
 /// What happened so far, and the tree that it led to.
@@ -25,16 +20,14 @@ pub(crate) struct Past {
 }
 
 impl Past {
-    /// A host makes a call, which has this number. What other hosts have unsaved of a file that it writes is stored
-    /// before. Tells whether the call was done.
+    /// A host makes a call, which has this number. What it writes is stored at once. Tells whether the call was done.
     pub fn make(&mut self, host: HostId, k: u32, call: &Call) -> Result<bool, NoMemory>
         requires formed { IsWellFormed self.old.tree }
-        requires apart { all_contents is_by_one self.old.tree ≡ true }
+        requires rest { rests self.old.tree ≡ true }
         requires rooms { rooms_free self.old.tree ≡ true }
         requires limit { keeps_limit call.now ≡ true }
         ensures { IfOk result (λ done. Makes host k call.now done self.old self.new) }
     {
-        self.store_for(host, call)?;
         let reply = self.tree.answer(host, call)?;
         let done = is_done(&reply);
         self.history.push(Entry::Call {
@@ -43,7 +36,11 @@ impl Past {
             call: call.copy()?,
             reply,
         })?;
-        self.arrive()?;
+        if is_write(call) {
+            self.save(host)?;
+        } else {
+            self.arrive()?;
+        }
         Ok(done)
     }
 
@@ -58,24 +55,10 @@ impl Past {
         Ok(())
     }
 
-    // Before a write what other hosts have unsaved of the file is stored.
-    fn store_for(&mut self, host: HostId, call: &Call) -> Result<(), NoMemory>
-        requires formed { IsWellFormed self.old.tree }
-        requires apart { all_contents is_by_one self.old.tree ≡ true }
-        requires rooms { rooms_free self.old.tree ≡ true }
-        ensures { OnOk result (MakesWay host call.now self.old self.new) }
-    {
-        if let Some(place) = written_by(call) {
-            let stored = store_others(&mut self.tree, host, place)?;
-            self.history.append(stored)?;
-        }
-        Ok(())
-    }
-
     /// A host is down at every server.
     pub fn go_down(&mut self, host: HostId) -> Result<(), NoMemory>
         requires formed { IsWellFormed self.old.tree }
-        requires apart { all_contents is_by_one self.old.tree ≡ true }
+        requires rest { rests self.old.tree ≡ true }
         requires rooms { rooms_free self.old.tree ≡ true }
         ensures { OnOk result (GoesDown host self.old self.new) }
     {
@@ -84,11 +67,10 @@ impl Past {
         Ok(())
     }
 
-    /// A host stores all that it has unsaved.
-    pub fn save(&mut self, host: HostId) -> Result<(), NoMemory>
+    // A host stores all that it has unsaved.
+    fn save(&mut self, host: HostId) -> Result<(), NoMemory>
         requires formed { IsWellFormed self.old.tree }
         requires apart { all_contents is_by_one self.old.tree ≡ true }
-        requires rooms { rooms_free self.old.tree ≡ true }
         ensures { OnOk result (Saves host self.old self.new) }
     {
         let stored = store_all(&mut self.tree, host)?;
@@ -96,32 +78,10 @@ impl Past {
         Ok(())
     }
 
-    /// After its last line a host that made so many calls ends what it has in use, unless it stopped, and stores all.
-    pub fn end(
-        &mut self,
-        host: HostId,
-        calls: u32,
-        stopped: bool,
-        uses: &Items<Use>,
-    ) -> Result<(), NoMemory>
-        requires formed { IsWellFormed self.old.tree }
-        requires apart { all_contents is_by_one self.old.tree ≡ true }
-        requires rooms { rooms_free self.old.tree ≡ true }
-        ensures { OnOk result (IsLast host calls stopped uses.now self.old self.new) }
-    {
-        if stopped {
-            self.save(host)?;
-            return Ok(());
-        }
-        self.end_uses(host, calls, uses)?;
-        self.save(host)?;
-        Ok(())
-    }
-
     // A host ends a use by a call of this number.
     fn end_use(&mut self, host: HostId, k: u32, used: &Use) -> Result<bool, NoMemory>
         requires formed { IsWellFormed self.old.tree }
-        requires apart { all_contents is_by_one self.old.tree ≡ true }
+        requires rest { rests self.old.tree ≡ true }
         requires rooms { rooms_free self.old.tree ≡ true }
         ensures { IfOk result (λ done. Makes host k (ending used.now) done self.old self.new) }
     {
@@ -129,10 +89,10 @@ impl Past {
         self.make(host, k, &call)
     }
 
-    // A host that made so many calls ends what it has in use.
-    fn end_uses(&mut self, host: HostId, calls: u32, uses: &Items<Use>) -> Result<(), NoMemory>
+    /// A host that made so many calls ends what it has in use.
+    pub fn end_uses(&mut self, host: HostId, calls: u32, uses: &Items<Use>) -> Result<(), NoMemory>
         requires formed { IsWellFormed self.old.tree }
-        requires apart { all_contents is_by_one self.old.tree ≡ true }
+        requires rest { rests self.old.tree ≡ true }
         requires rooms { rooms_free self.old.tree ≡ true }
         ensures { OnOk result (Ends host calls uses.now self.old self.new) }
     {
@@ -156,16 +116,10 @@ fn kept_room(tree: &Tree) -> Option<(ServerId, FilesetId)>
         .map(|away| (away.server, away.fileset))
 }
 
-// The place that a call writes.
-fn written_by(call: &Call) -> Option<&Place>
-    ensures some { IfSome result (λ place. (from : ℕ) × (bytes : List ℕ) × (call.now ≡ Write place.now from bytes)) }
-    ensures none { result ≡ None → (tree : TreeOf) (host : TheHost) (k : ℕ) (reply : ReplyOf)
-        → writes_alone tree (Called host k call.now reply) ≡ true }
+fn is_write(call: &Call) -> bool
+    ensures { result ≡ is_write call.now }
 {
-    match call {
-        Call::Write { place, .. } => Some(place),
-        _ => None,
-    }
+    matches!(call, Call::Write { .. })
 }
 
 /// The next number of a call. More calls than have a number don't fit into memory.

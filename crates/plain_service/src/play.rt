@@ -187,7 +187,7 @@ impl Play {
         Ok(())
     }
 
-    // A host has a line less left. After its last one it ends what it has in use, unless it stopped, and stores all.
+    // A host has a line less left. After its last one it ends what it has in use, unless it stopped.
     fn leave(&mut self, host: HostId) -> Result<(), NoMemory>
         requires fit { IsFit self.old }
         requires seated { host.0 ≤ HOSTS_MAX }
@@ -196,10 +196,10 @@ impl Play {
     {
         let desk = self.desks.get_mut(host.0 as usize);
         desk.left = desk.left.saturating_sub(1);
-        if desk.left > 0 {
+        if desk.left > 0 || desk.stopped {
             return Ok(());
         }
-        self.past.end(host, desk.calls, desk.stopped, &desk.uses)?;
+        self.past.end_uses(host, desk.calls, &desk.uses)?;
         Ok(())
     }
 }

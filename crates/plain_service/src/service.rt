@@ -32,12 +32,11 @@ fn past_of(script: &Script, start: Tree, order: &Items<usize>) -> Result<Past, N
 }
 
 /// Runs a script from a file tree on: the calls that make the filesets come first; then, as long as a line can go, the
-/// first node that can makes its next line, hosts before servers. What other hosts have unsaved of a file is stored
-/// before a host writes it. A host that stops is down at every server. After its last line a host that hasn't stopped
-/// ends the locks and opens that it has in use, in the order in which it took them, and stores all that it has unsaved.
-/// Restarts of servers, plans and the net change nothing here. The script has to be sound, and no line of it stuck:
-/// each that is read is so. The tree has to be well formed, with the script's roster, nothing unsaved and nothing in
-/// use.
+/// first node that can makes its next line, hosts before servers. What a host writes it stores at once. A host that
+/// stops is down at every server. After its last line a host that hasn't stopped ends the locks and opens that it has
+/// in use, in the order in which it took them. Restarts of servers, plans and the net change nothing here. The script
+/// has to be sound, and no line of it stuck: each that is read is so. The tree has to be well formed, with the script's
+/// roster, nothing unsaved and nothing in use.
 pub fn serve(alloc: Global, script: &Script, start: Tree) -> Result<Played, NoMemory>
     requires sound { IsSound script.now }
     requires goes { stuck_at script.now.lines ≡ None }
