@@ -1,13 +1,14 @@
 -- What a batch leaves that is tried twice, and what batches leave one after the other.
-use Rattle.std.proofs.Common.{◌≡◌, ◌≤◌, ℕ, zero, suc, ◌+◌, ◌-◌, List, [], ◌∷◌, length, take, drop, max, min, refl, sym, subst, ◌∙◌, ap, arith}
+use Rattle.std.proofs.Common.{◌≡◌, ◌≤◌, ◌⊎◌, ℕ, zero, suc, ◌+◌, ◌-◌, List, [], ◌∷◌, length, take, drop, max, min, inl, inr, refl, sym, subst, ◌∙◌, ap, arith}
 use Rattle.std.proofs.lemmas.List.{length-take, length-drop, take_min}
 use Rattle.rpc_types.specs.Soundness.{Each}
-use Rattle.store_acts.specs.Acts.{act_done, state_after}
+use Rattle.store_acts.specs.Acts.{act_done, booted, state_after}
 use Rattle.store_acts.specs.Sound.{AllFit, Fits}
 use Rattle.store_acts.specs.declared.act.Act.{Act}
 use Rattle.store_acts.specs.declared.act.Act.TheVariants.{Boot, Epoch, Host, Do, Refuse, Give, Leave, Back, Left, Settle, Part}
 use Rattle.store_state.specs.declared.state.StoreState.{StoreState}
-use Rattle.store_batches.specs.Again.{IsNumbered, AreNew}
+use Rattle.store_batches.specs.Again.{IsNumbered, AreNew, IsAgain, IsRepeatable}
+use Rattle.store_batches.proofs.Repeats.{fits_again}
 use Rattle.store_batches.proofs.Again.{again_changes_nothing, again_adds_nothing, new_take, new_drop, take_within}
 
 -- whether an act under a number fits hangs on no record
@@ -39,18 +40,93 @@ fit_drop zero acts s f = f
 fit_drop (suc k) [] s f = tt
 fit_drop (suc k) (act ∷ acts) s f = fit_drop k acts (act_done s act).state f.1
 
+-- acts that are new may be given again
+pub new_again : (acts : List Act) (state : StoreState) → AllFit state acts → AreNew state acts → IsAgain state acts
+new_again acts state f h = record {
+  fits = λ k. all_fit acts state (state_after state (take k acts)) h.numbered f;
+  whole = again_changes_nothing state acts h;
+  part = again_adds_nothing state acts h;
+}
+
+-- and so may one act that is repeatable
+pub once_again : (state : StoreState) (act : Act) → Fits state act → IsRepeatable state act → IsAgain state (act ∷ [])
+once_again state act f same = record { fits = fits; whole = whole; part = part }
+  where
+    none : (j : ℕ) → take {A = Act} j [] ≡ []
+    none zero = refl
+    none (suc j) = refl
+
+    one : (k : ℕ) → take (suc k) (act ∷ []) ≡ act ∷ []
+    one k = ap (λ acts. act ∷ acts) (none k)
+
+    done : (k : ℕ) → state_after state (take (suc k) (act ∷ [])) ≡ (act_done state act).state
+    done k = ap (state_after state) (one k)
+
+    again : (k : ℕ) → state_after (state_after state (take (suc k) (act ∷ []))) (act ∷ []) ≡ (act_done state act).state
+    again k = ap (λ s. state_after s (act ∷ [])) (done k) ∙ same
+
+    fits : (k : ℕ) → AllFit (state_after state (take k (act ∷ []))) (act ∷ [])
+    fits zero = (f, tt)
+    fits (suc k) = subst (λ s. AllFit s (act ∷ [])) (sym (done k)) (fits_again state act same f, tt)
+
+    whole : (k : ℕ) → state_after (state_after state (take k (act ∷ []))) (act ∷ []) ≡ state_after state (act ∷ [])
+    whole zero = refl
+    whole (suc k) = again k
+
+    part : (k j : ℕ) → state_after (state_after state (take k (act ∷ []))) (take j (act ∷ [])) ≡ state_after state (take (max k j) (act ∷ []))
+    part zero j = let most : max zero j ≡ j = omega arith in rw most refl
+    part (suc k) zero = let most : max (suc k) zero ≡ suc k = omega arith in rw most refl
+    part (suc k) (suc j) =
+        let most : max (suc k) (suc j) ≡ suc (max k j) = omega arith in
+        ap (λ acts. state_after (state_after state (take (suc k) (act ∷ []))) acts) (one j)
+        ∙ again k ∙ sym (done (max k j)) ∙ ap (λ n. state_after state (take n (act ∷ []))) (sym most)
+
+-- what the first of one act leave
+pub once_failed : (start now : StoreState) (act : Act) → (k : ℕ) × (k ≤ length (act ∷ [])) × (now ≡ state_after start (take k (act ∷ [])))
+    → (now ≡ start) ⊎ (now ≡ (act_done start act).state)
+once_failed start now act (zero, low, e) = inl e
+once_failed start now act (suc zero, low, e) = inr e
+once_failed start now act (suc (suc k), low, e) = absurd (omega (arith, low))
+
+-- acts fit again
+pub again_fits : (start after opened : StoreState) (batch : List Act) (k : ℕ) → IsAgain start batch → after ≡ state_after start (take k batch) → opened ≡ after → AllFit opened batch
+again_fits start after opened batch k h first same = subst (λ s. AllFit s batch) (sym (same ∙ first)) (h.fits k)
+
 -- the second try
-pub tried_twice : (start after opened end : StoreState) (batch : List Act) (k : ℕ) → AreNew start batch → after ≡ state_after start (take k batch) → opened ≡ after
+pub tried_twice : (start after opened end : StoreState) (batch : List Act) (k : ℕ) → IsAgain start batch → after ≡ state_after start (take k batch) → opened ≡ after
     → end ≡ state_after opened batch → end ≡ state_after start batch
-tried_twice start after opened end batch k h first same second =
-    second ∙ ap (λ s. state_after s batch) (same ∙ first) ∙ again_changes_nothing start batch h k
+tried_twice start after opened end batch k h first same second = second ∙ ap (λ s. state_after s batch) (same ∙ first) ∙ h.whole k
 
 -- and what it leaves where it fails
-pub failed_twice : (start after opened end : StoreState) (batch : List Act) (k j : ℕ) → AreNew start batch → k ≤ length batch → j ≤ length batch
+pub failed_twice : (start after opened end : StoreState) (batch : List Act) (k j : ℕ) → IsAgain start batch → k ≤ length batch → j ≤ length batch
     → after ≡ state_after start (take k batch) → opened ≡ after → end ≡ state_after opened (take j batch)
     → (m : ℕ) × (m ≤ length batch) × (end ≡ state_after start (take m batch))
 failed_twice start after opened end batch k j h low short first same second =
-    (max k j, omega (arith, low, short), second ∙ ap (λ s. state_after s (take j batch)) (same ∙ first) ∙ again_adds_nothing start batch h k j)
+    (max k j, omega (arith, low, short), second ∙ ap (λ s. state_after s (take j batch)) (same ∙ first) ∙ h.part k j)
+
+-- a run begins
+pub begins : (state : StoreState) → state_after state (Boot ∷ []) ≡ booted state
+unfolding act_done
+begins state = refl
+
+-- what a store holds once it began one, or failed
+pub begun : (start after : StoreState) → (k : ℕ) × (k ≤ length (Boot ∷ [])) × (after ≡ state_after start (take k (Boot ∷ []))) → (after ≡ start) ⊎ (after ≡ booted start)
+begun start after (zero, low, e) = inl e
+begun start after (suc zero, low, e) = inr (e ∙ begins start)
+begun start after (suc (suc k), low, e) = absurd (omega (arith, low))
+
+pub same_begun : (start after opened : StoreState) → opened ≡ after → (after ≡ start) ⊎ (after ≡ booted start) → (opened ≡ start) ⊎ (opened ≡ booted start)
+same_begun start after opened same (inl e) = inl (same ∙ e)
+same_begun start after opened same (inr e) = inr (same ∙ e)
+
+-- the epoch tells which it is
+pub not_begun : (start opened : StoreState) → opened.epoch ≡ start.epoch → (opened ≡ start) ⊎ (opened ≡ booted start) → opened ≡ start
+not_begun start opened e (inl same) = same
+not_begun start opened e (inr made) = let more = ap (λ (s : StoreState). s.epoch) made in absurd (omega (arith, e, more))
+
+pub has_begun : (start opened : StoreState) → (opened.epoch ≡ start.epoch → ⊥) → (opened ≡ start) ⊎ (opened ≡ booted start) → opened ≡ booted start
+has_begun start opened h (inl same) = absurd (h (ap (λ (s : StoreState). s.epoch) same))
+has_begun start opened h (inr made) = made
 
 -- one batch more
 after_more : (n m : ℕ) (acts : List Act) (s : StoreState) → state_after (state_after s (take n acts)) (take m (drop n acts)) ≡ state_after s (take (n + m) acts)
@@ -64,13 +140,18 @@ abbrev pub batch_in : List Act → ℕ → ℕ → List Act
 batch_in acts from to = take (to - from) (drop from acts)
 
 -- it fits, and is new
-pub batch_new : (start now : StoreState) (acts : List Act) (from to : ℕ) → now ≡ state_after start (take from acts) → AreNew start acts → AreNew now (batch_in acts from to)
+batch_new : (start now : StoreState) (acts : List Act) (from to : ℕ) → now ≡ state_after start (take from acts) → AreNew start acts → AreNew now (batch_in acts from to)
 batch_new start now acts from to e h =
     subst (λ s. AreNew s (batch_in acts from to)) (sym e) (new_take (to - from) (drop from acts) (state_after start (take from acts)) (new_drop from acts start h))
 
-pub batch_fits : (start now : StoreState) (acts : List Act) (from to : ℕ) → now ≡ state_after start (take from acts) → AllFit start acts → AllFit now (batch_in acts from to)
+batch_fits : (start now : StoreState) (acts : List Act) (from to : ℕ) → now ≡ state_after start (take from acts) → AllFit start acts → AllFit now (batch_in acts from to)
 batch_fits start now acts from to e f =
     subst (λ s. AllFit s (batch_in acts from to)) (sym e) (fit_take (to - from) (drop from acts) (state_after start (take from acts)) (fit_drop from acts start f))
+
+-- so it may be given again
+pub batch_again : (start now : StoreState) (acts : List Act) (from to : ℕ) → now ≡ state_after start (take from acts) → AllFit start acts → AreNew start acts
+    → IsAgain now (batch_in acts from to)
+batch_again start now acts from to e f h = new_again (batch_in acts from to) now (batch_fits start now acts from to e f) (batch_new start now acts from to e h)
 
 -- what it leaves
 pub batch_after : (start now next : StoreState) (acts : List Act) (from to : ℕ) → from ≤ to → now ≡ state_after start (take from acts) → next ≡ state_after now (batch_in acts from to)

@@ -1,11 +1,11 @@
 -- Acts that come again.
-use Rattle.std.specs.Prelude.{◌≡◌, ◌≤◌, ◌<◌, ℕ, ◌/◌, ◌%◌, max, List, [], ◌∷◌, length, take, Some, IsTrue}
+use Rattle.std.specs.Prelude.{◌≡◌, ◌≢◌, ◌≤◌, ◌<◌, ℕ, ◌/◌, ◌%◌, max, List, [], ◌∷◌, length, take, Some, IsTrue}
 use Rattle.dfs_base.specs.declared.ids.ServerId.{ServerId}
 use Rattle.dfs_base.specs.declared.limits.TheConstants.{HOSTS_MAX}
 use Rattle.dfs_calls.specs.declared.roster.Roster.{Roster}
 use Rattle.rpc_types.specs.Soundness.{Each}
 use Rattle.store_acts.specs.Acts.{act_done, state_after}
-use Rattle.store_acts.specs.Sound.{IsAct, KeepsLimits}
+use Rattle.store_acts.specs.Sound.{AllFit, IsAct, KeepsLimits}
 use Rattle.store_acts.specs.declared.act.Act.{Act}
 use Rattle.store_acts.specs.declared.act.Act.TheVariants.{
   Boot,
@@ -72,3 +72,38 @@ pub record NumbersAreKept : Type 0 where
   pub new : (server : ServerId) (capacity : ℕ) (roster : Roster) → length roster.hosts ≤ HOSTS_MAX
       → KeepsNumbers (new_state server capacity roster)
   pub after : (state : StoreState) (acts : List Act) → AreNew state acts → KeepsNumbers (state_after state acts)
+
+-- acts that may be given once more where the first of them were done: all of them still fit, and leave what they leave
+-- where none was done; and the first of them leave what the longer of both beginnings leaves
+pub record IsAgain (state : StoreState) (acts : List Act) : Type 0 where
+  pub fits : (k : ℕ) → AllFit (state_after state (take k acts)) acts
+  pub whole : (k : ℕ) → state_after (state_after state (take k acts)) acts ≡ state_after state acts
+  pub part : (k j : ℕ)
+      → state_after (state_after state (take k acts)) (take j acts) ≡ state_after state (take (max k j) acts)
+
+-- an act that changes nothing where it has just been done
+abbrev pub IsRepeatable : StoreState → Act → Type 0
+IsRepeatable state act = (act_done (act_done state act).state act).state ≡ (act_done state act).state
+
+-- an act by which a fileset goes from a server to another one, or by which that is undone
+abbrev pub IsOfMove : Act → Type 0
+IsOfMove (Leave id to) = Unit {0}
+IsOfMove (Left id) = Unit {0}
+IsOfMove (Settle id) = Unit {0}
+IsOfMove (Part from ship id moves at part) = Unit {0}
+IsOfMove Boot = ⊥
+IsOfMove Epoch = ⊥
+IsOfMove (Host host known) = ⊥
+IsOfMove (Do host number call) = ⊥
+IsOfMove (Refuse host id number refusal) = ⊥
+IsOfMove (Give host number fid pieces given) = ⊥
+IsOfMove (Back host number id refusal) = ⊥
+
+-- no two slots hold one fileset
+abbrev pub AreApart : StoreState → Type 0
+AreApart state = (s t : ℕ) (a b : Holding) → s ≢ t → held_at state.slots s ≡ Some a → held_at state.slots t ≡ Some b
+    → a.fileset.id ≢ b.fileset.id
+
+-- in such a store, acts of moves change nothing where they have just been done
+abbrev pub MovesAreRepeatable : Type 0
+MovesAreRepeatable = (state : StoreState) (act : Act) → AreApart state → IsOfMove act → IsRepeatable state act

@@ -4,20 +4,20 @@ ghost use Rattle.rpc_types.specs.Soundness.{Each};
 ghost use Rattle.store_acts.specs.Acts.{state_after};
 ghost use Rattle.store_acts.specs.Sound.{AllFit, AreActs, IsAct};
 ghost use Rattle.dfs_store.specs.Views.{IsSameStore};
-ghost use Rattle.store_batches.specs.Again.{AreNew};
+ghost use Rattle.store_batches.specs.Again.{AreNew, IsAgain};
 ghost use Rattle.store_batches.specs.Batches.{batch_count, batch_wear, IsBlamedTwice};
 
 use dfs_base::BATCH_ACTS_MAX;
 use dfs_store::{Act, Store, StoreFault};
 
 // Does a batch. Where the disk fails it is opened anew, and the batch tried once more.
-fn apply_batch<S: Store>(store: &mut S, batch: &[Act]) -> Result<(), StoreFault>
+pub(crate) fn apply_batch<S: Store>(store: &mut S, batch: &[Act]) -> Result<(), StoreFault>
     requires acts { AreActs (S.view store.old).state.roster (S.view store.old).state.server batch.now }
     requires ready { (S.view store.old).ready }
     requires wear { (S.view store.old).wear + batch_wear ≤ 2 ^ 47 }
-    ensures state { S.tells → AllFit (S.view store.old).state batch.now → AreNew (S.view store.old).state batch.now
+    ensures state { S.tells → IsAgain (S.view store.old).state batch.now
         → OnOk result ((S.view store.new).state ≡ state_after (S.view store.old).state batch.now) }
-    ensures fault { S.tells → AllFit (S.view store.old).state batch.now → AreNew (S.view store.old).state batch.now
+    ensures fault { S.tells → IsAgain (S.view store.old).state batch.now
         → OnErr result ((k : ℕ) × (k ≤ length batch.now)
         × ((S.view store.new).state ≡ state_after (S.view store.old).state (take k batch.now))) }
     ensures same { IsSameStore (S.view store.old) (S.view store.new) }

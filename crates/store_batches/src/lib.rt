@@ -3,6 +3,8 @@
 
 mod batches;
 mod laws;
+mod single;
 
 pub use batches::apply_all;
-pub use laws::again_law;
+pub use laws::{again_law, repeat_law};
+pub use single::{apply_once, boot};

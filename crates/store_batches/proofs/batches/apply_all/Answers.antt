@@ -1,7 +1,7 @@
 use Rattle.std.proofs.Common.{◌+◌, ◌*◌, ◌∙◌, ap, arith}
 use Rattle.dfs_store.proofs.Batches.{on_err}
 use Rattle.store_acts.specs.Acts.{state_after}
-use Rattle.store_batches.proofs.Tries.{batch_new, batch_fits, batch_after, batch_failed, take_to}
+use Rattle.store_batches.proofs.Tries.{batch_again, batch_after, batch_failed, take_to}
 use Rattle.store_batches.proofs.batches.apply_all.Goals as goal
 
 pub returns-in_err-apply_batch-clause-fault : goal.returns-in_err-apply_batch-clause-fault
@@ -12,7 +12,7 @@ returns-in_err-apply_batch-clause-fault g c tells fits new =
     let from = c.loop-at.at * 8 in
     let to = c.min-to.result in
     let so_far = c.loop-at.invariant.state tells fits new in
-    let failed = c.in_err-apply_batch.ensures.fault tells (batch_fits start now c.args.acts.now from to so_far fits) (batch_new start now c.args.acts.now from to so_far new) in
+    let failed = c.in_err-apply_batch.ensures.fault tells (batch_again start now c.args.acts.now from to so_far fits new) in
     let low = c.loop-at-test.true in
     let count = c.div_ceil-at-end.ensures in
     on_err c.from_residual.result _
@@ -30,7 +30,7 @@ loop-at-preserved g c =
           let next = (g.S.Store.view c.apply_batch.new.store).state in
           let from = c.loop-at.at * 8 in
           let so_far = inv.state tells fits new in
-          let made = c.in_ok-apply_batch.ensures.state tells (batch_fits start now c.args.acts.now from to so_far fits) (batch_new start now c.args.acts.now from to so_far new) in
+          let made = c.in_ok-apply_batch.ensures.state tells (batch_again start now c.args.acts.now from to so_far fits new) in
           let low = c.loop-at-test.true in
           let count = c.div_ceil-at-end.ensures in
           let end = c.min-to.ensures in

@@ -1,0 +1,3 @@
+pub mod Keeping
+pub mod Happening
+pub mod Laws

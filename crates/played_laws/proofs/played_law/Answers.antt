@@ -1,0 +1,5 @@
+use Rattle.played_laws.proofs.Whole as lemmas
+use Rattle.played_laws.proofs.played_law.Goals as goal
+
+pub returns : goal.returns
+returns c = lemmas.runs_may_happen
