@@ -78,20 +78,30 @@ workers_fail [] h = cc
 workers_fail (word ∷ []) h = fails_later (end_at (word ∷ []) 1) _ (λ _. dashed_fails 1 WORKERS_MAX (word ∷ []) 0 word refl (grind (arith, common_steps)))
 workers_fail (word ∷ next ∷ words) h = fails_first (end_at (word ∷ next ∷ words) 1) _ (grind (arith, common_steps))
 
+-- no word that begins with a dash is the name of a disk
+names_dashed : (words : List (List ℕ)) → none_dashed words ≡ false → list_all is_disk_name words ≡ false
+names_dashed [] h = cc
+names_dashed ([] ∷ words) h = refl
+names_dashed ((x ∷ word) ∷ words) h = grind (arith, common_steps, names_dashed words)
+
+disks_fail : (least : ℕ) (words : List (List ℕ)) → none_dashed words ≡ false → result_ok (disks_at least words) ≡ None
+unfolding disks_at
+disks_fail least [] h = cc
+disks_fail least (word ∷ words) h = let no = names_dashed (word ∷ words) h in grind (arith, common_steps, no)
+
 run_without : (parts : Parts) → none_dashed parts.workers ≡ false → result_ok (run_of parts) ≡ None
 unfolding run_of
-run_without parts h = fails_later (end_at parts.others 0) _ (λ _. fails_later (end_at parts.json 1) _ (λ _. fails_first (workers_of parts.workers) _ (workers_fail parts.workers h)))
+run_without parts h = fails_later (end_at parts.json 1) _ (λ _. fails_later (disks_at 0 parts.others) _ (λ _. fails_first (workers_of parts.workers) _ (workers_fail parts.workers h)))
 
-run_others : (parts : Parts) (word : List ℕ) (words : List (List ℕ)) → parts.others ≡ word ∷ words → result_ok (run_of parts) ≡ None
+run_others : (parts : Parts) → none_dashed parts.others ≡ false → result_ok (run_of parts) ≡ None
 unfolding run_of
-run_others parts word words e = fails_first (end_at parts.others 0) _ (rw e (grind (arith, common_steps)))
+run_others parts h = fails_later (end_at parts.json 1) _ (λ _. fails_first (disks_at 0 parts.others) _ (disks_fail 0 parts.others h))
 
 run_fails : (parts : Parts) → (none_dashed parts.workers && none_dashed parts.others) ≡ false → result_ok (run_of parts) ≡ None
-run_fails parts h = go parts.others refl
-  where
-    go : (others : List (List ℕ)) → parts.others ≡ others → result_ok (run_of parts) ≡ None
-    go [] e = run_without parts (grind (arith, common_steps))
-    go (word ∷ words) e = run_others parts word words e
+run_fails parts h = elim (none_dashed parts.workers) as (λ t. none_dashed parts.workers ≡ t → result_ok (run_of parts) ≡ None) [
+  | true ↦ λ w. run_others parts (rw w at h)
+  | false ↦ λ w. run_without parts w
+] refl
 
 gen_without : (parts : Parts) → none_dashed parts.workers ≡ false → result_ok (gen_of parts) ≡ None
 unfolding gen_of
@@ -139,24 +149,13 @@ gen_fails parts h = go parts.others refl
     ] refl
     go (a ∷ b ∷ c ∷ d ∷ words) e = gen_end parts (rw e (grind (arith, common_steps)))
 
--- no word that begins with a dash is the name of a disk
-names_dashed : (words : List (List ℕ)) → none_dashed words ≡ false → list_all is_disk_name words ≡ false
-names_dashed [] h = cc
-names_dashed ([] ∷ words) h = refl
-names_dashed ((x ∷ word) ∷ words) h = grind (arith, common_steps, names_dashed words)
-
-disks_fail : (words : List (List ℕ)) → none_dashed words ≡ false → result_ok (disks_at words) ≡ None
-unfolding disks_at
-disks_fail [] h = cc
-disks_fail (word ∷ words) h = let no = names_dashed (word ∷ words) h in grind (arith, common_steps, no)
-
 check_without : (parts : Parts) → none_dashed parts.workers ≡ false → result_ok (check_of parts) ≡ None
 unfolding check_of
-check_without parts h = fails_later (end_at parts.json 0) _ (λ _. fails_later (disks_at parts.others) _ (λ _. fails_first (workers_of parts.workers) _ (workers_fail parts.workers h)))
+check_without parts h = fails_later (end_at parts.json 0) _ (λ _. fails_later (disks_at 1 parts.others) _ (λ _. fails_first (workers_of parts.workers) _ (workers_fail parts.workers h)))
 
 check_others : (parts : Parts) → none_dashed parts.others ≡ false → result_ok (check_of parts) ≡ None
 unfolding check_of
-check_others parts h = fails_later (end_at parts.json 0) _ (λ _. fails_first (disks_at parts.others) _ (disks_fail parts.others h))
+check_others parts h = fails_later (end_at parts.json 0) _ (λ _. fails_first (disks_at 1 parts.others) _ (disks_fail 1 parts.others h))
 
 check_fails : (parts : Parts) → (none_dashed parts.workers && none_dashed parts.others) ≡ false → result_ok (check_of parts) ≡ None
 check_fails parts h = elim (none_dashed parts.workers) as (λ t. none_dashed parts.workers ≡ t → result_ok (check_of parts) ≡ None) [

@@ -25,6 +25,7 @@ use Rattle.script_words.specs.declared.fault.BadWhy.{BadWhy}
 use Rattle.script_words.specs.declared.fault.BadWhy.TheVariants.{Word}
 use Rattle.run_gen.specs.declared.script.TheConstants.{CALLS_MAX}
 use Rattle.command_words.specs.declared.parts.Parts.{Parts}
+use Rattle.command_words.specs.declared.command.TheConstants.{DISKS_MAX}
 use Rattle.command_words.specs.declared.command.Command.{Command}
 use Rattle.command_words.specs.declared.command.Command.TheVariants.{Play, Check}
 use Rattle.command_words.specs.declared.command.Play.{Play as PlayOf}
@@ -39,13 +40,13 @@ workers_of said = do
   _ ← end_at said 1
   number_at 1 WORKERS_MAX said 0
 
--- `run` with at most one `--json`
+-- `run DISK ..` with at most one `--json`
 unfoldable pub run_of : Parts → Result Command BadWhy
 run_of parts = do
-  _ ← end_at parts.others 0
   _ ← end_at parts.json 1
+  disks ← disks_at 0 parts.others
   workers ← workers_of parts.workers
-  Ok (Play (Run (length parts.json == 1) workers))
+  Ok (Play (Run (length parts.json == 1) workers disks))
 
 -- `gen SEED HOSTS CALLS`
 unfoldable pub gen_of : Parts → Result Command BadWhy
@@ -62,7 +63,7 @@ gen_of parts = do
 unfoldable pub check_of : Parts → Result Command BadWhy
 check_of parts = do
   _ ← end_at parts.json 0
-  _ ← disks_at parts.others
+  _ ← disks_at 1 parts.others
   workers ← workers_of parts.workers
   Ok (Check workers)
 
@@ -80,7 +81,7 @@ command_of words = result_ok (read words)
 
 -- what the numbers of a command keep
 abbrev pub IsPlayWithin : PlayOf → Type 0
-IsPlayWithin (Run json workers) = (1 ≤ workers) × (workers ≤ WORKERS_MAX)
+IsPlayWithin (Run json workers disks) = (1 ≤ workers) × (workers ≤ WORKERS_MAX) × (disks ≤ DISKS_MAX)
 IsPlayWithin (Gen seed hosts calls workers) =
     (1 ≤ hosts) × (hosts ≤ HOSTS_MAX) × (1 ≤ calls) × (calls ≤ CALLS_MAX) × (1 ≤ workers) × (workers ≤ WORKERS_MAX)
 
@@ -90,7 +91,8 @@ IsWithin (Check workers) = (1 ≤ workers) × (workers ≤ WORKERS_MAX)
 
 -- the names of the disks that words name, where they are in the grammar
 abbrev pub names_for : List (List ℕ) → Command → List (List ℕ)
-names_for words (Play play) = []
+names_for words (Play (Gen seed hosts calls workers)) = []
+names_for words (Play (Run json workers disks)) = (parts_of (drop 1 words)).others
 names_for words (Check workers) = (parts_of (drop 1 words)).others
 
 abbrev pub disk_names : List (List ℕ) → Option (List (List ℕ))

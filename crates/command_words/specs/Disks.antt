@@ -26,8 +26,8 @@ abbrev pub is_disk_name : List ℕ → Bool
 is_disk_name [] = false
 is_disk_name (byte ∷ _) = not (byte == 45)
 
--- 1 to 4 of them
-unfoldable pub disks_at : List (List ℕ) → Result (Unit {0}) BadWhy
-disks_at names =
-    if nat_le 1 (length names) && nat_le (length names) DISKS_MAX && list_all is_disk_name names then Ok tt
-    else Err Word
+-- how many they are, where they are names of disks, at least so many and at most 4
+unfoldable pub disks_at : ℕ → List (List ℕ) → Result ℕ BadWhy
+disks_at least names =
+    if nat_le least (length names) && nat_le (length names) DISKS_MAX && list_all is_disk_name names
+    then Ok (length names) else Err Word

@@ -6,6 +6,7 @@ ghost use Rattle.command_words.specs.Plain.{are_plain};
 ghost use Rattle.command_words.specs.Command.{IsWithin, workers_of, run_of, gen_of, check_of};
 ghost use Rattle.command_words.specs.Command.{read, command_of, disk_names};
 ghost use Rattle.command_words.specs.Disks.{is_disk_name, disks_at};
+ghost use Rattle.command_words.specs.declared.command.TheConstants.{DISKS_MAX};
 
 use crate::parts::{Parts, names_of, parts_of};
 use crate::plain::are_plain;
@@ -38,6 +39,8 @@ pub enum Play {
         json: bool,
         /// How many workers run the nodes.
         workers: u32,
+        /// How many disks the words name.
+        disks: u32,
     },
     /// The generated workload.
     Gen {
@@ -69,11 +72,12 @@ fn run_of(parts: &Parts) -> Result<Command, Fault>
     ensures value { Gives result (run_of parts.now) }
     ensures within { IfOk result IsWithin }
 {
-    end_at(&parts.others, 0)?;
     end_at(&parts.json, 1)?;
+    let disks = disks_at(&parts.others, 0)?;
     Ok(Command::Play(Play::Run {
         json: !parts.json.is_empty(),
         workers: workers_of(&parts.workers)?,
+        disks,
     }))
 }
 
@@ -107,13 +111,14 @@ fn are_disk_names(words: &Words) -> bool
         .all(|word| is_disk_name(word.as_slice()))
 }
 
-// Refuses words that aren't 1 to `DISKS_MAX` names of disks.
+// How many names of disks these are; refuses words that aren't `least` to `DISKS_MAX` of them.
 #[tactic(auto, unfolding(crate::specs::Disks::disks_at))]
-fn disks_at(words: &Words) -> Result<(), Fault>
-    ensures { Gives result (disks_at words.now) }
+fn disks_at(words: &Words, least: usize) -> Result<u32, Fault>
+    ensures value { Gives result (disks_at least words.now) }
+    ensures few { IfOk result (λ count. count ≤ DISKS_MAX) }
 {
-    if 1 <= words.len() && words.len() <= DISKS_MAX && are_disk_names(words) {
-        Ok(())
+    if least <= words.len() && words.len() <= DISKS_MAX && are_disk_names(words) {
+        Ok(words.len() as u32)
     } else {
         Err(Fault::Bad(BadWhy::Word))
     }
@@ -125,7 +130,7 @@ fn check_of(parts: &Parts) -> Result<Command, Fault>
     ensures within { IfOk result IsWithin }
 {
     end_at(&parts.json, 0)?;
-    disks_at(&parts.others)?;
+    disks_at(&parts.others, 1)?;
     Ok(Command::Check {
         workers: workers_of(&parts.workers)?,
     })
@@ -150,10 +155,10 @@ fn read(alloc: Global, first: &[u8], words: &[String]) -> Result<Command, Fault>
 
 /// The command that words ask for, the program's name left out; none where they aren't in this grammar:
 ///
-/// - `run`, and then in any order at most one `--json` and at most one `--workers N` or `--workers=N`;
+/// - `run DISK ..`, with at most `DISKS_MAX` names of disks, and anywhere after `run` at most one `--json` and at most
+///   one `--workers N` or `--workers=N`. A name of a disk isn't empty and begins with no dash;
 /// - `gen SEED HOSTS CALLS`, with at most one `--workers` as above anywhere after `gen`;
-/// - `check DISK ..`, with 1 to `DISKS_MAX` names of disks, and `--workers` as above. A name of a disk isn't empty and
-///   begins with no dash.
+/// - `check DISK ..`, with 1 to `DISKS_MAX` names of disks, and `--workers` as above.
 ///
 /// Numbers are decimal digits without zeros at the front. N is 1 to `WORKERS_MAX`, and 1 where it isn't said; SEED fits
 /// 64 bits; HOSTS is 1 to `HOSTS_MAX` and CALLS 1 to `CALLS_MAX`. The grammar is this project's own.
@@ -176,7 +181,7 @@ pub fn command_of(alloc: Global, words: &[String]) -> Result<Option<Command>, No
 }
 
 /// The names of the disks that words name, in their order; none where the words aren't in the grammar of `command_of`.
-/// For `run` and `gen` these are no names.
+/// For `gen` these are no names.
 #[tactic(auto, unfolding(crate::specs::Command::read), using(crate::proofs::Refused::not_plain))]
 pub fn disk_names(alloc: Global, words: &[String]) -> Result<Option<Vec<String>>, NoMemory>
     ensures { IfOk result (λ names. option_map (λ names. map string_bytes names.items) names
@@ -189,8 +194,10 @@ pub fn disk_names(alloc: Global, words: &[String]) -> Result<Option<Vec<String>>
         return Ok(None);
     }
     match read(alloc, first.as_bytes(), rest) {
-        Ok(Command::Check { .. }) => Ok(Some(names_of(alloc, rest)?)),
-        Ok(Command::Play(_)) => Ok(Some(Vec::new(alloc))),
+        Ok(Command::Check { .. }) | Ok(Command::Play(Play::Run { .. })) => {
+            Ok(Some(names_of(alloc, rest)?))
+        }
+        Ok(Command::Play(Play::Gen { .. })) => Ok(Some(Vec::new(alloc))),
         Err(Fault::Bad(_)) => Ok(None),
         Err(Fault::Memory) => Err(NoMemory),
     }

@@ -1,6 +1,6 @@
-//! The file service as a program: it reads a script from standard input, runs it, and writes what came of it to
-//! standard output; or it checks disks, which are files. The words are those of the top call, `dfs_service::run`, whose
-//! status is the number with which the program ends.
+//! The file service as a program: it reads a script from standard input, runs it over disks, which are files, and
+//! writes what came of it to standard output; or it checks disks. The words are those of the top call,
+//! `dfs_service::run`, whose status is the number with which the program ends.
 #![tactic(auto)]
 
 ghost use Rattle.std.specs.Prelude.{◌≡◌, length, map, IfOk};
@@ -43,14 +43,13 @@ fn main(rt: HostRuntime) -> ExitCode {
     };
     let status = match disks_of(&rt, words.as_slice()) {
         Ok(mut disks) => {
-            let disks = disks.as_mut_slice();
             run(
                 &rt,
                 rt.alloc(),
                 words.as_slice(),
                 &mut source,
                 &mut sink,
-                disks,
+                &mut disks,
             )
             .status
         }

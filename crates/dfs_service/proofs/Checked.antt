@@ -1,17 +1,17 @@
 -- What came of a check of disks.
-use Rattle.std.proofs.Common.{◌≡◌, ◌⊎◌, ℕ, Bool, true, false, List, ◌++◌, map, refl, sym, subst, ◌∙◌, inl, inr, Some}
+use Rattle.std.proofs.Common.{◌≡◌, ◌⊎◌, ℕ, Bool, true, false, List, map, refl, sym, subst, ◌∙◌, inl, inr, Some}
 use Rattle.dfs_base.specs.View.{View}
 use Rattle.ep_report.specs.Disks.{AreQuiet, IsFailing}
 use Rattle.ep_report.specs.Report.{report_of}
 use Rattle.ep_report.specs.Text.{failed_line}
 use Rattle.ep_report.specs.declared.report.Report.{Report}
-use Rattle.dfs_service.specs.Checks.{TellsSo, ChecksSo, has_told}
+use Rattle.dfs_service.specs.Checks.{TellsSo, ChecksSo}
 use Rattle.command_words.specs.declared.command.Command.TheVariants.{Check}
 use Rattle.dfs_service.specs.Outcomes.{may_end, is_end_of_report, is_end_of_check, IsEmpty, RefusedSo}
 use Rattle.dfs_service.specs.World.{Shown}
 use Rattle.dfs_service.specs.declared.outcome.Outcome.{Outcome}
 use Rattle.dfs_service.specs.declared.outcome.Status.{Status}
-use Rattle.dfs_service.specs.declared.outcome.Status.TheVariants.{Done, NoCommand, NoScript, NoInput, NoOutput, NoDisk, NoMemory, HasFaults}
+use Rattle.dfs_service.specs.declared.outcome.Status.TheVariants.{Done, NoCommand, NoScript, NoInput, NoOutput, NoDisk, NoAggregate, NoMemory, HasFaults}
 
 ends_check : (status : Status) → is_end_of_report status ≡ true → is_end_of_check status ≡ true
 ends_check Done h = refl
@@ -20,6 +20,7 @@ ends_check NoScript h = cc
 ends_check NoInput h = cc
 ends_check NoOutput h = refl
 ends_check NoDisk h = refl
+ends_check NoAggregate h = cc
 ends_check NoMemory h = refl
 ends_check HasFaults h = refl
 
@@ -54,6 +55,7 @@ nothing_told reports NoScript before after h n = absurd (cc)
 nothing_told reports NoInput before after h n = absurd (cc)
 nothing_told reports NoOutput before after h n = absurd (cc)
 nothing_told reports HasFaults before after h n = absurd (cc)
+nothing_told reports NoAggregate before after h n = absurd (cc)
 nothing_told reports NoDisk before after h n = record { sound = λ e. absurd (cc); faulty = λ e. absurd (cc); all = λ t e. absurd (cc); part = λ t e. absurd (cc); failed = λ e. absurd (cc); nothing = n }
 nothing_told reports NoMemory before after h n = record { sound = λ e. absurd (cc); faulty = λ e. absurd (cc); all = λ t e. absurd (cc); part = λ t e. absurd (cc); failed = λ e. absurd (cc); nothing = n }
 
@@ -64,6 +66,7 @@ ends_untold NoScript h = cc
 ends_untold NoInput h = cc
 ends_untold NoOutput h = refl
 ends_untold NoDisk h = refl
+ends_untold NoAggregate h = cc
 ends_untold NoMemory h = refl
 ends_untold HasFaults h = refl
 
@@ -99,6 +102,11 @@ checks_stopped tells view outcome old new before after is empty quiet same =
       refused = λ e. let bad : NoMemory ≡ NoDisk = sym is ∙ e in absurd (cc);
     }
 
+-- disks that were lent
+pub checks_back : {D writes : Type 0} (tells : Type 0) (view : D → View) (outcome : Outcome) (olds lent news back : List D) (before after : Shown writes) → ChecksSo tells view outcome lent news before after → lent ≡ olds → back ≡ news →
+    ChecksSo tells view outcome olds back before after
+checks_back tells view outcome olds lent news back before after so was is = rw is (subst (λ (l : List _). ChecksSo tells view outcome l news before after) was so)
+
 -- how a check ends goes with its words
 pub check_may_end : (workers : ℕ) (status : Status) → is_end_of_check status ≡ true → may_end (Some (Check workers)) status ≡ true
 check_may_end workers Done h = refl
@@ -107,6 +115,7 @@ check_may_end workers NoScript h = cc
 check_may_end workers NoInput h = cc
 check_may_end workers NoOutput h = refl
 check_may_end workers NoDisk h = refl
+check_may_end workers NoAggregate h = cc
 check_may_end workers NoMemory h = refl
 check_may_end workers HasFaults h = refl
 

@@ -1,5 +1,12 @@
-pub mod Starts
 pub mod Readings
 pub mod Told
 pub mod Ran
 pub mod Checked
+pub mod Lists
+pub mod Same
+pub mod Opened
+pub mod RunsOver
+pub mod Names
+pub mod Happens
+pub mod Seated
+pub mod Plays

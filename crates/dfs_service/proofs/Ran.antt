@@ -6,12 +6,12 @@ use Rattle.script_lines.specs.declared.script.Script.{Script}
 use Rattle.command_words.specs.declared.command.Play.{Play}
 use Rattle.plain_service.specs.declared.played.Played.{Played}
 use Rattle.dfs_service.specs.declared.outcome.Status.TheVariants.{Done, NoOutput}
-use Rattle.dfs_service.specs.Engine.{HasPlayed}
+use Rattle.plain_service.specs.Played.{IsPlayed}
 use Rattle.dfs_service.specs.Outcomes.{RanSo}
 use Rattle.dfs_service.specs.Output.{output_of}
 use Rattle.dfs_service.specs.World.{Shown}
 
-pub ran_whole : (told : Type 0) (before after : Shown told) (play : Play) (script : Script) (played : Played) (piece : List ℕ) → HasPlayed script played → piece ≡ output_of play script played →
+pub ran_whole : (told : Type 0) (before after : Shown told) (play : Play) (script : Script) (played : Played) (piece : List ℕ) → IsPlayed script played → piece ≡ output_of play script played →
     (told → after.bytes ≡ before.bytes ++ piece) → RanSo play script (record { status = Done; played = played; lines = script }) before after
 ran_whole told before after play script played piece h e w = record {
   ends = refl;
@@ -21,7 +21,7 @@ ran_whole told before after play script played piece h e w = record {
   empty = λ q. absurd (cc);
 }
 
-pub ran_part : (told : Type 0) (before after : Shown told) (play : Play) (script : Script) (played : Played) (piece : List ℕ) → HasPlayed script played → piece ≡ output_of play script played →
+pub ran_part : (told : Type 0) (before after : Shown told) (play : Play) (script : Script) (played : Played) (piece : List ℕ) → IsPlayed script played → piece ≡ output_of play script played →
     (told → IsAppendedInPart before.bytes piece after.bytes) → RoseBy 1 before.faults after.faults → RanSo play script (record { status = NoOutput; played = played; lines = script }) before after
 ran_part told before after play script played piece h e w r = record {
   ends = refl;

@@ -1,5 +1,5 @@
 -- What was read for a command.
-use Rattle.std.proofs.Common.{◌≡◌, ℕ, true, List, take, Some, Result, Ok, Err, refl, sym, ap, ◌∙◌}
+use Rattle.std.proofs.Common.{◌≡◌, ℕ, true, List, take, Result, Ok, Err, refl, sym, ap, ◌∙◌}
 use Rattle.std.specs.Prelude.{IsErrOf}
 use Rattle.dfs_base.specs.declared.limits.TheConstants.{SCRIPT_BYTES}
 use Rattle.script_lines.specs.declared.script.Script.{Script}
@@ -9,24 +9,24 @@ use Rattle.run_script.specs.declared.refused.ScriptRefused.TheVariants.{BadLine,
 use Rattle.run_script.specs.declared.refused.ScriptRefused.{ScriptRefused}
 use Rattle.command_words.specs.declared.command.Play.TheVariants.{Run, Gen}
 use Rattle.command_words.specs.declared.command.Play.{Play}
-use Rattle.dfs_service.specs.Scripts.{script_for, reads, not_read, IsRead, IsCause}
+use Rattle.dfs_service.specs.Scripts.{script_for, reads, disks_of, not_read, IsRead, IsCause}
 use Rattle.dfs_service.specs.declared.script.NotRead.{NotRead}
 use Rattle.dfs_service.specs.declared.script.NotRead.TheVariants.{Input}
 use Rattle.dfs_service.specs.World.{Shown}
 
-reads_so : (play : Play) (bytes : List ℕ) → reads play ≡ true → script_for play bytes ≡ script_of bytes 0
+reads_so : (play : Play) (bytes : List ℕ) → reads play ≡ true → script_for play bytes ≡ script_of bytes (disks_of play)
 unfolding script_for
-reads_so (Run json workers) bytes h = refl
+reads_so (Run json workers disks) bytes h = refl
 reads_so (Gen seed hosts calls workers) bytes h = cc
 
 -- what the bytes of a source are for a command that reads them
 pub was_read : (told : Type 0) (before : Shown told) (play : Play) (bytes : List ℕ) (read : Result Script ScriptRefused) → reads play ≡ true →
-    (told → bytes ≡ take SCRIPT_BYTES before.bytes) → script_of bytes 0 ≡ read → IsRead before play read
+    (told → bytes ≡ take SCRIPT_BYTES before.bytes) → script_of bytes (disks_of play) ≡ read → IsRead before play read
 was_read told before play bytes read h had e = record { bytes = bytes; had = had; says = reads_so play bytes h ∙ e }
 
 -- why bytes that were read are refused
 pub cause_read : (told : Type 0) (before : Shown told) (play : Play) (bytes : List ℕ) (why : ScriptRefused) (made : NotRead) → reads play ≡ true →
-    (told → bytes ≡ take SCRIPT_BYTES before.bytes) → Refuses why (script_of bytes 0) → made ≡ not_read why → IsCause before play made
+    (told → bytes ≡ take SCRIPT_BYTES before.bytes) → Refuses why (script_of bytes (disks_of play)) → made ≡ not_read why → IsCause before play made
 cause_read told before play bytes (BadLine number bad) made h had r e = rw e (was_read told before play bytes (Err (BadLine number bad)) h had r)
 cause_read told before play bytes (Stuck number) made h had r e = rw e (was_read told before play bytes (Err (Stuck number)) h had r)
 cause_read told before play bytes Memory made h had r e = rw e tt

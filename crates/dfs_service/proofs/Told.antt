@@ -1,5 +1,5 @@
 -- The replies and losses that are printed.
-use Rattle.std.proofs.Common.{◌≡◌, ℕ, zero, suc, ◌+◌, ◌-◌, ◌<◌, ◌≤◌, ◌==◌, nat_le, ◌&&◌, Bool, true, false, List, [], ◌∷◌, ◌++◌, length, take, Some, refl, sym, ap, subst, append_assoc, ◌∙◌, arith, rules, ◌⊎◌, inl, inr}
+use Rattle.std.proofs.Common.{◌≡◌, ℕ, zero, suc, ◌+◌, ◌<◌, ◌≤◌, ◌==◌, nat_le, ◌&&◌, Bool, true, false, List, [], ◌∷◌, ◌++◌, length, take, Some, refl, sym, ap, subst, append_assoc, ◌∙◌, arith}
 use Rattle.std.specs.Prelude.{map, filter, flat_map, slice_get, if◌then◌else◌}
 use Rattle.std.specs.List.{list_all, range_with_len}
 use Rattle.std.proofs.lemmas.Bool.{eqb-true, eq-eqb}
@@ -14,8 +14,8 @@ use Rattle.dfs_calls.specs.declared.entry.Loss.{Loss}
 use Rattle.dfs_tree.specs.declared.tree.Tree.{Tree}
 use Rattle.dfs_tree.specs.Histories.{after_entry, after_history, lost_at, lost_in}
 use Rattle.script_lines.specs.Asks.{call_lines}
-use Rattle.plain_service.specs.Played.{is_own, next_number, has_number, are_numbered}
-use Rattle.run_print.specs.Reports.{answer_in, answers_to, lost_by, by_host, all_hosts, all_servers}
+use Rattle.plain_service.specs.Played.{is_own, are_numbered}
+use Rattle.run_print.specs.Reports.{answer_in, lost_by, by_host, all_hosts, all_servers}
 use Rattle.dfs_service.specs.Laws.{reply_in, is_placed, RepliesFollowCalls, LossesAreTaken}
 
 first : (a b : Bool) → (a && b) ≡ true → a ≡ true

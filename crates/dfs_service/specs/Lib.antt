@@ -5,4 +5,6 @@ pub mod Engine
 pub mod Output
 pub mod Outcomes
 pub mod Checks
+pub mod Disks
+pub mod Steps
 pub mod Laws

@@ -27,6 +27,11 @@ usage_line =
 unfoldable pub input_line : List ℕ
 input_line = codes "refused: read fault\n"
 
+-- the line where disk K is no aggregate that can be run, and the place in bytes that shows it
+unfoldable pub no_aggregate_line : ℕ → ℕ → List ℕ
+no_aggregate_line k place =
+    codes "refused: disk " ++ decimal k ++ codes " is no aggregate at " ++ decimal place ++ codes "\n"
+
 -- the word for why a line is refused
 unfoldable pub why_text : BadWhy → List ℕ
 why_text Long = codes "long"

@@ -1,8 +1,9 @@
 -- What an outcome of the top call says.
-use Rattle.std.specs.Prelude.{◌≡◌, ◌⊎◌, ℕ, Bool, true, false, not, List, [], Option, Some, None, Result, Ok, Err}
+use Rattle.std.specs.Prelude.{◌≡◌, ◌⊎◌, ℕ, Bool, true, false, not, List, [], Option, Some, None, Ok, Err}
 use Rattle.dfs_base.specs.Faults.{RoseBy}
 use Rattle.dfs_calls.specs.declared.roster.Roster.{Roster}
 use Rattle.dfs_tree.specs.declared.tree.Tree.{Tree}
+use Rattle.plain_service.specs.Played.{IsPlayed}
 use Rattle.plain_service.specs.declared.played.Played.{Played}
 use Rattle.script_lines.specs.declared.script.Script.{Script}
 use Rattle.run_script.specs.declared.refused.ScriptRefused.{ScriptRefused}
@@ -17,11 +18,11 @@ use Rattle.dfs_service.specs.declared.outcome.Status.TheVariants.{
   NoInput,
   NoOutput,
   NoDisk,
+  NoAggregate,
   NoMemory,
   HasFaults,
 }
 use Rattle.dfs_service.specs.declared.outcome.Outcome.{Outcome}
-use Rattle.dfs_service.specs.Engine.{HasPlayed}
 use Rattle.dfs_service.specs.Lines.{input_line, refusal_line}
 use Rattle.dfs_service.specs.Output.{output_of, Wrote, HasPrinted}
 use Rattle.dfs_service.specs.Scripts.{IsRead}
@@ -34,6 +35,7 @@ code_of NoScript = 2
 code_of NoInput = 3
 code_of NoOutput = 4
 code_of NoDisk = 5
+code_of NoAggregate = 6
 code_of NoMemory = 7
 code_of HasFaults = 8
 
@@ -46,7 +48,15 @@ has_run _ = false
 -- whether a script can end so that is sound
 abbrev pub is_end_of_run : Status → Bool
 is_end_of_run NoMemory = true
+is_end_of_run NoDisk = true
+is_end_of_run NoAggregate = true
 is_end_of_run status = has_run status
+
+-- whether it ends so only once it has reached the disks
+abbrev pub has_reached : Status → Bool
+has_reached NoDisk = true
+has_reached NoAggregate = true
+has_reached status = has_run status
 
 -- whether a check of disks can end so where none of them fails
 abbrev pub is_end_of_report : Status → Bool
@@ -64,7 +74,6 @@ is_end_of_check status = is_end_of_report status
 -- whether only a check of disks can end so
 abbrev pub is_of_check : Status → Bool
 is_of_check HasFaults = true
-is_of_check NoDisk = true
 is_of_check _ = false
 
 -- how a run can end by its words: want of memory can always be, and `NoCommand` is exactly where they aren't in the
@@ -95,12 +104,12 @@ pub record IsEmpty (outcome : Outcome) : Type 0 where
   pub played : outcome.played ≡ no_play
   pub lines : outcome.lines ≡ no_script
 
--- a script ran, and the sink got the output, or a part of it; or memory ran out
+-- a script ran, and the sink got the output, or a part of it; or a disk is no aggregate, or failed; or memory ran out
 pub record RanSo {told : Type 0}
     (play : Play) (script : Script) (outcome : Outcome) (before after : Shown told) : Type 0 where
   pub ends : is_end_of_run outcome.status ≡ true
   pub lines : has_run outcome.status ≡ true → outcome.lines ≡ script
-  pub played : has_run outcome.status ≡ true → HasPlayed outcome.lines outcome.played
+  pub played : has_run outcome.status ≡ true → IsPlayed outcome.lines outcome.played
   pub printed : HasPrinted (output_of play outcome.lines outcome.played) outcome.status before after
   pub empty : has_run outcome.status ≡ false → IsEmpty outcome
 
@@ -124,7 +133,7 @@ pub record EndsSo {reads writes : Type 0}
   pub words : may_end (Some (Plays play)) outcome.status ≡ true
   -- a script that ran is the one that was asked for, and went as scripts go; `NoScript` has a cause in what was read
   pub read : has_run outcome.status ≡ true → IsRead before.source play (Ok outcome.lines)
-  pub played : has_run outcome.status ≡ true → HasPlayed outcome.lines outcome.played
+  pub played : has_run outcome.status ≡ true → IsPlayed outcome.lines outcome.played
   pub refused : outcome.status ≡ NoScript → IsRefused play before after
   -- the sink got the output, or a part of it; or the line of a refusal; or nothing
   pub printed : HasPrinted (output_of play outcome.lines outcome.played) outcome.status before.sink after.sink

@@ -14,7 +14,7 @@ use Rattle.dfs_service.specs.World.{Shown}
 
 -- whether a command writes JSON
 abbrev pub is_json : Play → Bool
-is_json (Run json workers) = json
+is_json (Run json workers disks) = json
 is_json (Gen seed hosts calls workers) = true
 
 -- the output of a run

@@ -16,13 +16,18 @@ use Rattle.dfs_service.specs.World.{Shown}
 
 -- the script that a command runs: what the bytes of the source say, or the generated one
 unfoldable pub script_for : Play → List ℕ → Result Script ScriptRefused
-script_for (Run json workers) bytes = script_of bytes 0
+script_for (Run json workers disks) bytes = script_of bytes disks
 script_for (Gen seed hosts calls workers) bytes = Ok (generated seed hosts calls)
 
 -- whether a script is read, and not generated
 abbrev pub reads : Play → Bool
-reads (Run json workers) = true
+reads (Run json workers disks) = true
 reads (Gen seed hosts calls workers) = false
+
+-- how many disks a script runs over
+abbrev pub disks_of : Play → ℕ
+disks_of (Run json workers disks) = disks
+disks_of (Gen seed hosts calls workers) = 0
 
 -- whether words make the program read
 abbrev pub is_reading : Option Command → Bool

@@ -1,7 +1,8 @@
-//! The third stage: the script runs.
+//! The engine: the script runs on the file tree.
 ghost use Rattle.std.specs.Prelude.{◌≡◌, None, IfOk};
 ghost use Rattle.script_lines.specs.Sound.{IsSound};
 ghost use Rattle.run_script.specs.Walk.{stuck_at};
+ghost use Rattle.plain_service.specs.Played.{IsStart};
 ghost use Rattle.dfs_service.specs.Engine.{HasPlayed};
 
 use dfs_base::NoMemory;
@@ -10,13 +11,12 @@ use plain_service::{Played, serve};
 use script_lines::Script;
 use std::alloc::Global;
 
-/// Runs a script from a tree without filesets on.
-#[tactic(auto, using(crate::proofs::Starts::starts))]
-pub(crate) fn play_script(alloc: Global, script: &Script) -> Result<Played, NoMemory>
+/// Runs a script from a tree on.
+pub(crate) fn play_script(alloc: Global, script: &Script, start: Tree) -> Result<Played, NoMemory>
     requires sound { IsSound script.now }
     requires goes { stuck_at script.now.lines ≡ None }
-    ensures { IfOk result (HasPlayed script.now) }
+    requires start { IsStart script.now.roster start }
+    ensures { IfOk result (HasPlayed script.now start) }
 {
-    let start = Tree::new(alloc, &script.roster)?;
     serve(alloc, script, start)
 }

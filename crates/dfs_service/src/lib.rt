@@ -1,8 +1,9 @@
 //! The top call: what the command words ask for, from the bytes of a source to the bytes of a sink. It runs in stages:
-//! the words, the script, the engine, the output.
+//! the words, the script, the stores, the engine, the stores again, the output.
 #![tactic(auto)]
 
 mod check;
+mod disks;
 mod engine;
 mod laws;
 mod lines;

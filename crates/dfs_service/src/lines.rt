@@ -1,5 +1,6 @@
 ghost use Rattle.std.specs.Prelude.{◌≡◌, ◌++◌, [], codes, decimal, IfOk, OnOk};
-ghost use Rattle.dfs_service.specs.Lines.{usage_line, input_line, why_text, refusal_text, refusal_line};
+ghost use Rattle.dfs_service.specs.Lines.{usage_line, input_line, no_aggregate_line};
+ghost use Rattle.dfs_service.specs.Lines.{why_text, refusal_text, refusal_line};
 
 use dfs_base::{Items, NoMemory};
 use itoa::Buffer;
@@ -22,6 +23,24 @@ pub(crate) fn input_line() -> &'static [u8]
     ensures { result.now ≡ input_line }
 {
     b"refused: read fault\n"
+}
+
+/// The line where disk K, from 1, is no aggregate that can be run, and the place in bytes that shows it.
+#[tactic(auto, unfolding(crate::specs::Lines::no_aggregate_line))]
+pub(crate) fn no_aggregate_line(
+    alloc: Global,
+    number: usize,
+    place: u64,
+) -> Result<Items<u8>, NoMemory>
+    ensures { IfOk result (λ line. line ≡ no_aggregate_line number place) }
+{
+    let mut line = Items::new(alloc);
+    line.extend(b"refused: disk ")?;
+    line.extend(Buffer::new().format(number).as_bytes())?;
+    line.extend(b" is no aggregate at ")?;
+    line.extend(Buffer::new().format(place).as_bytes())?;
+    line.push(b'\n')?;
+    Ok(line)
 }
 
 /// The line where a script is refused.

@@ -23,6 +23,8 @@ pub enum Status {
     NoOutput,
     /// A disk failed, and failed again when that was tried once more.
     NoDisk,
+    /// A disk isn't blank, and is no aggregate of its server, or doesn't fit the others.
+    NoAggregate,
     /// Memory ran out.
     NoMemory,
     /// The disks were checked, one of them has a fault, and the sink got the whole output.
@@ -41,6 +43,7 @@ impl Status {
             Status::NoInput => 3,
             Status::NoOutput => 4,
             Status::NoDisk => 5,
+            Status::NoAggregate => 6,
             Status::NoMemory => 7,
             Status::HasFaults => 8,
         }
@@ -50,8 +53,8 @@ impl Status {
 /// What became of a run.
 #[derive(Drop)]
 pub struct Outcome {
-    /// How it ended. Where it isn't `Done` or `NoOutput`, or disks were checked, nothing ran, and the other fields are
-    /// empty.
+    /// How it ended. Where it isn't `Done` or `NoOutput`, or disks were checked, nothing is told of a run, and the
+    /// other fields are empty.
     pub status: Status,
     /// How the script went.
     pub played: Played,

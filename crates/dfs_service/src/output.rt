@@ -1,14 +1,14 @@
 //! The last stage: what came of a run is written, or why there was none.
 ghost use Rattle.std.specs.Prelude.{◌≡◌, IfOk};
 ghost use Rattle.dfs_tree.specs.Histories.{after_history};
-ghost use Rattle.dfs_service.specs.declared.outcome.Status.TheVariants.{NoScript, NoDisk};
+ghost use Rattle.dfs_service.specs.declared.outcome.Status.TheVariants.{NoScript, NoDisk, NoAggregate};
 ghost use Rattle.ep_report.specs.Text.{failed_line};
-ghost use Rattle.dfs_service.specs.Lines.{refusal_line};
+ghost use Rattle.dfs_service.specs.Lines.{no_aggregate_line, refusal_line};
 ghost use Rattle.dfs_service.specs.Outcomes.{IsEmpty, RefusedSo};
 ghost use Rattle.dfs_service.specs.Output.{is_json, output_of, Wrote};
 ghost use Rattle.dfs_service.specs.World.{shown};
 
-use crate::lines::refusal_line;
+use crate::lines::{no_aggregate_line, refusal_line};
 use crate::outcome::{Outcome, Status, without_run};
 use command_words::Play;
 use dfs_base::{Items, NoMemory, Sink};
@@ -66,6 +66,22 @@ pub fn refuse_disk<K: Sink>(alloc: Global, number: usize, sink: &mut K) -> Outco
 {
     match failed_line(alloc, number) {
         Ok(line) => refuse(alloc, Status::NoDisk, line.as_slice(), sink),
+        Err(NoMemory) => without_run(alloc, Status::NoMemory),
+    }
+}
+
+/// Writes that disk K, from 1, is no aggregate at a place, in bytes, and ends without a run.
+pub(crate) fn refuse_aggregate<K: Sink>(
+    alloc: Global,
+    number: usize,
+    place: u64,
+    sink: &mut K,
+) -> Outcome
+    ensures refused { RefusedSo NoAggregate (no_aggregate_line number place) result
+        (shown K.tells (K.got sink.old) (K.faults sink.old)) (shown K.tells (K.got sink.new) (K.faults sink.new)) }
+{
+    match no_aggregate_line(alloc, number, place) {
+        Ok(line) => refuse(alloc, Status::NoAggregate, line.as_slice(), sink),
         Err(NoMemory) => without_run(alloc, Status::NoMemory),
     }
 }

@@ -6,7 +6,7 @@ ghost use Rattle.script_lines.specs.Sound.{IsSound};
 ghost use Rattle.run_script.specs.Walk.{stuck_at};
 ghost use Rattle.run_script.specs.Scripts.{script_of};
 ghost use Rattle.command_words.specs.Command.{IsPlayWithin};
-ghost use Rattle.dfs_service.specs.Scripts.{IsRead, IsCause, reads, not_read};
+ghost use Rattle.dfs_service.specs.Scripts.{IsRead, IsCause, reads, disks_of, not_read};
 ghost use Rattle.dfs_service.specs.World.{shown};
 
 use command_words::Play;
@@ -45,7 +45,7 @@ pub(crate) fn script_for<R: Source>(
     ensures untouched { reads play ≡ false → source.new ≡ source.old }
 {
     match play {
-        Play::Run { .. } => read(alloc, play, source),
+        Play::Run { disks, .. } => read(alloc, play, disks, source),
         Play::Gen {
             seed,
             hosts,
@@ -60,8 +60,9 @@ pub(crate) fn script_for<R: Source>(
 
 // Reads the script of a command that reads one.
 #[tactic(auto, unfolding(crate::specs::Scripts::script_for))]
-fn read<R: Source>(alloc: Global, play: Play, source: &mut R) -> Result<Script, NotRead>
-    requires { reads play ≡ true }
+fn read<R: Source>(alloc: Global, play: Play, disks: u32, source: &mut R) -> Result<Script, NotRead>
+    requires reads { reads play ≡ true }
+    requires disks { disks_of play ≡ disks }
     ensures sound { IfOk result (λ script. IsSound script) }
     ensures goes { IfOk result (λ script. stuck_at script.lines ≡ None) }
     ensures read { IfOk result
@@ -74,7 +75,7 @@ fn read<R: Source>(alloc: Global, play: Play, source: &mut R) -> Result<Script, 
         Err(ReadRefused::Failed) => return Err(NotRead::Input),
         Err(ReadRefused::Memory) => return Err(NotRead::Memory),
     };
-    match read_script(alloc, bytes.as_slice(), 0) {
+    match read_script(alloc, bytes.as_slice(), disks) {
         Ok(script) => Ok(script),
         Err(why) => Err(not_read(why)),
     }

@@ -8,13 +8,27 @@ use std::alloc::Global;
 /// A disk that rows name.
 #[derive(Drop)]
 pub struct NamedDisk {
-    name: String,
-    failing: Vec<u64>,
-    fuse: Option<u64>,
-    bytes: Vec<u8>,
+    /// Its name.
+    pub name: String,
+    /// The numbers of the calls that fail.
+    pub failing: Vec<u64>,
+    /// How many calls pass before all others fail, if they do.
+    pub fuse: Option<u64>,
+    /// What it holds.
+    pub bytes: Vec<u8>,
 }
 
 impl NamedDisk {
+    /// A disk of this name that holds what another one does; none of its calls fails.
+    pub fn after(alloc: Global, name: &str, bytes: &[u8]) -> Result<Self> {
+        Ok(NamedDisk {
+            name: String::from_str(alloc, name)?,
+            failing: Vec::new(alloc),
+            fuse: None,
+            bytes: Vec::from_slice(alloc, bytes)?,
+        })
+    }
+
     /// Whether it has this name.
     pub fn is_called(&self, name: &str) -> bool {
         self.name.as_str() == name
@@ -28,11 +42,14 @@ impl NamedDisk {
             None => Ok(MemDisk::of(alloc, bytes, self.failing.as_slice())?),
         }
     }
+}
 
-    /// Whether a disk holds its bytes.
-    pub fn is_held(&self, disk: &MemDisk) -> bool {
-        self.bytes.as_slice() == disk.bytes()
-    }
+/// The disk of this name.
+pub fn disk_called<'a>(disks: &'a [NamedDisk], name: &str) -> Result<&'a NamedDisk> {
+    disks
+        .iter()
+        .find(|disk| disk.is_called(name))
+        .context("no such disk")
 }
 
 /// Reads a disk behind the word `disk`: `NAME | FAILING | BYTES`. FAILING is `-`, the numbers of the calls that fail,

@@ -5,65 +5,30 @@
 mod bytes;
 mod disk;
 mod row;
+mod series;
+mod stage;
 
-ghost use Rattle.std.specs.Prelude.{◌≡◌, length, map, IfOk};
-ghost use Rattle.std.specs.String.{string_bytes};
-ghost use Rattle.command_words.specs.Command.{disk_names};
-ghost use Rattle.dfs_service.specs.Checks.{AreNamed};
-
-use anyhow::{Context, Result, bail};
-use command_words::disk_names;
-use dfs_base::NoMemory;
-use dfs_disk::MemDisk;
+use anyhow::Result;
 use dfs_io::{MemSink, MemSource};
-use dfs_service::run;
-use disk::{NamedDisk, disk_of};
+use disk::{NamedDisk, disk_called, disk_of};
 use row::{Row, row_of};
-use std::alloc::Global;
+use series::{judge_series, series_of};
+use stage::run_over;
 use std::thread::Threads;
 
-// The disk of this name.
-fn disk_called<'a>(disks: &'a [NamedDisk], name: &str) -> Result<&'a NamedDisk> {
-    disks
-        .iter()
-        .find(|disk| disk.is_called(name))
-        .context("no such disk")
-}
-
-// The disks with these names.
-fn made(alloc: Global, disks: &[NamedDisk], names: &[String]) -> Result<Vec<MemDisk>>
-    ensures { IfOk result (λ made. length made.items ≡ length names.now) }
-{
-    let mut made = Vec::new(alloc);
-    for name in names {
-        made.push(disk_called(disks, name.as_str())?.made(alloc)?)?;
-    }
-    Ok(made)
-}
-
-// The disks that the words of a row name.
-fn disks_for(alloc: Global, disks: &[NamedDisk], words: &[String]) -> Result<Vec<MemDisk>>
-    ensures { IfOk result (λ made. AreNamed (disk_names (map string_bytes words.now)) (length made.items)) }
-{
-    match disk_names(alloc, words) {
-        Ok(Some(names)) => made(alloc, disks, names.as_slice()),
-        Ok(None) => Ok(Vec::new(alloc)),
-        Err(NoMemory) => bail!("memory ran out"),
+// Whether these words check disks.
+fn is_check(words: &[String]) -> bool {
+    match words.first() {
+        Some(word) => word.as_str() == "check",
+        None => false,
     }
 }
 
-// Whether each of them holds what the disk of its name does.
-fn are_held(
-    alloc: Global,
-    disks: &[NamedDisk],
-    words: &[String],
-    made: &[MemDisk],
-) -> Result<bool> {
-    let Ok(Some(names)) = disk_names(alloc, words) else {
-        return Ok(true);
-    };
-    for (name, disk) in names.iter().zip(made.iter()) {
-        if !disk_called(disks, name.as_str())?.is_held(disk) {
+// Whether each of these disks holds what the one of its name does.
+fn are_held(disks: &[NamedDisk], left: &[NamedDisk]) -> Result<bool> {
+    for disk in left {
+        let before = disk_called(disks, disk.name.as_str())?;
+        if before.bytes.as_slice() != disk.bytes.as_slice() {
             return Ok(false);
         }
     }
@@ -78,25 +43,16 @@ fn judge(
 ) -> Result<()> {
     let alloc = rt.alloc();
     let words = row.words.as_slice();
-    let mut source = MemSource::new(alloc, row.script.as_slice(), row.failing_reads.as_slice())?;
-    let mut sink = MemSink::new(alloc, row.failing_writes.as_slice())?;
-    let mut made = disks_for(alloc, disks, words)?;
-    let outcome = run(
-        rt,
-        alloc,
-        words,
-        &mut source,
-        &mut sink,
-        made.as_mut_slice(),
-    );
-    let status = outcome.status.code();
-    drop(outcome);
+    let source = MemSource::new(alloc, row.script.as_slice(), row.failing_reads.as_slice())?;
+    let sink = MemSink::new(alloc, row.failing_writes.as_slice())?;
+    let ran = run_over(rt, disks, words, source, sink)?;
     let name = row.name.as_str();
-    if status != row.status || !row.takes(sink.bytes()) {
-        let output = String::from_utf8_lossy(alloc, sink.bytes())?;
+    let status = ran.status;
+    if status != row.status || !row.takes(ran.output.as_slice()) {
+        let output = String::from_utf8_lossy(alloc, ran.output.as_slice())?;
         println!(rt; "{name}: {status} {output:?}")?;
     }
-    if !are_held(alloc, disks, words, made.as_slice())? {
+    if is_check(words) && !are_held(disks, ran.left.as_slice())? {
         println!(rt; "{name}: a disk changed")?;
     }
     Ok(())
@@ -114,6 +70,12 @@ fn main(rt: HostRuntime) -> Result<()> {
         }
         if let Some(text) = line.strip_prefix("disk ") {
             disks.push(disk_of(alloc, text)?)?;
+        } else if let Some(text) = line.strip_prefix("series ") {
+            rows = rows.saturating_add(judge_series(
+                &rt,
+                disks.as_slice(),
+                &series_of(alloc, text)?,
+            )?);
         } else {
             judge(&rt, disks.as_slice(), &row_of(alloc, line)?)?;
             rows = rows.saturating_add(1);

@@ -54,7 +54,8 @@ pub fn row_of(alloc: Global, line: &str) -> Result<Row> {
     })
 }
 
-fn words_of(alloc: Global, text: &str) -> Result<Vec<String>> {
+/// The words of a cell, which spaces separate.
+pub fn words_of(alloc: Global, text: &str) -> Result<Vec<String>> {
     let mut words = Vec::new(alloc);
     for word in text.split_whitespace() {
         words.push(String::from_str(alloc, word)?)?;

@@ -3,3 +3,4 @@ pub mod Blank
 pub mod Backing
 pub mod Limits
 pub mod Lists
+pub mod Seated

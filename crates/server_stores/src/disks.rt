@@ -42,7 +42,7 @@ pub enum StoresRefused {
 
 // Puts a value before others, where there is room for it.
 #[tactic(auto, using(crate::proofs::Lists::put_at_front))]
-fn put_first<T: Drop>(items: &mut Vec<T>, item: T)
+pub(crate) fn put_first<T: Drop>(items: &mut Vec<T>, item: T)
     requires { length items.old.items < vec_capacity items.old }
     ensures items { items.new.items ≡ item ∷ items.old.items }
     ensures room { vec_capacity items.old ≤ vec_capacity items.new }

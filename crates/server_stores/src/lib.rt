@@ -4,8 +4,12 @@
 
 mod disks;
 mod opening;
+mod seating;
+mod seats;
 mod stores;
 
 pub use disks::{StoresRefused, close_stores, open_stores};
 pub use opening::open_disk;
+pub use seating::{close_seats, seat_stores};
+pub use seats::{Count, DiskSeat, MemorySeat, Seat};
 pub use stores::ServerStore;

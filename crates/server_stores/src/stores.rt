@@ -9,7 +9,7 @@ use store_acts::Act;
 use store_state::{Done, HostState, Sought, StoreState, held};
 
 // Whether a part of a fileset that is leaving may be told.
-fn is_leaving(state: &StoreState, fileset: FilesetId, at: u32) -> bool
+pub(crate) fn is_leaving(state: &StoreState, fileset: FilesetId, at: u32) -> bool
     ensures is { result ≡ true → IsLeavingOf state.now fileset at }
     ensures each { IsLeavingOf state.now fileset at → result ≡ true }
 {

@@ -1,0 +1,10 @@
+pub mod Sound
+pub mod Called
+pub mod Pieces
+pub mod Stores
+pub mod New
+pub mod Histories
+pub mod Parts
+pub mod Walk
+pub mod Worn
+pub mod Goes
