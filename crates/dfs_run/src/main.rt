@@ -7,12 +7,13 @@ ghost use Rattle.std.specs.Prelude.{◌≡◌, length, map, IfOk};
 ghost use Rattle.std.specs.String.{string_bytes};
 ghost use Rattle.command_words.specs.Command.{disk_names};
 ghost use Rattle.dfs_service.specs.Checks.{AreNamed};
+ghost use Rattle.dfs_service.specs.Outcomes.{code_of};
 
 use command_words::disk_names;
 use dfs_base::NoMemory;
 use dfs_disk::{FileDisk, FileRefused};
 use dfs_io::{StdSink, StdSource};
-use dfs_service::{Status, refuse_disk, run};
+use dfs_service::{Outcome, Status, refuse_disk, run};
 use std::alloc::AllocError;
 use std::env;
 use std::fs::File;
@@ -41,22 +42,28 @@ fn main(rt: HostRuntime) -> ExitCode {
     let Ok(words) = words(&rt) else {
         return ExitCode::from(Status::NoMemory.code());
     };
-    let status = match disks_of(&rt, words.as_slice()) {
-        Ok(mut disks) => {
-            run(
-                &rt,
-                rt.alloc(),
-                words.as_slice(),
-                &mut source,
-                &mut sink,
-                &mut disks,
-            )
-            .status
-        }
-        Err(NotOpened::Refused(number)) => refuse_disk(rt.alloc(), number, &mut sink).status,
-        Err(NotOpened::Memory) => Status::NoMemory,
+    let code = match disks_of(&rt, words.as_slice()) {
+        Ok(mut disks) => code_of(run(
+            &rt,
+            rt.alloc(),
+            words.as_slice(),
+            &mut source,
+            &mut sink,
+            &mut disks,
+        )),
+        Err(NotOpened::Refused(number)) => code_of(refuse_disk(rt.alloc(), number, &mut sink)),
+        Err(NotOpened::Memory) => Status::NoMemory.code(),
     };
-    ExitCode::from(status.code())
+    ExitCode::from(code)
+}
+
+// The number with which the program ends.
+fn code_of(outcome: Outcome) -> u8
+    ensures { result ≡ code_of outcome.status }
+{
+    let status = outcome.status;
+    drop(outcome);
+    status.code()
 }
 
 // The words after the program's name. Where one isn't UTF-8 there are none, which are in no grammar.
