@@ -1,4 +1,4 @@
-use dfs_base::{Fid, FilesetId, HostId, Items, NoMemory, Plain, Span};
+use dfs_base::{Fid, FilesetId, HostId, Items, Span};
 use dfs_calls::{Call, Reply};
 use rpc_types::{Change, Fetch};
 use tok_types::{Need, Token};
@@ -106,83 +106,4 @@ pub struct Admission {
     pub host: HostId,
     /// The tokens.
     pub tokens: Items<Token>,
-}
-
-impl Plain for Leave {
-    fn copy(&self) -> Result<Leave, NoMemory> {
-        Ok(*self)
-    }
-}
-
-impl Plain for Request {
-    fn copy(&self) -> Result<Request, NoMemory> {
-        Ok(match self {
-            Request::Fetch(fetch) => Request::Fetch(fetch.copy()?),
-            Request::Change(change) => Request::Change(change.copy()?),
-        })
-    }
-}
-
-impl Plain for Answer {
-    fn copy(&self) -> Result<Answer, NoMemory> {
-        Ok(Answer {
-            host: self.host,
-            k: self.k,
-            call: self.call.copy()?,
-            reply: self.reply.copy()?,
-            first: self.first,
-        })
-    }
-}
-
-impl Plain for Written {
-    fn copy(&self) -> Result<Written, NoMemory> {
-        Ok(Written {
-            fileset: self.fileset,
-            number: self.number,
-            answer: self.answer.copy()?,
-        })
-    }
-}
-
-impl Plain for Wanted {
-    fn copy(&self) -> Result<Wanted, NoMemory> {
-        Ok(Wanted {
-            host: self.host,
-            request: self.request.copy()?,
-            moves: self.moves,
-            needs: self.needs.copy()?,
-        })
-    }
-}
-
-impl Plain for Applied {
-    fn copy(&self) -> Result<Applied, NoMemory> {
-        Ok(match self {
-            Applied::Stored {
-                host,
-                fid,
-                spans,
-                length,
-            } => Applied::Stored {
-                host: *host,
-                fid: *fid,
-                spans: spans.copy()?,
-                length: *length,
-            },
-            Applied::Ends(answer) => Applied::Ends(answer.copy()?),
-            Applied::IsDown(host) => Applied::IsDown(*host),
-            Applied::Wants(wanted) => Applied::Wants(wanted.copy()?),
-            Applied::Done(written) => Applied::Done(written.copy()?),
-        })
-    }
-}
-
-impl Plain for Admission {
-    fn copy(&self) -> Result<Admission, NoMemory> {
-        Ok(Admission {
-            host: self.host,
-            tokens: self.tokens.copy()?,
-        })
-    }
 }

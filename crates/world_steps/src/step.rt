@@ -1,5 +1,5 @@
 use crate::applied::{Admission, Answer, Applied, Leave};
-use dfs_base::{Fid, Items, Name, NoMemory, Node, Plain};
+use dfs_base::{Fid, Items, Name, Node};
 use dfs_calls::Call;
 use rpc_types::{Give, Message};
 use tok_types::Token;
@@ -73,56 +73,4 @@ pub struct Step {
     pub sent: Items<Message>,
     /// The tokens that the server's exporter keeps until the Changes of the step are on the server's disk.
     pub reserved: Items<Token>,
-}
-
-impl Plain for Cause {
-    fn copy(&self) -> Result<Cause, NoMemory> {
-        Ok(match self {
-            Cause::Line(line) => Cause::Line(*line),
-            Cause::Restart(line) => Cause::Restart(*line),
-            Cause::Message(message) => Cause::Message(message.copy()?),
-            Cause::Lapse => Cause::Lapse,
-            Cause::Evict => Cause::Evict,
-            Cause::End => Cause::End,
-            Cause::Flushed => Cause::Flushed,
-        })
-    }
-}
-
-impl Plain for Asked {
-    fn copy(&self) -> Result<Asked, NoMemory> {
-        Ok(Asked {
-            k: self.k,
-            call: self.call.copy()?,
-        })
-    }
-}
-
-impl Plain for Labelled {
-    fn copy(&self) -> Result<Labelled, NoMemory> {
-        Ok(Labelled {
-            label: self.label.copy()?,
-            token: self.token,
-        })
-    }
-}
-
-impl Plain for Step {
-    fn copy(&self) -> Result<Step, NoMemory> {
-        Ok(Step {
-            node: self.node,
-            cause: self.cause.copy()?,
-            asked: self.asked.copy()?,
-            taken: self.taken.copy()?,
-            answers: self.answers.copy()?,
-            wrote: self.wrote,
-            begun: self.begun.copy()?,
-            made: self.made.copy()?,
-            dropped: self.dropped.copy()?,
-            applied: self.applied.copy()?,
-            admitted: self.admitted.copy()?,
-            sent: self.sent.copy()?,
-            reserved: self.reserved.copy()?,
-        })
-    }
 }
