@@ -113,99 +113,196 @@ impl Plain for Call {
                 name,
                 objects,
                 owner,
-            } => Call::NewFileset {
-                server: *server,
-                name: name.copy()?,
-                objects: *objects,
-                owner: owner.copy()?,
-            },
-            Call::Create { place } => Call::Create {
-                place: place.copy()?,
-            },
-            Call::MakeDir { place } => Call::MakeDir {
-                place: place.copy()?,
-            },
-            Call::Remove { place } => Call::Remove {
-                place: place.copy()?,
-            },
-            Call::Rename { from, to } => Call::Rename {
-                from: from.copy()?,
-                to: to.copy()?,
-            },
-            Call::Truncate { place, length } => Call::Truncate {
-                place: place.copy()?,
-                length: *length,
-            },
-            Call::SetAcl { place, which, list } => Call::SetAcl {
-                place: place.copy()?,
-                which: *which,
-                list: list.copy()?,
-            },
+            } => {
+                let Ok(name) = name.copy() else {
+                    return Err(NoMemory);
+                };
+                let Ok(owner) = owner.copy() else {
+                    return Err(NoMemory);
+                };
+                Call::NewFileset {
+                    server: *server,
+                    name,
+                    objects: *objects,
+                    owner,
+                }
+            }
+            Call::Create { place } => {
+                let Ok(place) = place.copy() else {
+                    return Err(NoMemory);
+                };
+                Call::Create { place }
+            }
+            Call::MakeDir { place } => {
+                let Ok(place) = place.copy() else {
+                    return Err(NoMemory);
+                };
+                Call::MakeDir { place }
+            }
+            Call::Remove { place } => {
+                let Ok(place) = place.copy() else {
+                    return Err(NoMemory);
+                };
+                Call::Remove { place }
+            }
+            Call::Rename { from, to } => {
+                let Ok(from) = from.copy() else {
+                    return Err(NoMemory);
+                };
+                let Ok(to) = to.copy() else {
+                    return Err(NoMemory);
+                };
+                Call::Rename { from, to }
+            }
+            Call::Truncate { place, length } => {
+                let Ok(place) = place.copy() else {
+                    return Err(NoMemory);
+                };
+                Call::Truncate {
+                    place,
+                    length: *length,
+                }
+            }
+            Call::SetAcl { place, which, list } => {
+                let Ok(place) = place.copy() else {
+                    return Err(NoMemory);
+                };
+                let Ok(list) = list.copy() else {
+                    return Err(NoMemory);
+                };
+                Call::SetAcl {
+                    place,
+                    which: *which,
+                    list,
+                }
+            }
             Call::CloneFileset {
                 server,
                 fileset,
                 new,
-            } => Call::CloneFileset {
-                server: *server,
-                fileset: fileset.copy()?,
-                new: new.copy()?,
-            },
-            Call::Read { place, from, len } => Call::Read {
-                place: place.copy()?,
-                from: *from,
-                len: *len,
-            },
-            Call::Write { place, from, bytes } => Call::Write {
-                place: place.copy()?,
-                from: *from,
-                bytes: bytes.copy()?,
-            },
-            Call::List { place } => Call::List {
-                place: place.copy()?,
-            },
-            Call::Stat { place } => Call::Stat {
-                place: place.copy()?,
-            },
-            Call::GetAcl { place, which } => Call::GetAcl {
-                place: place.copy()?,
-                which: *which,
-            },
-            Call::Sync { place } => Call::Sync {
-                place: place.copy()?,
-            },
+            } => {
+                let Ok(fileset) = fileset.copy() else {
+                    return Err(NoMemory);
+                };
+                let Ok(new) = new.copy() else {
+                    return Err(NoMemory);
+                };
+                Call::CloneFileset {
+                    server: *server,
+                    fileset,
+                    new,
+                }
+            }
+            Call::Read { place, from, len } => {
+                let Ok(place) = place.copy() else {
+                    return Err(NoMemory);
+                };
+                Call::Read {
+                    place,
+                    from: *from,
+                    len: *len,
+                }
+            }
+            Call::Write { place, from, bytes } => {
+                let Ok(place) = place.copy() else {
+                    return Err(NoMemory);
+                };
+                let Ok(bytes) = bytes.copy() else {
+                    return Err(NoMemory);
+                };
+                Call::Write {
+                    place,
+                    from: *from,
+                    bytes,
+                }
+            }
+            Call::List { place } => {
+                let Ok(place) = place.copy() else {
+                    return Err(NoMemory);
+                };
+                Call::List { place }
+            }
+            Call::Stat { place } => {
+                let Ok(place) = place.copy() else {
+                    return Err(NoMemory);
+                };
+                Call::Stat { place }
+            }
+            Call::GetAcl { place, which } => {
+                let Ok(place) = place.copy() else {
+                    return Err(NoMemory);
+                };
+                Call::GetAcl {
+                    place,
+                    which: *which,
+                }
+            }
+            Call::Sync { place } => {
+                let Ok(place) = place.copy() else {
+                    return Err(NoMemory);
+                };
+                Call::Sync { place }
+            }
             Call::Lock {
                 label,
                 place,
                 writing,
                 from,
                 len,
-            } => Call::Lock {
-                label: label.copy()?,
-                place: place.copy()?,
-                writing: *writing,
-                from: *from,
-                len: *len,
-            },
-            Call::Unlock { label } => Call::Unlock {
-                label: label.copy()?,
-            },
-            Call::OpenFile { label, place, kind } => Call::OpenFile {
-                label: label.copy()?,
-                place: place.copy()?,
-                kind: *kind,
-            },
-            Call::CloseFile { label } => Call::CloseFile {
-                label: label.copy()?,
-            },
+            } => {
+                let Ok(label) = label.copy() else {
+                    return Err(NoMemory);
+                };
+                let Ok(place) = place.copy() else {
+                    return Err(NoMemory);
+                };
+                Call::Lock {
+                    label,
+                    place,
+                    writing: *writing,
+                    from: *from,
+                    len: *len,
+                }
+            }
+            Call::Unlock { label } => {
+                let Ok(label) = label.copy() else {
+                    return Err(NoMemory);
+                };
+                Call::Unlock { label }
+            }
+            Call::OpenFile { label, place, kind } => {
+                let Ok(label) = label.copy() else {
+                    return Err(NoMemory);
+                };
+                let Ok(place) = place.copy() else {
+                    return Err(NoMemory);
+                };
+                Call::OpenFile {
+                    label,
+                    place,
+                    kind: *kind,
+                }
+            }
+            Call::CloseFile { label } => {
+                let Ok(label) = label.copy() else {
+                    return Err(NoMemory);
+                };
+                Call::CloseFile { label }
+            }
             Call::MoveFileset {
                 server,
                 fileset,
                 to,
-            } => Call::MoveFileset {
-                server: *server,
-                fileset: fileset.copy()?,
-                to: *to,
-            },
+            } => {
+                let Ok(fileset) = fileset.copy() else {
+                    return Err(NoMemory);
+                };
+                Call::MoveFileset {
+                    server: *server,
+                    fileset,
+                    to: *to,
+                }
+            }
         })
     }
 }

@@ -82,25 +82,47 @@ impl Plain for ShipPart {
                 objects,
                 records,
                 mover,
-            } => ShipPart::Head {
-                name: name.copy()?,
-                objects: *objects,
-                records: records.copy()?,
-                mover: mover.copy()?,
-            },
+            } => {
+                let Ok(name) = name.copy() else {
+                    return Err(NoMemory);
+                };
+                let Ok(records) = records.copy() else {
+                    return Err(NoMemory);
+                };
+                let Ok(mover) = mover.copy() else {
+                    return Err(NoMemory);
+                };
+                ShipPart::Head {
+                    name,
+                    objects: *objects,
+                    records,
+                    mover,
+                }
+            }
             ShipPart::Object {
                 anode,
                 unique,
                 status,
                 pieces,
                 entries,
-            } => ShipPart::Object {
-                anode: *anode,
-                unique: *unique,
-                status: status.copy()?,
-                pieces: pieces.copy()?,
-                entries: entries.copy()?,
-            },
+            } => {
+                let Ok(status) = status.copy() else {
+                    return Err(NoMemory);
+                };
+                let Ok(pieces) = pieces.copy() else {
+                    return Err(NoMemory);
+                };
+                let Ok(entries) = entries.copy() else {
+                    return Err(NoMemory);
+                };
+                ShipPart::Object {
+                    anode: *anode,
+                    unique: *unique,
+                    status,
+                    pieces,
+                    entries,
+                }
+            }
         })
     }
 }
