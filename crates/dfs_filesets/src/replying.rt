@@ -33,16 +33,16 @@ impl Fileset {
     {
         match call {
             Call::Create { place } => {
-                self.create_target(NewObject::EmptyFile, user, place.path.as_slice())?;
+                drop(self.create_target(NewObject::EmptyFile, user, place.path.as_slice())?);
             }
             Call::MakeDir { place } => {
-                self.create_target(NewObject::EmptyDirectory, user, place.path.as_slice())?;
+                drop(self.create_target(NewObject::EmptyDirectory, user, place.path.as_slice())?);
             }
             Call::Remove { place } => {
                 self.remove_target(uses, user, place.path.as_slice())?;
             }
             Call::Rename { from, to } => {
-                self.rename_target(user, from.path.as_slice(), to.path.as_slice())?;
+                drop(self.rename_target(user, from.path.as_slice(), to.path.as_slice())?);
             }
             Call::Truncate { place, length } => {
                 self.write_target(user, place.path.as_slice(), *length, 0)?;
