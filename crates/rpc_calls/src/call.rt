@@ -62,6 +62,28 @@ fn call_tag(call: &Call) -> u64
     }
 }
 
+// Writes two parts at the end.
+fn write_two<A: Part, B: Part>(a: &A, b: &B, out: &mut Items<u8>) -> Result<(), NoMemory>
+    ensures { OnOk result (out.new ≡ out.old ++ (A.spelled a.now).bytes ++ (B.spelled b.now).bytes) }
+{
+    a.write(out)?;
+    b.write(out)
+}
+
+// Writes three parts at the end.
+fn write_three<A: Part, B: Part, C: Part>(
+    a: &A,
+    b: &B,
+    c: &C,
+    out: &mut Items<u8>,
+) -> Result<(), NoMemory>
+    ensures { OnOk result
+        (out.new ≡ out.old ++ (A.spelled a.now).bytes ++ (B.spelled b.now).bytes ++ (C.spelled c.now).bytes) }
+{
+    write_two(a, b, out)?;
+    c.write(out)
+}
+
 /// Writes its fields at the end.
 #[tactic(auto, unfolding(crate::specs::Calls::call_fields))]
 fn write_call_fields(call: &Call, out: &mut Items<u8>) -> Result<(), NoMemory>
@@ -74,52 +96,28 @@ fn write_call_fields(call: &Call, out: &mut Items<u8>) -> Result<(), NoMemory>
             objects,
             owner,
         } => {
-            server.write(out)?;
-            name.write(out)?;
-            objects.write(out)?;
-            owner.write(out)
+            write_two(server, name, out)?;
+            write_two(objects, owner, out)
         }
         Call::Create { place } => place.write(out),
         Call::MakeDir { place } => place.write(out),
         Call::Remove { place } => place.write(out),
-        Call::Rename { from, to } => {
-            from.write(out)?;
-            to.write(out)
-        }
-        Call::Truncate { place, length: len } => {
-            place.write(out)?;
-            len.write(out)
-        }
-        Call::SetAcl { place, which, list } => {
-            place.write(out)?;
-            which.write(out)?;
-            list.write(out)
-        }
+        Call::Rename { from, to } => write_two(from, to, out),
+        Call::Truncate { place, length: len } => write_two(place, len, out),
+        Call::SetAcl { place, which, list } => write_three(place, which, list, out),
         Call::CloneFileset {
             server,
             fileset,
             new,
-        } => {
-            server.write(out)?;
-            fileset.write(out)?;
-            new.write(out)
-        }
-        Call::Read { place, from, len } => {
-            place.write(out)?;
-            from.write(out)?;
-            len.write(out)
-        }
+        } => write_three(server, fileset, new, out),
+        Call::Read { place, from, len } => write_three(place, from, len, out),
         Call::Write { place, from, bytes } => {
-            place.write(out)?;
-            from.write(out)?;
+            write_two(place, from, out)?;
             write_bytes(bytes, out)
         }
         Call::List { place } => place.write(out),
         Call::Stat { place } => place.write(out),
-        Call::GetAcl { place, which } => {
-            place.write(out)?;
-            which.write(out)
-        }
+        Call::GetAcl { place, which } => write_two(place, which, out),
         Call::Sync { place } => place.write(out),
         Call::Lock {
             label,
@@ -128,28 +126,17 @@ fn write_call_fields(call: &Call, out: &mut Items<u8>) -> Result<(), NoMemory>
             from,
             len,
         } => {
-            label.write(out)?;
-            place.write(out)?;
-            writing.write(out)?;
-            from.write(out)?;
-            len.write(out)
+            write_two(label, place, out)?;
+            write_three(writing, from, len, out)
         }
         Call::Unlock { label } => label.write(out),
-        Call::OpenFile { label, place, kind } => {
-            label.write(out)?;
-            place.write(out)?;
-            kind.write(out)
-        }
+        Call::OpenFile { label, place, kind } => write_three(label, place, kind, out),
         Call::CloseFile { label } => label.write(out),
         Call::MoveFileset {
             server,
             fileset,
             to,
-        } => {
-            server.write(out)?;
-            fileset.write(out)?;
-            to.write(out)
-        }
+        } => write_three(server, fileset, to, out),
     }
 }
 
