@@ -20,21 +20,40 @@ pub fn manager_text(
 ) -> Result<String> {
     match word {
         "ask" => ask(alloc, manager, number, words),
-        "next" => {
-            let ready = manager.next_ready()?;
-            ready_text(alloc, &ready.copy()?)
-        }
-        "returned" => {
-            let host = words.host()?;
-            yes_or_no(alloc, manager.returned(host, words.id()?))
-        }
-        "kept" => {
-            let host = words.host()?;
-            yes_or_no(alloc, manager.kept(host, words.id()?))
-        }
-        "revoked" => yes_or_no(alloc, manager.set_revoked(words.id()?)),
+        "next" => next(alloc, manager),
+        "returned" | "kept" | "revoked" => token_gone(alloc, manager, word, words),
         "admit" => admit(alloc, manager, words),
         _ => lose(alloc, manager, word, words),
+    }
+}
+
+// `next`
+fn next(alloc: Global, manager: &mut TokenManager) -> Result<String> {
+    let ready = manager.next_ready()?;
+    let copy = ready.copy();
+    drop(ready);
+    let copy = copy?;
+    let text = ready_text(alloc, &copy);
+    drop(copy);
+    text
+}
+
+// What a host says of a token.
+fn token_gone(
+    alloc: Global,
+    manager: &mut TokenManager,
+    word: &str,
+    words: &mut Words,
+) -> Result<String> {
+    if word == "revoked" {
+        return yes_or_no(alloc, manager.set_revoked(words.id()?));
+    }
+    let host = words.host()?;
+    let id = words.id()?;
+    if word == "kept" {
+        yes_or_no(alloc, manager.kept(host, id))
+    } else {
+        yes_or_no(alloc, manager.returned(host, id))
     }
 }
 
@@ -123,8 +142,15 @@ fn ask(
         host,
         needs,
     };
-    let asked = manager.ask(want.copy()?)?;
-    asked_text(alloc, &asked.copy()?)
+    let copy = want.copy();
+    drop(want);
+    let asked = manager.ask(copy?)?;
+    let copy = asked.copy();
+    drop(asked);
+    let copy = copy?;
+    let text = asked_text(alloc, &copy);
+    drop(copy);
+    text
 }
 
 // `admit TOKENS`: yes where they may be admitted.
