@@ -1,19 +1,19 @@
 //! The file service as a program: it reads a script from standard input, runs it over disks, which are files, and
 //! writes what came of it to standard output; or it checks disks. The words are those of the top call,
-//! `dfs_service::run`, whose status is the number with which the program ends.
+//! `service_run::run`, whose status is the number with which the program ends.
 #![tactic(auto)]
 
 ghost use Rattle.std.specs.Prelude.{◌≡◌, length, map, IfOk};
 ghost use Rattle.std.specs.String.{string_bytes};
-ghost use Rattle.command_words.specs.Command.{disk_names};
-ghost use Rattle.dfs_service.specs.Checks.{AreNamed};
-ghost use Rattle.dfs_service.specs.Outcomes.{code_of};
+ghost use Rattle.script_commands.specs.Command.{disk_names};
+ghost use Rattle.service_run.specs.Checks.{AreNamed};
+ghost use Rattle.service_run.specs.Outcomes.{code_of};
 
-use command_words::disk_names;
-use dfs_base::NoMemory;
-use dfs_disk::{FileDisk, FileRefused};
-use dfs_io::{StdSink, StdSource};
-use dfs_service::{Outcome, Status, refuse_disk, run};
+use base_io::{StdSink, StdSource};
+use base_types::NoMemory;
+use disk_device::{FileDisk, FileRefused};
+use script_commands::disk_names;
+use service_run::{Outcome, Status, refuse_disk, run};
 use std::alloc::AllocError;
 use std::env;
 use std::fs::File;

@@ -1,14 +1,14 @@
 //! The steps of a cache.
 ghost use Rattle.std.specs.Prelude.{◌≡◌, ◌+◌, ◌-◌, false, length, IfSome};
-ghost use Rattle.cm_cache.specs.Holding.{has_id};
+ghost use Rattle.host_cache.specs.Holding.{has_id};
 
 use crate::reading::{Words, number_or_none, yes_or_no};
 use anyhow::{Result, bail};
-use cm_cache::Cache;
-use dfs_base::{FILE_BYTES_MAX, Fid, HostId, Items, Name, NoMemory, Span};
-use dfs_calls::{DirEntry, Piece, Status};
+use base_types::{FILE_BYTES_MAX, Fid, HostId, Items, Name, NoMemory, Span};
+use host_cache::Cache;
 use std::alloc::Global;
-use tok_types::{Kind, Need, Token};
+use token_types::{Kind, Need, Token};
+use tree_calls::{DirEntry, Piece, Status};
 
 // Bytes of one read, at most.
 const READ_MAX: usize = 16;

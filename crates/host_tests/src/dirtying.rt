@@ -2,8 +2,8 @@
 
 use crate::reading::{Words, number_or_none};
 use anyhow::{Result, bail};
-use cm_dirty::Dirty;
-use dfs_base::{Fid, Span};
+use base_types::{Fid, Span};
+use host_dirty::Dirty;
 use std::alloc::Global;
 
 /// The answer to a row `dirty ..`.

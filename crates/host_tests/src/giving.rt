@@ -1,14 +1,14 @@
 //! The steps of give-backs.
 ghost use Rattle.std.specs.Prelude.{IsTrue};
-ghost use Rattle.cm_giveback.specs.Giving.{is_next};
+ghost use Rattle.host_gives.specs.Giving.{is_next};
 
 use crate::reading::{Words, number_or_none, yes_or_no};
 use anyhow::{Result, bail};
-use cm_giveback::Gives;
-use dfs_base::{Fid, FilesetId, HostId, Items, NoMemory, ServerId};
-use rpc_types::{Body, Direction, Give, Message};
+use base_types::{Fid, FilesetId, HostId, Items, NoMemory, ServerId};
+use host_gives::Gives;
+use message_types::{Body, Direction, Give, Message};
 use std::alloc::Global;
-use tok_types::TokenId;
+use token_types::TokenId;
 
 // Tokens of one give-back, at most.
 const IDS_MAX: usize = 8;

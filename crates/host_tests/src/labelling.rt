@@ -1,13 +1,13 @@
 //! The steps of labels in use.
 ghost use Rattle.std.specs.Prelude.{◌≡◌, IsTrue, None};
-ghost use Rattle.cm_locks.specs.Labels.{is_lock, use_of, has_id};
+ghost use Rattle.host_labels.specs.Labels.{is_lock, use_of, has_id};
 
 use crate::reading::{Words, number_or_none, yes_or_no};
 use anyhow::{Result, bail};
-use cm_locks::{Labelled, Uses};
-use dfs_base::Name;
+use base_types::Name;
+use host_labels::{Labelled, Uses};
 use std::alloc::Global;
-use tok_types::{Kind, Token, TokenId};
+use token_types::{Kind, Token, TokenId};
 
 /// The answer to a row `label ..`.
 pub fn told(alloc: Global, uses: &mut Uses, words: &mut Words) -> Result<String> {

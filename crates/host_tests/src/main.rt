@@ -9,10 +9,10 @@ mod labelling;
 mod reading;
 
 use anyhow::{Result, bail};
-use cm_cache::Cache;
-use cm_dirty::Dirty;
-use cm_giveback::Gives;
-use cm_locks::Uses;
+use host_cache::Cache;
+use host_dirty::Dirty;
+use host_gives::Gives;
+use host_labels::Uses;
 use reading::Words;
 use std::alloc::Global;
 
@@ -73,7 +73,7 @@ fn judge_all(rt: &(impl Input + Print + AllocGlobal), parts: &mut Parts) -> Resu
             rows = rows.saturating_add(1);
         }
     }
-    cm_dirty::dirty_files_law(&parts.dirty);
+    host_dirty::dirty_files_law(&parts.dirty);
     parts.uses.laws();
     parts.gives.laws();
     parts.cache.laws();
@@ -81,9 +81,9 @@ fn judge_all(rt: &(impl Input + Print + AllocGlobal), parts: &mut Parts) -> Resu
 }
 
 fn main(rt: HostRuntime) -> Result<()> {
-    cm_locks::uses_law();
-    cm_giveback::gives_law();
-    cm_cache::cache_law();
+    host_labels::uses_law();
+    host_gives::gives_law();
+    host_cache::cache_law();
     let mut parts = Parts::new(rt.alloc())?;
     let judged = judge_all(&rt, &mut parts);
     drop(parts);

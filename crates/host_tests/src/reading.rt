@@ -1,9 +1,9 @@
 //! What the words of a row say.
 
 use anyhow::{Context, Result, bail};
-use dfs_base::{FILE_BYTES_MAX, Fid, FilesetId, HostId, Name, OpenKind, ServerId, Span};
+use base_types::{FILE_BYTES_MAX, Fid, FilesetId, HostId, Name, OpenKind, ServerId, Span};
 use std::alloc::Global;
-use tok_types::{Kind, Token, TokenId};
+use token_types::{Kind, Token, TokenId};
 
 /// The words of a row that are left.
 #[derive(Drop)]

@@ -2,30 +2,30 @@
 use Rattle.std.proofs.Common.{◌≡◌, inl, inr, Bool, true, false, cond, List, [], ◌∷◌, ◌++◌, map, Option, refl, sym, ap, ◌∙◌, subst, arith, append_assoc}
 use Rattle.std.proofs.lemmas.List.{append-nil}
 use Rattle.std.proofs.lemmas.List.Elements.{All-map}
-use Rattle.dfs_base.specs.declared.ids.Node.{Node}
-use Rattle.dfs_base.specs.declared.ids.Node.TheVariants.{Host, Server}
+use Rattle.base_types.specs.declared.ids.Node.{Node}
+use Rattle.base_types.specs.declared.ids.Node.TheVariants.{Host, Server}
 use Rattle.script_lines.specs.Sound.{same_node}
-use Rattle.turn_cell.specs.Lists.{IsPrefix, IsShuffle}
-use Rattle.turn_cell.specs.Passes.{TableId}
-use Rattle.world_journal.specs.Worked.{script}
-use Rattle.world_steps.specs.Lists.{Each, In, after}
-use Rattle.world_steps.specs.Worked.{client, site_one}
-use Rattle.world_board.specs.Follows.{setup_node}
-use Rattle.world_board.specs.Hubs.{AreGiven, Hubbed, after as after_turns, first_hub, gift_for, nodes_of, with_steps, with_turn}
-use Rattle.world_board.specs.Turning.{Posted, entered}
-use Rattle.world_board.specs.declared.given.Given.{Given}
-use Rattle.world_board.specs.declared.given.Turn.{Turn}
-use Rattle.world_hub.specs.Meetings.{HasEnded, HasPassed, IsRefused, turns_of}
-use Rattle.world_hub.specs.Views.{HubView, NodeView}
-use Rattle.board_laws.specs.Example.{turns}
-use Rattle.board_laws.specs.Keeping.{Keeps, Round, gave, round_of, rounds_of, steps_in}
-use Rattle.board_laws.proofs.Kept.{a_run_is_kept}
-use Rattle.board_laws.proofs.Members.{in_map}
-use Rattle.board_laws.proofs.Nodes.{node_same, node_self}
-use Rattle.board_laws.proofs.Whole.{always_after}
+use Rattle.hub_cell.specs.Lists.{IsPrefix, IsShuffle}
+use Rattle.hub_cell.specs.Passes.{TableId}
+use Rattle.run_tokens.specs.JournalWorked.{script}
+use Rattle.run_rules.specs.Lists.{Each, In, after}
+use Rattle.run_tokens.specs.Worked.{client, site_one}
+use Rattle.hub_board.specs.Follows.{setup_node}
+use Rattle.hub_board.specs.Hubs.{AreGiven, Hubbed, after as after_turns, first_hub, gift_for, nodes_of, with_steps, with_turn}
+use Rattle.hub_board.specs.Turning.{Posted, entered}
+use Rattle.hub_board.specs.declared.given.Given.{Given}
+use Rattle.hub_board.specs.declared.given.Turn.{Turn}
+use Rattle.hub_turns.specs.Meetings.{HasEnded, HasPassed, IsRefused, turns_of}
+use Rattle.hub_turns.specs.Views.{HubView, NodeView}
+use Rattle.hub_laws.specs.Example.{turns}
+use Rattle.hub_laws.specs.Keeping.{Keeps, Round, gave, round_of, rounds_of, steps_in}
+use Rattle.hub_laws.proofs.Kept.{a_run_is_kept}
+use Rattle.hub_laws.proofs.Members.{in_map}
+use Rattle.hub_laws.proofs.Nodes.{node_same, node_self}
+use Rattle.hub_laws.proofs.Whole.{always_after}
 use Rattle.hub_laws.specs.Beginnings.{Rests, Waits}
 use Rattle.hub_laws.specs.Closings.{HasKept, HasMade, KeepsOn}
-use Rattle.hub_laws.specs.Example.{ExampleIsClosed, hub, pass, passes}
+use Rattle.hub_laws.specs.ClosedExample.{ExampleIsClosed, hub, pass, passes}
 use Rattle.hub_laws.proofs.Apart.{nodes_are_apart}
 use Rattle.hub_laws.proofs.Passing.{made_goes_on, made_stays}
 

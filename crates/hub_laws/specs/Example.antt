@@ -1,24 +1,27 @@
--- A small run, as it stands at a hub that was closed.
-use Rattle.std.specs.Prelude.{List, [], map}
-use Rattle.dfs_base.specs.declared.ids.Node.{Node}
-use Rattle.turn_cell.specs.Passes.{TableId}
-use Rattle.world_board.specs.Hubs.{first_hub, nodes_of}
-use Rattle.world_hub.specs.Meetings.{turns_of}
-use Rattle.world_hub.specs.Views.{HubView, NodeView}
-use Rattle.world_journal.specs.Worked.{script}
-use Rattle.board_laws.specs.Example.{journal, turns}
-use Rattle.hub_laws.specs.Closings.{IsClosed}
+-- The beginning of a small run, as turns at a board.
+use Rattle.std.specs.Prelude.{List, None, Option, Some, [], ◌∷◌}
+use Rattle.base_types.specs.declared.ids.Node.{Node}
+use Rattle.base_types.specs.declared.ids.Node.TheVariants.{Host, Server}
+use Rattle.hub_board.specs.declared.given.Gift.{Gift}
+use Rattle.hub_board.specs.declared.given.Gift.TheVariants.{Begun, Message}
+use Rattle.hub_board.specs.declared.given.Turn.{Turn}
+use Rattle.run_tokens.specs.JournalWorked.{start}
+use Rattle.run_rules.specs.declared.journal.Journal.{Journal}
+use Rattle.run_tokens.specs.Worked.{client, greets, site_one, welcomes}
+use Rattle.run_rules.specs.declared.step.Step.{Step}
 
-abbrev pub hub : TableId → HubView
-hub id = record { id = id; nodes = 3; first = first_hub script [] }
+abbrev pub turn : Node → List Step → Option Gift → Turn
+turn node steps gift = record { node = node; steps = steps; gift = gift }
 
--- each pass has seen all turns, and its node's were made through it
-abbrev pub pass : TableId → Node → NodeView
-pass id node = record { node = node; hub = id; seen = turns; made = turns_of node turns }
+-- a host is told that the setup host has ended, and greets a server; the server gets that and welcomes it
+abbrev pub turns : List Turn
+turns =
+    turn (Host client) [] (Some Begun)
+    ∷ turn (Host client) (greets ∷ []) None
+    ∷ turn (Server site_one) [] (Some Message)
+    ∷ turn (Server site_one) (welcomes ∷ []) None
+    ∷ turn (Host client) [] (Some Message)
+    ∷ []
 
-abbrev pub passes : TableId → List NodeView
-passes id = map (pass id) (nodes_of script)
-
--- it was closed with its passes, and all nodes have kept to what they were given
-abbrev pub ExampleIsClosed : Type 0
-ExampleIsClosed = (id : TableId) → IsClosed script [] (hub id) turns (passes id) journal
+abbrev pub journal : Journal
+journal = record { start = start ∷ []; epochs = 1 ∷ []; steps = greets ∷ welcomes ∷ [] }

@@ -1,4 +1,8 @@
+pub mod Taking
+pub mod Keeping
+pub mod Laws
+pub mod Example
 pub mod Tellings
 pub mod Beginnings
 pub mod Closings
-pub mod Example
+pub mod ClosedExample

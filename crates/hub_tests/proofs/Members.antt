@@ -3,8 +3,8 @@ use Rattle.std.proofs.Common.{◌≡◌, List, [], ◌∷◌, map, length, refl,
 use Rattle.std.specs.List.{All}
 use Rattle.std.proofs.lemmas.List.{length-map}
 use Rattle.std.proofs.lemmas.List.Elements.{All-cons, All-head, All-map, All-nil, All-tail}
-use Rattle.world_hub.specs.Meetings.{AreAllPasses}
-use Rattle.world_hub.specs.Views.{HubView, NodeView}
+use Rattle.hub_turns.specs.Meetings.{AreAllPasses}
+use Rattle.hub_turns.specs.Views.{HubView, NodeView}
 use Rattle.hub_tests.specs.declared.member.Member.{Member}
 
 abbrev pass_of : Member → NodeView

@@ -7,12 +7,12 @@ mod member;
 mod ring;
 
 use anyhow::{Result, bail};
-use dfs_base::Node;
+use base_types::Node;
+use hub_turns::Turn;
 use ring::go_round;
 use std::alloc::Global;
 use std::sync::Wait;
 use std::thread::Threads;
-use world_hub::Turn;
 
 // A row `NAME | THREADS LAST | GIVES`, where THREADS is `one` or `four`.
 #[derive(Clone, Copy)]

@@ -2,14 +2,14 @@
 
 ghost use Rattle.std.specs.Prelude.{◌≡◌, IfOk};
 
-use dfs_base::{HostId, Items, NoMemory, Node, ServerId};
-use rpc_types::{Body, Direction, Message};
+use base_types::{HostId, Items, NoMemory, Node, ServerId};
+use hub_turns::{Given, Hub, NodePass, Pending};
+use message_types::{Body, Direction, Message};
+use run_rules::{Cause, Step};
 use std::alloc::Global;
 use std::sync::Wait;
 use std::sync::atomic::{AtomicU64, Ordering};
 use std::thread::yield_now;
-use world_hub::{Given, Hub, NodePass, Pending};
-use world_steps::{Cause, Step};
 
 // How often a node looks for a message before it gives up.
 const LOOKS_MAX: u32 = 1_000_000_000;

@@ -3,18 +3,18 @@
 
 ghost use Rattle.std.specs.Prelude.{◌≡◌, IfOk, length, map};
 ghost use Rattle.std.specs.List.{All};
-ghost use Rattle.world_hub.specs.Meetings.{AreAllPasses};
+ghost use Rattle.hub_turns.specs.Meetings.{AreAllPasses};
 
 use crate::member::{Member, Way, first_steps};
-use dfs_base::{Items, NoMemory};
-use dfs_calls::{HostLine, Roster};
+use base_types::{Items, NoMemory};
+use hub_turns::{Hub, NodePass, Turn};
 use script_lines::Script;
 use std::alloc::Global;
 use std::sync::Wait;
 use std::sync::atomic::AtomicU64;
 use std::thread;
 use std::thread::Threads;
-use world_hub::{Hub, NodePass, Turn};
+use tree_calls::{HostLine, Roster};
 
 // How often all nodes take a turn before they give up.
 const ROUNDS_MAX: u32 = 1_000_000_000;

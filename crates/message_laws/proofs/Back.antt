@@ -3,26 +3,26 @@ use Rattle.std.proofs.Common.{◌≡◌, ◌≤◌, ℕ, Bool, true, false, ◌&
 use Rattle.std.specs.Prelude.{not, Option, IfSome, nat_le, ◌||◌}
 use Rattle.std.specs.List.{list_any}
 use Rattle.std.proofs.lemmas.Bool.{and_parts, le-leb, leb-true, ltb-true}
-use Rattle.dfs_base.specs.Name.{is_separator}
-use Rattle.dfs_base.specs.declared.access.AccessEntry.{AccessEntry}
-use Rattle.dfs_base.specs.declared.access.Who.{Who}
-use Rattle.dfs_base.specs.declared.access.Who.TheVariants.{UserObj, User, GroupObj, Group, OtherObj, MaskObj}
-use Rattle.dfs_base.specs.declared.ids.Fid.{Fid}
-use Rattle.dfs_base.specs.declared.ids.FilesetId.{FilesetId}
-use Rattle.dfs_base.specs.declared.user.User.{User as UserOf}
-use Rattle.dfs_calls.specs.declared.part.DirEntry.{DirEntry}
-use Rattle.dfs_calls.specs.declared.part.Piece.{Piece}
-use Rattle.dfs_calls.specs.declared.part.Status.{Status as StatusOf}
-use Rattle.dfs_calls.specs.declared.place.Place.{Place}
-use Rattle.dfs_calls.specs.declared.ship.Record.{Record}
-use Rattle.tok_types.specs.declared.token.Need.{Need}
-use Rattle.tok_types.specs.declared.token.Token.{Token}
-use Rattle.tok_types.specs.declared.token.TokenId.{TokenId}
-use Rattle.rpc_types.specs.Soundness.{Each}
-use Rattle.rpc_types.specs.declared.giving.AppliedGive.{AppliedGive}
-use Rattle.rpc_types.specs.declared.giving.Outstanding.{Outstanding}
-use Rattle.rpc_parts.specs.Spelled.{Spelled, number, items, one_byte}
-use Rattle.rpc_parts.specs.Words.{
+use Rattle.base_types.specs.Name.{is_separator}
+use Rattle.base_types.specs.declared.access.AccessEntry.{AccessEntry}
+use Rattle.base_types.specs.declared.access.Who.{Who}
+use Rattle.base_types.specs.declared.access.Who.TheVariants.{UserObj, User, GroupObj, Group, OtherObj, MaskObj}
+use Rattle.base_types.specs.declared.ids.Fid.{Fid}
+use Rattle.base_types.specs.declared.ids.FilesetId.{FilesetId}
+use Rattle.base_types.specs.declared.user.User.{User as UserOf}
+use Rattle.tree_calls.specs.declared.part.DirEntry.{DirEntry}
+use Rattle.tree_calls.specs.declared.part.Piece.{Piece}
+use Rattle.tree_calls.specs.declared.part.Status.{Status as StatusOf}
+use Rattle.tree_calls.specs.declared.place.Place.{Place}
+use Rattle.tree_calls.specs.declared.ship.Record.{Record}
+use Rattle.token_types.specs.declared.token.Need.{Need}
+use Rattle.token_types.specs.declared.token.Token.{Token}
+use Rattle.token_types.specs.declared.token.TokenId.{TokenId}
+use Rattle.message_types.specs.Soundness.{Each}
+use Rattle.message_types.specs.declared.giving.AppliedGive.{AppliedGive}
+use Rattle.message_types.specs.declared.giving.Outstanding.{Outstanding}
+use Rattle.message_parts.specs.Spelled.{Spelled, number, items, one_byte}
+use Rattle.message_parts.specs.Words.{
   spell_u8,
   spell_u32,
   spell_u64,
@@ -35,11 +35,11 @@ use Rattle.rpc_parts.specs.Words.{
   long,
   spell_optional,
 }
-use Rattle.rpc_parts.specs.Tokens.{spell_fid, spell_id, spell_need, spell_token}
-use Rattle.rpc_parts.specs.Places.{spell_place, spell_user, spell_rights}
-use Rattle.rpc_parts.specs.Access.{spell_who_name, spell_access_entry, spell_access}
-use Rattle.rpc_parts.specs.Objects.{spell_piece_in, spell_piece, spell_pieces, spell_entry, spell_lists, spell_status}
-use Rattle.rpc_parts.specs.Requests.{spell_outstanding, spell_applied, spell_record}
+use Rattle.message_parts.specs.Tokens.{spell_fid, spell_id, spell_need, spell_token}
+use Rattle.message_parts.specs.Places.{spell_place, spell_user, spell_rights}
+use Rattle.message_parts.specs.Access.{spell_who_name, spell_access_entry, spell_access}
+use Rattle.message_parts.specs.Objects.{spell_piece_in, spell_piece, spell_pieces, spell_entry, spell_lists, spell_status}
+use Rattle.message_parts.specs.Requests.{spell_outstanding, spell_applied, spell_record}
 use Rattle.message_laws.specs.Typed.{
   IsU8,
   IsU32,

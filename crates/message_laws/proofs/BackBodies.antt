@@ -1,25 +1,25 @@
 -- Messages that are spellable are those of a program.
 use Rattle.std.proofs.Common.{◌≡◌, ◌&&◌, ℕ, true, arith}
 use Rattle.std.proofs.lemmas.Bool.{and_parts, eqb-true}
-use Rattle.dfs_calls.specs.declared.ship.ShipPart.{ShipPart}
-use Rattle.dfs_calls.specs.declared.ship.ShipPart.TheVariants.{Head, Object}
-use Rattle.rpc_types.specs.declared.asking.Change.{Change as ChangeOf}
-use Rattle.rpc_types.specs.declared.asking.Fetch.{Fetch as FetchOf}
-use Rattle.rpc_types.specs.declared.giving.Give.{Give}
-use Rattle.rpc_types.specs.declared.giving.Reclaim.{Reclaim as ReclaimOf}
-use Rattle.rpc_types.specs.declared.giving.Reclaimed.{Reclaimed as ReclaimedOf}
-use Rattle.rpc_types.specs.declared.moving.Shipped.{Shipped as ShippedOf}
-use Rattle.rpc_types.specs.declared.telling.Bring.{Bring}
-use Rattle.rpc_types.specs.declared.telling.Done.{Done as DoneOf}
-use Rattle.rpc_types.specs.declared.telling.Grant.{Grant as GrantOf}
-use Rattle.rpc_types.specs.declared.tokens.Named.{Named}
-use Rattle.rpc_types.specs.declared.tokens.Revoke.{Revoke as RevokeOf}
-use Rattle.rpc_types.specs.declared.giving.AppliedGive.{AppliedGive}
-use Rattle.rpc_types.specs.declared.giving.Ends.{Ends}
-use Rattle.rpc_types.specs.declared.message.Direction.{Direction}
-use Rattle.rpc_types.specs.declared.message.Direction.TheVariants.{ToServer, ToHost, BetweenServers}
-use Rattle.rpc_types.specs.declared.message.Body.{Body}
-use Rattle.rpc_types.specs.declared.message.Body.TheVariants.{
+use Rattle.tree_calls.specs.declared.ship.ShipPart.{ShipPart}
+use Rattle.tree_calls.specs.declared.ship.ShipPart.TheVariants.{Head, Object}
+use Rattle.message_types.specs.declared.asking.Change.{Change as ChangeOf}
+use Rattle.message_types.specs.declared.asking.Fetch.{Fetch as FetchOf}
+use Rattle.message_types.specs.declared.giving.Give.{Give}
+use Rattle.message_types.specs.declared.giving.Reclaim.{Reclaim as ReclaimOf}
+use Rattle.message_types.specs.declared.giving.Reclaimed.{Reclaimed as ReclaimedOf}
+use Rattle.message_types.specs.declared.moving.Shipped.{Shipped as ShippedOf}
+use Rattle.message_types.specs.declared.telling.Bring.{Bring}
+use Rattle.message_types.specs.declared.telling.Done.{Done as DoneOf}
+use Rattle.message_types.specs.declared.telling.Grant.{Grant as GrantOf}
+use Rattle.message_types.specs.declared.tokens.Named.{Named}
+use Rattle.message_types.specs.declared.tokens.Revoke.{Revoke as RevokeOf}
+use Rattle.message_types.specs.declared.giving.AppliedGive.{AppliedGive}
+use Rattle.message_types.specs.declared.giving.Ends.{Ends}
+use Rattle.message_types.specs.declared.message.Direction.{Direction}
+use Rattle.message_types.specs.declared.message.Direction.TheVariants.{ToServer, ToHost, BetweenServers}
+use Rattle.message_types.specs.declared.message.Body.{Body}
+use Rattle.message_types.specs.declared.message.Body.TheVariants.{
   Hello,
   Fetch,
   Grant,
@@ -39,14 +39,14 @@ use Rattle.rpc_types.specs.declared.message.Body.TheVariants.{
   Ship,
   Shipped,
 }
-use Rattle.rpc_types.specs.declared.telling.DoneIs.{DoneIs}
-use Rattle.rpc_types.specs.declared.telling.DoneIs.TheVariants.{Reply as Replied, Known, Granted, Again, Elsewhere}
-use Rattle.rpc_parts.specs.Spelled.{number}
-use Rattle.rpc_parts.specs.Words.{coded, host_code, spell_server, spell_u32, spell_u64, long}
-use Rattle.rpc_parts.specs.Tokens.{spell_fid, spell_id, spell_need, spell_token}
-use Rattle.rpc_parts.specs.Objects.{spell_entry, spell_status}
-use Rattle.rpc_parts.specs.Requests.{spell_outstanding, spell_applied, spell_record}
-use Rattle.rpc_msg.specs.Bodies.{
+use Rattle.message_types.specs.declared.telling.DoneIs.{DoneIs}
+use Rattle.message_types.specs.declared.telling.DoneIs.TheVariants.{Reply as Replied, Known, Granted, Again, Elsewhere}
+use Rattle.message_parts.specs.Spelled.{number}
+use Rattle.message_parts.specs.Words.{coded, host_code, spell_server, spell_u32, spell_u64, long}
+use Rattle.message_parts.specs.Tokens.{spell_fid, spell_id, spell_need, spell_token}
+use Rattle.message_parts.specs.Objects.{spell_entry, spell_status}
+use Rattle.message_parts.specs.Requests.{spell_outstanding, spell_applied, spell_record}
+use Rattle.message_spelling.specs.Bodies.{
   spell_fetch,
   spell_grant,
   spell_change,
@@ -68,7 +68,7 @@ use Rattle.rpc_msg.specs.Bodies.{
   body_tag,
   body_fields,
 }
-use Rattle.rpc_msg.specs.Messages.{
+use Rattle.message_spelling.specs.Messages.{
   direction_code,
   least_direction,
   most_direction,

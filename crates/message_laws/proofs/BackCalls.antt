@@ -1,7 +1,7 @@
 -- Calls and replies that are spellable are those of a program.
 use Rattle.std.proofs.Common.{◌≡◌, true}
-use Rattle.dfs_calls.specs.declared.call.Call.{Call}
-use Rattle.dfs_calls.specs.declared.call.Call.TheVariants.{
+use Rattle.tree_calls.specs.declared.call.Call.{Call}
+use Rattle.tree_calls.specs.declared.call.Call.TheVariants.{
   NewFileset,
   Create,
   MakeDir,
@@ -22,13 +22,13 @@ use Rattle.dfs_calls.specs.declared.call.Call.TheVariants.{
   CloseFile,
   MoveFileset,
 }
-use Rattle.dfs_calls.specs.declared.reply.Refusal.{Refusal}
-use Rattle.dfs_calls.specs.declared.reply.Refusal.TheVariants.{Denied}
-use Rattle.dfs_calls.specs.declared.reply.Reply.{Reply}
-use Rattle.dfs_calls.specs.declared.reply.Reply.TheVariants.{Ok as Accepted, Bytes, Names, Facts, Access, Refused}
-use Rattle.rpc_parts.specs.Words.{spell_name}
-use Rattle.rpc_calls.specs.Calls.{call_fields, spell_call, spell_ending}
-use Rattle.rpc_calls.specs.Replies.{spell_facts, refusal_fields, spell_refusal, reply_fields, spell_reply}
+use Rattle.tree_calls.specs.declared.reply.Refusal.{Refusal}
+use Rattle.tree_calls.specs.declared.reply.Refusal.TheVariants.{Denied}
+use Rattle.tree_calls.specs.declared.reply.Reply.{Reply}
+use Rattle.tree_calls.specs.declared.reply.Reply.TheVariants.{Ok as Accepted, Bytes, Names, Facts, Access, Refused}
+use Rattle.message_parts.specs.Words.{spell_name}
+use Rattle.message_calls.specs.Calls.{call_fields, spell_call, spell_ending}
+use Rattle.message_calls.specs.Replies.{spell_facts, refusal_fields, spell_refusal, reply_fields, spell_reply}
 use Rattle.message_laws.specs.Typed.{IsName, TypedCall, TypedRefusal, TypedReply}
 use Rattle.message_laws.proofs.Back.{
   parts,

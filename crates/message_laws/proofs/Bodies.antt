@@ -2,28 +2,28 @@
 use Rattle.std.proofs.Common.{◌≡◌, ◌≤◌, ℕ, true, List, [], ◌∷◌, length, refl, sym, subst, arith}
 use Rattle.std.specs.Prelude.{Option, IfSome}
 use Rattle.std.proofs.lemmas.Bool.{eq-eqb}
-use Rattle.dfs_base.specs.declared.ids.ServerId.{ServerId}
-use Rattle.dfs_base.specs.declared.ids.HostId.{HostId}
-use Rattle.dfs_calls.specs.declared.part.Piece.{Piece}
-use Rattle.dfs_calls.specs.declared.part.DirEntry.{DirEntry}
-use Rattle.dfs_calls.specs.declared.part.Status.{Status}
-use Rattle.dfs_calls.specs.declared.roster.Roster.{Roster}
-use Rattle.dfs_calls.specs.declared.ship.ShipPart.{ShipPart}
-use Rattle.dfs_calls.specs.declared.ship.ShipPart.TheVariants.{Head, Object}
-use Rattle.tok_types.specs.declared.token.Token.{Token}
-use Rattle.tok_types.specs.declared.token.TokenId.{TokenId}
-use Rattle.rpc_types.specs.declared.asking.Change.{Change as ChangeOf}
-use Rattle.rpc_types.specs.declared.asking.Fetch.{Fetch as FetchOf}
-use Rattle.rpc_types.specs.declared.giving.Give.{Give}
-use Rattle.rpc_types.specs.declared.giving.Reclaim.{Reclaim as ReclaimOf}
-use Rattle.rpc_types.specs.declared.giving.Reclaimed.{Reclaimed as ReclaimedOf}
-use Rattle.rpc_types.specs.declared.moving.Shipped.{Shipped as ShippedOf}
-use Rattle.rpc_types.specs.declared.telling.Bring.{Bring}
-use Rattle.rpc_types.specs.declared.telling.Done.{Done as DoneOf}
-use Rattle.rpc_types.specs.declared.telling.Grant.{Grant as GrantOf}
-use Rattle.rpc_types.specs.declared.tokens.Named.{Named}
-use Rattle.rpc_types.specs.declared.tokens.Revoke.{Revoke as RevokeOf}
-use Rattle.rpc_types.specs.Soundness.{
+use Rattle.base_types.specs.declared.ids.ServerId.{ServerId}
+use Rattle.base_types.specs.declared.ids.HostId.{HostId}
+use Rattle.tree_calls.specs.declared.part.Piece.{Piece}
+use Rattle.tree_calls.specs.declared.part.DirEntry.{DirEntry}
+use Rattle.tree_calls.specs.declared.part.Status.{Status}
+use Rattle.tree_calls.specs.declared.roster.Roster.{Roster}
+use Rattle.tree_calls.specs.declared.ship.ShipPart.{ShipPart}
+use Rattle.tree_calls.specs.declared.ship.ShipPart.TheVariants.{Head, Object}
+use Rattle.token_types.specs.declared.token.Token.{Token}
+use Rattle.token_types.specs.declared.token.TokenId.{TokenId}
+use Rattle.message_types.specs.declared.asking.Change.{Change as ChangeOf}
+use Rattle.message_types.specs.declared.asking.Fetch.{Fetch as FetchOf}
+use Rattle.message_types.specs.declared.giving.Give.{Give}
+use Rattle.message_types.specs.declared.giving.Reclaim.{Reclaim as ReclaimOf}
+use Rattle.message_types.specs.declared.giving.Reclaimed.{Reclaimed as ReclaimedOf}
+use Rattle.message_types.specs.declared.moving.Shipped.{Shipped as ShippedOf}
+use Rattle.message_types.specs.declared.telling.Bring.{Bring}
+use Rattle.message_types.specs.declared.telling.Done.{Done as DoneOf}
+use Rattle.message_types.specs.declared.telling.Grant.{Grant as GrantOf}
+use Rattle.message_types.specs.declared.tokens.Named.{Named}
+use Rattle.message_types.specs.declared.tokens.Revoke.{Revoke as RevokeOf}
+use Rattle.message_types.specs.Soundness.{
   Each,
   IsServer,
   IsHost,
@@ -46,11 +46,11 @@ use Rattle.rpc_types.specs.Soundness.{
   IsClaim,
   IsReply,
 }
-use Rattle.rpc_types.specs.declared.giving.Ends.{Ends}
-use Rattle.rpc_types.specs.declared.giving.Outstanding.{Outstanding}
-use Rattle.rpc_types.specs.declared.giving.AppliedGive.{AppliedGive}
-use Rattle.rpc_types.specs.declared.message.Body.{Body}
-use Rattle.rpc_types.specs.declared.message.Body.TheVariants.{
+use Rattle.message_types.specs.declared.giving.Ends.{Ends}
+use Rattle.message_types.specs.declared.giving.Outstanding.{Outstanding}
+use Rattle.message_types.specs.declared.giving.AppliedGive.{AppliedGive}
+use Rattle.message_types.specs.declared.message.Body.{Body}
+use Rattle.message_types.specs.declared.message.Body.TheVariants.{
   Hello,
   Fetch,
   Grant,
@@ -70,15 +70,15 @@ use Rattle.rpc_types.specs.declared.message.Body.TheVariants.{
   Ship,
   Shipped,
 }
-use Rattle.rpc_types.specs.declared.message.Message.{Message}
-use Rattle.rpc_types.specs.declared.telling.DoneIs.{DoneIs}
-use Rattle.rpc_types.specs.declared.telling.DoneIs.TheVariants.{Reply as Replied, Known, Granted, Again, Elsewhere}
-use Rattle.rpc_parts.specs.Spelled.{number}
-use Rattle.rpc_parts.specs.Words.{short, long, spell_u32, spell_optional}
-use Rattle.rpc_parts.specs.Tokens.{spell_id, spell_need, spell_token}
-use Rattle.rpc_parts.specs.Objects.{spell_entry, spell_status, list_count}
-use Rattle.rpc_parts.specs.Requests.{spell_outstanding, spell_applied, spell_record}
-use Rattle.rpc_msg.specs.Bodies.{
+use Rattle.message_types.specs.declared.message.Message.{Message}
+use Rattle.message_types.specs.declared.telling.DoneIs.{DoneIs}
+use Rattle.message_types.specs.declared.telling.DoneIs.TheVariants.{Reply as Replied, Known, Granted, Again, Elsewhere}
+use Rattle.message_parts.specs.Spelled.{number}
+use Rattle.message_parts.specs.Words.{short, long, spell_u32, spell_optional}
+use Rattle.message_parts.specs.Tokens.{spell_id, spell_need, spell_token}
+use Rattle.message_parts.specs.Objects.{spell_entry, spell_status, list_count}
+use Rattle.message_parts.specs.Requests.{spell_outstanding, spell_applied, spell_record}
+use Rattle.message_spelling.specs.Bodies.{
   spell_fetch,
   spell_grant,
   spell_change,

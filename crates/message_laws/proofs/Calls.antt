@@ -1,8 +1,8 @@
 -- Calls and replies of sound messages of a program fit.
 use Rattle.std.proofs.Common.{◌≡◌, ◌≤◌, true, length, refl, arith}
-use Rattle.dfs_base.specs.declared.ids.ServerId.{ServerId}
-use Rattle.dfs_calls.specs.declared.call.Call.{Call}
-use Rattle.dfs_calls.specs.declared.call.Call.TheVariants.{
+use Rattle.base_types.specs.declared.ids.ServerId.{ServerId}
+use Rattle.tree_calls.specs.declared.call.Call.{Call}
+use Rattle.tree_calls.specs.declared.call.Call.TheVariants.{
   NewFileset,
   Create,
   MakeDir,
@@ -23,20 +23,20 @@ use Rattle.dfs_calls.specs.declared.call.Call.TheVariants.{
   CloseFile,
   MoveFileset,
 }
-use Rattle.dfs_calls.specs.declared.place.Which.{Which}
-use Rattle.dfs_calls.specs.declared.place.Which.TheVariants.{Own, Files, Dirs}
-use Rattle.dfs_calls.specs.declared.reply.Facts.{Facts as FactsOf}
-use Rattle.dfs_calls.specs.declared.reply.Refusal.{Refusal}
-use Rattle.dfs_calls.specs.declared.reply.Refusal.TheVariants.{NoEntry, Denied}
-use Rattle.dfs_calls.specs.declared.reply.Reply.{Reply}
-use Rattle.dfs_calls.specs.declared.reply.Reply.TheVariants.{Ok as Accepted, Bytes, Names, Facts, Access, Refused}
-use Rattle.dfs_calls.specs.declared.roster.Roster.{Roster}
-use Rattle.rpc_types.specs.Soundness.{IsServer, IsCall, IsEnd, IsReply}
-use Rattle.rpc_parts.specs.Spelled.{number}
-use Rattle.rpc_parts.specs.Words.{coded, spell_name}
-use Rattle.rpc_parts.specs.Places.{spell_which}
-use Rattle.rpc_calls.specs.Calls.{call_tag, call_fields, spell_call, spell_ending}
-use Rattle.rpc_calls.specs.Replies.{
+use Rattle.tree_calls.specs.declared.place.Which.{Which}
+use Rattle.tree_calls.specs.declared.place.Which.TheVariants.{Own, Files, Dirs}
+use Rattle.tree_calls.specs.declared.reply.Facts.{Facts as FactsOf}
+use Rattle.tree_calls.specs.declared.reply.Refusal.{Refusal}
+use Rattle.tree_calls.specs.declared.reply.Refusal.TheVariants.{NoEntry, Denied}
+use Rattle.tree_calls.specs.declared.reply.Reply.{Reply}
+use Rattle.tree_calls.specs.declared.reply.Reply.TheVariants.{Ok as Accepted, Bytes, Names, Facts, Access, Refused}
+use Rattle.tree_calls.specs.declared.roster.Roster.{Roster}
+use Rattle.message_types.specs.Soundness.{IsServer, IsCall, IsEnd, IsReply}
+use Rattle.message_parts.specs.Spelled.{number}
+use Rattle.message_parts.specs.Words.{coded, spell_name}
+use Rattle.message_parts.specs.Places.{spell_which}
+use Rattle.message_calls.specs.Calls.{call_tag, call_fields, spell_call, spell_ending}
+use Rattle.message_calls.specs.Replies.{
   spell_facts,
   refusal_tag,
   refusal_fields,

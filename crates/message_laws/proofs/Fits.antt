@@ -2,9 +2,9 @@
 use Rattle.std.proofs.Common.{◌≡◌, ◌≤◌, ℕ, Bool, true, false, ◌&&◌, List, [], ◌∷◌, length, Some, None, refl, arith}
 use Rattle.std.specs.Prelude.{Option, IfSome}
 use Rattle.std.proofs.lemmas.Bool.{and_from, le-leb}
-use Rattle.rpc_types.specs.Soundness.{Each}
-use Rattle.rpc_parts.specs.Spelled.{Spelled, number, items}
-use Rattle.rpc_parts.specs.Words.{coded, spell_flag, spell_optional, short, long}
+use Rattle.message_types.specs.Soundness.{Each}
+use Rattle.message_parts.specs.Spelled.{Spelled, number, items}
+use Rattle.message_parts.specs.Words.{coded, spell_flag, spell_optional, short, long}
 use Rattle.message_laws.specs.Typed.{IsListOf}
 
 pub both : {a b : Bool} → a ≡ true → b ≡ true → (a && b) ≡ true

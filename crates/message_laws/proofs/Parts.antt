@@ -22,33 +22,33 @@ use Rattle.std.specs.Prelude.{not, nat_le, sum_by, ◌||◌}
 use Rattle.std.specs.List.{list_any}
 use Rattle.std.proofs.lemmas.Bool.{and_parts, le-leb, leb-true, lt-ltb, eq-eqb}
 use Rattle.std.proofs.lemmas.List.Sums.{sum_by-cons}
-use Rattle.dfs_base.specs.Name.{is_separator}
-use Rattle.dfs_base.specs.declared.access.AccessEntry.{AccessEntry}
-use Rattle.dfs_base.specs.declared.access.Who.{Who}
-use Rattle.dfs_base.specs.declared.access.Who.TheVariants.{UserObj, User, GroupObj, Group, OtherObj, MaskObj}
-use Rattle.dfs_base.specs.declared.ids.Fid.{Fid}
-use Rattle.dfs_base.specs.declared.ids.FilesetId.{FilesetId}
-use Rattle.dfs_base.specs.declared.ids.HostId.{HostId}
-use Rattle.dfs_base.specs.declared.ids.ServerId.{ServerId}
-use Rattle.dfs_base.specs.declared.ids.OpenKind.{OpenKind}
-use Rattle.dfs_base.specs.declared.ids.OpenKind.TheVariants.{Reading, Writing, Executing, Shared, Exclusive}
-use Rattle.dfs_base.specs.declared.span.Span.{Span}
-use Rattle.dfs_base.specs.declared.user.User.{User as UserOf}
-use Rattle.dfs_calls.specs.declared.part.DirEntry.{DirEntry}
-use Rattle.dfs_calls.specs.declared.part.Piece.{Piece}
-use Rattle.dfs_calls.specs.declared.part.Status.{Status as StatusOf}
-use Rattle.dfs_calls.specs.declared.place.Place.{Place}
-use Rattle.dfs_calls.specs.declared.ship.Record.{Record}
-use Rattle.tok_types.specs.declared.token.Kind.{Kind}
-use Rattle.tok_types.specs.declared.token.Kind.TheVariants.{Bytes, Status, Lock, Opening}
-use Rattle.tok_types.specs.declared.token.Need.{Need}
-use Rattle.tok_types.specs.declared.token.Token.{Token}
-use Rattle.tok_types.specs.declared.token.TokenId.{TokenId}
-use Rattle.rpc_types.specs.Soundness.{Each, IsShort, AreFileBytes, IsKept}
-use Rattle.rpc_types.specs.declared.giving.AppliedGive.{AppliedGive}
-use Rattle.rpc_types.specs.declared.giving.Outstanding.{Outstanding}
-use Rattle.rpc_parts.specs.Spelled.{number, items, one_byte}
-use Rattle.rpc_parts.specs.Words.{
+use Rattle.base_types.specs.Name.{is_separator}
+use Rattle.base_types.specs.declared.access.AccessEntry.{AccessEntry}
+use Rattle.base_types.specs.declared.access.Who.{Who}
+use Rattle.base_types.specs.declared.access.Who.TheVariants.{UserObj, User, GroupObj, Group, OtherObj, MaskObj}
+use Rattle.base_types.specs.declared.ids.Fid.{Fid}
+use Rattle.base_types.specs.declared.ids.FilesetId.{FilesetId}
+use Rattle.base_types.specs.declared.ids.HostId.{HostId}
+use Rattle.base_types.specs.declared.ids.ServerId.{ServerId}
+use Rattle.base_types.specs.declared.ids.OpenKind.{OpenKind}
+use Rattle.base_types.specs.declared.ids.OpenKind.TheVariants.{Reading, Writing, Executing, Shared, Exclusive}
+use Rattle.base_types.specs.declared.span.Span.{Span}
+use Rattle.base_types.specs.declared.user.User.{User as UserOf}
+use Rattle.tree_calls.specs.declared.part.DirEntry.{DirEntry}
+use Rattle.tree_calls.specs.declared.part.Piece.{Piece}
+use Rattle.tree_calls.specs.declared.part.Status.{Status as StatusOf}
+use Rattle.tree_calls.specs.declared.place.Place.{Place}
+use Rattle.tree_calls.specs.declared.ship.Record.{Record}
+use Rattle.token_types.specs.declared.token.Kind.{Kind}
+use Rattle.token_types.specs.declared.token.Kind.TheVariants.{Bytes, Status, Lock, Opening}
+use Rattle.token_types.specs.declared.token.Need.{Need}
+use Rattle.token_types.specs.declared.token.Token.{Token}
+use Rattle.token_types.specs.declared.token.TokenId.{TokenId}
+use Rattle.message_types.specs.Soundness.{Each, IsShort, AreFileBytes, IsKept}
+use Rattle.message_types.specs.declared.giving.AppliedGive.{AppliedGive}
+use Rattle.message_types.specs.declared.giving.Outstanding.{Outstanding}
+use Rattle.message_parts.specs.Spelled.{number, items, one_byte}
+use Rattle.message_parts.specs.Words.{
   coded,
   spell_u8,
   spell_u32,
@@ -61,7 +61,7 @@ use Rattle.rpc_parts.specs.Words.{
   is_plain,
   any_byte,
 }
-use Rattle.rpc_parts.specs.Tokens.{
+use Rattle.message_parts.specs.Tokens.{
   spell_fid,
   spell_id,
   spell_span,
@@ -72,9 +72,9 @@ use Rattle.rpc_parts.specs.Tokens.{
   spell_need,
   spell_token,
 }
-use Rattle.rpc_parts.specs.Places.{spell_place, spell_user, spell_rights}
-use Rattle.rpc_parts.specs.Access.{who_tag, spell_who_name, spell_access_entry, spell_access}
-use Rattle.rpc_parts.specs.Objects.{
+use Rattle.message_parts.specs.Places.{spell_place, spell_user, spell_rights}
+use Rattle.message_parts.specs.Access.{who_tag, spell_who_name, spell_access_entry, spell_access}
+use Rattle.message_parts.specs.Objects.{
   spell_piece_in,
   spell_piece,
   bytes_in,
@@ -84,8 +84,8 @@ use Rattle.rpc_parts.specs.Objects.{
   spell_lists,
   spell_status,
 }
-use Rattle.rpc_parts.specs.Requests.{spell_outstanding, spell_applied, spell_record}
-use Rattle.rpc_parts.proofs.Access.{list_parts, missing_left}
+use Rattle.message_parts.specs.Requests.{spell_outstanding, spell_applied, spell_record}
+use Rattle.message_parts.proofs.Access.{list_parts, missing_left}
 use Rattle.message_laws.specs.Typed.{
   IsU8,
   IsU32,

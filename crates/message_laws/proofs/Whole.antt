@@ -3,9 +3,9 @@ use Rattle.std.proofs.Common.{◌≡◌, ◌≤◌, ℕ, true, ◌&&◌, length,
 use Rattle.std.specs.Prelude.{IsTrue, nat_le, nat_lt}
 use Rattle.std.specs.List.{list_all}
 use Rattle.std.proofs.lemmas.Bool.{and_parts, leb-true}
-use Rattle.dfs_base.specs.declared.ids.HostId.{HostId}
-use Rattle.dfs_base.specs.declared.ids.ServerId.{ServerId}
-use Rattle.dfs_base.specs.declared.limits.TheConstants.{
+use Rattle.base_types.specs.declared.ids.HostId.{HostId}
+use Rattle.base_types.specs.declared.ids.ServerId.{ServerId}
+use Rattle.base_types.specs.declared.limits.TheConstants.{
   SERVERS_MAX,
   HOSTS_MAX,
   GROUPS_MAX,
@@ -14,13 +14,13 @@ use Rattle.dfs_base.specs.declared.limits.TheConstants.{
   CACHED_TOKENS_MIN,
   CACHED_TOKENS_MAX,
 }
-use Rattle.dfs_calls.specs.Limits.{is_between, keeps_limits}
-use Rattle.dfs_calls.specs.declared.roster.Roster.{Roster}
-use Rattle.rpc_types.specs.Soundness.{IsServer, IsHost, Goes}
-use Rattle.rpc_types.specs.declared.message.Direction.{Direction}
-use Rattle.rpc_types.specs.declared.message.Direction.TheVariants.{ToServer, ToHost, BetweenServers}
-use Rattle.rpc_types.specs.declared.message.Body.{Body}
-use Rattle.rpc_types.specs.declared.message.Body.TheVariants.{
+use Rattle.tree_calls.specs.Limits.{is_between, keeps_limits}
+use Rattle.tree_calls.specs.declared.roster.Roster.{Roster}
+use Rattle.message_types.specs.Soundness.{IsServer, IsHost, Goes}
+use Rattle.message_types.specs.declared.message.Direction.{Direction}
+use Rattle.message_types.specs.declared.message.Direction.TheVariants.{ToServer, ToHost, BetweenServers}
+use Rattle.message_types.specs.declared.message.Body.{Body}
+use Rattle.message_types.specs.declared.message.Body.TheVariants.{
   Hello,
   Fetch,
   Grant,
@@ -40,10 +40,10 @@ use Rattle.rpc_types.specs.declared.message.Body.TheVariants.{
   Ship,
   Shipped,
 }
-use Rattle.rpc_parts.specs.Spelled.{number}
-use Rattle.rpc_parts.specs.Words.{coded, host_code}
-use Rattle.rpc_msg.specs.Bodies.{body_tag}
-use Rattle.rpc_msg.specs.Messages.{
+use Rattle.message_parts.specs.Spelled.{number}
+use Rattle.message_parts.specs.Words.{coded, host_code}
+use Rattle.message_spelling.specs.Bodies.{body_tag}
+use Rattle.message_spelling.specs.Messages.{
   ReadsBack,
   direction_code,
   least_direction,

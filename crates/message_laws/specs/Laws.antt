@@ -1,12 +1,12 @@
 -- What may be sent has a spelling, and is read back.
 use Rattle.std.specs.Prelude.{◌++◌, ◌≡◌, ℕ, IsTrue, List, length, Result, MatchResult}
-use Rattle.dfs_calls.specs.Limits.{keeps_limits}
-use Rattle.dfs_calls.specs.declared.roster.Roster.{Roster}
-use Rattle.rpc_msg.specs.Messages.{Decodes, is_spellable, spelling}
-use Rattle.rpc_msg.specs.declared.coding.DecodeRefused.{DecodeRefused}
-use Rattle.rpc_msg.specs.declared.coding.DecodeRefused.TheVariants.{Memory}
-use Rattle.rpc_types.specs.Soundness.{IsSound}
-use Rattle.rpc_types.specs.declared.message.Message.{Message}
+use Rattle.tree_calls.specs.Limits.{keeps_limits}
+use Rattle.tree_calls.specs.declared.roster.Roster.{Roster}
+use Rattle.message_spelling.specs.Messages.{Decodes, is_spellable, spelling}
+use Rattle.message_spelling.specs.declared.coding.DecodeRefused.{DecodeRefused}
+use Rattle.message_spelling.specs.declared.coding.DecodeRefused.TheVariants.{Memory}
+use Rattle.message_types.specs.Soundness.{IsSound}
+use Rattle.message_types.specs.declared.message.Message.{Message}
 use Rattle.message_laws.specs.Typed.{TypedMessage}
 
 -- a sound message of a program is spellable

@@ -2,14 +2,14 @@
 -- name, rights and an access list keep their rules, and a list lies in memory. Of the numbers of hosts and servers
 -- nothing is said.
 use Rattle.std.specs.Prelude.{◌<◌, ◌^◌, ℕ, IsTrue, List, length, IfSome}
-use Rattle.dfs_base.specs.Access.{is_access_list}
-use Rattle.dfs_base.specs.Name.{is_name}
-use Rattle.dfs_base.specs.declared.access.AccessEntry.{AccessEntry}
-use Rattle.dfs_base.specs.declared.access.Who.{Who}
-use Rattle.dfs_base.specs.declared.access.Who.TheVariants.{User, Group}
-use Rattle.dfs_base.specs.declared.ids.Fid.{Fid}
-use Rattle.dfs_calls.specs.declared.call.Call.{Call}
-use Rattle.dfs_calls.specs.declared.call.Call.TheVariants.{
+use Rattle.base_types.specs.Access.{is_access_list}
+use Rattle.base_types.specs.Name.{is_name}
+use Rattle.base_types.specs.declared.access.AccessEntry.{AccessEntry}
+use Rattle.base_types.specs.declared.access.Who.{Who}
+use Rattle.base_types.specs.declared.access.Who.TheVariants.{User, Group}
+use Rattle.base_types.specs.declared.ids.Fid.{Fid}
+use Rattle.tree_calls.specs.declared.call.Call.{Call}
+use Rattle.tree_calls.specs.declared.call.Call.TheVariants.{
   NewFileset,
   Create,
   MakeDir,
@@ -30,26 +30,26 @@ use Rattle.dfs_calls.specs.declared.call.Call.TheVariants.{
   CloseFile,
   MoveFileset,
 }
-use Rattle.dfs_calls.specs.declared.part.DirEntry.{DirEntry}
-use Rattle.dfs_calls.specs.declared.part.Piece.{Piece}
-use Rattle.dfs_calls.specs.declared.part.Status.{Status}
-use Rattle.dfs_calls.specs.declared.place.Place.{Place}
-use Rattle.dfs_calls.specs.declared.reply.Refusal.{Refusal}
-use Rattle.dfs_calls.specs.declared.reply.Refusal.TheVariants.{Denied}
-use Rattle.dfs_calls.specs.declared.reply.Reply.{Reply}
-use Rattle.dfs_calls.specs.declared.reply.Reply.TheVariants.{Bytes, Names, Facts, Access, Refused}
-use Rattle.dfs_calls.specs.declared.ship.Record.{Record}
-use Rattle.dfs_calls.specs.declared.ship.ShipPart.{ShipPart}
-use Rattle.dfs_calls.specs.declared.ship.ShipPart.TheVariants.{Head, Object}
-use Rattle.tok_types.specs.declared.token.Need.{Need}
-use Rattle.tok_types.specs.declared.token.Token.{Token}
-use Rattle.tok_types.specs.declared.token.TokenId.{TokenId}
-use Rattle.rpc_types.specs.Soundness.{Each}
-use Rattle.rpc_types.specs.declared.giving.AppliedGive.{AppliedGive}
-use Rattle.rpc_types.specs.declared.giving.Ends.{Ends}
-use Rattle.rpc_types.specs.declared.giving.Outstanding.{Outstanding}
-use Rattle.rpc_types.specs.declared.message.Body.{Body}
-use Rattle.rpc_types.specs.declared.message.Body.TheVariants.{
+use Rattle.tree_calls.specs.declared.part.DirEntry.{DirEntry}
+use Rattle.tree_calls.specs.declared.part.Piece.{Piece}
+use Rattle.tree_calls.specs.declared.part.Status.{Status}
+use Rattle.tree_calls.specs.declared.place.Place.{Place}
+use Rattle.tree_calls.specs.declared.reply.Refusal.{Refusal}
+use Rattle.tree_calls.specs.declared.reply.Refusal.TheVariants.{Denied}
+use Rattle.tree_calls.specs.declared.reply.Reply.{Reply}
+use Rattle.tree_calls.specs.declared.reply.Reply.TheVariants.{Bytes, Names, Facts, Access, Refused}
+use Rattle.tree_calls.specs.declared.ship.Record.{Record}
+use Rattle.tree_calls.specs.declared.ship.ShipPart.{ShipPart}
+use Rattle.tree_calls.specs.declared.ship.ShipPart.TheVariants.{Head, Object}
+use Rattle.token_types.specs.declared.token.Need.{Need}
+use Rattle.token_types.specs.declared.token.Token.{Token}
+use Rattle.token_types.specs.declared.token.TokenId.{TokenId}
+use Rattle.message_types.specs.Soundness.{Each}
+use Rattle.message_types.specs.declared.giving.AppliedGive.{AppliedGive}
+use Rattle.message_types.specs.declared.giving.Ends.{Ends}
+use Rattle.message_types.specs.declared.giving.Outstanding.{Outstanding}
+use Rattle.message_types.specs.declared.message.Body.{Body}
+use Rattle.message_types.specs.declared.message.Body.TheVariants.{
   Fetch,
   Grant,
   Change,
@@ -65,10 +65,10 @@ use Rattle.rpc_types.specs.declared.message.Body.TheVariants.{
   Ship,
   Shipped,
 }
-use Rattle.rpc_types.specs.declared.message.Message.{Message}
-use Rattle.rpc_types.specs.declared.telling.Bring.{Bring}
-use Rattle.rpc_types.specs.declared.telling.DoneIs.{DoneIs}
-use Rattle.rpc_types.specs.declared.telling.DoneIs.TheVariants.{Reply as Replied, Known}
+use Rattle.message_types.specs.declared.message.Message.{Message}
+use Rattle.message_types.specs.declared.telling.Bring.{Bring}
+use Rattle.message_types.specs.declared.telling.DoneIs.{DoneIs}
+use Rattle.message_types.specs.declared.telling.DoneIs.TheVariants.{Reply as Replied, Known}
 
 abbrev pub IsU8 : ℕ → Type 0
 IsU8 n = n < 2 ^ 8

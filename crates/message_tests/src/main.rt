@@ -8,11 +8,11 @@ mod show_call;
 mod text;
 
 use anyhow::Result;
-use dfs_base::{NoMemory, Plain};
+use base_types::{NoMemory, Plain};
 use message_laws::{sound_has_a_spelling, sound_is_read_back};
+use message_spelling::{DecodeRefused, decode, encode, one_spelling, reads_back};
+use message_types::{Message, sound_by_example};
 use row::{Row, Wanted, row_of};
-use rpc_msg::{DecodeRefused, decode, encode, one_spelling, reads_back};
-use rpc_types::{Message, sound_by_example};
 use show::show;
 use std::alloc::Global;
 use text::Text;

@@ -2,10 +2,10 @@
 
 use crate::show_call::{access, bytes, call, reply};
 use crate::text::Text;
-use dfs_base::{Fid, Items};
-use dfs_calls::{DirEntry, Piece, Record, ShipPart, Status};
-use rpc_types::{Body, Bring, Direction, DoneIs, Give, Message, Outstanding, Reclaimed};
-use tok_types::{Kind, Need, Token, TokenId};
+use base_types::{Fid, Items};
+use message_types::{Body, Bring, Direction, DoneIs, Give, Message, Outstanding, Reclaimed};
+use token_types::{Kind, Need, Token, TokenId};
+use tree_calls::{DirEntry, Piece, Record, ShipPart, Status};
 
 /// Writes what a message says.
 pub fn show(message: &Message, out: &mut Text) {

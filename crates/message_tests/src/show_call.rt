@@ -1,8 +1,8 @@
 //! Calls and replies, as the table writes them.
 
 use crate::text::Text;
-use dfs_base::{AccessEntry, AccessList, Items, Name, User, Who};
-use dfs_calls::{Call, Place, Refusal, Reply};
+use base_types::{AccessEntry, AccessList, Items, Name, User, Who};
+use tree_calls::{Call, Place, Refusal, Reply};
 
 /// Writes bytes: few of them as text, and of more how many they are.
 pub fn bytes(bytes: &Items<u8>, out: &mut Text) {

@@ -1,7 +1,7 @@
 //! A line of text that is written part by part. What finds no memory is noted, and asked for at the end.
 
 use anyhow::{Result, bail};
-use dfs_base::Name;
+use base_types::Name;
 use std::alloc::Global;
 use std::fmt::Debug;
 

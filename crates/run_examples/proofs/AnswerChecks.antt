@@ -7,40 +7,40 @@ use Rattle.std.proofs.lemmas.Bool.{le-leb, ltb-true}
 use Rattle.std.proofs.lemmas.Bool.{lt-ltb}
 use Rattle.std.specs.Prelude.{not, nat_le, nat_lt}
 use Rattle.std.specs.List.{list_all, list_any}
-use Rattle.dfs_base.specs.Ids.{same_fid}
-use Rattle.dfs_base.specs.Name.{same_name}
-use Rattle.dfs_base.specs.Spans.{has_byte}
-use Rattle.dfs_base.specs.declared.ids.Fid.{Fid}
-use Rattle.dfs_base.specs.declared.ids.HostId.{HostId}
-use Rattle.dfs_base.specs.declared.ids.OpenKind.{OpenKind}
-use Rattle.dfs_base.specs.declared.ids.ServerId.{ServerId}
-use Rattle.dfs_base.specs.declared.span.Span.{Span}
-use Rattle.dfs_base.specs.declared.user.User.{User}
-use Rattle.dfs_calls.specs.Rosters.{user_of}
-use Rattle.dfs_calls.specs.declared.call.Call.{Call}
-use Rattle.dfs_calls.specs.declared.call.Call.TheVariants.{Read, Write, Stat, Sync, Lock, Unlock, OpenFile, CloseFile}
-use Rattle.dfs_calls.specs.declared.place.Place.{Place}
-use Rattle.dfs_calls.specs.declared.reply.Reply.{Reply}
-use Rattle.dfs_calls.specs.declared.reply.Reply.TheVariants.{Ok as Fine, Bytes as BytesReply}
-use Rattle.dfs_calls.specs.declared.roster.Roster.{Roster}
-use Rattle.dfs_needs.specs.Calls.{Verdict, call_look, reply_now}
-use Rattle.dfs_needs.specs.Calls.Verdict.{Writes, Locks, Opens}
-use Rattle.dfs_needs.specs.Looks.{CoverAll, Look, needs_of, outcome}
-use Rattle.tok_types.specs.Covers.{Covers, covers_alone, covers_byte, does_for, kind_covers_byte}
-use Rattle.tok_types.specs.declared.token.Kind.{Kind}
-use Rattle.tok_types.specs.declared.token.Kind.TheVariants.{Bytes, Status, Lock as LockToken, Opening}
-use Rattle.tok_types.specs.declared.token.Need.{Need}
-use Rattle.tok_types.specs.declared.token.Token.{Token}
-use Rattle.world_host.specs.HostAnswers.{HostAnswers, IsExact}
-use Rattle.world_host.specs.Knowing.{Stance}
-use Rattle.world_host.specs.Labels.{end_of}
-use Rattle.world_host.specs.OpenCalls.{GoesOn}
-use Rattle.world_host.specs.Views.{sees}
-use Rattle.world_steps.specs.Lists.{In}
-use Rattle.world_steps.specs.declared.applied.Answer.{Answer}
-use Rattle.world_steps.specs.declared.step.Asked.{Asked}
-use Rattle.world_steps.specs.declared.step.Labelled.{Labelled}
-use Rattle.world_steps.specs.declared.step.Step.{Step}
+use Rattle.base_types.specs.Ids.{same_fid}
+use Rattle.base_types.specs.Name.{same_name}
+use Rattle.base_types.specs.Spans.{has_byte}
+use Rattle.base_types.specs.declared.ids.Fid.{Fid}
+use Rattle.base_types.specs.declared.ids.HostId.{HostId}
+use Rattle.base_types.specs.declared.ids.OpenKind.{OpenKind}
+use Rattle.base_types.specs.declared.ids.ServerId.{ServerId}
+use Rattle.base_types.specs.declared.span.Span.{Span}
+use Rattle.base_types.specs.declared.user.User.{User}
+use Rattle.tree_calls.specs.Rosters.{user_of}
+use Rattle.tree_calls.specs.declared.call.Call.{Call}
+use Rattle.tree_calls.specs.declared.call.Call.TheVariants.{Read, Write, Stat, Sync, Lock, Unlock, OpenFile, CloseFile}
+use Rattle.tree_calls.specs.declared.place.Place.{Place}
+use Rattle.tree_calls.specs.declared.reply.Reply.{Reply}
+use Rattle.tree_calls.specs.declared.reply.Reply.TheVariants.{Ok as Fine, Bytes as BytesReply}
+use Rattle.tree_calls.specs.declared.roster.Roster.{Roster}
+use Rattle.need_host.specs.Calls.{Verdict, call_look, reply_now}
+use Rattle.need_host.specs.Calls.Verdict.{Writes, Locks, Opens}
+use Rattle.need_host.specs.Looks.{CoverAll, Look, needs_of, outcome}
+use Rattle.token_types.specs.Covers.{Covers, covers_alone, covers_byte, does_for, kind_covers_byte}
+use Rattle.token_types.specs.declared.token.Kind.{Kind}
+use Rattle.token_types.specs.declared.token.Kind.TheVariants.{Bytes, Status, Lock as LockToken, Opening}
+use Rattle.token_types.specs.declared.token.Need.{Need}
+use Rattle.token_types.specs.declared.token.Token.{Token}
+use Rattle.run_rules.specs.HostAnswers.{HostAnswers, IsExact}
+use Rattle.run_rules.specs.Knowing.{Stance}
+use Rattle.run_rules.specs.Labels.{end_of}
+use Rattle.run_rules.specs.OpenCalls.{GoesOn}
+use Rattle.run_rules.specs.Views.{sees}
+use Rattle.run_rules.specs.Lists.{In}
+use Rattle.run_rules.specs.declared.applied.Answer.{Answer}
+use Rattle.run_rules.specs.declared.step.Asked.{Asked}
+use Rattle.run_rules.specs.declared.step.Labelled.{Labelled}
+use Rattle.run_rules.specs.declared.step.Step.{Step}
 use Rattle.run_examples.proofs.Tests.{AllTrue, passes, all_true, implies, so, is_not, at_all, some_in}
 use Rattle.run_examples.proofs.Tests.{any_of}
 use Rattle.run_examples.proofs.Tests.{is_none, none_in, none_is, same_server, same_host, host_is, server_is}

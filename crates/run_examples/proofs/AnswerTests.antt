@@ -1,16 +1,16 @@
 -- What a server answers at once, what it applies, its lines: computed; and all rules of its step.
-use Rattle.dfs_base.specs.declared.ids.Fid.{Fid}
-use Rattle.dfs_base.specs.declared.ids.HostId.{HostId}
-use Rattle.dfs_base.specs.declared.ids.Node.TheVariants.{Server}
-use Rattle.dfs_base.specs.declared.ids.ServerId.{ServerId}
-use Rattle.dfs_tree.specs.declared.tree.Tree.{Tree}
-use Rattle.rpc_types.specs.declared.giving.AppliedGive.{AppliedGive}
-use Rattle.rpc_types.specs.declared.giving.Give.{Give}
-use Rattle.rpc_types.specs.declared.giving.Reclaim.{Reclaim as ReclaimOf}
-use Rattle.rpc_types.specs.declared.message.Body.{Body}
-use Rattle.rpc_types.specs.declared.message.Body.TheVariants.{Bye, Down, GiveBack, Gone, Hello, Reclaim, Reclaimed}
-use Rattle.rpc_types.specs.declared.message.Body.TheVariants.{Restarted}
-use Rattle.rpc_types.specs.declared.message.Message.{Message}
+use Rattle.base_types.specs.declared.ids.Fid.{Fid}
+use Rattle.base_types.specs.declared.ids.HostId.{HostId}
+use Rattle.base_types.specs.declared.ids.Node.TheVariants.{Server}
+use Rattle.base_types.specs.declared.ids.ServerId.{ServerId}
+use Rattle.tree_answers.specs.declared.tree.Tree.{Tree}
+use Rattle.message_types.specs.declared.giving.AppliedGive.{AppliedGive}
+use Rattle.message_types.specs.declared.giving.Give.{Give}
+use Rattle.message_types.specs.declared.giving.Reclaim.{Reclaim as ReclaimOf}
+use Rattle.message_types.specs.declared.message.Body.{Body}
+use Rattle.message_types.specs.declared.message.Body.TheVariants.{Bye, Down, GiveBack, Gone, Hello, Reclaim, Reclaimed}
+use Rattle.message_types.specs.declared.message.Body.TheVariants.{Restarted}
+use Rattle.message_types.specs.declared.message.Message.{Message}
 use Rattle.run_examples.proofs.AnswerChecks.{no_asked}
 use Rattle.run_examples.proofs.LapseChecks.{bye_body, hello_body, is_hello, is_lapse, is_restarted, lapse_cause}
 use Rattle.run_examples.proofs.LapseChecks.{not_asked, restarted_body}
@@ -37,24 +37,24 @@ use Rattle.std.proofs.Common.{◌&&◌, ◌++◌, ◌==◌, ◌||◌, ◌∙◌,
 use Rattle.std.proofs.lemmas.Bool.{and_from, and_parts, eq-eqb, eqb-true, or_cases}
 use Rattle.std.specs.List.{list_all, list_any}
 use Rattle.std.specs.Prelude.{not, slice_get}
-use Rattle.tok_types.specs.declared.token.Token.{Token}
-use Rattle.world_journal.specs.Lines.{IsNextLine, lines_gone, lines_of}
-use Rattle.world_server.specs.Kept.{kept, kept_through}
-use Rattle.world_server.specs.ServerAnswers.{HeardNow, SentNow, ServerAnswers, TakenNow, empty}
-use Rattle.world_server.specs.ServerApplies.{FirstDown, FirstGiven, ServerApplies, by_cause, decisions, ended_by}
-use Rattle.world_server.specs.ServerApplies.{is_decision, stored_of}
-use Rattle.world_server.specs.ServerRules.{ServerMeets}
-use Rattle.world_steps.specs.Acts.{Act, admitted_by, admitting, after_cause, after_step, deciding, epoch, sending}
-use Rattle.world_steps.specs.Acts.{sent_by, written_by}
-use Rattle.world_steps.specs.Acts.Act.{Reserves}
-use Rattle.world_steps.specs.Gives.{number_of}
-use Rattle.world_steps.specs.Hosts.{HasReclaimed, IsDown, IsLive, Listed, TookNow}
-use Rattle.world_steps.specs.declared.applied.Admission.{Admission}
-use Rattle.world_steps.specs.declared.applied.Applied.TheVariants.{IsDown as GoesDown}
-use Rattle.world_steps.specs.declared.step.Cause.{Cause}
-use Rattle.world_steps.specs.declared.step.Cause.TheVariants.{Message as Came, End, Evict, Flushed, Lapse}
-use Rattle.world_steps.specs.declared.step.Cause.TheVariants.{Line as LineOf, Restart}
-use Rattle.world_steps.specs.declared.step.Step.{Step}
+use Rattle.token_types.specs.declared.token.Token.{Token}
+use Rattle.run_rules.specs.Lines.{IsNextLine, lines_gone, lines_of}
+use Rattle.run_rules.specs.Kept.{kept, kept_through}
+use Rattle.run_rules.specs.ServerAnswers.{HeardNow, SentNow, ServerAnswers, TakenNow, empty}
+use Rattle.run_rules.specs.ServerApplies.{FirstDown, FirstGiven, ServerApplies, by_cause, decisions, ended_by}
+use Rattle.run_rules.specs.ServerApplies.{is_decision, stored_of}
+use Rattle.run_rules.specs.ServerRules.{ServerMeets}
+use Rattle.run_rules.specs.Acts.{Act, admitted_by, admitting, after_cause, after_step, deciding, epoch, sending}
+use Rattle.run_rules.specs.Acts.{sent_by, written_by}
+use Rattle.run_rules.specs.Acts.Act.{Reserves}
+use Rattle.run_rules.specs.Gives.{number_of}
+use Rattle.run_rules.specs.Hosts.{HasReclaimed, IsDown, IsLive, Listed, TookNow}
+use Rattle.run_rules.specs.declared.applied.Admission.{Admission}
+use Rattle.run_rules.specs.declared.applied.Applied.TheVariants.{IsDown as GoesDown}
+use Rattle.run_rules.specs.declared.step.Cause.{Cause}
+use Rattle.run_rules.specs.declared.step.Cause.TheVariants.{Message as Came, End, Evict, Flushed, Lapse}
+use Rattle.run_rules.specs.declared.step.Cause.TheVariants.{Line as LineOf, Restart}
+use Rattle.run_rules.specs.declared.step.Step.{Step}
 
 unfoldable pub is_empty : Body → Bool
 is_empty (Reclaimed r) = is_none r.applied && is_none r.left_out

@@ -1,39 +1,39 @@
 -- The rules of asking for a host's step that asks nothing new, computed.
 use Rattle.run_examples.proofs.FetchWords.{asking_yes, fetch_body, is_asking, is_fetch}
 use Rattle.run_examples.proofs.Words.{in_said, said}
-use Rattle.world_host.specs.HostAsks.{HasFetched}
-use Rattle.world_steps.specs.Sends.{Said}
-use Rattle.rpc_types.specs.declared.message.Message.{Message}
-use Rattle.world_steps.specs.Gives.{GiveOpen}
+use Rattle.run_rules.specs.HostAsks.{HasFetched}
+use Rattle.run_rules.specs.Sends.{Said}
+use Rattle.message_types.specs.declared.message.Message.{Message}
+use Rattle.run_rules.specs.Gives.{GiveOpen}
 use Rattle.std.proofs.Common.{Bool, List, Some, [], false, inl, inr, refl, subst, sym, true}
 use Rattle.std.proofs.Common.{◌&&◌, ◌||◌, ◌∙◌, ◌∷◌, ◌≡◌}
 use Rattle.std.proofs.lemmas.Bool.{and_parts, or_cases}
 use Rattle.std.specs.Prelude.{not}
 use Rattle.std.specs.List.{list_any}
-use Rattle.dfs_base.specs.Ids.{same_fid}
-use Rattle.dfs_base.specs.declared.ids.Fid.{Fid}
-use Rattle.dfs_base.specs.declared.ids.HostId.{HostId}
-use Rattle.dfs_base.specs.declared.ids.ServerId.{ServerId}
-use Rattle.dfs_base.specs.declared.user.User.{User}
-use Rattle.dfs_calls.specs.Rosters.{user_of}
-use Rattle.dfs_calls.specs.declared.call.Call.{Call}
-use Rattle.dfs_calls.specs.declared.roster.Roster.{Roster}
-use Rattle.dfs_needs.specs.Calls.{Verdict}
-use Rattle.dfs_needs.specs.Calls.Verdict.{Gives}
-use Rattle.dfs_needs.specs.Looks.{IsFirstLack}
-use Rattle.tok_types.specs.declared.token.Need.{Need}
-use Rattle.tok_types.specs.declared.token.Token.{Token}
-use Rattle.rpc_types.specs.declared.asking.Fetch.{Fetch as FetchOf}
-use Rattle.rpc_types.specs.declared.giving.AppliedGive.{AppliedGive}
-use Rattle.rpc_types.specs.declared.giving.Give.{Give}
-use Rattle.rpc_types.specs.declared.message.Body.{Body}
-use Rattle.rpc_types.specs.declared.message.Body.TheVariants.{Hello, Fetch, Change}
-use Rattle.world_host.specs.HostAsks.{AwaitsGone}
-use Rattle.world_steps.specs.Gives.{number_of}
-use Rattle.world_steps.specs.Lists.{In}
-use Rattle.world_steps.specs.Requests.{Asking}
-use Rattle.world_steps.specs.declared.step.Asked.{Asked}
-use Rattle.world_steps.specs.declared.step.Step.{Step}
+use Rattle.base_types.specs.Ids.{same_fid}
+use Rattle.base_types.specs.declared.ids.Fid.{Fid}
+use Rattle.base_types.specs.declared.ids.HostId.{HostId}
+use Rattle.base_types.specs.declared.ids.ServerId.{ServerId}
+use Rattle.base_types.specs.declared.user.User.{User}
+use Rattle.tree_calls.specs.Rosters.{user_of}
+use Rattle.tree_calls.specs.declared.call.Call.{Call}
+use Rattle.tree_calls.specs.declared.roster.Roster.{Roster}
+use Rattle.need_host.specs.Calls.{Verdict}
+use Rattle.need_host.specs.Calls.Verdict.{Gives}
+use Rattle.need_host.specs.Looks.{IsFirstLack}
+use Rattle.token_types.specs.declared.token.Need.{Need}
+use Rattle.token_types.specs.declared.token.Token.{Token}
+use Rattle.message_types.specs.declared.asking.Fetch.{Fetch as FetchOf}
+use Rattle.message_types.specs.declared.giving.AppliedGive.{AppliedGive}
+use Rattle.message_types.specs.declared.giving.Give.{Give}
+use Rattle.message_types.specs.declared.message.Body.{Body}
+use Rattle.message_types.specs.declared.message.Body.TheVariants.{Hello, Fetch, Change}
+use Rattle.run_rules.specs.HostAsks.{AwaitsGone}
+use Rattle.run_rules.specs.Gives.{number_of}
+use Rattle.run_rules.specs.Lists.{In}
+use Rattle.run_rules.specs.Requests.{Asking}
+use Rattle.run_rules.specs.declared.step.Asked.{Asked}
+use Rattle.run_rules.specs.declared.step.Step.{Step}
 use Rattle.run_examples.proofs.Tests.{passes, is_not, some_in, is_none, none_in, fid_is}
 use Rattle.run_examples.proofs.Words.{held, is_known, known_is, made}
 use Rattle.run_examples.proofs.Words.{in_made}

@@ -1,28 +1,28 @@
 -- The rules of asking for a host's step, computed: it greets a server, asks for tokens, asks a server about a call, asks
 -- again, or asks nothing.
-use Rattle.dfs_base.specs.Ids.{same_fid}
-use Rattle.dfs_base.specs.declared.ids.Fid.{Fid}
-use Rattle.dfs_base.specs.declared.ids.FilesetId.{FilesetId}
-use Rattle.dfs_base.specs.declared.ids.HostId.{HostId}
-use Rattle.dfs_base.specs.declared.ids.ServerId.{ServerId}
-use Rattle.dfs_base.specs.declared.user.User.{User}
-use Rattle.dfs_calls.specs.Rosters.{user_of}
-use Rattle.dfs_calls.specs.declared.call.Call.{Call}
-use Rattle.dfs_calls.specs.declared.roster.Roster.{Roster}
-use Rattle.dfs_needs.specs.Calls.{Verdict}
-use Rattle.dfs_needs.specs.Calls.Verdict.{Asks}
-use Rattle.dfs_needs.specs.Looks.{IsFirstLack}
-use Rattle.dfs_needs.specs.Questions.{Question, numbered_under}
-use Rattle.dfs_needs.specs.Questions.Question.{ChangeIn}
-use Rattle.dfs_needs.specs.Walks.{root_of}
-use Rattle.dfs_objects.specs.Spans.{whole}
-use Rattle.rpc_types.specs.Soundness.{no_fid}
-use Rattle.rpc_types.specs.declared.asking.Change.{Change as ChangeOf}
-use Rattle.rpc_types.specs.declared.asking.Fetch.{Fetch as FetchOf}
-use Rattle.rpc_types.specs.declared.giving.AppliedGive.{AppliedGive}
-use Rattle.rpc_types.specs.declared.message.Body.{Body}
-use Rattle.rpc_types.specs.declared.message.Body.TheVariants.{Change, Fetch, Hello}
-use Rattle.rpc_types.specs.declared.message.Message.{Message}
+use Rattle.base_types.specs.Ids.{same_fid}
+use Rattle.base_types.specs.declared.ids.Fid.{Fid}
+use Rattle.base_types.specs.declared.ids.FilesetId.{FilesetId}
+use Rattle.base_types.specs.declared.ids.HostId.{HostId}
+use Rattle.base_types.specs.declared.ids.ServerId.{ServerId}
+use Rattle.base_types.specs.declared.user.User.{User}
+use Rattle.tree_calls.specs.Rosters.{user_of}
+use Rattle.tree_calls.specs.declared.call.Call.{Call}
+use Rattle.tree_calls.specs.declared.roster.Roster.{Roster}
+use Rattle.need_host.specs.Calls.{Verdict}
+use Rattle.need_host.specs.Calls.Verdict.{Asks}
+use Rattle.need_host.specs.Looks.{IsFirstLack}
+use Rattle.need_host.specs.Questions.{Question, numbered_under}
+use Rattle.need_host.specs.Questions.Question.{ChangeIn}
+use Rattle.need_host.specs.Walks.{root_of}
+use Rattle.tree_objects.specs.Spans.{whole}
+use Rattle.message_types.specs.Soundness.{no_fid}
+use Rattle.message_types.specs.declared.asking.Change.{Change as ChangeOf}
+use Rattle.message_types.specs.declared.asking.Fetch.{Fetch as FetchOf}
+use Rattle.message_types.specs.declared.giving.AppliedGive.{AppliedGive}
+use Rattle.message_types.specs.declared.message.Body.{Body}
+use Rattle.message_types.specs.declared.message.Body.TheVariants.{Change, Fetch, Hello}
+use Rattle.message_types.specs.declared.message.Message.{Message}
 use Rattle.run_examples.proofs.AnswerChecks.{call_is, cover_all, covers_it, covers_yes, lacks_is, lacks_it, needs_at}
 use Rattle.run_examples.proofs.AnswerChecks.{same_call, verdict_at}
 use Rattle.run_examples.proofs.AskChecks.{again, asks_again, awaits, is_gives, is_open_give, lack_waits, one_of}
@@ -50,24 +50,24 @@ use Rattle.std.proofs.Common.{◌&&◌, ◌==◌, ◌||◌, ◌∷◌, ◌≡◌
 use Rattle.std.proofs.lemmas.Bool.{and_parts, eqb-true, or_cases}
 use Rattle.std.specs.List.{list_all, list_any}
 use Rattle.std.specs.Prelude.{if◌then◌else◌, not}
-use Rattle.tok_types.specs.declared.token.Kind.{Kind}
-use Rattle.tok_types.specs.declared.token.Kind.TheVariants.{Bytes, Lock as LockToken, Opening}
-use Rattle.tok_types.specs.declared.token.Need.{Need}
-use Rattle.tok_types.specs.declared.token.Token.{Token}
+use Rattle.token_types.specs.declared.token.Kind.{Kind}
+use Rattle.token_types.specs.declared.token.Kind.TheVariants.{Bytes, Lock as LockToken, Opening}
+use Rattle.token_types.specs.declared.token.Need.{Need}
+use Rattle.token_types.specs.declared.token.Token.{Token}
 use Rattle.tree_laws.specs.Parts.Part.{Traits}
-use Rattle.world_host.specs.HostAsks.{AsksServer, FetchNeeds, GoesTo, HostAsks, IsNewChange, IsNewFetch}
-use Rattle.world_host.specs.HostAsks.FetchNeeds.{OfDirectory}
-use Rattle.world_host.specs.Knowing.{Stance, is_entering, stay_asked}
-use Rattle.world_host.specs.OpenCalls.{IsOpen}
-use Rattle.world_host.specs.Views.{sees}
-use Rattle.world_steps.specs.Epochs.{IsWelcome}
-use Rattle.world_steps.specs.Grants.{IsUseKind}
-use Rattle.world_steps.specs.Lists.{In}
-use Rattle.world_steps.specs.Places.{place}
-use Rattle.world_steps.specs.Requests.{Asking, Changing}
-use Rattle.world_steps.specs.Sends.{HasGreeted, Said}
-use Rattle.world_steps.specs.declared.step.Asked.{Asked as AskedCall}
-use Rattle.world_steps.specs.declared.step.Step.{Step}
+use Rattle.run_rules.specs.HostAsks.{AsksServer, FetchNeeds, GoesTo, HostAsks, IsNewChange, IsNewFetch}
+use Rattle.run_rules.specs.HostAsks.FetchNeeds.{OfDirectory}
+use Rattle.run_rules.specs.Knowing.{Stance, is_entering, stay_asked}
+use Rattle.run_rules.specs.OpenCalls.{IsOpen}
+use Rattle.run_rules.specs.Views.{sees}
+use Rattle.run_rules.specs.Epochs.{IsWelcome}
+use Rattle.run_rules.specs.Grants.{IsUseKind}
+use Rattle.run_rules.specs.Lists.{In}
+use Rattle.run_rules.specs.Places.{place}
+use Rattle.run_rules.specs.Requests.{Asking, Changing}
+use Rattle.run_rules.specs.Sends.{HasGreeted, Said}
+use Rattle.run_rules.specs.declared.step.Asked.{Asked as AskedCall}
+use Rattle.run_rules.specs.declared.step.Step.{Step}
 
 -- the first need that tokens lack
 unfoldable pub lack_of : List Token → List Need → Option Need

@@ -4,27 +4,27 @@ use Rattle.std.proofs.Common.{if◌then◌else◌, ℕ, ◌&&◌, ◌++◌, ◌|
 use Rattle.std.proofs.lemmas.Bool.{and_parts, and_from, or_cases, or_left, or_right, eqb-true, eq-eqb}
 use Rattle.std.specs.Prelude.{not, flat_map}
 use Rattle.std.specs.List.{filter, list_all, list_any}
-use Rattle.dfs_base.specs.declared.ids.FilesetId.{FilesetId}
-use Rattle.dfs_base.specs.declared.ids.ServerId.{ServerId}
-use Rattle.dfs_calls.specs.declared.call.Call.{Call}
-use Rattle.dfs_calls.specs.declared.reply.Reply.{Reply}
-use Rattle.dfs_needs.specs.Questions.{fileset_of}
-use Rattle.rpc_types.specs.declared.giving.Ends.{Ends}
-use Rattle.rpc_types.specs.declared.giving.Give.{Give}
-use Rattle.rpc_types.specs.declared.message.Body.{Body}
-use Rattle.rpc_types.specs.declared.message.Body.TheVariants.{Change}
-use Rattle.rpc_types.specs.declared.message.Message.{Message}
-use Rattle.rpc_types.specs.declared.telling.Done.{Done as DoneOf}
-use Rattle.rpc_types.specs.declared.telling.DoneIs.{DoneIs}
-use Rattle.rpc_types.specs.declared.telling.DoneIs.TheVariants.{Known as IsFileset, Reply as HasReply}
-use Rattle.world_host.specs.Knowing.{Entered, Enters}
-use Rattle.world_host.specs.OpenCalls.{Begins, Counts, GoesOn, IsEnded, IsOpen, IsTurn, LearnsEnd}
-use Rattle.world_steps.specs.Gives.{number_of}
-use Rattle.world_steps.specs.Lists.{In}
-use Rattle.world_steps.specs.Sends.{Said}
-use Rattle.world_steps.specs.declared.applied.Answer.{Answer}
-use Rattle.world_steps.specs.declared.step.Asked.{Asked}
-use Rattle.world_steps.specs.declared.step.Step.{Step}
+use Rattle.base_types.specs.declared.ids.FilesetId.{FilesetId}
+use Rattle.base_types.specs.declared.ids.ServerId.{ServerId}
+use Rattle.tree_calls.specs.declared.call.Call.{Call}
+use Rattle.tree_calls.specs.declared.reply.Reply.{Reply}
+use Rattle.need_host.specs.Questions.{fileset_of}
+use Rattle.message_types.specs.declared.giving.Ends.{Ends}
+use Rattle.message_types.specs.declared.giving.Give.{Give}
+use Rattle.message_types.specs.declared.message.Body.{Body}
+use Rattle.message_types.specs.declared.message.Body.TheVariants.{Change}
+use Rattle.message_types.specs.declared.message.Message.{Message}
+use Rattle.message_types.specs.declared.telling.Done.{Done as DoneOf}
+use Rattle.message_types.specs.declared.telling.DoneIs.{DoneIs}
+use Rattle.message_types.specs.declared.telling.DoneIs.TheVariants.{Known as IsFileset, Reply as HasReply}
+use Rattle.run_rules.specs.Knowing.{Entered, Enters}
+use Rattle.run_rules.specs.OpenCalls.{Begins, Counts, GoesOn, IsEnded, IsOpen, IsTurn, LearnsEnd}
+use Rattle.run_rules.specs.Gives.{number_of}
+use Rattle.run_rules.specs.Lists.{In}
+use Rattle.run_rules.specs.Sends.{Said}
+use Rattle.run_rules.specs.declared.applied.Answer.{Answer}
+use Rattle.run_rules.specs.declared.step.Asked.{Asked}
+use Rattle.run_rules.specs.declared.step.Step.{Step}
 use Rattle.run_examples.proofs.Tests.{is_not, not_is, at_all, some_in, any_of, in_front, in_back}
 use Rattle.run_examples.proofs.Tests.{in_split}
 use Rattle.run_examples.proofs.Tests.{in_filter, from_filter, in_flat, from_flat, if_in, in_if, same_server}

@@ -5,25 +5,25 @@ use Rattle.std.proofs.Common.{if◌then◌else◌, ℕ, zero, ◌&&◌, ◌+◌,
 use Rattle.std.proofs.lemmas.Bool.{and_parts, and_from, or_cases, or_left, or_right, cases_lt, leb-true, ltb-true}
 use Rattle.std.specs.Prelude.{not, flat_map, nat_le, nat_lt, is_some}
 use Rattle.std.specs.List.{filter, list_all, list_any}
-use Rattle.dfs_base.specs.Ids.{same_fid}
-use Rattle.dfs_base.specs.Spans.{has_byte}
-use Rattle.dfs_base.specs.declared.ids.Fid.{Fid}
-use Rattle.dfs_base.specs.declared.span.Span.{Span}
-use Rattle.dfs_calls.specs.declared.call.Call.{Call}
-use Rattle.dfs_calls.specs.declared.call.Call.TheVariants.{Write}
-use Rattle.tok_types.specs.declared.token.Kind.{Kind}
-use Rattle.tok_types.specs.declared.token.Kind.TheVariants.{Bytes, Status}
-use Rattle.tok_types.specs.declared.token.Token.{Token}
-use Rattle.rpc_types.specs.declared.giving.Give.{Give}
+use Rattle.base_types.specs.Ids.{same_fid}
+use Rattle.base_types.specs.Spans.{has_byte}
+use Rattle.base_types.specs.declared.ids.Fid.{Fid}
+use Rattle.base_types.specs.declared.span.Span.{Span}
+use Rattle.tree_calls.specs.declared.call.Call.{Call}
+use Rattle.tree_calls.specs.declared.call.Call.TheVariants.{Write}
+use Rattle.token_types.specs.declared.token.Kind.{Kind}
+use Rattle.token_types.specs.declared.token.Kind.TheVariants.{Bytes, Status}
+use Rattle.token_types.specs.declared.token.Token.{Token}
+use Rattle.message_types.specs.declared.giving.Give.{Give}
 use Rattle.tree_laws.specs.Parts.Part.{Size}
-use Rattle.world_host.specs.Dirty.{ByteIsDirty, HasLength, IsClean, IsDirtyUnder, IsLastLength, LengthIsClean}
-use Rattle.world_host.specs.Dirty.{LengthIsDirty}
-use Rattle.world_host.specs.Dirty.{TakesStatus, UpdatesByte, UpdatesStatus, gives_at, is_dirty, writes_at, writes_byte}
-use Rattle.world_host.specs.Views.{sees, writes_to}
-use Rattle.world_steps.specs.Gives.{number_of}
-use Rattle.world_steps.specs.Lists.{In}
-use Rattle.world_steps.specs.declared.applied.Answer.{Answer}
-use Rattle.world_steps.specs.declared.step.Step.{Step}
+use Rattle.run_rules.specs.Dirty.{ByteIsDirty, HasLength, IsClean, IsDirtyUnder, IsLastLength, LengthIsClean}
+use Rattle.run_rules.specs.Dirty.{LengthIsDirty}
+use Rattle.run_rules.specs.Dirty.{TakesStatus, UpdatesByte, UpdatesStatus, gives_at, is_dirty, writes_at, writes_byte}
+use Rattle.run_rules.specs.Views.{sees, writes_to}
+use Rattle.run_rules.specs.Gives.{number_of}
+use Rattle.run_rules.specs.Lists.{In}
+use Rattle.run_rules.specs.declared.applied.Answer.{Answer}
+use Rattle.run_rules.specs.declared.step.Step.{Step}
 use Rattle.run_examples.proofs.Tests.{implies, so, is_not, not_is, at_all, some_in, any_of, in_front, in_back}
 use Rattle.run_examples.proofs.Tests.{in_split}
 use Rattle.run_examples.proofs.Tests.{in_filter, from_filter, in_flat, if_in, in_if, fid_is, fids}

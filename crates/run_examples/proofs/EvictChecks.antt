@@ -5,25 +5,25 @@ use Rattle.std.proofs.Common.{ℕ, ◌||◌, ◌==◌, ◌∙◌, ◌∷◌, ◌
 use Rattle.std.proofs.lemmas.Bool.{eqb-true, or_cases}
 use Rattle.std.specs.Prelude.{not}
 use Rattle.std.specs.List.{list_all, list_any}
-use Rattle.dfs_base.specs.declared.ids.HostId.{HostId}
-use Rattle.dfs_base.specs.declared.ids.ServerId.{ServerId}
-use Rattle.dfs_base.specs.declared.ids.Node.TheVariants.{Host}
-use Rattle.dfs_base.specs.declared.user.User.{User}
-use Rattle.dfs_calls.specs.Rosters.{user_of}
-use Rattle.dfs_calls.specs.declared.roster.Roster.{Roster}
+use Rattle.base_types.specs.declared.ids.HostId.{HostId}
+use Rattle.base_types.specs.declared.ids.ServerId.{ServerId}
+use Rattle.base_types.specs.declared.ids.Node.TheVariants.{Host}
+use Rattle.base_types.specs.declared.user.User.{User}
+use Rattle.tree_calls.specs.Rosters.{user_of}
+use Rattle.tree_calls.specs.declared.roster.Roster.{Roster}
 use Rattle.script_lines.specs.declared.script.Script.{Script}
-use Rattle.tok_types.specs.declared.token.Token.{Token}
-use Rattle.world_host.proofs.Evicting.{last_before}
-use Rattle.world_host.specs.HostLeaves.{HostLeaves, IsIdle, IsOldest, LastUsed, MayEvict, MayLeave, UsesToken, helps_cover}
-use Rattle.world_host.specs.HostLines.{HostLines}
-use Rattle.world_host.specs.HostRules.{HostMeets}
-use Rattle.world_journal.specs.Lines.{limit_of, lines_of, servers_of}
-use Rattle.world_steps.specs.Lists.{In}
-use Rattle.world_steps.specs.declared.applied.Answer.{Answer}
-use Rattle.world_steps.specs.declared.applied.Leave.{Leave}
-use Rattle.world_steps.specs.declared.applied.Why.TheVariants.{Evicted}
-use Rattle.world_steps.specs.declared.step.Cause.TheVariants.{Line as LineOf, Restart, Evict, Flushed}
-use Rattle.world_steps.specs.declared.step.Step.{Step}
+use Rattle.token_types.specs.declared.token.Token.{Token}
+use Rattle.run_tokens.proofs.Evicting.{last_before}
+use Rattle.run_rules.specs.HostLeaves.{HostLeaves, IsIdle, IsOldest, LastUsed, MayEvict, MayLeave, UsesToken, helps_cover}
+use Rattle.run_rules.specs.HostLines.{HostLines}
+use Rattle.run_rules.specs.HostRules.{HostMeets}
+use Rattle.run_rules.specs.Lines.{limit_of, lines_of, servers_of}
+use Rattle.run_rules.specs.Lists.{In}
+use Rattle.run_rules.specs.declared.applied.Answer.{Answer}
+use Rattle.run_rules.specs.declared.applied.Leave.{Leave}
+use Rattle.run_rules.specs.declared.applied.Why.TheVariants.{Evicted}
+use Rattle.run_rules.specs.declared.step.Cause.TheVariants.{Line as LineOf, Restart, Evict, Flushed}
+use Rattle.run_rules.specs.declared.step.Step.{Step}
 use Rattle.run_examples.proofs.Tests.{AllTrue, all_true, apart, from_filter, is_none, is_not, none_in, none_is, passes}
 use Rattle.run_examples.proofs.Tests.{at_all, same_token, some_in, token_is, tokens}
 use Rattle.run_examples.proofs.Words.{held, in_held}

@@ -1,11 +1,11 @@
 -- The examples: each test is computed.
 use Rattle.std.proofs.Common.{[], refl, ◌∷◌, ℕ}
-use Rattle.dfs_needs.specs.Calls.{call_look, write_look, lock_look}
-use Rattle.rpc_types.specs.declared.message.Body.TheVariants.{GiveBack, Bye}
-use Rattle.world_host.specs.HostRules.{HostMeets}
-use Rattle.world_journal.specs.Worked.{owner}
-use Rattle.world_steps.specs.Places.{home}
-use Rattle.world_steps.specs.Worked.{client, site_one, to_server}
+use Rattle.need_host.specs.Calls.{call_look, write_look, lock_look}
+use Rattle.message_types.specs.declared.message.Body.TheVariants.{GiveBack, Bye}
+use Rattle.run_rules.specs.HostRules.{HostMeets}
+use Rattle.run_tokens.specs.JournalWorked.{owner}
+use Rattle.run_rules.specs.Places.{home}
+use Rattle.run_tokens.specs.Worked.{client, site_one, to_server}
 use Rattle.run_examples.specs.Laws.{locking, stopping, writing}
 use Rattle.run_examples.specs.Steps.{asks_lock, asks_update, begin, claims_all, claims_gift, ends, frees, gift}
 use Rattle.run_examples.specs.Steps.{gives, grown, grows, hears_bye, keeps, lapses, learns, learns_freed}

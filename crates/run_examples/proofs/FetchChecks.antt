@@ -4,28 +4,28 @@ use Rattle.std.proofs.Common.{ℕ, ◌&&◌, ◌||◌, ◌==◌, ◌∷◌, ◌�
 use Rattle.std.proofs.lemmas.Bool.{and_from, and_parts, eqb-true, ltb-true, or_cases}
 use Rattle.std.specs.Prelude.{nat_lt, not}
 use Rattle.std.specs.List.{list_all, list_any}
-use Rattle.dfs_base.specs.Ids.{same_fid}
-use Rattle.dfs_base.specs.declared.ids.Fid.{Fid}
-use Rattle.dfs_needs.specs.Walks.{root_of}
-use Rattle.rpc_types.specs.declared.asking.Fetch.{Fetch as FetchOf}
-use Rattle.rpc_types.specs.declared.message.Body.{Body}
-use Rattle.rpc_types.specs.declared.message.Body.TheVariants.{Fetch}
-use Rattle.rpc_types.specs.declared.message.Message.{Message}
-use Rattle.tok_types.specs.Covers.{Covers, covers_byte, kind_covers_byte}
-use Rattle.tok_types.specs.declared.token.Kind.{Kind}
-use Rattle.tok_types.specs.declared.token.Kind.TheVariants.{Bytes, Status, Lock as LockToken, Opening}
-use Rattle.tok_types.specs.declared.token.Need.{Need}
-use Rattle.tok_types.specs.declared.token.Token.{Token}
+use Rattle.base_types.specs.Ids.{same_fid}
+use Rattle.base_types.specs.declared.ids.Fid.{Fid}
+use Rattle.need_host.specs.Walks.{root_of}
+use Rattle.message_types.specs.declared.asking.Fetch.{Fetch as FetchOf}
+use Rattle.message_types.specs.declared.message.Body.{Body}
+use Rattle.message_types.specs.declared.message.Body.TheVariants.{Fetch}
+use Rattle.message_types.specs.declared.message.Message.{Message}
+use Rattle.token_types.specs.Covers.{Covers, covers_byte, kind_covers_byte}
+use Rattle.token_types.specs.declared.token.Kind.{Kind}
+use Rattle.token_types.specs.declared.token.Kind.TheVariants.{Bytes, Status, Lock as LockToken, Opening}
+use Rattle.token_types.specs.declared.token.Need.{Need}
+use Rattle.token_types.specs.declared.token.Token.{Token}
 use Rattle.tree_laws.specs.Parts.{Nature}
 use Rattle.tree_laws.specs.Parts.Part.{Traits}
-use Rattle.world_host.specs.HostAsks.{AsksMissing, FetchNeeds, IsDirectory, IsFetchNumber}
-use Rattle.world_host.specs.HostAsks.{IsNext, LackingNeeds}
-use Rattle.world_host.specs.HostAsks.FetchNeeds.{OfFile, OfUnknown}
-use Rattle.world_host.specs.Views.{sees}
-use Rattle.world_steps.specs.Grants.{IsUseKind}
-use Rattle.world_steps.specs.Lists.{In}
-use Rattle.world_steps.specs.Sends.{Said}
-use Rattle.world_steps.specs.declared.step.Step.{Step}
+use Rattle.run_rules.specs.HostAsks.{AsksMissing, FetchNeeds, IsDirectory, IsFetchNumber}
+use Rattle.run_rules.specs.HostAsks.{IsNext, LackingNeeds}
+use Rattle.run_rules.specs.HostAsks.FetchNeeds.{OfFile, OfUnknown}
+use Rattle.run_rules.specs.Views.{sees}
+use Rattle.run_rules.specs.Grants.{IsUseKind}
+use Rattle.run_rules.specs.Lists.{In}
+use Rattle.run_rules.specs.Sends.{Said}
+use Rattle.run_rules.specs.declared.step.Step.{Step}
 use Rattle.run_examples.proofs.Tests.{all_true, at_all, fid_is, fids, fileset_is, implies}
 use Rattle.run_examples.proofs.Tests.{list_is, not_is, passes, same_fileset}
 use Rattle.run_examples.proofs.Tests.{filesets, same_list, so, some_in}

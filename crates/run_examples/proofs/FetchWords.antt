@@ -3,15 +3,15 @@ use Rattle.std.proofs.Common.{Bool, List, [], false, inl, inr, refl, subst, sym,
 use Rattle.std.proofs.Common.{◌&&◌, ◌==◌, ◌∙◌, ◌∷◌, ◌≡◌}
 use Rattle.std.proofs.lemmas.Bool.{and_parts, eqb-true}
 use Rattle.std.specs.List.{list_all, list_any}
-use Rattle.dfs_base.specs.Ids.{same_fid}
-use Rattle.rpc_types.specs.declared.asking.Fetch.{Fetch as FetchOf}
-use Rattle.rpc_types.specs.declared.giving.AppliedGive.{AppliedGive}
-use Rattle.rpc_types.specs.declared.message.Body.{Body}
-use Rattle.rpc_types.specs.declared.message.Body.TheVariants.{Fetch}
-use Rattle.tok_types.specs.declared.token.Need.{Need}
-use Rattle.world_steps.specs.Lists.{In}
-use Rattle.world_steps.specs.Requests.{Asking}
-use Rattle.world_steps.specs.declared.step.Step.{Step}
+use Rattle.base_types.specs.Ids.{same_fid}
+use Rattle.message_types.specs.declared.asking.Fetch.{Fetch as FetchOf}
+use Rattle.message_types.specs.declared.giving.AppliedGive.{AppliedGive}
+use Rattle.message_types.specs.declared.message.Body.{Body}
+use Rattle.message_types.specs.declared.message.Body.TheVariants.{Fetch}
+use Rattle.token_types.specs.declared.token.Need.{Need}
+use Rattle.run_rules.specs.Lists.{In}
+use Rattle.run_rules.specs.Requests.{Asking}
+use Rattle.run_rules.specs.declared.step.Step.{Step}
 use Rattle.run_examples.proofs.Tests.{any_of, at_all, fid_is, kind_is, list_is, number_is, numbers, same_kind, same_list}
 use Rattle.run_examples.proofs.Tests.{same_number, some_in}
 use Rattle.run_examples.proofs.Words.{asking, asking_in, in_asking, numbered}

@@ -5,33 +5,33 @@ use Rattle.std.proofs.Common.{if◌then◌else◌, ℕ, ◌&&◌, ◌-◌, ◌||
 use Rattle.std.proofs.lemmas.Bool.{and_parts, and_from, or_cases, or_left, or_right, eqb-true, leb-true}
 use Rattle.std.specs.Prelude.{not, flat_map, is_some, nat_le, slice_get}
 use Rattle.std.specs.List.{list_all, list_any}
-use Rattle.dfs_base.specs.Ids.{same_fid}
-use Rattle.dfs_base.specs.declared.ids.Fid.{Fid}
-use Rattle.dfs_base.specs.declared.ids.ServerId.{ServerId}
-use Rattle.dfs_calls.specs.declared.part.Piece.{Piece}
-use Rattle.tok_types.specs.Conflicts.{same_id}
-use Rattle.tok_types.specs.declared.token.Token.{Token}
-use Rattle.tok_types.specs.declared.token.TokenId.{TokenId}
-use Rattle.rpc_types.specs.declared.giving.Ends.{Ends}
-use Rattle.rpc_types.specs.declared.giving.Give.{Give}
-use Rattle.rpc_types.specs.declared.message.Body.{Body}
-use Rattle.rpc_types.specs.declared.message.Body.TheVariants.{GiveBack}
+use Rattle.base_types.specs.Ids.{same_fid}
+use Rattle.base_types.specs.declared.ids.Fid.{Fid}
+use Rattle.base_types.specs.declared.ids.ServerId.{ServerId}
+use Rattle.tree_calls.specs.declared.part.Piece.{Piece}
+use Rattle.token_types.specs.Conflicts.{same_id}
+use Rattle.token_types.specs.declared.token.Token.{Token}
+use Rattle.token_types.specs.declared.token.TokenId.{TokenId}
+use Rattle.message_types.specs.declared.giving.Ends.{Ends}
+use Rattle.message_types.specs.declared.giving.Give.{Give}
+use Rattle.message_types.specs.declared.message.Body.{Body}
+use Rattle.message_types.specs.declared.message.Body.TheVariants.{GiveBack}
 use Rattle.tree_laws.specs.Parts.Part.{ByteAt, Size}
-use Rattle.world_journal.specs.Told.{byte_in, byte_of}
-use Rattle.world_host.specs.Dirty.{UpdatesByte, is_dirty}
-use Rattle.world_host.specs.HostGives.{DirtyLength, HasDirty, HostAnswersRevoke, HostGives, HostRevoked}
-use Rattle.world_host.specs.HostGives.{OwnsUpdate}
-use Rattle.world_host.specs.Labels.{FreesPinned, IsUsed, end_of}
-use Rattle.world_host.specs.OpenCalls.{IsOpen}
-use Rattle.world_host.specs.Views.{sees, view}
-use Rattle.world_steps.specs.Gives.{IsKnown, Made, number_of}
-use Rattle.world_steps.specs.Lists.{In}
-use Rattle.world_steps.specs.Places.{Place, place}
-use Rattle.world_steps.specs.Sends.{SendsTo}
-use Rattle.world_steps.specs.Tokens.{Held}
-use Rattle.world_steps.specs.declared.step.Asked.{Asked}
-use Rattle.world_steps.specs.declared.step.Labelled.{Labelled}
-use Rattle.world_steps.specs.declared.step.Step.{Step}
+use Rattle.run_rules.specs.Told.{byte_in, byte_of}
+use Rattle.run_rules.specs.Dirty.{UpdatesByte, is_dirty}
+use Rattle.run_rules.specs.HostGives.{DirtyLength, HasDirty, HostAnswersRevoke, HostGives, HostRevoked}
+use Rattle.run_rules.specs.HostGives.{OwnsUpdate}
+use Rattle.run_rules.specs.Labels.{FreesPinned, IsUsed, end_of}
+use Rattle.run_rules.specs.OpenCalls.{IsOpen}
+use Rattle.run_rules.specs.Views.{sees, view}
+use Rattle.run_rules.specs.Gives.{IsKnown, Made, number_of}
+use Rattle.run_rules.specs.Lists.{In}
+use Rattle.run_rules.specs.Places.{Place, place}
+use Rattle.run_rules.specs.Sends.{SendsTo}
+use Rattle.run_rules.specs.Tokens.{Held}
+use Rattle.run_rules.specs.declared.step.Asked.{Asked}
+use Rattle.run_rules.specs.declared.step.Labelled.{Labelled}
+use Rattle.run_rules.specs.declared.step.Step.{Step}
 use Rattle.run_examples.proofs.Tests.{AllTrue, passes, all_true, implies, so, is_not, not_is, at_all, some_in, any_of}
 use Rattle.run_examples.proofs.Tests.{apart}
 use Rattle.run_examples.proofs.Tests.{in_front, in_back, same_fileset, fileset_is, fid_is, fids}

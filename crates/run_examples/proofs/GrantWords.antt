@@ -4,18 +4,18 @@ use Rattle.std.proofs.Common.{ℕ, ◌&&◌, ◌++◌, ◌<◌, ◌||◌, ◌∙
 use Rattle.std.proofs.lemmas.Bool.{and_parts, ltb-true, or_cases}
 use Rattle.std.specs.Prelude.{nat_lt, not}
 use Rattle.std.specs.List.{list_all}
-use Rattle.dfs_base.specs.Ids.{same_fid}
-use Rattle.dfs_base.specs.declared.ids.Fid.{Fid}
-use Rattle.dfs_base.specs.declared.ids.ServerId.{ServerId}
-use Rattle.rpc_types.specs.declared.message.Body.TheVariants.{Grant, Done, Revoke, Kept}
-use Rattle.rpc_types.specs.declared.telling.Bring.{Bring}
-use Rattle.tok_types.specs.declared.token.Token.{Token}
-use Rattle.world_steps.specs.Acts.{Act}
-use Rattle.world_steps.specs.Acts.Act.{Took, Admits, Sent, Reserves}
-use Rattle.world_steps.specs.Grants.{Granted, Issued, Issues, Mark, Pinned, Reserved}
-use Rattle.world_steps.specs.Hosts.{NoGrace}
-use Rattle.world_steps.specs.Lists.{In}
-use Rattle.world_steps.specs.Stamps.{Tells, Told}
+use Rattle.base_types.specs.Ids.{same_fid}
+use Rattle.base_types.specs.declared.ids.Fid.{Fid}
+use Rattle.base_types.specs.declared.ids.ServerId.{ServerId}
+use Rattle.message_types.specs.declared.message.Body.TheVariants.{Grant, Done, Revoke, Kept}
+use Rattle.message_types.specs.declared.telling.Bring.{Bring}
+use Rattle.token_types.specs.declared.token.Token.{Token}
+use Rattle.run_rules.specs.Acts.{Act}
+use Rattle.run_rules.specs.Acts.Act.{Took, Admits, Sent, Reserves}
+use Rattle.run_rules.specs.Grants.{Granted, Issued, Issues, Mark, Pinned, Reserved}
+use Rattle.run_rules.specs.Hosts.{NoGrace}
+use Rattle.run_rules.specs.Lists.{In}
+use Rattle.run_rules.specs.Stamps.{Tells, Told}
 use Rattle.run_examples.proofs.Tests.{at_all, fids, implies, in_back, in_front, is_none, is_not, none_in, so}
 use Rattle.run_examples.proofs.ServerWords.{begin_yes, begins, heard, listed_heard, reclaimed, reclaimed_yes}
 

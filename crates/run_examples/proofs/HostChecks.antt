@@ -1,14 +1,14 @@
 -- All rules of a host's step, computed.
 use Rattle.std.proofs.Common.{Bool, List, Some, [], ◌∷◌, ◌≡◌, true}
-use Rattle.dfs_base.specs.declared.ids.HostId.{HostId}
-use Rattle.dfs_base.specs.declared.ids.ServerId.{ServerId}
-use Rattle.dfs_base.specs.declared.ids.Node.TheVariants.{Host}
-use Rattle.dfs_base.specs.declared.user.User.{User}
-use Rattle.dfs_calls.specs.Rosters.{user_of}
+use Rattle.base_types.specs.declared.ids.HostId.{HostId}
+use Rattle.base_types.specs.declared.ids.ServerId.{ServerId}
+use Rattle.base_types.specs.declared.ids.Node.TheVariants.{Host}
+use Rattle.base_types.specs.declared.user.User.{User}
+use Rattle.tree_calls.specs.Rosters.{user_of}
 use Rattle.script_lines.specs.declared.script.Script.{Script}
-use Rattle.world_host.specs.HostRules.{HostMeets}
-use Rattle.world_journal.specs.Lines.{limit_of, lines_of, servers_of}
-use Rattle.world_steps.specs.declared.step.Step.{Step}
+use Rattle.run_rules.specs.HostRules.{HostMeets}
+use Rattle.run_rules.specs.Lines.{limit_of, lines_of, servers_of}
+use Rattle.run_rules.specs.declared.step.Step.{Step}
 use Rattle.run_examples.proofs.Tests.{passes, all_true}
 use Rattle.run_examples.proofs.TokenChecks.{token_tests, tokens_meet}
 use Rattle.run_examples.proofs.StanceChecks.{stance_of, stance_tests}

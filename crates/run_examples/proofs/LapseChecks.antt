@@ -6,29 +6,29 @@ use Rattle.std.proofs.Common.{ℕ, ◌&&◌, ◌||◌, ◌==◌, ◌∙◌, ◌�
 use Rattle.std.proofs.lemmas.Bool.{and_parts, and_from, or_cases, or_left, or_right, eqb-true, ltb-true, lt-ltb}
 use Rattle.std.specs.Prelude.{not, nat_lt}
 use Rattle.std.specs.List.{list_all, list_any}
-use Rattle.dfs_base.specs.declared.ids.ServerId.{ServerId}
-use Rattle.tok_types.specs.Conflicts.{same_id}
-use Rattle.tok_types.specs.declared.token.Token.{Token}
-use Rattle.rpc_types.specs.declared.asking.Fetch.{Fetch as FetchOf}
-use Rattle.rpc_types.specs.declared.giving.Give.{Give}
-use Rattle.rpc_types.specs.declared.giving.Reclaim.{Reclaim as ReclaimOf}
-use Rattle.rpc_types.specs.declared.giving.Reclaimed.{Reclaimed as ReclaimedOf}
-use Rattle.rpc_types.specs.declared.message.Body.{Body}
-use Rattle.rpc_types.specs.declared.message.Body.TheVariants.{Hello, Fetch, Change}
-use Rattle.rpc_types.specs.declared.message.Body.TheVariants.{GiveBack}
-use Rattle.rpc_types.specs.declared.message.Body.TheVariants.{Reclaim, Reclaimed, Restarted, Bye}
-use Rattle.rpc_types.specs.declared.message.Message.{Message}
-use Rattle.rpc_types.specs.declared.telling.Bring.{Bring}
-use Rattle.world_host.specs.HostResends.{Claimed, ClaimsAt, HasBye, HostResends, IsOther, LearnsRestart, Outstanding}
-use Rattle.world_host.specs.HostTakes.{HostTakes}
-use Rattle.world_steps.specs.Epochs.{Comes, ComesIn, epoch_at}
-use Rattle.world_steps.specs.Lists.{In}
-use Rattle.world_steps.specs.Places.{Place, place}
-use Rattle.world_steps.specs.Sends.{HasGreeted, Said, Sends}
-use Rattle.world_steps.specs.declared.step.Asked.{Asked}
-use Rattle.world_steps.specs.declared.step.Cause.{Cause}
-use Rattle.world_steps.specs.declared.step.Cause.TheVariants.{Message as Came, Lapse}
-use Rattle.world_steps.specs.declared.step.Step.{Step}
+use Rattle.base_types.specs.declared.ids.ServerId.{ServerId}
+use Rattle.token_types.specs.Conflicts.{same_id}
+use Rattle.token_types.specs.declared.token.Token.{Token}
+use Rattle.message_types.specs.declared.asking.Fetch.{Fetch as FetchOf}
+use Rattle.message_types.specs.declared.giving.Give.{Give}
+use Rattle.message_types.specs.declared.giving.Reclaim.{Reclaim as ReclaimOf}
+use Rattle.message_types.specs.declared.giving.Reclaimed.{Reclaimed as ReclaimedOf}
+use Rattle.message_types.specs.declared.message.Body.{Body}
+use Rattle.message_types.specs.declared.message.Body.TheVariants.{Hello, Fetch, Change}
+use Rattle.message_types.specs.declared.message.Body.TheVariants.{GiveBack}
+use Rattle.message_types.specs.declared.message.Body.TheVariants.{Reclaim, Reclaimed, Restarted, Bye}
+use Rattle.message_types.specs.declared.message.Message.{Message}
+use Rattle.message_types.specs.declared.telling.Bring.{Bring}
+use Rattle.run_rules.specs.HostResends.{Claimed, ClaimsAt, HasBye, HostResends, IsOther, LearnsRestart, Outstanding}
+use Rattle.run_rules.specs.HostTakes.{HostTakes}
+use Rattle.run_rules.specs.Epochs.{Comes, ComesIn, epoch_at}
+use Rattle.run_rules.specs.Lists.{In}
+use Rattle.run_rules.specs.Places.{Place, place}
+use Rattle.run_rules.specs.Sends.{HasGreeted, Said, Sends}
+use Rattle.run_rules.specs.declared.step.Asked.{Asked}
+use Rattle.run_rules.specs.declared.step.Cause.{Cause}
+use Rattle.run_rules.specs.declared.step.Cause.TheVariants.{Message as Came, Lapse}
+use Rattle.run_rules.specs.declared.step.Step.{Step}
 use Rattle.run_examples.proofs.Tests.{AllTrue, passes, all_true, implies, so, is_not, not_is, at_all, some_in}
 use Rattle.run_examples.proofs.Tests.{any_of, apart}
 use Rattle.run_examples.proofs.Tests.{is_none, none_in, none_is, only_one, same_server, server_is, servers, same_give, give_is}

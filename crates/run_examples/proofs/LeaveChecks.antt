@@ -1,57 +1,57 @@
 -- The rules of lines, of leaving and of ending for a host's step, computed. A step that evicts passes no test here.
-use Rattle.world_steps.specs.Sends.{Says}
-use Rattle.world_host.specs.Knowing.{FindsFile}
-use Rattle.world_steps.specs.Lists.{EachOnce}
-use Rattle.world_steps.specs.Sends.{HasSaid}
+use Rattle.run_rules.specs.Sends.{Says}
+use Rattle.run_rules.specs.Knowing.{FindsFile}
+use Rattle.run_rules.specs.Lists.{EachOnce}
+use Rattle.run_rules.specs.Sends.{HasSaid}
 use Rattle.std.proofs.Common.{Bool, List, None, Option, Some, [], arith, false, inl, inr, length, refl, subst}
 use Rattle.std.proofs.Common.{suc, sym, true}
 use Rattle.std.proofs.Common.{ℕ, ◌&&◌, ◌||◌, ◌==◌, ◌∙◌, ◌∷◌, ◌≡◌, ◌≤◌, ◌⊎◌}
 use Rattle.std.proofs.lemmas.Bool.{and_parts, and_from, or_cases, or_left, or_right, eqb-true, leb-true}
 use Rattle.std.specs.Prelude.{not, nat_le, slice_get}
 use Rattle.std.specs.List.{filter, list_all, list_any}
-use Rattle.dfs_base.specs.declared.ids.Fid.{Fid}
-use Rattle.dfs_base.specs.Ids.{same_fid}
-use Rattle.dfs_base.specs.declared.ids.FilesetId.{FilesetId}
-use Rattle.dfs_base.specs.declared.ids.HostId.{HostId}
-use Rattle.dfs_base.specs.declared.ids.ServerId.{ServerId}
-use Rattle.dfs_base.specs.declared.user.User.{User}
-use Rattle.dfs_calls.specs.Rosters.{user_of}
-use Rattle.dfs_calls.specs.declared.call.Call.{Call}
-use Rattle.dfs_calls.specs.declared.call.Call.TheVariants.{Sync}
-use Rattle.dfs_calls.specs.declared.place.Place.{Place}
-use Rattle.dfs_calls.specs.declared.reply.Refusal.{Refusal}
-use Rattle.dfs_calls.specs.declared.roster.Roster.{Roster}
-use Rattle.dfs_needs.specs.Looks.{needs_of, outcome}
-use Rattle.dfs_needs.specs.Walks.{file_look, root_of}
+use Rattle.base_types.specs.declared.ids.Fid.{Fid}
+use Rattle.base_types.specs.Ids.{same_fid}
+use Rattle.base_types.specs.declared.ids.FilesetId.{FilesetId}
+use Rattle.base_types.specs.declared.ids.HostId.{HostId}
+use Rattle.base_types.specs.declared.ids.ServerId.{ServerId}
+use Rattle.base_types.specs.declared.user.User.{User}
+use Rattle.tree_calls.specs.Rosters.{user_of}
+use Rattle.tree_calls.specs.declared.call.Call.{Call}
+use Rattle.tree_calls.specs.declared.call.Call.TheVariants.{Sync}
+use Rattle.tree_calls.specs.declared.place.Place.{Place}
+use Rattle.tree_calls.specs.declared.reply.Refusal.{Refusal}
+use Rattle.tree_calls.specs.declared.roster.Roster.{Roster}
+use Rattle.need_host.specs.Looks.{needs_of, outcome}
+use Rattle.need_host.specs.Walks.{file_look, root_of}
 use Rattle.script_lines.specs.declared.script.Deed.{Deed}
 use Rattle.script_lines.specs.declared.script.Deed.TheVariants.{Call as MakesCall, Stop}
 use Rattle.script_lines.specs.declared.script.Line.{Line}
 use Rattle.std.specs.Prelude.{Result, Ok, Err}
-use Rattle.tok_types.specs.Conflicts.{same_id}
-use Rattle.tok_types.specs.declared.token.Token.{Token}
-use Rattle.rpc_types.specs.declared.message.Body.TheVariants.{Hello, Down, Bye}
-use Rattle.rpc_types.specs.declared.message.Message.{Message}
+use Rattle.token_types.specs.Conflicts.{same_id}
+use Rattle.token_types.specs.declared.token.Token.{Token}
+use Rattle.message_types.specs.declared.message.Body.TheVariants.{Hello, Down, Bye}
+use Rattle.message_types.specs.declared.message.Message.{Message}
 use Rattle.tree_laws.specs.Parts.{Nature}
-use Rattle.world_host.specs.Dirty.{IsDirtyUnder}
-use Rattle.world_host.specs.HostLeaves.{HostLeaves, IsIdle, MayEvict, MayLeave}
-use Rattle.world_host.specs.HostLines.{DoesDeed, HostEnds, HostLines, TakenBefore}
-use Rattle.world_host.specs.Knowing.{Stance}
-use Rattle.world_host.specs.Labels.{end_of}
-use Rattle.world_host.specs.OpenCalls.{Begins, IsTurn, NoneOpen, calls_begun}
-use Rattle.world_host.specs.Views.{sees}
-use Rattle.world_journal.specs.Lines.{IsNextLine, lines_gone}
-use Rattle.world_steps.specs.Lists.{In}
-use Rattle.world_steps.specs.Sends.{HasGreeted, Said, Sends}
-use Rattle.world_steps.specs.Tokens.{Drops, Held}
-use Rattle.world_steps.specs.declared.applied.Leave.{Leave}
-use Rattle.world_steps.specs.declared.applied.Why.{Why}
-use Rattle.world_steps.specs.declared.applied.Why.TheVariants.{Revoked, Evicted, Asked, Ended, Stopped}
-use Rattle.world_steps.specs.declared.step.Asked.{Asked as AskedCall}
-use Rattle.world_steps.specs.declared.step.Cause.{Cause}
-use Rattle.world_steps.specs.declared.step.Cause.TheVariants.{Message as Came, Line as LineOf, Restart, Lapse, Evict}
-use Rattle.world_steps.specs.declared.step.Cause.TheVariants.{End, Flushed}
-use Rattle.world_steps.specs.declared.step.Labelled.{Labelled}
-use Rattle.world_steps.specs.declared.step.Step.{Step}
+use Rattle.run_rules.specs.Dirty.{IsDirtyUnder}
+use Rattle.run_rules.specs.HostLeaves.{HostLeaves, IsIdle, MayEvict, MayLeave}
+use Rattle.run_rules.specs.HostLines.{DoesDeed, HostEnds, HostLines, TakenBefore}
+use Rattle.run_rules.specs.Knowing.{Stance}
+use Rattle.run_rules.specs.Labels.{end_of}
+use Rattle.run_rules.specs.OpenCalls.{Begins, IsTurn, NoneOpen, calls_begun}
+use Rattle.run_rules.specs.Views.{sees}
+use Rattle.run_rules.specs.Lines.{IsNextLine, lines_gone}
+use Rattle.run_rules.specs.Lists.{In}
+use Rattle.run_rules.specs.Sends.{HasGreeted, Said, Sends}
+use Rattle.run_rules.specs.Tokens.{Drops, Held}
+use Rattle.run_rules.specs.declared.applied.Leave.{Leave}
+use Rattle.run_rules.specs.declared.applied.Why.{Why}
+use Rattle.run_rules.specs.declared.applied.Why.TheVariants.{Revoked, Evicted, Asked, Ended, Stopped}
+use Rattle.run_rules.specs.declared.step.Asked.{Asked as AskedCall}
+use Rattle.run_rules.specs.declared.step.Cause.{Cause}
+use Rattle.run_rules.specs.declared.step.Cause.TheVariants.{Message as Came, Line as LineOf, Restart, Lapse, Evict}
+use Rattle.run_rules.specs.declared.step.Cause.TheVariants.{End, Flushed}
+use Rattle.run_rules.specs.declared.step.Labelled.{Labelled}
+use Rattle.run_rules.specs.declared.step.Step.{Step}
 use Rattle.run_examples.proofs.Tests.{AllTrue, passes, all_true, implies, so, is_not, not_is, at_all, some_in, any_of}
 use Rattle.run_examples.proofs.Tests.{is_none, none_is}
 use Rattle.run_examples.proofs.Tests.{none_in, same_server, server_is, servers, fid_is, same_token, token_is}

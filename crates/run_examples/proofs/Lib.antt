@@ -25,3 +25,11 @@ pub mod MayTests
 pub mod SendTests
 pub mod AnswerTests
 pub mod ServerExamples
+pub mod Prefixes
+pub mod HostSteps
+pub mod ServerSteps
+pub mod Sound
+pub mod RunWords
+pub mod Run
+pub mod Planned
+pub mod Ended

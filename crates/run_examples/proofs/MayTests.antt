@@ -1,18 +1,18 @@
 -- The rules of tokens for a server's doing, computed.
-use Rattle.dfs_base.specs.Ids.{same_fid}
-use Rattle.dfs_base.specs.declared.ids.Fid.{Fid}
-use Rattle.dfs_base.specs.declared.ids.FilesetId.{FilesetId}
-use Rattle.dfs_base.specs.declared.ids.HostId.{HostId}
-use Rattle.dfs_base.specs.declared.ids.ServerId.{ServerId}
-use Rattle.rpc_types.specs.declared.asking.Change.{Change as ChangeOf}
-use Rattle.rpc_types.specs.declared.giving.Reclaim.{Reclaim as ReclaimOf}
-use Rattle.rpc_types.specs.declared.message.Body.{Body}
-use Rattle.rpc_types.specs.declared.message.Body.TheVariants.{Change, Done, Fetch, Gone, Grant, Reclaim, Reclaimed}
-use Rattle.rpc_types.specs.declared.message.Body.TheVariants.{Revoke}
-use Rattle.rpc_types.specs.declared.telling.Bring.{Bring}
-use Rattle.rpc_types.specs.declared.telling.Done.{Done as DoneOf}
-use Rattle.rpc_types.specs.declared.telling.Grant.{Grant as GrantOf}
-use Rattle.rpc_types.specs.declared.tokens.Revoke.{Revoke as RevokeOf}
+use Rattle.base_types.specs.Ids.{same_fid}
+use Rattle.base_types.specs.declared.ids.Fid.{Fid}
+use Rattle.base_types.specs.declared.ids.FilesetId.{FilesetId}
+use Rattle.base_types.specs.declared.ids.HostId.{HostId}
+use Rattle.base_types.specs.declared.ids.ServerId.{ServerId}
+use Rattle.message_types.specs.declared.asking.Change.{Change as ChangeOf}
+use Rattle.message_types.specs.declared.giving.Reclaim.{Reclaim as ReclaimOf}
+use Rattle.message_types.specs.declared.message.Body.{Body}
+use Rattle.message_types.specs.declared.message.Body.TheVariants.{Change, Done, Fetch, Gone, Grant, Reclaim, Reclaimed}
+use Rattle.message_types.specs.declared.message.Body.TheVariants.{Revoke}
+use Rattle.message_types.specs.declared.telling.Bring.{Bring}
+use Rattle.message_types.specs.declared.telling.Done.{Done as DoneOf}
+use Rattle.message_types.specs.declared.telling.Grant.{Grant as GrantOf}
+use Rattle.message_types.specs.declared.tokens.Revoke.{Revoke as RevokeOf}
 use Rattle.run_examples.proofs.AnswerChecks.{call_is, same_call}
 use Rattle.run_examples.proofs.GrantWords.{brought_ever, issued_in, keeps_none, no_grace, none_kept, told_below}
 use Rattle.run_examples.proofs.GrantWords.{told_is}
@@ -29,16 +29,16 @@ use Rattle.std.proofs.Common.{◌∷◌, ◌≡◌}
 use Rattle.std.proofs.lemmas.Bool.{and_from, and_parts, eq-eqb, eqb-true, ltb-true, or_cases}
 use Rattle.std.specs.List.{list_all, list_any}
 use Rattle.std.specs.Prelude.{nat_lt, not}
-use Rattle.tok_types.specs.Conflicts.{conflict, same_id}
-use Rattle.tok_types.specs.declared.token.Token.{Token}
-use Rattle.tok_types.specs.declared.token.TokenId.{TokenId}
-use Rattle.world_steps.specs.Acts.{Act, SentTo, epoch}
-use Rattle.world_steps.specs.Acts.Act.{Admits, Reserves, Sent, Writes}
-use Rattle.world_steps.specs.Grants.{Granted, IsDurable, Reserved, WasWritten}
-use Rattle.world_steps.specs.Hosts.{NoGrace, TookNow}
-use Rattle.world_steps.specs.Lists.{Each, In, Once}
-use Rattle.world_steps.specs.ServerTokens.{AskedChange, AskedFetch, ClaimsHere, MayAdmit, MayBring, ServerTokens}
-use Rattle.world_steps.specs.declared.applied.Written.{Written}
+use Rattle.token_types.specs.Conflicts.{conflict, same_id}
+use Rattle.token_types.specs.declared.token.Token.{Token}
+use Rattle.token_types.specs.declared.token.TokenId.{TokenId}
+use Rattle.run_rules.specs.Acts.{Act, SentTo, epoch}
+use Rattle.run_rules.specs.Acts.Act.{Admits, Reserves, Sent, Writes}
+use Rattle.run_rules.specs.Grants.{Granted, IsDurable, Reserved, WasWritten}
+use Rattle.run_rules.specs.Hosts.{NoGrace, TookNow}
+use Rattle.run_rules.specs.Lists.{Each, In, Once}
+use Rattle.run_rules.specs.ServerTokens.{AskedChange, AskedFetch, ClaimsHere, MayAdmit, MayBring, ServerTokens}
+use Rattle.run_rules.specs.declared.applied.Written.{Written}
 
 -- no host is in its grace period; and what the exporter keeps is nothing
 unfoldable pub over : List Act → Bool

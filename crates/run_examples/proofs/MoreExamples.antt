@@ -1,11 +1,11 @@
 -- More examples: each test is computed.
 use Rattle.std.proofs.Common.{[], false, refl, true, ◌∷◌, ℕ}
-use Rattle.dfs_objects.specs.Spans.{span_between}
-use Rattle.rpc_types.specs.declared.message.Body.TheVariants.{GiveBack}
-use Rattle.tok_types.specs.declared.token.Kind.TheVariants.{Bytes, Status}
-use Rattle.world_host.specs.HostRules.{HostMeets}
-use Rattle.world_journal.specs.Worked.{owner}
-use Rattle.world_steps.specs.Worked.{client, site_one, to_server}
+use Rattle.tree_objects.specs.Spans.{span_between}
+use Rattle.message_types.specs.declared.message.Body.TheVariants.{GiveBack}
+use Rattle.token_types.specs.declared.token.Kind.TheVariants.{Bytes, Status}
+use Rattle.run_rules.specs.HostRules.{HostMeets}
+use Rattle.run_tokens.specs.JournalWorked.{owner}
+use Rattle.run_tokens.specs.Worked.{client, site_one, to_server}
 use Rattle.run_examples.specs.Laws.{caching, locking_alone, writing}
 use Rattle.run_examples.specs.Steps.{asks_file, asks_for, asks_root, asks_update, begin, enters, evicted, evicts, file}
 use Rattle.run_examples.specs.Steps.{file_bytes, frees_last, greets, grows, grown, keeps, lapses, lock_gift, locked}

@@ -1,29 +1,29 @@
 -- How a server decides and sends, computed.
-use Rattle.dfs_base.specs.Ids.{same_fid}
-use Rattle.dfs_base.specs.declared.ids.FilesetId.{FilesetId}
-use Rattle.dfs_base.specs.declared.ids.HostId.{HostId}
-use Rattle.dfs_base.specs.declared.ids.ServerId.{ServerId}
-use Rattle.dfs_calls.specs.declared.call.Call.{Call}
-use Rattle.dfs_calls.specs.declared.call.Call.TheVariants.{Lock}
-use Rattle.dfs_calls.specs.declared.reply.Refusal.{Refusal}
-use Rattle.dfs_calls.specs.declared.reply.Refusal.TheVariants.{Locked}
-use Rattle.dfs_calls.specs.declared.reply.Reply.{Reply}
-use Rattle.dfs_calls.specs.declared.reply.Reply.TheVariants.{Refused}
-use Rattle.dfs_filesets.specs.declared.fileset.Fileset.{Fileset}
-use Rattle.dfs_needs.specs.Questions.{fileset_of}
-use Rattle.dfs_tree.specs.Finding.{fileset_named}
-use Rattle.dfs_tree.specs.declared.tree.Tree.{Tree}
-use Rattle.rpc_types.specs.declared.asking.Change.{Change as ChangeOf}
-use Rattle.rpc_types.specs.declared.asking.Fetch.{Fetch as FetchOf}
-use Rattle.rpc_types.specs.declared.message.Body.{Body}
-use Rattle.rpc_types.specs.declared.message.Body.TheVariants.{Change, Done, Fetch, Grant, Revoke}
-use Rattle.rpc_types.specs.declared.message.Message.{Message}
-use Rattle.rpc_types.specs.declared.telling.Done.{Done as DoneOf}
-use Rattle.rpc_types.specs.declared.telling.DoneIs.{DoneIs}
-use Rattle.rpc_types.specs.declared.telling.DoneIs.TheVariants.{Reply as HasReply, Known as IsFileset}
-use Rattle.rpc_types.specs.declared.telling.DoneIs.TheVariants.{Granted as IsGranted}
-use Rattle.rpc_types.specs.declared.telling.Grant.{Grant as GrantOf}
-use Rattle.rpc_types.specs.declared.tokens.Revoke.{Revoke as RevokeOf}
+use Rattle.base_types.specs.Ids.{same_fid}
+use Rattle.base_types.specs.declared.ids.FilesetId.{FilesetId}
+use Rattle.base_types.specs.declared.ids.HostId.{HostId}
+use Rattle.base_types.specs.declared.ids.ServerId.{ServerId}
+use Rattle.tree_calls.specs.declared.call.Call.{Call}
+use Rattle.tree_calls.specs.declared.call.Call.TheVariants.{Lock}
+use Rattle.tree_calls.specs.declared.reply.Refusal.{Refusal}
+use Rattle.tree_calls.specs.declared.reply.Refusal.TheVariants.{Locked}
+use Rattle.tree_calls.specs.declared.reply.Reply.{Reply}
+use Rattle.tree_calls.specs.declared.reply.Reply.TheVariants.{Refused}
+use Rattle.tree_filesets.specs.declared.fileset.Fileset.{Fileset}
+use Rattle.need_host.specs.Questions.{fileset_of}
+use Rattle.tree_answers.specs.Finding.{fileset_named}
+use Rattle.tree_answers.specs.declared.tree.Tree.{Tree}
+use Rattle.message_types.specs.declared.asking.Change.{Change as ChangeOf}
+use Rattle.message_types.specs.declared.asking.Fetch.{Fetch as FetchOf}
+use Rattle.message_types.specs.declared.message.Body.{Body}
+use Rattle.message_types.specs.declared.message.Body.TheVariants.{Change, Done, Fetch, Grant, Revoke}
+use Rattle.message_types.specs.declared.message.Message.{Message}
+use Rattle.message_types.specs.declared.telling.Done.{Done as DoneOf}
+use Rattle.message_types.specs.declared.telling.DoneIs.{DoneIs}
+use Rattle.message_types.specs.declared.telling.DoneIs.TheVariants.{Reply as HasReply, Known as IsFileset}
+use Rattle.message_types.specs.declared.telling.DoneIs.TheVariants.{Granted as IsGranted}
+use Rattle.message_types.specs.declared.telling.Grant.{Grant as GrantOf}
+use Rattle.message_types.specs.declared.tokens.Revoke.{Revoke as RevokeOf}
 use Rattle.run_examples.proofs.AnswerChecks.{call_is, same_call, same_place}
 use Rattle.run_examples.proofs.FetchWords.{fetch_body, is_fetch, need_is, same_need}
 use Rattle.run_examples.proofs.LapseChecks.{is_lapse, lapse_cause}
@@ -45,37 +45,37 @@ use Rattle.std.proofs.Common.{subst, sym, true, ℕ, ◌&&◌, ◌==◌, ◌||�
 use Rattle.std.proofs.lemmas.Bool.{and_from, and_parts, eqb-true, leb-true, or_cases}
 use Rattle.std.specs.List.{list_all, list_any}
 use Rattle.std.specs.Prelude.{nat_le, not, ◌⊎◌}
-use Rattle.tok_types.specs.Conflicts.{blocks, need_of, same_id, wants_conflict}
-use Rattle.tok_types.specs.declared.token.Need.{Need}
-use Rattle.tok_types.specs.declared.token.Token.{Token}
-use Rattle.tok_types.specs.declared.token.TokenId.{TokenId}
+use Rattle.token_types.specs.Conflicts.{blocks, need_of, same_id, wants_conflict}
+use Rattle.token_types.specs.declared.token.Need.{Need}
+use Rattle.token_types.specs.declared.token.Token.{Token}
+use Rattle.token_types.specs.declared.token.TokenId.{TokenId}
 use Rattle.tree_laws.specs.Parts.{cell_at}
 use Rattle.tree_laws.specs.Parts.Part.{Traits}
-use Rattle.world_server.specs.Kept.{is_refusal, kept_after}
-use Rattle.world_server.specs.ServerAnswers.{SentNow, TakenNow}
-use Rattle.world_server.specs.ServerDecides.{HasDecided, IsAskedHere, IsHere, IsNewRequest, IsOfRow, MayDecide}
-use Rattle.world_server.specs.ServerDecides.{MayDecideAll, NotRefused, kept_reply, refusal_of}
-use Rattle.world_server.specs.ServerDecides.DecidedSo.{MeetsPinned}
-use Rattle.world_server.specs.ServerSends.{AnswersChange, AreNeeds, DoneFor, GrantsSo, HasSent, HasWritten}
-use Rattle.world_server.specs.ServerSends.{IsAskedBack, IsLast, MaySend, Revoked, TellsKept}
-use Rattle.world_server.specs.ServerSends.DoneFor.{OfWritten, Settled}
-use Rattle.world_server.specs.ServerSends.SettledSo.{IsEntered, TakesToken}
-use Rattle.world_server.specs.Wants.{Before, CanGrant, CanRefuse, IsBehind, IsOld, IsReady, Waits, asker, body_of}
-use Rattle.world_server.specs.Wants.{has_effect, is_use, needs_for, row_needs}
-use Rattle.world_steps.specs.Acts.{Act, SentTo, decisions_of, epoch, sending}
-use Rattle.world_steps.specs.Acts.Act.{Sent, Writes}
-use Rattle.world_steps.specs.Hosts.{IsLive}
-use Rattle.world_steps.specs.Lists.{Each, In, Once, after}
-use Rattle.world_steps.specs.Places.{place}
-use Rattle.world_steps.specs.declared.applied.Applied.{Applied as AppliedOf}
-use Rattle.world_steps.specs.declared.applied.Applied.TheVariants.{Done as IsDone, Wants as IsWanted}
-use Rattle.world_steps.specs.declared.applied.Request.{Request}
-use Rattle.world_steps.specs.declared.applied.Request.TheVariants.{Fetch as Asks, Change as Changes}
-use Rattle.world_steps.specs.declared.applied.Wanted.{Wanted}
-use Rattle.world_steps.specs.declared.applied.Written.{Written}
-use Rattle.world_steps.specs.declared.step.Cause.{Cause}
-use Rattle.world_steps.specs.declared.step.Cause.TheVariants.{Message as Came, Lapse}
-use Rattle.world_steps.specs.declared.step.Step.{Step}
+use Rattle.run_rules.specs.Kept.{is_refusal, kept_after}
+use Rattle.run_rules.specs.ServerAnswers.{SentNow, TakenNow}
+use Rattle.run_rules.specs.ServerDecides.{HasDecided, IsAskedHere, IsHere, IsNewRequest, IsOfRow, MayDecide}
+use Rattle.run_rules.specs.ServerDecides.{MayDecideAll, NotRefused, kept_reply, refusal_of}
+use Rattle.run_rules.specs.ServerDecides.DecidedSo.{MeetsPinned}
+use Rattle.run_rules.specs.ServerSends.{AnswersChange, AreNeeds, DoneFor, GrantsSo, HasSent, HasWritten}
+use Rattle.run_rules.specs.ServerSends.{IsAskedBack, IsLast, MaySend, Revoked, TellsKept}
+use Rattle.run_rules.specs.ServerSends.DoneFor.{OfWritten, Settled}
+use Rattle.run_rules.specs.ServerSends.SettledSo.{IsEntered, TakesToken}
+use Rattle.run_rules.specs.Wants.{Before, CanGrant, CanRefuse, IsBehind, IsOld, IsReady, Waits, asker, body_of}
+use Rattle.run_rules.specs.Wants.{has_effect, is_use, needs_for, row_needs}
+use Rattle.run_rules.specs.Acts.{Act, SentTo, decisions_of, epoch, sending}
+use Rattle.run_rules.specs.Acts.Act.{Sent, Writes}
+use Rattle.run_rules.specs.Hosts.{IsLive}
+use Rattle.run_rules.specs.Lists.{Each, In, Once, after}
+use Rattle.run_rules.specs.Places.{place}
+use Rattle.run_rules.specs.declared.applied.Applied.{Applied as AppliedOf}
+use Rattle.run_rules.specs.declared.applied.Applied.TheVariants.{Done as IsDone, Wants as IsWanted}
+use Rattle.run_rules.specs.declared.applied.Request.{Request}
+use Rattle.run_rules.specs.declared.applied.Request.TheVariants.{Fetch as Asks, Change as Changes}
+use Rattle.run_rules.specs.declared.applied.Wanted.{Wanted}
+use Rattle.run_rules.specs.declared.applied.Written.{Written}
+use Rattle.run_rules.specs.declared.step.Cause.{Cause}
+use Rattle.run_rules.specs.declared.step.Cause.TheVariants.{Message as Came, Lapse}
+use Rattle.run_rules.specs.declared.step.Step.{Step}
 
 unfoldable pub accepted : Tree → HostId → ChangeOf → Bool
 accepted tree h c = not (is_refusal (kept_reply tree h c.call))

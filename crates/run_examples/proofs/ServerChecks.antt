@@ -4,19 +4,19 @@ use Rattle.std.proofs.Common.{ℕ, ◌&&◌, ◌||◌, ◌==◌, ◌≡◌}
 use Rattle.std.proofs.lemmas.Bool.{and_parts}
 use Rattle.std.specs.Prelude.{not}
 use Rattle.std.specs.List.{list_any}
-use Rattle.dfs_base.specs.declared.ids.HostId.{HostId}
-use Rattle.rpc_types.specs.declared.giving.AppliedGive.{AppliedGive}
-use Rattle.rpc_types.specs.declared.giving.Give.{Give}
-use Rattle.rpc_types.specs.declared.message.Body.{Body}
-use Rattle.rpc_types.specs.declared.message.Body.TheVariants.{GiveBack}
-use Rattle.rpc_types.specs.declared.message.Body.TheVariants.{Gone}
-use Rattle.rpc_types.specs.declared.message.Message.{Message}
-use Rattle.world_server.specs.ServerAnswers.{SentNow}
-use Rattle.world_steps.specs.Acts.{Act, epoch}
-use Rattle.world_steps.specs.Gives.{number_of}
-use Rattle.world_steps.specs.declared.step.Cause.{Cause}
-use Rattle.world_steps.specs.declared.step.Cause.TheVariants.{Restart}
-use Rattle.world_steps.specs.declared.step.Step.{Step}
+use Rattle.base_types.specs.declared.ids.HostId.{HostId}
+use Rattle.message_types.specs.declared.giving.AppliedGive.{AppliedGive}
+use Rattle.message_types.specs.declared.giving.Give.{Give}
+use Rattle.message_types.specs.declared.message.Body.{Body}
+use Rattle.message_types.specs.declared.message.Body.TheVariants.{GiveBack}
+use Rattle.message_types.specs.declared.message.Body.TheVariants.{Gone}
+use Rattle.message_types.specs.declared.message.Message.{Message}
+use Rattle.run_rules.specs.ServerAnswers.{SentNow}
+use Rattle.run_rules.specs.Acts.{Act, epoch}
+use Rattle.run_rules.specs.Gives.{number_of}
+use Rattle.run_rules.specs.declared.step.Cause.{Cause}
+use Rattle.run_rules.specs.declared.step.Cause.TheVariants.{Restart}
+use Rattle.run_rules.specs.declared.step.Step.{Step}
 use Rattle.run_examples.proofs.Tests.{implies, some_in}
 use Rattle.run_examples.proofs.Tests.{same_host, host_is, same_number, number_is}
 use Rattle.run_examples.proofs.Words.{by_message}

@@ -1,8 +1,8 @@
 -- The examples of a server: each test is computed.
-use Rattle.dfs_filesets.specs.Updates.{updated}
-use Rattle.dfs_needs.specs.Shows.{shows}
-use Rattle.dfs_tree.specs.declared.tree.Tree.{Tree}
-use Rattle.rpc_types.specs.declared.message.Body.TheVariants.{Restarted}
+use Rattle.tree_filesets.specs.Updates.{updated}
+use Rattle.need_host.specs.Shows.{shows}
+use Rattle.tree_answers.specs.declared.tree.Tree.{Tree}
+use Rattle.message_types.specs.declared.message.Body.TheVariants.{Restarted}
 use Rattle.run_examples.proofs.AnswerTests.{answer_words, step_meets}
 use Rattle.run_examples.proofs.GrantWords.{brings, brought_ever, is_below, keeps_none, told_below}
 use Rattle.run_examples.proofs.ServerWords.{admits_host, applied, away, begins, claimant, claimants, down, goes_away}
@@ -14,20 +14,20 @@ use Rattle.run_examples.specs.Steps.{hears_returned, other_grant, other_status, 
 use Rattle.run_examples.specs.Steps.{shared, stores, stores_and_grants}
 use Rattle.script_lines.specs.declared.script.Script.{Script}
 use Rattle.std.proofs.Common.{List, [], false, inl, inr, refl, subst, true, ℕ, ◌∷◌, ◌≡◌}
-use Rattle.tok_types.specs.declared.token.Kind.TheVariants.{Status}
-use Rattle.tok_types.specs.declared.token.Token.{Token}
+use Rattle.token_types.specs.declared.token.Kind.TheVariants.{Status}
+use Rattle.token_types.specs.declared.token.Token.{Token}
 use Rattle.tree_laws.specs.Parts.{Part, cell_at}
 use Rattle.tree_laws.specs.Parts.Part.{ByteAt, Entries, Size, Traits}
-use Rattle.world_journal.specs.Told.{told}
-use Rattle.world_journal.specs.Worked.{script}
-use Rattle.world_server.specs.Kept.{kept, kept_through, tree_given}
-use Rattle.world_server.specs.ServerRules.{ServerMeets}
-use Rattle.world_server.specs.ServerSends.{TellsKept}
-use Rattle.world_steps.specs.Acts.{Act, acts}
-use Rattle.world_steps.specs.Lists.{In}
-use Rattle.world_steps.specs.Places.{home}
-use Rattle.world_steps.specs.Worked.{from_server, site_one}
-use Rattle.world_steps.specs.declared.step.Step.{Step}
+use Rattle.run_rules.specs.Told.{told}
+use Rattle.run_tokens.specs.JournalWorked.{script}
+use Rattle.run_rules.specs.Kept.{kept, kept_through, tree_given}
+use Rattle.run_rules.specs.ServerRules.{ServerMeets}
+use Rattle.run_rules.specs.ServerSends.{TellsKept}
+use Rattle.run_rules.specs.Acts.{Act, acts}
+use Rattle.run_rules.specs.Lists.{In}
+use Rattle.run_rules.specs.Places.{home}
+use Rattle.run_tokens.specs.Worked.{from_server, site_one}
+use Rattle.run_rules.specs.declared.step.Step.{Step}
 
 -- all words of the tests
 unfoldable pub served_words : ℕ

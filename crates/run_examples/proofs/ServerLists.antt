@@ -1,14 +1,14 @@
 -- What a server's doings tell, as plain data, both ways: which tokens are granted and pinned, which wants wait, what was
 -- revoked and given up.
-use Rattle.dfs_base.specs.declared.ids.FilesetId.{FilesetId}
-use Rattle.dfs_base.specs.declared.ids.HostId.{HostId}
-use Rattle.dfs_base.specs.declared.ids.ServerId.{ServerId}
-use Rattle.rpc_types.specs.declared.giving.Give.{Give}
-use Rattle.rpc_types.specs.declared.message.Body.{Body}
-use Rattle.rpc_types.specs.declared.message.Body.TheVariants.{Done, GiveBack, Grant, Kept, Returned, Revoke}
-use Rattle.rpc_types.specs.declared.telling.Bring.{Bring}
-use Rattle.rpc_types.specs.declared.tokens.Named.{Named}
-use Rattle.rpc_types.specs.declared.tokens.Revoke.{Revoke as RevokeOf}
+use Rattle.base_types.specs.declared.ids.FilesetId.{FilesetId}
+use Rattle.base_types.specs.declared.ids.HostId.{HostId}
+use Rattle.base_types.specs.declared.ids.ServerId.{ServerId}
+use Rattle.message_types.specs.declared.giving.Give.{Give}
+use Rattle.message_types.specs.declared.message.Body.{Body}
+use Rattle.message_types.specs.declared.message.Body.TheVariants.{Done, GiveBack, Grant, Kept, Returned, Revoke}
+use Rattle.message_types.specs.declared.telling.Bring.{Bring}
+use Rattle.message_types.specs.declared.tokens.Named.{Named}
+use Rattle.message_types.specs.declared.tokens.Revoke.{Revoke as RevokeOf}
 use Rattle.run_examples.proofs.ServerWords.{away_is_now, away_yes_now, begin_is, begin_yes, begins, goes_away, here}
 use Rattle.run_examples.proofs.ServerWords.{here_is, here_yes, live, live_is, live_yes}
 use Rattle.run_examples.proofs.Tests.{any_of, fileset_is, filesets, from_filter, host_is, hosts, id_is, ids, in_back}
@@ -20,22 +20,22 @@ use Rattle.std.proofs.Common.{◌≡◌}
 use Rattle.std.proofs.lemmas.Bool.{and_from, and_parts, eq-eqb, eqb-true, or_cases, or_left, or_right}
 use Rattle.std.specs.List.{filter, list_any}
 use Rattle.std.specs.Prelude.{not, ◌⊎◌}
-use Rattle.tok_types.specs.Conflicts.{same_id}
-use Rattle.tok_types.specs.declared.token.Kind.{Kind}
-use Rattle.tok_types.specs.declared.token.Kind.TheVariants.{Bytes, Lock as LockToken, Opening, Status}
-use Rattle.tok_types.specs.declared.token.Token.{Token}
-use Rattle.tok_types.specs.declared.token.TokenId.{TokenId}
-use Rattle.world_server.specs.ServerSends.{Revoked}
-use Rattle.world_server.specs.Wants.{Decides, SameNumber, Unwants, Waits}
-use Rattle.world_steps.specs.Acts.{Act, epoch}
-use Rattle.world_steps.specs.Acts.Act.{Admits, Sent, Took, Wants, Writes}
-use Rattle.world_steps.specs.Grants.{GivenUp, Granted, IsNewlyGranted, IsUseKind, Names, Pinned}
-use Rattle.world_steps.specs.Hosts.{GoesAway, IsBegin, IsLive, Takes, TakesOf, TookNow, TookOf}
-use Rattle.world_steps.specs.Lists.{In}
-use Rattle.world_steps.specs.Places.{Here}
-use Rattle.world_steps.specs.declared.applied.Request.{Request}
-use Rattle.world_steps.specs.declared.applied.Request.TheVariants.{Fetch as Asks, Change as Changes}
-use Rattle.world_steps.specs.declared.applied.Wanted.{Wanted}
+use Rattle.token_types.specs.Conflicts.{same_id}
+use Rattle.token_types.specs.declared.token.Kind.{Kind}
+use Rattle.token_types.specs.declared.token.Kind.TheVariants.{Bytes, Lock as LockToken, Opening, Status}
+use Rattle.token_types.specs.declared.token.Token.{Token}
+use Rattle.token_types.specs.declared.token.TokenId.{TokenId}
+use Rattle.run_rules.specs.ServerSends.{Revoked}
+use Rattle.run_rules.specs.Wants.{Decides, SameNumber, Unwants, Waits}
+use Rattle.run_rules.specs.Acts.{Act, epoch}
+use Rattle.run_rules.specs.Acts.Act.{Admits, Sent, Took, Wants, Writes}
+use Rattle.run_rules.specs.Grants.{GivenUp, Granted, IsNewlyGranted, IsUseKind, Names, Pinned}
+use Rattle.run_rules.specs.Hosts.{GoesAway, IsBegin, IsLive, Takes, TakesOf, TookNow, TookOf}
+use Rattle.run_rules.specs.Lists.{In}
+use Rattle.run_rules.specs.Places.{Here}
+use Rattle.run_rules.specs.declared.applied.Request.{Request}
+use Rattle.run_rules.specs.declared.applied.Request.TheVariants.{Fetch as Asks, Change as Changes}
+use Rattle.run_rules.specs.declared.applied.Wanted.{Wanted}
 
 -- a host's message is taken: it is of the server's epoch, the host is live, and its fileset is here in its stay
 unfoldable pub takes_it : ServerId → List Act → HostId → FilesetId → HostId → ℕ → ℕ → Bool

@@ -3,24 +3,24 @@ use Rattle.std.proofs.Common.{Bool, List, [], ap, false, inl, inr, refl, subst, 
 use Rattle.std.proofs.Common.{if◌then◌else◌, ℕ, ◌&&◌, ◌++◌, ◌||◌, ◌==◌, ◌∷◌, ◌≡◌, ◌≤◌}
 use Rattle.std.proofs.lemmas.Bool.{and_parts, and_from, or_cases, or_left, or_right, eqb-true, eq-eqb, leb-true, le-leb}
 use Rattle.std.specs.Prelude.{not, nat_le}
-use Rattle.dfs_base.specs.declared.ids.FilesetId.{FilesetId}
-use Rattle.dfs_base.specs.declared.ids.HostId.{HostId}
-use Rattle.dfs_base.specs.declared.ids.ServerId.{ServerId}
-use Rattle.tok_types.specs.declared.token.Token.{Token}
-use Rattle.rpc_types.specs.declared.giving.AppliedGive.{AppliedGive}
-use Rattle.rpc_types.specs.declared.giving.Give.{Give}
-use Rattle.rpc_types.specs.declared.giving.Reclaim.{Reclaim as ReclaimOf}
-use Rattle.rpc_types.specs.declared.message.Body.TheVariants.{Hello, Grant, Done, GiveBack, Reclaim, Down, Bye}
-use Rattle.world_steps.specs.Acts.{Act, epoch}
-use Rattle.world_steps.specs.Acts.Act.{Begins, Took, Admits, Sent}
-use Rattle.world_steps.specs.Grants.{Applied}
-use Rattle.world_steps.specs.Hosts.{Away, GoesAway, HasReclaimed, Hears, IsBegin, IsDown, IsLive}
-use Rattle.world_steps.specs.Hosts.{Listed}
-use Rattle.world_steps.specs.Hosts.{TakesOf, TookNow}
-use Rattle.world_steps.specs.Lists.{In}
-use Rattle.world_steps.specs.Places.{Here, Place, birth, home}
-use Rattle.world_steps.specs.declared.applied.Request.{Request}
-use Rattle.world_steps.specs.declared.applied.Request.TheVariants.{Fetch as Asks, Change as Changes}
+use Rattle.base_types.specs.declared.ids.FilesetId.{FilesetId}
+use Rattle.base_types.specs.declared.ids.HostId.{HostId}
+use Rattle.base_types.specs.declared.ids.ServerId.{ServerId}
+use Rattle.token_types.specs.declared.token.Token.{Token}
+use Rattle.message_types.specs.declared.giving.AppliedGive.{AppliedGive}
+use Rattle.message_types.specs.declared.giving.Give.{Give}
+use Rattle.message_types.specs.declared.giving.Reclaim.{Reclaim as ReclaimOf}
+use Rattle.message_types.specs.declared.message.Body.TheVariants.{Hello, Grant, Done, GiveBack, Reclaim, Down, Bye}
+use Rattle.run_rules.specs.Acts.{Act, epoch}
+use Rattle.run_rules.specs.Acts.Act.{Begins, Took, Admits, Sent}
+use Rattle.run_rules.specs.Grants.{Applied}
+use Rattle.run_rules.specs.Hosts.{Away, GoesAway, HasReclaimed, Hears, IsBegin, IsDown, IsLive}
+use Rattle.run_rules.specs.Hosts.{Listed}
+use Rattle.run_rules.specs.Hosts.{TakesOf, TookNow}
+use Rattle.run_rules.specs.Lists.{In}
+use Rattle.run_rules.specs.Places.{Here, Place, birth, home}
+use Rattle.run_rules.specs.declared.applied.Request.{Request}
+use Rattle.run_rules.specs.declared.applied.Request.TheVariants.{Fetch as Asks, Change as Changes}
 use Rattle.run_examples.proofs.Tests.{is_not, not_is, in_front, in_back}
 use Rattle.run_examples.proofs.Tests.{same_host, host_is, hosts, same_server, server_is, servers}
 use Rattle.run_examples.proofs.Tests.{same_fileset}

@@ -1,28 +1,28 @@
 -- Where a host stands in a step, computed.
-use Rattle.world_steps.specs.Lists.{EachOnce}
+use Rattle.run_rules.specs.Lists.{EachOnce}
 use Rattle.std.proofs.Common.{Bool, List, None, Option, Some, [], false, inl, inr, refl, subst, sym, true}
 use Rattle.std.proofs.Common.{if◌then◌else◌, ℕ, ◌&&◌, ◌++◌, ◌||◌, ◌∙◌, ◌∷◌, ◌≡◌}
 use Rattle.std.proofs.lemmas.Bool.{and_parts, and_from, or_cases, or_left, or_right}
 use Rattle.std.specs.Prelude.{not, flat_map}
 use Rattle.std.specs.List.{filter, list_all, list_any}
-use Rattle.dfs_base.specs.Name.{same_name}
-use Rattle.dfs_base.specs.declared.ids.FilesetId.{FilesetId}
-use Rattle.dfs_base.specs.declared.ids.HostId.{HostId}
-use Rattle.dfs_base.specs.declared.ids.OpenKind.{OpenKind}
-use Rattle.dfs_base.specs.declared.ids.ServerId.{ServerId}
-use Rattle.dfs_base.specs.declared.span.Span.{Span}
-use Rattle.dfs_base.specs.declared.user.User.{User}
-use Rattle.dfs_calls.specs.Rosters.{user_of}
-use Rattle.dfs_calls.specs.declared.roster.Roster.{Roster}
-use Rattle.dfs_needs.specs.Calls.{Own}
-use Rattle.dfs_tree.specs.declared.tree.LockUse.{LockUse}
-use Rattle.dfs_tree.specs.declared.tree.OpenUse.{OpenUse}
-use Rattle.tok_types.specs.declared.token.Kind.{Kind}
-use Rattle.tok_types.specs.declared.token.Kind.TheVariants.{Lock as LockToken, Opening}
-use Rattle.world_host.specs.Knowing.{HasLabel, IsLock, IsOpening, Knows, NeedsServer, Stance}
-use Rattle.world_steps.specs.Lists.{In}
-use Rattle.world_steps.specs.declared.step.Labelled.{Labelled}
-use Rattle.world_steps.specs.declared.step.Step.{Step}
+use Rattle.base_types.specs.Name.{same_name}
+use Rattle.base_types.specs.declared.ids.FilesetId.{FilesetId}
+use Rattle.base_types.specs.declared.ids.HostId.{HostId}
+use Rattle.base_types.specs.declared.ids.OpenKind.{OpenKind}
+use Rattle.base_types.specs.declared.ids.ServerId.{ServerId}
+use Rattle.base_types.specs.declared.span.Span.{Span}
+use Rattle.base_types.specs.declared.user.User.{User}
+use Rattle.tree_calls.specs.Rosters.{user_of}
+use Rattle.tree_calls.specs.declared.roster.Roster.{Roster}
+use Rattle.need_host.specs.Calls.{Own}
+use Rattle.tree_answers.specs.declared.tree.LockUse.{LockUse}
+use Rattle.tree_answers.specs.declared.tree.OpenUse.{OpenUse}
+use Rattle.token_types.specs.declared.token.Kind.{Kind}
+use Rattle.token_types.specs.declared.token.Kind.TheVariants.{Lock as LockToken, Opening}
+use Rattle.run_rules.specs.Knowing.{HasLabel, IsLock, IsOpening, Knows, NeedsServer, Stance}
+use Rattle.run_rules.specs.Lists.{In}
+use Rattle.run_rules.specs.declared.step.Labelled.{Labelled}
+use Rattle.run_rules.specs.declared.step.Step.{Step}
 use Rattle.run_examples.proofs.Tests.{passes, all_true, implies, so, is_not, at_all, some_in, any_of}
 use Rattle.run_examples.proofs.Tests.{apart}
 use Rattle.run_examples.proofs.Tests.{in_front, in_back, in_split, in_filter, from_filter, in_flat, from_flat}

@@ -6,30 +6,30 @@ use Rattle.std.specs.Prelude.{not, nat_eq, flat_map, if◌then◌else◌}
 use Rattle.std.specs.List.{filter, list_all, list_any}
 use Rattle.std.proofs.Common.{cond}
 use Rattle.std.proofs.Math.Bridge.{le_prop}
-use Rattle.dfs_base.specs.declared.limits.TheConstants.{FILE_BYTES_MAX}
+use Rattle.base_types.specs.declared.limits.TheConstants.{FILE_BYTES_MAX}
 use Rattle.std.specs.Cmp.Lexicographic.{pointwise}
-use Rattle.dfs_base.specs.Ids.{same_fid}
-use Rattle.dfs_base.specs.Name.{same_name}
-use Rattle.dfs_base.specs.declared.ids.Fid.{Fid}
-use Rattle.dfs_base.specs.declared.ids.FilesetId.{FilesetId}
-use Rattle.dfs_base.specs.declared.ids.HostId.{HostId}
-use Rattle.dfs_base.specs.declared.ids.ServerId.{ServerId}
-use Rattle.dfs_base.specs.declared.span.Span.{Span}
-use Rattle.dfs_calls.specs.declared.call.Call.{Call}
-use Rattle.dfs_calls.specs.declared.call.Call.TheVariants.{Unlock, CloseFile}
-use Rattle.dfs_base.specs.declared.ids.OpenKind.{OpenKind}
-use Rattle.dfs_base.specs.declared.ids.OpenKind.TheVariants.{Reading, Writing, Executing, Shared, Exclusive}
-use Rattle.dfs_calls.specs.declared.part.Piece.{Piece}
-use Rattle.tok_types.specs.Conflicts.{same_id}
-use Rattle.tok_types.specs.Covers.{same_opening, same_span}
-use Rattle.tok_types.specs.declared.token.Kind.{Kind}
-use Rattle.tok_types.specs.declared.token.Kind.TheVariants.{Bytes, Status, Lock, Opening}
-use Rattle.tok_types.specs.declared.token.Token.{Token}
-use Rattle.tok_types.specs.declared.token.TokenId.{TokenId}
-use Rattle.rpc_types.specs.declared.giving.AppliedGive.{AppliedGive}
-use Rattle.rpc_types.specs.declared.giving.Ends.{Ends}
-use Rattle.rpc_types.specs.declared.giving.Give.{Give}
-use Rattle.world_steps.specs.Lists.{In}
+use Rattle.base_types.specs.Ids.{same_fid}
+use Rattle.base_types.specs.Name.{same_name}
+use Rattle.base_types.specs.declared.ids.Fid.{Fid}
+use Rattle.base_types.specs.declared.ids.FilesetId.{FilesetId}
+use Rattle.base_types.specs.declared.ids.HostId.{HostId}
+use Rattle.base_types.specs.declared.ids.ServerId.{ServerId}
+use Rattle.base_types.specs.declared.span.Span.{Span}
+use Rattle.tree_calls.specs.declared.call.Call.{Call}
+use Rattle.tree_calls.specs.declared.call.Call.TheVariants.{Unlock, CloseFile}
+use Rattle.base_types.specs.declared.ids.OpenKind.{OpenKind}
+use Rattle.base_types.specs.declared.ids.OpenKind.TheVariants.{Reading, Writing, Executing, Shared, Exclusive}
+use Rattle.tree_calls.specs.declared.part.Piece.{Piece}
+use Rattle.token_types.specs.Conflicts.{same_id}
+use Rattle.token_types.specs.Covers.{same_opening, same_span}
+use Rattle.token_types.specs.declared.token.Kind.{Kind}
+use Rattle.token_types.specs.declared.token.Kind.TheVariants.{Bytes, Status, Lock, Opening}
+use Rattle.token_types.specs.declared.token.Token.{Token}
+use Rattle.token_types.specs.declared.token.TokenId.{TokenId}
+use Rattle.message_types.specs.declared.giving.AppliedGive.{AppliedGive}
+use Rattle.message_types.specs.declared.giving.Ends.{Ends}
+use Rattle.message_types.specs.declared.giving.Give.{Give}
+use Rattle.run_rules.specs.Lists.{In}
 
 -- a test that a condition has to pass only where another holds
 abbrev pub implies : Bool → Bool → Bool

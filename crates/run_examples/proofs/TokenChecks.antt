@@ -1,31 +1,31 @@
 -- The rules of tokens for a host's step, computed: where each test passes the rules hold.
-use Rattle.world_steps.specs.Sends.{HasSaid}
+use Rattle.run_rules.specs.Sends.{HasSaid}
 use Rattle.std.proofs.Common.{Bool, List, [], ap, false, inl, inr, refl, subst, sym, true}
 use Rattle.std.proofs.Common.{ℕ, ◌&&◌, ◌||◌, ◌==◌, ◌∙◌, ◌∷◌, ◌≡◌}
 use Rattle.std.proofs.lemmas.Bool.{and_parts, and_from, or_cases, eqb-true, ltb-true, lt-ltb}
 use Rattle.std.specs.Prelude.{not, nat_lt}
 use Rattle.std.specs.List.{list_all, list_any}
-use Rattle.dfs_base.specs.Ids.{same_fid}
-use Rattle.dfs_base.specs.declared.ids.FilesetId.{FilesetId}
-use Rattle.dfs_base.specs.declared.ids.ServerId.{ServerId}
-use Rattle.tok_types.specs.Conflicts.{same_id}
-use Rattle.tok_types.specs.declared.token.Token.{Token}
-use Rattle.tok_types.specs.declared.token.TokenId.{TokenId}
-use Rattle.rpc_types.specs.declared.giving.Give.{Give}
-use Rattle.rpc_types.specs.declared.giving.Outstanding.{Outstanding}
-use Rattle.rpc_types.specs.declared.giving.Reclaim.{Reclaim as ReclaimOf}
-use Rattle.rpc_types.specs.declared.message.Body.{Body}
-use Rattle.rpc_types.specs.declared.message.Body.TheVariants.{Fetch, Change, Returned, Kept, GiveBack, Reclaim, Down}
-use Rattle.rpc_types.specs.declared.message.Body.TheVariants.{Bye}
-use Rattle.rpc_types.specs.declared.message.Message.{Message}
-use Rattle.world_steps.specs.Epochs.{epoch_at}
-use Rattle.world_steps.specs.Gives.{NamesGive, number_of}
-use Rattle.world_steps.specs.HostTokens.{Claims, HostTokens, IsClaimed, IsInGive}
-use Rattle.world_steps.specs.Lists.{In}
-use Rattle.world_steps.specs.Places.{place}
-use Rattle.world_steps.specs.Requests.{Changing}
-use Rattle.world_steps.specs.Sends.{Sends, Stops}
-use Rattle.world_steps.specs.declared.step.Step.{Step}
+use Rattle.base_types.specs.Ids.{same_fid}
+use Rattle.base_types.specs.declared.ids.FilesetId.{FilesetId}
+use Rattle.base_types.specs.declared.ids.ServerId.{ServerId}
+use Rattle.token_types.specs.Conflicts.{same_id}
+use Rattle.token_types.specs.declared.token.Token.{Token}
+use Rattle.token_types.specs.declared.token.TokenId.{TokenId}
+use Rattle.message_types.specs.declared.giving.Give.{Give}
+use Rattle.message_types.specs.declared.giving.Outstanding.{Outstanding}
+use Rattle.message_types.specs.declared.giving.Reclaim.{Reclaim as ReclaimOf}
+use Rattle.message_types.specs.declared.message.Body.{Body}
+use Rattle.message_types.specs.declared.message.Body.TheVariants.{Fetch, Change, Returned, Kept, GiveBack, Reclaim, Down}
+use Rattle.message_types.specs.declared.message.Body.TheVariants.{Bye}
+use Rattle.message_types.specs.declared.message.Message.{Message}
+use Rattle.run_rules.specs.Epochs.{epoch_at}
+use Rattle.run_rules.specs.Gives.{NamesGive, number_of}
+use Rattle.run_rules.specs.HostTokens.{Claims, HostTokens, IsClaimed, IsInGive}
+use Rattle.run_rules.specs.Lists.{In}
+use Rattle.run_rules.specs.Places.{place}
+use Rattle.run_rules.specs.Requests.{Changing}
+use Rattle.run_rules.specs.Sends.{Sends, Stops}
+use Rattle.run_rules.specs.declared.step.Step.{Step}
 use Rattle.run_examples.proofs.Tests.{AllTrue, passes, all_true, implies, so, is_not, at_all, some_in, any_of, apart}
 use Rattle.run_examples.proofs.Tests.{only_one}
 use Rattle.run_examples.proofs.Tests.{is_none, none_in, same_server, same_fileset, server_is, servers, fileset_is}

@@ -1,41 +1,41 @@
 -- What a host's steps tell, as plain data: each word of the rules on tokens is membership in a list that is computed.
-use Rattle.world_steps.specs.Gives.{GiveOpen}
+use Rattle.run_rules.specs.Gives.{GiveOpen}
 use Rattle.std.proofs.Common.{Bool, List, [], ap, false, inl, inr, refl, subst, sym, true, if◌then◌else◌}
 use Rattle.std.proofs.Common.{ℕ, ◌&&◌, ◌++◌, ◌||◌, ◌==◌, ◌∙◌, ◌∷◌, ◌≡◌, ◌<◌}
 use Rattle.std.proofs.lemmas.Bool.{and_parts, and_from, or_cases, or_left, or_right, eqb-true, eq-eqb, ltb-true, lt-ltb}
 use Rattle.std.specs.Prelude.{not, nat_lt, flat_map}
 use Rattle.std.specs.List.{filter, list_all, list_any}
-use Rattle.dfs_base.specs.Ids.{same_fid}
-use Rattle.dfs_base.specs.declared.ids.Fid.{Fid}
-use Rattle.dfs_base.specs.declared.ids.FilesetId.{FilesetId}
-use Rattle.dfs_base.specs.declared.ids.ServerId.{ServerId}
-use Rattle.tok_types.specs.Conflicts.{same_id}
-use Rattle.tok_types.specs.declared.token.Token.{Token}
-use Rattle.tok_types.specs.declared.token.TokenId.{TokenId}
-use Rattle.rpc_types.specs.declared.asking.Change.{Change as ChangeOf}
-use Rattle.rpc_types.specs.declared.asking.Fetch.{Fetch as FetchOf}
-use Rattle.rpc_types.specs.declared.giving.AppliedGive.{AppliedGive}
-use Rattle.rpc_types.specs.declared.giving.Give.{Give}
-use Rattle.rpc_types.specs.declared.giving.Reclaimed.{Reclaimed as ReclaimedOf}
-use Rattle.rpc_types.specs.declared.message.Body.{Body}
-use Rattle.rpc_types.specs.declared.message.Body.TheVariants.{Fetch, Grant, Change, Done, Revoke, Returned, Kept}
-use Rattle.rpc_types.specs.declared.message.Body.TheVariants.{Gone, Reclaimed}
-use Rattle.rpc_types.specs.declared.message.Message.{Message}
-use Rattle.rpc_types.specs.declared.telling.Bring.{Bring}
-use Rattle.rpc_types.specs.declared.telling.Done.{Done as DoneOf}
-use Rattle.rpc_types.specs.declared.telling.Grant.{Grant as GrantOf}
-use Rattle.rpc_types.specs.declared.tokens.Revoke.{Revoke as RevokeOf}
-use Rattle.world_steps.specs.Epochs.{About, ComesIn, IsWelcome, epoch_at}
-use Rattle.world_steps.specs.Floors.{AboveFloor, Answers, Uses}
-use Rattle.world_steps.specs.Gives.{IsOutstanding, Known, Learns, Made, Makes, Waits, number_of}
-use Rattle.world_steps.specs.Lists.{In}
-use Rattle.world_steps.specs.Places.{place}
-use Rattle.world_steps.specs.Requests.{Asking, Changing, Settles}
-use Rattle.world_steps.specs.Sends.{HasKept, Keeps, Returns, Said, Sends}
-use Rattle.world_steps.specs.Tokens.{AtHand, Drops, EverHeld, Held, HoldsId, Leaves, Owns}
-use Rattle.world_steps.specs.declared.step.Cause.{Cause}
-use Rattle.world_steps.specs.declared.step.Cause.TheVariants.{Message as Came}
-use Rattle.world_steps.specs.declared.step.Step.{Step}
+use Rattle.base_types.specs.Ids.{same_fid}
+use Rattle.base_types.specs.declared.ids.Fid.{Fid}
+use Rattle.base_types.specs.declared.ids.FilesetId.{FilesetId}
+use Rattle.base_types.specs.declared.ids.ServerId.{ServerId}
+use Rattle.token_types.specs.Conflicts.{same_id}
+use Rattle.token_types.specs.declared.token.Token.{Token}
+use Rattle.token_types.specs.declared.token.TokenId.{TokenId}
+use Rattle.message_types.specs.declared.asking.Change.{Change as ChangeOf}
+use Rattle.message_types.specs.declared.asking.Fetch.{Fetch as FetchOf}
+use Rattle.message_types.specs.declared.giving.AppliedGive.{AppliedGive}
+use Rattle.message_types.specs.declared.giving.Give.{Give}
+use Rattle.message_types.specs.declared.giving.Reclaimed.{Reclaimed as ReclaimedOf}
+use Rattle.message_types.specs.declared.message.Body.{Body}
+use Rattle.message_types.specs.declared.message.Body.TheVariants.{Fetch, Grant, Change, Done, Revoke, Returned, Kept}
+use Rattle.message_types.specs.declared.message.Body.TheVariants.{Gone, Reclaimed}
+use Rattle.message_types.specs.declared.message.Message.{Message}
+use Rattle.message_types.specs.declared.telling.Bring.{Bring}
+use Rattle.message_types.specs.declared.telling.Done.{Done as DoneOf}
+use Rattle.message_types.specs.declared.telling.Grant.{Grant as GrantOf}
+use Rattle.message_types.specs.declared.tokens.Revoke.{Revoke as RevokeOf}
+use Rattle.run_rules.specs.Epochs.{About, ComesIn, IsWelcome, epoch_at}
+use Rattle.run_rules.specs.Floors.{AboveFloor, Answers, Uses}
+use Rattle.run_rules.specs.Gives.{IsOutstanding, Known, Learns, Made, Makes, Waits, number_of}
+use Rattle.run_rules.specs.Lists.{In}
+use Rattle.run_rules.specs.Places.{place}
+use Rattle.run_rules.specs.Requests.{Asking, Changing, Settles}
+use Rattle.run_rules.specs.Sends.{HasKept, Keeps, Returns, Said, Sends}
+use Rattle.run_rules.specs.Tokens.{AtHand, Drops, EverHeld, Held, HoldsId, Leaves, Owns}
+use Rattle.run_rules.specs.declared.step.Cause.{Cause}
+use Rattle.run_rules.specs.declared.step.Cause.TheVariants.{Message as Came}
+use Rattle.run_rules.specs.declared.step.Step.{Step}
 use Rattle.run_examples.proofs.Tests.{implies, so, is_not, not_is, at_all, some_in, any_of, in_front, in_back}
 use Rattle.run_examples.proofs.Tests.{in_split}
 use Rattle.run_examples.proofs.Tests.{in_filter, from_filter, in_flat, from_flat, if_in, in_if, same_server}

@@ -1,28 +1,28 @@
 -- What the examples show: each step meets all rules of its host, after the steps that led to it; and so does a lapse
 -- after it.
 use Rattle.std.specs.Prelude.{List, [], false, length, suc, true, ◌∷◌}
-use Rattle.dfs_base.specs.declared.ids.HostId.{HostId}
-use Rattle.dfs_calls.specs.declared.roster.Roster.{Roster}
-use Rattle.tok_types.specs.declared.token.Token.{Token}
-use Rattle.world_host.specs.HostLeaves.{LastUsed}
-use Rattle.world_steps.specs.Lists.{In}
-use Rattle.dfs_base.specs.declared.ids.Node.TheVariants.{Server}
+use Rattle.base_types.specs.declared.ids.HostId.{HostId}
+use Rattle.tree_calls.specs.declared.roster.Roster.{Roster}
+use Rattle.token_types.specs.declared.token.Token.{Token}
+use Rattle.run_rules.specs.HostLeaves.{LastUsed}
+use Rattle.run_rules.specs.Lists.{In}
+use Rattle.base_types.specs.declared.ids.Node.TheVariants.{Server}
 use Rattle.script_lines.specs.declared.script.Deed.TheVariants.{Call as MakesCall, Restart, Stop}
 use Rattle.script_lines.specs.declared.script.Script.{Script}
-use Rattle.rpc_types.specs.declared.message.Body.TheVariants.{GiveBack, Revoke, Bye, Restarted}
-use Rattle.rpc_types.specs.declared.message.Message.{Message}
-use Rattle.world_host.specs.HostRules.{HostMeets}
-use Rattle.world_server.specs.ServerRules.{ServerMeets}
-use Rattle.world_steps.specs.Acts.{acts}
-use Rattle.world_steps.specs.Worked.{client, from_server, site_one, to_host, to_server}
-use Rattle.world_steps.specs.declared.step.Step.{Step}
+use Rattle.message_types.specs.declared.message.Body.TheVariants.{GiveBack, Revoke, Bye, Restarted}
+use Rattle.message_types.specs.declared.message.Message.{Message}
+use Rattle.run_rules.specs.HostRules.{HostMeets}
+use Rattle.run_rules.specs.ServerRules.{ServerMeets}
+use Rattle.run_rules.specs.Acts.{acts}
+use Rattle.run_tokens.specs.Worked.{client, from_server, site_one, to_host, to_server}
+use Rattle.run_rules.specs.declared.step.Step.{Step}
 use Rattle.run_examples.specs.Steps.{asks_lock, asks_update, begin, claims_all, claims_gift, ends, frees, gift, gives}
 use Rattle.run_examples.specs.Steps.{asks_file, asks_for, asks_root, enters, evicted, evicts, file, frees_last, greets}
 use Rattle.run_examples.specs.Steps.{calls_back, grown, needs, recall, returns_all, shared, stores_and_grants}
 use Rattle.run_examples.specs.Steps.{unlocks_last}
-use Rattle.world_journal.specs.Worked.{roster}
-use Rattle.dfs_objects.specs.Spans.{span_between}
-use Rattle.tok_types.specs.declared.token.Kind.TheVariants.{Bytes, Status}
+use Rattle.run_tokens.specs.JournalWorked.{roster}
+use Rattle.tree_objects.specs.Spans.{span_between}
+use Rattle.token_types.specs.declared.token.Kind.TheVariants.{Bytes, Status}
 use Rattle.run_examples.specs.Steps.{grows, hears_bye, keeps, lapses, learns, learns_freed, lock_gift, locked, locks}
 use Rattle.run_examples.specs.Steps.{reclaimed}
 use Rattle.run_examples.specs.Steps.{admits, answers_bye, file_tree, hears_down, hears_returned, restarts, served}

@@ -1,53 +1,53 @@
 -- Steps of a host in states that runs reach, as plain data. Lists of steps have the newest first.
-use Rattle.dfs_base.specs.declared.ids.HostId.{HostId}
-use Rattle.rpc_types.specs.declared.tokens.Revoke.{Revoke as RevokeOf}
-use Rattle.rpc_types.specs.declared.telling.Grant.{Grant as GrantOf}
-use Rattle.world_steps.specs.declared.applied.Wanted.{Wanted}
+use Rattle.base_types.specs.declared.ids.HostId.{HostId}
+use Rattle.message_types.specs.declared.tokens.Revoke.{Revoke as RevokeOf}
+use Rattle.message_types.specs.declared.telling.Grant.{Grant as GrantOf}
+use Rattle.run_rules.specs.declared.applied.Wanted.{Wanted}
 use Rattle.std.specs.Prelude.{Bool, List, None, Option, Some, [], codes, false, if◌then◌else◌, suc, true, ℕ, ◌∷◌}
-use Rattle.dfs_base.specs.declared.ids.Fid.{Fid}
-use Rattle.dfs_base.specs.declared.ids.Node.TheVariants.{Host}
-use Rattle.dfs_calls.specs.declared.call.Call.{Call}
-use Rattle.dfs_calls.specs.declared.call.Call.TheVariants.{Write, Lock, Unlock}
-use Rattle.dfs_calls.specs.declared.part.DirEntry.{DirEntry}
-use Rattle.dfs_calls.specs.declared.part.Status.{Status as StatusOf}
-use Rattle.dfs_calls.specs.declared.place.Place.{Place}
-use Rattle.dfs_calls.specs.declared.reply.Reply.TheVariants.{Ok as Fine}
-use Rattle.dfs_objects.specs.Spans.{span_between, whole}
+use Rattle.base_types.specs.declared.ids.Fid.{Fid}
+use Rattle.base_types.specs.declared.ids.Node.TheVariants.{Host}
+use Rattle.tree_calls.specs.declared.call.Call.{Call}
+use Rattle.tree_calls.specs.declared.call.Call.TheVariants.{Write, Lock, Unlock}
+use Rattle.tree_calls.specs.declared.part.DirEntry.{DirEntry}
+use Rattle.tree_calls.specs.declared.part.Status.{Status as StatusOf}
+use Rattle.tree_calls.specs.declared.place.Place.{Place}
+use Rattle.tree_calls.specs.declared.reply.Reply.TheVariants.{Ok as Fine}
+use Rattle.tree_objects.specs.Spans.{span_between, whole}
 use Rattle.script_lines.specs.declared.script.Deed.{Deed}
 use Rattle.script_lines.specs.declared.script.Line.{Line as LineOf}
 use Rattle.script_lines.specs.declared.script.Script.{Script}
-use Rattle.tok_types.specs.declared.token.Kind.{Kind}
-use Rattle.tok_types.specs.declared.token.Kind.TheVariants.{Bytes, Status, Lock as LockToken}
-use Rattle.tok_types.specs.declared.token.Need.{Need}
-use Rattle.tok_types.specs.declared.token.Token.{Token}
-use Rattle.rpc_types.specs.declared.asking.Change.{Change as ChangeOf}
-use Rattle.rpc_types.specs.declared.giving.Give.{Give}
-use Rattle.rpc_types.specs.declared.giving.Reclaim.{Reclaim as ReclaimOf}
-use Rattle.rpc_types.specs.declared.message.Body.{Body}
-use Rattle.rpc_types.specs.declared.message.Body.TheVariants.{Hello, Fetch, Grant, Change, Done, Revoke, Returned, Kept}
-use Rattle.rpc_types.specs.declared.message.Body.TheVariants.{GiveBack, Gone, Reclaim, Reclaimed, Restarted, Down, Bye}
-use Rattle.rpc_types.specs.declared.message.Message.{Message}
-use Rattle.rpc_types.specs.declared.telling.DoneIs.TheVariants.{Granted as IsGranted}
-use Rattle.world_journal.specs.Worked.{home_fileset, root_object, roster, start}
-use Rattle.dfs_objects.specs.declared.content.Content.TheVariants.{Dir, File}
-use Rattle.dfs_tree.specs.declared.tree.Tree.{Tree}
-use Rattle.rpc_types.specs.declared.asking.Fetch.{Fetch as FetchOf}
-use Rattle.world_steps.specs.declared.applied.Applied.{Applied as AppliedOf}
-use Rattle.world_steps.specs.declared.applied.Applied.TheVariants.{Stored, IsDown as GoesDown, Wants}
-use Rattle.world_steps.specs.declared.applied.Request.TheVariants.{Fetch as AsksFetch, Change as AsksChange}
-use Rattle.world_steps.specs.Nodes.{bare}
-use Rattle.world_steps.specs.Gives.{number_of}
-use Rattle.world_steps.specs.Worked.{access, client, entered, from_server, no_fid, root, serves, site_one, to_host}
-use Rattle.world_steps.specs.Worked.{to_server, welcome}
-use Rattle.world_steps.specs.declared.applied.Answer.{Answer}
-use Rattle.world_steps.specs.declared.applied.Leave.{Leave}
-use Rattle.world_steps.specs.declared.applied.Why.{Why}
-use Rattle.world_steps.specs.declared.applied.Why.TheVariants.{Revoked, Evicted, Asked as AskedBack, Ended, Stopped}
-use Rattle.world_steps.specs.declared.step.Asked.{Asked}
-use Rattle.world_steps.specs.declared.step.Cause.{Cause}
-use Rattle.world_steps.specs.declared.step.Cause.TheVariants.{Line, Message as Came, Lapse, Evict, End, Restart}
-use Rattle.world_steps.specs.declared.step.Labelled.{Labelled}
-use Rattle.world_steps.specs.declared.step.Step.{Step}
+use Rattle.token_types.specs.declared.token.Kind.{Kind}
+use Rattle.token_types.specs.declared.token.Kind.TheVariants.{Bytes, Status, Lock as LockToken}
+use Rattle.token_types.specs.declared.token.Need.{Need}
+use Rattle.token_types.specs.declared.token.Token.{Token}
+use Rattle.message_types.specs.declared.asking.Change.{Change as ChangeOf}
+use Rattle.message_types.specs.declared.giving.Give.{Give}
+use Rattle.message_types.specs.declared.giving.Reclaim.{Reclaim as ReclaimOf}
+use Rattle.message_types.specs.declared.message.Body.{Body}
+use Rattle.message_types.specs.declared.message.Body.TheVariants.{Hello, Fetch, Grant, Change, Done, Revoke, Returned, Kept}
+use Rattle.message_types.specs.declared.message.Body.TheVariants.{GiveBack, Gone, Reclaim, Reclaimed, Restarted, Down, Bye}
+use Rattle.message_types.specs.declared.message.Message.{Message}
+use Rattle.message_types.specs.declared.telling.DoneIs.TheVariants.{Granted as IsGranted}
+use Rattle.run_tokens.specs.JournalWorked.{home_fileset, root_object, roster, start}
+use Rattle.tree_objects.specs.declared.content.Content.TheVariants.{Dir, File}
+use Rattle.tree_answers.specs.declared.tree.Tree.{Tree}
+use Rattle.message_types.specs.declared.asking.Fetch.{Fetch as FetchOf}
+use Rattle.run_rules.specs.declared.applied.Applied.{Applied as AppliedOf}
+use Rattle.run_rules.specs.declared.applied.Applied.TheVariants.{Stored, IsDown as GoesDown, Wants}
+use Rattle.run_rules.specs.declared.applied.Request.TheVariants.{Fetch as AsksFetch, Change as AsksChange}
+use Rattle.run_rules.specs.Nodes.{bare}
+use Rattle.run_rules.specs.Gives.{number_of}
+use Rattle.run_tokens.specs.Worked.{access, client, entered, from_server, no_fid, root, serves, site_one, to_host}
+use Rattle.run_tokens.specs.Worked.{to_server, welcome}
+use Rattle.run_rules.specs.declared.applied.Answer.{Answer}
+use Rattle.run_rules.specs.declared.applied.Leave.{Leave}
+use Rattle.run_rules.specs.declared.applied.Why.{Why}
+use Rattle.run_rules.specs.declared.applied.Why.TheVariants.{Revoked, Evicted, Asked as AskedBack, Ended, Stopped}
+use Rattle.run_rules.specs.declared.step.Asked.{Asked}
+use Rattle.run_rules.specs.declared.step.Cause.{Cause}
+use Rattle.run_rules.specs.declared.step.Cause.TheVariants.{Line, Message as Came, Lapse, Evict, End, Restart}
+use Rattle.run_rules.specs.declared.step.Labelled.{Labelled}
+use Rattle.run_rules.specs.declared.step.Step.{Step}
 
 -- what a host does in a step
 abbrev pub acts : Cause → Option Asked → List Token → List Answer → Option Fid → List Labelled → List Give → List Leave

@@ -1,11 +1,18 @@
+//! Steps that meet all rules, and a run of two hosts from its first step to its end, computed by tests.
+//!
 //! Steps of hosts and servers in states that runs reach, each of which meets all rules, and a lapse after it: so the
 //! rules don't contradict one another there. What each rule says is computed from the steps as plain data.
+//!
+//! One run of the service, from its first step to its end, that all rules admit: so the rules of hosts and servers
+//! don't contradict one another on it, and its history is computed. Each rule is a test on the steps as plain data.
 #![tactic(auto)]
 
 mod laws;
+mod worked_laws;
 
 pub use laws::{
     a_blocked_fetch_is_granted, a_growing_write_is_answered, a_lock_is_kept, a_restart_is_answered,
     a_revoke_is_answered, a_server_reacts, a_stop_is_allowed, a_use_is_ended, a_write_is_asked_for,
     an_end_is_allowed, an_eviction_is_allowed, what_is_taken_is_used,
 };
+pub use worked_laws::a_whole_run_is_admitted;

@@ -3,8 +3,8 @@ use Rattle.std.proofs.Common.{◌≡◌, ℕ, zero, suc, ◌+◌, ◌-◌, ◌�
 use Rattle.std.specs.List.{AllByRecursion, list_any}
 use Rattle.std.specs.Cmp.Lexicographic.{same_text}
 use Rattle.std.proofs.lemmas.Bool.{and_parts, and_from, or_cases, eq-eqb, ltb-true, ltb-false}
-use Rattle.dfs_base.specs.Name.{same_name}
-use Rattle.dfs_base.specs.declared.ids.ServerId.{ServerId}
+use Rattle.base_types.specs.Name.{same_name}
+use Rattle.base_types.specs.declared.ids.ServerId.{ServerId}
 use Rattle.script_lines.specs.Context.{find_placed, server_of}
 use Rattle.script_lines.specs.Clones.{found_server, by_source, places, place_by, most_steps, clone_place}
 use Rattle.script_lines.specs.Laws.{AreCircular, CirclesPlaceNothing, is_one_of, leads_to, ChainsPlace, FirstClonePlaces}

@@ -1,7 +1,7 @@
 -- Names that don't end alike differ.
 use Rattle.std.proofs.Common.{◌≡◌, ℕ, Bool, true, false, List, refl, sym, ◌∙◌}
 use Rattle.std.specs.Cmp.Lexicographic.{same_text}
-use Rattle.dfs_base.specs.Name.{same_name}
+use Rattle.base_types.specs.Name.{same_name}
 
 -- where names don't end alike they aren't the same
 pub ends_tell : (a b : List ℕ) (alike : Bool) → (a ≡ b → alike ≡ true) → alike ≡ false → false ≡ same_name a b

@@ -5,19 +5,19 @@ use Rattle.std.specs.Option.{option_map}
 use Rattle.std.proofs.lemmas.Bool.{and_parts, and_from, or_left, or_right, eqb-true, eqb-false, eq-eqb, leb-true, le-leb, leb-false, ltb-true, lt-ltb, not-false}
 use Rattle.std.proofs.lemmas.List.Folds.{list_any-append, list_all-append}
 use Rattle.std.proofs.lemmas.List.Quantifiers.{position-Some}
-use Rattle.dfs_base.specs.declared.limits.TheConstants.{CACHED_TOKENS_DEFAULT, CACHED_TOKENS_MAX, CACHED_TOKENS_MIN, CAPACITY_DEFAULT, CAPACITY_MAX, CAPACITY_MIN, GROUPS_MAX, HOSTS_MAX, OBJECTS_MAX, SERVERS_MAX}
-use Rattle.dfs_base.specs.Name.{same_name, is_among}
-use Rattle.dfs_base.specs.declared.ids.HostId.{HostId}
-use Rattle.dfs_base.specs.declared.ids.ServerId.{ServerId}
-use Rattle.dfs_base.specs.declared.ids.Node.{Node}
-use Rattle.dfs_base.specs.declared.ids.Node.TheVariants.{Host, Server}
-use Rattle.dfs_base.specs.declared.user.User.{User}
-use Rattle.dfs_calls.specs.Limits.{is_between}
-use Rattle.dfs_calls.specs.declared.call.Call.{Call as CallOf}
-use Rattle.dfs_calls.specs.declared.call.Call.TheVariants as calls
-use Rattle.dfs_calls.specs.declared.place.Place.{Place}
-use Rattle.dfs_calls.specs.declared.roster.Roster.{Roster}
-use Rattle.dfs_calls.specs.declared.roster.HostLine.{HostLine}
+use Rattle.base_types.specs.declared.limits.TheConstants.{CACHED_TOKENS_DEFAULT, CACHED_TOKENS_MAX, CACHED_TOKENS_MIN, CAPACITY_DEFAULT, CAPACITY_MAX, CAPACITY_MIN, GROUPS_MAX, HOSTS_MAX, OBJECTS_MAX, SERVERS_MAX}
+use Rattle.base_types.specs.Name.{same_name, is_among}
+use Rattle.base_types.specs.declared.ids.HostId.{HostId}
+use Rattle.base_types.specs.declared.ids.ServerId.{ServerId}
+use Rattle.base_types.specs.declared.ids.Node.{Node}
+use Rattle.base_types.specs.declared.ids.Node.TheVariants.{Host, Server}
+use Rattle.base_types.specs.declared.user.User.{User}
+use Rattle.tree_calls.specs.Limits.{is_between}
+use Rattle.tree_calls.specs.declared.call.Call.{Call as CallOf}
+use Rattle.tree_calls.specs.declared.call.Call.TheVariants as calls
+use Rattle.tree_calls.specs.declared.place.Place.{Place}
+use Rattle.tree_calls.specs.declared.roster.Roster.{Roster}
+use Rattle.tree_calls.specs.declared.roster.HostLine.{HostLine}
 use Rattle.script_words.specs.declared.fault.BadWhy.{BadWhy}
 use Rattle.script_words.specs.declared.fault.BadWhy.TheVariants.{Word, Number, Undeclared, Repeated, Order, Disks, Stopped}
 use Rattle.script_words.specs.Outcome.{◌>>=◌, found, unless}

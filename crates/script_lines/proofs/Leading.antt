@@ -4,8 +4,8 @@ use Rattle.std.specs.List.{range_with_len}
 use Rattle.std.proofs.lemmas.Bool.{ltb-true, ltb-false}
 use Rattle.std.proofs.lemmas.List.FromFn.{map-range_with_len_more, length-map-range_with_len}
 use Rattle.std.proofs.lemmas.Option.{slice_get_past, same_Some}
-use Rattle.dfs_base.specs.Name.{same_name}
-use Rattle.dfs_base.specs.declared.ids.ServerId.{ServerId}
+use Rattle.base_types.specs.Name.{same_name}
+use Rattle.base_types.specs.declared.ids.ServerId.{ServerId}
 use Rattle.script_lines.specs.Context.{find_placed, server_of}
 use Rattle.script_lines.specs.Clones.{found_server, by_source, places, place_by, most_steps, clone_place}
 use Rattle.script_lines.specs.Ways.{way_by, way_of}

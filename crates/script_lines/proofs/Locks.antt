@@ -1,9 +1,9 @@
 -- Lines that lock and that open a file, by their ends.
 use Rattle.std.proofs.Common.{◌≡◌, ℕ, List, Result, Ok, Err, refl, sym, ap, ◌∙◌}
-use Rattle.dfs_base.specs.declared.ids.OpenKind.{OpenKind}
-use Rattle.dfs_calls.specs.declared.place.Place.{Place}
-use Rattle.dfs_calls.specs.declared.call.Call.{Call}
-use Rattle.dfs_calls.specs.declared.call.Call.TheVariants as calls
+use Rattle.base_types.specs.declared.ids.OpenKind.{OpenKind}
+use Rattle.tree_calls.specs.declared.place.Place.{Place}
+use Rattle.tree_calls.specs.declared.call.Call.{Call}
+use Rattle.tree_calls.specs.declared.call.Call.TheVariants as calls
 use Rattle.script_words.specs.Outcome.{◌>>=◌, Fails}
 use Rattle.script_words.specs.Fields.{label_at}
 use Rattle.script_lines.specs.Context.{place_at}

@@ -8,8 +8,8 @@ use Rattle.std.proofs.lemmas.Grind.{get_or-set_at}
 use Rattle.std.proofs.lemmas.List.{get_or-set_other, length-replicate, length-set, length-map}
 use Rattle.std.proofs.lemmas.List.Quantifiers.{position-Some}
 use Rattle.std.proofs.lemmas.Option.{slice_get_past, unwrap_or-slice_get}
-use Rattle.dfs_base.specs.Name.{same_name}
-use Rattle.dfs_base.specs.declared.ids.ServerId.{ServerId}
+use Rattle.base_types.specs.Name.{same_name}
+use Rattle.base_types.specs.declared.ids.ServerId.{ServerId}
 use Rattle.script_lines.specs.Context.{find_placed, server_of}
 use Rattle.script_lines.specs.Clones.{found_server, by_source, places, place_by, most_steps, clone_place}
 use Rattle.script_lines.specs.Ways.{way_by, way_of, route_of, routes_of, server_in, server_by, first_of, put_first, stage_from, unknown, stage, stages}

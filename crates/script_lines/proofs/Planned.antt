@@ -5,11 +5,11 @@ use Rattle.std.proofs.lemmas.Bool.{and_parts, and_from, or_parts, eqb-true, leb-
 use Rattle.std.proofs.lemmas.List.Folds.{list_any-append}
 use Rattle.std.proofs.lemmas.Grind.{flat_map-append}
 use Rattle.std.specs.Cmp.Lexicographic.{same_text}
-use Rattle.dfs_base.specs.declared.limits.TheConstants.{CACHED_TOKENS_MAX, CACHED_TOKENS_MIN, CACHED_TOKENS_DEFAULT, CAPACITY_MAX, CAPACITY_MIN, GROUPS_MAX, OBJECTS_MAX, SERVERS_MAX}
-use Rattle.dfs_base.specs.Name.{same_name, is_among}
-use Rattle.dfs_base.specs.declared.ids.Node.{Node}
-use Rattle.dfs_base.specs.declared.ids.Node.TheVariants.{Host, Server}
-use Rattle.dfs_calls.specs.Limits.{is_between}
+use Rattle.base_types.specs.declared.limits.TheConstants.{CACHED_TOKENS_MAX, CACHED_TOKENS_MIN, CACHED_TOKENS_DEFAULT, CAPACITY_MAX, CAPACITY_MIN, GROUPS_MAX, OBJECTS_MAX, SERVERS_MAX}
+use Rattle.base_types.specs.Name.{same_name, is_among}
+use Rattle.base_types.specs.declared.ids.Node.{Node}
+use Rattle.base_types.specs.declared.ids.Node.TheVariants.{Host, Server}
+use Rattle.tree_calls.specs.Limits.{is_between}
 use Rattle.script_words.specs.declared.fault.BadWhy.{BadWhy}
 use Rattle.script_words.specs.declared.fault.BadWhy.TheVariants.{Word, Undeclared, Repeated, Order, Disks, Stopped}
 use Rattle.script_words.specs.Outcome.{◌>>=◌, found, unless}

@@ -1,7 +1,7 @@
 -- Which lines ask a host for a call.
 use Rattle.std.specs.Prelude.{ℕ, ◌==◌, ◌&&◌, Bool, true, false, ◌++◌, count_by}
-use Rattle.dfs_base.specs.declared.ids.Node.{Node}
-use Rattle.dfs_base.specs.declared.ids.Node.TheVariants.{Host, Server}
+use Rattle.base_types.specs.declared.ids.Node.{Node}
+use Rattle.base_types.specs.declared.ids.Node.TheVariants.{Host, Server}
 use Rattle.script_lines.specs.declared.script.Deed.{Deed}
 use Rattle.script_lines.specs.declared.script.Deed.TheVariants.{Call}
 use Rattle.script_lines.specs.declared.script.Line.{Line}

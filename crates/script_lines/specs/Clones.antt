@@ -23,10 +23,10 @@ use Rattle.std.specs.Prelude.{
   codes,
 }
 use Rattle.std.specs.List.{find}
-use Rattle.dfs_base.specs.Name.{is_name, same_name}
-use Rattle.dfs_base.specs.declared.ids.ServerId.{ServerId}
-use Rattle.dfs_base.specs.declared.ids.Node.{Node}
-use Rattle.dfs_base.specs.declared.ids.Node.TheVariants.{Host}
+use Rattle.base_types.specs.Name.{is_name, same_name}
+use Rattle.base_types.specs.declared.ids.ServerId.{ServerId}
+use Rattle.base_types.specs.declared.ids.Node.{Node}
+use Rattle.base_types.specs.declared.ids.Node.TheVariants.{Host}
 use Rattle.script_words.specs.Words.{words_of_line}
 use Rattle.script_words.specs.Fields.{is_word, node_of}
 use Rattle.script_lines.specs.Context.{find_placed, server_of}

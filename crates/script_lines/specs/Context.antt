@@ -19,13 +19,13 @@ use Rattle.std.specs.Prelude.{
 }
 use Rattle.std.specs.List.{list_any, find, position}
 use Rattle.std.specs.Option.{option_map}
-use Rattle.dfs_base.specs.Name.{same_name}
-use Rattle.dfs_base.specs.declared.user.User.{User}
-use Rattle.dfs_base.specs.declared.ids.HostId.{HostId}
-use Rattle.dfs_base.specs.declared.ids.ServerId.{ServerId}
-use Rattle.dfs_base.specs.declared.ids.Node.{Node}
-use Rattle.dfs_base.specs.declared.ids.Node.TheVariants.{Host, Server}
-use Rattle.dfs_calls.specs.declared.place.Place.{Place}
+use Rattle.base_types.specs.Name.{same_name}
+use Rattle.base_types.specs.declared.user.User.{User}
+use Rattle.base_types.specs.declared.ids.HostId.{HostId}
+use Rattle.base_types.specs.declared.ids.ServerId.{ServerId}
+use Rattle.base_types.specs.declared.ids.Node.{Node}
+use Rattle.base_types.specs.declared.ids.Node.TheVariants.{Host, Server}
+use Rattle.tree_calls.specs.declared.place.Place.{Place}
 use Rattle.script_words.specs.Outcome.{◌>>=◌, found}
 use Rattle.script_words.specs.Fields.{word_at, names_of, node_of}
 use Rattle.script_lines.specs.declared.context.Placed.{Placed}

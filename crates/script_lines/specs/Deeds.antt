@@ -15,14 +15,14 @@ use Rattle.std.specs.Prelude.{
   Err,
   codes,
 }
-use Rattle.dfs_base.specs.Name.{is_among}
-use Rattle.dfs_base.specs.declared.ids.Node.{Node}
-use Rattle.dfs_base.specs.declared.ids.Node.TheVariants.{Host, Server}
-use Rattle.dfs_calls.specs.declared.place.Which.{Which}
-use Rattle.dfs_calls.specs.declared.place.Which.TheVariants.{Own, Files, Dirs}
-use Rattle.dfs_calls.specs.declared.place.Place.{Place}
-use Rattle.dfs_calls.specs.declared.call.Call.{Call}
-use Rattle.dfs_calls.specs.declared.call.Call.TheVariants as calls
+use Rattle.base_types.specs.Name.{is_among}
+use Rattle.base_types.specs.declared.ids.Node.{Node}
+use Rattle.base_types.specs.declared.ids.Node.TheVariants.{Host, Server}
+use Rattle.tree_calls.specs.declared.place.Which.{Which}
+use Rattle.tree_calls.specs.declared.place.Which.TheVariants.{Own, Files, Dirs}
+use Rattle.tree_calls.specs.declared.place.Place.{Place}
+use Rattle.tree_calls.specs.declared.call.Call.{Call}
+use Rattle.tree_calls.specs.declared.call.Call.TheVariants as calls
 use Rattle.script_words.specs.Outcome.{◌>>=◌, found, unless}
 use Rattle.script_words.specs.Fields.{word_at, end_at, name_at, label_at, number_at, text_at, is_word}
 use Rattle.script_words.specs.Lists.{list_at}

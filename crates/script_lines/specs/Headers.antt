@@ -30,9 +30,9 @@ use Rattle.std.specs.Prelude.{
   codes,
 }
 use Rattle.std.specs.List.{list_any, find}
-use Rattle.dfs_base.specs.Name.{same_name}
-use Rattle.dfs_base.specs.declared.user.User.{User as UserOf}
-use Rattle.dfs_base.specs.declared.limits.TheConstants.{
+use Rattle.base_types.specs.Name.{same_name}
+use Rattle.base_types.specs.declared.user.User.{User as UserOf}
+use Rattle.base_types.specs.declared.limits.TheConstants.{
   CACHED_TOKENS_DEFAULT,
   CACHED_TOKENS_MAX,
   CACHED_TOKENS_MIN,
@@ -43,9 +43,9 @@ use Rattle.dfs_base.specs.declared.limits.TheConstants.{
   OBJECTS_MAX,
   SERVERS_MAX,
 }
-use Rattle.dfs_base.specs.declared.ids.ServerId.{ServerId}
-use Rattle.dfs_base.specs.declared.ids.Node.TheVariants as nodes
-use Rattle.dfs_calls.specs.declared.call.Call.TheVariants as calls
+use Rattle.base_types.specs.declared.ids.ServerId.{ServerId}
+use Rattle.base_types.specs.declared.ids.Node.TheVariants as nodes
+use Rattle.tree_calls.specs.declared.call.Call.TheVariants as calls
 use Rattle.script_words.specs.Outcome.{◌>>=◌, found, unless}
 use Rattle.script_words.specs.Fields.{word_at, end_at, name_at, number_at, is_word, all_named, host_node}
 use Rattle.script_lines.specs.Context.{server_of, user_place, host_named, server_at, is_elsewhere}
@@ -54,7 +54,7 @@ use Rattle.script_lines.specs.declared.context.Context.{Context}
 use Rattle.script_lines.specs.declared.context.Placed.{Placed}
 use Rattle.script_lines.specs.declared.script.TheConstants.{NET_MAX}
 use Rattle.script_lines.specs.declared.script.Script.{Script}
-use Rattle.dfs_calls.specs.declared.roster.Roster.{Roster}
+use Rattle.tree_calls.specs.declared.roster.Roster.{Roster}
 use Rattle.script_lines.specs.declared.script.Line.{Line}
 use Rattle.script_lines.specs.declared.script.Deed.TheVariants as deeds
 use Rattle.script_lines.specs.declared.headers.Header.{Header}

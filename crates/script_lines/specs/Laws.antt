@@ -1,8 +1,8 @@
 -- Where the names of clones are placed.
 use Rattle.std.specs.Prelude.{◌≡◌, ℕ, ◌≤◌, ◌&&◌, Bool, true, List, [], ◌∷◌, ◌++◌, length, Some, None, is_some}
 use Rattle.std.specs.List.{AllByRecursion, list_any}
-use Rattle.dfs_base.specs.Name.{same_name}
-use Rattle.dfs_base.specs.declared.ids.ServerId.{ServerId}
+use Rattle.base_types.specs.Name.{same_name}
+use Rattle.base_types.specs.declared.ids.ServerId.{ServerId}
 use Rattle.script_lines.specs.Context.{server_of}
 use Rattle.script_lines.specs.Clones.{most_steps, clone_place}
 use Rattle.script_lines.specs.declared.clones.CloneLine.{CloneLine}

@@ -1,7 +1,7 @@
 -- Where the sources of clones lead along the first clone of each name, by more and more steps.
 use Rattle.std.specs.Prelude.{ℕ, zero, suc, ◌+◌, List, length, map, slice_get, Option, Some, None, unwrap_or}
 use Rattle.std.specs.List.{range_with_len}
-use Rattle.dfs_base.specs.declared.ids.ServerId.{ServerId}
+use Rattle.base_types.specs.declared.ids.ServerId.{ServerId}
 use Rattle.script_lines.specs.Ways.{way_of}
 use Rattle.script_lines.specs.declared.context.Placed.{Placed}
 use Rattle.script_lines.specs.declared.clones.CloneLine.{CloneLine}

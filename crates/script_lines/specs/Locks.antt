@@ -1,6 +1,6 @@
 -- The words behind the place that a host locks or opens.
 use Rattle.std.specs.Prelude.{ℕ, Bool, List, Result, Ok}
-use Rattle.dfs_base.specs.declared.ids.OpenKind.{OpenKind}
+use Rattle.base_types.specs.declared.ids.OpenKind.{OpenKind}
 use Rattle.script_words.specs.Outcome.{◌>>=◌, found}
 use Rattle.script_words.specs.Fields.{word_at, end_at, number_at}
 use Rattle.script_words.specs.Terms.{lock_mode_of, open_kind_of}

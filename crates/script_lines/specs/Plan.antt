@@ -16,8 +16,8 @@ use Rattle.std.specs.Prelude.{
   Ok,
   codes,
 }
-use Rattle.dfs_base.specs.declared.ids.Node.{Node}
-use Rattle.dfs_base.specs.declared.ids.Node.TheVariants.{Host, Server}
+use Rattle.base_types.specs.declared.ids.Node.{Node}
+use Rattle.base_types.specs.declared.ids.Node.TheVariants.{Host, Server}
 use Rattle.script_words.specs.Outcome.{◌>>=◌, found, unless}
 use Rattle.script_words.specs.Fields.{word_at, end_at, label_at, number_at, is_word, node_of}
 use Rattle.script_words.specs.Terms.{kind_of}

@@ -24,14 +24,14 @@ use Rattle.std.specs.Prelude.{
   is_some,
 }
 use Rattle.std.specs.List.{list_all, list_any}
-use Rattle.dfs_base.specs.Name.{is_among}
-use Rattle.dfs_base.specs.declared.limits.TheConstants.{GROUPS_MAX, OBJECTS_MAX, SCRIPT_LINES_MAX}
-use Rattle.dfs_base.specs.declared.ids.ServerId.{ServerId}
-use Rattle.dfs_base.specs.declared.ids.Node.{Node}
-use Rattle.dfs_base.specs.declared.ids.Node.TheVariants.{Host, Server}
-use Rattle.dfs_calls.specs.Limits.{is_between, keeps_limits}
-use Rattle.dfs_calls.specs.declared.call.Call.{Call as CallOf}
-use Rattle.dfs_calls.specs.declared.call.Call.TheVariants as calls
+use Rattle.base_types.specs.Name.{is_among}
+use Rattle.base_types.specs.declared.limits.TheConstants.{GROUPS_MAX, OBJECTS_MAX, SCRIPT_LINES_MAX}
+use Rattle.base_types.specs.declared.ids.ServerId.{ServerId}
+use Rattle.base_types.specs.declared.ids.Node.{Node}
+use Rattle.base_types.specs.declared.ids.Node.TheVariants.{Host, Server}
+use Rattle.tree_calls.specs.Limits.{is_between, keeps_limits}
+use Rattle.tree_calls.specs.declared.call.Call.{Call as CallOf}
+use Rattle.tree_calls.specs.declared.call.Call.TheVariants as calls
 use Rattle.script_lines.specs.declared.script.Line.{Line}
 use Rattle.script_lines.specs.declared.script.Deed.{Deed}
 use Rattle.script_lines.specs.declared.script.Deed.TheVariants.{Call, Raise, Stop, Restart}

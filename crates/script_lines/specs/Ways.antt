@@ -17,8 +17,8 @@ use Rattle.std.specs.Prelude.{
   None,
   unwrap_or,
 }
-use Rattle.dfs_base.specs.Name.{same_name}
-use Rattle.dfs_base.specs.declared.ids.ServerId.{ServerId}
+use Rattle.base_types.specs.Name.{same_name}
+use Rattle.base_types.specs.declared.ids.ServerId.{ServerId}
 use Rattle.script_lines.specs.Context.{find_placed}
 use Rattle.script_lines.specs.declared.context.Placed.{Placed}
 use Rattle.script_lines.specs.declared.clones.CloneLine.{CloneLine}

@@ -3,7 +3,7 @@ ghost use Rattle.script_lines.specs.Sound.{same_node};
 ghost use Rattle.script_lines.specs.Asks.{is_call_of, call_lines};
 
 use crate::script::{Deed, Line, Script};
-use dfs_base::{Items, Node};
+use base_types::{Items, Node};
 
 /// Whether two nodes are the same.
 pub fn same_node(a: Node, b: Node) -> bool

@@ -1,5 +1,5 @@
 ghost use Rattle.std.specs.Prelude.{◌≡◌, [], true, length, position, OnOk, IfOk};
-ghost use Rattle.dfs_base.specs.Name.{same_name};
+ghost use Rattle.base_types.specs.Name.{same_name};
 ghost use Rattle.script_words.specs.Lines.{lines_of};
 ghost use Rattle.script_words.specs.Fields.{node_of};
 ghost use Rattle.script_lines.specs.Clones.{is_host, name_if, clone_of, clone_in, clones_from, most_steps};
@@ -9,7 +9,7 @@ ghost use Rattle.script_lines.specs.Ways.{unknown, stage, stages};
 
 use crate::context::{Context, Placed, find_placed, is_same};
 use crate::leads::placed_at_once;
-use dfs_base::{Items, Name, NameRefused, NoMemory, Node, Plain, ServerId};
+use base_types::{Items, Name, NameRefused, NoMemory, Node, Plain, ServerId};
 use script_words::{is_word, next_line, node_of, words_asking};
 use std::alloc::Global;
 

@@ -1,14 +1,14 @@
 ghost use Rattle.std.specs.Prelude.{◌≡◌, true, IfSome, ◌<◌, length};
 ghost use Rattle.std.specs.Option.{option_copied};
-ghost use Rattle.dfs_base.specs.Name.{same_name};
+ghost use Rattle.base_types.specs.Name.{same_name};
 ghost use Rattle.script_words.specs.Outcome.{Gives};
 ghost use Rattle.script_lines.specs.Context.{find_placed, server_of, is_elsewhere, has_stopped, user_place, place_of};
 ghost use Rattle.script_lines.specs.Context.{place_at, host_named, server_named, node_declared};
 
 use crate::script::Script;
-use dfs_base::{HostId, Items, Name, Node, ServerId, User};
-use dfs_calls::Place;
+use base_types::{HostId, Items, Name, Node, ServerId, User};
 use script_words::{BadWhy, Fault, Words, names_of, node_of, word_at};
+use tree_calls::Place;
 
 /// A fileset's name, and the server where it is.
 #[derive(Drop)]

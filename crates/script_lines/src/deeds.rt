@@ -8,12 +8,12 @@ ghost use Rattle.script_lines.specs.Deeds.{host_deed, server_deed, deed_of};
 
 use crate::context::Context;
 use crate::script::{Deed, NUMBER_MAX};
-use dfs_base::{Name, Node, OpenKind};
-use dfs_calls::{Call, Place, Which};
+use base_types::{Name, Node, OpenKind};
 use script_words::{
     BadWhy, Fault, Words, end_at, is_among, is_word, known, label_at, list_at, lock_mode_of,
     name_at, open_kind_of, small_at, text_at, unless, word_at,
 };
+use tree_calls::{Call, Place, Which};
 
 /// What the second word of a line asks for.
 #[derive(Clone, Copy)]

@@ -9,16 +9,16 @@ ghost use Rattle.script_lines.specs.Headers.{header_line};
 
 use crate::context::{Context, Placed, host_named, server_named};
 use crate::script::{Deed, Line, NET_MAX, Net};
-use dfs_base::{
+use base_types::{
     CACHED_TOKENS_DEFAULT, CACHED_TOKENS_MAX, CACHED_TOKENS_MIN, CAPACITY_DEFAULT, CAPACITY_MAX,
     CAPACITY_MIN, GROUPS_MAX, HostId, Items, Name, NoMemory, Node, OBJECTS_MAX, Plain, SERVERS_MAX,
     ServerId, User,
 };
-use dfs_calls::{Call, HostLine};
 use script_words::{
     BadWhy, Fault, Words, all_named, end_at, is_word, known, name_at, number_at, small_at, unless,
     word_at,
 };
+use tree_calls::{Call, HostLine};
 
 /// What the first word of a header says.
 #[derive(Clone, Copy)]

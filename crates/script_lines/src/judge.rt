@@ -6,10 +6,10 @@ ghost use Rattle.script_lines.specs.Judge.{line_judged};
 use crate::context::Context;
 use crate::headers::header_of;
 use crate::script::{Deed, Line, Script};
-use dfs_base::{Items, NoMemory, Node, Plain};
-use dfs_calls::Roster;
+use base_types::{Items, NoMemory, Node, Plain};
 use script_words::{BadWhy, Fault, Words, known, node_of, unless, word_at, words_of_line};
 use std::alloc::Global;
+use tree_calls::Roster;
 
 impl Context {
     /// Before the first line.

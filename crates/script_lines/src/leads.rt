@@ -5,7 +5,7 @@ ghost use Rattle.script_lines.specs.declared.leads.TheConstants.{DOUBLINGS};
 
 use crate::clones::{CloneLine, Way, way_of};
 use crate::context::Placed;
-use dfs_base::{Items, Name, NoMemory, Plain, ServerId};
+use base_types::{Items, Name, NoMemory, Plain, ServerId};
 use std::alloc::Global;
 
 /// How often steps are doubled: at last they are more than a script has lines.

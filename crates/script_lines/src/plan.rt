@@ -4,7 +4,7 @@ ghost use Rattle.script_lines.specs.Plan.{plan_deed_of, node_named, is_pair, rec
 
 use crate::context::Context;
 use crate::script::{NUMBER_MAX, PlanDeed, PlanLine};
-use dfs_base::{Name, Node};
+use base_types::{Name, Node};
 use script_words::{
     BadWhy, Fault, Words, end_at, is_word, kind_of, known, label_at, node_of, small_at, unless,
     word_at,

@@ -1,5 +1,5 @@
-use dfs_base::{Items, Name, NoMemory, Node, Plain};
-use dfs_calls::{Call, Roster};
+use base_types::{Items, Name, NoMemory, Node, Plain};
+use tree_calls::{Call, Roster};
 
 /// The greatest position, length or count that a line can have, where nothing else is said.
 pub const NUMBER_MAX: u32 = 1_000_000;

@@ -24,11 +24,11 @@ use Rattle.std.specs.Prelude.{
   Err,
 }
 use Rattle.std.specs.List.{list_all}
-use Rattle.dfs_base.specs.Name.{is_name, same_name}
-use Rattle.dfs_base.specs.declared.limits.TheConstants.{HOSTS_MAX, SERVERS_MAX, WRITE_BYTES_MAX}
+use Rattle.base_types.specs.Name.{is_name, same_name}
+use Rattle.base_types.specs.declared.limits.TheConstants.{HOSTS_MAX, SERVERS_MAX, WRITE_BYTES_MAX}
 use Rattle.script_words.specs.declared.fields.TheConstants.{LABEL_BYTES_MAX}
-use Rattle.dfs_base.specs.declared.ids.Node.{Node}
-use Rattle.dfs_base.specs.declared.ids.Node.TheVariants.{Host, Server}
+use Rattle.base_types.specs.declared.ids.Node.{Node}
+use Rattle.base_types.specs.declared.ids.Node.TheVariants.{Host, Server}
 use Rattle.script_words.specs.Outcome.{◌>>=◌, found}
 use Rattle.script_words.specs.Words.{is_in, words_of_line}
 use Rattle.script_words.specs.declared.fault.BadWhy.{BadWhy}

@@ -17,11 +17,11 @@ use Rattle.std.specs.Prelude.{
   Err,
   codes,
 }
-use Rattle.dfs_base.specs.Name.{is_name}
-use Rattle.dfs_base.specs.Access.{is_access_list}
-use Rattle.dfs_base.specs.declared.access.Who.{Who}
-use Rattle.dfs_base.specs.declared.access.Who.TheVariants.{UserObj, User, GroupObj, Group, OtherObj, MaskObj}
-use Rattle.dfs_base.specs.declared.access.AccessEntry.{AccessEntry}
+use Rattle.base_types.specs.Name.{is_name}
+use Rattle.base_types.specs.Access.{is_access_list}
+use Rattle.base_types.specs.declared.access.Who.{Who}
+use Rattle.base_types.specs.declared.access.Who.TheVariants.{UserObj, User, GroupObj, Group, OtherObj, MaskObj}
+use Rattle.base_types.specs.declared.access.AccessEntry.{AccessEntry}
 use Rattle.script_words.specs.Outcome.{◌>>=◌}
 use Rattle.script_words.specs.Fields.{is_word, parts_of, word_at}
 use Rattle.script_words.specs.declared.fault.BadWhy.{BadWhy}

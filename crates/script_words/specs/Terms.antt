@@ -1,7 +1,7 @@
 -- What single words name.
 use Rattle.std.specs.Prelude.{ℕ, Bool, true, false, if◌then◌else◌, List, Option, Some, None, codes}
-use Rattle.dfs_base.specs.declared.ids.OpenKind.{OpenKind}
-use Rattle.dfs_base.specs.declared.ids.OpenKind.TheVariants.{Reading, Writing, Executing, Shared, Exclusive}
+use Rattle.base_types.specs.declared.ids.OpenKind.{OpenKind}
+use Rattle.base_types.specs.declared.ids.OpenKind.TheVariants.{Reading, Writing, Executing, Shared, Exclusive}
 use Rattle.script_words.specs.Fields.{is_word}
 
 -- how a file is opened

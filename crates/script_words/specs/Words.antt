@@ -23,7 +23,7 @@ use Rattle.std.specs.Prelude.{
   Ok,
   Err,
 }
-use Rattle.dfs_base.specs.declared.limits.TheConstants.{LINE_BYTES_MAX}
+use Rattle.base_types.specs.declared.limits.TheConstants.{LINE_BYTES_MAX}
 use Rattle.script_words.specs.Lines.{without_end, content, says_nothing}
 use Rattle.script_words.specs.declared.fault.BadWhy.{BadWhy}
 use Rattle.script_words.specs.declared.fault.BadWhy.TheVariants.{Long, Text}

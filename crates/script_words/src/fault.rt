@@ -1,6 +1,6 @@
 ghost use Rattle.std.specs.Prelude.{◌≡◌};
 
-use dfs_base::NoMemory;
+use base_types::NoMemory;
 use thiserror::Error;
 
 /// Why a line is refused. Its text is the word that stands for it in the service's output.

@@ -1,5 +1,5 @@
 ghost use Rattle.std.specs.Prelude.{◌≡◌, ◌≤◌, [], length, IfOk, IfSome};
-ghost use Rattle.dfs_base.specs.Name.{is_among};
+ghost use Rattle.base_types.specs.Name.{is_among};
 ghost use Rattle.script_words.specs.declared.fault.BadWhy.TheVariants.{Word};
 ghost use Rattle.script_words.specs.Outcome.{Gives, GivesBy, found, unless};
 ghost use Rattle.std.specs.List.{list_all};
@@ -25,7 +25,7 @@ ghost use Rattle.script_words.specs.Fields.{
 ghost use Rattle.script_words.specs.Reading.{part_len};
 
 use crate::fault::{BadWhy, Fault};
-use dfs_base::{
+use base_types::{
     HOSTS_MAX, HostId, Items, Name, NameRefused, NoMemory, Node, Plain, SERVERS_MAX, ServerId,
     WRITE_BYTES_MAX,
 };

@@ -14,7 +14,7 @@ ghost use Rattle.script_words.specs.Lists.{
 
 use crate::fault::{BadWhy, Fault};
 use crate::fields::{Words, is_word, parts_of, word_at};
-use dfs_base::{AccessEntry, AccessList, Items, ListRefused, Name, NameRefused, Rights, Who};
+use base_types::{AccessEntry, AccessList, Items, ListRefused, Name, NameRefused, Rights, Who};
 use std::alloc::Global;
 
 fn right_of(letter: u8) -> Option<Rights>

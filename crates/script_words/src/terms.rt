@@ -3,7 +3,7 @@ ghost use Rattle.std.specs.Prelude.{◌≡◌};
 ghost use Rattle.script_words.specs.Terms.{open_kind_of, lock_mode_of, kind_of};
 
 use crate::fields::is_word;
-use dfs_base::OpenKind;
+use base_types::OpenKind;
 
 /// How a file is opened: `reading`, `writing`, `executing`, `shared` or `exclusive`.
 #[tactic(auto, unfolding(crate::specs::Terms::open_kind_of))]

@@ -18,7 +18,7 @@ ghost use Rattle.script_words.specs.Reading.{
 use crate::fault::{BadWhy, Fault};
 use crate::fields::is_word;
 use crate::lines::{content, says_nothing, without_end};
-use dfs_base::{Items, LINE_BYTES_MAX, NoMemory};
+use base_types::{Items, LINE_BYTES_MAX, NoMemory};
 use std::alloc::Global;
 use std::mem;
 

@@ -38,15 +38,15 @@ use Rattle.std.specs.Prelude.{bit_and, IfSome, slice_get, slice_set}
 use Rattle.std.specs.Int.Bits.{mask_lt}
 use Rattle.std.specs.List.{list_any}
 use Rattle.std.specs.Option.{option_map, option_map_or}
-use Rattle.dfs_base.specs.Lists.{changed_at}
-use Rattle.dfs_base.specs.Outcomes.{and_then, either}
-use Rattle.dfs_base.specs.declared.ids.FilesetId.{FilesetId}
-use Rattle.dfs_base.specs.declared.ids.HostId.{HostId}
-use Rattle.dfs_base.specs.declared.ids.ServerId.{ServerId}
-use Rattle.dfs_base.specs.declared.limits.TheConstants.{HOSTS_MAX, FILESETS_MAX}
-use Rattle.dfs_base.specs.declared.user.User.{User}
-use Rattle.dfs_calls.specs.declared.call.Call.{Call}
-use Rattle.dfs_calls.specs.declared.call.Call.TheVariants.{
+use Rattle.base_types.specs.Lists.{changed_at}
+use Rattle.base_types.specs.Outcomes.{and_then, either}
+use Rattle.base_types.specs.declared.ids.FilesetId.{FilesetId}
+use Rattle.base_types.specs.declared.ids.HostId.{HostId}
+use Rattle.base_types.specs.declared.ids.ServerId.{ServerId}
+use Rattle.base_types.specs.declared.limits.TheConstants.{HOSTS_MAX, FILESETS_MAX}
+use Rattle.base_types.specs.declared.user.User.{User}
+use Rattle.tree_calls.specs.declared.call.Call.{Call}
+use Rattle.tree_calls.specs.declared.call.Call.TheVariants.{
   NewFileset,
   Create,
   MakeDir,
@@ -67,8 +67,8 @@ use Rattle.dfs_calls.specs.declared.call.Call.TheVariants.{
   CloseFile,
   MoveFileset,
 }
-use Rattle.dfs_calls.specs.declared.reply.Refusal.{Refusal}
-use Rattle.dfs_calls.specs.declared.reply.Refusal.TheVariants.{
+use Rattle.tree_calls.specs.declared.reply.Refusal.{Refusal}
+use Rattle.tree_calls.specs.declared.reply.Refusal.TheVariants.{
   NoEntry,
   NotDir,
   IsDir,
@@ -91,13 +91,13 @@ use Rattle.dfs_calls.specs.declared.reply.Refusal.TheVariants.{
   AlreadyOpened,
   NotHome,
 }
-use Rattle.dfs_calls.specs.declared.reply.Reply.{Reply}
-use Rattle.dfs_calls.specs.declared.reply.Reply.TheVariants.{Ok as Accepted, Bytes, Names, Facts, Access, Refused}
-use Rattle.dfs_calls.specs.declared.roster.Roster.{Roster}
-use Rattle.dfs_calls.specs.declared.ship.Record.{Record}
-use Rattle.dfs_filesets.specs.declared.fileset.Fileset.{Fileset}
-use Rattle.dfs_filesets.proofs.Stays.{stays_itself}
-use Rattle.rpc_types.specs.Soundness.{Each, IsServer, IsKept}
+use Rattle.tree_calls.specs.declared.reply.Reply.{Reply}
+use Rattle.tree_calls.specs.declared.reply.Reply.TheVariants.{Ok as Accepted, Bytes, Names, Facts, Access, Refused}
+use Rattle.tree_calls.specs.declared.roster.Roster.{Roster}
+use Rattle.tree_calls.specs.declared.ship.Record.{Record}
+use Rattle.tree_filesets.specs.declared.fileset.Fileset.{Fileset}
+use Rattle.tree_filesets.proofs.Stays.{stays_itself}
+use Rattle.message_types.specs.Soundness.{Each, IsServer, IsKept}
 use Rattle.store_state.specs.declared.done.Done.{Done}
 use Rattle.store_state.specs.declared.state.Holding.{Holding}
 use Rattle.store_state.specs.declared.state.Stay.{Stay}

@@ -39,17 +39,17 @@ use Rattle.std.specs.Prelude.{IfSome}
 use Rattle.std.specs.List.{list_any}
 use Rattle.std.proofs.lemmas.Bool.{leb-true}
 use Rattle.std.specs.Option.{option_map, option_map_or}
-use Rattle.dfs_base.specs.Outcomes.{and_then, either}
-use Rattle.dfs_base.specs.declared.ids.Fid.{Fid}
-use Rattle.dfs_base.specs.declared.ids.FilesetId.{FilesetId}
-use Rattle.dfs_base.specs.declared.ids.HostId.{HostId}
-use Rattle.dfs_base.specs.declared.ids.ServerId.{ServerId}
-use Rattle.dfs_base.specs.declared.limits.TheConstants.{OBJECTS_MAX}
-use Rattle.dfs_base.specs.declared.user.User.{User}
-use Rattle.dfs_calls.specs.Limits.{is_between, keeps_limit}
-use Rattle.dfs_calls.specs.Rosters.{user_of}
-use Rattle.dfs_calls.specs.declared.call.Call.{Call}
-use Rattle.dfs_calls.specs.declared.call.Call.TheVariants.{
+use Rattle.base_types.specs.Outcomes.{and_then, either}
+use Rattle.base_types.specs.declared.ids.Fid.{Fid}
+use Rattle.base_types.specs.declared.ids.FilesetId.{FilesetId}
+use Rattle.base_types.specs.declared.ids.HostId.{HostId}
+use Rattle.base_types.specs.declared.ids.ServerId.{ServerId}
+use Rattle.base_types.specs.declared.limits.TheConstants.{OBJECTS_MAX}
+use Rattle.base_types.specs.declared.user.User.{User}
+use Rattle.tree_calls.specs.Limits.{is_between, keeps_limit}
+use Rattle.tree_calls.specs.Rosters.{user_of}
+use Rattle.tree_calls.specs.declared.call.Call.{Call}
+use Rattle.tree_calls.specs.declared.call.Call.TheVariants.{
   NewFileset,
   Create,
   MakeDir,
@@ -70,22 +70,22 @@ use Rattle.dfs_calls.specs.declared.call.Call.TheVariants.{
   CloseFile,
   MoveFileset,
 }
-use Rattle.dfs_calls.specs.declared.part.Piece.{Piece}
-use Rattle.dfs_calls.specs.declared.place.Place.{Place}
-use Rattle.dfs_calls.specs.declared.reply.Refusal.{Refusal}
-use Rattle.dfs_calls.specs.declared.reply.Refusal.TheVariants.{Denied, NoFileset}
-use Rattle.dfs_calls.specs.declared.reply.Reply.TheVariants.{Ok as Accepted, Refused}
-use Rattle.dfs_calls.specs.declared.roster.Roster.{Roster}
-use Rattle.dfs_calls.specs.declared.ship.Mover.{Mover}
-use Rattle.dfs_calls.specs.declared.ship.Record.{Record}
-use Rattle.dfs_calls.specs.declared.ship.ShipPart.{ShipPart}
-use Rattle.dfs_calls.specs.declared.ship.ShipPart.TheVariants.{Head, Object as ObjectPart}
-use Rattle.dfs_filesets.specs.declared.fileset.Fileset.{Fileset}
-use Rattle.dfs_objects.specs.declared.content.Anode.{Anode}
-use Rattle.dfs_filesets.specs.Laws.{is_file_at}
-use Rattle.dfs_filesets.specs.Updates.{changed, updated}
-use Rattle.dfs_filesets.specs.Founding.{control_check, new_fileset, cloned}
-use Rattle.rpc_types.specs.Soundness.{IsServer, IsKept, IsPart}
+use Rattle.tree_calls.specs.declared.part.Piece.{Piece}
+use Rattle.tree_calls.specs.declared.place.Place.{Place}
+use Rattle.tree_calls.specs.declared.reply.Refusal.{Refusal}
+use Rattle.tree_calls.specs.declared.reply.Refusal.TheVariants.{Denied, NoFileset}
+use Rattle.tree_calls.specs.declared.reply.Reply.TheVariants.{Ok as Accepted, Refused}
+use Rattle.tree_calls.specs.declared.roster.Roster.{Roster}
+use Rattle.tree_calls.specs.declared.ship.Mover.{Mover}
+use Rattle.tree_calls.specs.declared.ship.Record.{Record}
+use Rattle.tree_calls.specs.declared.ship.ShipPart.{ShipPart}
+use Rattle.tree_calls.specs.declared.ship.ShipPart.TheVariants.{Head, Object as ObjectPart}
+use Rattle.tree_filesets.specs.declared.fileset.Fileset.{Fileset}
+use Rattle.tree_objects.specs.declared.content.Anode.{Anode}
+use Rattle.tree_filesets.specs.Laws.{is_file_at}
+use Rattle.tree_filesets.specs.Updates.{changed, updated}
+use Rattle.tree_filesets.specs.Founding.{control_check, new_fileset, cloned}
+use Rattle.message_types.specs.Soundness.{IsServer, IsKept, IsPart}
 use Rattle.store_acts.specs.declared.act.Act.{Act}
 use Rattle.store_acts.specs.declared.act.Act.TheVariants.{
   Boot,

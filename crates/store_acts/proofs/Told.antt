@@ -23,11 +23,11 @@ use Rattle.std.proofs.Common.{
   arith,
 }
 use Rattle.std.specs.Option.{option_map_or}
-use Rattle.dfs_objects.specs.declared.content.Anode.{Anode}
-use Rattle.dfs_objects.specs.declared.content.Content.{Content}
-use Rattle.dfs_objects.specs.declared.content.Content.TheVariants.{Dir, File}
-use Rattle.dfs_objects.specs.declared.content.Object.{Object}
-use Rattle.dfs_filesets.specs.WellFormed.{is_settled}
+use Rattle.tree_objects.specs.declared.content.Anode.{Anode}
+use Rattle.tree_objects.specs.declared.content.Content.{Content}
+use Rattle.tree_objects.specs.declared.content.Content.TheVariants.{Dir, File}
+use Rattle.tree_objects.specs.declared.content.Object.{Object}
+use Rattle.tree_filesets.specs.WellFormed.{is_settled}
 use Rattle.store_state.specs.Giving.{put_bytes}
 use Rattle.store_acts.specs.Laws.{anode_told, PartsAreWhole}
 use Rattle.store_acts.specs.Parts.{object_part}

@@ -1,12 +1,12 @@
 -- What each act makes of a store, and answers.
 use Rattle.std.specs.Prelude.{ℕ, ◌+◌, List, [], ◌∷◌, map, slice_set}
 use Rattle.std.specs.Option.{option_map, option_map_or}
-use Rattle.dfs_base.specs.declared.ids.FilesetId.{FilesetId}
-use Rattle.dfs_base.specs.declared.ids.HostId.{HostId}
-use Rattle.dfs_calls.specs.declared.call.Call.{Call}
-use Rattle.dfs_calls.specs.declared.reply.Refusal.{Refusal}
-use Rattle.dfs_calls.specs.declared.reply.Refusal.TheVariants.{NoFileset}
-use Rattle.dfs_calls.specs.declared.reply.Reply.TheVariants.{Ok as Accepted, Refused}
+use Rattle.base_types.specs.declared.ids.FilesetId.{FilesetId}
+use Rattle.base_types.specs.declared.ids.HostId.{HostId}
+use Rattle.tree_calls.specs.declared.call.Call.{Call}
+use Rattle.tree_calls.specs.declared.reply.Refusal.{Refusal}
+use Rattle.tree_calls.specs.declared.reply.Refusal.TheVariants.{NoFileset}
+use Rattle.tree_calls.specs.declared.reply.Reply.TheVariants.{Ok as Accepted, Refused}
 use Rattle.store_acts.specs.declared.act.Act.{Act}
 use Rattle.store_acts.specs.declared.act.Act.TheVariants.{
   Boot,

@@ -1,10 +1,10 @@
 -- What makes the parts of a fileset believable.
 use Rattle.std.specs.Prelude.{◌≡◌, ℕ, true, Option, Some, None}
 use Rattle.std.specs.Option.{option_map_or}
-use Rattle.dfs_calls.specs.declared.ship.ShipPart.{ShipPart}
-use Rattle.dfs_calls.specs.declared.ship.ShipPart.TheVariants.{Head, Object}
-use Rattle.dfs_objects.specs.declared.content.Anode.{Anode}
-use Rattle.dfs_filesets.specs.WellFormed.{is_settled}
+use Rattle.tree_calls.specs.declared.ship.ShipPart.{ShipPart}
+use Rattle.tree_calls.specs.declared.ship.ShipPart.TheVariants.{Head, Object}
+use Rattle.tree_objects.specs.declared.content.Anode.{Anode}
+use Rattle.tree_filesets.specs.WellFormed.{is_settled}
 use Rattle.store_acts.specs.Parts.{anode_of_part, object_part}
 
 -- the anode that a part tells of; none for a head

@@ -31,23 +31,23 @@ use Rattle.std.specs.Prelude.{
 }
 use Rattle.std.specs.List.{list_any}
 use Rattle.std.specs.Option.{option_map, option_map_or}
-use Rattle.dfs_base.specs.Lists.{changed_at}
-use Rattle.dfs_base.specs.Outcomes.{either}
-use Rattle.dfs_base.specs.declared.ids.FilesetId.{FilesetId}
-use Rattle.dfs_base.specs.declared.ids.HostId.{HostId}
-use Rattle.dfs_base.specs.declared.ids.ServerId.{ServerId}
-use Rattle.dfs_calls.specs.declared.reply.Refusal.{Refusal}
-use Rattle.dfs_calls.specs.declared.reply.Refusal.TheVariants.{Exists}
-use Rattle.dfs_calls.specs.declared.reply.Reply.{Reply}
-use Rattle.dfs_calls.specs.declared.reply.Reply.TheVariants.{Ok as Accepted, Refused}
-use Rattle.dfs_calls.specs.declared.ship.Mover.{Mover}
-use Rattle.dfs_calls.specs.declared.ship.Record.{Record}
-use Rattle.dfs_calls.specs.declared.ship.ShipPart.{ShipPart}
-use Rattle.dfs_calls.specs.declared.ship.ShipPart.TheVariants.{Head, Object as ObjectPart}
-use Rattle.dfs_objects.specs.declared.content.Anode.{Anode}
-use Rattle.dfs_filesets.specs.declared.fileset.Fileset.{Fileset}
-use Rattle.dfs_filesets.specs.Checks.{unless}
-use Rattle.dfs_filesets.specs.Promises.{new_promise}
+use Rattle.base_types.specs.Lists.{changed_at}
+use Rattle.base_types.specs.Outcomes.{either}
+use Rattle.base_types.specs.declared.ids.FilesetId.{FilesetId}
+use Rattle.base_types.specs.declared.ids.HostId.{HostId}
+use Rattle.base_types.specs.declared.ids.ServerId.{ServerId}
+use Rattle.tree_calls.specs.declared.reply.Refusal.{Refusal}
+use Rattle.tree_calls.specs.declared.reply.Refusal.TheVariants.{Exists}
+use Rattle.tree_calls.specs.declared.reply.Reply.{Reply}
+use Rattle.tree_calls.specs.declared.reply.Reply.TheVariants.{Ok as Accepted, Refused}
+use Rattle.tree_calls.specs.declared.ship.Mover.{Mover}
+use Rattle.tree_calls.specs.declared.ship.Record.{Record}
+use Rattle.tree_calls.specs.declared.ship.ShipPart.{ShipPart}
+use Rattle.tree_calls.specs.declared.ship.ShipPart.TheVariants.{Head, Object as ObjectPart}
+use Rattle.tree_objects.specs.declared.content.Anode.{Anode}
+use Rattle.tree_filesets.specs.declared.fileset.Fileset.{Fileset}
+use Rattle.tree_filesets.specs.Checks.{unless}
+use Rattle.tree_filesets.specs.Promises.{new_promise}
 use Rattle.store_state.specs.declared.state.Stay.{Stay}
 use Rattle.store_state.specs.declared.state.Stay.TheVariants.{Writable, Clone, Leaving, Arriving, Gone}
 use Rattle.store_state.specs.declared.state.Holding.{Holding}

@@ -1,11 +1,11 @@
 -- Each fact on the limits of a store has one proof at most, so that a store may hold it.
 use Rattle.std.specs.Prelude.{◌≡◌, ◌≤◌, ◌<◌, ℕ, ◌+◌, List, [], ◌∷◌, length, Option, Some, None, IfSome, refl}
 use denote.Struct.Props.{props}
-use Rattle.dfs_base.specs.declared.ids.ServerId.{ServerId}
-use Rattle.dfs_base.specs.declared.limits.TheConstants.{HOSTS_MAX, FILESETS_MAX, OBJECTS_MAX}
-use Rattle.dfs_calls.specs.declared.roster.Roster.{Roster}
-use Rattle.dfs_calls.specs.declared.ship.Record.{Record}
-use Rattle.rpc_types.specs.Soundness.{Each, IsServer, IsKept}
+use Rattle.base_types.specs.declared.ids.ServerId.{ServerId}
+use Rattle.base_types.specs.declared.limits.TheConstants.{HOSTS_MAX, FILESETS_MAX, OBJECTS_MAX}
+use Rattle.tree_calls.specs.declared.roster.Roster.{Roster}
+use Rattle.tree_calls.specs.declared.ship.Record.{Record}
+use Rattle.message_types.specs.Soundness.{Each, IsServer, IsKept}
 use Rattle.store_state.specs.declared.state.Holding.{Holding}
 use Rattle.store_state.specs.declared.state.Stay.{Stay}
 use Rattle.store_state.specs.declared.state.Stay.TheVariants.{Writable, Clone, Leaving, Arriving, Gone}

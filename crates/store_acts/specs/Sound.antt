@@ -22,10 +22,10 @@ use Rattle.std.specs.Prelude.{
   IfSome,
   IsTrue,
 }
-use Rattle.dfs_base.specs.Name.{is_name}
-use Rattle.dfs_base.specs.declared.ids.FilesetId.{FilesetId}
-use Rattle.dfs_base.specs.declared.ids.ServerId.{ServerId}
-use Rattle.dfs_base.specs.declared.limits.TheConstants.{
+use Rattle.base_types.specs.Name.{is_name}
+use Rattle.base_types.specs.declared.ids.FilesetId.{FilesetId}
+use Rattle.base_types.specs.declared.ids.ServerId.{ServerId}
+use Rattle.base_types.specs.declared.limits.TheConstants.{
   BATCH_ACTS_MAX,
   FILE_BYTES_MAX,
   FILESETS_MAX,
@@ -33,8 +33,8 @@ use Rattle.dfs_base.specs.declared.limits.TheConstants.{
   OBJECTS_MAX,
   SERVERS_MAX,
 }
-use Rattle.dfs_calls.specs.declared.call.Call.{Call}
-use Rattle.dfs_calls.specs.declared.call.Call.TheVariants.{
+use Rattle.tree_calls.specs.declared.call.Call.{Call}
+use Rattle.tree_calls.specs.declared.call.Call.TheVariants.{
   NewFileset,
   Create,
   MakeDir,
@@ -55,13 +55,13 @@ use Rattle.dfs_calls.specs.declared.call.Call.TheVariants.{
   CloseFile,
   MoveFileset,
 }
-use Rattle.dfs_calls.specs.declared.roster.Roster.{Roster}
-use Rattle.dfs_calls.specs.declared.ship.Mover.{Mover}
-use Rattle.dfs_calls.specs.declared.ship.Record.{Record}
-use Rattle.dfs_calls.specs.declared.ship.ShipPart.{ShipPart}
-use Rattle.dfs_filesets.specs.declared.fileset.Fileset.{Fileset}
-use Rattle.dfs_filesets.specs.WellFormed.{IsWellFormed, is_at_rest}
-use Rattle.rpc_types.specs.Soundness.{Each, IsServer, IsHost, IsCall, IsKept, IsPart}
+use Rattle.tree_calls.specs.declared.roster.Roster.{Roster}
+use Rattle.tree_calls.specs.declared.ship.Mover.{Mover}
+use Rattle.tree_calls.specs.declared.ship.Record.{Record}
+use Rattle.tree_calls.specs.declared.ship.ShipPart.{ShipPart}
+use Rattle.tree_filesets.specs.declared.fileset.Fileset.{Fileset}
+use Rattle.tree_filesets.specs.WellFormed.{IsWellFormed, is_at_rest}
+use Rattle.message_types.specs.Soundness.{Each, IsServer, IsHost, IsCall, IsKept, IsPart}
 use Rattle.store_acts.specs.declared.act.Act.{Act}
 use Rattle.store_acts.specs.declared.act.Act.TheVariants.{
   Boot,

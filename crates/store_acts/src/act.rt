@@ -1,6 +1,6 @@
-use dfs_base::{Fid, FilesetId, HostId, Items, ServerId};
-use dfs_calls::{Call, Piece, Refusal, ShipPart};
+use base_types::{Fid, FilesetId, HostId, Items, ServerId};
 use store_state::HostState;
+use tree_calls::{Call, Piece, Refusal, ShipPart};
 
 /// One thing that a store does, whole or not at all.
 #[derive(Drop)]

@@ -9,9 +9,9 @@ ghost use Rattle.store_state.specs.Rows.{answer_to};
 use crate::act::Act;
 use crate::arriving::take_part;
 use crate::leaving::{back, leave, left, settle};
-use dfs_base::{FilesetId, HostId, Items, NoMemory};
-use dfs_calls::{Call, Refusal, Reply};
+use base_types::{FilesetId, HostId, Items, NoMemory};
 use store_state::{Coming, Done, Holding, HostState, NO_RECORD, NO_SHIP, Noted, StoreState, fill};
+use tree_calls::{Call, Refusal, Reply};
 
 fn forget_at(slot: &mut Option<Holding>)
     ensures { slot.new ≡ option_map held_booted slot.old }

@@ -1,7 +1,7 @@
 //! How filesets arrive in a store.
 ghost use Rattle.std.specs.Prelude.{◌≡◌, ◌<◌, ◌^◌, ◌-◌, map, IfOk, OnOk, OnErr};
 ghost use Rattle.std.specs.Option.{option_map};
-ghost use Rattle.dfs_calls.specs.declared.reply.Reply.TheVariants.{Refused};
+ghost use Rattle.tree_calls.specs.declared.reply.Reply.TheVariants.{Refused};
 ghost use Rattle.store_acts.specs.Moving.{
   taken_from,
   with_taken,
@@ -20,15 +20,15 @@ ghost use Rattle.store_state.specs.Outcomes.{now_done};
 ghost use Rattle.store_state.specs.declared.state.Stay.TheVariants.{Arriving};
 
 use crate::parts::anode_of_part;
-use dfs_base::{FilesetId, Items, Name, NoMemory, Plain, ServerId};
-use dfs_calls::{Mover, Record, Refusal, Reply, ShipPart};
-use dfs_filesets::{Fileset, OBJECT_BLOCKS};
-use dfs_objects::Anode;
+use base_types::{FilesetId, Items, Name, NoMemory, Plain, ServerId};
 use std::alloc::Global;
 use store_state::{
     Coming, Done, Holding, NO_SHIP, Noted, Sought, Stay, StoreState, TakenShip, free_slot,
     has_some, note_in, reply_code, reply_of, slot_of,
 };
+use tree_calls::{Mover, Record, Refusal, Reply, ShipPart};
+use tree_filesets::{Fileset, OBJECT_BLOCKS};
+use tree_objects::Anode;
 
 // Puts the next anode to those that were taken.
 fn add_anode_at(slot: &mut Option<Holding>, coming: Coming, anode: Anode) -> Result<(), NoMemory>
@@ -160,7 +160,7 @@ fn head_once(state: &mut StoreState, coming: Coming, head: &Head) -> Result<Done
 }
 
 // An anode that comes.
-#[tactic(auto, using(dfs_base::proofs::ChangedLists::changes))]
+#[tactic(auto, using(base_types::proofs::ChangedLists::changes))]
 fn take_anode(state: &mut StoreState, coming: Coming, anode: Anode) -> Result<Done, NoMemory>
     requires { coming.at < 2 ^ 32 - 1 }
     ensures done { IfOk result (λ done. done ≡

@@ -13,14 +13,14 @@ ghost use Rattle.store_acts.specs.Moving.{
   stay_settled,
   settle_outcome,
 };
-ghost use Rattle.dfs_calls.specs.declared.reply.Reply.TheVariants.{Ok as Accepted};
+ghost use Rattle.tree_calls.specs.declared.reply.Reply.TheVariants.{Ok as Accepted};
 ghost use Rattle.store_state.specs.Outcomes.{now_done, not_fresh};
 
-use dfs_base::{FilesetId, HostId, Items, ServerId};
-use dfs_calls::{Refusal, Reply};
+use base_types::{FilesetId, HostId, Items, ServerId};
 use store_state::{
     Done, Holding, NO_RECORD, Noted, Sought, Stay, StoreState, fill, has_some, held, slot_of,
 };
+use tree_calls::{Refusal, Reply};
 
 /// What becomes of a fileset that is here or on its way.
 #[derive(Clone, Copy)]
@@ -103,7 +103,7 @@ fn turn_at(slot: &mut Option<Holding>, change: Turn)
     }
 }
 
-#[tactic(auto, using(dfs_base::proofs::ChangedLists::changes))]
+#[tactic(auto, using(base_types::proofs::ChangedLists::changes))]
 fn turn_of(state: &mut StoreState, id: FilesetId, change: Turn)
     ensures { state.new ≡ with_holding state.old id (turned change) }
 {

@@ -3,9 +3,9 @@ ghost use Rattle.std.specs.Prelude.{◌≡◌, true, replicate, IfOk, IfSome};
 ghost use Rattle.store_state.specs.Giving.{put_pieces};
 ghost use Rattle.std.specs.List.{list_all};
 ghost use Rattle.std.specs.Option.{option_copied};
-ghost use Rattle.dfs_base.specs.Name.{is_before};
-ghost use Rattle.dfs_objects.specs.Sound.{names_rise};
-ghost use Rattle.dfs_filesets.specs.Laws.{lists_in, entries_in};
+ghost use Rattle.base_types.specs.Name.{is_before};
+ghost use Rattle.tree_objects.specs.Sound.{names_rise};
+ghost use Rattle.tree_filesets.specs.Laws.{lists_in, entries_in};
 ghost use Rattle.store_acts.specs.Parts.{
   is_tellable,
   told_object,
@@ -20,12 +20,12 @@ ghost use Rattle.store_acts.specs.Parts.{
   anode_of_part,
 };
 
-use dfs_base::{AccessList, FILE_BYTES_MAX, Items, Name, NoMemory, OBJECTS_MAX, Plain};
-use dfs_calls::{DirEntry, Mover, Piece, ShipPart, Status};
-use dfs_filesets::object_at;
-use dfs_objects::{Anode, Content, Object, UnsavedBytes};
+use base_types::{AccessList, FILE_BYTES_MAX, Items, Name, NoMemory, OBJECTS_MAX, Plain};
 use std::alloc::Global;
 use store_state::{Holding, put_pieces, unique_at};
+use tree_calls::{DirEntry, Mover, Piece, ShipPart, Status};
+use tree_filesets::object_at;
+use tree_objects::{Anode, Content, Object, UnsavedBytes};
 
 // Whether a name comes before those of these entries.
 fn is_first(name: &Name, entries: &[DirEntry]) -> bool

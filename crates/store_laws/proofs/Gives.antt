@@ -49,19 +49,19 @@ use Rattle.std.proofs.lemmas.Bool.{leb-true, lt-leb, le-leb}
 use Rattle.std.proofs.lemmas.Bool.Decides.{eqb_tells, leb_tells}
 use Rattle.std.proofs.lemmas.Grind.{common_steps}
 use Rattle.std.proofs.lemmas.List.{get_or-set_same, get_or-set_other}
-use Rattle.dfs_base.specs.Image.{byte_at}
-use Rattle.dfs_base.specs.Spans.{has_byte, in_spans}
-use Rattle.dfs_base.specs.declared.access.AccessEntry.{AccessEntry}
-use Rattle.dfs_base.specs.declared.ids.HostId.{HostId}
-use Rattle.dfs_base.specs.declared.span.Span.{Span}
-use Rattle.dfs_calls.specs.declared.part.Piece.{Piece}
-use Rattle.dfs_objects.specs.declared.content.Content.TheVariants.{File}
-use Rattle.dfs_objects.specs.declared.content.Unsaved.{Unsaved}
-use Rattle.dfs_objects.specs.declared.content.UnsavedLength.{UnsavedLength}
-use Rattle.dfs_objects.specs.Files.{byte_over, bytes_over, unsaved_at, resized}
-use Rattle.dfs_objects.specs.Positions.{positions_rise}
-use Rattle.dfs_objects.specs.Stores.{content_stored, is_storable, is_storable_length, is_stored, has_written}
-use Rattle.dfs_objects.proofs.Observed.{
+use Rattle.base_types.specs.Image.{byte_at}
+use Rattle.base_types.specs.Spans.{has_byte, in_spans}
+use Rattle.base_types.specs.declared.access.AccessEntry.{AccessEntry}
+use Rattle.base_types.specs.declared.ids.HostId.{HostId}
+use Rattle.base_types.specs.declared.span.Span.{Span}
+use Rattle.tree_calls.specs.declared.part.Piece.{Piece}
+use Rattle.tree_objects.specs.declared.content.Content.TheVariants.{File}
+use Rattle.tree_objects.specs.declared.content.Unsaved.{Unsaved}
+use Rattle.tree_objects.specs.declared.content.UnsavedLength.{UnsavedLength}
+use Rattle.tree_objects.specs.Files.{byte_over, bytes_over, unsaved_at, resized}
+use Rattle.tree_objects.specs.Positions.{positions_rise}
+use Rattle.tree_objects.specs.Stores.{content_stored, is_storable, is_storable_length, is_stored, has_written}
+use Rattle.tree_objects.proofs.Observed.{
   over_get,
   over_length,
   get_past,
@@ -71,7 +71,7 @@ use Rattle.dfs_objects.proofs.Observed.{
   find_rising,
   length_resized,
 }
-use Rattle.dfs_objects.proofs.Overlays.{over_nothing}
+use Rattle.tree_objects.proofs.Overlays.{over_nothing}
 use Rattle.store_state.specs.Giving.{put_bytes, put_pieces, lengthened, content_given}
 use Rattle.store_laws.specs.Gives.{piece_of, GivesAreStores}
 

@@ -45,30 +45,30 @@ use Rattle.std.specs.List.{list_all}
 use Rattle.std.specs.Option.{option_map, option_map_or, option_and_then}
 use Rattle.std.proofs.lemmas.Bool.Decides.{eqb_tells, leb_tells}
 use Rattle.std.proofs.lemmas.Grind.{common_steps}
-use Rattle.dfs_base.specs.Lists.{changed_at}
-use Rattle.dfs_base.specs.declared.ids.FilesetId.{FilesetId}
-use Rattle.dfs_base.specs.declared.ids.ServerId.{ServerId}
-use Rattle.dfs_calls.specs.declared.ship.Mover.{Mover}
-use Rattle.dfs_calls.specs.declared.ship.Record.{Record}
-use Rattle.dfs_calls.specs.declared.ship.ShipPart.{ShipPart}
-use Rattle.dfs_calls.specs.declared.ship.ShipPart.TheVariants.{Head, Object as ObjectPart}
-use Rattle.dfs_calls.specs.declared.reply.Refusal.{Refusal}
-use Rattle.dfs_calls.specs.declared.reply.Refusal.TheVariants.{Exists, TooMany, NoRoom}
-use Rattle.dfs_calls.specs.declared.reply.Reply.TheVariants.{Ok as Accepted}
-use Rattle.dfs_objects.specs.declared.content.Anode.{Anode}
-use Rattle.dfs_objects.specs.declared.content.Content.{Content}
-use Rattle.dfs_objects.specs.declared.content.Content.TheVariants.{Dir, File}
-use Rattle.dfs_objects.specs.declared.content.Object.{Object}
-use Rattle.dfs_objects.specs.Changes.{content_as_cloned}
-use Rattle.dfs_objects.specs.Files.{resized, bytes_over}
-use Rattle.dfs_objects.specs.Objects.{object_as_cloned}
-use Rattle.dfs_objects.proofs.Observed.{and_left, and_right}
-use Rattle.dfs_objects.proofs.Overlays.{resized_zero, resized_more, over_nothing}
-use Rattle.dfs_filesets.specs.declared.fileset.Fileset.{Fileset}
-use Rattle.dfs_filesets.specs.Founding.{moved, anode_as_cloned}
-use Rattle.dfs_filesets.specs.Checks.{unless}
-use Rattle.dfs_filesets.specs.Walk.{object_at, unique_at}
-use Rattle.dfs_filesets.specs.WellFormed.{is_settled, is_at_rest}
+use Rattle.base_types.specs.Lists.{changed_at}
+use Rattle.base_types.specs.declared.ids.FilesetId.{FilesetId}
+use Rattle.base_types.specs.declared.ids.ServerId.{ServerId}
+use Rattle.tree_calls.specs.declared.ship.Mover.{Mover}
+use Rattle.tree_calls.specs.declared.ship.Record.{Record}
+use Rattle.tree_calls.specs.declared.ship.ShipPart.{ShipPart}
+use Rattle.tree_calls.specs.declared.ship.ShipPart.TheVariants.{Head, Object as ObjectPart}
+use Rattle.tree_calls.specs.declared.reply.Refusal.{Refusal}
+use Rattle.tree_calls.specs.declared.reply.Refusal.TheVariants.{Exists, TooMany, NoRoom}
+use Rattle.tree_calls.specs.declared.reply.Reply.TheVariants.{Ok as Accepted}
+use Rattle.tree_objects.specs.declared.content.Anode.{Anode}
+use Rattle.tree_objects.specs.declared.content.Content.{Content}
+use Rattle.tree_objects.specs.declared.content.Content.TheVariants.{Dir, File}
+use Rattle.tree_objects.specs.declared.content.Object.{Object}
+use Rattle.tree_objects.specs.Changes.{content_as_cloned}
+use Rattle.tree_objects.specs.Files.{resized, bytes_over}
+use Rattle.tree_objects.specs.Objects.{object_as_cloned}
+use Rattle.tree_objects.proofs.Observed.{and_left, and_right}
+use Rattle.tree_objects.proofs.Overlays.{resized_zero, resized_more, over_nothing}
+use Rattle.tree_filesets.specs.declared.fileset.Fileset.{Fileset}
+use Rattle.tree_filesets.specs.Founding.{moved, anode_as_cloned}
+use Rattle.tree_filesets.specs.Checks.{unless}
+use Rattle.tree_filesets.specs.Walk.{object_at, unique_at}
+use Rattle.tree_filesets.specs.WellFormed.{is_settled, is_at_rest}
 use Rattle.store_state.specs.declared.state.Holding.{Holding}
 use Rattle.store_state.specs.declared.state.Stay.TheVariants.{Writable, Arriving}
 use Rattle.store_acts.specs.Moving.{

@@ -34,13 +34,13 @@ use Rattle.std.proofs.Common.{
 use Rattle.std.specs.Prelude.{slice_get}
 use Rattle.std.specs.Option.{option_map, option_map_or}
 use Rattle.std.proofs.lemmas.Grind.{common_steps}
-use Rattle.dfs_base.specs.Lists.{changed_at}
-use Rattle.dfs_base.specs.Outcomes.{and_then, either}
-use Rattle.dfs_base.specs.declared.ids.Fid.{Fid}
-use Rattle.dfs_base.specs.declared.ids.HostId.{HostId}
-use Rattle.dfs_base.specs.declared.user.User.{User}
-use Rattle.dfs_calls.specs.declared.call.Call.{Call}
-use Rattle.dfs_calls.specs.declared.call.Call.TheVariants.{
+use Rattle.base_types.specs.Lists.{changed_at}
+use Rattle.base_types.specs.Outcomes.{and_then, either}
+use Rattle.base_types.specs.declared.ids.Fid.{Fid}
+use Rattle.base_types.specs.declared.ids.HostId.{HostId}
+use Rattle.base_types.specs.declared.user.User.{User}
+use Rattle.tree_calls.specs.declared.call.Call.{Call}
+use Rattle.tree_calls.specs.declared.call.Call.TheVariants.{
   NewFileset,
   Create,
   MakeDir,
@@ -61,21 +61,21 @@ use Rattle.dfs_calls.specs.declared.call.Call.TheVariants.{
   CloseFile,
   MoveFileset,
 }
-use Rattle.dfs_calls.specs.declared.reply.Refusal.{Refusal}
-use Rattle.dfs_filesets.specs.declared.fileset.Fileset.{Fileset}
-use Rattle.dfs_filesets.specs.Answers.{Answered, answered}
-use Rattle.dfs_filesets.specs.Checks.{unless, split_path}
-use Rattle.dfs_objects.specs.Changes.{anode_freed}
-use Rattle.dfs_objects.specs.Entries.{content_without_entry}
-use Rattle.dfs_filesets.specs.Removal.{has_entries, fid_of, remove_target, remove_answer}
-use Rattle.dfs_filesets.specs.Updates.{updated, changed}
-use Rattle.dfs_filesets.specs.Rows.{fileset_answer}
-use Rattle.dfs_filesets.specs.Walk.{found_at, object_at, entry_target}
-use Rattle.dfs_calls.specs.Rosters.{user_of}
-use Rattle.dfs_calls.specs.declared.place.Place.{Place}
-use Rattle.dfs_calls.specs.declared.reply.Refusal.TheVariants.{CrossFileset, Denied, ReadOnly, InUse, NotEmpty}
-use Rattle.dfs_tree.specs.declared.tree.Tree.{Tree}
-use Rattle.dfs_tree.specs.Answers.{
+use Rattle.tree_calls.specs.declared.reply.Refusal.{Refusal}
+use Rattle.tree_filesets.specs.declared.fileset.Fileset.{Fileset}
+use Rattle.tree_filesets.specs.Answers.{Answered, answered}
+use Rattle.tree_filesets.specs.Checks.{unless, split_path}
+use Rattle.tree_objects.specs.Changes.{anode_freed}
+use Rattle.tree_objects.specs.Entries.{content_without_entry}
+use Rattle.tree_filesets.specs.Removal.{has_entries, fid_of, remove_target, remove_answer}
+use Rattle.tree_filesets.specs.Updates.{updated, changed}
+use Rattle.tree_filesets.specs.Rows.{fileset_answer}
+use Rattle.tree_filesets.specs.Walk.{found_at, object_at, entry_target}
+use Rattle.tree_calls.specs.Rosters.{user_of}
+use Rattle.tree_calls.specs.declared.place.Place.{Place}
+use Rattle.tree_calls.specs.declared.reply.Refusal.TheVariants.{CrossFileset, Denied, ReadOnly, InUse, NotEmpty}
+use Rattle.tree_answers.specs.declared.tree.Tree.{Tree}
+use Rattle.tree_answers.specs.Answers.{
   for_user,
   with_answered,
   answer_at,
@@ -84,8 +84,8 @@ use Rattle.dfs_tree.specs.Answers.{
   answer_for as tree_answer_for,
   answer_to as tree_answer,
 }
-use Rattle.dfs_tree.specs.Finding.{fileset_place, move_place}
-use Rattle.dfs_tree.specs.Uses.{is_used}
+use Rattle.tree_answers.specs.Finding.{fileset_place, move_place}
+use Rattle.tree_answers.specs.Uses.{is_used}
 use Rattle.store_acts.specs.declared.act.Act.TheVariants.{Do}
 use Rattle.store_state.specs.declared.state.Holding.{Holding}
 use Rattle.store_state.specs.declared.state.StoreState.{StoreState}

@@ -1,18 +1,18 @@
 -- A fileset that comes about in a store and in a tree, and the room of one that has left.
 use Rattle.std.specs.Prelude.{◌≡◌, ◌⊎◌, ℕ, nat_le, Bool, true, false, List, length, Some, Ok}
 use Rattle.std.specs.List.{find, list_any}
-use Rattle.dfs_base.specs.declared.ids.ServerId.{ServerId}
-use Rattle.dfs_base.specs.declared.limits.TheConstants.{FILESETS_MAX}
-use Rattle.dfs_base.specs.declared.user.User.{User}
-use Rattle.dfs_calls.specs.declared.reply.Refusal.{Refusal}
-use Rattle.dfs_calls.specs.declared.reply.Reply.TheVariants.{Ok as Accepted}
-use Rattle.dfs_filesets.specs.declared.fileset.Fileset.{Fileset}
-use Rattle.dfs_filesets.specs.Founding.{new_fileset, cloned}
-use Rattle.dfs_tree.specs.declared.tree.Away.{Away}
-use Rattle.dfs_tree.specs.declared.tree.ServerRoom.{ServerRoom}
-use Rattle.dfs_tree.specs.declared.tree.Tree.{Tree}
-use Rattle.dfs_tree.specs.Finding.{fileset_named, is_taken, has_id, Answer as TreeAnswer, refuse as tree_refuse}
-use Rattle.dfs_tree.specs.Founding.{
+use Rattle.base_types.specs.declared.ids.ServerId.{ServerId}
+use Rattle.base_types.specs.declared.limits.TheConstants.{FILESETS_MAX}
+use Rattle.base_types.specs.declared.user.User.{User}
+use Rattle.tree_calls.specs.declared.reply.Refusal.{Refusal}
+use Rattle.tree_calls.specs.declared.reply.Reply.TheVariants.{Ok as Accepted}
+use Rattle.tree_filesets.specs.declared.fileset.Fileset.{Fileset}
+use Rattle.tree_filesets.specs.Founding.{new_fileset, cloned}
+use Rattle.tree_answers.specs.declared.tree.Away.{Away}
+use Rattle.tree_answers.specs.declared.tree.ServerRoom.{ServerRoom}
+use Rattle.tree_answers.specs.declared.tree.Tree.{Tree}
+use Rattle.tree_answers.specs.Finding.{fileset_named, is_taken, has_id, Answer as TreeAnswer, refuse as tree_refuse}
+use Rattle.tree_answers.specs.Founding.{
   room_of,
   count_at,
   promised_at,

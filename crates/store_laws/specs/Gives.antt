@@ -1,16 +1,16 @@
 -- What a host gives back of a file, and what it stores of it.
 use Rattle.std.specs.Prelude.{◌≡◌, ℕ, ◌-◌, true, List, [], length, map, Option, None}
-use Rattle.dfs_base.specs.Image.{byte_at}
-use Rattle.dfs_base.specs.declared.access.AccessEntry.{AccessEntry}
-use Rattle.dfs_base.specs.declared.ids.HostId.{HostId}
-use Rattle.dfs_base.specs.declared.span.Span.{Span}
-use Rattle.dfs_calls.specs.declared.part.Piece.{Piece}
-use Rattle.dfs_objects.specs.declared.content.Content.TheVariants.{File}
-use Rattle.dfs_objects.specs.declared.content.Unsaved.{Unsaved}
-use Rattle.dfs_objects.specs.declared.content.UnsavedLength.{UnsavedLength}
-use Rattle.dfs_objects.specs.Files.{bytes_over}
-use Rattle.dfs_objects.specs.Positions.{positions_rise}
-use Rattle.dfs_objects.specs.Stores.{content_stored, is_storable}
+use Rattle.base_types.specs.Image.{byte_at}
+use Rattle.base_types.specs.declared.access.AccessEntry.{AccessEntry}
+use Rattle.base_types.specs.declared.ids.HostId.{HostId}
+use Rattle.base_types.specs.declared.span.Span.{Span}
+use Rattle.tree_calls.specs.declared.part.Piece.{Piece}
+use Rattle.tree_objects.specs.declared.content.Content.TheVariants.{File}
+use Rattle.tree_objects.specs.declared.content.Unsaved.{Unsaved}
+use Rattle.tree_objects.specs.declared.content.UnsavedLength.{UnsavedLength}
+use Rattle.tree_objects.specs.Files.{bytes_over}
+use Rattle.tree_objects.specs.Positions.{positions_rise}
+use Rattle.tree_objects.specs.Stores.{content_stored, is_storable}
 use Rattle.store_state.specs.Giving.{content_given}
 use Rattle.store_acts.specs.Parts.{kept_bytes}
 

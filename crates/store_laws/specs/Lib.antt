@@ -2,3 +2,15 @@ pub mod Founds
 pub mod Gives
 pub mod Moves
 pub mod Rows
+pub mod TreeKeeping
+pub mod Idle
+pub mod Calls
+pub mod Exact
+pub mod KeptGives
+pub mod KeptMoves
+pub mod Acts
+pub mod Shape
+pub mod HistoryLaws
+pub mod MoveKeeping
+pub mod Happening
+pub mod MovedLaws

@@ -18,14 +18,14 @@ use Rattle.std.specs.Prelude.{
 }
 use Rattle.std.specs.List.{list_any, list_all}
 use Rattle.std.specs.Option.{option_map_or}
-use Rattle.dfs_base.specs.Lists.{changed_at}
-use Rattle.dfs_base.specs.declared.ids.ServerId.{ServerId}
-use Rattle.dfs_calls.specs.declared.reply.Reply.TheVariants.{Ok as Accepted}
-use Rattle.dfs_calls.specs.declared.ship.Mover.{Mover}
-use Rattle.dfs_objects.specs.declared.content.Anode.{Anode}
-use Rattle.dfs_filesets.specs.declared.fileset.Fileset.{Fileset}
-use Rattle.dfs_filesets.specs.Founding.{moved}
-use Rattle.dfs_filesets.specs.WellFormed.{is_at_rest}
+use Rattle.base_types.specs.Lists.{changed_at}
+use Rattle.base_types.specs.declared.ids.ServerId.{ServerId}
+use Rattle.tree_calls.specs.declared.reply.Reply.TheVariants.{Ok as Accepted}
+use Rattle.tree_calls.specs.declared.ship.Mover.{Mover}
+use Rattle.tree_objects.specs.declared.content.Anode.{Anode}
+use Rattle.tree_filesets.specs.declared.fileset.Fileset.{Fileset}
+use Rattle.tree_filesets.specs.Founding.{moved}
+use Rattle.tree_filesets.specs.WellFormed.{is_at_rest}
 use Rattle.store_state.specs.declared.state.Holding.{Holding}
 use Rattle.store_state.specs.declared.state.Stay.TheVariants.{Writable}
 use Rattle.store_state.specs.declared.state.StoreState.{StoreState}

@@ -2,10 +2,10 @@
 use Rattle.std.proofs.Common.{◌≡◌, ◌<◌, ℕ, refl, ap, ◌∙◌, arith}
 use Rattle.std.specs.Prelude.{bit_and}
 use Rattle.std.proofs.lemmas.Nat.{and_mask}
-use Rattle.dfs_calls.specs.declared.reply.Refusal.{Refusal}
-use Rattle.dfs_calls.specs.declared.reply.Refusal.TheVariants.{NoEntry, NotDir, IsDir, Exists, NotEmpty, Denied, TooBig, TooMany, NoRoom, ReadOnly, Locked, OpenConflict, InUse, Loop, NoFileset, CrossFileset, NotLocked, NotOpened, AlreadyLocked, AlreadyOpened, NotHome}
-use Rattle.dfs_calls.specs.declared.reply.Reply.TheVariants.{Refused}
-use Rattle.dfs_calls.specs.declared.ship.Record.{Record}
+use Rattle.tree_calls.specs.declared.reply.Refusal.{Refusal}
+use Rattle.tree_calls.specs.declared.reply.Refusal.TheVariants.{NoEntry, NotDir, IsDir, Exists, NotEmpty, Denied, TooBig, TooMany, NoRoom, ReadOnly, Locked, OpenConflict, InUse, Loop, NoFileset, CrossFileset, NotLocked, NotOpened, AlreadyLocked, AlreadyOpened, NotHome}
+use Rattle.tree_calls.specs.declared.reply.Reply.TheVariants.{Refused}
+use Rattle.tree_calls.specs.declared.ship.Record.{Record}
 use Rattle.store_state.specs.Laws.{told_right, RepliesAreKept}
 use Rattle.store_state.specs.Outcomes.{change_decided}
 use Rattle.store_state.specs.Replies.{kept_reply}

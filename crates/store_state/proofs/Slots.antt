@@ -5,7 +5,7 @@ use Rattle.std.specs.Option.{option_map}
 use Rattle.std.proofs.lemmas.Bool.Decides.{leb_tells}
 use Rattle.std.proofs.lemmas.Grind.{common_steps}
 use Rattle.std.proofs.lemmas.List.Sums.{prefix_len-le-length}
-use Rattle.dfs_base.specs.Lists.{changed_at}
+use Rattle.base_types.specs.Lists.{changed_at}
 use Rattle.store_state.specs.State.{is_used_so, slot_so, held_at}
 use Rattle.store_state.specs.declared.state.Holding.{Holding}
 

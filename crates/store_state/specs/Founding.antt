@@ -3,17 +3,17 @@ use Rattle.std.specs.Prelude.{ℕ, ◌+◌, ◌*◌, nat_lt, nat_le, if◌then�
 use Rattle.std.specs.Prelude.{slice_set, Option, Some, is_none, unwrap_or, Result, Ok, Err}
 use Rattle.std.specs.List.{list_any, position, sum_by}
 use Rattle.std.specs.Option.{option_map_or}
-use Rattle.dfs_base.specs.Outcomes.{and_then, either}
-use Rattle.dfs_base.specs.declared.ids.FilesetId.{FilesetId}
-use Rattle.dfs_base.specs.declared.limits.TheConstants.{FILESET_NUMBER_MAX}
-use Rattle.dfs_base.specs.declared.user.User.{User}
-use Rattle.dfs_calls.specs.declared.reply.Refusal.{Refusal}
-use Rattle.dfs_calls.specs.declared.reply.Refusal.TheVariants.{Exists, TooMany, NoRoom, NotHome, NoFileset}
-use Rattle.dfs_calls.specs.declared.reply.Reply.TheVariants.{Ok as Accepted}
-use Rattle.dfs_filesets.specs.declared.fileset.Fileset.{Fileset}
-use Rattle.dfs_filesets.specs.Checks.{unless}
-use Rattle.dfs_filesets.specs.Founding.{new_fileset, control_check, cloned}
-use Rattle.dfs_filesets.specs.Promises.{promise, new_promise, clone_promise}
+use Rattle.base_types.specs.Outcomes.{and_then, either}
+use Rattle.base_types.specs.declared.ids.FilesetId.{FilesetId}
+use Rattle.base_types.specs.declared.limits.TheConstants.{FILESET_NUMBER_MAX}
+use Rattle.base_types.specs.declared.user.User.{User}
+use Rattle.tree_calls.specs.declared.reply.Refusal.{Refusal}
+use Rattle.tree_calls.specs.declared.reply.Refusal.TheVariants.{Exists, TooMany, NoRoom, NotHome, NoFileset}
+use Rattle.tree_calls.specs.declared.reply.Reply.TheVariants.{Ok as Accepted}
+use Rattle.tree_filesets.specs.declared.fileset.Fileset.{Fileset}
+use Rattle.tree_filesets.specs.Checks.{unless}
+use Rattle.tree_filesets.specs.Founding.{new_fileset, control_check, cloned}
+use Rattle.tree_filesets.specs.Promises.{promise, new_promise, clone_promise}
 use Rattle.store_state.specs.declared.state.Stay.{Stay}
 use Rattle.store_state.specs.declared.state.Stay.TheVariants.{Writable, Clone}
 use Rattle.store_state.specs.declared.state.Holding.{Holding}

@@ -1,14 +1,14 @@
 -- What hosts give back of files.
 use Rattle.std.specs.Prelude.{ℕ, ◌+◌, ◌&&◌, max, if◌then◌else◌, List, [], ◌∷◌, length, slice_set, Option, unwrap_or}
-use Rattle.dfs_base.specs.declared.ids.Fid.{Fid}
-use Rattle.dfs_base.specs.declared.ids.HostId.{HostId}
-use Rattle.dfs_calls.specs.declared.part.Piece.{Piece}
-use Rattle.dfs_calls.specs.declared.reply.Reply.TheVariants.{Ok as Accepted}
-use Rattle.dfs_objects.specs.declared.content.Content.{Content}
-use Rattle.dfs_objects.specs.declared.content.Content.TheVariants.{Dir, File}
-use Rattle.dfs_objects.specs.Files.{resized}
-use Rattle.dfs_filesets.specs.Laws.{is_file_at}
-use Rattle.dfs_filesets.specs.Updates.{changed}
+use Rattle.base_types.specs.declared.ids.Fid.{Fid}
+use Rattle.base_types.specs.declared.ids.HostId.{HostId}
+use Rattle.tree_calls.specs.declared.part.Piece.{Piece}
+use Rattle.tree_calls.specs.declared.reply.Reply.TheVariants.{Ok as Accepted}
+use Rattle.tree_objects.specs.declared.content.Content.{Content}
+use Rattle.tree_objects.specs.declared.content.Content.TheVariants.{Dir, File}
+use Rattle.tree_objects.specs.Files.{resized}
+use Rattle.tree_filesets.specs.Laws.{is_file_at}
+use Rattle.tree_filesets.specs.Updates.{changed}
 use Rattle.store_state.specs.declared.state.Holding.{Holding}
 use Rattle.store_state.specs.declared.state.StoreState.{StoreState}
 use Rattle.store_state.specs.State.{is_writable, is_of, slot_so, with_held, with_record}

@@ -1,9 +1,9 @@
 -- What makes the record of a store believable.
 use Rattle.std.specs.Prelude.{◌≡◌, ◌<◌, ℕ}
-use Rattle.dfs_calls.specs.declared.reply.Refusal.{Refusal}
-use Rattle.dfs_calls.specs.declared.reply.Refusal.TheVariants.{Denied}
-use Rattle.dfs_calls.specs.declared.reply.Reply.TheVariants.{Ok as Accepted, Refused}
-use Rattle.dfs_calls.specs.declared.ship.Record.{Record}
+use Rattle.tree_calls.specs.declared.reply.Refusal.{Refusal}
+use Rattle.tree_calls.specs.declared.reply.Refusal.TheVariants.{Denied}
+use Rattle.tree_calls.specs.declared.reply.Reply.TheVariants.{Ok as Accepted, Refused}
+use Rattle.tree_calls.specs.declared.ship.Record.{Record}
 use Rattle.store_state.specs.Outcomes.{change_decided}
 use Rattle.store_state.specs.Replies.{kept_reply}
 

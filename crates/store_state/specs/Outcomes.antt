@@ -1,13 +1,13 @@
 -- What becomes of an act, and what a store replies to a call.
 use Rattle.std.specs.Prelude.{ℕ, nat_lt, true, false, if◌then◌else◌, Option, Some, None}
 use Rattle.std.specs.Option.{option_map_or}
-use Rattle.dfs_base.specs.declared.ids.FilesetId.{FilesetId}
-use Rattle.dfs_base.specs.declared.ids.HostId.{HostId}
-use Rattle.dfs_calls.specs.declared.reply.Refusal.{Refusal}
-use Rattle.dfs_calls.specs.declared.reply.Refusal.TheVariants.{NoFileset}
-use Rattle.dfs_calls.specs.declared.reply.Reply.{Reply}
-use Rattle.dfs_calls.specs.declared.reply.Reply.TheVariants.{Ok as Accepted, Refused}
-use Rattle.dfs_calls.specs.declared.ship.Record.{Record}
+use Rattle.base_types.specs.declared.ids.FilesetId.{FilesetId}
+use Rattle.base_types.specs.declared.ids.HostId.{HostId}
+use Rattle.tree_calls.specs.declared.reply.Refusal.{Refusal}
+use Rattle.tree_calls.specs.declared.reply.Refusal.TheVariants.{NoFileset}
+use Rattle.tree_calls.specs.declared.reply.Reply.{Reply}
+use Rattle.tree_calls.specs.declared.reply.Reply.TheVariants.{Ok as Accepted, Refused}
+use Rattle.tree_calls.specs.declared.ship.Record.{Record}
 use Rattle.store_state.specs.declared.done.Done.{Done}
 use Rattle.store_state.specs.declared.state.StoreState.{StoreState}
 use Rattle.store_state.specs.declared.numbers.Noted.{Noted}

@@ -1,8 +1,8 @@
 -- How the last reply is kept: by the code of its refusal, 0 for done, and the right that a denial tells.
 use Rattle.std.specs.Prelude.{ℕ, ◌-◌, ◌==◌, bit_and, if◌then◌else◌, List, [], ◌∷◌, slice_get}
 use Rattle.std.specs.Option.{option_map_or}
-use Rattle.dfs_calls.specs.declared.reply.Refusal.{Refusal}
-use Rattle.dfs_calls.specs.declared.reply.Refusal.TheVariants.{
+use Rattle.tree_calls.specs.declared.reply.Refusal.{Refusal}
+use Rattle.tree_calls.specs.declared.reply.Refusal.TheVariants.{
   NoEntry,
   NotDir,
   IsDir,
@@ -25,9 +25,9 @@ use Rattle.dfs_calls.specs.declared.reply.Refusal.TheVariants.{
   AlreadyOpened,
   NotHome,
 }
-use Rattle.dfs_calls.specs.declared.reply.Reply.{Reply}
-use Rattle.dfs_calls.specs.declared.reply.Reply.TheVariants.{Ok as ReplyOk, Refused}
-use Rattle.dfs_calls.specs.declared.ship.Record.{Record}
+use Rattle.tree_calls.specs.declared.reply.Reply.{Reply}
+use Rattle.tree_calls.specs.declared.reply.Reply.TheVariants.{Ok as ReplyOk, Refused}
+use Rattle.tree_calls.specs.declared.ship.Record.{Record}
 
 -- the code of a refusal: its place among all, from 1
 abbrev pub refusal_code : Refusal → ℕ

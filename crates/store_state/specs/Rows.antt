@@ -1,17 +1,17 @@
 -- What a store replies to each call, on what it keeps, while nothing is locked or open.
 use Rattle.std.specs.Prelude.{ℕ, ◌+◌, ◌==◌, nat_lt, Bool, false, ◌&&◌, not, List, Option, Some, None, Result, Ok, Err}
 use Rattle.std.specs.Option.{option_map_or, option_map}
-use Rattle.dfs_base.specs.Name.{same_name}
-use Rattle.dfs_base.specs.Outcomes.{and_then, either}
-use Rattle.dfs_base.specs.declared.ids.Fid.{Fid}
-use Rattle.dfs_base.specs.declared.ids.FilesetId.{FilesetId}
-use Rattle.dfs_base.specs.declared.ids.HostId.{HostId}
-use Rattle.dfs_base.specs.declared.ids.OpenKind.{OpenKind}
-use Rattle.dfs_base.specs.declared.limits.TheConstants.{FILE_BYTES_MAX}
-use Rattle.dfs_base.specs.declared.user.User.{User}
-use Rattle.dfs_calls.specs.Rosters.{user_of}
-use Rattle.dfs_calls.specs.declared.call.Call.{Call}
-use Rattle.dfs_calls.specs.declared.call.Call.TheVariants.{
+use Rattle.base_types.specs.Name.{same_name}
+use Rattle.base_types.specs.Outcomes.{and_then, either}
+use Rattle.base_types.specs.declared.ids.Fid.{Fid}
+use Rattle.base_types.specs.declared.ids.FilesetId.{FilesetId}
+use Rattle.base_types.specs.declared.ids.HostId.{HostId}
+use Rattle.base_types.specs.declared.ids.OpenKind.{OpenKind}
+use Rattle.base_types.specs.declared.limits.TheConstants.{FILE_BYTES_MAX}
+use Rattle.base_types.specs.declared.user.User.{User}
+use Rattle.tree_calls.specs.Rosters.{user_of}
+use Rattle.tree_calls.specs.declared.call.Call.{Call}
+use Rattle.tree_calls.specs.declared.call.Call.TheVariants.{
   NewFileset,
   Create,
   MakeDir,
@@ -32,9 +32,9 @@ use Rattle.dfs_calls.specs.declared.call.Call.TheVariants.{
   CloseFile,
   MoveFileset,
 }
-use Rattle.dfs_calls.specs.declared.place.Place.{Place}
-use Rattle.dfs_calls.specs.declared.reply.Refusal.{Refusal}
-use Rattle.dfs_calls.specs.declared.reply.Refusal.TheVariants.{
+use Rattle.tree_calls.specs.declared.place.Place.{Place}
+use Rattle.tree_calls.specs.declared.reply.Refusal.{Refusal}
+use Rattle.tree_calls.specs.declared.reply.Refusal.TheVariants.{
   Denied,
   NoFileset,
   CrossFileset,
@@ -42,12 +42,12 @@ use Rattle.dfs_calls.specs.declared.reply.Refusal.TheVariants.{
   NotLocked,
   NotOpened,
 }
-use Rattle.dfs_calls.specs.declared.reply.Reply.{Reply}
-use Rattle.dfs_calls.specs.declared.reply.Reply.TheVariants.{Ok as Accepted, Refused}
-use Rattle.dfs_filesets.specs.declared.fileset.Fileset.{Fileset}
-use Rattle.dfs_filesets.specs.Checks.{unless}
-use Rattle.dfs_filesets.specs.Rows.{fileset_answer}
-use Rattle.dfs_filesets.specs.Uses.{lock_target, open_target}
+use Rattle.tree_calls.specs.declared.reply.Reply.{Reply}
+use Rattle.tree_calls.specs.declared.reply.Reply.TheVariants.{Ok as Accepted, Refused}
+use Rattle.tree_filesets.specs.declared.fileset.Fileset.{Fileset}
+use Rattle.tree_filesets.specs.Checks.{unless}
+use Rattle.tree_filesets.specs.Rows.{fileset_answer}
+use Rattle.tree_filesets.specs.Uses.{lock_target, open_target}
 use Rattle.store_state.specs.declared.state.Holding.{Holding}
 use Rattle.store_state.specs.declared.state.StoreState.{StoreState}
 use Rattle.store_state.specs.State.{is_here_as, slot_so, held_at, held_so, with_held}

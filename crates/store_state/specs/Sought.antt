@@ -1,8 +1,8 @@
 -- What is sought among the filesets of a table.
 use Rattle.std.specs.Prelude.{ℕ, ◌==◌, nat_le, Bool, false, ◌&&◌, ◌||◌, not, List}
-use Rattle.dfs_base.specs.Name.{same_name}
-use Rattle.dfs_base.specs.declared.ids.FilesetId.{FilesetId}
-use Rattle.dfs_base.specs.declared.ids.ServerId.{ServerId}
+use Rattle.base_types.specs.Name.{same_name}
+use Rattle.base_types.specs.declared.ids.FilesetId.{FilesetId}
+use Rattle.base_types.specs.declared.ids.ServerId.{ServerId}
 use Rattle.store_state.specs.declared.finding.Sought.{Sought}
 use Rattle.store_state.specs.declared.finding.Sought.TheVariants.{
   Of,

@@ -3,14 +3,14 @@ use Rattle.std.specs.Prelude.{ℕ, ◌+◌, ◌==◌, Bool, true, false, ◌&&�
 use Rattle.std.specs.Prelude.{List, length, map, replicate, slice_get, Option, Some, None, unwrap_or}
 use Rattle.std.specs.List.{position}
 use Rattle.std.specs.Option.{option_map, option_and_then}
-use Rattle.dfs_base.specs.Lists.{changed_at}
-use Rattle.dfs_base.specs.Name.{same_name}
-use Rattle.dfs_base.specs.declared.ids.FilesetId.{FilesetId}
-use Rattle.dfs_base.specs.declared.ids.HostId.{HostId}
-use Rattle.dfs_base.specs.declared.ids.ServerId.{ServerId}
-use Rattle.dfs_base.specs.declared.limits.TheConstants.{SERVERS_MAX, HOSTS_MAX, FILESETS_MAX}
-use Rattle.dfs_calls.specs.declared.roster.Roster.{Roster}
-use Rattle.dfs_calls.specs.declared.ship.Record.{Record}
+use Rattle.base_types.specs.Lists.{changed_at}
+use Rattle.base_types.specs.Name.{same_name}
+use Rattle.base_types.specs.declared.ids.FilesetId.{FilesetId}
+use Rattle.base_types.specs.declared.ids.HostId.{HostId}
+use Rattle.base_types.specs.declared.ids.ServerId.{ServerId}
+use Rattle.base_types.specs.declared.limits.TheConstants.{SERVERS_MAX, HOSTS_MAX, FILESETS_MAX}
+use Rattle.tree_calls.specs.declared.roster.Roster.{Roster}
+use Rattle.tree_calls.specs.declared.ship.Record.{Record}
 use Rattle.store_state.specs.declared.state.HostState.TheVariants.{Unknown}
 use Rattle.store_state.specs.declared.state.Stay.{Stay}
 use Rattle.store_state.specs.declared.state.Stay.TheVariants.{Writable, Clone, Leaving, Arriving, Gone}

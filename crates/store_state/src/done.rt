@@ -1,8 +1,8 @@
 ghost use Rattle.std.specs.Prelude.{◌≡◌};
 ghost use Rattle.store_state.specs.Outcomes.{now_done, not_fresh};
 
-use dfs_base::{NoMemory, Plain};
-use dfs_calls::Reply;
+use base_types::{NoMemory, Plain};
+use tree_calls::Reply;
 
 /// What became of an act.
 #[derive(Drop, PartialEq)]

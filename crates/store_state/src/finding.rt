@@ -7,7 +7,7 @@ ghost use Rattle.store_state.specs.Sought.{is_sought};
 ghost use Rattle.store_state.specs.State.{is_used_so, slot_so, held_at, held_so};
 
 use crate::state::Holding;
-use dfs_base::{FilesetId, Items, Name, ServerId};
+use base_types::{FilesetId, Items, Name, ServerId};
 
 /// A part of a fileset that comes from a server, under a ship number of that server's.
 #[derive(Clone, Copy)]

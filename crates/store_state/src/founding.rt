@@ -17,8 +17,8 @@ ghost use Rattle.std.specs.Prelude.{
   OnErr,
   MatchResult,
 };
-ghost use Rattle.dfs_base.specs.declared.limits.TheConstants.{FILESET_NUMBER_MAX};
-ghost use Rattle.dfs_filesets.specs.Promises.{new_promise};
+ghost use Rattle.base_types.specs.declared.limits.TheConstants.{FILESET_NUMBER_MAX};
+ghost use Rattle.tree_filesets.specs.Promises.{new_promise};
 ghost use Rattle.store_state.specs.Founding.{
   held_promise,
   promised,
@@ -36,9 +36,9 @@ ghost use Rattle.store_state.specs.Founding.{
 use crate::finding::{Sought, free_slot, has_some, held};
 use crate::numbers::no_records;
 use crate::state::{Holding, Stay, StoreState};
-use dfs_base::{FILESET_NUMBER_MAX, FilesetId, Items, Name, NoMemory, User};
-use dfs_calls::{Refusal, Reply};
-use dfs_filesets::{Fileset, OBJECT_BLOCKS};
+use base_types::{FILESET_NUMBER_MAX, FilesetId, Items, Name, NoMemory, User};
+use tree_calls::{Refusal, Reply};
+use tree_filesets::{Fileset, OBJECT_BLOCKS};
 
 // The blocks that a slot is promised, at most the last number of 64 bits.
 fn held_promise(slot: &Option<Holding>) -> u64

@@ -1,23 +1,23 @@
 //! What hosts give back of files.
 ghost use Rattle.std.specs.Prelude.{◌≡◌, false, not, IfOk, OnOk, OnErr};
 ghost use Rattle.std.specs.Option.{option_map, option_map_or};
-ghost use Rattle.dfs_objects.specs.Objects.{is_dir};
+ghost use Rattle.tree_objects.specs.Objects.{is_dir};
 ghost use Rattle.store_state.specs.State.{is_of, slot_so, with_held};
-ghost use Rattle.dfs_filesets.specs.Laws.{is_file_at};
-ghost use Rattle.dfs_filesets.specs.Updates.{changed};
-ghost use Rattle.dfs_filesets.specs.Walk.{object_at, unique_at};
-ghost use Rattle.dfs_objects.specs.Changes.{anode_changed};
+ghost use Rattle.tree_filesets.specs.Laws.{is_file_at};
+ghost use Rattle.tree_filesets.specs.Updates.{changed};
+ghost use Rattle.tree_filesets.specs.Walk.{object_at, unique_at};
+ghost use Rattle.tree_objects.specs.Changes.{anode_changed};
 ghost use Rattle.store_state.specs.Giving.{put_bytes, put_pieces, lengthened, content_given, held_given, give_outcome};
 
 use crate::done::Done;
 use crate::finding::{Sought, slot_of};
 use crate::numbers::Noted;
 use crate::state::{Holding, StoreState};
-use dfs_base::{Fid, HostId, Items, NoMemory};
-use dfs_calls::{Piece, Reply};
-use dfs_filesets::{Fileset, object_at};
-use dfs_objects::{Anode, Content};
+use base_types::{Fid, HostId, Items, NoMemory};
 use std::mem;
+use tree_calls::{Piece, Reply};
+use tree_filesets::{Fileset, object_at};
+use tree_objects::{Anode, Content};
 
 // Puts bytes over those of a file from a position on; none behind its end.
 fn put_bytes(kept: &mut Items<u8>, at: u32, bytes: &[u8])
@@ -72,7 +72,7 @@ fn give_anode(anode: &mut Anode, pieces: &[Piece], given: Option<u32>) -> Result
     Ok(())
 }
 
-#[tactic(auto, using(dfs_base::proofs::ChangedLists::changes), unfolding(dfs_filesets::specs::Updates::updated))]
+#[tactic(auto, using(base_types::proofs::ChangedLists::changes), unfolding(tree_filesets::specs::Updates::updated))]
 fn give_fileset(
     fileset: &mut Fileset,
     anode: u32,
@@ -134,7 +134,7 @@ fn give_at(
 
 impl StoreState {
     // Gives to the file that a fid names.
-    #[tactic(auto, using(dfs_base::proofs::ChangedLists::changes))]
+    #[tactic(auto, using(base_types::proofs::ChangedLists::changes))]
     fn give_to(&mut self, fid: Fid, pieces: &[Piece], given: Option<u32>) -> Result<(), NoMemory>
         ensures ok { OnOk result (self.new
             ≡ with_held self.old (slot_so (is_of fid.fileset) self.old.slots) (held_given fid pieces.now given)) }

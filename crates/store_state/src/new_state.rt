@@ -1,15 +1,15 @@
 //! A store before its first act.
 ghost use Rattle.std.specs.Prelude.{◌≡◌, ◌+◌, replicate, None, IfOk};
-ghost use Rattle.dfs_base.specs.declared.limits.TheConstants.{HOSTS_MAX, SERVERS_MAX, FILESETS_MAX};
+ghost use Rattle.base_types.specs.declared.limits.TheConstants.{HOSTS_MAX, SERVERS_MAX, FILESETS_MAX};
 ghost use Rattle.store_state.specs.Capacity.{capacity_of};
 ghost use Rattle.store_state.specs.State.{new_state, no_ship};
 ghost use Rattle.store_state.specs.declared.state.HostState.TheVariants.{Unknown};
 
 use crate::numbers::no_records;
 use crate::state::{Holding, HostState, StoreState, TakenShip};
-use dfs_base::{FILESETS_MAX, HOSTS_MAX, Items, NoMemory, Plain, SERVERS_MAX, ServerId};
-use dfs_calls::Roster;
+use base_types::{FILESETS_MAX, HOSTS_MAX, Items, NoMemory, Plain, SERVERS_MAX, ServerId};
 use std::alloc::Global;
+use tree_calls::Roster;
 
 /// Where no ship was taken.
 pub const NO_SHIP: TakenShip = TakenShip { ship: 0, code: 0 };

@@ -1,7 +1,7 @@
 //! What is kept of hosts' requests.
 ghost use Rattle.std.specs.Prelude.{◌≡◌, map, IfOk};
 ghost use Rattle.std.specs.Option.{option_copied, option_map};
-ghost use Rattle.dfs_base.specs.Lists.{changed_at};
+ghost use Rattle.base_types.specs.Lists.{changed_at};
 ghost use Rattle.store_state.specs.Outcomes.{noted_by, decided_by, decided_before, applied_before};
 ghost use Rattle.store_state.specs.State.{
   no_records,
@@ -16,9 +16,9 @@ use crate::done::Done;
 use crate::finding::{Sought, held, slot_of};
 use crate::replies::{kept_reply, reply_code, reply_right};
 use crate::state::{Holding, StoreState};
-use dfs_base::{FilesetId, HOSTS_MAX, HostId, Items, NoMemory};
-use dfs_calls::{Record, Refusal, Reply};
+use base_types::{FilesetId, HOSTS_MAX, HostId, Items, NoMemory};
 use std::alloc::Global;
+use tree_calls::{Record, Refusal, Reply};
 
 /// Where nothing was requested.
 pub const NO_RECORD: Record = Record {
@@ -79,7 +79,7 @@ fn note(kept: &mut Record, noted: &Noted)
 }
 
 /// Notes something of a host's requests.
-#[tactic(auto, using(dfs_base::proofs::ChangedLists::changes))]
+#[tactic(auto, using(base_types::proofs::ChangedLists::changes))]
 pub fn note_in(records: &mut Items<Record>, host: HostId, noted: &Noted)
     ensures { records.new ≡ changed_at records.old host.0 (noted_by noted.now) }
 {
@@ -159,7 +159,7 @@ impl StoreState {
     }
 
     /// Notes something of a host's requests under an id.
-    #[tactic(auto, using(dfs_base::proofs::ChangedLists::changes))]
+    #[tactic(auto, using(base_types::proofs::ChangedLists::changes))]
     pub fn note(&mut self, id: FilesetId, host: HostId, noted: &Noted)
         ensures { self.new ≡ with_record self.old id host (noted_by noted.now) }
     {

@@ -10,8 +10,8 @@ ghost use Rattle.store_state.specs.Replies.{
   kept_reply,
 };
 
-use dfs_base::Rights;
-use dfs_calls::{Record, Refusal, Reply};
+use base_types::Rights;
+use tree_calls::{Record, Refusal, Reply};
 
 /// The code of a reply to a change: its refusal's, or 0.
 pub fn reply_code(reply: &Reply) -> u8

@@ -20,13 +20,13 @@ ghost use Rattle.store_state.specs.Rows.{
   numbered_id,
   found_named,
 };
-ghost use Rattle.dfs_base.specs.declared.ids.HostId.{HostId};
+ghost use Rattle.base_types.specs.declared.ids.HostId.{HostId};
 
 use crate::finding::{Sought, held, slot_of};
 use crate::state::{Holding, StoreState};
-use dfs_base::{FILE_BYTES_MAX, Fid, FilesetId, HostId, Name, NoMemory, OpenKind, Rights, User};
-use dfs_calls::{Call, Place, Refusal, Reply};
-use dfs_filesets::{Fileset, InUse};
+use base_types::{FILE_BYTES_MAX, Fid, FilesetId, HostId, Name, NoMemory, OpenKind, Rights, User};
+use tree_calls::{Call, Place, Refusal, Reply};
+use tree_filesets::{Fileset, InUse};
 
 // Nothing is locked or open.
 struct NothingUsed;
@@ -85,7 +85,7 @@ impl StoreState {
     }
 
     // The fileset of a name answers a call.
-    #[tactic(auto, using(dfs_base::proofs::ChangedLists::changes), unfolding(crate::specs::Rows::named_row))]
+    #[tactic(auto, using(base_types::proofs::ChangedLists::changes), unfolding(crate::specs::Rows::named_row))]
     fn named_row(
         &mut self,
         name: &Name,

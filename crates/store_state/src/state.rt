@@ -2,9 +2,9 @@ ghost use Rattle.std.specs.Prelude.{◌≡◌};
 ghost use Rattle.store_state.specs.State.{is_here, is_writable, is_leaving, is_arriving, is_gone};
 ghost use Rattle.store_state.specs.Sought.{is_due};
 
-use dfs_base::{Items, NoMemory, Plain, ServerId};
-use dfs_calls::{Record, Roster};
-use dfs_filesets::Fileset;
+use base_types::{Items, NoMemory, Plain, ServerId};
+use tree_calls::{Record, Roster};
+use tree_filesets::Fileset;
 
 /// What a server knows of a host.
 #[derive(Clone, Copy, Debug, PartialEq)]

@@ -3,18 +3,18 @@
 #![tactic(auto)]
 
 ghost use Rattle.std.specs.Prelude.{IfOk, OnOk};
-ghost use Rattle.dfs_store.specs.MapStores.{map_view};
-ghost use Rattle.store_rows.specs.Standing.{Stands};
-ghost use Rattle.store_rows.specs.Worlds.{BothStand};
+ghost use Rattle.store_memory.specs.MapStores.{map_view};
+ghost use Rattle.store_test_rows.specs.Standing.{Stands};
+ghost use Rattle.store_test_rows.specs.Worlds.{BothStand};
 
 use anyhow::Result;
-use dfs_base::ServerId;
-use dfs_calls::Roster;
-use dfs_store::MapStore;
+use base_types::ServerId;
 use std::alloc::Global;
 use std::io;
-use store_rows::{Tried, World, roster};
-use table_words::{Text, Words};
+use store_memory::MapStore;
+use store_test_rows::{Tried, World, roster};
+use tree_calls::Roster;
+use tree_test_words::{Text, Words};
 
 // The servers' capacities: room for many filesets, and for one of 64 objects and one of 4.
 const CAPACITIES: [u32; 2] = [65_536, 4_624];

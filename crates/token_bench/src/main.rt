@@ -6,14 +6,14 @@
 
 ghost use Rattle.std.specs.Prelude.{◌≤◌, ◌<◌, ◌^◌, IfSome};
 
-use dfs_base::{Fid, FilesetId, HostId, Items, NoMemory, ServerId};
+use base_types::{Fid, FilesetId, HostId, Items, NoMemory, ServerId};
 use std::alloc::Global;
 use std::rt::Env;
 use std::time::{Clock, Instant};
 use std::{env, io};
-use tok_manager::{Asked, TokenManager, Want};
-use tok_table::TokenTable;
-use tok_types::{Kind, Need, TokenId, covers};
+use token_manager::{Asked, TokenManager, Want};
+use token_table::TokenTable;
+use token_types::{Kind, Need, TokenId, covers};
 
 // How often each act is done.
 const ROUNDS: u64 = 1_000;

@@ -3,10 +3,10 @@
 use crate::reading::Words;
 use crate::telling::yes_or_no;
 use anyhow::Result;
-use dfs_base::{Fid, FilesetId, HostId, NoMemory, OpenKind, Plain, ServerId, Span};
+use base_types::{Fid, FilesetId, HostId, NoMemory, OpenKind, Plain, ServerId, Span};
 use std::alloc::Global;
-use tok_ranges::SpanSet;
-use tok_types::{Kind, Need, Token, TokenId, conflicts, covers, wants_conflict};
+use token_ranges::SpanSet;
+use token_types::{Kind, Need, Token, TokenId, conflicts, covers, wants_conflict};
 
 const FILE: Fid = Fid {
     fileset: FilesetId(65_537),

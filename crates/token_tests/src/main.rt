@@ -47,15 +47,15 @@ fn judge_anew(rt: &(impl Print + AllocGlobal), lines: &str) -> Result<u64> {
 }
 
 fn main(rt: HostRuntime) -> Result<()> {
-    tok_table::next_tokens_law();
-    tok_table::one_number_law();
-    tok_notes::marks_law();
-    tok_manager::revoke_law();
-    tok_manager::wait_law();
-    tok_manager::wanted_law();
-    tok_manager::peace_law();
-    tok_manager::ready_law();
-    tok_manager::admit_law();
+    token_table::next_tokens_law();
+    token_table::one_number_law();
+    token_table::marks_law();
+    token_manager::revoke_law();
+    token_manager::wait_law();
+    token_manager::wanted_law();
+    token_manager::peace_law();
+    token_manager::ready_law();
+    token_manager::admit_law();
     let table = io::read_to_string(rt.alloc(), rt.reader())?;
     let mut rows = 0u64;
     for lines in table.as_str().split("\nnew\n") {

@@ -6,9 +6,9 @@ use crate::telling::{
     asked_text, ids_text, number_or_none, ready_text, wanted_text, wants_text, yes_or_no,
 };
 use anyhow::{Result, bail};
-use dfs_base::{NEEDS_MAX, Plain};
+use base_types::{NEEDS_MAX, Plain};
 use std::alloc::Global;
-use tok_manager::{TokenManager, Want};
+use token_manager::{TokenManager, Want};
 
 /// The answer to a step, whose row has this number: it is the number of its want, where it asks one.
 pub fn manager_text(

@@ -1,9 +1,9 @@
 //! What the words of a row say.
 
 use anyhow::{Context, Result, bail};
-use dfs_base::{FILE_BYTES_MAX, Fid, FilesetId, HostId, Items, OpenKind, ServerId, Span};
+use base_types::{FILE_BYTES_MAX, Fid, FilesetId, HostId, Items, OpenKind, ServerId, Span};
 use std::alloc::Global;
-use tok_types::{Kind, Need, Token, TokenId};
+use token_types::{Kind, Need, Token, TokenId};
 
 // Needs, or tokens, of one row, at most.
 const LIST_MAX: usize = 8;

@@ -1,15 +1,15 @@
 //! The steps of a table of tokens.
 
 ghost use Rattle.std.specs.Prelude.{◌≡◌, ◌+◌, ◌<◌, ◌^◌, false, IsTrue, length};
-ghost use Rattle.tok_table.specs.Tables.{has_id, is_past};
+ghost use Rattle.token_table.specs.Tables.{has_id, is_past};
 
 use crate::reading::Words;
 use crate::telling::{ids_text, token_or_none, token_text, yes_or_no};
 use anyhow::{Result, bail};
-use dfs_base::{NEEDS_MAX, Plain};
+use base_types::{NEEDS_MAX, Plain};
 use std::alloc::Global;
-use tok_table::TokenTable;
-use tok_types::{Need, TokenId};
+use token_table::TokenTable;
+use token_types::{Need, TokenId};
 
 /// The answer to a row `table ..`.
 pub fn table_text(alloc: Global, table: &mut TokenTable, words: &mut Words) -> Result<String> {

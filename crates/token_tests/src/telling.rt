@@ -1,10 +1,10 @@
 //! Answers as text.
 
 use anyhow::Result;
-use dfs_base::{Fid, Items, OpenKind, Span};
+use base_types::{Fid, Items, OpenKind, Span};
 use std::alloc::Global;
-use tok_manager::{Asked, Ready, Want, Wanted};
-use tok_types::{Kind, Token, TokenId};
+use token_manager::{Asked, Ready, Want, Wanted};
+use token_types::{Kind, Token, TokenId};
 
 /// yes or no.
 pub fn yes_or_no(alloc: Global, answer: bool) -> Result<String> {

@@ -5,11 +5,11 @@ use crate::managing::manager_text;
 use crate::reading::Words;
 use crate::tabling::table_text;
 use anyhow::Result;
-use dfs_base::ServerId;
+use base_types::ServerId;
 use std::alloc::Global;
-use tok_manager::TokenManager;
-use tok_ranges::SpanSet;
-use tok_table::TokenTable;
+use token_manager::TokenManager;
+use token_ranges::SpanSet;
+use token_table::TokenTable;
 
 /// A set of positions, a table and a manager, and how many rows there were.
 #[derive(Drop)]

@@ -2,29 +2,29 @@
 use Rattle.std.proofs.Common.{◌≡◌, ℕ, ◌+◌, ◌-◌, ◌==◌, nat_lt, nat_le, min, Bool, true, false, ◌&&◌, List, [], ◌∷◌, length, Option, Some, None, Ok, refl, sym, ap, ◌∙◌, rules}
 use Rattle.std.specs.Prelude.{if◌then◌else◌, unwrap_or}
 use Rattle.std.specs.Option.{option_map, option_map_or}
-use Rattle.dfs_base.specs.Image.{byte_at}
-use Rattle.dfs_base.specs.Spans.{in_spans}
-use Rattle.dfs_base.specs.declared.access.AccessEntry.{AccessEntry}
-use Rattle.dfs_base.specs.declared.ids.HostId.{HostId}
-use Rattle.dfs_base.specs.declared.span.Span.{Span}
-use Rattle.dfs_calls.specs.declared.part.DirEntry.{DirEntry}
-use Rattle.dfs_calls.specs.declared.place.Which.{Which}
-use Rattle.dfs_calls.specs.declared.place.Which.TheVariants.{Own as OwnList, Files, Dirs}
-use Rattle.dfs_objects.specs.declared.content.Content.{Content}
-use Rattle.dfs_objects.specs.declared.content.Content.TheVariants.{Dir, File}
-use Rattle.dfs_objects.specs.declared.content.Unsaved.{Unsaved}
-use Rattle.dfs_objects.specs.declared.content.UnsavedLength.{UnsavedLength}
-use Rattle.dfs_objects.specs.Changes.{content_written, content_truncated, content_forgotten, length_after, length_forgotten}
-use Rattle.dfs_objects.specs.Entries.{content_with_entry, content_without_entry}
-use Rattle.dfs_objects.specs.Files.{present_length, present_bytes, unsaved_at}
-use Rattle.dfs_objects.specs.Objects.{is_dir, told_length, access_of, content_with_list}
-use Rattle.dfs_objects.specs.Shown.{Shown, shown, present_byte, shown_written, shown_stored, shown_forgotten}
-use Rattle.dfs_objects.specs.Sound.{is_sound}
-use Rattle.dfs_objects.specs.Spans.{whole}
-use Rattle.dfs_objects.specs.Stores.{length_left, content_stored, content_synced, own_length}
-use Rattle.dfs_objects.proofs.Lawful.{write_shows, truncate_shows, store_shows, forget_shows}
-use Rattle.dfs_objects.proofs.Observed.{over_length, length_resized}
-use Rattle.dfs_tree.proofs.Places.{found_passes}
+use Rattle.base_types.specs.Image.{byte_at}
+use Rattle.base_types.specs.Spans.{in_spans}
+use Rattle.base_types.specs.declared.access.AccessEntry.{AccessEntry}
+use Rattle.base_types.specs.declared.ids.HostId.{HostId}
+use Rattle.base_types.specs.declared.span.Span.{Span}
+use Rattle.tree_calls.specs.declared.part.DirEntry.{DirEntry}
+use Rattle.tree_calls.specs.declared.place.Which.{Which}
+use Rattle.tree_calls.specs.declared.place.Which.TheVariants.{Own as OwnList, Files, Dirs}
+use Rattle.tree_objects.specs.declared.content.Content.{Content}
+use Rattle.tree_objects.specs.declared.content.Content.TheVariants.{Dir, File}
+use Rattle.tree_objects.specs.declared.content.Unsaved.{Unsaved}
+use Rattle.tree_objects.specs.declared.content.UnsavedLength.{UnsavedLength}
+use Rattle.tree_objects.specs.Changes.{content_written, content_truncated, content_forgotten, length_after, length_forgotten}
+use Rattle.tree_objects.specs.Entries.{content_with_entry, content_without_entry}
+use Rattle.tree_objects.specs.Files.{present_length, present_bytes, unsaved_at}
+use Rattle.tree_objects.specs.Objects.{is_dir, told_length, access_of, content_with_list}
+use Rattle.tree_objects.specs.Shown.{Shown, shown, present_byte, shown_written, shown_stored, shown_forgotten}
+use Rattle.tree_objects.specs.Sound.{is_sound}
+use Rattle.tree_objects.specs.Spans.{whole}
+use Rattle.tree_objects.specs.Stores.{length_left, content_stored, content_synced, own_length}
+use Rattle.tree_objects.proofs.Lawful.{write_shows, truncate_shows, store_shows, forget_shows}
+use Rattle.tree_objects.proofs.Observed.{over_length, length_resized}
+use Rattle.tree_answers.proofs.Places.{found_passes}
 use Rattle.tree_laws.specs.Parts.{Part, Seen, Cell, present, settled, written_byte, written_length, size_cell, cell_of}
 use Rattle.tree_laws.specs.Parts.Part.{ByteAt, Size, Traits, Entries}
 use Rattle.tree_laws.specs.Fates.{without, byte_written, byte_stored, size_written, size_left, size_stored, own_size, after_fate, write_fate}

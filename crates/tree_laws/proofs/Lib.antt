@@ -7,3 +7,10 @@ pub mod Stores
 pub mod Uniques
 pub mod Promised
 pub mod Writes
+pub mod Labels
+pub mod Agreeing
+pub mod Counting
+pub mod Counts
+pub mod Reached
+pub mod Lost
+pub mod LostAt

@@ -3,20 +3,20 @@ use Rattle.std.proofs.Common.{◌≡◌, ◌≢◌, ◌≤◌, ℕ, ◌==◌, Bo
 use Rattle.std.specs.Prelude.{if◌then◌else◌}
 use Rattle.std.specs.Option.{option_map}
 use Rattle.std.proofs.lemmas.Bool.Decides.{eqb_tells}
-use Rattle.dfs_base.specs.declared.ids.Fid.{Fid}
-use Rattle.dfs_calls.specs.declared.part.DirEntry.{DirEntry}
-use Rattle.dfs_calls.specs.declared.reply.Refusal.{Refusal}
-use Rattle.dfs_objects.specs.declared.content.Content.{Content}
-use Rattle.dfs_objects.specs.declared.content.Object.{Object}
-use Rattle.dfs_objects.specs.Changes.{content_changed, anode_changed, anode_freed}
-use Rattle.dfs_objects.specs.Entries.{content_with_entry, content_without_entry}
-use Rattle.dfs_objects.specs.Objects.{is_dir}
-use Rattle.dfs_filesets.specs.declared.fileset.Fileset.{Fileset}
-use Rattle.dfs_filesets.specs.Answers.{answered}
-use Rattle.dfs_filesets.specs.Creation.{occupied}
-use Rattle.dfs_filesets.specs.Updates.{updated, changed}
-use Rattle.dfs_filesets.specs.Walk.{object_at, unique_at}
-use Rattle.dfs_filesets.proofs.Observations.{object_not_zero, object_changed_here, object_updated_other, object_freed_here, object_occupied_here, unique_occupied_here, unique_changed, unique_updated_same, unique_updated_other}
+use Rattle.base_types.specs.declared.ids.Fid.{Fid}
+use Rattle.tree_calls.specs.declared.part.DirEntry.{DirEntry}
+use Rattle.tree_calls.specs.declared.reply.Refusal.{Refusal}
+use Rattle.tree_objects.specs.declared.content.Content.{Content}
+use Rattle.tree_objects.specs.declared.content.Object.{Object}
+use Rattle.tree_objects.specs.Changes.{content_changed, anode_changed, anode_freed}
+use Rattle.tree_objects.specs.Entries.{content_with_entry, content_without_entry}
+use Rattle.tree_objects.specs.Objects.{is_dir}
+use Rattle.tree_filesets.specs.declared.fileset.Fileset.{Fileset}
+use Rattle.tree_filesets.specs.Answers.{answered}
+use Rattle.tree_filesets.specs.Creation.{occupied}
+use Rattle.tree_filesets.specs.Updates.{updated, changed}
+use Rattle.tree_filesets.specs.Walk.{object_at, unique_at}
+use Rattle.tree_filesets.proofs.Observations.{object_not_zero, object_changed_here, object_updated_other, object_freed_here, object_occupied_here, unique_occupied_here, unique_changed, unique_updated_same, unique_updated_other}
 use Rattle.tree_laws.specs.Parts.{Part, Nature, settled, cell_of, no_cell, cell_found, object_in}
 use Rattle.tree_laws.specs.Parts.Part.{ByteAt, Size, Traits, Entries}
 use Rattle.tree_laws.specs.Fates.{Fate, Cells, after_fate, names_use, if_reached, no_values, new_values, create_fate, remove_fate, rename_fate}

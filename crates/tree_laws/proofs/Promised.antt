@@ -3,8 +3,8 @@ use Rattle.std.proofs.Common.{ℕ, ◌+◌, ◌/◌, ◌%◌, refl, ap, ◌∙�
 use Rattle.std.specs.Prelude.{if◌then◌else◌}
 use Rattle.std.specs.List.{sum_by}
 use Rattle.std.proofs.lemmas.List.Sums.{sum_by-cons}
-use Rattle.dfs_objects.specs.Files.{present_length}
-use Rattle.dfs_filesets.specs.Promises.{anode_blocks, clone_promise, new_promise}
+use Rattle.tree_objects.specs.Files.{present_length}
+use Rattle.tree_filesets.specs.Promises.{anode_blocks, clone_promise, new_promise}
 use Rattle.tree_laws.specs.Promises.{HoldsBytes, PromisesAreSo}
 
 -- so many blocks hold so many bytes

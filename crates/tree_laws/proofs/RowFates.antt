@@ -1,40 +1,40 @@
 -- What each row of one fileset leaves of its objects, part by part.
 use Rattle.std.proofs.Common.{◌≡◌, ◌≢◌, ℕ, ◌+◌, Bool, true, false, List, [], ◌∷◌, length, Some, None, Result, Ok, Err, refl, sym, ap, ◌∙◌, subst, rules}
-use Rattle.dfs_base.specs.Outcomes.{and_then}
-use Rattle.dfs_base.specs.declared.access.AccessEntry.{AccessEntry}
-use Rattle.dfs_base.specs.declared.ids.HostId.{HostId}
-use Rattle.dfs_base.specs.declared.ids.Fid.{Fid}
-use Rattle.dfs_base.specs.declared.user.User.{User}
-use Rattle.dfs_calls.specs.declared.call.Call.{Call}
-use Rattle.dfs_calls.specs.declared.call.Call.TheVariants.{NewFileset, Create, MakeDir, Remove, Rename, Truncate, SetAcl, CloneFileset, Read, Write, List as ListNames, Stat, GetAcl, Sync, Lock, Unlock, OpenFile, CloseFile, MoveFileset}
-use Rattle.dfs_calls.specs.declared.part.DirEntry.{DirEntry}
-use Rattle.dfs_calls.specs.declared.place.Which.{Which}
-use Rattle.dfs_calls.specs.declared.place.Which.TheVariants.{Files, Dirs}
-use Rattle.dfs_calls.specs.declared.reply.Refusal.{Refusal}
-use Rattle.dfs_calls.specs.declared.reply.Refusal.TheVariants.{ReadOnly, Exists}
-use Rattle.dfs_objects.specs.declared.content.Content.{Content}
-use Rattle.dfs_objects.specs.declared.content.Content.TheVariants.{Dir, File}
-use Rattle.dfs_objects.specs.declared.content.Object.{Object}
-use Rattle.dfs_objects.specs.Changes.{content_written, content_truncated, anode_freed}
-use Rattle.dfs_objects.specs.Entries.{content_with_entry, content_without_entry}
-use Rattle.dfs_objects.specs.Objects.{is_dir, access_of, content_with_list}
-use Rattle.dfs_objects.specs.Stores.{content_synced}
-use Rattle.dfs_filesets.specs.declared.fileset.Fileset.{Fileset}
-use Rattle.dfs_filesets.specs.Answers.{answered}
-use Rattle.dfs_filesets.specs.Changing.{write_target, write_answer, truncate_answer, sync_answer, set_access_target, set_access_answer}
-use Rattle.dfs_filesets.specs.Checks.{unless, split_path, permission}
-use Rattle.dfs_filesets.specs.Creation.{vacancy, owned, new_object, create_target, create_answer, with_object}
-use Rattle.dfs_filesets.specs.Removal.{remove_target, remove_answer}
-use Rattle.dfs_filesets.specs.Renaming.{rename_target, rename_answer}
-use Rattle.dfs_filesets.specs.Rights.{control_right}
-use Rattle.dfs_filesets.specs.Rows.{fileset_answer}
-use Rattle.dfs_filesets.specs.Updates.{updated, changed}
-use Rattle.dfs_filesets.specs.Walk.{object_at, target, file_target, insert_target}
-use Rattle.dfs_filesets.specs.WellFormed.{IsWellFormed}
-use Rattle.dfs_filesets.proofs.Dropping.{directory_of_entry}
-use Rattle.dfs_filesets.proofs.Observations.{object_not_zero, length_updated}
-use Rattle.dfs_filesets.proofs.Stays.{stays_itself}
-use Rattle.dfs_filesets.proofs.Targets.{then_ok, unless_ok, ok_is, target_ok, file_target_ok, file_target_file, write_target_ok, create_target_ok, remove_target_ok, rename_target_ok}
+use Rattle.base_types.specs.Outcomes.{and_then}
+use Rattle.base_types.specs.declared.access.AccessEntry.{AccessEntry}
+use Rattle.base_types.specs.declared.ids.HostId.{HostId}
+use Rattle.base_types.specs.declared.ids.Fid.{Fid}
+use Rattle.base_types.specs.declared.user.User.{User}
+use Rattle.tree_calls.specs.declared.call.Call.{Call}
+use Rattle.tree_calls.specs.declared.call.Call.TheVariants.{NewFileset, Create, MakeDir, Remove, Rename, Truncate, SetAcl, CloneFileset, Read, Write, List as ListNames, Stat, GetAcl, Sync, Lock, Unlock, OpenFile, CloseFile, MoveFileset}
+use Rattle.tree_calls.specs.declared.part.DirEntry.{DirEntry}
+use Rattle.tree_calls.specs.declared.place.Which.{Which}
+use Rattle.tree_calls.specs.declared.place.Which.TheVariants.{Files, Dirs}
+use Rattle.tree_calls.specs.declared.reply.Refusal.{Refusal}
+use Rattle.tree_calls.specs.declared.reply.Refusal.TheVariants.{ReadOnly, Exists}
+use Rattle.tree_objects.specs.declared.content.Content.{Content}
+use Rattle.tree_objects.specs.declared.content.Content.TheVariants.{Dir, File}
+use Rattle.tree_objects.specs.declared.content.Object.{Object}
+use Rattle.tree_objects.specs.Changes.{content_written, content_truncated, anode_freed}
+use Rattle.tree_objects.specs.Entries.{content_with_entry, content_without_entry}
+use Rattle.tree_objects.specs.Objects.{is_dir, access_of, content_with_list}
+use Rattle.tree_objects.specs.Stores.{content_synced}
+use Rattle.tree_filesets.specs.declared.fileset.Fileset.{Fileset}
+use Rattle.tree_filesets.specs.Answers.{answered}
+use Rattle.tree_filesets.specs.Changing.{write_target, write_answer, truncate_answer, sync_answer, set_access_target, set_access_answer}
+use Rattle.tree_filesets.specs.Checks.{unless, split_path, permission}
+use Rattle.tree_filesets.specs.Creation.{vacancy, owned, new_object, create_target, create_answer, with_object}
+use Rattle.tree_filesets.specs.Removal.{remove_target, remove_answer}
+use Rattle.tree_filesets.specs.Renaming.{rename_target, rename_answer}
+use Rattle.tree_filesets.specs.Rights.{control_right}
+use Rattle.tree_filesets.specs.Rows.{fileset_answer}
+use Rattle.tree_filesets.specs.Updates.{updated, changed}
+use Rattle.tree_filesets.specs.Walk.{object_at, target, file_target, insert_target}
+use Rattle.tree_filesets.specs.WellFormed.{IsWellFormed}
+use Rattle.tree_filesets.proofs.Dropping.{directory_of_entry}
+use Rattle.tree_filesets.proofs.Observations.{object_not_zero, length_updated}
+use Rattle.tree_filesets.proofs.Stays.{stays_itself}
+use Rattle.tree_filesets.proofs.Targets.{then_ok, unless_ok, ok_is, target_ok, file_target_ok, file_target_file, write_target_ok, create_target_ok, remove_target_ok, rename_target_ok}
 use Rattle.tree_laws.specs.Parts.{Part, settled, nature_of, cell_of, cell_found, object_in}
 use Rattle.tree_laws.specs.Parts.Part.{ByteAt, Size, Traits, Entries}
 use Rattle.tree_laws.specs.Fates.{after_fate, write_fate, new_lists, new_nature, new_values, creation, create_fate, remove_fate, rename_fate, fate_row}

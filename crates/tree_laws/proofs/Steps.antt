@@ -3,17 +3,17 @@ use Rattle.std.proofs.Common.{◌≡◌, ℕ, ◌==◌, Bool, true, false, cond,
 use Rattle.std.specs.List.{find}
 use Rattle.std.specs.Option.{option_map}
 use Rattle.std.proofs.lemmas.Grind.{common_steps}
-use Rattle.dfs_base.specs.Ids.{same_fid}
-use Rattle.dfs_base.specs.Outcomes.{and_then}
-use Rattle.dfs_base.specs.declared.ids.Fid.{Fid}
-use Rattle.dfs_calls.specs.declared.reply.Refusal.{Refusal}
-use Rattle.dfs_calls.specs.declared.reply.Refusal.TheVariants.{NoFileset}
-use Rattle.dfs_objects.proofs.Observed.{and_left, and_right}
-use Rattle.dfs_filesets.specs.declared.fileset.Fileset.{Fileset}
-use Rattle.dfs_filesets.specs.Checks.{unless}
-use Rattle.dfs_filesets.specs.WellFormed.{IsWellFormed as IsWellFormedFileset}
-use Rattle.dfs_tree.specs.Finding.{found_or}
-use Rattle.dfs_tree.specs.WellFormed.{AreWellFormed}
+use Rattle.base_types.specs.Ids.{same_fid}
+use Rattle.base_types.specs.Outcomes.{and_then}
+use Rattle.base_types.specs.declared.ids.Fid.{Fid}
+use Rattle.tree_calls.specs.declared.reply.Refusal.{Refusal}
+use Rattle.tree_calls.specs.declared.reply.Refusal.TheVariants.{NoFileset}
+use Rattle.tree_objects.proofs.Observed.{and_left, and_right}
+use Rattle.tree_filesets.specs.declared.fileset.Fileset.{Fileset}
+use Rattle.tree_filesets.specs.Checks.{unless}
+use Rattle.tree_filesets.specs.WellFormed.{IsWellFormed as IsWellFormedFileset}
+use Rattle.tree_answers.specs.Finding.{found_or}
+use Rattle.tree_answers.specs.WellFormed.{AreWellFormed}
 
 -- no test has two answers
 pub no_dir : {A : Type 0} → true ≡ false → A

@@ -5,28 +5,28 @@ use Rattle.std.specs.List.{find, list_all}
 use Rattle.std.specs.Option.{option_map, option_map_or, option_and_then}
 use Rattle.std.proofs.lemmas.Bool.Decides.{eqb_tells}
 use Rattle.std.proofs.lemmas.Grind.{common_steps}
-use Rattle.dfs_base.specs.Ids.{same_fid}
-use Rattle.dfs_base.specs.Spans.{has_byte, in_spans}
-use Rattle.dfs_base.specs.declared.ids.HostId.{HostId}
-use Rattle.dfs_base.specs.declared.ids.Fid.{Fid}
-use Rattle.dfs_base.specs.declared.span.Span.{Span}
-use Rattle.dfs_calls.specs.declared.entry.Entry.TheVariants.{Stored}
-use Rattle.dfs_objects.specs.declared.content.Content.{Content}
-use Rattle.dfs_objects.specs.declared.content.Content.TheVariants.{Dir, File}
-use Rattle.dfs_objects.specs.declared.content.Object.{Object}
-use Rattle.dfs_objects.specs.declared.content.Unsaved.{Unsaved}
-use Rattle.dfs_objects.specs.declared.content.UnsavedLength.{UnsavedLength}
-use Rattle.dfs_objects.specs.Files.{present_length, unsaved_at}
-use Rattle.dfs_objects.specs.Stores.{has_written, is_storable_length, is_storable}
-use Rattle.dfs_objects.proofs.Observed.{and_left, and_right, get_past}
-use Rattle.dfs_objects.proofs.Rising.{and_both}
-use Rattle.dfs_filesets.specs.declared.fileset.Fileset.{Fileset}
-use Rattle.dfs_filesets.specs.Walk.{object_at, unique_at}
-use Rattle.dfs_tree.specs.declared.tree.Tree.{Tree}
-use Rattle.dfs_tree.specs.Finding.{has_id}
-use Rattle.dfs_tree.specs.Stores.{content_in, may_store}
-use Rattle.dfs_tree.specs.Histories.{after_entry}
-use Rattle.dfs_tree.specs.WellFormed.{IsWellFormed}
+use Rattle.base_types.specs.Ids.{same_fid}
+use Rattle.base_types.specs.Spans.{has_byte, in_spans}
+use Rattle.base_types.specs.declared.ids.HostId.{HostId}
+use Rattle.base_types.specs.declared.ids.Fid.{Fid}
+use Rattle.base_types.specs.declared.span.Span.{Span}
+use Rattle.tree_calls.specs.declared.entry.Entry.TheVariants.{Stored}
+use Rattle.tree_objects.specs.declared.content.Content.{Content}
+use Rattle.tree_objects.specs.declared.content.Content.TheVariants.{Dir, File}
+use Rattle.tree_objects.specs.declared.content.Object.{Object}
+use Rattle.tree_objects.specs.declared.content.Unsaved.{Unsaved}
+use Rattle.tree_objects.specs.declared.content.UnsavedLength.{UnsavedLength}
+use Rattle.tree_objects.specs.Files.{present_length, unsaved_at}
+use Rattle.tree_objects.specs.Stores.{has_written, is_storable_length, is_storable}
+use Rattle.tree_objects.proofs.Observed.{and_left, and_right, get_past}
+use Rattle.tree_objects.proofs.Rising.{and_both}
+use Rattle.tree_filesets.specs.declared.fileset.Fileset.{Fileset}
+use Rattle.tree_filesets.specs.Walk.{object_at, unique_at}
+use Rattle.tree_answers.specs.declared.tree.Tree.{Tree}
+use Rattle.tree_answers.specs.Finding.{has_id}
+use Rattle.tree_answers.specs.Stores.{content_in, may_store}
+use Rattle.tree_answers.specs.Histories.{after_entry}
+use Rattle.tree_answers.specs.WellFormed.{IsWellFormed}
 use Rattle.tree_laws.specs.Parts.{Part, Written, Cell, present, settled, written_byte, written_length, cell_of, cell_found, cell_in, cell_at}
 use Rattle.tree_laws.specs.Parts.Part.{ByteAt, Size, Traits, Entries}
 use Rattle.tree_laws.specs.Fates.{Cells, is_of, byte_stored, size_left, size_stored, after_fate}

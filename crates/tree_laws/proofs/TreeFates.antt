@@ -4,59 +4,59 @@ use Rattle.std.specs.Prelude.{slice_get, slice_set, map, replicate, if◌then◌
 use Rattle.std.specs.List.{find, list_all}
 use Rattle.std.specs.Option.{option_map, option_map_or, option_and_then}
 use Rattle.std.proofs.lemmas.Grind.{common_steps}
-use Rattle.dfs_base.specs.Ids.{same_fid}
-use Rattle.dfs_base.specs.Lists.{changed_at}
-use Rattle.dfs_base.specs.Outcomes.{either}
-use Rattle.dfs_base.specs.declared.ids.HostId.{HostId}
-use Rattle.dfs_base.specs.declared.ids.ServerId.{ServerId}
-use Rattle.dfs_base.specs.declared.ids.FilesetId.{FilesetId}
-use Rattle.dfs_base.specs.declared.ids.Fid.{Fid}
-use Rattle.dfs_base.specs.declared.span.Span.{Span}
-use Rattle.dfs_base.specs.declared.user.User.{User}
-use Rattle.dfs_calls.specs.declared.call.Call.{Call as CallOf}
-use Rattle.dfs_calls.specs.declared.call.Call.TheVariants.{NewFileset, Create, MakeDir, Remove, Rename, Truncate, SetAcl, CloneFileset, Read, Write, List as ListNames, Stat, GetAcl, Sync, Lock, Unlock, OpenFile, CloseFile, MoveFileset}
-use Rattle.dfs_calls.specs.declared.entry.Entry.TheVariants.{Call, Stored, Down, Left}
-use Rattle.dfs_calls.specs.declared.reply.Refusal.{Refusal}
-use Rattle.dfs_calls.specs.declared.reply.Refusal.TheVariants.{Exists, NoFileset, NotHome}
-use Rattle.dfs_calls.specs.declared.reply.Reply.TheVariants.{Ok as Done}
-use Rattle.dfs_calls.specs.Rosters.{user_of}
-use Rattle.dfs_objects.specs.declared.content.Content.{Content}
-use Rattle.dfs_objects.specs.declared.content.Content.TheVariants.{Dir, File}
-use Rattle.dfs_objects.specs.declared.content.Object.{Object}
-use Rattle.dfs_objects.specs.declared.content.Anode.{Anode}
-use Rattle.dfs_objects.specs.Changes.{content_changed, anode_changed, content_forgotten, content_as_cloned}
-use Rattle.dfs_objects.specs.Files.{present_length}
-use Rattle.dfs_objects.specs.Objects.{is_dir}
-use Rattle.dfs_objects.specs.Shown.{shown, present_byte}
-use Rattle.dfs_objects.specs.Sound.{is_sound}
-use Rattle.dfs_objects.specs.Stores.{content_stored, is_storable}
-use Rattle.dfs_objects.proofs.Observed.{and_left, and_right, over_length, shown_in_clone}
-use Rattle.dfs_filesets.specs.declared.fileset.Fileset.{Fileset}
-use Rattle.dfs_filesets.specs.Founding.{unused_anode, new_anodes, new_fileset, cloned, moved, control_check}
-use Rattle.dfs_filesets.specs.Promises.{new_promise, clone_promise}
-use Rattle.dfs_filesets.specs.Rows.{fileset_answer}
-use Rattle.dfs_filesets.specs.Updates.{updated, changed}
-use Rattle.dfs_filesets.specs.Walk.{object_at, unique_at}
-use Rattle.dfs_filesets.specs.WellFormed.{IsWellFormed as IsWellFormedFileset}
-use Rattle.dfs_filesets.proofs.Mapped.{mapped_object}
-use Rattle.dfs_filesets.proofs.Stays.{stays_itself}
-use Rattle.dfs_filesets.proofs.Targets.{then_ok, unless_ok, ok_is}
-use Rattle.dfs_filesets.proofs.Updates.{found_changed}
-use Rattle.dfs_tree.specs.declared.tree.Tree.{Tree}
-use Rattle.dfs_tree.specs.declared.tree.ServerRoom.{ServerRoom}
-use Rattle.dfs_tree.specs.Finding.{Answer, refuse, found_or, has_id, leads_to, fileset_place, fileset_named, is_taken}
-use Rattle.dfs_tree.specs.Moving.{move_source, leave_check, move_room, move_target, with_moved, move_answer, left_tree}
-use Rattle.dfs_tree.specs.Founding.{room_for, clone_source, next_id, with_fileset, new_fileset_target, new_fileset_answer, clone_target, clone_answer}
-use Rattle.dfs_tree.specs.Answers.{for_user, answer_at, deciding_place, fileset_row, answer_for, answer_to}
-use Rattle.dfs_tree.specs.Locks.{lock_answer, lock_check, unlock_answer, has_lock}
-use Rattle.dfs_tree.specs.Opens.{open_answer, open_check, close_answer, has_open}
-use Rattle.dfs_tree.specs.Losses.{fileset_forgotten, is_at, down_tree}
-use Rattle.dfs_tree.specs.Stores.{content_in, may_store, place_with_id, stored_tree}
-use Rattle.dfs_tree.specs.Uses.{is_used}
-use Rattle.dfs_tree.specs.WellFormed.{ids_rise, IsWellFormed}
-use Rattle.dfs_tree.proofs.Inserted.{IsFresh, find_insert, fresh_id, position_or_end}
-use Rattle.dfs_tree.proofs.Kept.{room_ok, tested_object}
-use Rattle.dfs_tree.proofs.Places.{same_after, found_by_id, find_put, find_put_other, find_at_place, find_map, place_found, found_passes}
+use Rattle.base_types.specs.Ids.{same_fid}
+use Rattle.base_types.specs.Lists.{changed_at}
+use Rattle.base_types.specs.Outcomes.{either}
+use Rattle.base_types.specs.declared.ids.HostId.{HostId}
+use Rattle.base_types.specs.declared.ids.ServerId.{ServerId}
+use Rattle.base_types.specs.declared.ids.FilesetId.{FilesetId}
+use Rattle.base_types.specs.declared.ids.Fid.{Fid}
+use Rattle.base_types.specs.declared.span.Span.{Span}
+use Rattle.base_types.specs.declared.user.User.{User}
+use Rattle.tree_calls.specs.declared.call.Call.{Call as CallOf}
+use Rattle.tree_calls.specs.declared.call.Call.TheVariants.{NewFileset, Create, MakeDir, Remove, Rename, Truncate, SetAcl, CloneFileset, Read, Write, List as ListNames, Stat, GetAcl, Sync, Lock, Unlock, OpenFile, CloseFile, MoveFileset}
+use Rattle.tree_calls.specs.declared.entry.Entry.TheVariants.{Call, Stored, Down, Left}
+use Rattle.tree_calls.specs.declared.reply.Refusal.{Refusal}
+use Rattle.tree_calls.specs.declared.reply.Refusal.TheVariants.{Exists, NoFileset, NotHome}
+use Rattle.tree_calls.specs.declared.reply.Reply.TheVariants.{Ok as Done}
+use Rattle.tree_calls.specs.Rosters.{user_of}
+use Rattle.tree_objects.specs.declared.content.Content.{Content}
+use Rattle.tree_objects.specs.declared.content.Content.TheVariants.{Dir, File}
+use Rattle.tree_objects.specs.declared.content.Object.{Object}
+use Rattle.tree_objects.specs.declared.content.Anode.{Anode}
+use Rattle.tree_objects.specs.Changes.{content_changed, anode_changed, content_forgotten, content_as_cloned}
+use Rattle.tree_objects.specs.Files.{present_length}
+use Rattle.tree_objects.specs.Objects.{is_dir}
+use Rattle.tree_objects.specs.Shown.{shown, present_byte}
+use Rattle.tree_objects.specs.Sound.{is_sound}
+use Rattle.tree_objects.specs.Stores.{content_stored, is_storable}
+use Rattle.tree_objects.proofs.Observed.{and_left, and_right, over_length, shown_in_clone}
+use Rattle.tree_filesets.specs.declared.fileset.Fileset.{Fileset}
+use Rattle.tree_filesets.specs.Founding.{unused_anode, new_anodes, new_fileset, cloned, moved, control_check}
+use Rattle.tree_filesets.specs.Promises.{new_promise, clone_promise}
+use Rattle.tree_filesets.specs.Rows.{fileset_answer}
+use Rattle.tree_filesets.specs.Updates.{updated, changed}
+use Rattle.tree_filesets.specs.Walk.{object_at, unique_at}
+use Rattle.tree_filesets.specs.WellFormed.{IsWellFormed as IsWellFormedFileset}
+use Rattle.tree_filesets.proofs.Mapped.{mapped_object}
+use Rattle.tree_filesets.proofs.Stays.{stays_itself}
+use Rattle.tree_filesets.proofs.Targets.{then_ok, unless_ok, ok_is}
+use Rattle.tree_filesets.proofs.Updates.{found_changed}
+use Rattle.tree_answers.specs.declared.tree.Tree.{Tree}
+use Rattle.tree_answers.specs.declared.tree.ServerRoom.{ServerRoom}
+use Rattle.tree_answers.specs.Finding.{Answer, refuse, found_or, has_id, leads_to, fileset_place, fileset_named, is_taken}
+use Rattle.tree_answers.specs.Moving.{move_source, leave_check, move_room, move_target, with_moved, move_answer, left_tree}
+use Rattle.tree_answers.specs.Founding.{room_for, clone_source, next_id, with_fileset, new_fileset_target, new_fileset_answer, clone_target, clone_answer}
+use Rattle.tree_answers.specs.Answers.{for_user, answer_at, deciding_place, fileset_row, answer_for, answer_to}
+use Rattle.tree_answers.specs.Locks.{lock_answer, lock_check, unlock_answer, has_lock}
+use Rattle.tree_answers.specs.Opens.{open_answer, open_check, close_answer, has_open}
+use Rattle.tree_answers.specs.Losses.{fileset_forgotten, is_at, down_tree}
+use Rattle.tree_answers.specs.Stores.{content_in, may_store, place_with_id, stored_tree}
+use Rattle.tree_answers.specs.Uses.{is_used}
+use Rattle.tree_answers.specs.WellFormed.{ids_rise, IsWellFormed}
+use Rattle.tree_answers.proofs.Inserted.{IsFresh, find_insert, fresh_id, position_or_end}
+use Rattle.tree_answers.proofs.Kept.{room_ok, tested_object}
+use Rattle.tree_answers.proofs.Places.{same_after, found_by_id, find_put, find_put_other, find_at_place, find_map, place_found, found_passes}
 use Rattle.tree_laws.specs.Parts.{Part, Seen, Cell, present, settled, size_cell, cell_of, no_cell, cell_found, cell_in, cell_at, object_in}
 use Rattle.tree_laws.specs.Parts.Part.{ByteAt, Size, Traits, Entries}
 use Rattle.tree_laws.specs.Fates.{after_fate, names_use, moved_values, clone_values, move_fate, fid_at, fate_row, fate_at, new_fate, clone_fate, fate_for, PartsChangeSo}

@@ -3,57 +3,57 @@ use Rattle.std.proofs.Common.{◌≡◌, ◌<◌, ◌≤◌, ◌⊎◌, ℕ, zer
 use Rattle.std.specs.Prelude.{slice_get, slice_set, map, if◌then◌else◌}
 use Rattle.std.specs.List.{find}
 use Rattle.std.specs.Option.{option_map, option_map_or, option_and_then}
-use Rattle.dfs_base.specs.Lists.{changed_at}
-use Rattle.dfs_base.specs.Outcomes.{either}
-use Rattle.dfs_base.specs.declared.ids.HostId.{HostId}
-use Rattle.dfs_base.specs.declared.ids.ServerId.{ServerId}
-use Rattle.dfs_base.specs.declared.ids.FilesetId.{FilesetId}
-use Rattle.dfs_base.specs.declared.ids.Fid.{Fid}
-use Rattle.dfs_base.specs.declared.user.User.{User}
-use Rattle.dfs_calls.specs.declared.call.Call.{Call as CallOf}
-use Rattle.dfs_calls.specs.declared.call.Call.TheVariants.{NewFileset, Create, MakeDir, Remove, Rename, Truncate, SetAcl, CloneFileset, Read, Write, List as ListNames, Stat, GetAcl, Sync, Lock, Unlock, OpenFile, CloseFile, MoveFileset}
-use Rattle.dfs_calls.specs.declared.entry.Entry.{Entry}
-use Rattle.dfs_calls.specs.declared.entry.Entry.TheVariants.{Call, Stored, Down, Left}
-use Rattle.dfs_calls.specs.declared.reply.Refusal.{Refusal}
-use Rattle.dfs_calls.specs.declared.reply.Refusal.TheVariants.{Exists, ReadOnly}
-use Rattle.dfs_calls.specs.declared.reply.Reply.TheVariants.{Ok as Done}
-use Rattle.dfs_calls.specs.Rosters.{user_of}
-use Rattle.dfs_objects.specs.declared.content.Content.{Content}
-use Rattle.dfs_objects.specs.declared.content.Object.{Object}
-use Rattle.dfs_objects.specs.declared.content.Anode.{Anode}
-use Rattle.dfs_objects.specs.Changes.{content_changed, anode_changed, anode_freed, content_as_cloned, content_forgotten}
-use Rattle.dfs_objects.specs.Entries.{content_with_entry, content_without_entry}
-use Rattle.dfs_objects.specs.Stores.{content_stored}
-use Rattle.dfs_filesets.specs.declared.fileset.Fileset.{Fileset}
-use Rattle.dfs_filesets.specs.Answers.{answered}
-use Rattle.dfs_filesets.specs.Changing.{write_target, write_answer, truncate_answer, sync_answer, set_access_target, set_access_answer}
-use Rattle.dfs_filesets.specs.Checks.{split_path}
-use Rattle.dfs_filesets.specs.Creation.{is_vacant, first_vacancy, vacancy, new_object, create_target, create_answer, occupied, with_object}
-use Rattle.dfs_filesets.specs.Founding.{new_fileset, cloned, moved}
-use Rattle.dfs_filesets.specs.Promises.{new_promise, clone_promise}
-use Rattle.dfs_filesets.specs.Removal.{remove_target, remove_answer}
-use Rattle.dfs_filesets.specs.Renaming.{rename_target, rename_answer}
-use Rattle.dfs_filesets.specs.Rows.{fileset_answer}
-use Rattle.dfs_filesets.specs.Updates.{updated, changed}
-use Rattle.dfs_filesets.specs.Walk.{unique_at, file_target, insert_target}
-use Rattle.dfs_filesets.specs.WellFormed.{IsWellFormed as IsWellFormedFileset}
-use Rattle.dfs_filesets.proofs.Observations.{object_from, object_not_zero, unique_changed}
-use Rattle.dfs_filesets.proofs.Targets.{then_ok, unless_ok, ok_is}
-use Rattle.dfs_tree.specs.declared.tree.Tree.{Tree}
-use Rattle.dfs_tree.specs.declared.tree.ServerRoom.{ServerRoom}
-use Rattle.dfs_tree.specs.Answers.{for_user, answer_at, deciding_place, fileset_row, answer_for, answer_to}
-use Rattle.dfs_tree.specs.Finding.{Answer, refuse, has_id, is_taken}
-use Rattle.dfs_tree.specs.Founding.{next_id, room_for, clone_source, with_fileset, new_fileset_target, new_fileset_answer, clone_target, clone_answer}
-use Rattle.dfs_tree.specs.Histories.{after_entry}
-use Rattle.dfs_tree.specs.Locks.{lock_answer, lock_check, unlock_answer, has_lock}
-use Rattle.dfs_tree.specs.Losses.{fileset_forgotten, down_tree}
-use Rattle.dfs_tree.specs.Moving.{move_target, with_moved, move_answer, left_tree}
-use Rattle.dfs_tree.specs.Opens.{open_answer, open_check, close_answer, has_open}
-use Rattle.dfs_tree.specs.Stores.{stored_tree}
-use Rattle.dfs_tree.specs.Uses.{is_used}
-use Rattle.dfs_tree.specs.WellFormed.{IsWellFormed}
-use Rattle.dfs_tree.proofs.Inserted.{IsFresh, find_insert, fresh_id}
-use Rattle.dfs_tree.proofs.Kept.{room_ok}
+use Rattle.base_types.specs.Lists.{changed_at}
+use Rattle.base_types.specs.Outcomes.{either}
+use Rattle.base_types.specs.declared.ids.HostId.{HostId}
+use Rattle.base_types.specs.declared.ids.ServerId.{ServerId}
+use Rattle.base_types.specs.declared.ids.FilesetId.{FilesetId}
+use Rattle.base_types.specs.declared.ids.Fid.{Fid}
+use Rattle.base_types.specs.declared.user.User.{User}
+use Rattle.tree_calls.specs.declared.call.Call.{Call as CallOf}
+use Rattle.tree_calls.specs.declared.call.Call.TheVariants.{NewFileset, Create, MakeDir, Remove, Rename, Truncate, SetAcl, CloneFileset, Read, Write, List as ListNames, Stat, GetAcl, Sync, Lock, Unlock, OpenFile, CloseFile, MoveFileset}
+use Rattle.tree_calls.specs.declared.entry.Entry.{Entry}
+use Rattle.tree_calls.specs.declared.entry.Entry.TheVariants.{Call, Stored, Down, Left}
+use Rattle.tree_calls.specs.declared.reply.Refusal.{Refusal}
+use Rattle.tree_calls.specs.declared.reply.Refusal.TheVariants.{Exists, ReadOnly}
+use Rattle.tree_calls.specs.declared.reply.Reply.TheVariants.{Ok as Done}
+use Rattle.tree_calls.specs.Rosters.{user_of}
+use Rattle.tree_objects.specs.declared.content.Content.{Content}
+use Rattle.tree_objects.specs.declared.content.Object.{Object}
+use Rattle.tree_objects.specs.declared.content.Anode.{Anode}
+use Rattle.tree_objects.specs.Changes.{content_changed, anode_changed, anode_freed, content_as_cloned, content_forgotten}
+use Rattle.tree_objects.specs.Entries.{content_with_entry, content_without_entry}
+use Rattle.tree_objects.specs.Stores.{content_stored}
+use Rattle.tree_filesets.specs.declared.fileset.Fileset.{Fileset}
+use Rattle.tree_filesets.specs.Answers.{answered}
+use Rattle.tree_filesets.specs.Changing.{write_target, write_answer, truncate_answer, sync_answer, set_access_target, set_access_answer}
+use Rattle.tree_filesets.specs.Checks.{split_path}
+use Rattle.tree_filesets.specs.Creation.{is_vacant, first_vacancy, vacancy, new_object, create_target, create_answer, occupied, with_object}
+use Rattle.tree_filesets.specs.Founding.{new_fileset, cloned, moved}
+use Rattle.tree_filesets.specs.Promises.{new_promise, clone_promise}
+use Rattle.tree_filesets.specs.Removal.{remove_target, remove_answer}
+use Rattle.tree_filesets.specs.Renaming.{rename_target, rename_answer}
+use Rattle.tree_filesets.specs.Rows.{fileset_answer}
+use Rattle.tree_filesets.specs.Updates.{updated, changed}
+use Rattle.tree_filesets.specs.Walk.{unique_at, file_target, insert_target}
+use Rattle.tree_filesets.specs.WellFormed.{IsWellFormed as IsWellFormedFileset}
+use Rattle.tree_filesets.proofs.Observations.{object_from, object_not_zero, unique_changed}
+use Rattle.tree_filesets.proofs.Targets.{then_ok, unless_ok, ok_is}
+use Rattle.tree_answers.specs.declared.tree.Tree.{Tree}
+use Rattle.tree_answers.specs.declared.tree.ServerRoom.{ServerRoom}
+use Rattle.tree_answers.specs.Answers.{for_user, answer_at, deciding_place, fileset_row, answer_for, answer_to}
+use Rattle.tree_answers.specs.Finding.{Answer, refuse, has_id, is_taken}
+use Rattle.tree_answers.specs.Founding.{next_id, room_for, clone_source, with_fileset, new_fileset_target, new_fileset_answer, clone_target, clone_answer}
+use Rattle.tree_answers.specs.Histories.{after_entry}
+use Rattle.tree_answers.specs.Locks.{lock_answer, lock_check, unlock_answer, has_lock}
+use Rattle.tree_answers.specs.Losses.{fileset_forgotten, down_tree}
+use Rattle.tree_answers.specs.Moving.{move_target, with_moved, move_answer, left_tree}
+use Rattle.tree_answers.specs.Opens.{open_answer, open_check, close_answer, has_open}
+use Rattle.tree_answers.specs.Stores.{stored_tree}
+use Rattle.tree_answers.specs.Uses.{is_used}
+use Rattle.tree_answers.specs.WellFormed.{IsWellFormed}
+use Rattle.tree_answers.proofs.Inserted.{IsFresh, find_insert, fresh_id}
+use Rattle.tree_answers.proofs.Kept.{room_ok}
 use Rattle.tree_laws.specs.Uniques.{UniquesRise, AllUniquesRise, RootsAreFirst}
 use Rattle.tree_laws.proofs.Steps.{formed_found}
 use Rattle.tree_laws.proofs.TreeFates.{formed_at, fresh_none, move_ok}

@@ -2,24 +2,24 @@
 use Rattle.std.proofs.Common.{◌≡◌, ◌<◌, ◌≤◌, ◌⊎◌, ℕ, ◌+◌, ◌-◌, ◌==◌, nat_lt, nat_le, Bool, true, false, ◌&&◌, List, [], ◌∷◌, length, Option, Some, None, Result, Ok, Err, refl, sym, ap, ◌∙◌, inl, inr, arith}
 use Rattle.std.specs.Prelude.{slice_get, if◌then◌else◌}
 use Rattle.std.proofs.lemmas.Grind.{common_steps}
-use Rattle.dfs_base.specs.Ids.{same_fid}
-use Rattle.dfs_base.specs.Image.{byte_at}
-use Rattle.dfs_base.specs.Outcomes.{either}
-use Rattle.dfs_base.specs.declared.ids.HostId.{HostId}
-use Rattle.dfs_base.specs.declared.ids.Fid.{Fid}
-use Rattle.dfs_base.specs.declared.user.User.{User}
-use Rattle.dfs_calls.specs.declared.call.Call.TheVariants.{Write}
-use Rattle.dfs_calls.specs.declared.place.Place.{Place}
-use Rattle.dfs_calls.specs.declared.reply.Refusal.{Refusal}
-use Rattle.dfs_calls.specs.Rosters.{user_of}
-use Rattle.dfs_objects.proofs.Observed.{and_left, and_right}
-use Rattle.dfs_objects.proofs.Rising.{and_both}
-use Rattle.dfs_filesets.specs.declared.fileset.Fileset.{Fileset}
-use Rattle.dfs_filesets.specs.Changing.{write_target}
-use Rattle.dfs_filesets.specs.Walk.{unique_at}
-use Rattle.dfs_tree.specs.declared.tree.Tree.{Tree}
-use Rattle.dfs_tree.specs.Answers.{answer_to}
-use Rattle.dfs_tree.specs.Finding.{has_id, fileset_place}
+use Rattle.base_types.specs.Ids.{same_fid}
+use Rattle.base_types.specs.Image.{byte_at}
+use Rattle.base_types.specs.Outcomes.{either}
+use Rattle.base_types.specs.declared.ids.HostId.{HostId}
+use Rattle.base_types.specs.declared.ids.Fid.{Fid}
+use Rattle.base_types.specs.declared.user.User.{User}
+use Rattle.tree_calls.specs.declared.call.Call.TheVariants.{Write}
+use Rattle.tree_calls.specs.declared.place.Place.{Place}
+use Rattle.tree_calls.specs.declared.reply.Refusal.{Refusal}
+use Rattle.tree_calls.specs.Rosters.{user_of}
+use Rattle.tree_objects.proofs.Observed.{and_left, and_right}
+use Rattle.tree_objects.proofs.Rising.{and_both}
+use Rattle.tree_filesets.specs.declared.fileset.Fileset.{Fileset}
+use Rattle.tree_filesets.specs.Changing.{write_target}
+use Rattle.tree_filesets.specs.Walk.{unique_at}
+use Rattle.tree_answers.specs.declared.tree.Tree.{Tree}
+use Rattle.tree_answers.specs.Answers.{answer_to}
+use Rattle.tree_answers.specs.Finding.{has_id, fileset_place}
 use Rattle.tree_laws.specs.Parts.{Part, Seen, Cell, present, cell_at}
 use Rattle.tree_laws.specs.Parts.Part.{ByteAt, Size, Traits, Entries}
 use Rattle.tree_laws.specs.Fates.{Cells, Fate, byte_written, size_written, after_fate, names_use, write_fate, if_reached, fate_at, fate_for}

@@ -32,21 +32,21 @@ use Rattle.std.specs.Prelude.{
   Err,
 }
 use Rattle.std.specs.Option.{option_map, option_map_or}
-use Rattle.dfs_base.specs.Ids.{same_fid}
-use Rattle.dfs_base.specs.Image.{byte_at}
-use Rattle.dfs_base.specs.Name.{same_name}
-use Rattle.dfs_base.specs.Outcomes.{and_then, either}
-use Rattle.dfs_base.specs.Spans.{in_spans}
-use Rattle.dfs_base.specs.Users.{first_group}
-use Rattle.dfs_base.specs.declared.access.AccessEntry.{AccessEntry}
-use Rattle.dfs_base.specs.declared.ids.HostId.{HostId}
-use Rattle.dfs_base.specs.declared.ids.ServerId.{ServerId}
-use Rattle.dfs_base.specs.declared.ids.FilesetId.{FilesetId}
-use Rattle.dfs_base.specs.declared.ids.Fid.{Fid}
-use Rattle.dfs_base.specs.declared.span.Span.{Span}
-use Rattle.dfs_base.specs.declared.user.User.{User}
-use Rattle.dfs_calls.specs.declared.call.Call.{Call as CallOf}
-use Rattle.dfs_calls.specs.declared.call.Call.TheVariants.{
+use Rattle.base_types.specs.Ids.{same_fid}
+use Rattle.base_types.specs.Image.{byte_at}
+use Rattle.base_types.specs.Name.{same_name}
+use Rattle.base_types.specs.Outcomes.{and_then, either}
+use Rattle.base_types.specs.Spans.{in_spans}
+use Rattle.base_types.specs.Users.{first_group}
+use Rattle.base_types.specs.declared.access.AccessEntry.{AccessEntry}
+use Rattle.base_types.specs.declared.ids.HostId.{HostId}
+use Rattle.base_types.specs.declared.ids.ServerId.{ServerId}
+use Rattle.base_types.specs.declared.ids.FilesetId.{FilesetId}
+use Rattle.base_types.specs.declared.ids.Fid.{Fid}
+use Rattle.base_types.specs.declared.span.Span.{Span}
+use Rattle.base_types.specs.declared.user.User.{User}
+use Rattle.tree_calls.specs.declared.call.Call.{Call as CallOf}
+use Rattle.tree_calls.specs.declared.call.Call.TheVariants.{
   NewFileset,
   Create,
   MakeDir,
@@ -59,36 +59,36 @@ use Rattle.dfs_calls.specs.declared.call.Call.TheVariants.{
   Sync,
   MoveFileset,
 }
-use Rattle.dfs_calls.specs.declared.entry.Entry.{Entry}
-use Rattle.dfs_calls.specs.declared.entry.Entry.TheVariants.{Call, Stored, Down, Left}
-use Rattle.dfs_calls.specs.declared.part.DirEntry.{DirEntry}
-use Rattle.dfs_calls.specs.declared.place.Which.{Which}
-use Rattle.dfs_calls.specs.declared.place.Which.TheVariants.{Files, Dirs}
-use Rattle.dfs_calls.specs.declared.reply.Refusal.{Refusal}
-use Rattle.dfs_calls.specs.declared.reply.Refusal.TheVariants.{ReadOnly, Exists}
-use Rattle.dfs_calls.specs.Rosters.{user_of}
-use Rattle.dfs_objects.specs.declared.content.Content.{Content}
-use Rattle.dfs_objects.specs.Entries.{entry_place}
-use Rattle.dfs_objects.specs.Objects.{list_index, access_of}
-use Rattle.dfs_objects.specs.Spans.{whole}
-use Rattle.dfs_filesets.specs.declared.fileset.Fileset.{Fileset}
-use Rattle.dfs_filesets.specs.Changing.{write_target, set_access_target}
-use Rattle.dfs_filesets.specs.Checks.{unless, split_path}
-use Rattle.dfs_filesets.specs.Creation.{vacancy}
-use Rattle.dfs_filesets.specs.Founding.{new_fileset}
-use Rattle.dfs_filesets.specs.Removal.{remove_target}
-use Rattle.dfs_filesets.specs.Renaming.{rename_target}
-use Rattle.dfs_filesets.specs.Walk.{unique_at, file_target, insert_target}
-use Rattle.dfs_tree.specs.declared.tree.Tree.{Tree}
-use Rattle.dfs_tree.specs.declared.tree.ServerRoom.{ServerRoom}
-use Rattle.dfs_tree.specs.Answers.{deciding_place}
-use Rattle.dfs_tree.specs.Finding.{has_id}
-use Rattle.dfs_tree.specs.Founding.{next_id, new_fileset_target, clone_target}
-use Rattle.dfs_tree.specs.Histories.{IsLegal, after_entry}
-use Rattle.dfs_tree.specs.Losses.{is_at}
-use Rattle.dfs_tree.specs.Moving.{move_target}
-use Rattle.dfs_tree.specs.Uses.{is_used}
-use Rattle.dfs_tree.specs.WellFormed.{IsWellFormed}
+use Rattle.tree_calls.specs.declared.entry.Entry.{Entry}
+use Rattle.tree_calls.specs.declared.entry.Entry.TheVariants.{Call, Stored, Down, Left}
+use Rattle.tree_calls.specs.declared.part.DirEntry.{DirEntry}
+use Rattle.tree_calls.specs.declared.place.Which.{Which}
+use Rattle.tree_calls.specs.declared.place.Which.TheVariants.{Files, Dirs}
+use Rattle.tree_calls.specs.declared.reply.Refusal.{Refusal}
+use Rattle.tree_calls.specs.declared.reply.Refusal.TheVariants.{ReadOnly, Exists}
+use Rattle.tree_calls.specs.Rosters.{user_of}
+use Rattle.tree_objects.specs.declared.content.Content.{Content}
+use Rattle.tree_objects.specs.Entries.{entry_place}
+use Rattle.tree_objects.specs.Objects.{list_index, access_of}
+use Rattle.tree_objects.specs.Spans.{whole}
+use Rattle.tree_filesets.specs.declared.fileset.Fileset.{Fileset}
+use Rattle.tree_filesets.specs.Changing.{write_target, set_access_target}
+use Rattle.tree_filesets.specs.Checks.{unless, split_path}
+use Rattle.tree_filesets.specs.Creation.{vacancy}
+use Rattle.tree_filesets.specs.Founding.{new_fileset}
+use Rattle.tree_filesets.specs.Removal.{remove_target}
+use Rattle.tree_filesets.specs.Renaming.{rename_target}
+use Rattle.tree_filesets.specs.Walk.{unique_at, file_target, insert_target}
+use Rattle.tree_answers.specs.declared.tree.Tree.{Tree}
+use Rattle.tree_answers.specs.declared.tree.ServerRoom.{ServerRoom}
+use Rattle.tree_answers.specs.Answers.{deciding_place}
+use Rattle.tree_answers.specs.Finding.{has_id}
+use Rattle.tree_answers.specs.Founding.{next_id, new_fileset_target, clone_target}
+use Rattle.tree_answers.specs.Histories.{IsLegal, after_entry}
+use Rattle.tree_answers.specs.Losses.{is_at}
+use Rattle.tree_answers.specs.Moving.{move_target}
+use Rattle.tree_answers.specs.Uses.{is_used}
+use Rattle.tree_answers.specs.WellFormed.{IsWellFormed}
 use Rattle.tree_laws.specs.Parts.{
   Part,
   Seen,

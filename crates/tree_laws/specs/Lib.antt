@@ -5,3 +5,5 @@ pub mod Uniques
 pub mod Promises
 pub mod Limits
 pub mod Writes
+pub mod Labels
+pub mod Losses

@@ -1,6 +1,6 @@
 -- The limits of the service as plain numbers.
 use Rattle.std.specs.Prelude.{◌≡◌}
-use Rattle.dfs_base.specs.declared.limits.TheConstants.{
+use Rattle.base_types.specs.declared.limits.TheConstants.{
   SERVERS_MAX,
   HOSTS_MAX,
   FILESETS_MAX,
@@ -33,8 +33,8 @@ use Rattle.dfs_base.specs.declared.limits.TheConstants.{
   TURN_STEPS_MAX,
   NODE_STEPS_MAX,
 }
-use Rattle.dfs_filesets.specs.declared.fileset.TheConstants.{MOVES_MAX}
-use Rattle.dfs_filesets.specs.declared.promise.TheConstants.{OBJECT_BLOCKS}
+use Rattle.tree_filesets.specs.declared.fileset.TheConstants.{MOVES_MAX}
+use Rattle.tree_filesets.specs.declared.promise.TheConstants.{OBJECT_BLOCKS}
 
 pub record LimitsAre : Type 0 where
   -- who takes part: 4 servers, 16 client hosts

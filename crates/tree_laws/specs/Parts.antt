@@ -2,22 +2,22 @@
 use Rattle.std.specs.Prelude.{ℕ, ◌==◌, Bool, if◌then◌else◌, List, [], length, Option, Some, None}
 use Rattle.std.specs.List.{find}
 use Rattle.std.specs.Option.{option_map, option_map_or}
-use Rattle.dfs_base.specs.declared.access.AccessEntry.{AccessEntry}
-use Rattle.dfs_base.specs.declared.ids.HostId.{HostId}
-use Rattle.dfs_base.specs.declared.ids.Fid.{Fid}
-use Rattle.dfs_calls.specs.declared.part.DirEntry.{DirEntry}
-use Rattle.dfs_objects.specs.declared.content.Content.{Content}
-use Rattle.dfs_objects.specs.declared.content.Content.TheVariants.{Dir, File}
-use Rattle.dfs_objects.specs.declared.content.Object.{Object}
-use Rattle.dfs_objects.specs.declared.content.Unsaved.{Unsaved}
-use Rattle.dfs_objects.specs.declared.content.UnsavedLength.{UnsavedLength}
-use Rattle.dfs_objects.specs.Objects.{is_dir}
-use Rattle.dfs_objects.specs.Shown.{shown}
-use Rattle.dfs_filesets.specs.declared.fileset.Fileset.{Fileset}
-use Rattle.dfs_filesets.specs.Laws.{entries_in, lists_in}
-use Rattle.dfs_filesets.specs.Walk.{object_at, unique_at}
-use Rattle.dfs_tree.specs.declared.tree.Tree.{Tree}
-use Rattle.dfs_tree.specs.Finding.{has_id}
+use Rattle.base_types.specs.declared.access.AccessEntry.{AccessEntry}
+use Rattle.base_types.specs.declared.ids.HostId.{HostId}
+use Rattle.base_types.specs.declared.ids.Fid.{Fid}
+use Rattle.tree_calls.specs.declared.part.DirEntry.{DirEntry}
+use Rattle.tree_objects.specs.declared.content.Content.{Content}
+use Rattle.tree_objects.specs.declared.content.Content.TheVariants.{Dir, File}
+use Rattle.tree_objects.specs.declared.content.Object.{Object}
+use Rattle.tree_objects.specs.declared.content.Unsaved.{Unsaved}
+use Rattle.tree_objects.specs.declared.content.UnsavedLength.{UnsavedLength}
+use Rattle.tree_objects.specs.Objects.{is_dir}
+use Rattle.tree_objects.specs.Shown.{shown}
+use Rattle.tree_filesets.specs.declared.fileset.Fileset.{Fileset}
+use Rattle.tree_filesets.specs.Laws.{entries_in, lists_in}
+use Rattle.tree_filesets.specs.Walk.{object_at, unique_at}
+use Rattle.tree_answers.specs.declared.tree.Tree.{Tree}
+use Rattle.tree_answers.specs.Finding.{has_id}
 
 -- a part of an object
 pub data Part : Type 0 where

@@ -1,14 +1,14 @@
 -- What a host stores was its own, and no reader sees a change.
 use Rattle.std.specs.Prelude.{◌≡◌, ◌<◌, ◌≤◌, ◌⊎◌, ◌↔◌, ℕ, true, false, not, List, Option, Some, unwrap_or}
 use Rattle.std.specs.Option.{option_map_or}
-use Rattle.dfs_base.specs.Spans.{in_spans}
-use Rattle.dfs_base.specs.declared.ids.HostId.{HostId}
-use Rattle.dfs_base.specs.declared.ids.Fid.{Fid}
-use Rattle.dfs_base.specs.declared.span.Span.{Span}
-use Rattle.dfs_calls.specs.declared.entry.Entry.TheVariants.{Stored}
-use Rattle.dfs_tree.specs.declared.tree.Tree.{Tree}
-use Rattle.dfs_tree.specs.Histories.{IsLegal, after_entry}
-use Rattle.dfs_tree.specs.WellFormed.{IsWellFormed}
+use Rattle.base_types.specs.Spans.{in_spans}
+use Rattle.base_types.specs.declared.ids.HostId.{HostId}
+use Rattle.base_types.specs.declared.ids.Fid.{Fid}
+use Rattle.base_types.specs.declared.span.Span.{Span}
+use Rattle.tree_calls.specs.declared.entry.Entry.TheVariants.{Stored}
+use Rattle.tree_answers.specs.declared.tree.Tree.{Tree}
+use Rattle.tree_answers.specs.Histories.{IsLegal, after_entry}
+use Rattle.tree_answers.specs.WellFormed.{IsWellFormed}
 use Rattle.tree_laws.specs.Parts.{Part, Cell, present, settled, cell_at}
 use Rattle.tree_laws.specs.Parts.Part.{ByteAt, Size, Traits}
 use Rattle.tree_laws.specs.Fates.{is_of}

@@ -1,15 +1,15 @@
 -- How often each anode of a fileset has been used.
 use Rattle.std.specs.Prelude.{◌≡◌, ◌<◌, ◌≤◌, ℕ, Some, None}
 use Rattle.std.specs.List.{find}
-use Rattle.dfs_base.specs.declared.ids.FilesetId.{FilesetId}
-use Rattle.dfs_calls.specs.declared.entry.Entry.{Entry}
-use Rattle.dfs_objects.specs.declared.content.Object.{Object}
-use Rattle.dfs_filesets.specs.declared.fileset.Fileset.{Fileset}
-use Rattle.dfs_filesets.specs.Walk.{object_at, unique_at}
-use Rattle.dfs_tree.specs.declared.tree.Tree.{Tree}
-use Rattle.dfs_tree.specs.Finding.{has_id}
-use Rattle.dfs_tree.specs.Histories.{after_entry}
-use Rattle.dfs_tree.specs.WellFormed.{IsWellFormed}
+use Rattle.base_types.specs.declared.ids.FilesetId.{FilesetId}
+use Rattle.tree_calls.specs.declared.entry.Entry.{Entry}
+use Rattle.tree_objects.specs.declared.content.Object.{Object}
+use Rattle.tree_filesets.specs.declared.fileset.Fileset.{Fileset}
+use Rattle.tree_filesets.specs.Walk.{object_at, unique_at}
+use Rattle.tree_answers.specs.declared.tree.Tree.{Tree}
+use Rattle.tree_answers.specs.Finding.{has_id}
+use Rattle.tree_answers.specs.Histories.{after_entry}
+use Rattle.tree_answers.specs.WellFormed.{IsWellFormed}
 
 -- A fileset before and after an entry: no unique number falls, and a new object has one above all before it at its
 -- anode.

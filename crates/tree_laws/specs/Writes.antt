@@ -1,13 +1,13 @@
 -- What a write changes.
 use Rattle.std.specs.Prelude.{◌≡◌, ◌<◌, ◌≤◌, ◌⊎◌, ℕ, ◌+◌, false, List, length}
-use Rattle.dfs_base.specs.Ids.{same_fid}
-use Rattle.dfs_base.specs.declared.ids.HostId.{HostId}
-use Rattle.dfs_base.specs.declared.ids.Fid.{Fid}
-use Rattle.dfs_calls.specs.declared.call.Call.TheVariants.{Write}
-use Rattle.dfs_calls.specs.declared.place.Place.{Place}
-use Rattle.dfs_tree.specs.declared.tree.Tree.{Tree}
-use Rattle.dfs_tree.specs.Answers.{answer_to}
-use Rattle.dfs_tree.specs.WellFormed.{IsWellFormed}
+use Rattle.base_types.specs.Ids.{same_fid}
+use Rattle.base_types.specs.declared.ids.HostId.{HostId}
+use Rattle.base_types.specs.declared.ids.Fid.{Fid}
+use Rattle.tree_calls.specs.declared.call.Call.TheVariants.{Write}
+use Rattle.tree_calls.specs.declared.place.Place.{Place}
+use Rattle.tree_answers.specs.declared.tree.Tree.{Tree}
+use Rattle.tree_answers.specs.Answers.{answer_to}
+use Rattle.tree_answers.specs.WellFormed.{IsWellFormed}
 use Rattle.tree_laws.specs.Parts.{Part, cell_at}
 use Rattle.tree_laws.specs.Parts.Part.{ByteAt, Traits, Entries}
 

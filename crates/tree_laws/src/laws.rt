@@ -7,7 +7,7 @@ ghost use Rattle.tree_laws.specs.Stores.{HostsStoreTheirOwn};
 ghost use Rattle.tree_laws.specs.Uniques.{AllUniquesRise, RootsAreFirst};
 ghost use Rattle.tree_laws.specs.Writes.{WritesChangeTheirSpans};
 
-use dfs_base::HostId;
+use base_types::HostId;
 
 /// Each legal entry leaves of each part of each object of a well formed tree, also of one that isn't there, what its
 /// fate says, as a function of what was kept and unsaved there before.

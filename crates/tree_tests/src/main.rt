@@ -6,10 +6,10 @@
 mod steps;
 
 use anyhow::Result;
-use dfs_tree::Tree;
 use std::io;
 use steps::{new_tree, tell};
-use table_words::{Text, Words};
+use tree_answers::Tree;
+use tree_test_words::{Text, Words};
 
 // Judges one line: a comment, or a row. Answers whether it was a row, and prints one whose reply isn't the wanted one.
 fn judge(rt: &(impl Print + AllocGlobal), tree: &mut Tree, line: &str) -> Result<bool> {

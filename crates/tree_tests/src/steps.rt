@@ -1,11 +1,11 @@
 //! A tree, and the rows that it answers.
 
 use anyhow::{Result, bail};
-use dfs_base::{Fid, FilesetId, HostId, Items, ServerId, Span, User};
-use dfs_calls::{HostLine, Roster};
-use dfs_tree::Tree;
+use base_types::{Fid, FilesetId, HostId, Items, ServerId, Span, User};
 use std::alloc::Global;
-use table_words::{Text, Words, host, push_losses, push_refusal, push_reply, user};
+use tree_answers::Tree;
+use tree_calls::{HostLine, Roster};
+use tree_test_words::{Text, Words, host, push_losses, push_refusal, push_reply, user};
 
 // Ann of dev, bob of dev and ops, and eve of none.
 fn users(alloc: Global) -> Result<Items<User>> {

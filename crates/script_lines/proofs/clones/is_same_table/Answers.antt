@@ -2,7 +2,7 @@ use Rattle.std.proofs.Common.{◌≡◌, true, false, ◌&&◌, ◌==◌, List, 
 use Rattle.std.specs.Option.{option_eq}
 use Rattle.std.specs.Cmp.Lexicographic.{pointwise}
 use Rattle.std.proofs.lemmas.Bool.{and_parts, eqb-true}
-use Rattle.dfs_base.specs.declared.ids.ServerId.{ServerId}
+use Rattle.base_types.specs.declared.ids.ServerId.{ServerId}
 use Rattle.script_lines.proofs.clones.is_same_table.Goals as goal
 
 same_number : ServerId → ServerId → Bool

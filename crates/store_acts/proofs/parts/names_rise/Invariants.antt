@@ -1,5 +1,5 @@
 use Rattle.std.proofs.Common.{◌≡◌, length}
-use Rattle.dfs_objects.specs.Sound.{names_rise}
+use Rattle.tree_objects.specs.Sound.{names_rise}
 use Rattle.store_acts.proofs.parts.names_rise.Given as goal
 
 -- the names rise if those that are left do

@@ -1,7 +1,7 @@
 use Rattle.std.proofs.Common.{ℕ, List, [], ◌∷◌, ap, ◌∙◌}
 use Rattle.std.specs.Prelude.{slice_get}
-use Rattle.dfs_calls.specs.declared.reply.Refusal.{Refusal}
-use Rattle.dfs_calls.specs.declared.reply.Refusal.TheVariants.{NoEntry, NotDir, IsDir, Exists, NotEmpty, Denied, TooBig, TooMany, NoRoom, ReadOnly, Locked, OpenConflict, InUse, Loop, NoFileset, CrossFileset, NotLocked, NotOpened, AlreadyLocked, AlreadyOpened, NotHome}
+use Rattle.tree_calls.specs.declared.reply.Refusal.{Refusal}
+use Rattle.tree_calls.specs.declared.reply.Refusal.TheVariants.{NoEntry, NotDir, IsDir, Exists, NotEmpty, Denied, TooBig, TooMany, NoRoom, ReadOnly, Locked, OpenConflict, InUse, Loop, NoFileset, CrossFileset, NotLocked, NotOpened, AlreadyLocked, AlreadyOpened, NotHome}
 use Rattle.store_state.proofs.replies.refusal_at.Goals as goal
 
 -- the refusals, with a right that is told

@@ -1,5 +1,5 @@
 use Rattle.std.proofs.Common.{is_some, ap, ◌∙◌}
-use Rattle.tok_types.specs.Conflicts.{same_id}
+use Rattle.token_types.specs.Conflicts.{same_id}
 use Rattle.token_tests.proofs.Finding.{some_found}
 use Rattle.token_tests.proofs.tabling.is_there.Goals as goal
 

@@ -1,10 +1,10 @@
 use Rattle.std.proofs.Common.{◌≡◌, ℕ, List, Some, sym, ap, ◌∙◌}
 use Rattle.std.specs.Option.{option_copied, option_map_or}
-use Rattle.dfs_base.specs.declared.ids.FilesetId.{FilesetId}
-use Rattle.dfs_base.specs.declared.ids.HostId.{HostId}
-use Rattle.dfs_calls.specs.declared.reply.Refusal.TheVariants.{NoFileset}
-use Rattle.dfs_calls.specs.declared.reply.Reply.TheVariants.{Refused}
-use Rattle.dfs_calls.specs.declared.ship.Record.{Record}
+use Rattle.base_types.specs.declared.ids.FilesetId.{FilesetId}
+use Rattle.base_types.specs.declared.ids.HostId.{HostId}
+use Rattle.tree_calls.specs.declared.reply.Refusal.TheVariants.{NoFileset}
+use Rattle.tree_calls.specs.declared.reply.Reply.TheVariants.{Refused}
+use Rattle.tree_calls.specs.declared.ship.Record.{Record}
 use Rattle.store_state.specs.declared.state.StoreState.{StoreState}
 use Rattle.store_state.specs.Outcomes.{not_fresh, decided_by, decided_before}
 use Rattle.store_state.specs.State.{records_of, record_of}

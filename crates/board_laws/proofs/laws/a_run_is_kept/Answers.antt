@@ -1,5 +1,0 @@
-use Rattle.board_laws.proofs.Kept.{a_run_is_kept}
-use Rattle.board_laws.proofs.laws.a_run_is_kept.Goals as goal
-
-pub returns : goal.returns
-returns c = a_run_is_kept

@@ -1,7 +1,0 @@
-ghost use Rattle.cm_giveback.specs.GiveLaws.{Adds, TakesOut};
-
-/// Laws of give-backs: what is outstanding, named and counted after one was added, and after one was taken out.
-pub fn gives_law()
-    ensures adds { Adds }
-    ensures takes_out { TakesOut }
-{}

@@ -1,8 +1,0 @@
-use Rattle.cm_locks.proofs.Finding.{taken, dropped}
-use Rattle.cm_locks.proofs.laws.uses_law.Goals as goal
-
-pub returns-clause-taken : goal.returns-clause-taken
-returns-clause-taken c = taken
-
-pub returns-clause-dropped : goal.returns-clause-dropped
-returns-clause-dropped c = dropped

@@ -1,8 +1,0 @@
-use Rattle.std.proofs.Common.{◌≡◌, map, drop}
-use Rattle.std.specs.String.{string_bytes}
-use Rattle.command_words.specs.Plain.{are_plain}
-use Rattle.command_words.proofs.Refused.{awaited}
-use Rattle.command_words.proofs.plain.are_plain.Given as goal
-
-abbrev pub invariant-loop-word : goal.invariant-loop-word
-invariant-loop-word l = are_plain (awaited l.awaits (map string_bytes (drop l.word-index l.words))) ≡ are_plain (map string_bytes l.words)

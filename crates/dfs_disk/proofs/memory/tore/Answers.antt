@@ -1,5 +1,0 @@
-use Rattle.dfs_disk.proofs.Noted.{tore_reads}
-use Rattle.dfs_disk.proofs.memory.tore.Goals as goal
-
-pub returns-clause-reads : goal.returns-clause-reads
-returns-clause-reads c = λ start. tore_reads start c.args.acts.now.items c.push.new.self.items c.args.at c.args.len c.in_ok-push.ensures.items

@@ -1,7 +1,0 @@
-use Rattle.std.proofs.Common.{◌≡◌, ◌++◌, drop, map}
-use Rattle.dfs_filesets.specs.Founding.{anode_as_cloned}
-use Rattle.dfs_filesets.proofs.founding.anodes_as_cloned.Given as goal
-
--- the copies so far, and those of the anodes that are left
-abbrev pub invariant-loop-anode : goal.invariant-loop-anode
-invariant-loop-anode l = l.copies ++ map anode_as_cloned (drop l.anode-index l.anode-items) ≡ map anode_as_cloned l.anodes

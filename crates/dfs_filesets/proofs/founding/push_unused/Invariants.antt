@@ -1,6 +1,0 @@
-use Rattle.std.proofs.Common.{◌≡◌, ◌++◌, replicate}
-use Rattle.dfs_filesets.specs.Founding.{unused_anode}
-use Rattle.dfs_filesets.proofs.founding.push_unused.Given as goal
-
-abbrev pub invariant-loop : goal.invariant-loop
-invariant-loop l = l.anodes ≡ l.fn.anodes ++ replicate l.counter unused_anode

@@ -1,5 +1,0 @@
-use Rattle.dfs_filesets.proofs.Moved.{moved_is_the_same}
-use Rattle.dfs_filesets.proofs.laws.moved_is_the_same.Goals as goal
-
-pub returns : goal.returns
-returns c = moved_is_the_same

@@ -1,5 +1,0 @@
-use Rattle.dfs_filesets.proofs.Refusals as lemmas
-use Rattle.dfs_filesets.proofs.laws.refused_changes_nothing.Goals as goal
-
-pub returns : goal.returns
-returns c = lemmas.refused_changes_nothing

@@ -1,5 +1,0 @@
-use Rattle.dfs_filesets.proofs.Starts as lemmas
-use Rattle.dfs_filesets.proofs.laws.starts_well_formed.Goals as goal
-
-pub returns : goal.returns
-returns c = lemmas.starts_well_formed

@@ -1,5 +1,0 @@
-use Rattle.dfs_filesets.proofs.StaysWellFormed as lemmas
-use Rattle.dfs_filesets.proofs.laws.stays_well_formed.Goals as goal
-
-pub returns : goal.returns
-returns c = lemmas.stays_well_formed

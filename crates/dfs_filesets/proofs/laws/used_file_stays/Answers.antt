@@ -1,5 +1,0 @@
-use Rattle.dfs_filesets.proofs.Stays as lemmas
-use Rattle.dfs_filesets.proofs.laws.used_file_stays.Goals as goal
-
-pub returns : goal.returns
-returns c = lemmas.used_file_stays

@@ -1,5 +1,0 @@
-use Rattle.dfs_filesets.proofs.Writes as lemmas
-use Rattle.dfs_filesets.proofs.laws.write_changes_its_span.Goals as goal
-
-pub returns : goal.returns
-returns c = lemmas.write_changes_its_span

@@ -1,5 +1,0 @@
-use Rattle.dfs_saving.proofs.Apart.{roster_stays}
-use Rattle.dfs_saving.proofs.laws.roster_law.Goals as goal
-
-pub returns : goal.returns
-returns c = roster_stays

@@ -1,5 +1,0 @@
-use Rattle.dfs_saving.proofs.Apart.{stays_saved}
-use Rattle.dfs_saving.proofs.laws.saved_law.Goals as goal
-
-pub returns : goal.returns
-returns c = stays_saved

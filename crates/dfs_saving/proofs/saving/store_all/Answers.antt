@@ -1,8 +1,0 @@
-use Rattle.std.proofs.Common.{ap, ◌∙◌}
-use Rattle.dfs_tree.specs.Histories.{after_history}
-use Rattle.dfs_saving.proofs.Reached.{stores_all}
-use Rattle.dfs_saving.proofs.saving.store_all.Goals as goal
-
-pub returns : goal.returns
-returns c =
-    stores_all c.args.host c.args.tree.now _ _ c.in_ok-entries.ensures (c.in_ok-follow.ensures ∙ ap (λ entries. after_history c.args.tree.now entries) c.as_slice.ensures) c.requires.formed c.requires.apart

@@ -1,4 +1,0 @@
-use Rattle.dfs_service.proofs.disks.run_script.Given as goal
-
-abbrev pub ghosts-play_on : goal.ghosts-play_on
-ghosts-play_on g a = record { disks = a.count }

@@ -1,8 +1,0 @@
-use Rattle.dfs_tree.proofs.Kept.{formed_start, formed_entry}
-use Rattle.dfs_tree.proofs.laws.well_formed_law.Goals as goal
-
-pub returns-clause-start : goal.returns-clause-start
-returns-clause-start c = formed_start
-
-pub returns-clause-entry : goal.returns-clause-entry
-returns-clause-entry c = formed_entry

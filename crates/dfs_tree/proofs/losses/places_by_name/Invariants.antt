@@ -1,7 +1,0 @@
-use Rattle.std.proofs.Common.{◌≡◌, drop}
-use Rattle.dfs_tree.specs.Losses.{places_among, places_by_name}
-use Rattle.dfs_tree.proofs.losses.places_by_name.Given as goal
-
--- the places so far, and those that are left
-abbrev pub invariant-loop-place : goal.invariant-loop-place
-invariant-loop-place l = places_among l.filesets l.server l.places l.place (drop l.place l.fileset-items) ≡ places_by_name l.filesets l.server

@@ -1,0 +1,13 @@
+use Rattle.std.proofs.Common.{refl, arith}
+use Rattle.disk_log.specs.Log.{slot_of}
+use Rattle.disk_pages.specs.Puts.{SaysNumbers}
+use Rattle.disk_acts.proofs.Stepping.{page_steps, page_said}
+use Rattle.disk_acts.proofs.facts.say_own_numbers.Goals as goal
+
+pub returns-clause-says : goal.returns-clause-says
+returns-clause-says g c =
+    page_said g.D.Disk.tells g.D.Disk.view 1 1 (slot_of c.args.tx.now) (SaysNumbers c.args.kept.now) c.args.log.now c.put_numbers.new.log c.as_node.result c.put_numbers.result refl c.as_node.ensures (omega arith) (refl) c.put_numbers.ensures.put
+
+pub returns-clause-steps : goal.returns-clause-steps
+returns-clause-steps g c =
+    page_steps g.D.Disk.tells g.D.Disk.view 1 1 (SaysNumbers c.args.kept.now) c.args.log.now c.put_numbers.new.log c.args.tx.now c.put_numbers.new.tx c.as_node.result c.put_numbers.result refl c.put_numbers.ensures.tx c.as_node.ensures c.put_numbers.ensures.put

@@ -1,0 +1,31 @@
+-- The anodes of a slot, as an act leaves them.
+use Rattle.std.specs.Prelude.{◌≡◌, ◌<◌, ℕ, ◌+◌, true, List, [], ◌∷◌, slice_get, Option, Some, None, is_none}
+use Rattle.tree_objects.specs.declared.content.Anode.{Anode}
+use Rattle.tree_objects.specs.Changes.{anode_freed}
+use Rattle.disk_objects.specs.Objects.{anode_at, with_slot}
+
+-- an anode is this one; where there is none it has no object
+abbrev pub IsOne : Option Anode → Anode → Type 0
+IsOne (Some was) anode = anode ≡ was
+IsOne None anode = is_none anode.object ≡ true
+
+-- so is one of the anodes of a slot, and so are all
+abbrev pub IsAt : ℕ → ℕ → List Anode → (ℕ → List Anode) → Type 0
+IsAt slot at before slots = IsOne (slice_get before at) (anode_at (slots slot) (at + 1))
+
+abbrev pub AreAt : ℕ → List Anode → (ℕ → List Anode) → Type 0
+AreAt slot before slots = (at : ℕ) → at < 64 → IsAt slot at before slots
+
+-- the first anodes are these, and the others are freed
+abbrev pub replaced : List Anode → List Anode → List Anode
+replaced after [] = []
+replaced [] (x ∷ xs) = anode_freed x ∷ replaced [] xs
+replaced (y ∷ after) (x ∷ xs) = y ∷ replaced after xs
+
+abbrev pub slot_replaced : ℕ → List Anode → (ℕ → List Anode) → ℕ → List Anode
+slot_replaced slot after slots = with_slot slot (replaced after (slots slot)) slots
+
+-- one of them
+abbrev pub renewed : Option Anode → Anode → Anode
+renewed (Some is) was = is
+renewed None was = anode_freed was

@@ -1,0 +1,9 @@
+pub mod Records
+pub mod Acts
+pub mod Steps
+pub mod Anodes
+pub mod Touched
+pub mod Laws
+pub mod Stored
+pub mod Batch
+pub mod Passed

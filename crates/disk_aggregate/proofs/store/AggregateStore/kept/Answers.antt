@@ -1,0 +1,15 @@
+use Rattle.std.proofs.Common.{◌≡◌, sym, subst}
+use Rattle.std.specs.Prelude.{IfOk}
+use Rattle.store_memory.specs.Reading.{kept_of}
+use Rattle.store_state.specs.declared.state.StoreState.{StoreState}
+use Rattle.disk_aggregate.specs.Stands.{disk_in}
+use Rattle.disk_aggregate.proofs.Asked.{asked_still}
+use Rattle.disk_aggregate.proofs.Seen.{seen_open}
+use Rattle.disk_aggregate.proofs.store.AggregateStore.kept.Goals as goal
+
+pub returns-clause-kept : goal.returns-clause-kept
+returns-clause-kept g c = λ told. subst (λ (s : StoreState). IfOk c.kept.result (λ kept. kept ≡ kept_of s)) (sym (seen_open g.D.Disk.view c.args.self.now c.requires.ready.0)) (c.kept.ensures.kept tt)
+
+pub returns-clause-asked : goal.returns-clause-asked
+returns-clause-asked g c =
+    asked_still g.D.Disk.tells g.D.Disk.view c.args.self.now c.requires.ready (λ told. g.met.D.Disk.has_bytes (disk_in c.args.self.now) told) c.kept.result c.kept.new.self c.kept.ensures.asked

@@ -1,0 +1,5 @@
+pub mod Laid
+pub mod Places
+pub mod Kept
+pub mod Adding
+pub mod AclLaid

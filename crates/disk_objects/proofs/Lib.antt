@@ -1,0 +1,15 @@
+pub mod Sums
+pub mod Totals
+pub mod Nodes
+pub mod Turning
+pub mod Calls
+pub mod Staying
+pub mod Few
+pub mod Staging
+pub mod Room
+pub mod Ending
+pub mod Starting
+pub mod Places
+pub mod Keeping
+pub mod Contents
+pub mod ObjectRoom

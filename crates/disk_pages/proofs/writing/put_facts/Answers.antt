@@ -1,0 +1,10 @@
+use Rattle.std.proofs.Common.{subst, sym}
+use Rattle.disk_log.specs.Log.{slot_of}
+use Rattle.disk_pages.specs.Puts.{SaysFacts}
+use Rattle.disk_pages.proofs.PutOne.{says_more}
+use Rattle.disk_pages.proofs.writing.put_facts.Goals as goal
+
+pub returns-clause-put : goal.returns-clause-put
+returns-clause-put g c =
+    says_more g.D.Disk.tells g.D.Disk.view (slot_of c.args.tx.now) 0 _ (SaysFacts c.args.facts.now) c.put_page.result c.args.log.now c.put_page.new.log
+    (λ told bytes e. subst (SaysFacts c.args.facts.now) (sym e) (record { says = c.server_page-bytes.ensures.facts; sound = c.server_page-bytes.ensures.page })) c.put_page.ensures.put

@@ -1,0 +1,10 @@
+pub mod Words
+pub mod Server
+pub mod Numbers
+pub mod Header
+pub mod Anode
+pub mod Blocks
+pub mod Fields
+pub mod Sound
+pub mod Laws
+pub mod Puts

@@ -1,0 +1,17 @@
+pub mod Hosts
+pub mod Stated
+pub mod New
+pub mod Read
+pub mod Right
+pub mod There
+pub mod Parts
+pub mod MountSlots
+pub mod Mounted
+pub mod Told
+pub mod Held
+pub mod Unrefused
+pub mod Limits
+pub mod LoadSlots
+pub mod Looked
+pub mod LoadStated
+pub mod Formatted

@@ -1,5 +1,0 @@
-use Rattle.entry_laws.proofs.Calls.{calls_keep_all, downs_keep_all}
-use Rattle.entry_laws.proofs.laws.keep_law.Goals as goal
-
-pub returns : goal.returns
-returns c = record { calls = calls_keep_all; downs = downs_keep_all }

@@ -1,6 +1,0 @@
-use Rattle.std.proofs.Common.{◌≡◌, replicate}
-use Rattle.dfs_filesets.specs.Founding.{unused_anode}
-use Rattle.ep_acts.proofs.touched.unused_anodes.Given as goal
-
-abbrev pub invariant-loop-at : goal.invariant-loop-at
-invariant-loop-at l = l.anodes ≡ replicate l.at unused_anode

@@ -1,6 +1,0 @@
-pub mod Records
-pub mod Acts
-pub mod Steps
-pub mod Anodes
-pub mod Touched
-pub mod Laws

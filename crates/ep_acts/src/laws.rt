@@ -1,8 +1,0 @@
-// Laws of the acts.
-ghost use Rattle.ep_acts.specs.Laws.{ActsKeepTables, StaleActsChangeNothing};
-
-/// Acts keep the sizes of a store's tables, and one that isn't done now leaves all as it is.
-pub fn tables_law()
-    ensures tables { ActsKeepTables }
-    ensures stale { StaleActsChangeNothing }
-{}

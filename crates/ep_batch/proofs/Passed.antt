@@ -1,3 +1,0 @@
--- What those above a batch name of acts on a log.
-pub use Rattle.ep_acts.proofs.Same.{record_same}
-pub use Rattle.ep_acts.proofs.Transacting.{stage_now, now_stage}

@@ -1,5 +1,0 @@
-use Rattle.ep_batch.proofs.Promised.{many_free}
-use Rattle.ep_batch.proofs.promises.promises_leave_room.Goals as goal
-
-pub returns : goal.returns
-returns g c = λ state told rests trimmed. many_free g.D.Disk.tells g.D.Disk.view c.args.log.now state rests told trimmed

@@ -1,2 +1,0 @@
--- What those above a batch name of acts on a log.
-pub use Rattle.ep_acts.specs.Records.{HasStage, HasNow}

@@ -1,8 +1,0 @@
-use Rattle.std.proofs.Common.{◌≡◌, ℕ, List, []}
-use Rattle.ep_check.proofs.Refusing.{headers_part}
-use Rattle.ep_image.specs.Joined.{joined}
-use Rattle.ep_judge.specs.Metadata.{over}
-use Rattle.ep_check.proofs.mountable.undeclared.Given as goal
-
-abbrev pub invariant-loop-slot : goal.invariant-loop-slot
-invariant-loop-slot l = (image : List ℕ) → joined (headers_part l.servers (over l.metadata image)) l.slot ≡ []

@@ -1,7 +1,0 @@
-use Rattle.std.proofs.Common.{◌≡◌, List, take}
-use Rattle.dfs_calls.specs.declared.part.DirEntry.{DirEntry}
-use Rattle.ep_dir.specs.Entries.{AreEntries}
-use Rattle.ep_dir.proofs.bytes.entries_in.Given as goal
-
-abbrev pub invariant-loop-i : goal.invariant-loop-i
-invariant-loop-i l = (entries : List DirEntry) → AreEntries entries l.bytes → l.made ≡ take l.i entries

@@ -1,6 +1,0 @@
-pub mod Kept
-pub mod Zeros
-pub mod Tests
-pub mod ServerPages
-pub mod NumberPages
-pub mod HeaderPages

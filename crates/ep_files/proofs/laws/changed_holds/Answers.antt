@@ -1,6 +1,0 @@
-use Rattle.ep_files.proofs.Calls.{holds_changed}
-use Rattle.ep_files.proofs.laws.changed_holds.Goals as goal
-
-pub returns : goal.returns
-returns c = λ anodes page update old new before after is held rest changed writes bare.
-    holds_changed anodes page is update old new before after rest held changed writes bare

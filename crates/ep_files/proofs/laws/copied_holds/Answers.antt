@@ -1,6 +1,0 @@
-use Rattle.ep_files.proofs.Calls.{holds_copied}
-use Rattle.ep_files.proofs.laws.copied_holds.Goals as goal
-
-pub returns : goal.returns
-returns c = λ anodes from page old new before after is_from is apart held rest free made shares writes clear.
-    holds_copied anodes from page is_from is apart old new before after rest held free made shares writes clear

@@ -1,5 +1,0 @@
-use Rattle.ep_files.proofs.Ending.{holds_ended}
-use Rattle.ep_files.proofs.laws.ended_holds.Goals as goal
-
-pub returns : goal.returns
-returns c = λ anodes old new image slot held whole alone appends. holds_ended anodes old new image slot held whole alone appends

@@ -1,5 +1,0 @@
-use Rattle.ep_files.proofs.Ending.{holds_forced}
-use Rattle.ep_files.proofs.laws.forced_holds.Goals as goal
-
-pub returns : goal.returns
-returns c = λ anodes old new many held keeps same. holds_forced anodes old new many held keeps same

@@ -1,5 +1,0 @@
-use Rattle.ep_files.proofs.Ending.{holds_left}
-use Rattle.ep_files.proofs.laws.left_holds.Goals as goal
-
-pub returns : goal.returns
-returns c = λ anodes told generation d c k left first stages. holds_left anodes told generation d c k left first stages

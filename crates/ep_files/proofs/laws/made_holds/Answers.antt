@@ -1,5 +1,0 @@
-use Rattle.ep_files.proofs.Calls.{holds_made}
-use Rattle.ep_files.proofs.laws.made_holds.Goals as goal
-
-pub returns : goal.returns
-returns c = λ anodes page anode old new before after is held rest free quiet made bare. holds_made anodes page is anode old new before after rest held free quiet made bare

@@ -1,5 +1,0 @@
-use Rattle.ep_files.proofs.Starting.{holds_new}
-use Rattle.ep_files.proofs.laws.new_holds.Goals as goal
-
-pub returns : goal.returns
-returns c = λ blocks pages image blank. holds_new blocks pages image blank

@@ -1,5 +1,0 @@
-use Rattle.ep_image.proofs.Images.{image_there}
-use Rattle.ep_image.proofs.laws.image_law.Goals as goal
-
-pub returns : goal.returns
-returns c = image_there

@@ -1,5 +1,0 @@
-use Rattle.ep_judge.specs.Reach.{AreWithin}
-use Rattle.ep_judge.proofs.reach.reach.Given as goal
-
-abbrev pub invariant-loop-steps : goal.invariant-loop-steps
-invariant-loop-steps l = AreWithin l.links l._steps l.reached

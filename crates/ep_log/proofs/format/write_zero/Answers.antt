@@ -1,6 +1,0 @@
-use Rattle.std.proofs.Common.{arith}
-use Rattle.dfs_outside.proofs.Image.{bytes_from-before}
-use Rattle.ep_log.proofs.format.write_zero.Goals as goal
-
-pub returns-clause-others : goal.returns-clause-others
-returns-clause-others g c = λ told p lt. bytes_from-before _ _ _ _ _ 512 (c.write_at.ensures.torn told) (omega arith)

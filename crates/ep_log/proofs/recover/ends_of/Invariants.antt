@@ -1,6 +1,0 @@
-use Rattle.std.proofs.Common.{take}
-use Rattle.ep_log.specs.Recovered.{AreEnds}
-use Rattle.ep_log.proofs.recover.ends_of.Given as goal
-
-abbrev pub invariant-loop-entry : goal.invariant-loop-entry
-invariant-loop-entry l = record { ended : AreEnds l.ended (take l.entry-index l.entries) }

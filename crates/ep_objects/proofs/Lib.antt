@@ -1,4 +1,0 @@
-pub mod Places
-pub mod Keeping
-pub mod Contents
-pub mod Room

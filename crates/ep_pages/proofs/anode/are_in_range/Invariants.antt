@@ -1,8 +1,0 @@
-use Rattle.std.proofs.Common.{◌≡◌, ℕ}
-use Rattle.std.specs.Prelude.{◌+◌, ◌*◌, ◌/◌, ◌==◌, ◌&&◌, ◌||◌, not, nat_le, nat_lt, true}
-use Rattle.ep_pages.specs.Anode.{page_pointer}
-use Rattle.ep_pages.specs.Words.{each_below}
-use Rattle.ep_pages.proofs.anode.are_in_range.Given as goal
-
-abbrev pub invariant-loop-w : goal.invariant-loop-w
-invariant-loop-w l = each_below (λ (w : ℕ). nat_le (page_pointer w l.page) l.fn.blocks) l.w ≡ true

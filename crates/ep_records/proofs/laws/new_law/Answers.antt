@@ -1,5 +1,0 @@
-use Rattle.ep_records.proofs.New.{empty_is_new}
-use Rattle.ep_records.proofs.laws.new_law.Goals as goal
-
-pub returns : goal.returns
-returns c = empty_is_new

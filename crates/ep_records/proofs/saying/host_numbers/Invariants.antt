@@ -1,5 +1,0 @@
-use Rattle.ep_records.proofs.Hosts.{AreSaid}
-use Rattle.ep_records.proofs.saying.host_numbers.Given as goal
-
-abbrev pub invariant-loop-host : goal.invariant-loop-host
-invariant-loop-host l = AreSaid l.hosts l.host l.numbers

@@ -1,4 +1,0 @@
-pub mod Record
-pub mod Said
-pub mod Stored
-pub mod Laws

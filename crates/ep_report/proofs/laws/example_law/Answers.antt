@@ -1,8 +1,0 @@
-use Rattle.std.proofs.Common.{refl}
-use Rattle.std.specs.Fmt.{digits}
-use Rattle.ep_report.specs.Text.{fault_line, disk_lines, report_text}
-use Rattle.ep_report.proofs.laws.example_law.Goals as goal
-
-pub returns : goal.returns
-unfolding report_text disk_lines fault_line digits
-returns c = refl

@@ -1,6 +1,0 @@
-use Rattle.std.proofs.Common.{◌<◌, ℕ}
-use Rattle.ep_space.specs.Counts.{AreBothZero}
-use Rattle.ep_space.proofs.counts.first_zero.Given as goal
-
-abbrev pub invariant-loop-i : goal.invariant-loop-i
-invariant-loop-i l = (i : ℕ) → i < l.i → AreBothZero l.now l.settled i → ⊥

@@ -1,5 +1,0 @@
-use Rattle.episode_tests.specs.Ready.{IsReady}
-use Rattle.episode_tests.proofs.logs.batch.Given as goal
-
-abbrev pub invariant-loop-i : goal.invariant-loop-i
-invariant-loop-i g l = IsReady g.D.Disk.tells g.D.Disk.view l.log

@@ -1,5 +1,0 @@
-use Rattle.episode_tests.specs.Ready.{IsRead}
-use Rattle.episode_tests.proofs.looks.filled_with.Given as goal
-
-abbrev pub invariant-loop-i : goal.invariant-loop-i
-invariant-loop-i g l = IsRead g.D.Disk.tells g.D.Disk.view l.fn.log l.log

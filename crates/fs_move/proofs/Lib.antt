@@ -1,4 +1,0 @@
-pub mod Placing
-pub mod Standing
-pub mod Tests
-pub mod Settles

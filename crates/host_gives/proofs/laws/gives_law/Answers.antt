@@ -1,0 +1,8 @@
+use Rattle.host_gives.proofs.Adding.{adds, takes_out}
+use Rattle.host_gives.proofs.laws.gives_law.Goals as goal
+
+pub returns-clause-adds : goal.returns-clause-adds
+returns-clause-adds c = adds
+
+pub returns-clause-takes_out : goal.returns-clause-takes_out
+returns-clause-takes_out c = takes_out

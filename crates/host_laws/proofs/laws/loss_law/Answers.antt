@@ -1,5 +1,0 @@
-use Rattle.host_laws.proofs.LostAt.{all_losses_are_exact}
-use Rattle.host_laws.proofs.laws.loss_law.Goals as goal
-
-pub returns : goal.returns
-returns c = all_losses_are_exact

@@ -1,0 +1,77 @@
+ghost use Rattle.std.specs.Prelude.{◌≡◌, ◌+◌, ◌-◌, ◌≤◌, ◌<◌, ◌∷◌, ◌++◌, [], IsOk, OnOk, OnErr};
+
+use base_types::{Items, NoMemory};
+use run_rules::Step;
+use std::alloc::Global;
+use std::marker::Model;
+
+/// A node's steps that aren't in the hub's list yet. Contracts see them, in order, and how many more there is room for.
+#[derive(Drop)]
+pub struct Pending {
+    steps: Vec<Step>,
+}
+
+impl Model for Pending {
+    ghost use Rattle.std.specs.Prelude.{◌-◌, vec_len, vec_capacity};
+    ghost use Rattle.hub_board.specs.Pendings.{Waiting};
+
+    ghost Value = { Waiting };
+
+    ghost view = { λ p. record { steps = p.steps.items; spare = vec_capacity p.steps - vec_len p.steps } };
+}
+
+impl Pending {
+    /// No steps, and no room. It takes no memory.
+    pub fn new(alloc: Global) -> Pending
+        ensures { result ≡ record { steps = []; spare = 0 } }
+    {
+        Pending {
+            steps: Vec::new(alloc),
+        }
+    }
+
+    /// Makes room for so many more steps at least. The only error is that memory ran out; then nothing changes.
+    pub fn reserve(&mut self, steps: usize) -> Result<(), NoMemory>
+        ensures steps { self.new.steps ≡ self.old.steps }
+        ensures room { OnOk result (steps ≤ self.new.spare) }
+        ensures err { OnErr result (self.new ≡ self.old) }
+    {
+        self.steps.reserve(steps)?;
+        Ok(())
+    }
+
+    /// Adds a step. The only error is that memory ran out; then it isn't added. With room for it that can't be, and
+    /// there is room for one less.
+    pub fn push(&mut self, step: Step) -> Result<(), NoMemory>
+        ensures ok { OnOk result (self.new.steps ≡ self.old.steps ++ step ∷ []) }
+        ensures err { OnErr result (self.new.steps ≡ self.old.steps) }
+        ensures room { 0 < self.old.spare → IsOk result }
+        ensures less { 0 < self.old.spare → self.new.spare + 1 ≡ self.old.spare }
+    {
+        if self.steps.len() < self.steps.capacity() {
+            self.steps.push_reserved(step);
+            return Ok(());
+        }
+        self.steps.push(step)?;
+        Ok(())
+    }
+
+    /// The memory that the steps lie in.
+    pub fn alloc(&self) -> Global {
+        *self.steps.allocator()
+    }
+
+    /// The steps. It takes no memory.
+    pub fn as_slice(&self) -> &[Step]
+        ensures { result.now ≡ self.now.steps }
+    {
+        self.steps.as_slice()
+    }
+
+    /// Hands the steps out. It takes no memory.
+    pub fn into_items(self) -> Items<Step>
+        ensures { result ≡ self.steps }
+    {
+        Items::from_vec(self.steps)
+    }
+}

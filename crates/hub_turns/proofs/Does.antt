@@ -1,0 +1,195 @@
+-- What a node's turn does keeps what stays of a board, and adds a turn at most.
+use Rattle.std.proofs.Common.{◌≡◌, ℕ, ◌+◌, ◌<◌, ◌≤◌, rules, true, List, [], ◌∷◌, ◌++◌, length, drop, Option, None, Some, Bool, false, eq-eqb, length-append, refl, sym, ap, subst, ◌∙◌, arith}
+use Rattle.std.specs.Prelude.{IsSome, MatchBool, ◌↔◌}
+use Rattle.std.specs.Option.{option_to_list}
+use Rattle.std.proofs.lemmas.List.{append-nil}
+use Rattle.std.proofs.Math.Seq.{drop-append_seam}
+use Rattle.base_types.specs.declared.ids.Node.{Node}
+use Rattle.base_types.specs.declared.ids.Node.TheVariants.{Host, Server}
+use Rattle.script_lines.specs.Sound.{same_node}
+use Rattle.hub_cell.specs.Lists.{GrowsByOne, entries}
+use Rattle.hub_cell.specs.Passes.{CellView, IsTurn, PassView}
+use Rattle.hub_cell.proofs.Uses.{turn_makes, turn_stays}
+use Rattle.hub_board.specs.Hubs.{AreGiven, Hubbed, after}
+use Rattle.hub_board.specs.Turning.{HasTurned, IsOf, IsUntouched, Posted, entered}
+use Rattle.hub_board.specs.declared.given.Gift.{Gift}
+use Rattle.hub_board.specs.declared.given.Given.{Given}
+use Rattle.hub_board.specs.declared.given.Turn.{Turn}
+use Rattle.hub_board.proofs.Goings.{goes_on}
+use Rattle.hub_turns.specs.Meetings.{Does, HasPassed, IsRefused, IsUsed, Refused, Turned, first_of}
+use Rattle.hub_turns.specs.Views.{AreOf, HubView, NodeView}
+use Rattle.hub_turns.specs.declared.meeting.HubTurn.{HubTurn}
+use Rattle.run_rules.specs.declared.step.Step.{Step}
+
+node_self : (n : Node) → same_node n n ≡ true
+node_self (Host h) = eq-eqb h.0 h.0 refl
+node_self (Server v) = eq-eqb v.0 v.0 refl
+
+one_at_most : (node : Node) (steps : List Step) (gift : Option Gift) → length (entered node steps gift) ≤ 1
+one_at_most node [] None = omega arith
+one_at_most node [] (Some gift) = omega arith
+one_at_most node (s ∷ steps) gift = omega arith
+
+by_flag : (b : Bool) (work work' : HubTurn) (before now : Posted)
+    → MatchBool b (Refused before now work work') (Turned before now work work') → GrowsByOne before.turns now.turns
+by_flag true work work' before now d = ([], omega arith, d.untouched.turns ∙ sym (append-nil before.turns))
+by_flag false work work' before now d =
+    (entered work.node work.steps.steps d.turned.gift_is, one_at_most work.node work.steps.steps d.turned.gift_is, d.turned.turns)
+
+pub does_grows : (work work' : HubTurn) (before now : Posted) → Does work before work' now
+    → GrowsByOne before.turns now.turns
+does_grows work work' before now d = by_flag work'.refused work work' before now d
+
+untouched : (first : Hubbed) (before now : Posted) → IsOf first before → IsUntouched before now → IsOf first now
+untouched first before now o u = record {
+  hub = u.hub ∙ o.hub ∙ ap (after first) (sym u.turns);
+  given = subst (AreGiven first) (sym u.turns) o.given;
+}
+
+stays_by : (b : Bool) (first : Hubbed) (work work' : HubTurn) (before now : Posted)
+    → MatchBool b (Refused before now work work') (Turned before now work work') → IsOf first before → IsOf first now
+stays_by true first work work' before now d o = untouched first before now o d.untouched
+stays_by false first work work' before now d o =
+    goes_on first before now work.node work.steps.steps (first_of work'.given.items) o d.turned
+
+pub does_stays : (first : Hubbed) (work work' : HubTurn) (before now : Posted) → Does work before work' now
+    → IsOf first before → IsOf first now
+does_stays first work work' before now d o = stays_by work'.refused first work work' before now d o
+
+-- what was made is the turn
+made_is : (before now : Posted) (es made : List Turn) → now.turns ≡ before.turns ++ es → now.turns ≡ before.turns ++ made
+    → made ≡ es
+made_is before now es made e m =
+    sym (drop-append_seam before.turns made) ∙ ap (drop (length before.turns)) (sym m ∙ e)
+    ∙ drop-append_seam before.turns es
+
+-- a hub, by its cell
+abbrev pub hub_of : CellView Posted → HubView
+hub_of cell = record { id = cell.id; nodes = cell.seats; first = cell.first.hub }
+
+-- a turn of a node at a hub
+pub passed : (hub : HubView) (pass pass' : NodeView) (work work' : HubTurn) (u : IsUsed hub.first pass pass' work work')
+    → work.node ≡ pass.node → work'.refused ≡ false → (steps : List Step) → work.steps.steps ≡ steps
+    → (given : Option Given) → first_of work'.given.items ≡ given → HasPassed hub pass pass' steps given
+passed hub pass pass' work work' u node went steps same given is =
+    let d = subst (λ b. MatchBool b (Refused u.before u.now work work') (Turned u.before u.now work work')) went u.done in
+    let turned : HasTurned u.before u.now pass.node steps given =
+    subst (λ g. HasTurned u.before u.now pass.node steps g) is
+    (subst (λ ss. HasTurned u.before u.now pass.node ss (first_of work'.given.items)) same
+    (subst (λ n. HasTurned u.before u.now n work.steps.steps (first_of work'.given.items)) node d.turned)) in
+    let made = made_is u.before u.now (entered pass.node steps turned.gift_is) u.made turned.turns u.grown in
+    record {
+      before = u.before;
+      now = u.now;
+      known = u.known;
+      was = u.was;
+      is = u.is;
+      turned = turned;
+      pass_is = u.pass_is ∙ ap (λ es. record {
+        node = pass.node;
+        hub = pass.hub;
+        seen = u.now.turns;
+        made = pass.made ++ es;
+      }) made;
+    }
+
+pub given_one : (hub : HubView) (pass pass' : NodeView) (work work' : HubTurn) → IsUsed hub.first pass pass' work work'
+    → work'.refused ≡ false → length work'.given.items ≤ 1
+given_one hub pass pass' work work' u went =
+    (subst (λ b. MatchBool b (Refused u.before u.now work work') (Turned u.before u.now work work')) went u.done).one
+
+-- what is popped of one
+pub popped : (items rest : List Given) (given : Given) → items ≡ rest ++ given ∷ [] → length items ≤ 1
+    → first_of items ≡ Some given
+popped items [] given e few = ap first_of e
+popped items (x ∷ rest) given e few =
+    absurd (let more = ap length e in let size = length-append rest (given ∷ []) in omega arith)
+
+no_some : (let none : Option Given = None in IsSome none) → ⊥
+no_some some = search (rules, some)
+
+pub popped_is : (items rest : List Given) (o : Option Given) (old new : ℕ) → items ≡ rest ++ option_to_list o
+    → old ≡ length items → new ≡ length rest → new + length (option_to_list o) ≡ old
+    → (IsSome o ↔ (0 < old)) → length items ≤ 1 → first_of items ≡ o
+popped_is items rest (Some given) old new e len rest_len both variant few = popped items rest given e few
+popped_is [] rest None old new e len rest_len both variant few = refl
+popped_is (x ∷ items) rest None old new e len rest_len both variant few =
+    let more : 0 < old = omega arith in
+    absurd (no_some (variant.1 more))
+
+-- a turn for which memory ran out
+pub refused : (hub : HubView) (pass pass' : NodeView) (work work' : HubTurn) → IsUsed hub.first pass pass' work work'
+    → work'.refused ≡ true → IsRefused pass pass'
+refused hub pass pass' work work' u failed =
+    let d = subst (λ b. MatchBool b (Refused u.before u.now work work') (Turned u.before u.now work work')) failed u.done in
+    let none = made_is u.before u.now [] u.made (d.untouched.turns ∙ sym (append-nil u.before.turns)) u.grown in
+    let seen : pass'.seen ≡ u.now.turns = ap (λ (p : NodeView). p.seen) u.pass_is in
+    record {
+      known = (u.known.0, seen ∙ d.untouched.turns ∙ u.known.1);
+      pass_is = u.pass_is ∙ (λ i. record {
+        node = pass.node;
+        hub = pass.hub;
+        seen = sym seen i;
+        made = (ap (λ es. pass.made ++ es) none ∙ append-nil pass.made) i;
+      });
+    }
+
+-- the pass stays its node's and the hub's
+pub same_pass : (first : Hubbed) (pass pass' : NodeView) (work work' : HubTurn) → IsUsed first pass pass' work work'
+    → (pass'.node ≡ pass.node) × (pass'.hub ≡ pass.hub)
+same_pass first pass pass' work work' u =
+    (ap (λ (p : NodeView). p.node) u.pass_is, ap (λ (p : NodeView). p.hub) u.pass_is)
+
+-- the turns that a turn adds are its node's
+entered_own : (node : Node) (steps : List Step) (gift : Option Gift) → AreOf node (entered node steps gift)
+entered_own node [] None = tt
+entered_own node [] (Some gift) = (node_self node, tt)
+entered_own node (s ∷ steps) gift = (node_self node, tt)
+
+own_more : (node : Node) (made es : List Turn) → AreOf node made → AreOf node es → AreOf node (made ++ es)
+own_more node [] es h k = k
+own_more node (t ∷ made) es h k = (h.0, own_more node made es h.1 k)
+
+made_own : (b : Bool) (node : Node) (work work' : HubTurn) (before now : Posted) (made : List Turn)
+    → work.node ≡ node → now.turns ≡ before.turns ++ made
+    → MatchBool b (Refused before now work work') (Turned before now work work') → AreOf node made
+made_own false node work work' before now made is grown d =
+    let m = made_is before now (entered work.node work.steps.steps d.turned.gift_is) made d.turned.turns grown in
+    subst (AreOf node) (sym (m ∙ ap (λ n. entered n work.steps.steps d.turned.gift_is) is))
+    (entered_own node work.steps.steps d.turned.gift_is)
+made_own true node work work' before now made is grown d =
+    let m = made_is before now [] made (d.untouched.turns ∙ sym (append-nil before.turns)) grown in
+    subst (AreOf node) (sym m) tt
+
+-- the pass of a cell that a node's pass is, after a turn
+module _ (first : Hubbed) (node : Node) (pass pass' : PassView Turn) (work work' : HubTurn) (is : work.node ≡ node)
+    (t : IsTurn (λ (m : Posted). m.turns) (λ now. IsOf first now) Does pass pass' work work') where
+  abbrev view : PassView Turn → NodeView
+  view p = record { node = node; hub = p.cell; seen = p.seen; made = entries p.made }
+
+  pub used : IsUsed first (view pass) (view pass') work work'
+  used = record {
+    before = t.before;
+    now = t.after;
+    known = t.known;
+    was = t.fits.0;
+    is = t.fits.1;
+    done = t.done;
+    made = t.added;
+    grown = t.grown;
+    pass_is = λ i. record {
+      node = node;
+      hub = (turn_stays (λ (m : Posted). m.turns) (λ now. IsOf first now) Does pass pass' work work' t).0 i;
+      seen = ap (λ (p : PassView Turn). p.seen) t.pass_is i;
+      made = turn_makes (λ (m : Posted). m.turns) (λ now. IsOf first now) Does pass pass' work work' t t.added t.grown i;
+    };
+  }
+
+  pub rests : (pass.spare ≡ 0) × AreOf node (entries pass.made) → (pass'.spare ≡ 0) × AreOf node (entries pass'.made)
+  rests h = (
+    (turn_stays (λ (m : Posted). m.turns) (λ now. IsOf first now) Does pass pass' work work' t).1 ∙ h.0,
+    subst (AreOf node)
+        (sym (turn_makes (λ (m : Posted). m.turns) (λ now. IsOf first now) Does pass pass' work work' t t.added t.grown))
+        (own_more node (entries pass.made) t.added h.1
+        (made_own work'.refused node work work' t.before t.after t.added is t.grown t.done)),
+  )

@@ -1,0 +1,17 @@
+use Rattle.std.proofs.Common.{ap, subst, ◌∙◌}
+use Rattle.hub_board.specs.Turning.{IsOf, Posted}
+use Rattle.hub_turns.specs.Views.{HubView}
+use Rattle.hub_turns.proofs.Passes.{all_seats, ended}
+use Rattle.hub_turns.proofs.hub.Hub.close.Goals as goal
+
+pub close-requires-after_bounds : goal.close-requires-after_bounds
+close-requires-after_bounds c κs =
+    all_seats c.self.inside.cell c.args.self c.args.passes.items c.bare_of.result.items
+    (ap (λ (h : HubView). h.id) c.self.view_is) (ap (λ (h : HubView). h.nodes) c.self.view_is) c.bare_of.ensures
+    c.requires
+
+pub returns-clause-ok : goal.returns-clause-ok
+returns-clause-ok c =
+    ended c.args.self c.args.passes.items c.bare_of.result.items c.in-Ok.meeting c.into_turns.result c.bare_of.ensures
+    (subst (λ first. IsOf first c.in-Ok.meeting) (ap (λ (h : HubView). h.first) c.self.view_is) c.in-Ok.ensures.0)
+    c.in-Ok.ensures.1 (c.into_turns.ensures ∙ ap (λ (board : Posted). board.turns) c.meeting.view_is)

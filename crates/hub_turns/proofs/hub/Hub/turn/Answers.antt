@@ -1,0 +1,27 @@
+use Rattle.std.proofs.Common.{ap, subst}
+use Rattle.hub_board.specs.Pendings.{Waiting}
+use Rattle.hub_turns.specs.Meetings.{HasPassed}
+use Rattle.hub_turns.proofs.Does.{given_one, hub_of, passed, popped_is, refused, same_pass}
+use Rattle.hub_turns.proofs.hub.Hub.turn.Goals as goal
+
+pub returns-then-refused-clause-err : goal.returns-then-refused-clause-err
+returns-then-refused-clause-err g c =
+    let hub = hub_of c.self.inside.cell in
+    refused hub _ _ _ _ c.take_turn.ensures c.if-refused.true
+
+pub returns-clause-ok : goal.returns-clause-ok
+returns-clause-ok g c =
+    let hub = hub_of c.self.inside.cell in
+    let one = given_one hub _ _ _ _ c.take_turn.ensures c.if-refused.false in
+    let first = popped_is _ _ c.pop.result _ _ c.pop.ensures.items c.take_turn.new.turn.given.ok.0 c.pop.new.self.ok.0 c.pop.ensures.len c.pop.ensures.variant one in
+    subst (λ h. HasPassed h c.args.pass.now c.take_turn.new.self c.args.steps.now.steps c.pop.result) c.self.view_is
+    (passed hub _ _ _ _ c.take_turn.ensures c.node.ensures c.if-refused.false c.args.steps.now.steps
+    (ap (λ (w : Waiting). w.steps) c.replace.ensures.value) c.pop.result first)
+
+pub returns-clause-same : goal.returns-clause-same
+returns-clause-same g c =
+    same_pass _ _ _ _ _ c.take_turn.ensures
+
+pub returns-then-refused-clause-same : goal.returns-then-refused-clause-same
+returns-then-refused-clause-same g c =
+    same_pass _ _ _ _ _ c.take_turn.ensures

@@ -1,0 +1,25 @@
+use Rattle.std.proofs.Common.{sym, ap, ◌∙◌, subst}
+use Rattle.hub_cell.specs.Lists.{entries}
+use Rattle.hub_turns.specs.Meetings.{IsUsed}
+use Rattle.hub_turns.specs.Views.{NodeView}
+use Rattle.hub_turns.proofs.Does.{rests, used}
+use Rattle.hub_turns.proofs.pass.NodePass.take_turn.Goals as goal
+
+pub invariant_of-self : goal.invariant_of-self
+invariant_of-self g c =
+    let is = c.requires.node ∙ sym (ap (λ (v : NodeView). v.node) c.self.view_is) in
+    rests c.args.cell.now.first.hub c.self.inside.node c.self.inside.pass c.turn.new.pass c.args.turn.now c.turn.new.work
+    is c.turn.ensures c.self.invariant
+
+pub returns : goal.returns
+returns g c =
+    let is = c.requires.node ∙ sym (ap (λ (v : NodeView). v.node) c.self.view_is) in
+    let now : NodeView = record {
+      node = c.self.inside.node;
+      hub = c.turn.new.pass.cell;
+      seen = c.turn.new.pass.seen;
+      made = entries c.turn.new.pass.made;
+    } in
+    subst (λ v. IsUsed c.args.cell.now.first.hub v now c.args.turn.now c.turn.new.work) c.self.view_is
+    (used c.args.cell.now.first.hub c.self.inside.node c.self.inside.pass c.turn.new.pass c.args.turn.now
+    c.turn.new.work is c.turn.ensures)

@@ -1,8 +1,0 @@
-use Rattle.image_laws.proofs.Fresh.{fresh_none, count_is_told}
-use Rattle.image_laws.proofs.fresh_law.Goals as goal
-
-pub returns-clause-none : goal.returns-clause-none
-returns-clause-none c = fresh_none
-
-pub returns-clause-count : goal.returns-clause-count
-returns-clause-count c = count_is_told

@@ -1,4 +1,0 @@
-pub mod Fresh
-pub mod Reached
-pub mod Formed
-pub mod Mounted

@@ -1,9 +1,0 @@
-pub mod Told
-pub mod Ships
-pub mod Pieces
-pub mod Rooms
-pub mod Splits
-pub mod Numbers
-pub mod Parts
-pub mod Leaving
-pub mod Goes

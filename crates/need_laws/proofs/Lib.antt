@@ -1,0 +1,16 @@
+pub mod Lists
+pub mod Founds
+pub mod Rooms
+pub mod Rows
+pub mod Same
+pub mod Elsewhere
+pub mod Wanted
+pub mod Replies
+pub mod Idle
+pub mod Moves
+pub mod Uses
+pub mod Decided
+pub mod Refused
+pub mod Contents
+pub mod Calls
+pub mod Others

@@ -1,9 +1,0 @@
-pub mod Parts
-pub mod Read
-pub mod Spelled
-pub mod Firsts
-pub mod Counted
-pub mod Faultless
-pub mod Orderly
-pub mod Ordered
-pub mod Judged

@@ -1,8 +1,0 @@
-use Rattle.object_laws.proofs.Faultless.{faultless_keeps, faultless_in_order}
-use Rattle.object_laws.proofs.faultless_law.Goals as goal
-
-pub returns-clause-keeps : goal.returns-clause-keeps
-returns-clause-keeps c = λ disk clean bytes. faultless_keeps disk clean bytes
-
-pub returns-clause-order : goal.returns-clause-order
-returns-clause-order c = λ disk clean. faultless_in_order disk clean

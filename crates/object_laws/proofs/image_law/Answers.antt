@@ -1,8 +1,0 @@
-use Rattle.object_laws.proofs.Read.{anode_read, fileset_read}
-use Rattle.object_laws.proofs.image_law.Goals as goal
-
-pub returns-clause-anode : goal.returns-clause-anode
-returns-clause-anode c = λ disk slots keeps slot anode low some few. anode_read disk slots keeps slot anode low some few
-
-pub returns-clause-fileset : goal.returns-clause-fileset
-returns-clause-fileset c = λ disk slots keeps slot low few. fileset_read disk slots keeps slot low few

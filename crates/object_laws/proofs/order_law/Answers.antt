@@ -1,5 +1,0 @@
-use Rattle.object_laws.proofs.Orderly.{kept_in_order}
-use Rattle.object_laws.proofs.order_law.Goals as goal
-
-pub returns : goal.returns
-returns c = λ disk slots keeps. kept_in_order disk slots keeps

@@ -1,3 +1,0 @@
-pub mod Same
-pub mod Pages
-pub mod Lists

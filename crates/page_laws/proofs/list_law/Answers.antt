@@ -1,8 +1,0 @@
-use Rattle.page_laws.proofs.Lists.{saved_is_read, read_is_saved}
-use Rattle.page_laws.proofs.list_law.Goals as goal
-
-pub returns-clause-read : goal.returns-clause-read
-returns-clause-read c = saved_is_read
-
-pub returns-clause-saved : goal.returns-clause-saved
-returns-clause-saved c = read_is_saved

@@ -1,6 +1,0 @@
-use Rattle.std.proofs.Common.{◌≡◌, ◌+◌, take}
-use Rattle.plain_service.specs.Underway.{Ends}
-use Rattle.plain_service.proofs.past.Past.end_uses.Given as goal
-
-abbrev pub invariant-loop-used : goal.invariant-loop-used
-invariant-loop-used l = record { ends : Ends l.host l.calls (take l.used-index l.uses) l.initial.self l.self; number : l.k ≡ l.calls + l.used-index }

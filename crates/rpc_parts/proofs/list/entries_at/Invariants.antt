@@ -1,9 +1,0 @@
-use Rattle.std.proofs.Common.{◌≡◌, []}
-use Rattle.rpc_parts.specs.Access.{access_from}
-use Rattle.rpc_parts.proofs.list.entries_at.Given as goal
-
-abbrev pub invariant-loop-lacking : goal.invariant-loop-lacking
-invariant-loop-lacking l = access_from l.lacking l.entries l.rest ≡ access_from l.count [] l.bytes
-
-abbrev pub decreases-loop-lacking : goal.decreases-loop-lacking
-decreases-loop-lacking l = l.lacking

@@ -1,7 +1,0 @@
-use Rattle.std.proofs.Common.{◌≡◌, ◌++◌, drop}
-use Rattle.rpc_parts.specs.Spelled.{items}
-use Rattle.rpc_parts.specs.Access.{spell_access_entry}
-use Rattle.rpc_parts.proofs.list.write_entries.Given as goal
-
-abbrev pub invariant-loop-entry : goal.invariant-loop-entry
-invariant-loop-entry l = l.out ++ (items spell_access_entry (drop l.entry-index l.entries)).bytes ≡ l.initial.out ++ (items spell_access_entry l.entries).bytes

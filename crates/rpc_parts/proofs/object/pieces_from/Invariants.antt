@@ -1,7 +1,0 @@
-use Rattle.std.proofs.Common.{◌≡◌, ◌-◌}
-use Rattle.rpc_parts.specs.Objects.{pieces_from}
-use Rattle.rpc_parts.proofs.Loop.{with_front}
-use Rattle.rpc_parts.proofs.object.pieces_from.Given as goal
-
-abbrev pub invariant-loop : goal.invariant-loop
-invariant-loop l = with_front l.pieces (pieces_from l.left (l.count - l.counter) l.rest) ≡ pieces_from l.room l.count l.bytes

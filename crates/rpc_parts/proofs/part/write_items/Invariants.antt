@@ -1,6 +1,0 @@
-use Rattle.std.proofs.Common.{◌≡◌, ◌++◌, drop}
-use Rattle.rpc_parts.specs.Spelled.{items}
-use Rattle.rpc_parts.proofs.part.write_items.Given as goal
-
-abbrev pub invariant-loop-part : goal.invariant-loop-part
-invariant-loop-part g l = l.out ++ (items g.T.Part.spelled (drop l.part-index l.parts)).bytes ≡ l.initial.out ++ (items g.T.Part.spelled l.parts).bytes

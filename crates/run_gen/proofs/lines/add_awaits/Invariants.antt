@@ -1,6 +1,0 @@
-use Rattle.std.proofs.Common.{◌≡◌, ◌+◌, length}
-use Rattle.run_gen.specs.Workload.{awaits, with_tasks}
-use Rattle.run_gen.proofs.lines.add_awaits.Given as goal
-
-abbrev pub invariant-loop-host : goal.invariant-loop-host
-invariant-loop-host l = (l.lines ≡ with_tasks l.first l.initial.lines (awaits l.host)) × (length l.lines + 1 ≡ length l.initial.lines + l.host)

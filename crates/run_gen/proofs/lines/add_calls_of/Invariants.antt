@@ -1,7 +1,0 @@
-use Rattle.std.proofs.Common.{◌≡◌, ◌+◌, length}
-use Rattle.run_gen.specs.Words.{after_words}
-use Rattle.run_gen.specs.Workload.{calls_by, with_tasks}
-use Rattle.run_gen.proofs.lines.add_calls_of.Given as goal
-
-abbrev pub invariant-loop-i : goal.invariant-loop-i
-invariant-loop-i l = (l.lines ≡ with_tasks l.first l.initial.lines (calls_by l.initial.rng l.author.host l.i)) × (length l.lines ≡ length l.initial.lines + l.i) × (l.rng ≡ after_words l.i l.initial.rng)

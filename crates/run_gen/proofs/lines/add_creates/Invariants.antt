@@ -1,6 +1,0 @@
-use Rattle.std.proofs.Common.{◌≡◌, ◌+◌, length}
-use Rattle.run_gen.specs.Workload.{creates, with_tasks}
-use Rattle.run_gen.proofs.lines.add_creates.Given as goal
-
-abbrev pub invariant-loop-h : goal.invariant-loop-h
-invariant-loop-h l = (l.lines ≡ with_tasks l.first l.initial.lines (creates l.h)) × (length l.lines ≡ length l.initial.lines + l.h)

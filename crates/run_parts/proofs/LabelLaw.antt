@@ -1,0 +1,522 @@
+-- In every run the labels in use in the tree are those of the hosts, and those that a give-back on its way ends.
+use Rattle.run_rules.specs.Lists.{Each, after}
+use Rattle.run_tokens.proofs.Words.{acts_after, own_after}
+use Rattle.std.proofs.Common.{◌≡◌, ℕ, ◌<◌, ◌≤◌, ◌⊎◌, List, [], ◌∷◌, inl, inr, sym, ◌∙◌, ap, subst}
+use Rattle.std.proofs.Common.{refl, arith}
+use Rattle.std.proofs.lemmas.Bool.{cases_lt}
+use Rattle.base_types.specs.declared.ids.Fid.{Fid}
+use Rattle.base_types.specs.declared.ids.FilesetId.{FilesetId}
+use Rattle.base_types.specs.declared.ids.HostId.{HostId}
+use Rattle.base_types.specs.declared.ids.Node.{Node}
+use Rattle.base_types.specs.declared.ids.Node.TheVariants.{Host, Server}
+use Rattle.base_types.specs.declared.ids.ServerId.{ServerId}
+use Rattle.message_types.specs.declared.giving.Give.{Give}
+use Rattle.message_types.specs.declared.message.Body.{Body}
+use Rattle.message_types.specs.declared.message.Body.TheVariants.{Bye, GiveBack, Kept}
+use Rattle.token_types.specs.declared.token.Token.{Token}
+use Rattle.token_types.specs.declared.token.TokenId.{TokenId}
+use Rattle.run_parts.proofs.Served.{Next, after_doings, each_next}
+use Rattle.run_parts.specs.Doings.{doings}
+use Rattle.run_rules.specs.Labels.{EndsUse, GivesUse, HasBegun, InUse, IsUsed}
+use Rattle.run_parts.proofs.Words.{host_split, server_split, taken_is}
+use Rattle.run_parts.proofs.LabelWords.{is_named, owns_ever, pinned_granted, pinned_kept, said_kept}
+use Rattle.run_parts.specs.Uses.{Frees, FreesAny, HostUses, Locked, LockedAfter, LockedGranted, LocksApart}
+use Rattle.run_parts.specs.Uses.{PinnedLocked, StepUses, UsesRun, issuer_acts}
+use Rattle.run_tokens.proofs.Invariant.{Alone, Link}
+use Rattle.run_tokens.proofs.Law.{AtServer, Whole, always}
+use Rattle.run_tokens.proofs.Owed.{Owed}
+use Rattle.run_tokens.proofs.Words.{made_at, made_left, of_one}
+use Rattle.run_rules.specs.Acts.Act.{Took}
+use Rattle.run_rules.specs.Acts.{Act, acts, after_step, epoch}
+use Rattle.run_rules.specs.Gives.{IsKnown, Made, number_of}
+use Rattle.run_rules.specs.Grants.{Applied, Applies, Granted}
+use Rattle.run_rules.specs.HostTokens.{HostTokens}
+use Rattle.run_rules.specs.Hosts.{Away, Ends, HasReclaimed, TakesOf}
+use Rattle.run_rules.specs.Lists.{In, Once}
+use Rattle.run_rules.specs.Nodes.{own}
+use Rattle.run_rules.specs.Places.{home}
+use Rattle.run_rules.specs.Sends.{HasKept, HasSaid, Said}
+use Rattle.run_rules.specs.TokenRuns.{IsTokenRun, StepMay}
+use Rattle.run_rules.specs.Tokens.{EverHeld, Owns}
+use Rattle.run_rules.specs.declared.step.Labelled.{Labelled}
+use Rattle.run_rules.specs.declared.step.Step.{Step}
+
+-- the give-back was made while the label was in use
+abbrev pub Given : List Step → Labelled → Give → Type 0
+Given A u g = Once (λ before s. InUse before u × In g s.made) A
+
+-- of a host alone
+pub record Labels (A : List Step) : Type 0 where
+  pub use_owned : (u : Labelled) → InUse A u → Owns A u.token
+  -- with its Bye all of these are known
+  pub bye_known : (u : Labelled) (g : Give) (v : ServerId) → Given A u g → HasSaid A v Bye → IsKnown A g
+  pub kept_use : (i : TokenId) → HasKept A i → (IsUsed A i → ⊥) → (((g : Give) × Made A g × In i g.ids) → ⊥) → ⊥
+
+-- a give-back of the host ends the use, and isn't applied
+pub record Ending (A : List Step) (v : ServerId) (S : List Act) (h : HostId) (u : Labelled) (g : Give) : Type 0 where
+  pub made : Made A g
+  pub given : Given A u g
+  pub gives : GivesUse g u
+  pub not_applied : Applied v S h (number_of g) → ⊥
+
+-- of a host, the tree and a server
+pub record Uses (h : HostId) (v : ServerId) (A : List Step) (S : List Act) (lk : Labelled → Type 0) : Type 0 where
+  pub locked_is : (u : Labelled) → u.token.id.server ≡ v → lk u → (Away S h → ⊥)
+      → InUse A u ⊎ ((g : Give) × Ending A v S h u g × EverHeld A u.token)
+  pub use_locked : (u : Labelled) → u.token.id.server ≡ v → InUse A u → (Away S h → ⊥) → lk u
+  pub kept_locked : (g : Give) (i : TokenId) → i.server ≡ v → Made A g → In i g.ids → HasKept A i
+      → (Applied v S h (number_of g) → ⊥) → (Away S h → ⊥)
+      → ((u : Labelled) → u.token.id ≡ i → GivesUse g u → lk u → ⊥) → ⊥
+  pub locked_begun : (u : Labelled) → u.token.id.server ≡ v → lk u → HasBegun A u
+  -- a host that has gone away has none
+  pub none_away : (u : Labelled) → u.token.id.server ≡ v → lk u → Away S h → ⊥
+
+given_made : (A : List Step) (u : Labelled) (g : Give) → Given A u g → Made A g
+given_made [] u g e = elim e [ ]
+given_made (s ∷ A) u g (inl x) = inl x.1
+given_made (s ∷ A) u g (inr e) = inr (given_made A u g e)
+
+labels_step : (A : List Step) (s : Step) → Alone A → HostTokens A s → Labels A → HostUses A s → Labels (s ∷ A)
+labels_step A s alone may old rules = record { use_owned = owned; bye_known = known; kept_use = kept }
+  where
+    known : (u : Labelled) (g : Give) (v : ServerId) → Given (s ∷ A) u g → HasSaid (s ∷ A) v Bye → IsKnown (s ∷ A) g
+    known u g v given (e, n, inl sends) = may.bye_gives v e n g sends (given_made (s ∷ A) u g given)
+    known u g v (inl x) (e, n, inr said) = absurd (alone.bye_held u.token v (e, n, said) (old.use_owned u x.0))
+    known u g v (inr given) (e, n, inr said) = inr (old.bye_known u g v given (e, n, said))
+
+    owned : (u : Labelled) → InUse (s ∷ A) u → Owns (s ∷ A) u.token
+    owned u (inl m) = rules.begins u m
+    owned u (inr x) = (
+      inr (old.use_owned u x.0),
+      λ q. elim q [
+        | inl m ↦ x.2 m.0 m.1 (rules.stay.makes_ends m.0 u m.1 x.0 m.2)
+        | inr r ↦ rules.stay.returns_idle u.token.id r (u, x.0, refl)
+      ],
+    )
+
+    kept : (i : TokenId) → HasKept (s ∷ A) i → (IsUsed (s ∷ A) i → ⊥)
+        → (((g : Give) × Made (s ∷ A) g × In i g.ids) → ⊥) → ⊥
+    kept i (inl q) never none = never (rules.stay.keeps i q)
+    kept i (inr q) never none =
+        old.kept_use i q
+        (λ x. never (
+          x.0,
+          inr (
+            x.1,
+            (λ e. rules.ends x.0 e x.1 (subst (HasKept A) (sym x.2) q) (λ y. never (subst (IsUsed (s ∷ A)) x.2 y))),
+            λ g m k. none (g, inl m, subst (λ j. In j g.ids) x.2 k.3),
+          ),
+          x.2,
+        ))
+        (λ g. none (g.0, inr g.1, g.2))
+
+-- the same for an equal table
+pub same_uses : (h : HostId) (v : ServerId) (A : List Step) (S : List Act) (old new : Labelled → Type 0)
+    → ((u : Labelled) → u.token.id.server ≡ v → old u → new u)
+    → ((u : Labelled) → u.token.id.server ≡ v → new u → old u) → Uses h v A S old → Uses h v A S new
+same_uses h v A S old new to back x = record {
+  locked_is = λ u at l live. x.locked_is u at (back u at l) live;
+  use_locked = λ u at l live. to u at (x.use_locked u at l live);
+  kept_locked = λ g i at m n k not live never.
+      x.kept_locked g i at m n k not live
+      (λ u same gives l. never u same gives (to u (ap (λ (j : TokenId). j.server) same ∙ at) l));
+  locked_begun = λ u at l. x.locked_begun u at (back u at l);
+  none_away = λ u at l. x.none_away u at (back u at l);
+}
+
+module _ (h : HostId) (v : ServerId) (A : List Step) (S : List Act) (s : Step) (lk : Labelled → Type 0)
+    (link : Link h v A S) (next : Link h v (s ∷ A) S) (labels : Labels A) (labels' : Labels (s ∷ A))
+    (alone : Alone (s ∷ A)) (may : HostTokens A s) (rules : HostUses A s) (old : Uses h v A S lk) where
+  not_yet : (g : Give) → In g s.made → Applied v S h (number_of g) → ⊥
+  not_yet g m a =
+      let k = link.applied_made (number_of g) a in
+      let new : k.0.number < g.number = may.makes_new g k.0 m k.1 k.2 in
+      let le : g.number ≤ k.0.number = k.3 in
+      absurd (omega (arith, new, le))
+
+  abbrev now : Labelled → Type 0
+  now u = In u s.begun ⊎ (lk u × (EndsUse s u → ⊥))
+
+  locked_is' : (u : Labelled) → u.token.id.server ≡ v → now u → (Away S h → ⊥)
+      → InUse (s ∷ A) u ⊎ ((g : Give) × Ending (s ∷ A) v S h u g × EverHeld (s ∷ A) u.token)
+  locked_is' u at (inl m) live = inl (inl m)
+  locked_is' u at (inr x) live =
+      elim (old.locked_is u at x.0 live) [
+        | inl usage ↦ elim (is_named u.token.id s.made) [
+          | inl g ↦ inr (
+            g.0,
+            record {
+              made = inl g.1;
+              given = inl (usage, g.1);
+              gives = rules.stay.makes_ends g.0 u g.1 usage g.2;
+              not_applied = not_yet g.0 g.1;
+            },
+            inr (owns_ever A u.token (labels.use_owned u usage)),
+          )
+          | inr none ↦ inl (inr (usage, x.1, λ g m k. none g m k.3))
+        ]
+        | inr g ↦ inr (
+          g.0,
+          record { made = inr g.1.made; given = inr g.1.given; gives = g.1.gives; not_applied = g.1.not_applied },
+          inr g.2,
+        )
+      ]
+
+  use_locked' : (u : Labelled) → u.token.id.server ≡ v → InUse (s ∷ A) u → (Away S h → ⊥) → now u
+  use_locked' u at (inl m) live = inl m
+  use_locked' u at (inr y) live = inr (old.use_locked u at y.0 live, y.1)
+
+  kept_locked' : (g : Give) (i : TokenId) → i.server ≡ v → Made (s ∷ A) g → In i g.ids → HasKept (s ∷ A) i
+      → (Applied v S h (number_of g) → ⊥) → (Away S h → ⊥)
+      → ((u : Labelled) → u.token.id ≡ i → GivesUse g u → now u → ⊥) → ⊥
+  kept_locked' g i at m n (inl q) not live never =
+      let u = rules.stay.keeps i q in
+      let here : u.0.token.id.server ≡ v = ap (λ (j : TokenId). j.server) u.2 ∙ at in
+      (next.held u.0.token here (labels'.use_owned u.0 u.1)).stays
+      (made_left (s ∷ A) g u.0.token.id m (subst (λ j. In j g.ids) (sym u.2) n))
+  kept_locked' g i at (inl m) n (inr q) not live never =
+      labels.kept_use i q
+      (λ u.
+      let gives = rules.stay.makes_ends g u.0 m u.1 (subst (λ j. In j g.ids) (sym u.2) n) in
+      let here : u.0.token.id.server ≡ v = ap (λ (j : TokenId). j.server) u.2 ∙ at in
+      never u.0 u.2 gives (inr (old.use_locked u.0 here u.1 live, λ e. rules.ends_apart u.0 g e m gives)))
+      (λ k.
+      let one : g ≡ k.0 = next.made_once g k.0 i at (inl m) (inr k.1) n k.2 in
+      let lt : k.0.number < g.number =
+      may.makes_new g k.0 m k.1 (ap (λ (y : Give). y.fid.fileset) (sym one)) in
+      let same : g.number ≡ k.0.number = ap (λ (y : Give). y.number) one in
+      absurd (omega (arith, lt, same)))
+  kept_locked' g i at (inr m) n (inr q) not live never =
+      old.kept_locked g i at m n q not live
+      (λ u same gives l. never u same gives (inr (
+        l,
+        λ e. rules.ends_known u g e (old.locked_begun u (ap (λ (j : TokenId). j.server) same ∙ at) l) m gives
+            (λ k. not (next.known (number_of g) (next.made_id g i (inr m) n at) k)),
+      )))
+
+  locked_begun' : (u : Labelled) → u.token.id.server ≡ v → now u → HasBegun (s ∷ A) u
+  locked_begun' u at (inl m) = inl m
+  locked_begun' u at (inr x) = inr (old.locked_begun u at x.0)
+
+  none_away' : (u : Labelled) → u.token.id.server ≡ v → now u → Away S h → ⊥
+  none_away' u at (inl m) away =
+      elim (link.away away) [
+        | inl stopped ↦ may.live stopped
+        | inr (e, n, said) ↦ alone.bye_held u.token v (e, n, inr said) (labels'.use_owned u (inl m))
+      ]
+  none_away' u at (inr x) away = old.none_away u at x.0 away
+
+  uses_step : Uses h v (s ∷ A) S now
+  uses_step = record {
+    locked_is = locked_is';
+    use_locked = use_locked';
+    kept_locked = kept_locked';
+    locked_begun = locked_begun';
+    none_away = none_away';
+  }
+
+-- a server's doing, a restart too
+module _ (h : HostId) (v : ServerId) (A : List Step) (S : List Act) (a : Act) (alone : Alone A) (link : Link h v A S)
+    (labels : Labels A) (heard : (e n : ℕ) (b : Body) → a ≡ Took h e n b → Said A v e n b) (lk : Labelled → Type 0)
+    (old : Uses h v A S lk) where
+  said : (fs : FilesetId) (g : Give) → TakesOf v S a h fs (GiveBack g) → (n : ℕ) × Said A v (epoch S) n (GiveBack g)
+  said fs g t = let k = taken_is v S a h fs (GiveBack g) t in (k.0, heard (epoch S) k.0 (GiveBack g) k.1)
+
+  made : (fs : FilesetId) (g : Give) → TakesOf v S a h fs (GiveBack g) → Made A g
+  made fs g t = let k = said fs g t in (alone.said_made g v (epoch S) k.0 k.1).0
+
+  applied_cases : (g : Give) → home g.fid.fileset ≡ v → Made A g → Applied v (a ∷ S) h (number_of g)
+      → Applied v S h (number_of g) ⊎ TakesOf v S a h g.fid.fileset (GiveBack g)
+  applied_cases g at m (inr r) = inl r
+  applied_cases g at m (inl (k, t, same, le)) =
+      let q = said g.fid.fileset k t in
+      elim (cases_lt g.number k.number) [
+        | inl lt ↦ inl (link.known (number_of g) at (alone.said_first k g v (epoch S) q.0 q.1 m (sym same) lt))
+        | inr ge ↦ (
+            let one : k ≡ g = alone.numbers k g (made g.fid.fileset k t) m same (omega arith) in
+            inr (subst (λ j. TakesOf v S a h g.fid.fileset (GiveBack j)) one t)
+            )
+      ]
+
+  abbrev left : Labelled → Type 0
+  left u = lk u × (u.token.id.server ≡ v → Frees v S a h u → ⊥)
+
+  -- a give-back that isn't applied now isn't so afterwards
+  still : (u : Labelled) (g : Give) → u.token.id.server ≡ v → (Frees v S a h u → ⊥) → Ending A v S h u g
+      → Ending A v (a ∷ S) h u g
+  still u g at none e = record {
+    made = e.made;
+    given = e.given;
+    gives = e.gives;
+    not_applied = λ r. elim (applied_cases g (link.made_id g u.token.id e.made e.gives.3 at) e.made r) [
+      | inl q ↦ e.not_applied q
+      | inr t ↦ none (inr (g, (t, e.not_applied), e.gives))
+    ];
+  }
+
+  freed : (u : Labelled) (g : Give) → u.token.id.server ≡ v → Made A g → GivesUse g u
+      → (Applied v (a ∷ S) h (number_of g) → ⊥) → ((y : Give) × Applies v S a h y × GivesUse y u) → ⊥
+  freed u g at m gives not y =
+      let one : g ≡ y.0 =
+      link.made_once g y.0 u.token.id at m (made y.0.fid.fileset y.0 y.1.0) gives.3 y.2.3 in
+      not (inl (
+        g,
+        subst (λ (j : Give). TakesOf v S a h j.fid.fileset (GiveBack j)) (sym one) y.1.0,
+        refl,
+        omega arith,
+      ))
+
+  used_free : (u : Labelled) → u.token.id.server ≡ v → InUse A u
+      → ((y : Give) × Applies v S a h y × GivesUse y u) → ⊥
+  used_free u at usage y =
+      (link.held u.token at (labels.use_owned u usage)).stays
+      (made_left A y.0 u.token.id (made y.0.fid.fileset y.0 y.1.0) y.2.3)
+
+  locked_is'' : (u : Labelled) → u.token.id.server ≡ v → left u → (Away (a ∷ S) h → ⊥)
+      → InUse A u ⊎ ((g : Give) × Ending A v (a ∷ S) h u g × EverHeld A u.token)
+  locked_is'' u at x live =
+      elim (old.locked_is u at x.0 (λ w. live (inr w))) [
+        | inl usage ↦ inl usage
+        | inr g ↦ inr (g.0, still u g.0 at (x.1 at) g.1, g.2)
+      ]
+
+  use_locked'' : (u : Labelled) → u.token.id.server ≡ v → InUse A u → (Away (a ∷ S) h → ⊥) → left u
+  use_locked'' u at usage live = (
+    old.use_locked u at usage (λ w. live (inr w)),
+    λ _ f. elim f [ inl e ↦ live (inl (inl e)) | inr g ↦ used_free u at usage g ],
+  )
+
+  kept_locked'' : (g : Give) (i : TokenId) → i.server ≡ v → Made A g → In i g.ids → HasKept A i
+      → (Applied v (a ∷ S) h (number_of g) → ⊥) → (Away (a ∷ S) h → ⊥)
+      → ((u : Labelled) → u.token.id ≡ i → GivesUse g u → left u → ⊥) → ⊥
+  kept_locked'' g i at m n k not live never =
+      old.kept_locked g i at m n k (λ r. not (inr r)) (λ w. live (inr w))
+      (λ u same gives l. never u same gives (
+        l,
+        λ here f. elim f [ inl e ↦ live (inl (inl e)) | inr y ↦ freed u g here m gives not y ],
+      ))
+
+  -- a host ends with nothing in use, and with its give-backs known
+  ends_free : (u : Labelled) → u.token.id.server ≡ v → lk u → Ends S a h → ⊥
+  ends_free u at l ends =
+      let bye : HasSaid A v Bye = (epoch S, ends.0.0, heard (epoch S) ends.0.0 Bye ends.0.1) in
+      elim (old.locked_is u at l (old.none_away u at l)) [
+        | inl usage ↦ alone.bye_held u.token v bye (labels.use_owned u usage)
+        | inr g ↦ g.1.not_applied (link.known (number_of g.0) (link.made_id g.0 u.token.id g.1.made g.1.gives.3 at)
+            (labels.bye_known u g.0 v g.1.given bye))
+      ]
+
+  none_away'' : (u : Labelled) → u.token.id.server ≡ v → left u → Away (a ∷ S) h → ⊥
+  none_away'' u at x (inr away) = old.none_away u at x.0 away
+  none_away'' u at x (inl (inl down)) = x.1 at (inl down)
+  none_away'' u at x (inl (inr ends)) = ends_free u at x.0 ends
+
+  uses_act : Uses h v A (a ∷ S) left
+  uses_act = record {
+    locked_is = locked_is'';
+    use_locked = use_locked'';
+    kept_locked = kept_locked'';
+    locked_begun = λ u at x. old.locked_begun u at x.0;
+    none_away = none_away'';
+  }
+
+-- a server's doings, one after the other
+pub serve : (own_of : HostId → List Step) (alone : (h : HostId) → Alone (own_of h)) (h : HostId) (v : ServerId)
+    → Labels (own_of h) → (more S : List Act) (lk : Labelled → Type 0) → AtServer own_of v S
+    → Each (Next own_of v) more S → Uses h v (own_of h) S lk
+    → Uses h v (own_of h) (after more S) (λ u. lk u × (u.token.id.server ≡ v → FreesAny v more S h u → ⊥))
+serve own_of alone h v labels [] S lk at may old =
+    same_uses h v (own_of h) S lk (λ u. lk u × (u.token.id.server ≡ v → ⊥ → ⊥)) (λ u e x. (x, λ _ n. n))
+    (λ u e x. x.0) old
+serve own_of alone h v labels (a ∷ more) S lk at may old =
+    let here = uses_act h v (own_of h) S a (alone h) (at.link h) labels (may.0.heard h) lk old in
+    let rest = serve own_of alone h v labels more (a ∷ S)
+    (λ u. lk u × (u.token.id.server ≡ v → Frees v S a h u → ⊥)) (may.0.next at) may.1 here in
+    same_uses h v (own_of h) (after more (a ∷ S))
+    (λ u. (lk u × (u.token.id.server ≡ v → Frees v S a h u → ⊥))
+    × (u.token.id.server ≡ v → FreesAny v more (a ∷ S) h u → ⊥))
+    (λ u. lk u × (u.token.id.server ≡ v → FreesAny v (a ∷ more) S h u → ⊥))
+    (λ u _ x. (x.0.0, λ e f. elim f [ inl y ↦ x.0.1 e y | inr y ↦ x.1 e y ]))
+    (λ u _ x. ((x.0, λ e y. x.1 e (inl y)), λ e y. x.1 e (inr y))) rest
+
+module _ (firsts : ServerId → ℕ) where
+  -- what is so of labels after a run
+  pub record AllUses (past : List Step) : Type 0 where
+    pub labels : (h : HostId) → Labels (own h past)
+    pub uses : (h : HostId) (v : ServerId) → Uses h v (own h past) (acts (firsts v) v past) (Locked firsts past h)
+
+  abbrev World : Node → List Step → Step → Type 0
+  World n past s = Whole (λ h. own_after h n s (own h past)) (λ v. acts_after v n s (acts (firsts v) v past))
+
+  abbrev LockedNow : Node → List Step → Step → HostId → Labelled → Type 0
+  LockedNow n past s h u = LockedAfter firsts n s past (Locked firsts past h u) h u
+
+  abbrev LabelsAfter : Node → List Step → Step → Type 0
+  LabelsAfter n past s = (h : HostId) → Labels (own_after h n s (own h past))
+
+  abbrev UsesAfter : Node → List Step → Step → Type 0
+  UsesAfter n past s =
+      (h : HostId) (v : ServerId)
+      → Uses h v (own_after h n s (own h past)) (acts_after v n s (acts (firsts v) v past)) (LockedNow n past s h)
+
+  -- a host's step
+  module _ (k : HostId) (past : List Step) (s : Step) (whole : Whole (λ h. own h past) (λ v. acts (firsts v) v past))
+      (next : World (Host k) past s) (may : StepMay firsts (Host k) past s) (rules : HostUses (own k past) s)
+      (old : AllUses past) where
+    mine : (X : List Step → Type 0) → X (own_after k (Host k) s (own k past)) → X (s ∷ own k past)
+    mine X x =
+        subst X
+        (host_split (λ L. L ≡ s ∷ own k past) k k (s ∷ own k past) (own k past) (λ _. refl)
+        (λ two. absurd (two refl))) x
+
+    labels_own : Labels (s ∷ own k past)
+    labels_own = labels_step (own k past) s (whole.alone k) may.0 (old.labels k) rules
+
+    uses_own : (v : ServerId) → Uses k v (s ∷ own k past) (acts (firsts v) v past) (LockedNow (Host k) past s k)
+    uses_own v =
+        same_uses k v (s ∷ own k past) (acts (firsts v) v past)
+        (λ u. In u s.begun ⊎ (Locked firsts past k u × (EndsUse s u → ⊥))) (LockedNow (Host k) past s k)
+        (λ u _ y. elim y [ inl m ↦ inl (refl, m) | inr q ↦ inr (q.0, λ _. q.1) ])
+        (λ u _ y. elim y [ inl m ↦ inl m.1 | inr q ↦ inr (q.0, q.1 refl) ])
+        (uses_step k v (own k past) (acts (firsts v) v past) s (Locked firsts past k) ((whole.at v).link k)
+        (mine (λ L. Link k v L (acts (firsts v) v past)) ((next.at v).link k)) (old.labels k) labels_own
+        (mine Alone (next.alone k)) may.0 rules (old.uses k v))
+
+    host_labels : LabelsAfter (Host k) past s
+    host_labels h =
+        host_split Labels k h (s ∷ own h past) (own h past)
+        (λ e. subst (λ j. Labels (s ∷ own j past)) e labels_own) (λ _. old.labels h)
+
+    host_uses : UsesAfter (Host k) past s
+    host_uses h v =
+        host_split (λ L. Uses h v L (acts (firsts v) v past) (LockedNow (Host k) past s h)) k h (s ∷ own h past)
+        (own h past)
+        (λ e. subst (λ j. Uses j v (s ∷ own j past) (acts (firsts v) v past) (LockedNow (Host k) past s j)) e
+        (uses_own v))
+        (λ two. same_uses h v (own h past) (acts (firsts v) v past) (Locked firsts past h)
+        (LockedNow (Host k) past s h) (λ u _ y. inr (y, λ e. absurd (two e)))
+        (λ u _ y. elim y [ inl m ↦ absurd (two m.0) | inr q ↦ q.0 ]) (old.uses h v))
+
+  -- a server's step
+  module _ (k : ServerId) (past : List Step) (s : Step)
+      (whole : Whole (λ h. own h past) (λ v. acts (firsts v) v past)) (may : StepMay firsts (Server k) past s)
+      (old : AllUses past) where
+    at_home : (h : HostId)
+        → Uses h k (own h past) (after_step s (acts (firsts k) k past)) (LockedNow (Server k) past s h)
+    at_home h =
+        subst (λ S. Uses h k (own h past) S (LockedNow (Server k) past s h))
+        (after_doings s (acts (firsts k) k past))
+        (serve (λ j. own j past) whole.alone h k (old.labels h) (doings s (acts (firsts k) k past))
+        (acts (firsts k) k past) (Locked firsts past h) (whole.at k)
+        (each_next (λ j. own j past) whole.alone k s (acts (firsts k) k past) may.0 (λ m e. (may.1 m e).2))
+        (old.uses h k))
+
+    server_uses : UsesAfter (Server k) past s
+    server_uses h v =
+        server_split (λ S. Uses h v (own h past) S (LockedNow (Server k) past s h)) k v
+        (after_step s (acts (firsts v) v past)) (acts (firsts v) v past)
+        (λ e. subst
+        (λ w. Uses h w (own h past) (after_step s (acts (firsts w) w past)) (LockedNow (Server k) past s h)) e
+        (at_home h))
+        (λ two. same_uses h v (own h past) (acts (firsts v) v past) (Locked firsts past h)
+        (LockedNow (Server k) past s h) (λ u at y. (y, λ e. absurd (two (sym e ∙ at)))) (λ u at y. y.0)
+        (old.uses h v))
+
+  step : (n : Node) (past : List Step) (s : Step) → Whole (λ h. own h past) (λ v. acts (firsts v) v past)
+      → World n past s → StepMay firsts n past s → StepUses n past s → AllUses past
+      → LabelsAfter n past s × UsesAfter n past s
+  step (Host k) past s whole next may rules old =
+      (host_labels k past s whole next may rules old, host_uses k past s whole next may rules old)
+  step (Server k) past s whole next may rules old = (old.labels, server_uses k past s whole may old)
+
+  pub all_uses : (past : List Step) → IsTokenRun firsts past → UsesRun past → AllUses past
+  all_uses [] run rules = record {
+    labels = λ h. record {
+      use_owned = λ u e. elim e [ ];
+      bye_known = λ u g v e. elim e [ ];
+      kept_use = λ i e. elim e [ ];
+    };
+    uses = λ h v. record {
+      locked_is = λ u at e. elim e [ ];
+      use_locked = λ u at e. elim e [ ];
+      kept_locked = λ g i at m. elim m [ ];
+      locked_begun = λ u at e. elim e [ ];
+      none_away = λ u at e. elim e [ ];
+    };
+  }
+  all_uses (s ∷ past) run rules =
+      let x = step s.node past s (always firsts past run.0) (always firsts (s ∷ past) run) run.1 rules.1
+      (all_uses past run.0 rules.0) in
+      record { labels = x.0; uses = x.1 }
+
+  module _ (past : List Step) (run : IsTokenRun firsts past) (rules : UsesRun past) where
+    x : AllUses past
+    x = all_uses past run rules
+
+    w : Whole (λ h. own h past) (λ v. acts (firsts v) v past)
+    w = always firsts past run
+
+    -- a label in use in the tree has a token that is owed
+    pub locked_owed : (h : HostId) (u : Labelled) → Locked firsts past h u
+        → (Away (issuer_acts firsts past u.token) h → ⊥)
+        → Owed u.token.id.server (issuer_acts firsts past u.token) u.token × (u.token.host ≡ h)
+    locked_owed h u l live =
+        elim ((x.uses h u.token.id.server).locked_is u refl l live) [
+          | inl usage ↦ (
+              let good = ((w.at u.token.id.server).link h).held u.token refl ((x.labels h).use_owned u usage) in
+              (good.owed live, good.host)
+              )
+          | inr g ↦ (
+              let at = w.at u.token.id.server in
+              let y = (at.link h).given g.0 u.token.id refl g.1.made g.1.gives.3 g.1.not_applied live in
+              let i = at.served.owed_issued y.token y.owed in
+              let e = (at.link h).ever u.token refl g.2 in
+              let one : y.token ≡ u.token = (at.served.unique y.token u.token i.0 e.0 i.1 e.1 y.same).0 in
+              (subst (Owed u.token.id.server (issuer_acts firsts past u.token)) one y.owed, e.2)
+              )
+        ]
+
+    pub locked_granted : LockedGranted firsts past
+    locked_granted h u l live reclaimed =
+        let o = locked_owed h u l live in
+        (w.at u.token.id.server).served.owed_granted u.token o.0
+        (subst (HasReclaimed (issuer_acts firsts past u.token)) (sym o.1) reclaimed)
+
+    placed : (v : ServerId) (t : Token) → Owed v (acts (firsts v) v past) t → home t.fid.fileset ≡ v
+    placed v t o =
+        let i = (w.at v).served.owed_issued t o in
+        made_at v (acts (firsts v) v past) t.fid.fileset i.0.moves ((w.at v).served.at t i.0 i.1)
+
+    pub locks_apart : LocksApart firsts past
+    locks_apart h k t u a b live_h live_k c =
+        let p = (locked_owed h t a live_h).0 in
+        let q = (locked_owed k u b live_k).0 in
+        let one : u.token.id.server ≡ t.token.id.server =
+        sym (placed u.token.id.server u.token q)
+        ∙ (ap (λ (f : Fid). home f.fileset) (sym (of_one t.token u.token c))
+        ∙ placed t.token.id.server t.token p) in
+        (w.at t.token.id.server).served.apart t.token u.token p
+        (subst (λ v. Owed v (acts (firsts v) v past) u.token) one q) c
+
+    pub pinned_locked : PinnedLocked firsts past
+    pinned_locked t p never =
+        (x.labels t.host).kept_use t.id kept
+        (λ u. never u.0 u.2
+        ((x.uses t.host t.id.server).use_locked u.0 (ap (λ (j : TokenId). j.server) u.2) u.1 live))
+        (λ g. (x.uses t.host t.id.server).kept_locked g.0 t.id refl g.1 g.2 kept
+        (λ a. link.taken g.0 t g.1 g.2 refl a granted) live (λ u same gives l. never u same l))
+      where
+        link : Link t.host t.id.server (own t.host past) (issuer_acts firsts past t)
+        link = (w.at t.id.server).link t.host
+
+        granted : Granted t.id.server (issuer_acts firsts past t) t
+        granted = pinned_granted t.id.server (issuer_acts firsts past t) t p
+
+        live : Away (issuer_acts firsts past t) t.host → ⊥
+        live = ((w.at t.id.server).served.owed_live t (link.granted_owed t refl granted)).1
+
+        kept : HasKept (own t.host past) t.id
+        kept =
+            let k = pinned_kept t.id.server (issuer_acts firsts past t) t p in
+            let d = link.took_ever k.named.fid.fileset (Kept k.named) k.took in
+            said_kept (own t.host past) t.id.server d.0 d.1 k.named t.id d.2 k.names

@@ -1,0 +1,12 @@
+pub mod Served
+pub mod Words
+pub mod Cells
+pub mod Invariant
+pub mod SeenStep
+pub mod OwnStep
+pub mod OtherStep
+pub mod OwnRest
+pub mod ActStep
+pub mod PlaceLaw
+pub mod LabelWords
+pub mod LabelLaw

@@ -1,8 +1,0 @@
-use Rattle.std.proofs.Common.{◌≡◌, ◌++◌, drop}
-use Rattle.std.specs.List.{flat_map}
-use Rattle.run_print.specs.Dump.{run_line, runs_after, runs_of}
-use Rattle.run_print.proofs.dump.push_runs.Given as goal
-
--- the runs so far, and those that are left
-abbrev pub invariant-loop-at : goal.invariant-loop-at
-invariant-loop-at l = l.out ++ flat_map run_line (runs_after l.last l.at (drop l.at l.bytes)) ≡ l.fn.out ++ flat_map run_line (runs_of l.bytes)

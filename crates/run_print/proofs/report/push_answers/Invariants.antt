@@ -1,9 +1,0 @@
-use Rattle.std.proofs.Common.{◌≡◌, ◌++◌, drop}
-use Rattle.std.specs.List.{flat_map}
-use Rattle.run_print.specs.Reports.{answer_in}
-use Rattle.run_print.proofs.report.push_answers.Given as goal
-
--- the replies so far, and those of the entries that are left
-abbrev pub invariant-loop-entry : goal.invariant-loop-entry
-invariant-loop-entry l =
-    l.answers ++ flat_map (answer_in l.host l.calls) (drop l.entry-index l.history) ≡ l.fn.answers ++ flat_map (answer_in l.host l.calls) l.history

@@ -1,0 +1,177 @@
+-- What a host asks for, for its open call: one request at a time, under the tokens that it keeps.
+use Rattle.run_rules.specs.Grants.{IsUseKind}
+use Rattle.run_rules.specs.Gives.{GiveOpen}
+use Rattle.std.specs.List.{list_any}
+use Rattle.std.specs.Prelude.{IsTrue, List, Some, [], false, suc, true, ℕ, ◌<◌, ◌∷◌, ◌≡◌, ◌⊎◌}
+use Rattle.base_types.specs.Spans.{has_byte}
+use Rattle.base_types.specs.declared.ids.Fid.{Fid}
+use Rattle.base_types.specs.declared.ids.FilesetId.{FilesetId}
+use Rattle.base_types.specs.declared.ids.HostId.{HostId}
+use Rattle.base_types.specs.declared.ids.ServerId.{ServerId}
+use Rattle.base_types.specs.declared.span.Span.{Span}
+use Rattle.tree_calls.specs.declared.call.Call.{Call}
+use Rattle.tree_calls.specs.declared.roster.Roster.{Roster}
+use Rattle.need_host.specs.Looks.{IsCovered, IsFirstLack}
+use Rattle.need_host.specs.Questions.{Question, numbered_under}
+use Rattle.need_host.specs.Walks.{root_of}
+use Rattle.message_types.specs.Soundness.{no_fid}
+use Rattle.message_types.specs.declared.giving.Give.{Give}
+use Rattle.token_types.specs.Covers.{Covers, covers_byte}
+use Rattle.token_types.specs.declared.token.Need.{Need}
+use Rattle.token_types.specs.declared.token.Token.{Token}
+use Rattle.tree_laws.specs.Parts.{Nature}
+use Rattle.run_rules.specs.Knowing.{Stance, is_entering, look_of, needs_in, stay_asked, verdict_in}
+use Rattle.run_rules.specs.OpenCalls.{IsOpen}
+use Rattle.run_rules.specs.Views.{sees}
+use Rattle.run_rules.specs.Epochs.{IsWelcome}
+use Rattle.run_rules.specs.Gives.{IsKnown, Made}
+use Rattle.run_rules.specs.Lists.{In}
+use Rattle.run_rules.specs.Places.{place}
+use Rattle.run_rules.specs.Requests.{Asking, Changing, Fetches}
+use Rattle.run_rules.specs.Sends.{HasGreeted, HasStopped, Said, Sends}
+use Rattle.run_rules.specs.declared.step.Asked.{Asked}
+use Rattle.run_rules.specs.declared.step.Step.{Step}
+use Rattle.tree_objects.specs.Spans.{whole}
+use Rattle.message_types.specs.declared.message.Body.TheVariants.{Hello, Fetch, Change}
+use Rattle.message_types.specs.declared.asking.Fetch.{Fetch as FetchOf}
+use Rattle.message_types.specs.declared.asking.Change.{Change as ChangeOf}
+use Rattle.token_types.specs.declared.token.Kind.TheVariants.{Bytes, Status}
+use Rattle.need_host.specs.Calls.Verdict.{Gives, Asks}
+use Rattle.tree_laws.specs.Parts.Part.{Traits}
+use Rattle.run_rules.specs.declared.step.Cause.TheVariants.{Lapse}
+use Rattle.need_host.specs.Questions.Question.{ChangeIn}
+use Rattle.token_types.specs.declared.token.Kind.{Kind}
+
+-- a Fetch, a Change that was sent, wherever and in whatever epoch
+abbrev pub HasFetched : List Step → FetchOf → Type 0
+HasFetched past f = (v : ServerId) × (e n : ℕ) × Said past v e n (Fetch f)
+
+abbrev pub HasChanged : List Step → ServerId → ChangeOf → Type 0
+HasChanged past server c = (v : ServerId) × (e n : ℕ) × Said past v e n (Change c) × (c.fileset.0 ≡ 0 → v ≡ server)
+
+-- a number that Fetches of a fileset, Changes of a fileset, have had
+abbrev pub IsFetchNumber : List Step → FilesetId → ℕ → Type 0
+IsFetchNumber past fileset n = (f : FetchOf) × HasFetched past f × (f.fid.fileset ≡ fileset) × (f.number ≡ n)
+
+abbrev pub IsChangeNumber : List Step → ServerId → FilesetId → ℕ → Type 0
+IsChangeNumber past server fileset n =
+    (c : ChangeOf) × HasChanged past server c × (c.fileset ≡ fileset) × (c.number ≡ n)
+
+-- the number is the next one after some: they begin at 1
+pub record IsNext (IsNumber : ℕ → Type 0) (n : ℕ) : Type 0 where
+  pub above : (m : ℕ) → IsNumber m → m < n
+  pub after : (n ≡ 1) ⊎ ((m : ℕ) × IsNumber m × (suc m ≡ n))
+
+-- the object is a directory: it is a root, or the host sees it under a token
+abbrev pub IsDirectory : List Step → Step → List Token → Fid → Type 0
+IsDirectory past s held fid =
+    (fid ≡ root_of fid.fileset)
+    ⊎ (Covers held (record { fid = fid; kind = Status false })
+    × ((nature : Nature) × (sees past s fid Traits ≡ Some nature) × (nature.dir ≡ true)))
+
+-- a need of an object that tokens lack
+abbrev pub Lacks : List Token → List Need → Fid → Need → Type 0
+Lacks held needs fid need = In need needs × (need.fid ≡ fid) × (Covers held need → ⊥)
+
+-- Each position that a need of bytes asks for lies in a need that the tokens lack, and isn't covered itself; any
+-- other need is one that they lack.
+abbrev pub AsksMissing : List Token → List Need → Fid → Kind → Type 0
+AsksMissing held needs fid (Bytes update span) = (at : ℕ) → IsTrue (has_byte span at)
+    → (list_any (covers_byte fid update at) held ≡ false)
+    × ((of : Span) × Lacks held needs fid (record { fid = fid; kind = Bytes update of }) × IsTrue (has_byte of at))
+AsksMissing held needs fid kind = Lacks held needs fid (record { fid = fid; kind = kind })
+
+-- the asked needs are what the tokens lack of an object: nothing that isn't missing, and then all is covered
+pub record LackingNeeds (held : List Token) (needs : List Need) (fid : Fid) (asked : List Need) : Type 0 where
+  pub missing : (n : Need) → In n asked → (n.fid ≡ fid) × AsksMissing held needs fid n.kind
+  pub whole : (n : Need) (tokens : List Token) → Lacks held needs fid n
+      → ((m : Need) → In m asked → Covers tokens m) → ((t : Token) → In t held → In t tokens) → Covers tokens n
+
+-- What a Fetch asks for. Of a directory, its status and all its entries together; of another object whose status
+-- isn't held, that alone; else what the call's needs of the object lack.
+pub data FetchNeeds
+    (past : List Step) (s : Step) (held : List Token) (needs : List Need) (fid : Fid) (asked : List Need) : Type 0 where
+  OfDirectory : IsDirectory past s held fid
+      → asked ≡ record { fid = fid; kind = Status false } ∷ record { fid = fid; kind = Bytes false whole } ∷ []
+      → FetchNeeds past s held needs fid asked
+  OfUnknown : (IsDirectory past s held fid → ⊥) → (Covers held (record { fid = fid; kind = Status false }) → ⊥)
+      → asked ≡ record { fid = fid; kind = Status false } ∷ [] → FetchNeeds past s held needs fid asked
+  OfFile : (IsDirectory past s held fid → ⊥) → Covers held (record { fid = fid; kind = Status false })
+      → LackingNeeds held needs fid asked → FetchNeeds past s held needs fid asked
+
+module _ (roster : Roster) (host : HostId) (past : List Step) (s : Step) (stance : Stance roster host past s) where
+  -- the first need of the call that the kept tokens lack
+  abbrev pub FirstLack : Call → Need → Type 0
+  FirstLack call need = IsFirstLack stance.kept (needs_in stance call) need
+
+  -- what a server is asked about the call: what the host itself can't tell, once its needs are met; or the lock or
+  -- open token that it lacks alone
+  abbrev pub AsksServer : Call → Question → Fid → Type 0
+  AsksServer call question fid =
+      ((verdict_in stance call ≡ Asks question)
+      × IsCovered stance.kept (sees past s) (look_of stance call) × (fid ≡ no_fid))
+      ⊎ ((need : Need) × FirstLack call need × IsUseKind need.kind × (need.fid ≡ fid)
+      × (question ≡ ChangeIn need.fid.fileset))
+
+  -- A Fetch is new: it is for the first object of the open call that lacks a token, and for what it lacks, and no
+  -- give-back of the object is on its way.
+  pub record IsNewFetch (f : FetchOf) : Type 0 where
+    pub next : IsNext (IsFetchNumber past f.fid.fileset) f.number
+    pub no_give : GiveOpen (s ∷ past) f.fid → ⊥
+    pub call : Asked
+    pub is_open : IsOpen (s ∷ past) call
+    pub need : Need
+    pub fetched : IsUseKind need.kind → ⊥
+    pub file : need.fid ≡ f.fid
+    pub first : FirstLack call.call need
+    pub needs : FetchNeeds past s stance.kept (needs_in stance call.call) f.fid f.needs
+
+  -- A Change is new: it asks the server about the open call.
+  pub record IsNewChange (v : ServerId) (n : ℕ) (c : ChangeOf) : Type 0 where
+    pub next : IsNext (IsChangeNumber past v c.fileset) c.number
+    pub is_open : IsOpen (s ∷ past) (record { k = c.k; call = c.call })
+    pub question : Question
+    pub asks : AsksServer c.call question c.fid
+    pub enters : c.enter ≡ is_entering question
+    pub numbered : c.fileset ≡ numbered_under question
+    pub goes : stay_asked (s ∷ past) question ≡ record { server = v; moves = n }
+
+  -- The open call waits for a Gone: of the object that it lacks a token of, or of what it gave back itself.
+  abbrev pub AwaitsGone : Call → Type 0
+  AwaitsGone call =
+      ((need : Need) × FirstLack call need × GiveOpen (s ∷ past) need.fid)
+      ⊎ ((verdict_in stance call ≡ Gives) × ((give : Give) × Made (s ∷ past) give × (IsKnown (s ∷ past) give → ⊥)))
+
+  -- the server that the open call goes to next, as far as the host knows
+  abbrev pub GoesTo : Call → ServerId → Type 0
+  GoesTo call v =
+      ((need : Need) × FirstLack call need × ((place (s ∷ past) need.fid.fileset).server ≡ v))
+      ⊎ ((question : Question) × (fid : Fid) × AsksServer call question fid
+      × ((stay_asked (s ∷ past) question).server ≡ v))
+
+  pub record HostAsks : Type 0 where
+    -- a Fetch is a repeat of one that is outstanding, or it is new; so is a Change
+    pub fetches : (f : FetchOf) → Fetches s f → (HasFetched past f × Asking past f.fid.fileset f.number) ⊎ IsNewFetch f
+    pub changes : (v : ServerId) (e n : ℕ) (c : ChangeOf) → Sends s v e n (Change c)
+        → (HasChanged past v c × Changing past v c.fileset c.number) ⊎ IsNewChange v n c
+    -- one request is outstanding
+    pub one_fetch : (fs gs : FilesetId) (n m : ℕ) → Asking (s ∷ past) fs n → Asking (s ∷ past) gs m
+        → (fs ≡ gs) × (n ≡ m)
+    pub one_change : (v w : ServerId) (fs gs : FilesetId) (n m : ℕ)
+        → Changing (s ∷ past) v fs n → Changing (s ∷ past) w gs m → (fs ≡ gs) × (n ≡ m)
+    pub one_of_both : (v : ServerId) (fs gs : FilesetId) (n m : ℕ)
+        → Asking (s ∷ past) fs n → Changing (s ∷ past) v gs m → ⊥
+    -- a server is greeted once, before anything is asked of it, for an open call; until it welcomes the host nothing
+    -- is
+    pub greets : (v : ServerId) (e n : ℕ) → Sends s v e n Hello → (IsWelcome (s ∷ past) v → ⊥)
+        × (((s.cause ≡ Lapse) × HasGreeted past v)
+        ⊎ ((HasGreeted past v → ⊥) × ((call : Asked) × IsOpen (s ∷ past) call × GoesTo call.call v)))
+    pub fetches_welcome : (v : ServerId) (e n : ℕ) (f : FetchOf) → Sends s v e n (Fetch f) → IsWelcome (s ∷ past) v
+    pub changes_welcome : (v : ServerId) (e n : ℕ) (c : ChangeOf) → Sends s v e n (Change c) → IsWelcome (s ∷ past) v
+    -- an open call isn't left alone: a request is outstanding, or it waits for a Gone, or to be welcome at its
+    -- server
+    pub asks : (call : Asked) → IsOpen (s ∷ past) call → (HasStopped (s ∷ past) → ⊥)
+        → ((fs : FilesetId) × (n : ℕ) × Asking (s ∷ past) fs n)
+        ⊎ (((v : ServerId) × (fs : FilesetId) × (n : ℕ) × Changing (s ∷ past) v fs n)
+        ⊎ (AwaitsGone call.call
+        ⊎ ((v : ServerId) × GoesTo call.call v × HasGreeted (s ∷ past) v × (IsWelcome (s ∷ past) v → ⊥))))

@@ -1,0 +1,144 @@
+-- The wants of requests: which one waits, what for, and in what order. `past` is the server's earlier doings.
+use Rattle.run_rules.specs.Lists.{Since}
+use Rattle.std.specs.Option.{option_map_or}
+use Rattle.std.specs.Prelude.{Bool, IsTrue, List, [], false, if◌then◌else◌, not, true, ℕ, ◌&&◌, ◌∷◌, ◌≡◌, ◌≤◌, ◌⊎◌}
+use Rattle.base_types.specs.declared.ids.HostId.{HostId}
+use Rattle.base_types.specs.declared.ids.ServerId.{ServerId}
+use Rattle.tree_calls.specs.Rosters.{user_of}
+use Rattle.tree_answers.specs.declared.tree.Tree.{Tree}
+use Rattle.token_types.specs.Conflicts.{blocks, wants_conflict}
+use Rattle.token_types.specs.declared.token.Need.{Need}
+use Rattle.token_types.specs.declared.token.Token.{Token}
+use Rattle.run_rules.specs.Acts.{SentTo, epoch}
+use Rattle.run_rules.specs.Grants.{Granted, IsDurable, Pinned, Reserved}
+use Rattle.run_rules.specs.Hosts.{GoesAway, IsBegin, NoGrace}
+use Rattle.run_rules.specs.Places.{place}
+use Rattle.tree_calls.specs.declared.call.Call.TheVariants.{Lock, OpenFile, MoveFileset}
+use Rattle.tree_calls.specs.declared.call.Call.{Call}
+use Rattle.message_types.specs.declared.message.Body.TheVariants.{Fetch, Grant, Change, Done}
+use Rattle.message_types.specs.declared.message.Body.{Body}
+use Rattle.message_types.specs.declared.asking.Change.{Change as ChangeOf}
+use Rattle.message_types.specs.declared.telling.Done.{Done as DoneOf}
+use Rattle.message_types.specs.declared.telling.Grant.{Grant as GrantOf}
+use Rattle.run_rules.specs.declared.applied.Request.{Request}
+use Rattle.run_rules.specs.declared.applied.Request.TheVariants.{Fetch as Asks, Change as Changes}
+use Rattle.run_rules.specs.declared.applied.Wanted.{Wanted}
+use Rattle.run_rules.specs.declared.applied.Written.{Written}
+use Rattle.run_rules.specs.Acts.{Act}
+use Rattle.run_rules.specs.Acts.Act.{Wants, Writes, Sent}
+use Rattle.need_server.specs.Wants.{want}
+
+-- the exporter of a server wants tokens as a host of its own
+abbrev pub exporter : HostId
+exporter = record { 0 = 17 }
+
+-- whether a call takes a label, for which its host's own token is granted
+abbrev pub is_use : Call → Bool
+is_use (Lock label place writing from len) = true
+is_use (OpenFile label place kind) = true
+is_use _ = false
+
+-- whether it moves a fileset; so far none moves, and such a Change waits where nothing refuses it
+abbrev pub is_move : Call → Bool
+is_move (MoveFileset server name to) = true
+is_move _ = false
+
+-- whether a Change has its effect where it is written down
+abbrev pub has_effect : ChangeOf → Bool
+has_effect change = not change.enter && not (is_use change.call) && not (is_move change.call)
+
+-- what a host's Change wants on the kept filesets, by its row of the call table; one that enters a fileset wants
+-- nothing
+abbrev pub row_needs : Tree → HostId → ChangeOf → List Need
+row_needs tree host change =
+    if change.enter then []
+    else option_map_or (λ user. want tree user change.call) (user_of tree.roster host) []
+
+-- what a request needs on the kept filesets
+abbrev pub needs_for : Tree → HostId → Request → List Need
+needs_for tree host (Asks fetch) = fetch.needs
+needs_for tree host (Changes change) = row_needs tree host change
+
+-- the message of a request
+abbrev pub body_of : Request → Body
+body_of (Asks fetch) = Fetch fetch
+body_of (Changes change) = Change change
+
+-- for whom a request wants tokens: a Fetch and a use for their host, any other Change for the exporter
+abbrev pub asker_of : HostId → Request → HostId
+asker_of host (Asks fetch) = host
+asker_of host (Changes change) = if is_use change.call then host else exporter
+
+abbrev pub asker : Wanted → HostId
+asker w = asker_of w.host w.request
+
+-- two requests have one number, by which they are known
+abbrev pub SameNumber : Request → Request → Type 0
+SameNumber (Asks f) (Asks g) = (f.fid.fileset ≡ g.fid.fileset) × (f.number ≡ g.number)
+SameNumber (Changes c) (Changes d) = (c.fileset ≡ d.fileset) × (c.number ≡ d.number)
+SameNumber _ _ = ⊥
+
+-- the doing decides the host's request: it writes the Change down, or sends the Grant or Done of its number
+abbrev pub Decides : Act → HostId → Request → Type 0
+Decides a host (Asks fetch) = (e n : ℕ) × (grant : GrantOf) × (a ≡ Sent host e n (Grant grant))
+    × (grant.bring.fid.fileset ≡ fetch.fid.fileset) × (grant.bring.number ≡ fetch.number)
+Decides a host (Changes change) =
+    ((written : Written) × (a ≡ Writes written) × (written.answer.host ≡ host)
+    × (written.fileset ≡ change.fileset) × (written.number ≡ change.number))
+    ⊎ ((e n : ℕ) × (done : DoneOf) × (a ≡ Sent host e n (Done done))
+    × (done.fileset ≡ change.fileset) × (done.bring.number ≡ change.number))
+
+-- the doing takes the want from the queue: it decides its request, or makes it another want; the host goes away, or
+-- a new epoch begins
+abbrev pub Unwants : List Act → Act → Wanted → Type 0
+Unwants past a w =
+    Decides a w.host w.request
+    ⊎ (((v : Wanted) × (a ≡ Wants v) × (v.host ≡ w.host) × SameNumber v.request w.request)
+    ⊎ (GoesAway past a w.host ⊎ IsBegin a))
+
+-- the want waits in the queue: it was made, and nothing has taken it from there since
+abbrev pub Waits : List Act → Wanted → Type 0
+Waits past w = Since (λ before a. a ≡ Wants w) (λ before a. Unwants before a w) past
+
+-- of two wants that wait the first was made before the second
+abbrev pub Before : List Act → Wanted → Wanted → Type 0
+Before [] w v = ⊥
+Before (a ∷ past) w v = ((Waits past w × (a ≡ Wants v)) ⊎ Before past w v) × Waits (a ∷ past) w × Waits (a ∷ past) v
+
+-- no request of the host and this number waits
+abbrev pub NoneWaits : List Act → HostId → Request → Type 0
+NoneWaits past host request = (w : Wanted) → Waits past w → w.host ≡ host → SameNumber w.request request → ⊥
+
+-- A Change is old where its number, or a higher one of its host and fileset, was written down, or answered in this
+-- epoch.
+abbrev pub IsOld : List Act → HostId → Request → Type 0
+IsOld past host (Asks fetch) = ⊥
+IsOld past host (Changes change) =
+    IsDurable past host change.fileset change.number
+    ⊎ ((n : ℕ) × (done : DoneOf) × SentTo past host (epoch past) n (Done done)
+    × (done.fileset ≡ change.fileset) × (change.number ≤ done.bring.number))
+
+-- a token is in the want's way
+abbrev pub Blocks : Wanted → Token → Type 0
+Blocks w t = IsTrue (blocks (asker w) w.needs t)
+
+-- an earlier want conflicts
+abbrev pub IsBehind : List Act → Wanted → Type 0
+IsBehind past w = (v : Wanted) × Before past v w × IsTrue (wants_conflict (asker w) w.needs (asker v) v.needs)
+
+-- The want can be granted: no token of another host that is granted, and none that the exporter keeps, is in its
+-- way, and no earlier want.
+pub record CanGrant (server : ServerId) (past : List Act) (w : Wanted) : Type 0 where
+  pub over : NoGrace past
+  pub free : (t : Token) → Granted server past t ⊎ Reserved past t → Blocks w t → ⊥
+  pub first : IsBehind past w → ⊥
+
+-- it can be refused: a pinned token is in its way, and no earlier want
+pub record CanRefuse (server : ServerId) (past : List Act) (w : Wanted) : Type 0 where
+  pub over : NoGrace past
+  pub pinned : (t : Token) × Pinned server past t × Blocks w t
+  pub first : IsBehind past w → ⊥
+
+-- it could be decided
+abbrev pub IsReady : ServerId → List Act → Wanted → Type 0
+IsReady server past w = CanGrant server past w ⊎ CanRefuse server past w

@@ -1,0 +1,10 @@
+pub mod Worked
+pub mod Forgetting
+pub mod Effects
+pub mod JournalWorked
+pub mod HostRest
+pub mod HostWorked
+pub mod Evictions
+pub mod ServerRest
+pub mod Turns
+pub mod RunWorked

@@ -1,3 +1,0 @@
-pub mod Alike
-pub mod Logs
-pub mod Reformed

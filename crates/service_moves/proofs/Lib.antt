@@ -1,0 +1,12 @@
+pub mod Tables
+pub mod Grown
+pub mod Numbered
+pub mod Again
+pub mod Repeats
+pub mod Tries
+pub mod Stores
+pub mod Carried
+pub mod Between
+pub mod Goes
+pub mod Moved
+pub mod Finished

@@ -1,0 +1,16 @@
+use Rattle.std.proofs.Common.{◌*◌}
+use Rattle.std.specs.Prelude.{Ok}
+use Rattle.tree_answers.specs.declared.tree.Tree.{Tree}
+use Rattle.service_starts.specs.UnderWay.{KeepUnderWay}
+use Rattle.service_moves.specs.Batches.{batch_wear}
+use Rattle.service_moves.specs.Steps.{AllGoOn}
+use Rattle.service_moves.specs.Stores.{states_of}
+use Rattle.service_moves.proofs.Finished.{HaveFinished}
+use Rattle.service_moves.proofs.finishing.finish_moves.Given as goal
+
+-- what the servers so far left
+abbrev pub invariant-loop-k : goal.invariant-loop-k
+invariant-loop-k g l = record {
+  goes : AllGoOn {T = Unit {0}} g.S.Store.view (67 * batch_wear * l.k) (Ok tt) l.fn.stores l.stores;
+  finished : g.S.Store.tells → (tree : Tree) → KeepUnderWay tree (states_of g.S.Store.view l.fn.stores) → HaveFinished tree l.k (states_of g.S.Store.view l.stores);
+}

@@ -1,0 +1,68 @@
+use Rattle.std.proofs.Common.{◌≡◌, ◌≤◌, ◌+◌, ◌*◌, inl, refl, sym, subst, ◌∙◌, ap, arith}
+use Rattle.store_acts.specs.Acts.{act_done, state_after}
+use Rattle.store_acts.specs.declared.act.Act.TheVariants.{Left}
+use Rattle.service_moves.specs.Again.{IsRepeatable}
+use Rattle.service_moves.specs.Batches.{batch_wear}
+use Rattle.service_moves.specs.Steps.{StopsAt}
+use Rattle.service_moves.proofs.Between.{part_taken}
+use Rattle.service_moves.proofs.Carried.{all_taken, left_again}
+use Rattle.service_moves.proofs.Stores.{if_err_then, lasts_more, lasts_none, lasts_then, on_ok, on_ok_then, stops_then}
+use Rattle.service_moves.proofs.sending.send.Goals as goal
+
+pub loop-at-init : goal.loop-at-init
+loop-at-init g c = record {
+  sender = λ t. refl;
+  receiver = λ t holding m. refl;
+  sends = c.requires.may.sends;
+  takes = c.requires.may.takes;
+  first = lasts_none (g.S.Store.view c.args.sender.now) c.requires.may.first_mends;
+  second = lasts_none (g.S.Store.view c.args.receiver.now) c.requires.may.second_mends;
+}
+
+pub loop-at-preserved : goal.loop-at-preserved
+loop-at-preserved g c =
+    let inv = c.loop-at.invariant in
+    let done = c.in_ok-send_part.ensures in
+    let at = c.loop-at.at in
+    let low : at ≤ c.args.ship.now.objects = (let t = c.loop-at-test.true in omega (arith, t)) in
+    let more : batch_wear * at + batch_wear ≤ batch_wear * (at + 1) = omega arith in
+    record {
+      sender = λ t. done.sender t ∙ inv.sender t;
+      receiver = λ t holding m.
+          part_taken (g.S.Store.view c.args.sender.now).state (g.S.Store.view c.args.receiver.now).state (g.S.Store.view c.loop-at.sender).state (g.S.Store.view c.loop-at.receiver).state
+          (g.S.Store.view c.send_part.new.receiver).state holding c.args.ship.now c.args.mover.now at m low (inv.sender t) (inv.receiver t holding m) (done.receiver t);
+      sends = done.first.ready inv.sends;
+      takes = done.second.ready inv.takes;
+      first = lasts_more (batch_wear * at + batch_wear) (batch_wear * (at + 1)) (g.S.Store.view c.args.sender.now) (g.S.Store.view c.send_part.new.sender) more
+          (lasts_then (batch_wear * at) batch_wear (g.S.Store.view c.args.sender.now) (g.S.Store.view c.loop-at.sender) (g.S.Store.view c.send_part.new.sender) inv.first done.first.lasts);
+      second = lasts_more (batch_wear * at + batch_wear) (batch_wear * (at + 1)) (g.S.Store.view c.args.receiver.now) (g.S.Store.view c.send_part.new.receiver) more
+          (lasts_then (batch_wear * at) batch_wear (g.S.Store.view c.args.receiver.now) (g.S.Store.view c.loop-at.receiver) (g.S.Store.view c.send_part.new.receiver) inv.second done.second.lasts);
+    }
+
+pub returns : goal.returns
+returns g c =
+    let inv = c.loop-at.invariant in
+    let done = c.do_act.ensures in
+    let ship = c.args.ship.now in
+    let at = c.loop-at.at in
+    let count : at ≡ ship.objects + 1 = (let f = c.loop-at-test.false in let l = c.loop-at.auto.at-end in omega (arith, f, l)) in
+    let few : batch_wear * at + batch_wear ≤ 66 * batch_wear = (let l = c.requires.limit in omega (arith, l, count)) in
+    let less : batch_wear * at ≤ 66 * batch_wear = (let l = c.requires.limit in omega (arith, l, count)) in
+    let start = g.S.Store.view c.args.sender.now in
+    let now = g.S.Store.view c.loop-at.sender in
+    let end = g.S.Store.view c.do_act.new.store in
+    record {
+      states = λ t holding m. on_ok_then c.do_act.result _ _ (λ e. (
+        e ∙ ap (λ s. (act_done s (Left ship.fileset)).state) (inv.sender t),
+        inv.receiver t holding m ∙ ap (state_after (g.S.Store.view c.args.receiver.now).state) (all_taken start.state (g.S.Store.view c.args.receiver.now).state holding ship c.args.mover.now at m count),
+      )) (done.state t tt (subst (λ s. IsRepeatable s (Left ship.fileset)) (sym (inv.sender t)) (left_again start.state ship.fileset m.storable)));
+      first = record {
+        lasts = lasts_more (batch_wear * at + batch_wear) (66 * batch_wear) start end few (lasts_then (batch_wear * at) batch_wear start now end inv.first done.goes_on.lasts);
+        ready = on_ok_then c.do_act.result (now.ready → end.ready) (start.ready → end.ready) (λ f r. f inv.sends) done.goes_on.ready;
+      };
+      second = record {
+        lasts = lasts_more (batch_wear * at) (66 * batch_wear) (g.S.Store.view c.args.receiver.now) (g.S.Store.view c.loop-at.receiver) less inv.second;
+        ready = on_ok c.do_act.result _ (λ r. inv.takes);
+      };
+      stopped = if_err_then c.do_act.result (StopsAt ship.from now end) _ (λ stopped s. inl (stops_then ship.from start now end stopped inv.first.counted s)) done.stopped;
+    }

@@ -1,0 +1,330 @@
+-- The disks of servers whose stores were opened, and closed behind a run.
+use Rattle.std.proofs.Common.{◌≡◌, ◌≤◌, ◌<◌, ◌+◌, ◌-◌, ℕ, zero, suc, List, [], ◌∷◌, length, Some, refl, sym, ap, subst, ◌∙◌, arith}
+use Rattle.std.specs.Prelude.{slice_get, nat_lt, true, false, IsTrue, Option}
+use Rattle.std.specs.Option.{option_map}
+use Rattle.std.proofs.lemmas.Grind.{common_steps}
+use Rattle.base_types.specs.Faults.{RoseBy}
+use Rattle.base_types.specs.View.{View as DiskView}
+use Rattle.base_types.specs.declared.ids.HostId.{HostId}
+use Rattle.base_types.specs.declared.ids.ServerId.{ServerId}
+use Rattle.base_types.specs.declared.limits.TheConstants.{SERVERS_MAX}
+use Rattle.tree_calls.specs.declared.roster.Roster.{Roster}
+use Rattle.store_memory.specs.MapStores.{kept_in}
+use Rattle.store_memory.specs.Views.{IsSameStore}
+use Rattle.tree_answers.specs.declared.tree.Tree.{Tree}
+use Rattle.disk_aggregate.specs.Stands.{disk_in, state_in}
+use Rattle.disk_aggregate.specs.StoreView.{aggregate_view, kept_state}
+use Rattle.disk_aggregate.specs.declared.aggregate.Aggregate.{Aggregate}
+use Rattle.disk_records.specs.Record.{record_in}
+use Rattle.disk_report.specs.Disks.{IsFailing}
+use Rattle.service_starts.specs.declared.told.Told.{Told}
+use Rattle.store_laws.specs.MoveKeeping.{KeepAll}
+use Rattle.store_records.proofs.Acts.{new_is_storable}
+use Rattle.store_records.specs.Stored.{IsStorable}
+use Rattle.message_types.specs.Soundness.{Each}
+use Rattle.service_disks.specs.Opening.{new_store, store_on}
+use Rattle.service_disks.specs.Seats.{AreSeated}
+use Rattle.service_disks.specs.Stores.{server_of, disks_of, AreOpen, IsOpenOn, AreBack as AreUnopened}
+use Rattle.service_disks.specs.View.{store_view}
+use Rattle.service_disks.specs.declared.stores.ServerStore.{ServerStore}
+use Rattle.service_disks.specs.declared.stores.ServerStore.TheVariants.{Disk, Memory}
+use Rattle.service_moves.specs.Stopping.{HasFailed}
+use Rattle.service_moves.specs.Stores.{AreSame, AreStores, states_of}
+use Rattle.service_stores.specs.Starting.{told_of, told_by}
+use Rattle.store_state.specs.Capacity.{capacity_of}
+use Rattle.store_state.specs.declared.state.StoreState.{StoreState}
+use Rattle.store_laws.specs.TreeKeeping.{KeepsOf}
+use Rattle.service_run.proofs.Lists.{get_map, mapped}
+use Rattle.service_run.specs.Disks.{told_at, images, AreBack, AreFound, AreKept, AreStill, HaveRecords}
+use Rattle.service_run.specs.Steps.{AreAsPlaced}
+
+some_lt : (count n : ℕ) → count ≡ n + 1 → nat_lt 0 count ≡ true
+some_lt count n e = grind (arith, common_steps, e)
+
+none_lt : (count : ℕ) → count ≡ 0 → nat_lt 0 count ≡ false
+none_lt count e = grind (arith, common_steps, e)
+
+module _ {D : Type 0} (tells : Type 0) (view : D → DiskView) (roster : Roster) where
+  pub are_stores : (n : ℕ) (disks : List D) (stores : List (ServerStore D)) → AreOpen tells view roster n disks stores → AreStores (store_view tells view) roster 0 n stores
+  are_stores n [] [] are = tt
+  are_stores n [] (Disk store ∷ stores) are = absurd are
+  are_stores n [] (Memory store ∷ stores) are = (
+    record {
+      server = ap (λ (s : StoreState). s.server) are.0;
+      roster_is = ap (λ (s : StoreState). s.roster) are.0;
+      ready = tt;
+      mendable = tt;
+      wear = (let e : (kept_in store).epoch + (kept_in store).ship ≡ 0 = ap (λ (s : StoreState). s.epoch + s.ship) are.0 in omega (arith, e));
+    },
+    are_stores (n + 1) [] stores are.1,
+  )
+  are_stores n (disk ∷ disks) [] are = absurd are
+  are_stores n (disk ∷ disks) (Memory store ∷ stores) are = absurd are
+  are_stores n (disk ∷ disks) (Disk store ∷ stores) are = (
+    record {
+      server = ap (λ (s : StoreState). s.server) are.0.opened.state ∙ are.0.server_is;
+      roster_is = ap (λ (s : StoreState). s.roster) are.0.opened.state ∙ are.0.roster_is;
+      ready = are.0.opened.ready;
+      mendable = are.0.opened.mendable;
+      wear = (let e = are.0.opened.wear in omega (arith, e));
+    },
+    are_stores (n + 1) disks stores are.1,
+  )
+
+  pub are_storable : tells → (n : ℕ) (disks : List D) (stores : List (ServerStore D)) → 1 ≤ n → n + length stores ≤ SERVERS_MAX + 1 → length roster.capacity ≤ SERVERS_MAX
+      → AreOpen tells view roster n disks stores → Each IsStorable (states_of (store_view tells view) stores)
+  are_storable told n [] [] low high few are = tt
+  are_storable told n [] (Disk store ∷ stores) low high few are = absurd are
+  are_storable told n [] (Memory store ∷ stores) low high few are = (
+    subst IsStorable (sym are.0) (new_is_storable (server_of n) (capacity_of roster (server_of n)) roster low (omega (arith, high)) few),
+    are_storable told (n + 1) [] stores (omega arith) (omega (arith, high)) few are.1,
+  )
+  are_storable told n (disk ∷ disks) [] low high few are = absurd are
+  are_storable told n (disk ∷ disks) (Memory store ∷ stores) low high few are = absurd are
+  are_storable told n (disk ∷ disks) (Disk store ∷ stores) low high few are =
+      ((are.0.opened.mendable told).store.storable, are_storable told (n + 1) disks stores (omega arith) (omega (arith, high)) few are.1)
+
+  memory_seated : (count n : ℕ) (stores : List (ServerStore D)) → count < n → AreOpen tells view roster n [] stores → AreSeated tells view count stores
+  memory_seated count n [] less are = tt
+  memory_seated count n (Disk store ∷ stores) less are = absurd are
+  memory_seated count n (Memory store ∷ stores) less are =
+      (let e : (kept_in store).server.0 ≡ n = ap (λ (s : StoreState). s.server.0) are.0 in (omega (arith, e, less), memory_seated count (n + 1) stores (omega (arith, less)) are.1))
+
+  pub are_seated : (count n : ℕ) (disks : List D) (stores : List (ServerStore D)) → n + length disks ≡ count + 1 → AreOpen tells view roster n disks stores → AreSeated tells view count stores
+  are_seated count n [] stores is are = memory_seated count n stores (omega (arith, is)) are
+  are_seated count n (disk ∷ disks) [] is are = absurd are
+  are_seated count n (disk ∷ disks) (Memory store ∷ stores) is are = absurd are
+  are_seated count n (disk ∷ disks) (Disk store ∷ stores) is are =
+      (let e : (kept_state view store).server.0 ≡ n = ap (λ (s : StoreState). s.server.0) are.0.opened.state ∙ ap (λ (s : ServerId). s.0) are.0.server_is in
+      (omega (arith, e, is), are_seated count (n + 1) disks stores (omega (arith, is)) are.1))
+
+  -- what the servers tell
+  found_at : tells → (n k m count : ℕ) (disks : List D) (stores : List (ServerStore D)) (told : Told) → AreOpen tells view roster n disks stores → count ≡ length disks → m ≡ n + k
+      → slice_get (told_by (store_view tells view) count stores) k ≡ Some told → told_at roster m (slice_get (images view disks) k) ≡ Some told
+  found_at t n k m count [] [] told are c e is = absurd (cc)
+  found_at t n k m count [] (Disk store ∷ stores) told are c e is = absurd are
+  found_at t n zero m count [] (Memory store ∷ stores) told are c e is =
+      (let same : m ≡ n = omega (arith, e) in
+      let told_is : told_of (nat_lt 0 count) (kept_in store) ≡ told = cc in
+      ap (λ i. Some (told_of false (new_store roster (server_of i)))) same ∙ ap (λ (s : StoreState). Some (told_of false s)) (sym are.0)
+      ∙ ap (λ b. Some (told_of b (kept_in store))) (sym (none_lt count c)) ∙ ap (λ (x : Told). Some x) told_is)
+  found_at t n (suc k) m count [] (Memory store ∷ stores) told are c e is = found_at t (n + 1) k m (count - 1) [] stores told are.1 (omega (arith, c)) (omega (arith, e)) is
+  found_at t n k m count (disk ∷ disks) [] told are c e is = absurd are
+  found_at t n k m count (disk ∷ disks) (Memory store ∷ stores) told are c e is = absurd are
+  found_at t n zero m count (disk ∷ disks) (Disk store ∷ stores) told are c e is =
+      (let same : m ≡ n = omega (arith, e) in
+      let told_is : told_of (nat_lt 0 count) (kept_state view store) ≡ told = cc in
+      ap (λ i. option_map (told_of true) (store_on roster (server_of i) (view disk).image)) same
+      ∙ ap (λ (o : Option StoreState). option_map (told_of true) o) (are.0.kept t) ∙ ap (λ (s : StoreState). Some (told_of true s)) (sym are.0.opened.state)
+      ∙ ap (λ b. Some (told_of b (kept_state view store))) (sym (some_lt count (length disks) (omega (arith, c)))) ∙ ap (λ (x : Told). Some x) told_is)
+  found_at t n (suc k) m count (disk ∷ disks) (Disk store ∷ stores) told are c e is = found_at t (n + 1) k m (count - 1) disks stores told are.1 (omega (arith, c)) (omega (arith, e)) is
+
+  told_count : (count : ℕ) (stores : List (ServerStore D)) → length (told_by (store_view tells view) count stores) ≡ length stores
+  told_count count [] = refl
+  told_count count (store ∷ stores) = ap (λ i. suc i) (told_count (count - 1) stores)
+
+  pub are_found : tells → (disks : List D) (stores : List (ServerStore D)) → AreOpen tells view roster 1 disks stores → length stores ≡ length roster.capacity
+      → AreFound roster (images view disks) (told_by (store_view tells view) (length disks) stores)
+  are_found t disks stores are count = record {
+    count = told_count (length disks) stores ∙ count;
+    each = λ k told is. found_at t 1 k (k + 1) (length disks) disks stores told are refl (omega arith) is;
+  }
+
+  -- the disk at a place behind a run
+  pub record At (m k : ℕ) (olds : List D) (stores left : List (ServerStore D)) (new : D) : Type 0 where
+    pub old : D
+    pub store : Aggregate D
+    pub after : Aggregate D
+    pub was : slice_get olds k ≡ Some old
+    pub is : disk_in after ≡ new
+    pub opened : IsOpenOn tells view roster (server_of m) old store
+    pub same : IsSameStore (aggregate_view tells view store) (aggregate_view tells view after)
+    pub mendable : (aggregate_view tells view after).mendable
+    pub counted : (view (disk_in store)).faults ≤ (view (disk_in after)).faults
+    pub in_stores : slice_get stores k ≡ Some (Disk store)
+    pub in_left : slice_get left k ≡ Some (Disk after)
+
+  none_left : (n : ℕ) (stores left : List (ServerStore D)) → AreOpen tells view roster n [] stores → AreAsPlaced stores left → disks_of left ≡ []
+  none_left n [] [] are placed = refl
+  none_left n [] (Disk after ∷ left) are placed = absurd placed
+  none_left n [] (Memory after ∷ left) are placed = absurd placed
+  none_left n (Disk store ∷ stores) left are placed = absurd are
+  none_left n (Memory store ∷ stores) [] are placed = absurd placed
+  none_left n (Memory store ∷ stores) (Disk after ∷ left) are placed = absurd placed
+  none_left n (Memory store ∷ stores) (Memory after ∷ left) are placed = none_left (n + 1) stores left are.1 placed
+
+  at_disk : (n k m : ℕ) (olds : List D) (stores left : List (ServerStore D)) (new : D) → AreOpen tells view roster n olds stores → AreAsPlaced stores left
+      → AreSame (store_view tells view) stores left → m ≡ n + k → slice_get (disks_of left) k ≡ Some new → At m k olds stores left new
+  at_disk n k m [] stores left new are placed same e is = absurd (let none = ap (λ (l : List D). slice_get l k) (none_left n stores left are placed) in cc)
+  at_disk n k m (x ∷ olds) [] left new are placed same e is = absurd are
+  at_disk n k m (x ∷ olds) (Memory store ∷ stores) left new are placed same e is = absurd are
+  at_disk n k m (x ∷ olds) (Disk store ∷ stores) [] new are placed same e is = absurd placed
+  at_disk n k m (x ∷ olds) (Disk store ∷ stores) (Memory after ∷ left) new are placed same e is = absurd placed
+  at_disk n zero m (x ∷ olds) (Disk store ∷ stores) (Disk after ∷ left) new are placed same e is = record {
+    old = x;
+    store = store;
+    after = after;
+    was = refl;
+    is = cc;
+    opened = subst (λ (i : ℕ). IsOpenOn tells view roster (server_of i) x store) (let q : n ≡ m = omega (arith, e) in q) are.0;
+    same = same.0;
+    mendable = same.1;
+    counted = same.2;
+    in_stores = refl;
+    in_left = refl;
+  }
+  at_disk n (suc k) m (x ∷ olds) (Disk store ∷ stores) (Disk after ∷ left) new are placed same e is =
+      (let a = at_disk (n + 1) k m olds stores left new are.1 placed same.3 (omega (arith, e)) is in
+      record { old = a.old; store = a.store; after = a.after; was = a.was; is = a.is; opened = a.opened; same = a.same; mendable = a.mendable; counted = a.counted; in_stores = a.in_stores; in_left = a.in_left })
+
+  left_count : (n : ℕ) (olds : List D) (stores left : List (ServerStore D)) → AreOpen tells view roster n olds stores → AreAsPlaced stores left → length (disks_of left) ≡ length olds
+  left_count n [] stores left are placed = ap length (none_left n stores left are placed)
+  left_count n (x ∷ olds) [] left are placed = absurd are
+  left_count n (x ∷ olds) (Memory store ∷ stores) left are placed = absurd are
+  left_count n (x ∷ olds) (Disk store ∷ stores) [] are placed = absurd placed
+  left_count n (x ∷ olds) (Disk store ∷ stores) (Memory after ∷ left) are placed = absurd placed
+  left_count n (x ∷ olds) (Disk store ∷ stores) (Disk after ∷ left) are placed = ap (λ i. suc i) (left_count (n + 1) olds stores left are.1 placed)
+
+  -- what it keeps is what its bytes have
+  has_found : tells → (m k : ℕ) (olds : List D) (stores left : List (ServerStore D)) (new : D) → (a : At m k olds stores left new)
+      → record_in roster (server_of m) (view new).image ≡ Some (kept_state view a.after)
+  has_found t m k olds stores left new a =
+      (let state = kept_state view a.after in
+      let image = (view (disk_in a.after)).image in
+      let has : record_in state.roster state.server image ≡ Some state = (a.mendable t).store.found in
+      let server : state.server ≡ server_of m = a.same.server ∙ ap (λ (s : StoreState). s.server) a.opened.opened.state ∙ a.opened.server_is in
+      let its : state.roster ≡ roster = a.same.roster ∙ ap (λ (s : StoreState). s.roster) a.opened.opened.state ∙ a.opened.roster_is in
+      let one : record_in roster state.server image ≡ Some state = subst (λ (r : Roster). record_in r state.server image ≡ Some state) its has in
+      let two : record_in roster (server_of m) image ≡ Some state = subst (λ (s : ServerId). record_in roster s image ≡ Some state) server one in
+      subst (λ (d : D). record_in roster (server_of m) (view d).image ≡ Some state) a.is two)
+
+  module _ (olds : List D) (stores left : List (ServerStore D)) (are : AreOpen tells view roster 1 olds stores) (placed : AreAsPlaced stores left) (same : AreSame (store_view tells view) stores left) where
+    at : (k : ℕ) (new : D) → slice_get (disks_of left) k ≡ Some new → At (k + 1) k olds stores left new
+    at k new is = at_disk 1 k (k + 1) olds stores left new are placed same (omega arith) is
+
+    pub have_records : tells → HaveRecords roster (images view (disks_of left))
+    have_records t k image is =
+        (let m = mapped (λ disk. (view disk).image) (disks_of left) k image is in
+        let a = at k m.from m.was in
+        (kept_state view a.after, subst (λ (l : List ℕ). record_in roster (server_of (k + 1)) l ≡ Some (kept_state view a.after)) m.is (has_found t (k + 1) k olds stores left m.from a)))
+
+    pub are_kept : tells → (next : HostId → ℕ) (tree : Tree) → KeepAll next tree (states_of (store_view tells view) left) → AreKept tree (images view (disks_of left))
+    are_kept t next tree keep k image is =
+        (let m = mapped (λ disk. (view disk).image) (disks_of left) k image is in
+        let a = at k m.from m.was in
+        let state = kept_state view a.after in
+        let found : record_in roster (server_of (k + 1)) image ≡ Some state = subst (λ (l : List ℕ). record_in roster (server_of (k + 1)) l ≡ Some state) m.is (has_found t (k + 1) k olds stores left m.from a) in
+        let keeps : KeepsOf tree state = keep.keeps k state (get_map (λ store. (store_view tells view store).state) left k (Disk a.after) a.in_left) in
+        let its : state.roster ≡ roster = a.same.roster ∙ ap (λ (s : StoreState). s.roster) a.opened.opened.state ∙ a.opened.roster_is in
+        record { state = state; found = subst (λ (r : Roster). record_in r (server_of (k + 1)) image ≡ Some state) (sym its ∙ keeps.roster) found; keeps = keeps })
+
+    pub are_still : tells → states_of (store_view tells view) left ≡ states_of (store_view tells view) stores → AreStill roster (images view olds) (images view (disks_of left))
+    are_still t still k old new was is =
+        (let image = λ (disk : D). (view disk).image in
+        let state_of = λ (store : ServerStore D). (store_view tells view store).state in
+        let o = mapped image olds k old was in
+        let m = mapped image (disks_of left) k new is in
+        let a = at k m.from m.was in
+        let first : slice_get (states_of (store_view tells view) stores) k ≡ Some (kept_state view a.store) = get_map state_of stores k (Disk a.store) a.in_stores in
+        let last : slice_get (states_of (store_view tells view) left) k ≡ Some (kept_state view a.after) = get_map state_of left k (Disk a.after) a.in_left in
+        let both : Some (kept_state view a.after) ≡ Some (kept_state view a.store) = sym last ∙ ap (λ (l : List StoreState). slice_get l k) still ∙ first in
+        let disk : a.old ≡ o.from = (let p = a.was in let q = o.was in cc) in
+        let had : store_on roster (server_of (k + 1)) old ≡ Some (state_in a.store) =
+        subst (λ (l : List ℕ). store_on roster (server_of (k + 1)) l ≡ Some (state_in a.store)) (ap image disk ∙ o.is) (a.opened.kept t) in
+        let found : record_in roster (server_of (k + 1)) new ≡ Some (kept_state view a.after) =
+        subst (λ (l : List ℕ). record_in roster (server_of (k + 1)) l ≡ Some (kept_state view a.after)) m.is (has_found t (k + 1) k olds stores left m.from a) in
+        found ∙ both ∙ ap (λ (s : StoreState). Some s) a.opened.opened.state ∙ sym had)
+
+    pub are_back : AreBack view olds (disks_of left)
+    are_back = record {
+      count = left_count 1 olds stores left are placed;
+      counted = λ k before after was is.
+          (let a = at k after is in
+          let disk : a.old ≡ before = (let p = a.was in cc) in
+          let one = a.opened.counted in
+          let two = a.counted in
+          let sum : (view a.old).faults ≤ (view (disk_in a.after)).faults = omega (arith, one, two) in
+          subst (λ (d : D). (view before).faults ≤ (view d).faults) a.is (subst (λ (d : D). (view d).faults ≤ (view (disk_in a.after)).faults) disk sum));
+    }
+
+  -- a store that failed was on a disk
+  record Fails (olds news : List D) (k : ℕ) : Type 0 where
+    pub before : D
+    pub after : D
+    pub was : slice_get olds k ≡ Some before
+    pub is : slice_get news k ≡ Some after
+    pub twice : RoseBy 2 (view before).faults (view after).faults
+    pub last : IsTrue (view after).last_failed
+
+  memory_stays : (n k : ℕ) (stores left : List (ServerStore D)) (before after : ServerStore D) → AreOpen tells view roster n [] stores → AreAsPlaced stores left → slice_get stores k ≡ Some before → slice_get left k ≡ Some after
+      → RoseBy 2 (store_view tells view before).faults (store_view tells view after).faults → ⊥
+  memory_stays n k [] left before after are placed was is twice = cc
+  memory_stays n k (Disk store ∷ stores) left before after are placed was is twice = are
+  memory_stays n k (Memory store ∷ stores) [] before after are placed was is twice = placed
+  memory_stays n k (Memory store ∷ stores) (Disk x ∷ left) before after are placed was is twice = placed
+  memory_stays n zero (Memory store ∷ stores) (Memory x ∷ left) before after are placed was is twice =
+      (let b : Memory store ≡ before = cc in
+      let a : Memory x ≡ after = cc in
+      let p : (store_view tells view before).faults ≡ 0 = ap (λ (s : ServerStore D). (store_view tells view s).faults) (sym b) in
+      let q : (store_view tells view after).faults ≡ 0 = ap (λ (s : ServerStore D). (store_view tells view s).faults) (sym a) in
+      omega (arith, p, q, twice))
+  memory_stays n (suc k) (Memory store ∷ stores) (Memory x ∷ left) before after are placed was is twice = memory_stays (n + 1) k stores left before after are.1 placed was is twice
+
+  fails_at : (n k : ℕ) (olds : List D) (stores left : List (ServerStore D)) (before after : ServerStore D) → AreOpen tells view roster n olds stores → AreAsPlaced stores left → slice_get stores k ≡ Some before → slice_get left k ≡ Some after
+      → RoseBy 2 (store_view tells view before).faults (store_view tells view after).faults → IsTrue (store_view tells view after).last_failed → Fails olds (disks_of left) k
+  fails_at n k [] stores left before after are placed was is twice last = absurd (memory_stays n k stores left before after are placed was is twice)
+  fails_at n k (x ∷ olds) [] left before after are placed was is twice last = absurd are
+  fails_at n k (x ∷ olds) (Memory store ∷ stores) left before after are placed was is twice last = absurd are
+  fails_at n k (x ∷ olds) (Disk store ∷ stores) [] before after are placed was is twice last = absurd placed
+  fails_at n k (x ∷ olds) (Disk store ∷ stores) (Memory y ∷ left) before after are placed was is twice last = absurd placed
+  fails_at n zero (x ∷ olds) (Disk store ∷ stores) (Disk y ∷ left) before after are placed was is twice last =
+      (let b : Disk store ≡ before = cc in
+      let a : Disk y ≡ after = cc in
+      let rose : RoseBy 2 (view (disk_in store)).faults (view (disk_in y)).faults =
+      subst (λ (s : ServerStore D). RoseBy 2 (view (disk_in store)).faults (store_view tells view s).faults) (sym a)
+      (subst (λ (s : ServerStore D). RoseBy 2 (store_view tells view s).faults (store_view tells view after).faults) (sym b) twice) in
+      let less = are.0.counted in
+      record {
+        before = x;
+        after = disk_in y;
+        was = refl;
+        is = refl;
+        twice = omega (arith, less, rose);
+        last = subst (λ (s : ServerStore D). IsTrue (store_view tells view s).last_failed) (sym a) last;
+      })
+  fails_at n (suc k) (x ∷ olds) (Disk store ∷ stores) (Disk y ∷ left) before after are placed was is twice last =
+      (let f = fails_at (n + 1) k olds stores left before after are.1 placed was is twice last in
+      record { before = f.before; after = f.after; was = f.was; is = f.is; twice = f.twice; last = f.last })
+
+  pub is_failing : (olds : List D) (stores left : List (ServerStore D)) (number : ℕ) → AreOpen tells view roster 1 olds stores → AreAsPlaced stores left → HasFailed (store_view tells view) stores left number
+      → IsFailing view olds (disks_of left) number
+  is_failing olds stores left number are placed failed =
+      (let f = fails_at 1 failed.k olds stores left failed.before failed.after are placed failed.was failed.is failed.twice failed.last in
+      record { k = failed.k; numbered = failed.numbered; before = f.before; after = f.after; was = f.was; is = f.is; twice = f.twice; last = f.last })
+
+  pub open_count : (n : ℕ) (disks : List D) (stores : List (ServerStore D)) → AreOpen tells view roster n disks stores → length (disks_of stores) ≡ length disks
+  open_count n [] [] are = refl
+  open_count n [] (Disk store ∷ stores) are = absurd are
+  open_count n [] (Memory store ∷ stores) are = open_count (n + 1) [] stores are.1
+  open_count n (x ∷ disks) [] are = absurd are
+  open_count n (x ∷ disks) (Memory store ∷ stores) are = absurd are
+  open_count n (x ∷ disks) (Disk store ∷ stores) are = ap (λ i. suc i) (open_count (n + 1) disks stores are.1)
+
+  -- disks that are handed back unopened
+  unopened_count : (n : ℕ) (olds news : List D) → AreUnopened tells view roster n olds news → length news ≡ length olds
+  unopened_count n [] [] are = refl
+  unopened_count n [] (y ∷ news) are = absurd are
+  unopened_count n (x ∷ olds) [] are = absurd are
+  unopened_count n (x ∷ olds) (y ∷ news) are = ap (λ i. suc i) (unopened_count (n + 1) olds news are.1)
+
+  unopened_counted : (n : ℕ) (olds news : List D) → AreUnopened tells view roster n olds news → (k : ℕ) (before after : D) → slice_get olds k ≡ Some before → slice_get news k ≡ Some after → (view before).faults ≤ (view after).faults
+  unopened_counted n [] news are k before after was is = absurd (cc)
+  unopened_counted n (x ∷ olds) [] are k before after was is = absurd are
+  unopened_counted n (x ∷ olds) (y ∷ news) are zero before after was is =
+      (let b : x ≡ before = cc in
+      let a : y ≡ after = cc in
+      subst (λ (d : D). (view before).faults ≤ (view d).faults) a (subst (λ (d : D). (view d).faults ≤ (view y).faults) b are.0.counted))
+  unopened_counted n (x ∷ olds) (y ∷ news) are (suc k) before after was is = unopened_counted (n + 1) olds news are.1 k before after was is
+
+  pub unopened_back : (olds news : List D) → AreUnopened tells view roster 1 olds news → AreBack view olds news
+  unopened_back olds news are = record { count = unopened_count 1 olds news are; counted = unopened_counted 1 olds news are }

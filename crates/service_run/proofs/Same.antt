@@ -1,0 +1,164 @@
+-- Stores that are the same servers'.
+use Rattle.std.proofs.Common.{◌≡◌, ◌≤◌, ◌+◌, ℕ, zero, suc, List, [], ◌∷◌, length, map, Some, None, Ok, Err, refl, sym, ap, subst, ◌∙◌, arith}
+use Rattle.std.specs.Prelude.{slice_get, nat_lt, ◌-◌, Result}
+use Rattle.base_types.specs.Faults.{RoseBy}
+use Rattle.base_types.specs.declared.ids.HostId.{HostId}
+use Rattle.tree_calls.specs.declared.roster.Roster.{Roster}
+use Rattle.store_memory.specs.Views.{View}
+use Rattle.tree_answers.specs.Histories.{after_history}
+use Rattle.tree_answers.specs.declared.tree.Tree.{Tree}
+use Rattle.service_starts.specs.Fitting.{misfit}
+use Rattle.service_starts.specs.declared.told.Told.{Told}
+use Rattle.store_laws.specs.Shape.{number_after}
+use Rattle.store_laws.specs.MoveKeeping.{KeepAll}
+use Rattle.service_plain.specs.declared.played.Played.{Played}
+use Rattle.script_lines.specs.declared.script.Script.{Script}
+use Rattle.service_moves.specs.Stopping.{IsStopped, HasFailed}
+use Rattle.service_moves.specs.Stores.{AreSame, AreStores, states_of}
+use Rattle.service_moves.specs.declared.stopped.RunStopped.{RunStopped}
+use Rattle.service_moves.specs.declared.stopped.RunStopped.TheVariants.{Failed, Unfit, Memory}
+use Rattle.service_stores.specs.Starting.{told_of, told_by, start_from}
+use Rattle.service_run.proofs.Lists.{get_map}
+use Rattle.service_run.specs.Engine.{HasPlayed}
+use Rattle.service_run.specs.Steps.{IsRunOf}
+
+rose_before : (a b c : ℕ) → a ≤ b → RoseBy 2 b c → RoseBy 2 a c
+rose_before a b c less rose = omega (arith, less, rose)
+
+module _ {S : Type 0} (view : S → View) where
+  pub same_trans : (olds mids news : List S) → AreSame view olds mids → AreSame view mids news → AreSame view olds news
+  same_trans [] [] [] a b = tt
+  same_trans [] [] (x ∷ news) a b = absurd b
+  same_trans [] (x ∷ mids) news a b = absurd a
+  same_trans (x ∷ olds) [] news a b = absurd a
+  same_trans (x ∷ olds) (y ∷ mids) [] a b = absurd b
+  same_trans (x ∷ olds) (y ∷ mids) (z ∷ news) a b = (
+    record { server = b.0.server ∙ a.0.server; roster = b.0.roster ∙ a.0.roster },
+    b.1,
+    (let p = a.2 in let q = b.2 in omega (arith, p, q)),
+    same_trans olds mids news a.3 b.3,
+  )
+
+  pub same_count : (olds news : List S) → AreSame view olds news → length news ≡ length olds
+  same_count [] [] same = refl
+  same_count [] (y ∷ news) same = absurd same
+  same_count (x ∷ olds) [] same = absurd same
+  same_count (x ∷ olds) (y ∷ news) same = ap (λ n. suc n) (same_count olds news same.3)
+
+  -- stores that may be opened anew are the same as themselves
+  pub same_self : (roster : Roster) (worn n : ℕ) (stores : List S) → AreStores view roster worn n stores → AreSame view stores stores
+  same_self roster worn n [] are = tt
+  same_self roster worn n (x ∷ stores) are = (record { server = refl; roster = refl }, are.0.mendable, omega arith, same_self roster worn (n + 1) stores are.1)
+
+  record Before (olds : List S) (k faults : ℕ) : Type 0 where
+    pub from : S
+    pub was : slice_get olds k ≡ Some from
+    pub less : (view from).faults ≤ faults
+
+  before : (olds mids : List S) (k : ℕ) (mid : S) → AreSame view olds mids → slice_get mids k ≡ Some mid → Before olds k ((view mid).faults)
+  before [] [] k mid same e = absurd (cc)
+  before [] (y ∷ mids) k mid same e = absurd same
+  before (x ∷ olds) [] k mid same e = absurd same
+  before (x ∷ olds) (y ∷ mids) zero mid same e = (let is : y ≡ mid = cc in record { from = x; was = refl; less = subst (λ (z : S). (view x).faults ≤ (view z).faults) is same.2 })
+  before (x ∷ olds) (y ∷ mids) (suc k) mid same e = (let b = before olds mids k mid same.3 e in record { from = b.from; was = b.was; less = b.less })
+
+  failed_later : (olds mids news : List S) (number : ℕ) → AreSame view olds mids → HasFailed view mids news number → HasFailed view olds news number
+  failed_later olds mids news number same failed =
+      (let b = before olds mids failed.k failed.before same failed.was in
+      record {
+        k = failed.k;
+        numbered = failed.numbered;
+        before = b.from;
+        after = failed.after;
+        was = b.was;
+        is = failed.is;
+        twice = rose_before ((view b.from).faults) ((view failed.before).faults) ((view failed.after).faults) b.less failed.twice;
+        last = failed.last;
+      })
+
+  -- what stopped the keeping of a run stopped the run
+  stopped_later : (tells : Type 0) (all : List Told) (olds mids news : List S) (why : RunStopped) → AreSame view olds mids → IsStopped tells view [] mids news why → IsStopped tells view all olds news why
+  stopped_later tells all olds mids news (Failed server) same is = failed_later olds mids news server.0 same is
+  stopped_later tells all olds mids news (Unfit disk slot) same is = λ told. absurd (let none = (is told).0 in let bad = none.1 in cc)
+  stopped_later tells all olds mids news Memory same is = tt
+
+  module _ (tells : Type 0) (script : Script) (disks : ℕ) where
+    pub run_stopped : (olds news : List S) (why : RunStopped) → AreSame view olds news → IsStopped tells view (told_by view disks olds) olds news why → IsRunOf tells view script disks (Err why) olds news
+    run_stopped olds news why same is = record { same = same; ran = tt; stopped = is }
+
+    pub run_starved : (olds news : List S) (why : RunStopped) → AreSame view olds news → why ≡ Memory → IsRunOf tells view script disks (Err why) olds news
+    run_starved olds news why same is = record { same = same; ran = tt; stopped = rw is tt }
+
+    pub run_unkept : (olds mids news : List S) (why : RunStopped) → AreSame view olds mids → AreSame view mids news → IsStopped tells view [] mids news why → IsRunOf tells view script disks (Err why) olds news
+    run_unkept olds mids news why same later is =
+        record { same = same_trans olds mids news same later; ran = tt; stopped = stopped_later tells (told_by view disks olds) olds mids news why same is }
+
+    pub run_done : (olds mids news : List S) (start : Tree) (run : Played) → AreSame view olds mids → AreSame view mids news → (tells → misfit (told_by view disks olds) ≡ None)
+        → (tells → start ≡ start_from script.roster (told_by view disks olds)) → (tells → KeepAll (λ host. 1) start (states_of view mids)) → HasPlayed script start run
+        → (tells → KeepAll (λ host. 1) run.start (states_of view mids) → KeepAll (λ host. number_after host 1 run.history) (after_history run.start run.history) (states_of view news))
+        → IsRunOf tells view script disks (Ok run) olds news
+    run_done olds mids news start run same later fit tree starts has keeps = record {
+      same = same_trans olds mids news same later;
+      ran = record {
+        played = has.played;
+        fit = fit;
+        start = λ told. has.start ∙ tree told;
+        kept = λ told.
+            (let next : HostId → ℕ = λ host. number_after host 1 run.history in
+            subst (λ (t : Tree). KeepAll next t (states_of view news)) (sym has.played.last)
+            (keeps told (subst (λ (t : Tree). KeepAll (λ host. 1) t (states_of view mids)) (sym has.start) (starts told))));
+      };
+      stopped = tt;
+    }
+
+-- stores in what holds them
+module _ {S T : Type 0} (f : S → T) (view : T → View) where
+  pub same_in : (olds news : List S) → AreSame (λ s. view (f s)) olds news → AreSame view (map f olds) (map f news)
+  same_in [] [] same = tt
+  same_in [] (y ∷ news) same = absurd same
+  same_in (x ∷ olds) [] same = absurd same
+  same_in (x ∷ olds) (y ∷ news) same = (same.0, same.1, same.2, same_in olds news same.3)
+
+  pub stores_in_are : (roster : Roster) (worn n : ℕ) (stores : List S) → AreStores view roster worn n (map f stores) → AreStores (λ s. view (f s)) roster worn n stores
+  stores_in_are roster worn n [] are = tt
+  stores_in_are roster worn n (x ∷ stores) are = (are.0, stores_in_are roster worn (n + 1) stores are.1)
+
+  pub states_in : (stores : List S) → states_of view (map f stores) ≡ states_of (λ s. view (f s)) stores
+  states_in [] = refl
+  states_in (x ∷ stores) = ap (λ l. (view (f x)).state ∷ l) (states_in stores)
+
+  told_in : (disks : ℕ) (stores : List S) → told_by view disks (map f stores) ≡ told_by (λ s. view (f s)) disks stores
+  told_in disks [] = refl
+  told_in disks (x ∷ stores) = ap (λ l. told_of (nat_lt 0 disks) (view (f x)).state ∷ l) (told_in (disks - 1) stores)
+
+  failed_in : (olds news : List S) (number : ℕ) → HasFailed (λ s. view (f s)) olds news number → HasFailed view (map f olds) (map f news) number
+  failed_in olds news number failed = record {
+    k = failed.k;
+    numbered = failed.numbered;
+    before = f failed.before;
+    after = f failed.after;
+    was = get_map f olds failed.k failed.before failed.was;
+    is = get_map f news failed.k failed.after failed.is;
+    twice = failed.twice;
+    last = failed.last;
+  }
+
+  stopped_in : (tells : Type 0) (disks : ℕ) (olds news : List S) (why : RunStopped) → IsStopped tells (λ s. view (f s)) (told_by (λ s. view (f s)) disks olds) olds news why
+      → IsStopped tells view (told_by view disks (map f olds)) (map f olds) (map f news) why
+  stopped_in tells disks olds news (Failed server) is = failed_in olds news server.0 is
+  stopped_in tells disks olds news (Unfit disk slot) is = λ told. (rw (told_in disks olds) (is told).0, states_in news ∙ (is told).1 ∙ sym (states_in olds))
+  stopped_in tells disks olds news Memory is = tt
+
+  pub run_in : (tells : Type 0) (script : Script) (disks : ℕ) (result : Result Played RunStopped) (olds news : List S) → IsRunOf tells (λ s. view (f s)) script disks result olds news
+      → IsRunOf tells view script disks result (map f olds) (map f news)
+  run_in tells script disks (Ok run) olds news is = record {
+    same = same_in olds news is.same;
+    ran = record {
+      played = is.ran.played;
+      fit = λ told. ap misfit (told_in disks olds) ∙ is.ran.fit told;
+      start = λ told. is.ran.start told ∙ ap (λ l. start_from script.roster l) (sym (told_in disks olds));
+      kept = λ told. rw (states_in news) (is.ran.kept told);
+    };
+    stopped = tt;
+  }
+  run_in tells script disks (Err why) olds news is = record { same = same_in olds news is.same; ran = tt; stopped = stopped_in tells disks olds news why is.stopped }

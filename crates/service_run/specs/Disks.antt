@@ -1,0 +1,143 @@
+-- What a run finds on the disks of its servers, and what it leaves there.
+use Rattle.std.specs.Prelude.{
+  ◌≡◌,
+  ◌≤◌,
+  ◌⊎◌,
+  ℕ,
+  ◌+◌,
+  true,
+  false,
+  List,
+  length,
+  map,
+  slice_get,
+  Option,
+  Some,
+  None,
+  Ok,
+}
+use Rattle.std.specs.Option.{option_map}
+use Rattle.base_types.specs.View.{View}
+use Rattle.tree_calls.specs.declared.roster.Roster.{Roster}
+use Rattle.tree_answers.specs.declared.tree.Tree.{Tree}
+use Rattle.disk_aggregate.specs.declared.refused.MountRefused.TheVariants.{NotAggregate}
+use Rattle.disk_image.specs.Aggregate.{header_number}
+use Rattle.disk_layout.specs.Places.{page_start}
+use Rattle.disk_records.specs.Record.{record_in}
+use Rattle.service_starts.specs.Fitting.{misfit}
+use Rattle.service_starts.specs.Told.{Placed}
+use Rattle.service_starts.specs.declared.told.Told.{Told}
+use Rattle.script_lines.specs.declared.script.Script.{Script}
+use Rattle.service_disks.specs.Opening.{new_store, store_on}
+use Rattle.service_disks.specs.Stores.{server_of, IsFirstRefused, AreBack as AreUnopened}
+use Rattle.service_stores.specs.Starting.{told_of, start_from}
+use Rattle.store_state.specs.declared.state.StoreState.{StoreState}
+use Rattle.store_laws.specs.TreeKeeping.{KeepsOf}
+use Rattle.script_commands.specs.declared.command.Play.{Play}
+use Rattle.service_run.specs.Checks.{IsDiskRefused}
+use Rattle.service_run.specs.Lines.{no_aggregate_line}
+use Rattle.service_run.specs.Outcomes.{has_run, has_reached}
+use Rattle.service_run.specs.Output.{Wrote}
+use Rattle.service_run.specs.Scripts.{IsRead}
+use Rattle.service_run.specs.World.{Shown, World}
+use Rattle.service_run.specs.declared.outcome.Outcome.{Outcome}
+use Rattle.service_run.specs.declared.outcome.Status.TheVariants.{NoDisk, NoAggregate}
+
+-- What the server of a number tells: of the store on its disk, a new one where that is blank; of a new one in memory,
+-- where it has no disk. Nothing where the disk has no record of it.
+abbrev pub told_at : Roster → ℕ → Option (List ℕ) → Option Told
+told_at roster number (Some image) = option_map (told_of true) (store_on roster (server_of number) image)
+told_at roster number None = Some (told_of false (new_store roster (server_of number)))
+
+-- this is what all servers of a roster tell where these are the bytes of the disks in front
+pub record AreFound (roster : Roster) (images : List (List ℕ)) (all : List Told) : Type 0 where
+  pub count : length all ≡ length roster.capacity
+  pub each : (k : ℕ) (told : Told)
+      → slice_get all k ≡ Some told → told_at roster (k + 1) (slice_get images k) ≡ Some told
+
+-- the tree of disks with these bytes, which fit one another: that of what the servers tell, once the moves that an
+-- earlier run left unfinished are settled, and those that go on have ended
+pub record IsStartOf (roster : Roster) (images : List (List ℕ)) (start : Tree) : Type 0 where
+  pub all : List Told
+  pub found : AreFound roster images all
+  pub fit : misfit all ≡ None
+  pub tree : start ≡ start_from roster all
+
+-- the bytes of the disk of a server have the record of a store that keeps the server's part of a tree
+pub record IsKept (tree : Tree) (number : ℕ) (image : List ℕ) : Type 0 where
+  pub state : StoreState
+  pub found : record_in tree.roster (server_of number) image ≡ Some state
+  pub keeps : KeepsOf tree state
+
+-- so it is of each disk
+abbrev pub AreKept : Tree → List (List ℕ) → Type 0
+AreKept tree images =
+    (k : ℕ) (image : List ℕ) → slice_get images k ≡ Some image → IsKept tree (k + 1) image
+
+-- each disk has the record of the store that was on it, or of a new one where it was blank
+abbrev pub AreStill : Roster → List (List ℕ) → List (List ℕ) → Type 0
+AreStill roster olds news = (k : ℕ) (old new : List ℕ) → slice_get olds k ≡ Some old → slice_get news k ≡ Some new
+    → record_in roster (server_of (k + 1)) new ≡ store_on roster (server_of (k + 1)) old
+
+-- each disk has a record of a store of its server
+abbrev pub HaveRecords : Roster → List (List ℕ) → Type 0
+HaveRecords roster images = (k : ℕ) (image : List ℕ) → slice_get images k ≡ Some image
+    → (state : StoreState) × (record_in roster (server_of (k + 1)) image ≡ Some state)
+
+-- the bytes of disks
+abbrev pub images : {D : Type 0} → (D → View) → List D → List (List ℕ)
+images view disks = map (λ disk. (view disk).image) disks
+
+-- there are as many disks as before, and the count of faults of none fell
+pub record AreBack {D : Type 0} (view : D → View) (old new : List D) : Type 0 where
+  pub count : length new ≡ length old
+  pub counted : (k : ℕ) (before after : D) → slice_get old k ≡ Some before → slice_get new k ≡ Some after
+      → (view before).faults ≤ (view after).faults
+
+-- a disk doesn't fit the others: the first slot that doesn't is on it, and its header is at this place
+pub record IsUnfit (roster : Roster) (images : List (List ℕ)) (number place : ℕ) : Type 0 where
+  pub all : List Told
+  pub at : Placed
+  pub found : AreFound roster images all
+  pub first : misfit all ≡ Some at
+  pub disk : number ≡ at.server.0
+  pub header : place ≡ page_start (header_number at.slot.at)
+
+-- The disk of a number is the first that isn't blank and has no aggregate of its server that can be mounted, which the
+-- place shows; or it is the first that doesn't fit, and then each disk keeps what it kept. A line says so.
+pub record IsAggregateRefused {D writes : Type 0} (tells : Type 0) (view : D → View) (roster : Roster)
+    (old new : List D) (before after : Shown writes) : Type 0 where
+  pub number : ℕ
+  pub place : ℕ
+  pub cause : IsFirstRefused tells view roster number (NotAggregate place) old new
+      ⊎ (tells → IsUnfit roster (images view old) number place × AreStill roster (images view old) (images view new))
+  pub wrote : writes → Wrote (no_aggregate_line number place) before after
+
+-- What became of disks that are handed back, the same ones in their order, where a script was to run over them; of what
+-- they hold, where they tell it. A script that ran did so from the tree that they held, and they hold what it left.
+-- Where one failed it did so twice, the second time at its last call; and one that is no aggregate is the first. In any
+-- case each has a record of its server's store; or not all could be opened, and each that wasn't blank has the one that
+-- it had.
+pub record RanOver {D writes : Type 0} (tells : Type 0) (view : D → View) (script : Script) (outcome : Outcome)
+    (old new : List D) (before after : Shown writes) : Type 0 where
+  pub back : AreBack view old new
+  pub start : tells → has_run outcome.status ≡ true
+      → IsStartOf outcome.lines.roster (images view old) outcome.played.start
+  pub kept : tells → has_run outcome.status ≡ true → AreKept outcome.played.last (images view new)
+  pub failed : outcome.status ≡ NoDisk → IsDiskRefused view old new before after
+  pub refused : outcome.status ≡ NoAggregate → IsAggregateRefused tells view script.roster old new before after
+  pub records : (tells → HaveRecords script.roster (images view new)) ⊎ AreUnopened tells view script.roster 1 old new
+
+-- the script that was read, or generated, was to run over the disks
+pub record IsRunOver {D reads writes : Type 0} (tells : Type 0) (view : D → View) (play : Play) (outcome : Outcome)
+    (old new : List D) (before after : World reads writes) : Type 0 where
+  pub script : Script
+  pub read : IsRead before.source play (Ok script)
+  pub over : RanOver tells view script outcome old new before.sink after.sink
+
+-- What a command that runs a script does with the disks: without a script it calls none; and without memory for one.
+abbrev pub RunsOver : {D reads writes : Type 0} → Type 0 → (D → View) → Play → Outcome
+    → List D → List D → World reads writes → World reads writes → Type 0
+RunsOver tells view play outcome old new before after =
+    ((has_reached outcome.status ≡ false) × (new ≡ old))
+    ⊎ IsRunOver tells view play outcome old new before after

@@ -1,0 +1,10 @@
+use Rattle.std.proofs.Common.{◌≡◌, length}
+use Rattle.tree_answers.specs.WellFormed.{record_names_differ}
+use Rattle.service_starts.proofs.records.record_names_differ.Given as goal
+
+-- it is so of all if it is so of those that are left
+abbrev pub invariant-loop-first : goal.invariant-loop-first
+invariant-loop-first l = record_names_differ l.rest ≡ record_names_differ l.records
+
+abbrev pub decreases-loop-first : goal.decreases-loop-first
+decreases-loop-first l = length l.rest

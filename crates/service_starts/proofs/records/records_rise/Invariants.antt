@@ -1,0 +1,10 @@
+use Rattle.std.proofs.Common.{◌≡◌, length}
+use Rattle.tree_answers.specs.WellFormed.{records_rise}
+use Rattle.service_starts.proofs.records.records_rise.Given as goal
+
+-- it is so of all if it is so of those that are left
+abbrev pub invariant-loop-first : goal.invariant-loop-first
+invariant-loop-first l = records_rise l.rest ≡ records_rise l.records
+
+abbrev pub decreases-loop-first : goal.decreases-loop-first
+decreases-loop-first l = length l.rest

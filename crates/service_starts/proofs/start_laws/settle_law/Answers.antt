@@ -1,0 +1,5 @@
+use Rattle.service_starts.proofs.Settling.{stores_settle}
+use Rattle.service_starts.proofs.start_laws.settle_law.Goals as goal
+
+pub returns : goal.returns
+returns c = stores_settle

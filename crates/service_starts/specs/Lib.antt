@@ -1,0 +1,13 @@
+pub mod Rooms
+pub mod Start
+pub mod Told
+pub mod Fitting
+pub mod Settled
+pub mod Starting
+pub mod Laws
+pub mod Starts
+pub mod Settles
+pub mod Kept
+pub mod Boots
+pub mod UnderWay
+pub mod FinishLaws

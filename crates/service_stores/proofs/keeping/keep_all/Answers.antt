@@ -1,0 +1,146 @@
+use Rattle.std.proofs.Common.{◌≡◌, ◌≤◌, ◌+◌, ◌*◌, ◌^◌, ◌∙◌, OnOk, Some, None, [], length, take, drop, refl, ap, sym, subst, arith}
+use Rattle.std.specs.List.{position}
+use Rattle.std.proofs.lemmas.List.{take_rest}
+use Rattle.std.proofs.lemmas.Result.{IfErr-weaker, err_from_is_err_and}
+use Rattle.tree_answers.specs.declared.tree.Tree.{Tree}
+use Rattle.tree_answers.specs.Histories.{after_history}
+use Rattle.store_laws.specs.HistoryLaws.{Happens}
+use Rattle.store_laws.specs.Happening.{MayHappen}
+use Rattle.store_laws.specs.MoveKeeping.{KeepAll}
+use Rattle.store_laws.specs.MovedLaws.{moves_one, numbers_after}
+use Rattle.service_moves.specs.Stopping.{IsStopped}
+use Rattle.service_moves.specs.Stores.{AreStores, states_of}
+use Rattle.service_stores.proofs.Goes.{goes_may, goes_tree, goes_within}
+use Rattle.service_stores.proofs.Histories.{after_all, moves_nothing, numbers_all, numbers_both, roster_after}
+use Rattle.service_stores.proofs.KeepStores.{same_count, same_stores, same_then, stopped_then, stores_more}
+use Rattle.service_stores.proofs.keeping.keep_all.Goals as goal
+
+pub loop-place-init : goal.loop-place-init
+loop-place-init g c = record {
+  within = omega arith;
+  tree = refl;
+  may = c.requires.happens;
+  kept = λ told keep. keep;
+  same = same_stores g.S.Store.view c.args.tree.now.roster (2 ^ 40) 1 c.args.stores.now c.requires.stores;
+  stores = c.requires.stores;
+}
+
+pub keep_to-requires-clause-count : goal.keep_to-requires-clause-count
+keep_to-requires-clause-count g c =
+    let inv = c.loop-place.invariant in
+    let roster = ap (λ (t : Tree). t.roster) inv.tree ∙ roster_after (take c.loop-place.from c.args.history.now) c.args.tree.now in
+    same_count g.S.Store.view c.args.stores.now c.loop-place.stores inv.same ∙ c.requires.count
+    ∙ ap (λ r. length r.capacity) (sym roster)
+
+pub keep_to-requires-clause-stores : goal.keep_to-requires-clause-stores
+keep_to-requires-clause-stores g c =
+    let inv = c.loop-place.invariant in
+    let from = c.loop-place.from in
+    let roster = ap (λ (t : Tree). t.roster) inv.tree ∙ roster_after (take from c.args.history.now) c.args.tree.now in
+    let within = inv.within in
+    let few = c.requires.few in
+    let low : 2 ^ 40 + 2048 * from ≤ 2 ^ 45 = omega (arith, within, few) in
+    subst (λ r. AreStores g.S.Store.view r (2 ^ 45) 1 c.loop-place.stores) (sym roster)
+    (stores_more g.S.Store.view c.args.tree.now.roster (2 ^ 40 + 2048 * from) (2 ^ 45) 1 c.loop-place.stores low inv.stores)
+
+pub returns-in_err-keep_to-clause-same : goal.returns-in_err-keep_to-clause-same
+returns-in_err-keep_to-clause-same g c =
+    same_then g.S.Store.view c.args.stores.now c.loop-place.stores c.keep_to.new.stores c.loop-place.invariant.same
+    c.keep_to.ensures.same
+
+pub returns-in_err-keep_to-clause-stopped : goal.returns-in_err-keep_to-clause-stopped
+returns-in_err-keep_to-clause-stopped g c =
+    let p = err_from_is_err_and c.from_residual.result c.from_residual.ensures.1 in
+    rw (p.1, p.2)
+    (stopped_then g.S.Store.tells g.S.Store.view c.args.stores.now c.loop-place.stores c.keep_to.new.stores
+    c.in_err-keep_to.field-0.0 c.loop-place.invariant.same c.in_err-keep_to.ensures.stopped)
+
+pub loop-place-preserved : goal.loop-place-preserved
+loop-place-preserved g c =
+    let view = g.S.Store.view in
+    let inv = c.loop-place.invariant in
+    let start = c.args.tree.now in
+    let tree = c.loop-place.tree in
+    let now = c.keep_to.new.tree in
+    let history = c.args.history.now in
+    let from = c.loop-place.from in
+    let place = c.in-Some.place in
+    let numbers = numbers_after (λ host. 1) (take from history) in
+    let states = states_of view c.keep_to.new.stores in
+    let rest = take_rest history from in
+    let at = subst (λ entries. position moves_one entries ≡ Some place) rest (sym c.in-Some.ensures) in
+    let e = c.in_ok-keep_to.ensures.tree ∙ ap (λ entries. after_history tree (take (place + 2) entries)) rest in
+    let may = subst (MayHappen numbers tree) (sym rest) inv.may in
+    let roster = ap (λ (t : Tree). t.roster) inv.tree ∙ roster_after (take from history) start in
+    let worn = 2 ^ 40 + 2048 * from in
+    let low : worn + 2048 * (place + 2) ≤ 2 ^ 40 + 2048 * (from + (place + 2)) = omega arith in
+    record {
+      within = goes_within numbers tree history from place inv.within inv.may at;
+      tree = goes_tree start tree now history from (place + 2) inv.tree e;
+      may = goes_may (λ host. 1) tree now history from place inv.may at e;
+      kept = λ told keep.
+          subst (λ n. KeepAll n now states) (sym (numbers_both (λ host. 1) from (place + 2) history))
+          (subst (λ entries. KeepAll (numbers_after numbers (take (place + 2) entries)) now states) rest
+          (c.in_ok-keep_to.ensures.kept told numbers may (inv.kept told keep)));
+      same = same_then view c.args.stores.now c.loop-place.stores c.keep_to.new.stores inv.same c.keep_to.ensures.same;
+      stores =
+          stores_more view start.roster (worn + 2048 * (place + 2)) (2 ^ 40 + 2048 * (from + (place + 2))) 1 c.keep_to.new.stores low
+          (subst (λ r. AreStores view r (worn + 2048 * (place + 2)) 1 c.keep_to.new.stores) roster
+          (c.in_ok-keep_to.ensures.stores worn
+          (subst (λ r. AreStores view r worn 1 c.loop-place.stores) (sym roster) inv.stores)));
+    }
+
+pub keep_quiet-requires-clause-count : goal.keep_quiet-requires-clause-count
+keep_quiet-requires-clause-count g c =
+    let inv = c.loop-place.invariant in
+    let roster = ap (λ (t : Tree). t.roster) inv.tree ∙ roster_after (take c.loop-place.from c.args.history.now) c.args.tree.now in
+    same_count g.S.Store.view c.args.stores.now c.loop-place.stores inv.same ∙ c.requires.count
+    ∙ ap (λ r. length r.capacity) (sym roster)
+
+pub keep_quiet-requires-clause-stores : goal.keep_quiet-requires-clause-stores
+keep_quiet-requires-clause-stores g c =
+    let inv = c.loop-place.invariant in
+    let from = c.loop-place.from in
+    let roster = ap (λ (t : Tree). t.roster) inv.tree ∙ roster_after (take from c.args.history.now) c.args.tree.now in
+    let within = inv.within in
+    let few = c.requires.few in
+    let low : 2 ^ 40 + 2048 * from ≤ 2 ^ 46 = omega (arith, within, few) in
+    subst (λ r. AreStores g.S.Store.view r (2 ^ 46) 1 c.loop-place.stores) (sym roster)
+    (stores_more g.S.Store.view c.args.tree.now.roster (2 ^ 40 + 2048 * from) (2 ^ 46) 1 c.loop-place.stores low inv.stores)
+
+pub returns-clause-kept : goal.returns-clause-kept
+returns-clause-kept g c told keep =
+    let view = g.S.Store.view in
+    let inv = c.loop-place.invariant in
+    let start = c.args.tree.now in
+    let tree = c.loop-place.tree in
+    let history = c.args.history.now in
+    let from = c.loop-place.from in
+    let rest = drop from history in
+    let states = states_of view c.keep_quiet.new.stores in
+    let numbers = numbers_after (λ host. 1) (take from history) in
+    let all = take_rest history from in
+    let none : position moves_one rest ≡ None =
+    subst (λ entries. position moves_one entries ≡ None) all (sym c.first_move.ensures ∙ c.in_default.is) in
+    let happens = subst (Happens numbers tree) (sym all) (moves_nothing numbers tree rest inv.may none) in
+    let trees : after_history tree rest ≡ after_history start history =
+    ap (λ t. after_history t rest) inv.tree ∙ after_all start from history in
+    subst (λ n. OnOk c.keep_quiet.result (KeepAll n (after_history start history) states)) (numbers_all (λ host. 1) from history)
+    (subst (λ t. OnOk c.keep_quiet.result (KeepAll (numbers_after numbers rest) t states)) trees
+    (subst (λ entries. OnOk c.keep_quiet.result (KeepAll (numbers_after numbers entries) (after_history tree entries) states)) all
+    (c.keep_quiet.ensures.kept told numbers happens (inv.kept told keep))))
+
+pub returns-clause-same : goal.returns-clause-same
+returns-clause-same g c =
+    same_then g.S.Store.view c.args.stores.now c.loop-place.stores c.keep_quiet.new.stores c.loop-place.invariant.same
+    c.keep_quiet.ensures.same
+
+pub returns-clause-stopped : goal.returns-clause-stopped
+returns-clause-stopped g c =
+    let view = g.S.Store.view in
+    let tells = g.S.Store.tells in
+    let old = c.args.stores.now in
+    let now = c.loop-place.stores in
+    let new = c.keep_quiet.new.stores in
+    IfErr-weaker c.keep_quiet.result (IsStopped tells view [] now new) (IsStopped tells view [] old new)
+    (λ why stopped. stopped_then tells view old now new why c.loop-place.invariant.same stopped) c.keep_quiet.ensures.stopped

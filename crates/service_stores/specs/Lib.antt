@@ -1,0 +1,5 @@
+pub mod Laws
+pub mod Starting
+pub mod Steps
+pub mod Reading
+pub mod Stopping

@@ -1,4 +1,0 @@
-pub mod Starts
-pub mod Settles
-pub mod Kept
-pub mod Boots

@@ -1,6 +1,0 @@
-pub mod Stores
-pub mod Stopping
-pub mod Causes
-pub mod Steps
-pub mod Ships
-pub mod Finishing

@@ -1,0 +1,15 @@
+pub mod Tables
+pub mod Rests
+pub mod Fit
+pub mod Calls
+pub mod Founds
+pub mod Moves
+pub mod Parts
+pub mod Acts
+pub mod Members
+pub mod Trees
+pub mod Arrivals
+pub mod Heads
+pub mod Coming
+pub mod Standing
+pub mod Fitting

@@ -1,0 +1,4 @@
+pub mod Stored
+pub mod Laws
+pub mod Tree
+pub mod Stands

@@ -1,5 +1,0 @@
-use Rattle.store_rows.specs.Standing.{Stands}
-use Rattle.store_rows.proofs.runs.Run.mended.Given as goal
-
-abbrev pub invariant-loop-batch : goal.invariant-loop-batch
-invariant-loop-batch g l = Stands g.S.Store.view l.self.roster.now l.tried

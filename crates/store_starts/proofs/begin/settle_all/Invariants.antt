@@ -1,7 +1,0 @@
-use Rattle.store_starts.proofs.Lists.{AllAre}
-use Rattle.store_starts.proofs.Settles.{Settled}
-use Rattle.store_starts.proofs.begin.settle_all.Given as goal
-
--- those so far are settled
-abbrev pub invariant-loop-settling : goal.invariant-loop-settling
-invariant-loop-settling g l = AllAre (Settled g.S.Store.view g.S.Store.tells l.settlings l.settling-index) l.initial.stores l.stores

@@ -1,5 +1,0 @@
-use Rattle.tok_manager.proofs.Revoking.{revokes_just_those}
-use Rattle.tok_manager.proofs.laws.revoke_law.Goals as goal
-
-pub returns : goal.returns
-returns c = revokes_just_those

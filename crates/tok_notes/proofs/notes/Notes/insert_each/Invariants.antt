@@ -1,6 +1,0 @@
-use Rattle.std.proofs.Common.{◌≡◌, take}
-use Rattle.tok_notes.specs.Marks.{with_each}
-use Rattle.tok_notes.proofs.notes.Notes.insert_each.Given as goal
-
-abbrev pub invariant-loop-index : goal.invariant-loop-index
-invariant-loop-index l = l.self ≡ with_each l.initial.self (take l.index l.tokens) l.note

@@ -1,7 +1,0 @@
-use Rattle.std.proofs.Common.{◌&&◌, not, drop}
-use Rattle.dfs_base.specs.Spans.{has_byte, in_spans}
-use Rattle.tok_ranges.proofs.Missing.{IsMissing}
-use Rattle.tok_ranges.proofs.span_set.gaps.Given as goal
-
-abbrev pub invariant-loop-next : goal.invariant-loop-next
-invariant-loop-next l = IsMissing (λ at. has_byte l.span at && not (in_spans l.spans at)) l.span l.done l.at (drop l.next-index l.spans)

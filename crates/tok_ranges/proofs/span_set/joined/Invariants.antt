@@ -1,7 +1,0 @@
-use Rattle.std.proofs.Common.{◌||◌, drop}
-use Rattle.dfs_base.specs.Spans.{has_byte, in_spans}
-use Rattle.tok_ranges.proofs.Joining.{IsJoining}
-use Rattle.tok_ranges.proofs.span_set.joined.Given as goal
-
-abbrev pub invariant-loop-next : goal.invariant-loop-next
-invariant-loop-next l = IsJoining (λ at. in_spans l.spans at || has_byte l.fn.span at) l.done l.merged (drop l.next-index l.spans)

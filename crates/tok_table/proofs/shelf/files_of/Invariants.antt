@@ -1,6 +1,0 @@
-use Rattle.std.proofs.Common.{take}
-use Rattle.tok_table.specs.Places.{AreByFile}
-use Rattle.tok_table.proofs.shelf.files_of.Given as goal
-
-abbrev pub invariant-loop-token : goal.invariant-loop-token
-invariant-loop-token l = AreByFile (take l.token-index l.tokens) l.files

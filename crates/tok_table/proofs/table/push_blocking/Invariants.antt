@@ -1,8 +1,0 @@
-use Rattle.std.proofs.Common.{◌≡◌, ◌++◌, drop, filter}
-use Rattle.tok_types.specs.Conflicts.{blocks}
-use Rattle.tok_table.proofs.table.push_blocking.Given as goal
-
-abbrev pub invariant-loop-token : goal.invariant-loop-token
-invariant-loop-token l =
-    l.found ++ filter (blocks l.host l.needs) (drop l.token-index l.tokens)
-    ≡ l.initial.found ++ filter (blocks l.host l.needs) l.tokens

@@ -1,0 +1,6 @@
+pub mod Tables
+pub mod Places
+pub mod Shelves
+pub mod TableLaws
+pub mod MarkLaws
+pub mod Marks

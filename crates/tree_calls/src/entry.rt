@@ -1,0 +1,96 @@
+use crate::call::Call;
+use crate::reply::Reply;
+use base_types::{Fid, FilesetId, HostId, Items, Name, NoMemory, Plain, ServerId, Span};
+
+/// One entry of a history of the file tree.
+#[derive(Drop)]
+pub enum Entry {
+    /// The `k`-th call of a host, from 1, and the reply to it.
+    Call {
+        host: HostId,
+        k: u32,
+        call: Call,
+        reply: Reply,
+    },
+    /// Unsaved bytes of a host became kept in these spans, and this length where there is one.
+    Stored {
+        host: HostId,
+        fid: Fid,
+        spans: Items<Span>,
+        length: Option<u32>,
+    },
+    /// A server learnt that a host is down: what the host hadn't stored there is lost.
+    Down {
+        host: HostId,
+        server: ServerId,
+    },
+    /// A server learnt that a fileset which moved has arrived: the room that it kept for it is free again.
+    Left {
+        server: ServerId,
+        fileset: FilesetId,
+    },
+}
+
+/// What a host that went down hadn't stored: bytes of a file, or its length.
+#[derive(Drop, PartialEq)]
+pub struct Loss {
+    /// The host.
+    pub host: HostId,
+    /// The server that the file's fileset is at.
+    pub server: ServerId,
+    /// The name of the fileset, and the names from its root to the file.
+    pub path: Items<Name>,
+    /// The bytes that are lost, as many as stand together.
+    pub span: Option<Span>,
+    /// The length in bytes that is lost.
+    pub length: Option<u32>,
+}
+
+impl Plain for Entry {
+    fn copy(&self) -> Result<Entry, NoMemory> {
+        Ok(match self {
+            Entry::Call {
+                host,
+                k,
+                call,
+                reply,
+            } => Entry::Call {
+                host: *host,
+                k: *k,
+                reply: reply.copy()?,
+                call: call.copy()?,
+            },
+            Entry::Stored {
+                host,
+                fid,
+                spans,
+                length,
+            } => Entry::Stored {
+                host: *host,
+                fid: *fid,
+                spans: spans.copy()?,
+                length: *length,
+            },
+            Entry::Down { host, server } => Entry::Down {
+                host: *host,
+                server: *server,
+            },
+            Entry::Left { server, fileset } => Entry::Left {
+                server: *server,
+                fileset: *fileset,
+            },
+        })
+    }
+}
+
+impl Plain for Loss {
+    fn copy(&self) -> Result<Loss, NoMemory> {
+        Ok(Loss {
+            host: self.host,
+            server: self.server,
+            path: self.path.copy()?,
+            span: self.span,
+            length: self.length,
+        })
+    }
+}

@@ -1,0 +1,148 @@
+ghost use Rattle.std.specs.Prelude.{◌≡◌, ◌<◌, [], length, take, drop, slice_index_or, IfOk};
+ghost use Rattle.tree_objects.specs.Files.{
+  present_length,
+  present_bytes,
+  bytes_over,
+  content_bytes,
+  resized,
+  bytes_with,
+};
+
+use crate::content::{Content, Object, Unsaved, UnsavedLength};
+use crate::unsaved::UnsavedBytes;
+use base_types::{Items, NoMemory};
+use std::alloc::Global;
+
+impl Object {
+    /// Reads at most `len` bytes of a file from the position `from` on, and nothing of a directory.
+    pub fn read(&self, from: u32, len: u32) -> Result<Items<u8>, NoMemory>
+        ensures { IfOk result (λ bytes. bytes ≡ take len (drop from (content_bytes self.now.content))) }
+    {
+        match &self.content {
+            Content::Dir { entries, lists: _ } => Ok(Items::new(entries.alloc())),
+            Content::File {
+                list: _,
+                kept,
+                unsaved,
+                length,
+            } => {
+                let end = present_length(kept, length);
+                read_part(kept, unsaved, end, from, len)
+            }
+        }
+    }
+}
+
+impl Object {
+    /// The bytes of a file as its readers see them, and none of a directory. `NoMemory` comes where memory runs out.
+    pub fn bytes(&self) -> Result<Items<u8>, NoMemory>
+        ensures { IfOk result (λ bytes. bytes ≡ content_bytes self.now.content) }
+    {
+        match &self.content {
+            Content::Dir { entries, lists: _ } => Ok(Items::new(entries.alloc())),
+            Content::File {
+                list: _,
+                kept,
+                unsaved,
+                length,
+            } => present_bytes(kept, unsaved, length),
+        }
+    }
+}
+
+/// The length in bytes of a file as its readers see it.
+pub(crate) fn present_length(kept: &Items<u8>, length: &Option<UnsavedLength>) -> usize
+    ensures { result ≡ present_length kept.now length.now }
+{
+    match length {
+        Some(unsaved) => unsaved.length as usize,
+        None => kept.len(),
+    }
+}
+
+/// The bytes of a file as its readers see them.
+pub(crate) fn present_bytes(
+    kept: &Items<u8>,
+    unsaved: &UnsavedBytes,
+    length: &Option<UnsavedLength>,
+) -> Result<Items<u8>, NoMemory>
+    ensures { IfOk result (λ bytes. bytes ≡ present_bytes kept.now unsaved.now length.now) }
+{
+    unsaved.over(kept, 0, present_length(kept, length))
+}
+
+// The part of the first `end` bytes that starts at `from`, with at most `len` bytes.
+#[tactic(auto, using(crate::proofs::Overlays::over_part))]
+fn read_part(
+    kept: &Items<u8>,
+    unsaved: &UnsavedBytes,
+    end: usize,
+    from: u32,
+    len: u32,
+) -> Result<Items<u8>, NoMemory>
+    ensures { IfOk result (λ bytes. bytes ≡ take len (drop from (bytes_over kept.now unsaved.now 0 end))) }
+{
+    unsaved.over(kept, from as usize, end.min(from as usize + len as usize))
+}
+
+/// So many bytes from the position `from` on: the unsaved ones where there are any, else the kept ones, else zeros.
+pub(crate) fn bytes_over(
+    kept: &Items<u8>,
+    unsaved: &[Unsaved],
+    from: usize,
+    count: usize,
+) -> Result<Items<u8>, NoMemory>
+    ensures { IfOk result (λ bytes. bytes ≡ bytes_over kept.now unsaved.now from count) }
+{
+    let mut bytes = kept_bytes(kept, from, count)?;
+    for index in (0..unsaved.len()).rev() {
+        let byte = byte_in(unsaved, index);
+        put_unsaved(&mut bytes, byte, from);
+    }
+    Ok(bytes)
+}
+
+fn byte_in(unsaved: &[Unsaved], index: usize) -> &Unsaved
+    requires { index < length unsaved.now }
+    ensures { result.now ≡ slice_index_or unsaved.now index result.now }
+{
+    &unsaved[index]
+}
+
+// Puts an unsaved byte over those that start at the position `from`.
+fn put_unsaved(bytes: &mut Items<u8>, byte: &Unsaved, from: usize)
+    ensures { bytes.new ≡ bytes_with bytes.old byte.now from }
+{
+    let at = byte.at as usize;
+    if from <= at {
+        bytes.put(at - from, byte.value);
+    }
+}
+
+// So many kept bytes from the position `from` on, with zeros where there are fewer.
+#[tactic(auto, using(crate::proofs::Overlays::over_nothing))]
+fn kept_bytes(kept: &Items<u8>, from: usize, count: usize) -> Result<Items<u8>, NoMemory>
+    ensures { IfOk result (λ bytes. bytes ≡ bytes_over kept.now [] from count) }
+{
+    resized(kept.alloc(), behind(kept, from), count)
+}
+
+// The bytes from the position `from` on.
+#[tactic(auto, using(crate::proofs::Overlays::drop_past))]
+fn behind(bytes: &Items<u8>, from: usize) -> &[u8]
+    ensures { result.now ≡ drop from bytes.now }
+{
+    let start = from.min(bytes.len());
+    &bytes.as_slice()[start..]
+}
+
+/// The first `length` bytes, with zeros where there are fewer.
+pub(crate) fn resized(alloc: Global, bytes: &[u8], length: usize) -> Result<Items<u8>, NoMemory>
+    ensures { IfOk result (λ copy. copy ≡ resized bytes.now length) }
+{
+    let mut copy = Vec::with_capacity(alloc, length)?;
+    let end = length.min(bytes.len());
+    copy.extend_from_slice(&bytes[..end])?;
+    copy.resize(length, 0)?;
+    Ok(Items::from_vec(copy))
+}

@@ -1,8 +1,0 @@
-//! Tests of the cell that threads take turns at.
-#![tactic(auto)]
-
-#[cfg(test)]
-mod tests;
-
-/// The crates that are tested here.
-pub const TESTED: [&str; 2] = ["turn_cell", "turn_workers"];

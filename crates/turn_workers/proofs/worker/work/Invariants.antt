@@ -1,9 +1,0 @@
-use Rattle.std.proofs.Common.{◌≡◌, ◌++◌}
-use Rattle.turn_cell.specs.Lists.{entries}
-use Rattle.turn_workers.specs.Rows.{rows}
-use Rattle.turn_workers.proofs.worker.work.Given as goal
-
-abbrev pub invariant-loop-number : goal.invariant-loop-number
-invariant-loop-number g l =
-    (l.pass.cell ≡ l.fn.job.pass.cell) × (l.pass.spare ≡ l.fn.job.pass.spare) ×
-    (entries l.pass.made ≡ entries l.fn.job.pass.made ++ rows l.fn.job.worker l.number)

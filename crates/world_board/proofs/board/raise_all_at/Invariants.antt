@@ -1,6 +1,0 @@
-use Rattle.std.proofs.Common.{◌≡◌, take}
-use Rattle.world_board.specs.Hubs.{all_raised}
-use Rattle.world_board.proofs.board.raise_all_at.Given as goal
-
-abbrev pub invariant-loop-flag : goal.invariant-loop-flag
-invariant-loop-flag l = l.follows ≡ all_raised (take l.flag-index l.flags) l.fn.follows

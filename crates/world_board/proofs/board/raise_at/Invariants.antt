@@ -1,7 +1,0 @@
-use Rattle.std.proofs.Common.{◌≡◌}
-use Rattle.world_board.specs.Follows.{with_raised}
-use Rattle.world_board.proofs.Mapped.{mapped_first}
-use Rattle.world_board.proofs.board.raise_at.Given as goal
-
-abbrev pub invariant-loop-place : goal.invariant-loop-place
-invariant-loop-place l = l.follows ≡ mapped_first (with_raised l.flag) l.place l.fn.follows

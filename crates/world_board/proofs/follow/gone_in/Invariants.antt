@@ -1,9 +1,0 @@
-use Rattle.std.proofs.Common.{◌≡◌, ◌≤◌, take}
-use Rattle.world_board.specs.Follows.{gone_in}
-use Rattle.world_board.proofs.follow.gone_in.Given as goal
-
-abbrev pub invariant-loop-step : goal.invariant-loop-step
-invariant-loop-step l = record {
-  count : l.gone ≡ gone_in (take l.step-index l.steps);
-  few : l.gone ≤ l.step-index;
-}

@@ -1,6 +1,0 @@
-use Rattle.std.proofs.Common.{◌≡◌, map, take}
-use Rattle.world_board.specs.Follows.{mark_of}
-use Rattle.world_board.proofs.follow.marks_of_all.Given as goal
-
-abbrev pub invariant-loop-line : goal.invariant-loop-line
-invariant-loop-line l = l.marks ≡ map (λ line. mark_of line.deed) (take l.line-index l.lines)

@@ -1,2 +1,0 @@
-pub mod TokenRun
-pub mod RunExample

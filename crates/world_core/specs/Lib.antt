@@ -1,4 +1,0 @@
-pub mod Coherence
-pub mod Runs
-pub mod Plans
-pub mod Worked

@@ -1,5 +1,0 @@
-use Rattle.world_history.proofs.HostLaw.{hosts_answer}
-use Rattle.world_history.proofs.laws.hosts_answer_legally.Goals as goal
-
-pub returns : goal.returns
-returns c = hosts_answer

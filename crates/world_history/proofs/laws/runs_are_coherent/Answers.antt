@@ -1,5 +1,0 @@
-use Rattle.world_history.proofs.Instance.{coherent_runs}
-use Rattle.world_history.proofs.laws.runs_are_coherent.Goals as goal
-
-pub returns : goal.returns
-returns c = coherent_runs

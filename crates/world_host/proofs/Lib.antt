@@ -1,4 +1,0 @@
-pub mod Resting
-pub mod Plain
-pub mod RunSteps
-pub mod Evicting

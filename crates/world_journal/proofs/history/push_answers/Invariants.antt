@@ -1,8 +1,0 @@
-use Rattle.std.proofs.Common.{◌≡◌, ◌++◌, map, drop}
-use Rattle.world_journal.specs.Histories.{call_entry}
-use Rattle.world_journal.proofs.history.push_answers.Given as goal
-
--- the entries so far, and those of the answers that are left
-abbrev pub invariant-loop-answer : goal.invariant-loop-answer
-invariant-loop-answer l =
-    l.history ++ map call_entry (drop l.answer-index l.answer-items) ≡ l.fn.history ++ map call_entry l.answers

@@ -1,4 +1,0 @@
-pub mod Lines
-pub mod Histories
-pub mod Told
-pub mod Worked

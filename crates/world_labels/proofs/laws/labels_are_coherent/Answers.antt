@@ -1,5 +1,0 @@
-use Rattle.world_labels.proofs.laws.labels_are_coherent.Goals as goal
-use Rattle.world_labels.proofs.Law.{locked_granted, locks_apart, pinned_locked}
-
-pub returns : goal.returns
-returns c = record { granted = locked_granted; apart = locks_apart; pinned = pinned_locked }

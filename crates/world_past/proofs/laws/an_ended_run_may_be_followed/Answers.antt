@@ -1,5 +1,0 @@
-use Rattle.world_past.proofs.EndedLaw.{ended_runs_may_be_followed}
-use Rattle.world_past.proofs.laws.an_ended_run_may_be_followed.Goals as goal
-
-pub returns : goal.returns
-returns c = ended_runs_may_be_followed

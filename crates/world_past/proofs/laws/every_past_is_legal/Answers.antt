@@ -1,5 +1,0 @@
-use Rattle.world_past.proofs.Law.{histories_make_the_tree, journals_are_legal, runs_are_legal}
-use Rattle.world_past.proofs.laws.every_past_is_legal.Goals as goal
-
-pub returns : goal.returns
-returns c = record { legal = runs_are_legal; journal = journals_are_legal; tree = histories_make_the_tree }

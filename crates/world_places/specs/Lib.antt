@@ -1,5 +1,0 @@
-pub mod Cells
-pub mod Deeds
-pub mod Contents
-pub mod Legal
-pub mod Coherence

@@ -1,5 +1,0 @@
-use Rattle.world_rules.proofs.KeptGives.{gives_keep}
-use Rattle.world_rules.proofs.laws.a_give_back_is_kept.Goals as goal
-
-pub returns : goal.returns
-returns c = gives_keep

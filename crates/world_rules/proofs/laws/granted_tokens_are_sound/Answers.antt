@@ -1,5 +1,0 @@
-use Rattle.world_rules.proofs.Tokens.{granted_are_sound}
-use Rattle.world_rules.proofs.laws.granted_tokens_are_sound.Goals as goal
-
-pub returns : goal.returns
-returns c = granted_are_sound

@@ -1,5 +1,0 @@
-use Rattle.world_rules.proofs.Shown.{hosts_show}
-use Rattle.world_rules.proofs.laws.hosts_meet_the_rules_of_contents.Goals as goal
-
-pub returns : goal.returns
-returns c = hosts_show

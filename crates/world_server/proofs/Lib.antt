@@ -1,4 +1,0 @@
-pub mod Still
-pub mod Resting
-pub mod RunSteps
-pub mod Turning

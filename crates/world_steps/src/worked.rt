@@ -1,9 +1,0 @@
-ghost use Rattle.dfs_base.specs.declared.span.Span.{Span};
-ghost use Rattle.world_steps.specs.Worked.{IsExample};
-
-/// The rules of tokens admit a run in which a host greets a server, asks, gets tokens and answers from its cache; in
-/// which the server restarts, and the host's claim is granted; and in which the host gives a token back, and learns
-/// that it is applied.
-pub fn a_run_is_admitted()
-    ensures { (whole : Span) → IsExample whole }
-{}

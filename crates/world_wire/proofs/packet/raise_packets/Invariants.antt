@@ -1,7 +1,0 @@
-use Rattle.std.proofs.Common.{◌≡◌}
-use Rattle.world_wire.proofs.Mapped.{mapped_first}
-use Rattle.world_wire.specs.Packets.{raised_packet}
-use Rattle.world_wire.proofs.packet.raise_packets.Given as goal
-
-abbrev pub invariant-loop-place : goal.invariant-loop-place
-invariant-loop-place l = l.packets ≡ mapped_first (raised_packet l.flag) l.place l.fn.packets

@@ -1,7 +1,0 @@
-use Rattle.std.proofs.Common.{◌≡◌}
-use Rattle.world_wire.proofs.Mapped.{mapped_first}
-use Rattle.world_wire.specs.Plans.{accepted}
-use Rattle.world_wire.proofs.plan.accept_lines.Given as goal
-
-abbrev pub invariant-loop-place : goal.invariant-loop-place
-invariant-loop-place l = l.lines ≡ mapped_first accepted l.place l.fn.lines

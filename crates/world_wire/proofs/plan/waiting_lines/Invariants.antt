@@ -1,6 +1,0 @@
-use Rattle.std.proofs.Common.{◌≡◌, map, take}
-use Rattle.world_wire.specs.Plans.{waiting_at}
-use Rattle.world_wire.proofs.plan.waiting_lines.Given as goal
-
-abbrev pub invariant-loop-line : goal.invariant-loop-line
-invariant-loop-line l = l.lines ≡ map waiting_at (take l.line-index l.plan)

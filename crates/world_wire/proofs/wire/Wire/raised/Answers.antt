@@ -1,7 +1,0 @@
-use Rattle.world_wire.proofs.Wires.{raised_view}
-use Rattle.world_wire.proofs.wire.Wire.raised.Goals as goal
-
-pub returns : goal.returns
-returns c =
-    raised_view c.self.inside c.raise_lines.new.lines c.raise_packets.new.packets c.args.flag.now c.args.self.now
-    c.raise_lines.ensures c.raise_packets.ensures c.self.view_is
