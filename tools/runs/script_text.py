@@ -17,6 +17,7 @@ class Refused(Exception):
 
 
 def words_of(line):
+    line = line.removesuffix(b"\r")
     if line.lstrip(b" ").startswith(b"#"):
         return []
 
@@ -53,13 +54,10 @@ class Reader:
         elif what == b"user":
             self.users.append((rest[0], tuple(rest[1:])))
         elif what == b"host":
-            self.hosts.append([[name for name, _ in self.users].index(rest[1]), w.CACHED_TOKENS_DEFAULT])
+            limit = int(rest[2]) if len(rest) > 2 else w.CACHED_TOKENS_DEFAULT
+            self.hosts.append(([name for name, _ in self.users].index(rest[1]), limit))
         elif what == b"capacity":
-            kind, n = node_of(rest[0])
-            if kind == "c":
-                self.hosts[n - 1][1] = int(rest[1])
-            else:
-                self.capacity[n] = int(rest[1])
+            self.capacity[node_of(rest[0])[1]] = int(rest[1])
         elif what == b"fileset":
             server = node_of(rest[1])[1]
             self.placed[rest[0]] = server
@@ -131,7 +129,7 @@ class Reader:
         for at, words in lines[begin + 1:]:
             self.lines.append(w.Line(at, node_of(words[0]), self.deed(words[1], words[2:])))
         capacity = tuple(self.capacity.get(n, 16384) for n in range(1, self.servers + 1))
-        roster = w.Roster(tuple(self.users), tuple(map(tuple, self.hosts)), capacity)
+        roster = w.Roster(tuple(self.users), tuple(self.hosts), capacity)
         return w.Script(self.servers, roster, tuple(self.setup), tuple(self.plan), self.net, tuple(self.lines))
 
 
