@@ -43,6 +43,7 @@ use Rattle.message_types.specs.Soundness.{
   IsDone,
   AreNamed,
   IsGiveBack,
+  IsRevoke,
   IsClaim,
   IsReply,
 }
@@ -253,9 +254,9 @@ module _ (roster : Roster) (near : (server : ServerId) → IsServer roster serve
       (both (both (outcome_tag_in x.outcome) (outcome_in x.outcome s.outcome h.1)) (both (fid_in x.bring.fid h.2.1)
       (both (u64_in x.bring.stamp h.2.2) (brought_in x.bring s.brings h.2)))))
 
-  revoke_in : (x : RevokeOf) → AreNamed m x.fid x.ids → TypedBody (Revoke x) → (spell_revoke x).fits ≡ true
+  revoke_in : (x : RevokeOf) → IsRevoke m x → TypedBody (Revoke x) → (spell_revoke x).fits ≡ true
   unfolding spell_revoke
-  revoke_in x s h = both (fid_in x.fid h.0) (both (u64_in x.stamp h.1) (ids_in x.ids s.issued h.2))
+  revoke_in x s h = both (fid_in x.fid h.0) (both (u64_in x.stamp h.1) (ids_in x.ids s.named.issued h.2))
 
   named_in : (x : Named) → AreNamed m x.fid x.ids → TypedBody (Returned x) → (spell_named x).fits ≡ true
   unfolding spell_named

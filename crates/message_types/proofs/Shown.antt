@@ -1,14 +1,15 @@
 -- The examples of soundness.
 use Rattle.std.proofs.Common.{◌≡◌, ◌≤◌, ◌<◌, ◌⊎◌, ℕ, ◌+◌, ◌*◌, ◌/◌, length, ap, inl, inr, refl, arith, lit<, lit≤}
-use Rattle.std.specs.Prelude.{Some, None, replicate, zero, suc, true, false, IsTrue, [], ◌∷◌}
+use Rattle.std.specs.Prelude.{List, Some, None, replicate, zero, suc, true, false, IsTrue, [], ◌∷◌}
 use Rattle.base_types.specs.declared.ids.Fid.{Fid}
 use Rattle.base_types.specs.declared.ids.HostId.{HostId}
 use Rattle.base_types.specs.declared.ids.ServerId.{ServerId}
 use Rattle.message_types.specs.declared.message.Direction.TheVariants.{ToServer, ToHost}
 use Rattle.tree_calls.specs.declared.call.Call.TheVariants.{Stat}
+use Rattle.tree_calls.specs.declared.part.Piece.{Piece}
 use Rattle.message_types.specs.declared.message.Body.TheVariants.{Hello}
-use Rattle.message_types.specs.Soundness.{Each, IsServer, IsHome, IsNumbered, IsCall, IsKept}
-use Rattle.message_types.specs.Examples.{some_roster, sent, root_status, granted, place, saved, kept, Sound, Examples, AskedAndTold, ChangedAndGiven}
+use Rattle.message_types.specs.Soundness.{AreFileBytes, Each, IsServer, IsHome, IsNumbered, IsCall, IsKept}
+use Rattle.message_types.specs.Examples.{some_roster, sent, root_status, granted, told, rising, place, saved, kept, Sound, Examples, AskedAndTold, ChangedAndGiven}
 
 first : IsServer some_roster (record { 0 = 1 })
 first = record { first = lit≤ tt; last = lit≤ tt }
@@ -24,6 +25,7 @@ grant_sound born moves home = record {
   apart = λ e. absurd (cc);
   moves = tt;
   body = record {
+    stamp = lit≤ tt;
     brings = record {
       tokens = (record { own = record { host = refl; server = refl; room = tt }; file = refl; epoch = refl }, tt);
       home = λ token tokens e. home;
@@ -32,7 +34,7 @@ grant_sound born moves home = record {
     told = record {
       size = lit≤ tt;
       lists = refl;
-      bytes = record { ends = tt; together = lit≤ tt; count = lit≤ tt };
+      bytes = record { ends = tt; order = tt; together = lit≤ tt; count = lit≤ tt };
       order = tt;
       few = lit≤ tt;
       absent = λ e. absurd (cc);
@@ -78,7 +80,7 @@ shown = record {
         record {
           size = tt;
           lists = tt;
-          bytes = record { ends = tt; together = lit≤ tt; count = lit≤ tt };
+          bytes = record { ends = tt; order = tt; together = lit≤ tt; count = lit≤ tt };
           order = tt;
           few = lit≤ tt;
           absent = λ e. (refl, refl);
@@ -106,6 +108,43 @@ not_home f = let h : 131073 / 65536 ≡ 1 = f refl in let k : 2 ≡ 1 = h in ome
 other_file : (a b : ℕ) (f g : Fid) → f ≡ g → f.fileset.0 ≡ a → g.fileset.0 ≡ b → a ≡ b
 other_file a b f g e h k = let d = ap (λ (v : Fid). v.fileset.0) e in omega (arith, d, h, k)
 
+none_first : 1 ≤ 0 → ⊥
+none_first h = omega (arith, h)
+
+none_told : AreFileBytes []
+none_told = record { ends = tt; order = tt; together = lit≤ tt; count = lit≤ tt }
+
+rise : AreFileBytes rising
+rise = record {
+  ends = (lit≤ tt, (lit≤ tt, (lit≤ tt, (lit≤ tt, tt))));
+  order = ((lit≤ tt, (lit≤ tt, (lit≤ tt, tt))), ((lit≤ tt, (lit≤ tt, tt)), ((lit≤ tt, tt), (tt, tt))));
+  together = lit≤ tt;
+  count = lit≤ tt;
+}
+
+told_sound : Sound ToHost 1 0 (told (Some root_status) rising [])
+told_sound = record {
+  host = lit≤ tt;
+  server = first;
+  way = refl;
+  apart = λ e. absurd (cc);
+  moves = tt;
+  body = record {
+    stamp = lit≤ tt;
+    brings = record { tokens = tt; home = λ token tokens e. absurd (cc) };
+    home = λ e. refl;
+    told = record {
+      size = lit≤ tt;
+      lists = refl;
+      bytes = rise;
+      order = tt;
+      few = lit≤ tt;
+      absent = λ e. absurd (cc);
+    };
+    absent = λ e. absurd (cc);
+  };
+}
+
 pub asked_and_told : AskedAndTold
 asked_and_told = record {
   fetch = record {
@@ -114,8 +153,9 @@ asked_and_told = record {
     way = refl;
     apart = λ e. absurd (cc);
     moves = tt;
-    body = record { home = λ e. refl; file = (refl, tt); kinds = (tt, tt); room = (tt, tt); count = lit≤ tt };
+    body = record { number = lit≤ tt; home = λ e. refl; file = (refl, tt); kinds = (tt, tt); room = (tt, tt); count = lit≤ tt };
   };
+  fetch_of_number_0 = λ s. none_first s.body.number;
   fetch_elsewhere = λ s. not_home s.body.home;
   fetch_other_file = λ s. let h = other_file 131073 65537 _ _ s.body.file.0 refl refl in omega (arith, h);
   fetch_opening = λ s. s.body.kinds.0;
@@ -127,10 +167,16 @@ asked_and_told = record {
     way = refl;
     apart = λ e. absurd (cc);
     moves = tt;
-    body = record { home = λ e. refl; issued = (refl, tt) };
+    body = record { stamp = lit≤ tt; named = record { home = λ e. refl; issued = (refl, tt) } };
   };
-  revoke_elsewhere = λ s. not_home s.body.home;
-  revoke_of_other = λ s. let h : 2 ≡ 1 = ap (λ (v : ServerId). v.0) s.body.issued.0 in omega (arith, h);
+  revoke_without_stamp = λ s. none_first s.body.stamp;
+  revoke_elsewhere = λ s. not_home s.body.named.home;
+  revoke_of_other = λ s. let h : 2 ≡ 1 = ap (λ (v : ServerId). v.0) s.body.named.issued.0 in omega (arith, h);
+  told_rising = told_sound;
+  told_without_stamp = λ s. none_first s.body.stamp;
+  told_overlap = λ s. let h : 3 + 1 ≤ 3 = s.body.told.bytes.order.0.0 in omega (arith, h);
+  told_falling_bytes = λ s. let h : 4 + 1 ≤ 3 = s.body.told.bytes.order.0.0 in omega (arith, h);
+  told_within = λ s. let h : 3 + 1 ≤ 3 = s.body.told.bytes.order.0.0 in omega (arith, h);
   told_long = λ s. let h : 65537 ≤ 65536 = s.body.told.size in omega (arith, h);
   told_lists = λ s. let h : 3 ≡ 1 = s.body.told.lists in omega (arith, h);
   told_end = λ s. let h : 65536 + 1 ≤ 65536 = s.body.told.bytes.ends.0 in omega (arith, h);
@@ -157,6 +203,7 @@ asked_and_told = record {
       fileset = inr (λ e. refl);
       outcome = tt;
       brings = record { tokens = tt; home = λ token tokens e. absurd (cc) };
+      some = λ token tokens e. absurd (cc);
       none = λ e. (refl, refl);
     };
   };
@@ -166,6 +213,7 @@ asked_and_told = record {
   done_names = λ names l s. let h : length names ≤ 65535 = s.body.outcome in omega (arith, h, l);
   done_bytes = λ bytes l s. let h : length bytes ≤ 4294967295 = s.body.outcome in omega (arith, h, l);
   done_brings_elsewhere = λ s. not_home (s.body.brings.home _ _ refl);
+  done_tokens_without_stamp = λ s. none_first (s.body.some _ _ refl);
   done_file_of_nothing = λ s. let h = other_file 65537 0 _ _ (s.body.none refl).0 refl refl in omega (arith, h);
   done_stamp_of_nothing = λ s. let h : 1 ≡ 0 = (s.body.none refl).1 in omega (arith, h);
 }
@@ -177,19 +225,21 @@ not_decided f (inr a) = f a
 stat_sound : IsCall some_roster (Stat (place 1 []))
 stat_sound = record { servers = (first, tt); paths = (lit≤ tt, tt); objects = refl; groups = tt; bytes = tt }
 
-give_sound : (moves server : ℕ) → IsServer some_roster (record { 0 = server }) → (moves ≡ 0 → server ≡ 1)
-    → Sound ToServer 1 moves (saved 1 server [] None None)
-give_sound moves server known own = record {
+give_sound : (moves server : ℕ) (pieces : List Piece) → AreFileBytes pieces
+    → IsServer some_roster (record { 0 = server }) → (moves ≡ 0 → server ≡ 1)
+    → Sound ToServer 1 moves (saved 1 server pieces None None)
+give_sound moves server pieces bytes known own = record {
   host = lit≤ tt;
   server = first;
   way = refl;
   apart = λ e. absurd (cc);
   moves = tt;
   body = record {
+    number = lit≤ tt;
     home = λ e. refl;
     declared = (known, tt);
     issued = λ e. (ap (λ v. record { 0 = v }) (own e), tt);
-    bytes = record { ends = tt; together = lit≤ tt; count = lit≤ tt };
+    bytes = bytes;
     size = tt;
     ends = tt;
   };
@@ -210,8 +260,9 @@ changed_and_given = record {
     way = refl;
     apart = λ e. absurd (cc);
     moves = tt;
-    body = record { fileset = inr (λ e. refl); call = stat_sound; decided = inl refl };
+    body = record { number = lit≤ tt; fileset = inr (λ e. refl); call = stat_sound; decided = inl refl };
   };
+  change_of_number_0 = λ s. none_first s.body.number;
   change_elsewhere = λ s. born_elsewhere s.body.fileset;
   change_not_decided = λ s. not_decided (λ b. b) s.body.decided;
   change_of_other = λ s.
@@ -223,8 +274,11 @@ changed_and_given = record {
   change_no_group = λ s. let h : 1 ≤ 0 = s.body.call.groups.0 in omega (arith, h);
   change_groups = λ groups l s. let h : length groups ≤ 8 = s.body.call.groups.1 in omega (arith, h, l);
   change_bytes = λ bytes l s. let h : length bytes ≤ 4294967295 = s.body.call.bytes in omega (arith, h, l);
-  give = give_sound 0 1 first (λ e. refl);
-  give_moved = give_sound 1 2 second (λ e. let h : 1 ≡ 0 = e in absurd (omega (arith, h)));
+  give = give_sound 0 1 [] none_told first (λ e. refl);
+  give_of_number_0 = λ s. none_first s.body.number;
+  give_rising = give_sound 0 1 rising rise first (λ e. refl);
+  give_overlap = λ s. let h : 3 + 1 ≤ 3 = s.body.bytes.order.0.0 in omega (arith, h);
+  give_moved = give_sound 1 2 [] none_told second (λ e. let h : 1 ≡ 0 = e in absurd (omega (arith, h)));
   give_elsewhere = λ s. not_home s.body.home;
   give_of_other = λ s. let h : 2 ≡ 1 = ap (λ (v : ServerId). v.0) (s.body.issued refl).0 in omega (arith, h);
   give_of_unknown = λ s. let h : 3 ≤ 2 = s.body.declared.0.last in omega (arith, h);

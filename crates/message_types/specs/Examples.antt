@@ -153,20 +153,45 @@ fetched born other kind = asked (root_of born) (record { fid = root_of other; ki
 abbrev pub id_of : ℕ → TokenId
 id_of server = record { server = record { 0 = server }; epoch = 1; seq = 1 }
 
-abbrev pub revoked : ℕ → ℕ → Body
-revoked born server = Revoke (record { fid = root_of born; stamp = 1; ids = id_of server ∷ [] })
+-- a Fetch of this number for the status of the root
+abbrev pub numbered_fetch : ℕ → Body
+numbered_fetch number = Fetch (record {
+  number = number;
+  fid = root_of 1;
+  needs = record { fid = root_of 1; kind = Status false } ∷ [];
+})
 
--- a Grant without tokens of the root that was born at server 1
-abbrev pub told : Option StatusOf → List Piece → List DirEntry → Body
-told status pieces entries = Grant (record {
-  bring = record { number = 1; fid = root_of 1; stamp = 1; tokens = [] };
+-- a Revoke under a stamp
+abbrev pub stamped_revoke : ℕ → ℕ → ℕ → Body
+stamped_revoke stamp born server = Revoke (record { fid = root_of born; stamp = stamp; ids = id_of server ∷ [] })
+
+abbrev pub revoked : ℕ → ℕ → Body
+revoked born server = stamped_revoke 1 born server
+
+-- a Grant without tokens of the root that was born at server 1, under a stamp
+abbrev pub stamped_grant : ℕ → Option StatusOf → List Piece → List DirEntry → Body
+stamped_grant stamp status pieces entries = Grant (record {
+  bring = record { number = 1; fid = root_of 1; stamp = stamp; tokens = [] };
   status = status;
   pieces = pieces;
   entries = entries;
 })
 
+abbrev pub told : Option StatusOf → List Piece → List DirEntry → Body
+told status pieces entries = stamped_grant 1 status pieces entries
+
+abbrev pub byte_at : ℕ → Piece
+byte_at from = record { from = from; bytes = 7 ∷ [] }
+
 abbrev pub one_byte_at : ℕ → List Piece
-one_byte_at from = record { from = from; bytes = 7 ∷ [] } ∷ []
+one_byte_at from = byte_at from ∷ []
+
+abbrev pub two_bytes_at : ℕ → ℕ → List Piece
+two_bytes_at from other = byte_at from ∷ byte_at other ∷ []
+
+-- a piece without bytes between two that touch, and one further on
+abbrev pub rising : List Piece
+rising = byte_at 3 ∷ record { from = 4; bytes = [] } ∷ byte_at 4 ∷ byte_at 9 ∷ []
 
 abbrev pub named : ℕ → DirEntry
 named letter = record { name = letter ∷ []; anode = 2; unique = 1 }
@@ -190,15 +215,18 @@ done_by born outcome bring = Done (record { fileset = record { 0 = number_of bor
 abbrev pub decided : ℕ → DoneIs → Body
 decided born outcome = done_by born outcome (no_token no_fid 0)
 
-abbrev pub changed : ℕ → Bool → Call → Body
-changed born enter call = Change (record {
-  number = 1;
+abbrev pub numbered_change : ℕ → ℕ → Bool → Call → Body
+numbered_change number born enter call = Change (record {
+  number = number;
   fileset = record { 0 = number_of born };
   fid = no_fid;
   enter = enter;
   k = 1;
   call = call;
 })
+
+abbrev pub changed : ℕ → Bool → Call → Body
+changed born enter call = numbered_change 1 born enter call
 
 abbrev pub place : ℕ → List (List ℕ) → Place
 place server path = record { server = record { 0 = server }; fileset = codes "f"; path = path }
@@ -207,15 +235,18 @@ abbrev pub made : ℕ → ℕ → List (List ℕ) → Call
 made server objects groups =
     NewFileset (record { 0 = server }) (codes "f") objects (record { name = codes "u"; groups = groups })
 
-abbrev pub saved : ℕ → ℕ → List Piece → Option ℕ → Option Ends → Body
-saved born server pieces len ends = GiveBack (record {
-  number = 1;
+abbrev pub numbered_give : ℕ → ℕ → ℕ → List Piece → Option ℕ → Option Ends → Body
+numbered_give number born server pieces len ends = GiveBack (record {
+  number = number;
   fid = root_of born;
   ids = id_of server ∷ [];
   pieces = pieces;
   length = len;
   ends = ends;
 })
+
+abbrev pub saved : ℕ → ℕ → List Piece → Option ℕ → Option Ends → Body
+saved born server pieces len ends = numbered_give 1 born server pieces len ends
 
 -- a part of the fileset that was born at server 1, on its way to a server
 abbrev pub ship_to : ℕ → ℕ → ShipPart → Message
@@ -303,14 +334,22 @@ UnsoundChange enter call = Unsound ToServer 1 0 (changed 1 enter call)
 -- further messages that are unsound in what they ask, revoke, tell and bring
 pub record AskedAndTold : Type 0 where
   pub fetch : Sound ToServer 1 0 (fetched 1 1 (Status false))
+  pub fetch_of_number_0 : Unsound ToServer 1 0 (numbered_fetch 0)
   pub fetch_elsewhere : Unsound ToServer 1 0 (fetched 2 2 (Status false))
   pub fetch_other_file : Unsound ToServer 1 0 (fetched 1 2 (Status false))
   pub fetch_opening : Unsound ToServer 1 0 (fetched 1 1 (Opening Writing))
   pub fetch_no_bytes : Unsound ToServer 1 0 (fetched 1 1 (Bytes false no_bytes))
   pub fetch_too_many : (needs : List Need) → 65535 < length needs → Unsound ToServer 1 0 (asked (root_of 1) needs)
   pub revoke : Sound ToHost 1 0 (revoked 1 1)
+  pub revoke_without_stamp : Unsound ToHost 1 0 (stamped_revoke 0 1 1)
   pub revoke_elsewhere : Unsound ToHost 1 0 (revoked 2 1)
   pub revoke_of_other : Unsound ToHost 1 0 (revoked 1 2)
+  -- pieces may touch, and be empty
+  pub told_rising : Sound ToHost 1 0 (told (Some root_status) rising [])
+  pub told_without_stamp : Unsound ToHost 1 0 (stamped_grant 0 (Some root_status) [] [])
+  pub told_overlap : UnsoundTold (Some root_status) (two_bytes_at 3 3) []
+  pub told_falling_bytes : UnsoundTold (Some root_status) (two_bytes_at 4 3) []
+  pub told_within : UnsoundTold (Some root_status) (byte_at 3 ∷ record { from = 3; bytes = [] } ∷ []) []
   pub told_long : Unsound ToHost 1 0 (told (Some (record root_status { length = 65537 })) [] [])
   pub told_lists : Unsound ToHost 1 0 (told (Some (record root_status { dir = false })) [] [])
   pub told_end : UnsoundTold (Some root_status) (one_byte_at 65536) []
@@ -335,12 +374,15 @@ pub record AskedAndTold : Type 0 where
   pub done_bytes : (bytes : List ℕ) → 4294967295 < length bytes → UnsoundDone (Replied (BytesRead bytes))
   pub done_brings_elsewhere :
       Unsound ToHost 1 0 (done_by 1 Granted (record (no_token (root_of 2) 1) { tokens = token_of 1 2 2 ∷ [] }))
+  pub done_tokens_without_stamp :
+      Unsound ToHost 1 0 (done_by 1 Granted (record (no_token (root_of 1) 0) { tokens = token_of 1 1 2 ∷ [] }))
   pub done_file_of_nothing : Unsound ToHost 1 0 (done_by 1 Granted (no_token (root_of 1) 0))
   pub done_stamp_of_nothing : Unsound ToHost 1 0 (done_by 1 Granted (no_token no_fid 1))
 
 -- and in what they change, give back, claim and ship
 pub record ChangedAndGiven : Type 0 where
   pub change : Sound ToServer 1 0 (changed 1 true (Stat (place 1 [])))
+  pub change_of_number_0 : Unsound ToServer 1 0 (numbered_change 0 1 true (Stat (place 1 [])))
   pub change_elsewhere : Unsound ToServer 1 0 (changed 2 true (Stat (place 1 [])))
   pub change_not_decided : UnsoundChange false (Stat (place 1 []))
   pub change_of_other : UnsoundChange false (made 2 1 (codes "g" ∷ []))
@@ -352,6 +394,9 @@ pub record ChangedAndGiven : Type 0 where
   pub change_groups : (groups : List (List ℕ)) → 8 < length groups → UnsoundChange false (made 1 1 groups)
   pub change_bytes : (bytes : List ℕ) → 4294967295 < length bytes → UnsoundChange true (Write (place 1 []) 0 bytes)
   pub give : Sound ToServer 1 0 (saved 1 1 [] None None)
+  pub give_of_number_0 : Unsound ToServer 1 0 (numbered_give 0 1 1 [] None None)
+  pub give_rising : Sound ToServer 1 0 (saved 1 1 rising None None)
+  pub give_overlap : Unsound ToServer 1 0 (saved 1 1 (two_bytes_at 3 3) None None)
   -- the fileset has moved, and the token is of the server that it left
   pub give_moved : Sound ToServer 1 1 (saved 1 2 [] None None)
   pub give_elsewhere : Unsound ToServer 1 0 (saved 2 1 [] None None)

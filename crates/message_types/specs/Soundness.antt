@@ -99,6 +99,7 @@ use Rattle.message_types.specs.declared.giving.Give.{Give}
 use Rattle.message_types.specs.declared.giving.Ends.{Ends}
 use Rattle.message_types.specs.declared.giving.Outstanding.{Outstanding}
 use Rattle.message_types.specs.declared.giving.Reclaim.{Reclaim as ReclaimOf}
+use Rattle.message_types.specs.declared.tokens.Revoke.{Revoke as RevokeOf}
 
 -- it holds of each
 abbrev pub Each : {A : Type 0} → (A → Type 0) → List A → Type 0
@@ -243,9 +244,16 @@ HasRoom (Bytes update span) = span.from < span.to
 HasRoom (LockToken writing span) = span.from < span.to
 HasRoom _ = Unit {0}
 
--- bytes that travel lie within what a file can have, and together are no more than that
+-- pieces rise and don't overlap: each begins at or behind the end of those before it
+abbrev pub PiecesRise : List Piece → Type 0
+PiecesRise [] = Unit {0}
+PiecesRise (piece ∷ pieces) =
+    Each (λ (later : Piece). piece.from + length piece.bytes ≤ later.from) pieces × PiecesRise pieces
+
+-- bytes that travel lie within what a file can have, in order, and together are no more than that
 pub record AreFileBytes (pieces : List Piece) : Type 0 where
   pub ends : Each (λ piece. piece.from + length piece.bytes ≤ FILE_BYTES_MAX) pieces
+  pub order : PiecesRise pieces
   pub together : sum_by (λ piece. length piece.bytes) pieces ≤ FILE_BYTES_MAX
   pub count : IsShort pieces
 
@@ -287,6 +295,7 @@ pub record AreNamed (m : Message) (fid : Fid) (ids : List TokenId) : Type 0 wher
   pub issued : Each (λ (id : TokenId). id.server ≡ m.server) ids
 
 pub record IsFetch (m : Message) (fetch : FetchOf) : Type 0 where
+  pub number : 1 ≤ fetch.number
   pub home : IsHome m fetch.fid.fileset
   pub file : Each (λ (need : Need). need.fid ≡ fetch.fid) fetch.needs
   pub kinds : Each (λ (need : Need). IsFetched need.kind) fetch.needs
@@ -295,12 +304,14 @@ pub record IsFetch (m : Message) (fetch : FetchOf) : Type 0 where
 
 -- an object that isn't there brings no tokens
 pub record IsGrant (m : Message) (grant : GrantOf) : Type 0 where
+  pub stamp : 1 ≤ grant.bring.stamp
   pub brings : Brings m grant.bring
   pub home : IsHome m grant.bring.fid.fileset
   pub told : IsTold grant.status grant.pieces grant.entries
   pub absent : grant.status ≡ None → grant.bring.tokens ≡ []
 
 pub record IsChange (roster : Roster) (m : Message) (change : ChangeOf) : Type 0 where
+  pub number : 1 ≤ change.number
   pub fileset : IsNumbered m change.fileset
   pub call : IsCall roster change.call
   pub decided : IsTrue change.enter ⊎ IsDecided m.server change.call
@@ -326,9 +337,15 @@ pub record IsDone (roster : Roster) (m : Message) (done : DoneOf) : Type 0 where
   pub fileset : IsNumbered m done.fileset
   pub outcome : IsOutcome roster m done.outcome
   pub brings : Brings m done.bring
+  pub some : (token : Token) (tokens : List Token) → done.bring.tokens ≡ token ∷ tokens → 1 ≤ done.bring.stamp
   pub none : done.bring.tokens ≡ [] → (done.bring.fid ≡ no_fid) × (done.bring.stamp ≡ 0)
 
+pub record IsRevoke (m : Message) (revoke : RevokeOf) : Type 0 where
+  pub stamp : 1 ≤ revoke.stamp
+  pub named : AreNamed m revoke.fid revoke.ids
+
 pub record IsGiveBack (roster : Roster) (m : Message) (give : Give) : Type 0 where
+  pub number : 1 ≤ give.number
   pub home : IsHome m give.fid.fileset
   -- tokens of a fileset that moved since may be another server's
   pub declared : Each (λ (id : TokenId). IsServer roster id.server) give.ids
@@ -376,7 +393,7 @@ IsBody roster m (Fetch fetch) = IsFetch m fetch
 IsBody roster m (Grant grant) = IsGrant m grant
 IsBody roster m (Change change) = IsChange roster m change
 IsBody roster m (Done done) = IsDone roster m done
-IsBody roster m (Revoke r) = AreNamed m r.fid r.ids
+IsBody roster m (Revoke r) = IsRevoke m r
 IsBody roster m (Returned n) = AreNamed m n.fid n.ids
 IsBody roster m (Kept n) = AreNamed m n.fid n.ids
 IsBody roster m (GiveBack give) = IsGiveBack roster m give

@@ -18,6 +18,7 @@ use Rattle.message_types.specs.declared.message.Body.TheVariants.{Kept, Reclaim,
 use Rattle.message_types.specs.declared.message.Direction.TheVariants.{ToHost, ToServer}
 use Rattle.message_types.specs.declared.message.Message.{Message}
 use Rattle.message_types.specs.declared.telling.Grant.{Grant as GrantOf}
+use Rattle.message_types.specs.declared.tokens.Revoke.{Revoke as RevokeOf}
 use Rattle.run_examples.proofs.Tests.{ids, tokens}
 use Rattle.run_examples.specs.Steps.{all_tokens, at_file, claim, fetch_of, file, file_bytes, file_status, file_update}
 use Rattle.run_examples.specs.Steps.{label, locks, other, root_entries, root_status, status_of, writes}
@@ -83,12 +84,12 @@ lock_call label = record { servers = (one_site, tt); paths = (omega arith, tt); 
 -- requests
 enter_body : (host : HostId) (e : ℕ) (call : Call) → IsCall both call
     → IsBody both (asked host e (Change (enter_for call))) (Change (enter_for call))
-enter_body host e call is = record { fileset = inl refl; call = is; decided = inl refl }
+enter_body host e call is = record { number = omega arith; fileset = inl refl; call = is; decided = inl refl }
 
 lock_body : (host : HostId) (k : ℕ) (label : List ℕ)
     → IsBody both (asked host 2 (Change (lock_for k (Lock label at_file true 0 10))))
     (Change (lock_for k (Lock label at_file true 0 10)))
-lock_body host k label = record { fileset = inr (λ p. refl); call = lock_call label; decided = inr tt }
+lock_body host k label = record { number = omega arith; fileset = inr (λ p. refl); call = lock_call label; decided = inr tt }
 
 some_root : 0 < 65536
 some_root = omega arith
@@ -96,6 +97,7 @@ some_root = omega arith
 root_body : (host : HostId) (e : ℕ) → IsBody both (asked host e (Fetch (fetch_of 1 root root_needs)))
     (Fetch (fetch_of 1 root root_needs))
 root_body host e = record {
+  number = omega arith;
   home = λ p. refl;
   file = (refl, (refl, tt));
   kinds = (tt, (tt, tt));
@@ -105,10 +107,11 @@ root_body host e = record {
 
 file_body : (host : HostId) (e : ℕ) → IsBody both (asked host e (Fetch (fetch_of 2 file file_needs)))
     (Fetch (fetch_of 2 file file_needs))
-file_body host e = record { home = λ p. refl; file = (refl, tt); kinds = (tt, tt); room = (tt, tt); count = omega arith }
+file_body host e = record { number = omega arith; home = λ p. refl; file = (refl, tt); kinds = (tt, tt); room = (tt, tt); count = omega arith }
 
 update_body : IsBody both (asked client 1 (Fetch (fetch_of 3 file update_needs))) (Fetch (fetch_of 3 file update_needs))
 update_body = record {
+  number = omega arith;
   home = λ p. refl;
   file = (refl, (refl, tt));
   kinds = (tt, (tt, tt));
@@ -118,14 +121,15 @@ update_body = record {
 
 -- answers
 no_bytes_told : AreFileBytes []
-no_bytes_told = record { ends = tt; together = omega arith; count = omega arith }
+no_bytes_told = record { ends = tt; order = tt; together = omega arith; count = omega arith }
 
-grant_body : (host : HostId) (e : ℕ) (g : GrantOf) (s : StatusOf) → g.status ≡ Some s
+grant_body : (host : HostId) (e : ℕ) (g : GrantOf) (s : StatusOf) → 1 ≤ g.bring.stamp → g.status ≡ Some s
     → Each (IsBrought (told_to host e (Grant g)) g.bring.fid) g.bring.tokens
     → IsHome (told_to host e (Grant g)) g.bring.fid.fileset → s.length ≤ FILE_BYTES_MAX
     → length s.lists ≡ (if s.dir then 3 else 1) → g.pieces ≡ [] → NamesRise g.entries → length g.entries ≤ OBJECTS_MAX
     → IsBody both (told_to host e (Grant g)) (Grant g)
-grant_body host e g s is tokens home size lists none rise few = record {
+grant_body host e g s first is tokens home size lists none rise few = record {
+  stamp = first;
   brings = record { tokens = tokens; home = λ t ts e. home };
   home = home;
   told = record {
@@ -152,6 +156,7 @@ entered_body host e = record {
   fileset = inl refl;
   outcome = λ p. refl;
   brings = record { tokens = tt; home = λ t ts e. absurd (cc) };
+  some = λ t ts e. absurd (cc);
   none = λ e. (refl, refl);
 }
 
@@ -163,6 +168,7 @@ locked_body = record {
     tokens = (brought client 2 (Done lock_done) file lock_token refl refl refl refl (omega arith), tt);
     home = λ t ts e p. refl;
   };
+  some = λ t ts e. omega arith;
   none = λ e. absurd (cc);
 }
 
@@ -171,14 +177,16 @@ refused_body = record {
   fileset = inr (λ p. refl);
   outcome = tt;
   brings = record { tokens = tt; home = λ t ts e. absurd (cc) };
+  some = λ t ts e. absurd (cc);
   none = λ e. (refl, refl);
 }
 
 -- give-backs, and the claim
-give_body : (g : Give) → g.fid ≡ file → AreFileBytes g.pieces → IfSome g.length (λ n. n ≤ FILE_BYTES_MAX)
+give_body : (g : Give) → 1 ≤ g.number → g.fid ≡ file → AreFileBytes g.pieces → IfSome g.length (λ n. n ≤ FILE_BYTES_MAX)
     → IfSome g.ends (λ (ends : EndsOf). IsEnd ends.call) → Each (λ (id : TokenId). id.server ≡ site_one) g.ids
     → IsBody both (asked client 2 (GiveBack g)) (GiveBack g)
-give_body g f bytes size ends ids = record {
+give_body g first f bytes size ends ids = record {
+  number = first;
   home = λ p. ap (λ (f : Fid). f.fileset.0 / 65536) f;
   declared = all g.ids ids;
   issued = λ p. ids;
@@ -193,7 +201,7 @@ give_body g f bytes size ends ids = record {
     all (i ∷ is) e = (subst (IsServer both) (sym e.0) one_site, all is e.1)
 
 two_bytes : AreFileBytes (record { from = 0; bytes = codes "ab" } ∷ [])
-two_bytes = record { ends = (omega arith, tt); together = omega arith; count = omega arith }
+two_bytes = record { ends = (omega arith, tt); order = (tt, tt); together = omega arith; count = omega arith }
 
 its : (t : Token) → t.host ≡ client → t.id.server ≡ site_one → HasRoom t.kind
     → IsToken (asked client 2 (Reclaim (claim all_tokens 0))) t
@@ -221,6 +229,10 @@ named_body m fid ids v home issued = record {
   home = λ p. home ∙ sym (ap (λ (v : ServerId). v.0) v);
   issued = subst (λ v. Each (λ (id : TokenId). id.server ≡ v) ids) (sym v) issued;
 }
+
+recalled : (r : RevokeOf) → 1 ≤ r.stamp → AreNamed (told_to client 2 (Revoke r)) r.fid r.ids
+    → IsBody both (told_to client 2 (Revoke r)) (Revoke r)
+recalled r first named = record { stamp = first; named = named }
 
 -- the messages of a step are its node's own, and sound
 abbrev pub AllSound : Node → List Message → Type 0
@@ -251,19 +263,19 @@ pub sound_5 : AllSound (Host client) step_5.sent
 sound_5 = (ask client 1 (Fetch (fetch_of 1 root root_needs)) first_host (refl) tt (root_body client 1), tt)
 
 pub sound_6 : AllSound (Server site_one) step_6.sent
-sound_6 = (tell client 1 (Grant root_grant) first_host (refl) tt (grant_body client 1 root_grant (status_of true) refl (brought client 1 (Grant root_grant) root root_status refl refl refl refl tt, (brought client 1 (Grant root_grant) root root_entries refl refl refl refl some_root, tt)) (λ p. refl) (omega arith) refl refl (tt, tt) (omega arith)), tt)
+sound_6 = (tell client 1 (Grant root_grant) first_host (refl) tt (grant_body client 1 root_grant (status_of true) (omega arith) refl (brought client 1 (Grant root_grant) root root_status refl refl refl refl tt, (brought client 1 (Grant root_grant) root root_entries refl refl refl refl some_root, tt)) (λ p. refl) (omega arith) refl refl (tt, tt) (omega arith)), tt)
 
 pub sound_7 : AllSound (Host client) step_7.sent
 sound_7 = (ask client 1 (Fetch (fetch_of 2 file file_needs)) first_host (refl) tt (file_body client 1), tt)
 
 pub sound_8 : AllSound (Server site_one) step_8.sent
-sound_8 = (tell client 1 (Grant file_grant) first_host (refl) tt (grant_body client 1 file_grant (status_of false) refl (brought client 1 (Grant file_grant) file file_status refl refl refl refl tt, tt) (λ p. refl) (omega arith) refl refl tt (omega arith)), tt)
+sound_8 = (tell client 1 (Grant file_grant) first_host (refl) tt (grant_body client 1 file_grant (status_of false) (omega arith) refl (brought client 1 (Grant file_grant) file file_status refl refl refl refl tt, tt) (λ p. refl) (omega arith) refl refl tt (omega arith)), tt)
 
 pub sound_9 : AllSound (Host client) step_9.sent
 sound_9 = (ask client 1 (Fetch (fetch_of 3 file update_needs)) first_host (refl) tt (update_body), tt)
 
 pub sound_10 : AllSound (Server site_one) step_10.sent
-sound_10 = (tell client 1 (Grant update_grant) first_host (refl) tt (grant_body client 1 update_grant (status_of false) refl (brought client 1 (Grant update_grant) file file_update refl refl refl refl tt, (brought client 1 (Grant update_grant) file file_bytes refl refl refl refl (omega arith), tt)) (λ p. refl) (omega arith) refl refl tt (omega arith)), tt)
+sound_10 = (tell client 1 (Grant update_grant) first_host (refl) tt (grant_body client 1 update_grant (status_of false) (omega arith) refl (brought client 1 (Grant update_grant) file file_update refl refl refl refl tt, (brought client 1 (Grant update_grant) file file_bytes refl refl refl refl (omega arith), tt)) (λ p. refl) (omega arith) refl refl tt (omega arith)), tt)
 
 pub sound_11 : AllSound (Host client) step_11.sent
 sound_11 = tt
@@ -308,19 +320,19 @@ pub sound_24 : AllSound (Host other) step_24.sent
 sound_24 = (ask other 2 (Fetch (fetch_of 1 root root_needs)) second_host (refl) tt (root_body other 2), tt)
 
 pub sound_25 : AllSound (Server site_one) step_25.sent
-sound_25 = (tell other 2 (Grant their_root) second_host (refl) tt (grant_body other 2 their_root (status_of true) refl (brought other 2 (Grant their_root) root their_status refl refl refl refl tt, (brought other 2 (Grant their_root) root their_entries refl refl refl refl some_root, tt)) (λ p. refl) (omega arith) refl refl (tt, tt) (omega arith)), tt)
+sound_25 = (tell other 2 (Grant their_root) second_host (refl) tt (grant_body other 2 their_root (status_of true) (omega arith) refl (brought other 2 (Grant their_root) root their_status refl refl refl refl tt, (brought other 2 (Grant their_root) root their_entries refl refl refl refl some_root, tt)) (λ p. refl) (omega arith) refl refl (tt, tt) (omega arith)), tt)
 
 pub sound_26 : AllSound (Host other) step_26.sent
 sound_26 = (ask other 2 (Fetch (fetch_of 2 file file_needs)) second_host (refl) tt (file_body other 2), tt)
 
 pub sound_27 : AllSound (Server site_one) step_27.sent
-sound_27 = (tell client 2 (Revoke recall_length) first_host (refl) tt (named_body (told_to client 2 (Revoke recall_length)) recall_length.fid recall_length.ids refl refl (refl, tt)), tt)
+sound_27 = (tell client 2 (Revoke recall_length) first_host (refl) tt (recalled recall_length (omega arith) (named_body (told_to client 2 (Revoke recall_length)) recall_length.fid recall_length.ids refl refl (refl, tt))), tt)
 
 pub sound_28 : AllSound (Host client) step_28.sent
-sound_28 = (ask client 2 (GiveBack length_gift) first_host (refl) tt (give_body length_gift refl no_bytes_told (omega arith) tt (refl, tt)), tt)
+sound_28 = (ask client 2 (GiveBack length_gift) first_host (refl) tt (give_body length_gift (omega arith) refl no_bytes_told (omega arith) tt (refl, tt)), tt)
 
 pub sound_29 : AllSound (Server site_one) step_29.sent
-sound_29 = (tell client 2 (Gone (number_of length_gift)) first_host (refl) tt (λ p. refl), (tell other 2 (Grant their_grant) second_host (refl) tt (grant_body other 2 their_grant (record (status_of false) { length = 2 }) refl (brought other 2 (Grant their_grant) file their_file refl refl refl refl tt, tt) (λ p. refl) (omega arith) refl refl tt (omega arith)), tt))
+sound_29 = (tell client 2 (Gone (number_of length_gift)) first_host (refl) tt (λ p. refl), (tell other 2 (Grant their_grant) second_host (refl) tt (grant_body other 2 their_grant (record (status_of false) { length = 2 }) (omega arith) refl (brought other 2 (Grant their_grant) file their_file refl refl refl refl tt, tt) (λ p. refl) (omega arith) refl refl tt (omega arith)), tt))
 
 pub sound_30 : AllSound (Host client) step_30.sent
 sound_30 = tt
@@ -329,7 +341,7 @@ pub sound_31 : AllSound (Host other) step_31.sent
 sound_31 = (ask other 2 (Change (lock_for 1 locks_too)) second_host (refl) tt (lock_body other 1 (codes "m")), tt)
 
 pub sound_32 : AllSound (Server site_one) step_32.sent
-sound_32 = (tell client 2 (Revoke recall_lock) first_host (refl) tt (named_body (told_to client 2 (Revoke recall_lock)) recall_lock.fid recall_lock.ids refl refl (refl, tt)), tt)
+sound_32 = (tell client 2 (Revoke recall_lock) first_host (refl) tt (recalled recall_lock (omega arith) (named_body (told_to client 2 (Revoke recall_lock)) recall_lock.fid recall_lock.ids refl refl (refl, tt))), tt)
 
 pub sound_33 : AllSound (Host client) step_33.sent
 sound_33 = (ask client 2 (Kept kept_lock) first_host (refl) tt (named_body (asked client 2 (Kept kept_lock)) kept_lock.fid kept_lock.ids refl refl (refl, tt)), tt)
@@ -341,7 +353,7 @@ pub sound_35 : AllSound (Host other) step_35.sent
 sound_35 = tt
 
 pub sound_36 : AllSound (Host client) step_36.sent
-sound_36 = (ask client 2 (GiveBack unlock_gift) first_host (refl) tt (give_body unlock_gift refl no_bytes_told tt tt (refl, tt)), tt)
+sound_36 = (ask client 2 (GiveBack unlock_gift) first_host (refl) tt (give_body unlock_gift (omega arith) refl no_bytes_told tt tt (refl, tt)), tt)
 
 pub sound_37 : AllSound (Server site_one) step_37.sent
 sound_37 = (tell client 2 (Gone (number_of unlock_gift)) first_host (refl) tt (λ p. refl), tt)
@@ -368,7 +380,7 @@ pub sound_44 : AllSound (Host other) step_44.sent
 sound_44 = tt
 
 pub sound_45 : AllSound (Host client) step_45.sent
-sound_45 = (ask client 2 (GiveBack bytes_gift) first_host (refl) tt (give_body bytes_gift refl two_bytes tt tt (refl, tt)), (ask client 2 (Returned of_root) first_host (refl) tt (named_body (asked client 2 (Returned of_root)) of_root.fid of_root.ids refl refl (refl, (refl, tt))), (ask client 2 (Returned of_file) first_host (refl) tt (named_body (asked client 2 (Returned of_file)) of_file.fid of_file.ids refl refl (refl, tt)), tt)))
+sound_45 = (ask client 2 (GiveBack bytes_gift) first_host (refl) tt (give_body bytes_gift (omega arith) refl two_bytes tt tt (refl, tt)), (ask client 2 (Returned of_root) first_host (refl) tt (named_body (asked client 2 (Returned of_root)) of_root.fid of_root.ids refl refl (refl, (refl, tt))), (ask client 2 (Returned of_file) first_host (refl) tt (named_body (asked client 2 (Returned of_file)) of_file.fid of_file.ids refl refl (refl, tt)), tt)))
 
 pub sound_46 : AllSound (Server site_one) step_46.sent
 sound_46 = (tell client 2 (Gone (number_of bytes_gift)) first_host (refl) tt (λ p. refl), tt)

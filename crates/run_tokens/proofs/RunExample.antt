@@ -104,6 +104,7 @@ some = omega arith
 
 enter_is_sound : IsBody roster (to_server 1 (Change enter)) (Change enter)
 enter_is_sound = record {
+  number = omega arith;
   fileset = inl refl;
   call = record { servers = (record { first = omega arith; last = omega arith }, tt); paths = (omega arith, tt); objects = refl; groups = tt; bytes = tt };
   decided = inl refl;
@@ -114,11 +115,13 @@ entered_is_sound = record {
   fileset = inl refl;
   outcome = λ p. refl;
   brings = record { tokens = tt; home = λ t ts e. absurd (cc) };
+  some = λ t ts e. absurd (cc);
   none = λ e. (refl, refl);
 }
 
 fetch_is_sound : IsBody roster (to_server 1 (Fetch (asks_for whole))) (Fetch (asks_for whole))
 fetch_is_sound = record {
+  number = omega arith;
   home = λ p. refl;
   file = (refl, (refl, tt));
   kinds = (tt, (tt, tt));
@@ -128,6 +131,7 @@ fetch_is_sound = record {
 
 grant_is_sound : IsBody roster (to_host (Grant (granted whole))) (Grant (granted whole))
 grant_is_sound = record {
+  stamp = omega arith;
   brings = record {
     tokens = (
       record { own = record { host = refl; server = refl; room = tt }; file = refl; epoch = refl },
@@ -139,7 +143,7 @@ grant_is_sound = record {
   told = record {
     size = omega arith;
     lists = refl;
-    bytes = record { ends = tt; together = omega arith; count = omega arith };
+    bytes = record { ends = tt; order = tt; together = omega arith; count = omega arith };
     order = tt;
     few = omega arith;
     absent = λ e. absurd (cc);

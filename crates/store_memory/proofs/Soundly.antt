@@ -98,13 +98,18 @@ lists_of (Dir entries lists) h =
 lists_of (File list kept unsaved len) h = refl
 
 pieces_fit : (content : Content) → is_tellable content ≡ true → AreFileBytes (pieces_of content)
-pieces_fit (Dir entries lists) h = record { ends = tt; together = omega arith; count = omega arith }
+pieces_fit (Dir entries lists) h = record { ends = tt; order = tt; together = omega arith; count = omega arith }
 pieces_fit (File list kept unsaved len) h =
     let most = leb-true (length kept) FILE_BYTES_MAX h in
-    record { ends = (omega (arith, most), tt); together = omega (arith, most); count = omega arith }
+    record {
+      ends = (omega (arith, most), tt);
+      order = (tt, tt);
+      together = omega (arith, most);
+      count = omega arith;
+    }
 
 no_pieces : AreFileBytes []
-no_pieces = record { ends = tt; together = omega arith; count = omega arith }
+no_pieces = record { ends = tt; order = tt; together = omega arith; count = omega arith }
 
 told_whole : (read_only : Bool) (object : Object) → is_tellable object.content ≡ true →
     IsTold (Some (status_of read_only object)) (pieces_of object.content) (entries_in object.content)
