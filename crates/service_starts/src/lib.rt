@@ -19,6 +19,6 @@ pub use finish_laws::{begun_law, ended_law, finish_law, ship_law};
 pub use fitting::{FitRefused, Settling, fit};
 pub use laws::{once_law, settled_law, worked_law};
 pub use start::start_tree;
-pub use start_laws::{boot_law, new_law, settle_law, start_law, tie_law};
+pub use start_laws::{new_law, settle_law, start_law, tie_law};
 pub use startable::may_start;
 pub use told::Told;
