@@ -17,7 +17,7 @@ use Rattle.run_examples.proofs.LapseChecks.{not_asked, restarted_body}
 use Rattle.run_examples.proofs.MayTests.{act_right, acts_right, may_act, may_all}
 use Rattle.run_examples.proofs.SendTests.{TellsAll, all_decided, at_cause, decided_tests, decides_all, has_decided}
 use Rattle.run_examples.proofs.SendTests.{has_sent, send_words, sends_all, sends_right, sent_tests}
-use Rattle.run_examples.proofs.ServerChecks.{bye_only, gives_body, gives_gone, gives_number, gone_body, gone_only}
+use Rattle.run_examples.proofs.ServerChecks.{reclaimed_by, bye_only, gives_body, gives_gone, gives_number, gone_body, gone_only}
 use Rattle.run_examples.proofs.ServerChecks.{is_gone, is_restart, is_taken, is_to, restart_cause, restarted_only}
 use Rattle.run_examples.proofs.ServerChecks.{sends_now, sends_to, tells_again, tells_restart}
 use Rattle.run_examples.proofs.ServerLists.{none_given, none_taken, quiet}
@@ -40,7 +40,7 @@ use Rattle.std.specs.Prelude.{not, slice_get}
 use Rattle.token_types.specs.declared.token.Token.{Token}
 use Rattle.run_rules.specs.Lines.{IsNextLine, lines_gone, lines_of}
 use Rattle.run_rules.specs.Kept.{kept, kept_through}
-use Rattle.run_rules.specs.ServerAnswers.{HeardNow, SentNow, ServerAnswers, TakenNow, empty}
+use Rattle.run_rules.specs.ServerAnswers.{HeardNow, OnlyAnswers, SentNow, ServerAnswers, TakenNow, empty}
 use Rattle.run_rules.specs.ServerApplies.{FirstDown, FirstGiven, ServerApplies, by_cause, decisions, ended_by}
 use Rattle.run_rules.specs.ServerApplies.{is_decision, stored_of}
 use Rattle.run_rules.specs.ServerRules.{ServerMeets}
@@ -79,6 +79,11 @@ answers_so past s m =
     ∷ implies (is_claim_body m.body) (admits_so past s m)
     ∷ []
 
+unfoldable pub reclaimed_only : List Act → Step → Message → Body → Bool
+reclaimed_only past s k (Reclaimed r) =
+    reclaimed_by past s.cause k || list_any (λ (c : Admission). same_host c.host k.host) s.admitted
+reclaimed_only past s k _ = true
+
 unfoldable pub answer_list : List Act → Step → List Bool
 answer_list past s =
     by_message true (λ m. passes (answers_so past s m)) s.cause
@@ -88,6 +93,7 @@ answer_list past s =
     ∷ list_all (restarted_only past s.cause) s.sent
     ∷ list_all (λ k. gone_only past s.cause k k.body) s.sent
     ∷ list_all (reclaimed past) (claimants past)
+    ∷ list_all (λ k. reclaimed_only past s k k.body) s.sent
     ∷ []
 
 unfoldable pub first_body : ServerId → List Act → Message → Body → Bool
@@ -128,7 +134,7 @@ step_tests server lines tree steps past s =
     ∷ is_none s.dropped
     ∷ all_decided server (kept_through s.cause (by_cause s.applied) tree) past (after_cause s.cause past) s
     (decisions s.applied)
-    ∷ passes (decided_tests server (kept_through s.cause s.applied tree) (written_by s past) s)
+    ∷ passes (decided_tests server (kept_through s.cause s.applied tree) past (written_by s past) s)
     ∷ sends_right server (kept_through s.cause s.applied tree) s (sending s.sent) (admitted_by s past)
     ∷ passes (sent_tests server past (after_step s past) s)
     ∷ []
@@ -136,7 +142,7 @@ step_tests server lines tree steps past s =
 unfoldable pub answer_words : ℕ
 unfolding send_words is_hello is_bye is_down is_restarted is_lapse is_to sends_to is_gone is_restart is_taken gives_gone
     gives_number gone_only bye_only restarted_only tells_restart tells_again no_asked is_empty is_claim_body admits_so answers_so
-    answer_list first_body is_restart_deed is_restart_line lines_right no_file step_tests
+    answer_list reclaimed_only reclaimed_by first_body is_restart_deed is_restart_line lines_right no_file step_tests
 answer_words = 0
 
 empty_body : (b : Body) → is_empty b ≡ true → b ≡ Reclaimed empty
@@ -169,17 +175,9 @@ module _ (server : ServerId) (past : List Act) (s : Step) where
   claim_from Evict c h n claim t first x = absurd (first (claims_before h n claim t x))
   claim_from End c h n claim t first x = absurd (first (claims_before h n claim t x))
 
-  pub all_answered : passes (answer_list past s) ≡ true → ServerAnswers server past s
+  pub all_answered : passes (answer_list past s) ≡ true → OnlyAnswers past s × ServerAnswers server past s
   unfolding answer_words
-  all_answered e = record {
-    hello_old = λ h (m, c, at, is) l old.
-        absurd (is_not (listed past m.host) (hello m c is).0 (listed_is past m.host (subst (Listed past) (sym at) l.0)));
-    hello = λ h (m, c, at, is) d l.
-        subst (λ y. SentNow s y (Reclaimed empty)) at (sends_now s m.host is_empty (Reclaimed empty) empty_body
-        (hello m c is).1);
-    bye = λ h (m, c, at, is) d l.
-        subst (λ y. SentNow s y Bye) at (sends_now s m.host is_bye Bye bye_body (so (is_bye m.body)
-        (sends_to s m.host is_bye) (parts m c).1.0 (subst (λ b. is_bye b ≡ true) (sym is) refl)));
+  all_answered e = (record {
     bye_only = λ h (k, i, at, is).
         let a = by_message false (λ m. is_bye m.body && same_host m.host k.host) s.cause in
         let p = so (is_bye k.body) (a && not (down past k.host)) (at_all (bye_only past s.cause) s.sent k t.1.0 i)
@@ -189,6 +187,28 @@ module _ (server : ServerId) (past : List Act) (s : Step) where
           subst (λ y. HeardNow s y Bye) at r,
           λ x. is_not (down past k.host) q.1 (down_is past k.host (subst (λ y. IsDown past y) (sym at) x)),
         );
+    reclaimed_only = λ h r (k, i, at, is).
+        let a = by_message false (λ m. is_hello m.body && same_host m.host k.host) s.cause in
+        let b = list_any (λ (c : Admission). same_host c.host k.host) s.admitted in
+        let p = subst (λ b. reclaimed_only past s k b ≡ true) is (at_all
+        (λ k. reclaimed_only past s k k.body) s.sent k t.1.1.1.1.1.1.1.0 i) in
+        elim (or_cases (a && not (down past k.host)) b p) [
+          | inl x ↦ (let q = and_parts a (not (down past k.host)) x in inl (
+            subst (λ y. HeardNow s y Hello) at (came_hello k.host s.cause refl q.0),
+            λ z. is_not (down past k.host) q.1 (down_is past k.host (subst (λ y. IsDown past y) (sym at) z)),
+          ))
+          | inr x ↦ (let c = some_in (λ (c : Admission). same_host c.host k.host) s.admitted x in
+            inr (inl (c.0, c.1, host_is c.0.host k.host c.2 ∙ at)))
+        ];
+  }, record {
+    hello_old = λ h (m, c, at, is) l old.
+        absurd (is_not (listed past m.host) (hello m c is).0 (listed_is past m.host (subst (Listed past) (sym at) l.0)));
+    hello = λ h (m, c, at, is) d l.
+        subst (λ y. SentNow s y (Reclaimed empty)) at (sends_now s m.host is_empty (Reclaimed empty) empty_body
+        (hello m c is).1);
+    bye = λ h (m, c, at, is) d l.
+        subst (λ y. SentNow s y Bye) at (sends_now s m.host is_bye Bye bye_body (so (is_bye m.body)
+        (sends_to s m.host is_bye) (parts m c).1.0 (subst (λ b. is_bye b ≡ true) (sym is) refl)));
     late = λ h m c at l other hello_ downs.
         elim (or_cases (m.epoch == epoch past) (is_hello m.body || is_down m.body) (parts m c).1.1.0) [
           | inl x ↦ absurd (other (eqb-true m.epoch (epoch past) x))
@@ -250,7 +270,7 @@ module _ (server : ServerId) (past : List Act) (s : Step) where
         let m = x.0.0 in
         let r = admits_ m x.0.1 (subst (λ b. is_claim_body b ≡ true) (sym x.0.5) refl) in
         absurd (is_not (reclaimed past m.host) r.0 (reclaimed_is past m.host (subst (HasReclaimed past) (sym x.0.2) again)));
-  }
+  })
     where
       t : AllTrue (answer_list past s)
       t = all_true (answer_list past s) e
@@ -293,6 +313,13 @@ module _ (server : ServerId) (past : List Act) (s : Step) where
           let p = and_parts (is_bye m.body) (same_host m.host h) x in
           (m, c, host_is m.host h p.1, bye_body m.body p.0)
       came_bye h cause c x = absurd (cc)
+
+      came_hello : (h : HostId) (cause : Cause) → s.cause ≡ cause → by_message false
+          (λ m. is_hello m.body && same_host m.host h) cause ≡ true → HeardNow s h Hello
+      came_hello h (Came m) c x =
+          let p = and_parts (is_hello m.body) (same_host m.host h) x in
+          (m, c, host_is m.host h p.1, hello_body m.body p.0)
+      came_hello h cause c x = absurd (cc)
 
       as_live : (m : Message) → is_taken past m ≡ true → (live past m.host && (m.epoch == epoch past)) ≡ true
       as_live m x = x
@@ -411,37 +438,45 @@ step_meets script start server steps past s applies_ tells e =
     let t = all_true (step_tests server lines tree steps past s) e in
     let u = t.1.1.1.1.1.1.1 in
     let v = u.1.1.1.1.1.1.1.1 in
+    let said = all_answered server past s t.0 in
     record {
-      tokens = record {
-        writes = may_all server (deciding s.applied) (after_cause s.cause past) t.1.0;
-        admits = may_all server (admitting s.admitted) (written_by s past) t.1.1.0;
-        sends = may_all server (sending s.sent) (admitted_by s past) t.1.1.1.0;
-        reserves = may_act server (sent_by s past) (Reserves s.reserved) (none_right s.reserved t.1.1.1.1.0);
+      may = record {
+        tokens = record {
+          writes = may_all server (deciding s.applied) (after_cause s.cause past) t.1.0;
+          admits = may_all server (admitting s.admitted) (written_by s past) t.1.1.0;
+          sends = may_all server (sending s.sent) (admitted_by s past) t.1.1.1.0;
+          reserves = may_act server (sent_by s past) (Reserves s.reserved) (none_right s.reserved t.1.1.1.1.0);
+        };
+        no_host = record {
+          causes = (
+            λ c. not_evict lines (subst (λ c. lines_right lines steps c ≡ true) c u.0),
+            λ c. not_end lines (subst (λ c. lines_right lines steps c ≡ true) c u.0),
+          );
+          does_none = (
+            not_asked s.asked u.1.0,
+            none_is s.taken u.1.1.0,
+            none_is s.answers u.1.1.1.0,
+            no_file_is s.wrote u.1.1.1.1.0,
+            none_is s.begun u.1.1.1.1.1.0,
+            none_is s.made u.1.1.1.1.1.1.0,
+            none_is s.dropped u.1.1.1.1.1.1.1.0,
+          );
+        };
+        answers = said.0;
+        works = record {
+          applies = all_applied server tree past s applies_ t.1.1.1.1.1.0 t.1.1.1.1.1.1.0 t.1.1.1.1.0;
+          decides = decides_all server (kept_through s.cause (by_cause s.applied) tree) past (after_cause s.cause past) s
+              (decisions s.applied) v.0;
+          sends = sends_all server now s s.sent (admitted_by s past) tells v.1.1.0;
+        };
       };
-      lines = record {
-        bare = λ n c. absurd (not_line lines n (subst (λ c. lines_right lines steps c ≡ true) c u.0));
-        restarts = λ n c. restart_at lines n (subst (λ c. lines_right lines steps c ≡ true) c u.0);
-        no_host = (
-          λ c. not_evict lines (subst (λ c. lines_right lines steps c ≡ true) c u.0),
-          λ c. not_end lines (subst (λ c. lines_right lines steps c ≡ true) c u.0),
-        );
-        does_none = (
-          not_asked s.asked u.1.0,
-          none_is s.taken u.1.1.0,
-          none_is s.answers u.1.1.1.0,
-          no_file_is s.wrote u.1.1.1.1.0,
-          none_is s.begun u.1.1.1.1.1.0,
-          none_is s.made u.1.1.1.1.1.1.0,
-          none_is s.dropped u.1.1.1.1.1.1.1.0,
-        );
-      };
-      answers = all_answered server past s t.0;
-      works = record {
-        applies = all_applied server tree past s applies_ t.1.1.1.1.1.0 t.1.1.1.1.1.1.0 t.1.1.1.1.0;
-        decides = decides_all server (kept_through s.cause (by_cause s.applied) tree) past (after_cause s.cause past) s
-            (decisions s.applied) v.0;
+      due = record {
+        lines = record {
+          bare = λ n c. absurd (not_line lines n (subst (λ c. lines_right lines steps c ≡ true) c u.0));
+          restarts = λ n c. restart_at lines n (subst (λ c. lines_right lines steps c ≡ true) c u.0);
+        };
+        answers = said.1;
         decided = has_decided server now past (written_by s past) s v.1.0;
-        sends = sends_all server now s s.sent (admitted_by s past) tells v.1.1.0;
         sent = has_sent server now past (after_step s past) s v.1.1.1.0;
       };
     }
