@@ -130,7 +130,8 @@ module _ (v : ServerId) (tree : Tree) (s : Step) where
     where
       by : SettledSo v tree S k.w k.change d → ⊥
       by (TakesToken uses accepted row can outcome needs) =
-          row_blind tree k.w.host k.change uses (need_of t) p (subst (In (need_of t)) row.0 (one_needed k.w.needs d.bring.tokens needs t i)) cov
+          let asked = one_needed k.w.needs d.bring.tokens needs t i in
+          row_blind tree k.w.host k.change uses (need_of t) p (subst (In (need_of t)) row.0 asked) cov
       by (NamesOther uses accepted other ready outcome none) = no_tokens t d.bring.tokens none i
       by (IsEntered fileset place enters named known outcome none) = no_tokens t d.bring.tokens none i
 

@@ -213,7 +213,8 @@ module _ (c : Contents) (v : ServerId) (tree : Tree) (s : Step) (tells : (g : Gr
           where
             by : SettledSo v tree (acts_in D) k.w k.change d → Granted v (acts_in D) t ⊎ IsThere (kept c D t.fid Traits)
             by (TakesToken uses accepted row can outcome needs) =
-                inr (brought h e n d.bring t m i (of_row k.w k.change t at.keeps.formed row.0 (one_needed k.w.needs d.bring.tokens needs t i)))
+                let asked = one_needed k.w.needs d.bring.tokens needs t i in
+                inr (brought h e n d.bring t m i (of_row k.w k.change t at.keeps.formed row.0 asked))
             by (NamesOther uses accepted other ready outcome none) = elim (subst (In t) none i) [ ]
             by (IsEntered fileset place enters named known outcome none) = elim (subst (In t) none i) [ ]
 

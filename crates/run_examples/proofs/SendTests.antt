@@ -36,14 +36,14 @@ use Rattle.run_examples.proofs.ServerLists.{same_asked, tokens_in}
 use Rattle.run_examples.proofs.ServerWords.{here, here_yes, live, live_yes}
 use Rattle.run_examples.proofs.StanceChecks.{once_from}
 use Rattle.run_examples.proofs.Tests.{AllTrue, all_true, any_of, apart, at_all, bool_is, fid_is, fileset_is, filesets}
-use Rattle.run_examples.proofs.Tests.{host_is, hosts, id_is, implies, is_none, is_not, list_is, none_is, not_is, only_one}
-use Rattle.run_examples.proofs.Tests.{passes, token_is}
+use Rattle.run_examples.proofs.Tests.{host_is, hosts, id_is, implies, is_none, is_not, list_is, none_is, not_is}
+use Rattle.run_examples.proofs.Tests.{only_one, passes, token_is}
 use Rattle.run_examples.proofs.Tests.{same_bool, same_fileset, same_host, same_list, same_token, so, some_in}
 use Rattle.run_examples.proofs.Words.{by_message}
 use Rattle.run_examples.specs.Laws.{writing}
 use Rattle.run_examples.specs.Steps.{label, needs}
-use Rattle.std.proofs.Common.{is_some, map, Bool, Err, List, None, Ok, Option, Result, Some, [], ap, arith, false, inl, inr, refl}
-use Rattle.std.proofs.Common.{subst, sym, true, ℕ, ◌&&◌, ◌==◌, ◌||◌, ◌∙◌, ◌∷◌, ◌≡◌, ◌≤◌}
+use Rattle.std.proofs.Common.{Bool, Err, List, None, Ok, Option, Result, Some, [], ap, arith, false, inl, inr, is_some}
+use Rattle.std.proofs.Common.{map, refl, subst, sym, true, ℕ, ◌&&◌, ◌==◌, ◌||◌, ◌∙◌, ◌∷◌, ◌≡◌, ◌≤◌}
 use Rattle.std.proofs.lemmas.Bool.{and_from, and_parts, eq-eqb, eqb-true, leb-true, or_cases}
 use Rattle.std.specs.List.{list_all, list_any}
 use Rattle.std.specs.Prelude.{nat_le, not, ◌⊎◌}
@@ -63,8 +63,8 @@ use Rattle.run_rules.specs.ServerSends.{AnswersChange, AreNeeds, DoneFor, Grants
 use Rattle.run_rules.specs.ServerSends.{IsAskedBack, IsLast, IsOfChange, IsOwed, MaySend, Revoked, TellsKept}
 use Rattle.run_rules.specs.ServerSends.DoneFor.{OfWritten, Settled}
 use Rattle.run_rules.specs.ServerSends.SettledSo.{IsEntered, TakesToken}
-use Rattle.run_rules.specs.Wants.{Before, CanGrant, CanRefuse, IsBehind, IsOld, IsReady, NoneWaits, SameNumber, Waits, asker}
-use Rattle.run_rules.specs.Wants.{body_of}
+use Rattle.run_rules.specs.Wants.{Before, CanGrant, CanRefuse, IsBehind, IsOld, IsReady, NoneWaits, SameNumber, Waits}
+use Rattle.run_rules.specs.Wants.{asker, body_of}
 use Rattle.run_rules.specs.Wants.{has_effect, is_use, needs_for, row_needs}
 use Rattle.run_rules.specs.Acts.{Act, SentTo, after_cause, decisions_of, epoch, sending}
 use Rattle.run_rules.specs.Acts.Act.{Sent, Writes}
@@ -391,12 +391,14 @@ sent_tests server before past s =
     ∷ []
 
 unfoldable pub send_words : ℕ
-unfolding may_words same_call same_place is_fetch accepted row_right of_row in_way is_ahead grant_tests refuse_tests is_stuck meets_needs same_change is_body_of
-    asks_such changes_such where_change is_here_now is_meant asked_here new_numbered comes_as is_new needs_right is_locked
-    is_lock_call writes_so decides_right all_decided wants_it is_request is_meant_body holds_up waits_before wanted_now left_open decided_tests there_right
-    grants_such grants_for is_not_above wrote_so found_right named_right enters_such uses_such settles_for outcome_right
-    blocks_some is_free asks_first asks_back send_right sends_right is_done_of done_body locked_reply answered_now first_asked recalls_it recalls_again same_sort is_change_of
-    asks_for_done brings_change waits_for done_due sent_tests
+unfolding may_words same_call same_place is_fetch accepted row_right of_row in_way is_ahead grant_tests refuse_tests
+    is_stuck meets_needs same_change is_body_of asks_such changes_such where_change is_here_now is_meant asked_here
+    new_numbered comes_as is_new needs_right is_locked is_lock_call writes_so decides_right all_decided wants_it
+    is_request is_meant_body holds_up waits_before wanted_now left_open decided_tests there_right grants_such
+    grants_for is_not_above wrote_so found_right named_right enters_such uses_such settles_for outcome_right
+    blocks_some is_free asks_first asks_back send_right sends_right is_done_of done_body locked_reply answered_now
+    first_asked recalls_it recalls_again same_sort is_change_of asks_for_done brings_change waits_for done_due
+    sent_tests
 send_words = 0
 
 -- each test, and what it tells
@@ -742,9 +744,10 @@ has_decided server tree before past s e = record {
     news h n r ((m, c, at, _, _, is), _) here_ alone =
         let new = list_any (wants_it m.host m.body) s.applied in
         let waits_ = list_any (waits_before m) (queue (after_cause s.cause before)) in
-        let p = so (is_request m.body && is_meant_body m.body) (new || waits_) (at_cause (wanted_now before s) s m t.0 c)
-        (subst (λ b. (is_request b && is_meant_body b) ≡ true) (sym is) (and_from (is_request (body_of r)) (is_meant_body
-        (body_of r)) (asked r) (meant n r here_))) in
+        let asks_ = λ (b : Body). is_request b && is_meant_body b in
+        let q = and_from (is_request (body_of r)) (is_meant_body (body_of r)) (asked r) (meant n r here_) in
+        let p = so (asks_ m.body) (new || waits_) (at_cause (wanted_now before s) s m t.0 c) (subst (λ b. asks_ b ≡ true)
+        (sym is) q) in
         elim (or_cases new waits_ p) [
           | inl y ↦ (
               let q = some_in (wants_it m.host m.body) s.applied y in
@@ -754,7 +757,7 @@ has_decided server tree before past s e = record {
               let q = some_in (waits_before m) (queue (after_cause s.cause before)) y in
               let k = and_parts (same_host q.0.host m.host) (holds_up m.body q.0.request) q.2 in
               absurd (alone q.0 (queue_yes (after_cause s.cause before) q.0 q.1) (host_is q.0.host m.host k.0 ∙ at)
-                  (held m.body q.0.request r k.1 is))
+              (held m.body q.0.request r k.1 is))
               )
         ]
 
@@ -1021,8 +1024,8 @@ may_send server tree s past a tells e = record {
       );
   revokes = λ h f n r i is m.
       back_is server past s h i
-      (at_all (λ i. list_any (asks_back server past s h i) (granted server past)) r.ids i (at (Sent h f n (Revoke r)) is)
-      m);
+      (at_all (λ i. list_any (asks_back server past s h i) (granted server past)) r.ids i
+      (at (Sent h f n (Revoke r)) is) m);
 }
   where
     at : (x : Act) → a ≡ x → send_right server tree s past x ≡ true
@@ -1065,8 +1068,8 @@ reply_locked o e = absurd (cc)
 
 pub has_sent : (server : ServerId) (tree : Tree) (before past : List Act) (s : Step)
     → passes (sent_tests server before past s) ≡ true → HasSent server tree before past s
-unfolding sent_tests answered_now first_asked is_lapse blocks_some in_way recalls_it recalls_again same_sort is_change_of
-    asks_for_done brings_change waits_for done_due
+unfolding sent_tests answered_now first_asked is_lapse blocks_some in_way recalls_it recalls_again same_sort
+    is_change_of asks_for_done brings_change waits_for done_due
 has_sent server tree before past s e = record {
   once = once_from same_sort s.sent (λ m. sorts m m refl refl) t.1.1.1.1.1.0;
   revokes_once = λ h r q i (m, j, at, is) (k, l, up, so_) _ _.

@@ -210,6 +210,9 @@ pub second_meets : Reacts waiting second_change
 unfolding site_words
 second_meets = step_meets script start site_one waiting (deeds waiting) second_change refl tt refl
 
-pub waiting_meets : Reacts (second_change ∷ waiting) step_34
+abbrev crossed : List Step
+crossed = second_change ∷ waiting
+
+pub waiting_meets : Reacts crossed step_34
 unfolding site_words
-waiting_meets = step_meets script start site_one (second_change ∷ waiting) (deeds (second_change ∷ waiting)) step_34 refl (tt, tt) refl
+waiting_meets = step_meets script start site_one crossed (deeds crossed) step_34 refl (tt, tt) refl

@@ -948,7 +948,8 @@ welcomes_in (s ∷ past) v (inl (greeted, (answer, c))) =
     in_front v (welcomed past s s.cause) (welcomes past)
     (subst (λ x. In v (welcomed past s x)) (sym (cause_is s v (epoch_at (s ∷ past) v) 0 (Reclaimed answer) c))
     (in_if (x && has_greeted past v) v (v ∷ []) (and_from x (has_greeted past v) (and_from (epoch_at (s ∷ past) v ==
-    epoch_at (s ∷ past) v) (0 == 0) (same_is (epoch_at (s ∷ past) v)) refl) (has_greeted_is past v greeted)) (inl refl)))
+    epoch_at (s ∷ past) v) (0 == 0) (same_is (epoch_at (s ∷ past) v)) refl) (has_greeted_is past v greeted))
+    (inl refl)))
 welcomes_in (s ∷ past) v (inr w) = in_back v (welcomed past s s.cause) (welcomes past) (welcomes_in past v w)
 
 unfoldable pub is_welcome : List Step → ServerId → Bool

@@ -1,7 +1,7 @@
 ghost use Rattle.run_examples.specs.Laws.{WriteIsAskedFor, WriteIsAnswered, RevokeIsAnswered, RestartIsAnswered};
 ghost use Rattle.run_examples.specs.Laws.{StopIsAllowed, EndIsAllowed, LockIsKept, UseIsEnded, EvictionIsAllowed};
-ghost use Rattle.run_examples.specs.Laws.{BlockedFetchIsGranted, NamelessIsIgnored, OutOfTurnIsRefused, OwedIsAskedAgain};
-ghost use Rattle.run_examples.specs.Laws.{SecondChangeIsIgnored, ServerReacts, TakenIsUsed};
+ghost use Rattle.run_examples.specs.Laws.{BlockedFetchIsGranted, NamelessIsIgnored, OutOfTurnIsRefused};
+ghost use Rattle.run_examples.specs.Laws.{OwedIsAskedAgain, SecondChangeIsIgnored, ServerReacts, TakenIsUsed};
 
 /// A Write asks for the status of a file that its host doesn't know, and then to change the status and the block that
 /// it lacks; at a lapse it asks again.
@@ -72,8 +72,8 @@ pub fn an_owed_token_is_asked_again()
     ensures { OwedIsAskedAgain }
 {}
 
-/// A server sends no Reclaimed for which nobody asked, no Done again where its Change isn't taken, and nothing twice in a
-/// step.
+/// A server sends no Reclaimed for which nobody asked, no Done again where its Change isn't taken, and nothing twice in
+/// a step. A host that greeted nobody isn't welcome by a Reclaimed.
 pub fn out_of_turn_is_refused()
     ensures { OutOfTurnIsRefused }
 {}

@@ -42,7 +42,7 @@ pub record MayBring (server : ServerId) (past : List Act) (host : HostId) (moves
   -- until the grace period ends no want is granted; the host is live
   pub over : NoGrace past
   pub live : IsLive past host
-  -- the file's fileset is here, in this stay; the stamp is above 0, and above all earlier ones of the file and the epoch
+  -- the file's fileset is here, in this stay; the stamp is above 0 and all earlier ones of the file and the epoch
   pub home : Here server past bring.fid.fileset moves
   pub stamp : (0 < bring.stamp) × ((x : ℕ) → Told past bring.fid x → x < bring.stamp)
   -- the tokens are the host's, on the file
