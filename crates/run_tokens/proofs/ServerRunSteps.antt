@@ -1,11 +1,9 @@
 -- The server of the small run meets all its rules in each of its steps.
-use Rattle.std.proofs.Common.{List, None, Ok, [], ap, codes, false, inl, inr, refl, subst, sym, true, ℕ, ◌∙◌}
+use Rattle.std.proofs.Common.{List, None, Ok, [], ap, codes, inl, inr, refl, subst, sym, true, ℕ, ◌∙◌}
 use Rattle.std.proofs.Common.{◌∷◌, ◌≡◌, ◌⊎◌}
 use Rattle.std.specs.List.{list_all}
 use Rattle.base_types.specs.declared.ids.FilesetId.{FilesetId}
 use Rattle.base_types.specs.declared.ids.HostId.{HostId}
-use Rattle.token_types.specs.Conflicts.{need_of}
-use Rattle.token_types.specs.declared.token.Need.{Need}
 use Rattle.token_types.specs.declared.token.Token.{Token}
 use Rattle.tree_laws.specs.Parts.{Part, cell_at}
 use Rattle.run_rules.specs.Lines.{lines_of}
@@ -21,7 +19,7 @@ use Rattle.run_rules.specs.Hosts.{HasReclaimed, Hears, IsLive, NoGrace, TookNow}
 use Rattle.run_rules.specs.Lists.{EachOnce, In}
 use Rattle.run_rules.specs.Places.{Here}
 use Rattle.run_tokens.specs.Worked.{asks_for, client, enter, entered, facts, granted, grants, root, site_one}
-use Rattle.run_tokens.specs.Worked.{stat, tells, to_host, to_server, token, wants_enter, wants_root, welcome, welcomes}
+use Rattle.run_tokens.specs.Worked.{stat, tells, to_host, to_server, wants_enter, wants_root, welcome, welcomes}
 use Rattle.run_rules.specs.declared.step.Step.{Step}
 use Rattle.tree_calls.specs.declared.reply.Reply.TheVariants.{Refused}
 use Rattle.run_rules.specs.ServerApplies.{ServerApplies, by_cause, decisions, is_decision}
@@ -45,7 +43,6 @@ use Rattle.run_rules.specs.declared.applied.Request.{Request}
 use Rattle.run_rules.specs.declared.applied.Request.TheVariants.{Fetch as Asks, Change as Changes}
 use Rattle.run_rules.specs.declared.applied.Wanted.{Wanted}
 use Rattle.run_rules.specs.declared.applied.Written.{Written}
-use Rattle.token_types.specs.declared.token.Kind.TheVariants.{Bytes, Status}
 use Rattle.tree_laws.specs.Parts.Part.{ByteAt, Size, Traits, Entries}
 use Rattle.run_rules.specs.Places.{home}
 use Rattle.tree_answers.specs.declared.tree.Tree.{Tree}
