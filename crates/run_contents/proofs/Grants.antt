@@ -20,9 +20,10 @@ use Rattle.run_rules.specs.Kept.{kept, kept_after, kept_through}
 use Rattle.run_rules.specs.ServerAnswers.{TakenNow}
 use Rattle.run_rules.specs.ServerApplies.{by_cause, decisions}
 use Rattle.run_rules.specs.ServerDecides.{MayDecide, MayDecideAll}
-use Rattle.run_rules.specs.ServerRules.{ServerMeets}
+use Rattle.run_rules.specs.ServerRules.{ServerMay}
 use Rattle.run_rules.specs.ServerSends.{MaySend, GrantsSo}
 use Rattle.run_rules.specs.Wants.{Waits, body_of}
+use Rattle.run_contents.proofs.Words.{one_needed}
 use Rattle.run_tokens.proofs.Words.{acts_after, if_server}
 use Rattle.run_rules.specs.Acts.{admitting, deciding, sending, Act, acts, admitted_by, after_cause, after_step}
 use Rattle.run_rules.specs.Acts.{epoch, sent_by, written_by}
@@ -147,7 +148,7 @@ module _ (v : ServerId) (before : List Act) (s : Step) where
   decides (IsDown h ∷ xs) tree S may old heard = elim may.0 [ ]
 
 module _ (script : Script) (start : Tree) (v : ServerId) (steps : List Step) (S : List Act) (s : Step)
-    (m : ServerMeets script start v steps S s) (old : AllTaken S) where
+    (m : ServerMay script start v steps S s) (old : AllTaken S) where
   written : AllTaken (written_by s S)
   written =
       subst AllTaken (sym (same_decisions s.applied (after_cause s.cause S)))
@@ -174,7 +175,7 @@ module _ (script : Script) (start : Tree) (v : ServerId) (steps : List Step) (S 
     sym k.number,
     sym k.fid,
     λ t i. elim k.brings [
-      | inl b ↦ b.1.sound t i
+      | inl b ↦ one_needed k.fetch.needs g.bring.tokens b.1 t i
       | inr b ↦ elim (subst (In t) b.1.tokens i) [ ]
     ],
   )

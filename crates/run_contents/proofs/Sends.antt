@@ -37,6 +37,7 @@ use Rattle.token_types.specs.declared.token.Need.{Need}
 use Rattle.token_types.specs.declared.token.Token.{Token}
 use Rattle.tree_laws.specs.Parts.{Part}
 use Rattle.tree_laws.specs.Parts.Part.{ByteAt, Entries, Size, Traits}
+use Rattle.run_contents.proofs.Words.{one_needed}
 use Rattle.run_rules.specs.Runs.{IsRun, StepMeets, StepsMeet, firsts_of, past_of}
 use Rattle.run_rules.specs.declared.journal.Journal.{Journal}
 use Rattle.run_contents.specs.Laws.{DonesAreBlind, DonesShowNothing, EachSent, SentAtNode}
@@ -129,7 +130,8 @@ module _ (v : ServerId) (tree : Tree) (s : Step) where
     where
       by : SettledSo v tree S k.w k.change d → ⊥
       by (TakesToken uses accepted row can outcome needs) =
-          row_blind tree k.w.host k.change uses (need_of t) p (subst (In (need_of t)) row.0 (needs.sound t i)) cov
+          let asked = one_needed k.w.needs d.bring.tokens needs t i in
+          row_blind tree k.w.host k.change uses (need_of t) p (subst (In (need_of t)) row.0 asked) cov
       by (NamesOther uses accepted other ready outcome none) = no_tokens t d.bring.tokens none i
       by (IsEntered fileset place enters named known outcome none) = no_tokens t d.bring.tokens none i
 

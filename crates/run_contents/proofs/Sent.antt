@@ -34,6 +34,7 @@ use Rattle.run_rules.specs.Told.{told}
 use Rattle.run_parts.specs.Cells.Does.{Loses, Nothing, Sets, Stores}
 use Rattle.run_parts.specs.Contents.{AreAlike, Contents, HaveRoots, IsThere, ServerShows, kept, site}
 use Rattle.run_parts.specs.Deeds.{Deed, acts_in}
+use Rattle.run_contents.proofs.Words.{one_needed}
 use Rattle.run_contents.proofs.Alike.{filesets_are_alike}
 use Rattle.run_contents.proofs.Grants.{AllTaken}
 use Rattle.run_contents.proofs.Sends.{one_sent}
@@ -145,7 +146,7 @@ asked_for v tree S taken h n g k = (
   sym k.number,
   sym k.fid,
   λ t i. elim k.brings [
-    | inl b ↦ b.1.sound t i
+    | inl b ↦ one_needed k.fetch.needs g.bring.tokens b.1 t i
     | inr b ↦ elim (subst (In t) b.1.tokens i) [ ]
   ],
 )
@@ -212,7 +213,8 @@ module _ (c : Contents) (v : ServerId) (tree : Tree) (s : Step) (tells : (g : Gr
           where
             by : SettledSo v tree (acts_in D) k.w k.change d → Granted v (acts_in D) t ⊎ IsThere (kept c D t.fid Traits)
             by (TakesToken uses accepted row can outcome needs) =
-                inr (brought h e n d.bring t m i (of_row k.w k.change t at.keeps.formed row.0 (needs.sound t i)))
+                let asked = one_needed k.w.needs d.bring.tokens needs t i in
+                inr (brought h e n d.bring t m i (of_row k.w k.change t at.keeps.formed row.0 asked))
             by (NamesOther uses accepted other ready outcome none) = elim (subst (In t) none i) [ ]
             by (IsEntered fileset place enters named known outcome none) = elim (subst (In t) none i) [ ]
 

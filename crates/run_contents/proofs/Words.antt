@@ -1,6 +1,6 @@
 -- The journal's words and those of contents.
 use Rattle.std.proofs.Common.{◌≡◌, ℕ, ◌&&◌, ◌||◌, Bool, true, false, Option, Some, None, is_some, List, [], ◌∷◌, inl}
-use Rattle.std.proofs.Common.{inr, sym, ◌∙◌, ap, refl}
+use Rattle.std.proofs.Common.{inr, map, subst, sym, ◌∙◌, ap, refl}
 use Rattle.std.proofs.lemmas.Bool.{and_parts, false≢true}
 use Rattle.std.specs.List.{list_any}
 use Rattle.base_types.specs.Ids.{same_fid}
@@ -10,6 +10,9 @@ use Rattle.base_types.specs.declared.span.Span.{Span}
 use Rattle.need_host.specs.Shows.{shows, is_update}
 use Rattle.tree_answers.proofs.Followed.{same_fid_itself}
 use Rattle.message_types.specs.declared.giving.Give.{Give}
+use Rattle.token_types.specs.Conflicts.{need_of}
+use Rattle.token_types.specs.declared.token.Need.{Need}
+use Rattle.token_types.specs.declared.token.Token.{Token}
 use Rattle.token_types.specs.declared.token.Kind.{Kind}
 use Rattle.token_types.specs.declared.token.Kind.TheVariants.{Bytes, Status, Lock, Opening}
 use Rattle.tree_laws.proofs.Steps.{fid_is}
@@ -17,6 +20,7 @@ use Rattle.tree_laws.specs.Parts.Part.{ByteAt, Size}
 use Rattle.run_rules.specs.Dirty.{gives_at}
 use Rattle.run_rules.specs.Told.{byte_of}
 use Rattle.run_rules.specs.Lists.{In}
+use Rattle.run_rules.specs.ServerSends.{AreNeeds}
 use Rattle.run_rules.specs.declared.step.Step.{Step}
 
 -- one of a list
@@ -99,3 +103,13 @@ size_covers k e = ap (λ (z : Kind). shows z Size) e
 
 pub size_update : (k : Kind) → k ≡ Status true → is_update k ≡ true
 size_update k e = ap is_update e
+
+-- a token that answers a need is for one of those that were needed
+pub one_needed : (needs : List Need) (tokens : List Token) → AreNeeds needs tokens → (t : Token) → In t tokens
+    → In (need_of t) needs
+one_needed needs tokens are t i = subst (In (need_of t)) are (mapped tokens i)
+  where
+    mapped : (ts : List Token) → In t ts → In (need_of t) (map need_of ts)
+    mapped [] i = elim i [ ]
+    mapped (u ∷ ts) (inl e) = inl (ap need_of e)
+    mapped (u ∷ ts) (inr i) = inr (mapped ts i)

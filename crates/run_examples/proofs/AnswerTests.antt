@@ -18,6 +18,7 @@ use Rattle.run_examples.proofs.MayTests.{act_right, acts_right, may_act, may_all
 use Rattle.run_examples.proofs.SendTests.{TellsAll, all_decided, at_cause, decided_tests, decides_all, has_decided}
 use Rattle.run_examples.proofs.SendTests.{has_sent, send_words, sends_all, sends_right, sent_tests}
 use Rattle.run_examples.proofs.ServerChecks.{bye_only, gives_body, gives_gone, gives_number, gone_body, gone_only}
+use Rattle.run_examples.proofs.ServerChecks.{reclaimed_by}
 use Rattle.run_examples.proofs.ServerChecks.{is_gone, is_restart, is_taken, is_to, restart_cause, restarted_only}
 use Rattle.run_examples.proofs.ServerChecks.{sends_now, sends_to, tells_again, tells_restart}
 use Rattle.run_examples.proofs.ServerLists.{none_given, none_taken, quiet}
@@ -40,7 +41,7 @@ use Rattle.std.specs.Prelude.{not, slice_get}
 use Rattle.token_types.specs.declared.token.Token.{Token}
 use Rattle.run_rules.specs.Lines.{IsNextLine, lines_gone, lines_of}
 use Rattle.run_rules.specs.Kept.{kept, kept_through}
-use Rattle.run_rules.specs.ServerAnswers.{HeardNow, SentNow, ServerAnswers, TakenNow, empty}
+use Rattle.run_rules.specs.ServerAnswers.{HeardNow, OnlyAnswers, SentNow, ServerAnswers, TakenNow, empty}
 use Rattle.run_rules.specs.ServerApplies.{FirstDown, FirstGiven, ServerApplies, by_cause, decisions, ended_by}
 use Rattle.run_rules.specs.ServerApplies.{is_decision, stored_of}
 use Rattle.run_rules.specs.ServerRules.{ServerMeets}
@@ -79,6 +80,11 @@ answers_so past s m =
     ∷ implies (is_claim_body m.body) (admits_so past s m)
     ∷ []
 
+unfoldable pub reclaimed_only : List Act → Step → Message → Body → Bool
+reclaimed_only past s k (Reclaimed r) =
+    reclaimed_by past s.cause k || list_any (λ (c : Admission). same_host c.host k.host) s.admitted
+reclaimed_only past s k _ = true
+
 unfoldable pub answer_list : List Act → Step → List Bool
 answer_list past s =
     by_message true (λ m. passes (answers_so past s m)) s.cause
@@ -88,6 +94,7 @@ answer_list past s =
     ∷ list_all (restarted_only past s.cause) s.sent
     ∷ list_all (λ k. gone_only past s.cause k k.body) s.sent
     ∷ list_all (reclaimed past) (claimants past)
+    ∷ list_all (λ k. reclaimed_only past s k k.body) s.sent
     ∷ []
 
 unfoldable pub first_body : ServerId → List Act → Message → Body → Bool
@@ -128,7 +135,7 @@ step_tests server lines tree steps past s =
     ∷ is_none s.dropped
     ∷ all_decided server (kept_through s.cause (by_cause s.applied) tree) past (after_cause s.cause past) s
     (decisions s.applied)
-    ∷ passes (decided_tests server (kept_through s.cause s.applied tree) (written_by s past) s)
+    ∷ passes (decided_tests server (kept_through s.cause s.applied tree) past (written_by s past) s)
     ∷ sends_right server (kept_through s.cause s.applied tree) s (sending s.sent) (admitted_by s past)
     ∷ passes (sent_tests server past (after_step s past) s)
     ∷ []
@@ -136,7 +143,7 @@ step_tests server lines tree steps past s =
 unfoldable pub answer_words : ℕ
 unfolding send_words is_hello is_bye is_down is_restarted is_lapse is_to sends_to is_gone is_restart is_taken gives_gone
     gives_number gone_only bye_only restarted_only tells_restart tells_again no_asked is_empty is_claim_body admits_so answers_so
-    answer_list first_body is_restart_deed is_restart_line lines_right no_file step_tests
+    answer_list reclaimed_only reclaimed_by first_body is_restart_deed is_restart_line lines_right no_file step_tests
 answer_words = 0
 
 empty_body : (b : Body) → is_empty b ≡ true → b ≡ Reclaimed empty
@@ -169,88 +176,105 @@ module _ (server : ServerId) (past : List Act) (s : Step) where
   claim_from Evict c h n claim t first x = absurd (first (claims_before h n claim t x))
   claim_from End c h n claim t first x = absurd (first (claims_before h n claim t x))
 
-  pub all_answered : passes (answer_list past s) ≡ true → ServerAnswers server past s
+  pub all_answered : passes (answer_list past s) ≡ true → OnlyAnswers past s × ServerAnswers server past s
   unfolding answer_words
-  all_answered e = record {
-    hello_old = λ h (m, c, at, is) l old.
-        absurd (is_not (listed past m.host) (hello m c is).0 (listed_is past m.host (subst (Listed past) (sym at) l.0)));
-    hello = λ h (m, c, at, is) d l.
-        subst (λ y. SentNow s y (Reclaimed empty)) at (sends_now s m.host is_empty (Reclaimed empty) empty_body
-        (hello m c is).1);
-    bye = λ h (m, c, at, is) d l.
-        subst (λ y. SentNow s y Bye) at (sends_now s m.host is_bye Bye bye_body (so (is_bye m.body)
-        (sends_to s m.host is_bye) (parts m c).1.0 (subst (λ b. is_bye b ≡ true) (sym is) refl)));
-    bye_only = λ h (k, i, at, is).
-        let a = by_message false (λ m. is_bye m.body && same_host m.host k.host) s.cause in
-        let p = so (is_bye k.body) (a && not (down past k.host)) (at_all (bye_only past s.cause) s.sent k t.1.0 i)
-        (subst (λ b. is_bye b ≡ true) (sym is) refl) in
-        let q = and_parts a (not (down past k.host)) p in
-        let r = came_bye k.host s.cause refl q.0 in (
-          subst (λ y. HeardNow s y Bye) at r,
-          λ x. is_not (down past k.host) q.1 (down_is past k.host (subst (λ y. IsDown past y) (sym at) x)),
-        );
-    late = λ h m c at l other hello_ downs.
-        elim (or_cases (m.epoch == epoch past) (is_hello m.body || is_down m.body) (parts m c).1.1.0) [
-          | inl x ↦ absurd (other (eqb-true m.epoch (epoch past) x))
-          | inr x ↦ elim (or_cases (is_hello m.body) (is_down m.body) x) [
-            | inl y ↦ absurd (hello_ (hello_body m.body y))
-            | inr y ↦ absurd (downs (down_body m.body y))
-          ]
-        ];
-    restarted = λ line h c l.
-        let p = so (is_restart s.cause) (list_all (tells_restart past s) (heard past)) t.1.1.0 (subst
-        (λ x. is_restart x ≡ true) (sym c) refl) in
-        sends_now s h is_restarted Restarted restarted_body (so (live past h) (sends_to s h is_restarted) (at_all
-        (tells_restart past s) (heard past) h p (listed_heard past h l.0)) (live_is past h l));
-    restarted_again = λ h c l n.
-        let p = so (is_lapse s.cause) (list_all (tells_again past s) (heard past)) t.1.1.1.0 (subst
-        (λ x. is_lapse x ≡ true) (sym c) refl) in
-        sends_now s h is_restarted Restarted restarted_body (so (live past h && not (reclaimed past h))
-        (sends_to s h is_restarted) (at_all (tells_again past s) (heard past) h p (listed_heard past h l.0))
-        (and_from (live past h) (not (reclaimed past h)) (live_is past h l) (not_is (reclaimed past h) (λ e. n
-        (reclaimed_yes past h e)))));
-    restarted_only = λ h (k, i, at, is).
-        let a = is_restart s.cause || is_lapse s.cause in
-        let p = so (is_restarted k.body) (live past k.host && a) (at_all
-        (restarted_only past s.cause) s.sent k t.1.1.1.1.0 i) (subst (λ b. is_restarted b ≡ true) (sym is) refl) in
-        let q = and_parts (live past k.host) a p in (
-          subst (λ y. IsLive past y) at (live_yes past k.host q.0),
-          elim (or_cases (is_restart s.cause) (is_lapse s.cause) q.1) [
-            | inl x ↦ inr (inl (restart_cause s.cause x))
-            | inr x ↦ inr (inr (lapse_cause s.cause x))
-          ],
-        );
-    gone = λ h n g x at_.
-        let m = x.0.0 in
-        let p = so (is_taken past m) (gives_gone s m m.body) (parts m x.0.1).1.1.1.0 (taken h n (GiveBack g) x) in
-        let q : sends_to s m.host (is_gone (number_of g)) ≡ true = subst (λ b. gives_gone s m b ≡ true) x.0.5 p in
-        subst (λ y. SentNow s y (Gone (number_of g))) x.0.2 (sends_now s m.host (is_gone (number_of g)) (Gone
-        (number_of g)) (gone_body (number_of g)) q);
-    gone_only = λ h n (k, i, at, is).
-        let p = subst (λ b. gone_only past s.cause k b ≡ true) is (at_all
-        (λ k. gone_only past s.cause k k.body) s.sent k t.1.1.1.1.1.0 i) in
-        subst (λ y. (moves : ℕ) × (g : Give) × TakenNow past s y moves (GiveBack g) × (number_of g ≡ n)) at
-        (came_gift k.host n s.cause refl p);
-    claim_now = λ h n claim x first l all.
-        let f = claim_from s.cause refl h n claim t.1.1.1.1.1.1.0 first x in
-        let r = admits_ f.0 f.1 (subst (λ b. is_claim_body b ≡ true) (sym f.3) refl) in
-        let c = some_in (λ (c : Admission). same_host c.host f.0.host) s.admitted r.1 in (
-          (c.0, c.1, host_is c.0.host f.0.host c.2 ∙ f.2),
-          (
-            empty,
-            subst (λ y. SentNow s y (Reclaimed empty)) f.2 (sends_now s f.0.host is_empty (Reclaimed empty) empty_body r.2),
-            record {
-              applied = λ g y named. absurd (none_taken server (after_cause s.cause past) h g.fid.fileset g r.3 y);
-              applied_only = λ n m. elim m [ ];
-              left_out = λ u m given. absurd (none_given server (after_cause s.cause past) h u.id r.3 given);
-            },
-          ),
-        );
-    claim_again = λ h n claim x again.
-        let m = x.0.0 in
-        let r = admits_ m x.0.1 (subst (λ b. is_claim_body b ≡ true) (sym x.0.5) refl) in
-        absurd (is_not (reclaimed past m.host) r.0 (reclaimed_is past m.host (subst (HasReclaimed past) (sym x.0.2) again)));
-  }
+  all_answered e = (
+    record {
+      bye_only = λ h (k, i, at, is).
+          let a = by_message false (λ m. is_bye m.body && same_host m.host k.host) s.cause in
+          let p = so (is_bye k.body) (a && not (down past k.host)) (at_all (bye_only past s.cause) s.sent k t.1.0 i)
+          (subst (λ b. is_bye b ≡ true) (sym is) refl) in
+          let q = and_parts a (not (down past k.host)) p in
+          let r = came_bye k.host s.cause refl q.0 in (
+            subst (λ y. HeardNow s y Bye) at r,
+            λ x. is_not (down past k.host) q.1 (down_is past k.host (subst (λ y. IsDown past y) (sym at) x)),
+          );
+      reclaimed_only = λ h r (k, i, at, is).
+          let a = by_message false (λ m. is_hello m.body && same_host m.host k.host) s.cause in
+          let b = list_any (λ (c : Admission). same_host c.host k.host) s.admitted in
+          let p = subst (λ b. reclaimed_only past s k b ≡ true) is (at_all
+          (λ k. reclaimed_only past s k k.body) s.sent k t.1.1.1.1.1.1.1.0 i) in
+          elim (or_cases (a && not (down past k.host)) b p) [
+            | inl x ↦ (let q = and_parts a (not (down past k.host)) x in inl (
+              subst (λ y. HeardNow s y Hello) at (came_hello k.host s.cause refl q.0),
+              λ z. is_not (down past k.host) q.1 (down_is past k.host (subst (λ y. IsDown past y) (sym at) z)),
+            ))
+            | inr x ↦ (let c = some_in (λ (c : Admission). same_host c.host k.host) s.admitted x in
+                inr (inl (c.0, c.1, host_is c.0.host k.host c.2 ∙ at)))
+          ];
+    },
+    record {
+      hello_old = λ h (m, c, at, is) l old.
+          absurd (is_not (listed past m.host) (hello m c is).0 (listed_is past m.host (subst (Listed past) (sym at) l.0)));
+      hello = λ h (m, c, at, is) d l.
+          subst (λ y. SentNow s y (Reclaimed empty)) at (sends_now s m.host is_empty (Reclaimed empty) empty_body
+          (hello m c is).1);
+      bye = λ h (m, c, at, is) d l.
+          subst (λ y. SentNow s y Bye) at (sends_now s m.host is_bye Bye bye_body (so (is_bye m.body)
+          (sends_to s m.host is_bye) (parts m c).1.0 (subst (λ b. is_bye b ≡ true) (sym is) refl)));
+      late = λ h m c at l other hello_ downs.
+          elim (or_cases (m.epoch == epoch past) (is_hello m.body || is_down m.body) (parts m c).1.1.0) [
+            | inl x ↦ absurd (other (eqb-true m.epoch (epoch past) x))
+            | inr x ↦ elim (or_cases (is_hello m.body) (is_down m.body) x) [
+              | inl y ↦ absurd (hello_ (hello_body m.body y))
+              | inr y ↦ absurd (downs (down_body m.body y))
+            ]
+          ];
+      restarted = λ line h c l.
+          let p = so (is_restart s.cause) (list_all (tells_restart past s) (heard past)) t.1.1.0 (subst
+          (λ x. is_restart x ≡ true) (sym c) refl) in
+          sends_now s h is_restarted Restarted restarted_body (so (live past h) (sends_to s h is_restarted) (at_all
+          (tells_restart past s) (heard past) h p (listed_heard past h l.0)) (live_is past h l));
+      restarted_again = λ h c l n.
+          let p = so (is_lapse s.cause) (list_all (tells_again past s) (heard past)) t.1.1.1.0 (subst
+          (λ x. is_lapse x ≡ true) (sym c) refl) in
+          sends_now s h is_restarted Restarted restarted_body (so (live past h && not (reclaimed past h))
+          (sends_to s h is_restarted) (at_all (tells_again past s) (heard past) h p (listed_heard past h l.0))
+          (and_from (live past h) (not (reclaimed past h)) (live_is past h l) (not_is (reclaimed past h) (λ e. n
+          (reclaimed_yes past h e)))));
+      restarted_only = λ h (k, i, at, is).
+          let a = is_restart s.cause || is_lapse s.cause in
+          let p = so (is_restarted k.body) (live past k.host && a) (at_all
+          (restarted_only past s.cause) s.sent k t.1.1.1.1.0 i) (subst (λ b. is_restarted b ≡ true) (sym is) refl) in
+          let q = and_parts (live past k.host) a p in (
+            subst (λ y. IsLive past y) at (live_yes past k.host q.0),
+            elim (or_cases (is_restart s.cause) (is_lapse s.cause) q.1) [
+              | inl x ↦ inr (inl (restart_cause s.cause x))
+              | inr x ↦ inr (inr (lapse_cause s.cause x))
+            ],
+          );
+      gone = λ h n g x at_.
+          let m = x.0.0 in
+          let p = so (is_taken past m) (gives_gone s m m.body) (parts m x.0.1).1.1.1.0 (taken h n (GiveBack g) x) in
+          let q : sends_to s m.host (is_gone (number_of g)) ≡ true = subst (λ b. gives_gone s m b ≡ true) x.0.5 p in
+          subst (λ y. SentNow s y (Gone (number_of g))) x.0.2 (sends_now s m.host (is_gone (number_of g)) (Gone
+          (number_of g)) (gone_body (number_of g)) q);
+      gone_only = λ h n (k, i, at, is).
+          let p = subst (λ b. gone_only past s.cause k b ≡ true) is (at_all
+          (λ k. gone_only past s.cause k k.body) s.sent k t.1.1.1.1.1.0 i) in
+          subst (λ y. (moves : ℕ) × (g : Give) × TakenNow past s y moves (GiveBack g) × (number_of g ≡ n)) at
+          (came_gift k.host n s.cause refl p);
+      claim_now = λ h n claim x first l all.
+          let f = claim_from s.cause refl h n claim t.1.1.1.1.1.1.0 first x in
+          let r = admits_ f.0 f.1 (subst (λ b. is_claim_body b ≡ true) (sym f.3) refl) in
+          let c = some_in (λ (c : Admission). same_host c.host f.0.host) s.admitted r.1 in (
+            (c.0, c.1, host_is c.0.host f.0.host c.2 ∙ f.2),
+            (
+              empty,
+              subst (λ y. SentNow s y (Reclaimed empty)) f.2 (sends_now s f.0.host is_empty (Reclaimed empty) empty_body r.2),
+              record {
+                applied = λ g y named. absurd (none_taken server (after_cause s.cause past) h g.fid.fileset g r.3 y);
+                applied_only = λ n m. elim m [ ];
+                left_out = λ u m given. absurd (none_given server (after_cause s.cause past) h u.id r.3 given);
+              },
+            ),
+          );
+      claim_again = λ h n claim x again.
+          let m = x.0.0 in
+          let r = admits_ m x.0.1 (subst (λ b. is_claim_body b ≡ true) (sym x.0.5) refl) in
+          absurd (is_not (reclaimed past m.host) r.0 (reclaimed_is past m.host (subst (HasReclaimed past) (sym x.0.2) again)));
+    },
+  )
     where
       t : AllTrue (answer_list past s)
       t = all_true (answer_list past s) e
@@ -293,6 +317,13 @@ module _ (server : ServerId) (past : List Act) (s : Step) where
           let p = and_parts (is_bye m.body) (same_host m.host h) x in
           (m, c, host_is m.host h p.1, bye_body m.body p.0)
       came_bye h cause c x = absurd (cc)
+
+      came_hello : (h : HostId) (cause : Cause) → s.cause ≡ cause → by_message false
+          (λ m. is_hello m.body && same_host m.host h) cause ≡ true → HeardNow s h Hello
+      came_hello h (Came m) c x =
+          let p = and_parts (is_hello m.body) (same_host m.host h) x in
+          (m, c, host_is m.host h p.1, hello_body m.body p.0)
+      came_hello h cause c x = absurd (cc)
 
       as_live : (m : Message) → is_taken past m ≡ true → (live past m.host && (m.epoch == epoch past)) ≡ true
       as_live m x = x
@@ -411,37 +442,45 @@ step_meets script start server steps past s applies_ tells e =
     let t = all_true (step_tests server lines tree steps past s) e in
     let u = t.1.1.1.1.1.1.1 in
     let v = u.1.1.1.1.1.1.1.1 in
+    let said = all_answered server past s t.0 in
     record {
-      tokens = record {
-        writes = may_all server (deciding s.applied) (after_cause s.cause past) t.1.0;
-        admits = may_all server (admitting s.admitted) (written_by s past) t.1.1.0;
-        sends = may_all server (sending s.sent) (admitted_by s past) t.1.1.1.0;
-        reserves = may_act server (sent_by s past) (Reserves s.reserved) (none_right s.reserved t.1.1.1.1.0);
+      may = record {
+        tokens = record {
+          writes = may_all server (deciding s.applied) (after_cause s.cause past) t.1.0;
+          admits = may_all server (admitting s.admitted) (written_by s past) t.1.1.0;
+          sends = may_all server (sending s.sent) (admitted_by s past) t.1.1.1.0;
+          reserves = may_act server (sent_by s past) (Reserves s.reserved) (none_right s.reserved t.1.1.1.1.0);
+        };
+        no_host = record {
+          causes = (
+            λ c. not_evict lines (subst (λ c. lines_right lines steps c ≡ true) c u.0),
+            λ c. not_end lines (subst (λ c. lines_right lines steps c ≡ true) c u.0),
+          );
+          does_none = (
+            not_asked s.asked u.1.0,
+            none_is s.taken u.1.1.0,
+            none_is s.answers u.1.1.1.0,
+            no_file_is s.wrote u.1.1.1.1.0,
+            none_is s.begun u.1.1.1.1.1.0,
+            none_is s.made u.1.1.1.1.1.1.0,
+            none_is s.dropped u.1.1.1.1.1.1.1.0,
+          );
+        };
+        answers = said.0;
+        works = record {
+          applies = all_applied server tree past s applies_ t.1.1.1.1.1.0 t.1.1.1.1.1.1.0 t.1.1.1.1.0;
+          decides = decides_all server (kept_through s.cause (by_cause s.applied) tree) past (after_cause s.cause past)
+              s (decisions s.applied) v.0;
+          sends = sends_all server now s s.sent (admitted_by s past) tells v.1.1.0;
+        };
       };
-      lines = record {
-        bare = λ n c. absurd (not_line lines n (subst (λ c. lines_right lines steps c ≡ true) c u.0));
-        restarts = λ n c. restart_at lines n (subst (λ c. lines_right lines steps c ≡ true) c u.0);
-        no_host = (
-          λ c. not_evict lines (subst (λ c. lines_right lines steps c ≡ true) c u.0),
-          λ c. not_end lines (subst (λ c. lines_right lines steps c ≡ true) c u.0),
-        );
-        does_none = (
-          not_asked s.asked u.1.0,
-          none_is s.taken u.1.1.0,
-          none_is s.answers u.1.1.1.0,
-          no_file_is s.wrote u.1.1.1.1.0,
-          none_is s.begun u.1.1.1.1.1.0,
-          none_is s.made u.1.1.1.1.1.1.0,
-          none_is s.dropped u.1.1.1.1.1.1.1.0,
-        );
-      };
-      answers = all_answered server past s t.0;
-      works = record {
-        applies = all_applied server tree past s applies_ t.1.1.1.1.1.0 t.1.1.1.1.1.1.0 t.1.1.1.1.0;
-        decides = decides_all server (kept_through s.cause (by_cause s.applied) tree) past (after_cause s.cause past) s
-            (decisions s.applied) v.0;
+      due = record {
+        lines = record {
+          bare = λ n c. absurd (not_line lines n (subst (λ c. lines_right lines steps c ≡ true) c u.0));
+          restarts = λ n c. restart_at lines n (subst (λ c. lines_right lines steps c ≡ true) c u.0);
+        };
+        answers = said.1;
         decided = has_decided server now past (written_by s past) s v.1.0;
-        sends = sends_all server now s s.sent (admitted_by s past) tells v.1.1.0;
         sent = has_sent server now past (after_step s past) s v.1.1.1.0;
       };
     }

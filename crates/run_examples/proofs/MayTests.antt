@@ -59,7 +59,7 @@ bring_tests server past h n w =
     over past
     ∷ live past h
     ∷ here server w.fid.fileset n
-    ∷ told_below w.fid w.stamp past
+    ∷ (nat_lt 0 w.stamp && told_below w.fid w.stamp past)
     ∷ list_all (is_token_of server (epoch past) h w.fid) w.tokens
     ∷ list_all (λ t. list_all (is_newer (epoch past) t) (brought_ever past)) w.tokens
     ∷ apart same_token_id w.tokens
@@ -150,7 +150,9 @@ brings_from server past h n w (over_, (live_, (here_, (told_, (of_, (new_, (apar
   over = over_yes past over_;
   live = live_yes past h live_;
   home = here_yes server past w.fid.fileset n here_;
-  stamp = λ x t. told_is w.fid w.stamp past x told_ t;
+  stamp =
+      let p = and_parts (nat_lt 0 w.stamp) (told_below w.fid w.stamp past) told_ in
+      (ltb-true 0 w.stamp p.0, λ x t. told_is w.fid w.stamp past x p.1 t);
   host_is = λ t m. host_is t.host h (its t m).0;
   file = λ t m. fid_is t.fid w.fid (its t m).1;
   id = λ t m. server_is t.id.server server (its t m).2;

@@ -55,7 +55,7 @@ run_1 = (tt, ((meets_1, by_itself client until_0 step_1 refl), flags until_0 ste
 
 pub run_2 : StepsMeet script start firsts until_2
 unfolding no_message is_await said
-run_2 = (run_1, ((meets_2, to_the_server until_1 step_2 0 (message step_2) refl refl refl refl), flags until_1 step_2 refl refl, inl refl, are_sound (Server site_one) step_2.sent sound_2))
+run_2 = (run_1, ((meets_2.may, to_the_server until_1 step_2 0 (message step_2) refl refl refl refl), flags until_1 step_2 refl refl, inl refl, are_sound (Server site_one) step_2.sent sound_2))
 
 pub run_3 : StepsMeet script start firsts until_3
 unfolding no_message is_await said
@@ -63,7 +63,7 @@ run_3 = (run_2, ((meets_3, to_a_host client until_2 step_3 1 (message step_3) re
 
 pub run_4 : StepsMeet script start firsts until_4
 unfolding no_message is_await said
-run_4 = (run_3, ((meets_4, to_the_server until_3 step_4 0 (message step_4) refl refl refl refl), flags until_3 step_4 refl refl, inl refl, are_sound (Server site_one) step_4.sent sound_4))
+run_4 = (run_3, ((meets_4.may, to_the_server until_3 step_4 0 (message step_4) refl refl refl refl), flags until_3 step_4 refl refl, inl refl, are_sound (Server site_one) step_4.sent sound_4))
 
 pub run_5 : StepsMeet script start firsts until_5
 unfolding no_message is_await said
@@ -71,7 +71,7 @@ run_5 = (run_4, ((meets_5, to_a_host client until_4 step_5 1 (message step_5) re
 
 pub run_6 : StepsMeet script start firsts until_6
 unfolding no_message is_await said
-run_6 = (run_5, ((meets_6, to_the_server until_5 step_6 0 (message step_6) refl refl refl refl), flags until_5 step_6 refl refl, inl refl, are_sound (Server site_one) step_6.sent sound_6))
+run_6 = (run_5, ((meets_6.may, to_the_server until_5 step_6 0 (message step_6) refl refl refl refl), flags until_5 step_6 refl refl, inl refl, are_sound (Server site_one) step_6.sent sound_6))
 
 pub run_7 : StepsMeet script start firsts until_7
 unfolding no_message is_await said
@@ -79,7 +79,7 @@ run_7 = (run_6, ((meets_7, to_a_host client until_6 step_7 1 (message step_7) re
 
 pub run_8 : StepsMeet script start firsts until_8
 unfolding no_message is_await said
-run_8 = (run_7, ((meets_8, to_the_server until_7 step_8 0 (message step_8) refl refl refl refl), flags until_7 step_8 refl refl, inl refl, are_sound (Server site_one) step_8.sent sound_8))
+run_8 = (run_7, ((meets_8.may, to_the_server until_7 step_8 0 (message step_8) refl refl refl refl), flags until_7 step_8 refl refl, inl refl, are_sound (Server site_one) step_8.sent sound_8))
 
 pub run_9 : StepsMeet script start firsts until_9
 unfolding no_message is_await said
@@ -87,7 +87,7 @@ run_9 = (run_8, ((meets_9, to_a_host client until_8 step_9 1 (message step_9) re
 
 pub run_10 : StepsMeet script start firsts until_10
 unfolding no_message is_await said
-run_10 = (run_9, ((meets_10, to_the_server until_9 step_10 0 (message step_10) refl refl refl refl), flags until_9 step_10 refl refl, inl refl, are_sound (Server site_one) step_10.sent sound_10))
+run_10 = (run_9, ((meets_10.may, to_the_server until_9 step_10 0 (message step_10) refl refl refl refl), flags until_9 step_10 refl refl, inl refl, are_sound (Server site_one) step_10.sent sound_10))
 
 pub run_11 : StepsMeet script start firsts until_11
 unfolding no_message is_await said
@@ -99,7 +99,7 @@ run_12 = (run_11, ((meets_12, by_itself client until_11 step_12 refl), flags unt
 
 pub run_13 : StepsMeet script start firsts until_13
 unfolding no_message is_await said
-run_13 = (run_12, ((meets_13, itself_too until_12 step_13 refl), flags until_12 step_13 refl refl, inl refl, are_sound (Server site_one) step_13.sent sound_13))
+run_13 = (run_12, ((meets_13.may, itself_too until_12 step_13 refl), flags until_12 step_13 refl refl, inl refl, are_sound (Server site_one) step_13.sent sound_13))
 
 pub run_14 : StepsMeet script start firsts until_14
 unfolding no_message is_await said
@@ -107,7 +107,7 @@ run_14 = (run_13, ((meets_14, to_a_host client until_13 step_14 1 (message step_
 
 pub run_15 : StepsMeet script start firsts until_15
 unfolding no_message is_await said
-run_15 = (run_14, ((meets_15, to_the_server until_14 step_15 0 (message step_15) refl refl refl refl), flags until_14 step_15 refl refl, inl refl, are_sound (Server site_one) step_15.sent sound_15))
+run_15 = (run_14, ((meets_15.may, to_the_server until_14 step_15 0 (message step_15) refl refl refl refl), flags until_14 step_15 refl refl, inl refl, are_sound (Server site_one) step_15.sent sound_15))
 
 pub run_16 : StepsMeet script start firsts until_16
 unfolding no_message is_await said
@@ -119,7 +119,7 @@ run_17 = (run_16, ((meets_17, by_itself client until_16 step_17 refl), flags unt
 
 pub run_18 : StepsMeet script start firsts until_18
 unfolding no_message is_await said
-run_18 = (run_17, ((meets_18, to_the_server until_17 step_18 0 (message step_18) refl refl refl refl), flags until_17 step_18 refl refl, inl refl, are_sound (Server site_one) step_18.sent sound_18))
+run_18 = (run_17, ((meets_18.may, to_the_server until_17 step_18 0 (message step_18) refl refl refl refl), flags until_17 step_18 refl refl, inl refl, are_sound (Server site_one) step_18.sent sound_18))
 
 pub run_19 : StepsMeet script start firsts until_19
 unfolding no_message is_await said
@@ -131,7 +131,7 @@ run_20 = (run_19, ((meets_20, by_itself other until_19 step_20 refl), flags unti
 
 pub run_21 : StepsMeet script start firsts until_21
 unfolding no_message is_await said
-run_21 = (run_20, ((meets_21, to_the_server until_20 step_21 0 (message step_21) refl refl refl refl), flags until_20 step_21 refl refl, inl refl, are_sound (Server site_one) step_21.sent sound_21))
+run_21 = (run_20, ((meets_21.may, to_the_server until_20 step_21 0 (message step_21) refl refl refl refl), flags until_20 step_21 refl refl, inl refl, are_sound (Server site_one) step_21.sent sound_21))
 
 pub run_22 : StepsMeet script start firsts until_22
 unfolding no_message is_await said
@@ -139,7 +139,7 @@ run_22 = (run_21, ((meets_22, to_a_host other until_21 step_22 1 (message step_2
 
 pub run_23 : StepsMeet script start firsts until_23
 unfolding no_message is_await said
-run_23 = (run_22, ((meets_23, to_the_server until_22 step_23 0 (message step_23) refl refl refl refl), flags until_22 step_23 refl refl, inl refl, are_sound (Server site_one) step_23.sent sound_23))
+run_23 = (run_22, ((meets_23.may, to_the_server until_22 step_23 0 (message step_23) refl refl refl refl), flags until_22 step_23 refl refl, inl refl, are_sound (Server site_one) step_23.sent sound_23))
 
 pub run_24 : StepsMeet script start firsts until_24
 unfolding no_message is_await said
@@ -147,7 +147,7 @@ run_24 = (run_23, ((meets_24, to_a_host other until_23 step_24 1 (message step_2
 
 pub run_25 : StepsMeet script start firsts until_25
 unfolding no_message is_await said
-run_25 = (run_24, ((meets_25, to_the_server until_24 step_25 0 (message step_25) refl refl refl refl), flags until_24 step_25 refl refl, inl refl, are_sound (Server site_one) step_25.sent sound_25))
+run_25 = (run_24, ((meets_25.may, to_the_server until_24 step_25 0 (message step_25) refl refl refl refl), flags until_24 step_25 refl refl, inl refl, are_sound (Server site_one) step_25.sent sound_25))
 
 pub run_26 : StepsMeet script start firsts until_26
 unfolding no_message is_await said
@@ -155,7 +155,7 @@ run_26 = (run_25, ((meets_26, to_a_host other until_25 step_26 1 (message step_2
 
 pub run_27 : StepsMeet script start firsts until_27
 unfolding no_message is_await said
-run_27 = (run_26, ((meets_27, to_the_server until_26 step_27 0 (message step_27) refl refl refl refl), flags until_26 step_27 refl refl, inl refl, are_sound (Server site_one) step_27.sent sound_27))
+run_27 = (run_26, ((meets_27.may, to_the_server until_26 step_27 0 (message step_27) refl refl refl refl), flags until_26 step_27 refl refl, inl refl, are_sound (Server site_one) step_27.sent sound_27))
 
 pub run_28 : StepsMeet script start firsts until_28
 unfolding no_message is_await said
@@ -163,7 +163,7 @@ run_28 = (run_27, ((meets_28, to_a_host client until_27 step_28 1 (message step_
 
 pub run_29 : StepsMeet script start firsts until_29
 unfolding no_message is_await said
-run_29 = (run_28, ((meets_29, to_the_server until_28 step_29 0 (message step_29) refl refl refl refl), flags until_28 step_29 refl refl, inl refl, are_sound (Server site_one) step_29.sent sound_29))
+run_29 = (run_28, ((meets_29.may, to_the_server until_28 step_29 0 (message step_29) refl refl refl refl), flags until_28 step_29 refl refl, inl refl, are_sound (Server site_one) step_29.sent sound_29))
 
 pub run_30 : StepsMeet script start firsts until_30
 unfolding no_message is_await said
@@ -175,7 +175,7 @@ run_31 = (run_30, ((meets_31, to_a_host other until_30 step_31 1 (message step_3
 
 pub run_32 : StepsMeet script start firsts until_32
 unfolding no_message is_await said
-run_32 = (run_31, ((meets_32, to_the_server until_31 step_32 0 (message step_32) refl refl refl refl), flags until_31 step_32 refl refl, inl refl, are_sound (Server site_one) step_32.sent sound_32))
+run_32 = (run_31, ((meets_32.may, to_the_server until_31 step_32 0 (message step_32) refl refl refl refl), flags until_31 step_32 refl refl, inl refl, are_sound (Server site_one) step_32.sent sound_32))
 
 pub run_33 : StepsMeet script start firsts until_33
 unfolding no_message is_await said
@@ -183,7 +183,7 @@ run_33 = (run_32, ((meets_33, to_a_host client until_32 step_33 1 (message step_
 
 pub run_34 : StepsMeet script start firsts until_34
 unfolding no_message is_await said
-run_34 = (run_33, ((meets_34, to_the_server until_33 step_34 0 (message step_34) refl refl refl refl), flags until_33 step_34 refl refl, inl refl, are_sound (Server site_one) step_34.sent sound_34))
+run_34 = (run_33, ((meets_34.may, to_the_server until_33 step_34 0 (message step_34) refl refl refl refl), flags until_33 step_34 refl refl, inl refl, are_sound (Server site_one) step_34.sent sound_34))
 
 pub run_35 : StepsMeet script start firsts until_35
 unfolding no_message is_await said
@@ -195,7 +195,7 @@ run_36 = (run_35, ((meets_36, by_itself client until_35 step_36 refl), flags unt
 
 pub run_37 : StepsMeet script start firsts until_37
 unfolding no_message is_await said
-run_37 = (run_36, ((meets_37, to_the_server until_36 step_37 0 (message step_37) refl refl refl refl), flags until_36 step_37 refl refl, inl refl, are_sound (Server site_one) step_37.sent sound_37))
+run_37 = (run_36, ((meets_37.may, to_the_server until_36 step_37 0 (message step_37) refl refl refl refl), flags until_36 step_37 refl refl, inl refl, are_sound (Server site_one) step_37.sent sound_37))
 
 pub run_38 : StepsMeet script start firsts until_38
 unfolding no_message is_await said
@@ -207,11 +207,11 @@ run_39 = (run_38, ((meets_39, by_itself other until_38 step_39 refl), flags unti
 
 pub run_40 : StepsMeet script start firsts until_40
 unfolding no_message is_await said
-run_40 = (run_39, ((meets_40, to_the_server until_39 step_40 0 (message step_40) refl refl refl refl), flags until_39 step_40 refl refl, inl refl, are_sound (Server site_one) step_40.sent sound_40))
+run_40 = (run_39, ((meets_40.may, to_the_server until_39 step_40 0 (message step_40) refl refl refl refl), flags until_39 step_40 refl refl, inl refl, are_sound (Server site_one) step_40.sent sound_40))
 
 pub run_41 : StepsMeet script start firsts until_41
 unfolding no_message is_await said
-run_41 = (run_40, ((meets_41, to_the_server until_40 step_41 1 (message step_41) refl refl refl refl), flags until_40 step_41 refl refl, inl refl, are_sound (Server site_one) step_41.sent sound_41))
+run_41 = (run_40, ((meets_41.may, to_the_server until_40 step_41 1 (message step_41) refl refl refl refl), flags until_40 step_41 refl refl, inl refl, are_sound (Server site_one) step_41.sent sound_41))
 
 pub run_42 : StepsMeet script start firsts until_42
 unfolding no_message is_await said
@@ -219,7 +219,7 @@ run_42 = (run_41, ((meets_42, by_itself other until_41 step_42 refl), flags unti
 
 pub run_43 : StepsMeet script start firsts until_43
 unfolding no_message is_await said
-run_43 = (run_42, ((meets_43, to_the_server until_42 step_43 0 (message step_43) refl refl refl refl), flags until_42 step_43 refl refl, inl refl, are_sound (Server site_one) step_43.sent sound_43))
+run_43 = (run_42, ((meets_43.may, to_the_server until_42 step_43 0 (message step_43) refl refl refl refl), flags until_42 step_43 refl refl, inl refl, are_sound (Server site_one) step_43.sent sound_43))
 
 pub run_44 : StepsMeet script start firsts until_44
 unfolding no_message is_await said
@@ -231,15 +231,15 @@ run_45 = (run_44, ((meets_45, by_itself client until_44 step_45 refl), flags unt
 
 pub run_46 : StepsMeet script start firsts until_46
 unfolding no_message is_await said
-run_46 = (run_45, ((meets_46, to_the_server until_45 step_46 0 (message step_46) refl refl refl refl), flags until_45 step_46 refl refl, inl refl, are_sound (Server site_one) step_46.sent sound_46))
+run_46 = (run_45, ((meets_46.may, to_the_server until_45 step_46 0 (message step_46) refl refl refl refl), flags until_45 step_46 refl refl, inl refl, are_sound (Server site_one) step_46.sent sound_46))
 
 pub run_47 : StepsMeet script start firsts until_47
 unfolding no_message is_await said
-run_47 = (run_46, ((meets_47, to_the_server until_46 step_47 1 (message step_47) refl refl refl refl), flags until_46 step_47 refl refl, inl refl, are_sound (Server site_one) step_47.sent sound_47))
+run_47 = (run_46, ((meets_47.may, to_the_server until_46 step_47 1 (message step_47) refl refl refl refl), flags until_46 step_47 refl refl, inl refl, are_sound (Server site_one) step_47.sent sound_47))
 
 pub run_48 : StepsMeet script start firsts until_48
 unfolding no_message is_await said
-run_48 = (run_47, ((meets_48, to_the_server until_47 step_48 2 (message step_48) refl refl refl refl), flags until_47 step_48 refl refl, inl refl, are_sound (Server site_one) step_48.sent sound_48))
+run_48 = (run_47, ((meets_48.may, to_the_server until_47 step_48 2 (message step_48) refl refl refl refl), flags until_47 step_48 refl refl, inl refl, are_sound (Server site_one) step_48.sent sound_48))
 
 pub run_49 : StepsMeet script start firsts until_49
 unfolding no_message is_await said
@@ -251,7 +251,7 @@ run_50 = (run_49, ((meets_50, by_itself client until_49 step_50 refl), flags unt
 
 pub run_51 : StepsMeet script start firsts until_51
 unfolding no_message is_await said
-run_51 = (run_50, ((meets_51, to_the_server until_50 step_51 0 (message step_51) refl refl refl refl), flags until_50 step_51 refl refl, inl refl, are_sound (Server site_one) step_51.sent sound_51))
+run_51 = (run_50, ((meets_51.may, to_the_server until_50 step_51 0 (message step_51) refl refl refl refl), flags until_50 step_51 refl refl, inl refl, are_sound (Server site_one) step_51.sent sound_51))
 
 pub run_52 : StepsMeet script start firsts until_52
 unfolding no_message is_await said

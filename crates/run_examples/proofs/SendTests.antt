@@ -34,15 +34,17 @@ use Rattle.run_examples.proofs.ServerLists.{asked_is, granted, granted_is, grant
 use Rattle.run_examples.proofs.ServerLists.{pinned_yes, queue, queue_is, queue_yes, revoked, revoked_is, revoked_yes}
 use Rattle.run_examples.proofs.ServerLists.{same_asked, tokens_in}
 use Rattle.run_examples.proofs.ServerWords.{here, here_yes, live, live_yes}
-use Rattle.run_examples.proofs.Tests.{AllTrue, all_true, any_of, at_all, bool_is, fid_is, fileset_is, filesets}
-use Rattle.run_examples.proofs.Tests.{host_is, hosts, id_is, implies, is_none, is_not, list_is, none_is, passes}
+use Rattle.run_examples.proofs.StanceChecks.{once_from}
+use Rattle.run_examples.proofs.Tests.{AllTrue, all_true, any_of, apart, at_all, bool_is, fid_is, fileset_is, filesets}
+use Rattle.run_examples.proofs.Tests.{host_is, hosts, id_is, implies, is_none, is_not, list_is, none_is, not_is}
+use Rattle.run_examples.proofs.Tests.{only_one, passes, token_is}
 use Rattle.run_examples.proofs.Tests.{same_bool, same_fileset, same_host, same_list, same_token, so, some_in}
 use Rattle.run_examples.proofs.Words.{by_message}
 use Rattle.run_examples.specs.Laws.{writing}
 use Rattle.run_examples.specs.Steps.{label, needs}
-use Rattle.std.proofs.Common.{Bool, Err, List, None, Ok, Option, Result, Some, [], ap, arith, false, inl, inr, refl}
-use Rattle.std.proofs.Common.{subst, sym, true, ℕ, ◌&&◌, ◌==◌, ◌||◌, ◌∙◌, ◌∷◌, ◌≡◌, ◌≤◌}
-use Rattle.std.proofs.lemmas.Bool.{and_from, and_parts, eqb-true, leb-true, or_cases}
+use Rattle.std.proofs.Common.{Bool, Err, List, None, Ok, Option, Result, Some, [], ap, arith, false, inl, inr, is_some}
+use Rattle.std.proofs.Common.{map, refl, subst, sym, true, ℕ, ◌&&◌, ◌==◌, ◌||◌, ◌∙◌, ◌∷◌, ◌≡◌, ◌≤◌}
+use Rattle.std.proofs.lemmas.Bool.{and_from, and_parts, eq-eqb, eqb-true, leb-true, or_cases}
 use Rattle.std.specs.List.{list_all, list_any}
 use Rattle.std.specs.Prelude.{nat_le, not, ◌⊎◌}
 use Rattle.token_types.specs.Conflicts.{blocks, need_of, same_id, wants_conflict}
@@ -51,19 +53,22 @@ use Rattle.token_types.specs.declared.token.Token.{Token}
 use Rattle.token_types.specs.declared.token.TokenId.{TokenId}
 use Rattle.tree_laws.specs.Parts.{cell_at}
 use Rattle.tree_laws.specs.Parts.Part.{Traits}
+use Rattle.run_rules.specs.Ends.{kind_of}
 use Rattle.run_rules.specs.Kept.{is_refusal, kept_after}
 use Rattle.run_rules.specs.ServerAnswers.{SentNow, TakenNow}
 use Rattle.run_rules.specs.ServerDecides.{HasDecided, IsAskedHere, IsHere, IsNewRequest, IsOfRow, MayDecide}
 use Rattle.run_rules.specs.ServerDecides.{MayDecideAll, NotRefused, kept_reply, refusal_of}
 use Rattle.run_rules.specs.ServerDecides.DecidedSo.{MeetsPinned}
 use Rattle.run_rules.specs.ServerSends.{AnswersChange, AreNeeds, DoneFor, GrantsSo, HasSent, HasWritten}
-use Rattle.run_rules.specs.ServerSends.{IsAskedBack, IsLast, MaySend, Revoked, TellsKept}
+use Rattle.run_rules.specs.ServerSends.{IsAskedBack, IsLast, IsOfChange, IsOwed, MaySend, Revoked, TellsKept}
 use Rattle.run_rules.specs.ServerSends.DoneFor.{OfWritten, Settled}
 use Rattle.run_rules.specs.ServerSends.SettledSo.{IsEntered, TakesToken}
-use Rattle.run_rules.specs.Wants.{Before, CanGrant, CanRefuse, IsBehind, IsOld, IsReady, Waits, asker, body_of}
+use Rattle.run_rules.specs.Wants.{Before, CanGrant, CanRefuse, IsBehind, IsOld, IsReady, NoneWaits, SameNumber, Waits}
+use Rattle.run_rules.specs.Wants.{asker, body_of}
 use Rattle.run_rules.specs.Wants.{has_effect, is_use, needs_for, row_needs}
-use Rattle.run_rules.specs.Acts.{Act, SentTo, decisions_of, epoch, sending}
+use Rattle.run_rules.specs.Acts.{Act, SentTo, after_cause, decisions_of, epoch, sending}
 use Rattle.run_rules.specs.Acts.Act.{Sent, Writes}
+use Rattle.run_rules.specs.Grants.{Pinned}
 use Rattle.run_rules.specs.Hosts.{IsLive}
 use Rattle.run_rules.specs.Lists.{Each, In, Once, after}
 use Rattle.run_rules.specs.Places.{place}
@@ -114,9 +119,7 @@ is_stuck server past w =
     list_any (in_way w) (granted server past) && list_all (λ t. not (in_way w t)) (pinned server past)
 
 unfoldable pub meets_needs : List Need → List Token → Bool
-meets_needs needs ts =
-    list_all (λ t. list_any (same_need (need_of t)) needs) ts
-    && list_all (λ n. list_any (λ t. same_need (need_of t) n) ts) needs
+meets_needs needs ts = same_list same_need (map need_of ts) needs
 
 -- requests, part by part
 unfoldable pub same_change : ChangeOf → ChangeOf → Bool
@@ -146,9 +149,13 @@ where_change (Asks f) test = true
 unfoldable pub is_here_now : ServerId → FilesetId → ℕ → Bool
 is_here_now server fs n = ((fs.0 == 0) && (n == 0)) || here server fs n
 
+unfoldable pub is_meant : ChangeOf → Bool
+is_meant c =
+    implies c.enter (is_some (fileset_of c.call)) && implies (is_use c.call) (same_fileset c.fid.fileset c.fileset)
+
 unfoldable pub asked_here : ServerId → ℕ → Request → Bool
 asked_here server n (Asks f) = here server f.fid.fileset n
-asked_here server n (Changes c) = is_here_now server c.fileset n
+asked_here server n (Changes c) = is_here_now server c.fileset n && is_meant c
 
 unfoldable pub new_numbered : List Act → HostId → Request → Bool
 new_numbered past h (Asks f) = true
@@ -207,16 +214,30 @@ is_request (Fetch f) = true
 is_request (Change c) = true
 is_request _ = false
 
-unfoldable pub wanted_now : Step → Message → Bool
-wanted_now s m = implies (is_request m.body) (list_any (wants_it m.host m.body) s.applied)
+unfoldable pub is_meant_body : Body → Bool
+is_meant_body (Change c) = is_meant c
+is_meant_body b = true
+
+-- a Change of the same fileset waits
+unfoldable pub holds_up : Body → Request → Bool
+holds_up (Change d) (Changes c) = same_fileset c.fileset d.fileset
+holds_up _ _ = false
+
+unfoldable pub waits_before : Message → Wanted → Bool
+waits_before m v = same_host v.host m.host && holds_up m.body v.request
+
+unfoldable pub wanted_now : List Act → Step → Message → Bool
+wanted_now before s m =
+    implies (is_request m.body && is_meant_body m.body)
+    (list_any (wants_it m.host m.body) s.applied || list_any (waits_before m) (queue (after_cause s.cause before)))
 
 unfoldable pub left_open : ServerId → Tree → List Act → Wanted → ChangeOf → Bool
 left_open server tree past w c =
     (accepted tree w.host c && not (has_effect c)) && list_all (λ t. not (in_way w t)) (pinned server past)
 
-unfoldable pub decided_tests : ServerId → Tree → List Act → Step → List Bool
-decided_tests server tree past s =
-    by_message true (wanted_now s) s.cause
+unfoldable pub decided_tests : ServerId → Tree → List Act → List Act → Step → List Bool
+decided_tests server tree before past s =
+    by_message true (wanted_now before s) s.cause
     ∷ list_all (λ w. where_change w.request (left_open server tree past w)) (queue past)
     ∷ []
 
@@ -278,10 +299,17 @@ outcome_right server tree past h n d _ = false
 unfoldable pub blocks_some : ServerId → List Act → Token → Bool
 blocks_some server past t = list_any (λ w. in_way w t) (queue past)
 
+unfoldable pub is_free : ServerId → List Act → Token → Bool
+is_free server past t = not (list_any (same_token t) (pinned server past))
+
+-- it is asked back for the first time, or again
+unfoldable pub asks_first : ServerId → List Act → Token → Bool
+asks_first server past t = (over past && blocks_some server past t) && not (revoked past t)
+
 unfoldable pub asks_back : ServerId → List Act → Step → HostId → TokenId → Token → Bool
 asks_back server past s h i t =
-    ((same_id t.id i && same_host t.host h) && blocks_some server past t)
-    && (not (list_any (same_token t) (pinned server past)) && (not (revoked past t) || is_lapse s.cause))
+    ((same_id t.id i && same_host t.host h) && is_free server past t)
+    && (asks_first server past t || (is_lapse s.cause && revoked past t))
 
 unfoldable pub send_right : ServerId → Tree → Step → List Act → Act → Bool
 send_right server tree s past (Sent h e n (Grant g)) =
@@ -289,7 +317,7 @@ send_right server tree s past (Sent h e n (Grant g)) =
 send_right server tree s past (Sent h e n (Done d)) =
     (live past h && is_here_now server d.fileset n) && outcome_right server tree past h n d d.outcome
 send_right server tree s past (Sent h e n (Revoke r)) =
-    over past && list_all (λ i. list_any (asks_back server past s h i) (granted server past)) r.ids
+    list_all (λ i. list_any (asks_back server past s h i) (granted server past)) r.ids
 send_right server tree s past _ = true
 
 unfoldable pub sends_right : ServerId → Tree → Step → List Act → List Act → Bool
@@ -327,6 +355,29 @@ recalls_it t _ = false
 unfoldable pub recalls_again : Step → Token → Bool
 recalls_again s t = list_any (λ k. same_host k.host t.host && recalls_it t k.body) s.sent
 
+-- no two messages of one kind go to one host
+unfoldable pub same_sort : Message → Message → Bool
+same_sort k m = same_host k.host m.host && (kind_of k.body == kind_of m.body)
+
+-- a Done is of a Change that the step takes, or that waited
+unfoldable pub is_change_of : DoneOf → ChangeOf → Bool
+is_change_of d c = same_fileset c.fileset d.fileset && (c.number == d.bring.number)
+
+unfoldable pub asks_for_done : DoneOf → Body → Bool
+asks_for_done d (Change c) = is_change_of d c
+asks_for_done d _ = false
+
+unfoldable pub brings_change : List Act → HostId → DoneOf → Message → Bool
+brings_change before h d m = (is_taken before m && same_host m.host h) && asks_for_done d m.body
+
+unfoldable pub waits_for : HostId → DoneOf → Wanted → Bool
+waits_for h d w = same_host w.host h && changes_such w.request (is_change_of d)
+
+unfoldable pub done_due : List Act → Step → Message → Body → Bool
+done_due before s k (Done d) =
+    by_message false (brings_change before k.host d) s.cause || list_any (waits_for k.host d) (queue before)
+done_due before s k _ = true
+
 unfoldable pub sent_tests : ServerId → List Act → List Act → Step → List Bool
 sent_tests server before past s =
     list_all (answered_now s) s.applied
@@ -334,15 +385,20 @@ sent_tests server before past s =
     ∷ list_all (is_stuck server past) (queue past)
     ∷ list_all (λ t. implies (blocks_some server past t) (revoked past t)) (granted server past)
     ∷ implies (is_lapse s.cause)
-    (list_all (λ t. implies (blocks_some server past t) (recalls_again s t)) (granted server past))
+    (list_all (λ t. implies (is_free server past t && revoked past t) (recalls_again s t)) (granted server past))
+    ∷ apart same_sort s.sent
+    ∷ list_all (λ k. done_due before s k k.body) s.sent
     ∷ []
 
 unfoldable pub send_words : ℕ
-unfolding may_words same_call same_place is_fetch accepted row_right of_row in_way is_ahead grant_tests refuse_tests is_stuck meets_needs same_change is_body_of
-    asks_such changes_such where_change is_here_now asked_here new_numbered comes_as is_new needs_right is_locked
-    is_lock_call writes_so decides_right all_decided wants_it is_request wanted_now left_open decided_tests there_right
-    grants_such grants_for is_not_above wrote_so found_right named_right enters_such uses_such settles_for outcome_right
-    blocks_some asks_back send_right sends_right is_done_of done_body locked_reply answered_now first_asked recalls_it recalls_again sent_tests
+unfolding may_words same_call same_place is_fetch accepted row_right of_row in_way is_ahead grant_tests refuse_tests
+    is_stuck meets_needs same_change is_body_of asks_such changes_such where_change is_here_now is_meant asked_here
+    new_numbered comes_as is_new needs_right is_locked is_lock_call writes_so decides_right all_decided wants_it
+    is_request is_meant_body holds_up waits_before wanted_now left_open decided_tests there_right grants_such
+    grants_for is_not_above wrote_so found_right named_right enters_such uses_such settles_for outcome_right
+    blocks_some is_free asks_first asks_back send_right sends_right is_done_of done_body locked_reply answered_now
+    first_asked recalls_it recalls_again same_sort is_change_of asks_for_done brings_change waits_for done_due
+    sent_tests
 send_words = 0
 
 -- each test, and what it tells
@@ -479,18 +535,7 @@ stuck_ready server past w e (inr can) =
 
 needs_are : (needs : List Need) (ts : List Token) → meets_needs needs ts ≡ true → AreNeeds needs ts
 unfolding meets_needs
-needs_are needs ts e =
-    let p = and_parts (list_all (λ t. list_any (same_need (need_of t)) needs) ts)
-    (list_all (λ n. list_any (λ t. same_need (need_of t) n) ts) needs) e in
-    record {
-      sound = λ t m.
-          let q = some_in (same_need (need_of t)) needs (at_all (λ t. list_any (same_need (need_of t)) needs) ts t p.0 m) in
-          subst (λ x. In x needs) (sym (need_is (need_of t) q.0 q.2)) q.1;
-      whole = λ n m.
-          let q = some_in (λ t. same_need (need_of t) n) ts
-          (at_all (λ n. list_any (λ t. same_need (need_of t) n) ts) needs n p.1 m) in
-          (q.0, q.1, need_is (need_of q.0) n q.2);
-    }
+needs_are needs ts e = list_is same_need need_is (map need_of ts) needs e
 
 here_either : (server : ServerId) (past : List Act) (fs : FilesetId) (n : ℕ) → is_here_now server fs n ≡ true
     → IsHere server past fs n
@@ -550,13 +595,21 @@ new_yes server before past s w e =
   where
     here_it : (r : Request) → asked_here server w.moves r ≡ true → IsAskedHere server before w.moves r
     here_it (Asks f) t = here_yes server before f.fid.fileset w.moves t
-    here_it (Changes c) t = here_either server before c.fileset w.moves t
+    here_it (Changes c) t =
+        let p = and_parts (is_here_now server c.fileset w.moves) (is_meant c) t in
+        let named = is_some (fileset_of c.call) in
+        let at_home = same_fileset c.fid.fileset c.fileset in
+        let q = and_parts (implies c.enter named) (implies (is_use c.call) at_home) p.1 in (
+          here_either server before c.fileset w.moves p.0,
+          (λ e. so c.enter named q.0 e, λ e. fileset_is c.fid.fileset c.fileset (so (is_use c.call) at_home q.1 e)),
+        )
 
     fresh_it : (r : Request) → new_numbered past w.host r ≡ true → IsOld past w.host r → ⊥
     fresh_it (Asks f) t old = old
     fresh_it (Changes c) t (inl x) = fresh_durable past w.host c.fileset c.number t x
-    fresh_it (Changes c) t (inr (n, d, x, f, k)) =
-        let low = fresh_sent past w.host c.fileset c.number t (epoch past) n d x f in omega (arith, low, k)
+    fresh_it (Changes c) t (inr (e, n, d, x, f, k)) =
+        let low = fresh_sent past w.host c.fileset c.number t e n d x f in
+        elim k [ inl y ↦ omega (arith, low, y) | inr y ↦ omega (arith, low, y.0) ]
 
 locked_is : (r : Reply) → is_locked r ≡ true → r ≡ Refused Locked
 unfolding is_locked
@@ -630,17 +683,17 @@ decides_all server tree before past s (x ∷ xs) e =
 
 -- what was decided
 pub has_decided : (server : ServerId) (tree : Tree) (before past : List Act) (s : Step)
-    → passes (decided_tests server tree past s) ≡ true → HasDecided server tree before past s
+    → passes (decided_tests server tree before past s) ≡ true → HasDecided server tree before past s
 unfolding send_words
 has_decided server tree before past s e = record {
-  news = λ h n r x. news h n r x.taken;
+  news = λ h n r x. news h n r x.taken x.here x.alone;
   refused = λ w c refusal waits is so_ ready. accepted_is tree w.host c (parts w c waits is).0 refusal so_;
   effects = λ w c waits is effect ok ready. is_not (has_effect c) (parts w c waits is).1 effect;
   pinned = λ w c waits is row ok can. none_pinned server past w (parts w c waits is).2 can;
 }
   where
-    t : AllTrue (decided_tests server tree past s)
-    t = all_true (decided_tests server tree past s) e
+    t : AllTrue (decided_tests server tree before past s)
+    t = all_true (decided_tests server tree before past s) e
 
     parts : (w : Wanted) (c : ChangeOf) → Waits past w → w.request ≡ Changes c
         → (accepted tree w.host c ≡ true) × (not (has_effect c) ≡ true)
@@ -666,13 +719,47 @@ has_decided server tree before past s e = record {
         (w, i, host_is w.host m.host p.0 ∙ at, request_is w.request r b p.1 is)
     found h m b r x i y is at = absurd (cc)
 
+    held : (b : Body) (q r : Request) → holds_up b q ≡ true → b ≡ body_of r → SameNumber q r
+    held (Change d) (Changes c) (Changes e) x is =
+        let p : d ≡ e = cc in fileset_is c.fileset d.fileset x ∙ ap (λ (y : ChangeOf). y.fileset) p
+    held (Change d) (Changes c) (Asks f) x is = absurd (cc)
+    held (Change d) (Asks g) r x is = absurd (cc)
+    held b q r x is = absurd (cc)
+
+    implied : (a b : Bool) → (a ≡ true → b ≡ true) → implies a b ≡ true
+    implied true b f = f refl
+    implied false b f = refl
+
+    meant : (n : ℕ) (r : Request) → IsAskedHere server before n r → is_meant_body (body_of r) ≡ true
+    meant n (Asks f) x = refl
+    meant n (Changes c) x =
+        let named = is_some (fileset_of c.call) in
+        let at_home = same_fileset c.fid.fileset c.fileset in
+        and_from (implies c.enter named) (implies (is_use c.call) at_home) (implied c.enter named x.1.0) (implied
+        (is_use c.call) at_home (λ e. filesets c.fid.fileset c.fileset (x.1.1 e)))
+
     news : (h : HostId) (n : ℕ) (r : Request) → TakenNow before s h n (body_of r)
+        → IsAskedHere server before n r → NoneWaits (after_cause s.cause before) h r
         → (w : Wanted) × In (IsWanted w) s.applied × (w.host ≡ h) × (w.request ≡ r)
-    news h n r ((m, c, at, _, _, is), _) =
-        let p = so (is_request m.body) (list_any (wants_it m.host m.body) s.applied)
-        (at_cause (wanted_now s) s m t.0 c) (subst (λ b. is_request b ≡ true) (sym is) (asked r)) in
-        let q = some_in (wants_it m.host m.body) s.applied p in
-        found h m m.body r q.0 q.1 q.2 is at
+    news h n r ((m, c, at, _, _, is), _) here_ alone =
+        let new = list_any (wants_it m.host m.body) s.applied in
+        let waits_ = list_any (waits_before m) (queue (after_cause s.cause before)) in
+        let asks_ = λ (b : Body). is_request b && is_meant_body b in
+        let q = and_from (is_request (body_of r)) (is_meant_body (body_of r)) (asked r) (meant n r here_) in
+        let p = so (asks_ m.body) (new || waits_) (at_cause (wanted_now before s) s m t.0 c) (subst (λ b. asks_ b ≡ true)
+        (sym is) q) in
+        elim (or_cases new waits_ p) [
+          | inl y ↦ (
+              let q = some_in (wants_it m.host m.body) s.applied y in
+              found h m m.body r q.0 q.1 q.2 is at
+              )
+          | inr y ↦ (
+              let q = some_in (waits_before m) (queue (after_cause s.cause before)) y in
+              let k = and_parts (same_host q.0.host m.host) (holds_up m.body q.0.request) q.2 in
+              absurd (alone q.0 (queue_yes (after_cause s.cause before) q.0 q.1) (host_is q.0.host m.host k.0 ∙ at)
+              (held m.body q.0.request r k.1 is))
+              )
+        ]
 
 -- what is told by the Grants of a list of messages
 abbrev pub TellsBody : Tree → Body → Type 0
@@ -858,36 +945,64 @@ module _ (server : ServerId) (tree : Tree) (past : List Act) (h : HostId) (n : �
       })
   outcome_is o is e = absurd (cc)
 
-back_is : (server : ServerId) (past : List Act) (s : Step) (h : HostId) (i : TokenId) → over past ≡ true
+free_is : (server : ServerId) (past : List Act) (t : Token) → is_free server past t ≡ true → Pinned server past t → ⊥
+unfolding is_free
+free_is server past t e pin =
+    is_not (list_any (same_token t) (pinned server past)) e
+    (tokens_in t (pinned server past) (pinned_is server past t pin))
+
+is_free_yes : (server : ServerId) (past : List Act) (t : Token) → (Pinned server past t → ⊥)
+    → is_free server past t ≡ true
+unfolding is_free
+is_free_yes server past t none = not_is (list_any (same_token t) (pinned server past)) (λ e.
+    let q = some_in (same_token t) (pinned server past) e in
+    none (subst (Pinned server past) (sym (token_is t q.0 q.2)) (pinned_yes server past q.0 q.1)))
+
+back_is : (server : ServerId) (past : List Act) (s : Step) (h : HostId) (i : TokenId)
     → list_any (asks_back server past s h i) (granted server past) ≡ true
-    → (t : Token) × (t.id ≡ i) × (t.host ≡ h) × IsAskedBack server past t
-    × ((Revoked past t → ⊥) ⊎ (s.cause ≡ Lapse))
-unfolding asks_back blocks_some in_way
-back_is server past s h i o e =
+    → (t : Token) × (t.id ≡ i) × (t.host ≡ h)
+    × ((IsAskedBack server past t × (Revoked past t → ⊥)) ⊎ ((s.cause ≡ Lapse) × IsOwed server past t))
+unfolding asks_back asks_first blocks_some in_way
+back_is server past s h i e =
     let p = some_in (asks_back server past s h i) (granted server past) e in
     let t = p.0 in
-    let y = not (revoked past t) || is_lapse s.cause in
-    let x = not (list_any (same_token t) (pinned server past)) && y in
-    let q = and_parts ((same_id t.id i && same_host t.host h) && list_any (λ w. in_way w t) (queue past)) x p.2 in
-    let r = and_parts (same_id t.id i && same_host t.host h) (list_any (λ w. in_way w t) (queue past)) q.0 in
-    let k = and_parts (same_id t.id i) (same_host t.host h) r.0 in
-    let u = and_parts (not (list_any (same_token t) (pinned server past))) y q.1 in
-    let w = some_in (λ w. in_way w t) (queue past) r.1 in (
+    let blocks_ = list_any (λ w. in_way w t) (queue past) in
+    let first = (over past && blocks_) && not (revoked past t) in
+    let again = is_lapse s.cause && revoked past t in
+    let q = and_parts ((same_id t.id i && same_host t.host h) && is_free server past t) (first || again) p.2 in
+    let r = and_parts (same_id t.id i && same_host t.host h) (is_free server past t) q.0 in
+    let k = and_parts (same_id t.id i) (same_host t.host h) r.0 in (
       t,
       id_is t.id i k.0,
       host_is t.host h k.1,
-      record {
-        over = over_yes past o;
-        granted = granted_yes server past t p.1;
-        unpinned = λ pin. is_not (list_any (same_token t) (pinned server past)) u.0
-            (tokens_in t (pinned server past) (pinned_is server past t pin));
-        w = w.0;
-        waits = queue_yes past w.0 w.1;
-        blocks_it = w.2;
-      },
-      elim (or_cases (not (revoked past t)) (is_lapse s.cause) u.1) [
-        | inl z ↦ inl (λ v. is_not (revoked past t) z (revoked_is past t v))
-        | inr z ↦ inr (lapse_cause s.cause z)
+      elim (or_cases first again q.1) [
+        | inl x ↦ (
+            let y = and_parts (over past && blocks_) (not (revoked past t)) x in
+            let z = and_parts (over past) blocks_ y.0 in
+            let w = some_in (λ w. in_way w t) (queue past) z.1 in
+            inl (
+              record {
+                over = over_yes past z.0;
+                granted = granted_yes server past t p.1;
+                unpinned = free_is server past t r.1;
+                w = w.0;
+                waits = queue_yes past w.0 w.1;
+                blocks_it = w.2;
+              },
+              λ v. is_not (revoked past t) y.1 (revoked_is past t v),
+            )
+            )
+        | inr x ↦ (
+            let y = and_parts (is_lapse s.cause) (revoked past t) x in
+            inr (
+              lapse_cause s.cause y.0,
+              record {
+                granted = granted_yes server past t p.1;
+                unpinned = free_is server past t r.1;
+                revoked = revoked_yes past t y.1;
+              },
+            )
+            )
       ],
     )
 
@@ -908,11 +1023,9 @@ may_send server tree s past a tells e = record {
         outcome_is server tree past h n d d.outcome refl p.1,
       );
   revokes = λ h f n r i is m.
-      let p = and_parts (over past) (list_all (λ i. list_any (asks_back server past s h i) (granted server past)) r.ids)
-      (at (Sent h f n (Revoke r)) is) in
-      let q = back_is server past s h i p.0
-      (at_all (λ i. list_any (asks_back server past s h i) (granted server past)) r.ids i p.1 m) in
-      (q.0, q.1, q.2, q.3, q.4);
+      back_is server past s h i
+      (at_all (λ i. list_any (asks_back server past s h i) (granted server past)) r.ids i
+      (at (Sent h f n (Revoke r)) is) m);
 }
   where
     at : (x : Act) → a ≡ x → send_right server tree s past x ≡ true
@@ -955,8 +1068,18 @@ reply_locked o e = absurd (cc)
 
 pub has_sent : (server : ServerId) (tree : Tree) (before past : List Act) (s : Step)
     → passes (sent_tests server before past s) ≡ true → HasSent server tree before past s
-unfolding sent_tests answered_now first_asked is_lapse blocks_some in_way recalls_it recalls_again
+unfolding sent_tests answered_now first_asked is_lapse blocks_some in_way recalls_it recalls_again same_sort
+    is_change_of asks_for_done brings_change waits_for done_due
 has_sent server tree before past s e = record {
+  once = once_from same_sort s.sent (λ m. sorts m m refl refl) t.1.1.1.1.1.0;
+  revokes_once = λ h r q i (m, j, at, is) (k, l, up, so_) _ _.
+      let same = only_one same_sort s.sent m k t.1.1.1.1.1.0 j l (sorts m k (at ∙ sym up)
+      (ap kind_of is ∙ sym (ap kind_of so_))) in
+      let p : Revoke r ≡ Revoke q = sym is ∙ (ap (λ (x : Message). x.body) same ∙ so_) in cc;
+  dones_only = λ h d (k, i, at, is).
+      let p = subst (λ b. done_due before s k b ≡ true) is (at_all (λ k. done_due before s k k.body) s.sent k
+      t.1.1.1.1.1.1.0 i) in
+      subst (λ y. IsDue y d) at (due k d p);
   written = λ w m.
       let p = and_parts (is_locked w.answer.reply) (list_any (is_done_of w.answer.host w.fileset w.number locked_reply)
       s.sent) (at_all (answered_now s) s.applied (IsDone w) t.0 m) in
@@ -974,10 +1097,12 @@ has_sent server tree before past s e = record {
   enters = λ w c waits is enter_ ok can. stuck_grant server past w (stuck w waits) can;
   revokes = λ u k. revoked_yes past u (back u k);
   revokes_again = λ u c k.
-      let all_ = λ (t : Token). implies (blocks_some server past t) (recalls_again s t) in
-      let p = so (blocks_some server past u) (recalls_again s u)
+      let owed_ = λ (t : Token). is_free server past t && revoked past t in
+      let all_ = λ (t : Token). implies (owed_ t) (recalls_again s t) in
+      let p = so (owed_ u) (recalls_again s u)
       (at_all all_ (granted server past) u (so (is_lapse s.cause) (list_all all_ (granted server past)) t.1.1.1.1.0
-      (lapse c)) (granted_is server past u k.granted)) (some_blocked u k) in
+      (lapse c)) (granted_is server past u k.granted)) (and_from (is_free server past u) (revoked past u)
+      (is_free_yes server past u k.unpinned) (revoked_is past u k.revoked)) in
       let q = some_in (λ (m : Message). same_host m.host u.host && recalls_it u m.body) s.sent p in
       let r = and_parts (same_host q.0.host u.host) (recalls_it u q.0.body) q.2 in
       let z = recalled u q.0.body r.1 in
@@ -986,6 +1111,46 @@ has_sent server tree before past s e = record {
   where
     t : AllTrue (sent_tests server before past s)
     t = all_true (sent_tests server before past s) e
+
+    sorts : (k m : Message) → k.host ≡ m.host → kind_of k.body ≡ kind_of m.body → same_sort k m ≡ true
+    sorts k m at is =
+        and_from (same_host k.host m.host) (kind_of k.body == kind_of m.body) (hosts k.host m.host at)
+        (eq-eqb (kind_of k.body) (kind_of m.body) is)
+
+    IsDue : HostId → DoneOf → Type 0
+    IsDue h d = (c : ChangeOf) × IsOfChange c d × (((n : ℕ) × TakenNow before s h n (Change c))
+        ⊎ ((w : Wanted) × Waits before w × (w.host ≡ h) × (w.request ≡ Changes c)))
+
+    of_change : (d : DoneOf) (c : ChangeOf) → is_change_of d c ≡ true → IsOfChange c d
+    of_change d c x =
+        let p = and_parts (same_fileset c.fileset d.fileset) (c.number == d.bring.number) x in
+        (fileset_is c.fileset d.fileset p.0, eqb-true c.number d.bring.number p.1)
+
+    its_change : (d : DoneOf) (b : Body) → asks_for_done d b ≡ true → (c : ChangeOf) × (b ≡ Change c) × IsOfChange c d
+    its_change d (Change c) x = (c, refl, of_change d c x)
+    its_change d b x = absurd (cc)
+
+    due : (k : Message) (d : DoneOf) → done_due before s k (Done d) ≡ true → IsDue k.host d
+    due k d x =
+        elim (or_cases (by_message false (brings_change before k.host d) s.cause) (list_any (waits_for k.host d)
+        (queue before)) x) [
+          | inl y ↦ (
+              let z = came (brings_change before k.host d) s.cause y in
+              let m = z.0 in
+              let p = and_parts (is_taken before m && same_host m.host k.host) (asks_for_done d m.body) z.2 in
+              let q = and_parts (is_taken before m) (same_host m.host k.host) p.0 in
+              let at = host_is m.host k.host q.1 in
+              let l = taken_yes before m q.0 in
+              let c = its_change d m.body p.1 in
+              (c.0, c.2, inl (m.moves, ((m, z.1, at, l.1, refl, c.1), subst (IsLive before) at l.0)))
+              )
+          | inr y ↦ (
+              let z = some_in (waits_for k.host d) (queue before) y in
+              let p = and_parts (same_host z.0.host k.host) (changes_such z.0.request (is_change_of d)) z.2 in
+              let c = changes_yes z.0.request (is_change_of d) p.1 in
+              (c.0, of_change d c.0 c.2, inr (z.0, queue_yes before z.0 z.1, host_is z.0.host k.host p.0, c.1))
+              )
+        ]
 
     stuck : (w : Wanted) → Waits past w → is_stuck server past w ≡ true
     stuck w waits = at_all (is_stuck server past) (queue past) w t.1.1.0 (queue_is past w waits)

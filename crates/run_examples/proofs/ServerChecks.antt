@@ -21,7 +21,7 @@ use Rattle.run_examples.proofs.Tests.{implies, some_in}
 use Rattle.run_examples.proofs.Tests.{same_host, host_is, same_number, number_is}
 use Rattle.run_examples.proofs.Words.{by_message}
 use Rattle.run_examples.proofs.TokenChecks.{is_bye}
-use Rattle.run_examples.proofs.LapseChecks.{is_lapse, is_restarted}
+use Rattle.run_examples.proofs.LapseChecks.{is_hello, is_lapse, is_restarted}
 use Rattle.run_examples.proofs.ServerWords.{down, live}
 use Rattle.run_examples.proofs.ServerWords.{reclaimed}
 
@@ -80,6 +80,10 @@ unfoldable pub gone_only : List Act → Cause → Message → Body → Bool
 gone_only past cause k (Gone number) =
     by_message false (λ m. (same_host m.host k.host && is_taken past m) && gives_number number m.body) cause
 gone_only past cause k _ = true
+
+unfoldable pub reclaimed_by : List Act → Cause → Message → Bool
+reclaimed_by past cause k =
+    by_message false (λ m. is_hello m.body && same_host m.host k.host) cause && not (down past k.host)
 
 unfoldable pub bye_only : List Act → Cause → Message → Bool
 bye_only past cause k =

@@ -2,15 +2,18 @@
 use Rattle.tree_filesets.specs.Updates.{updated}
 use Rattle.need_host.specs.Shows.{shows}
 use Rattle.tree_answers.specs.declared.tree.Tree.{Tree}
-use Rattle.message_types.specs.declared.message.Body.TheVariants.{Restarted}
+use Rattle.message_types.specs.declared.message.Body.{Body}
+use Rattle.message_types.specs.declared.message.Body.TheVariants.{Bye, Done, Reclaimed, Restarted}
 use Rattle.run_examples.proofs.AnswerTests.{answer_words, step_meets}
 use Rattle.run_examples.proofs.GrantWords.{brings, brought_ever, is_below, keeps_none, told_below}
+use Rattle.run_examples.proofs.ServerLists.{queue, queue_is}
 use Rattle.run_examples.proofs.ServerWords.{admits_host, applied, away, begins, claimant, claimants, down, goes_away}
 use Rattle.run_examples.proofs.ServerWords.{heard, heard_from, here, listed, live, reclaimed, takes_bye, takes_down}
 use Rattle.run_examples.proofs.ServerWords.{takes_give, takes_hello}
 use Rattle.run_examples.specs.Laws.{restarting, writing}
 use Rattle.run_examples.specs.Steps.{admits, answers_bye, calls_again, calls_back, file, file_tree, hears_down}
-use Rattle.run_examples.specs.Steps.{hears_returned, other_grant, other_status, restarts, served, server_lapses}
+use Rattle.run_examples.specs.Steps.{hears, hears_nameless, hears_returned, other_grant, other_status, other_stops}
+use Rattle.run_examples.specs.Steps.{restarts, served, server_lapses}
 use Rattle.run_examples.specs.Steps.{shared, stores, stores_and_grants}
 use Rattle.script_lines.specs.declared.script.Script.{Script}
 use Rattle.std.proofs.Common.{List, [], false, inl, inr, refl, subst, true, ℕ, ◌∷◌, ◌≡◌}
@@ -20,13 +23,15 @@ use Rattle.tree_laws.specs.Parts.{Part, cell_at}
 use Rattle.tree_laws.specs.Parts.Part.{ByteAt, Entries, Size, Traits}
 use Rattle.run_rules.specs.Told.{told}
 use Rattle.run_tokens.specs.JournalWorked.{script}
+use Rattle.run_rules.specs.Epochs.{IsWelcome}
 use Rattle.run_rules.specs.Kept.{kept, kept_through, tree_given}
-use Rattle.run_rules.specs.ServerRules.{ServerMeets}
+use Rattle.run_rules.specs.ServerRules.{ServerDue, ServerMay, ServerMeets}
 use Rattle.run_rules.specs.ServerSends.{TellsKept}
 use Rattle.run_rules.specs.Acts.{Act, acts}
 use Rattle.run_rules.specs.Lists.{In}
 use Rattle.run_rules.specs.Places.{home}
-use Rattle.run_tokens.specs.Worked.{from_server, site_one}
+use Rattle.run_tokens.specs.Worked.{client, entered, from_server, site_one, to_host, welcome}
+use Rattle.run_rules.specs.declared.applied.Wanted.{Wanted}
 use Rattle.run_rules.specs.declared.step.Step.{Step}
 
 -- all words of the tests
@@ -125,3 +130,57 @@ grants_meets = step_meets writing file_tree site_one (calls_back ∷ shared) (pa
 pub grants_lapse : Meets writing (stores_and_grants ∷ calls_back ∷ shared) (server_lapses [])
 unfolding served_words
 grants_lapse = step_meets writing file_tree site_one (stores_and_grants ∷ calls_back ∷ shared) (past_of (stores_and_grants ∷ calls_back ∷ shared)) (server_lapses []) refl tt refl
+
+abbrev called : List Step
+called = calls_back ∷ shared
+
+pub stops_meets : Meets writing called other_stops
+unfolding served_words
+stops_meets = step_meets writing file_tree site_one called (past_of called) other_stops refl tt refl
+
+abbrev stopped : List Step
+stopped = other_stops ∷ called
+
+pub stops_lapse : Meets writing stopped calls_again
+unfolding served_words
+stops_lapse = step_meets writing file_tree site_one stopped (past_of stopped) calls_again refl (tt, tt) refl
+
+abbrev says : Body → Step
+says body = server_lapses (to_host body ∷ [])
+
+-- no cause of the step asks for a Reclaimed
+pub unasked : ServerMay writing file_tree site_one served (past_of served) (says (Reclaimed welcome)) → ⊥
+unasked m = elim (m.answers.reclaimed_only client welcome (to_host (Reclaimed welcome), inl refl, refl, refl)) [
+  | inl x ↦ (let p = x.0.1 in cc)
+  | inr x ↦ elim x [ inl y ↦ elim y.1 [ ] | inr y ↦ (let p = y.2.0.1 in cc) ]
+]
+
+-- no Change comes, and none waits
+pub again : ServerDue writing file_tree site_one served (past_of served) (says (Done entered)) → ⊥
+unfolding served_words
+again m = elim (m.sent.dones_only client entered (to_host (Done entered), inl refl, refl, refl)).2 [
+  | inl x ↦ (let p = x.1.0.1 in cc)
+  | inr x ↦ none x.0 (queue_is (past_of served) x.0 x.1)
+]
+  where
+    none : (w : Wanted) → In w (queue (past_of served)) → ⊥
+    none w i = elim i [ ]
+
+pub twice : ServerDue writing file_tree site_one served (past_of served)
+    (record answers_bye { sent = to_host Bye ∷ to_host Bye ∷ [] }) → ⊥
+twice m = m.sent.once.0 (inl refl)
+
+pub ungreeted : IsWelcome (hears (to_host (Reclaimed welcome)) [] [] ∷ []) site_one → ⊥
+ungreeted (inl x) = elim x.0.2 [ ]
+ungreeted (inr x) = elim x [ ]
+
+pub nameless_meets : Meets writing served hears_nameless
+unfolding served_words
+nameless_meets = step_meets writing file_tree site_one served (past_of served) hears_nameless refl tt refl
+
+abbrev named_none : List Step
+named_none = hears_nameless ∷ served
+
+pub nameless_lapse : Meets writing named_none (server_lapses [])
+unfolding served_words
+nameless_lapse = step_meets writing file_tree site_one named_none (past_of named_none) (server_lapses []) refl tt refl

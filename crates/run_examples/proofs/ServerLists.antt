@@ -91,7 +91,7 @@ revoked (a ∷ past) t = revokes_it a t || (revoked past t && not (begins a))
 -- wants that wait
 unfoldable pub same_asked : Request → Request → Bool
 same_asked (Asks f) (Asks g) = same_fileset f.fid.fileset g.fid.fileset && (f.number == g.number)
-same_asked (Changes c) (Changes d) = same_fileset c.fileset d.fileset && (c.number == d.number)
+same_asked (Changes c) (Changes d) = same_fileset c.fileset d.fileset
 same_asked _ _ = false
 
 unfoldable pub decides_it : Act → HostId → Request → Bool
@@ -385,9 +385,7 @@ unfolding list_words
 asked_yes (Asks f) (Asks g) e =
     let p = and_parts (same_fileset f.fid.fileset g.fid.fileset) (f.number == g.number) e in
     (fileset_is f.fid.fileset g.fid.fileset p.0, eqb-true f.number g.number p.1)
-asked_yes (Changes c) (Changes d) e =
-    let p = and_parts (same_fileset c.fileset d.fileset) (c.number == d.number) e in
-    (fileset_is c.fileset d.fileset p.0, eqb-true c.number d.number p.1)
+asked_yes (Changes c) (Changes d) e = fileset_is c.fileset d.fileset e
 asked_yes (Asks f) (Changes d) e = absurd (cc)
 asked_yes (Changes c) (Asks g) e = absurd (cc)
 
@@ -396,9 +394,7 @@ unfolding list_words
 asked_is (Asks f) (Asks g) (p, q) =
     and_from (same_fileset f.fid.fileset g.fid.fileset) (f.number == g.number)
     (filesets f.fid.fileset g.fid.fileset p) (eq-eqb f.number g.number q)
-asked_is (Changes c) (Changes d) (p, q) =
-    and_from (same_fileset c.fileset d.fileset) (c.number == d.number) (filesets c.fileset d.fileset p)
-    (eq-eqb c.number d.number q)
+asked_is (Changes c) (Changes d) p = filesets c.fileset d.fileset p
 asked_is (Asks f) (Changes d) p = elim p [ ]
 asked_is (Changes c) (Asks g) p = elim p [ ]
 

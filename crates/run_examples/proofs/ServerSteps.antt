@@ -14,7 +14,8 @@ use Rattle.run_examples.proofs.Prefixes.{tree_words, until_1, until_12, until_14
 use Rattle.run_examples.proofs.Prefixes.{until_24, until_26, until_28, until_3, until_31, until_33, until_36, until_39}
 use Rattle.run_examples.proofs.Prefixes.{until_40, until_42, until_45, until_46, until_47, until_5, until_50, until_7}
 use Rattle.run_examples.proofs.Prefixes.{until_9}
-use Rattle.run_examples.specs.Journal.{entries, script, start, step_10, step_13, step_15, step_18, step_2, step_21}
+use Rattle.run_examples.specs.Journal.{entries, second_change, waiting}
+use Rattle.run_examples.specs.Journal.{script, start, step_10, step_13, step_15, step_18, step_2, step_21}
 use Rattle.run_examples.specs.Journal.{step_23, step_25, step_27, step_29, step_32, step_34, step_37, step_4, step_40}
 use Rattle.run_examples.specs.Journal.{step_41, step_43, step_46, step_47, step_48, step_51, step_6, step_8, their_file}
 use Rattle.run_examples.specs.Journal.{their_grant, their_root}
@@ -200,3 +201,18 @@ meets_48 = step_meets script start site_one (served site_one until_47) (deeds un
 pub meets_51 : Served until_50 step_51
 unfolding site_words
 meets_51 = step_meets script start site_one (served site_one until_50) (deeds until_50) step_51 refl (tt, tt) refl
+
+-- while a Change waits another one of its host and fileset comes
+abbrev Reacts : List Step → Step → Type 0
+Reacts past s = ServerMeets script start site_one past (deeds past) s
+
+pub second_meets : Reacts waiting second_change
+unfolding site_words
+second_meets = step_meets script start site_one waiting (deeds waiting) second_change refl tt refl
+
+abbrev crossed : List Step
+crossed = second_change ∷ waiting
+
+pub waiting_meets : Reacts crossed step_34
+unfolding site_words
+waiting_meets = step_meets script start site_one crossed (deeds crossed) step_34 refl (tt, tt) refl

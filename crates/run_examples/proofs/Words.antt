@@ -19,7 +19,7 @@ use Rattle.message_types.specs.declared.giving.Give.{Give}
 use Rattle.message_types.specs.declared.giving.Reclaimed.{Reclaimed as ReclaimedOf}
 use Rattle.message_types.specs.declared.message.Body.{Body}
 use Rattle.message_types.specs.declared.message.Body.TheVariants.{Fetch, Grant, Change, Done, Revoke, Returned, Kept}
-use Rattle.message_types.specs.declared.message.Body.TheVariants.{Gone, Reclaimed}
+use Rattle.message_types.specs.declared.message.Body.TheVariants.{Gone, Hello, Reclaimed}
 use Rattle.message_types.specs.declared.message.Message.{Message}
 use Rattle.message_types.specs.declared.telling.Bring.{Bring}
 use Rattle.message_types.specs.declared.telling.Done.{Done as DoneOf}
@@ -31,7 +31,7 @@ use Rattle.run_rules.specs.Gives.{IsOutstanding, Known, Learns, Made, Makes, Wai
 use Rattle.run_rules.specs.Lists.{In}
 use Rattle.run_rules.specs.Places.{place}
 use Rattle.run_rules.specs.Requests.{Asking, Changing, Settles}
-use Rattle.run_rules.specs.Sends.{HasKept, Keeps, Returns, Said, Sends}
+use Rattle.run_rules.specs.Sends.{HasGreeted, HasKept, Keeps, Returns, Said, Sends}
 use Rattle.run_rules.specs.Tokens.{AtHand, Drops, EverHeld, Held, HoldsId, Leaves, Owns}
 use Rattle.run_rules.specs.declared.step.Cause.{Cause}
 use Rattle.run_rules.specs.declared.step.Cause.TheVariants.{Message as Came}
@@ -844,10 +844,39 @@ was_said (s ∷ past) v fs n (from, unless) =
       | inr a ↦ (let r = was_said past v fs n a in (r.0, r.1, r.2, r.3, inr r.4, r.5, r.6))
     ]
 
+-- servers that the host greeted
+abbrev pub greets_at : ServerId → Message → Body → Bool
+greets_at v m Hello = same_server m.server v
+greets_at v m _ = false
+
+abbrev pub has_greeted : List Step → ServerId → Bool
+has_greeted past v = list_any (λ m. greets_at v m m.body) (said past)
+
+hello_at : (v : ServerId) (m : Message) (b : Body) → greets_at v m b ≡ true → (b ≡ Hello) × (m.server ≡ v)
+hello_at v m Hello e = (refl, server_is m.server v e)
+hello_at v m b e = absurd (cc)
+
+has_greeted_yes : (past : List Step) (v : ServerId) → has_greeted past v ≡ true → HasGreeted past v
+has_greeted_yes past v e =
+    let q = some_in (λ m. greets_at v m m.body) (said past) e in
+    let m = q.0 in
+    let p = hello_at v m m.body q.2 in (
+      m.epoch,
+      m.moves,
+      subst (λ (x : ServerId × Body). Said past x.0 m.epoch m.moves x.1) (λ i. (p.1 i, p.0 i)) (in_said past m q.1),
+    )
+
+has_greeted_is : (past : List Step) (v : ServerId) → HasGreeted past v → has_greeted past v ≡ true
+has_greeted_is past v (e, n, x) =
+    let p = said_in past v e n Hello x in
+    any_of (λ m. greets_at v m m.body) (said past) p.0 p.1 (subst (λ b. greets_at v p.0 b ≡ true) (sym p.5)
+    (servers p.0.server v p.2))
+
 -- servers that the host is welcome at
 unfoldable pub welcomed_by : List Step → Step → Message → Body → List ServerId
 welcomed_by past s m (Reclaimed answer) =
-    if (m.epoch == epoch_at (s ∷ past) m.server) && (m.moves == 0) then m.server ∷ [] else []
+    if ((m.epoch == epoch_at (s ∷ past) m.server) && (m.moves == 0)) && has_greeted past m.server then m.server ∷ []
+    else []
 welcomed_by past s m _ = []
 
 unfoldable pub welcomed : List Step → Step → Cause → List ServerId
@@ -858,24 +887,30 @@ welcomes [] = []
 welcomes (s ∷ past) = welcomed past s s.cause ++ welcomes past
 
 welcomed_of : (past : List Step) (s : Step) (v : ServerId) (m : Message) (b : Body) → s.cause ≡ Came m → m.body ≡ b
-    → In v (welcomed_by past s m b) → (answer : ReclaimedOf) × ComesIn s v (epoch_at (s ∷ past) v) 0 (Reclaimed answer)
+    → In v (welcomed_by past s m b)
+    → HasGreeted past v × ((answer : ReclaimedOf) × ComesIn s v (epoch_at (s ∷ past) v) 0 (Reclaimed answer))
 unfolding said is_about is_present learnt_by learnt known is_known drops_it held holds_id ever returned_by returned
     given gives_it leaves_it owned made none_open is_waited waits is_first fetched_by granted_by answered asking is_at
     changed_by settles_it settled_by settled changing welcomed_by welcomed welcomes
 welcomed_of past s v m (Reclaimed answer) c is i =
-    let p = if_in ((m.epoch == epoch_at (s ∷ past) m.server) && (m.moves == 0)) v (m.server ∷ []) i in
-    let q = and_parts (m.epoch == epoch_at (s ∷ past) m.server) (m.moves == 0) p.0 in
+    let x = (m.epoch == epoch_at (s ∷ past) m.server) && (m.moves == 0) in
+    let p = if_in (x && has_greeted past m.server) v (m.server ∷ []) i in
+    let g = and_parts x (has_greeted past m.server) p.0 in
+    let q = and_parts (m.epoch == epoch_at (s ∷ past) m.server) (m.moves == 0) g.0 in
     elim p.1 [
       | inl e ↦ (
-        answer,
+        has_greeted_yes past v (subst (λ u. has_greeted past u ≡ true) (sym e) g.1),
         (
-          m,
-          c,
-          sym e,
-          eqb-true m.epoch (epoch_at (s ∷ past) m.server) q.0 ∙ ap (epoch_at (s ∷ past))
-              (sym e),
-          eqb-true m.moves 0 q.1,
-          is,
+          answer,
+          (
+            m,
+            c,
+            sym e,
+            eqb-true m.epoch (epoch_at (s ∷ past) m.server) q.0 ∙ ap (epoch_at (s ∷ past))
+                (sym e),
+            eqb-true m.moves 0 q.1,
+            is,
+          ),
         ),
       )
       | inr e ↦ elim e [ ]
@@ -884,7 +919,7 @@ welcomed_of past s v m b c is i = elim i [ ]
 
 welcomed_from : (past : List Step) (s : Step) (v : ServerId) (cause : Cause) → s.cause ≡ cause → In v
     (welcomed past s cause)
-    → (answer : ReclaimedOf) × ComesIn s v (epoch_at (s ∷ past) v) 0 (Reclaimed answer)
+    → HasGreeted past v × ((answer : ReclaimedOf) × ComesIn s v (epoch_at (s ∷ past) v) 0 (Reclaimed answer))
 unfolding said is_about is_present learnt_by learnt known is_known drops_it held holds_id ever returned_by returned
     given gives_it leaves_it owned made none_open is_waited waits is_first fetched_by granted_by answered asking is_at
     changed_by settles_it settled_by settled changing welcomed_by welcomed welcomes
@@ -908,11 +943,13 @@ unfolding said is_about is_present learnt_by learnt known is_known drops_it held
     given gives_it leaves_it owned made none_open is_waited waits is_first fetched_by granted_by answered asking is_at
     changed_by settles_it settled_by settled changing welcomed_by welcomed welcomes
 welcomes_in [] v w = elim w [ ]
-welcomes_in (s ∷ past) v (inl (answer, c)) =
+welcomes_in (s ∷ past) v (inl (greeted, (answer, c))) =
+    let x = (epoch_at (s ∷ past) v == epoch_at (s ∷ past) v) && (0 == 0) in
     in_front v (welcomed past s s.cause) (welcomes past)
     (subst (λ x. In v (welcomed past s x)) (sym (cause_is s v (epoch_at (s ∷ past) v) 0 (Reclaimed answer) c))
-    (in_if ((epoch_at (s ∷ past) v == epoch_at (s ∷ past) v) && (0 == 0)) v (v ∷ []) (and_from (epoch_at (s
-    ∷ past) v == epoch_at (s ∷ past) v) (0 == 0) (same_is (epoch_at (s ∷ past) v)) refl) (inl refl)))
+    (in_if (x && has_greeted past v) v (v ∷ []) (and_from x (has_greeted past v) (and_from (epoch_at (s ∷ past) v ==
+    epoch_at (s ∷ past) v) (0 == 0) (same_is (epoch_at (s ∷ past) v)) refl) (has_greeted_is past v greeted))
+    (inl refl)))
 welcomes_in (s ∷ past) v (inr w) = in_back v (welcomed past s s.cause) (welcomes past) (welcomes_in past v w)
 
 unfoldable pub is_welcome : List Step → ServerId → Bool

@@ -450,6 +450,15 @@ step_51 = serves (Came (asks Bye)) [] [] (tells Bye ∷ [])
 abbrev pub step_52 : Step
 step_52 = hears (tells Bye) [] []
 
+-- the server's own steps up to the lock that has to wait; and a second Change that comes while it waits
+abbrev pub waiting : List Step
+waiting =
+    step_32 ∷ step_29 ∷ step_27 ∷ step_25 ∷ step_23 ∷ step_21 ∷ step_18 ∷ step_15 ∷ step_13 ∷ step_10 ∷ step_8 ∷ step_6
+    ∷ step_4 ∷ step_2 ∷ []
+
+abbrev pub second_change : Step
+second_change = serves (Came (asks_too (Change (record (lock_for 1 locks_too) { number = 2 })))) [] [] []
+
 abbrev pub steps : List Step
 steps =
     step_1 ∷ step_2 ∷ step_3 ∷ step_4 ∷ step_5 ∷ step_6 ∷ step_7 ∷ step_8 ∷ step_9

@@ -4,20 +4,23 @@ use Rattle.std.specs.Prelude.{List, [], false, length, suc, true, ◌∷◌}
 use Rattle.base_types.specs.declared.ids.HostId.{HostId}
 use Rattle.tree_calls.specs.declared.roster.Roster.{Roster}
 use Rattle.token_types.specs.declared.token.Token.{Token}
+use Rattle.run_rules.specs.Epochs.{IsWelcome}
 use Rattle.run_rules.specs.HostLeaves.{LastUsed}
 use Rattle.run_rules.specs.Lists.{In}
 use Rattle.base_types.specs.declared.ids.Node.TheVariants.{Server}
 use Rattle.script_lines.specs.declared.script.Deed.TheVariants.{Call as MakesCall, Restart, Stop}
 use Rattle.script_lines.specs.declared.script.Script.{Script}
-use Rattle.message_types.specs.declared.message.Body.TheVariants.{GiveBack, Revoke, Bye, Restarted}
+use Rattle.message_types.specs.declared.message.Body.TheVariants.{Done, GiveBack, Reclaimed, Revoke, Bye, Restarted}
 use Rattle.message_types.specs.declared.message.Message.{Message}
 use Rattle.run_rules.specs.HostRules.{HostMeets}
-use Rattle.run_rules.specs.ServerRules.{ServerMeets}
+use Rattle.run_rules.specs.ServerRules.{ServerDue, ServerMay, ServerMeets}
 use Rattle.run_rules.specs.Acts.{acts}
-use Rattle.run_tokens.specs.Worked.{client, from_server, site_one, to_host, to_server}
+use Rattle.run_tokens.specs.Worked.{client, entered, from_server, site_one, to_host, to_server, welcome}
 use Rattle.run_rules.specs.declared.step.Step.{Step}
 use Rattle.run_examples.specs.Steps.{asks_lock, asks_update, begin, claims_all, claims_gift, ends, frees, gift, gives}
 use Rattle.run_examples.specs.Steps.{asks_file, asks_for, asks_root, enters, evicted, evicts, file, frees_last, greets}
+use Rattle.run_examples.specs.Journal.{script, second_change, start, step_34, waiting}
+use Rattle.run_examples.specs.Steps.{hears, hears_nameless, other_stops}
 use Rattle.run_examples.specs.Steps.{calls_back, grown, needs, recall, returns_all, shared, stores_and_grants}
 use Rattle.run_examples.specs.Steps.{unlocks_last}
 use Rattle.run_tokens.specs.JournalWorked.{roster}
@@ -137,6 +140,32 @@ abbrev pub BlockedFetchIsGranted : Type 0
 BlockedFetchIsGranted =
     Serves writing shared calls_back (to_host (Revoke (recall 4)) ∷ [])
     × Serves writing (calls_back ∷ shared) stores_and_grants []
+
+-- A token that was asked back is owed, also when the want in whose way it was has gone: a lapse asks it back again.
+abbrev pub OwedIsAskedAgain : Type 0
+OwedIsAskedAgain = Serves writing (calls_back ∷ shared) other_stops (to_host (Revoke (recall 4)) ∷ [])
+
+-- What a server says out of turn is refused: a Reclaimed for which nobody asked, a Done that is sent again at a lapse,
+-- and a Bye that is sent twice. A host that greeted nobody isn't welcome by a Reclaimed.
+pub record OutOfTurnIsRefused : Type 0 where
+  pub unasked : ServerMay writing file_tree site_one served (acts 1 site_one served)
+      (server_lapses (to_host (Reclaimed welcome) ∷ [])) → ⊥
+  pub again : ServerDue writing file_tree site_one served (acts 1 site_one served)
+      (server_lapses (to_host (Done entered) ∷ [])) → ⊥
+  pub twice : ServerDue writing file_tree site_one served (acts 1 site_one served)
+      (record answers_bye { sent = to_host Bye ∷ to_host Bye ∷ [] }) → ⊥
+  pub ungreeted : IsWelcome (hears (to_host (Reclaimed welcome)) [] [] ∷ []) site_one → ⊥
+
+-- A Change that enters, with a call that names no fileset, makes no want.
+abbrev pub NamelessIsIgnored : Type 0
+NamelessIsIgnored = Serves writing served hears_nameless []
+
+-- A Change that comes while another of its host and fileset waits makes no want; the one that waits is decided.
+abbrev pub Reacts : List Step → Step → Type 0
+Reacts past s = ServerMeets script start site_one past (acts 1 site_one past) s
+
+abbrev pub SecondChangeIsIgnored : Type 0
+SecondChangeIsIgnored = Reacts waiting second_change × Reacts (second_change ∷ waiting) step_34
 
 -- A token that a host's step takes counts as used by it, and so isn't the oldest while another idle one was used
 -- earlier.

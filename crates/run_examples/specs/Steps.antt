@@ -466,6 +466,14 @@ calls_back =
 abbrev pub calls_again : Step
 calls_again = server_lapses (to_host (Revoke (recall 4)) ∷ [])
 
+-- a Change that enters, with a call that names no fileset
+abbrev pub hears_nameless : Step
+hears_nameless = serves (Came (to_server 1 (Change (record enter { number = 2; call = unlocks })))) [] [] []
+
+-- the second host goes down, and its want with it
+abbrev pub other_stops : Step
+other_stops = serves (Came (from_other 1 Down)) (GoesDown other ∷ []) [] []
+
 abbrev pub other_status : Token
 other_status = record (token 6 file (Status false)) { host = other }
 

@@ -1,6 +1,7 @@
 ghost use Rattle.run_examples.specs.Laws.{WriteIsAskedFor, WriteIsAnswered, RevokeIsAnswered, RestartIsAnswered};
 ghost use Rattle.run_examples.specs.Laws.{StopIsAllowed, EndIsAllowed, LockIsKept, UseIsEnded, EvictionIsAllowed};
-ghost use Rattle.run_examples.specs.Laws.{BlockedFetchIsGranted, ServerReacts, TakenIsUsed};
+ghost use Rattle.run_examples.specs.Laws.{BlockedFetchIsGranted, NamelessIsIgnored, OutOfTurnIsRefused};
+ghost use Rattle.run_examples.specs.Laws.{OwedIsAskedAgain, SecondChangeIsIgnored, ServerReacts, TakenIsUsed};
 
 /// A Write asks for the status of a file that its host doesn't know, and then to change the status and the block that
 /// it lacks; at a lapse it asks again.
@@ -64,6 +65,28 @@ pub fn a_server_reacts()
 /// has come back the Fetch is granted, and the Grant tells what is kept then.
 pub fn a_blocked_fetch_is_granted()
     ensures { BlockedFetchIsGranted }
+{}
+
+/// A token that was asked back is asked back again at a lapse, also when the host whose want it blocked has gone down.
+pub fn an_owed_token_is_asked_again()
+    ensures { OwedIsAskedAgain }
+{}
+
+/// A server sends no Reclaimed for which nobody asked, no Done again where its Change isn't taken, and nothing twice in
+/// a step. A host that greeted nobody isn't welcome by a Reclaimed.
+pub fn out_of_turn_is_refused()
+    ensures { OutOfTurnIsRefused }
+{}
+
+/// A Change that enters a fileset but names none changes nothing.
+pub fn a_nameless_change_is_ignored()
+    ensures { NamelessIsIgnored }
+{}
+
+/// A host's Change that comes while another one of it waits under the same fileset changes nothing, and the one that
+/// waits is decided in its turn.
+pub fn a_second_change_is_ignored()
+    ensures { SecondChangeIsIgnored }
 {}
 
 /// A token that a host's step takes counts as used by that step.

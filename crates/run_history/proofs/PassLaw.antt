@@ -196,7 +196,7 @@ module _ (script : Script) (journal : Journal) (run : IsRun script journal) (c :
           (subst (Next (Server v))
           (ap (λ (n : Node). applied_entries n s.applied) (sym node)
           ∙ ap (λ (xs : List Answer). map call_entry xs ++ applied_entries s.node s.applied)
-          (sym m.0.lines.does_none.2))
+          (sym m.0.no_host.does_none.2))
           (leaves_step script start firsts c of_run past steps v s m node deeds_are (LabelsStand firsts past)
           (LabelsStand firsts (s ∷ past)) (λ a b e f k. labels_are_of_uses firsts past a b e f k)
           (λ a b e f k. labels_are_of_uses firsts (s ∷ past) a b e f k) t stands labels

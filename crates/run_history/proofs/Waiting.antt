@@ -21,7 +21,7 @@ use Rattle.run_contents.specs.Steps.{HostRun}
 use Rattle.run_rules.specs.Kept.{kept, kept_after, kept_through}
 use Rattle.run_rules.specs.ServerApplies.{by_cause, decisions}
 use Rattle.run_rules.specs.ServerDecides.{MayDecide, MayDecideAll}
-use Rattle.run_rules.specs.ServerRules.{ServerMeets}
+use Rattle.run_rules.specs.ServerRules.{ServerMay}
 use Rattle.run_rules.specs.Wants.{Decides, IsOld, Waits}
 use Rattle.run_tokens.proofs.Words.{acts_after, epoch_grows, if_server, own_after}
 use Rattle.run_rules.specs.Acts.{Act, SentTo, acts, admitted_by, admitting, after_cause, after_step, deciding}
@@ -110,11 +110,12 @@ wanted v before s x tree S may old w c (inl e) r n d (inr q) f m =
       | inl new ↦ new.fresh (subst (λ (y : Request). IsOld S x.host y)
           (sym (ap (λ (z : Wanted). z.request) one ∙ r))
           (inr (
+            epoch S,
             n,
             d,
             subst (λ (z : Wanted). SentTo S z.host (epoch S) n (Done d)) (sym one) q,
             f,
-            (let number = m in omega (arith, number)),
+            inr (sym m, refl),
           )))
       | inr k ↦ (
           let was : k.0.host ≡ x.host = ap (λ (z : Wanted). z.host) k.1.same in
@@ -141,7 +142,7 @@ decides v before s (Stored h f ss n ∷ xs) tree S may old = elim may.0 [ ]
 decides v before s (IsDown h ∷ xs) tree S may old = elim may.0 [ ]
 
 step_fresh : (script : Script) (start : Tree) (v : ServerId) (steps : List Step) (S : List Act) (s : Step)
-    → ServerMeets script start v steps S s → AllFresh S → AllFresh (after_step s S)
+    → ServerMay script start v steps S s → AllFresh S → AllFresh (after_step s S)
 step_fresh script start v steps S s m old =
     on (sent_by s S) (Reserves s.reserved) (λ w e. cc) (λ h e n b q. cc) refl
     (sents s.sent (admitted_by s S) (admits s.admitted (written_by s S)

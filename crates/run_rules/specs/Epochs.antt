@@ -11,6 +11,7 @@ use Rattle.run_rules.specs.declared.step.Cause.{Cause}
 use Rattle.run_rules.specs.declared.step.Cause.TheVariants.{Message as Came}
 use Rattle.run_rules.specs.declared.step.Step.{Step}
 use Rattle.run_rules.specs.Places.{place}
+use Rattle.run_rules.specs.Sends.{HasGreeted}
 
 -- Restarted of a higher epoch raises the host's epoch, and so does the Reclaimed that answers its Hello: the first one
 abbrev pub raised_by : Body → Bool → ℕ → ℕ → ℕ
@@ -52,7 +53,7 @@ abbrev pub Renews : List Step → Step → FilesetId → Type 0
 Renews past step fileset =
     Raises past step (place past fileset).server ⊎ ((place past fileset).moves < (place (step ∷ past) fileset).moves)
 
--- the host has taken a Reclaimed that it didn't ignore: it has greeted the server, and knows the server's epoch
+-- the host greeted the server, and then took a Reclaimed of it that it didn't ignore: it knows the server's epoch
 abbrev pub IsWelcome : List Step → ServerId → Type 0
-IsWelcome past server = Once (λ before step. (answer : ReclaimedOf)
-    × ComesIn step server (epoch_at (step ∷ before) server) 0 (Reclaimed answer)) past
+IsWelcome past server = Once (λ before step. HasGreeted before server × ((answer : ReclaimedOf)
+    × ComesIn step server (epoch_at (step ∷ before) server) 0 (Reclaimed answer))) past

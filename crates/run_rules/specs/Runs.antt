@@ -16,7 +16,7 @@ use Rattle.run_rules.specs.declared.journal.Journal.{Journal}
 use Rattle.run_rules.specs.HostResends.{HasBye}
 use Rattle.run_rules.specs.HostRules.{HostMeets}
 use Rattle.run_rules.specs.Lines.{first_epoch, lines_gone, lines_of, servers_of, setup}
-use Rattle.run_rules.specs.ServerRules.{ServerMeets}
+use Rattle.run_rules.specs.ServerRules.{ServerMay}
 use Rattle.run_rules.specs.Acts.{acts}
 use Rattle.run_rules.specs.Hosts.{Away, Listed}
 use Rattle.run_rules.specs.Lists.{In}
@@ -45,7 +45,7 @@ abbrev pub StepMeets : Script → Tree → (ServerId → ℕ) → Node → List 
 StepMeets script start firsts (Host host) past s =
     HostMeets script host (own host past) s × CameToHost firsts host past s
 StepMeets script start firsts (Server server) past s =
-    ServerMeets script start server (served server past) (acts (firsts server) server past) s
+    ServerMay script start server (served server past) (acts (firsts server) server past) s
     × CameToServer server past s
 
 -- it is a line of the node, of this number

@@ -68,6 +68,18 @@ abbrev pub AdmitsNow : ServerId → List Act → Step → HostId → ReclaimOf �
 AdmitsNow server past s host claim = ((c : Admission) × In c s.admitted × (c.host ≡ host))
     × ((answer : ReclaimedOf) × SentNow s host (Reclaimed answer) × AnswersClaim server past host claim answer)
 
+-- What a server says only where it was asked.
+pub record OnlyAnswers (past : List Act) (s : Step) : Type 0 where
+  -- a Bye answers a Bye of a host that isn't down
+  pub bye_only : (h : HostId) → SentNow s h Bye → HeardNow s h Bye × (IsDown past h → ⊥)
+  -- a Reclaimed answers the Hello of a host that isn't down, a claim that the step admits, or one of a host that has
+  -- reclaimed in this epoch
+  pub reclaimed_only : (h : HostId) (answer : ReclaimedOf) → SentNow s h (Reclaimed answer)
+      → (HeardNow s h Hello × (IsDown past h → ⊥))
+      ⊎ (((c : Admission) × In c s.admitted × (c.host ≡ h))
+      ⊎ ((n : ℕ) × (claim : ReclaimOf) × TakenNow past s h n (Reclaim claim) × HasReclaimed past h))
+
+-- What a server has to answer at once, and to tell by itself.
 pub record ServerAnswers (server : ServerId) (past : List Act) (s : Step) : Type 0 where
   -- a Hello of a live host that came on the list in an older epoch is answered by Restarted; any other, but of a
   -- host that is down, by a Reclaimed with empty lists
@@ -77,7 +89,6 @@ pub record ServerAnswers (server : ServerId) (past : List Act) (s : Step) : Type
   -- a Bye of a host that isn't live is answered by Bye, but of one that is down, and so is one of the present epoch
   pub bye : (h : HostId) → HeardNow s h Bye → (IsDown past h → ⊥)
       → (IsLive past h → ⊥) ⊎ ((n : ℕ) × TakenNow past s h n Bye) → SentNow s h Bye
-  pub bye_only : (h : HostId) → SentNow s h Bye → HeardNow s h Bye × (IsDown past h → ⊥)
   -- any other message of a live host and another epoch is answered by Restarted, and has no other effect
   pub late : (h : HostId) (m : Message) → s.cause ≡ Came m → m.host ≡ h → IsLive past h → m.epoch ≢ epoch past
       → m.body ≢ Hello → m.body ≢ Down → SentNow s h Restarted

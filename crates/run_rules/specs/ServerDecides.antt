@@ -2,11 +2,12 @@
 -- far.
 use Rattle.run_rules.specs.Acts.{decisions_of}
 use Rattle.run_rules.specs.Lists.{after}
-use Rattle.std.specs.Prelude.{Bool, List, [], false, true, ℕ, ◌∷◌, ◌≡◌, ◌≢◌, ◌⊎◌}
+use Rattle.std.specs.Prelude.{Bool, List, [], false, is_some, true, ℕ, ◌∷◌, ◌≡◌, ◌≢◌, ◌⊎◌}
 use Rattle.base_types.specs.declared.ids.FilesetId.{FilesetId}
 use Rattle.base_types.specs.declared.ids.HostId.{HostId}
 use Rattle.base_types.specs.declared.ids.ServerId.{ServerId}
 use Rattle.tree_calls.specs.declared.reply.Reply.{Reply}
+use Rattle.need_host.specs.Questions.{fileset_of}
 use Rattle.tree_answers.specs.Answers.{answer_to}
 use Rattle.tree_answers.specs.declared.tree.Tree.{Tree}
 use Rattle.run_rules.specs.Kept.{kept_after}
@@ -36,12 +37,18 @@ use Rattle.run_rules.specs.Acts.{Act, after_cause}
 abbrev pub IsHere : ServerId → List Act → FilesetId → ℕ → Type 0
 IsHere server past fileset moves = ((fileset.0 ≡ 0) × (moves ≡ 0)) ⊎ Here server past fileset moves
 
+-- A Change is meant so that it can be answered: one that enters a fileset names one, and a lock or an open is numbered
+-- under its file's fileset.
+abbrev pub IsMeantSo : ChangeOf → Type 0
+IsMeantSo change = (change.enter ≡ true → is_some (fileset_of change.call) ≡ true)
+    × (is_use change.call ≡ true → change.fid.fileset ≡ change.fileset)
+
 abbrev pub IsAskedHere : ServerId → List Act → ℕ → Request → Type 0
 IsAskedHere server past moves (Asks fetch) = Here server past fetch.fid.fileset moves
-IsAskedHere server past moves (Changes change) = IsHere server past change.fileset moves
+IsAskedHere server past moves (Changes change) = IsHere server past change.fileset moves × IsMeantSo change
 
--- The step takes a new request: its fileset is here, it isn't old, and none of its number waits. `before` are the
--- doings before the step.
+-- The step takes a new request: its fileset is here, it isn't old, and none waits that can't wait beside it. `before`
+-- are the doings before the step.
 pub record IsNewRequest
     (server : ServerId) (before past : List Act) (s : Step) (host : HostId) (moves : ℕ) (request : Request)
     : Type 0 where
@@ -50,7 +57,8 @@ pub record IsNewRequest
   pub fresh : IsOld past host request → ⊥
   pub alone : NoneWaits past host request
 
--- the fileset that a Change is about, with nothing locked or open: what the call table says on the kept filesets
+-- What the call table says on the kept filesets, with nothing locked or open. Those are the server's own alone: of a
+-- place at another server it says that there is no such fileset.
 abbrev pub kept_reply : Tree → HostId → Call → Reply
 kept_reply tree host call = (answer_to tree host call).reply
 

@@ -2,7 +2,7 @@
 -- so far.
 use Rattle.run_rules.specs.Hosts.{InEpoch}
 use Rattle.run_rules.specs.Lists.{Once}
-use Rattle.std.specs.Prelude.{IsTrue, List, None, Ok, Some, [], true, ℕ, ◌≡◌, ◌≤◌, ◌⊎◌}
+use Rattle.std.specs.Prelude.{IsTrue, List, None, Ok, Some, [], map, true, ℕ, ◌≡◌, ◌≤◌, ◌⊎◌}
 use Rattle.base_types.specs.declared.ids.FilesetId.{FilesetId}
 use Rattle.base_types.specs.declared.ids.HostId.{HostId}
 use Rattle.base_types.specs.declared.ids.ServerId.{ServerId}
@@ -20,7 +20,7 @@ use Rattle.run_rules.specs.ServerDecides.{IsHere, IsOfRow, NotRefused}
 use Rattle.run_rules.specs.Wants.{Blocks, CanGrant, IsReady, Waits, is_use}
 use Rattle.run_rules.specs.Grants.{Granted, Pinned}
 use Rattle.run_rules.specs.Hosts.{IsLive, NoGrace}
-use Rattle.run_rules.specs.Lists.{In}
+use Rattle.run_rules.specs.Lists.{EachOnce, In}
 use Rattle.run_rules.specs.declared.step.Step.{Step}
 use Rattle.run_rules.specs.Told.{told}
 use Rattle.message_types.specs.declared.message.Body.TheVariants.{Grant, Done, Revoke, Change}
@@ -40,10 +40,9 @@ use Rattle.run_rules.specs.declared.applied.Request.TheVariants.{Fetch as Asks, 
 use Rattle.run_rules.specs.declared.applied.Wanted.{Wanted}
 use Rattle.tree_filesets.specs.declared.fileset.Fileset.{Fileset}
 
--- the tokens that an answer brings are what was needed
-pub record AreNeeds (needs : List Need) (tokens : List Token) : Type 0 where
-  pub sound : (t : Token) → In t tokens → In (need_of t) needs
-  pub whole : (n : Need) → In n needs → (t : Token) × In t tokens × (need_of t ≡ n)
+-- the tokens that an answer brings are what was needed: one for each need, in order
+abbrev pub AreNeeds : List Need → List Token → Type 0
+AreNeeds needs tokens = map need_of tokens ≡ needs
 
 -- the object that a Grant is of is there
 abbrev pub IsThere : Tree → GrantOf → Type 0
@@ -143,14 +142,26 @@ pub record IsAskedBack (server : ServerId) (past : List Act) (t : Token) : Type 
   pub waits : Waits past w
   pub blocks_it : Blocks w t
 
+-- It was asked back, and its host hasn't answered that for good: it is granted still, and isn't pinned, whether a want
+-- is in its way or not.
+pub record IsOwed (server : ServerId) (past : List Act) (t : Token) : Type 0 where
+  pub granted : Granted server past t
+  pub unpinned : Pinned server past t → ⊥
+  pub revoked : Revoked past t
+
 -- What a server may send next.
 pub record MaySend (server : ServerId) (tree : Tree) (s : Step) (past : List Act) (a : Act) : Type 0 where
   pub grants : (h : HostId) (e n : ℕ) (g : GrantOf) → a ≡ Sent h e n (Grant g) → GrantsSo server tree past h n g
   pub dones : (h : HostId) (e n : ℕ) (d : DoneOf) → a ≡ Sent h e n (Done d)
       → IsLive past h × IsHere server past d.fileset n × DoneFor server tree past h n d
-  -- a token is asked back while it is in the way of a want: once, and again at a lapse
+  -- a token is asked back once, while it is in the way of a want; and again at each lapse while that is owed
   pub revokes : (h : HostId) (e n : ℕ) (r : RevokeOf) (i : TokenId) → a ≡ Sent h e n (Revoke r) → In i r.ids
-      → (t : Token) × (t.id ≡ i) × (t.host ≡ h) × IsAskedBack server past t × ((Revoked past t → ⊥) ⊎ (s.cause ≡ Lapse))
+      → (t : Token) × (t.id ≡ i) × (t.host ≡ h)
+      × ((IsAskedBack server past t × (Revoked past t → ⊥)) ⊎ ((s.cause ≡ Lapse) × IsOwed server past t))
+
+-- it is of the Change of this Done
+abbrev pub IsOfChange : ChangeOf → DoneOf → Type 0
+IsOfChange c d = (c.fileset ≡ d.fileset) × (c.number ≡ d.bring.number)
 
 -- the step answers the host's Change of this fileset and number
 abbrev pub AnswersChange : Step → HostId → FilesetId → ℕ → Type 0
@@ -159,6 +170,10 @@ AnswersChange s h fileset number =
 
 -- What is so at the end of a step: `before` are the doings before it, `past` those with all that it sent and keeps.
 pub record HasSent (server : ServerId) (tree : Tree) (before past : List Act) (s : Step) : Type 0 where
+  -- each message is sent once, and each token is named by one Revoke
+  pub once : EachOnce s.sent
+  pub revokes_once : (h : HostId) (r q : RevokeOf) (i : TokenId) → SentNow s h (Revoke r) → SentNow s h (Revoke q)
+      → In i r.ids → In i q.ids → r ≡ q
   -- each Change that is written down is answered
   pub written : (written : Written) → In (IsDone written) s.applied
       → (d : DoneOf) × SentNow s written.answer.host (Done d) × (d.outcome ≡ HasReply written.answer.reply)
@@ -168,6 +183,10 @@ pub record HasSent (server : ServerId) (tree : Tree) (before past : List Act) (s
       → IsHere server before c.fileset n → d.fileset ≡ c.fileset → d.bring.number ≡ c.number → IsLast before h d
       → HasWritten before h d ⊎ ((m : ℕ) × SentTo before h (epoch before) m (Done d))
       → AnswersChange s h c.fileset c.number
+  -- a Done is of a Change that the step takes, or that waited
+  pub dones_only : (h : HostId) (d : DoneOf) → SentNow s h (Done d) → (c : ChangeOf) × IsOfChange c d
+      × (((n : ℕ) × TakenNow before s h n (Change c))
+      ⊎ ((w : Wanted) × Waits before w × (w.host ≡ h) × (w.request ≡ Changes c)))
   -- each Fetch that can be granted is
   pub grants : (w : Wanted) (f : FetchOf) → Waits past w → w.request ≡ Asks f → CanGrant server past w → ⊥
   -- so is each use, where it isn't refused; one whose path names another file is settled when it could be decided
@@ -178,7 +197,7 @@ pub record HasSent (server : ServerId) (tree : Tree) (before past : List Act) (s
   -- each fileset is entered that can be
   pub enters : (w : Wanted) (c : ChangeOf) → Waits past w → w.request ≡ Changes c → c.enter ≡ true
       → NotRefused tree w.host c → CanGrant server past w → ⊥
-  -- each token that is in the way of a want is asked back
+  -- each token that is in the way of a want is asked back; at a lapse each that is owed is named
   pub revokes : (t : Token) → IsAskedBack server past t → Revoked past t
-  pub revokes_again : (t : Token) → s.cause ≡ Lapse → IsAskedBack server past t
+  pub revokes_again : (t : Token) → s.cause ≡ Lapse → IsOwed server past t
       → (r : RevokeOf) × SentNow s t.host (Revoke r) × In t.id r.ids

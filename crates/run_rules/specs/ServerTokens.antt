@@ -42,9 +42,9 @@ pub record MayBring (server : ServerId) (past : List Act) (host : HostId) (moves
   -- until the grace period ends no want is granted; the host is live
   pub over : NoGrace past
   pub live : IsLive past host
-  -- the file's fileset is here, in this stay; the stamp is above all earlier ones of the file and the epoch
+  -- the file's fileset is here, in this stay; the stamp is above 0 and all earlier ones of the file and the epoch
   pub home : Here server past bring.fid.fileset moves
-  pub stamp : (x : ℕ) → Told past bring.fid x → x < bring.stamp
+  pub stamp : (0 < bring.stamp) × ((x : ℕ) → Told past bring.fid x → x < bring.stamp)
   -- the tokens are the host's, on the file
   pub host_is : (t : Token) → In t bring.tokens → t.host ≡ host
   pub file : (t : Token) → In t bring.tokens → t.fid ≡ bring.fid

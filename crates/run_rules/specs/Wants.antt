@@ -1,7 +1,7 @@
 -- The wants of requests: which one waits, what for, and in what order. `past` is the server's earlier doings.
 use Rattle.run_rules.specs.Lists.{Since}
 use Rattle.std.specs.Option.{option_map_or}
-use Rattle.std.specs.Prelude.{Bool, IsTrue, List, [], false, if◌then◌else◌, not, true, ℕ, ◌&&◌, ◌∷◌, ◌≡◌, ◌≤◌, ◌⊎◌}
+use Rattle.std.specs.Prelude.{Bool, IsTrue, List, [], false, if◌then◌else◌, not, true, ℕ, ◌&&◌, ◌<◌, ◌∷◌, ◌≡◌, ◌⊎◌}
 use Rattle.base_types.specs.declared.ids.HostId.{HostId}
 use Rattle.base_types.specs.declared.ids.ServerId.{ServerId}
 use Rattle.tree_calls.specs.Rosters.{user_of}
@@ -38,7 +38,8 @@ is_use (Lock label place writing from len) = true
 is_use (OpenFile label place kind) = true
 is_use _ = false
 
--- whether it moves a fileset; so far none moves, and such a Change waits where nothing refuses it
+-- whether it moves a fileset; so far none moves: where nothing refuses such a Change it waits for good, and each later
+-- want that conflicts with it stands behind it
 abbrev pub is_move : Call → Bool
 is_move (MoveFileset server name to) = true
 is_move _ = false
@@ -72,10 +73,10 @@ asker_of host (Changes change) = if is_use change.call then host else exporter
 abbrev pub asker : Wanted → HostId
 asker w = asker_of w.host w.request
 
--- two requests have one number, by which they are known
+-- two requests of a host can't both wait: Fetches of one number, and any Changes, of one fileset
 abbrev pub SameNumber : Request → Request → Type 0
 SameNumber (Asks f) (Asks g) = (f.fid.fileset ≡ g.fid.fileset) × (f.number ≡ g.number)
-SameNumber (Changes c) (Changes d) = (c.fileset ≡ d.fileset) × (c.number ≡ d.number)
+SameNumber (Changes c) (Changes d) = c.fileset ≡ d.fileset
 SameNumber _ _ = ⊥
 
 -- the doing decides the host's request: it writes the Change down, or sends the Grant or Done of its number
@@ -105,18 +106,18 @@ abbrev pub Before : List Act → Wanted → Wanted → Type 0
 Before [] w v = ⊥
 Before (a ∷ past) w v = ((Waits past w × (a ≡ Wants v)) ⊎ Before past w v) × Waits (a ∷ past) w × Waits (a ∷ past) v
 
--- no request of the host and this number waits
+-- no request of the host waits that can't wait beside this one
 abbrev pub NoneWaits : List Act → HostId → Request → Type 0
 NoneWaits past host request = (w : Wanted) → Waits past w → w.host ≡ host → SameNumber w.request request → ⊥
 
--- A Change is old where its number, or a higher one of its host and fileset, was written down, or answered in this
--- epoch.
+-- A Change is old where its number, or a higher one of its host and fileset, was written down; where a higher one was
+-- answered, in any epoch; and where it was answered itself in this epoch.
 abbrev pub IsOld : List Act → HostId → Request → Type 0
 IsOld past host (Asks fetch) = ⊥
 IsOld past host (Changes change) =
     IsDurable past host change.fileset change.number
-    ⊎ ((n : ℕ) × (done : DoneOf) × SentTo past host (epoch past) n (Done done)
-    × (done.fileset ≡ change.fileset) × (change.number ≤ done.bring.number))
+    ⊎ ((e n : ℕ) × (done : DoneOf) × SentTo past host e n (Done done) × (done.fileset ≡ change.fileset)
+    × ((change.number < done.bring.number) ⊎ ((change.number ≡ done.bring.number) × (e ≡ epoch past))))
 
 -- a token is in the want's way
 abbrev pub Blocks : Wanted → Token → Type 0

@@ -404,7 +404,7 @@ module _ (whole : Span) where
     over = λ h l. subst (HasReclaimed asked) (sym (asked_new.listed_is h l.0)) asked_new.reclaimed;
     live = (asked_new.listed, asked_new.here client);
     home = here_one asked;
-    stamp = λ x t. absurd (asked_new.none_told x t);
+    stamp = (omega arith, λ x t. absurd (asked_new.none_told x t));
     host_is = both (λ t. t.host ≡ client) refl refl;
     file = both (λ t. t.fid ≡ root) refl refl;
     id = both (λ t. t.id.server ≡ site_one) refl refl;

@@ -610,7 +610,7 @@ unfolding call_look stat_look stance_three
 first_lack = inl ((λ c. let p = c in cc), refl)
 
 not_welcome_one : (v : ServerId) → IsWelcome one v → ⊥
-not_welcome_one v (inl w) = no_line greets 6 v _ _ (Reclaimed w.0) refl w.1
+not_welcome_one v (inl w) = no_line greets 6 v _ _ (Reclaimed w.1.0) refl w.1.1
 not_welcome_one v (inr w) = elim w [ ]
 
 goes_one : GoesTo roster client [] greets stance_one stat site_one
@@ -635,7 +635,7 @@ asks_greets = record {
 }
 
 welcome_two : IsWelcome two site_one
-welcome_two = inl (welcome, (to_host (Reclaimed welcome), refl, refl, refl, refl, refl))
+welcome_two = inl (greeted_one, (welcome, (to_host (Reclaimed welcome), refl, refl, refl, refl, refl)))
 
 new_enter : IsNewChange roster client one enters stance_two site_one 0 enter
 unfolding stance_two

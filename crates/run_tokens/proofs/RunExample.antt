@@ -185,19 +185,19 @@ meet_1 : StepsMeet script start firsts steps_1
 meet_1 = (tt, ((meets_greets, line_cause [] greets 6 refl), host_flags [] greets refl refl, omega arith, sound_to 0 Hello refl refl tt))
 
 meet_2 : StepsMeet script start firsts steps_2
-meet_2 = (meet_1, ((meets_welcomes, server_cause steps_1 welcomes 0 Hello refl said_hello), server_flags steps_1 welcomes (to_server 0 Hello) refl refl, inl refl, sound_from (Reclaimed welcome) refl refl tt))
+meet_2 = (meet_1, ((meets_welcomes.may, server_cause steps_1 welcomes 0 Hello refl said_hello), server_flags steps_1 welcomes (to_server 0 Hello) refl refl, inl refl, sound_from (Reclaimed welcome) refl refl tt))
 
 meet_3 : StepsMeet script start firsts steps_3
 meet_3 = (meet_2, ((meets_enters, host_cause steps_2 enters (Reclaimed welcome) refl (inr (inl refl))), host_flags steps_2 enters refl refl, omega arith, sound_to 1 (Change enter) refl tt enter_is_sound))
 
 meet_4 : StepsMeet script start firsts steps_4
-meet_4 = (meet_3, ((meets_tells, server_cause steps_3 tells 1 (Change enter) refl said_enter), server_flags steps_3 tells (to_server 1 (Change enter)) refl refl, inl refl, sound_from (Done entered) refl tt entered_is_sound))
+meet_4 = (meet_3, ((meets_tells.may, server_cause steps_3 tells 1 (Change enter) refl said_enter), server_flags steps_3 tells (to_server 1 (Change enter)) refl refl, inl refl, sound_from (Done entered) refl tt entered_is_sound))
 
 meet_5 : StepsMeet script start firsts steps_5
 meet_5 = (meet_4, ((meets_fetches, host_cause steps_4 (fetches whole) (Done entered) refl (inr (inl refl))), host_flags steps_4 (fetches whole) refl refl, omega arith, sound_to 1 (Fetch (asks_for whole)) refl tt fetch_is_sound))
 
 meet_6 : StepsMeet script start firsts steps_6
-meet_6 = (meet_5, ((meets_grants, server_cause steps_5 (grants whole) 1 (Fetch (asks_for whole)) refl said_fetch), server_flags steps_5 (grants whole) (to_server 1 (Fetch (asks_for whole))) refl refl, inl refl, sound_from (Grant (granted whole)) refl tt grant_is_sound))
+meet_6 = (meet_5, ((meets_grants.may, server_cause steps_5 (grants whole) 1 (Fetch (asks_for whole)) refl said_fetch), server_flags steps_5 (grants whole) (to_server 1 (Fetch (asks_for whole))) refl refl, inl refl, sound_from (Grant (granted whole)) refl tt grant_is_sound))
 
 meet_7 : StepsMeet script start firsts steps_7
 meet_7 = (meet_6, ((meets_takes, host_cause steps_6 (takes whole) (Grant (granted whole)) refl (inr (inl refl))), host_flags steps_6 (takes whole) refl refl, omega arith, λ m i. elim i [ ]))

@@ -6,10 +6,10 @@ use Rattle.base_types.specs.declared.ids.ServerId.{ServerId}
 use Rattle.tree_answers.specs.declared.tree.Tree.{Tree}
 use Rattle.token_types.specs.declared.token.Token.{Token}
 use Rattle.run_rules.specs.Lines.{lines_of}
-use Rattle.run_rules.specs.ServerAnswers.{HeardNow, SentNow, ServerAnswers, TakenNow}
+use Rattle.run_rules.specs.ServerAnswers.{HeardNow, OnlyAnswers, SentNow, ServerAnswers, TakenNow}
 use Rattle.run_rules.specs.ServerApplies.{ServerApplies}
 use Rattle.run_rules.specs.ServerDecides.{HasDecided}
-use Rattle.run_rules.specs.ServerRules.{ServerLines}
+use Rattle.run_rules.specs.ServerRules.{NoHostStep, ServerLines}
 use Rattle.run_rules.specs.ServerSends.{HasSent}
 use Rattle.run_rules.specs.Wants.{body_of}
 use Rattle.run_rules.specs.Lists.{In}
@@ -21,10 +21,10 @@ use Rattle.run_tokens.specs.ServerRest.{IsSettled, ServerMayRest}
 use Rattle.run_rules.specs.Acts.{Act}
 use Rattle.run_rules.specs.Acts.Act.{Reserves}
 use Rattle.run_rules.specs.declared.step.Cause.TheVariants.{Lapse}
-use Rattle.message_types.specs.declared.message.Body.TheVariants.{Hello, Change, GiveBack, Gone, Reclaim, Restarted, Down, Bye}
+use Rattle.message_types.specs.declared.message.Body.TheVariants.{Hello, Change, Done, Revoke, GiveBack, Gone, Reclaim, Reclaimed, Restarted, Down, Bye}
 use Rattle.message_types.specs.declared.message.Body.{Body}
 use Rattle.base_types.specs.declared.ids.Node.TheVariants.{Server}
-use Rattle.run_tokens.proofs.Still.{can_grant, ready, waited, asked_back}
+use Rattle.run_tokens.proofs.Still.{can_grant, owed, ready, waited, asked_back}
 
 module _ (server : ServerId) (tree : Tree) (past : List Act) (settled : IsSettled server tree past) where
   abbrev s : Step
@@ -44,7 +44,6 @@ module _ (server : ServerId) (tree : Tree) (past : List Act) (settled : IsSettle
     hello_old = λ h x. absurd (none_heard h Hello x);
     hello = λ h x. absurd (none_heard h Hello x);
     bye = λ h x. absurd (none_heard h Bye x);
-    bye_only = λ h x. absurd (none_now h Bye x);
     late = λ h m c. absurd (cc);
     restarted = λ line h c. absurd (cc);
     restarted_again = λ h c live not. absurd (not (settled.over h live));
@@ -53,6 +52,12 @@ module _ (server : ServerId) (tree : Tree) (past : List Act) (settled : IsSettle
     gone_only = λ h n x. absurd (none_now h (Gone n) x);
     claim_now = λ h n claim took not live. absurd (not (settled.over h live));
     claim_again = λ h n claim x. absurd (none_taken h n (Reclaim claim) x);
+  }
+
+  only : OnlyAnswers past s
+  only = record {
+    bye_only = λ h x. absurd (none_now h Bye x);
+    reclaimed_only = λ h answer x. absurd (none_now h (Reclaimed answer) x);
   }
 
   applies : ServerApplies server tree past s
@@ -80,6 +85,9 @@ module _ (server : ServerId) (tree : Tree) (past : List Act) (settled : IsSettle
 
   sent : HasSent server tree past after s
   sent = record {
+    once = tt;
+    revokes_once = λ h r q i x. absurd (none_now h (Revoke r) x);
+    dones_only = λ h d x. absurd (none_now h (Done d) x);
     written = λ w m. elim m [ ];
     repeats = λ h n c d x. absurd (none_taken h n (Change c) x);
     grants = λ w f waits is c. settled.fetches w f (waited server past w waits) is (can_grant server past w c);
@@ -87,7 +95,7 @@ module _ (server : ServerId) (tree : Tree) (past : List Act) (settled : IsSettle
     others = λ w c waits is uses not row r. settled.changes w c (waited server past w waits) is (ready server past w r);
     enters = λ w c waits is enter not r. settled.changes w c (waited server past w waits) is (inl (can_grant server past w r));
     revokes = λ t k. absurd (settled.none_asked_back t (asked_back server past t k));
-    revokes_again = λ t c k. absurd (settled.none_asked_back t (asked_back server past t k));
+    revokes_again = λ t c k. absurd (settled.none_owed t (owed server past t k));
   }
 
   tokens : ServerStep server past s
@@ -115,24 +123,28 @@ module _ (server : ServerId) (tree : Tree) (past : List Act) (settled : IsSettle
       kept : (tokens : List Token) (t : Token) → Reserves [] ≡ Reserves tokens → In t tokens → ⊥
       kept tokens t is m = let p : [] ≡ tokens = cc in elim (subst (In t) (sym p) m) [ ]
 
+  no_host : NoHostStep s
+  no_host = record { causes = (λ c. cc, λ c. cc); does_none = (refl, refl, refl, refl, refl, refl, refl) }
+
   lines_meet : (lines : List ScriptLine) (steps : List Step) → ServerLines lines steps s
-  lines_meet lines steps = record {
-    bare = λ n c. absurd (cc);
-    restarts = λ n c. absurd (cc);
-    no_host = (λ c. cc, λ c. cc);
-    does_none = (refl, refl, refl, refl, refl, refl, refl);
-  }
+  lines_meet lines steps = record { bare = λ n c. absurd (cc); restarts = λ n c. absurd (cc) }
 
 pub may_rest : ServerMayRest
 may_rest script start server steps past settled = record {
-  tokens = tokens server (kept start server steps) past settled;
-  lines = lines_meet server (kept start server steps) past settled (lines_of script (Server server)) steps;
-  answers = answers server (kept start server steps) past settled;
-  works = record {
-    applies = applies server (kept start server steps) past settled;
-    decides = tt;
+  may = record {
+    tokens = tokens server (kept start server steps) past settled;
+    no_host = no_host server (kept start server steps) past settled;
+    answers = only server (kept start server steps) past settled;
+    works = record {
+      applies = applies server (kept start server steps) past settled;
+      decides = tt;
+      sends = tt;
+    };
+  };
+  due = record {
+    lines = lines_meet server (kept start server steps) past settled (lines_of script (Server server)) steps;
+    answers = answers server (kept start server steps) past settled;
     decided = decided server (kept start server steps) past settled;
-    sends = tt;
     sent = sent server (kept start server steps) past settled;
   };
 }

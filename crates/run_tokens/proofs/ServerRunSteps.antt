@@ -1,6 +1,6 @@
 -- The server of the small run meets all its rules in each of its steps.
 use Rattle.std.proofs.Common.{List, None, Ok, [], ap, codes, false, inl, inr, refl, subst, sym, true, ℕ, ◌∙◌}
-use Rattle.std.proofs.Common.{◌∷◌, ◌≡◌}
+use Rattle.std.proofs.Common.{◌∷◌, ◌≡◌, ◌⊎◌}
 use Rattle.std.specs.List.{list_all}
 use Rattle.base_types.specs.declared.ids.FilesetId.{FilesetId}
 use Rattle.base_types.specs.declared.ids.HostId.{HostId}
@@ -10,15 +10,15 @@ use Rattle.token_types.specs.declared.token.Token.{Token}
 use Rattle.tree_laws.specs.Parts.{Part, cell_at}
 use Rattle.run_rules.specs.Lines.{lines_of}
 use Rattle.run_tokens.specs.JournalWorked.{home_fileset, script, start}
-use Rattle.run_rules.specs.ServerAnswers.{HeardNow, SentNow, ServerAnswers, TakenNow}
+use Rattle.run_rules.specs.ServerAnswers.{HeardNow, OnlyAnswers, SentNow, ServerAnswers, TakenNow}
 use Rattle.run_rules.specs.ServerDecides.{HasDecided, IsHere, IsNewRequest, RefusedOn, kept_reply}
-use Rattle.run_rules.specs.ServerRules.{ServerLines, ServerMeets}
-use Rattle.run_rules.specs.ServerSends.{AreNeeds, DoneFor, GrantsSo, HasSent, HasWritten, MaySend, SettlesSo}
+use Rattle.run_rules.specs.ServerRules.{NoHostStep, ServerLines, ServerMeets}
+use Rattle.run_rules.specs.ServerSends.{AreNeeds, DoneFor, GrantsSo, HasSent, HasWritten, IsOfChange, MaySend, SettlesSo}
 use Rattle.run_rules.specs.Wants.{Before, CanGrant, CanRefuse, Decides, Waits, body_of, has_effect}
 use Rattle.run_rules.specs.Acts.{after_cause}
 use Rattle.run_rules.specs.Grants.{Granted, Pinned, WasWritten}
 use Rattle.run_rules.specs.Hosts.{HasReclaimed, Hears, IsLive, NoGrace, TookNow}
-use Rattle.run_rules.specs.Lists.{In}
+use Rattle.run_rules.specs.Lists.{EachOnce, In}
 use Rattle.run_rules.specs.Places.{Here}
 use Rattle.run_tokens.specs.Worked.{asks_for, client, enter, entered, facts, granted, grants, root, site_one}
 use Rattle.run_tokens.specs.Worked.{stat, tells, to_host, to_server, token, wants_enter, wants_root, welcome, welcomes}
@@ -195,14 +195,26 @@ sent_is s m is h b (n, i, at, body) = go (subst (In n) is i)
     go (inr p) = elim p [ ]
 
 lines_by_message : (steps : List Step) (s : Step) (m : Message) → s.cause ≡ Came m
-    → (s.asked ≡ None) × (s.taken ≡ []) × (s.answers ≡ []) × (s.wrote ≡ None) × (s.begun ≡ []) × (s.made ≡ []) × (s.dropped ≡ [])
     → ServerLines (lines_of script (Server site_one)) steps s
-lines_by_message steps s m at none = record {
+lines_by_message steps s m at = record {
   bare = λ n c. absurd (let p : Line n ≡ Came m = sym c ∙ at in cc);
   restarts = λ n c. absurd (let p : Restart n ≡ Came m = sym c ∙ at in cc);
-  no_host = ((λ c. let p : Evict ≡ Came m = sym c ∙ at in cc), λ c. let p : End ≡ Came m = sym c ∙ at in cc);
+}
+
+no_host_by_message : (s : Step) (m : Message) → s.cause ≡ Came m
+    → (s.asked ≡ None) × (s.taken ≡ []) × (s.answers ≡ []) × (s.wrote ≡ None) × (s.begun ≡ []) × (s.made ≡ []) × (s.dropped ≡ [])
+    → NoHostStep s
+no_host_by_message s m at none = record {
+  causes = ((λ c. let p : Evict ≡ Came m = sym c ∙ at in cc), λ c. let p : End ≡ Came m = sym c ∙ at in cc);
   does_none = none;
 }
+
+-- a step that sends one message sends it once; where that is no Revoke, it names no token twice
+once_one : (s : Step) (m : Message) → s.sent ≡ m ∷ [] → EachOnce s.sent
+once_one s m is = subst (λ (xs : List Message). EachOnce xs) (sym is) ((λ i. i), tt)
+
+names_none : (s : Step) (m : Message) → s.sent ≡ m ∷ [] → ((r : RevokeOf) → m.body ≡ Revoke r → ⊥) → (h : HostId) (r : RevokeOf) → SentNow s h (Revoke r) → ⊥
+names_none s m is none h r x = none r (sent_is s m is h (Revoke r) x).1
 
 -- the kept filesets haven't changed since the start
 abbrev pub tree : Tree
@@ -227,7 +239,6 @@ module _ (past : List Act) (s : Step) (m reply : Message) (is_new : IsNew whole 
     hello_old = λ h x. absurd (subst IsAsking (heard_is s m h Hello at x).1 asks);
     hello = λ h x. absurd (subst IsAsking (heard_is s m h Hello at x).1 asks);
     bye = λ h x. absurd (subst IsAsking (heard_is s m h Bye at x).1 asks);
-    bye_only = λ h x. absurd (subst IsTelling (sent_is s reply sends h Bye x).1 tells);
     late = λ h n c is l other. absurd (other (ap (λ (y : Message). y.epoch) (sym (its_message s m n at c)) ∙ now));
     restarted = λ line h c. absurd (let p : Restart line ≡ Came m = sym c ∙ at in cc);
     restarted_again = λ h c. absurd (let p : Lapse ≡ Came m = sym c ∙ at in cc);
@@ -246,6 +257,12 @@ module _ (past : List Act) (s : Step) (m reply : Message) (is_new : IsNew whole 
 
           back : IsLive (Took m.host m.epoch m.moves m.body ∷ past) h → IsLive past h
           back x = (elim x.0 [ inl p ↦ absurd (subst IsAsking (body_of_took p.0) asks) | inr p ↦ p ], λ w. x.1 (inr w))
+
+  only_request : OnlyAnswers past s
+  only_request = record {
+    bye_only = λ h x. absurd (subst IsTelling (sent_is s reply sends h Bye x).1 tells);
+    reclaimed_only = λ h r x. absurd (subst IsTelling (sent_is s reply sends h (Reclaimed r) x).1 tells);
+  }
 
   applies_request : by_cause s.applied ≡ [] → list_all is_decision (decisions s.applied) ≡ true → s.reserved ≡ [] → ServerApplies site_one tree past s
   applies_request none all unreserved = record {
@@ -268,7 +285,6 @@ answers_hello = record {
   hello_old = λ h x l. absurd (not_live h l);
   hello = λ h x up new. (to_host (Reclaimed welcome), inl refl, (heard_is welcomes (to_server 0 Hello) h Hello refl x).0, refl);
   bye = λ h x. absurd (let p = (heard_is welcomes (to_server 0 Hello) h Bye refl x).1 in cc);
-  bye_only = λ h x. absurd (let p = (sent_is welcomes (to_host (Reclaimed welcome)) refl h Bye x).1 in cc);
   late = λ h m c is l. absurd (not_live h l);
   restarted = λ line h c. absurd (cc);
   restarted_again = λ h c. absurd (cc);
@@ -282,6 +298,15 @@ answers_hello = record {
     none_took : (h : HostId) (n : ℕ) (claim : ReclaimOf) → TookNow greeted h n (Reclaim claim) → ⊥
     none_took h n claim (inl x) = let p = x.0 in cc
     none_took h n claim (inr x) = elim x.0 [ inl y ↦ (let p = y.0 in cc) | inr y ↦ elim y.0 [ ] ]
+
+only_hello : OnlyAnswers began welcomes
+only_hello = record {
+  bye_only = λ h x. absurd (let p = (sent_is welcomes (to_host (Reclaimed welcome)) refl h Bye x).1 in cc);
+  reclaimed_only = λ h r x. inl (
+    (to_server 0 Hello, refl, (sent_is welcomes (to_host (Reclaimed welcome)) refl h (Reclaimed r) x).0, refl),
+    λ d. elim d [ inl y ↦ (let p = y.2 in cc) | inr y ↦ elim y [ ] ],
+  );
+}
 
 applies_hello : ServerApplies site_one tree began welcomes
 applies_hello = record {
@@ -302,6 +327,9 @@ decided_hello = record {
 
 sent_hello : HasSent site_one tree began welcomed welcomes
 sent_hello = record {
+  once = once_one welcomes (to_host (Reclaimed welcome)) refl;
+  revokes_once = λ h r q i x. absurd (names_none welcomes (to_host (Reclaimed welcome)) refl (λ r p. cc) h r x);
+  dones_only = λ h d x. absurd (let p = (sent_is welcomes (to_host (Reclaimed welcome)) refl h (Done d) x).1 in cc);
   written = λ w i. elim i [ ];
   repeats = λ h n c d x. absurd (not_live h x.1);
   grants = λ w f waits. absurd (none_waits_welcomed w waits);
@@ -314,14 +342,16 @@ sent_hello = record {
 
 pub meets_welcomes : ServerMeets script start site_one [] began welcomes
 meets_welcomes = record {
-  tokens = welcomes_may whole;
-  lines = lines_by_message [] welcomes (to_server 0 Hello) refl (refl, refl, refl, refl, refl, refl, refl);
-  answers = answers_hello;
-  works = record {
-    applies = applies_hello;
-    decides = tt;
+  may = record {
+    tokens = welcomes_may whole;
+    no_host = no_host_by_message welcomes (to_server 0 Hello) refl (refl, refl, refl, refl, refl, refl, refl);
+    answers = only_hello;
+    works = record { applies = applies_hello; decides = tt; sends = (quiet_send greeted (Reclaimed welcome) (λ g p. cc) (λ d p. cc) (λ r p. cc), tt) };
+  };
+  due = record {
+    lines = lines_by_message ([]) welcomes (to_server 0 Hello) refl;
+    answers = answers_hello;
     decided = decided_hello;
-    sends = (quiet_send greeted (Reclaimed welcome) (λ g p. cc) (λ d p. cc) (λ r p. cc), tt);
     sent = sent_hello;
   };
 }
@@ -337,8 +367,8 @@ meets_welcomes = record {
 new_request : IsNewRequest site_one welcomed entering tells client 0 (Changes enter)
 new_request = record {
   taken = ((to_server 1 (Change enter), refl, refl, refl, refl, refl), live welcomed (welcomed_new whole));
-  here = inl (refl, refl);
-  fresh = λ old. elim old [ inl d ↦ none_written_entering _ _ _ d.2 | inr d ↦ none_done client _ d.0 d.1 d.2 ];
+  here = (inl (refl, refl), (λ e. refl, λ e. absurd (cc)));
+  fresh = λ old. elim old [ inl d ↦ none_written_entering _ _ _ d.2 | inr d ↦ none_done client d.0 d.1 d.2 d.3 ];
   alone = λ w waits. absurd (none_waits_entering w waits);
 }
 
@@ -415,6 +445,9 @@ sends_entered = record {
 
 sent_entered : HasSent site_one tree welcomed told tells
 sent_entered = record {
+  once = once_one tells (to_host (Done entered)) refl;
+  revokes_once = λ h r q i x. absurd (names_none tells (to_host (Done entered)) refl (λ r p. cc) h r x);
+  dones_only = λ h d x. let p = sent_is tells (to_host (Done entered)) refl h (Done d) x in its h d p.0 (let q : Done entered ≡ Done d = p.1 in cc);
   written = λ w i. elim i [ inl p ↦ absurd (cc) | inr p ↦ elim p [ ] ];
   repeats = λ h n c d x here f k last was. absurd (elim was [ inl y ↦ none_written_by welcomed h d y | inr y ↦ none_done h _ y.0 d (inr y.1) ]);
   grants = λ w f waits. absurd (none_waits_told w waits);
@@ -425,6 +458,13 @@ sent_entered = record {
   revokes_again = λ t c. absurd (cc);
 }
   where
+    IsDue : HostId → DoneOf → Type 0
+    IsDue h d = (c : ChangeOf) × IsOfChange c d × (((n : ℕ) × TakenNow welcomed tells h n (Change c))
+        ⊎ ((w : Wanted) × Waits welcomed w × (w.host ≡ h) × (w.request ≡ Changes c)))
+
+    its : (h : HostId) (d : DoneOf) → client ≡ h → entered ≡ d → IsDue h d
+    its h d p q = subst (λ (x : HostId × DoneOf). IsDue x.0 x.1) (λ i. (p i, q i)) (enter, (refl, refl), inl (0, new_request.taken))
+
     none_written_by : (past : List Act) (h : HostId) (d : DoneOf) → HasWritten welcomed h d → ⊥
     none_written_by past h d (inl p) = let q = p.1 in cc
     none_written_by past h d (inr (inl p)) = let q = p.1 in cc
@@ -434,14 +474,16 @@ sent_entered = record {
 
 pub meets_tells : ServerMeets script start site_one (welcomes ∷ []) welcomed tells
 meets_tells = record {
-  tokens = tells_may whole;
-  lines = lines_by_message (welcomes ∷ []) tells (to_server 1 (Change enter)) refl (refl, refl, refl, refl, refl, refl, refl);
-  answers = answers_request welcomed tells (to_server 1 (Change enter)) (to_host (Done entered)) (welcomed_new whole) refl refl refl tt tt;
-  works = record {
-    applies = applies_request welcomed tells (to_server 1 (Change enter)) (to_host (Done entered)) (welcomed_new whole) refl refl refl tt tt refl refl refl;
-    decides = ((refl, inl new_request), tt);
+  may = record {
+    tokens = tells_may whole;
+    no_host = no_host_by_message tells (to_server 1 (Change enter)) refl (refl, refl, refl, refl, refl, refl, refl);
+    answers = only_request welcomed tells (to_server 1 (Change enter)) (to_host (Done entered)) (welcomed_new whole) refl refl refl tt tt;
+    works = record { applies = applies_request welcomed tells (to_server 1 (Change enter)) (to_host (Done entered)) (welcomed_new whole) refl refl refl tt tt refl refl refl; decides = ((refl, inl new_request), tt); sends = (sends_entered, tt) };
+  };
+  due = record {
+    lines = lines_by_message (welcomes ∷ []) tells (to_server 1 (Change enter)) refl;
+    answers = answers_request welcomed tells (to_server 1 (Change enter)) (to_host (Done entered)) (welcomed_new whole) refl refl refl tt tt;
     decided = decided_enter;
-    sends = (sends_entered, tt);
     sent = sent_entered;
   };
 }
@@ -473,17 +515,7 @@ free_root = record {
     no_before v b = elim b.0 [ inl p ↦ none_waits_fetching v p.0 | inr p ↦ none_before fetching v (wants_root whole) p none_waits_fetching ]
 
 are_needs : AreNeeds (asks_for whole).needs (granted whole).bring.tokens
-are_needs = record { sound = sound; whole = all }
-  where
-    sound : (t : Token) → In t (granted whole).bring.tokens → In (need_of t) (asks_for whole).needs
-    sound t (inl e) = inl (ap need_of e)
-    sound t (inr (inl e)) = inr (inl (ap need_of e))
-    sound t (inr (inr e)) = elim e [ ]
-
-    all : (n : Need) → In n (asks_for whole).needs → (t : Token) × In t (granted whole).bring.tokens × (need_of t ≡ n)
-    all n (inl e) = (token 1 (Status false), inl refl, sym e)
-    all n (inr (inl e)) = (token 2 (Bytes false whole), inr (inl refl), sym e)
-    all n (inr (inr e)) = elim e [ ]
+are_needs = refl
 
 tells_kept : (part : Part) → told_of (granted whole) part ≡ (cell_at tree root part).kept
 tells_kept (ByteAt at) = refl
@@ -534,6 +566,9 @@ decided_fetch = record {
 
 sent_grant : HasSent site_one tree told granted_now (grants whole)
 sent_grant = record {
+  once = once_one (grants whole) (to_host (Grant (granted whole))) refl;
+  revokes_once = λ h r q i x. absurd (names_none (grants whole) (to_host (Grant (granted whole))) refl (λ r p. cc) h r x);
+  dones_only = λ h d x. absurd (let p = (sent_is (grants whole) (to_host (Grant (granted whole))) refl h (Done d) x).1 in cc);
   written = λ w i. elim i [ inl p ↦ absurd (cc) | inr p ↦ elim p [ ] ];
   repeats = λ h n c d x. absurd (let p = (taken_is told (grants whole) (to_server 1 (Fetch (asks_for whole))) h n (Change c) refl x).2 in cc);
   grants = λ w f waits. absurd (none_waits_granted w waits);
@@ -546,14 +581,16 @@ sent_grant = record {
 
 pub meets_grants : ServerMeets script start site_one (tells ∷ welcomes ∷ []) told (grants whole)
 meets_grants = record {
-  tokens = grants_may whole;
-  lines = lines_by_message (tells ∷ welcomes ∷ []) (grants whole) (to_server 1 (Fetch (asks_for whole))) refl (refl, refl, refl, refl, refl, refl, refl);
-  answers = answers_request told (grants whole) (to_server 1 (Fetch (asks_for whole))) (to_host (Grant (granted whole))) (told_new whole) refl refl refl tt tt;
-  works = record {
-    applies = applies_request told (grants whole) (to_server 1 (Fetch (asks_for whole))) (to_host (Grant (granted whole))) (told_new whole) refl refl refl tt tt refl refl refl;
-    decides = ((refl, inl fetch_request), tt);
+  may = record {
+    tokens = grants_may whole;
+    no_host = no_host_by_message (grants whole) (to_server 1 (Fetch (asks_for whole))) refl (refl, refl, refl, refl, refl, refl, refl);
+    answers = only_request told (grants whole) (to_server 1 (Fetch (asks_for whole))) (to_host (Grant (granted whole))) (told_new whole) refl refl refl tt tt;
+    works = record { applies = applies_request told (grants whole) (to_server 1 (Fetch (asks_for whole))) (to_host (Grant (granted whole))) (told_new whole) refl refl refl tt tt refl refl refl; decides = ((refl, inl fetch_request), tt); sends = (sends_grant, tt) };
+  };
+  due = record {
+    lines = lines_by_message (tells ∷ welcomes ∷ []) (grants whole) (to_server 1 (Fetch (asks_for whole))) refl;
+    answers = answers_request told (grants whole) (to_server 1 (Fetch (asks_for whole))) (to_host (Grant (granted whole))) (told_new whole) refl refl refl tt tt;
     decided = decided_fetch;
-    sends = (sends_grant, tt);
     sent = sent_grant;
   };
 }

@@ -4,7 +4,7 @@ use Rattle.base_types.specs.declared.ids.HostId.{HostId}
 use Rattle.base_types.specs.declared.ids.ServerId.{ServerId}
 use Rattle.token_types.specs.declared.token.Token.{Token}
 use Rattle.token_types.specs.declared.token.TokenId.{TokenId}
-use Rattle.run_rules.specs.ServerSends.{IsAskedBack}
+use Rattle.run_rules.specs.ServerSends.{IsAskedBack, IsOwed, Revoked}
 use Rattle.run_rules.specs.Wants.{Before, CanGrant, CanRefuse, Decides, IsReady, Unwants, Waits}
 use Rattle.run_rules.specs.Grants.{Granted, IsNewlyGranted, Pinned, Reserved}
 use Rattle.run_rules.specs.Hosts.{GoesAway, HasReclaimed, Hears, IsBegin, IsDown, IsLive, Listed, NoGrace}
@@ -139,4 +139,15 @@ module _ (server : ServerId) (past : List Act) where
     w = k.w;
     waits = waits k.w k.waits;
     blocks_it = k.blocks_it;
+  }
+
+  is_revoked : (t : Token) → Revoked (a ∷ past) t → Revoked past t
+  is_revoked t (inl x) = let p = x.3 in cc
+  is_revoked t (inr p) = p.0
+
+  pub owed : (t : Token) → IsOwed server (a ∷ past) t → IsOwed server past t
+  owed t o = record {
+    granted = granted t o.granted;
+    unpinned = λ p. o.unpinned (is_pinned t p (granted t o.granted));
+    revoked = is_revoked t o.revoked;
   }
