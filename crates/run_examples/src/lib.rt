@@ -11,8 +11,9 @@ mod laws;
 mod worked_laws;
 
 pub use laws::{
-    a_blocked_fetch_is_granted, a_growing_write_is_answered, a_lock_is_kept, a_restart_is_answered,
-    a_revoke_is_answered, a_server_reacts, a_stop_is_allowed, a_use_is_ended, a_write_is_asked_for,
-    an_end_is_allowed, an_eviction_is_allowed, what_is_taken_is_used,
+    a_blocked_fetch_is_granted, a_fetch_asks_for_all, a_grant_over_dirty_bytes_is_taken,
+    a_growing_write_is_answered, a_lock_is_kept, a_restart_is_answered, a_revoke_is_answered,
+    a_server_reacts, a_stop_is_allowed, a_use_is_ended, a_write_is_asked_for, an_end_is_allowed,
+    an_eviction_is_allowed, labels_taken_twice_end, what_is_taken_is_used,
 };
 pub use worked_laws::a_whole_run_is_admitted;

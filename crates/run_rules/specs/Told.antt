@@ -1,7 +1,8 @@
 -- What a Grant tells of its object.
 use Rattle.std.specs.Option.{option_map, option_map_or}
-use Rattle.std.specs.Prelude.{List, None, Option, [], if◌then◌else◌, is_some, nat_le, slice_get, unwrap_or, ℕ, ◌-◌}
-use Rattle.std.specs.Prelude.{◌∷◌}
+use Rattle.std.specs.Prelude.{List, None, Option, [], if◌then◌else◌, is_some, length, nat_le, slice_get, unwrap_or, ℕ}
+use Rattle.std.specs.Prelude.{◌+◌, ◌-◌, ◌∷◌, ◌≤◌}
+use Rattle.run_rules.specs.Lists.{In}
 use Rattle.tree_calls.specs.declared.part.Piece.{Piece}
 use Rattle.tree_laws.specs.Parts.{Nature, Part, Seen}
 use Rattle.tree_calls.specs.declared.part.Status.{Status as StatusOf}
@@ -35,3 +36,9 @@ told grant (ByteAt at) = unwrap_or (byte_of grant.pieces at) 0
 told grant Size = option_map_or (λ status. status.length) grant.status 0
 told grant Traits = option_map nature_told grant.status
 told grant Entries = grant.entries
+
+-- each piece ends before the later ones begin, or where they do
+abbrev pub PiecesRise : List Piece → Type 0
+PiecesRise [] = Unit {0}
+PiecesRise (piece ∷ pieces) =
+    ((later : Piece) → In later pieces → piece.from + length piece.bytes ≤ later.from) × PiecesRise pieces
