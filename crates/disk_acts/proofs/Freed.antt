@@ -19,7 +19,7 @@ use Rattle.disk_anode.specs.Changes.{IsLoose, WritesLoose}
 use Rattle.disk_anode.proofs.Counting.{many_le}
 use Rattle.disk_anode.proofs.Moving.{loose_wider}
 use Rattle.disk_objects.proofs.Staging.{two_bytes}
-use Rattle.disk_objectset.specs.Slots.{WroteUnused}
+use Rattle.disk_fileset.specs.Slots.{WroteUnused}
 
 -- what is settled, behind more entries
 or_append : (xs ys : List Entry) (p k byte : ℕ) → or_of (xs ++ ys) p k byte ≡ or_of ys p k (or_of xs p k byte)

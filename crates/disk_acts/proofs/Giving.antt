@@ -34,7 +34,7 @@ use Rattle.store_state.specs.declared.state.Holding.{Holding}
 use Rattle.store_state.specs.declared.state.StoreState.{StoreState}
 use Rattle.store_state.proofs.Slots.{held_changed}
 use Rattle.disk_objects.proofs.Places.{at_other}
-use Rattle.disk_objectset.specs.Slots.{is_file, IsFile}
+use Rattle.disk_fileset.specs.Slots.{is_file, IsFile}
 use Rattle.disk_records.specs.Stored.{AreHeld}
 
 mapped_some : (o : Option Holding) (f : Holding → Holding) (is : Holding) → option_map f o ≡ Some is → (was : Holding) × (o ≡ Some was) × (is ≡ f was)

@@ -27,8 +27,8 @@ use Rattle.disk_anode.specs.declared.fault.NodeFault.{NodeFault}
 use Rattle.disk_anode.proofs.Putting.{may_fewer}
 use Rattle.disk_objects.specs.Objects.{anode_at, with_slot}
 use Rattle.disk_objects.proofs.Places.{slot_here, slot_other}
-use Rattle.disk_objectset.specs.Slots.{slot_pages, Keeps as AnodesAre, SamePages, IsFile, AllVacant, MayChange, TurnsInto, ChangesSlot}
-use Rattle.disk_objectset.proofs.Changing.{on_ok_two}
+use Rattle.disk_fileset.specs.Slots.{slot_pages, Keeps as AnodesAre, SamePages, IsFile, AllVacant, MayChange, TurnsInto, ChangesSlot}
+use Rattle.disk_fileset.proofs.Changing.{on_ok_two}
 use Rattle.disk_records.specs.Stored.{AreHeld}
 use Rattle.disk_acts.specs.Acts.{act_pages, act_blocks}
 use Rattle.disk_acts.specs.Anodes.{IsAt, AreAt, replaced}

@@ -12,7 +12,7 @@ use Rattle.disk_log.specs.Contents.{contents_of, page_in}
 use Rattle.disk_log.specs.Log.{disk_of, state_of}
 use Rattle.disk_log.specs.declared.log.Log.{Log}
 use Rattle.disk_pages.specs.Puts.{SaysFacts, SaysHeader, SaysNumbers}
-use Rattle.disk_objectset.specs.Slots.{slot_pages}
+use Rattle.disk_fileset.specs.Slots.{slot_pages}
 use Rattle.disk_records.specs.Said.{header_said, facts_said}
 use Rattle.disk_records.specs.Stored.{AreHeld, SaysSlot, SaysRecord}
 use Rattle.disk_acts.specs.Records.{HasNow}

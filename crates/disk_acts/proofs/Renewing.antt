@@ -12,9 +12,9 @@ use Rattle.store_acts.specs.Parts.{is_tellable}
 use Rattle.store_state.specs.declared.state.Holding.{Holding}
 use Rattle.disk_objects.specs.Objects.{anode_at, with_slot, with_anode}
 use Rattle.disk_objects.proofs.Places.{slot_here}
-use Rattle.disk_objectset.specs.Slots.{is_whole}
-use Rattle.disk_objectset.proofs.EachAnode.{changed_to, slot_itself}
-use Rattle.disk_objectset.proofs.Twice.{slot_twice, anode_where}
+use Rattle.disk_fileset.specs.Slots.{is_whole}
+use Rattle.disk_fileset.proofs.EachAnode.{changed_to, slot_itself}
+use Rattle.disk_fileset.proofs.Twice.{slot_twice, anode_where}
 use Rattle.disk_records.specs.Stored.{AreHeld}
 use Rattle.disk_acts.specs.Anodes.{IsOne, IsAt, replaced, slot_replaced, renewed}
 use Rattle.disk_acts.specs.Steps.{SlotAnodes}

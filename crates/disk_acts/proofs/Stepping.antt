@@ -22,8 +22,8 @@ use Rattle.disk_anode.proofs.Moving.{puts_wider, puts_then, puts_none, wrote_qui
 use Rattle.disk_objects.specs.Holds.{is_anode, Holds}
 use Rattle.disk_objects.specs.Objects.{kept_anodes}
 use Rattle.disk_pages.specs.Puts.{PutsOne}
-use Rattle.disk_objectset.specs.Slots.{slot_pages, Keeps as AnodesAre, ChangesSlot}
-use Rattle.disk_objectset.proofs.Changing.{unused_then, blame_result}
+use Rattle.disk_fileset.specs.Slots.{slot_pages, Keeps as AnodesAre, ChangesSlot}
+use Rattle.disk_fileset.proofs.Changing.{unused_then, blame_result}
 use Rattle.disk_acts.specs.Acts.{act_pages}
 use Rattle.disk_acts.specs.Steps.{MayStep, Steps, SaysPage, node_result, beside_anodes}
 use Rattle.disk_acts.proofs.Beside.{holds_beside}

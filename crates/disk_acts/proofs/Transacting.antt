@@ -26,7 +26,7 @@ use Rattle.disk_anode.proofs.Putting.{may_begun}
 use Rattle.disk_anode.proofs.Moving.{wrote_quiet}
 use Rattle.disk_objects.specs.Holds.{stage_of}
 use Rattle.disk_objects.proofs.Staging.{holds_staged}
-use Rattle.disk_objectset.specs.Slots.{WroteUnused}
+use Rattle.disk_fileset.specs.Slots.{WroteUnused}
 use Rattle.disk_acts.specs.Acts.{act_pages, MayAct, DoesAct}
 use Rattle.disk_acts.specs.Records.{HasRecord, HasStage, HasNow}
 use Rattle.disk_acts.specs.Steps.{Begins, HasEnded, IsUndone, Finishes, MayStep, Steps, SaysNext}

@@ -12,7 +12,7 @@ use Rattle.disk_anode.specs.Faults.{IsNodeFault}
 use Rattle.disk_anode.specs.Room.{free_blocks}
 use Rattle.disk_anode.specs.declared.fault.NodeFault.{NodeFault}
 use Rattle.disk_objects.specs.Holds.{is_anode}
-use Rattle.disk_objectset.specs.Slots.{slot_pages, WroteUnused}
+use Rattle.disk_fileset.specs.Slots.{slot_pages, WroteUnused}
 use Rattle.disk_acts.specs.Records.{HasStage}
 
 -- the pages that an act may put: those of the server, of headers and of numbers, those of one slot's anodes, and those

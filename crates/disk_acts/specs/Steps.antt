@@ -38,7 +38,7 @@ use Rattle.disk_anode.specs.Faults.{IsNodeFault, log_fault}
 use Rattle.disk_anode.specs.Room.{free_blocks, MayPutAll, PutsPages}
 use Rattle.disk_anode.specs.declared.fault.NodeFault.{NodeFault}
 use Rattle.disk_anode.specs.declared.fault.NodeFault.TheVariants.{Memory}
-use Rattle.disk_objectset.specs.Slots.{slot_pages, Keeps as AnodesAre, WroteUnused}
+use Rattle.disk_fileset.specs.Slots.{slot_pages, Keeps as AnodesAre, WroteUnused}
 use Rattle.store_state.specs.declared.state.Holding.{Holding}
 use Rattle.disk_pages.specs.Puts.{SaysFacts, SaysHeader, SaysNumbers}
 use Rattle.disk_objects.specs.Holds.{is_anode}

@@ -3,7 +3,7 @@ ghost use Rattle.std.specs.Prelude.{◌≡◌, ◌≤◌, ◌<◌, ◌+◌, ◌-
 ghost use Rattle.tree_filesets.specs.WellFormed.{is_settled};
 ghost use Rattle.tree_objects.specs.declared.content.Anode.{Anode as Kept};
 ghost use Rattle.disk_objects.specs.Objects.{with_anode};
-ghost use Rattle.disk_objectset.specs.Slots.{is_whole, MayChange, TurnsInto, ChangesSlot};
+ghost use Rattle.disk_fileset.specs.Slots.{is_whole, MayChange, TurnsInto, ChangesSlot};
 ghost use Rattle.disk_acts.specs.Anodes.{IsAt, AreAt, slot_replaced, renewed};
 
 use base_types::{AccessEntry, AccessList, Disk, Items, Who};

@@ -26,10 +26,10 @@ use Rattle.disk_lists.specs.Entries.{with_entries, IsDirectory}
 use Rattle.disk_objects.specs.Objects.{object_kept, kept_of, page_for, anode_at, with_anode, FitsContent, KeepsNow, HeldNow}
 use Rattle.disk_objects.proofs.Contents.{vacant_kind}
 use Rattle.disk_objects.proofs.Keeping.{fits_there, made_turned, keeps_made, keeps_content}
-use Rattle.disk_objectset.specs.Slots.{blank_content, is_listed, is_whole, emptied, numbered, IsBlank, IsEmptied, IsVacant}
-use Rattle.disk_objectset.proofs.Changing.{on_ok_two}
-use Rattle.disk_objectset.proofs.Turns.{nothing_listed, dir_there, dir_turns}
-use Rattle.disk_objectset.proofs.Twice.{anode_here, anode_twice}
+use Rattle.disk_fileset.specs.Slots.{blank_content, is_listed, is_whole, emptied, numbered, IsBlank, IsEmptied, IsVacant}
+use Rattle.disk_fileset.proofs.Changing.{on_ok_two}
+use Rattle.disk_fileset.proofs.Turns.{nothing_listed, dir_there, dir_turns}
+use Rattle.disk_fileset.proofs.Twice.{anode_here, anode_twice}
 
 -- an object without lists, entries or bytes
 pub blank_kept : (dir : Bool) (unique : ℕ) (owner group : List ℕ)

@@ -26,7 +26,7 @@ use Rattle.disk_objects.proofs.Few.{few_all}
 use Rattle.disk_objects.specs.Objects.{page_for, kept_anodes, KeepsNow, HeldNow}
 use Rattle.disk_objects.proofs.Places.{page_is, page_low}
 use Rattle.disk_objects.proofs.Keeping.{held_of}
-use Rattle.disk_objectset.specs.Slots.{slot_pages, SamePages, WroteUnused, Held, MayTurn, Turned, ChangesSlot}
+use Rattle.disk_fileset.specs.Slots.{slot_pages, SamePages, WroteUnused, Held, MayTurn, Turned, ChangesSlot}
 
 -- two facts of a value
 pub on_ok_two : {T E A B C : Type 0} (r : Result T E) → (A → B → C) → OnOk r A → OnOk r B → OnOk r C

@@ -22,8 +22,8 @@ use Rattle.disk_objects.proofs.Turning.{names_some}
 use Rattle.disk_objects.specs.Objects.{page_for, anode_at, kept_anodes, with_anode, KeepsNow, AreTrimmed}
 use Rattle.disk_objects.proofs.Contents.{vacant_kind}
 use Rattle.disk_objects.proofs.Places.{page_is, anode_here, kept_here, at_other, slot_here}
-use Rattle.disk_objectset.specs.Slots.{IsVacant, AllVacant, IsCopy, CopiesNow, MayTurn}
-use Rattle.disk_objectset.proofs.Changing.{on_ok_two}
+use Rattle.disk_fileset.specs.Slots.{IsVacant, AllVacant, IsCopy, CopiesNow, MayTurn}
+use Rattle.disk_fileset.proofs.Changing.{on_ok_two}
 
 -- a slot without objects names no blocks
 pub copies_none : (from to : ℕ) (slots : ℕ → List Anode) (state : State) (image : List ℕ) → KeepsNow slots state image → AllVacant to slots → CopiesNow from to slots state image

@@ -9,8 +9,8 @@ use Rattle.tree_objects.specs.declared.content.Anode.{Anode}
 use Rattle.tree_objects.specs.Changes.{anode_freed}
 use Rattle.disk_objects.specs.Objects.{anode_at, with_slot, with_anode}
 use Rattle.disk_objects.proofs.Places.{slot_here, slot_other}
-use Rattle.disk_objectset.specs.Slots.{IsVacant, AllVacant, slot_freed, slot_copied}
-use Rattle.disk_objectset.proofs.Twice.{slot_twice}
+use Rattle.disk_fileset.specs.Slots.{IsVacant, AllVacant, slot_freed, slot_copied}
+use Rattle.disk_fileset.proofs.Twice.{slot_twice}
 
 -- the first anodes changed, each in its way
 abbrev pub changed_to : (ℕ → Anode → Anode) → ℕ → List Anode → List Anode

@@ -16,7 +16,7 @@ use Rattle.disk_anode.specs.Room.{free_blocks, MayPutAll}
 use Rattle.disk_anode.specs.declared.fault.NodeFault.{NodeFault}
 use Rattle.disk_anode.specs.declared.fault.NodeFault.TheVariants.{Memory}
 use Rattle.disk_anode.proofs.Moving.{puts_none, wrote_quiet}
-use Rattle.disk_objectset.specs.Slots.{slot_pages, Held, MayTurn, Turned, ChangesSlot}
+use Rattle.disk_fileset.specs.Slots.{slot_pages, Held, MayTurn, Turned, ChangesSlot}
 
 module _ {D : Type 0} (tells : Type 0) (view : D → View) (old new : Log D) (same : state_of new ≡ state_of old) (quiet : IsQuiet (view (disk_of old)) (view (disk_of new))) where
   -- it changes nothing

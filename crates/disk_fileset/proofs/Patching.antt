@@ -24,10 +24,10 @@ use Rattle.disk_anode.specs.Node.{node_in}
 use Rattle.disk_anode.specs.declared.fault.NodeFault.{NodeFault}
 use Rattle.disk_objects.specs.Objects.{page_for, anode_at, with_slot, with_anode, FitsContent, FitsObject, KeepsNow}
 use Rattle.disk_objects.proofs.Keeping.{content_there, anode_there, keeps_content}
-use Rattle.disk_objectset.specs.Giving.{LieIn, ArePatched, content_patched, is_long, IsLong}
-use Rattle.disk_objectset.specs.Slots.{is_file, IsFile}
-use Rattle.disk_objectset.proofs.Pieces.{length_pieces, patched_kept, nothing_patched}
-use Rattle.disk_objectset.proofs.Twice.{anode_twice, anode_where, anode_here}
+use Rattle.disk_fileset.specs.Giving.{LieIn, ArePatched, content_patched, is_long, IsLong}
+use Rattle.disk_fileset.specs.Slots.{is_file, IsFile}
+use Rattle.disk_fileset.proofs.Pieces.{length_pieces, patched_kept, nothing_patched}
+use Rattle.disk_fileset.proofs.Twice.{anode_twice, anode_where, anode_here}
 
 -- nothing changed
 same_at : {X : Type 0} (xs : List X) (i : ℕ) → changed_at xs i (λ x. x) ≡ xs

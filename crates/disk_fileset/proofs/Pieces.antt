@@ -12,7 +12,7 @@ use Rattle.tree_objects.specs.declared.content.Content.TheVariants.{File}
 use Rattle.store_state.specs.Giving.{put_bytes, put_pieces}
 use Rattle.disk_anode.specs.Anode.{Anode as Kept, written, over, length_for}
 use Rattle.disk_objects.specs.Objects.{object_kept}
-use Rattle.disk_objectset.specs.Giving.{start_of, end_of, LieIn, shifted}
+use Rattle.disk_fileset.specs.Giving.{start_of, end_of, LieIn, shifted}
 
 pub length_put : (xs : List ℕ) (at : ℕ) (bytes : List ℕ) → length (put_bytes xs at bytes) ≡ length xs
 length_put xs at [] = refl

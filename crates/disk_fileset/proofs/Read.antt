@@ -32,10 +32,10 @@ use Rattle.disk_objects.specs.Holds.{no_anode}
 use Rattle.disk_objects.specs.Objects.{bytes_kept, object_kept, kept_of, page_for, anode_at, FitsList, EachList, FitsContent, FitsObject, AreKept, KeepsNow}
 use Rattle.disk_objects.proofs.Contents.{directory_kept}
 use Rattle.disk_objects.proofs.Keeping.{in_page}
-use Rattle.disk_objectset.specs.Slots.{Keeps}
-use Rattle.disk_objectset.specs.Reading.{Looks}
-use Rattle.disk_objectset.proofs.Changing.{blame_result}
-use Rattle.disk_objectset.proofs.Looking.{look_held}
+use Rattle.disk_fileset.specs.Slots.{Keeps}
+use Rattle.disk_fileset.specs.Reading.{Looks}
+use Rattle.disk_fileset.proofs.Changing.{blame_result}
+use Rattle.disk_fileset.proofs.Looking.{look_held}
 
 module _ {D : Type 0} (tells : Type 0) (view : D → View) where
   -- nothing was read yet

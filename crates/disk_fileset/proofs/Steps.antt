@@ -19,10 +19,10 @@ use Rattle.tree_objects.specs.Objects.{is_dir, list_index, content_with_list}
 use Rattle.tree_filesets.specs.Creation.{is_vacant}
 use Rattle.tree_filesets.specs.Laws.{lists_in}
 use Rattle.disk_objects.specs.Objects.{anode_at, with_anode}
-use Rattle.disk_objectset.specs.Slots.{has_list, HasList, IsDir, TakesObject, IsBlank, blank_content, is_new, is_listed, emptied, used_by}
+use Rattle.disk_fileset.specs.Slots.{has_list, HasList, IsDir, TakesObject, IsBlank, blank_content, is_new, is_listed, emptied, used_by}
 use Rattle.tree_filesets.specs.Creation.{occupied}
 use Rattle.std.proofs.Common.{length-set}
-use Rattle.disk_objectset.proofs.Twice.{anode_twice, anode_where, anode_here, anode_keeps}
+use Rattle.disk_fileset.proofs.Twice.{anode_twice, anode_where, anode_here, anode_keeps}
 
 -- a directory stays one
 entry_dir : (entry : DirEntry) (content : Content) → is_dir content ≡ true → is_dir (content_with_entry entry content) ≡ true

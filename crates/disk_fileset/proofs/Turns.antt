@@ -27,8 +27,8 @@ use Rattle.disk_objects.specs.Objects.{list_byte, object_kept, kept_of, page_for
 use Rattle.disk_objects.specs.Holds.{no_anode, NamesApart}
 use Rattle.disk_objects.proofs.Contents.{with_list_kept, with_length_kept, directory_kept, list_fits, truncated_fits, freed_kept, vacant_kind}
 use Rattle.disk_objects.proofs.Keeping.{in_page, content_there, fits_there, anode_there, kept_there, content_turned, made_turned, keeps_changed, keeps_copied, keeps_content}
-use Rattle.disk_objectset.specs.Slots.{HasList, is_file, IsFile, IsDir, takes_name, TakesName, IsVacant, TakesObject, used_by, blank_content}
-use Rattle.disk_objectset.proofs.Changing.{on_ok_two}
+use Rattle.disk_fileset.specs.Slots.{HasList, is_file, IsFile, IsDir, takes_name, TakesName, IsVacant, TakesObject, used_by, blank_content}
+use Rattle.disk_fileset.proofs.Changing.{on_ok_two}
 
 none_of : {A : Type 0} (o : Option A) → is_none o ≡ true → o ≡ None
 none_of None e = refl

@@ -9,7 +9,7 @@ use Rattle.disk_log.specs.declared.log.Log.{Log}
 use Rattle.disk_anode.specs.Faults.{IsNodeFault}
 use Rattle.disk_anode.specs.declared.fault.NodeFault.{NodeFault}
 use Rattle.disk_objects.specs.Objects.{anode_at}
-use Rattle.disk_objectset.specs.Slots.{Keeps}
+use Rattle.disk_fileset.specs.Slots.{Keeps}
 
 -- What a call that reads keeps: all, and no byte of the disk changed. An error is the disk's, or want of memory.
 pub record Looks {D T : Type 0} (tells : Type 0) (view : D → View) (result : Result T NodeFault)

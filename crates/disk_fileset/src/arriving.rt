@@ -3,8 +3,8 @@ ghost use Rattle.std.specs.Prelude.{◌≡◌, ◌≤◌, ◌<◌, true, IfSome}
 ghost use Rattle.tree_filesets.specs.Creation.{occupied};
 ghost use Rattle.tree_objects.specs.Changes.{anode_changed};
 ghost use Rattle.disk_objects.specs.Objects.{with_anode, HeldNow};
-ghost use Rattle.disk_objectset.specs.Slots.{is_listed, is_whole, emptied, numbered, blank_content, IsVacant, IsEmptied};
-ghost use Rattle.disk_objectset.specs.Slots.{MayTurn, Turned, MayChange, TurnsInto, ChangesSlot};
+ghost use Rattle.disk_fileset.specs.Slots.{is_listed, is_whole, emptied, numbered, blank_content, IsVacant, IsEmptied};
+ghost use Rattle.disk_fileset.specs.Slots.{MayTurn, Turned, MayChange, TurnsInto, ChangesSlot};
 
 use crate::making::{fill_all, known};
 use crate::place::anode_page;

@@ -2,7 +2,7 @@
 ghost use Rattle.std.specs.Prelude.{◌≤◌, ◌<◌};
 ghost use Rattle.tree_objects.specs.Changes.{anode_changed, content_truncated};
 ghost use Rattle.disk_objects.specs.Objects.{with_anode};
-ghost use Rattle.disk_objectset.specs.Slots.{IsFile, MayChange, TurnsInto, ChangesSlot};
+ghost use Rattle.disk_fileset.specs.Slots.{IsFile, MayChange, TurnsInto, ChangesSlot};
 
 use crate::place::anode_page;
 use base_types::Disk;

@@ -8,8 +8,8 @@ ghost use Rattle.disk_anode.specs.Anode.{anode_in};
 ghost use Rattle.disk_anode.specs.Faults.{IsNodeFault};
 ghost use Rattle.disk_anode.specs.declared.fault.NodeFault.TheVariants.{Memory};
 ghost use Rattle.disk_objects.specs.Objects.{with_anode};
-ghost use Rattle.disk_objectset.specs.Giving.{LieIn, shifted, ArePatched, content_patched, IsLong};
-ghost use Rattle.disk_objectset.specs.Slots.{IsFile, MayChange, TurnsInto, ChangesSlot};
+ghost use Rattle.disk_fileset.specs.Giving.{LieIn, shifted, ArePatched, content_patched, IsLong};
+ghost use Rattle.disk_fileset.specs.Slots.{IsFile, MayChange, TurnsInto, ChangesSlot};
 
 use crate::bytes::truncate;
 use crate::place::anode_page;

@@ -3,7 +3,7 @@ ghost use Rattle.std.specs.Prelude.{◌≡◌, ◌≤◌, ◌<◌};
 ghost use Rattle.tree_objects.specs.Changes.{anode_changed};
 ghost use Rattle.tree_objects.specs.Objects.{content_with_list, list_index};
 ghost use Rattle.disk_objects.specs.Objects.{with_anode};
-ghost use Rattle.disk_objectset.specs.Slots.{HasList, MayChange, TurnsInto, ChangesSlot};
+ghost use Rattle.disk_fileset.specs.Slots.{HasList, MayChange, TurnsInto, ChangesSlot};
 
 use crate::place::anode_page;
 use base_types::{AccessList, Disk};

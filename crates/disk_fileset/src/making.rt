@@ -6,7 +6,7 @@ ghost use Rattle.tree_objects.specs.Changes.{anode_changed};
 ghost use Rattle.tree_objects.specs.declared.content.Content.TheVariants.{Dir};
 ghost use Rattle.tree_objects.specs.Objects.{is_dir, content_with_list};
 ghost use Rattle.disk_objects.specs.Objects.{anode_at, with_anode, HeldNow, FitsList, EachList, FitsContent};
-ghost use Rattle.disk_objectset.specs.Slots.{
+ghost use Rattle.disk_fileset.specs.Slots.{
   HasList,
   IsBlank,
   TakesObject,

@@ -3,7 +3,7 @@ ghost use Rattle.std.specs.Prelude.{◌≤◌, ◌<◌};
 ghost use Rattle.tree_objects.specs.Changes.{anode_changed};
 ghost use Rattle.tree_objects.specs.Entries.{content_with_entry, content_without_entry};
 ghost use Rattle.disk_objects.specs.Objects.{with_anode};
-ghost use Rattle.disk_objectset.specs.Slots.{TakesName, IsDir, MayMove, moved, MayChange, TurnsInto, ChangesSlot};
+ghost use Rattle.disk_fileset.specs.Slots.{TakesName, IsDir, MayMove, moved, MayChange, TurnsInto, ChangesSlot};
 
 use crate::place::anode_page;
 use base_types::{Disk, Name};

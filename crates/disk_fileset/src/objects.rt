@@ -2,8 +2,8 @@
 ghost use Rattle.std.specs.Prelude.{◌≤◌, ◌<◌, ◌≢◌, ⊤};
 ghost use Rattle.tree_objects.specs.Changes.{anode_freed};
 ghost use Rattle.disk_objects.specs.Objects.{anode_at, with_anode};
-ghost use Rattle.disk_objectset.specs.Slots.{IsVacant, IsDir, CopiesNow, removed};
-ghost use Rattle.disk_objectset.specs.Slots.{MayTurn, Turned, MayChange, TurnsInto, ChangesSlot};
+ghost use Rattle.disk_fileset.specs.Slots.{IsVacant, IsDir, CopiesNow, removed};
+ghost use Rattle.disk_fileset.specs.Slots.{MayTurn, Turned, MayChange, TurnsInto, ChangesSlot};
 
 use crate::names::leave;
 use crate::place::anode_page;

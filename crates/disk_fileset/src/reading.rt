@@ -9,8 +9,8 @@ ghost use Rattle.disk_log.specs.Contents.{contents_of, page_in};
 ghost use Rattle.disk_anode.specs.Anode.{text_at};
 ghost use Rattle.disk_anode.specs.declared.fault.NodeFault.TheVariants.{Memory};
 ghost use Rattle.disk_objects.specs.Objects.{page_for, anode_at, bytes_kept};
-ghost use Rattle.disk_objectset.specs.Slots.{Keeps};
-ghost use Rattle.disk_objectset.specs.Reading.{Looks, Finds, FindsOf};
+ghost use Rattle.disk_fileset.specs.Slots.{Keeps};
+ghost use Rattle.disk_fileset.specs.Reading.{Looks, Finds, FindsOf};
 
 use crate::giving::zeros;
 use crate::place::anode_page;

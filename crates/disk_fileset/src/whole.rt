@@ -2,7 +2,7 @@
 ghost use Rattle.std.specs.Prelude.{◌<◌, ◌≢◌, ⊤, OnOk};
 ghost use Rattle.disk_log.specs.Log.{disk_of, state_of};
 ghost use Rattle.disk_objects.specs.Objects.{AreTrimmed};
-ghost use Rattle.disk_objectset.specs.Slots.{AllVacant, slot_freed, slot_copied, MayChange, TurnsInto, ChangesSlot};
+ghost use Rattle.disk_fileset.specs.Slots.{AllVacant, slot_freed, slot_copied, MayChange, TurnsInto, ChangesSlot};
 
 use crate::objects::{copy_anode, vacate};
 use base_types::Disk;

@@ -1,17 +1,8 @@
-//! Pages that say the same are the same; the image hangs on the log's pages and its blocks alone; faultless filesets
-//! are trees; an aggregate's objects are those of its disk's image.
-//!
-//! Laws of the pages of an aggregate: what a page says determines each of its bytes, so that damage to a byte
-//! is a fault or makes the page say something else. Each function does nothing, and what it ensures is a law.
-//!
-//! Laws of the rules that the bytes of a disk keep. Each function does nothing, and what it ensures is a law.
-//!
-//! What of a disk's bytes is judged and read: the superblock, the pages of its log after redo and undo, and the blocks.
-//! So what a crash leaves of a log that stays as it is has the same image. And an aggregate of format 1 has it in
-//! format 2. Each function does nothing, and what it ensures is a law.
-//!
-//! Laws of the objects that an aggregate keeps: what its pages and blocks hold is what the image of its disk has. Each
-//! function does nothing, and what it ensures is a law.
+//! Laws of the bytes of a disk, each the clause of a function that does nothing. What a page says determines each of its
+//! bytes, so that damage to a byte is a fault or makes the page say something else. What is judged and read is the
+//! superblock, the pages of the log after redo and undo, and the blocks: so what a crash leaves of a log that stays as
+//! it is has the same image, and an aggregate of format 1 has it in format 2. Faultless filesets are trees. What an
+//! aggregate's pages and blocks hold of its objects is what the image of its disk has.
 #![tactic(auto)]
 
 mod image_laws;

@@ -15,8 +15,8 @@ use Rattle.disk_log.specs.Contents.{contents_of, page_in}
 use Rattle.disk_log.specs.Log.{disk_of, state_of}
 use Rattle.disk_log.specs.Puts.{page_of}
 use Rattle.disk_log.specs.declared.log.Log.{Log}
-use Rattle.disk_objectset.specs.Slots.{Keeps}
-use Rattle.disk_objectset.proofs.Looking.{look_held}
+use Rattle.disk_fileset.specs.Slots.{Keeps}
+use Rattle.disk_fileset.proofs.Looking.{look_held}
 use Rattle.tree_objects.specs.declared.content.Anode.{Anode}
 use Rattle.disk_objects.specs.Objects.{KeepsNow}
 use Rattle.disk_records.specs.Stored.{SaysRecord}

@@ -16,7 +16,7 @@ use Rattle.disk_pages.specs.Words.{name_at}
 use Rattle.disk_pages.specs.declared.header.SlotState.{SlotState}
 use Rattle.disk_pages.specs.declared.header.SlotState.TheVariants.{Free, Arriving, Leaving, Gone, Unknown}
 use Rattle.disk_image.specs.Image.{is_clone, records_of}
-use Rattle.disk_objectset.specs.Slots.{Keeps}
+use Rattle.disk_fileset.specs.Slots.{Keeps}
 use Rattle.disk_records.specs.Record.{stay_of, host_known, ship_taken}
 use Rattle.disk_records.specs.Stored.{SaysRecord}
 use Rattle.store_records.specs.Stored.{IsStorable}

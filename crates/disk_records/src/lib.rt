@@ -1,13 +1,9 @@
-//! The record of a store that the image of a disk is; a disk without faults has one; it is read back from a log.
+//! The record of a store that the image of a disk is: one definition, and the headers and facts that are made of such a
+//! record. A law says what mounting begins with: a disk without faults has a record that a disk can have.
 //!
-//! What a store keeps, as the pages of its disk say it: one definition of the record of a store that the image of a
-//! disk is, and the headers and facts that are made of such a record.
-//!
-//! What mounting a disk begins with. The function does nothing, and what it ensures is a law.
-//!
-//! The record of a store, as the log of its aggregate keeps it, read back: facts, call numbers, headers of slots and
-//! the anodes of filesets; no byte is written. A mount begins with it, and all that is then told comes of memory. A log
-//! of format 1 is brought to format 2 before.
+//! The record is read back from the log of an aggregate: facts, call numbers, headers of slots and the anodes of
+//! filesets; no byte is written. A mount begins with it, and all that is then told comes of memory. A log of format 1 is
+//! brought to format 2 before.
 #![tactic(auto)]
 
 mod laws;

@@ -11,7 +11,7 @@ ghost use Rattle.disk_pages.specs.Header.{is_limit, state_of as state_in};
 ghost use Rattle.disk_pages.specs.Numbers.{is_numbers_page};
 ghost use Rattle.disk_pages.specs.Words.{is_name_at};
 ghost use Rattle.disk_image.specs.Image.{is_clone};
-ghost use Rattle.disk_objectset.specs.Reading.{Looks};
+ghost use Rattle.disk_fileset.specs.Reading.{Looks};
 ghost use Rattle.disk_records.specs.Loading.{KeepsRecord, count_held, holding_in, is_other_declared};
 
 use crate::saying::stay_of;

@@ -7,7 +7,7 @@ ghost use Rattle.message_types.specs.Soundness.{Each};
 ghost use Rattle.store_acts.specs.Sound.{KeepsLimits, IsHolding};
 ghost use Rattle.store_state.specs.declared.state.StoreState.{StoreState as State};
 ghost use Rattle.disk_log.specs.Log.{IsSoundLog};
-ghost use Rattle.disk_objectset.specs.Reading.{Looks};
+ghost use Rattle.disk_fileset.specs.Reading.{Looks};
 ghost use Rattle.disk_records.specs.Loading.{KeepsRecord, IsOf, state_with};
 
 use crate::server::{hosts_in, records_in, ships_in};

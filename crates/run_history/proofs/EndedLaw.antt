@@ -7,6 +7,8 @@ use Rattle.tree_calls.specs.declared.entry.Entry.{Entry}
 use Rattle.tree_saving.proofs.Apart.{roster_stays}
 use Rattle.tree_answers.specs.Histories.{after_entry, after_history}
 use Rattle.tree_answers.specs.declared.tree.Tree.{Tree}
+use Rattle.need_laws.specs.Known.{SameAt}
+use Rattle.need_server.specs.Kept.{kept_tree}
 use Rattle.script_lines.specs.declared.script.Script.{Script}
 use Rattle.tree_laws.specs.Parts.{Cell, Part, Seen, cell_at}
 use Rattle.run_rules.specs.Runs.{IsEnded, IsRun, IsValid, firsts_of, past_of}
@@ -61,9 +63,12 @@ module _ (script : Script) (journal : Journal) (run : IsRun script journal) (end
   none_moved : (v : ServerId) → (kept run.start v (served v past)).away ≡ []
   none_moved = none_away script run.start firsts run.valid.unmoved past run.steps
 
+  kept_same : (v : ServerId) → SameAt v (kept run.start v (served v past)) (kept_tree left)
+  kept_same v = (last.kept v).same
+
   unmoved : Unmoved left
   unmoved =
-      tree_unmoved (λ v. kept run.start v (served v past)) left last.kept none_moved
+      tree_unmoved (λ v. kept run.start v (served v past)) left kept_same none_moved
       (kept_unmoved run.start firsts (all_parts is_home never_moved run.start.filesets run.valid.at_home) past
       (changes_are_meant script journal run))
 
@@ -78,7 +83,7 @@ module _ (script : Script) (journal : Journal) (run : IsRun script journal) (end
     at_rest = all_rest left last.formed.ordered none_unsaved;
     locks = no_locks script journal run ended left last.labels;
     opens = no_opens script journal run ended left last.labels;
-    unmoved = unmoved_tree (λ v. kept run.start v (served v past)) left last.kept none_moved;
+    unmoved = unmoved_tree (λ v. kept run.start v (served v past)) left kept_same none_moved;
     at_home = all_both is_home never_moved left.filesets unmoved.0 unmoved.1;
   }
 

@@ -28,7 +28,7 @@ use Rattle.run_history.proofs.PassLaw.{always_both, always_map, hosts_pass, serv
 use Rattle.run_history.proofs.Stands.{after_both, both_histories, none_more}
 use Rattle.run_history.specs.Passing.{ChangesAreLegal, HostPasses, ServerPasses}
 use Rattle.run_history.specs.Past.{CachesAreExact, HistoriesMakeTheTree, IsOfPast, IsThroughout, JournalsAreLegal}
-use Rattle.run_history.specs.Past.{RunsAreLegal}
+use Rattle.run_history.specs.Past.{RunsAreLegal, ServersKeepTheTree}
 use Rattle.run_history.specs.PastStanding.{PassesOn, Stands}
 use Rattle.run_parts.specs.Contents.{Contents}
 use Rattle.run_contents.specs.Instance.{IsOfRun}
@@ -138,7 +138,7 @@ module _ (script : Script) (journal : Journal) (run : IsRun script journal) (c :
       record {
         formed = w.stands.formed;
         cells = w.stands.cells;
-        kept = λ v. (w.stands.keeps v).same;
+        kept = w.stands.keeps;
         labels = w.labels;
       }
 
@@ -180,7 +180,7 @@ join_three : {X : Type 0} (a b d : List X) → (a ++ b) ++ d ≡ a ++ (b ++ d)
 join_three [] b d = refl
 join_three (x ∷ a) b d = ap (λ zs. x ∷ zs) (join_three a b d)
 
-same_history : (steps past : List Step) → history (after steps past) ≡ history past ++ history_of steps
+pub same_history : (steps past : List Step) → history (after steps past) ≡ history past ++ history_of steps
 same_history [] past = sym (none_more (history past))
 same_history (s ∷ more) past =
     same_history more (s ∷ past) ∙ join_three (history past) (entries_of s) (history_of more)
@@ -192,6 +192,20 @@ journals_are_legal script journal run =
 pub histories_make_the_tree : HistoriesMakeTheTree
 histories_make_the_tree script journal run c of_run =
     throughout script journal run c of_run (past_of journal) (known script journal run c of_run)
+
+-- at the end it is well formed
+pub runs_are_well_formed : (script : Script) (journal : Journal) (run : IsRun script journal)
+    → IsWellFormed (tree_at run.start (past_of journal))
+runs_are_well_formed script journal run =
+    let c = contents_of run.start (firsts_of journal) in
+    let of_run = is_of_run run.start (firsts_of journal) in
+    (of_past script journal run c of_run (past_of journal) (known script journal run c of_run)).formed
+
+pub servers_keep_the_tree : ServersKeepTheTree
+servers_keep_the_tree script journal run =
+    let c = contents_of run.start (firsts_of journal) in
+    let of_run = is_of_run run.start (firsts_of journal) in
+    (of_past script journal run c of_run (past_of journal) (known script journal run c of_run)).kept
 
 pub caches_are_exact : CachesAreExact
 caches_are_exact script journal run =

@@ -209,7 +209,7 @@ changing_said (s ∷ A) v fs n x = elim x.0 [
 ]
 
 -- under a fileset it is outstanding whatever the server
-changing_on : (A : List Step) (v w : ServerId) (fs : FilesetId) (n : ℕ) → (fs.0 ≡ 0 → ⊥) → Changing A v fs n
+pub changing_on : (A : List Step) (v w : ServerId) (fs : FilesetId) (n : ℕ) → (fs.0 ≡ 0 → ⊥) → Changing A v fs n
     → Changing A w fs n
 changing_on [] v w fs n some e = e
 changing_on (s ∷ A) v w fs n some x = (
@@ -228,7 +228,7 @@ changing_on (s ∷ A) v w fs n some x = (
   ],
 )
 
-zero_or : (n : ℕ) → (n ≡ 0) ⊎ (n ≡ 0 → ⊥)
+pub zero_or : (n : ℕ) → (n ≡ 0) ⊎ (n ≡ 0 → ⊥)
 zero_or n = go (n == 0) refl
   where
     go : (b : Bool) → (n == 0) ≡ b → (n ≡ 0) ⊎ (n ≡ 0 → ⊥)
@@ -282,7 +282,7 @@ module _ (script : Script) (host : HostId) where
       }
 
   -- one Change is outstanding
-  one_changing : (A : List Step) → HostRun script host A → (v w : ServerId) (fs gs : FilesetId) (n m : ℕ)
+  pub one_changing : (A : List Step) → HostRun script host A → (v w : ServerId) (fs gs : FilesetId) (n m : ℕ)
       → Changing A v fs n → Changing A w gs m → (fs ≡ gs) × (n ≡ m)
   one_changing [] run v w fs gs n m a b = elim a [ ]
   one_changing (s ∷ A) run v w fs gs n m a b = run.1.asks.one_change v w fs gs n m a b

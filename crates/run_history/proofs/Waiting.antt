@@ -208,7 +208,7 @@ module _ (script : Script) (start : Tree) (firsts : ServerId → ℕ) (real : (v
       if_server (λ S. SentTo S h e n b → ⊥) k v (after_step s (acts (firsts v) v past)) (acts (firsts v) v past)
       (λ same. absurd (none_zero _ k part (ap (λ (w : ServerId). w.0) same ∙ z))) old q
 
-  zero_silent : (past : List Step) → StepsMeet script start firsts past → (v : ServerId) → v.0 ≡ 0 → (h : HostId)
+  pub zero_silent : (past : List Step) → StepsMeet script start firsts past → (v : ServerId) → v.0 ≡ 0 → (h : HostId)
       (e n : ℕ) (b : Body) → SentTo (acts (firsts v) v past) h e n b → ⊥
   zero_silent [] run v z h e n b (inl q) = cc
   zero_silent [] run v z h e n b (inr q) = elim q [ ]
@@ -216,7 +216,7 @@ module _ (script : Script) (start : Tree) (firsts : ServerId → ℕ) (real : (v
       still_silent s past v z h e n b (zero_silent past run.0 v z h e n b) s.node run.1.2 sent
 
   -- a Change goes to where its fileset is
-  said_at : (h : HostId) (A : List Step) → HostRun script h A → (v : ServerId) (e n : ℕ) (c : ChangeOf)
+  pub said_at : (h : HostId) (A : List Step) → HostRun script h A → (v : ServerId) (e n : ℕ) (c : ChangeOf)
       → Said A v e n (Change c) → (c.fileset.0 ≡ 0) ⊎ (home c.fileset ≡ v)
   said_at h [] run v e n c said = elim said [ ]
   said_at h (s ∷ A) run v e n c (inr said) = said_at h A run.0 v e n c said
@@ -233,7 +233,7 @@ module _ (script : Script) (start : Tree) (firsts : ServerId → ℕ) (real : (v
       ap (λ (x : Cause). raised x v n) e
       ∙ ap (λ (b : Body). raised_by b (m.server.0 == v.0) m.epoch n) body
 
-  zero_home : (fs : FilesetId) → fs.0 ≡ 0 → (home fs).0 ≡ 0
+  pub zero_home : (fs : FilesetId) → fs.0 ≡ 0 → (home fs).0 ≡ 0
   unfolding home
   zero_home fs z = ap (λ n. n / 65536) z
 

@@ -4,9 +4,7 @@ use Rattle.base_types.specs.declared.ids.ServerId.{ServerId}
 use Rattle.tree_answers.specs.Histories.{IsHistory}
 use Rattle.tree_answers.specs.WellFormed.{IsWellFormed}
 use Rattle.tree_answers.specs.declared.tree.Tree.{Tree}
-use Rattle.need_server.specs.Kept.{kept_tree}
 use Rattle.script_lines.specs.declared.script.Script.{Script}
-use Rattle.need_laws.specs.Known.{SameAt}
 use Rattle.run_rules.specs.Coherence.{CachedExactly}
 use Rattle.run_rules.specs.Runs.{IsRun, firsts_of, past_of}
 use Rattle.run_history.specs.Agreement.{CellsAgree}
@@ -17,6 +15,7 @@ use Rattle.run_contents.specs.Instance.{IsOfRun}
 use Rattle.run_rules.specs.Kept.{kept}
 use Rattle.run_rules.specs.Nodes.{served}
 use Rattle.run_rules.specs.declared.step.Step.{Step}
+use Rattle.run_history.specs.PastStanding.{KeepsAs}
 use Rattle.run_history.specs.UseStanding.{LabelsStand}
 
 -- The history of every run is legal: each call has the tree's reply, and what is stored may be.
@@ -37,7 +36,7 @@ pub record IsOfPast
     (start : Tree) (firsts : ServerId → ℕ) (c : Contents) (past : List Step) (tree_is : Tree) : Type 0 where
   pub formed : IsWellFormed tree_is
   pub cells : CellsAgree c past tree_is
-  pub kept : (server : ServerId) → SameAt server (kept start server (served server past)) (kept_tree tree_is)
+  pub kept : (server : ServerId) → KeepsAs server (kept start server (served server past)) tree_is
   pub labels : LabelsStand firsts past tree_is
 
 -- so the history's is from the start on, and after each step
@@ -50,6 +49,12 @@ abbrev pub HistoriesMakeTheTree : Type 0
 HistoriesMakeTheTree =
     (script : Script) (journal : Journal) (run : IsRun script journal) (c : Contents)
     → IsOfRun run.start (firsts_of journal) c → IsThroughout run.start (firsts_of journal) c (past_of journal)
+
+-- At the end of its journal each server keeps of that tree just its own filesets, as they are kept there.
+abbrev pub ServersKeepTheTree : Type 0
+ServersKeepTheTree =
+    (script : Script) (journal : Journal) (run : IsRun script journal) (server : ServerId)
+    → KeepsAs server (kept run.start server (served server (past_of journal))) (tree_at run.start (past_of journal))
 
 -- on the tree of the history calls are answered from cache exactly where tokens cover their need
 abbrev pub CachesAreExact : Type 0

@@ -2,7 +2,13 @@
 ghost use Rattle.run_history.specs.PastEnded.{EndedRunsMayBeFollowed};
 ghost use Rattle.run_history.specs.Idle.{AnswersLeaveIdle, IdleHostsHaveLabels, LabelsAreTheRuns};
 ghost use Rattle.run_history.specs.Passing.{HostPasses, InEachStep, ServerPasses, StartsStand};
-ghost use Rattle.run_history.specs.Past.{CachesAreExact, HistoriesMakeTheTree, JournalsAreLegal, RunsAreLegal};
+ghost use Rattle.run_history.specs.Past.{
+  CachesAreExact,
+  HistoriesMakeTheTree,
+  JournalsAreLegal,
+  RunsAreLegal,
+  ServersKeepTheTree,
+};
 ghost use Rattle.run_history.specs.Worked.{IsCarried};
 
 /// In every run the start tree agrees with the run; and each step passes a tree on that agrees with the run before it:
@@ -21,11 +27,12 @@ pub fn steps_pass_the_tree_on()
 /// stored of a give-back may be stored. So it is with the history of its journal, of which the output is made. After
 /// each step the tree that this history makes is well formed; its parts are those of the run, kept and unsaved; of each
 /// server's files it keeps just what the server keeps; and its locks and open files are those under the labels that the
-/// hosts of the run have in use.
+/// hosts of the run have in use. So at the end each server keeps of that tree its own filesets, and nothing else.
 pub fn every_past_is_legal()
     ensures legal { RunsAreLegal }
     ensures journal { JournalsAreLegal }
     ensures tree { HistoriesMakeTheTree }
+    ensures servers { ServersKeepTheTree }
 {}
 
 /// In every run the step of a host that begins a call answers it exactly where the host's tokens cover the walk and

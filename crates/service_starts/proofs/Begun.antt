@@ -364,13 +364,13 @@ begun roster all states a = record {
 }
 
 -- what stands in lists that are made of others
-got_map : {X : Type 0} {Y : Type 0} (f : X → Y) (xs : List X) (i : ℕ) (y : Y) → slice_get (map f xs) i ≡ Some y →
+pub got_map : {X : Type 0} {Y : Type 0} (f : X → Y) (xs : List X) (i : ℕ) (y : Y) → slice_get (map f xs) i ≡ Some y →
     (x : X) × (slice_get xs i ≡ Some x) × (f x ≡ y)
 got_map f [] i y e = absurd (search (rules, e))
 got_map f (x ∷ xs) zero y e = let same : f x ≡ y = cc in (x, refl, same)
 got_map f (x ∷ xs) (suc i) y e = got_map f xs i y e
 
-map_got : {X : Type 0} {Y : Type 0} (f : X → Y) (xs : List X) (i : ℕ) (x : X) → slice_get xs i ≡ Some x →
+pub map_got : {X : Type 0} {Y : Type 0} (f : X → Y) (xs : List X) (i : ℕ) (x : X) → slice_get xs i ≡ Some x →
     slice_get (map f xs) i ≡ Some (f x)
 map_got f [] i x e = absurd (search (rules, e))
 map_got f (z ∷ xs) zero x e = let same : z ≡ x = cc in ap (λ one. Some (f one)) same
@@ -382,7 +382,7 @@ roster_once : (state : StoreState) (id : FilesetId) → IsStorable state →
 unfolding act_done
 roster_once state id s = ap (λ one. one.roster) (settled_slots state id s.apart)
 
-roster_all : (those : List Settling) (state : StoreState) → IsStorable state →
+pub roster_all : (those : List Settling) (state : StoreState) → IsStorable state →
     (state_after state (map (λ (one : Settling). Settle one.fileset) those)).roster ≡ state.roster
 roster_all [] state s = refl
 roster_all (first ∷ those) state s =

@@ -62,7 +62,7 @@ nobody_there tree h server isnt =
     rw (filesets, records) refl
 
 -- the room of a server that is there
-get_some : {X : Type 0} (xs : List X) (k : ℕ) → k < length xs → (x : X) × (slice_get xs k ≡ Some x)
+pub get_some : {X : Type 0} (xs : List X) (k : ℕ) → k < length xs → (x : X) × (slice_get xs k ≡ Some x)
 get_some [] k h = absurd (omega (arith, h))
 get_some (x ∷ xs) zero h = (x, refl)
 get_some (x ∷ xs) (suc k) h = get_some xs k (omega (arith, h))

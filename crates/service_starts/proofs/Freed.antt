@@ -1,4 +1,5 @@
 -- The tree in which no server keeps room any more.
+use Rattle.store_laws.proofs.Moved.{find_mapped}
 use Rattle.std.proofs.Common.{◌≡◌, Bool, true, false, ◌&&◌, ◌||◌, not, cond, List, [], ◌∷◌, map, Some, refl, sym, ap, ◌∙◌, subst, inl, inr, ◌==◌}
 use Rattle.std.specs.Prelude.{if◌then◌else◌}
 use Rattle.std.specs.List.{find, list_any, list_all}
@@ -15,18 +16,6 @@ use Rattle.service_starts.proofs.Standing.{In, in_any}
 use Rattle.service_starts.specs.UnderWay.{free, freed}
 use Rattle.store_laws.proofs.Keys.{same_key}
 use Rattle.store_laws.specs.TreeKeeping.{record_at}
-
--- what is found in a list whose elements are changed
-find_mapped : {X : Type 0} (p : X → Bool) (g : X → X) → ((x : X) → p (g x) ≡ p x) → (xs : List X) →
-    find p (map g xs) ≡ option_map g (find p xs)
-find_mapped p g k [] = refl
-find_mapped {X} p g k (x ∷ xs) =
-    ap (λ t. cond t (Some (g x)) (find p (map g xs))) (k x) ∙ by (p x) (find_mapped p g k xs)
-  where
-    by : (b : Bool) → find p (map g xs) ≡ option_map g (find p xs) →
-        cond b (Some (g x)) (find p (map g xs)) ≡ option_map g (cond b (Some x) (find p xs))
-    by true e = refl
-    by false e = e
 
 pub record_freed : (tree : Tree) (server : ServerId) (id : FilesetId) →
     record_at (freed tree) server id ≡ option_map free (record_at tree server id)

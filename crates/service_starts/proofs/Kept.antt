@@ -1,4 +1,5 @@
 -- Each store keeps its part of the tree that all stores make, where no move goes on.
+use Rattle.service_starts.proofs.Found.{IsOne, OfId, from_record, from_slot, here_found, here_stays, in_found, its_slot, keeps_room, no_record_at, none_at, none_open, of_id, of_slot, server_is}
 use Rattle.std.proofs.Common.{◌≡◌, ℕ, zero, suc, ◌+◌, ◌-◌, ◌<◌, ◌==◌, nat_lt, Bool, true, false, ◌&&◌, ◌||◌, not, cond, List, [], ◌∷◌, map, filter, Option, Some, None, refl, sym, ap, ◌∙◌, subst, arith, inl, inr, rules}
 use Rattle.std.specs.Prelude.{slice_get, if◌then◌else◌, option_and_then}
 use Rattle.std.specs.List.{find}
@@ -48,225 +49,11 @@ use Rattle.store_laws.specs.TreeKeeping.{KeepsOf, fileset_at, record_at, if_at, 
 pub never : false ≡ true → ⊥
 never e = search (rules, e)
 
--- an id or a server of a number
-id_is : (a b : FilesetId) → a.0 ≡ b.0 → a ≡ b
-id_is a b e = ap (λ n. let id : FilesetId = record { 0 = n } in id) e
-
-server_is : (a b : ServerId) → a.0 ≡ b.0 → a ≡ b
-server_is a b e = ap (λ n. let id : ServerId = record { 0 = n } in id) e
-
--- one of the stores
-record IsOne (all : List Told) (state : StoreState) : Type 0 where
-  place : ℕ
-  told : Told
-  there : slice_get all place ≡ Some told
-  of_it : IsToldOf (place + 1) state told
-
--- what is held is told of
-held_slot : (n : ℕ) (slots : List (Option Holding)) (at : ℕ) (holding : Holding) → held_at slots at ≡ Some holding → (m : ℕ) × In (slot_told m holding) (slots_from n slots)
-held_slot n [] at holding e = absurd (search (rules, e))
-held_slot n (None ∷ slots) zero holding e = absurd (search (rules, e))
-held_slot n (None ∷ slots) (suc at) holding e = held_slot (n + 1) slots at holding e
-held_slot n (Some first ∷ slots) zero holding e = let same : first ≡ holding = cc in (n, inl (ap (slot_told n) same))
-held_slot n (Some first ∷ slots) (suc at) holding e = let w = held_slot (n + 1) slots at holding e in (w.0, inr w.1)
-
--- the slot of what is found by an id
-record OfId (all : List Told) (state : StoreState) (id : FilesetId) (holding : Holding) (at : Placed) : Type 0 where
-  here : In at (placed all)
-  held : IsHeld all at state holding
-  its : at.slot.fileset ≡ id
-
-of_id : (all : List Told) (state : StoreState) (one : IsOne all state) (id : FilesetId) (holding : Holding) → held_so (is_of id) state.slots ≡ Some holding → (at : Placed) × OfId all state id holding at
-of_id all state one id holding e =
-    let s = held_slot 0 state.slots (slot_so (is_of id) state.slots) holding e in
-    let slot = slot_told s.0 holding in
-    let mine : In slot one.told.slots = subst (λ xs. In slot xs) (sym one.of_it.slots) s.1 in
-    let own = one.of_it.own in
-    let its : holding.fileset.id.0 ≡ id.0 = equal_is holding.fileset.id.0 id.0 (held_passes (is_of id) state.slots holding e) in
-    let at : Placed = record { server = record { 0 = 1 + one.place }; slot = slot } in (
-      at,
-      record {
-        here = in_all_slots 1 all one.place one.told slot one.there mine;
-        held = record {
-          storable = one.of_it.storable;
-          own = omega (arith, own);
-          told = (one.place, one.told, one.there, refl, one.of_it.kept, one.of_it.slots);
-          held = (slot_so (is_of id) state.slots, e);
-          stored = one.of_it.storable.each (slot_so (is_of id) state.slots) holding e;
-          tells = (s.0, refl);
-        };
-        its = id_is holding.fileset.id id its;
-      },
-    )
-
-tells_id : (slot : Slot) (holding : Holding) → Tells slot holding → slot.fileset ≡ holding.fileset.id
-tells_id slot holding w = ap (λ one. one.fileset) w.1
-
-held_by : (state : StoreState) (id : FilesetId) (at : ℕ) (holding : Holding) → IsStorable state → held_at state.slots at ≡ Some holding → id ≡ holding.fileset.id → held_so (is_of id) state.slots ≡ Some holding
-held_by state id at holding s e its = ap (λ one. held_so (is_of one) state.slots) its ∙ held_self state at holding s e
-
--- what is found by the id of a slot of the store
-of_slot : (all : List Told) (state : StoreState) (one : IsOne all state) (at : Placed) → In at (placed all) → at.server.0 ≡ state.server.0 → (holding : Holding) × (held_so (is_of at.slot.fileset) state.slots ≡ Some holding)
-of_slot all state one at i e =
-    let w = of_all_slots 1 all at i in
-    let n = w.3 in
-    let own = one.of_it.own in
-    let place : w.0 ≡ one.place = omega (arith, n, own, e) in
-    let there : slice_get all one.place ≡ Some w.1 = ap (slice_get all) (sym place) ∙ w.2 in
-    let told : w.1 ≡ one.told = let both : Some w.1 ≡ Some one.told = sym there ∙ one.there in cc in
-    let inside : In at.slot (slots_from 0 state.slots) = subst (λ xs. In at.slot xs) (ap (λ one. one.slots) told ∙ one.of_it.slots) w.4 in
-    let s = slot_held 0 state.slots at.slot inside in
-    (s.1, held_by state at.slot.fileset s.0 s.1 one.of_it.storable s.2 (tells_id at.slot s.1 s.3))
-
--- what is found stands there
-found_in : {X : Type 0} (p : X → Bool) (xs : List X) (x : X) → find p xs ≡ Some x → In x xs
-found_in p [] x e = absurd (search (rules, e))
-found_in p (y ∷ ys) x e = choice (p y) e (λ k. found_in p ys x k)
-  where
-    choice : (b : Bool) → cond b (Some y) (find p ys) ≡ Some x → (find p ys ≡ Some x → In x ys) → In x (y ∷ ys)
-    choice true k rest = let same : y ≡ x = cc in inl same
-    choice false k rest = inr (rest k)
-
-in_found : {X : Type 0} (p : X → Bool) (xs : List X) (x : X) → In x xs → p x ≡ true → (y : X) × (find p xs ≡ Some y)
-in_found p [] x i t = absurd i
-in_found {X = X} p (y ∷ ys) x (inl e) t = let first : p y ≡ true = ap p e ∙ t in (y, ap (λ b. cond b (Some y) (find p ys)) first)
-in_found {X = X} p (y ∷ ys) x (inr i) t = choice (p y) (in_found p ys x i t)
-  where
-    choice : (b : Bool) → ((z : X) × (find p ys ≡ Some z)) → (z : X) × (cond b (Some y) (find p ys) ≡ Some z)
-    choice true rest = (y, refl)
-    choice false rest = rest
-
--- the slot of a fileset of the tree
-record FromSlot (all : List Told) (id : FilesetId) (fileset : Fileset) (at : Placed) : Type 0 where
-  here : In at (placed all)
-  stands : stands all at.slot ≡ true
-  made : fileset_in all at ≡ Some fileset
-  its : at.slot.fileset ≡ id
-  server : fileset.server ≡ at.server
-  moves : fileset.moves ≡ at.slot.moves
-
-moved_as : (all : List Told) (at : Placed) (fileset : Fileset) → fileset_in all at ≡ Some fileset → fileset.moves ≡ at.slot.moves
-moved_as all at fileset e = choice (stands all at.slot) e
-  where
-    made : (o : Option Fileset) → option_map {T = Fileset} {U = Fileset} (λ one. record one { server = at.server; moves = at.slot.moves }) o ≡ Some fileset → fileset.moves ≡ at.slot.moves
-    made None k = absurd (search (rules, k))
-    made (Some one) k = let same : record one { server = at.server; moves = at.slot.moves } ≡ fileset = cc in ap (λ z. z.moves) (sym same)
-
-    choice : (b : Bool) → (if b then fileset_of all at else None) ≡ Some fileset → fileset.moves ≡ at.slot.moves
-    choice true k = made _ k
-    choice false k = absurd (search (rules, k))
-
-from_slot : (all : List Told) → AreTold all → misfit all ≡ None → (id : FilesetId) (fileset : Fileset) → find (has_id id) (tree_filesets all) ≡ Some fileset → (at : Placed) × FromSlot all id fileset at
-from_slot all t f id fileset e =
-    let w = in_made (fileset_in all) (placed all) fileset (tree_in all fileset (found_in (has_id id) (tree_filesets all) fileset e)) in
-    let c = comes_of all t f w.0 fileset w.1 w.2 in
-    let its : fileset.id ≡ id = id_is fileset.id id (equal_is fileset.id.0 id.0 (found_passes (has_id id) (tree_filesets all) fileset e)) in (
-      w.0,
-      record {
-        here = w.1;
-        stands = c.1.stands;
-        made = w.2;
-        its = sym c.1.is_in.id ∙ its;
-        server = c.1.is_in.server;
-        moves = moved_as all w.0 fileset w.2;
-      },
-    )
-
--- the fileset that is in a slot is found
-slot_found : (all : List Told) → AreTold all → misfit all ≡ None → (at : Placed) (fileset : Fileset) → In at (placed all) → stands all at.slot ≡ true → fileset_in all at ≡ Some fileset → fileset.id ≡ at.slot.fileset
-    → find (has_id at.slot.fileset) (tree_filesets all) ≡ Some fileset
-slot_found all t f at fileset i s made id =
-    let listed : In fileset (tree_filesets all) = puts_have place_of [] (filesets_in all) fileset (inr (made_in (fileset_in all) (placed all) at fileset i made)) in
-    let found = found_one at.slot.fileset (tree_filesets all) fileset listed (ap (λ one. one.0) id) in
-    let w = from_slot all t f at.slot.fileset found.0 found.1 in
-    let ids : w.0.slot.fileset.0 ≡ at.slot.fileset.0 = ap (λ one. one.0) w.1.its in
-    let servers = stands_once all f w.0 at w.1.here i ids w.1.stands s in
-    let same : w.0 ≡ at = same_place all t w.0 at w.1.here i servers ids in
-    found.1 ∙ sym w.1.made ∙ ap (fileset_in all) same ∙ made
-
--- no fileset of an id is at a server
-none_at : (all : List Told) → AreTold all → misfit all ≡ None → (roster : Roster) (server : ServerId) (id : FilesetId) → ((at : Placed) → In at (placed all) → at.server.0 ≡ server.0 → at.slot.fileset ≡ id → stands all at.slot ≡ true → ⊥)
-    → fileset_at (start_of roster all) server id ≡ None
-none_at all t f roster server id h = choice (find (has_id id) (tree_filesets all)) refl
-  where
-    apart : (fileset : Fileset) (b : Bool) → (fileset.server.0 == server.0) ≡ b → find (has_id id) (tree_filesets all) ≡ Some fileset → (if b then Some fileset else None) ≡ None
-    apart fileset true k e =
-        let w = from_slot all t f id fileset e in
-        let its : w.0.server.0 ≡ server.0 = ap (λ one. one.0) (sym w.1.server) ∙ equal_is fileset.server.0 server.0 k in
-        absurd (h w.0 w.1.here its w.1.its w.1.stands)
-    apart fileset false k e = refl
-
-    choice : (o : Option Fileset) → find (has_id id) (tree_filesets all) ≡ o → option_and_then (if_at server) o ≡ None
-    choice None e = refl
-    choice (Some fileset) e = apart fileset (fileset.server.0 == server.0) refl e
-
--- one that is here
-here_stays : (all : List Told) (slot : Slot) (stay : Stay) → is_here stay ≡ true → (stands_as all slot stay ≡ true) × (is_kept stay ≡ true) × ((server : ServerId) → keeper_of server stay ≡ server)
-here_stays all slot Writable h = (refl, refl, λ server. refl)
-here_stays all slot Clone h = (refl, refl, λ server. refl)
-here_stays all slot (Leaving to ship) h = absurd (search (rules, h))
-here_stays all slot (Arriving from ship parts) h = absurd (search (rules, h))
-here_stays all slot (Gone to) h = absurd (search (rules, h))
-
-here_found : (all : List Told) → AreTold all → misfit all ≡ None → (roster : Roster) (state : StoreState) (id : FilesetId) (holding : Holding) (at : Placed) → OfId all state id holding at → is_here holding.stay ≡ true
-    → fileset_at (start_of roster all) state.server id ≡ Some holding.fileset
-here_found all t f roster state id holding at o h =
-    let tells = o.held.tells.1 in
-    let stay : at.slot.stay ≡ holding.stay = ap (λ one. one.stay) tells in
-    let so = here_stays all at.slot at.slot.stay (ap is_here stay ∙ h) in
-    let kept : is_kept holding.stay ≡ true = ap is_kept (sym stay) ∙ so.1 in
-    let found = ap (λ server. find (has_id at.slot.fileset) (kept_by all server)) (so.2 at.server) ∙ found_kept all at state holding o.held kept in
-    let server : at.server ≡ holding.fileset.server = server_is at.server state.server (sym o.held.own) ∙ sym o.held.stored.server in
-    let moves : at.slot.moves ≡ holding.fileset.moves = ap (λ one. one.moves) tells in
-    let whole : fileset_of all at ≡ Some holding.fileset =
-    ap (option_map {T = Fileset} {U = Fileset} (λ fileset. record fileset { server = at.server; moves = at.slot.moves })) found
-    ∙ ap (λ one. Some (record holding.fileset { server = one; moves = at.slot.moves })) server
-    ∙ ap (λ n. Some (record holding.fileset { moves = n })) moves in
-    let made : fileset_in all at ≡ Some holding.fileset = ap (λ b. if b then fileset_of all at else None) so.0 ∙ whole in
-    let its : holding.fileset.id ≡ at.slot.fileset = sym (ap (λ one. one.fileset) tells) in
-    let listed = slot_found all t f at holding.fileset o.here so.0 made its in
-    ap (λ one. option_and_then (if_at state.server) (find (has_id one) (tree_filesets all))) (sym o.its)
-    ∙ ap (option_and_then (if_at state.server)) listed
-    ∙ at_server holding.fileset state.server o.held.stored.server
-
 -- what has gone from a slot
 gone_out : (all : List Told) (at : Placed) (to : ServerId) → at.slot.stay ≡ Gone to → (stands all at.slot ≡ false) × (away_in all at ≡ Some (left_for at to))
 gone_out all at to e =
     let out : stands all at.slot ≡ false = ap (stands_as all at.slot) e in
     (out, ap (λ b. if b then None else away_of at at.slot.stay) out ∙ ap (away_of at) e)
-
--- a server's record of a fileset is of its slot
-record FromRecord (all : List Told) (server : ServerId) (id : FilesetId) (away : Away) (at : Placed) : Type 0 where
-  here : In at (placed all)
-  out : stands all at.slot ≡ false
-  made : away_of at at.slot.stay ≡ Some away
-  own : at.server.0 ≡ server.0
-  its : at.slot.fileset ≡ id
-
-from_record : (all : List Told) (server : ServerId) (id : FilesetId) (away : Away) → find (is_away server id) (tree_records all) ≡ Some away → (at : Placed) × FromRecord all server id away at
-from_record all server id away e =
-    let w = away_there all away (found_in (is_away server id) (tree_records all) away e) in
-    let its : is_away server id away ≡ true = found_passes (is_away server id) (tree_records all) away e in
-    let servers = equal_is away.server.0 server.0 (and_left (away.server.0 == server.0) (away.fileset.0 == id.0) its) in
-    let ids = id_is away.fileset id (equal_is away.fileset.0 id.0 (and_right (away.server.0 == server.0) (away.fileset.0 == id.0) its)) in (
-      w.0,
-      record {
-        here = w.1.here;
-        out = w.1.out;
-        made = w.1.made;
-        own = ap (λ one. one.0) (sym w.1.server) ∙ servers;
-        its = sym w.1.id ∙ ids;
-      },
-    )
-
--- no fileset of an id has left a server
-no_record_at : (all : List Told) (roster : Roster) (server : ServerId) (id : FilesetId) → ((at : Placed) → In at (placed all) → at.server.0 ≡ server.0 → at.slot.fileset ≡ id → stands all at.slot ≡ false → ⊥)
-    → record_at (start_of roster all) server id ≡ None
-no_record_at all roster server id h = choice (find (is_away server id) (tree_records all)) refl
-  where
-    choice : (o : Option Away) → find (is_away server id) (tree_records all) ≡ o → o ≡ None
-    choice None e = refl
-    choice (Some away) e = let w = from_record all server id away e in absurd (h w.0 w.1.here w.1.own w.1.its w.1.out)
 
 -- one that has gone
 gone_found : (all : List Told) → AreTold all → (roster : Roster) (state : StoreState) (id : FilesetId) (holding : Holding) (at : Placed) → OfId all state id holding at → (to : ServerId) → holding.stay ≡ Gone to
@@ -292,20 +79,6 @@ gone_found all t roster state id holding at o to e =
     ∙ ap (λ one. let away : Away = record { server = one; fileset = at.slot.fileset; name = at.slot.name; to = to; room_kept = false } in Some away) server
     ∙ ap (λ one. let away : Away = record { server = state.server; fileset = one; name = at.slot.name; to = to; room_kept = false } in Some away) fileset
     ∙ ap (λ one. let away : Away = record { server = state.server; fileset = holding.fileset.id; name = one; to = to; room_kept = false } in Some away) name
-
--- what is open is to be settled
-none_open : (all : List Told) (slots : List Placed) (at : Placed) → settlings_in all slots ≡ [] → In at slots → is_open all at.slot ≡ false
-none_open all [] at e i = absurd i
-none_open all (first ∷ slots) at e i = choice (is_open all first.slot) refl e i (λ k j. none_open all slots at k j)
-  where
-    settling : Placed → Settling
-    settling one = record { server = one.server; fileset = one.slot.fileset }
-
-    choice : (b : Bool) → is_open all first.slot ≡ b → map settling (cond b (first ∷ filter (λ one. is_open all one.slot) slots) (filter (λ one. is_open all one.slot) slots)) ≡ []
-        → In at (first ∷ slots) → (settlings_in all slots ≡ [] → In at slots → is_open all at.slot ≡ false) → is_open all at.slot ≡ false
-    choice true k e i rest = absurd (search (rules, e))
-    choice false k e (inl same) rest = ap (λ one. is_open all one.slot) (sym same) ∙ k
-    choice false k e (inr j) rest = rest e j
 
 -- a slot of a server is among its slots
 among : (all : List Told) (at : Placed) → In at (placed all) → In at.slot (slots_of all at.server)
@@ -387,11 +160,6 @@ none_held roster all state s id e at i own its =
     let wrong : None ≡ Some w.0 = sym e ∙ found in
     search (rules, wrong)
 
--- the slot of an id at the store's server
-its_slot : (all : List Told) → AreTold all → (state : StoreState) (id : FilesetId) (holding : Holding) (at : Placed) → OfId all state id holding at → (b : Placed) → In b (placed all) → b.server.0 ≡ state.server.0 → b.slot.fileset ≡ id → b ≡ at
-its_slot all t state id holding at o b i own its =
-    same_place all t b at i o.here (own ∙ o.held.own) (ap (λ one. one.0) (its ∙ sym o.its))
-
 gone_stays : (holding : Holding) (to : ServerId) → holding.stay ≡ Gone to → is_here holding.stay ≡ false
 gone_stays holding to e = ap is_here e
 
@@ -468,14 +236,6 @@ keeps_older roster all state s id holding fileset e gone found =
     let mine : at.slot.moves ≡ holding.fileset.moves = ap (λ one. one.moves) tells in
     let its : fileset.moves ≡ other.slot.moves = from.1.moves ∙ ap (λ one. one.slot.moves) same in
     omega (arith, more, mine, its)
-
-keeps_room : (all : List Told) (state : StoreState) → IsOne all state → room_of (rooms_of all) state.server ≡ Some (room_in state)
-keeps_room all state one =
-    let own = one.of_it.own in
-    let some : (state.server.0 == 0) ≡ false = grind (arith, common_steps, own) in
-    let place : state.server.0 - 1 ≡ one.place = omega (arith, own) in
-    let found : room_of (rooms_of all) state.server ≡ Some (record { capacity = one.told.kept.capacity; next = one.told.kept.next }) = rw (some, place) (get_room all one.place one.told one.there) in
-    found ∙ ap (λ kept. let room : ServerRoom = record { capacity = kept.capacity; next = kept.next } in Some room) one.of_it.kept
 
 pub start_kept : (roster : Roster) (all : List Told) (place : ℕ) (told : Told) (state : StoreState) → AreTold all → misfit all ≡ None → NoneGoesOn all → settlings_of all ≡ [] → slice_get all place ≡ Some told → IsToldOf (place + 1) state told → state.roster ≡ roster
     → KeepsOf (start_of roster all) state

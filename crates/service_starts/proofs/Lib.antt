@@ -14,7 +14,6 @@ pub mod Turned
 pub mod Settling
 pub mod Kept
 pub mod Blank
-pub mod Booting
 pub mod Tied
 pub mod Freed
 pub mod Ended

@@ -1,4 +1,5 @@
 -- A fileset that is leaving a store is sent again: the other store takes the parts that it lacks, and changes nothing else.
+use Rattle.store_laws.proofs.Moves.{awaits_is_of, get_behind, length_more, part_told, told_or_none}
 use Rattle.std.proofs.Common.{◌≡◌, ◌≢◌, ◌≤◌, ◌<◌, ◌⊎◌, nat_lt, nat_le, ℕ, zero, suc, ◌+◌, ◌-◌, ◌==◌, Bool, true, false, ◌&&◌, ◌||◌, not, cond, List, [], ◌∷◌, ◌++◌, length, take, Option, Some, None, inl, inr, refl, sym, ap, ◌∙◌, subst, append_assoc, arith}
 use Rattle.std.specs.Prelude.{IsTrue, if◌then◌else◌, option_and_then, slice_get}
 use Rattle.std.specs.List.{list_all, list_any}
@@ -358,20 +359,6 @@ take_front : (front rest : List Anode) → take (length front) (front ++ rest) �
 take_front [] rest = refl
 take_front (x ∷ front) rest = ap (λ xs. x ∷ xs) (take_front front rest)
 
-get_behind : (front : List Anode) (anode : Anode) (rest : List Anode) →
-    slice_get (front ++ anode ∷ rest) (length front) ≡ Some anode
-get_behind [] anode rest = refl
-get_behind (other ∷ front) anode rest = get_behind front anode rest
-
-told_or_none : (object : Option Object) → option_map_or (λ object. is_tellable object.content) object true ≡ true →
-    option_and_then tellable_or_none object ≡ object
-told_or_none None t = refl
-told_or_none (Some object) t = rw t refl
-
-length_more : (front : List Anode) (anode : Anode) → length (front ++ anode ∷ []) ≡ length front + 1
-length_more [] anode = refl
-length_more (other ∷ front) anode = let h = length_more front anode in omega (arith, h)
-
 -- the part of an anode
 part_at : (holding : Holding) (mover : Mover) (front : List Anode) (anode : Anode) (rest : List Anode) (at : ℕ) →
     holding.fileset.anodes ≡ front ++ anode ∷ rest → at ≡ suc (length front) →
@@ -392,18 +379,6 @@ part_at holding mover front anode rest at e n t =
     part_object holding at mover (omega (arith, n))
     ∙ ap (λ u. object_part at u (told_object anodes at)) unique
     ∙ ap (λ o. object_part at anode.unique o) told
-
-part_told : (state : StoreState) (id : FilesetId) (from : ServerId) (ship moves at : ℕ) (part : ShipPart)
-    (anode : Anode) → anode_told part ≡ Some anode →
-    part_outcome state from ship id moves at part ≡ anode_outcome state from ship id moves at anode
-unfolding part_outcome
-part_told state id from ship moves at (Head name objects records mover) anode e = absurd (cc)
-part_told state id from ship moves at (ObjectPart number unique status pieces entries) anode e =
-    ap (λ a. anode_outcome state from ship id moves at a) (cc)
-
-awaits_is_of : (id : FilesetId) (from : ServerId) (ship moves at : ℕ) (holding : Holding) →
-    awaits id from ship moves at holding ≡ true → is_of id holding ≡ true
-awaits_is_of id from ship moves at holding e = and_left _ _ (and_left _ _ e)
 
 -- one that waits for a part
 waits_for : (sender : StoreState) (holding come : Holding) (ship at : ℕ) (front : List Anode) →

@@ -122,7 +122,7 @@ map_same f g [] h = refl
 map_same f g (x ∷ xs) h = let one = h x (inl refl) in let rest = map_same f g xs (λ y i. h y (inr i)) in rw (one, rest) refl
 
 -- a server's acts
-acts_both : (server : ℕ) (xs ys : List Settling) → acts_at server (xs ++ ys) ≡ acts_at server xs ++ acts_at server ys
+pub acts_both : (server : ℕ) (xs ys : List Settling) → acts_at server (xs ++ ys) ≡ acts_at server xs ++ acts_at server ys
 acts_both server xs ys =
     ap (λ zs. map (λ (one : Settling). Settle one.fileset) zs) (filter-append (λ (one : Settling). one.server.0 == server) xs ys)
     ∙ map-append (λ (one : Settling). Settle one.fileset) (filter (λ one. one.server.0 == server) xs) (filter (λ one. one.server.0 == server) ys)
@@ -153,7 +153,7 @@ acts_later all server n (told ∷ those) h =
     let rest = acts_later all server (n + 1) those (omega (arith, h)) in
     ap (acts_at server) (settlings_both all (placed_at n told.slots) (placed_from (n + 1) those)) ∙ acts_both server (settlings_in all (placed_at n told.slots)) (settlings_in all (placed_from (n + 1) those)) ∙ rw (one, rest) refl
 
-append_none : {X : Type 0} (xs : List X) → xs ++ [] ≡ xs
+pub append_none : {X : Type 0} (xs : List X) → xs ++ [] ≡ xs
 append_none [] = refl
 append_none (x ∷ xs) = ap (λ ys. x ∷ ys) (append_none xs)
 

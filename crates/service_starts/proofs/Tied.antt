@@ -1,4 +1,5 @@
 -- A store that has settled what it had to keeps its part of the tree that a run starts from.
+use Rattle.service_starts.proofs.Begun.{got_map, map_got, roster_all}
 use Rattle.std.proofs.Common.{◌≡◌, ℕ, zero, suc, ◌+◌, ◌==◌, Bool, true, false, List, [], ◌∷◌, map, filter, Some, None, refl, sym, ap, ◌∙◌, subst, inl, inr, rules}
 use Rattle.std.specs.Prelude.{slice_get, if◌then◌else◌}
 use Rattle.base_types.specs.declared.ids.FilesetId.{FilesetId}
@@ -27,17 +28,6 @@ use Rattle.store_state.specs.declared.state.Stay.{Stay}
 use Rattle.store_state.specs.declared.state.Stay.TheVariants.{Writable, Clone, Leaving, Arriving, Gone}
 use Rattle.store_state.specs.declared.state.StoreState.{StoreState}
 use Rattle.store_laws.specs.TreeKeeping.{KeepsOf}
-
--- what stands in a list of what was made of others
-got_map : {X : Type 0} {Y : Type 0} (f : X → Y) (xs : List X) (i : ℕ) (y : Y) → slice_get (map f xs) i ≡ Some y → (x : X) × (slice_get xs i ≡ Some x) × (f x ≡ y)
-got_map f [] i y e = absurd (search (rules, e))
-got_map f (x ∷ xs) zero y e = let same : f x ≡ y = cc in (x, refl, same)
-got_map f (x ∷ xs) (suc i) y e = got_map f xs i y e
-
-map_got : {X : Type 0} {Y : Type 0} (f : X → Y) (xs : List X) (i : ℕ) (x : X) → slice_get xs i ≡ Some x → slice_get (map f xs) i ≡ Some (f x)
-map_got f [] i x e = absurd (search (rules, e))
-map_got f (z ∷ xs) zero x e = let same : z ≡ x = cc in ap (λ one. Some (f one)) same
-map_got f (z ∷ xs) (suc i) x e = map_got f xs i x e
 
 in_map : {X : Type 0} {Y : Type 0} (f : X → Y) (xs : List X) (y : Y) → In y (map f xs) → (x : X) × In x xs × (f x ≡ y)
 in_map f [] y i = absurd i
@@ -75,16 +65,6 @@ none_settled all none at i leaving =
     let there : Placed = record { server = record { 0 = 1 + w.0 }; slot = u.0 } in
     let before : In there (placed all) = in_all_slots 1 all w.0 v.0 u.0 v.1 u.1 in
     absurd (none_leaves all u.0 u.0.stay (none there (in_contains (placed all) there before)) (ap (λ slot. is_leaving slot.stay) u.2 ∙ leaving))
-
--- its roster stays
-roster_once : (state : StoreState) (id : FilesetId) → IsStorable state → (act_done state (Settle id)).state.roster ≡ state.roster
-unfolding act_done
-roster_once state id s = ap (λ one. one.roster) (settled_slots state id s.apart)
-
-roster_all : (those : List Settling) (state : StoreState) → IsStorable state → (state_after state (map (λ (one : Settling). Settle one.fileset) those)).roster ≡ state.roster
-roster_all [] state s = refl
-roster_all (first ∷ those) state s =
-    roster_all those (act_done state (Settle first.fileset)).state (acts_keep_storable state (Settle first.fileset) s tt tt) ∙ roster_once state first.fileset s
 
 start_settled : (roster : Roster) (all : List Told) (place : ℕ) (told : Told) (state : StoreState) → AreTold all → misfit all ≡ None → NoneGoesOn all → slice_get all place ≡ Some told → IsToldOf (place + 1) state told → state.roster ≡ roster
     → KeepsOf (start_of roster all) (state_after state (acts_at (place + 1) (settlings_of all)))

@@ -8,6 +8,5 @@ pub mod Laws
 pub mod Starts
 pub mod Settles
 pub mod Kept
-pub mod Boots
 pub mod UnderWay
 pub mod FinishLaws

@@ -1,5 +1,4 @@
 //! Each function does nothing, and what it ensures is a law.
-ghost use Rattle.service_starts.specs.Boots.{BootsAreKept};
 ghost use Rattle.service_starts.specs.Kept.{NewStoresStart, StartsAreKept};
 ghost use Rattle.service_starts.specs.Settles.{StoresSettle};
 ghost use Rattle.service_starts.specs.Starts.{TreesStart};
@@ -22,10 +21,4 @@ pub fn tie_law()
 /// The tree that is made of new stores is the new tree.
 pub fn new_law()
     ensures { NewStoresStart }
-{}
-
-/// A store that keeps its part of a tree keeps it when a run begins, when its server starts anew, and when something
-/// is learned of a host.
-pub fn boot_law()
-    ensures { BootsAreKept }
 {}

@@ -8,12 +8,11 @@ use Rattle.tree_answers.specs.declared.tree.Tree.{Tree}
 use Rattle.service_starts.specs.FinishLaws.{AreToldOf, settled_stores}
 use Rattle.service_starts.specs.UnderWay.{KeepUnderWay, freed}
 use Rattle.service_starts.specs.declared.fitting.Settling.{Settling}
-use Rattle.store_laws.proofs.Boots.{boots_are_kept as boot_forgets}
+use Rattle.store_laws.proofs.Boots.{boots_are_kept}
 use Rattle.store_laws.specs.HistoryLaws.{IsBehind}
 use Rattle.store_laws.specs.MoveKeeping.{KeepAll}
 use Rattle.store_records.specs.Stored.{IsStorable}
 use Rattle.message_types.specs.Soundness.{Each}
-use Rattle.service_starts.proofs.Booting.{boots_are_kept}
 use Rattle.store_acts.specs.Acts.{act_done, booted}
 use Rattle.store_acts.specs.Moving.{taken_from}
 use Rattle.store_acts.specs.declared.act.Act.TheVariants.{Boot}
@@ -28,10 +27,10 @@ boot_makes state = refl
 
 -- one that has begun the run
 boot_keeps : (tree : Tree) (state : StoreState) → KeepsOf tree state → KeepsOf tree (booted state)
-boot_keeps tree state h = subst (KeepsOf tree) (boot_makes state) (boot_forgets tree state h).0.keeps
+boot_keeps tree state h = subst (KeepsOf tree) (boot_makes state) (boots_are_kept.boot tree state h).keeps
 
-boot_behind : (tree : Tree) (state : StoreState) → KeepsOf tree state → IsBehind (λ host. 1) (booted state)
-boot_behind tree state h = subst (IsBehind (λ host. 1)) (boot_makes state) (boot_forgets tree state h).1
+boot_behind : (state : StoreState) → IsBehind (λ host. 1) (booted state)
+boot_behind state = subst (IsBehind (λ host. 1)) (boot_makes state) (boots_are_kept.behind state)
 
 boot_ships : (state : StoreState) (from : ServerId) → (taken_from (booted state) from).ship ≤ 0
 boot_ships state from =
@@ -88,7 +87,7 @@ begins view tree roster worn middle new stores size keeps are = subst (KeepAll (
     behind : (k : ℕ) (state : StoreState) → slice_get (map booted (states_of view middle)) k ≡ Some state → IsBehind (λ host. 1) state
     behind k state e =
         let was = before_boot (states_of view middle) k state e in
-        subst (IsBehind (λ host. 1)) (sym was.2) (boot_behind (freed tree) was.0 (keeps k was.0 was.1))
+        subst (IsBehind (λ host. 1)) (sym was.2) (boot_behind was.0)
 
     ships : (k j : ℕ) (state other : StoreState) → slice_get (map booted (states_of view middle)) k ≡ Some state → slice_get (map booted (states_of view middle)) j ≡ Some other → (taken_from state other.server).ship ≤ other.ship
     ships k j state other e f =

@@ -1,4 +1,5 @@
 -- Histories that are cut at a move.
+use Rattle.store_laws.proofs.Splits.{number_append}
 use Rattle.std.proofs.Common.{◌≡◌, ◌≤◌, ◌<◌, ◌+◌, ℕ, zero, suc, Bool, true, false, cond, List, [], ◌∷◌, ◌++◌, length, take, drop, Some, None, refl, sym, ap, ◌∙◌, subst, arith}
 use Rattle.std.specs.Prelude.{◌&&◌, nat_lt, not, slice_get}
 use Rattle.std.proofs.lemmas.Bool.{ltb-false, ltb-true}
@@ -55,11 +56,6 @@ take_both (suc n) zero [] = let e : suc n + zero ≡ suc n = omega arith in rw e
 take_both (suc n) (suc m) [] = let e : suc n + suc m ≡ suc (n + suc m) = omega arith in rw e refl
 take_both (suc n) m (x ∷ xs) =
     let e : suc n + m ≡ suc (n + m) = omega arith in rw e (ap (λ ys. x ∷ ys) (take_both n m xs))
-
-number_append : (host : HostId) (k : ℕ) (xs ys : List Entry) →
-    number_after host k (xs ++ ys) ≡ number_after host (number_after host k xs) ys
-number_append host k [] ys = refl
-number_append host k (x ∷ xs) ys = number_append host (next_number host k x) xs ys
 
 numbers_append : (next : HostId → ℕ) (xs ys : List Entry) →
     numbers_after next (xs ++ ys) ≡ numbers_after (numbers_after next xs) ys

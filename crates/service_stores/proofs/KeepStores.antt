@@ -1,4 +1,5 @@
 -- The stores of servers, looked at one after the other.
+use Rattle.service_stores.proofs.Lists.{get_other, get_same, size_kept}
 use Rattle.std.proofs.Common.{◌≡◌, ◌≤◌, ◌<◌, ◌+◌, ◌⊎◌, ℕ, zero, suc, inl, inr, List, [], ◌∷◌, length, slice_get, Some, refl, sym, ap, ◌∙◌, subst, arith}
 use Rattle.std.proofs.Math.ListN.{set}
 use Rattle.std.proofs.lemmas.Bool.{cases_lt}
@@ -10,24 +11,6 @@ use Rattle.service_moves.specs.Stopping.{IsStopped}
 use Rattle.service_moves.specs.Stores.{AreSame, AreStores, IsStore}
 use Rattle.service_moves.specs.declared.stopped.RunStopped.{RunStopped}
 use Rattle.service_moves.specs.declared.stopped.RunStopped.TheVariants.{Failed, Unfit, Memory}
-
--- an element that is put into a list, and the others
-pub get_same : {X : Type 0} (xs : List X) (i : ℕ) (y : X) → i < length xs → slice_get (set xs i y) i ≡ Some y
-get_same [] i y lt = absurd (omega (arith, lt))
-get_same (x ∷ xs) zero y lt = refl
-get_same (x ∷ xs) (suc i) y lt = get_same xs i y (omega (arith, lt))
-
-pub get_other : {X : Type 0} (xs : List X) (i j : ℕ) (y : X) → (j ≡ i → ⊥) → slice_get (set xs i y) j ≡ slice_get xs j
-get_other [] i j y ne = refl
-get_other (x ∷ xs) zero zero y ne = absurd (ne refl)
-get_other (x ∷ xs) zero (suc j) y ne = refl
-get_other (x ∷ xs) (suc i) zero y ne = refl
-get_other (x ∷ xs) (suc i) (suc j) y ne = get_other xs i j y (λ e. ne (ap suc e))
-
-pub size_kept : {X : Type 0} (xs : List X) (i : ℕ) (y : X) → length (set xs i y) ≡ length xs
-size_kept [] i y = refl
-size_kept (x ∷ xs) zero y = refl
-size_kept (x ∷ xs) (suc i) y = ap suc (size_kept xs i y)
 
 -- one of the stores
 pub store_at : {S : Type 0} (view : S → View) (roster : Roster) (worn number : ℕ) (stores : List S) (k : ℕ) (store : S) →

@@ -1,4 +1,5 @@
 -- Lists that change element by element.
+use Rattle.service_starts.proofs.CheckFormed.{get_some}
 use Rattle.std.proofs.Common.{◌≡◌, ◌≢◌, ◌⊎◌, true, false, ℕ, zero, suc, ◌+◌, ◌<◌, List, [], ◌∷◌, ◌++◌, take, length, inl, inr, refl, sym, subst, ap, ◌∙◌, arith}
 use Rattle.std.specs.Prelude.{slice_get, Some, Result, Ok, Err, IfOk, IfErr}
 use Rattle.std.proofs.Math.ListN.{set}
@@ -28,11 +29,6 @@ pub size_kept : {X : Type 0} (xs : List X) (i : ℕ) (y : X) → length (set xs 
 size_kept [] i y = refl
 size_kept (x ∷ xs) zero y = refl
 size_kept (x ∷ xs) (suc i) y = ap suc (size_kept xs i y)
-
-pub get_some : {X : Type 0} (xs : List X) (k : ℕ) → k < length xs → (x : X) × (slice_get xs k ≡ Some x)
-get_some [] k h = absurd (omega (arith, h))
-get_some (x ∷ xs) zero h = (x, refl)
-get_some (x ∷ xs) (suc k) h = get_some xs k (omega (arith, h))
 
 pub take_next : {X : Type 0} (xs : List X) (k : ℕ) (x : X) → slice_get xs k ≡ Some x → take (k + 1) xs ≡ take k xs ++ x ∷ []
 take_next {X = X} xs k x e = let number : suc k ≡ k + 1 = omega arith in subst (λ (n : ℕ). take n xs ≡ take k xs ++ x ∷ []) number (next xs k e)

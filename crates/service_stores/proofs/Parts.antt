@@ -24,7 +24,8 @@ use Rattle.service_moves.specs.declared.stopped.RunStopped.TheVariants.{Failed, 
 use Rattle.store_state.specs.declared.state.StoreState.{StoreState}
 use Rattle.store_laws.specs.TreeKeeping.{KeepsOf}
 use Rattle.service_stores.specs.Stopping.{IsStoppedAt}
-use Rattle.service_stores.proofs.KeepStores.{Passed, StaysSame, are_same, are_stores, at_each, get_same, one_passed, stays_same, store_at}
+use Rattle.service_stores.proofs.KeepStores.{Passed, StaysSame, are_same, are_stores, at_each, one_passed, stays_same, store_at}
+use Rattle.service_stores.proofs.Lists.{get_same}
 
 -- the store of a server did its acts of a history
 pub record DidPart (tells : Type 0) (tree : Tree) (history : List Entry) (k : ℕ) (old new : View) : Type 0 where

@@ -1,4 +1,5 @@
 -- The stores settle their unfinished moves.
+use Rattle.service_starts.proofs.Settling.{acts_both, append_none}
 use Rattle.std.proofs.Common.{◌≡◌, ℕ, zero, suc, ◌+◌, ◌-◌, ◌*◌, ◌^◌, ◌<◌, ◌≤◌, ◌==◌, true, List, [], ◌∷◌, ◌++◌, map, take, length, inl, inr, refl, sym, subst, ap, ◌∙◌, arith, add-zero}
 use Rattle.std.specs.Prelude.{slice_get, filter, Some}
 use Rattle.std.proofs.Math.ListN.{set}
@@ -23,7 +24,8 @@ use Rattle.service_moves.proofs.Repeats.{moves_repeat}
 use Rattle.service_moves.specs.Again.{IsRepeatable}
 use Rattle.service_moves.specs.Stores.{states_of}
 use Rattle.store_state.specs.declared.state.StoreState.{StoreState}
-use Rattle.service_stores.proofs.Lists.{AllAre, are_self, are_weaker, are_put, are_behind, take_next, get_some}
+use Rattle.service_stores.proofs.Lists.{AllAre, are_self, are_weaker, are_put, are_behind, take_next}
+use Rattle.service_starts.proofs.CheckFormed.{get_some}
 use Rattle.service_stores.proofs.Stores.{Still, still_self, still_then}
 use Rattle.service_stores.specs.Steps.{IsReady, AreReady, IsStill, IsOneOf}
 
@@ -43,12 +45,6 @@ settled_start view tells settlings stores ready = are_self (Settled view tells s
 pub settled_still : {S : Type 0} (view : S → View) (tells : Type 0) (settlings : List Settling) (i : ℕ) (old now : List S) → AllAre (Settled view tells settlings i) old now → AllAre (Still view) old now
 settled_still view tells settlings i old now h = are_weaker (Settled view tells settlings i) (Still view) old now h (λ j a b was is p. p.still)
 
--- one act more, of the server that it is of
-acts_both : (server : ℕ) (xs ys : List Settling) → acts_at server (xs ++ ys) ≡ acts_at server xs ++ acts_at server ys
-acts_both server xs ys =
-    ap (λ zs. map (λ (one : Settling). Settle one.fileset) zs) (filter-append (λ (one : Settling). one.server.0 == server) xs ys)
-    ∙ map-append (λ (one : Settling). Settle one.fileset) (filter (λ one. one.server.0 == server) xs) (filter (λ one. one.server.0 == server) ys)
-
 acts_next : (server : ℕ) (settlings : List Settling) (i : ℕ) (settling : Settling) → slice_get settlings i ≡ Some settling
     → acts_at server (take (i + 1) settlings) ≡ acts_at server (take i settlings) ++ acts_at server (settling ∷ [])
 acts_next server settlings i settling e = ap (acts_at server) (take_next settlings i settling e) ∙ acts_both server (take i settlings) (settling ∷ [])
@@ -61,10 +57,6 @@ acts_other server settling ne = elim (eqb_tells settling.server.0 server) as (λ
   | inl (t, e) ↦ absurd (ne e)
   | inr (t, n) ↦ rw t refl
 ]
-
-append_none : {X : Type 0} (xs : List X) → xs ++ [] ≡ xs
-append_none [] = refl
-append_none (x ∷ xs) = ap (λ ys. x ∷ ys) (append_none xs)
 
 -- what they settle leaves records that a disk can have
 settles_storable : (settlings : List Settling) (state : StoreState) → IsStorable state → IsStorable (state_after state (map (λ (one : Settling). Settle one.fileset) settlings))
@@ -142,7 +134,7 @@ states_settled {S = S} view number settlings (a ∷ old) (b ∷ new) h =
     let next : number + suc j ≡ number + 1 + j = omega arith in p ∙ ap (λ (n : ℕ). state_after (view x).state (acts_at n settlings)) next) in
     ap (λ s. s ∷ states_of view new) one ∙ ap (λ those. state_after (view a).state (acts_at number settlings) ∷ those) (states_settled view (number + 1) settlings old new later)
 
-take_all : {X : Type 0} (xs : List X) (i : ℕ) → length xs ≤ i → take i xs ≡ xs
+pub take_all : {X : Type 0} (xs : List X) (i : ℕ) → length xs ≤ i → take i xs ≡ xs
 take_all [] zero le = refl
 take_all [] (suc i) le = refl
 take_all (x ∷ xs) zero le = absurd (omega (arith, le))

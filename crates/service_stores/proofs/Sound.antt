@@ -1,4 +1,5 @@
 -- The acts that a history gives to a store.
+use Rattle.store_laws.proofs.Rooms.{same_server}
 use Rattle.std.proofs.Common.{◌≡◌, ◌≤◌, ℕ, ◌==◌, Bool, true, false, List, [], ◌∷◌, ◌++◌, length, Option, Some, None, refl, sym, ap, subst, arith}
 use Rattle.std.specs.Prelude.{is_some}
 use Rattle.std.proofs.lemmas.List.{length-append}
@@ -45,9 +46,6 @@ use Rattle.service_moves.specs.Again.{IsNumbered}
 use Rattle.store_laws.specs.KeptGives.{pieces_in}
 use Rattle.store_laws.specs.TreeKeeping.{fileset_at}
 use Rattle.store_laws.proofs.Keys.{equal_keys}
-
-same_server : (a b : ServerId) → (a.0 == b.0) ≡ true → a ≡ b
-same_server a b e = ap (λ n. let server : ServerId = record { 0 = n } in server) (equal_keys a.0 b.0 e)
 
 -- the act for a call, if there is one
 pub record HasAct (server : ServerId) (tree : Tree) (host : HostId) (k : ℕ) (call : Call) : Type 0 where

@@ -1,4 +1,5 @@
 -- How the steps of a start make the start.
+use Rattle.store_laws.proofs.HistorySteps.{each_append}
 use Rattle.std.proofs.Common.{◌≡◌, ℕ, ◌+◌, ◌≤◌, Bool, true, false, cond, List, [], ◌∷◌, ◌++◌, map, length, refl, sym, subst, ap, ◌∙◌, arith}
 use Rattle.std.specs.Prelude.{filter, None}
 use Rattle.tree_calls.specs.declared.roster.Roster.{Roster}
@@ -26,11 +27,6 @@ use Rattle.service_stores.proofs.Begins.{told_are}
 use Rattle.service_stores.proofs.Stores.{failed_later}
 use Rattle.service_stores.specs.Starting.{told_by, start_from}
 use Rattle.service_stores.specs.Steps.{IsOneOf, IsUnfit}
-
--- what is to be settled is so at servers that are there
-each_append : {X : Type 0} (P : X → Type 0) (xs ys : List X) → Each P xs → Each P ys → Each P (xs ++ ys)
-each_append P [] ys h k = k
-each_append P (x ∷ xs) ys h k = (h.0, each_append P xs ys h.1 k)
 
 placed_there : (count server : ℕ) (slots : List Slot) → 1 ≤ server → server ≤ count → Each (λ (at : Placed). IsOneOf count at.server) (placed_at server slots)
 placed_there count server [] low high = tt

@@ -20,7 +20,8 @@ use Rattle.service_moves.specs.Stopping.{HasFailed, IsStopped}
 use Rattle.service_moves.specs.declared.stopped.RunStopped.{RunStopped}
 use Rattle.service_moves.specs.declared.stopped.RunStopped.TheVariants.{Failed, Unfit, Memory}
 use Rattle.store_state.specs.declared.state.StoreState.{StoreState}
-use Rattle.service_stores.proofs.Lists.{AllAre, get_same, get_some, are_self, are_weaker, are_put, are_behind}
+use Rattle.service_stores.proofs.Lists.{AllAre, get_same, are_self, are_weaker, are_put, are_behind}
+use Rattle.service_starts.proofs.CheckFormed.{get_some}
 use Rattle.service_stores.specs.Steps.{IsReady, AreReady, IsStill}
 
 -- so it is of all

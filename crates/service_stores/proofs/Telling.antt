@@ -1,4 +1,5 @@
 -- What stores tell, one after the other.
+use Rattle.service_stores.proofs.Settles.{take_all}
 use Rattle.std.proofs.Common.{◌≡◌, ℕ, zero, suc, ◌+◌, ◌-◌, ◌≤◌, List, [], ◌∷◌, ◌++◌, take, length, refl, sym, ap, ◌∙◌, arith}
 use Rattle.std.specs.Prelude.{slice_get, nat_lt, Some}
 use Rattle.std.proofs.lemmas.Bool.Decides.{nat_tests}
@@ -30,12 +31,6 @@ told_next view disks k stores store state all more told at are same is e =
 pub count_told : {S : Type 0} (view : S → View) (disks : ℕ) (stores : List S) → length (told_by view disks stores) ≡ length stores
 count_told view disks [] = refl
 count_told view disks (store ∷ stores) = ap suc (count_told view (disks - 1) stores)
-
-take_all : {X : Type 0} (xs : List X) (i : ℕ) → length xs ≤ i → take i xs ≡ xs
-take_all [] zero le = refl
-take_all [] (suc i) le = refl
-take_all (x ∷ xs) zero le = absurd (omega (arith, le))
-take_all (x ∷ xs) (suc i) le = ap (λ ys. x ∷ ys) (take_all xs i (omega (arith, le)))
 
 pub told_whole : {S : Type 0} (view : S → View) (disks k : ℕ) (stores : List S) → length stores ≤ k → take k (told_by view disks stores) ≡ told_by view disks stores
 told_whole view disks k stores le = let size = count_told view disks stores in take_all (told_by view disks stores) k (omega (arith, le, size))

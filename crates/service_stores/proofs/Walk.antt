@@ -1,4 +1,5 @@
 -- The entries of a history, one after the other.
+use Rattle.store_laws.proofs.Whole.{limited}
 use Rattle.std.proofs.Common.{◌≡◌, ◌<◌, ◌+◌, ℕ, zero, suc, true, List, [], ◌∷◌, ◌++◌, length, drop, get_or, Option, refl, sym, ap, ◌∙◌, subst, arith}
 use Rattle.std.proofs.lemmas.List.{append_assoc, drop_more}
 use Rattle.base_types.specs.declared.ids.ServerId.{ServerId}
@@ -41,12 +42,6 @@ pub given_at : (roster : Roster) (history : List Entry) (i : ℕ) (entry : Entry
 given_at roster [] i entry lt e h = absurd (omega (arith, lt))
 given_at roster (x ∷ history) zero entry lt e h = subst (IsGiven roster) (sym e) h.0
 given_at roster (x ∷ history) (suc i) entry lt e h = given_at roster history i entry (omega (arith, lt)) e h.1
-
-limited : (roster : Roster) (entry : Entry) → IsGiven roster entry → is_limited entry ≡ true
-limited roster (Called host k call reply) h = h.1.objects
-limited roster (Stored host fid spans len) h = refl
-limited roster (Down host server) h = refl
-limited roster (Left server id) h = refl
 
 pub formed_next : (roster : Roster) (tree : Tree) (entry : Entry) → IsWellFormed tree → IsLegal tree entry →
     IsGiven roster entry → IsWellFormed (after_entry tree entry)

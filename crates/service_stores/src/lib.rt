@@ -1,12 +1,6 @@
-//! How a run starts on the stores of servers, and that they keep what it made of the tree.
-//!
-//! What ties a run of the plain engine to the stores of servers: each function does nothing, and what it ensures is a
-//! law.
-//!
-//! How a run starts on the stores of servers: what an earlier run left unfinished is settled or finished, each store
-//! begins the run, and the file tree is made of what they keep.
-//!
-//! The stores of servers keep what a run made of the file tree.
+//! How a run starts on the stores of servers, and that they keep what it made of the tree. What an earlier run left
+//! unfinished is settled or finished, each store begins the run, and the file tree is made of what they keep; behind the
+//! run each store is given its acts of the history. Laws tie a run of the plain engine to the stores of servers.
 #![tactic(auto)]
 
 mod acts;

@@ -435,7 +435,7 @@ le_both a b c d f g =
       ])
     ]
 
-abbrev is_taken_slot : Option Holding → Bool
+abbrev pub is_taken_slot : Option Holding → Bool
 is_taken_slot slot = not (is_none slot)
 
 full_front : (slots : Table) → length slots ≤ count_by is_taken_slot slots →

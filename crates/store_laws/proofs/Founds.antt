@@ -175,7 +175,7 @@ made_alike tree state name objects owner h =
     (new_alike tree state (λ room. new_fileset state.server (tree_next_id state.server room) name objects owner)
     (has_name state name) (is_past_numbers state) (is_full state) (is_much state (new_promise objects))))
 
-same_number : (n : ℕ) → (n == n) ≡ true
+pub same_number : (n : ℕ) → (n == n) ≡ true
 same_number n = elim (eqb_tells n n) as (λ _. (n == n) ≡ true) [ inl (e, k) ↦ e | inr (e, k) ↦ absurd (k refl) ]
 
 same_server : (a b : ServerId) → a ≡ b → (a.0 == b.0) ≡ true

@@ -51,7 +51,8 @@ use Rattle.store_laws.proofs.HistoryNumbers.{behind_more}
 use Rattle.store_laws.specs.MoveKeeping.{KeepAll}
 use Rattle.store_laws.specs.MovedLaws.{AreReplaced, GoesOver, IsLeavingAs, MayDo, MovesGoOver, move_entry}
 use Rattle.store_laws.proofs.Leaving.{leaves, leaving_now, left_then, sends_so}
-use Rattle.store_laws.proofs.MovedNumbers.{above_none, behind_changed, behind_left, below_moved, later_of, later_own, later_risen}
+use Rattle.store_laws.proofs.MovedNumbers.{behind_changed, behind_left, below_moved, later_of, later_own, later_risen}
+use Rattle.store_laws.proofs.HistoryNumbers.{above_none}
 use Rattle.store_laws.proofs.Parts.{IsSent, all_come, held_first}
 use Rattle.store_laws.proofs.Pieces.{roster_after}
 use Rattle.store_laws.proofs.Told.{tellable_if_formed}

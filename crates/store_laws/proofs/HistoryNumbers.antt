@@ -163,7 +163,7 @@ none_at (suc n) (suc i) = none_at n i
 none_below : (next : HostId → ℕ) → ((host : HostId) → 0 < next host) → AreBelow next no_records
 none_below next k = λ host. subst (IsLow (next host)) (sym (none_at (HOSTS_MAX + 1) host.0)) (k host, k host)
 
-above_none : (next : HostId → ℕ) (state : StoreState) → IsBehind next state → (host : HostId) → 0 < next host
+pub above_none : (next : HostId → ℕ) (state : StoreState) → IsBehind next state → (host : HostId) → 0 < next host
 above_none next state h host = let low = (h.own host).0 in omega (arith, low)
 
 behind_new : (next : HostId → ℕ) (state : StoreState) (slot : ℕ) (stay : Stay) (fileset : Fileset) →

@@ -27,7 +27,7 @@ pub record Goes (later : HostId → ℕ) (tree : Tree) (state : StoreState) (act
   pub server : (state_after state acts).server ≡ state.server
   pub roster : (state_after state acts).roster ≡ state.roster
 
-each_append : {X : Type 0} (P : X → Type 0) (xs ys : List X) → Each P xs → Each P ys → Each P (xs ++ ys)
+pub each_append : {X : Type 0} (P : X → Type 0) (xs ys : List X) → Each P xs → Each P ys → Each P (xs ++ ys)
 each_append P [] ys h k = k
 each_append P (x ∷ xs) ys h k = (h.0, each_append P xs ys h.1 k)
 

@@ -1,4 +1,5 @@
 -- New filesets and clones that are accepted, in a tree and in the store of their server.
+use Rattle.store_laws.proofs.Exact.{is_taken_slot}
 use Rattle.std.proofs.Common.{
   ◌≡◌,
   ◌≢◌,
@@ -300,9 +301,6 @@ made_state state host number stay fileset = record state {
   slots = made_slots state stay fileset;
   records = changed_at state.records host.0 (change_decided number Accepted);
 }
-
-abbrev is_taken_slot : Option Holding → Bool
-is_taken_slot slot = not (is_none slot)
 
 free_there : (slots : Table) → prefix_len is_taken_slot slots < length slots →
     slice_get slots (prefix_len is_taken_slot slots) ≡ Some None

@@ -160,7 +160,7 @@ one_changed fileset anode object g f s e k =
     ap (λ anodes. record fileset { anodes = anodes }) (one_change fileset.anodes (anode - 1) object g f s
     (sym (object_from fileset.anodes anode (object_not_zero fileset.anodes anode object e)) ∙ e) k)
 
-changed_id : (fileset : Fileset) (anode : ℕ) (change : Content → Content) →
+pub changed_id : (fileset : Fileset) (anode : ℕ) (change : Content → Content) →
     ((changed fileset anode change).id ≡ fileset.id) × ((changed fileset anode change).server ≡ fileset.server)
     × ((changed fileset anode change).moves ≡ fileset.moves)
 unfolding updated
@@ -181,7 +181,7 @@ pub record IsWritten (tree : Tree) (host : HostId) (place : Place) (from : ℕ) 
   pub servers : (after_write tree host place from bytes).servers ≡ tree.servers
   pub formed : IsWellFormedFileset (changed fileset fid.anode (content_written host from bytes))
 
-write_way : (fileset : Fileset) (user : User) (path : List (List ℕ)) (end anode : ℕ) →
+pub write_way : (fileset : Fileset) (user : User) (path : List (List ℕ)) (end anode : ℕ) →
     write_target fileset user path end ≡ Ok anode →
     (fileset.read_only ≡ false) × (walk fileset.anodes user 1 path ≡ Ok anode)
     × (object : Object) × (object_at fileset.anodes anode ≡ Some object) × (is_dir object.content ≡ false)
@@ -195,13 +195,13 @@ write_way fileset user path end anode e =
     let same : found.0 ≡ anode = ok_is found.0 anode d in
     (writable, w.way ∙ ap Ok same, found.1, subst (λ n. object_at fileset.anodes n ≡ Some found.1) same w.there, file)
 
-accepted_target : (fileset : Fileset) (checked : Result ℕ Refusal) (effect : ℕ → Fileset) →
+pub accepted_target : (fileset : Fileset) (checked : Result ℕ Refusal) (effect : ℕ → Fileset) →
     (answered fileset checked effect).reply ≡ Accepted → (anode : ℕ) × (checked ≡ Ok anode)
 accepted_target fileset (Ok anode) effect h = (anode, refl)
 accepted_target fileset (Err e) effect h = absurd (cc)
 
 -- the file to which a place leads
-its_fid : (tree : Tree) (place : Place) (fileset : Fileset) (user : User) (anode : ℕ) →
+pub its_fid : (tree : Tree) (place : Place) (fileset : Fileset) (user : User) (anode : ℕ) →
     find (leads_to tree place.server place.fileset) tree.filesets ≡ Some fileset →
     walk fileset.anodes user 1 place.path ≡ Ok anode →
     fid_named tree place
@@ -351,7 +351,7 @@ content_is fileset fid object change u e =
     ∙ ap (option_map (λ o. o.content)) (object_changed_to fileset fid.anode change object e)
 
 -- each object of a fileset at rest is settled
-rest_at : (fileset : Fileset) (anode : ℕ) (object : Object) → is_at_rest fileset ≡ true →
+pub rest_at : (fileset : Fileset) (anode : ℕ) (object : Object) → is_at_rest fileset ≡ true →
     object_at fileset.anodes anode ≡ Some object → is_settled object.content ≡ true
 rest_at fileset anode object r e =
     settled_there fileset.anodes (anode - 1) object r

@@ -1,4 +1,5 @@
 -- A call that one fileset decides, and that is accepted, in a tree and in the store that has the fileset.
+use Rattle.store_laws.proofs.Rows.{moves_same, some_same}
 use Rattle.std.proofs.Common.{◌≡◌, ◌≢◌, ℕ, ◌==◌, nat_lt, Bool, true, false, ◌||◌, ◌&&◌, not, List, Some, None, Result, Ok, Err, refl, sym, ap, ◌∙◌, subst, arith}
 use Rattle.std.specs.Prelude.{slice_get, slice_set, if◌then◌else◌, option_and_then}
 use Rattle.std.specs.List.{find}
@@ -142,20 +143,6 @@ named_slot state fileset holding name s h e =
         none : (t : Bool) → (t && false) ≡ false
         none true = refl
         none false = refl
-
--- the store answers by the row of the fileset
-some_same : {A : Type 0} (a b : A) → Some a ≡ Some b → a ≡ b
-some_same a b e = cc
-
-moves_same : (tree : Tree) (from to : Place) (place : ℕ) → move_place tree from to ≡ Ok place →
-    same_fileset from to ≡ true
-moves_same tree from to place e = by (fileset_place tree from.server from.fileset) (same_fileset from to) refl e
-  where
-    by : (found : Result ℕ Refusal) (same : Bool) → same_fileset from to ≡ same →
-        and_then found (λ at. unless (not same) CrossFileset (Ok at)) ≡ Ok place → same_fileset from to ≡ true
-    by (Ok at) true k e = k
-    by (Ok at) false k e = absurd (cc)
-    by (Err refusal) same k e = absurd (cc)
 
 store_row : (tree : Tree) (state : StoreState) (host : HostId) (user : User) (call : Call) (place : ℕ) (name : List ℕ)
     (holding : Holding) → IsDecided call → numbered_name call ≡ Some name → deciding_place tree call ≡ Ok place →

@@ -62,7 +62,7 @@ moving_so tree host server name to fileset m =
     }
 
 -- what is found in lists that are changed
-find_mapped : {X : Type 0} (p : X → Bool) (g : X → X) → ((x : X) → p (g x) ≡ p x) → (xs : List X) →
+pub find_mapped : {X : Type 0} (p : X → Bool) (g : X → X) → ((x : X) → p (g x) ≡ p x) → (xs : List X) →
     find p (map g xs) ≡ option_map g (find p xs)
 find_mapped p g k [] = refl
 find_mapped {X} p g k (x ∷ xs) =

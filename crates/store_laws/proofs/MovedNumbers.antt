@@ -1,4 +1,5 @@
 -- The numbers of requests that a store keeps, where a fileset leaves it or comes to it.
+use Rattle.store_laws.proofs.HistoryNumbers.{above_none}
 use Rattle.std.proofs.Common.{◌≡◌, ◌≤◌, ◌<◌, ℕ, zero, suc, ◌+◌, ◌==◌, Bool, true, false, List, [], ◌∷◌, map, set, Option, Some, None, unwrap_or, refl, sym, ap, ◌∙◌, subst, arith}
 use Rattle.std.specs.Prelude.{if◌then◌else◌, slice_get}
 use Rattle.std.specs.Option.{option_map}
@@ -78,9 +79,6 @@ below_forgotten : (next : HostId → ℕ) (records : List Record) → ((host : H
 below_forgotten next records some h host =
     record_mapped (IsLow (next host)) (λ kept. no_record) records host.0 (some host, some host)
     (λ r low. (some host, some host)) (h host)
-
-pub above_none : (next : HostId → ℕ) (state : StoreState) → IsBehind next state → (host : HostId) → 0 < next host
-above_none next state h host = let low = (h.own host).0 in omega (arith, low)
 
 -- a table with one slot changed, or put
 changed_holding : (slots : List (Option Holding)) (i j : ℕ) (f : Holding → Holding) (P : Holding → Type 0) →

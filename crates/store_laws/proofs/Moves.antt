@@ -1,4 +1,5 @@
 -- A fileset that arrives in a store is what the tree's move makes of it.
+use Rattle.store_laws.proofs.Founds.{same_number}
 use Rattle.std.proofs.Common.{
   ◌≡◌,
   ◌≢◌,
@@ -201,14 +202,11 @@ arrives_as fileset to from ship records mover m =
     (sym (anodes_same fileset.anodes m.settled)))
 
 -- a holding that waits for the next part
-record Waits (id : FilesetId) (from : ServerId) (ship moves at objects : ℕ) (holding : Holding) : Type 0 where
-  stay : holding.stay ≡ Arriving from ship at
-  mine : holding.fileset.id ≡ id
-  many : holding.fileset.moves ≡ moves
-  limit : holding.fileset.objects ≡ objects
-
-same_number : (n : ℕ) → (n == n) ≡ true
-same_number n = elim (eqb_tells n n) as (λ _. (n == n) ≡ true) [ inl (e, k) ↦ e | inr (e, k) ↦ absurd (k refl) ]
+pub record Waits (id : FilesetId) (from : ServerId) (ship moves at objects : ℕ) (holding : Holding) : Type 0 where
+  pub stay : holding.stay ≡ Arriving from ship at
+  pub mine : holding.fileset.id ≡ id
+  pub many : holding.fileset.moves ≡ moves
+  pub limit : holding.fileset.objects ≡ objects
 
 waits_for : (id : FilesetId) (from : ServerId) (ship moves at objects : ℕ) (holding : Holding) →
     Waits id from ship moves at objects holding → awaits id from ship moves at holding ≡ true
@@ -218,16 +216,16 @@ waits_for id from ship moves at objects holding w =
     let e = same_number moves in
     rw stay (rw mine (rw many (rw a (rw b (rw c (rw d (rw e refl)))))))
 
-awaits_is_of : (id : FilesetId) (from : ServerId) (ship moves at : ℕ) (holding : Holding) →
+pub awaits_is_of : (id : FilesetId) (from : ServerId) (ship moves at : ℕ) (holding : Holding) →
     awaits id from ship moves at holding ≡ true → is_of id holding ≡ true
 awaits_is_of id from ship moves at holding e = and_left _ _ (and_left _ _ e)
 
 -- the first slot of a fileset holds this
-record HeldFirst (state : StoreState) (id : FilesetId) (slot : ℕ) (holding : Holding) : Type 0 where
-  place : first (is_of id) state.slots ≡ slot
-  held : held_at state.slots slot ≡ Some holding
+pub record HeldFirst (state : StoreState) (id : FilesetId) (slot : ℕ) (holding : Holding) : Type 0 where
+  pub place : first (is_of id) state.slots ≡ slot
+  pub held : held_at state.slots slot ≡ Some holding
 
-less : (a b : ℕ) → a < b → nat_lt a b ≡ true
+pub less : (a b : ℕ) → a < b → nat_lt a b ≡ true
 less a b h = grind (arith, common_steps, h)
 
 -- an anode that is waited for is taken
@@ -247,7 +245,7 @@ taken_at state id from ship moves at objects slot anode holding f w =
     rw place (rw inside refl)
 
 -- a part that tells of an anode
-part_told : (state : StoreState) (id : FilesetId) (from : ServerId) (ship moves at : ℕ) (part : ShipPart)
+pub part_told : (state : StoreState) (id : FilesetId) (from : ServerId) (ship moves at : ℕ) (part : ShipPart)
     (anode : Anode) → anode_told part ≡ Some anode →
     part_outcome state from ship id moves at part ≡ anode_outcome state from ship id moves at anode
 unfolding part_outcome
@@ -256,17 +254,17 @@ part_told state id from ship moves at (ObjectPart number unique status pieces en
     ap (λ a. anode_outcome state from ship id moves at a) (cc)
 
 -- what a part of a fileset tells
-get_behind : (front : List Anode) (anode : Anode) (rest : List Anode) →
+pub get_behind : (front : List Anode) (anode : Anode) (rest : List Anode) →
     slice_get (front ++ anode ∷ rest) (length front) ≡ Some anode
 get_behind [] anode rest = refl
 get_behind (other ∷ front) anode rest = get_behind front anode rest
 
-told_or_none : (object : Option Object) → option_map_or (λ object. is_tellable object.content) object true ≡ true →
+pub told_or_none : (object : Option Object) → option_map_or (λ object. is_tellable object.content) object true ≡ true →
     option_and_then tellable_or_none object ≡ object
 told_or_none None t = refl
 told_or_none (Some object) t = rw t refl
 
-part_at : (holding : Holding) (mover : Mover) (front : List Anode) (anode : Anode) (rest : List Anode) (at : ℕ) →
+pub part_at : (holding : Holding) (mover : Mover) (front : List Anode) (anode : Anode) (rest : List Anode) (at : ℕ) →
     holding.fileset.anodes ≡ front ++ anode ∷ rest → at ≡ suc (length front) →
     option_map_or (λ object. is_tellable object.content) anode.object true ≡ true →
     part_of holding at mover ≡ object_part at anode.unique anode.object
@@ -291,12 +289,12 @@ part_at holding mover front anode rest at e n t =
     ∙ ap (λ o. object_part at anode.unique o) told
 
 -- whether some anode is left
-abbrev IsMore : List Anode → Type 0
+abbrev pub IsMore : List Anode → Type 0
 IsMore [] = ⊥
 IsMore (anode ∷ anodes) = Unit {0}
 
 -- one that is left is waited for next
-waits_next : (id : FilesetId) (from : ServerId) (ship moves at objects : ℕ) (anode : Anode) (holding : Holding)
+pub waits_next : (id : FilesetId) (from : ServerId) (ship moves at objects : ℕ) (anode : Anode) (holding : Holding)
     (rest : List Anode) → Waits id from ship moves at objects holding → length rest + (at + 1) ≡ objects + 1 →
     IsMore rest → Waits id from ship moves (at + 1) objects (held_with from ship at anode holding)
 waits_next id from ship moves at objects anode holding [] w c m = absurd m
@@ -313,7 +311,7 @@ waits_next id from ship moves at objects anode holding (other ∷ rest) w c m =
       limit = w.limit;
     }
 
-length_more : (front : List Anode) (anode : Anode) → length (front ++ anode ∷ []) ≡ length front + 1
+pub length_more : (front : List Anode) (anode : Anode) → length (front ++ anode ∷ []) ≡ length front + 1
 length_more [] anode = refl
 length_more (other ∷ front) anode = let h = length_more front anode in omega (arith, h)
 
@@ -365,7 +363,7 @@ slot_ok false true much at slot e = absurd (cc)
 slot_ok false false true at slot e = absurd (cc)
 slot_ok false false false at slot e = (refl, cc)
 
-before_own : (own free len slot : ℕ) → (if nat_lt own len then own else free) ≡ slot → slot < len → slot ≤ own
+pub before_own : (own free len slot : ℕ) → (if nat_lt own len then own else free) ≡ slot → slot < len → slot ≤ own
 before_own own free len slot e l = by (nat_lt own len) refl e
   where
     by : (b : Bool) → nat_lt own len ≡ b → (if b then own else free) ≡ slot → slot ≤ own

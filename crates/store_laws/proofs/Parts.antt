@@ -1,4 +1,5 @@
 -- The parts of a fileset that is leaving a store, and the store that they come to.
+use Rattle.store_laws.proofs.Moves.{HeldFirst, IsMore, Waits, awaits_is_of, before_own, length_more, less, part_at, part_told, waits_next}
 use Rattle.std.proofs.Common.{◌≡◌, ◌≢◌, ◌≤◌, ◌<◌, nat_lt, ℕ, zero, suc, ◌+◌, ◌-◌, ◌%◌, ◌==◌, Bool, true, false, List, [], ◌∷◌, ◌++◌, length, set, take, Option, Some, None, Ok, inl, inr, refl, sym, ap, ◌∙◌, subst, append_assoc, arith}
 use Rattle.std.specs.Prelude.{if◌then◌else◌, option_and_then, slice_get, IsTrue}
 use Rattle.std.specs.List.{list_all}
@@ -145,13 +146,6 @@ may_part holding from ship mover state at s storable allowed l taken = record {
   );
 }
 
--- a holding that waits for the next part
-pub record Waits (id : FilesetId) (from : ServerId) (ship moves at objects : ℕ) (holding : Holding) : Type 0 where
-  pub stay : holding.stay ≡ Arriving from ship at
-  pub mine : holding.fileset.id ≡ id
-  pub many : holding.fileset.moves ≡ moves
-  pub limit : holding.fileset.objects ≡ objects
-
 waits_for : (id : FilesetId) (from : ServerId) (ship moves at objects : ℕ) (holding : Holding) →
     Waits id from ship moves at objects holding → awaits id from ship moves at holding ≡ true
 waits_for id from ship moves at objects holding w =
@@ -159,18 +153,6 @@ waits_for id from ship moves at objects holding w =
     let a = same_key id.0 in let b = same_key from.0 in let c = same_key ship in let d = same_key at in
     let e = same_key moves in
     rw stay (rw mine (rw many (rw a (rw b (rw c (rw d (rw e refl)))))))
-
-awaits_is_of : (id : FilesetId) (from : ServerId) (ship moves at : ℕ) (holding : Holding) →
-    awaits id from ship moves at holding ≡ true → is_of id holding ≡ true
-awaits_is_of id from ship moves at holding e = and_left _ _ (and_left _ _ e)
-
--- the first slot of a fileset holds this
-pub record HeldFirst (state : StoreState) (id : FilesetId) (slot : ℕ) (holding : Holding) : Type 0 where
-  pub place : first (is_of id) state.slots ≡ slot
-  pub held : held_at state.slots slot ≡ Some holding
-
-less : (a b : ℕ) → a < b → nat_lt a b ≡ true
-less a b h = grind (arith, common_steps, h)
 
 -- it is the one that waits
 waits_at : (state : StoreState) (id : FilesetId) (from : ServerId) (ship moves at objects slot : ℕ)
@@ -193,77 +175,6 @@ taken_at state id from ship moves at objects slot anode holding f w =
     let place = waits_at state id from ship moves at objects slot holding f w in
     let inside = less slot (length state.slots) (held_inside state.slots slot holding f.held) in
     rw place (rw inside refl)
-
--- a part that tells of an anode
-part_told : (state : StoreState) (id : FilesetId) (from : ServerId) (ship moves at : ℕ) (part : ShipPart)
-    (anode : Anode) → anode_told part ≡ Some anode →
-    part_outcome state from ship id moves at part ≡ anode_outcome state from ship id moves at anode
-unfolding part_outcome
-part_told state id from ship moves at (Head name objects records mover) anode e = absurd (cc)
-part_told state id from ship moves at (ObjectPart number unique status pieces entries) anode e =
-    ap (λ a. anode_outcome state from ship id moves at a) (cc)
-
--- what a part of a fileset tells
-get_behind : (front : List Anode) (anode : Anode) (rest : List Anode) →
-    slice_get (front ++ anode ∷ rest) (length front) ≡ Some anode
-get_behind [] anode rest = refl
-get_behind (other ∷ front) anode rest = get_behind front anode rest
-
-told_or_none : (object : Option Object) → option_map_or (λ object. is_tellable object.content) object true ≡ true →
-    option_and_then tellable_or_none object ≡ object
-told_or_none None t = refl
-told_or_none (Some object) t = rw t refl
-
-part_at : (holding : Holding) (mover : Mover) (front : List Anode) (anode : Anode) (rest : List Anode) (at : ℕ) →
-    holding.fileset.anodes ≡ front ++ anode ∷ rest → at ≡ suc (length front) →
-    option_map_or (λ object. is_tellable object.content) anode.object true ≡ true →
-    part_of holding at mover ≡ object_part at anode.unique anode.object
-part_at holding mover front anode rest at e n t =
-    let anodes = holding.fileset.anodes in
-    let last : at - 1 ≡ length front = omega (arith, n) in
-    let there : slice_get anodes (at - 1) ≡ Some anode =
-    ap (slice_get anodes) last ∙ ap (λ xs. slice_get xs (length front)) e ∙ get_behind front anode rest in
-    let some : (at == 0) ≡ false = elim (eqb_tells at 0) as (λ _. (at == 0) ≡ false) [
-      | inl (z, k) ↦ absurd (omega (arith, k, n))
-      | inr (z, k) ↦ z
-    ] in
-    let object : object_at anodes at ≡ anode.object =
-    ap (λ b. if b then None else option_and_then (λ a. a.object) (slice_get anodes (at - 1))) some
-    ∙ ap (option_and_then (λ a. a.object)) there in
-    let unique : unique_at anodes at ≡ anode.unique = ap (λ a. option_map_or (λ a. a.unique) a 0) there in
-    let told : told_object anodes at ≡ anode.object =
-    ap (option_and_then tellable_or_none) object ∙ told_or_none anode.object t in
-    ap (λ b. if b then Head holding.fileset.name holding.fileset.objects holding.records mover
-    else object_part at (unique_at anodes at) (told_object anodes at)) some
-    ∙ ap (λ u. object_part at u (told_object anodes at)) unique
-    ∙ ap (λ o. object_part at anode.unique o) told
-
--- whether some anode is left
-abbrev pub IsMore : List Anode → Type 0
-IsMore [] = ⊥
-IsMore (anode ∷ anodes) = Unit {0}
-
--- one that is left is waited for next
-waits_next : (id : FilesetId) (from : ServerId) (ship moves at objects : ℕ) (anode : Anode) (holding : Holding)
-    (rest : List Anode) → Waits id from ship moves at objects holding → length rest + (at + 1) ≡ objects + 1 →
-    IsMore rest → Waits id from ship moves (at + 1) objects (held_with from ship at anode holding)
-waits_next id from ship moves at objects anode holding [] w c m = absurd m
-waits_next id from ship moves at objects anode holding (other ∷ rest) w c m =
-    let limit = w.limit in
-    record {
-      stay = elim (eqb_tells at holding.fileset.objects) as
-          (λ _. (held_with from ship at anode holding).stay ≡ Arriving from ship (at + 1)) [
-            | inl (e, k) ↦ absurd (omega (arith, k, limit, c))
-            | inr (e, k) ↦ rw e refl
-          ];
-      mine = w.mine;
-      many = w.many;
-      limit = w.limit;
-    }
-
-length_more : (front : List Anode) (anode : Anode) → length (front ++ anode ∷ []) ≡ length front + 1
-length_more [] anode = refl
-length_more (other ∷ front) anode = let h = length_more front anode in omega (arith, h)
 
 take_front : (front rest : List Anode) → take (length front) (front ++ rest) ≡ front
 take_front [] rest = refl
@@ -388,13 +299,6 @@ slot_is true full much at slot e = absurd (cc)
 slot_is false true much at slot e = absurd (cc)
 slot_is false false true at slot e = absurd (cc)
 slot_is false false false at slot e = (refl, cc)
-
-before_own : (own free len slot : ℕ) → (if nat_lt own len then own else free) ≡ slot → slot < len → slot ≤ own
-before_own own free len slot e l = by (nat_lt own len) refl e
-  where
-    by : (b : Bool) → nat_lt own len ≡ b → (if b then own else free) ≡ slot → slot ≤ own
-    by true k e = omega (arith, e)
-    by false k e = let past : len ≤ own = grind (arith, common_steps, k) in omega (arith, past, l)
 
 -- what a head leaves
 abbrev pub held_first : Holding → ServerId → ServerId → ℕ → Mover → Holding

@@ -1,4 +1,5 @@
 -- The records of filesets that moved away, in entries of a history.
+use Rattle.store_laws.proofs.Called.{same_id}
 use Rattle.std.proofs.Common.{◌≡◌, ◌⊎◌, ℕ, zero, suc, ◌==◌, Bool, true, false, ◌&&◌, ◌||◌, not, cond, List, [], ◌∷◌, filter, insert, Option, Some, None, Result, Ok, Err, inl, inr, refl, sym, ap, ◌∙◌}
 use Rattle.std.specs.Prelude.{if◌then◌else◌, slice_get}
 use Rattle.std.specs.List.{list_all, list_any}
@@ -273,11 +274,8 @@ none_kept server id (away ∷ records) h k =
         both away.room_kept (and_right (is_away server id away) away.room_kept e) (and_left (not away.room_kept) _ h)
     by rest (inr e) = rest e
 
-same_server : (a b : ServerId) → (a.0 == b.0) ≡ true → a ≡ b
+pub same_server : (a b : ServerId) → (a.0 == b.0) ≡ true → a ≡ b
 same_server a b e = ap (λ n. let server : ServerId = record { 0 = n } in server) (equal_keys a.0 b.0 e)
-
-same_id : (a b : FilesetId) → (a.0 == b.0) ≡ true → a ≡ b
-same_id a b e = ap (λ n. let id : FilesetId = record { 0 = n } in id) (equal_keys a.0 b.0 e)
 
 -- it is that of the fileset that moved
 pub kept_is : (tree : Tree) (place : ℕ) (fileset : Fileset) (to server : ServerId) (id : FilesetId) →

@@ -189,10 +189,10 @@ tree_for tree host user (CloseFile label) name d n = absurd d
 tree_for tree host user (MoveFileset server fileset to) name d n = absurd d
 
 -- the store's
-some_same : {A : Type 0} (a b : A) → Some a ≡ Some b → a ≡ b
+pub some_same : {A : Type 0} (a b : A) → Some a ≡ Some b → a ≡ b
 some_same a b e = cc
 
-moves_same : (tree : Tree) (from to : Place) (place : ℕ) → move_place tree from to ≡ Ok place →
+pub moves_same : (tree : Tree) (from to : Place) (place : ℕ) → move_place tree from to ≡ Ok place →
     same_fileset from to ≡ true
 moves_same tree from to place e = by (fileset_place tree from.server from.fileset) (same_fileset from to) refl e
   where

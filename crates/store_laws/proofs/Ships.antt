@@ -1,4 +1,5 @@
 -- Acts of a history that moves nothing leave what a store has of ships.
+use Rattle.store_laws.proofs.HistorySteps.{each_append}
 use Rattle.std.proofs.Common.{◌≡◌, ℕ, Bool, true, false, List, [], ◌∷◌, ◌++◌, Option, Some, None, Result, Ok, Err, refl, sym, ◌∙◌, subst}
 use Rattle.std.specs.Prelude.{if◌then◌else◌}
 use Rattle.std.specs.Option.{option_map_or}
@@ -263,10 +264,6 @@ entry_of_history server tree None (Stored host fid spans len) = tt
 entry_of_history server tree (Some k) (Stored host fid spans len) = if_of_history _ _ tt
 entry_of_history server tree number (Down host at) = tt
 entry_of_history server tree number (LeftEntry at id) = tt
-
-each_append : {X : Type 0} (P : X → Type 0) (xs ys : List X) → Each P xs → Each P ys → Each P (xs ++ ys)
-each_append P [] ys h k = k
-each_append P (x ∷ xs) ys h k = (h.0, each_append P xs ys h.1 k)
 
 pub acts_of_history : (server : ServerId) (tree : Tree) (number : Option ℕ) (entries : List Entry) →
     Each IsOfHistory (acts_of server tree number entries)

@@ -1,4 +1,5 @@
 -- A history that may happen, cut at its first move.
+use Rattle.store_laws.proofs.Whole.{limited}
 use Rattle.std.proofs.Common.{◌≡◌, ℕ, zero, suc, ◌+◌, ◌==◌, Bool, true, false, not, List, [], ◌∷◌, ◌++◌, take, drop, Option, Some, None, refl, sym, ap, ◌∙◌, subst, arith}
 use Rattle.std.specs.Prelude.{if◌then◌else◌, slice_get}
 use Rattle.std.specs.List.{list_all}
@@ -131,12 +132,6 @@ quiet_parts (Left server id ∷ xs) ys h k = absurd (cc)
 end_of_list : {X : Type 0} (xs : List X) → xs ++ [] ≡ xs
 end_of_list [] = refl
 end_of_list (x ∷ xs) = ap (λ ys. x ∷ ys) (end_of_list xs)
-
-limited : (roster : Roster) (entry : Entry) → IsGiven roster entry → is_limited entry ≡ true
-limited roster (Called host k call reply) h = h.1.objects
-limited roster (Stored host fid spans len) h = refl
-limited roster (Down host server) h = refl
-limited roster (Left server id) h = refl
 
 pub formed_after : (roster : Roster) (tree : Tree) (entries : List Entry) → IsWellFormed tree → IsHistory tree entries →
     Each (IsGiven roster) entries → IsWellFormed (after_history tree entries)

@@ -1,4 +1,5 @@
 -- A store that does the acts of a whole history.
+use Rattle.store_laws.proofs.Rooms.{same_server}
 use Rattle.std.proofs.Common.{◌≡◌, ◌≤◌, ◌<◌, ℕ, ◌+◌, ◌==◌, Bool, true, false, ◌&&◌, List, [], ◌∷◌, ◌++◌, Option, Some, None, Result, Ok, Err, refl, sym, ap, ◌∙◌, subst, arith}
 use Rattle.std.specs.Prelude.{if◌then◌else◌, is_some}
 use Rattle.std.specs.List.{list_all}
@@ -128,7 +129,7 @@ Follows roster server entries =
     → Runs roster next tree wrote entries → rests tree ≡ true → state.server ≡ server → KeepsOf tree state
     → IsBehind next state → Goes (end next entries) (after_history tree entries) state (acts_of server tree None entries)
 
-limited : (roster : Roster) (entry : Entry) → IsGiven roster entry → is_limited entry ≡ true
+pub limited : (roster : Roster) (entry : Entry) → IsGiven roster entry → is_limited entry ≡ true
 limited roster (Called host k call reply) h = h.1.objects
 limited roster (Stored host fid spans len) h = refl
 limited roster (Down host server) h = refl
@@ -333,9 +334,6 @@ call_step roster server host k call reply entries ih next tree wrote state r res
 given_by : (roster : Roster) (tree : Tree) (state : StoreState) (entry : Entry) → KeepsOf tree state →
     tree.roster ≡ roster → IsGiven roster entry → IsGiven state.roster entry
 given_by roster tree state entry k e h = subst (λ r. IsGiven r entry) (sym (k.roster ∙ e)) h
-
-same_server : (a b : ServerId) → (a.0 == b.0) ≡ true → a ≡ b
-same_server a b e = ap (λ n. let server : ServerId = record { 0 = n } in server) (equal_keys a.0 b.0 e)
 
 -- no other call leaves bytes unsaved
 record LeavesNone (tree : Tree) (entry : Entry) : Type 0 where

@@ -1,4 +1,5 @@
 -- What a host wrote is unsaved.
+use Rattle.store_laws.proofs.KeptGives.{accepted_target, changed_id, its_fid, rest_at, write_way}
 use Rattle.std.proofs.Common.{◌≡◌, ℕ, ◌+◌, ◌-◌, ◌==◌, nat_lt, Bool, true, false, List, [], ◌∷◌, ◌++◌, length, filter, Option, Some, None, Result, Ok, Err, refl, sym, ap, ◌∙◌, subst, arith}
 use Rattle.std.specs.Prelude.{slice_set, if◌then◌else◌, option_and_then}
 use Rattle.std.specs.List.{find, list_all}
@@ -57,47 +58,6 @@ use Rattle.base_types.specs.Ids.{same_fid}
 use Rattle.tree_objects.proofs.Observed.{over_length}
 use Rattle.store_laws.specs.TreeKeeping.{fileset_at, if_at}
 use Rattle.store_laws.proofs.Keys.{equal_keys}
-
-changed_id : (fileset : Fileset) (anode : ℕ) (change : Content → Content) →
-    ((changed fileset anode change).id ≡ fileset.id) × ((changed fileset anode change).server ≡ fileset.server)
-    × ((changed fileset anode change).moves ≡ fileset.moves)
-unfolding updated
-changed_id fileset anode change = (refl, refl, refl)
-
--- a write that is accepted
-write_way : (fileset : Fileset) (user : User) (path : List (List ℕ)) (end anode : ℕ) →
-    write_target fileset user path end ≡ Ok anode →
-    (fileset.read_only ≡ false) × (walk fileset.anodes user 1 path ≡ Ok anode)
-    × (object : Object) × (object_at fileset.anodes anode ≡ Some object) × (is_dir object.content ≡ false)
-unfolding write_target
-write_way fileset user path end anode e =
-    let (writable, a) = unless_ok fileset.read_only ReadOnly _ anode e in
-    let (found, b, c) = then_ok (permitted_file fileset user path write_right) _ anode a in
-    let (small, d) = unless_ok (nat_lt FILE_BYTES_MAX end) TooBig _ anode c in
-    let w = permitted_file_ok fileset user path write_right found b in
-    let file = permitted_file_file fileset user path write_right found b in
-    let same : found.0 ≡ anode = ok_is found.0 anode d in
-    (writable, w.way ∙ ap Ok same, found.1, subst (λ n. object_at fileset.anodes n ≡ Some found.1) same w.there, file)
-
-accepted_target : (fileset : Fileset) (checked : Result ℕ Refusal) (effect : ℕ → Fileset) →
-    (answered fileset checked effect).reply ≡ Accepted → (anode : ℕ) × (checked ≡ Ok anode)
-accepted_target fileset (Ok anode) effect h = (anode, refl)
-accepted_target fileset (Err e) effect h = absurd (cc)
-
--- the file to which a place leads
-its_fid : (tree : Tree) (place : Place) (fileset : Fileset) (user : User) (anode : ℕ) →
-    find (leads_to tree place.server place.fileset) tree.filesets ≡ Some fileset →
-    walk fileset.anodes user 1 place.path ≡ Ok anode →
-    fid_named tree place
-    ≡ Some (record { fileset = fileset.id; anode = anode; unique = unique_at fileset.anodes anode })
-unfolding fileset_named
-its_fid tree place fileset user anode e way =
-    let led = walk_leads fileset.anodes user place.path 1 anode way in
-    ap (λ o. either (found_or o NoFileset) (λ (f : Fileset).
-    option_map (λ at. let fid : Fid = record { fileset = f.id; anode = at; unique = unique_at f.anodes at } in fid)
-    (leads f.anodes 1 place.path)) (λ refusal. None)) e
-    ∙ ap (option_map (λ at.
-    let fid : Fid = record { fileset = fileset.id; anode = at; unique = unique_at fileset.anodes at } in fid)) led
 
 -- a write that is accepted names a file
 pub write_named : (tree : Tree) (host : HostId) (place : Place) (from : ℕ) (bytes : List ℕ) (fileset : Fileset) →
@@ -158,13 +118,6 @@ written_so tree host place from bytes fileset fid w by accepted named =
       formed = formed;
     } in
     subst (IsWritten tree host place from bytes by.place fileset) same so
-
--- each object of a fileset at rest is settled
-rest_at : (fileset : Fileset) (anode : ℕ) (object : Object) → is_at_rest fileset ≡ true →
-    object_at fileset.anodes anode ≡ Some object → is_settled object.content ≡ true
-rest_at fileset anode object r e =
-    settled_there fileset.anodes (anode - 1) object r
-    (sym (object_from fileset.anodes anode (object_not_zero fileset.anodes anode object e)) ∙ e)
 
 -- a file to which bytes were written isn't settled
 unsaved_list : (before later above : List Unsaved) (byte : Unsaved) → (list : List AccessEntry) (kept : List ℕ)

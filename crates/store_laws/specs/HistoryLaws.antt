@@ -72,9 +72,3 @@ HistoriesAreKept =
     → KeepsOf start state → IsBehind next state
     → Does (λ host. number_after host (next host) history) (after_history start history) state
     (acts_of state.server start None history)
-
--- A store that keeps its part of a tree still does when a run begins, and all numbers of requests are forgotten.
-abbrev pub BootsAreKept : Type 0
-BootsAreKept =
-    (tree : Tree) (state : StoreState) → KeepsOf tree state
-    → DoesKeep tree state Boot × IsBehind (λ host. 1) (act_done state Boot).state

@@ -11,6 +11,7 @@ pub mod KeptMoves
 pub mod Acts
 pub mod Shape
 pub mod HistoryLaws
+pub mod Boots
 pub mod MoveKeeping
 pub mod Happening
 pub mod MovedLaws

@@ -1,12 +1,5 @@
-//! The stores of all servers keep the file tree: calls, give-backs, a whole history, moves included.
-//!
-//! What ties the record of a store to the file tree.
-//!
-//! What ties a file tree to the stores of all servers, entry by entry of a history.
-//!
-//! What ties a history of the file tree to the stores of servers.
-//!
-//! What ties a history of the file tree, also one in which filesets move, to the stores of all servers.
+//! Laws that tie the stores of all servers to the file tree: the record of one store to a call and a give-back, the
+//! stores of all servers to the entries of a history, one by one and over whole histories, moves included.
 #![tactic(auto)]
 
 mod history_laws;

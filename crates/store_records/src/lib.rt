@@ -1,8 +1,5 @@
-//! When a disk can have a record of a store, that acts keep it so, and how it is told.
-//!
-//! Laws of the record of a store on a disk. Each function does nothing, and what it ensures is a law.
-//!
-//! Which records of a store a disk can have, by looking at them.
+//! Which records of a store a disk can have, by looking at them. A law says that a new store has one, and that each act
+//! that fits leaves one.
 #![tactic(auto)]
 
 mod laws;

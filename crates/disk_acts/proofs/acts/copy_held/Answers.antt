@@ -1,7 +1,7 @@
 use Rattle.std.proofs.Common.{◌≡◌, ◌∙◌, ℕ, List, arith}
 use Rattle.tree_objects.specs.declared.content.Anode.{Anode}
 use Rattle.store_acts.specs.declared.act.Act.TheVariants.{Do}
-use Rattle.disk_objectset.specs.Slots.{AllVacant}
+use Rattle.disk_fileset.specs.Slots.{AllVacant}
 use Rattle.disk_acts.specs.Acts.{act_pages, act_blocks}
 use Rattle.disk_acts.proofs.Stepping.{slot_steps, steps_wider}
 use Rattle.disk_acts.proofs.Landing.{may_slot, puts_slot, cloned_held}

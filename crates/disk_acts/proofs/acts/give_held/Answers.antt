@@ -4,7 +4,7 @@ use Rattle.base_types.specs.Lists.{changed_at}
 use Rattle.tree_calls.specs.declared.part.Piece.{Piece}
 use Rattle.tree_objects.specs.Changes.{anode_changed}
 use Rattle.store_state.specs.Giving.{content_given}
-use Rattle.disk_objectset.specs.Slots.{IsFile}
+use Rattle.disk_fileset.specs.Slots.{IsFile}
 use Rattle.disk_records.specs.Stored.{AreHeld}
 use Rattle.disk_acts.specs.Acts.{act_pages, act_blocks}
 use Rattle.disk_acts.proofs.Stepping.{slot_steps, steps_wider}

@@ -5,9 +5,9 @@ use Rattle.tree_objects.specs.declared.content.Anode.{Anode}
 use Rattle.disk_log.specs.Log.{disk_of, state_of}
 use Rattle.disk_log.proofs.Mounting.{quiet_none}
 use Rattle.disk_objects.specs.Objects.{with_anode, KeepsNow}
-use Rattle.disk_objectset.proofs.Changing.{may_after, turned_then, turned_as, changes_then, changes_failed, changes_value, changes_as}
-use Rattle.disk_objectset.proofs.Looking.{look_changes}
-use Rattle.disk_objectset.proofs.EachAnode.{slot_itself}
+use Rattle.disk_fileset.proofs.Changing.{may_after, turned_then, turned_as, changes_then, changes_failed, changes_value, changes_as}
+use Rattle.disk_fileset.proofs.Looking.{look_changes}
+use Rattle.disk_fileset.proofs.EachAnode.{slot_itself}
 use Rattle.disk_acts.specs.Anodes.{IsAt, AreAt, renewed}
 use Rattle.disk_acts.proofs.Renewing.{renewed_to, renewed_more, renewed_whole, at_next}
 use Rattle.disk_acts.proofs.anodes.put_anodes.Goals as goal

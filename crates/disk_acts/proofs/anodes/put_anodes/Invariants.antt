@@ -1,6 +1,6 @@
 use Rattle.std.proofs.Common.{ℕ, ◌≤◌, ◌-◌, ◌*◌}
 use Rattle.std.specs.Prelude.{Ok}
-use Rattle.disk_objectset.specs.Slots.{TurnsInto, ChangesSlot}
+use Rattle.disk_fileset.specs.Slots.{TurnsInto, ChangesSlot}
 use Rattle.disk_acts.specs.Anodes.{AreAt}
 use Rattle.disk_acts.proofs.Renewing.{renewed_to}
 use Rattle.disk_acts.proofs.anodes.put_anodes.Given as goal

@@ -3,9 +3,9 @@ use Rattle.std.specs.Prelude.{⊤, is_none}
 use Rattle.tree_objects.specs.declared.content.Anode.{Anode}
 use Rattle.tree_objects.specs.Changes.{anode_freed}
 use Rattle.disk_objects.specs.Objects.{with_anode, KeepsNow}
-use Rattle.disk_objectset.specs.Slots.{IsVacant}
-use Rattle.disk_objectset.proofs.Changing.{may_after, turned_then, turned_as, changes_then}
-use Rattle.disk_objectset.proofs.Twice.{anode_twice, anode_here}
+use Rattle.disk_fileset.specs.Slots.{IsVacant}
+use Rattle.disk_fileset.proofs.Changing.{may_after, turned_then, turned_as, changes_then}
+use Rattle.disk_fileset.proofs.Twice.{anode_twice, anode_here}
 use Rattle.disk_acts.proofs.anodes.replace.Goals as goal
 
 freed : (slots : ℕ → List Anode) (slot n : ℕ) → 1 ≤ n → n ≤ length (slots slot) → IsVacant slot n (with_anode slot n anode_freed slots)

@@ -3,9 +3,9 @@ use Rattle.std.proofs.lemmas.Result.{on_ok_weaker}
 use Rattle.tree_objects.specs.declared.content.Content.TheVariants.{Dir, File}
 use Rattle.tree_objects.specs.Sound.{names_rise}
 use Rattle.disk_log.specs.Log.{disk_of, state_of, slot_of}
-use Rattle.disk_objectset.proofs.Changing.{may_in, low_in, counted_in, few_in, others_same, changes_in, more_room}
-use Rattle.disk_objectset.proofs.Arrived.{whole_most, whole_rise, whole_bytes, none_there, entries_turns, bytes_turns}
-use Rattle.disk_objectset.proofs.arriving.fill_content.Goals as goal
+use Rattle.disk_fileset.proofs.Changing.{may_in, low_in, counted_in, few_in, others_same, changes_in, more_room}
+use Rattle.disk_fileset.proofs.Arrived.{whole_most, whole_rise, whole_bytes, none_there, entries_turns, bytes_turns}
+use Rattle.disk_fileset.proofs.arriving.fill_content.Goals as goal
 
 pub set_entries-requires-clause-may : goal.set_entries-requires-clause-may
 set_entries-requires-clause-may g c = may_in c.args.slot c.args.anode c.anode_page-page.result c.requires.slot c.requires.first c.requires.last c.anode_page-page.ensures (state_of c.args.log.now) (slot_of c.args.tx.now) c.requires.may.may

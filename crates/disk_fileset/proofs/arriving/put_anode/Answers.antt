@@ -2,9 +2,9 @@ use Rattle.std.proofs.Common.{◌≡◌, subst, arith}
 use Rattle.std.specs.Prelude.{true, Option, IfSome}
 use Rattle.tree_objects.specs.declared.content.Object.{Object}
 use Rattle.disk_objects.specs.Objects.{KeepsNow}
-use Rattle.disk_objectset.specs.Slots.{IsVacant, is_whole}
-use Rattle.disk_objectset.proofs.Changing.{may_less}
-use Rattle.disk_objectset.proofs.arriving.put_anode.Goals as goal
+use Rattle.disk_fileset.specs.Slots.{IsVacant, is_whole}
+use Rattle.disk_fileset.proofs.Changing.{may_less}
+use Rattle.disk_fileset.proofs.arriving.put_anode.Goals as goal
 
 pub put_object-requires-clause-whole : goal.put_object-requires-clause-whole
 put_object-requires-clause-whole g c = subst (λ (o : Option Object). IfSome o (λ object. is_whole object.content ≡ true)) c.in-Some.is c.requires.whole

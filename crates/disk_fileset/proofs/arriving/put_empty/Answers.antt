@@ -7,11 +7,11 @@ use Rattle.disk_log.specs.Log.{disk_of, state_of}
 use Rattle.disk_objects.specs.Holds.{HoldsNow}
 use Rattle.disk_objects.specs.Objects.{with_anode, kept_anodes, FitsContent, HeldNow}
 use Rattle.disk_objects.proofs.Keeping.{held_of, fits_changed, each_changed}
-use Rattle.disk_objectset.specs.Slots.{IsBlank, IsVacant, emptied, blank_content}
-use Rattle.disk_objectset.proofs.Changing.{on_ok_two, may_after, may_held, changes_then}
-use Rattle.disk_objectset.proofs.Arrived.{blank_put}
-use Rattle.disk_objectset.proofs.Twice.{anode_twice}
-use Rattle.disk_objectset.proofs.arriving.put_empty.Goals as goal
+use Rattle.disk_fileset.specs.Slots.{IsBlank, IsVacant, emptied, blank_content}
+use Rattle.disk_fileset.proofs.Changing.{on_ok_two, may_after, may_held, changes_then}
+use Rattle.disk_fileset.proofs.Arrived.{blank_put}
+use Rattle.disk_fileset.proofs.Twice.{anode_twice}
+use Rattle.disk_fileset.proofs.arriving.put_empty.Goals as goal
 
 pub fill_all-requires-clause-may : goal.fill_all-requires-clause-may
 fill_all-requires-clause-may g c =

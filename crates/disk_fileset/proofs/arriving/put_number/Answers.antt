@@ -1,8 +1,8 @@
 use Rattle.std.proofs.lemmas.Result.{on_ok_weaker}
 use Rattle.disk_log.specs.Log.{disk_of, state_of, slot_of}
-use Rattle.disk_objectset.proofs.Changing.{may_page, low_in, others_same, changes_made}
-use Rattle.disk_objectset.proofs.Arrived.{number_turns}
-use Rattle.disk_objectset.proofs.arriving.put_number.Goals as goal
+use Rattle.disk_fileset.proofs.Changing.{may_page, low_in, others_same, changes_made}
+use Rattle.disk_fileset.proofs.Arrived.{number_turns}
+use Rattle.disk_fileset.proofs.arriving.put_number.Goals as goal
 
 pub create_as-requires-clause-may : goal.create_as-requires-clause-may
 create_as-requires-clause-may g c = may_page c.args.slot c.args.anode c.anode_page.result c.requires.slot c.requires.first c.requires.last c.anode_page.ensures (state_of c.args.log.now) (slot_of c.args.tx.now) c.requires.may.may

@@ -2,10 +2,10 @@ use Rattle.std.proofs.Common.{arith}
 use Rattle.tree_filesets.specs.Creation.{occupied}
 use Rattle.tree_objects.specs.Changes.{anode_changed}
 use Rattle.disk_objects.specs.Objects.{with_anode, KeepsNow}
-use Rattle.disk_objectset.specs.Slots.{IsVacant, IsEmptied, emptied}
-use Rattle.disk_objectset.proofs.Changing.{may_less, may_after, turned_then, turned_as, changes_then}
-use Rattle.disk_objectset.proofs.Arrived.{whole_listed, emptied_put, object_turn}
-use Rattle.disk_objectset.proofs.arriving.put_object.Goals as goal
+use Rattle.disk_fileset.specs.Slots.{IsVacant, IsEmptied, emptied}
+use Rattle.disk_fileset.proofs.Changing.{may_less, may_after, turned_then, turned_as, changes_then}
+use Rattle.disk_fileset.proofs.Arrived.{whole_listed, emptied_put, object_turn}
+use Rattle.disk_fileset.proofs.arriving.put_object.Goals as goal
 
 pub put_empty-requires-clause-listed : goal.put_empty-requires-clause-listed
 put_empty-requires-clause-listed g c = whole_listed c.args.object.now.content c.requires.whole

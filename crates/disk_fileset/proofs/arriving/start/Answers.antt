@@ -4,11 +4,11 @@ use Rattle.std.proofs.lemmas.Result.{on_ok_weaker}
 use Rattle.tree_filesets.specs.Creation.{occupied}
 use Rattle.disk_log.specs.Log.{disk_of, state_of, slot_of}
 use Rattle.disk_anode.specs.Anode.{bare_anode}
-use Rattle.disk_objectset.specs.Slots.{blank_content}
-use Rattle.disk_objectset.proofs.Changing.{may_page, low_in, others_same, changes_made}
-use Rattle.disk_objectset.proofs.Arrived.{blank_kept, start_turns}
-use Rattle.disk_objectset.proofs.arriving.start.Goals.{then-dir, else-dir}
-use Rattle.disk_objectset.proofs.arriving.start.Goals as goal
+use Rattle.disk_fileset.specs.Slots.{blank_content}
+use Rattle.disk_fileset.proofs.Changing.{may_page, low_in, others_same, changes_made}
+use Rattle.disk_fileset.proofs.Arrived.{blank_kept, start_turns}
+use Rattle.disk_fileset.proofs.arriving.start.Goals.{then-dir, else-dir}
+use Rattle.disk_fileset.proofs.arriving.start.Goals as goal
 
 pub create_as-requires-clause-may : goal.create_as-requires-clause-may
 create_as-requires-clause-may g c = may_page c.args.slot c.args.anode c.anode_page-page.result c.requires.slot c.requires.first c.requires.last c.anode_page-page.ensures (state_of c.args.log.now) (slot_of c.args.tx.now) c.requires.may.may

@@ -5,12 +5,12 @@ use Rattle.tree_objects.specs.declared.content.Anode.{Anode}
 use Rattle.tree_objects.specs.Changes.{anode_changed, content_truncated}
 use Rattle.disk_log.specs.Log.{disk_of, state_of}
 use Rattle.disk_objects.specs.Objects.{with_anode, KeepsNow}
-use Rattle.disk_objectset.specs.Giving.{IsLong}
-use Rattle.disk_objectset.specs.Slots.{IsFile}
-use Rattle.disk_objectset.proofs.Changing.{may_after, changes_then, changes_failed, changes_as}
-use Rattle.disk_objectset.proofs.Looking.{look_changes, look_failed, look_held, look_may, may_where}
-use Rattle.disk_objectset.proofs.Patching.{given_turns, given_same, long_truncated, long_here, length_there}
-use Rattle.disk_objectset.proofs.giving.give.Goals as goal
+use Rattle.disk_fileset.specs.Giving.{IsLong}
+use Rattle.disk_fileset.specs.Slots.{IsFile}
+use Rattle.disk_fileset.proofs.Changing.{may_after, changes_then, changes_failed, changes_as}
+use Rattle.disk_fileset.proofs.Looking.{look_changes, look_failed, look_held, look_may, may_where}
+use Rattle.disk_fileset.proofs.Patching.{given_turns, given_same, long_truncated, long_here, length_there}
+use Rattle.disk_fileset.proofs.giving.give.Goals as goal
 
 pub returns-in_err-length-clause-changes : goal.returns-in_err-length-clause-changes
 returns-in_err-length-clause-changes g c =

@@ -5,11 +5,11 @@ use Rattle.std.proofs.lemmas.Result.{err_from_is_err_and, on_ok_weaker}
 use Rattle.tree_objects.specs.declared.content.Anode.{Anode}
 use Rattle.disk_log.specs.Log.{disk_of, state_of, slot_of}
 use Rattle.disk_objects.specs.Objects.{KeepsNow}
-use Rattle.disk_objectset.specs.Giving.{IsLong}
-use Rattle.disk_objectset.proofs.Changing.{may_in, counted_in, few_in, others_same, changes_in, changes_then, changes_as, more_room}
-use Rattle.disk_objectset.proofs.Looking.{look_changes, look_failed, look_held, look_may}
-use Rattle.disk_objectset.proofs.Patching.{nothing_turns, patch_turns, patched_after}
-use Rattle.disk_objectset.proofs.giving.patch.Goals as goal
+use Rattle.disk_fileset.specs.Giving.{IsLong}
+use Rattle.disk_fileset.proofs.Changing.{may_in, counted_in, few_in, others_same, changes_in, changes_then, changes_as, more_room}
+use Rattle.disk_fileset.proofs.Looking.{look_changes, look_failed, look_held, look_may}
+use Rattle.disk_fileset.proofs.Patching.{nothing_turns, patch_turns, patched_after}
+use Rattle.disk_fileset.proofs.giving.patch.Goals as goal
 
 pub returns-then-is_empty-clause-kept : goal.returns-then-is_empty-clause-kept
 returns-then-is_empty-clause-kept g c = λ told slots held is.

@@ -2,10 +2,10 @@ use Rattle.std.proofs.Common.{◌≡◌, ◌∙◌, ◌-◌, length, get_or, ari
 use Rattle.std.specs.Prelude.{Err}
 use Rattle.std.proofs.lemmas.Result.{err_from_is_err_and}
 use Rattle.disk_log.specs.Log.{disk_of}
-use Rattle.disk_objectset.specs.Giving.{shifted}
-use Rattle.disk_objectset.proofs.Looking.{memory_blame}
-use Rattle.disk_objectset.proofs.Pieces.{length_pieces, taken}
-use Rattle.disk_objectset.proofs.giving.patched.Goals as goal
+use Rattle.disk_fileset.specs.Giving.{shifted}
+use Rattle.disk_fileset.proofs.Looking.{memory_blame}
+use Rattle.disk_fileset.proofs.Pieces.{length_pieces, taken}
+use Rattle.disk_fileset.proofs.giving.patched.Goals as goal
 
 pub returns-in_err-bytes-clause-only : goal.returns-in_err-bytes-clause-only
 returns-in_err-bytes-clause-only g c =

@@ -1,6 +1,6 @@
 use Rattle.std.proofs.Common.{◌≡◌, ◌+◌, drop}
 use Rattle.store_state.specs.Giving.{put_bytes}
-use Rattle.disk_objectset.proofs.giving.put_bytes.Given as goal
+use Rattle.disk_fileset.proofs.giving.put_bytes.Given as goal
 
 -- the bytes that are left, over what was put so far
 abbrev pub invariant-loop-i : goal.invariant-loop-i

@@ -1,7 +1,7 @@
 use Rattle.std.proofs.Common.{◌≡◌, drop}
 use Rattle.store_state.specs.Giving.{put_pieces}
-use Rattle.disk_objectset.specs.Giving.{shifted}
-use Rattle.disk_objectset.proofs.giving.put_pieces.Given as goal
+use Rattle.disk_fileset.specs.Giving.{shifted}
+use Rattle.disk_fileset.proofs.giving.put_pieces.Given as goal
 
 -- the pieces that are left, over what was put so far
 abbrev pub invariant-loop-piece : goal.invariant-loop-piece

@@ -1,8 +1,8 @@
 use Rattle.std.proofs.Common.{◌≡◌, ◌∙◌, sym, ap, arith}
 use Rattle.std.proofs.lemmas.List.{drop_all}
-use Rattle.disk_objectset.specs.Giving.{start_of, end_of}
-use Rattle.disk_objectset.proofs.Pieces.{lie_between}
-use Rattle.disk_objectset.proofs.giving.span_of.Goals as goal
+use Rattle.disk_fileset.specs.Giving.{start_of, end_of}
+use Rattle.disk_fileset.proofs.Pieces.{lie_between}
+use Rattle.disk_fileset.proofs.giving.span_of.Goals as goal
 
 pub returns-clause-lie : goal.returns-clause-lie
 returns-clause-lie c =

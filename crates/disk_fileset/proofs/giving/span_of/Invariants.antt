@@ -1,6 +1,6 @@
 use Rattle.std.proofs.Common.{◌≡◌, ◌≤◌, drop}
-use Rattle.disk_objectset.specs.Giving.{start_of, end_of}
-use Rattle.disk_objectset.proofs.giving.span_of.Given as goal
+use Rattle.disk_fileset.specs.Giving.{start_of, end_of}
+use Rattle.disk_fileset.proofs.giving.span_of.Given as goal
 
 -- where the pieces that are left begin and end, with those so far
 abbrev pub invariant-loop-piece : goal.invariant-loop-piece

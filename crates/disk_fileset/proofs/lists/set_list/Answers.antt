@@ -1,8 +1,8 @@
 use Rattle.std.proofs.lemmas.Result.{on_ok_weaker}
 use Rattle.disk_log.specs.Log.{disk_of, state_of, slot_of}
-use Rattle.disk_objectset.proofs.Changing.{may_in, low_in, counted_in, few_in, others_same, changes_in}
-use Rattle.disk_objectset.proofs.Turns.{list_turns}
-use Rattle.disk_objectset.proofs.lists.set_list.Goals as goal
+use Rattle.disk_fileset.proofs.Changing.{may_in, low_in, counted_in, few_in, others_same, changes_in}
+use Rattle.disk_fileset.proofs.Turns.{list_turns}
+use Rattle.disk_fileset.proofs.lists.set_list.Goals as goal
 
 pub save-requires-clause-may : goal.save-requires-clause-may
 save-requires-clause-may g c = may_in c.args.slot c.args.anode c.anode_page.result c.requires.slot c.requires.first c.requires.last c.anode_page.ensures (state_of c.args.log.now) (slot_of c.args.tx.now) c.requires.may.may

@@ -2,9 +2,9 @@ use Rattle.std.proofs.lemmas.Result.{on_ok_weaker}
 use Rattle.disk_log.specs.Log.{disk_of, state_of, slot_of}
 use Rattle.std.proofs.Common.{◌≡◌, ◌+◌, ℕ, subst}
 use Rattle.std.specs.Prelude.{IfOk}
-use Rattle.disk_objectset.proofs.Changing.{may_page, low_in, others_same, changes_made}
-use Rattle.disk_objectset.proofs.Turns.{begin_turns, unique_here, unique_low}
-use Rattle.disk_objectset.proofs.making.begin.Goals as goal
+use Rattle.disk_fileset.proofs.Changing.{may_page, low_in, others_same, changes_made}
+use Rattle.disk_fileset.proofs.Turns.{begin_turns, unique_here, unique_low}
+use Rattle.disk_fileset.proofs.making.begin.Goals as goal
 
 pub create-requires-clause-may : goal.create-requires-clause-may
 create-requires-clause-may g c = may_page c.args.slot c.args.anode c.anode_page.result c.requires.slot c.requires.first c.requires.last c.anode_page.ensures (state_of c.args.log.now) (slot_of c.args.tx.now) c.requires.may.may

@@ -2,10 +2,10 @@ use Rattle.tree_calls.specs.declared.place.Which.TheVariants.{Own}
 use Rattle.tree_objects.specs.Changes.{anode_changed}
 use Rattle.tree_objects.specs.Objects.{is_dir, content_with_list}
 use Rattle.disk_objects.specs.Objects.{with_anode, HeldNow}
-use Rattle.disk_objectset.specs.Slots.{IsBlank, emptied}
-use Rattle.disk_objectset.proofs.Changing.{turned_as}
-use Rattle.disk_objectset.proofs.Steps.{blank_file, file_has, file_turn}
-use Rattle.disk_objectset.proofs.making.fill_all.Goals as goal
+use Rattle.disk_fileset.specs.Slots.{IsBlank, emptied}
+use Rattle.disk_fileset.proofs.Changing.{turned_as}
+use Rattle.disk_fileset.proofs.Steps.{blank_file, file_has, file_turn}
+use Rattle.disk_fileset.proofs.making.fill_all.Goals as goal
 
 pub returns-in-File-clause-turned : goal.returns-in-File-clause-turned
 returns-in-File-clause-turned g c =

@@ -6,10 +6,10 @@ use Rattle.tree_objects.specs.declared.content.Content.TheVariants.{Dir}
 use Rattle.tree_objects.specs.Changes.{anode_changed}
 use Rattle.tree_objects.specs.Objects.{content_with_list}
 use Rattle.disk_objects.specs.Objects.{with_anode, HeldNow}
-use Rattle.disk_objectset.specs.Slots.{IsBlank, HasList}
-use Rattle.disk_objectset.proofs.Changing.{may_after, changes_then, changes_as, turned_then, turned_as}
-use Rattle.disk_objectset.proofs.Steps.{blank_list, list_after, three_are, three_turn}
-use Rattle.disk_objectset.proofs.making.fill_three.Goals as goal
+use Rattle.disk_fileset.specs.Slots.{IsBlank, HasList}
+use Rattle.disk_fileset.proofs.Changing.{may_after, changes_then, changes_as, turned_then, turned_as}
+use Rattle.disk_fileset.proofs.Steps.{blank_list, list_after, three_are, three_turn}
+use Rattle.disk_fileset.proofs.making.fill_three.Goals as goal
 
 pub fill-requires-2-clause-may : goal.fill-requires-2-clause-may
 fill-requires-2-clause-may g c =

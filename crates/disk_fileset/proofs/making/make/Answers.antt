@@ -6,10 +6,10 @@ use Rattle.tree_objects.specs.Changes.{anode_changed}
 use Rattle.tree_objects.specs.Entries.{content_with_entry}
 use Rattle.disk_log.specs.Log.{disk_of, state_of}
 use Rattle.disk_objects.specs.Objects.{with_anode, KeepsNow}
-use Rattle.disk_objectset.specs.Slots.{MayMake, TakesName, TakesObject}
-use Rattle.disk_objectset.proofs.Changing.{may_after, changes_then, changes_failed, changes_value, changes_as}
-use Rattle.disk_objectset.proofs.Steps.{takes_after, unique_after, used_turn}
-use Rattle.disk_objectset.proofs.making.make.Goals as goal
+use Rattle.disk_fileset.specs.Slots.{MayMake, TakesName, TakesObject}
+use Rattle.disk_fileset.proofs.Changing.{may_after, changes_then, changes_failed, changes_value, changes_as}
+use Rattle.disk_fileset.proofs.Steps.{takes_after, unique_after, used_turn}
+use Rattle.disk_fileset.proofs.making.make.Goals as goal
 
 pub occupy-requires-clause-may : goal.occupy-requires-clause-may
 occupy-requires-clause-may g c =

@@ -9,11 +9,11 @@ use Rattle.disk_log.specs.Log.{disk_of, state_of}
 use Rattle.disk_objects.specs.Holds.{HoldsNow}
 use Rattle.disk_objects.specs.Objects.{with_anode, kept_anodes, FitsContent, HeldNow}
 use Rattle.disk_objects.proofs.Keeping.{held_of, fits_changed, each_changed}
-use Rattle.disk_objectset.specs.Slots.{IsBlank, TakesObject, emptied, used_by, blank_content}
-use Rattle.disk_objectset.proofs.Changing.{may_after, may_held, changes_then, changes_failed, changes_value, changes_as}
-use Rattle.disk_objectset.proofs.Steps.{blank_made, new_emptied, new_listed}
-use Rattle.disk_objectset.proofs.Twice.{anode_twice}
-use Rattle.disk_objectset.proofs.making.occupy.Goals as goal
+use Rattle.disk_fileset.specs.Slots.{IsBlank, TakesObject, emptied, used_by, blank_content}
+use Rattle.disk_fileset.proofs.Changing.{may_after, may_held, changes_then, changes_failed, changes_value, changes_as}
+use Rattle.disk_fileset.proofs.Steps.{blank_made, new_emptied, new_listed}
+use Rattle.disk_fileset.proofs.Twice.{anode_twice}
+use Rattle.disk_fileset.proofs.making.occupy.Goals as goal
 
 pub fill_all-requires-clause-listed : goal.fill_all-requires-clause-listed
 fill_all-requires-clause-listed g c = new_listed c.args.object.now.content c.requires.new

@@ -1,7 +1,7 @@
 use Rattle.disk_log.specs.Log.{disk_of, state_of, slot_of}
-use Rattle.disk_objectset.proofs.Changing.{may_in, low_in, counted_in, few_in, others_same, changes_in}
-use Rattle.disk_objectset.proofs.Turns.{enter_turns, enter_any}
-use Rattle.disk_objectset.proofs.names.enter.Goals as goal
+use Rattle.disk_fileset.proofs.Changing.{may_in, low_in, counted_in, few_in, others_same, changes_in}
+use Rattle.disk_fileset.proofs.Turns.{enter_turns, enter_any}
+use Rattle.disk_fileset.proofs.names.enter.Goals as goal
 
 pub add-requires-clause-may : goal.add-requires-clause-may
 add-requires-clause-may g c = may_in c.args.slot c.args.directory c.anode_page-page.result c.requires.slot c.requires.first c.requires.last c.anode_page-page.ensures (state_of c.args.log.now) (slot_of c.args.tx.now) c.requires.may.may

@@ -1,7 +1,7 @@
 use Rattle.disk_log.specs.Log.{disk_of, state_of, slot_of}
-use Rattle.disk_objectset.proofs.Changing.{may_in, low_in, counted_in, few_in, others_same, changes_in}
-use Rattle.disk_objectset.proofs.Turns.{leave_turns, leave_any}
-use Rattle.disk_objectset.proofs.names.leave.Goals as goal
+use Rattle.disk_fileset.proofs.Changing.{may_in, low_in, counted_in, few_in, others_same, changes_in}
+use Rattle.disk_fileset.proofs.Turns.{leave_turns, leave_any}
+use Rattle.disk_fileset.proofs.names.leave.Goals as goal
 
 pub drop_name-requires-clause-may : goal.drop_name-requires-clause-may
 drop_name-requires-clause-may g c = may_in c.args.slot c.args.directory c.anode_page.result c.requires.slot c.requires.first c.requires.last c.anode_page.ensures (state_of c.args.log.now) (slot_of c.args.tx.now) c.requires.may.may

@@ -2,10 +2,10 @@ use Rattle.std.proofs.Common.{arith}
 use Rattle.tree_objects.specs.Changes.{anode_changed}
 use Rattle.tree_objects.specs.Entries.{content_with_entry, content_without_entry}
 use Rattle.disk_objects.specs.Objects.{with_anode, KeepsNow}
-use Rattle.disk_objectset.specs.Slots.{MayMove, TakesName, IsDir}
-use Rattle.disk_objectset.proofs.Changing.{may_less, may_after, turned_then, changes_then}
-use Rattle.disk_objectset.proofs.Steps.{dir_after}
-use Rattle.disk_objectset.proofs.names.rename.Goals as goal
+use Rattle.disk_fileset.specs.Slots.{MayMove, TakesName, IsDir}
+use Rattle.disk_fileset.proofs.Changing.{may_less, may_after, turned_then, changes_then}
+use Rattle.disk_fileset.proofs.Steps.{dir_after}
+use Rattle.disk_fileset.proofs.names.rename.Goals as goal
 
 pub enter-requires-clause-may : goal.enter-requires-clause-may
 enter-requires-clause-may g c = may_less KeepsNow g.D.Disk.tells g.D.Disk.view (MayMove c.args.slot c.args.way.now) (TakesName c.args.slot c.args.way.now.to c.args.way.now.entry.name) c.args.slot 7 14 c.args.log.now c.args.tx.now (omega arith) (λ slots is. is.0) c.requires.may

@@ -1,11 +1,11 @@
 use Rattle.std.proofs.lemmas.Result.{on_ok_weaker}
 use Rattle.disk_log.specs.Log.{disk_of, state_of, slot_of}
 use Rattle.std.proofs.Common.{arith}
-use Rattle.disk_objectset.proofs.Changing.{may_in, low_in, counted_in, few_in, others_same, changes_in, past_more}
+use Rattle.disk_fileset.proofs.Changing.{may_in, low_in, counted_in, few_in, others_same, changes_in, past_more}
 use Rattle.disk_objects.specs.Objects.{anode_at}
-use Rattle.disk_objectset.proofs.Turns.{copy_turns}
-use Rattle.disk_objectset.proofs.Copies.{clear_in, copies_turned}
-use Rattle.disk_objectset.proofs.objects.copy_anode.Goals as goal
+use Rattle.disk_fileset.proofs.Turns.{copy_turns}
+use Rattle.disk_fileset.proofs.Copies.{clear_in, copies_turned}
+use Rattle.disk_fileset.proofs.objects.copy_anode.Goals as goal
 
 pub clone_of-requires-clause-may : goal.clone_of-requires-clause-may
 clone_of-requires-clause-may g c = may_in c.args.to c.args.anode c.anode_page-2.result c.requires.slot c.requires.first c.requires.last c.anode_page-2.ensures (state_of c.args.log.now) (slot_of c.args.tx.now) c.requires.may.may

@@ -3,9 +3,9 @@ use Rattle.std.specs.Prelude.{⊤}
 use Rattle.tree_objects.specs.Changes.{anode_changed, anode_freed}
 use Rattle.tree_objects.specs.Entries.{content_without_entry}
 use Rattle.disk_objects.specs.Objects.{with_anode, KeepsNow}
-use Rattle.disk_objectset.specs.Slots.{IsDir}
-use Rattle.disk_objectset.proofs.Changing.{may_less, may_after, turned_then, changes_then}
-use Rattle.disk_objectset.proofs.objects.unmake.Goals as goal
+use Rattle.disk_fileset.specs.Slots.{IsDir}
+use Rattle.disk_fileset.proofs.Changing.{may_less, may_after, turned_then, changes_then}
+use Rattle.disk_fileset.proofs.objects.unmake.Goals as goal
 
 pub leave-requires-clause-may : goal.leave-requires-clause-may
 leave-requires-clause-may g c = may_less KeepsNow g.D.Disk.tells g.D.Disk.view (IsDir c.args.slot c.args.directory) (IsDir c.args.slot c.args.directory) c.args.slot 7 7 c.args.log.now c.args.tx.now (omega arith) (λ slots is. is) c.requires.may

@@ -1,10 +1,10 @@
 use Rattle.std.proofs.Common.{◌≡◌, ◌+◌, ◌∙◌, length}
 use Rattle.disk_log.specs.Log.{disk_of, state_of}
 use Rattle.disk_anode.specs.Anode.{anode_in}
-use Rattle.disk_objectset.proofs.Changing.{low_in}
-use Rattle.disk_objectset.proofs.Pieces.{taken}
-use Rattle.disk_objectset.proofs.Read.{bytes_held}
-use Rattle.disk_objectset.proofs.reading.bytes_of.Goals as goal
+use Rattle.disk_fileset.proofs.Changing.{low_in}
+use Rattle.disk_fileset.proofs.Pieces.{taken}
+use Rattle.disk_fileset.proofs.Read.{bytes_held}
+use Rattle.disk_fileset.proofs.reading.bytes_of.Goals as goal
 
 pub length_of-requires-clause-page : goal.length_of-requires-clause-page
 length_of-requires-clause-page g c = low_in c.args.slot c.args.anode c.anode_page-page.result c.requires.slot c.requires.first c.requires.last c.anode_page-page.ensures

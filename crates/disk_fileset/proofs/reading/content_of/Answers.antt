@@ -2,9 +2,9 @@ use Rattle.std.proofs.Common.{◌∙◌}
 use Rattle.std.specs.Prelude.{Ok, None}
 use Rattle.tree_objects.specs.declared.content.Content.TheVariants.{File}
 use Rattle.disk_log.specs.Log.{disk_of, state_of}
-use Rattle.disk_objectset.proofs.Changing.{low_in}
-use Rattle.disk_objectset.proofs.Read.{keeps_still, fits_of, entries_held, dir_read, file_read}
-use Rattle.disk_objectset.proofs.reading.content_of.Goals as goal
+use Rattle.disk_fileset.proofs.Changing.{low_in}
+use Rattle.disk_fileset.proofs.Read.{keeps_still, fits_of, entries_held, dir_read, file_read}
+use Rattle.disk_fileset.proofs.reading.content_of.Goals as goal
 
 pub list-requires-clause-page : goal.list-requires-clause-page
 list-requires-clause-page g c = low_in c.args.slot c.args.anode c.anode_page.result c.requires.slot c.requires.first c.requires.last c.anode_page.ensures

@@ -3,10 +3,10 @@ use Rattle.disk_layout.specs.Numbers.{number_at}
 use Rattle.disk_log.specs.Log.{disk_of, state_of}
 use Rattle.disk_log.specs.Puts.{page_of}
 use Rattle.disk_objects.proofs.Keeping.{held_of}
-use Rattle.disk_objectset.proofs.Looking.{look_held}
+use Rattle.disk_fileset.proofs.Looking.{look_held}
 use Rattle.disk_objects.specs.Objects.{KeepsNow}
-use Rattle.disk_objectset.proofs.Turns.{unique_here}
-use Rattle.disk_objectset.proofs.reading.kept_anode.Goals as goal
+use Rattle.disk_fileset.proofs.Turns.{unique_here}
+use Rattle.disk_fileset.proofs.reading.kept_anode.Goals as goal
 
 pub returns-clause-anode : goal.returns-clause-anode
 returns-clause-anode g c = λ told slots keeps.

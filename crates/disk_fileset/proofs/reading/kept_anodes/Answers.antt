@@ -2,8 +2,8 @@ use Rattle.std.proofs.Common.{◌∙◌, arith}
 use Rattle.std.specs.Prelude.{Ok, Err}
 use Rattle.std.proofs.lemmas.Result.{err_from_is_err_and}
 use Rattle.tree_objects.specs.declared.content.Anode.{Anode}
-use Rattle.disk_objectset.proofs.Read.{looks_none, looks_then, looks_value, looks_failed, keeps_still, anode_more}
-use Rattle.disk_objectset.proofs.reading.kept_anodes.Goals as goal
+use Rattle.disk_fileset.proofs.Read.{looks_none, looks_then, looks_value, looks_failed, keeps_still, anode_more}
+use Rattle.disk_fileset.proofs.reading.kept_anodes.Goals as goal
 
 pub loop-i-init : goal.loop-i-init
 loop-i-init g c = record {

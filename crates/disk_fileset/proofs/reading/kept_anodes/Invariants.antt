@@ -1,9 +1,9 @@
 use Rattle.std.proofs.Common.{◌≡◌, ℕ, List, take}
 use Rattle.std.specs.Prelude.{Ok}
 use Rattle.tree_objects.specs.declared.content.Anode.{Anode}
-use Rattle.disk_objectset.specs.Slots.{Keeps}
-use Rattle.disk_objectset.specs.Reading.{Looks}
-use Rattle.disk_objectset.proofs.reading.kept_anodes.Given as goal
+use Rattle.disk_fileset.specs.Slots.{Keeps}
+use Rattle.disk_fileset.specs.Reading.{Looks}
+use Rattle.disk_fileset.proofs.reading.kept_anodes.Given as goal
 
 abbrev pub invariant-loop-i : goal.invariant-loop-i
 invariant-loop-i g l = record {

@@ -1,7 +1,7 @@
 use Rattle.disk_log.specs.Log.{disk_of, state_of}
-use Rattle.disk_objectset.proofs.Changing.{low_in}
-use Rattle.disk_objectset.proofs.Read.{list_held}
-use Rattle.disk_objectset.proofs.reading.list_of.Goals as goal
+use Rattle.disk_fileset.proofs.Changing.{low_in}
+use Rattle.disk_fileset.proofs.Read.{list_held}
+use Rattle.disk_fileset.proofs.reading.list_of.Goals as goal
 
 pub load-requires-clause-page : goal.load-requires-clause-page
 load-requires-clause-page g c = low_in c.args.slot c.args.anode c.anode_page.result c.requires.slot c.requires.first c.requires.last c.anode_page.ensures

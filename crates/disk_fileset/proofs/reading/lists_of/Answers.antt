@@ -3,8 +3,8 @@ use Rattle.std.specs.Prelude.{Ok, Err}
 use Rattle.std.proofs.lemmas.Result.{err_from_is_err_and}
 use Rattle.base_types.specs.declared.access.AccessEntry.{AccessEntry}
 use Rattle.disk_log.specs.Log.{disk_of, state_of}
-use Rattle.disk_objectset.proofs.Read.{looks_none, looks_then, looks_value, looks_failed, keeps_still, list_more, lists_all, fits_of}
-use Rattle.disk_objectset.proofs.reading.lists_of.Goals as goal
+use Rattle.disk_fileset.proofs.Read.{looks_none, looks_then, looks_value, looks_failed, keeps_still, list_more, lists_all, fits_of}
+use Rattle.disk_fileset.proofs.reading.lists_of.Goals as goal
 
 pub loop-which-init : goal.loop-which-init
 loop-which-init g c = record {

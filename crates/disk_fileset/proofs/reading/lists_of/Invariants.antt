@@ -3,8 +3,8 @@ use Rattle.std.specs.Prelude.{true, Ok}
 use Rattle.base_types.specs.declared.access.AccessEntry.{AccessEntry}
 use Rattle.tree_filesets.specs.Laws.{lists_in}
 use Rattle.tree_objects.specs.Objects.{is_dir}
-use Rattle.disk_objectset.specs.Reading.{Looks, FindsOf}
-use Rattle.disk_objectset.proofs.reading.lists_of.Given as goal
+use Rattle.disk_fileset.specs.Reading.{Looks, FindsOf}
+use Rattle.disk_fileset.proofs.reading.lists_of.Given as goal
 
 abbrev pub invariant-loop-which : goal.invariant-loop-which
 invariant-loop-which g l = record {

@@ -1,6 +1,6 @@
 use Rattle.std.proofs.Common.{◌∙◌, ◌+◌, ◌-◌, arith, get_or}
-use Rattle.disk_objectset.proofs.Read.{text_slice}
-use Rattle.disk_objectset.proofs.reading.name_in.Goals as goal
+use Rattle.disk_fileset.proofs.Read.{text_slice}
+use Rattle.disk_fileset.proofs.reading.name_in.Goals as goal
 
 pub returns-in-Ok-clause-name : goal.returns-in-Ok-clause-name
 returns-in-Ok-clause-name c =

@@ -4,8 +4,8 @@ use Rattle.std.proofs.lemmas.Result.{err_from_is_err_and}
 use Rattle.disk_anode.specs.declared.fault.NodeFault.TheVariants.{Memory}
 use Rattle.disk_log.specs.Log.{disk_of, state_of}
 use Rattle.disk_objects.specs.Objects.{page_for}
-use Rattle.disk_objectset.proofs.Read.{looks_none, looks_memory, looks_failed, free_there, object_read}
-use Rattle.disk_objectset.proofs.reading.object_of.Goals as goal
+use Rattle.disk_fileset.proofs.Read.{looks_none, looks_memory, looks_failed, free_there, object_read}
+use Rattle.disk_fileset.proofs.reading.object_of.Goals as goal
 
 pub returns-then-head-eq-FREE-clause-object : goal.returns-then-head-eq-FREE-clause-object
 returns-then-head-eq-FREE-clause-object g c = λ is told slots keeps.

@@ -6,10 +6,10 @@ use Rattle.tree_objects.specs.Changes.{anode_freed}
 use Rattle.disk_log.specs.Log.{disk_of, state_of}
 use Rattle.disk_log.proofs.Mounting.{quiet_none}
 use Rattle.disk_objects.specs.Objects.{with_anode, KeepsNow}
-use Rattle.disk_objectset.proofs.Changing.{may_after, turned_then, turned_as, changes_then, changes_failed, changes_value, changes_as}
-use Rattle.disk_objectset.proofs.Looking.{look_changes}
-use Rattle.disk_objectset.proofs.EachAnode.{freed_to, slot_itself, freed_more, freed_whole}
-use Rattle.disk_objectset.proofs.whole.clear_slot.Goals as goal
+use Rattle.disk_fileset.proofs.Changing.{may_after, turned_then, turned_as, changes_then, changes_failed, changes_value, changes_as}
+use Rattle.disk_fileset.proofs.Looking.{look_changes}
+use Rattle.disk_fileset.proofs.EachAnode.{freed_to, slot_itself, freed_more, freed_whole}
+use Rattle.disk_fileset.proofs.whole.clear_slot.Goals as goal
 
 pub loop-i-init : goal.loop-i-init
 loop-i-init g c = record {

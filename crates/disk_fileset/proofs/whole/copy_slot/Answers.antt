@@ -5,12 +5,12 @@ use Rattle.tree_objects.specs.declared.content.Anode.{Anode}
 use Rattle.disk_log.specs.Log.{disk_of, state_of}
 use Rattle.disk_log.proofs.Mounting.{quiet_none}
 use Rattle.disk_objects.specs.Objects.{anode_at, with_anode, KeepsNow}
-use Rattle.disk_objectset.specs.Slots.{IsVacant, AllVacant, CopiesNow}
-use Rattle.disk_objectset.proofs.Changing.{may_after, turned_then, turned_as, changes_then, changes_failed, changes_fewer, changes_value, changes_as}
-use Rattle.disk_objectset.proofs.Looking.{look_changes}
-use Rattle.disk_objectset.proofs.EachAnode.{copied_to, slot_itself, copied_more, copied_whole, vacant_next}
-use Rattle.disk_objectset.proofs.Copies.{copies_none, copies_trimmed, may_copy}
-use Rattle.disk_objectset.proofs.whole.copy_slot.Goals as goal
+use Rattle.disk_fileset.specs.Slots.{IsVacant, AllVacant, CopiesNow}
+use Rattle.disk_fileset.proofs.Changing.{may_after, turned_then, turned_as, changes_then, changes_failed, changes_fewer, changes_value, changes_as}
+use Rattle.disk_fileset.proofs.Looking.{look_changes}
+use Rattle.disk_fileset.proofs.EachAnode.{copied_to, slot_itself, copied_more, copied_whole, vacant_next}
+use Rattle.disk_fileset.proofs.Copies.{copies_none, copies_trimmed, may_copy}
+use Rattle.disk_fileset.proofs.whole.copy_slot.Goals as goal
 
 pub loop-i-init : goal.loop-i-init
 loop-i-init g c = record {

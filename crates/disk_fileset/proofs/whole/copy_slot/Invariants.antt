@@ -1,8 +1,8 @@
 use Rattle.std.proofs.Common.{ℕ}
 use Rattle.std.specs.Prelude.{Ok}
-use Rattle.disk_objectset.specs.Slots.{AllVacant, CopiesNow, Turned, ChangesSlot}
-use Rattle.disk_objectset.proofs.EachAnode.{copied_to}
-use Rattle.disk_objectset.proofs.whole.copy_slot.Given as goal
+use Rattle.disk_fileset.specs.Slots.{AllVacant, CopiesNow, Turned, ChangesSlot}
+use Rattle.disk_fileset.proofs.EachAnode.{copied_to}
+use Rattle.disk_fileset.proofs.whole.copy_slot.Given as goal
 
 abbrev pub invariant-loop-i : goal.invariant-loop-i
 invariant-loop-i g l = record {

@@ -5,7 +5,7 @@ use Rattle.std.proofs.lemmas.List.{length-append, take_all}
 use Rattle.message_types.specs.Soundness.{Each}
 use Rattle.store_acts.specs.Sound.{IsHolding}
 use Rattle.store_state.specs.declared.state.Holding.{Holding}
-use Rattle.disk_objectset.proofs.Read.{looks_none, looks_then, looks_value, looks_failed}
+use Rattle.disk_fileset.proofs.Read.{looks_none, looks_then, looks_value, looks_failed}
 use Rattle.disk_records.proofs.Limits.{each_more}
 use Rattle.disk_records.proofs.Looked.{record_still, slot_more}
 use Rattle.disk_records.proofs.state.slots_in.Goals as goal

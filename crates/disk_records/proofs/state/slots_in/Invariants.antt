@@ -5,7 +5,7 @@ use Rattle.tree_calls.specs.declared.roster.Roster.{Roster}
 use Rattle.message_types.specs.Soundness.{Each}
 use Rattle.store_acts.specs.Sound.{IsHolding}
 use Rattle.store_state.specs.declared.state.StoreState.{StoreState}
-use Rattle.disk_objectset.specs.Reading.{Looks}
+use Rattle.disk_fileset.specs.Reading.{Looks}
 use Rattle.disk_records.specs.Loading.{KeepsRecord}
 use Rattle.disk_records.proofs.state.slots_in.Given as goal
 

@@ -2,7 +2,7 @@ use Rattle.std.proofs.Common.{◌≡◌, ◌<◌, ◌≤◌, ◌+◌, ◌*◌, [
 use Rattle.std.proofs.lemmas.Grind.{common_steps}
 use Rattle.std.proofs.lemmas.Option.{slice_get-get_or}
 use Rattle.service_moves.specs.Batches.{batch_wear}
-use Rattle.service_stores.proofs.Lists.{get_some}
+use Rattle.service_starts.proofs.CheckFormed.{get_some}
 use Rattle.service_stores.proofs.Stores.{past_here, past_next, past_still, past_ready, past_states, same_of, states_same, states_put, still_put, stopped_put}
 use Rattle.service_stores.proofs.Telling.{told_next, told_whole}
 use Rattle.service_stores.proofs.told.all_told.Goals as goal

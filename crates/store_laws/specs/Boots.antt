@@ -11,13 +11,15 @@ use Rattle.store_acts.specs.declared.act.Act.TheVariants.{Boot, Epoch, Host}
 use Rattle.store_state.specs.declared.state.HostState.{HostState}
 use Rattle.store_state.specs.declared.state.StoreState.{StoreState}
 use Rattle.store_laws.specs.Calls.{DoesKeep, IsNewChange}
+use Rattle.store_laws.specs.HistoryLaws.{IsBehind}
 use Rattle.store_laws.specs.KeptGives.{IsNewGive}
 use Rattle.store_laws.specs.TreeKeeping.{KeepsOf}
 
 -- It keeps its part, whether a run begins, its server starts anew or something is learned of a host; and once a run
--- has begun, each number of a request or a ship is new, from 1 on.
+-- has begun, what it kept of requests is forgotten, so each number of a request or a ship is new, from 1 on.
 pub record BootsAreKept : Type 0 where
   pub boot : (tree : Tree) (state : StoreState) → KeepsOf tree state → DoesKeep tree state Boot
+  pub behind : (state : StoreState) → IsBehind (λ host. 1) (act_done state Boot).state
   pub epoch : (tree : Tree) (state : StoreState) → KeepsOf tree state → DoesKeep tree state Epoch
   pub host : (tree : Tree) (state : StoreState) (host : HostId) (known : HostState) → KeepsOf tree state
       → IsAct state.roster state.server (Host host known) → DoesKeep tree state (Host host known)

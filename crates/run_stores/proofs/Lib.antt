@@ -1,0 +1,13 @@
+pub mod Alike
+pub mod Piecing
+pub mod Notes
+pub mod Gives
+pub mod Tells
+pub mod Firsts
+pub mod Changes
+pub mod Replies
+pub mod Stands
+pub mod Ends
+pub mod Starting
+pub mod Steps
+pub mod Elsewhere

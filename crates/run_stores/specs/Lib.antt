@@ -1,0 +1,9 @@
+pub mod Pieces
+pub mod Keeping
+pub mod Telling
+pub mod Ending
+pub mod Changing
+pub mod Standing
+pub mod Starting
+pub mod Steps
+pub mod Elsewhere

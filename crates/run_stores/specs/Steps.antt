@@ -1,0 +1,122 @@
+-- Which acts of its store a server's step takes, and what they keep.
+use Rattle.std.specs.List.{filter}
+use Rattle.std.specs.Prelude.{Bool, List, Option, [], false, true, ℕ, ◌∷◌, ◌≡◌}
+use Rattle.base_types.specs.declared.ids.Fid.{Fid}
+use Rattle.base_types.specs.declared.ids.HostId.{HostId}
+use Rattle.tree_calls.specs.declared.reply.Reply.{Reply}
+use Rattle.tree_calls.specs.declared.reply.Reply.TheVariants.{Refused}
+use Rattle.tree_answers.specs.Answers.{answer_to}
+use Rattle.tree_answers.specs.declared.tree.Tree.{Tree}
+use Rattle.message_types.specs.declared.message.Body.{Body}
+use Rattle.message_types.specs.declared.message.Body.TheVariants.{GiveBack}
+use Rattle.message_types.specs.Soundness.{Each}
+use Rattle.store_acts.specs.Acts.{dones_of, state_after}
+use Rattle.store_acts.specs.Sound.{HasName, IsAct}
+use Rattle.store_acts.specs.declared.act.Act.{Act}
+use Rattle.store_acts.specs.declared.act.Act.TheVariants.{Do, Epoch, Give, Host, Refuse}
+use Rattle.store_state.specs.declared.state.StoreState.{StoreState}
+use Rattle.store_laws.specs.TreeKeeping.{KeepsOf}
+use Rattle.run_contents.specs.Gives.{IsKept}
+use Rattle.script_lines.specs.declared.script.Script.{Script}
+use Rattle.run_rules.specs.Histories.{tree_at}
+use Rattle.run_rules.specs.Nodes.{served}
+use Rattle.run_rules.specs.Runs.{IsEnded, IsRun, past_of}
+use Rattle.run_rules.specs.declared.journal.Journal.{Journal}
+use Rattle.run_rules.specs.Kept.{is_refusal, kept, kept_after, kept_through, pieces_in}
+use Rattle.run_rules.specs.declared.applied.Applied.{Applied}
+use Rattle.run_rules.specs.declared.applied.Applied.TheVariants.{Done, Ends, IsDown, Stored, Wants}
+use Rattle.run_rules.specs.declared.applied.Written.{Written}
+use Rattle.run_rules.specs.declared.step.Cause.{Cause}
+use Rattle.run_rules.specs.declared.step.Cause.TheVariants.{Message as Came}
+use Rattle.run_rules.specs.declared.step.Step.{Step}
+use Rattle.run_stores.specs.Keeping.{StandsFor}
+use Rattle.run_stores.specs.Pieces.{from_last}
+
+-- the number of the give-back that came
+abbrev pub number_given : Body → ℕ
+number_given (GiveBack give) = give.number
+number_given _ = 0
+
+abbrev pub number_in : Cause → ℕ
+number_in (Came m) = number_given m.body
+number_in _ = 0
+
+-- a Change is done or refused, under its number
+abbrev pub change_act : Reply → Written → Act
+change_act (Refused refusal) written = Refuse written.answer.host written.fileset written.number refusal
+change_act _ written = Do written.answer.host written.number written.answer.call
+
+-- a give-back is given from its last piece on
+abbrev pub give_act : Cause → HostId → Fid → Option ℕ → Act
+give_act cause host fid given = Give host (number_in cause) fid (from_last (pieces_in cause)) given
+
+-- what is applied takes these acts
+abbrev pub acts_of : Cause → List Applied → List Act
+acts_of cause [] = []
+acts_of cause (Done written ∷ applied) = change_act written.answer.reply written ∷ acts_of cause applied
+acts_of cause (Stored host fid spans given ∷ applied) = give_act cause host fid given ∷ acts_of cause applied
+acts_of cause (Ends answer ∷ applied) = acts_of cause applied
+acts_of cause (IsDown host ∷ applied) = acts_of cause applied
+acts_of cause (Wants wanted ∷ applied) = acts_of cause applied
+
+-- whether an act changes more than what is known of epochs and hosts
+abbrev pub is_of_filesets : Act → Bool
+is_of_filesets Epoch = false
+is_of_filesets (Host host known) = false
+is_of_filesets act = true
+
+-- A Change that isn't refused isn't refused by what is kept just before it, and a fileset that it makes gets a name.
+abbrev pub IsDecidedSo : Tree → Applied → Type 0
+IsDecidedSo tree (Done written) = is_refusal written.answer.reply ≡ false
+    → (is_refusal (answer_to tree written.answer.host written.answer.call).reply ≡ false)
+    × HasName written.answer.call
+IsDecidedSo tree _ = Unit {0}
+
+abbrev pub AreDecidedSo : Cause → Tree → List Applied → Type 0
+AreDecidedSo cause tree [] = Unit {0}
+AreDecidedSo cause tree (x ∷ applied) = IsDecidedSo tree x × AreDecidedSo cause (kept_after cause tree x) applied
+
+-- In a step a store does some acts: it may be given each, and does it now. Beside acts that tell of epochs and hosts
+-- these are those that what is applied takes, in their order.
+pub record Fits (cause : Cause) (applied : List Applied) (acts : List Act) (tree : Tree) (state : StoreState)
+    : Type 0 where
+  pub decided : AreDecidedSo cause tree applied
+  pub takes : filter is_of_filesets acts ≡ acts_of cause applied
+  pub acts_are : Each (IsAct state.roster state.server) acts
+  pub fresh : Each (λ done. done.fresh ≡ true) (dones_of state acts)
+
+-- A store that stands for what its server keeps does so after such acts.
+abbrev pub StepsAreKept : Type 0
+StepsAreKept =
+    (cause : Cause) (applied : List Applied) (acts : List Act) (tree : Tree) (state : StoreState)
+    → StandsFor tree state → Fits cause applied acts tree state
+    → StandsFor (kept_through cause applied tree) (state_after state acts)
+
+-- the store after the acts of some steps, those of the newest step first
+abbrev pub store_after : StoreState → List (List Act) → StoreState
+store_after state [] = state
+store_after state (acts ∷ given) = state_after (store_after state given) acts
+
+-- those of each step fit it
+abbrev pub PastFits : Tree → StoreState → List Step → List (List Act) → Type 0
+PastFits start state [] [] = Unit {0}
+PastFits start state (s ∷ past) (acts ∷ given) =
+    PastFits start state past given
+    × Fits s.cause s.applied acts (kept start state.server past) (store_after state given)
+PastFits start state _ _ = ⊥
+
+-- A store that keeps its part of the start tree stands for what its server keeps after all its steps.
+abbrev pub StoresStand : Type 0
+StoresStand =
+    (start : Tree) (state : StoreState) (past : List Step) (given : List (List Act)) → IsKept start → start.away ≡ []
+    → KeepsOf start state → PastFits start state past given
+    → StandsFor (kept start state.server past) (store_after state given)
+
+-- So once a run is ended, a store that kept its part of the tree from which the run started keeps its part of the tree
+-- that the history of the run makes.
+abbrev pub StoresEnd : Type 0
+StoresEnd =
+    (script : Script) (journal : Journal) (run : IsRun script journal) → IsEnded script journal
+    → (state : StoreState) (given : List (List Act)) → KeepsOf run.start state
+    → PastFits run.start state (served state.server (past_of journal)) given
+    → KeepsOf (tree_at run.start (past_of journal)) (store_after state given)

@@ -1,0 +1,1 @@
+"""The file tree, its call table and its output, written apart from the repository's Rattle code."""
