@@ -28,7 +28,7 @@ use Rattle.tree_laws.proofs.Steps.{fid_is}
 use Rattle.tree_laws.specs.Parts.{Nature, Part, Seen}
 use Rattle.tree_laws.specs.Parts.Part.{ByteAt, Entries, Size, Traits}
 use Rattle.run_rules.specs.Dirty.{gives_at}
-use Rattle.run_rules.specs.HostRules.{HostMeets}
+use Rattle.run_rules.specs.HostRules.{HostMay}
 use Rattle.run_rules.specs.Knowing.{needs_in}
 use Rattle.run_rules.specs.Views.{sees as host_sees, writes_to}
 use Rattle.run_rules.specs.Told.{byte_of}
@@ -115,7 +115,7 @@ after_size at end size lt = go (nat_lt size end) refl
     go false e = let le : end ≤ size = grind (arith, common_steps, e) in omega (arith, lt, le)
 
 module _ (c : Contents) (same : IsOfJournal c) (script : Script) (host : HostId) (past : List Step) (s : Step)
-    (run : HostRun script host past) (m : HostMeets script host past s) where
+    (run : HostRun script host past) (m : HostMay script host past s) where
   stays' : (a : Answer) → In a s.answers → (t : Token) → AtHand s past t → Owns (s ∷ past) t
   stays' = stays script host past s run m
 

@@ -20,14 +20,14 @@ use Rattle.token_types.specs.declared.token.Token.{Token}
 use Rattle.tree_laws.proofs.Steps.{fid_is}
 use Rattle.tree_laws.specs.Parts.{Nature, Part}
 use Rattle.tree_laws.specs.Parts.Part.{ByteAt, Entries, Size, Traits}
-use Rattle.run_rules.specs.HostAsks.{AsksMissing, FetchNeeds, IsNewFetch}
+use Rattle.run_rules.specs.HostAsks.{FetchNeeds, FileNeeds, IsNewFetch}
 use Rattle.run_rules.specs.HostAsks.FetchNeeds.{OfDirectory, OfFile, OfUnknown}
-use Rattle.run_rules.specs.HostRules.{HostMeets}
+use Rattle.run_rules.specs.HostRules.{HostMay}
 use Rattle.run_rules.specs.Knowing.{needs_in}
 use Rattle.run_rules.specs.Views.{sees as host_sees}
-use Rattle.run_parts.specs.Contents.{Asks, Contents, FetchesSo, Knows, KnowsDirectory, OwnsUpdate}
+use Rattle.run_parts.specs.Contents.{Asks, Contents, FetchesSo, Knows, KnowsDirectory, Pending}
 use Rattle.run_contents.proofs.Gives.{owns_held}
-use Rattle.run_contents.proofs.Views.{sees_same}
+use Rattle.run_contents.proofs.Views.{dirty_same, sees_same}
 use Rattle.run_contents.proofs.Words.{any_in, both, in_any}
 use Rattle.run_contents.specs.Steps.{HostRun, IsOfJournal}
 use Rattle.run_rules.specs.Lists.{In}
@@ -77,23 +77,8 @@ updates_status Traits (Bytes m span) u a b c = absurd (false≢true b)
 updates_status Traits (Lock m span) u a b c = absurd (false≢true b)
 updates_status Traits (Opening m) u a b c = absurd (false≢true b)
 
--- what is for update over a byte covers it
-updates_byte : (k : Kind) (u : Bool) (at : ℕ) → shows k (ByteAt at) ≡ true → is_update k ≡ true
-    → kind_covers_byte u at k ≡ true
-updates_byte (Bytes true span) u at a b = a
-updates_byte (Bytes false span) u at a b = absurd (false≢true b)
-updates_byte (Status m) u at a b = absurd (false≢true a)
-updates_byte (Lock m span) u at a b = absurd (false≢true a)
-updates_byte (Opening m) u at a b = absurd (false≢true a)
-
-entries_byte : (k : Kind) → shows k Entries ≡ true → shows k (ByteAt 0) ≡ true
-entries_byte (Bytes u span) e = e
-entries_byte (Status u) e = absurd (false≢true e)
-entries_byte (Lock u span) e = absurd (false≢true e)
-entries_byte (Opening u) e = absurd (false≢true e)
-
 module _ (c : Contents) (same : IsOfJournal c) (script : Script) (host : HostId) (past : List Step) (s : Step)
-    (run : HostRun script host past) (m : HostMeets script host past s) where
+    (run : HostRun script host past) (m : HostMay script host past s) where
   -- a host that fetches hasn't stopped
   live : (f : FetchOf) → Fetches s f → HasStopped (s ∷ past) → ⊥
   live f (v, e, n, q) (w, d, k, inl z) =
@@ -125,59 +110,52 @@ module _ (c : Contents) (same : IsOfJournal c) (script : Script) (host : HostId)
         sees = sees_same c same script host past run s f Traits ∙ e;
       }
 
-  -- nothing is missing of what a token for update shows
-  missing : (f : FetchOf) → Fetches s f → (needs : List Need) (p : Part) (k : Kind) → shows k p ≡ true
-      → AsksMissing m.stance.kept needs f.fid k → OwnsUpdate (s ∷ past) f.fid p → ⊥
-  missing f q needs p (Status u) cov lacks o =
-      lacks.2 (covered f.fid o.token (Status u) (kept_of f q o.token o.owned) o.file
-      (updates_status p o.token.kind u cov o.covers o.update))
-  missing f q needs p (Bytes u span) cov lacks o = byte p cov o
+  -- of a file nothing is asked for that may be unsaved
+  unasked : (f : FetchOf) → Fetches s f → (needs asked : List Need)
+      → FileNeeds (s ∷ past) m.stance.kept needs f.fid asked → (p : Part) (n : Need) → In n asked
+      → shows n.kind p ≡ true → Pending c (s ∷ past) f.fid p → ⊥
+  unasked f q needs asked file p n i cov pending = go n.kind p (subst (λ (z : Need). In z asked) its i) cov pending
     where
-      at : (b : ℕ) → has_byte span b ≡ true → (t : Token) → Owns (s ∷ past) t → t.fid ≡ f.fid
-          → shows t.kind (ByteAt b) ≡ true → is_update t.kind ≡ true → ⊥
-      at b has t owned file shown update =
-          let one : covers_byte f.fid u b t ≡ true =
-          both (same_fid t.fid f.fid) (kind_covers_byte u b t.kind)
-          (ap (λ (z : Fid). same_fid t.fid z) (sym file) ∙ same_fid_itself t.fid)
-          (updates_byte t.kind u b shown update) in
-          let any : list_any (covers_byte f.fid u b) m.stance.kept ≡ true =
-          in_any (covers_byte f.fid u b) m.stance.kept t (kept_of f q t owned) one in
-          false≢true (sym (lacks b has).0 ∙ any)
+      its : n ≡ record { fid = f.fid; kind = n.kind }
+      its j = record { fid = (file.only n i).0 j; kind = n.kind }
 
-      byte : (p : Part) → shows (Bytes u span) p ≡ true → OwnsUpdate (s ∷ past) f.fid p → ⊥
-      byte (ByteAt b) cov o = at b cov o.token o.owned o.file o.covers o.update
-      byte Entries cov o = at 0 cov o.token o.owned o.file (entries_byte o.token.kind o.covers) o.update
-      byte Size cov o = absurd (false≢true cov)
-      byte Traits cov o = absurd (false≢true cov)
-  missing f q needs p (Lock u span) cov lacks o = none p cov
-    where
-      none : (p : Part) → shows (Lock u span) p ≡ true → ⊥
-      none (ByteAt b) e = false≢true e
-      none Size e = false≢true e
-      none Traits e = false≢true e
-      none Entries e = false≢true e
-  missing f q needs p (Opening u) cov lacks o = none p cov
-    where
-      none : (p : Part) → shows (Opening u) p ≡ true → ⊥
-      none (ByteAt b) e = false≢true e
-      none Size e = false≢true e
-      none Traits e = false≢true e
-      none Entries e = false≢true e
+      go : (k : Kind) (p : Part) → In (record { fid = f.fid; kind = k }) asked → shows k p ≡ true
+          → Pending c (s ∷ past) f.fid p → ⊥
+      go (Bytes u span) (ByteAt b) i cov d = (file.bytes u b (span, i, cov)).1
+          (b, refl, sym (dirty_same c same script host (s ∷ past) (run, m) f.fid b) ∙ d)
+      go (Status u) Size i cov o = (file.status u i).1
+          (covered f.fid o.token (Status true) (kept_of f q o.token o.owned) o.file
+          (updates_status Size o.token.kind true refl o.covers o.update))
+      go (Bytes u span) Size i cov o = false≢true cov
+      go (Status u) (ByteAt b) i cov d = false≢true cov
+      go (Lock w span) (ByteAt b) i cov d = false≢true cov
+      go (Lock w span) Size i cov o = false≢true cov
+      go (Opening kind) (ByteAt b) i cov d = false≢true cov
+      go (Opening kind) Size i cov o = false≢true cov
+      go k Traits i cov d = d
+      go k Entries i cov d = d
+
+  -- what may be unsaved of a status is under a token that covers it
+  status_known : (f : FetchOf) → Fetches s f → (p : Part) → shows (Status false) p ≡ true
+      → Pending c (s ∷ past) f.fid p → Covers m.stance.kept (record { fid = f.fid; kind = Status false })
+  status_known f q Size cov o = covered f.fid o.token (Status false) (kept_of f q o.token o.owned) o.file
+      (covers_status Size o.token.kind cov o.covers)
+  status_known f q (ByteAt b) cov d = absurd (false≢true cov)
+  status_known f q Traits cov d = elim d [ ]
+  status_known f q Entries cov d = elim d [ ]
 
   free : (f : FetchOf) → Fetches s f → (needs : List Need) (asked : List Need)
       → FetchNeeds past s m.stance.kept needs f.fid asked → (p : Part) (n : Need) → In n asked
-      → shows n.kind p ≡ true → OwnsUpdate (s ∷ past) f.fid p → KnowsDirectory c past s f.fid
+      → shows n.kind p ≡ true → Pending c (s ∷ past) f.fid p → KnowsDirectory c past s f.fid
   free f q needs asked (OfDirectory (inl root) eq) p n i cov o = inl (root ∙ sym (same.root f.fid.fileset))
   free f q needs asked (OfDirectory (inr (status, (nature, seen, dir))) eq) p n i cov o =
       inr (nature, knows f.fid nature status seen, dir)
   free f q needs asked (OfUnknown nd none eq) p n i cov o =
       elim (subst (λ l. In n l) eq i) [
-        | inl one ↦ absurd (none (covered f.fid o.token (Status false) (kept_of f q o.token o.owned) o.file
-            (covers_status p o.token.kind (subst (λ (z : Need). shows z.kind p ≡ true) one cov) o.covers)))
+        | inl one ↦ absurd (none (status_known f q p (subst (λ (z : Need). shows z.kind p ≡ true) one cov) o))
         | inr z ↦ elim z [ ]
       ]
-  free f q needs asked (OfFile nd status lacking) p n i cov o =
-      absurd (missing f q needs p n.kind cov (lacking.missing n i).1 o)
+  free f q needs asked (OfFile nd status file) p n i cov o = absurd (unasked f q needs asked file p n i cov o)
 
   new_asks : (f : FetchOf) → Fetches s f → IsNewFetch script.roster host past s m.stance f → Asks c past s f
   new_asks f q new = record {

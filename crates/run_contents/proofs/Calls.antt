@@ -13,7 +13,7 @@ use Rattle.script_lines.specs.declared.script.Deed.TheVariants.{Restart as Resta
 use Rattle.script_lines.specs.declared.script.Script.{Script}
 use Rattle.token_types.specs.declared.token.Token.{Token}
 use Rattle.run_rules.specs.HostLines.{DoesDeed}
-use Rattle.run_rules.specs.HostRules.{HostMeets}
+use Rattle.run_rules.specs.HostRules.{HostMay}
 use Rattle.run_rules.specs.Labels.{InUse, end_of}
 use Rattle.run_rules.specs.OpenCalls.{Begins, IsOpen, NoneOpen, calls_begun}
 use Rattle.run_rules.specs.Lines.{servers_of}
@@ -47,7 +47,7 @@ first_count (a ∷ b ∷ xs) le none = absurd (let k : suc (suc (length xs)) ≤
 
 module _ (script : Script) (host : HostId) where
   -- a step that answers a call keeps what it has
-  module _ (past : List Step) (s : Step) (run : HostRun script host past) (m : HostMeets script host past s) where
+  module _ (past : List Step) (s : Step) (run : HostRun script host past) (m : HostMay script host past s) where
     pub stays : (a : Answer) → In a s.answers → (t : Token) → AtHand s past t → Owns (s ∷ past) t
     stays a i t at = (
       elim at [ inl n ↦ inl n | inr h ↦ inr (held_owns script host past run t h) ],
@@ -73,7 +73,7 @@ module _ (script : Script) (host : HostId) where
     ],
   )
 
-  module _ (past : List Step) (s : Step) (m : HostMeets script host past s) where
+  module _ (past : List Step) (s : Step) (m : HostMay script host past s) where
     -- a step begins one call at most
     pub begins_one : (k l : ℕ) (a b : Call) → Begins s k a → Begins s l b → k ≡ l
     begins_one k l a b (inl p) (inl q) =

@@ -12,7 +12,7 @@ use Rattle.token_types.specs.declared.token.Token.{Token}
 use Rattle.tree_laws.specs.Parts.Part.{ByteAt, Size}
 use Rattle.run_rules.specs.Dirty.{HasLength, IsLastLength, LengthIsClean, LengthIsDirty, TakesStatus, is_dirty}
 use Rattle.run_rules.specs.HostGives.{DirtyLength, OwnsUpdate as OwnsByte}
-use Rattle.run_rules.specs.HostRules.{HostMeets}
+use Rattle.run_rules.specs.HostRules.{HostMay}
 use Rattle.run_rules.specs.Views.{sees as host_sees}
 use Rattle.run_rules.specs.Told.{byte_of}
 use Rattle.run_parts.specs.Contents.{Clean, Contents, GivesShow, MadeSince, OverUpdate, OwnsUpdate, SendsBack}
@@ -103,7 +103,7 @@ is_last script host (s ∷ past) run f g (inr l) (inr m) has top =
     )
 
 module _ (c : Contents) (same : IsOfJournal c) (script : Script) (host : HostId) (past : List Step) (s : Step)
-    (run : HostRun script host past) (m : HostMeets script host past s) where
+    (run : HostRun script host past) (m : HostMay script host past s) where
   has_length : (g : Give) (f : Fid) (x : ℕ) → g.fid ≡ f → c.gives g Size ≡ Some x → HasLength g f
   has_length g f x file has = (file, (x, sym (same.gives g Size) ∙ has))
 
@@ -248,7 +248,7 @@ module _ (c : Contents) (same : IsOfJournal c) (script : Script) (host : HostId)
   gives_show = record {
     gives_once = m.gives.one_a_file;
     hands = hands';
-    gives_seen = λ g q x made has. view_same c same script host past run g.fid (ByteAt q)
+    gives_seen = λ g q x made has. sees_same c same script host past run s g.fid (ByteAt q)
         ∙ (m.gives.bytes g q x made (gives_byte g q x has)).1;
     gives_dirty = gives_dirty';
     gives_under = gives_under';

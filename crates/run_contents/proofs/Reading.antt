@@ -10,6 +10,7 @@ use Rattle.base_types.specs.declared.ids.Fid.{Fid}
 use Rattle.base_types.specs.declared.ids.FilesetId.{FilesetId}
 use Rattle.base_types.specs.declared.ids.HostId.{HostId}
 use Rattle.base_types.specs.declared.ids.ServerId.{ServerId}
+use Rattle.base_types.specs.declared.span.Span.{Span}
 use Rattle.base_types.specs.declared.user.User.{User}
 use Rattle.tree_calls.specs.declared.call.Call.{Call}
 use Rattle.tree_calls.specs.declared.call.Call.TheVariants.{CloseFile, Sync, Unlock}
@@ -40,7 +41,7 @@ use Rattle.token_types.specs.declared.token.Need.{Need}
 use Rattle.token_types.specs.declared.token.Token.{Token}
 use Rattle.tree_laws.specs.Parts.{Nature, Part}
 use Rattle.tree_laws.specs.Parts.Part.{ByteAt, Entries, Size, Traits}
-use Rattle.run_rules.specs.HostAsks.{AsksMissing, FetchNeeds, IsNewFetch}
+use Rattle.run_rules.specs.HostAsks.{FetchNeeds, FileNeeds, IsNewFetch}
 use Rattle.run_rules.specs.HostAsks.FetchNeeds.{OfDirectory, OfFile, OfUnknown}
 use Rattle.run_rules.specs.Knowing.{Stance, needs_in}
 use Rattle.run_rules.specs.Labels.{end_call, end_of}
@@ -175,24 +176,29 @@ end_suits u f = go u.token.kind
 -- what is asked for is read only where the needs are
 module _ (past : List Step) (s : Step) (held : List Token) (needs : List Need) (fid : Fid) (plain : ReadsOnly needs)
   where
-    missing_read : (k : Kind) (p : Part) → AsksMissing held needs fid k → shows k p ≡ true → is_update k ≡ true → ⊥
-    missing_read (Bytes true span) p asks cov update = byte p cov
+    file_read : (asked : List Need) → FileNeeds (s ∷ past) held needs fid asked → ReadsOnly asked
+    file_read asked file n p i cov update = go n.kind p (subst (λ (z : Need). In z asked) its i) cov update
       where
-        at : (b : ℕ) → has_byte span b ≡ true → ⊥
-        at b has =
-            let (of, lacks, inside) = (asks b has).1 in
-            plain (record { fid = fid; kind = Bytes true of }) (ByteAt b) lacks.0 inside refl
+        its : n ≡ record { fid = fid; kind = n.kind }
+        its j = record { fid = (file.only n i).0 j; kind = n.kind }
 
-        byte : (p : Part) → shows (Bytes true span) p ≡ true → ⊥
-        byte (ByteAt b) has = at b has
-        byte Entries has = at 0 has
-        byte Size e = false≢true e
-        byte Traits e = false≢true e
-    missing_read (Bytes false span) p asks cov update = false≢true update
-    missing_read (Status u) p asks cov update =
-        plain (record { fid = fid; kind = Status u }) p asks.0 cov update
-    missing_read (Lock w span) p asks cov update = false≢true update
-    missing_read (Opening kind) p asks cov update = false≢true update
+        at : (span : Span) (b : ℕ) → In (record { fid = fid; kind = Bytes true span }) asked → has_byte span b ≡ true
+            → ⊥
+        at span b i has =
+            let (of, named, inside) = (file.bytes true b (span, i, has)).0 in
+            plain (record { fid = fid; kind = Bytes true of }) (ByteAt b) named inside refl
+
+        go : (k : Kind) (p : Part) → In (record { fid = fid; kind = k }) asked → shows k p ≡ true → is_update k ≡ true
+            → ⊥
+        go (Bytes true span) (ByteAt b) i cov e = at span b i cov
+        go (Bytes true span) Entries i cov e = at span 0 i cov
+        go (Bytes true span) Size i cov e = false≢true cov
+        go (Bytes true span) Traits i cov e = false≢true cov
+        go (Bytes false span) p i cov e = false≢true e
+        go (Status true) p i cov e = plain (record { fid = fid; kind = Status true }) p (file.status true i).0 cov e
+        go (Status false) p i cov e = false≢true e
+        go (Lock w span) p i cov e = false≢true e
+        go (Opening kind) p i cov e = false≢true e
 
     pub asked_read : (asked : List Need) → FetchNeeds past s held needs fid asked → ReadsOnly asked
     asked_read asked (OfDirectory dir eq) n p i cov update =
@@ -200,8 +206,7 @@ module _ (past : List Step) (s : Step) (held : List Token) (needs : List Need) (
         (one_read fid Traits) (one_read fid Entries) n p (subst (In n) eq i) cov update
     asked_read asked (OfUnknown never none eq) n p i cov update =
         one_read fid Traits n p (subst (In n) eq i) cov update
-    asked_read asked (OfFile never status lacking) n p i cov update =
-        missing_read n.kind p (lacking.missing n i).1 cov update
+    asked_read asked (OfFile never status file) n p i cov update = file_read asked file n p i cov update
 
 module _ (script : Script) (host : HostId) (past : List Step) (s : Step) (stance : Stance script.roster host past s) where
   no_lack : (needs : List Need) (need : Need) → needs ≡ [] → IsFirstLack stance.kept needs need → ⊥

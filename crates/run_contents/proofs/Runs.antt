@@ -7,7 +7,7 @@ use Rattle.base_types.specs.declared.ids.ServerId.{ServerId}
 use Rattle.tree_answers.specs.declared.tree.Tree.{Tree}
 use Rattle.script_lines.specs.declared.script.Script.{Script}
 use Rattle.run_rules.specs.Runs.{StepMeets, StepsMeet, firsts_of, past_of}
-use Rattle.run_rules.specs.HostRules.{HostMeets}
+use Rattle.run_rules.specs.HostRules.{HostMay}
 use Rattle.run_parts.specs.Contents.{Contents}
 use Rattle.run_contents.specs.Laws.{AtNode, EachOwn, HoldsForHosts, HoldsInRuns}
 use Rattle.run_contents.specs.Steps.{HostRun, IsOfJournal}
@@ -20,7 +20,7 @@ module _ (script : Script) (start : Tree) (firsts : ServerId → ℕ) where
       → StepMeets script start firsts n past s → HostRun script h (own_after h n s (own h past))
   own_step (Host k) past s h run m =
       if_host (HostRun script h) k h (s ∷ own h past) (own h past)
-      (λ e. (run, subst (λ (j : HostId). HostMeets script j (own j past) s) e m.0)) run
+      (λ e. (run, subst (λ (j : HostId). HostMay script j (own j past) s) e m.0)) run
   own_step (Server k) past s h run m = run
 
   pub own_run : (past : List Step) → StepsMeet script start firsts past → (h : HostId) → HostRun script h (own h past)

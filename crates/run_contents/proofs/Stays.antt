@@ -23,7 +23,7 @@ use Rattle.tree_laws.specs.Parts.{Part}
 use Rattle.tree_laws.specs.Parts.Part.{ByteAt, Size}
 use Rattle.run_rules.specs.Dirty.{IsDirtyUnder}
 use Rattle.run_rules.specs.HostLeaves.{MayLeave}
-use Rattle.run_rules.specs.HostRules.{HostMeets}
+use Rattle.run_rules.specs.HostRules.{HostMay}
 use Rattle.run_rules.specs.Labels.{end_of}
 use Rattle.run_rules.specs.OpenCalls.{IsEnded, IsOpen, IsTurn}
 use Rattle.run_rules.specs.Lines.{limit_of}
@@ -55,7 +55,7 @@ module _ (script : Script) (host : HostId) where
   none_of_both (s ∷ past) run v fs gs n k a b = run.1.asks.one_of_both v fs gs n k a b
 
   -- while a Fetch is outstanding its call stays open
-  stays_open : (past : List Step) (s : Step) → HostRun script host past → HostMeets script host past s
+  stays_open : (past : List Step) (s : Step) → HostRun script host past → HostMay script host past s
       → (call : Asked) (f : FetchOf) → IsOpen past call → Suits call.call f → (fs : FilesetId) (n : ℕ)
       → Asking past fs n → Asking (s ∷ past) fs n → IsOpen (s ∷ past) call
   stays_open past s run m call f o suits fs n before after =
@@ -131,7 +131,7 @@ message_is : (c : Cause) (m n : Message) → c ≡ Came m → c ≡ Came n → m
 message_is c m n p q = let r : Came m ≡ Came n = sym p ∙ q in cc
 
 module _ (script : Script) (host : HostId) (past : List Step) (s : Step) (run : HostRun script host past)
-    (m : HostMeets script host past s) (S : ServerId → List Act) (sensible : (v : ServerId) → Sensible (S v))
+    (m : HostMay script host past s) (S : ServerId → List Act) (sensible : (v : ServerId) → Sensible (S v))
     (came : (x : Message) → s.cause ≡ Came x → SentTo (S x.server) host x.epoch x.moves x.body)
     (heard : (v : ServerId) (e n : ℕ) (b : Body) → In (Took host e n b) (S v) → Said past v e n b) where
   module _ (t : Token) (i : In t s.taken) where

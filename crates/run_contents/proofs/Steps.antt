@@ -10,7 +10,7 @@ use Rattle.script_lines.specs.declared.script.Script.{Script}
 use Rattle.run_rules.specs.Coherence.{DroppedWithCause}
 use Rattle.run_rules.specs.Runs.{StepMeets, StepsMeet}
 use Rattle.run_rules.specs.HostLeaves.{HostLeaves}
-use Rattle.run_rules.specs.HostRules.{HostMeets}
+use Rattle.run_rules.specs.HostRules.{HostMay}
 use Rattle.run_rules.specs.Lines.{limit_of}
 use Rattle.run_contents.proofs.Calls.{begins_free, begins_next, one_open, open_last}
 use Rattle.run_contents.proofs.Runs.{own_run}
@@ -21,7 +21,7 @@ use Rattle.run_rules.specs.declared.step.Step.{Step}
 
 module _ (script : Script) (start : Tree) (firsts : ServerId → ℕ) where
   meets : (past : List Step) (s : Step) (host : HostId) → StepMeets script start firsts s.node past s
-      → s.node ≡ Host host → HostMeets script host (own host past) s
+      → s.node ≡ Host host → HostMay script host (own host past) s
   meets past s host m is = (subst (λ (n : Node). StepMeets script start firsts n past s) is m).0
 
   pub dropped : (past : List Step) → StepsMeet script start firsts past → start.roster ≡ script.roster

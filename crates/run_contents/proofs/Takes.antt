@@ -19,7 +19,7 @@ use Rattle.script_lines.specs.declared.script.Script.{Script}
 use Rattle.token_types.specs.declared.token.Token.{Token}
 use Rattle.tree_laws.proofs.Steps.{fid_is}
 use Rattle.tree_laws.specs.Parts.{Part, Seen}
-use Rattle.run_rules.specs.HostRules.{HostMeets}
+use Rattle.run_rules.specs.HostRules.{HostMay}
 use Rattle.run_rules.specs.Views.{is_shown}
 use Rattle.run_rules.specs.Told.{told}
 use Rattle.run_parts.specs.Contents.{ByDone, Contents, Shows, TakesShow}
@@ -74,7 +74,7 @@ no_done : (g : GrantOf) (d : DoneOf) → Grant g ≡ Done d → ⊥
 no_done g d e = cc
 
 module _ (c : Contents) (same : IsOfJournal c) (script : Script) (host : HostId) (past : List Step) (s : Step)
-    (run : HostRun script host past) (m : HostMeets script host past s) where
+    (run : HostRun script host past) (m : HostMay script host past s) where
   abbrev Taken : Token → Type 0
   Taken t = (w : Bring) × Uses past s w × In t w.tokens × (t.fid ≡ w.fid)
 

@@ -25,6 +25,7 @@ use Rattle.need_host.specs.Looks.Look.{Ends}
 use Rattle.tree_answers.specs.Locks.{has_lock}
 use Rattle.tree_answers.specs.Opens.{has_open}
 use Rattle.tree_answers.specs.declared.tree.Tree.{Tree}
+use Rattle.message_types.specs.declared.giving.Give.{Give}
 use Rattle.script_lines.specs.declared.script.Script.{Script}
 use Rattle.token_types.specs.declared.token.Kind.{Kind}
 use Rattle.token_types.specs.declared.token.Kind.TheVariants.{Bytes, Lock, Opening, Status}
@@ -32,9 +33,11 @@ use Rattle.token_types.specs.declared.token.Token.{Token}
 use Rattle.run_tokens.proofs.TokenRun.{token_run}
 use Rattle.run_rules.specs.Runs.{IsRun, StepMeets, StepsMeet, firsts_of, past_of}
 use Rattle.run_rules.specs.HostAnswers.{IsExact}
-use Rattle.run_rules.specs.HostRules.{HostMeets}
+use Rattle.run_rules.specs.HostRules.{HostMay}
 use Rattle.run_rules.specs.Knowing.{NeedsServer}
-use Rattle.run_rules.specs.Labels.{EndsUse, HasBegun, InUse, IsUsed, end_call, end_of}
+use Rattle.run_rules.specs.Gives.{Made}
+use Rattle.run_rules.specs.Labels.{EndsUse, GivesUse, HasEnded, InUse, IsUsed, end_call, end_of}
+use Rattle.run_parts.proofs.LabelWords.{HasBegun}
 use Rattle.run_rules.specs.Views.{sees as host_sees}
 use Rattle.run_rules.specs.declared.journal.Journal.{Journal}
 use Rattle.run_parts.specs.Uses.{HostUses, StepUses, UsesRun}
@@ -113,6 +116,16 @@ module _ (script : Script) (host : HostId) where
   used_begun (s ∷ past) u (inl i) = inl i
   used_begun (s ∷ past) u (inr x) = inr (used_begun past u x.0)
 
+  pub ended_begun : (past : List Step) (u : Labelled) (g : Give) → HasEnded past g u → HasBegun past u
+  ended_begun [] u g e = elim e [ ]
+  ended_begun (s ∷ past) u g (inl x) = inr (used_begun past u x.1)
+  ended_begun (s ∷ past) u g (inr e) = inr (ended_begun past u g e)
+
+  pub ended_gives : (past : List Step) (u : Labelled) (g : Give) → HasEnded past g u → Made past g × GivesUse g u
+  ended_gives [] u g e = elim e [ ]
+  ended_gives (s ∷ past) u g (inl x) = (inl x.0, x.2)
+  ended_gives (s ∷ past) u g (inr e) = let x = ended_gives past u g e in (inr x.0, x.1)
+
   -- of two held tokens with one number each is the other
   one_held : (past : List Step) → HostRun script host past → (t u : Token) → Held past t → Held past u → t.id ≡ u.id
       → t ≡ u
@@ -125,7 +138,7 @@ module _ (script : Script) (host : HostId) where
       go all (inr h) (inl j) = absurd ((run.1.tokens.takes u j).4 (t, h, e))
       go all (inr h) (inr k) = all h k
 
-  module _ (past : List Step) (s : Step) (run : HostRun script host past) (m : HostMeets script host past s) where
+  module _ (past : List Step) (s : Step) (run : HostRun script host past) (m : HostMay script host past s) where
     held_used : (u : Labelled) → InUse past u → Held past u.token
     held_used u i = owns_held script host past run m.tokens.live u.token (use_owned script host past run u i)
 
@@ -210,8 +223,8 @@ module _ (script : Script) (host : HostId) where
       };
       ends = ends';
       ends_apart = λ u g ends i gives. gives_none script host past s run m ends.0 ends.1 g i;
-      ends_known = λ u g ends begun made gives never.
-          not_ended u ends begun (inr (begun, (g, made, gives, never)));
+      ends_known = λ u g ends ended never.
+          not_ended u ends (ended_begun past u g ended) (inr (g, ended, never));
     }
 
 module _ (script : Script) (start : Tree) (firsts : ServerId → ℕ) where

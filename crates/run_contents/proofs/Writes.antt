@@ -7,7 +7,7 @@ use Rattle.base_types.specs.declared.ids.HostId.{HostId}
 use Rattle.script_lines.specs.declared.script.Script.{Script}
 use Rattle.tree_laws.specs.Parts.{Part, Seen}
 use Rattle.tree_laws.specs.Parts.Part.{Size}
-use Rattle.run_rules.specs.HostRules.{HostMeets}
+use Rattle.run_rules.specs.HostRules.{HostMay}
 use Rattle.run_rules.specs.Views.{sees as host_sees, writes_to}
 use Rattle.run_parts.specs.Contents.{Contents, WritesGrow, sees}
 use Rattle.run_contents.proofs.Views.{sees_same}
@@ -52,7 +52,7 @@ size_above past s f y = go (writes_to s f)
     go true e = above (written_in s.answers) (host_sees past s f Size) y e
 
 module _ (c : Contents) (same : IsOfJournal c) (script : Script) (host : HostId) (past : List Step) (s : Step)
-    (run : HostRun script host past) (m : HostMeets script host past s) where
+    (run : HostRun script host past) (m : HostMay script host past s) where
   writes_alone' : (f : Fid) (p : Part) (x : Seen p) (fs : FilesetId) (n : ℕ) → c.wrote past s f p ≡ Some x
       → Asking (s ∷ past) fs n → ⊥
   writes_alone' f p x fs n e asking =

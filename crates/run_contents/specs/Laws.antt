@@ -15,7 +15,7 @@ use Rattle.token_types.specs.Conflicts.{need_of}
 use Rattle.token_types.specs.declared.token.Token.{Token}
 use Rattle.tree_laws.specs.Parts.{Part}
 use Rattle.run_rules.specs.Runs.{IsRun, past_of}
-use Rattle.run_rules.specs.HostRules.{HostMeets}
+use Rattle.run_rules.specs.HostRules.{HostMay}
 use Rattle.run_rules.specs.declared.journal.Journal.{Journal}
 use Rattle.run_parts.specs.Contents.{Contents}
 use Rattle.run_contents.specs.Steps.{HostRun, IsOfJournal}
@@ -30,7 +30,7 @@ use Rattle.run_rules.specs.declared.step.Step.{Step}
 abbrev pub HoldsForHosts : (Contents → List Step → Step → Type 0) → Type 0
 HoldsForHosts Holds =
     (c : Contents) (script : Script) (host : HostId) (past : List Step) (s : Step) → IsOfJournal c
-    → HostRun script host past → HostMeets script host past s → Holds c past s
+    → HostRun script host past → HostMay script host past s → Holds c past s
 
 -- of a host's step and its own earlier ones
 abbrev pub AtNode : (List Step → Step → Type 0) → Node → List Step → Step → Type 0

@@ -16,7 +16,7 @@ use Rattle.script_lines.specs.declared.script.Script.{Script}
 use Rattle.tree_laws.specs.Parts.{Part, Seen}
 use Rattle.tree_laws.specs.Parts.Part.{ByteAt, Size, Traits, Entries}
 use Rattle.run_rules.specs.Dirty.{gives_at}
-use Rattle.run_rules.specs.HostRules.{HostMeets}
+use Rattle.run_rules.specs.HostRules.{HostMay}
 use Rattle.run_rules.specs.Views.{is_shown, sees, writes_to}
 use Rattle.run_rules.specs.Told.{byte_of, told}
 use Rattle.run_parts.specs.Contents.{Contents}
@@ -74,7 +74,7 @@ gives give Entries = None
 -- a host's own steps meet its rules
 abbrev pub HostRun : Script → HostId → List Step → Type 0
 HostRun script host [] = Unit {0}
-HostRun script host (s ∷ past) = HostRun script host past × HostMeets script host past s
+HostRun script host (s ∷ past) = HostRun script host past × HostMay script host past s
 
 -- what a host's step writes, shows and gives back is what the journal's step says
 pub record IsOfJournal (c : Contents) : Type 0 where

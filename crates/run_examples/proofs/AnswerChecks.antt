@@ -33,8 +33,12 @@ use Rattle.token_types.specs.declared.token.Need.{Need}
 use Rattle.token_types.specs.declared.token.Token.{Token}
 use Rattle.run_rules.specs.HostAnswers.{HostAnswers, IsExact}
 use Rattle.run_rules.specs.Knowing.{Stance}
-use Rattle.run_rules.specs.Labels.{end_of}
-use Rattle.run_rules.specs.OpenCalls.{GoesOn}
+use Rattle.run_rules.specs.Dirty.{IsDirtyUnder}
+use Rattle.run_rules.specs.Gives.{Makes}
+use Rattle.run_rules.specs.Labels.{FreesPinned, GivesUse, end_of}
+use Rattle.run_rules.specs.OpenCalls.{GoesOn, IsTurn}
+use Rattle.run_rules.specs.Tokens.{AtHand}
+use Rattle.message_types.specs.declared.giving.Give.{Give}
 use Rattle.run_rules.specs.Views.{sees}
 use Rattle.run_rules.specs.Lists.{In}
 use Rattle.run_rules.specs.declared.applied.Answer.{Answer}
@@ -484,7 +488,7 @@ module _ (site : ServerId) (roster : Roster) (host : HostId) (user : User) (past
                 settled_,
                 (
                   keeps_,
-                  (quiet_, (writes_, (only_, (locks_, (begins_, (begins_one_, (syncs_, (frees_, (local_, _))))))))),
+                  (quiet_, (writes_, (only_, (locks_, (begins_, (begins_one_, (_, (_, (local_, _))))))))),
                 ),
               ),
             ),
@@ -576,20 +580,6 @@ module _ (site : ServerId) (roster : Roster) (host : HostId) (user : User) (past
               (hand s past)) (sym (token_is u.token t.0 t.2)) t.1),
         );
     begins_one = λ u w m n. short_one s.begun u w begins_one_ m n;
-    syncs = λ k place fid t turn found h f d.
-        let e : list_all (λ t. implies (dirty_under past s t) (gives_it s t.id)) (hand s past) ≡ true =
-        at_all (synced past s) (turns site past s) (the_call k (Sync place)) syncs_ (turns_in site past s k
-        (Sync place) local_ turn) in
-        gives_yes s t.id (so (dirty_under past s t) (gives_it s t.id) (at_all (λ t. implies (dirty_under past s t)
-        (gives_it s t.id)) (hand s past) t e (hand_in s past t h)) (dirty_under_is past s t d));
-    frees = λ k u turn x.
-        let e = so (frees past u && ends_in site past s u) (list_any (λ g. gives_use g u) s.made) (at_all
-        (freed_right site past s) (in_use past) u frees_ (used_in past u x.0.0))
-        (and_from (frees past u) (ends_in site past s u) (frees_is past u x)
-        (any_of (λ c. same_end c.call (end_of u)) (turns site past s) (the_call k (end_of u))
-        (turns_in site past s k (end_of u) local_ turn) (end_same (end_of u) u refl))) in
-        let p = some_in (λ g. gives_use g u) s.made e in
-        (p.0, p.1, gives_use_yes p.0 u p.2);
   }
     where
       late : (b : Bool) → not b ≡ true → b ≡ false
@@ -598,3 +588,31 @@ module _ (site : ServerId) (roster : Roster) (host : HostId) (user : User) (past
 
   pub answers_meet : passes (answer_tests site host user past s) ≡ true → HostAnswers roster host past s its
   answers_meet e = answers_from (all_true (answer_tests site host user past s) e)
+
+  pub syncs_meet : passes (answer_tests site host user past s) ≡ true → (k : ℕ) (place : Place) (t : Token)
+      → IsTurn past s k (Sync place) → AtHand s past t → IsDirtyUnder past s t → Makes s t.id
+  unfolding synced answer_tests is_sync
+  syncs_meet all k place t turn h d =
+      let tests = (all_true (answer_tests site host user past s) all).1.1.1.1.1.1.1.1.1.1.1.1.1.1 in
+      let syncs_ = tests.0 in
+      let local_ = tests.1.1.0 in
+      let e : list_all (λ t. implies (dirty_under past s t) (gives_it s t.id)) (hand s past) ≡ true =
+      at_all (synced past s) (turns site past s) (the_call k (Sync place)) syncs_ (turns_in site past s k
+      (Sync place) local_ turn) in
+      gives_yes s t.id (so (dirty_under past s t) (gives_it s t.id) (at_all (λ t. implies (dirty_under past s t)
+      (gives_it s t.id)) (hand s past) t e (hand_in s past t h)) (dirty_under_is past s t d))
+
+  pub frees_meet : passes (answer_tests site host user past s) ≡ true → (k : ℕ) (u : Labelled)
+      → IsTurn past s k (end_of u) → FreesPinned past u → (g : Give) × In g s.made × GivesUse g u
+  unfolding freed_right ends_in answer_tests
+  frees_meet all k u turn x =
+      let tests = (all_true (answer_tests site host user past s) all).1.1.1.1.1.1.1.1.1.1.1.1.1.1 in
+      let frees_ = tests.1.0 in
+      let local_ = tests.1.1.0 in
+      let e = so (frees past u && ends_in site past s u) (list_any (λ g. gives_use g u) s.made) (at_all
+      (freed_right site past s) (in_use past) u frees_ (used_in past u x.0.0))
+      (and_from (frees past u) (ends_in site past s u) (frees_is past u x)
+      (any_of (λ c. same_end c.call (end_of u)) (turns site past s) (the_call k (end_of u))
+      (turns_in site past s k (end_of u) local_ turn) (end_same (end_of u) u refl))) in
+      let p = some_in (λ g. gives_use g u) s.made e in
+      (p.0, p.1, gives_use_yes p.0 u p.2)

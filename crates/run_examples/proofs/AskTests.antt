@@ -28,9 +28,8 @@ use Rattle.run_examples.proofs.AnswerChecks.{same_call, verdict_at}
 use Rattle.run_examples.proofs.AskChecks.{again, asks_again, awaits, is_gives, is_open_give, lack_waits, one_of}
 use Rattle.run_examples.proofs.AskChecks.{one_or_none, waits_right}
 use Rattle.run_examples.proofs.CallWords.{in_open, open_calls, open_in}
-use Rattle.run_examples.proofs.FetchChecks.{fetch_is, fetch_right, fetched_is, is_asked, is_before, is_below}
-use Rattle.run_examples.proofs.FetchChecks.{is_bytes, is_fetched, is_lacked, lacking_right, next_is, next_tests}
-use Rattle.run_examples.proofs.FetchChecks.{no_bytes, not_dir, not_true, sees_dir, status_need}
+use Rattle.run_examples.proofs.FetchChecks.{fetch_is, fetch_right, fetched_is, is_before, is_below, is_fetched}
+use Rattle.run_examples.proofs.FetchChecks.{next_is, next_tests, not_dir, not_true, sees_dir, status_need}
 use Rattle.run_examples.proofs.FetchWords.{need_is, one_number, one_number_of, same_need}
 use Rattle.run_examples.proofs.LabelWords.{is_local}
 use Rattle.run_examples.proofs.LapseChecks.{hello_body, is_hello}
@@ -46,7 +45,7 @@ use Rattle.run_examples.proofs.Words.{welcome_is, welcome_yes}
 use Rattle.run_examples.specs.Laws.{writing}
 use Rattle.run_examples.specs.Steps.{needs}
 use Rattle.std.proofs.Common.{Bool, List, None, Option, Some, [], ap, false, inl, inr, refl, subst, sym, true, ℕ}
-use Rattle.std.proofs.Common.{◌&&◌, ◌==◌, ◌||◌, ◌∷◌, ◌≡◌}
+use Rattle.std.proofs.Common.{◌&&◌, ◌==◌, ◌||◌, ◌∷◌, ◌≡◌, ◌⊎◌}
 use Rattle.std.proofs.lemmas.Bool.{and_parts, eqb-true, or_cases}
 use Rattle.std.specs.List.{list_all, list_any}
 use Rattle.std.specs.Prelude.{if◌then◌else◌, not}
@@ -65,8 +64,9 @@ use Rattle.run_rules.specs.Grants.{IsUseKind}
 use Rattle.run_rules.specs.Lists.{In}
 use Rattle.run_rules.specs.Places.{place}
 use Rattle.run_rules.specs.Requests.{Asking, Changing}
-use Rattle.run_rules.specs.Sends.{HasGreeted, Said}
+use Rattle.run_rules.specs.Sends.{HasGreeted, Said, Sends}
 use Rattle.run_rules.specs.declared.step.Asked.{Asked as AskedCall}
+use Rattle.run_rules.specs.declared.step.Cause.TheVariants.{Lapse}
 use Rattle.run_rules.specs.declared.step.Step.{Step}
 
 -- the first need that tokens lack
@@ -112,7 +112,7 @@ asks_root fid asked =
 
 unfoldable pub asks_file : List Step → Step → List Need → FetchOf → Bool
 asks_file past s needs f =
-    fetch_right (held (s ∷ past)) needs f.fid f.needs
+    fetch_right (s ∷ past) (held (s ∷ past)) needs f.fid f.needs
     && (not (same_fid f.fid (root_of f.fid.fileset)) && not (sees_dir (sees past s f.fid Traits)))
 
 unfoldable pub lacks_for : ServerId → HostId → User → List Step → Step → FetchOf → AskedCall → Bool
@@ -170,8 +170,7 @@ asking_tests site host user past s =
 unfoldable pub ask_words : ℕ
 unfolding lack_of lacks_such asks_question asks_at goes_at is_no_hello greets_right asks_root asks_file lacks_for fetch_new
     is_other_change goes_as_asked change_new asked_right waits_welcome asking_tests is_use_kind asks_again is_gives
-    is_open_give lack_waits waits_right one_or_none next_tests fetch_right sees_dir is_fetched lacking_right is_asked
-    is_lacked no_bytes is_bytes is_below is_before
+    is_open_give lack_waits waits_right one_or_none next_tests fetch_right sees_dir is_fetched is_below is_before
 ask_words = 0
 
 lack_yes : (kept : List Token) (needs : List Need) (test : Need → Bool) → lacks_such (lack_of kept needs) test ≡ true
@@ -278,7 +277,7 @@ module _ (site : ServerId) (roster : Roster) (host : HostId) (user : User) (past
           | inl x ↦ root_is past s (held (s ∷ past)) needs f.fid f.needs x
           | inr x ↦ (
               let dirs = not (same_fid f.fid (root_of f.fid.fileset)) && not (sees_dir (sees past s f.fid Traits)) in
-              let a = and_parts (fetch_right (held (s ∷ past)) needs f.fid f.needs) dirs x in
+              let a = and_parts (fetch_right (s ∷ past) (held (s ∷ past)) needs f.fid f.needs) dirs x in
               let b = and_parts (not (same_fid f.fid (root_of f.fid.fileset))) (not (sees_dir (sees past s f.fid Traits)))
               a.1 in
               fetch_is past s (held (s ∷ past)) needs f.fid f.needs
@@ -406,16 +405,6 @@ module _ (site : ServerId) (roster : Roster) (host : HostId) (user : User) (past
               | inl x ↦ none_in (asking (s ∷ past)) (numbered fs n) x (asking_in (s ∷ past) fs n a)
               | inr x ↦ none_in (changing site (s ∷ past)) (numbered gs m) x (at_site site (s ∷ past) v gs m local b)
             ];
-        greets = λ v e n p.
-            let m = told p.0 v e n Hello in
-            let calls = list_any (λ (c : AskedCall). goes_at site host user past s c.call v) (open_calls site (s ∷ past)) in
-            let x = and_parts (not (is_welcome (s ∷ past) v) && list_all (is_no_hello v) (said past)) calls
-            (at_sends (λ m. asked_right site host user past s m m.body) s v e n Hello t.0 p) in
-            let y = and_parts (not (is_welcome (s ∷ past) v)) (list_all (is_no_hello v) (said past)) x.0 in
-            let c = some_in (λ (c : AskedCall). goes_at site host user past s c.call v) (open_calls site (s ∷ past)) x.1 in (
-              λ w. is_not (is_welcome (s ∷ past) v) y.0 (welcome_is (s ∷ past) v w),
-              inr (no_hello v y.1, (c.0, in_open site (s ∷ past) c.0 local c.1, goes_yes c.0.call v c.2)),
-            );
         fetches_welcome = λ v e n f p. welcome_at v (Fetch f) (asks_f f)
             (at_sends (λ m. is_welcome (s ∷ past) m.server || not (asks m.body)) s v e n (Fetch f) t.1.1.1.1.1.0 p);
         changes_welcome = λ v e n c p. welcome_at v (Change c) (asks_c c)
@@ -453,3 +442,23 @@ module _ (site : ServerId) (roster : Roster) (host : HostId) (user : User) (past
 
       asks_c : (c : ChangeOf) → asks (Change c) ≡ true
       asks_c c = refl
+
+  pub greets_right_at : passes (asking_tests site host user past s) ≡ true → (v : ServerId) (e n : ℕ)
+      → Sends s v e n Hello → (IsWelcome (s ∷ past) v → ⊥)
+      × (((s.cause ≡ Lapse) × HasGreeted past v)
+      ⊎ ((HasGreeted past v → ⊥)
+      × ((call : AskedCall) × IsOpen (s ∷ past) call
+      × GoesTo roster host past s (stance_of site roster host user past s acts known) call.call v)))
+  unfolding asking_tests asked_right greets_right waits_welcome asks said is_local waits_right
+  greets_right_at e v d n p =
+      let t = all_true (asking_tests site host user past s) e in
+      let local = t.1.1.1.1.1.1.0 in
+      let m = told p.0 v d n Hello in
+      let calls = list_any (λ (c : AskedCall). goes_at site host user past s c.call v) (open_calls site (s ∷ past)) in
+      let x = and_parts (not (is_welcome (s ∷ past) v) && list_all (is_no_hello v) (said past)) calls
+      (at_sends (λ m. asked_right site host user past s m m.body) s v d n Hello t.0 p) in
+      let y = and_parts (not (is_welcome (s ∷ past) v)) (list_all (is_no_hello v) (said past)) x.0 in
+      let c = some_in (λ (c : AskedCall). goes_at site host user past s c.call v) (open_calls site (s ∷ past)) x.1 in (
+        λ w. is_not (is_welcome (s ∷ past) v) y.0 (welcome_is (s ∷ past) v w),
+        inr (no_hello v y.1, (c.0, in_open site (s ∷ past) c.0 local c.1, goes_yes c.0.call v c.2)),
+      )

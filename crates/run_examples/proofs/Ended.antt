@@ -33,7 +33,8 @@ use Rattle.std.proofs.Common.{◌≤◌}
 use Rattle.std.proofs.lemmas.Bool.{and_parts, or_cases}
 use Rattle.std.specs.List.{list_all}
 use Rattle.std.specs.Prelude.{codes, ◌⊎◌}
-use Rattle.run_rules.specs.Runs.{HostIsDone, IsEnded, IsRun, IsValid, TakesPart, firsts_of}
+use Rattle.run_examples.proofs.Due.{due_52}
+use Rattle.run_rules.specs.Runs.{HostIsDone, IsDutiful, IsEnded, IsRun, IsValid, TakesPart, firsts_of}
 use Rattle.run_rules.specs.HostResends.{HasBye}
 use Rattle.run_rules.specs.Lines.{lines_gone, lines_of, setup}
 use Rattle.run_tokens.specs.JournalWorked.{owner}
@@ -184,6 +185,9 @@ is_run = record {
   steps = run_52;
 }
 
+is_dutiful : IsDutiful script journal
+is_dutiful = record { start = start; starts = refl; steps = due_52 }
+
 legal : IsHistory start entries
 unfolding tree_words
 legal = (refl, (refl, (refl, (refl, (refl, (refl, (refl, tt)))))))
@@ -199,6 +203,7 @@ free_so = refl
 pub is_whole : IsWhole
 is_whole = record {
   run = is_run;
+  dutiful = is_dutiful;
   planned = planned;
   ended = run_ended;
   history = refl;

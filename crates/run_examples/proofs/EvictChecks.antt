@@ -16,13 +16,13 @@ use Rattle.token_types.specs.declared.token.Token.{Token}
 use Rattle.run_tokens.proofs.Evicting.{last_before}
 use Rattle.run_rules.specs.HostLeaves.{HostLeaves, IsIdle, IsOldest, LastUsed, MayEvict, MayLeave, UsesToken, helps_cover}
 use Rattle.run_rules.specs.HostLines.{HostLines}
-use Rattle.run_rules.specs.HostRules.{HostMeets}
+use Rattle.run_rules.specs.HostRules.{HostMay}
 use Rattle.run_rules.specs.Lines.{limit_of, lines_of, servers_of}
 use Rattle.run_rules.specs.Lists.{In}
 use Rattle.run_rules.specs.declared.applied.Answer.{Answer}
 use Rattle.run_rules.specs.declared.applied.Leave.{Leave}
 use Rattle.run_rules.specs.declared.applied.Why.TheVariants.{Evicted}
-use Rattle.run_rules.specs.declared.step.Cause.TheVariants.{Line as LineOf, Restart, Evict, Flushed}
+use Rattle.run_rules.specs.declared.step.Cause.TheVariants.{Line as LineOf, Restart, Evict, End, Flushed}
 use Rattle.run_rules.specs.declared.step.Step.{Step}
 use Rattle.run_examples.proofs.Tests.{AllTrue, all_true, apart, from_filter, is_none, is_not, none_in, none_is, passes}
 use Rattle.run_examples.proofs.Tests.{at_all, same_token, some_in, token_is, tokens}
@@ -33,8 +33,12 @@ use Rattle.run_examples.proofs.CallWords.{begins_in, begins_now, open_calls, the
 use Rattle.run_examples.proofs.StanceChecks.{once_from, stance_of, stance_tests}
 use Rattle.run_examples.proofs.AnswerChecks.{answer_tests, answers_meet, needs_at}
 use Rattle.run_examples.proofs.AskTests.{all_asked, asking_tests}
-use Rattle.run_examples.proofs.GiveChecks.{give_tests, gives_meet, recall_tests, revoked_meet}
-use Rattle.run_examples.proofs.LapseChecks.{resend_tests, resends_meet, take_tests, takes_meet}
+use Rattle.run_examples.proofs.GiveChecks.{give_tests, gives_meet, recall_tests, revoked_meet, revokes_due}
+use Rattle.run_examples.proofs.HostChecks.{are_alike, calls_due, sent_once}
+use Rattle.run_examples.specs.Laws.{Does}
+use Rattle.run_rules.specs.HostDue.{HostDue, LeavesDue}
+use Rattle.run_rules.specs.Tokens.{AtHand}
+use Rattle.run_examples.proofs.LapseChecks.{repeats_due, resend_tests, resends_meet, take_tests, takes_meet}
 use Rattle.run_examples.proofs.LeaveChecks.{end_tests, ends_meet, idle, idle_in, none_open_is}
 
 -- a step uses a token
@@ -111,6 +115,7 @@ evict_tests site script host user before last s t =
     ∷ is_none s.applied
     ∷ is_none s.admitted
     ∷ is_none s.reserved
+    ∷ apart are_alike s.sent
     ∷ []
 
 module _ (site : ServerId) (script : Script) (host : HostId) (user : User) (before : List Step) (last s : Step)
@@ -134,7 +139,6 @@ module _ (site : ServerId) (script : Script) (host : HostId) (user : User) (befo
     free = λ m is. absurd (let w : Evict ≡ LineOf m = sym at ∙ is in cc);
     begins = λ k call begun. absurd (none_in (begins_now s) (the_call k call) none (begins_in s k call begun));
     stops = λ st. absurd (is_not (says is_down s) quiet (stops_it s st));
-    evicts = λ is. may;
     no_server = (
       λ m is. (let w : Evict ≡ Restart m = sym at ∙ is in cc),
       λ is. (let w : Evict ≡ Flushed = sym at ∙ is in cc),
@@ -152,10 +156,7 @@ module _ (site : ServerId) (script : Script) (host : HostId) (user : User) (befo
 
   evict_leaves : MayEvict past limit → IsIdle past t → IsOldest script.roster host past t
       → HostLeaves script.roster host limit past s
-  evict_leaves may its old = record {
-    leaves = λ l m. go l (subst (In l) leaves m);
-    evicts = λ is. (record { token = t; why = Evicted }, leaves);
-  }
+  evict_leaves may its old = record { leaves = λ l m. go l (subst (In l) leaves m) }
     where
       go : (l : Leave) → In l (record { token = t; why = Evicted } ∷ [])
           → MayLeave script.roster host limit past s l.why l.token
@@ -163,7 +164,7 @@ module _ (site : ServerId) (script : Script) (host : HostId) (user : User) (befo
           (at, may, its, old)
       go l (inr p) = elim p [ ]
 
-  pub evict_meets : HostMeets script host past s
+  pub evict_meets : HostMay script host past s
   unfolding evict_tests
   evict_meets =
       let known = all.0 in
@@ -186,3 +187,35 @@ module _ (site : ServerId) (script : Script) (host : HostId) (user : User) (befo
             (none_is s.reserved rest.1.1.1.1.0);
         ends = ends_meet site (lines_of script (Host host)) limit past s all.1.1.1.1.1.1.1.1.0;
       }
+
+  leaves_one : MayEvict past limit → IsIdle past t → LeavesDue limit past s
+  leaves_one may its = record {
+    held = λ l m. elim (subst (In l) leaves m) [
+      | inl p ↦ subst (λ (x : Leave). AtHand s past x.token) (sym p) (inr its.0)
+      | inr p ↦ elim p [ ]
+    ];
+    evicts = λ is. (may, (record { token = t; why = Evicted }, leaves));
+    ends = λ is. absurd (let w : Evict ≡ End = sym at ∙ is in cc);
+    ends_all = λ l is. absurd (let w : Evict ≡ End = sym at ∙ is in cc);
+  }
+
+  evict_due : HostDue script host past s
+  unfolding evict_tests
+  evict_due =
+      let known = all.0 in
+      let tail = all.1.1.1.1.1.1.1.1.1 in
+      let may = may_evict_is site limit past tail.0 tail.1.0 in
+      let its = some_in (same_token t) (idle past) tail.1.1.1.1.0 in
+      let idles = in_idle past t (subst (λ u. In u (idle past)) (sym (token_is t its.0 its.2)) its.1) in
+      let rest = tail.1.1.1.1.1 in
+      record {
+        stance = stance_of site script.roster host user past s acts known;
+        calls = calls_due site script host user past s acts known all.1.1.1.0 all.1.1.1.1.0;
+        revokes = revokes_due past s (tokens_meet site past s all.1.0) all.1.1.1.1.1.1.0;
+        repeats = repeats_due site past s all.1.1.1.1.1.1.1.0;
+        leaves = leaves_one may idles;
+        once = sent_once s.sent rest.1.1.1.1.1.0;
+      }
+
+  pub evict_does : Does script host past s
+  evict_does = (evict_meets, evict_due)

@@ -1,7 +1,7 @@
 -- The rules of give-backs and Revokes for a host's step, computed.
 use Rattle.std.proofs.Common.{Bool, List, None, Option, Some, [], ap, arith, false, inl, inr, length, refl, subst}
 use Rattle.std.proofs.Common.{suc, sym, true, zero}
-use Rattle.std.proofs.Common.{if◌then◌else◌, ℕ, ◌&&◌, ◌-◌, ◌||◌, ◌==◌, ◌∙◌, ◌∷◌, ◌≡◌, ◌≤◌, ◌<◌}
+use Rattle.std.proofs.Common.{if◌then◌else◌, ℕ, ◌&&◌, ◌+◌, ◌-◌, ◌||◌, ◌==◌, ◌∙◌, ◌∷◌, ◌≡◌, ◌≤◌, ◌<◌}
 use Rattle.std.proofs.lemmas.Bool.{and_parts, and_from, or_cases, or_left, or_right, eqb-true, leb-true}
 use Rattle.std.specs.Prelude.{not, flat_map, is_some, nat_le, slice_get}
 use Rattle.std.specs.List.{list_all, list_any}
@@ -15,19 +15,25 @@ use Rattle.token_types.specs.declared.token.TokenId.{TokenId}
 use Rattle.message_types.specs.declared.giving.Ends.{Ends}
 use Rattle.message_types.specs.declared.giving.Give.{Give}
 use Rattle.message_types.specs.declared.message.Body.{Body}
-use Rattle.message_types.specs.declared.message.Body.TheVariants.{GiveBack}
+use Rattle.message_types.specs.declared.message.Body.TheVariants.{GiveBack, Returned, Revoke}
 use Rattle.tree_laws.specs.Parts.Part.{ByteAt, Size}
 use Rattle.run_rules.specs.Told.{byte_in, byte_of}
 use Rattle.run_rules.specs.Dirty.{UpdatesByte, is_dirty}
-use Rattle.run_rules.specs.HostGives.{DirtyLength, HasDirty, HostAnswersRevoke, HostGives, HostRevoked}
+use Rattle.run_rules.specs.HostDue.{AnswersOf, RevokeDue}
+use Rattle.run_rules.specs.HostGives.{DirtyLength, HasDirty, HostGives, HostRevoked}
+use Rattle.run_rules.specs.HostTokens.{HostTokens}
+use Rattle.run_rules.specs.Epochs.{About, epoch_at}
+use Rattle.message_types.specs.Soundness.{Each as EachSound, PiecesRise}
+use Rattle.message_types.specs.declared.message.Message.{Message}
+use Rattle.message_types.specs.declared.tokens.Revoke.{Revoke as RevokeOf}
 use Rattle.run_rules.specs.HostGives.{OwnsUpdate}
 use Rattle.run_rules.specs.Labels.{FreesPinned, IsUsed, end_of}
 use Rattle.run_rules.specs.OpenCalls.{IsOpen}
-use Rattle.run_rules.specs.Views.{sees, view}
+use Rattle.run_rules.specs.Views.{sees}
 use Rattle.run_rules.specs.Gives.{IsKnown, Made, number_of}
 use Rattle.run_rules.specs.Lists.{In}
 use Rattle.run_rules.specs.Places.{Place, place}
-use Rattle.run_rules.specs.Sends.{SendsTo}
+use Rattle.run_rules.specs.Sends.{SendsTo, Returns}
 use Rattle.run_rules.specs.Tokens.{Held}
 use Rattle.run_rules.specs.declared.step.Asked.{Asked}
 use Rattle.run_rules.specs.declared.step.Labelled.{Labelled}
@@ -35,12 +41,12 @@ use Rattle.run_rules.specs.declared.step.Step.{Step}
 use Rattle.run_examples.proofs.Tests.{AllTrue, passes, all_true, implies, so, is_not, not_is, at_all, some_in, any_of}
 use Rattle.run_examples.proofs.Tests.{apart}
 use Rattle.run_examples.proofs.Tests.{in_front, in_back, same_fileset, fileset_is, fid_is, fids}
-use Rattle.run_examples.proofs.Tests.{id_is, ids}
+use Rattle.run_examples.proofs.Tests.{id_is, ids, is_none}
 use Rattle.run_examples.proofs.Tests.{only_one, same_token, token_is, same_length, length_is, same_give}
 use Rattle.run_examples.proofs.Tests.{give_is}
 use Rattle.run_examples.proofs.Tests.{same_end, end_is}
 use Rattle.run_examples.proofs.Words.{made, made_in, in_made, is_known, known_is, hand, hand_in, in_hand}
-use Rattle.run_examples.proofs.Words.{held, held_in, in_held}
+use Rattle.run_examples.proofs.Words.{at_comes, at_sends, by_message, held, held_in, in_held}
 use Rattle.run_examples.proofs.Words.{holds_id, holds_yes, holds_is, owned, owned_in, in_owned, is_first, first_yes}
 use Rattle.run_examples.proofs.Words.{first_is}
 use Rattle.run_examples.proofs.Words.{recalled, is_recalled, recalled_in, returned, in_returned, returned_in}
@@ -115,7 +121,7 @@ leaves_byte past s g at t = list_any (same_id t.id) g.ids && (same_fid t.fid g.f
 
 unfoldable pub byte_right : List Step → Step → Give → ℕ → Bool
 byte_right past s g at =
-    (list_any (leaves_byte past s g at) (hand s past) && same_length (byte_of g.pieces at) (Some (view past g.fid
+    (list_any (leaves_byte past s g at) (hand s past) && same_length (byte_of g.pieces at) (Some (sees past s g.fid
     (ByteAt at))))
     && not (owns_update (s ∷ past) g.fid at)
 
@@ -218,6 +224,26 @@ length_right past s g = implies (is_some g.length) (dirty_length past s g.fid &&
 unfoldable pub length_too : List Step → Step → Give → Bool
 length_too past s g = implies (dirty_length past s g.fid) (has_seen past s g.fid g)
 
+-- pieces rise and don't overlap
+abbrev pub pieces_rise : List Piece → Bool
+pieces_rise [] = true
+pieces_rise (piece ∷ pieces) =
+    list_all (λ (later : Piece). nat_le (piece.from + length piece.bytes) later.from) pieces && pieces_rise pieces
+
+ends_before : (n : ℕ) (pieces : List Piece) → list_all (λ (later : Piece). nat_le n later.from) pieces ≡ true
+    → EachSound (λ (later : Piece). n ≤ later.from) pieces
+ends_before n [] e = tt
+ends_before n (piece ∷ pieces) e =
+    let p = and_parts (nat_le n piece.from) (list_all (λ (later : Piece). nat_le n later.from) pieces) e in
+    (leb-true n piece.from p.0, ends_before n pieces p.1)
+
+rises : (pieces : List Piece) → pieces_rise pieces ≡ true → PiecesRise pieces
+rises [] e = tt
+rises (piece ∷ pieces) e =
+    let test = λ (later : Piece). nat_le (piece.from + length piece.bytes) later.from in
+    let p = and_parts (list_all test pieces) (pieces_rise pieces) e in
+    (ends_before (piece.from + length piece.bytes) pieces p.0, rises pieces p.1)
+
 unfoldable pub give_tests : ServerId → List Step → Step → List Bool
 give_tests site past s =
     apart same_file s.made
@@ -231,6 +257,8 @@ give_tests site past s =
     ∷ list_all (used_right past) s.made
     ∷ list_all (sent_right past s) (made (s ∷ past))
     ∷ is_local site (s ∷ past)
+    ∷ list_all (λ g. not (is_none g.ids)) s.made
+    ∷ list_all (λ g. pieces_rise g.pieces) s.made
     ∷ []
 
 right_ends : (site : ServerId) (past : List Step) (s : Step) (g : Give) (o : Option Ends) (ends : Ends)
@@ -290,7 +318,7 @@ gives_from site past s (
                   used_,
                   (
                     sends_,
-                    (local_, _),
+                    (local_, (names_, (rise_, _))),
                   ),
                 ),
               ),
@@ -301,6 +329,9 @@ gives_from site past s (
     ),
   ),
 ) = record {
+  names = λ g m none. is_not (is_none g.ids) (at_all (λ (g : Give). not (is_none g.ids)) s.made g names_ m)
+      (subst (λ xs. is_none xs ≡ true) (sym none) refl);
+  rise = λ g m. rises g.pieces (at_all (λ (g : Give). pieces_rise g.pieces) s.made g rise_ m);
   one_a_file = λ g k m n f. only_one same_file s.made g k one_ m n (fids g.fid k.fid f);
   next = λ g m.
       elim (or_cases (g.number == 1) (list_any (λ k. same_fileset k.fid.fileset g.fid.fileset &&
@@ -323,15 +354,15 @@ gives_from site past s (
       let t = at_all (byte_right past s g) (positions g.pieces) at (at_all (λ g. list_all (byte_right past s g)
       (positions g.pieces)) s.made g bytes_ m) (byte_of_in g.pieces at x e) in
       let p = and_parts (list_any (leaves_byte past s g at) (hand s past) && same_length (byte_of g.pieces at) (Some
-      (view past g.fid (ByteAt at)))) (not (owns_update (s ∷ past) g.fid at)) t in
+      (sees past s g.fid (ByteAt at)))) (not (owns_update (s ∷ past) g.fid at)) t in
       let q = and_parts (list_any (leaves_byte past s g at) (hand s past)) (same_length (byte_of g.pieces at) (Some
-      (view past g.fid (ByteAt at)))) p.0 in
+      (sees past s g.fid (ByteAt at)))) p.0 in
       let k = some_in (leaves_byte past s g at) (hand s past) q.0 in
       let r = and_parts (list_any (same_id k.0.id) g.ids) (same_fid k.0.fid g.fid && byte_dirty past k.0 at) k.2 in
       let u = and_parts (same_fid k.0.fid g.fid) (byte_dirty past k.0 at) r.1 in
       let i = some_in (same_id k.0.id) g.ids r.0 in
-      let seen : Some (view past g.fid (ByteAt at)) ≡ Some x = sym (length_is (byte_of g.pieces at) (Some
-      (view past g.fid (ByteAt at))) q.1) ∙ e in (
+      let seen : Some (sees past s g.fid (ByteAt at)) ≡ Some x = sym (length_is (byte_of g.pieces at) (Some
+      (sees past s g.fid (ByteAt at))) q.1) ∙ e in (
         (
           k.0,
           in_hand s past k.0 k.1,
@@ -479,11 +510,38 @@ revoke_tests past s i =
     ∷ (stays_back past s i || list_any (same_id i) (returned s))
     ∷ []
 
-revoke_from : (past : List Step) (s : Step) (i : TokenId) → AllTrue (revoke_tests past s i) → HostAnswersRevoke past s i
+-- ids that aren't held are returned for the Revoke's file
+abbrev pub returned_file : List Step → RevokeOf → Body → Bool
+returned_file past r (Returned named) = list_all (λ i. holds_id past i || same_fid named.fid r.fid) named.ids
+returned_file past r _ = true
+
+abbrev pub revoke_files : List Step → Step → Body → Bool
+revoke_files past s (Revoke r) = list_all (λ m. returned_file past r m.body) s.sent
+revoke_files past s _ = true
+
+file_returned : (past : List Step) (s : Step) → HostTokens past s
+    → by_message true (λ m. revoke_files past s m.body) s.cause ≡ true → (r : RevokeOf) (i : TokenId)
+    → About past s r.fid.fileset (Revoke r) → (fid : Fid) → AnswersOf past r i fid → (x : Returns s i) → x.3.fid ≡ fid
+file_returned past s may t r i about fid (inl (k, held_, id, file)) (v, e, n, named, sends, m) =
+    sym (may.answers_file named v e n k (inl sends) (inr held_) (subst (λ x. In x named.ids) (sym id) m)) ∙ file
+file_returned past s may t r i about fid (inr (none, is)) (v, e, n, named, sends, m) =
+    let place_ = place past r.fid.fileset in
+    let all_ = at_comes (λ m. revoke_files past s m.body) s place_.server (epoch_at past place_.server) place_.moves
+    (Revoke r) t about in
+    let its = at_sends (λ m. returned_file past r m.body) s v e n (Returned named) all_ sends in
+    elim (or_cases (holds_id past i) (same_fid named.fid r.fid)
+    (at_all (λ i. holds_id past i || same_fid named.fid r.fid) named.ids i its m)) [
+      | inl x ↦ absurd (none (holds_yes past i x))
+      | inr x ↦ fid_is named.fid r.fid x ∙ is
+    ]
+
+revoke_from : (past : List Step) (s : Step) (r : RevokeOf) (i : TokenId)
+    → ((fid : Fid) → AnswersOf past r i fid → (x : Returns s i) → x.3.fid ≡ fid)
+    → AllTrue (revoke_tests past s i) → RevokeDue past s r i
 unfolding positions owns_update gives_byte leaves_byte byte_right byte_saved dirty_length has_seen takes_length
     length_kept frees_by is_call ends_right is_give sends_give was_first sent_right is_next same_file used_right
     length_right length_too give_tests left_dirty has_dirty is_dirty_id is_on_way stays_back gives_again revoke_tests
-revoke_from past s i (keeps_, (gives_, (again_, (returns_, _)))) = record {
+revoke_from past s r i of_file (keeps_, (gives_, (again_, (returns_, _)))) = record {
   keeps = λ h u.
       let p = some_in (same_id i) (kept_now s) (so (holds_id past i && is_used past i) (list_any (same_id i)
       (kept_now s)) keeps_ (and_from (holds_id past i) (is_used past i) (holds_is past i h)
@@ -498,11 +556,14 @@ revoke_from past s i (keeps_, (gives_, (again_, (returns_, _)))) = record {
       (at_all (gives_again past s i) (made past) g again_ (made_in past g out.made))
       (and_from (is_first past g) (list_any (same_id i) g.ids) (first_is past g out) (any_of (same_id i) g.ids i m
       (ids i i refl))));
-  returns = λ unused clean known_.
+  returns = λ fid at unused clean known_.
       elim (or_cases (stays_back past s i) (list_any (same_id i) (returned s)) returns_) [
         | inl p ↦ absurd (stays unused clean known_ p)
-        | inr p ↦ (let q = some_in (same_id i) (returned s) p in in_returned s i (subst (λ x. In x (returned s)) (sym
-            (id_is i q.0 q.2)) q.1))
+        | inr p ↦ (
+            let q = some_in (same_id i) (returned s) p in
+            let x = in_returned s i (subst (λ x. In x (returned s)) (sym (id_is i q.0 q.2)) q.1) in
+            (x.0, x.1, x.2, x.3, x.4, of_file fid at x, x.5)
+            )
       ];
 }
   where
@@ -538,6 +599,7 @@ recall_tests past s =
     list_all (λ i. passes (revoke_tests past s i)) (recalled past s.cause)
     ∷ list_all (kept_right past s) (kept_now s)
     ∷ list_all (λ i. not (is_used past i)) (returned s)
+    ∷ by_message true (λ m. revoke_files past s m.body) s.cause
     ∷ []
 
 pub revoked_meet : (past : List Step) (s : Step) → passes (recall_tests past s) ≡ true → HostRevoked past s
@@ -548,9 +610,6 @@ unfolding positions owns_update gives_byte leaves_byte byte_right byte_saved dir
 revoked_meet past s e =
     let t = all_true (recall_tests past s) e in
     record {
-      answers = λ r i c m.
-          revoke_from past s i (all_true (revoke_tests past s i) (at_all (λ i. passes (revoke_tests past s i))
-          (recalled past s.cause) i t.0 (recalled_in past s r i c m)));
       keeps = λ i k.
           let p = and_parts (holds_id (s ∷ past) i) (is_used (s ∷ past) i && list_any (same_id i)
           (recalled past s.cause)) (at_all (kept_right past s) (kept_now s) i t.1.0 (kept_in s i k)) in
@@ -559,3 +618,11 @@ revoked_meet past s e =
       returns_idle = λ i r u. is_not (is_used past i) (at_all (λ i. not (is_used past i)) (returned s) i t.1.1.0
           (returned_in s i r)) (is_used_is past i u);
     }
+
+pub revokes_due : (past : List Step) (s : Step) → HostTokens past s → passes (recall_tests past s) ≡ true
+    → (r : RevokeOf) (i : TokenId) → About past s r.fid.fileset (Revoke r) → In i r.ids → RevokeDue past s r i
+unfolding recall_tests
+revokes_due past s may e r i c m =
+    let t = all_true (recall_tests past s) e in
+    revoke_from past s r i (file_returned past s may t.1.1.1.0 r i c) (all_true (revoke_tests past s i)
+    (at_all (λ i. passes (revoke_tests past s i)) (recalled past s.cause) i t.0 (recalled_in past s r i c m)))

@@ -21,7 +21,7 @@ use Rattle.message_types.specs.declared.message.Body.{Body}
 use Rattle.message_types.specs.declared.message.Body.TheVariants.{Change, Done}
 use Rattle.message_types.specs.declared.message.Message.{Message}
 use Rattle.message_types.specs.declared.telling.Done.{Done as DoneOf}
-use Rattle.run_rules.specs.Labels.{EndsUse, FreesPinned, GivesUse, HasBegun, InUse, IsEnding, IsUsed, end_call, end_of}
+use Rattle.run_rules.specs.Labels.{EndsUse, FreesPinned, GivesUse, HasEnded, InUse, IsEnding, IsUsed, end_call, end_of}
 use Rattle.run_rules.specs.OpenCalls.{Counts}
 use Rattle.run_rules.specs.Gives.{number_of}
 use Rattle.run_rules.specs.Lists.{In}
@@ -64,17 +64,6 @@ use_same a b e =
 unfoldable pub begun : List Step → List Labelled
 begun [] = []
 begun (s ∷ past) = s.begun ++ begun past
-
-pub begun_in : (past : List Step) (u : Labelled) → HasBegun past u → In u (begun past)
-unfolding same_use begun
-begun_in [] u m = elim m [ ]
-begun_in (s ∷ past) u (inl m) = in_front u s.begun (begun past) m
-begun_in (s ∷ past) u (inr m) = in_back u s.begun (begun past) (begun_in past u m)
-
-pub in_begun : (past : List Step) (u : Labelled) → In u (begun past) → HasBegun past u
-unfolding same_use begun
-in_begun [] u i = elim i [ ]
-in_begun (s ∷ past) u i = elim (in_split u s.begun (begun past) i) [ inl p ↦ inl p | inr q ↦ inr (in_begun past u q) ]
 
 unfoldable pub is_fine : Reply → Bool
 is_fine Fine = true
@@ -259,36 +248,76 @@ frees_is past u x =
     (in_used past o m) (id_is o.token.id u.token.id e))))
     (has_kept_is past u.token.id x.1))
 
-unfoldable pub is_late : List Step → Labelled → Give → Bool
-is_late now u g = gives_use g u && not (is_known now (number_of g))
+-- give-backs that ended the use when they were made
+abbrev pub endings : List Step → Labelled → List Give
+endings [] u = []
+endings (s ∷ past) u =
+    (if list_any (same_use u) (in_use past) then filter (λ g. gives_use g u) s.made else []) ++ endings past u
+
+endings_in : (past : List Step) (u : Labelled) (g : Give) → HasEnded past g u → In g (endings past u)
+unfolding same_use begun is_fine ends_use ends_by gives_use stays_used in_use is_used frees
+endings_in [] u g e = elim e [ ]
+endings_in (s ∷ past) u g (inl x) =
+    let used = list_any (same_use u) (in_use past) in
+    let gives = filter (λ k. gives_use k u) s.made in
+    in_front g (if used then gives else []) (endings past u)
+    (in_if used g gives (any_of (same_use u) (in_use past) u (used_in past u x.1) (use_same u u refl))
+    (in_filter (λ k. gives_use k u) s.made g x.0 (gives_use_is g u x.2)))
+endings_in (s ∷ past) u g (inr e) =
+    in_back g (if list_any (same_use u) (in_use past) then filter (λ k. gives_use k u) s.made else [])
+    (endings past u) (endings_in past u g e)
+
+in_endings : (past : List Step) (u : Labelled) (g : Give) → In g (endings past u) → HasEnded past g u
+unfolding same_use begun is_fine ends_use ends_by gives_use stays_used in_use is_used frees
+in_endings [] u g i = elim i [ ]
+in_endings (s ∷ past) u g i =
+    let used = list_any (same_use u) (in_use past) in
+    let gives = filter (λ k. gives_use k u) s.made in
+    elim (in_split g (if used then gives else []) (endings past u) i) [
+      | inl p ↦ (
+          let q = if_in used g gives p in
+          let r = from_filter (λ k. gives_use k u) s.made g q.1 in
+          inl (r.0, in_used past u (in_any_use (in_use past) u q.0), gives_use_yes g u r.1)
+          )
+      | inr p ↦ inr (in_endings past u g p)
+    ]
+
+abbrev pub is_open : List Step → Give → Bool
+is_open now g = not (is_known now (number_of g))
 
 unfoldable pub is_ending : List Step → Step → Labelled → Bool
-is_ending past s u = list_any (same_use u) (begun past) && list_any (is_late (s ∷ past) u) (made past)
+is_ending past s u = list_any (is_open (s ∷ past)) (endings past u)
 
 pub ending_yes : (past : List Step) (s : Step) (u : Labelled) → is_ending past s u ≡ true → IsEnding past s u
-unfolding same_use begun is_fine ends_use ends_by gives_use stays_used in_use is_used frees is_late is_ending
+unfolding is_ending
 ending_yes past s u e =
-    let p = and_parts (list_any (same_use u) (begun past)) (list_any (is_late (s ∷ past) u) (made past)) e in
-    let q = some_in (is_late (s ∷ past) u) (made past) p.1 in
-    let r = and_parts (gives_use q.0 u) (not (is_known (s ∷ past) (number_of q.0))) q.2 in (
-      in_begun past u (in_any_use (begun past) u p.0),
-      (
-        q.0,
-        in_made past q.0 q.1,
-        gives_use_yes q.0 u r.0,
-        λ k. is_not (is_known (s ∷ past) (number_of q.0)) r.1
-            (known_is (s ∷ past) (number_of q.0) k),
-      ),
+    let q = some_in (is_open (s ∷ past)) (endings past u) e in (
+      q.0,
+      in_endings past u q.0 q.1,
+      λ k. is_not (is_known (s ∷ past) (number_of q.0)) q.2
+          (known_is (s ∷ past) (number_of q.0) k),
     )
 
 pub ending_is : (past : List Step) (s : Step) (u : Labelled) → IsEnding past s u → is_ending past s u ≡ true
-unfolding same_use begun is_fine ends_use ends_by gives_use stays_used in_use is_used frees is_late is_ending
-ending_is past s u (b, (g, m, x, n)) =
-    and_from (list_any (same_use u) (begun past)) (list_any (is_late (s ∷ past) u) (made past))
-    (any_of (same_use u) (begun past) u (begun_in past u b) (use_same u u refl))
-    (any_of (is_late (s ∷ past) u) (made past) g (made_in past g m)
-    (and_from (gives_use g u) (not (is_known (s ∷ past) (number_of g))) (gives_use_is g u x)
-    (not_is (is_known (s ∷ past) (number_of g)) (λ e. n (known_yes (s ∷ past) (number_of g) e)))))
+unfolding is_ending
+ending_is past s u (g, m, n) =
+    any_of (is_open (s ∷ past)) (endings past u) g (endings_in past u g m)
+    (not_is (is_known (s ∷ past) (number_of g)) (λ e. n (known_yes (s ∷ past) (number_of g) e)))
+
+-- a use that is being ended was begun
+pub ending_begun : (past : List Step) (s : Step) (u : Labelled) → IsEnding past s u → In u (begun past)
+unfolding begun
+ending_begun past s u (g, e, n) = ended past e
+  where
+    used : (past : List Step) → InUse past u → In u (begun past)
+    used [] i = elim i [ ]
+    used (s ∷ past) (inl i) = in_front u s.begun (begun past) i
+    used (s ∷ past) (inr x) = in_back u s.begun (begun past) (used past x.0)
+
+    ended : (past : List Step) → HasEnded past g u → In u (begun past)
+    ended [] e = elim e [ ]
+    ended (s ∷ past) (inl x) = in_back u s.begun (begun past) (used past x.1)
+    ended (s ∷ past) (inr e) = in_back u s.begun (begun past) (ended past e)
 
 -- Dones that count; all Changes are sent to one server
 unfoldable pub is_local : ServerId → List Step → Bool
@@ -296,7 +325,7 @@ is_local site past = list_all (λ m. goes_to site m m.body) (said past)
 
 pub local_tail : (site : ServerId) (s : Step) (past : List Step) → is_local site (s ∷ past) ≡ true
     → is_local site past ≡ true
-unfolding said same_use begun is_fine ends_use ends_by gives_use stays_used in_use is_used frees is_late is_ending
+unfolding said same_use begun is_fine ends_use ends_by gives_use stays_used in_use is_used frees is_ending
     is_local
 local_tail site s past e =
     (and_parts (list_all (λ m. goes_to site m m.body) s.sent) (list_all (λ m. goes_to site m m.body) (said past))
@@ -315,7 +344,7 @@ counted site past cause = by_message [] (λ m. counted_by site past m m.body) ca
 counted_of : (site : ServerId) (past : List Step) (s : Step) (d : DoneOf) (m : Message) (b : Body) → s.cause ≡ Came m
     → m.body ≡ b
     → In d (counted_by site past m b) → Counts past s site d
-unfolding same_use begun is_fine ends_use ends_by gives_use stays_used in_use is_used frees is_late is_ending is_local
+unfolding same_use begun is_fine ends_use ends_by gives_use stays_used in_use is_used frees is_ending is_local
     counted_by counted
 counted_of site past s d m (Done its) c is i =
     let a = list_any (same_number (numbered its.fileset its.bring.number)) (changing site past) in
@@ -334,20 +363,20 @@ counted_of site past s d m b c is i = elim i [ ]
 
 counted_from : (site : ServerId) (past : List Step) (s : Step) (d : DoneOf) (cause : Cause) → s.cause ≡ cause
     → In d (counted site past cause) → Counts past s site d
-unfolding same_use begun is_fine ends_use ends_by gives_use stays_used in_use is_used frees is_late is_ending is_local
+unfolding same_use begun is_fine ends_use ends_by gives_use stays_used in_use is_used frees is_ending is_local
     counted_by counted
 counted_from site past s d (Came m) c i = counted_of site past s d m m.body c refl i
 counted_from site past s d cause c i = elim i [ ]
 
 pub in_counted : (site : ServerId) (past : List Step) (s : Step) (d : DoneOf) → In d (counted site past s.cause)
     → Counts past s site d
-unfolding same_use begun is_fine ends_use ends_by gives_use stays_used in_use is_used frees is_late is_ending is_local
+unfolding same_use begun is_fine ends_use ends_by gives_use stays_used in_use is_used frees is_ending is_local
     counted_by counted
 in_counted site past s d i = counted_from site past s d s.cause refl i
 
 pub counted_in : (site : ServerId) (past : List Step) (s : Step) (d : DoneOf) → Counts past s site d → In d
     (counted site past s.cause)
-unfolding same_use begun is_fine ends_use ends_by gives_use stays_used in_use is_used frees is_late is_ending is_local
+unfolding same_use begun is_fine ends_use ends_by gives_use stays_used in_use is_used frees is_ending is_local
     counted_by counted
 counted_in site past s d (x, c) =
     let p = settles_is past s site d x in
@@ -361,7 +390,7 @@ counted_in site past s d (x, c) =
 
 pub counts_to : (past : List Step) (s : Step) (v w : ServerId) (d : DoneOf) → (d.fileset.0 ≡ 0 → v ≡ w)
     → Counts past s v d → Counts past s w d
-unfolding same_use begun is_fine ends_use ends_by gives_use stays_used in_use is_used frees is_late is_ending is_local
+unfolding same_use begun is_fine ends_use ends_by gives_use stays_used in_use is_used frees is_ending is_local
     counted_by counted
 counts_to past s v w d one (inl x, c) = (
   subst (λ u. Settles past s u d) (one x.0)
@@ -373,7 +402,7 @@ counts_to past s v w d one (inr x, c) = (inr x, moved past v w d.fileset d.bring
 pub goes_there : (site : ServerId) (past : List Step) (v : ServerId) (fs : FilesetId) (n : ℕ)
     → is_local site past ≡ true
     → Changing past v fs n → fs.0 ≡ 0 → v ≡ site
-unfolding goes_to same_use begun is_fine ends_use ends_by gives_use stays_used in_use is_used frees is_late is_ending
+unfolding goes_to same_use begun is_fine ends_use ends_by gives_use stays_used in_use is_used frees is_ending
     is_local counted_by counted
 goes_there site past v fs n e c z =
     let r = was_said past v fs n c in
@@ -383,6 +412,6 @@ goes_there site past v fs n e c z =
 pub counts_here : (site : ServerId) (past : List Step) (s : Step) (v : ServerId) (d : DoneOf)
     → is_local site past ≡ true
     → Counts past s v d → Counts past s site d
-unfolding same_use begun is_fine ends_use ends_by gives_use stays_used in_use is_used frees is_late is_ending is_local
+unfolding same_use begun is_fine ends_use ends_by gives_use stays_used in_use is_used frees is_ending is_local
     counted_by counted
 counts_here site past s v d e c = counts_to past s v site d (goes_there site past v d.fileset d.bring.number e c.1) c

@@ -19,12 +19,14 @@ use Rattle.message_types.specs.declared.message.Body.TheVariants.{GiveBack}
 use Rattle.message_types.specs.declared.message.Body.TheVariants.{Reclaim, Reclaimed, Restarted, Bye}
 use Rattle.message_types.specs.declared.message.Message.{Message}
 use Rattle.message_types.specs.declared.telling.Bring.{Bring}
-use Rattle.run_rules.specs.HostResends.{Claimed, ClaimsAt, HasBye, HostResends, IsOther, LearnsRestart, Outstanding}
+use Rattle.run_rules.specs.HostDue.{IsOther, RepeatsDue, SendsAgain}
+use Rattle.run_rules.specs.HostResends.{Claimed, ClaimsAt, HasBye, HostResends, LearnsRestart, Outstanding}
 use Rattle.run_rules.specs.HostTakes.{HostTakes}
 use Rattle.run_rules.specs.Epochs.{Comes, ComesIn, epoch_at}
 use Rattle.run_rules.specs.Lists.{In}
 use Rattle.run_rules.specs.Places.{Place, place}
-use Rattle.run_rules.specs.Sends.{HasGreeted, Said, Sends}
+use Rattle.run_rules.specs.Gives.{number_of}
+use Rattle.run_rules.specs.Sends.{HasGreeted, HasSaid, Said, Sends}
 use Rattle.run_rules.specs.declared.step.Asked.{Asked}
 use Rattle.run_rules.specs.declared.step.Cause.{Cause}
 use Rattle.run_rules.specs.declared.step.Cause.TheVariants.{Message as Came, Lapse}
@@ -32,13 +34,13 @@ use Rattle.run_rules.specs.declared.step.Step.{Step}
 use Rattle.run_examples.proofs.Tests.{AllTrue, passes, all_true, implies, so, is_not, not_is, at_all, some_in}
 use Rattle.run_examples.proofs.Tests.{any_of, apart}
 use Rattle.run_examples.proofs.Tests.{is_none, none_in, none_is, only_one, same_server, server_is, servers, same_give, give_is}
-use Rattle.run_examples.proofs.Tests.{same_is}
+use Rattle.run_examples.proofs.Tests.{numbers, same_is, same_number}
 use Rattle.run_examples.proofs.Tests.{id_is, ids}
 use Rattle.run_examples.proofs.Words.{by_message, told, cause_is, at_comes, at_sends, at_said, said, said_in, in_said}
 use Rattle.run_examples.proofs.Words.{made, made_in}
 use Rattle.run_examples.proofs.Words.{in_made, is_first, first_yes, first_is, numbered, asking, asking_in, is_welcome}
 use Rattle.run_examples.proofs.Words.{welcome_yes, changing}
-use Rattle.run_examples.proofs.Words.{holds_id, holds_yes, brought, used_in}
+use Rattle.run_examples.proofs.Words.{holds_id, holds_yes, brought, is_recalled, recalled, used_in}
 use Rattle.run_examples.proofs.TokenChecks.{at_site, is_bye, is_place, place_is}
 use Rattle.run_examples.proofs.LabelWords.{is_local}
 use Rattle.run_examples.proofs.GiveChecks.{is_give, give_body}
@@ -360,6 +362,30 @@ answered_all site past s m =
     (list_all (greets_welcome (s ∷ past)) (said (s ∷ past))
     && ((is_none (asking past) && is_none (changing site past)) && list_all (λ m. not (is_bye m.body)) (said past)))
 
+-- the message is outstanding; and it may be sent again
+abbrev pub said_bye : List Step → ServerId → Bool
+said_bye past v = list_any (λ k. is_bye k.body && same_server k.server v) (said past)
+
+abbrev pub is_again : ServerId → List Step → Message → Body → Bool
+is_again site past m Hello = greeted past m.server
+is_again site past m (Fetch f) = is_asking past f
+is_again site past m (Change c) = list_any (same_number (numbered c.fileset c.number)) (changing site past)
+is_again site past m (GiveBack g) =
+    list_any (λ k. same_number (number_of k) (number_of g)) (made past) && is_first past g
+is_again site past m Bye = said_bye past m.server
+is_again site past m _ = false
+
+abbrev pub may_again : List Step → Step → Message → Body → Bool
+may_again past s m (GiveBack g) =
+    learns_restart past s m.server || list_any (λ i. list_any (same_id i) g.ids) (recalled past s.cause)
+may_again past s m _ = answers_at past m.server s.cause
+
+abbrev pub again_right : ServerId → List Step → Step → Message → Body → Bool
+again_right site past s m b = not (is_again site past m b) || (is_lapse s.cause || may_again past s m b)
+
+abbrev pub bye_once : List Step → Message → Bool
+bye_once past m = implies (is_bye m.body) (not (has_bye past m.server && said_bye past m.server))
+
 unfoldable pub resend_tests : ServerId → List Step → Step → List Bool
 resend_tests site past s =
     implies (is_lapse s.cause) (passes (lapse_tests site past s))
@@ -367,6 +393,8 @@ resend_tests site past s =
     ∷ list_all (claims_only past s) s.sent
     ∷ by_message true (answered_all site past s) s.cause
     ∷ is_local site past
+    ∷ list_all (λ m. again_right site past s m m.body) s.sent
+    ∷ list_all (bye_once past) s.sent
     ∷ []
 
 pub not_asked : (o : Option Asked) → no_asked o ≡ true → o ≡ None
@@ -582,6 +610,81 @@ unfolding is_lapse is_hello is_reclaim is_restarted is_answer goes_as sends_bye 
     learns_restart gives_restarted restart_right claims_only answered_all resend_tests is_bye is_local no_asked
 resends_meet site past s e =
     let t = all_true (resend_tests site past s) e in
+    record {
+      claims_only = λ v (e, n, claim, p).
+          let q : (learns_restart past s v || (is_lapse s.cause && has_claim past v)) ≡ true = at_sends
+          (claims_only past s) s v e n (Reclaim claim) t.1.1.0 p in
+          elim (or_cases (learns_restart past s v) (is_lapse s.cause && has_claim past v) q) [
+            | inl x ↦ inl (learns_yes past s v x)
+            | inr x ↦ (let r = and_parts (is_lapse s.cause) (has_claim past v) x in inr
+                (lapse_cause s.cause r.0, claimed_yes past v r.1))
+          ];
+    }
+
+greeted_is : (past : List Step) (v : ServerId) → HasGreeted past v → greeted past v ≡ true
+unfolding is_lapse is_hello is_reclaim is_restarted is_answer goes_as sends_bye byes_at has_bye claims_at raises_at
+    answers_at has_claim gives_as fetch_late greets_welcome gives_late byes_late claims_late late_right lapse_tests greeted
+    learns_restart gives_restarted restart_right claims_only answered_all resend_tests is_bye is_local no_asked
+greeted_is past v g =
+    let h = said_in past v g.0 g.1 Hello g.2 in
+    any_of (λ m. is_hello m.body && same_server m.server v) (said past) h.0 h.1
+    (and_from (is_hello h.0.body) (same_server h.0.server v) (subst (λ b. is_hello b ≡ true) (sym h.5) refl)
+    (servers h.0.server v h.2))
+
+said_bye_is : (past : List Step) (v : ServerId) → HasSaid past v Bye → said_bye past v ≡ true
+unfolding is_lapse is_hello is_reclaim is_restarted is_answer goes_as sends_bye byes_at has_bye claims_at raises_at
+    answers_at has_claim gives_as fetch_late greets_welcome gives_late byes_late claims_late late_right lapse_tests greeted
+    learns_restart gives_restarted restart_right claims_only answered_all resend_tests is_bye is_local no_asked
+said_bye_is past v g =
+    let h = said_in past v g.0 g.1 Bye g.2 in
+    any_of (λ m. is_bye m.body && same_server m.server v) (said past) h.0 h.1
+    (and_from (is_bye h.0.body) (same_server h.0.server v) (subst (λ b. is_bye b ≡ true) (sym h.5) refl)
+    (servers h.0.server v h.2))
+
+again_is : (site : ServerId) (past : List Step) → is_local site past ≡ true → (m : Message) (v : ServerId) (n : ℕ)
+    (b : Body) → m.server ≡ v → Outstanding past v n b → is_again site past m b ≡ true
+unfolding is_lapse is_hello is_reclaim is_restarted is_answer goes_as sends_bye byes_at has_bye claims_at raises_at
+    answers_at has_claim gives_as fetch_late greets_welcome gives_late byes_late claims_late late_right lapse_tests greeted
+    learns_restart gives_restarted restart_right claims_only answered_all resend_tests is_bye is_local no_asked
+again_is site past local m v n Hello at o =
+    subst (λ (x : ServerId). greeted past x ≡ true) (sym at) (greeted_is past v o.0)
+again_is site past local m v n (Fetch f) at o = asking_is past f o.1
+again_is site past local m v n (Change c) at o =
+    let k = numbered c.fileset c.number in
+    any_of (same_number k) (changing site past) k (at_site site past v c.fileset c.number local o.1) (numbers k k refl)
+again_is site past local m v n (GiveBack g) at o =
+    and_from (list_any (λ k. same_number (number_of k) (number_of g)) (made past)) (is_first past g)
+    (any_of (λ k. same_number (number_of k) (number_of g)) (made past) g (made_in past g o.0.made)
+    (numbers (number_of g) (number_of g) refl)) (first_is past g o.0)
+again_is site past local m v n Bye at o =
+    subst (λ (x : ServerId). said_bye past x ≡ true) (sym at) (said_bye_is past v o.0)
+again_is site past local m v n b at o = elim o [ ]
+
+may_yes : (past : List Step) (s : Step) (m : Message) (b : Body) → may_again past s m b ≡ true
+    → SendsAgain past s m.server b
+unfolding is_lapse is_hello is_reclaim is_restarted is_answer goes_as sends_bye byes_at has_bye claims_at raises_at
+    answers_at has_claim gives_as fetch_late greets_welcome gives_late byes_late claims_late late_right lapse_tests greeted
+    learns_restart gives_restarted restart_right claims_only answered_all resend_tests is_bye is_local no_asked
+may_yes past s m (GiveBack g) e =
+    elim (or_cases (learns_restart past s m.server)
+    (list_any (λ i. list_any (same_id i) g.ids) (recalled past s.cause)) e) [
+      | inl x ↦ inl (learns_yes past s m.server x)
+      | inr x ↦ (
+          let i = some_in (λ i. list_any (same_id i) g.ids) (recalled past s.cause) x in
+          let j = some_in (same_id i.0) g.ids i.2 in
+          let r = is_recalled past s i.0 (any_of (same_id i.0) (recalled past s.cause) i.0 i.1 (ids i.0 i.0 refl)) in
+          inr (r.0, i.0, r.1, r.2, subst (λ x. In x g.ids) (sym (id_is i.0 j.0 j.2)) j.1)
+          )
+    ]
+may_yes past s m b e = answers_is past s m.server s.cause refl e
+
+pub repeats_due : (site : ServerId) (past : List Step) (s : Step) → passes (resend_tests site past s) ≡ true
+    → RepeatsDue past s
+unfolding is_lapse is_hello is_reclaim is_restarted is_answer goes_as sends_bye byes_at has_bye claims_at raises_at
+    answers_at has_claim gives_as fetch_late greets_welcome gives_late byes_late claims_late late_right lapse_tests greeted
+    learns_restart gives_restarted restart_right claims_only answered_all resend_tests is_bye is_local no_asked
+repeats_due site past s e =
+    let t = all_true (resend_tests site past s) e in
     let local = t.1.1.1.1.0 in
     record {
       lapse_all = λ v n b c o. all_late site past s local (lapse_is s site past t.0 c) v n b o;
@@ -611,15 +714,21 @@ resends_meet site past s e =
           (learns_restart past s v) (claims_at s v && list_all (gives_restarted past s v) (made past)) p
           (learns_is past s v l)) in
           claims_at_yes s v q.0;
-      claims_only = λ v (e, n, claim, p).
-          let q : (learns_restart past s v || (is_lapse s.cause && has_claim past v)) ≡ true = at_sends
-          (claims_only past s) s v e n (Reclaim claim) t.1.1.0 p in
-          elim (or_cases (learns_restart past s v) (is_lapse s.cause && has_claim past v) q) [
-            | inl x ↦ inl (learns_yes past s v x)
-            | inr x ↦ (let r = and_parts (is_lapse s.cause) (has_claim past v) x in inr
-                (lapse_cause s.cause r.0, claimed_yes past v r.1))
-          ];
       reclaimed_all = λ v n answer b c i o x. absurd (others site past s local t.1.1.1.0 v n answer b c i o x);
+      again_only = λ v d n b p o.
+          let m = told p.0 v d n b in
+          let t = at_sends (λ m. again_right site past s m m.body) s v d n b t.1.1.1.1.1.0 p in
+          elim (or_cases (not (is_again site past m b)) (is_lapse s.cause || may_again past s m b) t) [
+            | inl x ↦ absurd (is_not (is_again site past m b) x (again_is site past local m v n b refl o))
+            | inr x ↦ elim (or_cases (is_lapse s.cause) (may_again past s m b) x) [
+              | inl y ↦ inl (lapse_cause s.cause y)
+              | inr y ↦ inr (may_yes past s m b y)
+            ]
+          ];
+      bye_again = λ v (d, n, p) said_ bye_.
+          let t = at_sends (bye_once past) s v d n Bye t.1.1.1.1.1.1.0 p in
+          is_not (has_bye past v && said_bye past v) t
+          (and_from (has_bye past v) (said_bye past v) (has_bye_is past v bye_) (said_bye_is past v said_));
     }
 
 -- tokens that are taken

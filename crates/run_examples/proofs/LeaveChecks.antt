@@ -34,6 +34,7 @@ use Rattle.message_types.specs.declared.message.Message.{Message}
 use Rattle.tree_laws.specs.Parts.{Nature}
 use Rattle.run_rules.specs.Dirty.{IsDirtyUnder}
 use Rattle.run_rules.specs.HostLeaves.{HostLeaves, IsIdle, MayEvict, MayLeave}
+use Rattle.run_rules.specs.HostDue.{LeavesDue}
 use Rattle.run_rules.specs.HostLines.{DoesDeed, HostEnds, HostLines, TakenBefore}
 use Rattle.run_rules.specs.Knowing.{Stance}
 use Rattle.run_rules.specs.Labels.{end_of}
@@ -56,10 +57,11 @@ use Rattle.run_examples.proofs.Tests.{AllTrue, passes, all_true, implies, so, is
 use Rattle.run_examples.proofs.Tests.{is_none, none_is}
 use Rattle.run_examples.proofs.Tests.{none_in, same_server, server_is, servers, fid_is, same_token, token_is}
 use Rattle.run_examples.proofs.Tests.{same_end, end_is, in_filter}
-use Rattle.run_examples.proofs.Words.{at_sends, drops_it, drops_yes, held, held_in, hand, in_said, said, recalled}
+use Rattle.run_examples.proofs.Words.{at_sends, drops_it, drops_yes, held, held_in, hand, in_hand, in_said, said}
+use Rattle.run_examples.proofs.Words.{recalled}
 use Rattle.run_examples.proofs.Words.{is_recalled}
 use Rattle.run_examples.proofs.TokenChecks.{is_bye, is_down, says, stops_it, stops_yes, down_is}
-use Rattle.run_examples.proofs.LabelWords.{in_use, in_used, used_in, frees, frees_yes, is_local, is_used, is_used_is}
+use Rattle.run_examples.proofs.LabelWords.{in_use, in_used, used_in, frees, frees_yes, is_local, is_used, is_used_is, in_any_use}
 use Rattle.run_examples.proofs.LabelWords.{is_used_yes, same_use}
 use Rattle.run_examples.proofs.LabelWords.{use_same}
 use Rattle.run_examples.proofs.DirtWords.{dirty_under, dirty_under_yes}
@@ -249,7 +251,6 @@ lines_by site lines servers limit past s (LineOf n) is e a b c local =
       begins = λ k call begun. inl (n, is);
       stops = λ st. stopping (slice_get lines (lines_gone past)) refl (so (says is_down s) (is_stop_line
           (slice_get lines (lines_gone past))) q.1 (stops_it s st)) p.0;
-      evicts = λ at. absurd (let w : LineOf n ≡ Evict = sym is ∙ at in cc);
       no_server = (
         λ m at. (let w : LineOf n ≡ Restart m = sym is ∙ at in cc),
         λ at.
@@ -273,7 +274,6 @@ lines_by site lines servers limit past s End is e a b c local = record {
   free = λ m at. absurd (let w : End ≡ LineOf m = sym is ∙ at in cc);
   begins = λ k call begun. inr is;
   stops = λ st. absurd (is_not (says is_down s) e (stops_it s st));
-  evicts = λ at. absurd (let w : End ≡ Evict = sym is ∙ at in cc);
   no_server = (
     λ m at. (let w : End ≡ Restart m = sym is ∙ at in cc),
     λ at.
@@ -288,7 +288,6 @@ lines_by site lines servers limit past s (Came m) is e a b c local =
       free = λ n at. absurd (let w : Came m ≡ LineOf n = sym is ∙ at in cc);
       begins = λ k call begun. absurd (none_in (begins_now s) (the_call k call) p.0 (begins_in s k call begun));
       stops = λ st. absurd (is_not (says is_down s) p.1 (stops_it s st));
-      evicts = λ at. absurd (let w : Came m ≡ Evict = sym is ∙ at in cc);
       no_server = (
         λ n at. (let w : Came m ≡ Restart n = sym is ∙ at in cc),
         λ at.
@@ -303,7 +302,6 @@ lines_by site lines servers limit past s Lapse is e a b c local =
       free = λ n at. absurd (let w : Lapse ≡ LineOf n = sym is ∙ at in cc);
       begins = λ k call begun. absurd (none_in (begins_now s) (the_call k call) p.0 (begins_in s k call begun));
       stops = λ st. absurd (is_not (says is_down s) p.1 (stops_it s st));
-      evicts = λ at. absurd (let w : Lapse ≡ Evict = sym is ∙ at in cc);
       no_server = (
         λ n at. (let w : Lapse ≡ Restart n = sym is ∙ at in cc),
         λ at.
@@ -368,7 +366,7 @@ is_evict _ = false
 unfoldable pub leave_tests : ServerId → User → List Step → Step → List Bool
 leave_tests site user past s =
     list_all (λ (l : Leave). may_leave site user past s l.why l.token) s.dropped ∷ not (is_evict s.cause)
-    ∷ is_local site past ∷ []
+    ∷ is_local site past ∷ list_all (λ (l : Leave). list_any (same_token l.token) (hand s past)) s.dropped ∷ []
 
 module _ (site : ServerId) (roster : Roster) (host : HostId) (user : User) (past : List Step) (s : Step)
     (acts : user_of roster host ≡ Some user) (known : passes (stance_tests site host past s) ≡ true)
@@ -446,27 +444,30 @@ module _ (site : ServerId) (roster : Roster) (host : HostId) (user : User) (past
       record {
         leaves = λ l m. leave_is limit l.why l.token (at_all (λ
             (l : Leave). may_leave site user past s l.why l.token) s.dropped l t.0 m);
-        evicts = λ c. absurd (is_not (is_evict s.cause) t.1.0 (subst (λ x. is_evict x ≡ true) (sym c) refl));
       }
 
 -- the end
 unfoldable pub taken_before : List Step → Labelled → Labelled → Bool
 taken_before [] u other = false
-taken_before (s ∷ past) u other = (list_any (same_use other) s.begun && list_any (same_use u)
-    (in_use past)) || taken_before past u other
+taken_before (s ∷ past) u other =
+    (list_any (same_use other) s.begun && list_any (same_use u) (in_use past))
+    || (taken_before past u other && not (list_any (same_use u) s.begun))
 
 taken_before_is : (past : List Step) (u other : Labelled) → TakenBefore past u other → taken_before past u other ≡ true
 unfolding is_end idle few_idle all_dropped begins_as says_down deed_right next_right is_stop_deed is_stop_line
     line_right line_tests finds_it finds_from syncs_token last_use may_leave is_evict leave_tests taken_before is_bye
 taken_before_is [] u other x = elim x [ ]
 taken_before_is (s ∷ past) u other (inl (m, x)) =
-    or_left (list_any (same_use other) s.begun && list_any (same_use u) (in_use past)) (taken_before past u other)
+    or_left (list_any (same_use other) s.begun && list_any (same_use u) (in_use past))
+    (taken_before past u other && not (list_any (same_use u) s.begun))
     (and_from (list_any (same_use other) s.begun) (list_any (same_use u) (in_use past)) (any_of
     (same_use other) s.begun other m (use_same other other refl))
     (any_of (same_use u) (in_use past) u (used_in past u x) (use_same u u refl)))
 taken_before_is (s ∷ past) u other (inr x) =
-    or_right (list_any (same_use other) s.begun && list_any (same_use u) (in_use past)) (taken_before past u other)
-    (taken_before_is past u other x)
+    or_right (list_any (same_use other) s.begun && list_any (same_use u) (in_use past))
+    (taken_before past u other && not (list_any (same_use u) s.begun))
+    (and_from (taken_before past u other) (not (list_any (same_use u) s.begun)) (taken_before_is past u other x.0)
+    (not_is (list_any (same_use u) s.begun) (λ e. x.1 (in_any_use s.begun u e))))
 
 unfoldable pub is_first_use : List Step → Labelled → Bool
 is_first_use past u = list_all (λ other. not (taken_before past other u)) (in_use past)
@@ -525,7 +526,6 @@ ends_meet site lines limit past s e =
         none_open_is site past local r.1.0,
         few_is past limit r.1.1.0,
       );
-      does = λ c. does (at_end t.0 c).1.1.1.0;
       implied = λ k call c b.
           let r = at_all (implied_right past) (begins_now s) (the_call k call) (at_end t.0 c).1.1.1.1.0
           (begins_in s k call b) in
@@ -543,12 +543,6 @@ ends_meet site lines limit past s e =
                   (in_use past) other w.1 (used_in past other x)) (taken_before_is past other q.0 b),
             ),
           );
-      drops = λ l c m w.
-          let x = so (at_its_end l.why) (is_none (in_use past) && all_dropped past s)
-          (at_all (λ (l : Leave). implies (at_its_end l.why) (is_none (in_use past) && all_dropped past s)) s.dropped l
-          (at_end t.0 c).1.1.1.1.1.0 m) (subst (λ y. at_its_end y ≡ true) (sym w) refl) in
-          let p = and_parts (is_none (in_use past)) (all_dropped past s) x in
-          (λ u y. none_in (in_use past) u p.0 (used_in past u y), all_dropped_is past s p.1);
       bye = λ v (e, n, p). byes t.1.0 v e n p;
     }
   where
@@ -556,22 +550,6 @@ ends_meet site lines limit past s e =
         (end_right site lines limit past s)
     at_end t c = all_true (end_right site lines limit past s) (so (is_end s.cause) (passes
         (end_right site lines limit past s)) t (subst (λ x. is_end x ≡ true) (sym c) refl))
-
-    does : (not (is_none (begins_now s)) || (not (is_none s.dropped) || says is_bye s)) ≡ true
-        → ((k : ℕ) × (call : Call) × Begins s k call) ⊎ (((l : Leave) × In l s.dropped) ⊎ ((v : ServerId)
-        × Says s v Bye))
-    does t =
-        elim (or_cases (not (is_none (begins_now s))) (not (is_none s.dropped) || says is_bye s) t) [
-          | inl x ↦ (let p = some_one (begins_now s) x in inl (p.0.k, p.0.call, in_begins s p.0 p.1))
-          | inr x ↦
-              elim (or_cases (not (is_none s.dropped)) (says is_bye s) x) [
-                | inl y ↦ inr (inl (some_one s.dropped y))
-                | inr y ↦ (let p = some_in (λ m. is_bye m.body) s.sent y in inr (inr (
-                  p.0.server,
-                  (p.0.epoch, p.0.moves, (p.0, p.1, refl, refl, refl, bye_body p.0.body p.2)),
-                )))
-              ]
-        ]
 
     byes : list_all (bye_right past s) s.sent ≡ true → (v : ServerId) (e n : ℕ) → Sends s v e n Bye
         → HasGreeted past v × ((t : Token) → Held (s ∷ past) t → ⊥) × ((s.cause ≡ End) ⊎ HasSaid past v Bye)
@@ -606,3 +584,48 @@ ends_meet site lines limit past s e =
                 )
           ],
         )
+
+pub leaves_due : (site : ServerId) (user : User) (lines : List Line) (limit : ℕ) (past : List Step) (s : Step)
+    → passes (leave_tests site user past s) ≡ true → passes (end_tests site lines limit past s) ≡ true
+    → LeavesDue limit past s
+unfolding says is_end idle few_idle all_dropped begins_as says_down deed_right next_right is_stop_deed is_stop_line
+    line_right line_tests finds_it finds_from syncs_token last_use may_leave is_evict leave_tests taken_before
+    is_first_use ends_first implied_right bye_right at_its_end end_right end_tests is_bye
+leaves_due site user lines limit past s left e =
+    let leave = all_true (leave_tests site user past s) left in
+    let t = all_true (end_tests site lines limit past s) e in
+    record {
+      held = λ l m.
+          let k = some_in (same_token l.token) (hand s past)
+          (at_all (λ (l : Leave). list_any (same_token l.token) (hand s past)) s.dropped l leave.1.1.1.0 m) in
+          in_hand s past l.token (subst (λ x. In x (hand s past)) (sym (token_is l.token k.0 k.2)) k.1);
+      evicts = λ c. absurd (is_not (is_evict s.cause) leave.1.0 (subst (λ x. is_evict x ≡ true) (sym c) refl));
+      ends = λ c. does (at_end t.0 c).1.1.1.0;
+      ends_all = λ l c m w.
+          let x = so (at_its_end l.why) (is_none (in_use past) && all_dropped past s)
+          (at_all (λ (l : Leave). implies (at_its_end l.why) (is_none (in_use past) && all_dropped past s)) s.dropped l
+          (at_end t.0 c).1.1.1.1.1.0 m) (subst (λ y. at_its_end y ≡ true) (sym w) refl) in
+          let p = and_parts (is_none (in_use past)) (all_dropped past s) x in
+          (λ u y. none_in (in_use past) u p.0 (used_in past u y), all_dropped_is past s p.1);
+    }
+  where
+    at_end : implies (is_end s.cause) (passes (end_right site lines limit past s)) ≡ true → s.cause ≡ End → AllTrue
+        (end_right site lines limit past s)
+    at_end t c = all_true (end_right site lines limit past s) (so (is_end s.cause) (passes
+        (end_right site lines limit past s)) t (subst (λ x. is_end x ≡ true) (sym c) refl))
+
+    does : (not (is_none (begins_now s)) || (not (is_none s.dropped) || says is_bye s)) ≡ true
+        → ((k : ℕ) × (call : Call) × Begins s k call) ⊎ (((l : Leave) × In l s.dropped) ⊎ ((v : ServerId)
+        × Says s v Bye))
+    does t =
+        elim (or_cases (not (is_none (begins_now s))) (not (is_none s.dropped) || says is_bye s) t) [
+          | inl x ↦ (let p = some_one (begins_now s) x in inl (p.0.k, p.0.call, in_begins s p.0 p.1))
+          | inr x ↦
+              elim (or_cases (not (is_none s.dropped)) (says is_bye s) x) [
+                | inl y ↦ inr (inl (some_one s.dropped y))
+                | inr y ↦ (let p = some_in (λ m. is_bye m.body) s.sent y in inr (inr (
+                  p.0.server,
+                  (p.0.epoch, p.0.moves, (p.0, p.1, refl, refl, refl, bye_body p.0.body p.2)),
+                )))
+              ]
+        ]

@@ -31,5 +31,8 @@ pub mod ServerSteps
 pub mod Sound
 pub mod RunWords
 pub mod Run
+pub mod Due
 pub mod Planned
 pub mod Ended
+pub mod Refused
+pub mod Unanswered

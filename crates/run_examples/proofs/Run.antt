@@ -51,7 +51,7 @@ message s = message_in s.cause
 
 pub run_1 : StepsMeet script start firsts until_1
 unfolding no_message is_await said
-run_1 = (tt, ((meets_1, by_itself client until_0 step_1 refl), flags until_0 step_1 refl refl, omega arith, are_sound (Host client) step_1.sent sound_1))
+run_1 = (tt, ((meets_1.0, by_itself client until_0 step_1 refl), flags until_0 step_1 refl refl, omega arith, are_sound (Host client) step_1.sent sound_1))
 
 pub run_2 : StepsMeet script start firsts until_2
 unfolding no_message is_await said
@@ -59,7 +59,7 @@ run_2 = (run_1, ((meets_2.may, to_the_server until_1 step_2 0 (message step_2) r
 
 pub run_3 : StepsMeet script start firsts until_3
 unfolding no_message is_await said
-run_3 = (run_2, ((meets_3, to_a_host client until_2 step_3 1 (message step_3) refl refl refl refl refl), flags until_2 step_3 refl refl, omega arith, are_sound (Host client) step_3.sent sound_3))
+run_3 = (run_2, ((meets_3.0, to_a_host client until_2 step_3 1 (message step_3) refl refl refl refl refl), flags until_2 step_3 refl refl, omega arith, are_sound (Host client) step_3.sent sound_3))
 
 pub run_4 : StepsMeet script start firsts until_4
 unfolding no_message is_await said
@@ -67,7 +67,7 @@ run_4 = (run_3, ((meets_4.may, to_the_server until_3 step_4 0 (message step_4) r
 
 pub run_5 : StepsMeet script start firsts until_5
 unfolding no_message is_await said
-run_5 = (run_4, ((meets_5, to_a_host client until_4 step_5 1 (message step_5) refl refl refl refl refl), flags until_4 step_5 refl refl, omega arith, are_sound (Host client) step_5.sent sound_5))
+run_5 = (run_4, ((meets_5.0, to_a_host client until_4 step_5 1 (message step_5) refl refl refl refl refl), flags until_4 step_5 refl refl, omega arith, are_sound (Host client) step_5.sent sound_5))
 
 pub run_6 : StepsMeet script start firsts until_6
 unfolding no_message is_await said
@@ -75,7 +75,7 @@ run_6 = (run_5, ((meets_6.may, to_the_server until_5 step_6 0 (message step_6) r
 
 pub run_7 : StepsMeet script start firsts until_7
 unfolding no_message is_await said
-run_7 = (run_6, ((meets_7, to_a_host client until_6 step_7 1 (message step_7) refl refl refl refl refl), flags until_6 step_7 refl refl, omega arith, are_sound (Host client) step_7.sent sound_7))
+run_7 = (run_6, ((meets_7.0, to_a_host client until_6 step_7 1 (message step_7) refl refl refl refl refl), flags until_6 step_7 refl refl, omega arith, are_sound (Host client) step_7.sent sound_7))
 
 pub run_8 : StepsMeet script start firsts until_8
 unfolding no_message is_await said
@@ -83,7 +83,7 @@ run_8 = (run_7, ((meets_8.may, to_the_server until_7 step_8 0 (message step_8) r
 
 pub run_9 : StepsMeet script start firsts until_9
 unfolding no_message is_await said
-run_9 = (run_8, ((meets_9, to_a_host client until_8 step_9 1 (message step_9) refl refl refl refl refl), flags until_8 step_9 refl refl, omega arith, are_sound (Host client) step_9.sent sound_9))
+run_9 = (run_8, ((meets_9.0, to_a_host client until_8 step_9 1 (message step_9) refl refl refl refl refl), flags until_8 step_9 refl refl, omega arith, are_sound (Host client) step_9.sent sound_9))
 
 pub run_10 : StepsMeet script start firsts until_10
 unfolding no_message is_await said
@@ -91,11 +91,11 @@ run_10 = (run_9, ((meets_10.may, to_the_server until_9 step_10 0 (message step_1
 
 pub run_11 : StepsMeet script start firsts until_11
 unfolding no_message is_await said
-run_11 = (run_10, ((meets_11, to_a_host client until_10 step_11 1 (message step_11) refl refl refl refl refl), flags until_10 step_11 refl refl, omega arith, are_sound (Host client) step_11.sent sound_11))
+run_11 = (run_10, ((meets_11.0, to_a_host client until_10 step_11 1 (message step_11) refl refl refl refl refl), flags until_10 step_11 refl refl, omega arith, are_sound (Host client) step_11.sent sound_11))
 
 pub run_12 : StepsMeet script start firsts until_12
 unfolding no_message is_await said
-run_12 = (run_11, ((meets_12, by_itself client until_11 step_12 refl), flags until_11 step_12 refl refl, omega arith, are_sound (Host client) step_12.sent sound_12))
+run_12 = (run_11, ((meets_12.0, by_itself client until_11 step_12 refl), flags until_11 step_12 refl refl, omega arith, are_sound (Host client) step_12.sent sound_12))
 
 pub run_13 : StepsMeet script start firsts until_13
 unfolding no_message is_await said
@@ -103,7 +103,7 @@ run_13 = (run_12, ((meets_13.may, itself_too until_12 step_13 refl), flags until
 
 pub run_14 : StepsMeet script start firsts until_14
 unfolding no_message is_await said
-run_14 = (run_13, ((meets_14, to_a_host client until_13 step_14 1 (message step_14) refl refl refl refl refl), flags until_13 step_14 refl refl, omega arith, are_sound (Host client) step_14.sent sound_14))
+run_14 = (run_13, ((meets_14.0, to_a_host client until_13 step_14 1 (message step_14) refl refl refl refl refl), flags until_13 step_14 refl refl, omega arith, are_sound (Host client) step_14.sent sound_14))
 
 pub run_15 : StepsMeet script start firsts until_15
 unfolding no_message is_await said
@@ -111,11 +111,11 @@ run_15 = (run_14, ((meets_15.may, to_the_server until_14 step_15 0 (message step
 
 pub run_16 : StepsMeet script start firsts until_16
 unfolding no_message is_await said
-run_16 = (run_15, ((meets_16, to_a_host client until_15 step_16 1 (message step_16) refl refl refl refl refl), flags until_15 step_16 refl refl, omega arith, are_sound (Host client) step_16.sent sound_16))
+run_16 = (run_15, ((meets_16.0, to_a_host client until_15 step_16 1 (message step_16) refl refl refl refl refl), flags until_15 step_16 refl refl, omega arith, are_sound (Host client) step_16.sent sound_16))
 
 pub run_17 : StepsMeet script start firsts until_17
 unfolding no_message is_await said
-run_17 = (run_16, ((meets_17, by_itself client until_16 step_17 refl), flags until_16 step_17 refl refl, omega arith, are_sound (Host client) step_17.sent sound_17))
+run_17 = (run_16, ((meets_17.0, by_itself client until_16 step_17 refl), flags until_16 step_17 refl refl, omega arith, are_sound (Host client) step_17.sent sound_17))
 
 pub run_18 : StepsMeet script start firsts until_18
 unfolding no_message is_await said
@@ -123,11 +123,11 @@ run_18 = (run_17, ((meets_18.may, to_the_server until_17 step_18 0 (message step
 
 pub run_19 : StepsMeet script start firsts until_19
 unfolding no_message is_await said
-run_19 = (run_18, ((meets_19, to_a_host client until_18 step_19 1 (message step_19) refl refl refl refl refl), flags until_18 step_19 refl refl, omega arith, are_sound (Host client) step_19.sent sound_19))
+run_19 = (run_18, ((meets_19.0, to_a_host client until_18 step_19 1 (message step_19) refl refl refl refl refl), flags until_18 step_19 refl refl, omega arith, are_sound (Host client) step_19.sent sound_19))
 
 pub run_20 : StepsMeet script start firsts until_20
 unfolding no_message is_await said
-run_20 = (run_19, ((meets_20, by_itself other until_19 step_20 refl), flags until_19 step_20 refl refl, omega arith, are_sound (Host other) step_20.sent sound_20))
+run_20 = (run_19, ((meets_20.0, by_itself other until_19 step_20 refl), flags until_19 step_20 refl refl, omega arith, are_sound (Host other) step_20.sent sound_20))
 
 pub run_21 : StepsMeet script start firsts until_21
 unfolding no_message is_await said
@@ -135,7 +135,7 @@ run_21 = (run_20, ((meets_21.may, to_the_server until_20 step_21 0 (message step
 
 pub run_22 : StepsMeet script start firsts until_22
 unfolding no_message is_await said
-run_22 = (run_21, ((meets_22, to_a_host other until_21 step_22 1 (message step_22) refl refl refl refl refl), flags until_21 step_22 refl refl, omega arith, are_sound (Host other) step_22.sent sound_22))
+run_22 = (run_21, ((meets_22.0, to_a_host other until_21 step_22 1 (message step_22) refl refl refl refl refl), flags until_21 step_22 refl refl, omega arith, are_sound (Host other) step_22.sent sound_22))
 
 pub run_23 : StepsMeet script start firsts until_23
 unfolding no_message is_await said
@@ -143,7 +143,7 @@ run_23 = (run_22, ((meets_23.may, to_the_server until_22 step_23 0 (message step
 
 pub run_24 : StepsMeet script start firsts until_24
 unfolding no_message is_await said
-run_24 = (run_23, ((meets_24, to_a_host other until_23 step_24 1 (message step_24) refl refl refl refl refl), flags until_23 step_24 refl refl, omega arith, are_sound (Host other) step_24.sent sound_24))
+run_24 = (run_23, ((meets_24.0, to_a_host other until_23 step_24 1 (message step_24) refl refl refl refl refl), flags until_23 step_24 refl refl, omega arith, are_sound (Host other) step_24.sent sound_24))
 
 pub run_25 : StepsMeet script start firsts until_25
 unfolding no_message is_await said
@@ -151,7 +151,7 @@ run_25 = (run_24, ((meets_25.may, to_the_server until_24 step_25 0 (message step
 
 pub run_26 : StepsMeet script start firsts until_26
 unfolding no_message is_await said
-run_26 = (run_25, ((meets_26, to_a_host other until_25 step_26 1 (message step_26) refl refl refl refl refl), flags until_25 step_26 refl refl, omega arith, are_sound (Host other) step_26.sent sound_26))
+run_26 = (run_25, ((meets_26.0, to_a_host other until_25 step_26 1 (message step_26) refl refl refl refl refl), flags until_25 step_26 refl refl, omega arith, are_sound (Host other) step_26.sent sound_26))
 
 pub run_27 : StepsMeet script start firsts until_27
 unfolding no_message is_await said
@@ -159,7 +159,7 @@ run_27 = (run_26, ((meets_27.may, to_the_server until_26 step_27 0 (message step
 
 pub run_28 : StepsMeet script start firsts until_28
 unfolding no_message is_await said
-run_28 = (run_27, ((meets_28, to_a_host client until_27 step_28 1 (message step_28) refl refl refl refl refl), flags until_27 step_28 refl refl, omega arith, are_sound (Host client) step_28.sent sound_28))
+run_28 = (run_27, ((meets_28.0, to_a_host client until_27 step_28 1 (message step_28) refl refl refl refl refl), flags until_27 step_28 refl refl, omega arith, are_sound (Host client) step_28.sent sound_28))
 
 pub run_29 : StepsMeet script start firsts until_29
 unfolding no_message is_await said
@@ -167,11 +167,11 @@ run_29 = (run_28, ((meets_29.may, to_the_server until_28 step_29 0 (message step
 
 pub run_30 : StepsMeet script start firsts until_30
 unfolding no_message is_await said
-run_30 = (run_29, ((meets_30, to_a_host client until_29 step_30 2 (message step_30) refl refl refl refl refl), flags until_29 step_30 refl refl, omega arith, are_sound (Host client) step_30.sent sound_30))
+run_30 = (run_29, ((meets_30.0, to_a_host client until_29 step_30 2 (message step_30) refl refl refl refl refl), flags until_29 step_30 refl refl, omega arith, are_sound (Host client) step_30.sent sound_30))
 
 pub run_31 : StepsMeet script start firsts until_31
 unfolding no_message is_await said
-run_31 = (run_30, ((meets_31, to_a_host other until_30 step_31 1 (message step_31) refl refl refl refl refl), flags until_30 step_31 refl refl, omega arith, are_sound (Host other) step_31.sent sound_31))
+run_31 = (run_30, ((meets_31.0, to_a_host other until_30 step_31 1 (message step_31) refl refl refl refl refl), flags until_30 step_31 refl refl, omega arith, are_sound (Host other) step_31.sent sound_31))
 
 pub run_32 : StepsMeet script start firsts until_32
 unfolding no_message is_await said
@@ -179,7 +179,7 @@ run_32 = (run_31, ((meets_32.may, to_the_server until_31 step_32 0 (message step
 
 pub run_33 : StepsMeet script start firsts until_33
 unfolding no_message is_await said
-run_33 = (run_32, ((meets_33, to_a_host client until_32 step_33 1 (message step_33) refl refl refl refl refl), flags until_32 step_33 refl refl, omega arith, are_sound (Host client) step_33.sent sound_33))
+run_33 = (run_32, ((meets_33.0, to_a_host client until_32 step_33 1 (message step_33) refl refl refl refl refl), flags until_32 step_33 refl refl, omega arith, are_sound (Host client) step_33.sent sound_33))
 
 pub run_34 : StepsMeet script start firsts until_34
 unfolding no_message is_await said
@@ -187,11 +187,11 @@ run_34 = (run_33, ((meets_34.may, to_the_server until_33 step_34 0 (message step
 
 pub run_35 : StepsMeet script start firsts until_35
 unfolding no_message is_await said
-run_35 = (run_34, ((meets_35, to_a_host other until_34 step_35 1 (message step_35) refl refl refl refl refl), flags until_34 step_35 refl refl, omega arith, are_sound (Host other) step_35.sent sound_35))
+run_35 = (run_34, ((meets_35.0, to_a_host other until_34 step_35 1 (message step_35) refl refl refl refl refl), flags until_34 step_35 refl refl, omega arith, are_sound (Host other) step_35.sent sound_35))
 
 pub run_36 : StepsMeet script start firsts until_36
 unfolding no_message is_await said
-run_36 = (run_35, ((meets_36, by_itself client until_35 step_36 refl), flags until_35 step_36 refl refl, omega arith, are_sound (Host client) step_36.sent sound_36))
+run_36 = (run_35, ((meets_36.0, by_itself client until_35 step_36 refl), flags until_35 step_36 refl refl, omega arith, are_sound (Host client) step_36.sent sound_36))
 
 pub run_37 : StepsMeet script start firsts until_37
 unfolding no_message is_await said
@@ -199,11 +199,11 @@ run_37 = (run_36, ((meets_37.may, to_the_server until_36 step_37 0 (message step
 
 pub run_38 : StepsMeet script start firsts until_38
 unfolding no_message is_await said
-run_38 = (run_37, ((meets_38, to_a_host client until_37 step_38 1 (message step_38) refl refl refl refl refl), flags until_37 step_38 refl refl, omega arith, are_sound (Host client) step_38.sent sound_38))
+run_38 = (run_37, ((meets_38.0, to_a_host client until_37 step_38 1 (message step_38) refl refl refl refl refl), flags until_37 step_38 refl refl, omega arith, are_sound (Host client) step_38.sent sound_38))
 
 pub run_39 : StepsMeet script start firsts until_39
 unfolding no_message is_await said
-run_39 = (run_38, ((meets_39, by_itself other until_38 step_39 refl), flags until_38 step_39 refl refl, omega arith, are_sound (Host other) step_39.sent sound_39))
+run_39 = (run_38, ((meets_39.0, by_itself other until_38 step_39 refl), flags until_38 step_39 refl refl, omega arith, are_sound (Host other) step_39.sent sound_39))
 
 pub run_40 : StepsMeet script start firsts until_40
 unfolding no_message is_await said
@@ -215,7 +215,7 @@ run_41 = (run_40, ((meets_41.may, to_the_server until_40 step_41 1 (message step
 
 pub run_42 : StepsMeet script start firsts until_42
 unfolding no_message is_await said
-run_42 = (run_41, ((meets_42, by_itself other until_41 step_42 refl), flags until_41 step_42 refl refl, omega arith, are_sound (Host other) step_42.sent sound_42))
+run_42 = (run_41, ((meets_42.0, by_itself other until_41 step_42 refl), flags until_41 step_42 refl refl, omega arith, are_sound (Host other) step_42.sent sound_42))
 
 pub run_43 : StepsMeet script start firsts until_43
 unfolding no_message is_await said
@@ -223,11 +223,11 @@ run_43 = (run_42, ((meets_43.may, to_the_server until_42 step_43 0 (message step
 
 pub run_44 : StepsMeet script start firsts until_44
 unfolding no_message is_await said
-run_44 = (run_43, ((meets_44, to_a_host other until_43 step_44 1 (message step_44) refl refl refl refl refl), flags until_43 step_44 refl refl, omega arith, are_sound (Host other) step_44.sent sound_44))
+run_44 = (run_43, ((meets_44.0, to_a_host other until_43 step_44 1 (message step_44) refl refl refl refl refl), flags until_43 step_44 refl refl, omega arith, are_sound (Host other) step_44.sent sound_44))
 
 pub run_45 : StepsMeet script start firsts until_45
 unfolding no_message is_await said
-run_45 = (run_44, ((meets_45, by_itself client until_44 step_45 refl), flags until_44 step_45 refl refl, omega arith, are_sound (Host client) step_45.sent sound_45))
+run_45 = (run_44, ((meets_45.0, by_itself client until_44 step_45 refl), flags until_44 step_45 refl refl, omega arith, are_sound (Host client) step_45.sent sound_45))
 
 pub run_46 : StepsMeet script start firsts until_46
 unfolding no_message is_await said
@@ -243,11 +243,11 @@ run_48 = (run_47, ((meets_48.may, to_the_server until_47 step_48 2 (message step
 
 pub run_49 : StepsMeet script start firsts until_49
 unfolding no_message is_await said
-run_49 = (run_48, ((meets_49, to_a_host client until_48 step_49 5 (message step_49) refl refl refl refl refl), flags until_48 step_49 refl refl, omega arith, are_sound (Host client) step_49.sent sound_49))
+run_49 = (run_48, ((meets_49.0, to_a_host client until_48 step_49 5 (message step_49) refl refl refl refl refl), flags until_48 step_49 refl refl, omega arith, are_sound (Host client) step_49.sent sound_49))
 
 pub run_50 : StepsMeet script start firsts until_50
 unfolding no_message is_await said
-run_50 = (run_49, ((meets_50, by_itself client until_49 step_50 refl), flags until_49 step_50 refl refl, omega arith, are_sound (Host client) step_50.sent sound_50))
+run_50 = (run_49, ((meets_50.0, by_itself client until_49 step_50 refl), flags until_49 step_50 refl refl, omega arith, are_sound (Host client) step_50.sent sound_50))
 
 pub run_51 : StepsMeet script start firsts until_51
 unfolding no_message is_await said
@@ -255,4 +255,4 @@ run_51 = (run_50, ((meets_51.may, to_the_server until_50 step_51 0 (message step
 
 pub run_52 : StepsMeet script start firsts until_52
 unfolding no_message is_await said
-run_52 = (run_51, ((meets_52, to_a_host client until_51 step_52 1 (message step_52) refl refl refl refl refl), flags until_51 step_52 refl refl, omega arith, are_sound (Host client) step_52.sent sound_52))
+run_52 = (run_51, ((meets_52.0, to_a_host client until_51 step_52 1 (message step_52) refl refl refl refl refl), flags until_51 step_52 refl refl, omega arith, are_sound (Host client) step_52.sent sound_52))

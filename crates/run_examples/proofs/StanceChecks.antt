@@ -29,7 +29,7 @@ use Rattle.run_examples.proofs.Tests.{in_front, in_back, in_split, in_filter, fr
 use Rattle.run_examples.proofs.Tests.{same_server}
 use Rattle.run_examples.proofs.Tests.{same_fileset, server_is, servers, fileset_is, name_is, names, clash}
 use Rattle.run_examples.proofs.Words.{hand, hand_in, in_hand, held, held_in, in_held}
-use Rattle.run_examples.proofs.LabelWords.{begun, begun_in, in_use, in_used, used_in, frees, frees_yes}
+use Rattle.run_examples.proofs.LabelWords.{begun, ending_begun, in_use, in_used, used_in, frees, frees_yes}
 use Rattle.run_examples.proofs.LabelWords.{frees_is}
 use Rattle.run_examples.proofs.LabelWords.{is_ending, ending_yes, ending_is, is_local}
 use Rattle.run_examples.proofs.DirtWords.{is_clean, clean_yes, clean_is}
@@ -43,7 +43,7 @@ unfolding labels
 label_in past s u (inl x) = in_front u (in_use past) (filter (is_ending past s) (begun past)) (used_in past u x)
 label_in past s u (inr x) =
     in_back u (in_use past) (filter (is_ending past s) (begun past))
-    (in_filter (is_ending past s) (begun past) u (begun_in past u x.0) (ending_is past s u x))
+    (in_filter (is_ending past s) (begun past) u (ending_begun past s u x) (ending_is past s u x))
 
 pub in_label : (past : List Step) (s : Step) (u : Labelled) → In u (labels past s) → HasLabel past s u
 unfolding labels

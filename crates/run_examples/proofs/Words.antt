@@ -1,7 +1,7 @@
 -- What a host's steps tell, as plain data: each word of the rules on tokens is membership in a list that is computed.
 use Rattle.run_rules.specs.Gives.{GiveOpen}
 use Rattle.std.proofs.Common.{Bool, List, [], ap, false, inl, inr, refl, subst, sym, true, if◌then◌else◌}
-use Rattle.std.proofs.Common.{ℕ, ◌&&◌, ◌++◌, ◌||◌, ◌==◌, ◌∙◌, ◌∷◌, ◌≡◌, ◌<◌}
+use Rattle.std.proofs.Common.{ℕ, ◌&&◌, ◌++◌, ◌||◌, ◌==◌, ◌∙◌, ◌∷◌, ◌≡◌, ◌<◌, ◌⊎◌}
 use Rattle.std.proofs.lemmas.Bool.{and_parts, and_from, or_cases, or_left, or_right, eqb-true, eq-eqb, ltb-true, lt-ltb}
 use Rattle.std.specs.Prelude.{not, nat_lt, flat_map}
 use Rattle.std.specs.List.{filter, list_all, list_any}
@@ -25,7 +25,7 @@ use Rattle.message_types.specs.declared.telling.Bring.{Bring}
 use Rattle.message_types.specs.declared.telling.Done.{Done as DoneOf}
 use Rattle.message_types.specs.declared.telling.Grant.{Grant as GrantOf}
 use Rattle.message_types.specs.declared.tokens.Revoke.{Revoke as RevokeOf}
-use Rattle.run_rules.specs.Epochs.{About, ComesIn, IsWelcome, epoch_at}
+use Rattle.run_rules.specs.Epochs.{About, Comes, ComesIn, IsWelcome, epoch_at}
 use Rattle.run_rules.specs.Floors.{AboveFloor, Answers, Uses}
 use Rattle.run_rules.specs.Gives.{IsOutstanding, Known, Learns, Made, Makes, Waits, number_of}
 use Rattle.run_rules.specs.Lists.{In}
@@ -146,6 +146,26 @@ unfolding said is_about
 about_cause past s fileset b c =
     cause_is s (place past fileset).server (epoch_at past (place past fileset).server) (place past fileset).moves b c
 
+-- give-backs
+unfoldable pub made : List Step → List Give
+made [] = []
+made (s ∷ past) = s.made ++ made past
+
+pub made_in : (past : List Step) (g : Give) → Made past g → In g (made past)
+unfolding made
+made_in [] g m = elim m [ ]
+made_in (s ∷ past) g (inl m) = in_front g s.made (made past) m
+made_in (s ∷ past) g (inr m) = in_back g s.made (made past) (made_in past g m)
+
+pub in_made : (past : List Step) (g : Give) → In g (made past) → Made past g
+unfolding made
+in_made [] g i = elim i [ ]
+in_made (s ∷ past) g i = elim (in_split g s.made (made past) i) [ inl p ↦ inl p | inr q ↦ inr (in_made past g q) ]
+
+-- a give-back of this number was made
+abbrev pub made_such : List Step → AppliedGive → Bool
+made_such past number = list_any (λ g. same_number (number_of g) number) (made past)
+
 -- give-backs that are known as applied
 unfoldable pub is_present : List Step → Message → Bool
 is_present past m = (m.epoch == epoch_at past m.server) && (m.moves == 0)
@@ -155,24 +175,39 @@ learnt_by past m (Gone number) = if is_about past m number.fileset then number �
 learnt_by past m (Reclaimed answer) = if is_present past m then answer.applied else []
 learnt_by past m _ = []
 
+abbrev pub learnt_at : List Step → Cause → List AppliedGive
+learnt_at past cause = by_message [] (λ m. learnt_by past m m.body) cause
+
 unfoldable pub learnt : List Step → Cause → List AppliedGive
-learnt past cause = by_message [] (λ m. learnt_by past m m.body) cause
+learnt past cause = filter (made_such past) (learnt_at past cause)
+
+abbrev LearnsFrom : List Step → Step → AppliedGive → Type 0
+LearnsFrom past s number =
+    About past s number.fileset (Gone number)
+    ⊎ ((server : ServerId) × (answer : ReclaimedOf)
+    × Comes past s server (Reclaimed answer) × In number answer.applied)
 
 pub learns_in : (past : List Step) (s : Step) (number : AppliedGive) → Learns past s number → In number
     (learnt past s.cause)
 unfolding said is_about is_present learnt_by learnt
-learns_in past s number (inl c) =
-    subst (λ x. In number (learnt past x)) (sym (about_cause past s number.fileset (Gone number) c))
-    (in_if (is_about past (about_is past s number.fileset (Gone number) c) number.fileset) number (number ∷ [])
-    (is_about_it past c.0 number.fileset (Gone number)) (inl refl))
-learns_in past s number (inr (v, answer, c, i)) =
-    subst (λ x. In number (learnt past x)) (sym (cause_is s v (epoch_at past v) 0 (Reclaimed answer) c))
-    (in_if (is_present past (told c.0 v (epoch_at past v) 0 (Reclaimed answer))) number answer.applied (and_from
-    (epoch_at past v == epoch_at past v) (0 == 0) (same_is (epoch_at past v)) refl) i)
+learns_in past s number (m, from) =
+    in_filter (made_such past) (learnt_at past s.cause) number (go from)
+    (any_of (λ g. same_number (number_of g) number) (made past) m.0 (made_in past m.0 m.1)
+    (numbers (number_of m.0) number m.2))
+  where
+    go : LearnsFrom past s number → In number (learnt_at past s.cause)
+    go (inl c) =
+        subst (λ x. In number (learnt_at past x)) (sym (about_cause past s number.fileset (Gone number) c))
+        (in_if (is_about past (about_is past s number.fileset (Gone number) c) number.fileset) number (number ∷ [])
+        (is_about_it past c.0 number.fileset (Gone number)) (inl refl))
+    go (inr (v, answer, c, i)) =
+        subst (λ x. In number (learnt_at past x)) (sym (cause_is s v (epoch_at past v) 0 (Reclaimed answer) c))
+        (in_if (is_present past (told c.0 v (epoch_at past v) 0 (Reclaimed answer))) number answer.applied (and_from
+        (epoch_at past v == epoch_at past v) (0 == 0) (same_is (epoch_at past v)) refl) i)
 
 learns_by : (past : List Step) (s : Step) (number : AppliedGive) (m : Message) (b : Body) → s.cause ≡ Came m
     → m.body ≡ b
-    → In number (learnt_by past m b) → Learns past s number
+    → In number (learnt_by past m b) → LearnsFrom past s number
 unfolding said is_about is_present learnt_by learnt
 learns_by past s number m (Gone other) c is i =
     let p = if_in (is_about past m other.fileset) number (other ∷ []) i in
@@ -190,8 +225,14 @@ learns_by past s number m b c is i = elim i [ ]
 pub in_learns : (past : List Step) (s : Step) (number : AppliedGive) (cause : Cause) → s.cause ≡ cause
     → In number (learnt past cause) → Learns past s number
 unfolding said is_about is_present learnt_by learnt
-in_learns past s number (Came m) c i = learns_by past s number m m.body c refl i
-in_learns past s number cause c i = elim i [ ]
+in_learns past s number cause c i =
+    let p = from_filter (made_such past) (learnt_at past cause) number i in
+    let q = some_in (λ g. same_number (number_of g) number) (made past) p.1 in
+    ((q.0, in_made past q.0 q.1, number_is (number_of q.0) number q.2), from cause c p.0)
+  where
+    from : (cause : Cause) → s.cause ≡ cause → In number (learnt_at past cause) → LearnsFrom past s number
+    from (Came m) c i = learns_by past s number m m.body c refl i
+    from cause c i = elim i [ ]
 
 unfoldable pub known : List Step → List AppliedGive
 known [] = []
@@ -387,24 +428,7 @@ in_owned (s ∷ past) t i =
     let kept : Leaves s t.id → ⊥ = λ d. is_not (leaves_it s t.id) p.1 (leaves_is s t.id d) in
     elim (in_split t s.taken (owned past) p.0) [ inl q ↦ (inl q, kept) | inr q ↦ (inr (in_owned past t q), kept) ]
 
--- give-backs
-unfoldable pub made : List Step → List Give
-made [] = []
-made (s ∷ past) = s.made ++ made past
-
-pub made_in : (past : List Step) (g : Give) → Made past g → In g (made past)
-unfolding said is_about is_present learnt_by learnt known is_known drops_it held holds_id ever returned_by returned
-    given gives_it leaves_it owned made
-made_in [] g m = elim m [ ]
-made_in (s ∷ past) g (inl m) = in_front g s.made (made past) m
-made_in (s ∷ past) g (inr m) = in_back g s.made (made past) (made_in past g m)
-
-pub in_made : (past : List Step) (g : Give) → In g (made past) → Made past g
-unfolding said is_about is_present learnt_by learnt known is_known drops_it held holds_id ever returned_by returned
-    given gives_it leaves_it owned made
-in_made [] g i = elim i [ ]
-in_made (s ∷ past) g i = elim (in_split g s.made (made past) i) [ inl p ↦ inl p | inr q ↦ inr (in_made past g q) ]
-
+-- files without a give-back on its way
 unfoldable pub none_open : List Step → Fid → Bool
 none_open past fid = list_all (λ g. implies (same_fid g.fid fid) (is_known past (number_of g))) (made past)
 
@@ -591,7 +615,7 @@ changed_by v m _ = []
 
 unfoldable pub settles_it : List Step → ServerId → Message → FilesetId → Bool
 settles_it past v m fs =
-    ((fs.0 == 0) && (same_server m.server v && (m.epoch == epoch_at past v))) || is_about past m fs
+    ((fs.0 == 0) && (same_server m.server v && ((m.epoch == epoch_at past v) && (m.moves == 0)))) || is_about past m fs
 
 unfoldable pub settled_by : List Step → ServerId → Message → Body → List AppliedGive
 settled_by past v m (Done d) = if settles_it past v m d.fileset then numbered d.fileset d.bring.number ∷ [] else []
@@ -613,21 +637,20 @@ unfolding said is_about is_present learnt_by learnt known is_known drops_it held
     given gives_it leaves_it owned made none_open is_waited waits is_first fetched_by granted_by answered asking is_at
     changed_by settles_it settled_by settled changing
 settles_by past s v m d c is e =
-    elim (or_cases ((d.fileset.0 == 0) && (same_server m.server v && (m.epoch == epoch_at past v)))
-    (is_about past m d.fileset) e) [
+    let now = (m.epoch == epoch_at past v) && (m.moves == 0) in
+    elim (or_cases ((d.fileset.0 == 0) && (same_server m.server v && now)) (is_about past m d.fileset) e) [
       | inl p ↦ (
-          let q = and_parts (d.fileset.0 == 0) (same_server m.server v && (m.epoch == epoch_at past v)) p in
-          let r = and_parts (same_server m.server v) (m.epoch == epoch_at past v) q.1 in
+          let q = and_parts (d.fileset.0 == 0) (same_server m.server v && now) p in
+          let r = and_parts (same_server m.server v) now q.1 in
+          let k = and_parts (m.epoch == epoch_at past v) (m.moves == 0) r.1 in
           inl (
             eqb-true d.fileset.0 0 q.0,
-            m.moves,
             (
               m,
               c,
               server_is m.server v r.0,
-              eqb-true m.epoch
-                  (epoch_at past v) r.1,
-              refl,
+              eqb-true m.epoch (epoch_at past v) k.0,
+              eqb-true m.moves 0 k.1,
               is,
             ),
           )
@@ -668,22 +691,24 @@ settled_from past s v fs n cause c i = elim i [ ]
 pub settles_is : (past : List Step) (s : Step) (v : ServerId) (d : DoneOf) → Settles past s v d
     → (m : Message) × (s.cause ≡ Came m) × (m.body ≡ Done d) × (settles_it past v m d.fileset ≡ true)
 unfolding is_about settles_it
-settles_is past s v d (inl (z, k, c)) = (
-  told c.0 v (epoch_at past v) k (Done d),
-  cause_is s v (epoch_at past v) k (Done d) c,
+settles_is past s v d (inl (z, c)) = (
+  told c.0 v (epoch_at past v) 0 (Done d),
+  cause_is s v (epoch_at past v) 0 (Done d) c,
   refl,
-  or_left ((d.fileset.0 == 0) && (same_server v v && (epoch_at past v == epoch_at past v))) (is_about past
-      (told c.0 v (epoch_at past v) k (Done d)) d.fileset)
-      (and_from (d.fileset.0 == 0) (same_server v v && (epoch_at past v == epoch_at past v)) (eq-eqb d.fileset.0 0 z)
-      (and_from (same_server v v) (epoch_at past v == epoch_at past v) (servers v v refl) (same_is
-      (epoch_at past v)))),
+  or_left ((d.fileset.0 == 0) && (same_server v v && ((epoch_at past v == epoch_at past v) && (0 == 0))))
+      (is_about past (told c.0 v (epoch_at past v) 0 (Done d)) d.fileset)
+      (and_from (d.fileset.0 == 0) (same_server v v && ((epoch_at past v == epoch_at past v) && (0 == 0)))
+      (eq-eqb d.fileset.0 0 z)
+      (and_from (same_server v v) ((epoch_at past v == epoch_at past v) && (0 == 0)) (servers v v refl)
+      (and_from (epoch_at past v == epoch_at past v) (0 == 0) (same_is (epoch_at past v)) refl))),
 )
 settles_is past s v d (inr c) = (
   about_is past s d.fileset (Done d) c,
   about_cause past s d.fileset (Done d) c,
   refl,
-  or_right ((d.fileset.0 == 0) && (same_server (place past d.fileset).server v && (epoch_at past
-      (place past d.fileset).server == epoch_at past v))) (is_about past (about_is past s d.fileset
+  or_right ((d.fileset.0 == 0) && (same_server (place past d.fileset).server v && ((epoch_at past
+      (place past d.fileset).server == epoch_at past v) && ((place past d.fileset).moves == 0))))
+      (is_about past (about_is past s d.fileset
       (Done d) c) d.fileset) (is_about_it past c.0 d.fileset (Done d)),
 )
 
@@ -692,26 +717,12 @@ settled_in : (past : List Step) (s : Step) (v : ServerId) (d : DoneOf) → Settl
 unfolding said is_about is_present learnt_by learnt known is_known drops_it held holds_id ever returned_by returned
     given gives_it leaves_it owned made none_open is_waited waits is_first fetched_by granted_by answered asking is_at
     changed_by settles_it settled_by settled changing
-settled_in past s v d (inl (z, k, c)) =
-    subst (λ x. In (numbered d.fileset d.bring.number) (settled past v x)) (sym (cause_is s v (epoch_at past v) k
-    (Done d) c))
-    (in_if (settles_it past v (told c.0 v (epoch_at past v) k (Done d)) d.fileset)
-    (numbered d.fileset d.bring.number) (numbered d.fileset d.bring.number ∷ [])
-    (or_left ((d.fileset.0 == 0) && (same_server v v && (epoch_at past v == epoch_at past v))) (is_about past
-    (told c.0 v (epoch_at past v) k (Done d)) d.fileset)
-    (and_from (d.fileset.0 == 0) (same_server v v && (epoch_at past v == epoch_at past v)) (eq-eqb d.fileset.0 0 z)
-    (and_from (same_server v v) (epoch_at past v == epoch_at past v) (servers v v refl) (same_is
-    (epoch_at past v)))))
-    (inl refl))
-settled_in past s v d (inr c) =
-    subst (λ x. In (numbered d.fileset d.bring.number) (settled past v x)) (sym (about_cause past s d.fileset
-    (Done d) c))
-    (in_if (settles_it past v (about_is past s d.fileset (Done d) c) d.fileset) (numbered d.fileset d.bring.number)
-    (numbered d.fileset d.bring.number ∷ [])
-    (or_right ((d.fileset.0 == 0) && (same_server (place past d.fileset).server v && (epoch_at past
-    (place past d.fileset).server == epoch_at past v))) (is_about past (about_is past s d.fileset
-    (Done d) c) d.fileset) (is_about_it past c.0 d.fileset (Done d)))
-    (inl refl))
+settled_in past s v d x =
+    let p = settles_is past s v d x in
+    let n = numbered d.fileset d.bring.number in
+    subst (λ y. In n (settled past v y)) (sym p.1)
+    (subst (λ b. In n (settled_by past v p.0 b)) (sym p.2)
+    (in_if (settles_it past v p.0 d.fileset) n (n ∷ []) p.3 (inl refl)))
 
 at_if : (v to : ServerId) (m : Message) (fs : FilesetId) → m.server ≡ to → (fs.0 ≡ 0 → to ≡ v) → is_at v m fs ≡ true
 unfolding said is_about is_present learnt_by learnt known is_known drops_it held holds_id ever returned_by returned
@@ -996,9 +1007,12 @@ unfolding said is_about is_present learnt_by learnt known is_known drops_it held
     changed_by settles_it settled_by settled changing welcomed_by welcomed welcomes is_welcome kept_by kept_now
 in_kept s id i = let p = from_flat (λ m. kept_by m.body) s.sent id i in kept_of s id p.0 p.0.body refl p.1 p.2
 
+abbrev pub takes_id : Step → TokenId → Bool
+takes_id s id = list_any (λ t. same_id t.id id) s.taken
+
 unfoldable pub has_kept : List Step → TokenId → Bool
 has_kept [] id = false
-has_kept (s ∷ past) id = list_any (same_id id) (kept_now s) || has_kept past id
+has_kept (s ∷ past) id = list_any (same_id id) (kept_now s) || (has_kept past id && not (takes_id s id))
 
 pub has_kept_yes : (past : List Step) (id : TokenId) → has_kept past id ≡ true → HasKept past id
 unfolding said is_about is_present learnt_by learnt known is_known drops_it held holds_id ever returned_by returned
@@ -1007,10 +1021,16 @@ unfolding said is_about is_present learnt_by learnt known is_known drops_it held
     has_kept
 has_kept_yes [] id e = absurd (cc)
 has_kept_yes (s ∷ past) id e =
-    elim (or_cases (list_any (same_id id) (kept_now s)) (has_kept past id) e) [
+    elim (or_cases (list_any (same_id id) (kept_now s)) (has_kept past id && not (takes_id s id)) e) [
       | inl p ↦ (let q = some_in (same_id id) (kept_now s) p in inl (in_kept s id (subst (λ x. In x (kept_now s))
           (sym (id_is id q.0 q.2)) q.1)))
-      | inr q ↦ inr (has_kept_yes past id q)
+      | inr q ↦ (
+          let r = and_parts (has_kept past id) (not (takes_id s id)) q in
+          inr (
+            has_kept_yes past id r.0,
+            λ x. is_not (takes_id s id) r.1 (any_of (λ t. same_id t.id id) s.taken x.0 x.1 (ids x.0.id id x.2)),
+          )
+          )
     ]
 
 pub has_kept_is : (past : List Step) (id : TokenId) → HasKept past id → has_kept past id ≡ true
@@ -1020,10 +1040,13 @@ unfolding said is_about is_present learnt_by learnt known is_known drops_it held
     has_kept
 has_kept_is [] id k = elim k [ ]
 has_kept_is (s ∷ past) id (inl k) =
-    or_left (list_any (same_id id) (kept_now s)) (has_kept past id) (any_of (same_id id) (kept_now s) id
+    or_left (list_any (same_id id) (kept_now s)) (has_kept past id && not (takes_id s id)) (any_of (same_id id) (kept_now s) id
     (kept_in s id k) (ids id id refl))
 has_kept_is (s ∷ past) id (inr k) =
-    or_right (list_any (same_id id) (kept_now s)) (has_kept past id) (has_kept_is past id k)
+    or_right (list_any (same_id id) (kept_now s)) (has_kept past id && not (takes_id s id))
+    (and_from (has_kept past id) (not (takes_id s id)) (has_kept_is past id k.0)
+    (not_is (takes_id s id) (λ e. let x = some_in (λ t. same_id t.id id) s.taken e in
+    k.1 (x.0, x.1, id_is x.0.id id x.2))))
 
 -- above the floor of a file: enough for it
 unfoldable pub floor_by : Fid → ℕ → Body → Bool

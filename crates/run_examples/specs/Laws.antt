@@ -12,7 +12,8 @@ use Rattle.script_lines.specs.declared.script.Deed.TheVariants.{Call as MakesCal
 use Rattle.script_lines.specs.declared.script.Script.{Script}
 use Rattle.message_types.specs.declared.message.Body.TheVariants.{Done, GiveBack, Reclaimed, Revoke, Bye, Restarted}
 use Rattle.message_types.specs.declared.message.Message.{Message}
-use Rattle.run_rules.specs.HostRules.{HostMeets}
+use Rattle.run_rules.specs.HostDue.{HostDue}
+use Rattle.run_rules.specs.HostRules.{HostMay}
 use Rattle.run_rules.specs.ServerRules.{ServerDue, ServerMay, ServerMeets}
 use Rattle.run_rules.specs.Acts.{acts}
 use Rattle.run_tokens.specs.Worked.{client, entered, from_server, site_one, to_host, to_server, welcome}
@@ -22,6 +23,9 @@ use Rattle.run_examples.specs.Steps.{asks_file, asks_for, asks_root, enters, evi
 use Rattle.run_examples.specs.Journal.{script, second_change, start, step_34, waiting}
 use Rattle.run_examples.specs.Steps.{hears, hears_nameless, other_stops}
 use Rattle.run_examples.specs.Steps.{calls_back, grown, needs, recall, returns_all, shared, stores_and_grants}
+use Rattle.run_examples.specs.Steps.{asks_both, asks_second_block, asks_status, ends_again, ends_second, freed_first}
+use Rattle.run_examples.specs.Steps.{gives_first_block, gives_shown, gives_status, learns_first_block, learns_status}
+use Rattle.run_examples.specs.Steps.{locks_again, locks_second, shown_gift, syncs, takes_second_block, writes_wide}
 use Rattle.run_examples.specs.Steps.{unlocks_last}
 use Rattle.run_tokens.specs.JournalWorked.{roster}
 use Rattle.tree_objects.specs.Spans.{span_between}
@@ -53,10 +57,13 @@ caching = record writing { roster = record roster { hosts = record { user = 0; l
 abbrev pub restarting : Script
 restarting = record writing { lines = record { number = 8; node = Server site_one; deed = Restart } ∷ [] }
 
--- the step meets all rules after these, and a lapse after it, in which this is sent again
+-- the host may do the step after these, and does in it what is due
+abbrev pub Does : Script → HostId → List Step → Step → Type 0
+Does script host past s = HostMay script host past s × HostDue script host past s
+
+-- so it is with the step after these, and with a lapse after it, in which this is sent again
 abbrev pub Meets : Script → List Step → Step → List Message → Type 0
-Meets script past s again =
-    HostMeets script client past s × HostMeets script client (s ∷ past) (lapses again)
+Meets script past s again = Does script client past s × Does script client (s ∷ past) (lapses again)
 
 -- A host asks for the status of a file that it doesn't know, and then for what its Write lacks; a lapse asks again.
 abbrev pub WriteIsAskedFor : Type 0
@@ -86,7 +93,7 @@ RestartIsAnswered =
 
 -- a host stops with dirty parts: then it does nothing more
 abbrev pub StopIsAllowed : Type 0
-StopIsAllowed = HostMeets stopping client grown stops
+StopIsAllowed = Does stopping client grown stops
 
 -- At the end a host gives back and returns all that it holds, and says Bye when that is known as applied; a lapse says
 -- Bye again, until the server has said Bye.
@@ -116,6 +123,35 @@ UseIsEnded =
 -- A host that caches too many tokens evicts one; what is dirty under it goes into a give-back.
 abbrev pub EvictionIsAllowed : Type 0
 EvictionIsAllowed = Meets caching grown evicts (to_server 1 (GiveBack evicted) ∷ [])
+
+-- a script whose first label is freed and taken again, one with a wide Write, and one with a Sync
+abbrev pub relocking : Script
+relocking = script_of (MakesCall locks ∷ MakesCall locks_second ∷ MakesCall unlocks ∷ MakesCall locks ∷ [])
+
+abbrev pub widening : Script
+widening = script_of (MakesCall writes ∷ MakesCall writes_wide ∷ [])
+
+abbrev pub syncing : Script
+syncing = script_of (MakesCall writes ∷ MakesCall syncs ∷ [])
+
+-- A label that is taken again is answered from cache, and at the end it goes after one that was taken in between.
+abbrev pub LabelsTakenTwiceEnd : Type 0
+LabelsTakenTwiceEnd =
+    Meets relocking freed_first locks_again []
+    × Meets relocking (locks_again ∷ freed_first) ends_second []
+    × Meets relocking (ends_second ∷ locks_again ∷ freed_first) ends_again []
+
+-- A Fetch asks for all bytes that its call needs, held or not.
+abbrev pub FetchAsksForAll : Type 0
+FetchAsksForAll =
+    Meets widening (learns_first_block ∷ gives_first_block ∷ asks_second_block ∷ grown) takes_second_block
+    (asks_both ∷ [])
+
+-- A Grant that shows bytes that are dirty is taken; what is given back is what the host sees then.
+abbrev pub GrantOverDirtyIsTaken : Type 0
+GrantOverDirtyIsTaken =
+    Meets syncing (asks_status ∷ learns_status ∷ gives_status ∷ grown) gives_shown
+    (to_server 1 (GiveBack shown_gift) ∷ [])
 
 -- so does a step of the server, from a tree that has the file on, after its own steps
 abbrev pub Serves : Script → List Step → Step → List Message → Type 0

@@ -7,7 +7,7 @@ use Rattle.std.specs.Prelude.{Bool, List, None, Option, Some, [], codes, false, 
 use Rattle.base_types.specs.declared.ids.Fid.{Fid}
 use Rattle.base_types.specs.declared.ids.Node.TheVariants.{Host}
 use Rattle.tree_calls.specs.declared.call.Call.{Call}
-use Rattle.tree_calls.specs.declared.call.Call.TheVariants.{Write, Lock, Unlock}
+use Rattle.tree_calls.specs.declared.call.Call.TheVariants.{Write, Lock, Sync, Unlock}
 use Rattle.tree_calls.specs.declared.part.DirEntry.{DirEntry}
 use Rattle.tree_calls.specs.declared.part.Status.{Status as StatusOf}
 use Rattle.tree_calls.specs.declared.place.Place.{Place}
@@ -351,6 +351,54 @@ frees_last =
     acts End (Some (record { k = 2; call = unlocks })) [] [] None [] (lock_gift ∷ []) (leaves AskedBack file_lock ∷ [])
     (to_server 1 (GiveBack lock_gift) ∷ [])
 
+-- A second label is taken, and then the first is freed and taken again, from cache: at the end the second goes first.
+abbrev pub second_lock : Token
+second_lock = token 5 file (LockToken true (span_between 20 30))
+
+abbrev pub locks_second : Call
+locks_second = Lock (codes "m") at_file true 20 10
+
+abbrev pub unlocks_second : Call
+unlocks_second = Unlock (codes "m")
+
+abbrev pub asks_second : Step
+asks_second =
+    acts (Line 7) (Some (record { k = 2; call = locks_second })) [] [] None [] [] []
+    (to_server 1 (Change (record {
+      number = 2;
+      fileset = root.fileset;
+      fid = file;
+      enter = false;
+      k = 2;
+      call = locks_second;
+    })) ∷ [])
+
+abbrev pub takes_second : Step
+takes_second =
+    acts
+    (Came (to_host (Done (record {
+      fileset = root.fileset;
+      outcome = IsGranted;
+      bring = record { number = 2; fid = file; stamp = 3; tokens = second_lock ∷ [] };
+    }))))
+    None (second_lock ∷ []) (answer 2 locks_second false ∷ []) None
+    (record { label = codes "m"; token = second_lock } ∷ []) [] [] []
+
+abbrev pub frees_first : Step
+frees_first = acts (Line 8) None [] (answer 3 unlocks true ∷ []) None [] [] [] []
+
+abbrev pub freed_first : List Step
+freed_first = frees_first ∷ takes_second ∷ asks_second ∷ locked
+
+abbrev pub locks_again : Step
+locks_again = acts (Line 9) None [] (answer 4 locks true ∷ []) None (label ∷ []) [] [] []
+
+abbrev pub ends_second : Step
+ends_second = acts End None [] (answer 5 unlocks_second true ∷ []) None [] [] [] []
+
+abbrev pub ends_again : Step
+ends_again = acts End None [] (answer 6 unlocks true ∷ []) None [] [] [] []
+
 -- A host that caches one token more than it may evicts the one over the file's bytes. These are dirty and go into a
 -- give-back, and the length with them.
 abbrev pub evicted : Give
@@ -359,6 +407,81 @@ evicted = record gift { ids = file_bytes.id ∷ [] }
 abbrev pub evicts : Step
 evicts = acts Evict None [] [] None [] (evicted ∷ []) (leaves Evicted file_bytes ∷ [])
     (to_server 1 (GiveBack evicted) ∷ [])
+
+-- A Write over the end of a block, of which the first is dirty: the second alone is asked for. Before it comes the first
+-- is asked back, and goes. Then both are asked for, though the second is held.
+abbrev pub writes_wide : Call
+writes_wide = Write at_file 1000 (codes "abcdefghijklmnopqrstuvwxabcdefghijklmnopqrstuvwx")
+
+abbrev pub second_block : Token
+second_block = token 6 file (Bytes true (span_between 1024 2048))
+
+abbrev pub asks_second_block : Step
+asks_second_block =
+    acts (Line 7) (Some (record { k = 2; call = writes_wide })) [] [] None [] [] []
+    (asks_for 4 file (needs file (Bytes true (span_between 1024 2048)) ∷ []) ∷ [])
+
+abbrev pub gives_first_block : Step
+gives_first_block =
+    acts (Came (to_host (Revoke (record { fid = file; stamp = 3; ids = file_bytes.id ∷ [] })))) None [] [] None []
+    (evicted ∷ []) (leaves Revoked file_bytes ∷ []) (to_server 1 (GiveBack evicted) ∷ [])
+
+abbrev pub learns_first_block : Step
+learns_first_block = hears (to_host (Gone (number_of evicted))) [] []
+
+abbrev pub asks_both : Message
+asks_both = asks_for 5 file (needs file (Bytes true (span_between 0 2048)) ∷ [])
+
+abbrev pub takes_second_block : Step
+takes_second_block =
+    hears (grants 4 file 4 (second_block ∷ []) false []) (second_block ∷ []) (asks_both ∷ [])
+
+-- A Sync lacks the status of its file, under whose bytes something is dirty. The Grant shows these bytes, too, as no
+-- server may: what is given back then is what the host sees.
+abbrev pub syncs : Call
+syncs = Sync at_file
+
+abbrev pub status_gift : Give
+status_gift = record gift { ids = file_update.id ∷ []; pieces = [] }
+
+abbrev pub gives_status : Step
+gives_status =
+    acts (Came (to_host (Revoke (record { fid = file; stamp = 3; ids = file_status.id ∷ file_update.id ∷ [] })))) None
+    [] [] None [] (status_gift ∷ []) (leaves Revoked file_status ∷ leaves Revoked file_update ∷ [])
+    (to_server 1 (GiveBack status_gift) ∷ to_server 1 (Returned (record { fid = file; ids = file_status.id ∷ [] })) ∷ [])
+
+abbrev pub learns_status : Step
+learns_status = hears (to_host (Gone (number_of status_gift))) [] []
+
+abbrev pub asks_status : Step
+asks_status =
+    acts (Line 7) (Some (record { k = 2; call = syncs })) [] [] None [] [] []
+    (asks_for 4 file (needs file (Status false) ∷ []) ∷ [])
+
+abbrev pub shown_tokens : List Token
+shown_tokens = token 6 file (Status false) ∷ token 7 file (Bytes false (span_between 0 1024)) ∷ []
+
+abbrev pub shown_gift : Give
+shown_gift = record {
+  number = 2;
+  fid = file;
+  ids = file_bytes.id ∷ [];
+  pieces = record { from = 0; bytes = codes "xy" } ∷ [];
+  length = None;
+  ends = None;
+}
+
+abbrev pub gives_shown : Step
+gives_shown =
+    acts
+    (Came (to_host (Grant (record {
+      bring = record { number = 4; fid = file; stamp = 4; tokens = shown_tokens };
+      status = Some (record (status_of false) { length = 2 });
+      pieces = record { from = 0; bytes = codes "xy" } ∷ [];
+      entries = [];
+    }))))
+    None shown_tokens [] None [] (shown_gift ∷ []) (leaves AskedBack file_bytes ∷ [])
+    (to_server 1 (GiveBack shown_gift) ∷ [])
 
 -- The server of the same run: it welcomes the host, tells it the number of the fileset, and grants what is asked.
 abbrev pub wants : FetchOf → AppliedOf

@@ -6,12 +6,13 @@ use Rattle.run_examples.specs.Steps.{other}
 use Rattle.run_examples.specs.Journal.{entries, journal, reads, script, start}
 use Rattle.std.specs.Prelude.{[], codes, ◌≡◌}
 use Rattle.run_rules.specs.Plans.{IsPlanned}
-use Rattle.run_rules.specs.Runs.{IsEnded, IsRun}
+use Rattle.run_rules.specs.Runs.{IsDutiful, IsEnded, IsRun}
 use Rattle.run_rules.specs.Histories.{history_of}
 
 pub record IsWhole : Type 0 where
-  -- all rules admit it; it keeps to the plan of its script; and it is ended
+  -- all rules admit it, and what is due is done; it keeps to the plan of its script; and it is ended
   pub run : IsRun script journal
+  pub dutiful : IsDutiful script journal
   pub planned : IsPlanned script journal
   pub ended : IsEnded script journal
   -- its history is this one

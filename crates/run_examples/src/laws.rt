@@ -2,6 +2,7 @@ ghost use Rattle.run_examples.specs.Laws.{WriteIsAskedFor, WriteIsAnswered, Revo
 ghost use Rattle.run_examples.specs.Laws.{StopIsAllowed, EndIsAllowed, LockIsKept, UseIsEnded, EvictionIsAllowed};
 ghost use Rattle.run_examples.specs.Laws.{BlockedFetchIsGranted, NamelessIsIgnored, OutOfTurnIsRefused};
 ghost use Rattle.run_examples.specs.Laws.{OwedIsAskedAgain, SecondChangeIsIgnored, ServerReacts, TakenIsUsed};
+ghost use Rattle.run_examples.specs.Laws.{FetchAsksForAll, GrantOverDirtyIsTaken, LabelsTakenTwiceEnd};
 
 /// A Write asks for the status of a file that its host doesn't know, and then to change the status and the block that
 /// it lacks; at a lapse it asks again.
@@ -53,6 +54,21 @@ pub fn a_use_is_ended()
 /// lapse gives them back again.
 pub fn an_eviction_is_allowed()
     ensures { EvictionIsAllowed }
+{}
+
+/// A label is freed and taken again, after another was taken: at the end that other goes first, and then it.
+pub fn labels_taken_twice_end()
+    ensures { LabelsTakenTwiceEnd }
+{}
+
+/// A Write lacks one of two blocks, and asks for both.
+pub fn a_fetch_asks_for_all()
+    ensures { FetchAsksForAll }
+{}
+
+/// A Grant that shows bytes that are dirty at its host is taken, and a Sync gives back what the host sees then.
+pub fn a_grant_over_dirty_bytes_is_taken()
+    ensures { GrantOverDirtyIsTaken }
 {}
 
 /// A server stores a give-back and answers by Gone, hears a Returned, learns once that a host is down, answers a Bye,

@@ -22,7 +22,7 @@ use Rattle.run_history.proofs.Stances.{covers_one, look_one}
 use Rattle.run_history.specs.Agreement.{CellsAgree}
 use Rattle.run_history.specs.Exactly.{AnswersFromCacheExactly, CachedOn, CoveredOn}
 use Rattle.run_rules.specs.HostAnswers.{CanAnswer}
-use Rattle.run_rules.specs.HostRules.{HostMeets}
+use Rattle.run_rules.specs.HostRules.{HostMay}
 use Rattle.run_rules.specs.Knowing.{look_of}
 use Rattle.run_rules.specs.OpenCalls.{Begins, NoneOpen}
 use Rattle.run_rules.specs.Views.{sees}
@@ -44,7 +44,7 @@ none_there : {X : Type 0} (xs : List X) → ((x : X) → In x xs → ⊥) → xs
 none_there [] none = refl
 none_there (x ∷ xs) none = absurd (none x (inl refl))
 
-module _ (script : Script) (host : HostId) (past : List Step) (s : Step) (m : HostMeets script host past s) (tree : View)
+module _ (script : Script) (host : HostId) (past : List Step) (s : Step) (m : HostMay script host past s) (tree : View)
     (agrees : AgreeUnder m.stance.held (sees past s) tree) where
   -- it could on its own view, too
   can : (call : Call) (on : CoveredOn script.roster host past s tree call) → CanAnswer script.roster host past s m.stance call on.reply

@@ -34,7 +34,7 @@ use Rattle.token_types.specs.declared.token.Need.{Need}
 use Rattle.token_types.specs.declared.token.Token.{Token}
 use Rattle.run_rules.specs.Runs.{StepMeets, StepsMeet, firsts_of, past_of}
 use Rattle.run_rules.specs.HostAsks.{HasChanged, IsNewChange}
-use Rattle.run_rules.specs.HostRules.{HostMeets}
+use Rattle.run_rules.specs.HostRules.{HostMay}
 use Rattle.run_rules.specs.Knowing.{Entered, Enters, is_entering, needs_in, stay_asked, verdict_in}
 use Rattle.run_rules.specs.Views.{sees as host_sees}
 use Rattle.run_tokens.proofs.Words.{if_host, own_after}
@@ -132,7 +132,7 @@ same_question : (a b : FilesetId) → ChangeIn a ≡ ChangeIn b → a ≡ b
 same_question a b e = cc
 
 -- a new Change asks rightly
-module _ (script : Script) (h : HostId) (A : List Step) (s : Step) (m : HostMeets script h A s)
+module _ (script : Script) (h : HostId) (A : List Step) (s : Step) (m : HostMay script h A s)
     (entered : (server : ServerId) (name : List ℕ) (id : FilesetId) → Entered (s ∷ A) server name id
     → home id ≡ server) (v : ServerId) (n : ℕ) (c : ChangeOf)
     (new : IsNewChange script.roster h A s m.stance v n c) (w : ServerId)

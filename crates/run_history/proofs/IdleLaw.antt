@@ -14,7 +14,7 @@ use Rattle.run_rules.specs.Runs.{StepMeets, StepsMeet, firsts_of, past_of}
 use Rattle.run_parts.proofs.Words.{host_split}
 use Rattle.run_history.proofs.Instance.{contents_of, is_of_run}
 use Rattle.run_rules.specs.HostLines.{DoesDeed}
-use Rattle.run_rules.specs.HostRules.{HostMeets}
+use Rattle.run_rules.specs.HostRules.{HostMay}
 use Rattle.run_rules.specs.Knowing.{IsLock, IsOpening}
 use Rattle.run_rules.specs.Labels.{InUse, end_of}
 use Rattle.run_rules.specs.OpenCalls.{IsOpen, NoneOpen}
@@ -151,7 +151,7 @@ module _ (script : Script) (start : Tree) (firsts : ServerId → ℕ) (real : (v
       }
 
   -- a step that answers ends the open call, and isn't the host's stop
-  module _ (h : HostId) (mine : List Step) (s : Step) (run : HostRun script h mine) (m : HostMeets script h mine s)
+  module _ (h : HostId) (mine : List Step) (s : Step) (run : HostRun script h mine) (m : HostMay script h mine s)
       (a : Answer) (i : In a s.answers) where
     none_after : NoneOpen (s ∷ mine)
     none_after call (inl begun) = m.answers.asked a call i begun

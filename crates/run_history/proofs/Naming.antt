@@ -27,7 +27,7 @@ use Rattle.need_laws.specs.Known.{SameAt}
 use Rattle.run_rules.specs.Runs.{StepMeets, StepsMeet, firsts_of, past_of}
 use Rattle.run_history.specs.Agreement.{LeadsTo}
 use Rattle.run_rules.specs.HostAsks.{HasChanged, IsNewChange}
-use Rattle.run_rules.specs.HostRules.{HostMeets}
+use Rattle.run_rules.specs.HostRules.{HostMay}
 use Rattle.run_rules.specs.Knowing.{Entered, Enters}
 use Rattle.run_contents.proofs.Bodies.{server_is}
 use Rattle.run_contents.proofs.Calls.{one_open}
@@ -96,7 +96,7 @@ module _ (script : Script) (h : HostId) where
   turned c d (f, n, z) = (sym f, sym n, ap (λ (x : FilesetId). x.0) (sym f) ∙ z)
 
   -- a new number is above that of each earlier one
-  above : (A : List Step) (s : Step) (m : HostMeets script h A s) (v : ServerId) (n : ℕ) (c d : ChangeOf)
+  above : (A : List Step) (s : Step) (m : HostMay script h A s) (v : ServerId) (n : ℕ) (c d : ChangeOf)
       → IsNewChange script.roster h A s m.stance v n c → HasChanged A v d → SameNumbered c d → ⊥
   above A s m v n c d new has (f, k, z) =
       let lt : d.number < c.number = new.next.above d.number (d, has, sym f, refl) in

@@ -49,21 +49,22 @@ use Rattle.token_types.specs.declared.token.TokenId.{TokenId}
 use Rattle.tree_laws.proofs.Steps.{same_number}
 use Rattle.run_rules.specs.HostAnswers.{IsExact}
 use Rattle.run_rules.specs.HostAsks.{AsksServer, HasChanged, IsNewChange}
-use Rattle.run_rules.specs.HostRules.{HostMeets}
+use Rattle.run_rules.specs.HostRules.{HostMay}
 use Rattle.run_rules.specs.Knowing.{HasLabel, IsLock, IsOpening, is_entering, stay_asked}
-use Rattle.run_rules.specs.Labels.{GivesUse, HasBegun, InUse, IsEnding, end_call, end_of}
+use Rattle.run_rules.specs.Labels.{GivesUse, InUse, IsEnding, end_call, end_of}
+use Rattle.run_parts.proofs.LabelWords.{HasBegun}
 use Rattle.run_rules.specs.OpenCalls.{Counts, IsEnded, IsOpen}
 use Rattle.run_rules.specs.Views.{sees as host_sees}
-use Rattle.run_parts.proofs.LabelLaw.{Given}
+use Rattle.run_parts.proofs.LabelLaw.{Given, given_ended}
 use Rattle.run_contents.proofs.Calls.{begins_free, one_open}
-use Rattle.run_contents.proofs.Uses.{IsUse, begun_use, used_begun}
+use Rattle.run_contents.proofs.Uses.{IsUse, begun_use, ended_begun, ended_gives, used_begun}
 use Rattle.run_contents.proofs.Words.{in_any}
 use Rattle.run_contents.specs.Steps.{HostRun}
 use Rattle.run_rules.specs.Gives.{IsKnown, Learns, Made, number_of}
 use Rattle.run_rules.specs.Lists.{EachOnce, In}
 use Rattle.run_rules.specs.Places.{Place, home, place}
 use Rattle.run_rules.specs.Requests.{Changing, Settles}
-use Rattle.run_rules.specs.Sends.{HasKept, Sends}
+use Rattle.run_rules.specs.Sends.{Sends}
 use Rattle.run_rules.specs.declared.applied.Answer.{Answer}
 use Rattle.run_rules.specs.declared.step.Asked.{Asked}
 use Rattle.run_rules.specs.declared.step.Labelled.{Labelled}
@@ -246,24 +247,12 @@ given_made [] u g e = elim e [ ]
 given_made (s ∷ A) u g (inl x) = inl x.1
 given_made (s ∷ A) u g (inr e) = inr (given_made A u g e)
 
--- a label was begun before it was given back
-pub given_begun : (A : List Step) (u : Labelled) (g : Give) → Given A u g → HasBegun A u
-given_begun [] u g e = elim e [ ]
-given_begun (s ∷ A) u g (inl x) = inr (used_begun_in A u x.0)
-  where
-    used_begun_in : (past : List Step) (u : Labelled) → InUse past u → HasBegun past u
-    used_begun_in [] u i = i
-    used_begun_in (s ∷ past) u (inl i) = inl i
-    used_begun_in (s ∷ past) u (inr x) = inr (used_begun_in past u x.0)
-given_begun (s ∷ A) u g (inr e) = inr (given_begun A u g e)
-
 -- the use that a give-back ends
 pub record EndsOf (script : Script) (host : HostId) (A : List Step) (g : Give) (ends : Ends) : Type 0 where
   pub u : Labelled
   pub given : Given A u g
   pub gives : GivesUse g u
   pub call : ends.call ≡ end_of u
-  pub kept : HasKept A u.token.id
   pub user : User
   pub acts_for : user_of script.roster host ≡ Some user
 
@@ -278,7 +267,6 @@ module _ (script : Script) (host : HostId) where
         given = inl (k.1.0.0, i);
         gives = (ends, e, k.2, k.3);
         call = k.2;
-        kept = inr k.1.1;
         user = run.1.stance.user;
         acts_for = run.1.stance.acts_for;
       }
@@ -289,7 +277,6 @@ module _ (script : Script) (host : HostId) where
         given = inr k.given;
         gives = k.gives;
         call = k.call;
-        kept = inr k.kept;
         user = k.user;
         acts_for = k.acts_for;
       }
@@ -301,7 +288,7 @@ module _ (script : Script) (host : HostId) where
   one_changing (s ∷ A) run v w fs gs n m a b = run.1.asks.one_change v w fs gs n m a b
 
   module _ (A : List Step) (s : Step) (run : HostRun script host (s ∷ A)) where
-    abbrev m : HostMeets script host A s
+    abbrev m : HostMay script host A s
     m = run.1
 
     abbrev mine : Own
@@ -337,7 +324,8 @@ module _ (script : Script) (host : HostId) where
 
     -- while the end of a use is on its way it isn't answered
     pub ending_unanswered : (a : Answer) → In a s.answers → (u : Labelled) → IsEnding A s u → a.call ≡ end_of u → ⊥
-    ending_unanswered a i u ending e = go (begun_use script host A run.0 u ending.0)
+    ending_unanswered a i u ending e =
+        go (begun_use script host A run.0 u (ended_begun script host A u ending.0 ending.1))
       where
         answered : reply_now (outcome (host_sees A s) (call_look mine host m.stance.user (end_of u))) ≡ Some a.reply
         answered = subst (λ (call : Call).
@@ -399,7 +387,7 @@ module _ (script : Script) (host : HostId) where
 
     label_begun : (w : Labelled) → HasLabel A s w → HasBegun A w
     label_begun w (inl usage) = used_begun script host A w usage
-    label_begun w (inr ending) = ending.0
+    label_begun w (inr ending) = ended_begun script host A w ending.0 ending.1
 
     fresh : (u w : Labelled) → In u s.begun → HasLabel A s w → end_of u ≡ end_of w → ⊥
     fresh u w i has e =
@@ -433,7 +421,7 @@ module _ (script : Script) (host : HostId) where
     had u (inr (g, inr y, gives, unknown)) =
         inr (
           inr (g, y, gives, λ k. unknown (inr k)),
-          inr (given_begun A u g y, (g, given_made A u g y, gives, unknown)),
+          inr (g, given_ended A u g y gives, unknown),
         )
 
     module _ (also : Also (s ∷ A)) (firm : Firm host A) where
@@ -502,7 +490,7 @@ module _ (script : Script) (host : HostId) where
                     let one = one_open script host A run.0 (record { k = a.k; call = a.call })
                     (record { k = ends.k; call = ends.call }) on.0 o in
                     let k = made_ends A run.0 g ends made e in
-                    ending_unanswered a i k.u (given_begun A k.u g k.given, (g, made, k.gives, unknown))
+                    ending_unanswered a i k.u (g, given_ended A k.u g k.given k.gives, unknown)
                     (ap (λ (z : Asked). z.call) one ∙ k.call)
                     )
               ]
@@ -761,7 +749,8 @@ module _ (script : Script) (host : HostId) where
   pub none_ends : (A : List Step) (s : Step) → HostRun script host (s ∷ A) → Also A → (a : Answer) → In a s.answers
       → (u : Labelled) → IsEnding A s u → ⊥
   none_ends A s run also a i u ending =
-      let (g, made, gives, unknown) = ending.1 in
+      let (g, ended, unknown) = ending in
+      let (made, gives) = ended_gives script host A u g ended in
       let o = (firm A run.0 also).given_open g gives.0 made gives.1 (λ k. unknown (inr k)) in
       elim (run.1.answers.answers a i).1 [
         | inl begins ↦ begins_free script host A s run.1 a.k a.call begins

@@ -100,7 +100,7 @@ module _ (script : Script) (start : Tree) (firsts : ServerId → ℕ) (real : (v
       kept =
           let k = pinned_kept v D t p in
           let d = link.took_ever k.named.fid.fileset (Kept k.named) k.took in
-          said_kept (own t.host past) v d.0 d.1 k.named t.id d.2 k.names
+          (labels t.host).kept_since t.id (said_kept (own t.host past) v d.0 d.1 k.named t.id d.2 k.names)
 
       none : (u : Labelled) → u.token.id ≡ t.id → Now t.host u → ⊥
       none u same l =

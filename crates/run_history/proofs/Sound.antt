@@ -22,7 +22,7 @@ use Rattle.message_types.specs.declared.telling.Grant.{Grant as GrantOf}
 use Rattle.script_lines.specs.declared.script.Script.{Script}
 use Rattle.tree_laws.specs.Parts.Part.{ByteAt}
 use Rattle.run_rules.specs.Runs.{StepMeets, StepsMeet}
-use Rattle.run_rules.specs.HostRules.{HostMeets}
+use Rattle.run_rules.specs.HostRules.{HostMay}
 use Rattle.run_rules.specs.Views.{is_shown}
 use Rattle.run_rules.specs.Told.{byte_in, byte_of, told}
 use Rattle.run_parts.specs.Contents.{Contents, sees, view}
@@ -173,7 +173,7 @@ module _ (script : Script) (h : HostId) (c : Contents) (same : IsOfJournal c) (f
       go true (Came m) all = body m.body (λ g e. all m g refl e)
       go true _ all = zero
 
-  module _ (past : List Step) (s : Step) (run : HostRun script h past) (m : HostMeets script h past s) where
+  module _ (past : List Step) (s : Step) (run : HostRun script h past) (m : HostMay script h past s) where
     written_zero : (old : ℕ) → old ≡ 0 → unwrap_or (wrote past s f (ByteAt at)) old ≡ 0
     written_zero old zero = go (wrote past s f (ByteAt at)) refl
       where

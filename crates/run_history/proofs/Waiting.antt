@@ -266,7 +266,7 @@ module _ (script : Script) (start : Tree) (firsts : ServerId → ℕ) (real : (v
             ]
 
         by : Settles (own h past) s v d → ⊥
-        by (inl (z, k, comes)) = of v k comes (inl refl)
+        by (inl (z, comes)) = of v 0 comes (inl refl)
         by (inr about) =
             of (home d.fileset) 0 about (elim at [
               | inl z ↦ inr (zero_home d.fileset (ap (λ (f : FilesetId). f.0) files ∙ z))

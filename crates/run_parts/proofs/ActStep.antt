@@ -45,7 +45,8 @@ use Rattle.run_parts.specs.Contents.{IsThere, IsWritable, ServerShows}
 use Rattle.run_parts.specs.Legal.{Cells, cells_after, IsStill, KeptIsPresent, LegalSize, LegalDoing}
 use Rattle.run_parts.proofs.Cells.{none_some, none_of, same_some, by_same, value_is, value_none, lost_same, left_is}
 use Rattle.run_parts.proofs.Cells.{left_size, left_none, size_stored, unsaved_was, none_stays, cases_host}
-use Rattle.run_parts.proofs.Invariant.{Alike, IsDirectory, Open, Leaving, Pending, Shown, Treed, Writes, conflict_at}
+use Rattle.run_parts.specs.Contents.{Pending}
+use Rattle.run_parts.proofs.Invariant.{Alike, IsDirectory, Open, Leaving, Shown, Treed, Writes, conflict_at}
 use Rattle.run_parts.proofs.Invariant.{alone_there, pending_owned, owner_writes, open_writes, mine_writes, barred}
 use Rattle.run_parts.proofs.Invariant.{applied_below}
 
@@ -345,7 +346,7 @@ module _ (c : Contents) (own_of : HostId
             subst (λ (y : Fid × ℕ). Asking A y.0.fileset y.1) (λ j. (sym same j, sym x.3 j)) asking in
             no_directory w.bring.fid writable (subst (λ j. IsDirectory c D j) same (elim k [
               | inl y ↦ (o.shown h).asked p x.0 (need_of t) at said asked (x.5 t m) cov
-                  (subst (λ j. OwnsUpdate A j p) (sym same) (pending_owned c A (o.seen h) p w.bring.fid y)) up
+                  (subst (λ j. Pending c A j p) (sym same) y) up
               | inr y ↦ (o.shown h).asked_given p x.0 u.value (need_of t) y.0 at said asked (x.5 t m) cov
                   (subst (λ j. Open c A v S h j p u.value y.0) (sym same) y.1) up
             ]))
@@ -434,11 +435,11 @@ module _ (c : Contents) (own_of : HostId
         ]
 
     asked' : (p : Part) (f : FetchOf) (k : Need) → site f.fid ≡ v → HasSaid A f → Asking A f.fid.fileset f.number
-        → In k f.needs → shows k.kind p ≡ true → OwnsUpdate A f.fid p → (Away (a ∷ S) h → ⊥)
+        → In k f.needs → shows k.kind p ≡ true → Pending c A f.fid p → (Away (a ∷ S) h → ⊥)
         → IsDirectory c (d ∷ D) f.fid
     asked' p f k home was asking m cov u live =
         let up : Away S h → ⊥ = λ z. live (inr z) in
-        let w = owner h p f.fid home up u in
+        let w = owner h p f.fid home up (pending_owned c A (o.seen h) p f.fid u) in
         dir_on f.fid w.token w.owed w.file ((o.shown h).asked p f k home was asking m cov u up)
 
     asked_given' : (p : Part) (f : FetchOf) (x : Seen p) (k : Need) (g : Give) → site f.fid ≡ v → HasSaid A f

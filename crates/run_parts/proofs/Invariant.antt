@@ -37,6 +37,7 @@ use Rattle.need_host.specs.Shows.{shows, is_update, updates, needs_update}
 use Rattle.run_parts.specs.Cells.{by}
 use Rattle.run_parts.specs.Deeds.{Deed, acts_in}
 use Rattle.run_parts.specs.Contents.{Contents, site, kept, view, dirty, OwnsUpdate, MadeSince, HasSaid, IsData}
+use Rattle.run_parts.specs.Contents.{Pending}
 use Rattle.run_parts.specs.Contents.{IsThere, IsWritable, Bars, AreAlike, HaveRoots}
 use Rattle.run_parts.specs.Legal.{Cells}
 
@@ -77,12 +78,6 @@ pub record Leaving (A : List Step) (v : ServerId) (S : List Act) (h : HostId) (f
   pub update : is_update token.kind ≡ true
   pub later : n ≤ give.number
 
--- what a host may have unsaved by itself: a dirty byte; the size, while it has the token
-abbrev pub Pending : Contents → List Step → Fid → Part → Type 0
-Pending c A f (ByteAt q) = dirty c A f q ≡ true
-Pending c A f Size = OwnsUpdate A f Size
-Pending c A f _ = ⊥
-
 -- of a host h with the steps A, the tree, and the server v with the doings D
 pub record Shown (c : Contents) (h : HostId) (A : List Step) (cells : Cells) (v : ServerId)
     (D : List Deed) : Type 0 where
@@ -100,9 +95,9 @@ pub record Shown (c : Contents) (h : HostId) (A : List Step) (cells : Cells) (v 
   -- what is on its way is under a token for update that is there or leaves no earlier
   pub open_under : (p : Part) (f : Fid) (x : Seen p) (g : Give) → site f ≡ v → Open c A v (acts_in D) h f p x g
       → OwnsUpdate A f p ⊎ Leaving A v (acts_in D) h f p g.number
-  -- the outstanding Fetch asks for nothing of a file that is held for update, and for nothing on its way
+  -- the outstanding Fetch asks for nothing of a file that may be unsaved, and for nothing on its way
   pub asked : (p : Part) (f : FetchOf) (k : Need) → site f.fid ≡ v → HasSaid A f → Asking A f.fid.fileset f.number
-      → In k f.needs → shows k.kind p ≡ true → OwnsUpdate A f.fid p → (Away (acts_in D) h → ⊥) → IsDirectory c D f.fid
+      → In k f.needs → shows k.kind p ≡ true → Pending c A f.fid p → (Away (acts_in D) h → ⊥) → IsDirectory c D f.fid
   pub asked_given : (p : Part) (f : FetchOf) (x : Seen p) (k : Need) (g : Give) → site f.fid ≡ v → HasSaid A f
       → Asking A f.fid.fileset f.number → In k f.needs → shows k.kind p ≡ true → Open c A v (acts_in D) h f.fid p x g
       → (Away (acts_in D) h → ⊥) → IsDirectory c D f.fid

@@ -17,9 +17,10 @@ use Rattle.token_types.specs.declared.token.Token.{Token}
 use Rattle.token_types.specs.declared.token.TokenId.{TokenId}
 use Rattle.run_parts.proofs.Served.{Next, after_doings, each_next}
 use Rattle.run_parts.specs.Doings.{doings}
-use Rattle.run_rules.specs.Labels.{EndsUse, GivesUse, HasBegun, InUse, IsUsed}
+use Rattle.run_rules.specs.Labels.{EndsUse, GivesUse, HasEnded, InUse, IsUsed}
+use Rattle.run_parts.proofs.Arriving.{unreturned}
 use Rattle.run_parts.proofs.Words.{host_split, server_split, taken_is}
-use Rattle.run_parts.proofs.LabelWords.{is_named, owns_ever, pinned_granted, pinned_kept, said_kept}
+use Rattle.run_parts.proofs.LabelWords.{HadKept, HasBegun, is_named, owns_ever, pinned_granted, pinned_kept, said_kept}
 use Rattle.run_parts.specs.Uses.{Frees, FreesAny, HostUses, Locked, LockedAfter, LockedGranted, LocksApart}
 use Rattle.run_parts.specs.Uses.{PinnedLocked, StepUses, UsesRun, issuer_acts}
 use Rattle.run_tokens.proofs.Invariant.{Alone, Link}
@@ -27,7 +28,7 @@ use Rattle.run_tokens.proofs.Law.{AtServer, Whole, always}
 use Rattle.run_tokens.proofs.Owed.{Owed}
 use Rattle.run_tokens.proofs.Words.{made_at, made_left, of_one}
 use Rattle.run_rules.specs.Acts.Act.{Took}
-use Rattle.run_rules.specs.Acts.{Act, acts, after_step, epoch}
+use Rattle.run_rules.specs.Acts.{Act, SentTo, acts, after_step, epoch}
 use Rattle.run_rules.specs.Gives.{IsKnown, Made, number_of}
 use Rattle.run_rules.specs.Grants.{Applied, Applies, Granted}
 use Rattle.run_rules.specs.HostTokens.{HostTokens}
@@ -37,7 +38,8 @@ use Rattle.run_rules.specs.Nodes.{own}
 use Rattle.run_rules.specs.Places.{home}
 use Rattle.run_rules.specs.Sends.{HasKept, HasSaid, Said}
 use Rattle.run_rules.specs.TokenRuns.{IsTokenRun, StepMay}
-use Rattle.run_rules.specs.Tokens.{EverHeld, Owns}
+use Rattle.run_rules.specs.Epochs.{ComesIn}
+use Rattle.run_rules.specs.Tokens.{EverHeld, Leaves, Left, Owns}
 use Rattle.run_rules.specs.declared.step.Labelled.{Labelled}
 use Rattle.run_rules.specs.declared.step.Step.{Step}
 
@@ -51,6 +53,9 @@ pub record Labels (A : List Step) : Type 0 where
   -- with its Bye all of these are known
   pub bye_known : (u : Labelled) (g : Give) (v : ServerId) → Given A u g → HasSaid A v Bye → IsKnown A g
   pub kept_use : (i : TokenId) → HasKept A i → (IsUsed A i → ⊥) → (((g : Give) × Made A g × In i g.ids) → ⊥) → ⊥
+  -- a token that was kept is owned, or has left; it isn't taken again
+  pub kept_own : (i : TokenId) → HadKept A i → (Left A i → ⊥) → ((t : Token) → Owns A t → t.id ≡ i → ⊥) → ⊥
+  pub kept_since : (i : TokenId) → HadKept A i → HasKept A i
 
 -- a give-back of the host ends the use, and isn't applied
 pub record Ending (A : List Step) (v : ServerId) (S : List Act) (h : HostId) (u : Labelled) (g : Give) : Type 0 where
@@ -76,9 +81,31 @@ given_made [] u g e = elim e [ ]
 given_made (s ∷ A) u g (inl x) = inl x.1
 given_made (s ∷ A) u g (inr e) = inr (given_made A u g e)
 
-labels_step : (A : List Step) (s : Step) → Alone A → HostTokens A s → Labels A → HostUses A s → Labels (s ∷ A)
-labels_step A s alone may old rules = record { use_owned = owned; bye_known = known; kept_use = kept }
+pub given_ended : (A : List Step) (u : Labelled) (g : Give) → Given A u g → GivesUse g u → HasEnded A g u
+given_ended [] u g e gives = elim e [ ]
+given_ended (s ∷ A) u g (inl x) gives = inl (x.1, x.0, gives)
+given_ended (s ∷ A) u g (inr e) gives = inr (given_ended A u g e gives)
+
+labels_step : (A : List Step) (s : Step) → Alone A → HostTokens A s → ((t : Token) → In t s.taken → Left A t.id → ⊥)
+    → Labels A → HostUses A s → Labels (s ∷ A)
+labels_step A s alone may fresh old rules =
+    record { use_owned = owned; bye_known = known; kept_use = kept; kept_own = own_kept; kept_since = since }
   where
+    since : (i : TokenId) → HadKept (s ∷ A) i → HasKept (s ∷ A) i
+    since i (inl q) = inl q
+    since i (inr q) = inr (
+      old.kept_since i q,
+      λ x. old.kept_own i q (λ l. fresh x.0 x.1 (subst (Left A) (sym x.2) l))
+          (λ t o e. (may.takes x.0 x.1).4 (t, alone.holds may.live t o, e ∙ sym x.2)),
+    )
+
+    own_kept : (i : TokenId) → HadKept (s ∷ A) i → (Left (s ∷ A) i → ⊥)
+        → ((t : Token) → Owns (s ∷ A) t → t.id ≡ i → ⊥) → ⊥
+    own_kept i (inl q) left none = let u = rules.stay.keeps i q in none u.0.token (owned u.0 u.1) u.2
+    own_kept i (inr q) left none =
+        old.kept_own i q (λ l. left (inr l))
+        (λ t o e. none t (inr o, λ l. left (inl (subst (Leaves s) e l))) e)
+
     known : (u : Labelled) (g : Give) (v : ServerId) → Given (s ∷ A) u g → HasSaid (s ∷ A) v Bye → IsKnown (s ∷ A) g
     known u g v given (e, n, inl sends) = may.bye_gives v e n g sends (given_made (s ∷ A) u g given)
     known u g v (inl x) (e, n, inr said) = absurd (alone.bye_held u.token v (e, n, said) (old.use_owned u x.0))
@@ -97,7 +124,7 @@ labels_step A s alone may old rules = record { use_owned = owned; bye_known = kn
     kept : (i : TokenId) → HasKept (s ∷ A) i → (IsUsed (s ∷ A) i → ⊥)
         → (((g : Give) × Made (s ∷ A) g × In i g.ids) → ⊥) → ⊥
     kept i (inl q) never none = never (rules.stay.keeps i q)
-    kept i (inr q) never none =
+    kept i (inr (q, _)) never none =
         old.kept_use i q
         (λ x. never (
           x.0,
@@ -174,7 +201,7 @@ module _ (h : HostId) (v : ServerId) (A : List Step) (S : List Act) (s : Step) (
       let here : u.0.token.id.server ≡ v = ap (λ (j : TokenId). j.server) u.2 ∙ at in
       (next.held u.0.token here (labels'.use_owned u.0 u.1)).stays
       (made_left (s ∷ A) g u.0.token.id m (subst (λ j. In j g.ids) (sym u.2) n))
-  kept_locked' g i at (inl m) n (inr q) not live never =
+  kept_locked' g i at (inl m) n (inr (q, _)) not live never =
       labels.kept_use i q
       (λ u.
       let gives = rules.stay.makes_ends g u.0 m u.1 (subst (λ j. In j g.ids) (sym u.2) n) in
@@ -186,13 +213,24 @@ module _ (h : HostId) (v : ServerId) (A : List Step) (S : List Act) (s : Step) (
       may.makes_new g k.0 m k.1 (ap (λ (y : Give). y.fid.fileset) (sym one)) in
       let same : g.number ≡ k.0.number = ap (λ (y : Give). y.number) one in
       absurd (omega (arith, lt, same)))
-  kept_locked' g i at (inr m) n (inr q) not live never =
+  kept_locked' g i at (inr m) n (inr (q, _)) not live never =
       old.kept_locked g i at m n q not live
       (λ u same gives l. never u same gives (inr (
         l,
-        λ e. rules.ends_known u g e (old.locked_begun u (ap (λ (j : TokenId). j.server) same ∙ at) l) m gives
+        λ e. rules.ends_known u g e (ended u (ap (λ (j : TokenId). j.server) same ∙ at) gives l)
             (λ k. not (next.known (number_of g) (next.made_id g i (inr m) n at) k)),
       )))
+    where
+      ended : (u : Labelled) → u.token.id.server ≡ v → GivesUse g u → lk u → HasEnded A g u
+      ended u here gives l =
+          elim (old.locked_is u here l live) [
+            | inl usage ↦ absurd ((link.held u.token here (labels.use_owned u usage)).stays
+                (made_left A g u.token.id m gives.3))
+            | inr k ↦ (
+                let one = link.made_once k.0 g u.token.id here k.1.made m k.1.gives.3 gives.3 in
+                given_ended A u g (subst (Given A u) one k.1.given) gives
+                )
+          ]
 
   locked_begun' : (u : Labelled) → u.token.id.server ≡ v → now u → HasBegun (s ∷ A) u
   locked_begun' u at (inl m) = inl m
@@ -369,8 +407,19 @@ module _ (firsts : ServerId → ℕ) where
         (host_split (λ L. L ≡ s ∷ own k past) k k (s ∷ own k past) (own k past) (λ _. refl)
         (λ two. absurd (two refl))) x
 
+    came : (v : ServerId) (e n : ℕ) (b : Body) → ComesIn s v e n b → SentTo (acts (firsts v) v past) k e n b
+    came v e n b (m, cause, at, epoch_is, moves, body) =
+        subst (λ (y : ServerId × ℕ × ℕ × Body). SentTo (acts (firsts y.0) y.0 past) k y.1 y.2 y.3)
+        (λ i. (at i, epoch_is i, moves i, body i)) (may.1 m cause).2
+
+    fresh : (t : Token) → In t s.taken → Left (own k past) t.id → ⊥
+    fresh t m =
+        let w = may.0.takes t m in
+        unreturned k (own k past) (λ v. acts (firsts v) v past) s (λ v. (whole.at v).served)
+        (λ v. (whole.at v).link k) came w.0 t w.1 w.2
+
     labels_own : Labels (s ∷ own k past)
-    labels_own = labels_step (own k past) s (whole.alone k) may.0 (old.labels k) rules
+    labels_own = labels_step (own k past) s (whole.alone k) may.0 fresh (old.labels k) rules
 
     uses_own : (v : ServerId) → Uses k v (s ∷ own k past) (acts (firsts v) v past) (LockedNow (Host k) past s k)
     uses_own v =
@@ -435,6 +484,8 @@ module _ (firsts : ServerId → ℕ) where
       use_owned = λ u e. elim e [ ];
       bye_known = λ u g v e. elim e [ ];
       kept_use = λ i e. elim e [ ];
+      kept_own = λ i e. elim e [ ];
+      kept_since = λ i e. elim e [ ];
     };
     uses = λ h v. record {
       locked_is = λ u at e. elim e [ ];
@@ -519,4 +570,5 @@ module _ (firsts : ServerId → ℕ) where
         kept =
             let k = pinned_kept t.id.server (issuer_acts firsts past t) t p in
             let d = link.took_ever k.named.fid.fileset (Kept k.named) k.took in
-            said_kept (own t.host past) t.id.server d.0 d.1 k.named t.id d.2 k.names
+            (x.labels t.host).kept_since t.id
+            (said_kept (own t.host past) t.id.server d.0 d.1 k.named t.id d.2 k.names)

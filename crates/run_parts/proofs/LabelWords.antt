@@ -11,13 +11,22 @@ use Rattle.token_types.specs.declared.token.TokenId.{TokenId}
 use Rattle.run_rules.specs.Acts.{Act}
 use Rattle.run_rules.specs.Grants.{Granted, Pinned}
 use Rattle.run_rules.specs.Hosts.{TookEver}
-use Rattle.run_rules.specs.Lists.{In}
-use Rattle.run_rules.specs.Sends.{HasKept, Said}
+use Rattle.run_rules.specs.Lists.{In, Once}
+use Rattle.run_rules.specs.Sends.{Keeps, Said}
 use Rattle.run_rules.specs.Tokens.{EverHeld, Owns}
+use Rattle.run_rules.specs.declared.step.Labelled.{Labelled}
 use Rattle.run_rules.specs.declared.step.Step.{Step}
 
+-- an earlier step began the use
+abbrev pub HasBegun : List Step → Labelled → Type 0
+HasBegun past u = Once (λ before s. In u s.begun) past
+
+-- a Kept of an earlier step named the token
+abbrev pub HadKept : List Step → TokenId → Type 0
+HadKept past i = Once (λ before s. Keeps s i) past
+
 pub said_kept : (A : List Step) (v : ServerId) (e n : ℕ) (w : Named) (i : TokenId) → Said A v e n (Kept w)
-    → In i w.ids → HasKept A i
+    → In i w.ids → HadKept A i
 said_kept [] v e n w i p m = elim p [ ]
 said_kept (s ∷ A) v e n w i (inl p) m = inl (v, e, n, w, p, m)
 said_kept (s ∷ A) v e n w i (inr p) m = inr (said_kept A v e n w i p m)

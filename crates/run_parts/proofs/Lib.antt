@@ -9,4 +9,5 @@ pub mod OwnRest
 pub mod ActStep
 pub mod PlaceLaw
 pub mod LabelWords
+pub mod Arriving
 pub mod LabelLaw

@@ -25,7 +25,8 @@ use Rattle.run_parts.specs.Deeds.{Deed, acts_in}
 use Rattle.run_parts.specs.Contents.{Contents, site, OwnsUpdate}
 use Rattle.run_parts.specs.Legal.{Cells}
 use Rattle.run_parts.proofs.Cells.{none_of, by_same, unwritten, kept_written}
-use Rattle.run_parts.proofs.Invariant.{Alike, Open, Pending, Shown, Writes, owner_writes, open_writes}
+use Rattle.run_parts.specs.Contents.{Pending}
+use Rattle.run_parts.proofs.Invariant.{Alike, Open, Shown, Writes, owner_writes, open_writes}
 
 -- host j has the steps B, host k writes `wrote`, and over no token that is owed to j
 module _ (c : Contents) (j : HostId) (v : ServerId) (B : List Step) (k : HostId) (wrote : Fid → (p : Part)

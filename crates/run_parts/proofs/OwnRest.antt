@@ -24,7 +24,7 @@ use Rattle.run_parts.proofs.Cells.{kept_written, cases_host}
 use Rattle.run_parts.proofs.Invariant.{Open, Shown, Treed, alone_there}
 use Rattle.run_parts.proofs.OwnStep.{Own, same_cell, live, live_owner, foreign_writer, sees_at, sees_on}
 use Rattle.run_parts.proofs.OwnStep.{cached', flight', mine', open_under', asked', asked_given', asked_for'}
-use Rattle.run_parts.proofs.OwnStep.{not_applied, gave_byte, gave_size, size_is, open_was, open_on, clean_none}
+use Rattle.run_parts.proofs.OwnStep.{not_applied, byte_was, gave_byte, gave_size, size_is, open_was, open_on, clean_none}
 use Rattle.run_parts.proofs.OwnStep.{known_file}
 
 module _ (c : Contents) (h : HostId) (v : ServerId) (A : List Step) (s : Step) (cells : Cells) (D : List Deed)
@@ -81,7 +81,7 @@ module _ (c : Contents) (h : HostId) (v : ServerId) (A : List Step) (s : Step) (
       go (inl n) = same_unsaved (ByteAt q) f (λ y w. o.rules.writes_only f q y x g w n k.file k.has)
           ∙ (o.shown.dirty_is q f home (subst (λ j. dirty c A j q ≡ true) k.file
           (o.rules.gives.gives_dirty g q x n k.has)) up
-          ∙ ap (λ y. Some (by h y)) (gave_byte c h v A s cells D o q f x g n k.file k.has).1)
+          ∙ ap (λ y. Some (by h y)) (byte_was c h v A s cells D o q f x g home up n k.file k.has))
       go (inr b) = same_unsaved (ByteAt q) f (λ y w. open_free' q f x g home k (o.rules.writes f (ByteAt q) y w))
           ∙ o.shown.open_is q f x g home b up
 

@@ -1,7 +1,8 @@
 -- A host's own step keeps what it shares with a server and the tree, at any part.
 use Rattle.std.proofs.Common.{◌≡◌, ℕ, ◌<◌, ◌≤◌, ◌⊎◌, Option, Some, None, true, List, ◌∷◌}
 use Rattle.std.proofs.Common.{inl, inr, sym, ◌∙◌, ap, subst, refl, arith}
-use Rattle.std.specs.Prelude.{unwrap_or}
+use Rattle.std.proofs.lemmas.Bool.{and_parts, or_cases}
+use Rattle.std.specs.Prelude.{is_some, not, unwrap_or, ◌||◌}
 use Rattle.base_types.specs.declared.ids.HostId.{HostId}
 use Rattle.base_types.specs.declared.ids.ServerId.{ServerId}
 use Rattle.base_types.specs.declared.ids.Fid.{Fid}
@@ -39,12 +40,12 @@ use Rattle.run_parts.specs.Cells.{by, written}
 use Rattle.run_parts.specs.Deeds.{Deed, acts_in}
 use Rattle.run_parts.specs.Contents.{Contents, site, kept, view, sees, dirty, OwnsUpdate, TakesUpdate, Clean}
 use Rattle.run_parts.specs.Contents.{SendsBack, HasSaid, IsWritable, Knows, KnowsFile}
-use Rattle.run_parts.specs.Contents.{KnowsDirectory, HostShows}
+use Rattle.run_parts.specs.Contents.{KnowsDirectory, HostShows, Pending}
 use Rattle.run_parts.specs.Legal.{Cells}
 use Rattle.run_parts.proofs.Cells.{option_cases, none_is, some_is, none_some, none_of, bool_cases, dirty_now}
-use Rattle.run_parts.proofs.Cells.{dirty_on, by_same, value_is, value_none, unwritten, present_written}
-use Rattle.run_parts.proofs.Invariant.{Alike, IsDirectory, Open, Leaving, Pending, Shown, Treed, Writes, conflict_at}
-use Rattle.run_parts.proofs.Invariant.{applied_below}
+use Rattle.run_parts.proofs.Cells.{dirty_on, by_same, some_value, value_is, value_none, unwritten, present_written}
+use Rattle.run_parts.proofs.Invariant.{Alike, IsDirectory, Open, Leaving, Shown, Treed, Writes, conflict_at}
+use Rattle.run_parts.proofs.Invariant.{applied_below, pending_owned}
 use Rattle.run_parts.proofs.SeenStep.{was_asking}
 
 -- one message isn't a Done and a Grant
@@ -239,12 +240,18 @@ module _ (c : Contents) (h : HostId) (v : ServerId) (A : List Step) (s : Step) (
       let le : g.number ≤ q.0.number = q.3 in omega (arith, new, le))
 
   pub gave_byte : (q : ℕ) (f : Fid) (x : ℕ) (g : Give) → In g s.made → g.fid ≡ f → c.gives g (ByteAt q) ≡ Some x
-      → OwnsUpdate A f (ByteAt q) × (view c A f (ByteAt q) ≡ x)
+      → OwnsUpdate A f (ByteAt q) × (sees c A s f (ByteAt q) ≡ x)
   gave_byte q f x g m file has = subst (λ j. OwnsUpdate A j (ByteAt q)
-      × (view c A j (ByteAt q) ≡ x)) file (
+      × (sees c A s j (ByteAt q) ≡ x)) file (
         o.seen.dirty_owned q g.fid (o.rules.gives.gives_dirty g q x m has),
         o.rules.gives.gives_seen g q x m has,
       )
+
+  -- a byte that is given back was the same before
+  pub byte_was : (q : ℕ) (f : Fid) (x : ℕ) (g : Give) → site f ≡ v → (Away S h → ⊥) → In g s.made → g.fid ≡ f
+      → c.gives g (ByteAt q) ≡ Some x → view c A f (ByteAt q) ≡ x
+  byte_was q f x g home up m file has =
+      let gave = gave_byte q f x g m file has in sym (sees_on (ByteAt q) f home gave.0 up) ∙ gave.1
 
   pub gave_size : (f : Fid) (x : ℕ) (g : Give) → In g s.made → g.fid ≡ f → c.gives g Size ≡ Some x
       → (OwnsUpdate A f Size ⊎ TakesUpdate s f Size) × (sees c A s f Size ≡ x)
@@ -299,7 +306,7 @@ module _ (c : Contents) (h : HostId) (v : ServerId) (A : List Step) (s : Step) (
         | inl y ↦ (
             let g = o.rules.gives.hands f q y in
             let is : x ≡ g.1 = (by_same h h x (view c A f (ByteAt q)) (sym e ∙ o.shown.dirty_is q f home d up)).1
-            ∙ (gave_byte q f g.1 g.0 g.2 g.3 g.4).1 in
+            ∙ byte_was q f g.1 g.0 home up g.2 g.3 g.4 in
             inr (g.0, open_new (ByteAt q) f x g.0 g.2 g.3 (g.4 ∙ ap (λ z. Some z) (sym is)))
             )
       ]
@@ -432,16 +439,30 @@ module _ (c : Contents) (h : HostId) (v : ServerId) (A : List Step) (s : Step) (
       owned Traits x k b u = elim (c.gives_data g Traits x k.has) [ ]
       owned Entries x k b u = elim (c.gives_data g Entries x k.has) [ ]
 
-  -- one that was sent before asks for nothing of a file that is held for update after the step
+  -- one that was sent before asks for nothing of a file that may be unsaved after the step
   asked_on : (p : Part) (f : FetchOf) (k : Need) → site f.fid ≡ v → HasSaid A f → Asking A f.fid.fileset f.number
-      → Asking (s ∷ A) f.fid.fileset f.number → In k f.needs → shows k.kind p ≡ true → OwnsUpdate (s ∷ A) f.fid p
+      → Asking (s ∷ A) f.fid.fileset f.number → In k f.needs → shows k.kind p ≡ true → Pending c (s ∷ A) f.fid p
       → (Away S h → ⊥) → IsDirectory c D f.fid
-  asked_on p f k home said was a m cov u up =
-      elim u.owned.0 [
-        | inl taken ↦ absurd (o.rules.takes.takes_last u.token p f.fid.fileset f.number taken u.covers a was)
-        | inr old ↦ o.shown.asked p f k home said was m cov
-            (record { token = u.token; owned = old; file = u.file; covers = u.covers; update = u.update }) up
-      ]
+  asked_on p f k home said was a m cov u up = go p cov u
+    where
+      go : (p : Part) → shows k.kind p ≡ true → Pending c (s ∷ A) f.fid p → IsDirectory c D f.fid
+      go (ByteAt q) cov d =
+          let wrote = is_some (c.wrote A s f.fid (ByteAt q)) in
+          let r = and_parts (wrote || dirty c A f.fid q) (not (c.hands s f.fid q)) d in
+          elim (or_cases wrote (dirty c A f.fid q) r.0) [
+            | inl w ↦ (let x = some_value (c.wrote A s f.fid (ByteAt q)) w in
+                absurd (o.rules.grown.writes_alone f.fid (ByteAt q) x.0 f.fid.fileset f.number x.1 a))
+            | inr w ↦ o.shown.asked (ByteAt q) f k home said was m cov w up
+          ]
+      go Size cov u =
+          elim u.owned.0 [
+            | inl taken ↦
+                absurd (o.rules.takes.takes_last u.token Size f.fid.fileset f.number taken u.covers a was)
+            | inr old ↦ o.shown.asked Size f k home said was m cov
+                (record { token = u.token; owned = old; file = u.file; covers = u.covers; update = u.update }) up
+          ]
+      go Traits cov d = elim d [ ]
+      go Entries cov d = elim d [ ]
 
   -- what the host knows as a directory is one
   directory : (p : Part) (f : Fid) → site f ≡ v → OwnsUpdate (s ∷ A) f p → KnowsDirectory c A s f → IsDirectory c D f
@@ -453,12 +474,12 @@ module _ (c : Contents) (h : HostId) (v : ServerId) (A : List Step) (s : Step) (
   directory p f home u (inr k) = (k.0, known_kept f k.0 home k.1, k.2)
 
   pub asked' : (p : Part) (f : FetchOf) (k : Need) → site f.fid ≡ v → HasSaid (s ∷ A) f
-      → Asking (s ∷ A) f.fid.fileset f.number → In k f.needs → shows k.kind p ≡ true → OwnsUpdate (s ∷ A) f.fid p
+      → Asking (s ∷ A) f.fid.fileset f.number → In k f.needs → shows k.kind p ≡ true → Pending c (s ∷ A) f.fid p
       → (Away S h → ⊥) → IsDirectory c D f.fid
   asked' p f k home (w, e, n, inl q) a m cov u up =
       elim (o.rules.fetches f (w, e, n, q)) [
         | inl old ↦ asked_on p f k home old.0 old.1 a m cov u up
-        | inr asks ↦ directory p f.fid home u (asks.free p k m cov u)
+        | inr asks ↦ directory p f.fid home (pending_owned c (s ∷ A) o.seen' p f.fid u) (asks.free p k m cov u)
       ]
   asked' p f k home (w, e, n, inr q) a m cov u up =
       asked_on p f k home (w, e, n, q) (was_asking c A s o.rules f (w, e, n, q) a) a m cov u up
@@ -475,7 +496,7 @@ module _ (c : Contents) (h : HostId) (v : ServerId) (A : List Step) (s : Step) (
       new : (p : Part) (x : Seen p) → shows k.kind p ≡ true → Open c (s ∷ A) v S h f.fid p x g → In g s.made
           → IsDirectory c D f.fid
       new (ByteAt q) x cov w j = o.shown.asked (ByteAt q) f k home b was m cov
-          (gave_byte q f.fid x g j w.file w.has).0 up
+          (subst (λ i. dirty c A i q ≡ true) w.file (o.rules.gives.gives_dirty g q x j w.has)) up
       new Size x cov w j =
           elim (gave_size f.fid x g j w.file w.has).0 [
             | inl u ↦ o.shown.asked Size f k home b was m cov u up

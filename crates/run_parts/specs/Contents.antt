@@ -183,11 +183,17 @@ HasSaid past f = (v : ServerId) × (e : ℕ) × (n : ℕ) × Said past v e n (Fe
 abbrev pub Repeats : List Step → FetchOf → Type 0
 Repeats past f = HasSaid past f × Asking past f.fid.fileset f.number
 
--- a new Fetch has a new number; it asks for nothing of a file that is held for update, and for no file of which
--- something is on its way back
+-- what a host may have unsaved by itself: a dirty byte; the size, while it has the token
+abbrev pub Pending : Contents → List Step → Fid → Part → Type 0
+Pending c past f (ByteAt q) = dirty c past f q ≡ true
+Pending c past f Size = OwnsUpdate past f Size
+Pending c past f _ = ⊥
+
+-- a new Fetch has a new number; it asks for nothing of a file that may be unsaved, and for no file of which something
+-- is on its way back
 pub record Asks (c : Contents) (past : List Step) (s : Step) (f : FetchOf) : Type 0 where
   pub new : (g : FetchOf) → HasSaid past g → g.fid.fileset ≡ f.fid.fileset → g.number ≡ f.number → ⊥
-  pub free : (p : Part) (n : Need) → In n f.needs → shows n.kind p ≡ true → OwnsUpdate (s ∷ past) f.fid p
+  pub free : (p : Part) (n : Need) → In n f.needs → shows n.kind p ≡ true → Pending c (s ∷ past) f.fid p
       → KnowsDirectory c past s f.fid
   pub back : (g : Give) → Made (s ∷ past) g → g.fid ≡ f.fid → (IsKnown (s ∷ past) g → ⊥) → ⊥
 
@@ -212,7 +218,8 @@ pub record GivesShow (c : Contents) (past : List Step) (s : Step) : Type 0 where
   -- covers them
   pub hands : (f : Fid) (q : ℕ) → c.hands s f q ≡ true
       → (g : Give) × (x : ℕ) × In g s.made × (g.fid ≡ f) × (c.gives g (ByteAt q) ≡ Some x)
-  pub gives_seen : (g : Give) (q x : ℕ) → In g s.made → c.gives g (ByteAt q) ≡ Some x → view c past g.fid (ByteAt q) ≡ x
+  pub gives_seen : (g : Give) (q x : ℕ) → In g s.made → c.gives g (ByteAt q) ≡ Some x
+      → sees c past s g.fid (ByteAt q) ≡ x
   pub gives_dirty : (g : Give) (q x : ℕ) → In g s.made → c.gives g (ByteAt q) ≡ Some x → dirty c past g.fid q ≡ true
   pub gives_under : (g : Give) (q x : ℕ) → In g s.made → c.gives g (ByteAt q) ≡ Some x
       → (t : Token) × AtHand s past t × In t.id g.ids × OverUpdate t g.fid (ByteAt q)

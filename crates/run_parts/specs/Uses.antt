@@ -10,10 +10,10 @@ use Rattle.token_types.specs.Conflicts.{conflict}
 use Rattle.token_types.specs.declared.token.Token.{Token}
 use Rattle.token_types.specs.declared.token.TokenId.{TokenId}
 use Rattle.run_parts.specs.Doings.{doings}
-use Rattle.run_rules.specs.Labels.{EndsUse, GivesUse, HasBegun, InUse, IsUsed}
+use Rattle.run_rules.specs.Labels.{EndsUse, GivesUse, HasEnded, InUse, IsUsed}
 use Rattle.run_rules.specs.Acts.Act.{Took}
 use Rattle.run_rules.specs.Acts.{Act, acts}
-use Rattle.run_rules.specs.Gives.{IsKnown, Made}
+use Rattle.run_rules.specs.Gives.{IsKnown}
 use Rattle.run_rules.specs.Grants.{Applies, Granted, Pinned}
 use Rattle.run_rules.specs.Hosts.{Away, HasReclaimed}
 use Rattle.run_rules.specs.Lists.{In}
@@ -42,8 +42,7 @@ pub record HostUses (past : List Step) (s : Step) : Type 0 where
       → (IsUsed (s ∷ past) u.token.id → ⊥) → ⊥
   -- nor a use that a give-back of the step, or one on its way, ends
   pub ends_apart : (u : Labelled) (g : Give) → EndsUse s u → In g s.made → GivesUse g u → ⊥
-  pub ends_known : (u : Labelled) (g : Give) → EndsUse s u → HasBegun past u → Made past g → GivesUse g u
-      → (IsKnown (s ∷ past) g → ⊥) → ⊥
+  pub ends_known : (u : Labelled) (g : Give) → EndsUse s u → HasEnded past g u → (IsKnown (s ∷ past) g → ⊥) → ⊥
 
 abbrev pub StepUses : Node → List Step → Step → Type 0
 StepUses (Host host) past s = HostUses (own host past) s

@@ -25,12 +25,14 @@ Made past give = Once (λ before step. In give step.made) past
 abbrev pub Makes : Step → TokenId → Type 0
 Makes step id = (give : Give) × In give step.made × In id give.ids
 
--- the step learns that the give-back of this number is applied: its Gone comes, or any server's Reclaimed that names it
+-- the step learns that the give-back of this number, which was made, is applied: its Gone comes, or any server's
+-- Reclaimed that names it
 abbrev pub Learns : List Step → Step → AppliedGive → Type 0
 Learns past step number =
-    About past step number.fileset (Gone number)
+    ((give : Give) × Made past give × (number_of give ≡ number))
+    × (About past step number.fileset (Gone number)
     ⊎ ((server : ServerId) × (answer : ReclaimedOf)
-    × Comes past step server (Reclaimed answer) × In number answer.applied)
+    × Comes past step server (Reclaimed answer) × In number answer.applied))
 
 -- the give-back of this number is known as applied
 abbrev pub Known : List Step → AppliedGive → Type 0

@@ -80,9 +80,3 @@ pub record HostAnswers
   pub begins : (u : Labelled) → In u s.begun
       → (a : Answer) × In a s.answers × (a.reply ≡ Fine) × IsExact a.call u × AtHand s past u.token
   pub begins_one : (u w : Labelled) → In u s.begun → In w s.begun → u ≡ w
-  -- a Sync whose walk lacks no token gives back each token of its file under which something is dirty
-  pub syncs : (k : ℕ) (place : Place) (fid : Fid) (t : Token) → IsTurn past s k (Sync place)
-      → FindsFile stance place fid → AtHand s past t → t.fid ≡ fid → IsDirtyUnder past s t → Makes s t.id
-  -- the last use of a pinned token is ended by a give-back
-  pub frees : (k : ℕ) (u : Labelled) → IsTurn past s k (end_of u) → FreesPinned past u
-      → (g : Give) × In g s.made × GivesUse g u

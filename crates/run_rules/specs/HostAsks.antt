@@ -1,14 +1,14 @@
 -- What a host asks for, for its open call: one request at a time, under the tokens that it keeps.
 use Rattle.run_rules.specs.Grants.{IsUseKind}
 use Rattle.run_rules.specs.Gives.{GiveOpen}
-use Rattle.std.specs.List.{list_any}
-use Rattle.std.specs.Prelude.{IsTrue, List, Some, [], false, suc, true, ℕ, ◌<◌, ◌∷◌, ◌≡◌, ◌⊎◌}
+use Rattle.std.specs.Prelude.{Bool, IsTrue, List, Some, [], false, suc, true, ℕ, ◌/◌, ◌<◌, ◌∷◌, ◌≡◌, ◌⊎◌}
 use Rattle.base_types.specs.Spans.{has_byte}
 use Rattle.base_types.specs.declared.ids.Fid.{Fid}
 use Rattle.base_types.specs.declared.ids.FilesetId.{FilesetId}
 use Rattle.base_types.specs.declared.ids.HostId.{HostId}
 use Rattle.base_types.specs.declared.ids.ServerId.{ServerId}
 use Rattle.base_types.specs.declared.span.Span.{Span}
+use Rattle.base_types.specs.declared.limits.TheConstants.{TOKEN_BYTES}
 use Rattle.tree_calls.specs.declared.call.Call.{Call}
 use Rattle.tree_calls.specs.declared.roster.Roster.{Roster}
 use Rattle.need_host.specs.Looks.{IsCovered, IsFirstLack}
@@ -16,31 +16,32 @@ use Rattle.need_host.specs.Questions.{Question, numbered_under}
 use Rattle.need_host.specs.Walks.{root_of}
 use Rattle.message_types.specs.Soundness.{no_fid}
 use Rattle.message_types.specs.declared.giving.Give.{Give}
-use Rattle.token_types.specs.Covers.{Covers, covers_byte}
+use Rattle.token_types.specs.Covers.{Covers}
 use Rattle.token_types.specs.declared.token.Need.{Need}
 use Rattle.token_types.specs.declared.token.Token.{Token}
 use Rattle.tree_laws.specs.Parts.{Nature}
 use Rattle.run_rules.specs.Knowing.{Stance, is_entering, look_of, needs_in, stay_asked, verdict_in}
-use Rattle.run_rules.specs.OpenCalls.{IsOpen}
+use Rattle.run_rules.specs.OpenCalls.{Begins, IsOpen}
 use Rattle.run_rules.specs.Views.{sees}
 use Rattle.run_rules.specs.Epochs.{IsWelcome}
 use Rattle.run_rules.specs.Gives.{IsKnown, Made}
-use Rattle.run_rules.specs.Lists.{In}
+use Rattle.run_rules.specs.Dirty.{is_dirty}
+use Rattle.run_rules.specs.Lists.{In, Since}
 use Rattle.run_rules.specs.Places.{place}
 use Rattle.run_rules.specs.Requests.{Asking, Changing, Fetches}
 use Rattle.run_rules.specs.Sends.{HasGreeted, HasStopped, Said, Sends}
+use Rattle.run_rules.specs.Tokens.{Held}
+use Rattle.run_rules.specs.declared.applied.Why.TheVariants.{Revoked}
 use Rattle.run_rules.specs.declared.step.Asked.{Asked}
 use Rattle.run_rules.specs.declared.step.Step.{Step}
 use Rattle.tree_objects.specs.Spans.{whole}
-use Rattle.message_types.specs.declared.message.Body.TheVariants.{Hello, Fetch, Change}
+use Rattle.message_types.specs.declared.message.Body.TheVariants.{Fetch, Change}
 use Rattle.message_types.specs.declared.asking.Fetch.{Fetch as FetchOf}
 use Rattle.message_types.specs.declared.asking.Change.{Change as ChangeOf}
 use Rattle.token_types.specs.declared.token.Kind.TheVariants.{Bytes, Status}
 use Rattle.need_host.specs.Calls.Verdict.{Gives, Asks}
 use Rattle.tree_laws.specs.Parts.Part.{Traits}
-use Rattle.run_rules.specs.declared.step.Cause.TheVariants.{Lapse}
 use Rattle.need_host.specs.Questions.Question.{ChangeIn}
-use Rattle.token_types.specs.declared.token.Kind.{Kind}
 
 -- a Fetch, a Change that was sent, wherever and in whatever epoch
 abbrev pub HasFetched : List Step → FetchOf → Type 0
@@ -69,26 +70,56 @@ IsDirectory past s held fid =
     ⊎ (Covers held (record { fid = fid; kind = Status false })
     × ((nature : Nature) × (sees past s fid Traits ≡ Some nature) × (nature.dir ≡ true)))
 
--- a need of an object that tokens lack
-abbrev pub Lacks : List Token → List Need → Fid → Need → Type 0
-Lacks held needs fid need = In need needs × (need.fid ≡ fid) × (Covers held need → ⊥)
+-- a token of a file's status, for reading or for update
+abbrev pub ShowsStatus : Token → Fid → Type 0
+ShowsStatus token fid = (token.fid ≡ fid) × ((update : Bool) × (token.kind ≡ Status update))
 
--- Each position that a need of bytes asks for lies in a need that the tokens lack, and isn't covered itself; any
--- other need is one that they lack.
-abbrev pub AsksMissing : List Token → List Need → Fid → Kind → Type 0
-AsksMissing held needs fid (Bytes update span) = (at : ℕ) → IsTrue (has_byte span at)
-    → (list_any (covers_byte fid update at) held ≡ false)
-    × ((of : Span) × Lacks held needs fid (record { fid = fid; kind = Bytes update of }) × IsTrue (has_byte of at))
-AsksMissing held needs fid kind = Lacks held needs fid (record { fid = fid; kind = kind })
+-- a Revoke takes from the host the last token that it holds of the file's status
+abbrev pub LosesStatus : List Step → Step → Fid → Type 0
+LosesStatus past s fid =
+    ((token : Token) × In (record { token = token; why = Revoked }) s.dropped × ShowsStatus token fid)
+    × ((token : Token) → Held (s ∷ past) token → ShowsStatus token fid → ⊥)
 
--- the asked needs are what the tokens lack of an object: nothing that isn't missing, and then all is covered
-pub record LackingNeeds (held : List Token) (needs : List Need) (fid : Fid) (asked : List Need) : Type 0 where
-  pub missing : (n : Need) → In n asked → (n.fid ≡ fid) × AsksMissing held needs fid n.kind
-  pub whole : (n : Need) (tokens : List Token) → Lacks held needs fid n
-      → ((m : Need) → In m asked → Covers tokens m) → ((t : Token) → In t held → In t tokens) → Covers tokens n
+-- one has done so since the host's last call began
+abbrev pub HasLost : List Step → Fid → Type 0
+HasLost past fid = Since (λ before s. LosesStatus before s fid)
+    (λ before s. (k : ℕ) × (call : Call) × Begins s k call) past
+
+-- needs of bytes name the position, for reading or for update
+abbrev pub NamesByte : List Need → Fid → Bool → ℕ → Type 0
+NamesByte needs fid update at = (span : Span)
+    × In (record { fid = fid; kind = Bytes update span }) needs × IsTrue (has_byte span at)
+
+-- something is dirty in the block of the position
+abbrev pub InDirtyBlock : List Step → Fid → ℕ → Type 0
+InDirtyBlock past fid at =
+    (other : ℕ) × (other / TOKEN_BYTES ≡ at / TOKEN_BYTES) × (is_dirty past fid other ≡ true)
+
+-- of a status for update is asked where the call needs one, and of one for reading once more where it was lost
+abbrev pub AsksStatus : List Step → List Need → Fid → Bool → Type 0
+AsksStatus past needs fid true = In (record { fid = fid; kind = Status true }) needs
+AsksStatus past needs fid false =
+    HasLost past fid × (In (record { fid = fid; kind = Status true }) needs → ⊥)
+
+-- What is asked of a file whose status is held: all bytes that the call needs, held or not, but for blocks in which
+-- something is dirty; and of the status, where none for update is held, one for update if the call needs it, else one
+-- for reading if a Revoke took the last. If only what is missing were asked for, two hosts could take two blocks of a
+-- file from each other for ever; that is no matter of safety, and no law of safety refuses it.
+pub record FileNeeds
+    (past : List Step) (held : List Token) (needs : List Need) (fid : Fid) (asked : List Need) : Type 0 where
+  pub only : (n : Need) → In n asked → (n.fid ≡ fid) × (IsUseKind n.kind → ⊥)
+  pub bytes : (update : Bool) (at : ℕ) → NamesByte asked fid update at
+      → NamesByte needs fid update at × (InDirtyBlock past fid at → ⊥)
+  pub bytes_all : (update : Bool) (at : ℕ) → NamesByte needs fid update at → (InDirtyBlock past fid at → ⊥)
+      → NamesByte asked fid update at
+  pub status : (update : Bool) → In (record { fid = fid; kind = Status update }) asked
+      → AsksStatus past needs fid update × (Covers held (record { fid = fid; kind = Status true }) → ⊥)
+  pub status_all : (update : Bool) → AsksStatus past needs fid update
+      → (Covers held (record { fid = fid; kind = Status true }) → ⊥)
+      → In (record { fid = fid; kind = Status update }) asked
 
 -- What a Fetch asks for. Of a directory, its status and all its entries together; of another object whose status
--- isn't held, that alone; else what the call's needs of the object lack.
+-- isn't held, that alone; else what the call needs of the file.
 pub data FetchNeeds
     (past : List Step) (s : Step) (held : List Token) (needs : List Need) (fid : Fid) (asked : List Need) : Type 0 where
   OfDirectory : IsDirectory past s held fid
@@ -97,7 +128,7 @@ pub data FetchNeeds
   OfUnknown : (IsDirectory past s held fid → ⊥) → (Covers held (record { fid = fid; kind = Status false }) → ⊥)
       → asked ≡ record { fid = fid; kind = Status false } ∷ [] → FetchNeeds past s held needs fid asked
   OfFile : (IsDirectory past s held fid → ⊥) → Covers held (record { fid = fid; kind = Status false })
-      → LackingNeeds held needs fid asked → FetchNeeds past s held needs fid asked
+      → FileNeeds (s ∷ past) held needs fid asked → FetchNeeds past s held needs fid asked
 
 module _ (roster : Roster) (host : HostId) (past : List Step) (s : Step) (stance : Stance roster host past s) where
   -- the first need of the call that the kept tokens lack
@@ -161,11 +192,7 @@ module _ (roster : Roster) (host : HostId) (past : List Step) (s : Step) (stance
         → Changing (s ∷ past) v fs n → Changing (s ∷ past) w gs m → (fs ≡ gs) × (n ≡ m)
     pub one_of_both : (v : ServerId) (fs gs : FilesetId) (n m : ℕ)
         → Asking (s ∷ past) fs n → Changing (s ∷ past) v gs m → ⊥
-    -- a server is greeted once, before anything is asked of it, for an open call; until it welcomes the host nothing
-    -- is
-    pub greets : (v : ServerId) (e n : ℕ) → Sends s v e n Hello → (IsWelcome (s ∷ past) v → ⊥)
-        × (((s.cause ≡ Lapse) × HasGreeted past v)
-        ⊎ ((HasGreeted past v → ⊥) × ((call : Asked) × IsOpen (s ∷ past) call × GoesTo call.call v)))
+    -- until a server welcomes the host nothing is asked of it
     pub fetches_welcome : (v : ServerId) (e n : ℕ) (f : FetchOf) → Sends s v e n (Fetch f) → IsWelcome (s ∷ past) v
     pub changes_welcome : (v : ServerId) (e n : ℕ) (c : ChangeOf) → Sends s v e n (Change c) → IsWelcome (s ∷ past) v
     -- an open call isn't left alone: a request is outstanding, or it waits for a Gone, or to be welcome at its

@@ -1,5 +1,5 @@
--- What a host gives back, and how it answers a Revoke.
-use Rattle.std.specs.Prelude.{List, Some, suc, true, ℕ, ◌∷◌, ◌≡◌, ◌⊎◌}
+-- What a host gives back, and what it keeps.
+use Rattle.std.specs.Prelude.{List, Some, [], suc, true, ℕ, ◌∷◌, ◌≡◌, ◌⊎◌}
 use Rattle.base_types.specs.declared.ids.Fid.{Fid}
 use Rattle.message_types.specs.declared.giving.Give.{Give}
 use Rattle.token_types.specs.declared.token.Token.{Token}
@@ -7,14 +7,15 @@ use Rattle.token_types.specs.declared.token.TokenId.{TokenId}
 use Rattle.run_rules.specs.Dirty.{ByteIsDirty, LengthIsDirty, UpdatesByte, is_dirty}
 use Rattle.run_rules.specs.Labels.{FreesPinned, GivesUse, InUse, IsUsed, end_of}
 use Rattle.run_rules.specs.OpenCalls.{IsOpen}
-use Rattle.run_rules.specs.Views.{sees, view}
+use Rattle.run_rules.specs.Views.{sees}
 use Rattle.run_rules.specs.Told.{byte_of}
+use Rattle.message_types.specs.Soundness.{PiecesRise}
 use Rattle.run_rules.specs.Epochs.{About}
-use Rattle.run_rules.specs.Gives.{IsKnown, IsOutstanding, Made, Makes}
+use Rattle.run_rules.specs.Gives.{IsOutstanding, Made}
 use Rattle.run_rules.specs.Lists.{In}
 use Rattle.run_rules.specs.Places.{place}
 use Rattle.run_rules.specs.Sends.{HasStopped, Keeps, Returns, SendsTo}
-use Rattle.run_rules.specs.Tokens.{AtHand, Held, HoldsId, Owns}
+use Rattle.run_rules.specs.Tokens.{AtHand, HoldsId, Owns}
 use Rattle.run_rules.specs.declared.step.Labelled.{Labelled}
 use Rattle.run_rules.specs.declared.step.Step.{Step}
 use Rattle.message_types.specs.declared.message.Body.TheVariants.{Revoke, GiveBack}
@@ -41,6 +42,9 @@ abbrev pub DirtyLength : List Step → Step → Fid → Type 0
 DirtyLength past s fid = (token : Token) × AtHand s past token × (token.fid ≡ fid) × LengthIsDirty past s token
 
 pub record HostGives (past : List Step) (s : Step) : Type 0 where
+  -- a give-back names a token, and its pieces rise and don't overlap
+  pub names : (g : Give) → In g s.made → g.ids ≡ [] → ⊥
+  pub rise : (g : Give) → In g s.made → PiecesRise g.pieces
   -- a step makes one give-back a file; they are numbered one by one
   pub one_a_file : (g k : Give) → In g s.made → In k s.made → g.fid ≡ k.fid → g ≡ k
   pub next : (g : Give) → In g s.made
@@ -48,7 +52,7 @@ pub record HostGives (past : List Step) (s : Step) : Type 0 where
   -- it has dirty bytes as the host sees them, each under a token that it names and under none that is left
   pub bytes : (g : Give) (at x : ℕ) → In g s.made → byte_of g.pieces at ≡ Some x
       → ((t : Token) × AtHand s past t × In t.id g.ids × (t.fid ≡ g.fid) × ByteIsDirty past t at)
-      × (view past g.fid (ByteAt at) ≡ x) × (OwnsUpdate (s ∷ past) g.fid at → ⊥)
+      × (sees past s g.fid (ByteAt at) ≡ x) × (OwnsUpdate (s ∷ past) g.fid at → ⊥)
   -- a dirty byte stays under a token for update, or a give-back has it
   pub bytes_saved : (fid : Fid) (at : ℕ) → is_dirty past fid at ≡ true → OwnsUpdate past fid at
       → OwnsUpdate (s ∷ past) fid at ⊎ ((g : Give) × In g s.made × HasByte g fid at)
@@ -68,22 +72,7 @@ pub record HostGives (past : List Step) (s : Step) : Type 0 where
   pub sends : (g : Give) → IsOutstanding (s ∷ past) g → (IsOutstanding past g → ⊥) → (HasStopped (s ∷ past) → ⊥)
       → SendsTo s (place (s ∷ past) g.fid.fileset) (GiveBack g)
 
--- what becomes of a token that a Revoke names
-pub record HostAnswersRevoke (past : List Step) (s : Step) (i : TokenId) : Type 0 where
-  -- a held token in use is kept
-  pub keeps : HoldsId past i → IsUsed past i → Keeps s i
-  -- one under which something is dirty goes into a give-back
-  pub gives : (t : Token) → Held past t → t.id ≡ i → HasDirty past s t → Makes s i
-  -- one in a give-back that isn't known as applied is answered by that, where it is outstanding
-  pub gives_again : (g : Give) → IsOutstanding past g → In i g.ids
-      → SendsTo s (place (s ∷ past) g.fid.fileset) (GiveBack g)
-  -- all others are returned
-  pub returns : (IsUsed past i → ⊥) → ((t : Token) → Held past t → t.id ≡ i → HasDirty past s t → ⊥)
-      → ((g : Give) → Made past g → In i g.ids → IsKnown past g) → Returns s i
-
 pub record HostRevoked (past : List Step) (s : Step) : Type 0 where
-  pub answers : (r : RevokeOf) (i : TokenId) → About past s r.fid.fileset (Revoke r) → In i r.ids
-      → HostAnswersRevoke past s i
   -- Kept answers a Revoke, and names held tokens in use
   pub keeps : (i : TokenId) → Keeps s i → HoldsId (s ∷ past) i × IsUsed (s ∷ past) i
       × ((r : RevokeOf) × About past s r.fid.fileset (Revoke r) × In i r.ids)

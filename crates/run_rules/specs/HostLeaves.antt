@@ -91,5 +91,3 @@ MayLeave roster host limit past s Stopped t = Stops s
 pub record HostLeaves (roster : Roster) (host : HostId) (limit : ℕ) (past : List Step) (s : Step) : Type 0 where
   -- a token leaves with cause
   pub leaves : (l : Leave) → In l s.dropped → MayLeave roster host limit past s l.why l.token
-  -- an eviction drops one token
-  pub evicts : s.cause ≡ Evict → (l : Leave) × (s.dropped ≡ l ∷ [])

@@ -1,8 +1,7 @@
 -- A host's lines, and how it ends.
 use Rattle.run_rules.specs.Sends.{HasSaid}
 use Rattle.run_rules.specs.Nodes.{IsBare}
-use Rattle.run_rules.specs.Labels.{NoneUsed}
-use Rattle.run_rules.specs.Lists.{Once}
+use Rattle.run_rules.specs.Lists.{Since}
 use Rattle.run_rules.specs.Sends.{Says}
 use Rattle.std.specs.Prelude.{List, None, [], length, suc, ℕ, ◌∷◌, ◌≡◌, ◌⊎◌}
 use Rattle.base_types.specs.declared.ids.ServerId.{ServerId}
@@ -17,8 +16,6 @@ use Rattle.run_rules.specs.Lines.{IsNextLine, lines_gone}
 use Rattle.run_rules.specs.Lists.{In}
 use Rattle.run_rules.specs.Sends.{HasGreeted, Stops}
 use Rattle.run_rules.specs.Tokens.{Drops, Held}
-use Rattle.run_rules.specs.declared.applied.Leave.{Leave}
-use Rattle.run_rules.specs.declared.applied.Why.TheVariants.{Ended}
 use Rattle.run_rules.specs.declared.step.Labelled.{Labelled}
 use Rattle.run_rules.specs.declared.step.Step.{Step}
 use Rattle.message_types.specs.declared.message.Body.TheVariants.{Down, Bye}
@@ -29,7 +26,7 @@ use Rattle.script_lines.specs.declared.script.Deed.TheVariants.{
   Stop,
   Restart as Restarts,
 }
-use Rattle.run_rules.specs.declared.step.Cause.TheVariants.{Line as LineOf, Restart, Evict, End, Flushed}
+use Rattle.run_rules.specs.declared.step.Cause.TheVariants.{Line as LineOf, Restart, End, Flushed}
 
 -- What a line makes a host do. A call has the next number. A stop says Down to each server and drops what is held, and
 -- in it no call is begun or answered, and nothing is given back.
@@ -51,28 +48,22 @@ pub record HostLines (lines : List Line) (servers : List ServerId) (limit : ℕ)
   pub begins : (k : ℕ) (call : Call) → Begins s k call → ((n : ℕ) × (s.cause ≡ LineOf n)) ⊎ (s.cause ≡ End)
   pub stops : Stops s
       → (n : ℕ) × (line : Line) × (s.cause ≡ LineOf n) × IsNextLine lines past n line × (line.deed ≡ Stop)
-  -- it evicts only where it may; it makes no server's steps
-  pub evicts : s.cause ≡ Evict → MayEvict past limit
+  -- it makes no server's steps
   pub no_server : ((n : ℕ) → s.cause ≡ Restart n → ⊥) × (s.cause ≡ Flushed → ⊥)
   pub applies_none : (s.applied ≡ []) × (s.admitted ≡ []) × (s.reserved ≡ [])
 
--- a label was taken before another
+-- of two labels in use the first was taken before the other: while it was in use the other was last taken
 abbrev pub TakenBefore : List Step → Labelled → Labelled → Type 0
-TakenBefore past u other = Once (λ before s. In other s.begun × InUse before u) past
+TakenBefore past u other = Since (λ before s. In other s.begun × InUse before u) (λ before s. In u s.begun) past
 
 -- When its lines have gone a host ends the use of its labels, in the order in which they were taken, by implied
 -- calls; then it gives back and returns all that it holds; then it says Bye to each server that it greeted.
 pub record HostEnds (lines : List Line) (limit : ℕ) (past : List Step) (s : Step) : Type 0 where
   pub after : s.cause ≡ End → (lines_gone past ≡ length lines) × NoneOpen past × (MayEvict past limit → ⊥)
-  pub does : s.cause ≡ End → ((k : ℕ) × (call : Call) × Begins s k call)
-      ⊎ (((l : Leave) × In l s.dropped) ⊎ ((v : ServerId) × Says s v Bye))
   -- an implied call has the next number, and ends the use of the label that was taken first
   pub implied : (k : ℕ) (call : Call) → s.cause ≡ End → Begins s k call → (k ≡ suc (calls_begun past))
       × ((u : Labelled) × InUse past u × (call ≡ end_of u)
       × ((other : Labelled) → InUse past other → TakenBefore past other u → ⊥))
-  -- what is held leaves at once, when no label is in use; but for a pinned token, that goes back with its last use
-  pub drops : (l : Leave) → s.cause ≡ End → In l s.dropped → l.why ≡ Ended
-      → NoneUsed past × ((t : Token) → Held past t → Drops s t)
   -- a Bye goes to a server that was greeted, when nothing is held, and again at a lapse or when the server has
   -- restarted
   pub bye : (v : ServerId) → Says s v Bye

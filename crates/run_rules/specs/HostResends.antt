@@ -49,11 +49,6 @@ Outstanding past server n (GiveBack g) = IsOutstanding past g × IsAt past g.fid
 Outstanding past server n Bye = HasSaid past server Bye × (HasBye past server → ⊥) × (n ≡ 0)
 Outstanding past server n _ = ⊥
 
--- no give-back: those are sent again at the Restarted
-abbrev pub IsOther : Body → Type 0
-IsOther (GiveBack give) = ⊥
-IsOther _ = Unit {0}
-
 -- the step learns that a server it has greeted restarted: a Restarted comes, of a higher epoch than the host's
 abbrev pub LearnsRestart : List Step → Step → ServerId → Type 0
 LearnsRestart past s v = HasGreeted past v × Raises past s v × ((e n : ℕ) × ComesIn s v e n Restarted)
@@ -63,20 +58,5 @@ abbrev pub ClaimsAt : Step → ServerId → Type 0
 ClaimsAt s v = (e n : ℕ) × (claim : ReclaimOf) × Sends s v e n (Reclaim claim)
 
 pub record HostResends (past : List Step) (s : Step) : Type 0 where
-  -- at a lapse it sends again what is outstanding, and the claim that waits; all of it, and nothing else
-  pub lapse_all : (v : ServerId) (n : ℕ) (b : Body) → s.cause ≡ Lapse → Outstanding past v n b
-      → Sends s v (epoch_at past v) n b
-  pub lapse_claims : (v : ServerId) → s.cause ≡ Lapse → Claimed past v → ClaimsAt s v
-  pub lapse_only : (v : ServerId) (e n : ℕ) (b : Body) → s.cause ≡ Lapse → Sends s v e n b
-      → Outstanding past v n b ⊎ (Claimed past v × ((claim : ReclaimOf) × (b ≡ Reclaim claim)))
-  -- and it changes nothing
-  pub lapse_quiet : s.cause ≡ Lapse
-      → (s.asked ≡ None) × (s.answers ≡ []) × (s.taken ≡ []) × (s.dropped ≡ []) × (s.made ≡ [])
-  -- where a server has restarted it sends its outstanding give-backs again, and a claim
-  pub restarted_gives : (v : ServerId) (n : ℕ) (g : Give) → LearnsRestart past s v → Outstanding past v n (GiveBack g)
-      → Sends s v (epoch_at (s ∷ past) v) n (GiveBack g)
-  pub restarted_claims : (v : ServerId) → LearnsRestart past s v → ClaimsAt s v
+  -- it claims where a server has restarted, and again at a lapse while the claim waits
   pub claims_only : (v : ServerId) → ClaimsAt s v → LearnsRestart past s v ⊎ ((s.cause ≡ Lapse) × Claimed past v)
-  -- once its claim is answered it sends what else is still outstanding again
-  pub reclaimed_all : (v : ServerId) (n : ℕ) (answer : ReclaimedOf) (b : Body) → Comes past s v (Reclaimed answer)
-      → IsOther b → Outstanding past v n b → Outstanding (s ∷ past) v n b → Sends s v (epoch_at (s ∷ past) v) n b

@@ -1,4 +1,4 @@
--- All rules of a host, on a step and its own earlier steps.
+-- What a host may do, in a step after its own earlier steps: all safety rests on it.
 use Rattle.std.specs.Prelude.{List}
 use Rattle.base_types.specs.declared.ids.HostId.{HostId}
 use Rattle.script_lines.specs.declared.script.Script.{Script}
@@ -15,7 +15,7 @@ use Rattle.run_rules.specs.declared.step.Step.{Step}
 use Rattle.run_rules.specs.HostAsks.{HostAsks}
 use Rattle.base_types.specs.declared.ids.Node.TheVariants.{Host}
 
-pub record HostMeets (script : Script) (host : HostId) (past : List Step) (s : Step) : Type 0 where
+pub record HostMay (script : Script) (host : HostId) (past : List Step) (s : Step) : Type 0 where
   pub tokens : HostTokens past s
   pub takes : HostTakes past s
   pub stance : Stance script.roster host past s

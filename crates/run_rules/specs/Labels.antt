@@ -5,7 +5,7 @@ use Rattle.tree_calls.specs.declared.call.Call.{Call}
 use Rattle.message_types.specs.declared.giving.Give.{Give}
 use Rattle.token_types.specs.declared.token.Kind.{Kind}
 use Rattle.token_types.specs.declared.token.TokenId.{TokenId}
-use Rattle.run_rules.specs.Gives.{IsKnown, Made}
+use Rattle.run_rules.specs.Gives.{IsKnown}
 use Rattle.run_rules.specs.Lists.{In}
 use Rattle.run_rules.specs.Sends.{HasKept}
 use Rattle.run_rules.specs.declared.step.Labelled.{Labelled}
@@ -24,10 +24,6 @@ end_call _ label = Unlock label
 abbrev pub end_of : Labelled → Call
 end_of usage = end_call usage.token.kind usage.label
 
--- an earlier step began the use
-abbrev pub HasBegun : List Step → Labelled → Type 0
-HasBegun past usage = Once (λ before s. In usage s.begun) past
-
 -- the host itself ends the use in the step
 abbrev pub EndsUse : Step → Labelled → Type 0
 EndsUse s usage = (a : Answer) × In a s.answers × (a.call ≡ end_of usage) × (a.reply ≡ Fine)
@@ -44,11 +40,13 @@ InUse (s ∷ past) usage =
     In usage s.begun
     ⊎ (InUse past usage × (EndsUse s usage → ⊥) × ((give : Give) → In give s.made → GivesUse give usage → ⊥))
 
--- the use of the label is being ended: a give-back that ends it was made, and isn't known as applied once the step
--- begins
+-- the give-back ended the use when it was made
+abbrev pub HasEnded : List Step → Give → Labelled → Type 0
+HasEnded past give usage = Once (λ before s. In give s.made × InUse before usage × GivesUse give usage) past
+
+-- the use of the label is being ended: a give-back ended it, and isn't known as applied once the step begins
 abbrev pub IsEnding : List Step → Step → Labelled → Type 0
-IsEnding past s usage =
-    HasBegun past usage × ((give : Give) × Made past give × GivesUse give usage × (IsKnown (s ∷ past) give → ⊥))
+IsEnding past s usage = (give : Give) × HasEnded past give usage × (IsKnown (s ∷ past) give → ⊥)
 
 -- no label is in use
 abbrev pub NoneUsed : List Step → Type 0

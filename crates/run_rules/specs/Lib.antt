@@ -32,6 +32,7 @@ pub mod HostResends
 pub mod HostLeaves
 pub mod HostLines
 pub mod HostRules
+pub mod HostDue
 pub mod Kept
 pub mod Wants
 pub mod ServerAnswers

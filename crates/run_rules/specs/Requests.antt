@@ -9,7 +9,7 @@ use Rattle.message_types.specs.declared.asking.Change.{Change as ChangeOf}
 use Rattle.message_types.specs.declared.telling.Grant.{Grant as GrantOf}
 use Rattle.message_types.specs.declared.telling.Done.{Done as DoneOf}
 use Rattle.run_rules.specs.declared.step.Step.{Step}
-use Rattle.run_rules.specs.Epochs.{epoch_at, ComesIn, About}
+use Rattle.run_rules.specs.Epochs.{About, Comes}
 use Rattle.run_rules.specs.Sends.{Sends}
 
 -- the step sends the Fetch
@@ -21,11 +21,11 @@ abbrev pub Changes : Step → ServerId → ChangeOf → Type 0
 Changes step server change = (to : ServerId) × (epoch : ℕ) × (moves : ℕ) × Sends step to epoch moves (Change change)
     × (change.fileset.0 ≡ 0 → to ≡ server)
 
--- the step's cause is a Done that counts: under fileset 0, of this server's present epoch; else of the fileset's stay
+-- the step's cause is a Done that counts: under fileset 0, without moves and of this server's present epoch; else of
+-- the fileset's stay
 abbrev pub Settles : List Step → Step → ServerId → DoneOf → Type 0
 Settles past step server done =
-    ((done.fileset.0 ≡ 0) × (moves : ℕ) × ComesIn step server (epoch_at past server) moves (Done done))
-    ⊎ About past step done.fileset (Done done)
+    ((done.fileset.0 ≡ 0) × Comes past step server (Done done)) ⊎ About past step done.fileset (Done done)
 
 -- the Fetch of this number is outstanding: it was sent, and no Grant with its number has come since
 abbrev pub Asking : List Step → FilesetId → ℕ → Type 0

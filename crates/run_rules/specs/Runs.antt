@@ -14,9 +14,10 @@ use Rattle.script_lines.specs.declared.script.Line.{Line}
 use Rattle.script_lines.specs.declared.script.Script.{Script}
 use Rattle.run_rules.specs.declared.journal.Journal.{Journal}
 use Rattle.run_rules.specs.HostResends.{HasBye}
-use Rattle.run_rules.specs.HostRules.{HostMeets}
+use Rattle.run_rules.specs.HostDue.{HostDue}
+use Rattle.run_rules.specs.HostRules.{HostMay}
 use Rattle.run_rules.specs.Lines.{first_epoch, lines_gone, lines_of, servers_of, setup}
-use Rattle.run_rules.specs.ServerRules.{ServerMay}
+use Rattle.run_rules.specs.ServerRules.{ServerDue, ServerMay}
 use Rattle.run_rules.specs.Acts.{acts}
 use Rattle.run_rules.specs.Hosts.{Away, Listed}
 use Rattle.run_rules.specs.Lists.{In}
@@ -40,10 +41,10 @@ pub record IsValid (tree : Tree) : Type 0 where
   pub at_home : list_all (λ fileset. (fileset.server.0 == (home fileset.id).0) && (fileset.moves == 0)) tree.filesets
       ≡ true
 
--- a step of a node meets its rules, and its cause was sent before
+-- a step of a node is one that it may do, and its cause was sent before
 abbrev pub StepMeets : Script → Tree → (ServerId → ℕ) → Node → List Step → Step → Type 0
 StepMeets script start firsts (Host host) past s =
-    HostMeets script host (own host past) s × CameToHost firsts host past s
+    HostMay script host (own host past) s × CameToHost firsts host past s
 StepMeets script start firsts (Server server) past s =
     ServerMay script start server (served server past) (acts (firsts server) server past) s
     × CameToServer server past s
@@ -98,6 +99,18 @@ pub record IsRun (script : Script) (journal : Journal) : Type 0 where
   pub roster : start.roster ≡ script.roster
   pub epochs : length journal.epochs ≡ length script.roster.capacity
   pub steps : StepsMeet script start (firsts_of journal) (past_of journal)
+
+-- a node's step does what is due of it
+abbrev pub StepDue : Script → Tree → (ServerId → ℕ) → Node → List Step → Step → Type 0
+StepDue script start firsts (Host host) past s = HostDue script host (own host past) s
+StepDue script start firsts (Server server) past s =
+    ServerDue script start server (served server past) (acts (firsts server) server past) s
+
+-- in each step of a journal what is due is done
+pub record IsDutiful (script : Script) (journal : Journal) : Type 0 where
+  pub start : Tree
+  pub starts : journal.start ≡ start ∷ []
+  pub steps : Always (λ before s. StepDue script start (firsts_of journal) s.node before s) (past_of journal)
 
 -- the run is ended: each host is done, each server's lines have gone, and each host that a server knows is away
 pub record IsEnded (script : Script) (journal : Journal) : Type 0 where

@@ -1,7 +1,8 @@
 -- What a host sends.
-use Rattle.run_rules.specs.Lists.{Once}
+use Rattle.run_rules.specs.Lists.{Once, Since}
 use Rattle.std.specs.Prelude.{◌≡◌, ℕ, List}
 use Rattle.base_types.specs.declared.ids.ServerId.{ServerId}
+use Rattle.token_types.specs.declared.token.Token.{Token}
 use Rattle.token_types.specs.declared.token.TokenId.{TokenId}
 use Rattle.message_types.specs.declared.message.Body.{Body}
 use Rattle.message_types.specs.declared.message.Body.TheVariants.{Hello, Returned, Kept, Down}
@@ -45,9 +46,11 @@ abbrev pub Keeps : Step → TokenId → Type 0
 Keeps step id = (server : ServerId) × (epoch : ℕ) × (moves : ℕ) × (named : Named)
     × Sends step server epoch moves (Kept named) × In id named.ids
 
--- a Kept of an earlier step
+-- a Kept has named the token since it was last taken
 abbrev pub HasKept : List Step → TokenId → Type 0
-HasKept past id = Once (λ before step. Keeps step id) past
+HasKept past id =
+    Since (λ before step. Keeps step id)
+    (λ before step. (token : Token) × In token step.taken × (token.id ≡ id)) past
 
 -- the step is the host's stop: it says Down
 abbrev pub Stops : Step → Type 0

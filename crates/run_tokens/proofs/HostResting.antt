@@ -6,11 +6,14 @@ use Rattle.base_types.specs.declared.ids.HostId.{HostId}
 use Rattle.base_types.specs.declared.ids.ServerId.{ServerId}
 use Rattle.tree_calls.specs.declared.call.Call.{Call}
 use Rattle.tree_calls.specs.declared.roster.Roster.{Roster}
+use Rattle.script_lines.specs.declared.script.Script.{Script}
 use Rattle.message_types.specs.declared.giving.AppliedGive.{AppliedGive}
 use Rattle.token_types.specs.declared.token.Token.{Token}
 use Rattle.tree_laws.specs.Parts.{settled}
 use Rattle.run_rules.specs.HostAnswers.{HostAnswers}
 use Rattle.run_rules.specs.HostAsks.{HostAsks}
+use Rattle.run_rules.specs.HostDue.{CallsDue, HostDue, LeavesDue, RepeatsDue}
+use Rattle.run_rules.specs.HostRules.{HostMay}
 use Rattle.run_rules.specs.HostGives.{HostGives, HostRevoked}
 use Rattle.run_rules.specs.HostLeaves.{HostLeaves}
 use Rattle.run_rules.specs.HostLines.{HostEnds, HostLines}
@@ -49,11 +52,11 @@ module _ (roster : Roster) (host : HostId) (past : List Step) (rest : IsAtRest r
   none_used w u = elim u.0 [ inl g ↦ none_comes _ _ _ _ g.1 | inr d ↦ none_comes _ _ _ _ d.1 ]
 
   none_learnt : (n : AppliedGive) → Learns past s n → ⊥
-  none_learnt n (inl c) = none_comes _ _ _ _ c
-  none_learnt n (inr (v, r, c, m)) = none_comes _ _ _ _ c
+  none_learnt n (made, inl c) = none_comes _ _ _ _ c
+  none_learnt n (made, inr (v, r, c, m)) = none_comes _ _ _ _ c
 
   not_ended : (c : Asked) → IsEnded past s c → ⊥
-  not_ended c (inl (v, d, r, (settled, q), e)) = elim settled [ inl x ↦ none_comes _ _ _ _ x.2 | inr x ↦ none_comes _ _ _ _ x ]
+  not_ended c (inl (v, d, r, (settled, q), e)) = elim settled [ inl x ↦ none_comes _ _ _ _ x.1 | inr x ↦ none_comes _ _ _ _ x ]
   not_ended c (inr e) = none_learnt _ e.5
 
   none_open : (c : Asked) → IsOpen (s ∷ past) c → ⊥
@@ -94,8 +97,13 @@ module _ (roster : Roster) (host : HostId) (past : List Step) (rest : IsAtRest r
     opens = λ a fid kind m. elim m [ ];
     begins = λ u m. elim m [ ];
     begins_one = λ u w m. elim m [ ];
+  }
+
+  calls : CallsDue roster host past s rest.stance
+  calls = record {
     syncs = λ k place fid t turn. absurd (none_turn k _ turn);
     frees = λ k u turn. absurd (none_turn k _ turn);
+    greets = λ v e n p. absurd (none_sent _ _ _ _ p);
   }
 
   asks : HostAsks roster host past s rest.stance
@@ -105,7 +113,6 @@ module _ (roster : Roster) (host : HostId) (past : List Step) (rest : IsAtRest r
     one_fetch = λ fs gs n m a. absurd (none_asking fs n a);
     one_change = λ v w fs gs n m a. absurd (none_changing v fs n a);
     one_of_both = λ v fs gs n m a. absurd (none_asking fs n a);
-    greets = λ v e n p. absurd (none_sent _ _ _ _ p);
     fetches_welcome = λ v e n f p. absurd (none_sent _ _ _ _ p);
     changes_welcome = λ v e n c p. absurd (none_sent _ _ _ _ p);
     asks = λ c o. absurd (none_open c o);
@@ -113,6 +120,8 @@ module _ (roster : Roster) (host : HostId) (past : List Step) (rest : IsAtRest r
 
   gives : HostGives past s
   gives = record {
+    names = λ g m. elim m [ ];
+    rise = λ g m. elim m [ ];
     one_a_file = λ g k m. elim m [ ];
     next = λ g m. elim m [ ];
     bytes = λ g at x m. elim m [ ];
@@ -135,7 +144,6 @@ module _ (roster : Roster) (host : HostId) (past : List Step) (rest : IsAtRest r
 
   revoked : HostRevoked past s
   revoked = record {
-    answers = λ r i c. absurd (none_comes _ _ _ _ c);
     keeps = λ i k. absurd (none_sent _ _ _ _ k.4);
     returns_idle = λ i r. absurd (none_sent _ _ _ _ r.4);
   }
@@ -147,21 +155,30 @@ module _ (roster : Roster) (host : HostId) (past : List Step) (rest : IsAtRest r
   no_claim v c = none_sent _ _ _ _ c.3
 
   resends : HostResends past s
-  resends = record {
+  resends = record { claims_only = λ v c. absurd (no_claim v c) }
+
+  repeats : RepeatsDue past s
+  repeats = record {
     lapse_all = λ v n b c o. absurd (rest.none_outstanding v n b o);
     lapse_claims = λ v c o. absurd (rest.none_claimed v o);
     lapse_only = λ v e n b c p. absurd (none_sent _ _ _ _ p);
     lapse_quiet = λ c. (refl, refl, refl, refl, refl);
     restarted_gives = λ v n g r. absurd (no_restart v r);
     restarted_claims = λ v r. absurd (no_restart v r);
-    claims_only = λ v c. absurd (no_claim v c);
     reclaimed_all = λ v n r b c. absurd (none_comes _ _ _ _ c);
+    again_only = λ v e n b p. absurd (none_sent _ _ _ _ p);
+    bye_again = λ v b. absurd (none_sent _ _ _ _ b.2);
   }
 
   leaves : (limit : ℕ) → HostLeaves roster host limit past s
-  leaves limit = record {
-    leaves = λ l m. elim m [ ];
+  leaves limit = record { leaves = λ l m. elim m [ ] }
+
+  leaves_due : (limit : ℕ) → LeavesDue limit past s
+  leaves_due limit = record {
+    held = λ l m. elim m [ ];
     evicts = λ c. absurd (cc);
+    ends = λ c. absurd (cc);
+    ends_all = λ l c m w. absurd (cc);
   }
 
   lines_meet : (lines : List ScriptLine) (servers : List ServerId) (limit : ℕ) → HostLines lines servers limit past s
@@ -170,7 +187,6 @@ module _ (roster : Roster) (host : HostId) (past : List Step) (rest : IsAtRest r
     free = λ n c. absurd (cc);
     begins = λ k call b. absurd (none_begins k call b);
     stops = λ d. absurd (none_sent _ _ _ _ d.3);
-    evicts = λ c. absurd (cc);
     no_server = (λ n c. cc, λ c. cc);
     applies_none = (refl, refl, refl);
   }
@@ -178,9 +194,7 @@ module _ (roster : Roster) (host : HostId) (past : List Step) (rest : IsAtRest r
   ends : (lines : List ScriptLine) (limit : ℕ) → HostEnds lines limit past s
   ends lines limit = record {
     after = λ c. absurd (cc);
-    does = λ c. absurd (cc);
     implied = λ k call c. absurd (cc);
-    drops = λ l c m w. absurd (cc);
     bye = λ v b. absurd (none_sent _ _ _ _ b.2);
   }
 
@@ -215,8 +229,9 @@ module _ (roster : Roster) (host : HostId) (past : List Step) (rest : IsAtRest r
   takes : HostTakes past s
   takes = record { all = λ w t u. absurd (none_used w u); once = λ t u m. elim m [ ] }
 
-pub may_rest : HostMayRest
-may_rest script host past rest = record {
+may_step : (script : Script) (host : HostId) (past : List Step) → IsAtRest script.roster host past
+    → HostMay script host past (bare (Host host) Lapse)
+may_step script host past rest = record {
   tokens = tokens script.roster host past rest;
   takes = takes script.roster host past rest;
   stance = rest.stance;
@@ -229,3 +244,17 @@ may_rest script host past rest = record {
   lines = lines_meet script.roster host past rest (lines_of script (Host host)) (servers_of script.roster) (limit_of script.roster host);
   ends = ends script.roster host past rest (lines_of script (Host host)) (limit_of script.roster host);
 }
+
+due_step : (script : Script) (host : HostId) (past : List Step) → IsAtRest script.roster host past
+    → HostDue script host past (bare (Host host) Lapse)
+due_step script host past rest = record {
+  stance = rest.stance;
+  calls = calls script.roster host past rest;
+  revokes = λ r i c. absurd (none_comes script.roster host past rest _ _ _ _ c);
+  repeats = repeats script.roster host past rest;
+  leaves = leaves_due script.roster host past rest (limit_of script.roster host);
+  once = tt;
+}
+
+pub may_rest : HostMayRest
+may_rest script host past rest = (may_step script host past rest, due_step script host past rest)

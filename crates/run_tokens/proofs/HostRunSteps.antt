@@ -12,14 +12,14 @@ use Rattle.need_host.specs.Questions.{fileset_of}
 use Rattle.message_types.specs.Soundness.{no_fid}
 use Rattle.token_types.specs.declared.token.Token.{Token}
 use Rattle.token_types.specs.declared.token.TokenId.{TokenId}
-use Rattle.run_tokens.proofs.Plain.{IsPlain, IsYoung, young_first, young_more, few, may, gives, revoked, resends, leaves, ends}
+use Rattle.run_tokens.proofs.Plain.{IsPlain, IsYoung, young_first, young_more, few, may, gives, revoked, resends, leaves, ends, ended_made}
 use Rattle.run_rules.specs.Dirty.{IsClean, IsDirtyUnder, UpdatesStatus}
 use Rattle.run_rules.specs.HostAnswers.{CanAnswer, HostAnswers}
 use Rattle.run_rules.specs.HostAsks.{FirstLack, GoesTo, HasChanged, HostAsks, IsNewChange, IsNewFetch}
 use Rattle.run_rules.specs.HostAsks.FetchNeeds.{OfDirectory}
 use Rattle.run_rules.specs.HostLeaves.{HasIdle}
 use Rattle.run_rules.specs.HostLines.{HostLines}
-use Rattle.run_rules.specs.HostRules.{HostMeets}
+use Rattle.run_rules.specs.HostRules.{HostMay}
 use Rattle.run_rules.specs.HostTakes.{HostTakes}
 use Rattle.run_rules.specs.Knowing.{Entered, Enters, HasLabel, Knows, NeedsServer, Stance, look_of, verdict_in}
 use Rattle.run_rules.specs.Labels.{end_call, end_of}
@@ -231,11 +231,11 @@ none_first : (s : Step) (past : List Step) (v : ServerId) (name : List ℕ) (id 
 none_first s past v name id none e = none v e.1 e.7.0
 
 no_done_by_line : (s : Step) (past : List Step) (k : ℕ) → s.cause ≡ Line k → (v : ServerId) (d : DoneOf) → Settles past s v d → ⊥
-no_done_by_line s past k at v d (inl x) = no_line s k v _ _ (Done d) at x.2
+no_done_by_line s past k at v d (inl x) = no_line s k v _ _ (Done d) at x.1
 no_done_by_line s past k at v d (inr x) = no_line s k _ _ _ (Done d) at x
 
 no_done_by : (s : Step) (past : List Step) (m : Message) → s.cause ≡ Came m → ((d : DoneOf) → m.body ≡ Done d → ⊥) → (v : ServerId) (d : DoneOf) → Settles past s v d → ⊥
-no_done_by s past m at none v d (inl x) = none d (its_body s m v _ _ (Done d) at x.2)
+no_done_by s past m at none v d (inl x) = none d (its_body s m v _ _ (Done d) at x.1)
 no_done_by s past m at none v d (inr x) = none d (its_body s m _ _ _ (Done d) at x)
 
 no_done_one : (v : ServerId) (d : DoneOf) → Settles [] greets v d → ⊥
@@ -260,7 +260,7 @@ none_two v name id (inr e) = none_one v name id e
 
 -- what the Done of the third step is
 the_done : (v : ServerId) (d : DoneOf) → Settles two (fetches whole) v d → entered ≡ d
-the_done v d (inl x) = let p = its_body (fetches whole) (to_host (Done entered)) v _ _ (Done d) refl x.2 in cc
+the_done v d (inl x) = let p = its_body (fetches whole) (to_host (Done entered)) v _ _ (Done d) refl x.1 in cc
 the_done v d (inr x) = let p = its_body (fetches whole) (to_host (Done entered)) _ _ _ (Done d) refl x in cc
 
 said_change : (v : ServerId) (e n : ℕ) (c : ChangeOf) → Said two v e n (Change c) → (site_one ≡ v) × (enter ≡ c)
@@ -310,7 +310,7 @@ changing = (
 )
 
 settles : Settles two (fetches whole) site_one entered
-settles = inl (refl, 0, (to_host (Done entered), refl, refl, refl, refl, refl))
+settles = inl (refl, (to_host (Done entered), refl, refl, refl, refl, refl))
 
 none_changing_three : (v : ServerId) (fs : FilesetId) (k : ℕ) → Changing three v fs k → ⊥
 none_changing_three v fs k a =
@@ -368,11 +368,11 @@ module _ (past : List Step) (s : Step) (young : IsYoung first second past)
 
   no_label : (u : Labelled) → HasLabel past s u → ⊥
   no_label u (inl p) = young.no_used u p
-  no_label u (inr p) = young.no_begun u p.0
+  no_label u (inr p) = young.no_made p.0 (ended_made past p.0 u p.1)
 
   needs_none : (u : Labelled) → NeedsServer past s u → ⊥
   needs_none u (inl p) = young.no_used u p.0.0
-  needs_none u (inr p) = young.no_begun u p.0
+  needs_none u (inr p) = young.no_made p.0 (ended_made past p.0 u p.1)
 
   pub knows : Knows client past s (knows_homes its)
   knows = record {
@@ -498,8 +498,6 @@ no_answers past s stance none unwritten unbegun turn cant = record {
   opens = λ a fid kind m. absurd (gone a m);
   begins = λ u m. absurd (fresh u m);
   begins_one = λ u w m. absurd (fresh u m);
-  syncs = λ k place fid t x. absurd (let p = turn k (Sync place) x in cc);
-  frees = λ k u t. absurd (not_end u.token.kind u.label (sym (turn k (end_of u) t)));
 }
   where
     gone : (a : Answer) → In a s.answers → ⊥
@@ -628,7 +626,6 @@ asks_greets = record {
   one_fetch = λ fs gs n m a. absurd (none_asking_one fs n a);
   one_change = λ v w fs gs n m a. absurd (none_changing_one v fs n a);
   one_of_both = λ v fs gs n m a. absurd (none_asking_one fs n a);
-  greets = λ v e n p. (not_welcome_one v, inr ((λ h. elim h.2 [ ]), (the_call, is_open_one, subst (GoesTo roster client [] greets stance_one stat) (only_hello v e n Hello p).0 goes_one)));
   fetches_welcome = λ v e n f p. absurd (let q = (only_hello v e n (Fetch f) p).3 in cc);
   changes_welcome = λ v e n c p. absurd (let q = (only_hello v e n (Change c) p).3 in cc);
   asks = λ c o up. inr (inr (inr (site_one, subst (λ (x : Asked). GoesTo roster client [] greets stance_one x.call site_one) (open_one c o) goes_one, greeted_one, not_welcome_one site_one)));
@@ -660,7 +657,6 @@ asks_enters = record {
   one_fetch = λ fs gs n m a. absurd (none_asking_two fs n a);
   one_change = λ v w fs gs n m a b. let p = changing_two v fs n a in let q = changing_two w gs m b in (sym p.1 ∙ q.1, sym p.2 ∙ q.2);
   one_of_both = λ v fs gs n m a. absurd (none_asking_two fs n a);
-  greets = λ v e n p. absurd (let q = (only_enter v e n Hello p).3 in cc);
   fetches_welcome = λ v e n f p. absurd (let q = (only_enter v e n (Fetch f) p).3 in cc);
   changes_welcome = λ v e n c p. subst (IsWelcome two) (only_enter v e n (Change c) p).0 welcome_two;
   asks = λ c o up. inr (inl (site_one, enter.fileset, 1, changing));
@@ -695,7 +691,6 @@ asks_fetches = record {
   one_fetch = λ fs gs n m a b. let p = asking_three fs n a in let q = asking_three gs m b in (sym p.0 ∙ q.0, sym p.1 ∙ q.1);
   one_change = λ v w fs gs n m a. absurd (none_changing_three v fs n a);
   one_of_both = λ v fs gs n m a b. absurd (none_changing_three v gs m b);
-  greets = λ v e n p. absurd (let q = (only_fetch v e n Hello p).3 in cc);
   fetches_welcome = λ v e n f p. subst (IsWelcome three) (only_fetch v e n (Fetch f) p).0 (inr welcome_two);
   changes_welcome = λ v e n c p. absurd (let q = (only_fetch v e n (Change c) p).3 in cc);
   asks = λ c o up. inl (root.fileset, 1, asking);
@@ -710,7 +705,6 @@ by_message past s m is applied admitted reserved none up = record {
   free = λ n c. absurd (not_line n c);
   begins = λ k call b. absurd (none k call b);
   stops = λ d. absurd (up d);
-  evicts = λ c. absurd (let p : Evict ≡ Came m = sym c ∙ is in cc);
   no_server = ((λ n c. let p : Restart n ≡ Came m = sym c ∙ is in cc), λ c. let p : Flushed ≡ Came m = sym c ∙ is in cc);
   applies_none = (applied, admitted, reserved);
 }
@@ -729,7 +723,6 @@ asks_nothing past s stance silent asking_none changing_none shut = record {
   one_fetch = λ fs gs n m a. absurd (asking_none fs n a);
   one_change = λ v w fs gs n m a. absurd (changing_none v fs n a);
   one_of_both = λ v fs gs n m a. absurd (asking_none fs n a);
-  greets = λ v e n p. absurd (silent v e n Hello p);
   fetches_welcome = λ v e n f p. absurd (silent v e n (Fetch f) p);
   changes_welcome = λ v e n c p. absurd (silent v e n (Change c) p);
   asks = λ c o. absurd (shut c o);
@@ -809,8 +802,6 @@ module _ (past : List Step) (s : Step) (stance : Stance roster client past s) (k
     opens = λ a fid kind m e. absurd (let p = shown a m ∙ e in cc);
     begins = λ u m. absurd (fresh u m);
     begins_one = λ u w m. absurd (fresh u m);
-    syncs = λ j place fid t x. absurd (let p = (turn j (Sync place) x).1 in cc);
-    frees = λ j u t. absurd (not_end u.token.kind u.label (sym (turn j (end_of u) t).1));
   }
 
 -- neither a Revoke nor a Restarted
@@ -953,7 +944,7 @@ takes_all past s none unused = record {
   once = λ t u m. absurd (subst (In t) none m);
 }
 
-pub meets_greets : HostMeets script client [] greets
+pub meets_greets : HostMay script client [] greets
 meets_greets = record {
   tokens = may_greets;
   takes = takes_all [] greets refl (λ w t a. absurd (none_answers_line [] greets 6 refl w a));
@@ -969,14 +960,13 @@ meets_greets = record {
     free = λ n c. ((λ o. λ p. elim p [ ]), λ m. none_idle 64 m.1);
     begins = λ k call b. inl (6, refl);
     stops = λ d. absurd (plain_hello _ _ _ Down d.3);
-    evicts = λ c. absurd (cc);
     no_server = (λ n c. cc, λ c. cc);
     applies_none = (refl, refl, refl);
   };
   ends = ends first second [] greets.cause greets.asked greets.answers [] greets.sent (young_first first second) plain_hello (no_revoke_line greets 6 refl) (no_restarted_line greets 6 refl) (no_reclaimed_line [] greets 6 refl) (λ c. cc) (λ c. cc) (λ c. cc) (lines_of script (Host client));
 }
 
-pub meets_enters : HostMeets script client one enters
+pub meets_enters : HostMay script client one enters
 meets_enters = record {
   tokens = may_enters;
   takes = takes_all one enters refl (λ w t a. absurd (none_answers_two w a));
@@ -991,7 +981,7 @@ meets_enters = record {
   ends = ends first second one enters.cause enters.asked enters.answers [] enters.sent young_one plain_enters (no_revoke one enters (to_host (Reclaimed welcome)) refl tt) (no_restarted one enters (to_host (Reclaimed welcome)) refl tt) no_reclaimed_two (λ c. cc) (λ c. cc) (λ c. cc) (lines_of script (Host client));
 }
 
-pub meets_fetches : HostMeets script client two (fetches whole)
+pub meets_fetches : HostMay script client two (fetches whole)
 meets_fetches = record {
   tokens = may_fetches;
   takes = takes_all two (fetches whole) refl (λ w t a m. subst (λ (x : Bring). In t x.tokens) (sym (brings_three w a)) m);
@@ -1006,7 +996,7 @@ meets_fetches = record {
   ends = ends first second two (fetches whole).cause (fetches whole).asked (fetches whole).answers [] (fetches whole).sent young_two plain_fetches (no_revoke two (fetches whole) (to_host (Done entered)) refl tt) (no_restarted two (fetches whole) (to_host (Done entered)) refl tt) no_reclaimed_three (λ c. cc) (λ c. cc) (λ c. cc) (lines_of script (Host client));
 }
 
-pub meets_takes : HostMeets script client three (takes whole)
+pub meets_takes : HostMay script client three (takes whole)
 meets_takes = record {
   tokens = may_takes;
   takes = record {
@@ -1028,7 +1018,7 @@ meets_takes = record {
     late a (inl p) e = let q : false ≡ true = ap (λ (x : Answer). x.first) (sym p) ∙ e in cc
     late a (inr p) e = elim p [ ]
 
-pub meets_from_cache : HostMeets script client four from_cache
+pub meets_from_cache : HostMay script client four from_cache
 meets_from_cache = record {
   tokens = may_cache;
   takes = takes_all four from_cache refl (λ w t a. absurd (none_answers_line four from_cache 7 refl w a));
@@ -1044,7 +1034,6 @@ meets_from_cache = record {
     free = λ n c. (none_open_four, λ m. few first second four from_cache.cause from_cache.asked from_cache.answers [] [] young_four plain_cache 62 m.1);
     begins = λ k call b. inl (7, refl);
     stops = λ d. absurd (cache_nothing _ _ _ Down d.3);
-    evicts = λ c. absurd (cc);
     no_server = (λ n c. cc, λ c. cc);
     applies_none = (refl, refl, refl);
   };

@@ -187,8 +187,8 @@ module _ (h : HostId) (A : List Step) (S : ServerId → List Act) (s : Step) (se
         ]
 
     known' : (n : AppliedGive) → home n.fileset ≡ v → Known (s ∷ A) n → Applied v (S v) h n
-    known' n at (inl (inl e)) = (served v).gones h (epoch_at A v) 0 n (came v (epoch_at A v) 0 (Gone n) (subst (λ w. ComesIn s w (epoch_at A w) 0 (Gone n)) at e))
-    known' n at (inl (inr (w, r, c, m))) =
+    known' n at (inl (made, inl e)) = (served v).gones h (epoch_at A v) 0 n (came v (epoch_at A v) 0 (Gone n) (subst (λ w. ComesIn s w (epoch_at A w) 0 (Gone n)) at e))
+    known' n at (inl (made, inr (w, r, c, m))) =
         let a = (served w).reclaimed h (epoch_at A w) 0 r n (came w (epoch_at A w) 0 (Reclaimed r) c) m in
         subst (λ u. Applied u (S u) h n) (sym (applied_at w (S w) h n a) ∙ at) a
     known' n at (inr e) = (link v).known n at e

@@ -11,7 +11,7 @@ use Rattle.run_rules.specs.HostGives.{HostGives, HostRevoked}
 use Rattle.run_rules.specs.HostLeaves.{HasIdle, HostLeaves}
 use Rattle.run_rules.specs.HostLines.{HostEnds}
 use Rattle.run_rules.specs.HostResends.{ClaimsAt, HostResends}
-use Rattle.run_rules.specs.Labels.{HasBegun, InUse}
+use Rattle.run_rules.specs.Labels.{HasEnded, InUse}
 use Rattle.run_tokens.specs.JournalWorked.{roster}
 use Rattle.run_rules.specs.Epochs.{Comes, ComesIn, epoch_at}
 use Rattle.run_rules.specs.Floors.{Uses}
@@ -47,10 +47,15 @@ IsPlain (Fetch fetch) = Unit {0}
 IsPlain (Change change) = Unit {0}
 IsPlain _ = ⊥
 
+-- a give-back that ended a use was made
+pub ended_made : (past : List Step) (give : Give) (u : Labelled) → HasEnded past give u → Made past give
+ended_made [] give u e = elim e [ ]
+ended_made (s ∷ past) give u (inl x) = inl x.0
+ended_made (s ∷ past) give u (inr e) = inr (ended_made past give u e)
+
 -- a host that has given nothing back, has used no label, and has for reading two tokens at most
 pub record IsYoung (a b : Token) (past : List Step) : Type 0 where
   pub no_made : (g : Give) → Made past g → ⊥
-  pub no_begun : (u : Labelled) → HasBegun past u → ⊥
   pub no_used : (u : Labelled) → InUse past u → ⊥
   pub no_dirty : (fid : Fid) (at : ℕ) → is_dirty past fid at ≡ false
   pub no_update : (t : Token) → Owns past t → UpdatesStatus t t.fid → ⊥
@@ -60,7 +65,6 @@ pub record IsYoung (a b : Token) (past : List Step) : Type 0 where
 pub young_first : (a b : Token) → IsYoung a b []
 young_first a b = record {
   no_made = λ g m. elim m [ ];
-  no_begun = λ u m. elim m [ ];
   no_used = λ u m. elim m [ ];
   no_dirty = λ fid at. refl;
   no_update = λ t o. elim o [ ];
@@ -77,7 +81,6 @@ module _ (a b : Token) (past : List Step) (cause : Cause) (asked : Option Asked)
   pub young_more : ((t : Token) → In t taken → (t ≡ a) ⊎ (t ≡ b)) → ((t : Token) → In t taken → t.kind ≡ Status true → ⊥) → IsYoung a b (s ∷ past)
   young_more two none = record {
     no_made = λ g m. elim m [ inl p ↦ elim p [ ] | inr p ↦ young.no_made g p ];
-    no_begun = λ u m. elim m [ inl p ↦ elim p [ ] | inr p ↦ young.no_begun u p ];
     no_used = λ u m. elim m [ inl p ↦ elim p [ ] | inr p ↦ young.no_used u p.0 ];
     no_dirty = λ fid at. ap (λ (x : Bool). (false || x) && true) (young.no_dirty fid at);
     no_update = λ t o u. elim o.0 [ inl m ↦ none t m u.1 | inr m ↦ young.no_update t m u ];
@@ -109,6 +112,8 @@ module _ (a b : Token) (past : List Step) (cause : Cause) (asked : Option Asked)
 
   pub gives : HostGives past s
   gives = record {
+    names = λ g m. elim m [ ];
+    rise = λ g m. elim m [ ];
     one_a_file = λ g k m. elim m [ ];
     next = λ g m. elim m [ ];
     bytes = λ g at x m. elim m [ ];
@@ -159,7 +164,6 @@ module _ (a b : Token) (past : List Step) (cause : Cause) (asked : Option Asked)
       (no_lapse : cause ≡ Lapse → ⊥) (no_evict : cause ≡ Evict → ⊥) (no_end : cause ≡ End → ⊥) where
     pub revoked : HostRevoked past s
     revoked = record {
-      answers = λ r i c. absurd (no_revoke _ _ _ r c);
       keeps = λ i k. absurd (only _ _ _ (Kept k.3) k.4);
       returns_idle = λ i r. absurd (no_returned i r);
     }
@@ -168,28 +172,14 @@ module _ (a b : Token) (past : List Step) (cause : Cause) (asked : Option Asked)
     no_claim v c = only v _ _ (Reclaim c.2) c.3
 
     pub resends : HostResends past s
-    resends = record {
-      lapse_all = λ v n m c. absurd (no_lapse c);
-      lapse_claims = λ v c. absurd (no_lapse c);
-      lapse_only = λ v e n m c. absurd (no_lapse c);
-      lapse_quiet = λ c. absurd (no_lapse c);
-      restarted_gives = λ v n g c. absurd (no_restarted v _ _ c.2.2);
-      restarted_claims = λ v c. absurd (no_restarted v _ _ c.2.2);
-      claims_only = λ v c. absurd (no_claim v c);
-      reclaimed_all = λ v n r m c. absurd (no_reclaimed v r c);
-    }
+    resends = record { claims_only = λ v c. absurd (no_claim v c) }
 
     pub leaves : HostLeaves roster client 64 past s
-    leaves = record {
-      leaves = λ l m. elim m [ ];
-      evicts = λ c. absurd (no_evict c);
-    }
+    leaves = record { leaves = λ l m. elim m [ ] }
 
     pub ends : (lines : List LineOf) → HostEnds lines 64 past s
     ends lines = record {
       after = λ c. absurd (no_end c);
-      does = λ c. absurd (no_end c);
       implied = λ k call c. absurd (no_end c);
-      drops = λ l c m w. absurd (no_end c);
       bye = λ v x. absurd (only v _ _ Bye x.2);
     }

@@ -511,7 +511,10 @@ module _ (whole : Span) where
   first_stays = (inr (held_six first (inl refl)), λ d. let q : 2 ≡ 1 = ap (λ (x : Token). x.id.seq) (dropped_is first d) in omega (arith, q))
 
   is_known : IsKnown (own client (worked_restart whole)) (give whole)
-  is_known = inl (inl (from_server (Gone (number_of (give whole))), refl, sym at_one, sym (ap (epoch_at seven) at_one), refl, refl))
+  is_known = inl (
+    (give whole, inl (inl refl), refl),
+    inl (from_server (Gone (number_of (give whole))), refl, sym at_one, sym (ap (epoch_at seven) at_one), refl, refl),
+  )
 
   going_on : HasStopped (learns whole ∷ seven) → ⊥
   going_on (v, e, n, inl p) = learns_nothing v e n Down p

@@ -7,7 +7,8 @@ use Rattle.base_types.specs.declared.ids.ServerId.{ServerId}
 use Rattle.tree_calls.specs.declared.roster.Roster.{Roster}
 use Rattle.script_lines.specs.declared.script.Script.{Script}
 use Rattle.run_rules.specs.HostResends.{Claimed, Outstanding}
-use Rattle.run_rules.specs.HostRules.{HostMeets}
+use Rattle.run_rules.specs.HostDue.{HostDue}
+use Rattle.run_rules.specs.HostRules.{HostMay}
 use Rattle.run_rules.specs.Knowing.{Stance}
 use Rattle.run_rules.specs.OpenCalls.{NoneOpen}
 use Rattle.run_rules.specs.Requests.{Asking, Changing}
@@ -29,4 +30,4 @@ pub record IsAtRest (roster : Roster) (host : HostId) (past : List Step) : Type 
 
 abbrev pub HostMayRest : Type 0
 HostMayRest = (script : Script) (host : HostId) (past : List Step) → IsAtRest script.roster host past
-    → HostMeets script host past (bare (Host host) Lapse)
+    → HostMay script host past (bare (Host host) Lapse) × HostDue script host past (bare (Host host) Lapse)

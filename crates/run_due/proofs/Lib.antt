@@ -1,0 +1,4 @@
+pub mod Steps
+pub mod Silence
+pub mod Doing
+pub mod Beginning

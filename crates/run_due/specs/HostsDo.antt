@@ -1,0 +1,206 @@
+-- What a host may not do, and what it may not leave undone.
+use Rattle.std.specs.Prelude.{◌≡◌, ◌≢◌, ◌<◌, ◌⊎◌, ℕ, true, List, [], ◌∷◌, length}
+use Rattle.base_types.specs.declared.ids.HostId.{HostId}
+use Rattle.base_types.specs.declared.ids.ServerId.{ServerId}
+use Rattle.base_types.specs.declared.ids.FilesetId.{FilesetId}
+use Rattle.base_types.specs.declared.ids.Node.TheVariants.{Host}
+use Rattle.tree_calls.specs.declared.call.Call.TheVariants.{Sync}
+use Rattle.tree_calls.specs.declared.place.Place.{Place}
+use Rattle.base_types.specs.declared.ids.Fid.{Fid}
+use Rattle.tree_answers.specs.declared.tree.Tree.{Tree}
+use Rattle.token_types.specs.declared.token.Token.{Token}
+use Rattle.token_types.specs.declared.token.TokenId.{TokenId}
+use Rattle.message_types.specs.declared.message.Body.TheVariants.{Hello, Fetch, Change, Restarted, Gone, Revoke, Reclaim, Bye}
+use Rattle.message_types.specs.declared.asking.Fetch.{Fetch as FetchOf}
+use Rattle.message_types.specs.declared.asking.Change.{Change as ChangeOf}
+use Rattle.message_types.specs.declared.giving.Give.{Give}
+use Rattle.message_types.specs.declared.giving.AppliedGive.{AppliedGive}
+use Rattle.message_types.specs.declared.giving.Reclaim.{Reclaim as ReclaimOf}
+use Rattle.message_types.specs.declared.tokens.Revoke.{Revoke as RevokeOf}
+use Rattle.script_lines.specs.declared.script.Script.{Script}
+use Rattle.script_lines.specs.declared.script.Line.{Line}
+use Rattle.script_lines.specs.declared.script.Deed.TheVariants.{Await}
+use Rattle.run_rules.specs.declared.journal.Journal.{Journal}
+use Rattle.run_rules.specs.Lines.{lines_of, lines_gone, limit_of, setup}
+use Rattle.run_rules.specs.declared.applied.Request.{Request}
+use Rattle.run_rules.specs.declared.applied.Request.TheVariants.{Change as Changes}
+use Rattle.run_rules.specs.declared.applied.Wanted.{Wanted}
+use Rattle.run_rules.specs.declared.step.Asked.{Asked}
+use Rattle.run_rules.specs.declared.step.Cause.TheVariants.{Evict, Flushed, Lapse, Line as LineOf, Restart}
+use Rattle.run_rules.specs.declared.step.Step.{Step}
+use Rattle.run_rules.specs.Acts.{Act, after_cause, after_step, written_by}
+use Rattle.run_rules.specs.Epochs.{About, IsWelcome}
+use Rattle.run_rules.specs.Gives.{Made, IsKnown, IsOutstanding}
+use Rattle.run_rules.specs.Hosts.{IsLive, HasReclaimed}
+use Rattle.run_rules.specs.Lists.{In}
+use Rattle.run_rules.specs.Nodes.{IsBare, own}
+use Rattle.run_rules.specs.Requests.{Asking, Changing}
+use Rattle.run_rules.specs.Sends.{HasStopped, HasGreeted, Sends, Says}
+use Rattle.run_rules.specs.ServerTokens.{HasAll}
+use Rattle.run_rules.specs.Hosts.{TookNow}
+use Rattle.run_rules.specs.Tokens.{AtHand, Held}
+use Rattle.run_rules.specs.Dirty.{IsDirtyUnder}
+use Rattle.run_rules.specs.HostLeaves.{MayEvict}
+use Rattle.run_rules.specs.Knowing.{FindsFile}
+use Rattle.run_rules.specs.declared.step.Labelled.{Labelled}
+use Rattle.run_rules.specs.Labels.{FreesPinned, end_of}
+use Rattle.run_rules.specs.OpenCalls.{IsOpen, IsTurn}
+use Rattle.run_rules.specs.ServerAnswers.{SentNow, TakenNow}
+use Rattle.tree_calls.specs.declared.reply.Refusal.{Refusal}
+use Rattle.run_rules.specs.ServerDecides.{IsNewRequest, RefusedOn, NotRefused}
+use Rattle.run_rules.specs.ServerSends.{IsAskedBack, Revoked}
+use Rattle.run_rules.specs.Kept.{kept, kept_through}
+use Rattle.run_rules.specs.Wants.{Waits, IsReady, has_effect}
+use Rattle.run_rules.specs.Runs.{IsEnded, FlagsMet, TakesPart, IsLine, IsRaised, HostIsDone, past_of}
+use Rattle.std.specs.Prelude.{◌++◌}
+use Rattle.base_types.specs.declared.ids.Node.TheVariants.{Server}
+use Rattle.message_types.specs.declared.message.Body.{Body}
+use Rattle.message_types.specs.declared.message.Body.TheVariants.{GiveBack, Done, Reclaimed}
+use Rattle.message_types.specs.declared.message.Message.{Message}
+use Rattle.message_types.specs.declared.giving.Reclaimed.{Reclaimed as ReclaimedOf}
+use Rattle.message_types.specs.declared.telling.Done.{Done as DoneOf}
+use Rattle.run_rules.specs.Epochs.{Comes, epoch_at}
+use Rattle.run_rules.specs.Acts.{acts}
+use Rattle.run_rules.specs.Lists.{Always}
+use Rattle.run_rules.specs.Hosts.{Away, Listed}
+use Rattle.run_rules.specs.HostGives.{HasDirty}
+use Rattle.run_rules.specs.HostResends.{ClaimsAt, HasBye, LearnsRestart, Outstanding}
+use Rattle.run_rules.specs.Knowing.{Stance}
+use Rattle.run_rules.specs.Labels.{NoneUsed}
+use Rattle.run_rules.specs.Lines.{IsNextLine, servers_of}
+use Rattle.run_rules.specs.Nodes.{served}
+use Rattle.run_rules.specs.OpenCalls.{NoneOpen}
+use Rattle.run_rules.specs.Runs.{IsDutiful, IsRun, firsts_of}
+use Rattle.run_rules.specs.Sends.{HasSaid}
+use Rattle.run_rules.specs.ServerAnswers.{HeardNow, ListedNow}
+use Rattle.run_rules.specs.ServerDecides.{IsOfRow}
+use Rattle.run_rules.specs.Tokens.{Drops}
+use Rattle.run_rules.specs.Wants.{CanGrant, CanRefuse, is_use}
+use Rattle.run_rules.specs.declared.applied.Answer.{Answer}
+use Rattle.run_rules.specs.declared.applied.Leave.{Leave}
+use Rattle.run_rules.specs.declared.applied.Why.TheVariants.{Ended}
+use Rattle.run_rules.specs.declared.step.Cause.TheVariants.{End}
+use Rattle.script_lines.specs.declared.script.Deed.TheVariants.{Restart as Restarts}
+use Rattle.run_due.specs.Dutiful.{Never, NeverAt, NeverFrom, NeverIn, SaysTwice}
+
+-- an open call is left alone: nothing is asked, each give-back is known, and each server that was greeted welcomes
+pub record LeftAlone (past : List Step) (s : Step) : Type 0 where
+  pub call : Asked
+  pub open_is : IsOpen (s ∷ past) call
+  pub live : HasStopped (s ∷ past) → ⊥
+  pub none_asked : (fs : FilesetId) (n : ℕ) → Asking (s ∷ past) fs n → ⊥
+  pub none_changed : (v : ServerId) (fs : FilesetId) (n : ℕ) → Changing (s ∷ past) v fs n → ⊥
+  pub none_given : (g : Give) → Made (s ∷ past) g → IsKnown (s ∷ past) g
+  pub welcome : (v : ServerId) → HasGreeted (s ∷ past) v → IsWelcome (s ∷ past) v
+
+-- a server is asked that hasn't welcomed the host
+abbrev pub AsksEarly : List Step → Step → Type 0
+AsksEarly past s = (v : ServerId) × (e : ℕ) × (n : ℕ) × (IsWelcome (s ∷ past) v → ⊥)
+    × (((f : FetchOf) × Sends s v e n (Fetch f)) ⊎ ((c : ChangeOf) × Sends s v e n (Change c)))
+
+-- a server is greeted a second time without a lapse, or when it has welcomed the host, or while no call is open
+abbrev pub GreetsAgain : List Step → Step → Type 0
+GreetsAgain past s = (v : ServerId) × (e : ℕ) × (n : ℕ) × Sends s v e n Hello
+    × (((s.cause ≡ Lapse → ⊥) × HasGreeted past v)
+    ⊎ (IsWelcome (s ∷ past) v ⊎ ((s.cause ≡ Lapse → ⊥) × NoneOpen (s ∷ past))))
+
+-- a lapse sends something that isn't outstanding, and no claim
+abbrev pub LapsesMore : List Step → Step → Type 0
+LapsesMore past s = (v : ServerId) × (e : ℕ) × (n : ℕ) × (b : Body) × (s.cause ≡ Lapse) × Sends s v e n b
+    × (Outstanding past v n b → ⊥) × ((claim : ReclaimOf) → b ≡ Reclaim claim → ⊥)
+
+-- a lapse answers a call, or makes a give-back
+abbrev pub LapsesBusily : List Step → Step → Type 0
+LapsesBusily past s = (s.cause ≡ Lapse) × (((a : Answer) × In a s.answers) ⊎ ((g : Give) × In g s.made))
+
+-- an outstanding Fetch is sent again where no lapse and no answer to a claim comes
+abbrev pub FetchesAgain : List Step → Step → Type 0
+FetchesAgain past s = (v : ServerId) × (e : ℕ) × (n : ℕ) × (f : FetchOf) × Sends s v e n (Fetch f)
+    × Outstanding past v n (Fetch f) × (s.cause ≡ Lapse → ⊥)
+    × ((answer : ReclaimedOf) → Comes past s v (Reclaimed answer) → ⊥)
+
+-- a server has restarted, and a give-back that is outstanding there isn't sent again
+abbrev pub KeepsGive : List Step → Step → Type 0
+KeepsGive past s = (v : ServerId) × (n : ℕ) × (g : Give) × LearnsRestart past s v × Outstanding past v n (GiveBack g)
+    × (Sends s v (epoch_at (s ∷ past) v) n (GiveBack g) → ⊥)
+
+-- a server is sent a claim that hasn't restarted, at no lapse
+abbrev pub ClaimsIdly : List Step → Step → Type 0
+ClaimsIdly past s = (v : ServerId) × ClaimsAt s v × (LearnsRestart past s v → ⊥) × (s.cause ≡ Lapse → ⊥)
+
+-- it is asked for a token under which something is dirty, and makes no give-back
+pub record HoldsBack (past : List Step) (s : Step) : Type 0 where
+  pub r : RevokeOf
+  pub t : Token
+  pub about : About past s r.fid.fileset (Revoke r)
+  pub named : In t.id r.ids
+  pub held : Held past t
+  pub dirty : HasDirty past s t
+  pub none : s.made ≡ []
+
+-- a Sync of a file under whose token something is dirty makes no give-back
+pub record SyncsNothing (script : Script) (host : HostId) (past : List Step) (s : Step) : Type 0 where
+  pub k : ℕ
+  pub place : Place
+  pub fid : Fid
+  pub t : Token
+  pub turn : IsTurn past s k (Sync place)
+  pub finds : (stance : Stance script.roster host past s) → FindsFile stance place fid
+  pub at : AtHand s past t
+  pub file : t.fid ≡ fid
+  pub dirty : IsDirtyUnder past s t
+  pub none : s.made ≡ []
+
+-- the last use of a pinned token is ended, and no give-back made
+abbrev pub FreesNothing : List Step → Step → Type 0
+FreesNothing past s =
+    (k : ℕ) × (u : Labelled) × IsTurn past s k (end_of u) × FreesPinned past u × (s.made ≡ [])
+
+abbrev pub SaysByeHolding : List Step → Step → Type 0
+SaysByeHolding past s =
+    (v : ServerId) × Says s v Bye × (((t : Token) × Held (s ∷ past) t) ⊎ (HasGreeted past v → ⊥))
+
+abbrev pub SaysByeAgain : List Step → Step → Type 0
+SaysByeAgain past s = (v : ServerId) × Says s v Bye × HasSaid past v Bye × HasBye past v
+
+-- an eviction drops nothing, or more than one token
+abbrev pub EvictsOther : List Step → Step → Type 0
+EvictsOther past s = (s.cause ≡ Evict)
+    × ((s.dropped ≡ []) ⊎ ((l k : Leave) × (ls : List Leave) × (s.dropped ≡ l ∷ k ∷ ls)))
+
+-- one goes where none may be evicted
+abbrev pub EvictsEarly : Script → HostId → List Step → Step → Type 0
+EvictsEarly script host past s = (s.cause ≡ Evict) × (MayEvict past (limit_of script.roster host) → ⊥)
+
+-- a token is dropped that the host doesn't have
+abbrev pub DropsOther : List Step → Step → Type 0
+DropsOther past s = (l : Leave) × In l s.dropped × (AtHand s past l.token → ⊥)
+
+-- at the end a token leaves while another one stays, or while a label is in use
+abbrev pub EndsPartly : List Step → Step → Type 0
+EndsPartly past s = (l : Leave) × (s.cause ≡ End) × In l s.dropped × (l.why ≡ Ended)
+    × (((t : Token) × Held past t × (Drops s t → ⊥)) ⊎ (NoneUsed past → ⊥))
+
+abbrev pub DoesServersWork : List Step → Step → Type 0
+DoesServersWork past s = ((n : ℕ) × (s.cause ≡ Restart n)) ⊎ (s.cause ≡ Flushed)
+
+pub record HostsDo : Type 0 where
+  pub left_alone : Never LeftAlone
+  pub early : Never AsksEarly
+  pub greets : Never GreetsAgain
+  pub twice : Never SaysTwice
+  pub lapse_more : Never LapsesMore
+  pub lapse_busy : Never LapsesBusily
+  pub fetches_again : Never FetchesAgain
+  pub keeps_give : Never KeepsGive
+  pub claims_idly : Never ClaimsIdly
+  pub holds_back : Never HoldsBack
+  pub syncs : NeverIn SyncsNothing
+  pub frees : Never FreesNothing
+  pub evicts : Never EvictsOther
+  pub evicts_early : NeverIn EvictsEarly
+  pub drops : Never DropsOther
+  pub ends_partly : Never EndsPartly
+  pub bye : Never SaysByeHolding
+  pub bye_again : Never SaysByeAgain
+  pub servers_work : Never DoesServersWork

@@ -1,0 +1,54 @@
+-- Steps that the rules refuse, each for one reason, and one that they admit.
+use Rattle.std.specs.Prelude.{◌≡◌, ℕ, List, [], ◌∷◌, Some, None}
+use Rattle.message_types.specs.declared.giving.Give.{Give}
+use Rattle.message_types.specs.declared.message.Body.TheVariants.{Hello, Change, Done, GiveBack, Reclaimed}
+use Rattle.script_lines.specs.declared.script.Deed.TheVariants.{Call as MakesCall}
+use Rattle.script_lines.specs.declared.script.Script.{Script}
+use Rattle.run_rules.specs.Acts.{acts as acts_of}
+use Rattle.run_rules.specs.HostDue.{HostDue}
+use Rattle.run_rules.specs.HostRules.{HostMay}
+use Rattle.run_rules.specs.ServerRules.{ServerMay}
+use Rattle.run_rules.specs.declared.step.Cause.TheVariants.{Line as LineOf, Message as Came, Lapse}
+use Rattle.run_rules.specs.declared.step.Step.{Step}
+use Rattle.run_tokens.specs.Worked.{client, site_one, serves, to_host, to_server, welcome, stat, enter, entered}
+use Rattle.run_examples.specs.Laws.{Does, writing}
+use Rattle.run_examples.specs.Steps.{acts, hears, script_of, grown, file, file_tree}
+
+-- a script of one line, the status of a root
+abbrev pub looking : Script
+looking = script_of (MakesCall stat ∷ [])
+
+-- a Reclaimed comes that nobody asked for
+abbrev pub unasked : Step
+unasked = hears (to_host (Reclaimed welcome)) [] []
+
+-- then the host asks the server without a greeting
+abbrev pub asks_ungreeted : Step
+asks_ungreeted =
+    acts (LineOf 6) (Some (record { k = 1; call = stat })) [] [] None [] [] [] (to_server 1 (Change enter) ∷ [])
+
+-- a host greets twice in one step
+abbrev pub greets_twice : Step
+greets_twice = acts (LineOf 6) (Some (record { k = 1; call = stat })) [] [] None [] [] []
+    (to_server 0 Hello ∷ to_server 0 Hello ∷ [])
+
+-- a host whose length is dirty gives it back, with no token, when a late copy of a message comes
+abbrev pub no_tokens : Give
+no_tokens = record { number = 1; fid = file; ids = []; pieces = []; length = Some 2; ends = None }
+
+abbrev pub gives_length : Step
+gives_length = acts (Came (to_host (Done entered))) None [] [] None [] (no_tokens ∷ []) []
+    (to_server 1 (GiveBack no_tokens) ∷ [])
+
+-- a server says Reclaimed to a host that it doesn't know, at a lapse
+abbrev pub tells_unasked : Step
+tells_unasked = serves Lapse [] [] (to_host (Reclaimed welcome) ∷ [])
+
+-- A server says Reclaimed only where it was asked. A host bears one all the same, and doesn't count as welcome by it,
+-- since it has greeted nobody; so it asks nothing. Nothing is said twice in a step, and a give-back names a token.
+pub record OddSteps : Type 0 where
+  pub told : ServerMay looking file_tree site_one [] (acts_of 1 site_one []) tells_unasked → ⊥
+  pub heard : Does looking client [] unasked
+  pub asks : HostMay looking client (unasked ∷ []) asks_ungreeted → ⊥
+  pub greets : HostDue looking client [] greets_twice → ⊥
+  pub gives : HostMay writing client grown gives_length → ⊥

@@ -1,0 +1,144 @@
+-- What is due of a host: that it answers, asks, gives back and sends again, so that runs end. No law of safety rests on
+-- it.
+use Rattle.std.specs.Prelude.{List, None, [], ℕ, ◌∷◌, ◌≡◌, ◌⊎◌}
+use Rattle.base_types.specs.declared.ids.Fid.{Fid}
+use Rattle.base_types.specs.declared.ids.HostId.{HostId}
+use Rattle.base_types.specs.declared.ids.ServerId.{ServerId}
+use Rattle.tree_calls.specs.declared.call.Call.{Call}
+use Rattle.tree_calls.specs.declared.call.Call.TheVariants.{Sync}
+use Rattle.tree_calls.specs.declared.place.Place.{Place}
+use Rattle.tree_calls.specs.declared.roster.Roster.{Roster}
+use Rattle.token_types.specs.declared.token.Token.{Token}
+use Rattle.token_types.specs.declared.token.TokenId.{TokenId}
+use Rattle.message_types.specs.declared.giving.Give.{Give}
+use Rattle.message_types.specs.declared.giving.Reclaimed.{Reclaimed as ReclaimedOf}
+use Rattle.message_types.specs.declared.giving.Reclaim.{Reclaim as ReclaimOf}
+use Rattle.message_types.specs.declared.message.Body.{Body}
+use Rattle.message_types.specs.declared.message.Body.TheVariants.{Hello, Revoke, Returned, GiveBack, Reclaim, Reclaimed}
+use Rattle.message_types.specs.declared.message.Body.TheVariants.{Bye}
+use Rattle.message_types.specs.declared.tokens.Named.{Named}
+use Rattle.message_types.specs.declared.tokens.Revoke.{Revoke as RevokeOf}
+use Rattle.script_lines.specs.declared.script.Script.{Script}
+use Rattle.run_rules.specs.Dirty.{IsDirtyUnder}
+use Rattle.run_rules.specs.Epochs.{About, Comes, IsWelcome, epoch_at}
+use Rattle.run_rules.specs.Gives.{IsKnown, IsOutstanding, Made, Makes}
+use Rattle.run_rules.specs.HostAsks.{GoesTo}
+use Rattle.run_rules.specs.HostGives.{HasDirty}
+use Rattle.run_rules.specs.HostLeaves.{MayEvict}
+use Rattle.run_rules.specs.HostResends.{Claimed, ClaimsAt, HasBye, LearnsRestart, Outstanding}
+use Rattle.run_rules.specs.Knowing.{FindsFile, Stance}
+use Rattle.run_rules.specs.Labels.{FreesPinned, GivesUse, IsUsed, NoneUsed, end_of}
+use Rattle.run_rules.specs.Lines.{limit_of}
+use Rattle.run_rules.specs.Lists.{EachOnce, In}
+use Rattle.run_rules.specs.OpenCalls.{Begins, IsOpen, IsTurn}
+use Rattle.run_rules.specs.Places.{place}
+use Rattle.run_rules.specs.Sends.{HasGreeted, HasSaid, Keeps, Says, Sends, SendsTo}
+use Rattle.run_rules.specs.Tokens.{AtHand, Drops, Held, HoldsId}
+use Rattle.run_rules.specs.declared.applied.Leave.{Leave}
+use Rattle.run_rules.specs.declared.applied.Why.TheVariants.{Ended}
+use Rattle.run_rules.specs.declared.step.Asked.{Asked}
+use Rattle.run_rules.specs.declared.step.Cause.TheVariants.{Lapse, Evict, End}
+use Rattle.run_rules.specs.declared.step.Labelled.{Labelled}
+use Rattle.run_rules.specs.declared.step.Step.{Step}
+
+-- of its open call, from where the host stands
+pub record CallsDue
+    (roster : Roster) (host : HostId) (past : List Step) (s : Step) (stance : Stance roster host past s) : Type 0 where
+  -- a Sync whose walk lacks no token gives back each token of its file under which something is dirty
+  pub syncs : (k : ℕ) (place : Place) (fid : Fid) (t : Token) → IsTurn past s k (Sync place)
+      → FindsFile stance place fid → AtHand s past t → t.fid ≡ fid → IsDirtyUnder past s t → Makes s t.id
+  -- the last use of a pinned token is ended by a give-back
+  pub frees : (k : ℕ) (u : Labelled) → IsTurn past s k (end_of u) → FreesPinned past u
+      → (g : Give) × In g s.made × GivesUse g u
+  -- a server is greeted once, before anything is asked of it, for an open call; and again at a lapse
+  pub greets : (v : ServerId) (e n : ℕ) → Sends s v e n Hello → (IsWelcome (s ∷ past) v → ⊥)
+      × (((s.cause ≡ Lapse) × HasGreeted past v)
+      ⊎ ((HasGreeted past v → ⊥)
+      × ((call : Asked) × IsOpen (s ∷ past) call × GoesTo roster host past s stance call.call v)))
+
+-- a Returned of this file names the token
+abbrev pub ReturnsOf : Step → Fid → TokenId → Type 0
+ReturnsOf s fid id = (server : ServerId) × (epoch moves : ℕ) × (named : Named)
+    × Sends s server epoch moves (Returned named) × (named.fid ≡ fid) × In id named.ids
+
+-- of which file the host answers for a token that a Revoke names: its own, where the host holds it; else the Revoke's
+abbrev pub AnswersOf : List Step → RevokeOf → TokenId → Fid → Type 0
+AnswersOf past revoke id fid =
+    ((token : Token) × Held past token × (token.id ≡ id) × (token.fid ≡ fid))
+    ⊎ ((HoldsId past id → ⊥) × (revoke.fid ≡ fid))
+
+-- of each token that a Revoke names
+pub record RevokeDue (past : List Step) (s : Step) (revoke : RevokeOf) (i : TokenId) : Type 0 where
+  -- a held token in use is kept
+  pub keeps : HoldsId past i → IsUsed past i → Keeps s i
+  -- one under which something is dirty goes into a give-back
+  pub gives : (t : Token) → Held past t → t.id ≡ i → HasDirty past s t → Makes s i
+  -- one in a give-back that isn't known as applied is answered by that, where it is outstanding
+  pub gives_again : (g : Give) → IsOutstanding past g → In i g.ids
+      → SendsTo s (place (s ∷ past) g.fid.fileset) (GiveBack g)
+  -- all others are returned
+  pub returns : (fid : Fid) → AnswersOf past revoke i fid → (IsUsed past i → ⊥)
+      → ((t : Token) → Held past t → t.id ≡ i → HasDirty past s t → ⊥)
+      → ((g : Give) → Made past g → In i g.ids → IsKnown past g) → ReturnsOf s fid i
+
+-- no give-back: those are sent again where the server has restarted
+abbrev pub IsOther : Body → Type 0
+IsOther (GiveBack give) = ⊥
+IsOther _ = Unit {0}
+
+-- a Revoke names a token of the give-back
+abbrev pub AsksBack : List Step → Step → Give → Type 0
+AsksBack past s give =
+    (revoke : RevokeOf) × (id : TokenId) × About past s revoke.fid.fileset (Revoke revoke) × In id revoke.ids
+    × In id give.ids
+
+-- when what is outstanding is sent again, beside at a lapse
+abbrev pub SendsAgain : List Step → Step → ServerId → Body → Type 0
+SendsAgain past s v (GiveBack g) = LearnsRestart past s v ⊎ AsksBack past s g
+SendsAgain past s v _ = (answer : ReclaimedOf) × Comes past s v (Reclaimed answer)
+
+-- what is sent again, and when
+pub record RepeatsDue (past : List Step) (s : Step) : Type 0 where
+  -- at a lapse it sends again what is outstanding, and the claim that waits; all of it, and nothing else
+  pub lapse_all : (v : ServerId) (n : ℕ) (b : Body) → s.cause ≡ Lapse → Outstanding past v n b
+      → Sends s v (epoch_at past v) n b
+  pub lapse_claims : (v : ServerId) → s.cause ≡ Lapse → Claimed past v → ClaimsAt s v
+  pub lapse_only : (v : ServerId) (e n : ℕ) (b : Body) → s.cause ≡ Lapse → Sends s v e n b
+      → Outstanding past v n b ⊎ (Claimed past v × ((claim : ReclaimOf) × (b ≡ Reclaim claim)))
+  -- and it changes nothing
+  pub lapse_quiet : s.cause ≡ Lapse
+      → (s.asked ≡ None) × (s.answers ≡ []) × (s.taken ≡ []) × (s.dropped ≡ []) × (s.made ≡ [])
+  -- where a server has restarted it sends its outstanding give-backs again, and a claim
+  pub restarted_gives : (v : ServerId) (n : ℕ) (g : Give) → LearnsRestart past s v → Outstanding past v n (GiveBack g)
+      → Sends s v (epoch_at (s ∷ past) v) n (GiveBack g)
+  pub restarted_claims : (v : ServerId) → LearnsRestart past s v → ClaimsAt s v
+  -- once its claim is answered it sends what else is still outstanding again
+  pub reclaimed_all : (v : ServerId) (n : ℕ) (answer : ReclaimedOf) (b : Body) → Comes past s v (Reclaimed answer)
+      → IsOther b → Outstanding past v n b → Outstanding (s ∷ past) v n b → Sends s v (epoch_at (s ∷ past) v) n b
+  -- at no other time is anything sent again that is outstanding, nor a Bye that was answered
+  pub again_only : (v : ServerId) (e n : ℕ) (b : Body) → Sends s v e n b → Outstanding past v n b
+      → (s.cause ≡ Lapse) ⊎ SendsAgain past s v b
+  pub bye_again : (v : ServerId) → Says s v Bye → HasSaid past v Bye → HasBye past v → ⊥
+
+-- what leaves it
+pub record LeavesDue (limit : ℕ) (past : List Step) (s : Step) : Type 0 where
+  -- only what it has
+  pub held : (l : Leave) → In l s.dropped → AtHand s past l.token
+  -- it evicts one token, where it may evict
+  pub evicts : s.cause ≡ Evict → MayEvict past limit × ((l : Leave) × (s.dropped ≡ l ∷ []))
+  -- each step of its end does something
+  pub ends : s.cause ≡ End → ((k : ℕ) × (call : Call) × Begins s k call)
+      ⊎ (((l : Leave) × In l s.dropped) ⊎ ((v : ServerId) × Says s v Bye))
+  -- then what is held leaves at once, when no label is in use; but for a pinned token, that goes back with its last use
+  pub ends_all : (l : Leave) → s.cause ≡ End → In l s.dropped → l.why ≡ Ended
+      → NoneUsed past × ((t : Token) → Held past t → Drops s t)
+
+pub record HostDue (script : Script) (host : HostId) (past : List Step) (s : Step) : Type 0 where
+  pub stance : Stance script.roster host past s
+  pub calls : CallsDue script.roster host past s stance
+  pub revokes : (r : RevokeOf) (i : TokenId) → About past s r.fid.fileset (Revoke r) → In i r.ids
+      → RevokeDue past s r i
+  pub repeats : RepeatsDue past s
+  pub leaves : LeavesDue (limit_of script.roster host) past s
+  -- each message is sent once
+  pub once : EachOnce s.sent
