@@ -99,13 +99,6 @@ labels_step A s alone may fresh old rules =
           (λ t o e. (may.takes x.0 x.1).4 (t, alone.holds may.live t o, e ∙ sym x.2)),
     )
 
-    own_kept : (i : TokenId) → HadKept (s ∷ A) i → (Left (s ∷ A) i → ⊥)
-        → ((t : Token) → Owns (s ∷ A) t → t.id ≡ i → ⊥) → ⊥
-    own_kept i (inl q) left none = let u = rules.stay.keeps i q in none u.0.token (owned u.0 u.1) u.2
-    own_kept i (inr q) left none =
-        old.kept_own i q (λ l. left (inr l))
-        (λ t o e. none t (inr o, λ l. left (inl (subst (Leaves s) e l))) e)
-
     known : (u : Labelled) (g : Give) (v : ServerId) → Given (s ∷ A) u g → HasSaid (s ∷ A) v Bye → IsKnown (s ∷ A) g
     known u g v given (e, n, inl sends) = may.bye_gives v e n g sends (given_made (s ∷ A) u g given)
     known u g v (inl x) (e, n, inr said) = absurd (alone.bye_held u.token v (e, n, said) (old.use_owned u x.0))
@@ -120,6 +113,13 @@ labels_step A s alone may fresh old rules =
         | inr r ↦ rules.stay.returns_idle u.token.id r (u, x.0, refl)
       ],
     )
+
+    own_kept : (i : TokenId) → HadKept (s ∷ A) i → (Left (s ∷ A) i → ⊥)
+        → ((t : Token) → Owns (s ∷ A) t → t.id ≡ i → ⊥) → ⊥
+    own_kept i (inl q) left none = let u = rules.stay.keeps i q in none u.0.token (owned u.0 u.1) u.2
+    own_kept i (inr q) left none =
+        old.kept_own i q (λ l. left (inr l))
+        (λ t o e. none t (inr o, λ l. left (inl (subst (Leaves s) e l))) e)
 
     kept : (i : TokenId) → HasKept (s ∷ A) i → (IsUsed (s ∷ A) i → ⊥)
         → (((g : Give) × Made (s ∷ A) g × In i g.ids) → ⊥) → ⊥
