@@ -176,8 +176,8 @@ end_suits u f = go u.token.kind
 -- what is asked for is read only where the needs are
 module _ (past : List Step) (s : Step) (held : List Token) (needs : List Need) (fid : Fid) (plain : ReadsOnly needs)
   where
-    file_read : (asked : List Need) → FileNeeds (s ∷ past) held needs fid asked → ReadsOnly asked
-    file_read asked file n p i cov update = go n.kind p (subst (λ (z : Need). In z asked) its i) cov update
+    of_file_read : (asked : List Need) → FileNeeds (s ∷ past) held needs fid asked → ReadsOnly asked
+    of_file_read asked file n p i cov update = go n.kind p (subst (λ (z : Need). In z asked) its i) cov update
       where
         its : n ≡ record { fid = fid; kind = n.kind }
         its j = record { fid = (file.only n i).0 j; kind = n.kind }
@@ -206,7 +206,7 @@ module _ (past : List Step) (s : Step) (held : List Token) (needs : List Need) (
         (one_read fid Traits) (one_read fid Entries) n p (subst (In n) eq i) cov update
     asked_read asked (OfUnknown never none eq) n p i cov update =
         one_read fid Traits n p (subst (In n) eq i) cov update
-    asked_read asked (OfFile never status file) n p i cov update = file_read asked file n p i cov update
+    asked_read asked (OfFile never status file) n p i cov update = of_file_read asked file n p i cov update
 
 module _ (script : Script) (host : HostId) (past : List Step) (s : Step) (stance : Stance script.roster host past s) where
   no_lack : (needs : List Need) (need : Need) → needs ≡ [] → IsFirstLack stance.kept needs need → ⊥
