@@ -6,56 +6,11 @@ import sys
 import tempfile
 import time
 
-HEAD = b"servers 1\nuser u g\nhost c1 u\nfileset home s1 64 u\nbegin\n"
+from scripts import escapes_and_paths, full_files, long_lines, reversed_clones, writes_and_reads
+
 PROGRAM = sys.argv[1]
 OTHER = sys.argv[2] if len(sys.argv) > 2 else None
 RUNS = 5
-
-
-def writes_and_reads(lines):
-    """A script of so many lines: writes and reads within the first 4,096 bytes of one file."""
-    yield HEAD + b"c1 create /home/f\n"
-    for i in range(lines - 6):
-        at = i * 37 % 4000
-        yield b"c1 write /home/f %d \"some text %d\"\n" % (at, i) if i % 2 == 0 else b"c1 read /home/f %d 64\n" % at
-
-
-def long_lines():
-    """10,000 lines of near 8,192 bytes, which say little: 80 MB."""
-    yield HEAD + b"c1 create /home/f\n"
-    for _ in range(9994):
-        yield b"c1 read /home/f 0 1" + b" " * 8160 + b"\n"
-
-
-def escaped(text):
-    """Bytes by their hexadecimal digits, as they stand in quotes."""
-    return b"".join(b"\\x%02x" % byte for byte in text)
-
-
-def escapes_and_paths():
-    """10,000 lines of near 8,000 bytes: writes of 1,000 escaped bytes to deep paths of escaped names, 33 levels down: 80 MB."""
-    path = b'"/home' + (b"/" + escaped(b"n" * 29)) * 33 + b'"'
-    text = b'"' + escaped(bytes(i % 256 for i in range(1000))) + b'"'
-    yield HEAD + b"c1 create /home/f\n"
-    for _ in range(9994):
-        yield b"c1 write " + path + b" 0 " + text + b"\n"
-
-
-def full_files():
-    """62 files of 64 KiB each, without a zero byte."""
-    yield HEAD
-    for f in range(62):
-        yield b"c1 create /home/f%d\n" % f
-        for piece in range(64):
-            yield b"c1 write /home/f%d %d %s\n" % (f, piece * 1024, b"x" * 1024)
-
-
-def reversed_clones():
-    """9,990 lines that clone clones, each before the line that places its source."""
-    yield HEAD
-    for i in range(9989, 0, -1):
-        yield b"c1 clone k%d k%d\n" % (i, i + 1)
-    yield b"c1 clone home k1\n"
 
 
 def seconds(command, source, wanted):
@@ -120,4 +75,5 @@ def main():
         print("| " + " | ".join(cells) + " |", flush=True)
 
 
-main()
+if __name__ == "__main__":
+    main()

@@ -8,59 +8,23 @@ import sys
 import tempfile
 import time
 
+sys.path.insert(0, os.path.join(os.path.dirname(os.path.abspath(__file__)), ".."))
+from scripts import full_files, generated  # noqa: E402
+
 PROGRAM = sys.argv[1]
 RUNS = 3
-HEAD = "servers 1\nuser u g\n"
-
-
-def words(seed):
-    """The words of the generator that `gen` draws from: PCG with 64 bits of state, stream 1."""
-    increment, mask = 3, (1 << 64) - 1
-    state = (seed + increment) & mask
-    while True:
-        state = (state * 6364136223846793005 + increment) & mask
-        mixed = (((state >> 18) ^ state) >> 27) & 0xFFFFFFFF
-        turn = state >> 59
-        yield (mixed >> turn | mixed << (32 - turn)) & 0xFFFFFFFF
-
-
-def generated(seed, hosts, calls):
-    """What `gen` makes of these numbers, as a script."""
-    lines = [HEAD] + ["host c%d u\n" % h for h in range(1, hosts + 1)] + ["fileset work s1 64 u\nbegin\nc1 create /work/shared\n"]
-    lines += ["c1 create /work/h%d\n" % h for h in range(1, hosts + 1)] + ["c1 raise start\n"]
-    lines += ["c%d await start\n" % h for h in range(2, hosts + 1)]
-    drawn = words(seed)
-    for h in range(1, hosts + 1):
-        for i in range(1, calls + 1):
-            word = next(drawn)
-            kind, v = word % 4, word // 4
-            if kind == 3:
-                lines.append('c%d write /work/shared %d "%d-%d"\n' % (h, 512 * (h - 1) + v % 480, h, i))
-            elif kind == 2:
-                lines.append("c%d read /work/h%d %d 64\n" % (h, h, v % 60000))
-            else:
-                lines.append('c%d write /work/h%d %d "%d-%d"\n' % (h, h, v % 60000, h, i))
-    return "".join(lines)
-
-
-def full_files(files):
-    """So many files of 64 KiB, without a zero byte."""
-    lines = [HEAD, "host c1 u\nfileset home s1 64 u\nbegin\n"]
-    for f in range(files):
-        lines.append("c1 create /home/f%d\n" % f)
-        lines += ["c1 write /home/f%d %d %s\n" % (f, piece * 1024, "x" * 1024) for piece in range(64)]
-    return "".join(lines)
+HEAD = b"servers 1\nuser u g\n"
 
 
 def looks():
     """A script that changes nothing on a disk that has the fileset."""
-    return HEAD + "host c1 u\nfileset work s1 64 u\nbegin\nc1 read /work/shared 0 64\n"
+    return HEAD + b"host c1 u\nfileset work s1 64 u\nbegin\nc1 read /work/shared 0 64\n"
 
 
 def run(script, names, command=()):
     """One run in the present folder: its seconds, its processor seconds."""
     before, began = resource.getrusage(resource.RUSAGE_CHILDREN), time.monotonic()
-    done = subprocess.run([*command, PROGRAM, "run", "--json", *names], input=script.encode(), stdout=subprocess.DEVNULL)
+    done = subprocess.run([*command, PROGRAM, "run", "--json", *names], input=script, stdout=subprocess.DEVNULL)
     spent, after = time.monotonic() - began, resource.getrusage(resource.RUSAGE_CHILDREN)
     if done.returncode != 0:
         sys.exit("the program ended with %d" % done.returncode)
@@ -94,12 +58,12 @@ def syncs(script, first):
     return [sum(call in names for call in calls) for names in (("fsync", "fdatasync"), ("pwrite64",), ("pread64",))]
 
 
-GEN = generated(7, 16, 400)
+GEN = b"".join(generated(7, 16, 400))
 ROWS = [
-    ("an empty fileset, on a new disk", HEAD + "host c1 u\nfileset home s1 64 u\nbegin\n", None),
+    ("an empty fileset, on a new disk", HEAD + b"host c1 u\nfileset home s1 64 u\nbegin\n", None),
     ("what `gen 7 16 400` makes, as a script (6,400 calls)", GEN, None),
     ("one read, on the disk that this left", looks(), GEN),
-    ("62 files of 64 KiB", full_files(62), None),
+    ("62 files of 64 KiB", b"".join(full_files()), None),
 ]
 
 

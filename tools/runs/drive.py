@@ -501,39 +501,6 @@ def random_script(r, size):
     return w.Script(size.servers, w.Roster(users, hosts, capacity), tuple(setup), tuple(plan), net, tuple(lines))
 
 
-# ------------------------------------------------------------------------------------------------ shrinking
-def shrink(script, fails, rounds=6):
-    """A smaller script for which `fails(script)` is still true."""
-    for _ in range(rounds):
-        smaller = False
-        for i in range(len(script.lines) - 1, -1, -1):
-            line = script.lines[i]
-            if isinstance(line.deed, w.Raise) and any(
-                    isinstance(x.deed, w.Await) and x.deed.flag == line.deed.flag for x in script.lines):
-                continue
-            new = w.change(script, lines=script.lines[:i] + script.lines[i + 1:])
-            if any(p.flag is not None and not any(isinstance(x.deed, w.Raise) and x.deed.flag == p.flag
-                                                  for x in new.lines) for p in new.plan):
-                continue
-            if fails(new):
-                script, smaller = new, True
-        for i in range(len(script.plan) - 1, -1, -1):
-            new = w.change(script, plan=script.plan[:i] + script.plan[i + 1:])
-            if fails(new):
-                script, smaller = new, True
-        if script.net is not None:
-            for net in (None, script.net._replace(losses=0), script.net._replace(repeats=0),
-                        script.net._replace(delays=0)):
-                if net != script.net:
-                    new = w.change(script, net=net)
-                    if fails(new):
-                        script, smaller = new, True
-                        break
-        if not smaller:
-            break
-    return script
-
-
 def show(step, at):
     def b(x):
         return str(x)

@@ -120,7 +120,8 @@ def main():
         for seed, why, m, s in kinds[key][:a.most]:
             print("       seed", seed, str(why)[:200])
             print("       came", str(m)[:600])
+    return 1 if kinds else 0
 
 
 if __name__ == "__main__":
-    main()
+    raise SystemExit(main())

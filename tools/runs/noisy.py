@@ -107,7 +107,8 @@ def main():
                 break
     print("noisy %s %s: %d runs, %d steps, %d bad, %.1f s; added %s" % (a.size, a.mode, n, steps, bad,
                                                                        time.time() - began, added), flush=True)
+    return 1 if bad else 0
 
 
 if __name__ == "__main__":
-    main()
+    raise SystemExit(main())

@@ -171,10 +171,6 @@ class ServerPast:
         """[Takes]"""
         return isinstance(a, Took) and a.epoch == self.epoch and self.is_live(a.host)
 
-    def takes_of(self, a, fileset):
-        """[TakesOf]"""
-        return self.takes(a) and here(self.server, fileset, a.moves)
-
     def goes_away(self, a):
         """[GoesAway]: the host, or None"""
         if not isinstance(a, Took):

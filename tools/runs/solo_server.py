@@ -1,8 +1,11 @@
 """A server alone with hosts that say anything sound: can it always make a step that its rules admit?
 
-    python3 solo_server.py A..B [--steps N] [--honest-changes]
+    python3 solo_server.py A..B [--steps N] [--tame] [--one] [--show]
+
+At the end stands how often what no honest host says came.
 """
 import argparse
+import collections
 import random
 import traceback
 
@@ -10,7 +13,7 @@ import words as w
 import drive
 import tree as trees
 from machines import Server
-from server_rules import ServerPast, Turn
+from server_rules import ServerPast, Turn, is_meant_so
 from sound import unsound
 from tree import kept_first
 
@@ -126,7 +129,33 @@ class Hosts:
     one = False
 
 
-def run(seed, most, tame, one=False):
+def odd(past, m):
+    """What no honest host says: names of it, for a count."""
+    b, live = m.body, past.is_live(m.host) and m.epoch == past.epoch
+    mine = {t.id for t in past.granted if t.host == m.host}
+    ids = b.ids if isinstance(b, (w.Returned, w.Kept)) else b.give.ids if isinstance(b, w.GiveBack) else ()
+    if m.moves:
+        yield "message of another stay"
+    if live and not mine.issuperset(ids):
+        yield "%s of tokens that aren't granted to it" % type(b).__name__
+    if isinstance(b, w.GiveBack) and live and b.give.number > past.applied.get((m.host, b.give.fid.fileset), 0) + 1:
+        yield "give-back that leaves a number out"
+    if isinstance(b, w.Change) and live:
+        if not is_meant_so(b):
+            yield "Change that can't be answered"
+        if not past.none_waits(m.host, b):
+            yield "Change beside one that waits"
+        if past.is_old(m.host, b):
+            yield "Change that is old"
+        if isinstance(b.call, w.MoveFileset):
+            yield "move"
+    if isinstance(b, w.Fetch) and live and (b.fid.fileset not in (65537, 65538) or len(set(b.needs)) < len(b.needs)):
+        yield "Fetch of a fileset that isn't there, or that names a need twice"
+    if isinstance(b, w.Reclaim) and live:
+        yield "claim of a host that has reclaimed" if m.host in past.reclaimed else "claim of tokens of its choice"
+
+
+def run(seed, most, tame, one, count):
     r = random.Random(seed)
     size = drive.Size(hosts=2, servers=1, filesets=2, lines=3, flags=0)
     script = drive.random_script(r, size)
@@ -156,6 +185,8 @@ def run(seed, most, tame, one=False):
             s = r.choice(options)()
         except Exception as why:
             return [(n, "MACHINE FAILS %s" % type(why).__name__, (m, traceback.format_exc()[-400:]))], steps
+        if isinstance(s.cause, w.Came):
+            count.update(odd(past, s.cause.message))
         turn = Turn(script, 1, past, gone, tree, s)
         broken, past, tree = turn.server_meets()
         gone += type(s.cause).__name__ in ("LineOf", "RestartAt")
@@ -181,9 +212,9 @@ def main():
     p.add_argument("--most", type=int, default=2)
     a = p.parse_args()
     lo, hi = map(int, a.seeds.split(".."))
-    kinds, total, bad = {}, 0, 0
+    kinds, total, bad, count = {}, 0, 0, collections.Counter()
     for seed in range(lo, hi):
-        broken, steps = run(seed, a.steps, a.tame, a.one)
+        broken, steps = run(seed, a.steps, a.tame, a.one, count)
         total += len(steps)
         if broken:
             bad += 1
@@ -196,7 +227,10 @@ def main():
                     for i, s in list(enumerate(steps))[-2:]:
                         print(drive.show(s, i)[:1200])
     print("%d runs, %d steps, %d bad; %s" % (hi - lo, total, bad, {k: len(v) for k, v in kinds.items()}))
+    for what, n in count.most_common():
+        print("%7d %s" % (n, what))
+    return 1 if bad else 0
 
 
 if __name__ == "__main__":
-    main()
+    raise SystemExit(main())

@@ -64,7 +64,7 @@ def has_room(kind):
 
 def pieces_faults(pieces):
     if any(a.start + len(a.bytes) > b.start for a, b in zip(pieces, pieces[1:])):
-        yield "rise"
+        yield "bytes.order"
     if any(p.start + len(p.bytes) > FILE_BYTES_MAX for p in pieces):
         yield "ends"
     if sum(len(p.bytes) for p in pieces) > FILE_BYTES_MAX:
@@ -133,6 +133,8 @@ def body_faults(roster, m):
             yield "told.absent"
         if b.status is None and b.bring.tokens:
             yield "absent"
+        if b.bring.stamp < 1:
+            yield "stamp"
     elif isinstance(b, Change):
         if not is_numbered(m, b.fileset):
             yield "fileset"
@@ -149,8 +151,12 @@ def body_faults(roster, m):
         yield from bring_faults(m, b.bring)
         if not b.bring.tokens and (b.bring.fid != NO_FID or b.bring.stamp != 0):
             yield "none"
+        if b.bring.tokens and b.bring.stamp < 1:
+            yield "some"
     elif isinstance(b, (Revoke, Returned, Kept)):
         yield from named_faults(m, b.fid, b.ids)
+        if isinstance(b, Revoke) and b.stamp < 1:
+            yield "stamp"
     elif isinstance(b, GiveBack):
         g = b.give
         if not is_home(m, g.fid.fileset):

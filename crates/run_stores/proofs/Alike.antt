@@ -1,16 +1,18 @@
--- A store that is given pieces from the last one on keeps what the rules say.
+-- A store that is given pieces that rise keeps what the rules say.
 use Rattle.std.proofs.Common.{◌≡◌, ◌⊎◌, ⊎_elim, inl, inr, ℕ, zero, suc, ◌+◌, ◌-◌, ◌<◌, ◌≤◌, Bool, true, false, cond, List, [], ◌∷◌, ◌++◌, length, take, get_or, Option, None, Some, is_some, unwrap_or, max, nat_le, slice_get, refl, sym, ap, ◌∙◌, arith}
 use Rattle.std.specs.Prelude.{replicate}
 use Rattle.std.proofs.Math.ListN.{set}
 use Rattle.std.proofs.lemmas.List.{get_or-set_same, get_or-set_other, length-set}
 use Rattle.std.proofs.lemmas.Bool.Decides.{nat_tests}
+use Rattle.std.proofs.lemmas.Option.{slice_get_within}
+use Rattle.message_types.specs.Soundness.{Each, PiecesRise}
 use Rattle.tree_calls.specs.declared.part.Piece.{Piece}
 use Rattle.tree_objects.specs.Files.{resized}
 use Rattle.tree_objects.specs.declared.content.Content.TheVariants.{Dir, File}
 use Rattle.store_state.specs.Giving.{lengthened, put_bytes, put_pieces}
 use Rattle.run_rules.specs.Told.{byte_in, byte_of}
 use Rattle.run_rules.specs.Kept.{bytes_given, length_given}
-use Rattle.run_stores.specs.Pieces.{GivesAreAlike, from_last}
+use Rattle.run_stores.specs.Pieces.{GivesAreAlike}
 
 order : (a b : ℕ) → (a < b) ⊎ ((a ≡ b) ⊎ (b < a))
 order zero zero = inr (inl refl)
@@ -73,28 +75,47 @@ get_put (v ∷ vs) xs at i lt =
     u)
     (order i at)
 
-put_more : (ps qs : List Piece) (xs : List ℕ) → put_pieces xs (ps ++ qs) ≡ put_pieces (put_pieces xs ps) qs
-put_more [] qs xs = refl
-put_more (p ∷ ps) qs xs = put_more ps qs (put_bytes xs p.from p.bytes)
-
 len_pieces : (ps : List Piece) (xs : List ℕ) → length (put_pieces xs ps) ≡ length xs
 len_pieces [] xs = refl
 len_pieces (p ∷ ps) xs = len_pieces ps (put_bytes xs p.from p.bytes) ∙ len_put p.bytes xs p.from
 
-first_is : (o rest : Option ℕ) (x : ℕ) → unwrap_or o (unwrap_or rest x) ≡ unwrap_or (cond (is_some o) o rest) x
-first_is None rest x = refl
-first_is (Some y) rest x = refl
+-- what begins behind a position has no byte there
+none_later : (ps : List Piece) (end i : ℕ) → Each (λ (later : Piece). end ≤ later.from) ps → i < end → byte_of ps i ≡ None
+none_later [] end i each lt = refl
+none_later (p ∷ ps) end i each lt =
+    let behind : nat_le p.from i ≡ false = le_false p.from i (let low = each.0 in omega (arith, low, lt)) in
+    ap (λ b. cond (is_some (cond b (slice_get p.bytes (i - p.from)) None)) (cond b (slice_get p.bytes (i - p.from)) None)
+    (byte_of ps i)) behind
+    ∙ none_later ps end i each.1 lt
 
-get_pieces : (ps : List Piece) (xs : List ℕ) (i : ℕ) → i < length xs
-    → get_or (put_pieces xs (from_last ps)) i 0 ≡ unwrap_or (byte_of ps i) (get_or xs i 0)
-get_pieces [] xs i lt = refl
-get_pieces (p ∷ ps) xs i lt =
-    let before = put_pieces xs (from_last ps) in
-    let size = len_pieces (from_last ps) xs in
-    ap (λ l. get_or l i 0) (put_more (from_last ps) (p ∷ []) xs)
-    ∙ get_put p.bytes before p.from i (omega (arith, lt, size))
-    ∙ ap (λ x. unwrap_or (byte_in p i) x) (get_pieces ps xs i lt)
-    ∙ first_is (byte_in p i) (byte_of ps i) (get_or xs i 0)
+-- a piece has a byte before its end
+before_end : (p : Piece) (i y : ℕ) → byte_in p i ≡ Some y → i < p.from + length p.bytes
+before_end p i y = by (nat_le p.from i) refl
+  where
+    by : (b : Bool) → nat_le p.from i ≡ b → cond b (slice_get p.bytes (i - p.from)) None ≡ Some y →
+        i < p.from + length p.bytes
+    by false e h = absurd (cc)
+    by true e h =
+        let inside = slice_get_within p.bytes (i - p.from) y h in
+        let low : p.from ≤ i = grind (arith, nat_tests, e) in
+        omega (arith, inside, low)
+
+get_pieces : (ps : List Piece) (xs : List ℕ) (i : ℕ) → PiecesRise ps → i < length xs
+    → get_or (put_pieces xs ps) i 0 ≡ unwrap_or (byte_of ps i) (get_or xs i 0)
+get_pieces [] xs i rise lt = refl
+get_pieces (p ∷ ps) xs i rise lt =
+    let after = put_bytes xs p.from p.bytes in
+    let size = len_put p.bytes xs p.from in
+    get_pieces ps after i rise.1 (omega (arith, lt, size))
+    ∙ ap (λ x. unwrap_or (byte_of ps i) x) (get_put p.bytes xs p.from i lt)
+    ∙ by (byte_in p i) refl
+  where
+    by : (o : Option ℕ) → byte_in p i ≡ o →
+        unwrap_or (byte_of ps i) (unwrap_or o (get_or xs i 0)) ≡ unwrap_or (cond (is_some o) o (byte_of ps i)) (get_or xs i 0)
+    by None e = refl
+    by (Some y) e =
+        ap (λ o. unwrap_or o y)
+        (none_later ps (p.from + length p.bytes) i rise.0 (before_end p i y e))
 
 len_given : (kept : List ℕ) (ps : List Piece) (at n : ℕ) → length (bytes_given kept ps at n) ≡ n
 len_given kept ps at zero = refl
@@ -164,24 +185,24 @@ at_least : (k : ℕ) (given : Option ℕ) → k ≤ length_given k given
 at_least k None = omega arith
 at_least k (Some g) = omega arith
 
-kept_alike : (kept : List ℕ) (ps : List Piece) (given : Option ℕ)
-    → put_pieces (lengthened kept given) (from_last ps) ≡ bytes_given kept ps 0 (length_given (length kept) given)
-kept_alike kept ps given =
+kept_alike : (kept : List ℕ) (ps : List Piece) (given : Option ℕ) → PiecesRise ps
+    → put_pieces (lengthened kept given) ps ≡ bytes_given kept ps 0 (length_given (length kept) given)
+kept_alike kept ps given rise =
     let n = length_given (length kept) given in
     let long = at_least (length kept) given in
     let start : lengthened kept given ≡ resized kept n = ap (resized kept) (length_is (length kept) given) in
     let size = len_resized kept n long in
-    let pieces_size = len_pieces (from_last ps) (resized kept n) in
+    let pieces_size = len_pieces ps (resized kept n) in
     let given_size = len_given kept ps 0 n in
-    ap (λ l. put_pieces l (from_last ps)) start
-    ∙ same_lists (put_pieces (resized kept n) (from_last ps)) (bytes_given kept ps 0 n) (omega arith)
+    ap (λ l. put_pieces l ps) start
+    ∙ same_lists (put_pieces (resized kept n) ps) (bytes_given kept ps 0 n) (omega arith)
     (λ i lt.
     let below : i < n = omega (arith, lt, size, pieces_size) in
     let zero_more : 0 + i ≡ i = omega arith in
-    get_pieces ps (resized kept n) i (omega (arith, below, size))
+    get_pieces ps (resized kept n) i rise (omega (arith, below, size))
     ∙ ap (λ x. unwrap_or (byte_of ps i) x) (get_resized kept n i long)
     ∙ sym (get_given kept ps 0 n i below ∙ ap (λ j. unwrap_or (byte_of ps j) (get_or kept j 0)) zero_more))
 
 pub gives_are_alike : GivesAreAlike
-gives_are_alike ps given (Dir entries lists) = refl
-gives_are_alike ps given (File list kept unsaved len) = ap (λ l. File list l unsaved len) (kept_alike kept ps given)
+gives_are_alike ps given (Dir entries lists) rise = refl
+gives_are_alike ps given (File list kept unsaved len) rise = ap (λ l. File list l unsaved len) (kept_alike kept ps given rise)

@@ -47,7 +47,7 @@ use Rattle.store_laws.proofs.Slots.{Table, changes_one, changes_then}
 use Rattle.store_laws.proofs.KeptSteps.{IsPart, part_of, keeps_parts, parts_step, held_here, not_server}
 use Rattle.run_rules.specs.Kept.{content_given, takes_gifts, tree_given}
 use Rattle.run_stores.specs.Keeping.{GivesAreKept, IsOf, StandsFor}
-use Rattle.run_stores.specs.Pieces.{from_last}
+use Rattle.message_types.specs.Soundness.{PiecesRise}
 use Rattle.run_stores.proofs.Alike.{gives_are_alike}
 use Rattle.run_stores.proofs.Notes.{none_held, record_noted}
 
@@ -262,18 +262,18 @@ stay_writable state fileset (Gone to) r h = absurd (cc)
 
 -- the fileset that a store holds has what the tree's has then
 held_is : (state : StoreState) (fid : Fid) (pieces : List Piece) (given : Option ℕ) (fileset : Fileset)
-    (holding : Holding) → StaysRight state holding.fileset holding.stay → is_here holding.stay ≡ true →
-    holding.fileset ≡ fileset →
-    (held_given fid (from_last pieces) given holding).fileset
+    (holding : Holding) → PiecesRise pieces → StaysRight state holding.fileset holding.stay →
+    is_here holding.stay ≡ true → holding.fileset ≡ fileset →
+    (held_given fid pieces given holding).fileset
     ≡ fileset_given fileset fid (content_given pieces given)
-held_is state fid pieces given fileset holding right here same =
-    fileset_if (is_writable holding.stay && is_file_at holding.fileset fid) fid (store_given (from_last pieces) given)
+held_is state fid pieces given fileset holding rise right here same =
+    fileset_if (is_writable holding.stay && is_file_at holding.fileset fid) fid (store_given pieces given)
     holding
     ∙ ap (λ b. if b && is_file_at holding.fileset fid
-    then changed holding.fileset fid.anode (store_given (from_last pieces) given) else holding.fileset)
+    then changed holding.fileset fid.anode (store_given pieces given) else holding.fileset)
     (stay_writable state holding.fileset holding.stay right here)
-    ∙ ap (λ (f : Fileset). fileset_given f fid (store_given (from_last pieces) given)) same
-    ∙ ap (λ change. fileset_given fileset fid change) (λ i content. gives_are_alike pieces given content i)
+    ∙ ap (λ (f : Fileset). fileset_given f fid (store_given pieces given)) same
+    ∙ ap (λ change. fileset_given fileset fid change) (λ i content. gives_are_alike pieces given content rise i)
 
 -- a fileset that is found is the server's
 pub its_own : (server : ServerId) (tree : Tree) (id : FilesetId) (fileset : Fileset) → IsOf server tree →
@@ -283,13 +283,13 @@ its_own server tree id fileset o found =
     (find_all (has_id id) (λ (f : Fileset). f.server.0 == server.0) tree.filesets fileset found o.own)
 
 give_there : (tree : Tree) (state : StoreState) (host : HostId) (number : ℕ) (fid : Fid) (pieces : List Piece)
-    (given : Option ℕ) (fileset : Fileset) → StandsFor tree state → IsNewGive state fid.fileset host number →
-    IsAct state.roster state.server (Give host number fid (from_last pieces) given) → fid.fileset ≡ fileset.id →
+    (given : Option ℕ) (fileset : Fileset) → StandsFor tree state → IsNewGive state fid.fileset host number → PiecesRise pieces →
+    IsAct state.roster state.server (Give host number fid pieces given) → fid.fileset ≡ fileset.id →
     find (has_id fileset.id) tree.filesets ≡ Some fileset →
-    KeepsOf (tree_given tree fid pieces given) (act_done state (Give host number fid (from_last pieces) given)).state
-give_there tree state host number fid pieces given fileset s new fits its known =
+    KeepsOf (tree_given tree fid pieces given) (act_done state (Give host number fid pieces given)).state
+give_there tree state host number fid pieces given fileset s new rise fits its known =
     let k = s.keeps in
-    let ps = from_last pieces in
+    let ps = pieces in
     let next_tree = tree_given tree fid pieces given in
     let at = its_own state.server tree fileset.id fileset s.is_of known in
     let (holding, h) = held_here tree state fileset k known at in
@@ -300,7 +300,7 @@ give_there tree state host number fid pieces given fileset s new fits its known 
     let put = given_put tree fid pieces given fileset its known in
     let after = fileset_given fileset fid (content_given pieces given) in
     let same : (held_given fid ps given holding).fileset ≡ after =
-    held_is state fid pieces given fileset holding each.stay h.here h.same in
+    held_is state fid pieces given fileset holding rise each.stay h.here h.same in
     let stays : (held_given fid ps given holding).stay ≡ holding.stay =
     stay_if (is_writable holding.stay && is_file_at holding.fileset fid) fid (store_given ps given) holding in
     let does = give_done state holding host number fid ps given held server (not_gone holding.stay h.here) new in
@@ -356,22 +356,22 @@ give_nowhere tree state host number fid pieces given k fits none =
         (subst (λ s. IsStorable (next s)) same storable))
 
 give_keeps : (tree : Tree) (state : StoreState) (host : HostId) (number : ℕ) (fid : Fid) (pieces : List Piece)
-    (given : Option ℕ) → StandsFor tree state → IsNewGive state fid.fileset host number →
-    IsAct state.roster state.server (Give host number fid (from_last pieces) given) →
-    KeepsOf (tree_given tree fid pieces given) (act_done state (Give host number fid (from_last pieces) given)).state
-give_keeps tree state host number fid pieces given s new fits = by (find (has_id fid.fileset) tree.filesets) refl
+    (given : Option ℕ) → StandsFor tree state → IsNewGive state fid.fileset host number → PiecesRise pieces →
+    IsAct state.roster state.server (Give host number fid pieces given) →
+    KeepsOf (tree_given tree fid pieces given) (act_done state (Give host number fid pieces given)).state
+give_keeps tree state host number fid pieces given s new rise fits = by (find (has_id fid.fileset) tree.filesets) refl
   where
     by : (found : Option Fileset) → find (has_id fid.fileset) tree.filesets ≡ found →
         KeepsOf (tree_given tree fid pieces given)
-        (act_done state (Give host number fid (from_last pieces) given)).state
+        (act_done state (Give host number fid pieces given)).state
     by None e =
-        subst (λ t. KeepsOf t (act_done state (Give host number fid (from_last pieces) given)).state)
+        subst (λ t. KeepsOf t (act_done state (Give host number fid pieces given)).state)
         (sym (given_none tree fid pieces given e))
-        (give_nowhere tree state host number fid (from_last pieces) given s.keeps fits
+        (give_nowhere tree state host number fid pieces given s.keeps fits
         (none_there tree state fid.fileset s.keeps s.is_of.unmoved e))
     by (Some fileset) e =
         let its = sym (same_id fileset.id fid.fileset (found_passes (has_id fid.fileset) tree.filesets fileset e)) in
-        give_there tree state host number fid pieces given fileset s new fits its
+        give_there tree state host number fid pieces given fileset s new rise fits its
         (sym (ap (λ i. find (has_id i) tree.filesets) its) ∙ e)
 
 give_is_done : (tree : Tree) (state : StoreState) (host : HostId) (number : ℕ) (fid : Fid) (pieces : List Piece)

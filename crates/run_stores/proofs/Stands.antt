@@ -79,7 +79,7 @@ use Rattle.run_contents.proofs.KeptGives.{gives_keep}
 use Rattle.run_contents.proofs.Starts.{starts_kept}
 use Rattle.run_rules.specs.Kept.{is_refusal, kept_first, tree_given}
 use Rattle.run_stores.specs.Keeping.{IsOf, StandsFor}
-use Rattle.run_stores.specs.Pieces.{from_last}
+use Rattle.message_types.specs.Soundness.{PiecesRise}
 use Rattle.run_stores.specs.Standing.{ActsStand}
 use Rattle.run_stores.proofs.Changes.{changes_are_kept, refusal_is}
 use Rattle.run_stores.proofs.Firsts.{first_is_kept}
@@ -136,15 +136,15 @@ booted_stands start state kept unmoved keeps =
     (first_stands start (act_done state Boot).state kept unmoved (boots_are_kept.boot start state keeps).keeps)
 
 given_stands : (tree : Tree) (state : StoreState) (host : HostId) (number : ℕ) (fid : Fid) (pieces : List Piece)
-    (given : Option ℕ) → StandsFor tree state → IsNewGive state fid.fileset host number →
-    IsAct state.roster state.server (Give host number fid (from_last pieces) given) →
-    StandsFor (tree_given tree fid pieces given) (act_done state (Give host number fid (from_last pieces) given)).state
-given_stands tree state host number fid pieces given s new fits =
+    (given : Option ℕ) → StandsFor tree state → IsNewGive state fid.fileset host number → PiecesRise pieces →
+    IsAct state.roster state.server (Give host number fid pieces given) →
+    StandsFor (tree_given tree fid pieces given) (act_done state (Give host number fid pieces given)).state
+given_stands tree state host number fid pieces given s new rise fits =
     let kept : IsKept tree = record { formed = s.formed; rests = stands_rest tree state s } in
-    stands_after tree (tree_given tree fid pieces given) state (Give host number fid (from_last pieces) given) s fits
+    stands_after tree (tree_given tree fid pieces given) state (Give host number fid pieces given) s fits
     (gives_keep.kept tree fid pieces given kept fits.2).formed
     (gives_are_kept.is_of state.server tree fid pieces given s.is_of)
-    (gives_are_kept.keeps tree state host number fid pieces given s new fits)
+    (gives_are_kept.keeps tree state host number fid pieces given s new rise fits)
 
 refused_stands : (tree : Tree) (state : StoreState) (host : HostId) (id : FilesetId) (number : ℕ) (refusal : Refusal) →
     StandsFor tree state → IsAct state.roster state.server (Refuse host id number refusal) →

@@ -264,18 +264,21 @@ no_act cause [] tree state s fit = s
 no_act cause (Done written ∷ applied) tree state s fit = let clash = fit.takes in absurd (cc)
 no_act cause (Stored host fid spans given ∷ applied) tree state s fit = let clash = fit.takes in absurd (cc)
 no_act cause (Ends answer ∷ applied) tree state s fit = no_act cause applied tree state s (record {
+  rise = fit.rise;
   decided = fit.decided.1;
   takes = fit.takes;
   acts_are = fit.acts_are;
   fresh = fit.fresh;
 })
 no_act cause (IsDown host ∷ applied) tree state s fit = no_act cause applied tree state s (record {
+  rise = fit.rise;
   decided = fit.decided.1;
   takes = fit.takes;
   acts_are = fit.acts_are;
   fresh = fit.fresh;
 })
 no_act cause (Wants wanted ∷ applied) tree state s fit = no_act cause applied tree state s (record {
+  rise = fit.rise;
   decided = fit.decided.1;
   takes = fit.takes;
   acts_are = fit.acts_are;
@@ -287,6 +290,7 @@ notice : (cause : Cause) (act : Act) (acts : List Act) → is_of_filesets act �
     Stand cause (act ∷ acts)
 notice cause act acts e rest applied tree state s fit =
     rest applied tree (act_done state act).state (notice_stands tree state act e s fit.acts_are.0) (record {
+      rise = fit.rise;
       decided = fit.decided;
       takes = left_out act acts (acts_of cause applied) e fit.takes;
       acts_are = acts_next state act acts s.keeps.storable.limits fit.acts_are.0 fit.acts_are.1;
@@ -305,6 +309,7 @@ change_first cause act acts written applied tree state same taken rest s fit =
     (written_stands tree state written written.answer.reply s
     (subst (IsAct state.roster state.server) same fit.acts_are.0)
     (subst (λ a. (act_done state a).done.fresh ≡ true) same fit.fresh.0) fit.decided.0)) (record {
+      rise = fit.rise;
       decided = fit.decided.1;
       takes = taken;
       acts_are = acts_next state act acts s.keeps.storable.limits fit.acts_are.0 fit.acts_are.1;
@@ -320,8 +325,9 @@ give_first cause act acts host fid spans given applied tree state same taken res
     rest applied (kept_after cause tree (Stored host fid spans given)) (act_done state act).state
     (subst (λ a. StandsFor (kept_after cause tree (Stored host fid spans given)) (act_done state a).state) (sym same)
     (acts_stand.given tree state host (number_in cause) fid (pieces_in cause) given s
-    (give_new state host (number_in cause) fid _ given (subst (λ a. (act_done state a).done.fresh ≡ true) same fit.fresh.0))
+    (give_new state host (number_in cause) fid _ given (subst (λ a. (act_done state a).done.fresh ≡ true) same fit.fresh.0)) fit.rise
     (subst (IsAct state.roster state.server) same fit.acts_are.0))) (record {
+      rise = fit.rise;
       decided = fit.decided.1;
       takes = taken;
       acts_are = acts_next state act acts s.keeps.storable.limits fit.acts_are.0 fit.acts_are.1;
@@ -339,6 +345,7 @@ first_act cause act acts e rest (Stored host fid spans given ∷ applied) tree s
     give_first cause act acts host fid spans given applied tree state both.0 both.1 rest s fit
 first_act cause act acts e rest (Ends answer ∷ applied) tree state s fit =
     first_act cause act acts e rest applied tree state s (record {
+      rise = fit.rise;
       decided = fit.decided.1;
       takes = fit.takes;
       acts_are = fit.acts_are;
@@ -346,6 +353,7 @@ first_act cause act acts e rest (Ends answer ∷ applied) tree state s fit =
     })
 first_act cause act acts e rest (IsDown host ∷ applied) tree state s fit =
     first_act cause act acts e rest applied tree state s (record {
+      rise = fit.rise;
       decided = fit.decided.1;
       takes = fit.takes;
       acts_are = fit.acts_are;
@@ -353,6 +361,7 @@ first_act cause act acts e rest (IsDown host ∷ applied) tree state s fit =
     })
 first_act cause act acts e rest (Wants wanted ∷ applied) tree state s fit =
     first_act cause act acts e rest applied tree state s (record {
+      rise = fit.rise;
       decided = fit.decided.1;
       takes = fit.takes;
       acts_are = fit.acts_are;

@@ -20,7 +20,7 @@ use Rattle.store_state.specs.declared.state.StoreState.{StoreState}
 use Rattle.store_laws.specs.KeptGives.{IsNewGive}
 use Rattle.store_laws.specs.TreeKeeping.{KeepsOf}
 use Rattle.run_rules.specs.Kept.{kept_first, tree_given}
-use Rattle.run_stores.specs.Pieces.{from_last}
+use Rattle.message_types.specs.Soundness.{PiecesRise}
 
 -- all filesets of a tree are at a server, and none moved away; nothing is in use
 pub record IsOf (server : ServerId) (tree : Tree) : Type 0 where
@@ -41,16 +41,15 @@ pub record FirstIsKept : Type 0 where
   pub keeps : (start : Tree) (state : StoreState) → IsWellFormed start → start.away ≡ [] → KeepsOf start state
       → KeepsOf (kept_first start state.server) state
 
--- A give-back that is stored. By the rules the first of two pieces that have a byte counts, and in a store the last,
--- so the store is given them from the last one on. Where the fileset isn't there nothing changes in either.
+-- A give-back that is stored, whose pieces rise. Where the fileset isn't there nothing changes in either.
 pub record GivesAreKept : Type 0 where
   pub is_of : (server : ServerId) (tree : Tree) (fid : Fid) (pieces : List Piece) (given : Option ℕ)
       → IsOf server tree → IsOf server (tree_given tree fid pieces given)
   pub keeps : (tree : Tree) (state : StoreState) (host : HostId) (number : ℕ) (fid : Fid) (pieces : List Piece)
       (given : Option ℕ)
       → StandsFor tree state → IsNewGive state fid.fileset host number
-      → IsAct state.roster state.server (Give host number fid (from_last pieces) given)
-      → KeepsOf (tree_given tree fid pieces given) (act_done state (Give host number fid (from_last pieces) given)).state
+      → PiecesRise pieces → IsAct state.roster state.server (Give host number fid pieces given)
+      → KeepsOf (tree_given tree fid pieces given) (act_done state (Give host number fid pieces given)).state
   -- of a fileset that is there it is done now
   pub done : (tree : Tree) (state : StoreState) (host : HostId) (number : ℕ) (fid : Fid) (pieces : List Piece)
       (given : Option ℕ) (fileset : Fileset)

@@ -21,7 +21,7 @@ use Rattle.store_laws.specs.TreeKeeping.{KeepsOf}
 use Rattle.run_contents.specs.Gives.{IsKept}
 use Rattle.run_rules.specs.Kept.{is_refusal, kept_first, tree_given}
 use Rattle.run_stores.specs.Keeping.{StandsFor}
-use Rattle.run_stores.specs.Pieces.{from_last}
+use Rattle.message_types.specs.Soundness.{PiecesRise}
 
 -- A store stands for what its server keeps at the start, and after each act.
 pub record ActsStand : Type 0 where
@@ -33,9 +33,9 @@ pub record ActsStand : Type 0 where
   pub given : (tree : Tree) (state : StoreState) (host : HostId) (number : ℕ) (fid : Fid) (pieces : List Piece)
       (given : Option ℕ)
       → StandsFor tree state → IsNewGive state fid.fileset host number
-      → IsAct state.roster state.server (Give host number fid (from_last pieces) given)
+      → PiecesRise pieces → IsAct state.roster state.server (Give host number fid pieces given)
       → StandsFor (tree_given tree fid pieces given)
-      (act_done state (Give host number fid (from_last pieces) given)).state
+      (act_done state (Give host number fid pieces given)).state
   pub refused : (tree : Tree) (state : StoreState) (host : HostId) (id : FilesetId) (number : ℕ) (refusal : Refusal)
       → StandsFor tree state → IsAct state.roster state.server (Refuse host id number refusal)
       → StandsFor tree (act_done state (Refuse host id number refusal)).state

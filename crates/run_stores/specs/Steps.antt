@@ -9,7 +9,7 @@ use Rattle.tree_answers.specs.Answers.{answer_to}
 use Rattle.tree_answers.specs.declared.tree.Tree.{Tree}
 use Rattle.message_types.specs.declared.message.Body.{Body}
 use Rattle.message_types.specs.declared.message.Body.TheVariants.{GiveBack}
-use Rattle.message_types.specs.Soundness.{Each}
+use Rattle.message_types.specs.Soundness.{Each, PiecesRise}
 use Rattle.store_acts.specs.Acts.{dones_of, state_after}
 use Rattle.store_acts.specs.Sound.{HasName, IsAct}
 use Rattle.store_acts.specs.declared.act.Act.{Act}
@@ -30,7 +30,6 @@ use Rattle.run_rules.specs.declared.step.Cause.{Cause}
 use Rattle.run_rules.specs.declared.step.Cause.TheVariants.{Message as Came}
 use Rattle.run_rules.specs.declared.step.Step.{Step}
 use Rattle.run_stores.specs.Keeping.{StandsFor}
-use Rattle.run_stores.specs.Pieces.{from_last}
 
 -- the number of the give-back that came
 abbrev pub number_given : Body → ℕ
@@ -46,9 +45,9 @@ abbrev pub change_act : Reply → Written → Act
 change_act (Refused refusal) written = Refuse written.answer.host written.fileset written.number refusal
 change_act _ written = Do written.answer.host written.number written.answer.call
 
--- a give-back is given from its last piece on
+-- what a give-back brings is given
 abbrev pub give_act : Cause → HostId → Fid → Option ℕ → Act
-give_act cause host fid given = Give host (number_in cause) fid (from_last (pieces_in cause)) given
+give_act cause host fid given = Give host (number_in cause) fid (pieces_in cause) given
 
 -- what is applied takes these acts
 abbrev pub acts_of : Cause → List Applied → List Act
@@ -77,9 +76,11 @@ AreDecidedSo cause tree [] = Unit {0}
 AreDecidedSo cause tree (x ∷ applied) = IsDecidedSo tree x × AreDecidedSo cause (kept_after cause tree x) applied
 
 -- In a step a store does some acts: it may be given each, and does it now. Beside acts that tell of epochs and hosts
--- these are those that what is applied takes, in their order.
+-- these are those that what is applied takes, in their order. The pieces of a give-back rise, as they do in each sound
+-- message.
 pub record Fits (cause : Cause) (applied : List Applied) (acts : List Act) (tree : Tree) (state : StoreState)
     : Type 0 where
+  pub rise : PiecesRise (pieces_in cause)
   pub decided : AreDecidedSo cause tree applied
   pub takes : filter is_of_filesets acts ≡ acts_of cause applied
   pub acts_are : Each (IsAct state.roster state.server) acts

@@ -58,8 +58,8 @@ pub fn stand_law()
     ensures { ActsStand }
 {}
 
-/// Of two pieces of a give-back for one byte, which are sound, the rules take the first, and a store the last; so a
-/// store that is given them from the last one on keeps what the rules say, and may be given them.
+/// Where the pieces of a give-back rise, as in each sound message, a store that is given them keeps what the rules say,
+/// and may be given them; of two pieces for one byte the rules would take the first, and a store the last.
 pub fn piece_law()
     ensures differ { PiecesDiffer }
     ensures alike { GivesAreAlike }

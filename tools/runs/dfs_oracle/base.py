@@ -4,7 +4,6 @@ Names are `bytes`.  A user is `(name, (group, ..))`.  A list is a tuple of entri
 `(who, name or None, rights)`, who being one of WHO.  A host is its number (0 is `c0`), a server its
 number.
 """
-import re
 from collections import namedtuple
 
 MAX_FILE = 65536
@@ -49,30 +48,6 @@ Lock = namedtuple("Lock", "label place writing start len")
 Unlock = namedtuple("Unlock", "label")
 OpenFile = namedtuple("OpenFile", "label place kind")
 CloseFile = namedtuple("CloseFile", "label")
-
-
-def is_name(b):
-    return 1 <= len(b) <= 60 and b"/" not in b and b"\0" not in b
-
-
-_MARK = re.compile(rb"[A-Za-z0-9]{1,16}\Z")
-
-
-def is_mark(b):
-    """A FLAG or LABEL."""
-    return _MARK.match(b) is not None
-
-
-def is_access_list(entries):
-    """What an access list must have, at most 16 entries."""
-    if len(entries) > 16:
-        return False
-    seen = set()
-    for who, name, rights in entries:
-        if (who, name) in seen:
-            return False
-        seen.add((who, name))
-    return all((w, None) in seen for w in ("user_obj", "group_obj", "other_obj"))
 
 
 def rights_of(entries, owner, group, user):

@@ -1,5 +1,4 @@
-"""What a run prints: the text and the JSON line (docs/SCRIPTS.md)."""
-import json
+"""What a run prints, as text (docs/SCRIPTS.md)."""
 import re
 
 from .base import LETTERS, WHICH
@@ -105,14 +104,3 @@ def dump_lines(tree):
 def as_text(run):
     lines = [*reply_lines(run), *loss_lines(run), *dump_lines(run.tree), b"end", b""]
     return b"\n".join(lines)
-
-
-def as_json(run):
-    replies = [r for host in run.replies.values() for r in host]
-    filesets = [
-        {"name": bare_text(f.name).decode("ascii"), "objects": len(f.objects), "server": server}
-        for server in range(1, run.tree.servers + 1) for f in run.tree.filesets(server)
-    ]
-    whole = {"calls": len(replies), "filesets": filesets, "lost": len(run.losses),
-             "refused": sum(r[0] == "refused" for r in replies)}
-    return json.dumps(whole, separators=(",", ":")).encode() + b"\n"

@@ -478,23 +478,6 @@ class Tree:
             no("not-opened")
         del self.opens[host, c.label]
 
-    # what is unsaved
-    def files_of(self, host):
-        """(fileset, anode, file) of each file with unsaved changes of the host."""
-        for server in self.at:
-            for fileset in self.filesets(server):
-                for anode in sorted(fileset.objects):
-                    thing = fileset.objects[anode]
-                    if not thing.is_dir and thing.unsaved_by(host):
-                        yield fileset, anode, thing
-
-    def stored_all(self, fileset, anode, host):
-        """A Stored with all unsaved changes of the host on a file; the entry."""
-        thing = fileset.objects[anode]
-        spans, length = thing.spans(host), thing.tall_of(host)
-        thing.stored(host, spans, length)
-        return ("stored", host, (fileset.id, anode, fileset.unique[anode]), spans, length)
-
     def paths(self, fileset):
         """anode: the names from the fileset's name on."""
         found = {1: (fileset.name,)}
