@@ -31,7 +31,7 @@ returns-clause-put g c =
     (SaysRecord before c.args.host c.args.kept) c.put_page.result
     (says_more g.D.Disk.tells g.D.Disk.view (slot_of c.args.tx.now) c.args.page _ (SaysRecord before c.args.host c.args.kept) c.put_page.result c.page.new.self c.put_page.new.log
     (λ told page e. subst (SaysRecord before c.args.host c.args.kept) (sym e) (record {
-      says = c.put_record.ensures.kept;
-      others = λ other lt apart. c.put_record.ensures.others other lt apart ∙ ap (record_at (24 * other)) (bytes told);
-      sound = λ is. c.put_record.ensures.page (ap is_numbers_page (bytes told) ∙ is);
+      says = c.encode_record.ensures.kept;
+      others = λ other lt apart. c.encode_record.ensures.others other lt apart ∙ ap (record_at (24 * other)) (bytes told);
+      sound = λ is. c.encode_record.ensures.page (ap is_numbers_page (bytes told) ∙ is);
     })) c.put_page.ensures.put)
