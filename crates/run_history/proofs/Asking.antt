@@ -225,7 +225,7 @@ module _ (script : Script) (start : Tree) (firsts : ServerId → ℕ) (past : Li
 
   enters_home : (server : ServerId) (name : List ℕ) (id : FilesetId) → Enters A s server name id → home id ≡ server
   enters_home server name id (c, d, e, n, said, enter, of, counts, number, fileset, outcome) = elim counts.0 [
-    | inl (zero, moves, (x, cause, at, epoch, its, body)) ↦ (told x cause d id body outcome).1 ∙ at
+    | inl (zero, (x, cause, at, epoch, its, body)) ↦ (told x cause d id body outcome).1 ∙ at
     | inr (x, cause, at, epoch, its, body) ↦ (
         let first : 1 ≤ x.server.0 = (told x cause d id body outcome).0 in
         let none : x.server.0 ≡ 0 =
@@ -277,7 +277,7 @@ module _ (script : Script) (start : Tree) (firsts : ServerId → ℕ) (past : Li
   pub told_by : (server : ServerId) (name : List ℕ) (id : FilesetId) → (entered : Enters A s server name id)
       → (e : ℕ) × (n : ℕ) × SentTo (acts (firsts server) server past) h e n (Done entered.1)
   told_by server name id (c, d, e, n, said, enter, of, counts, number, fileset, outcome) = elim counts.0 [
-    | inl (zero, moves, (x, cause, at, epoch, its, body)) ↦ (
+    | inl (zero, (x, cause, at, epoch, its, body)) ↦ (
       x.epoch,
       x.moves,
       subst (λ (y : ServerId × Body). SentTo (acts (firsts y.0) y.0 past) h x.epoch x.moves y.1) (λ i. (at i, body i))

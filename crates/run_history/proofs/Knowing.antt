@@ -29,10 +29,10 @@ use Rattle.run_history.proofs.Sound.{sees_zero, view_zero}
 use Rattle.run_rules.specs.Dirty.{IsClean, IsLastLength, LengthIsClean}
 use Rattle.run_rules.specs.Views.{sees as host_sees}
 use Rattle.run_parts.proofs.Cells.{none_some}
-use Rattle.run_parts.proofs.Invariant.{Pending, Shown}
+use Rattle.run_parts.proofs.Invariant.{Shown}
 use Rattle.run_parts.proofs.PlaceLaw.{Kept}
 use Rattle.run_parts.specs.Cells.{by}
-use Rattle.run_parts.specs.Contents.{Contents, MadeSince, dirty, sees, site, view}
+use Rattle.run_parts.specs.Contents.{Contents, MadeSince, Pending, dirty, sees, site, view}
 use Rattle.run_parts.specs.Deeds.{acts_in}
 use Rattle.run_parts.specs.Legal.{LegalStep, served as served_deeds, tree}
 use Rattle.run_contents.proofs.Gives.{owns_held}

@@ -52,7 +52,7 @@ use Rattle.run_rules.specs.HostAsks.{AsksServer, HasChanged, IsNewChange}
 use Rattle.run_rules.specs.HostRules.{HostMay}
 use Rattle.run_rules.specs.Knowing.{HasLabel, IsLock, IsOpening, is_entering, stay_asked}
 use Rattle.run_rules.specs.Labels.{GivesUse, InUse, IsEnding, end_call, end_of}
-use Rattle.run_parts.proofs.LabelWords.{HasBegun}
+use Rattle.run_parts.proofs.LabelWords.{HadKept, HasBegun}
 use Rattle.run_rules.specs.OpenCalls.{Counts, IsEnded, IsOpen}
 use Rattle.run_rules.specs.Views.{sees as host_sees}
 use Rattle.run_parts.proofs.LabelLaw.{Given, given_ended}
@@ -64,7 +64,7 @@ use Rattle.run_rules.specs.Gives.{IsKnown, Learns, Made, number_of}
 use Rattle.run_rules.specs.Lists.{EachOnce, In}
 use Rattle.run_rules.specs.Places.{Place, home, place}
 use Rattle.run_rules.specs.Requests.{Changing, Settles}
-use Rattle.run_rules.specs.Sends.{Sends}
+use Rattle.run_rules.specs.Sends.{HasKept, Sends}
 use Rattle.run_rules.specs.declared.applied.Answer.{Answer}
 use Rattle.run_rules.specs.declared.step.Asked.{Asked}
 use Rattle.run_rules.specs.declared.step.Labelled.{Labelled}
@@ -247,12 +247,19 @@ given_made [] u g e = elim e [ ]
 given_made (s ∷ A) u g (inl x) = inl x.1
 given_made (s ∷ A) u g (inr e) = inr (given_made A u g e)
 
--- the use that a give-back ends
+-- what was kept since it was taken was kept
+had_kept : (A : List Step) (i : TokenId) → HasKept A i → HadKept A i
+had_kept [] i e = e
+had_kept (s ∷ A) i (inl q) = inl q
+had_kept (s ∷ A) i (inr (q, _)) = inr (had_kept A i q)
+
+-- the use that a give-back ends, of a token that a Kept named
 pub record EndsOf (script : Script) (host : HostId) (A : List Step) (g : Give) (ends : Ends) : Type 0 where
   pub u : Labelled
   pub given : Given A u g
   pub gives : GivesUse g u
   pub call : ends.call ≡ end_of u
+  pub kept : HadKept A u.token.id
   pub user : User
   pub acts_for : user_of script.roster host ≡ Some user
 
@@ -267,6 +274,7 @@ module _ (script : Script) (host : HostId) where
         given = inl (k.1.0.0, i);
         gives = (ends, e, k.2, k.3);
         call = k.2;
+        kept = inr (had_kept A k.0.token.id k.1.1);
         user = run.1.stance.user;
         acts_for = run.1.stance.acts_for;
       }
@@ -277,6 +285,7 @@ module _ (script : Script) (host : HostId) where
         given = inr k.given;
         gives = k.gives;
         call = k.call;
+        kept = inr k.kept;
         user = k.user;
         acts_for = k.acts_for;
       }
@@ -526,7 +535,8 @@ module _ (script : Script) (host : HostId) where
         -- what the host has is in use
         is_used : (u : Labelled) → HasLabel A s u → InUse (s ∷ A) u
         is_used u (inl usage) = stays_used u usage
-        is_used u (inr (begun, (g, made, gives, unknown))) =
+        is_used u (inr (g, ended, unknown)) =
+            let (made, gives) = ended_gives script host A u g ended in
             absurd (no_give g gives.0 (inr made) gives.1 unknown)
 
         labels_go_on : Labelling host A c → Labelling host (s ∷ A) c

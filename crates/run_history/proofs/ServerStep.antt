@@ -53,9 +53,9 @@ use Rattle.run_history.specs.Changes.{are_home, is_home}
 use Rattle.run_rules.specs.Knowing.{IsLock, IsOpening}
 use Rattle.run_rules.specs.Labels.{GivesUse, end_of}
 use Rattle.run_rules.specs.Histories.{call_entry, entries_in}
-use Rattle.run_parts.proofs.LabelLaw.{locked_owed}
+use Rattle.run_parts.proofs.LabelLaw.{given_ended, locked_owed}
 use Rattle.run_parts.specs.Uses.{Frees, FreesAny, Locked}
-use Rattle.run_contents.proofs.Uses.{IsUse, begun_use}
+use Rattle.run_contents.proofs.Uses.{IsUse, begun_use, ended_begun}
 use Rattle.run_contents.proofs.Words.{any_in, both, in_any}
 use Rattle.run_rules.specs.Kept.{kept, takes_gifts}
 use Rattle.run_rules.specs.ServerApplies.{FirstDown, FirstGiven, ServerApplies, by_cause, ended_by, span_of}
@@ -79,7 +79,7 @@ use Rattle.run_rules.specs.declared.step.Step.{Step}
 use Rattle.run_history.proofs.UseCausing.{First, end_by_cause, first_of, frees_is, is_frees}
 use Rattle.run_history.proofs.Found.{close_reply, unlock_reply}
 use Rattle.run_history.proofs.HostStep.{closes, is_under, under_is, unlocks}
-use Rattle.run_history.proofs.Open.{EndsOf, given_begun, made_ends}
+use Rattle.run_history.proofs.Open.{EndsOf, made_ends}
 use Rattle.run_history.proofs.Rows.{of_both}
 use Rattle.run_history.proofs.State.{LockedNow, StandsWith, TiedLocks, TiedOpens, all, host_run, locked_live}
 use Rattle.run_history.proofs.State.{locked_once, of_stand, rules, stand_after, tokens, whole}
@@ -275,13 +275,15 @@ module _ (script : Script) (start : Tree) (firsts : ServerId → ℕ) (real : (v
       pub some_use : ((u : Labelled) → GivesUse g u → Old h u → end_of u ≡ ends.call → ⊥) → ⊥
       some_use never =
           ((all script start firsts real past run.0).uses h v).kept_locked g E.u.token.id
-          (server_is E.u.token.id E.gives.3) made E.gives.3 E.kept first.1 live
+          (server_is E.u.token.id E.gives.3) made E.gives.3
+          (((all script start firsts real past run.0).labels h).kept_since E.u.token.id E.kept) first.1 live
           (λ u same gives l. never u gives l (sym gives.2 ∙ ap (λ (x : EndsCall). x.call)
           (let q : Some gives.0 ≡ Some ends = sym gives.1 ∙ is in let w : gives.0 ≡ ends = cc in w)))
 
       pub ends_kind : IsUse E.u.token.kind
       ends_kind =
-          begun_use script h A (host_run script start firsts real past run.0 h) E.u (given_begun A E.u g E.given)
+          begun_use script h A (host_run script start firsts real past run.0 h) E.u
+          (ended_begun script h A E.u g (given_ended A E.u g E.given E.gives))
 
       -- so the host has a lock, an open file under the label
       lock_there : (tree : Tree) → LabelsStand firsts past tree → (w : Bool) (span : Span)

@@ -19,7 +19,7 @@ use Rattle.run_rules.specs.Runs.{StepMeets, StepsMeet}
 use Rattle.run_parts.proofs.Words.{host_split}
 use Rattle.run_rules.specs.Knowing.{HasLabel, IsLock, IsOpening}
 use Rattle.run_rules.specs.Labels.{InUse}
-use Rattle.run_parts.proofs.LabelLaw.{locked_owed, locks_apart}
+use Rattle.run_parts.proofs.LabelLaw.{given_ended, locked_owed, locks_apart}
 use Rattle.run_parts.specs.Uses.{Locked, LockedAfter, UsesRun}
 use Rattle.run_contents.proofs.Calls.{use_owned}
 use Rattle.run_contents.proofs.Words.{both}
@@ -36,7 +36,7 @@ use Rattle.run_rules.specs.TokenRuns.{IsTokenRun}
 use Rattle.run_rules.specs.declared.applied.Answer.{Answer}
 use Rattle.run_rules.specs.declared.step.Labelled.{Labelled}
 use Rattle.run_rules.specs.declared.step.Step.{Step}
-use Rattle.run_history.proofs.Open.{given_begun, none_ends}
+use Rattle.run_history.proofs.Open.{none_ends}
 use Rattle.run_history.proofs.State.{all, also, host_run, locked_live, rules, tokens, whole}
 use Rattle.run_history.specs.UseStanding.{LabelsStand, UsesAt}
 
@@ -100,16 +100,11 @@ module _ (script : Script) (start : Tree) (firsts : ServerId → ℕ) (real : (v
         (locked_live script start firsts real past run.0 h u l)) [
           | inl usage ↦ usage
           | inr g ↦ absurd (none_ends script h A s my_run (also script start firsts real past run.0 h) a i u (
-            given_begun A u g.0 g.1.given,
-            (
-              g.0,
-              g.1.made,
-              g.1.gives,
-              λ k. g.1.not_applied ((known v).known (number_of g.0)
-                  ((((whole script start firsts real past run.0).at v).link h).made_id g.0 u.token.id g.1.made
-                  g.1.gives.3
-                  refl) k),
-            ),
+            g.0,
+            given_ended A u g.0 g.1.given g.1.gives,
+            λ k. g.1.not_applied ((known v).known (number_of g.0)
+                ((((whole script start firsts real past run.0).at v).link h).made_id g.0 u.token.id g.1.made
+                g.1.gives.3 refl) k),
           ))
         ]
 
