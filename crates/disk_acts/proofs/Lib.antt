@@ -1,6 +1,6 @@
 pub mod Beside
 pub mod Same
-pub mod Room
+pub mod ActRoom
 pub mod Freed
 pub mod Transacting
 pub mod Stepping

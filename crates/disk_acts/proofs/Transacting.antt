@@ -31,7 +31,7 @@ use Rattle.disk_acts.specs.Acts.{act_pages, MayAct, DoesAct}
 use Rattle.disk_acts.specs.Records.{HasRecord, HasStage, HasNow}
 use Rattle.disk_acts.specs.Steps.{Begins, HasEnded, IsUndone, Finishes, MayStep, Steps, SaysNext}
 use Rattle.disk_acts.proofs.Same.{record_with, record_same}
-use Rattle.disk_acts.proofs.Room.{act_many}
+use Rattle.disk_acts.proofs.ActRoom.{act_many}
 use Rattle.disk_acts.proofs.Freed.{free_begun, free_ended, unused_begun}
 
 -- of a log without an open transaction, the last stage is what its pages say
