@@ -32,7 +32,7 @@ use Rattle.store_records.specs.Stored.{IsStorable}
 use Rattle.service_starts.proofs.Kept.{never}
 use Rattle.service_starts.proofs.Known.{IsHeld, found_kept, sent_so}
 use Rattle.service_starts.proofs.Places.{goes_on, matched_at, same_place}
-use Rattle.service_starts.proofs.Settling.{stores_settle}
+use Rattle.service_starts.proofs.SettledMoves.{stores_settle}
 use Rattle.service_starts.proofs.Slots.{slot_held}
 use Rattle.service_starts.proofs.Started.{tree_filesets}
 use Rattle.service_starts.proofs.Turned.{settled_slots}

@@ -11,7 +11,7 @@ pub mod Places
 pub mod Started
 pub mod StartFormed
 pub mod Turned
-pub mod Settling
+pub mod SettledMoves
 pub mod Kept
 pub mod Blank
 pub mod Tied

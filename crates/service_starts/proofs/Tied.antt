@@ -16,7 +16,7 @@ use Rattle.service_starts.specs.declared.told.Told.{Told}
 use Rattle.store_records.proofs.Acts.{acts_keep_storable}
 use Rattle.store_records.specs.Stored.{IsStorable}
 use Rattle.service_starts.proofs.Kept.{never, start_kept}
-use Rattle.service_starts.proofs.Settling.{stores_settle}
+use Rattle.service_starts.proofs.SettledMoves.{stores_settle}
 use Rattle.service_starts.proofs.Turned.{settled_slots}
 use Rattle.service_starts.specs.Kept.{StartsAreKept}
 use Rattle.service_starts.specs.Settles.{acts_at}

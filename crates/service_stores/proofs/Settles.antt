@@ -1,5 +1,5 @@
 -- The stores settle their unfinished moves.
-use Rattle.service_starts.proofs.Settling.{acts_both, append_none}
+use Rattle.service_starts.proofs.SettledMoves.{acts_both, append_none}
 use Rattle.std.proofs.Common.{◌≡◌, ℕ, zero, suc, ◌+◌, ◌-◌, ◌*◌, ◌^◌, ◌<◌, ◌≤◌, ◌==◌, true, List, [], ◌∷◌, ◌++◌, map, take, length, inl, inr, refl, sym, subst, ap, ◌∙◌, arith, add-zero}
 use Rattle.std.specs.Prelude.{slice_get, filter, Some}
 use Rattle.std.proofs.Math.ListN.{set}
