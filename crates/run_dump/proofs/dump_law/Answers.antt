@@ -1,6 +1,0 @@
-use Rattle.run_dump.proofs.Bytes.{bytes_are_shown}
-use Rattle.run_dump.proofs.Shown.{objects_are_shown, runs_are_shown}
-use Rattle.run_dump.proofs.dump_law.Goals as goal
-
-pub returns : goal.returns
-returns c = record { objects = objects_are_shown; bytes = bytes_are_shown; runs = runs_are_shown }
