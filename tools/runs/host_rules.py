@@ -18,17 +18,17 @@ USE_KINDS = (LockTok, Opening)
 
 
 def place(fileset):
-    """[Places.place] (server, moves): so far where it was made."""
+    """[Messages.stay_of] (server, moves): so far where it was made."""
     return home(fileset), 0
 
 
 def end_of(usage):
-    """[Labels.end_of]"""
+    """[Tokens.end_of]"""
     return CloseFile(usage.label) if isinstance(usage.token.kind, Opening) else Unlock(usage.label)
 
 
 def gives_use(give, usage):
-    """[Labels.GivesUse]"""
+    """[Tokens.GivesUse]"""
     return give.ends is not None and give.ends.call == end_of(usage) and usage.token.id in give.ids
 
 
@@ -82,9 +82,9 @@ class HostPast:
         self.floors = {}            # [AboveFloor]: above this
         self.welcome = set()        # [IsWelcome]
         self.has_bye = set()        # [HasBye]
-        self.kept_ids = set()       # [HasKept]
-        self.in_use = {}            # [InUse] usage: None
-        self.ended = {}             # [HasEnded] usage: give-backs that ended its use
+        self.kept_ids = set()       # [HasKeptToken]
+        self.in_use = {}            # [LabelInUse] usage: None
+        self.ended = {}             # [HasEndedUse] usage: give-backs that ended its use
         self.before = set()         # [TakenBefore] pairs
         self.open = ()              # [IsOpen] Asked
         self.lost = frozenset()     # [HasLost] fids
@@ -117,7 +117,7 @@ class HostPast:
         return any(g.fid == fid and not self.is_known(g) for g in self.made)
 
     def waits(self, give):
-        """[Gives.Waits]"""
+        """[Tokens.WaitsBehind]"""
         return any(f.fid.fileset == give.fid.fileset and f.number < give.number and not self.is_known(f)
                    for f in self.made)
 
@@ -128,7 +128,7 @@ class HostPast:
         return any(t.id == id for t in self.held)
 
     def is_used(self, id):
-        """[IsUsed]"""
+        """[TokenInUse]"""
         return any(u.token.id == id for u in self.in_use)
 
     def is_last_use(self, usage):
@@ -423,7 +423,7 @@ class Look:
                    and number_of(g) not in self.past.known for g in self.past.made)
 
     def is_ended(self, call):
-        """[OpenCalls.IsEnded]"""
+        """[Tokens.CauseEnds]"""
         found = self.counts()
         return (found is not None and isinstance(found[1].outcome, HasReply)) or self.learns_end(call)
 
@@ -433,11 +433,11 @@ class Look:
         return out + [(a.k, a.call) for a in self.s.answers if a.first]
 
     def goes_on(self):
-        """[GoesOn]"""
+        """[CallGoesOn]"""
         return [(c.k, c.call) for c in self.past.open if not self.is_ended(c)]
 
     def turns(self):
-        """[IsTurn]"""
+        """[HasCall]"""
         return list(dict.fromkeys(self.begins() + self.goes_on()))
 
     # the past with the step
@@ -796,7 +796,7 @@ class Look:
         return place(question[1]) if question[0] == "in" else (question[1], 0)
 
     def is_next(self, numbers, n):
-        """[IsNext]"""
+        """[IsNextNumber]"""
         return all(m < n for m in numbers) and (n == 1 or n - 1 in numbers)
 
     def is_directory(self, fid):

@@ -6,7 +6,7 @@ Turn is one step of a server on them, with all rules as methods named as their r
 from typing import NamedTuple
 
 from words import (Again, Answer, Bye, Bytes, Came, Change, Done, Down, EXPORTER, End, EndsCall, Evict, Fetch, Flushed,
-                   GiveBack, Gone, Grant, Granted, HasReply, Hello, IsDown, Kept, Known, Lapse, LineOf, Lock, LockTok,
+                   GiveBack, Gone, Grant, Granted, HasReply, Hello, HasGoneDown, Kept, Known, Lapse, LineOf, Lock, LockTok,
                    MoveFileset, OK, OpenFile, Opening, Reclaim, Reclaimed, Restart, RestartAt, Restarted, Returned,
                    Revoke, Status, Stored, Wanted, Written, bare, home, is_refusal, lines_of, need_of, number_of,
                    refused, span_between, user_of)
@@ -17,7 +17,7 @@ from tree import ENTRIES, Nature, SIZE, TRAITS, answer_to, cell, object_of, take
 USE_KINDS = (LockTok, Opening)
 
 
-# [Acts.Act]
+# [Doings.Doing]
 class Begins(NamedTuple):
     epoch: int
 
@@ -58,12 +58,12 @@ class Reserves(NamedTuple):
 
 
 def here(server, fileset, moves):
-    """[Places.Here]: so far where it was made"""
+    """[Doings.Here]: so far where it was made"""
     return home(fileset) == server and moves == 0
 
 
 def is_here(server, fileset, moves):
-    """[ServerDecides.IsHere]"""
+    """[ServerDecides.IsDecidedHere]"""
     return (fileset == 0 and moves == 0) or here(server, fileset, moves)
 
 
@@ -90,7 +90,7 @@ def is_meant_so(c):
 
 
 def same_number(a, b):
-    """[Wants.SameNumber]"""
+    """[Wants.CannotBothWait]"""
     if isinstance(a, Fetch) and isinstance(b, Fetch):
         return a.fid.fileset == b.fid.fileset and a.number == b.number
     return isinstance(a, Change) and isinstance(b, Change) and a.fileset == b.fileset
@@ -118,7 +118,7 @@ def decides(a, host, request):
 
 
 def blocks_want(w, t):
-    """[Wants.Blocks]"""
+    """[Wants.IsInWay]"""
     return blocks(asker(w), w.needs, t)
 
 
@@ -129,7 +129,7 @@ class ServerPast:
         self.server = server
         self.epoch = first          # [epoch]
         self.listed = set()         # [Listed]
-        self.down = set()           # [IsDown]
+        self.down = set()           # [HasGoneDown]
         self.away = set()           # [Away]
         self.listed_now = set()     # [ListedNow]
         self.reclaimed = set()      # [HasReclaimed]
@@ -203,7 +203,7 @@ class ServerPast:
             for e, _, d in self.dones.get((host, request.fileset), ()))
 
     def none_waits(self, host, request):
-        """[NoneWaits]"""
+        """[NoneQueued]"""
         return not any(w.host == host and same_number(w.request, request) for w in self.waiting)
 
     def is_behind(self, w):
@@ -237,7 +237,7 @@ class ServerPast:
         return [t for t in self.granted if t not in self.pinned and any(blocks_want(w, t) for w in self.waiting)]
 
     def has_all(self, host, claim):
-        """[HasAll]"""
+        """[HasTakenGives]"""
         for o in claim.numbers:
             if 0 < o.give and here(self.server, o.fileset, o.moves):
                 if not any(h == host and fs == o.fileset and isinstance(b, GiveBack)
@@ -335,7 +335,7 @@ class ServerPast:
             self.written.append(w)
             key = (w.answer.host, w.fileset)
             self.durable[key] = max(self.durable.get(key, -1), w.number)
-        # hosts [Listed, IsDown, Away, HasReclaimed]
+        # hosts [Listed, HasGoneDown, Away, HasReclaimed]
         if begin:
             self.reclaimed, self.listed_now = set(), set()
         if isinstance(a, Took) and isinstance(a.body, Hello) and a.host not in self.listed and a.host not in self.down:
@@ -711,7 +711,7 @@ class Turn:
         given, down = self.first_given(), self.first_down()
         if given is not None and caused != self.stored_of(self.tree, *given) + self.ended_by(*given):
             bad("ServerApplies.given", caused)
-        if down is not None and caused != (IsDown(down),):
+        if down is not None and caused != (HasGoneDown(down),):
             bad("ServerApplies.down", caused)
         if given is None and down is None and caused:
             bad("ServerApplies.else_none", caused)
@@ -844,7 +844,7 @@ class Turn:
         return why
 
     def settles_so(self, tree, past, host, moves, d):
-        """[SettlesSo]"""
+        """[AnswersSo]"""
         for w in past.waiting:
             c = w.request
             if (not isinstance(c, Change) or w.host != host or w.moves != moves or d.fileset != c.fileset
@@ -894,7 +894,7 @@ class Turn:
             if not past.is_live(a.host):
                 bad("MaySend.dones/IsLive", a.body)
             if not is_here(self.server, a.body.fileset, a.moves):
-                bad("MaySend.dones/IsHere", a.body)
+                bad("MaySend.dones/IsDecidedHere", a.body)
             if not self.done_for(tree, past, a.host, a.moves, a.body):
                 bad("MaySend.dones/DoneFor", a.body)
         if isinstance(a.body, Revoke):

@@ -33,7 +33,7 @@ CASES = [
     (1, "no greeting", lambda s: w.change(s, sent=()), "HostAsks.asks"),
     (1, "another call", lambda s: w.change(s, asked=Asked(2, WRITES)), "HostLines.next"),
     (1, "greets twice", lambda s: w.change(s, sent=s.sent * 2), "HostDue.once"),
-    (1, "applies", lambda s: w.change(s, applied=(IsDown(1),)), "HostLines.applies_none"),
+    (1, "applies", lambda s: w.change(s, applied=(HasGoneDown(1),)), "HostLines.applies_none"),
     (1, "flushes", lambda s: w.change(s, cause=Flushed()), "HostLines.no_server"),
     (2, "no welcome", lambda s: w.change(s, sent=()), "ServerAnswers.hello"),
     (2, "welcomes twice", lambda s: w.change(s, sent=s.sent * 2), "HasSent.once"),
@@ -159,7 +159,7 @@ def main():
             bad += 1
             print("step %d, %s: expected %s, broken %s" % (n, what, rule, broken))
     # the run as a whole
-    for steps, rule in ((J.steps[:51], "IsEnded.hosts"), (J.steps[:2] + J.steps[1:], "KeepsPlan.copies"),
+    for steps, rule in ((J.steps[:51], "CauseEnds.hosts"), (J.steps[:2] + J.steps[1:], "KeepsPlan.copies"),
                         (J.steps[:1] + J.steps[2:], "CameToHost"), (J.steps[:12] + [host_step(Lapse())] + J.steps[12:],
                                                                    "KeepsPlan.lapses")):
         found = check(J.with_steps(steps)).rules()

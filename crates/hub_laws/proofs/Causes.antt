@@ -13,17 +13,17 @@ use Rattle.script_lines.specs.declared.script.Script.{Script}
 use Rattle.hub_board.specs.Hubs.{Hubbed, with_turn}
 use Rattle.hub_board.specs.Turning.{steps_of}
 use Rattle.hub_board.specs.declared.given.Turn.{Turn}
-use Rattle.run_rules.specs.Plans.{sent_in}
-use Rattle.run_rules.specs.Acts.{Act, SentTo, acts, admitted_by, admitting, after_cause, after_step, deciding, sending, written_by}
-use Rattle.run_rules.specs.Acts.Act.{Sent}
-use Rattle.run_rules.specs.Lists.{Each, In, Once, after}
-use Rattle.run_rules.specs.Nodes.{is_node, own}
-use Rattle.run_rules.specs.Sends.{Said}
-use Rattle.run_rules.specs.TokenRuns.{IsFrom}
+use Rattle.run_rules.specs.Doings.{Doing, SentTo, admitting, after_admitting, after_cause, after_deciding, after_step}
+use Rattle.run_rules.specs.Doings.{deciding, doings_of, sending}
+use Rattle.run_rules.specs.Doings.Doing.{Sent}
+use Rattle.run_rules.specs.Messages.{Said}
+use Rattle.run_rules.specs.Past.{EachInTurn, In, Once, appended}
+use Rattle.run_rules.specs.Plans.{receiver_by, sent_in}
+use Rattle.run_rules.specs.Runs.{IsFrom}
+use Rattle.run_rules.specs.Steps.{is_node, steps_of_host}
 use Rattle.run_rules.specs.declared.step.Cause.{Cause}
 use Rattle.run_rules.specs.declared.step.Cause.TheVariants.{Line, Restart, Message as CameBy, Lapse, Evict, End, Flushed}
 use Rattle.run_rules.specs.declared.step.Step.{Step}
-use Rattle.run_rules.specs.Ends.{receiver_by}
 use Rattle.hub_laws.proofs.Boards.{GivesSent}
 use Rattle.hub_laws.specs.Keeping.{Keeps, Round, round_of, rounds_of}
 use Rattle.hub_laws.specs.Laws.{CauseSent, GivesSound}
@@ -40,21 +40,21 @@ module _ (script : Script) where
   AllOwn [] = Unit {0}
   AllOwn (s ∷ past) = OwnSent s × AllOwn past
 
-  own_more : (xs past : List Step) → ((s : Step) → In s xs → OwnSent s) → AllOwn past → AllOwn (after xs past)
+  own_more : (xs past : List Step) → ((s : Step) → In s xs → OwnSent s) → AllOwn past → AllOwn (appended xs past)
   own_more [] past h a = a
   own_more (s ∷ xs) past h a = own_more xs (s ∷ past) (λ x i. h x (inr i)) (h s (inl refl), a)
 
   -- a fact of each step, where all earlier ones sent their own
   each_with : (P Q : List Step → Step → Type 0) (xs past : List Step)
       → ((past : List Step) (s : Step) → AllOwn past → P past s → Q past s) → AllOwn past
-      → ((s : Step) → In s xs → OwnSent s) → Each P xs past → Each Q xs past
+      → ((s : Step) → In s xs → OwnSent s) → EachInTurn P xs past → EachInTurn Q xs past
   each_with P Q [] past f a h e = tt
   each_with P Q (s ∷ xs) past f a h e =
       (f past s a e.0, each_with P Q xs (s ∷ past) f (h s (inl refl), a) (λ x i. h x (inr i)) e.1)
 
   -- all steps of a run send their own
   pub all_own : (turns : List Turn) (hub : Hubbed) (own : Node → List Round)
-      → ((n : Node) → Each (Keeps script n) (rounds_of hub n turns) (own n)) → (s : Step) → In s (steps_of turns) → OwnSent s
+      → ((n : Node) → EachInTurn (Keeps script n) (rounds_of hub n turns) (own n)) → (s : Step) → In s (steps_of turns) → OwnSent s
   all_own [] hub own keeps s i = absurd i
   all_own (t ∷ turns) hub own keeps s i =
       let round = round_of hub t in
@@ -105,26 +105,26 @@ module _ (script : Script) where
 
   -- its host said it
   said : (m : Message) (past : List Step) → Sender m past → m.direction ≡ ToServer
-      → Said (own m.host past) m.server m.epoch m.moves m.body
+      → Said (steps_of_host m.host past) m.server m.epoch m.moves m.body
   said m [] o e = absurd o
   said m (s ∷ past) o e = ⊎_elim
       (λ (u : In m s.sent × (IsFrom s.node m × IsSound script.roster m)).
-      subst (λ b. Said (cond b (s ∷ own m.host past) (own m.host past)) m.server m.epoch m.moves m.body)
+      subst (λ b. Said (cond b (s ∷ steps_of_host m.host past) (steps_of_host m.host past)) m.server m.epoch m.moves m.body)
       (sym (from_host s.node m u.1.0 e)) (inl (m, u.0, refl, refl, refl, refl)))
       (λ (k : Sender m past). later (is_node s.node (Host m.host)) (said m past k e)) o
     where
-      later : (b : Bool) → Said (own m.host past) m.server m.epoch m.moves m.body
-          → Said (cond b (s ∷ own m.host past) (own m.host past)) m.server m.epoch m.moves m.body
+      later : (b : Bool) → Said (steps_of_host m.host past) m.server m.epoch m.moves m.body
+          → Said (cond b (s ∷ steps_of_host m.host past) (steps_of_host m.host past)) m.server m.epoch m.moves m.body
       later true h = inr h
       later false h = h
 
-  once_in_after : (a : Act) (xs past : List Act) → In a xs → Once (λ before b. b ≡ a) (after xs past)
+  once_in_after : (a : Doing) (xs past : List Doing) → In a xs → Once (λ before b. b ≡ a) (appended xs past)
   once_in_after a [] past i = absurd i
   once_in_after a (b ∷ xs) past i = ⊎_elim
       (λ (e : a ≡ b). once_after (λ before c. c ≡ a) xs (b ∷ past) (inl (sym e)))
       (λ (k : In a xs). once_in_after a xs (b ∷ past) k) i
 
-  once_cause : (P : List Act → Act → Type 0) (c : Cause) (past : List Act) → Once P past → Once P (after_cause c past)
+  once_cause : (P : List Doing → Doing → Type 0) (c : Cause) (past : List Doing) → Once P past → Once P (after_cause c past)
   once_cause P (CameBy m) past h = inr h
   once_cause P (Restart line) past h = inr h
   once_cause P Flushed past h = inr h
@@ -133,30 +133,30 @@ module _ (script : Script) where
   once_cause P Evict past h = h
   once_cause P End past h = h
 
-  once_step : (P : List Act → Act → Type 0) (s : Step) (past : List Act) → Once P past → Once P (after_step s past)
+  once_step : (P : List Doing → Doing → Type 0) (s : Step) (past : List Doing) → Once P past → Once P (after_step s past)
   once_step P s past h =
-      inr (once_after P (sending s.sent) (admitted_by s past)
-      (once_after P (admitting s.admitted) (written_by s past)
+      inr (once_after P (sending s.sent) (after_admitting s past)
+      (once_after P (admitting s.admitted) (after_deciding s past)
       (once_after P (deciding s.applied) (after_cause s.cause past) (once_cause P s.cause past h))))
 
   -- its server sent it
   sent_to : (firsts : ServerId → ℕ) (m : Message) (past : List Step) → Sender m past → m.direction ≡ ToHost
-      → SentTo (acts (firsts m.server) m.server past) m.host m.epoch m.moves m.body
+      → SentTo (doings_of (firsts m.server) m.server past) m.host m.epoch m.moves m.body
   sent_to firsts m [] o e = absurd o
   sent_to firsts m (s ∷ past) o e = ⊎_elim
       (λ (u : In m s.sent × (IsFrom s.node m × IsSound script.roster m)).
       subst (λ b. SentTo (cond b (after_step s before) before) m.host m.epoch m.moves m.body)
       (sym (from_server s.node m u.1.0 e))
-      (inr (once_in_after (Sent m.host m.epoch m.moves m.body) (sending s.sent) (admitted_by s before)
+      (inr (once_in_after (Sent m.host m.epoch m.moves m.body) (sending s.sent) (after_admitting s before)
       (map_in (λ (x : Message). Sent x.host x.epoch x.moves x.body) m s.sent u.0))))
       (λ (k : Sender m past). later (is_node s.node (Server m.server)) (sent_to firsts m past k e)) o
     where
-      before : List Act
-      before = acts (firsts m.server) m.server past
+      before : List Doing
+      before = doings_of (firsts m.server) m.server past
 
-      later : (b : Bool) → SentTo (acts (firsts m.server) m.server past) m.host m.epoch m.moves m.body
-          → SentTo (cond b (after_step s (acts (firsts m.server) m.server past)) (acts (firsts m.server) m.server past)) m.host m.epoch m.moves m.body
-      later true h = once_step (λ bef a. a ≡ Sent m.host m.epoch m.moves m.body) s (acts (firsts m.server) m.server past) h
+      later : (b : Bool) → SentTo (doings_of (firsts m.server) m.server past) m.host m.epoch m.moves m.body
+          → SentTo (cond b (after_step s (doings_of (firsts m.server) m.server past)) (doings_of (firsts m.server) m.server past)) m.host m.epoch m.moves m.body
+      later true h = once_step (λ bef a. a ≡ Sent m.host m.epoch m.moves m.body) s (doings_of (firsts m.server) m.server past) h
       later false h = h
 
   -- by whom a message is taken
@@ -170,7 +170,7 @@ module _ (script : Script) where
       (λ (d : m.direction ≡ ToHost).
       let same : m.host ≡ host =
       ap (λ n. let h : HostId = record { 0 = n } in h) (eqb-true m.host.0 host.0 (ap (λ x. same_node (receiver_by x m) (Host host)) (sym d) ∙ k.0)) in
-      (same, d, subst (λ h. SentTo (acts (firsts m.server) m.server past) h m.epoch m.moves m.body) same (sent_to firsts m past o d)))
+      (same, d, subst (λ h. SentTo (doings_of (firsts m.server) m.server past) h m.epoch m.moves m.body) same (sent_to firsts m past o d)))
       (way_of m past o)
   cause_sent firsts (Server server) past s a f = λ m e.
       let k = f m e in
@@ -178,14 +178,14 @@ module _ (script : Script) where
       (λ (d : m.direction ≡ ToServer).
       let same : m.server ≡ server =
       ap (λ n. let v : ServerId = record { 0 = n } in v) (eqb-true m.server.0 server.0 (ap (λ x. same_node (receiver_by x m) (Server server)) (sym d) ∙ k.0)) in
-      (same, d, subst (λ v. Said (own m.host past) v m.epoch m.moves m.body) same (said m past o d)))
+      (same, d, subst (λ v. Said (steps_of_host m.host past) v m.epoch m.moves m.body) same (said m past o d)))
       (λ (d : m.direction ≡ ToHost).
       let clash : false ≡ true = ap (λ x. same_node (receiver_by x m) (Server server)) (sym d) ∙ k.0 in absurd (cc))
       (way_of m past o)
 
   pub causes_sent : (firsts : ServerId → ℕ) (start : List Tree) (xs past : List Step) → AllOwn past
-      → ((s : Step) → In s xs → OwnSent s) → Each (StepFits script start) xs past
-      → Each (λ before s. CauseSent firsts s.node before s) xs past
+      → ((s : Step) → In s xs → OwnSent s) → EachInTurn (StepFits script start) xs past
+      → EachInTurn (λ before s. CauseSent firsts s.node before s) xs past
   causes_sent firsts start xs past a h e =
       each_with (StepFits script start) (λ before s. CauseSent firsts s.node before s) xs past
       (λ before s own fits. cause_sent firsts s.node before s own fits.cause) a h e
@@ -196,6 +196,6 @@ module _ (script : Script) where
   gives_sound [] hub past a h g = tt
   gives_sound (t ∷ turns) hub past a h g =
       let later = own_more t.steps past (λ s i. h s (in_front s t.steps (steps_of turns) i)) a in (
-        (λ m e. sound_of m (after t.steps past) (sender_of m (after t.steps past) later (g.0 m e))),
-        gives_sound turns (with_turn hub t) (after t.steps past) later (λ s i. h s (in_back s t.steps (steps_of turns) i)) g.1,
+        (λ m e. sound_of m (appended t.steps past) (sender_of m (appended t.steps past) later (g.0 m e))),
+        gives_sound turns (with_turn hub t) (appended t.steps past) later (λ s i. h s (in_back s t.steps (steps_of turns) i)) g.1,
       )

@@ -8,7 +8,7 @@ use Rattle.script_lines.specs.Sound.{same_node}
 use Rattle.hub_cell.specs.Lists.{IsPrefix, IsShuffle}
 use Rattle.hub_cell.specs.Passes.{TableId}
 use Rattle.run_tokens.specs.JournalWorked.{script}
-use Rattle.run_rules.specs.Lists.{Each, In, after}
+use Rattle.run_rules.specs.Past.{EachInTurn, In, appended}
 use Rattle.run_tokens.specs.Worked.{client, site_one}
 use Rattle.hub_board.specs.Follows.{setup_node}
 use Rattle.hub_board.specs.Hubs.{AreGiven, Hubbed, after as after_turns, first_hub, gift_for, nodes_of, with_steps, with_turn}
@@ -100,12 +100,12 @@ module _ (hub : HubView) where
   -- what was made through a pass, turn by turn
   made_by : (node : Node) (ts xs : List Turn) (rounds : List Round) → HasMade hub rounds (at_list node xs)
       → AreGiven hub.first xs → AreGiven (after_turns hub.first xs) ts → AllLeave ts
-      → HasMade hub (after (rounds_of (after_turns hub.first xs) node ts) rounds) (at_list node (xs ++ ts))
+      → HasMade hub (appended (rounds_of (after_turns hub.first xs) node ts) rounds) (at_list node (xs ++ ts))
   made_by node [] xs rounds h was given all = subst (λ l. HasMade hub rounds (at_list node l)) (sym (append-nil xs)) h
   made_by node (t ∷ ts) xs rounds h was given all =
       by_test (same_node t.node node) refl (λ more k.
-      subst (λ l. HasMade hub (after (rounds_of now node ts) more) (at_list node l)) (append_assoc xs (t ∷ []) ts)
-      (subst (λ first. HasMade hub (after (rounds_of first node ts) more) (at_list node ((xs ++ t ∷ []) ++ ts))) is
+      subst (λ l. HasMade hub (appended (rounds_of now node ts) more) (at_list node l)) (append_assoc xs (t ∷ []) ts)
+      (subst (λ first. HasMade hub (appended (rounds_of first node ts) more) (at_list node ((xs ++ t ∷ []) ++ ts))) is
       (made_by node ts (xs ++ t ∷ []) more k (given_more hub.first xs t was given.0)
       (subst (λ first. AreGiven first ts) (sym is) given.1) all.1)))
     where
@@ -117,8 +117,8 @@ module _ (hub : HubView) where
 
       by_test : (b : Bool) → same_node t.node node ≡ b
           → ((more : List Round) → HasMade hub more (at_list node (xs ++ t ∷ []))
-          → HasMade hub (after (rounds_of now node ts) more) (at_list node (xs ++ t ∷ ts)))
-          → HasMade hub (after (cond b (round_of (after_turns hub.first xs) t ∷ rounds_of now node ts) (rounds_of now node ts)) rounds)
+          → HasMade hub (appended (rounds_of now node ts) more) (at_list node (xs ++ t ∷ ts)))
+          → HasMade hub (appended (cond b (round_of (after_turns hub.first xs) t ∷ rounds_of now node ts) (rounds_of now node ts)) rounds)
           (at_list node (xs ++ t ∷ ts))
       by_test true e again =
           again (round_of (after_turns hub.first xs) t ∷ rounds)
@@ -131,10 +131,10 @@ module _ (hub : HubView) where
 -- beside what its turns keep to
 record Beside (node : Node) (past : List Round) (now : Round) : Type 0 where
   pub waits : Waits node past now
-  pub rests : same_node node setup_node ≡ true → Each (Rests script) now.steps (steps_in past)
+  pub rests : same_node node setup_node ≡ true → EachInTurn (Rests script) now.steps (steps_in past)
 
-keeps_beside : (node : Node) (rounds past : List Round) → Each (Keeps script node) rounds past
-    → Each (Beside node) rounds past → Each (KeepsOn script node) rounds past
+keeps_beside : (node : Node) (rounds past : List Round) → EachInTurn (Keeps script node) rounds past
+    → EachInTurn (Beside node) rounds past → EachInTurn (KeepsOn script node) rounds past
 keeps_beside node [] past h k = tt
 keeps_beside node (r ∷ rounds) past h k = (
   record { keeps = h.0; waits = k.0.waits; rests = k.0.rests },
@@ -145,10 +145,10 @@ nothing_in : (node : Node) (past : List Round) (given : Option Given)
     → Beside node past (record { steps = []; given = given })
 nothing_in node past given = record { waits = λ may s i n c. absurd i; rests = λ same. tt }
 
-setup_beside : Each (Beside setup_node) (rounds_of (first_hub script []) setup_node turns) []
+setup_beside : EachInTurn (Beside setup_node) (rounds_of (first_hub script []) setup_node turns) []
 setup_beside = tt
 
-client_beside : Each (Beside (Host client)) (rounds_of (first_hub script []) (Host client) turns) []
+client_beside : EachInTurn (Beside (Host client)) (rounds_of (first_hub script []) (Host client) turns) []
 client_beside = (
   nothing_in (Host client) [] _,
   (
@@ -157,7 +157,7 @@ client_beside = (
   ),
 )
 
-server_beside : Each (Beside (Server site_one)) (rounds_of (first_hub script []) (Server site_one) turns) []
+server_beside : EachInTurn (Beside (Server site_one)) (rounds_of (first_hub script []) (Server site_one) turns) []
 server_beside = (
   nothing_in (Server site_one) [] _,
   (record { waits = λ may s i n c. absurd (cc); rests = λ same. absurd (cc) }, tt),
@@ -167,24 +167,24 @@ all_leave : AllLeave turns
 all_leave = (refl, (refl, (refl, (refl, (refl, tt)))))
 
 module _ (id : TableId) where
-  kept_by : (node : Node) → Each (Beside node) (rounds_of (first_hub script []) node turns) []
+  kept_by : (node : Node) → EachInTurn (Beside node) (rounds_of (first_hub script []) node turns) []
       → HasKept script (hub id) (pass id node)
   kept_by node beside =
       let rounds = rounds_of (first_hub script []) node turns in (
-        after rounds [],
+        appended rounds [],
         made_by (hub id) node turns [] [] refl tt a_run_is_kept.given all_leave,
         always_after (KeepsOn script node) rounds [] tt
             (keeps_beside node rounds [] (a_run_is_kept.nodes node) beside),
       )
 
   by_node : (node : Node) → In node (nodes_of script)
-      → Each (Beside node) (rounds_of (first_hub script []) node turns) []
+      → EachInTurn (Beside node) (rounds_of (first_hub script []) node turns) []
   by_node node (inl e) =
-      subst (λ n. Each (Beside n) (rounds_of (first_hub script []) n turns) []) (sym e) setup_beside
+      subst (λ n. EachInTurn (Beside n) (rounds_of (first_hub script []) n turns) []) (sym e) setup_beside
   by_node node (inr (inl e)) =
-      subst (λ n. Each (Beside n) (rounds_of (first_hub script []) n turns) []) (sym e) client_beside
+      subst (λ n. EachInTurn (Beside n) (rounds_of (first_hub script []) n turns) []) (sym e) client_beside
   by_node node (inr (inr (inl e))) =
-      subst (λ n. Each (Beside n) (rounds_of (first_hub script []) n turns) []) (sym e) server_beside
+      subst (λ n. EachInTurn (Beside n) (rounds_of (first_hub script []) n turns) []) (sym e) server_beside
   by_node node (inr (inr (inr e))) = absurd e
 
   middle_in : (earlier later : List NodeView) (p : NodeView) → In p (earlier ++ p ∷ later)

@@ -9,12 +9,12 @@ use Rattle.base_types.specs.declared.ids.ServerId.{ServerId}
 use Rattle.message_types.specs.declared.message.Message.{Message}
 use Rattle.script_lines.specs.Sound.{same_node}
 use Rattle.script_lines.specs.declared.script.Script.{Script}
-use Rattle.run_rules.specs.Lists.{In}
+use Rattle.run_rules.specs.Past.{In}
+use Rattle.run_rules.specs.Plans.{Copy, CountIs, MayCome, Posting, all_left, copies_of, posted, resender}
+use Rattle.run_rules.specs.Runs.{IsRaised}
 use Rattle.run_rules.specs.declared.step.Cause.{Cause}
 use Rattle.run_rules.specs.declared.step.Cause.TheVariants.{Line, Restart, Message as CameBy, Lapse as LapsesBy, Evict, End, Flushed}
 use Rattle.run_rules.specs.declared.step.Step.{Step}
-use Rattle.run_rules.specs.Ends.{resender}
-use Rattle.run_rules.specs.Posting.{Copy, Posted, all_left, copies_of, posted}
 use Rattle.run_rules.specs.declared.fate.Fate.{Fate}
 use Rattle.run_rules.specs.declared.fate.Fate.TheVariants.{Lost, Once, Twice}
 use Rattle.run_rules.specs.declared.fate.Way.{Way}
@@ -26,8 +26,6 @@ use Rattle.hub_wire.specs.declared.packet.Packet.{Packet}
 use Rattle.hub_wire.proofs.Maps.{map_twice}
 use Rattle.hub_wire.proofs.Posts.{always_posted}
 use Rattle.hub_board.specs.Hubs.{flagged}
-use Rattle.run_rules.specs.Plans.{Counted, MayCome}
-use Rattle.run_rules.specs.Runs.{IsRaised}
 use Rattle.hub_laws.specs.Keeping.{is_lapse, lapses_taken, message_of, messages_taken}
 use Rattle.hub_laws.specs.Taking.{Holds, Embeds}
 use Rattle.hub_laws.proofs.Counts.{Same, count_back, count_filter, count_map, count_once, count_part}
@@ -115,40 +113,40 @@ module _ (script : Script) (past : List Step) where
     )
 
 by_cause : (m : Message) (c : Cause) (rest : List Message) (n k : ℕ)
-    → ((c ≡ CameBy m) × ((n ≡ suc k) × Counted (λ x. x ≡ m) rest k)) ⊎ ((c ≡ CameBy m → ⊥) × Counted (λ x. x ≡ m) rest n)
-    → Counted (λ x. x ≡ m) (message_of c ++ rest) n
+    → ((c ≡ CameBy m) × ((n ≡ suc k) × CountIs (λ x. x ≡ m) rest k)) ⊎ ((c ≡ CameBy m → ⊥) × CountIs (λ x. x ≡ m) rest n)
+    → CountIs (λ x. x ≡ m) (message_of c ++ rest) n
 by_cause m (CameBy x) rest n k h = ⊎_elim
-    (λ (u : (CameBy x ≡ CameBy m) × ((n ≡ suc k) × Counted (λ y. y ≡ m) rest k)).
+    (λ (u : (CameBy x ≡ CameBy m) × ((n ≡ suc k) × CountIs (λ y. y ≡ m) rest k)).
     let e = u.0 in inl ((let same : x ≡ m = cc in same), (k, u.1.0, u.1.1)))
-    (λ (u : (CameBy x ≡ CameBy m → ⊥) × Counted (λ y. y ≡ m) rest n). inr ((λ e. u.0 (ap CameBy e)), u.1))
+    (λ (u : (CameBy x ≡ CameBy m → ⊥) × CountIs (λ y. y ≡ m) rest n). inr ((λ e. u.0 (ap CameBy e)), u.1))
     h
 by_cause m (Line line) rest n k h = ⊎_elim
-    (λ (u : (Line line ≡ CameBy m) × ((n ≡ suc k) × Counted (λ y. y ≡ m) rest k)). let e = u.0 in absurd (cc))
-    (λ (u : (Line line ≡ CameBy m → ⊥) × Counted (λ y. y ≡ m) rest n). u.1) h
+    (λ (u : (Line line ≡ CameBy m) × ((n ≡ suc k) × CountIs (λ y. y ≡ m) rest k)). let e = u.0 in absurd (cc))
+    (λ (u : (Line line ≡ CameBy m → ⊥) × CountIs (λ y. y ≡ m) rest n). u.1) h
 by_cause m (Restart line) rest n k h = ⊎_elim
-    (λ (u : (Restart line ≡ CameBy m) × ((n ≡ suc k) × Counted (λ y. y ≡ m) rest k)). let e = u.0 in absurd (cc))
-    (λ (u : (Restart line ≡ CameBy m → ⊥) × Counted (λ y. y ≡ m) rest n). u.1) h
+    (λ (u : (Restart line ≡ CameBy m) × ((n ≡ suc k) × CountIs (λ y. y ≡ m) rest k)). let e = u.0 in absurd (cc))
+    (λ (u : (Restart line ≡ CameBy m → ⊥) × CountIs (λ y. y ≡ m) rest n). u.1) h
 by_cause m LapsesBy rest n k h = ⊎_elim
-    (λ (u : (LapsesBy ≡ CameBy m) × ((n ≡ suc k) × Counted (λ y. y ≡ m) rest k)). let e = u.0 in absurd (cc))
-    (λ (u : (LapsesBy ≡ CameBy m → ⊥) × Counted (λ y. y ≡ m) rest n). u.1) h
+    (λ (u : (LapsesBy ≡ CameBy m) × ((n ≡ suc k) × CountIs (λ y. y ≡ m) rest k)). let e = u.0 in absurd (cc))
+    (λ (u : (LapsesBy ≡ CameBy m → ⊥) × CountIs (λ y. y ≡ m) rest n). u.1) h
 by_cause m Evict rest n k h = ⊎_elim
-    (λ (u : (Evict ≡ CameBy m) × ((n ≡ suc k) × Counted (λ y. y ≡ m) rest k)). let e = u.0 in absurd (cc))
-    (λ (u : (Evict ≡ CameBy m → ⊥) × Counted (λ y. y ≡ m) rest n). u.1) h
+    (λ (u : (Evict ≡ CameBy m) × ((n ≡ suc k) × CountIs (λ y. y ≡ m) rest k)). let e = u.0 in absurd (cc))
+    (λ (u : (Evict ≡ CameBy m → ⊥) × CountIs (λ y. y ≡ m) rest n). u.1) h
 by_cause m End rest n k h = ⊎_elim
-    (λ (u : (End ≡ CameBy m) × ((n ≡ suc k) × Counted (λ y. y ≡ m) rest k)). let e = u.0 in absurd (cc))
-    (λ (u : (End ≡ CameBy m → ⊥) × Counted (λ y. y ≡ m) rest n). u.1) h
+    (λ (u : (End ≡ CameBy m) × ((n ≡ suc k) × CountIs (λ y. y ≡ m) rest k)). let e = u.0 in absurd (cc))
+    (λ (u : (End ≡ CameBy m → ⊥) × CountIs (λ y. y ≡ m) rest n). u.1) h
 by_cause m Flushed rest n k h = ⊎_elim
-    (λ (u : (Flushed ≡ CameBy m) × ((n ≡ suc k) × Counted (λ y. y ≡ m) rest k)). let e = u.0 in absurd (cc))
-    (λ (u : (Flushed ≡ CameBy m → ⊥) × Counted (λ y. y ≡ m) rest n). u.1) h
+    (λ (u : (Flushed ≡ CameBy m) × ((n ≡ suc k) × CountIs (λ y. y ≡ m) rest k)). let e = u.0 in absurd (cc))
+    (λ (u : (Flushed ≡ CameBy m → ⊥) × CountIs (λ y. y ≡ m) rest n). u.1) h
 
 -- steps with a message as cause, as messages
-count_causes : (m : Message) (past : List Step) (n : ℕ) → Counted (λ (t : Step). t.cause ≡ CameBy m) past n
-    → Counted (λ x. x ≡ m) (messages_taken past) n
+count_causes : (m : Message) (past : List Step) (n : ℕ) → CountIs (λ (t : Step). t.cause ≡ CameBy m) past n
+    → CountIs (λ x. x ≡ m) (messages_taken past) n
 count_causes m [] n c = c
 count_causes m (s ∷ past) n c = ⊎_elim
-    (λ (u : (s.cause ≡ CameBy m) × ((k : ℕ) × (n ≡ suc k) × Counted (λ (t : Step). t.cause ≡ CameBy m) past k)).
+    (λ (u : (s.cause ≡ CameBy m) × ((k : ℕ) × (n ≡ suc k) × CountIs (λ (t : Step). t.cause ≡ CameBy m) past k)).
     by_cause m s.cause (messages_taken past) n u.1.0 (inl (u.0, (u.1.1, count_causes m past u.1.0 u.1.2))))
-    (λ (u : (s.cause ≡ CameBy m → ⊥) × Counted (λ (t : Step). t.cause ≡ CameBy m) past n).
+    (λ (u : (s.cause ≡ CameBy m → ⊥) × CountIs (λ (t : Step). t.cause ≡ CameBy m) past n).
     by_cause m s.cause (messages_taken past) n 0 (inr (u.0, count_causes m past n u.1)))
     c
 
@@ -162,8 +160,8 @@ module _ (script : Script) (rooms : List ServerId) (flags : List (List ℕ)) (st
     pub copies_fit : (net : Network) (taken : List Packet) (lapsed : List Node) → Goes all_net net taken lapsed
         → AreOut taken → (r : Node) (given : List Message) → Embeds given (messages taken) → (past own : List Step)
         → Embeds (messages_taken own) given → filter (is_to r) (messages_taken past) ≡ messages_taken own
-        → (m : Message) → is_to r m ≡ true → (n k : ℕ) → Counted (λ (t : Step). t.cause ≡ CameBy m) past n
-        → Counted (λ (c : Copy). (c.message ≡ m) × MayCome script before c.way) (flat_map copies_of (posted script (all_sent steps))) k
+        → (m : Message) → is_to r m ≡ true → (n k : ℕ) → CountIs (λ (t : Step). t.cause ≡ CameBy m) past n
+        → CountIs (λ (c : Copy). (c.message ≡ m) × MayCome script before c.way) (flat_map copies_of (posted script (all_sent steps))) k
         → n ≤ k
     copies_fit net taken lapsed g out r given some past own mine own_is m to n k c d =
         let plain = (with_steps (fresh script rooms) steps).packets in
@@ -176,17 +174,17 @@ module _ (script : Script) (rooms : List ServerId) (flags : List (List ℕ)) (st
         let z = pulled f taken plain all in
         let copies = count_back (Fits script before m) (λ (x : Copy). (x.message ≡ m) × MayCome script before x.way) copy_of plain k
         (copies_same script before m plain)
-        (subst (λ l. Counted (λ (x : Copy). (x.message ≡ m) × MayCome script before x.way) l k) (sym p.copies) d) in
+        (subst (λ l. CountIs (λ (x : Copy). (x.message ≡ m) × MayCome script before x.way) l k) (sym p.copies) d) in
         let part = count_part (Fits script before m) z.0 plain k z.2 copies in
-        let came : Counted Q (map (λ (x : Packet). (f x).message) z.0) part.0 =
+        let came : CountIs Q (map (λ (x : Packet). (f x).message) z.0) part.0 =
         count_map (Fits script before m) Q (λ (x : Packet). (f x).message) z.0 part.0
         (given_same script before m flags raised z.0 (subst AreOut z.1 out)) part.1 in
         let same : map (λ (x : Packet). (f x).message) z.0 ≡ messages taken =
         sym (map_twice f (λ (x : Packet). x.message) z.0) ∙ ap messages (sym z.1) in
-        let gave = count_part Q given (messages taken) part.0 some (subst (λ l. Counted Q l part.0) same came) in
+        let gave = count_part Q given (messages taken) part.0 some (subst (λ l. CountIs Q l part.0) same came) in
         let took = count_part Q (messages_taken own) given gave.0 mine gave.1 in
-        let all_took : Counted Q (messages_taken own) n =
-        subst (λ l. Counted Q l n) own_is
+        let all_took : CountIs Q (messages_taken own) n =
+        subst (λ l. CountIs Q l n) own_is
         (count_filter Q (is_to r) (λ x e. ap (is_to r) e ∙ to) (messages_taken past) n (count_causes m past n c)) in
         let one = count_once Q (messages_taken own) n took.0 all_took took.1 in
         let a = part.2 in let b = gave.2 in let e = took.2 in omega arith
@@ -230,19 +228,19 @@ both_true false b e = absurd (cc)
 
 -- lapse steps of a node, one by one
 count_lapses : (r : Node) (past : List Step) (n : ℕ)
-    → Counted (λ (t : Step). (t.node ≡ r) × (t.cause ≡ LapsesBy)) past n → n ≡ lapses_of r past
+    → CountIs (λ (t : Step). (t.node ≡ r) × (t.cause ≡ LapsesBy)) past n → n ≡ lapses_of r past
 count_lapses r [] n c = c
 count_lapses r (s ∷ past) n c =
     let more = sum_by-cons (λ (t : Step). cond (same_node t.node r && is_lapse t.cause) 1 0) s past in ⊎_elim
     (λ (u : ((s.node ≡ r) × (s.cause ≡ LapsesBy)) × ((k : ℕ) × (n ≡ suc k)
-    × Counted (λ (t : Step). (t.node ≡ r) × (t.cause ≡ LapsesBy)) past k)).
+    × CountIs (λ (t : Step). (t.node ≡ r) × (t.cause ≡ LapsesBy)) past k)).
     let i = count_lapses r past u.1.0 u.1.2 in
     let yes : (same_node s.node r && is_lapse s.cause) ≡ true =
     ap (λ x. same_node x r && is_lapse s.cause) u.0.0 ∙ ap (λ b. b && is_lapse s.cause) (node_self r) ∙ ap is_lapse u.0.1 in
     let one : cond {A = ℕ} (same_node s.node r && is_lapse s.cause) 1 0 ≡ 1 = ap (λ b. cond b 1 0) yes in
     let e = u.1.1 in omega arith)
     (λ (u : ((s.node ≡ r) × (s.cause ≡ LapsesBy) → ⊥)
-    × Counted (λ (t : Step). (t.node ≡ r) × (t.cause ≡ LapsesBy)) past n).
+    × CountIs (λ (t : Step). (t.node ≡ r) × (t.cause ≡ LapsesBy)) past n).
     let i = count_lapses r past n u.1 in
     by_test u.0 more i (same_node s.node r && is_lapse s.cause) refl)
     c
@@ -257,7 +255,7 @@ count_lapses r (s ∷ past) n c =
         let z : cond {A = ℕ} (same_node s.node r && is_lapse s.cause) 1 0 ≡ 0 = ap (λ b. cond b 1 0) e in omega arith
 
 -- lost messages that a node has to send again
-due_of : (r : Node) (p : Posted) (fate : Fate) → p.fate ≡ fate → (rest n k : ℕ)
+due_of : (r : Node) (p : Posting) (fate : Fate) → p.fate ≡ fate → (rest n k : ℕ)
     → (((p.fate ≡ Lost) × (resender p.message ≡ r)) × ((n ≡ suc k) × (rest ≡ k)))
     ⊎ (((p.fate ≡ Lost) × (resender p.message ≡ r) → ⊥) × (rest ≡ n))
     → lapses_to r (lost_due (record p { fate = fate })) + rest ≡ n
@@ -290,16 +288,16 @@ due_of r p (Twice first second) e rest n k h = ⊎_elim
     let same = u.1 in let z : 0 + rest ≡ n = omega arith in z)
     h
 
-count_lost : (r : Node) (ps : List Posted) (k : ℕ)
-    → Counted (λ (p : Posted). (p.fate ≡ Lost) × (resender p.message ≡ r)) ps k → lapses_to r (flat_map lost_due ps) ≡ k
+count_lost : (r : Node) (ps : List Posting) (k : ℕ)
+    → CountIs (λ (p : Posting). (p.fate ≡ Lost) × (resender p.message ≡ r)) ps k → lapses_to r (flat_map lost_due ps) ≡ k
 count_lost r [] k c = sym c
 count_lost r (p ∷ ps) k c =
-    let P = λ (q : Posted). (q.fate ≡ Lost) × (resender q.message ≡ r) in
+    let P = λ (q : Posting). (q.fate ≡ Lost) × (resender q.message ≡ r) in
     sum_by-append (λ (x : Node). cond (same_node x r) 1 0) (lost_due p) (flat_map lost_due ps) ∙ ⊎_elim
-    (λ (u : P p × ((j : ℕ) × (k ≡ suc j) × Counted P ps j)).
+    (λ (u : P p × ((j : ℕ) × (k ≡ suc j) × CountIs P ps j)).
     due_of r p p.fate refl (lapses_to r (flat_map lost_due ps)) k u.1.0
     (inl (u.0, (u.1.1, count_lost r ps u.1.0 u.1.2))))
-    (λ (u : (P p → ⊥) × Counted P ps k).
+    (λ (u : (P p → ⊥) × CountIs P ps k).
     due_of r p p.fate refl (lapses_to r (flat_map lost_due ps)) k 0 (inr (u.0, count_lost r ps k u.1)))
     c
 
@@ -308,8 +306,8 @@ module _ (script : Script) (rooms : List ServerId) (flags : List (List ℕ)) (st
   pub lapses_fit : (net : Network) (taken : List Packet) (lapsed : List Node)
       → Goes (all_net script rooms flags steps) net taken lapsed → (r : Node) (past own : List Step)
       → lapses_of r past ≡ lapses_taken own → lapses_taken own ≤ lapses_to r lapsed → (n k : ℕ)
-      → Counted (λ (t : Step). (t.node ≡ r) × (t.cause ≡ LapsesBy)) past n
-      → Counted (λ (p : Posted). (p.fate ≡ Lost) × (resender p.message ≡ r)) (posted script (all_sent steps)) k
+      → CountIs (λ (t : Step). (t.node ≡ r) × (t.cause ≡ LapsesBy)) past n
+      → CountIs (λ (p : Posting). (p.fate ≡ Lost) × (resender p.message ≡ r)) (posted script (all_sent steps)) k
       → n ≤ lapses_to r (map Server rooms) + k
   lapses_fit net taken lapsed g r past own own_is fits n k c d =
       let count : Node → ℕ = λ x. cond (same_node x r) 1 0 in

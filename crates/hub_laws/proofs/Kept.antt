@@ -11,10 +11,10 @@ use Rattle.script_lines.specs.declared.script.Line.{Line}
 use Rattle.hub_board.specs.Hubs.{Hubbed, first_hub, with_turn}
 use Rattle.hub_board.specs.declared.given.Given.{Given}
 use Rattle.hub_board.specs.declared.given.Turn.{Turn}
-use Rattle.run_rules.specs.Lines.{lines_of}
+use Rattle.run_rules.specs.Past.{EachInTurn, In}
+use Rattle.run_rules.specs.Runs.{IsFrom}
+use Rattle.run_rules.specs.Steps.{lines_of}
 use Rattle.run_tokens.specs.JournalWorked.{roster, script}
-use Rattle.run_rules.specs.Lists.{Each, In}
-use Rattle.run_rules.specs.TokenRuns.{IsFrom}
 use Rattle.run_tokens.specs.Worked.{client, greets, site_one, stat, to_host, to_server, welcome, welcomes}
 use Rattle.run_rules.specs.declared.step.Cause.TheVariants.{Line as LineOf, Message as Came}
 use Rattle.run_rules.specs.declared.step.Step.{Step}
@@ -115,10 +115,10 @@ server_keeps = (rests (Server site_one) [] _ refl refl, (welcomes_keeps _ refl r
 
 -- no other node takes part
 others_keep : (node : Node) (ts : List Turn) (hub : Hubbed) → ((t : Turn) → In t ts → same_node t.node node ≡ false)
-    → Each (Keeps script node) (rounds_of hub node ts) []
+    → EachInTurn (Keeps script node) (rounds_of hub node ts) []
 others_keep node [] hub h = tt
 others_keep node (t ∷ ts) hub h =
-    subst (λ b. Each (Keeps script node) (cond b (round_of hub t ∷ rounds_of (with_turn hub t) node ts)
+    subst (λ b. EachInTurn (Keeps script node) (cond b (round_of hub t ∷ rounds_of (with_turn hub t) node ts)
     (rounds_of (with_turn hub t) node ts)) []) (sym (h t (inl refl)))
     (others_keep node ts (with_turn hub t) (λ x i. h x (inr i)))
 

@@ -8,8 +8,8 @@ use Rattle.script_lines.specs.declared.script.Deed.{Deed}
 use Rattle.script_lines.specs.declared.script.Deed.TheVariants.{Call, Raise as RaiseLine, Await as AwaitLine, Stop, Restart as RestartLine}
 use Rattle.script_lines.specs.declared.script.Line.{Line}
 use Rattle.script_lines.specs.declared.script.Script.{Script}
-use Rattle.run_rules.specs.Lines.{goes_with, lines_gone, lines_of}
-use Rattle.run_rules.specs.Lists.{Each, In, Once, after}
+use Rattle.run_rules.specs.Past.{EachInTurn, In, Once, appended}
+use Rattle.run_rules.specs.Steps.{goes_with, lines_gone, lines_of}
 use Rattle.run_rules.specs.declared.step.Cause.{Cause}
 use Rattle.run_rules.specs.declared.step.Cause.TheVariants.{Line as LineOf, Restart, Message as CameBy, Lapse as LapsesBy, Evict, End, Flushed}
 use Rattle.run_rules.specs.declared.step.Step.{Step}
@@ -73,9 +73,9 @@ module _ (script : Script) (node : Node) (flag : List ℕ) where
           h
 
   module _ (s : Step) (xs own past : List Step) (mine : s.node ≡ node) (goes_so : LineGoes (lines_of script node) own s)
-      (again : In flag (next_flags (lines_gone (s ∷ own)) (gone_in xs)) → Once Raises (after xs (s ∷ past))) where
+      (again : In flag (next_flags (lines_gone (s ∷ own)) (gone_in xs)) → Once Raises (appended xs (s ∷ past))) where
     still : (c : Cause) → s.cause ≡ c → goes_with c ≡ 0 → In flag (next_flags (lines_gone own) (0 + gone_in xs))
-        → Once Raises (after xs (s ∷ past))
+        → Once Raises (appended xs (s ∷ past))
     still c e z i =
         let none : 0 + gone_in xs ≡ gone_in xs = omega arith in
         let zero_goes = ap goes_with e ∙ z in
@@ -84,7 +84,7 @@ module _ (script : Script) (node : Node) (flag : List ℕ) where
         (subst (λ n. In flag (next_flags (lines_gone own) n)) none i))
 
     by_cause : (c : Cause) → s.cause ≡ c → In flag (next_flags (lines_gone own) (cond (goes c) 1 0 + gone_in xs))
-        → Once Raises (after xs (s ∷ past))
+        → Once Raises (appended xs (s ∷ past))
     by_cause (LineOf n) e i =
         let l = goes_so.line n e in
         let one = ap goes_with e in
@@ -122,8 +122,8 @@ module _ (script : Script) (node : Node) (flag : List ℕ) where
 
   -- each flag of the lines that go in some steps is raised by one of them
   pub flags_raised : (xs own past : List Step) → ((s : Step) → In s xs → s.node ≡ node)
-      → Each (LineGoes (lines_of script node)) xs own → In flag (next_flags (lines_gone own) (gone_in xs))
-      → Once Raises (after xs past)
+      → EachInTurn (LineGoes (lines_of script node)) xs own → In flag (next_flags (lines_gone own) (gone_in xs))
+      → Once Raises (appended xs past)
   flags_raised [] own past mine goes_so i = absurd (i)
   flags_raised (s ∷ xs) own past mine goes_so i =
       by_cause s xs own past (mine s (inl refl)) goes_so.0
@@ -132,7 +132,7 @@ module _ (script : Script) (node : Node) (flag : List ℕ) where
       (sum_by-cons (λ (x : Step). cond (goes x.cause) 1 0) s xs) i)
 
 -- how many lines have gone after some steps
-pub gone_after : (xs own : List Step) → lines_gone (after xs own) ≡ lines_gone own + gone_in xs
+pub gone_after : (xs own : List Step) → lines_gone (appended xs own) ≡ lines_gone own + gone_in xs
 gone_after [] own = omega arith
 gone_after (s ∷ xs) own =
     let i = gone_after xs (s ∷ own) in
@@ -149,8 +149,8 @@ gone_after (s ∷ xs) own =
     same_goes Flushed = refl
 
 -- no more than there are
-pub gone_few : (lines : List Line) (xs own : List Step) → lines_gone own ≤ length lines → Each (LineGoes lines) xs own
-    → lines_gone (after xs own) ≤ length lines
+pub gone_few : (lines : List Line) (xs own : List Step) → lines_gone own ≤ length lines → EachInTurn (LineGoes lines) xs own
+    → lines_gone (appended xs own) ≤ length lines
 gone_few lines [] own few goes_so = few
 gone_few lines (s ∷ xs) own few goes_so = gone_few lines xs (s ∷ own) (by_cause s.cause refl) goes_so.1
   where

@@ -3,9 +3,8 @@ use Rattle.std.proofs.Common.{◌≡◌, ◌⊎◌, ⊎_elim, inl, inr, List, []
 use Rattle.std.specs.List.{flat_map}
 use Rattle.message_types.specs.declared.message.Message.{Message}
 use Rattle.script_lines.specs.declared.script.Script.{Script}
-use Rattle.run_rules.specs.Lists.{Each, In, after}
-use Rattle.run_rules.specs.Posting.{Copy, copies_of, fate_of, left_after, post}
-use Rattle.run_rules.specs.Fates.{ways_in}
+use Rattle.run_rules.specs.Past.{EachInTurn, In, appended}
+use Rattle.run_rules.specs.Plans.{Copy, copies_of, fate_of, left_after, post, ways_in}
 use Rattle.run_rules.specs.declared.fate.Left.{Left}
 use Rattle.run_rules.specs.declared.fate.Way.{Way}
 use Rattle.hub_laws.specs.Taking.{Holds, Embeds}
@@ -59,12 +58,12 @@ module _ {A : Type 0} where
       (λ (k : In x xs). rest_in z x ys e.0 e.1 (embeds_in xs e.0 x e.2 k))
       i
 
-  pub in_after : (x : A) (xs past : List A) → In x past → In x (after xs past)
+  pub in_after : (x : A) (xs past : List A) → In x past → In x (appended xs past)
   in_after x [] past i = i
   in_after x (y ∷ xs) past i = in_after x xs (y ∷ past) (inr i)
 
   pub each_map : (P Q : List A → A → Type 0) → ((past : List A) (x : A) → P past x → Q past x) → (xs past : List A)
-      → Each P xs past → Each Q xs past
+      → EachInTurn P xs past → EachInTurn Q xs past
   each_map P Q f [] past e = tt
   each_map P Q f (x ∷ xs) past e = (f past x e.0, each_map P Q f xs (x ∷ past) e.1)
 

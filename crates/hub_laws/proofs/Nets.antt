@@ -3,7 +3,7 @@ use Rattle.std.proofs.Common.{◌≡◌, ℕ, ◌+◌, List, [], ◌∷◌, ◌+
 use Rattle.std.proofs.lemmas.List.{append-nil, map-append}
 use Rattle.base_types.specs.declared.ids.Node.{Node}
 use Rattle.message_types.specs.declared.message.Message.{Message}
-use Rattle.run_rules.specs.Fates.{ways_in}
+use Rattle.run_rules.specs.Plans.{ways_in}
 use Rattle.run_rules.specs.declared.fate.Way.{Way}
 use Rattle.run_rules.specs.declared.fate.Way.TheVariants.{Free, Delayed, Held}
 use Rattle.hub_wire.specs.Laws.{with_steps}

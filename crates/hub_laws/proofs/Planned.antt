@@ -9,11 +9,12 @@ use Rattle.base_types.specs.declared.ids.ServerId.{ServerId}
 use Rattle.message_types.specs.declared.message.Message.{Message}
 use Rattle.script_lines.specs.Sound.{same_node}
 use Rattle.script_lines.specs.declared.script.Script.{Script}
-use Rattle.run_rules.specs.Lists.{Each, In, Once, after}
+use Rattle.run_rules.specs.Past.{EachInTurn, In, Once, appended}
+use Rattle.run_rules.specs.Plans.{Copy, CountIs, KeepsPlan, MayCome, Posting, copies_of, due_first, posted, resender}
+use Rattle.run_rules.specs.Plans.{sent_in}
+use Rattle.run_rules.specs.Runs.{IsRaised}
 use Rattle.run_rules.specs.declared.step.Cause.TheVariants.{Message as CameBy, Lapse as LapsesBy}
 use Rattle.run_rules.specs.declared.step.Step.{Step}
-use Rattle.run_rules.specs.Ends.{resender}
-use Rattle.run_rules.specs.Posting.{Copy, Posted, copies_of, posted}
 use Rattle.run_rules.specs.declared.fate.Fate.TheVariants.{Lost}
 use Rattle.hub_wire.specs.Laws.{all_sent, with_steps}
 use Rattle.hub_wire.specs.Networks.{Network, fresh, with_step}
@@ -22,8 +23,6 @@ use Rattle.hub_board.specs.Hubs.{AreGiven, Hubbed, flagged, flags_of, gift_for, 
 use Rattle.hub_board.specs.Turning.{steps_of}
 use Rattle.hub_board.specs.declared.given.Given.TheVariants.{Message as Came}
 use Rattle.hub_board.specs.declared.given.Turn.{Turn}
-use Rattle.run_rules.specs.Plans.{Counted, KeepsPlan, MayCome, due_first, sent_in}
-use Rattle.run_rules.specs.Runs.{IsRaised}
 use Rattle.tree_answers.specs.declared.tree.Tree.{Tree}
 use Rattle.hub_laws.specs.Keeping.{Keeps, Round, gave, lapse_in, lapses_given, lapses_taken, message_in, message_of, messages_given, messages_taken, round_of, rounds_of, steps_in}
 use Rattle.hub_laws.proofs.Boards.{BoardRaises, GivesSent}
@@ -48,12 +47,12 @@ sents_all (s ∷ past) =
     ∙ ap (λ l. l ++ (s.sent ++ [])) (sents_all past) ∙ ap (λ l. sent_in past ++ l) (append-nil s.sent)
 
 -- what once was so was so later, too
-pub once_after : {A : Type 0} (P : List A → A → Type 0) (xs past : List A) → Once P past → Once P (after xs past)
+pub once_after : {A : Type 0} (P : List A → A → Type 0) (xs past : List A) → Once P past → Once P (appended xs past)
 once_after P [] past h = h
 once_after P (x ∷ xs) past h = once_after P xs (x ∷ past) (inr h)
 
-pub each_append : {A : Type 0} (P : List A → A → Type 0) (xs ys past : List A) → Each P xs past → Each P ys (after xs past)
-    → Each P (xs ++ ys) past
+pub each_append : {A : Type 0} (P : List A → A → Type 0) (xs ys past : List A) → EachInTurn P xs past → EachInTurn P ys (appended xs past)
+    → EachInTurn P (xs ++ ys) past
 each_append P [] ys past h k = k
 each_append P (x ∷ xs) ys past h k = (h.0, each_append P xs ys (x ∷ past) h.1 k)
 
@@ -62,15 +61,15 @@ abbrev pub known : Node → Round → (Node → List Round) → Node → List Ro
 known r round own n = cond (same_node r n) (round ∷ own n) (own n)
 
 pub each_on : (P : List Round → Round → Type 0) (b : Bool) (round : Round) (rest past : List Round)
-    → Each P (cond b (round ∷ rest) rest) past → Each P rest (cond b (round ∷ past) past)
+    → EachInTurn P (cond b (round ∷ rest) rest) past → EachInTurn P rest (cond b (round ∷ past) past)
 each_on P true round rest past k = k.1
 each_on P false round rest past k = k
 
 -- so it was at the turn of the node itself
 pub each_now : (P : List Round → Round → Type 0) (r : Node) (round : Round) (rest past : List Round)
-    → Each P (cond (same_node r r) (round ∷ rest) rest) past → P past round
+    → EachInTurn P (cond (same_node r r) (round ∷ rest) rest) past → P past round
 each_now P r round rest past k =
-    let mine : Each P (round ∷ rest) past = subst (λ b. Each P (cond b (round ∷ rest) rest) past) (node_self r) k in mine.0
+    let mine : EachInTurn P (round ∷ rest) past = subst (λ b. EachInTurn P (cond b (round ∷ rest) rest) past) (node_self r) k in mine.0
 
 -- a step keeps to the plan, and its cause was sent, to its node
 pub record StepFits (script : Script) (start : List Tree) (past : List Step) (s : Step) : Type 0 where
@@ -119,13 +118,13 @@ module _ (script : Script) (start : List Tree) (rooms : List ServerId)
               let one = subst (λ x. AllPass (is_to r) (message_of x)) cause first in
               copies_fit script rooms flags (sents past) past h.raised net taken lapsed h.net_is out r given some
               (s ∷ past) (s ∷ own) e then.mine m one.0 n k c
-              (subst (λ ms. Counted (λ (x : Copy). (x.message ≡ m) × MayCome script past x.way)
+              (subst (λ ms. CountIs (λ (x : Copy). (x.message ≡ m) × MayCome script past x.way)
               (flat_map copies_of (posted script ms)) k) all d));
           lapses = (λ n k cause c d.
-              let c' = subst (λ x. Counted (λ (t : Step). (t.node ≡ x) × (t.cause ≡ LapsesBy)) (s ∷ past) n) node c in
-              let d' = subst (λ x. Counted (λ (p : Posted). (p.fate ≡ Lost) × (resender p.message ≡ x))
+              let c' = subst (λ x. CountIs (λ (t : Step). (t.node ≡ x) × (t.cause ≡ LapsesBy)) (s ∷ past) n) node c in
+              let d' = subst (λ x. CountIs (λ (p : Posting). (p.fate ≡ Lost) × (resender p.message ≡ x))
               (posted script (sent_in past)) k) node d in
-              let d'' = subst (λ ms. Counted (λ (p : Posted). (p.fate ≡ Lost) × (resender p.message ≡ r))
+              let d'' = subst (λ ms. CountIs (λ (p : Posting). (p.fate ≡ Lost) × (resender p.message ≡ r))
               (posted script ms) k) all d' in
               let all_fit = lapses_fit script rooms flags (sents past) net taken lapsed h.net_is r (s ∷ past) (s ∷ own)
               then.lapsing fits n k c' d'' in
@@ -153,8 +152,8 @@ module _ (script : Script) (start : List Tree) (rooms : List ServerId)
     }
 
     hands_all : (xs past own : List Step) (net : Network) → Hands past own net → ((s : Step) → In s xs → s.node ≡ r)
-        → Embeds (messages_taken (after xs own)) given → lapses_taken (after xs own) ≤ lapses_to r lapsed
-        → Each (StepFits script start) xs past × Hands (after xs past) (after xs own) (with_sent net xs)
+        → Embeds (messages_taken (appended xs own)) given → lapses_taken (appended xs own) ≤ lapses_to r lapsed
+        → EachInTurn (StepFits script start) xs past × Hands (appended xs past) (appended xs own) (with_sent net xs)
     hands_all [] past own net h node e fits = (tt, h)
     hands_all (s ∷ xs) past own net h node e fits =
         let e' = taken_part xs (s ∷ own) given e in
@@ -183,7 +182,7 @@ module _ (script : Script) (start : List Tree) (rooms : List ServerId)
     round = round_of hub t
 
     abbrev later : List Step
-    later = after t.steps past
+    later = appended t.steps past
 
     abbrev more_flags : List (List ℕ)
     more_flags = flags ++ flags_of hub t.node t.steps
@@ -192,9 +191,9 @@ module _ (script : Script) (start : List Tree) (rooms : List ServerId)
     handed = with_handed hub t.node t.steps
 
     module _ (k : Keeps script t.node (own t.node) round) where
-      hands : Each (StepFits script start) t.steps past
+      hands : EachInTurn (StepFits script start) t.steps past
           × Hands t.node (messages_given (own t.node)) flags taken lapsed h.out (h.given t.node) (h.to t.node) later
-          (after t.steps (steps_in (own t.node))) (with_sent hub.net t.steps)
+          (appended t.steps (steps_in (own t.node))) (with_sent hub.net t.steps)
       hands =
           let few_lapses = k.lapses in let room = h.lapses t.node in
           hands_all t.node (messages_given (own t.node)) flags taken lapsed h.out (h.given t.node) (h.to t.node) t.steps
@@ -219,8 +218,8 @@ module _ (script : Script) (start : List Tree) (rooms : List ServerId)
           abbrev g : Gives (all_net script rooms more_flags (sents later)) (with_turn hub t).net t.node round.given taken lapsed
           g = given_then
 
-          all_mine : AllPass (is_to t.node) (messages_taken (after t.steps (steps_in (own t.node))))
-          all_mine = pass_part (is_to t.node) (messages_taken (after t.steps (steps_in (own t.node))))
+          all_mine : AllPass (is_to t.node) (messages_taken (appended t.steps (steps_in (own t.node))))
+          all_mine = pass_part (is_to t.node) (messages_taken (appended t.steps (steps_in (own t.node))))
               (messages_given (own t.node)) k.messages (h.to t.node)
 
           given_by : (n : Node) (b : Bool) → Embeds (messages_given (cond b (round ∷ own n) (own n))) (messages g.taken_then)
@@ -238,7 +237,7 @@ module _ (script : Script) (start : List Tree) (rooms : List ServerId)
           mine_by : (n : Node) (b : Bool) → same_node t.node n ≡ b
               → filter (is_to n) (messages_taken later) ≡ messages_taken (steps_in (cond b (round ∷ own n) (own n)))
           mine_by n true e =
-              subst (λ x. filter (is_to x) (messages_taken later) ≡ messages_taken (after t.steps (steps_in (own x))))
+              subst (λ x. filter (is_to x) (messages_taken later) ≡ messages_taken (appended t.steps (steps_in (own x))))
               (node_same t.node n e)
               (mine_more t.node t.steps past (steps_in (own t.node)) (h.mine t.node) all_mine)
           mine_by n false e =
@@ -255,7 +254,7 @@ module _ (script : Script) (start : List Tree) (rooms : List ServerId)
           lapsing_by : (n : Node) (b : Bool) → same_node t.node n ≡ b
               → lapses_of n later ≡ lapses_taken (steps_in (cond b (round ∷ own n) (own n)))
           lapsing_by n true e =
-              subst (λ x. lapses_of x later ≡ lapses_taken (after t.steps (steps_in (own x)))) (node_same t.node n e)
+              subst (λ x. lapses_of x later ≡ lapses_taken (appended t.steps (steps_in (own x)))) (node_same t.node n e)
               (lapses_mine t.node t.steps past (steps_in (own t.node)) k.own (h.lapsing t.node))
           lapsing_by n false e = lapses_others t.node n t.steps past k.own e ∙ h.lapsing n
 
@@ -285,14 +284,14 @@ module _ (script : Script) (start : List Tree) (rooms : List ServerId)
 
   pub planned_from : (turns : List Turn) (hub : Hubbed) (past : List Step) (own : Node → List Round) (flags : List (List ℕ))
       (taken : List Packet) (lapsed : List Node) → Stands hub past own flags taken lapsed → AreGiven hub turns
-      → ((n : Node) → Each (Keeps script n) (rounds_of hub n turns) (own n)) → BoardRaises script hub turns past
-      → Each (StepFits script start) (steps_of turns) past × GivesSent hub turns past
+      → ((n : Node) → EachInTurn (Keeps script n) (rounds_of hub n turns) (own n)) → BoardRaises script hub turns past
+      → EachInTurn (StepFits script start) (steps_of turns) past × GivesSent hub turns past
   planned_from [] hub past own flags taken lapsed h given keeps raises = (tt, tt)
   planned_from (t ∷ turns) hub past own flags taken lapsed h given keeps raises =
       let round = round_of hub t in
       let rest = rounds_of (with_turn hub t) t.node turns in
       let k = each_now (Keeps script t.node) t.node round rest (own t.node) (keeps t.node) in
-      let again = planned_from turns (with_turn hub t) (after t.steps past) (known t.node round own)
+      let again = planned_from turns (with_turn hub t) (appended t.steps past) (known t.node round own)
       (flags ++ flags_of hub t.node t.steps) _ _
       (stands_then hub past own flags taken lapsed h t k given.0 raises.0) given.1
       (λ n. each_on (Keeps script n) (same_node t.node n) round (rounds_of (with_turn hub t) n turns) (own n) (keeps n))

@@ -10,8 +10,8 @@ use Rattle.base_types.specs.declared.ids.Node.{Node}
 use Rattle.script_lines.specs.Sound.{same_node}
 use Rattle.script_lines.specs.declared.script.Line.{Line}
 use Rattle.script_lines.specs.declared.script.Script.{Script}
-use Rattle.run_rules.specs.Lines.{lines_gone, lines_of}
-use Rattle.run_rules.specs.Lists.{Each, In, after}
+use Rattle.run_rules.specs.Past.{EachInTurn, In, appended}
+use Rattle.run_rules.specs.Steps.{lines_gone, lines_of}
 use Rattle.run_rules.specs.declared.step.Step.{Step}
 use Rattle.hub_wire.specs.Networks.{lapse_place, next_copy}
 use Rattle.hub_board.specs.Follows.{flag_for, flag_in, gone_in, mark_raised, place_of, raise_of, told, with_begun, with_gone, with_raised, with_told}
@@ -113,8 +113,8 @@ module _ (script : Script) where
       (λ f k. record { gone = k.gone; marks = raises_kept flag f.marks ∙ k.marks }) (slice_get follows (place_of follows n)) h))
 
   -- lines go
-  gone_by : (n : Node) (own : List Step) (steps : List Step) → lines_gone (after steps own) ≤ length (lines_of script n)
-      → (o : Option Follow) → Followed n own o → Followed n (after steps own) (option_map (with_gone (gone_in steps)) o)
+  gone_by : (n : Node) (own : List Step) (steps : List Step) → lines_gone (appended steps own) ≤ length (lines_of script n)
+      → (o : Option Follow) → Followed n own o → Followed n (appended steps own) (option_map (with_gone (gone_in steps)) o)
   gone_by n own steps few None h = tt
   gone_by n own steps few (Some f) h = record {
     gone = (let more = gone_after steps own in
@@ -125,22 +125,22 @@ module _ (script : Script) where
 
   -- where steps were handed in
   handed : (hub : Hubbed) (r n : Node) (own : Node → List Step) (steps : List Step) (b : Bool) → same_node r n ≡ b
-      → Followed n (own n) (follow_at hub n) → lines_gone (after steps (own r)) ≤ length (lines_of script r)
-      → Followed n (cond b (after steps (own n)) (own n)) (follow_at (with_steps hub r steps) n)
+      → Followed n (own n) (follow_at hub n) → lines_gone (appended steps (own r)) ≤ length (lines_of script r)
+      → Followed n (cond b (appended steps (own n)) (own n)) (follow_at (with_steps hub r steps) n)
   handed hub r n own steps b e h few =
       let fs = changed_at hub.follows (place_of hub.follows r) (with_gone (gone_in steps)) in
-      raised_all n (cond b (after steps (own n)) (own n)) (flags_of hub r steps) fs
-      (subst (Followed n (cond b (after steps (own n)) (own n)))
+      raised_all n (cond b (appended steps (own n)) (own n)) (flags_of hub r steps) fs
+      (subst (Followed n (cond b (appended steps (own n)) (own n)))
       (sym (at_changed (with_gone (gone_in steps)) (λ f. refl) r hub.follows n)) (by_test b e))
     where
       by_test : (b : Bool) → same_node r n ≡ b
-          → Followed n (cond b (after steps (own n)) (own n))
+          → Followed n (cond b (appended steps (own n)) (own n))
           (cond (same_node r n) (option_map (with_gone (gone_in steps)) (follow_at hub n)) (follow_at hub n))
       by_test true e =
-          subst (λ t. Followed n (after steps (own n)) (cond t (option_map (with_gone (gone_in steps)) (follow_at hub n)) (follow_at hub n)))
+          subst (λ t. Followed n (appended steps (own n)) (cond t (option_map (with_gone (gone_in steps)) (follow_at hub n)) (follow_at hub n)))
           (sym e)
           (gone_by n (own n) steps
-          (subst (λ x. lines_gone (after steps (own x)) ≤ length (lines_of script x)) (node_same r n e) few)
+          (subst (λ x. lines_gone (appended steps (own x)) ≤ length (lines_of script x)) (node_same r n e) few)
           (follow_at hub n) h)
       by_test false e =
           subst (λ t. Followed n (own n) (cond t (option_map (with_gone (gone_in steps)) (follow_at hub n)) (follow_at hub n)))
@@ -197,14 +197,14 @@ module _ (script : Script) where
 
   few_then : (r n : Node) (own : Node → List Round) (round : Round) (b : Bool) → same_node r n ≡ b
       → lines_gone (steps_in (own n)) ≤ length (lines_of script n)
-      → lines_gone (after round.steps (steps_in (own r))) ≤ length (lines_of script r)
+      → lines_gone (appended round.steps (steps_in (own r))) ≤ length (lines_of script r)
       → lines_gone (steps_in (cond b (round ∷ own n) (own n))) ≤ length (lines_of script n)
   few_then r n own round true e few more =
-      subst (λ x. lines_gone (after round.steps (steps_in (own x))) ≤ length (lines_of script x)) (node_same r n e) more
+      subst (λ x. lines_gone (appended round.steps (steps_in (own x))) ≤ length (lines_of script x)) (node_same r n e) more
   few_then r n own round false e few more = few
 
   by_own : (n : Node) (own : Node → List Round) (round : Round) (b : Bool) (o : Option Follow)
-      → Followed n (cond b (after round.steps (steps_in (own n))) (steps_in (own n))) o
+      → Followed n (cond b (appended round.steps (steps_in (own n))) (steps_in (own n))) o
       → Followed n (steps_in (cond b (round ∷ own n) (own n))) o
   by_own n own round true o h = h
   by_own n own round false o h = h
@@ -225,7 +225,7 @@ module _ (script : Script) where
       }
 
   pub raises_from : (turns : List Turn) (hub : Hubbed) (past : List Step) (own : Node → List Round) → Follows hub own
-      → AreGiven hub turns → ((n : Node) → Each (Keeps script n) (rounds_of hub n turns) (own n))
+      → AreGiven hub turns → ((n : Node) → EachInTurn (Keeps script n) (rounds_of hub n turns) (own n))
       → BoardRaises script hub turns past
   raises_from [] hub past own h gifts keeps = tt
   raises_from (t ∷ turns) hub past own h gifts keeps =
@@ -234,7 +234,7 @@ module _ (script : Script) where
       let k = each_now (Keeps script r) r round (rounds_of (with_turn hub t) r turns) (own r) (keeps r) in (
         (λ flag i. flags_raised script r flag t.steps (steps_in (own r)) past k.own k.lines
             (flags_from r (steps_in (own r)) t.steps flag (follow_at hub r) (h.each r) i)),
-        raises_from turns (with_turn hub t) (after t.steps past) (known r round own) (follows_then hub own t h gifts.0 k)
+        raises_from turns (with_turn hub t) (appended t.steps past) (known r round own) (follows_then hub own t h gifts.0 k)
             gifts.1
             (λ n. each_on (Keeps script n) (same_node r n) round (rounds_of (with_turn hub t) n turns) (own n) (keeps n)),
       )

@@ -5,9 +5,9 @@ use Rattle.std.proofs.lemmas.List.Sums.{sum_by-cons}
 use Rattle.base_types.specs.declared.ids.Node.{Node}
 use Rattle.message_types.specs.declared.message.Message.{Message}
 use Rattle.script_lines.specs.Sound.{same_node}
-use Rattle.run_rules.specs.Lists.{In, after}
+use Rattle.run_rules.specs.Past.{In, appended}
+use Rattle.run_rules.specs.Plans.{receiver}
 use Rattle.run_rules.specs.declared.step.Step.{Step}
-use Rattle.run_rules.specs.Ends.{receiver}
 use Rattle.hub_laws.specs.Keeping.{is_lapse, lapses_taken, message_of, messages_taken}
 use Rattle.hub_laws.specs.Taking.{Holds, Embeds}
 use Rattle.hub_laws.proofs.Embeds.{end}
@@ -60,18 +60,18 @@ module _ {A : Type 0} (f : A → Bool) where
 
 -- the causes of earlier steps stand behind those of later ones
 pub taken_end : (xs past : List Step)
-    → (front : List Message) × (messages_taken (after xs past) ≡ front ++ messages_taken past)
+    → (front : List Message) × (messages_taken (appended xs past) ≡ front ++ messages_taken past)
 taken_end [] past = ([], refl)
 taken_end (x ∷ xs) past =
     let i = taken_end xs (x ∷ past) in
     (i.0 ++ message_of x.cause, i.1 ∙ sym (append_assoc i.0 (message_of x.cause) (messages_taken past)))
 
-pub taken_part : (xs past : List Step) (ys : List Message) → Embeds (messages_taken (after xs past)) ys
+pub taken_part : (xs past : List Step) (ys : List Message) → Embeds (messages_taken (appended xs past)) ys
     → Embeds (messages_taken past) ys
 taken_part xs past ys e =
     let t = taken_end xs past in end t.0 (messages_taken past) ys (subst (λ l. Embeds l ys) t.1 e)
 
-pub lapses_end : (xs past : List Step) → lapses_taken past ≤ lapses_taken (after xs past)
+pub lapses_end : (xs past : List Step) → lapses_taken past ≤ lapses_taken (appended xs past)
 lapses_end [] past = omega arith
 lapses_end (x ∷ xs) past = let i = lapses_end xs (x ∷ past) in omega arith
 
@@ -81,8 +81,8 @@ is_to node m = same_node (receiver m) node
 
 -- steps whose causes are for a node, beside that node's own
 pub mine_more : (r : Node) (xs past own : List Step) → filter (is_to r) (messages_taken past) ≡ messages_taken own
-    → AllPass (is_to r) (messages_taken (after xs own))
-    → filter (is_to r) (messages_taken (after xs past)) ≡ messages_taken (after xs own)
+    → AllPass (is_to r) (messages_taken (appended xs own))
+    → filter (is_to r) (messages_taken (appended xs past)) ≡ messages_taken (appended xs own)
 mine_more r [] past own e h = e
 mine_more r (x ∷ xs) past own e h =
     let t = taken_end xs (x ∷ own) in
@@ -99,8 +99,8 @@ apart r n (m ∷ ms) e h =
     (ap (λ x. same_node x n) (node_same (receiver m) r h.0) ∙ e, apart r n ms e h.1)
 
 pub others_more : (r n : Node) (xs past own : List Step) → same_node r n ≡ false
-    → AllPass (is_to r) (messages_taken (after xs own))
-    → filter (is_to n) (messages_taken (after xs past)) ≡ filter (is_to n) (messages_taken past)
+    → AllPass (is_to r) (messages_taken (appended xs own))
+    → filter (is_to n) (messages_taken (appended xs past)) ≡ filter (is_to n) (messages_taken past)
 others_more r n [] past own e h = refl
 others_more r n (x ∷ xs) past own e h =
     let t = taken_end xs (x ∷ own) in
@@ -115,7 +115,7 @@ abbrev pub lapses_of : Node → List Step → ℕ
 lapses_of n past = count_by (λ (s : Step). same_node s.node n && is_lapse s.cause) past
 
 pub lapses_mine : (r : Node) (xs past own : List Step) → ((s : Step) → In s xs → s.node ≡ r)
-    → lapses_of r past ≡ lapses_taken own → lapses_of r (after xs past) ≡ lapses_taken (after xs own)
+    → lapses_of r past ≡ lapses_taken own → lapses_of r (appended xs past) ≡ lapses_taken (appended xs own)
 lapses_mine r [] past own mine e = e
 lapses_mine r (x ∷ xs) past own mine e =
     let node = mine x (inl refl) in
@@ -126,7 +126,7 @@ lapses_mine r (x ∷ xs) past own mine e =
     ∙ ap (λ b. cond b 1 0 + lapses_of r past) test ∙ ap (λ k. cond (is_lapse x.cause) 1 0 + k) e)
 
 pub lapses_others : (r n : Node) (xs past : List Step) → ((s : Step) → In s xs → s.node ≡ r)
-    → same_node r n ≡ false → lapses_of n (after xs past) ≡ lapses_of n past
+    → same_node r n ≡ false → lapses_of n (appended xs past) ≡ lapses_of n past
 lapses_others r n [] past mine e = refl
 lapses_others r n (x ∷ xs) past mine e =
     let node = mine x (inl refl) in

@@ -8,8 +8,8 @@ use Rattle.base_types.specs.declared.ids.Node.{Node}
 use Rattle.message_types.specs.declared.message.Message.{Message as MessageOf}
 use Rattle.script_lines.specs.Sound.{same_node}
 use Rattle.script_lines.specs.declared.script.Script.{Script}
+use Rattle.run_rules.specs.Past.{EachInTurn, In, appended}
 use Rattle.run_rules.specs.Runs.{IsLine, IsRaised}
-use Rattle.run_rules.specs.Lists.{Each, In, after}
 use Rattle.run_rules.specs.declared.step.Step.{Step}
 use Rattle.hub_wire.specs.Networks.{next_copy}
 use Rattle.hub_board.specs.Follows.{flag_for, flag_in, gone_in, mark_raised, place_of, told, with_begun, with_gone, with_raised, with_told}
@@ -161,7 +161,7 @@ module _ (script : Script) where
         → IsRaised script past flag
 
   met_each : (xs past : List Step) → ((s : Step) → In s xs → AwaitIsMet script past s)
-      → Each (AwaitIsMet script) xs past
+      → EachInTurn (AwaitIsMet script) xs past
   met_each [] past h = tt
   met_each (s ∷ xs) past h =
       (h s (inl refl), met_each xs (s ∷ past) (λ x i n line flag c l d. inr (h x (inr i) n line flag c l d)))
@@ -179,13 +179,13 @@ module _ (script : Script) where
       i
 
   pub met_from : (turns : List Turn) (hub : Hubbed) (past : List Step) (own : Node → List Round) → Tells hub past own
-      → ((n : Node) → Each (Keeps script n) (rounds_of hub n turns) (own n)) → BoardRaises script hub turns past
-      → Each (AwaitIsMet script) (steps_of turns) past
+      → ((n : Node) → EachInTurn (Keeps script n) (rounds_of hub n turns) (own n)) → BoardRaises script hub turns past
+      → EachInTurn (AwaitIsMet script) (steps_of turns) past
   met_from [] hub past own h keeps raises = tt
   met_from (t ∷ turns) hub past own h keeps raises =
       let r = t.node in
       let round = round_of hub t in
-      let later = after t.steps past in
+      let later = appended t.steps past in
       let rest = rounds_of (with_turn hub t) r turns in
       let k = each_now (Keeps script r) r round rest (own r) (keeps r) in
       let up = λ (flag : List ℕ) (x : IsRaised script past flag). once_after _ t.steps past x in

@@ -8,10 +8,10 @@ use Rattle.script_lines.specs.declared.script.Deed.{Deed}
 use Rattle.script_lines.specs.declared.script.Deed.TheVariants.{Call, Raise as RaiseLine, Await as AwaitLine, Stop, Restart as RestartLine}
 use Rattle.script_lines.specs.declared.script.Line.{Line}
 use Rattle.script_lines.specs.declared.script.Script.{Script}
+use Rattle.run_rules.specs.Past.{Always, EachInTurn, appended}
 use Rattle.run_rules.specs.Plans.{KeepsPlan}
-use Rattle.run_rules.specs.Lines.{lines_of}
-use Rattle.run_rules.specs.Lists.{Always, Each, after}
-use Rattle.run_rules.specs.Nodes.{is_node}
+use Rattle.run_rules.specs.Runs.{IsRaised, firsts_of}
+use Rattle.run_rules.specs.Steps.{is_node, lines_of}
 use Rattle.run_rules.specs.declared.step.Step.{Step}
 use Rattle.hub_wire.proofs.Maps.{map_twice}
 use Rattle.hub_board.specs.Follows.{follow_of, lines_of as followed_lines, mark_of, raise_of}
@@ -23,7 +23,6 @@ use Rattle.run_rules.specs.declared.journal.Journal.{Journal}
 use Rattle.hub_laws.proofs.Boards.{GivesSent}
 use Rattle.hub_laws.specs.Laws.{CauseSent, AwaitIsMet, IsKept, KeptIsMet, KeptIsPlanned, KeptIsSent, KeptIsSound}
 use Rattle.hub_laws.proofs.Causes.{all_own, causes_sent, gives_sound}
-use Rattle.run_rules.specs.Runs.{firsts_of}
 use Rattle.hub_laws.proofs.Embeds.{itself}
 use Rattle.hub_laws.proofs.Followed.{at, at_here, at_later}
 use Rattle.hub_laws.proofs.Lines.{raised_at}
@@ -31,12 +30,11 @@ use Rattle.hub_laws.proofs.Nodes.{node_same}
 use Rattle.hub_laws.proofs.Members.{each_map}
 use Rattle.hub_laws.proofs.Planned.{StepFits, Stands, planned_from}
 use Rattle.hub_laws.proofs.Telling.{FollowIs, MarkIs, MarksAre, Tells, met_from}
-use Rattle.run_rules.specs.Runs.{IsRaised}
 use Rattle.hub_laws.proofs.Raising.{Followed, Follows, raises_from}
 
 -- from each in order to all
-pub always_after : {A : Type 0} (P : List A → A → Type 0) (xs past : List A) → Always P past → Each P xs past
-    → Always P (after xs past)
+pub always_after : {A : Type 0} (P : List A → A → Type 0) (xs past : List A) → Always P past → EachInTurn P xs past
+    → Always P (appended xs past)
 always_after P [] past h e = h
 always_after P (x ∷ xs) past h e = always_after P xs (x ∷ past) (h, e.0) e.1
 
@@ -96,7 +94,7 @@ nothing_known n = []
 -- each step fits, and what is given was sent
 kept_fits : (script : Script) (rooms : List ServerId) (turns : List Turn) (journal : Journal)
     → IsKept script rooms turns journal
-    → Each (StepFits script journal.start) (steps_of turns) [] × GivesSent (first_hub script rooms) turns []
+    → EachInTurn (StepFits script journal.start) (steps_of turns) [] × GivesSent (first_hub script rooms) turns []
 kept_fits script rooms turns journal kept =
     let first = first_hub script rooms in
     let stands : Stands script journal.start rooms kept.due first [] nothing_known [] [] [] = record {
@@ -120,7 +118,7 @@ kept_fits script rooms turns journal kept =
 pub kept_is_planned : KeptIsPlanned
 kept_is_planned script rooms turns journal kept =
     let fits = kept_fits script rooms turns journal kept in
-    subst (λ steps. Always (KeepsPlan script journal.start) (after steps [])) (sym kept.steps)
+    subst (λ steps. Always (KeepsPlan script journal.start) (appended steps [])) (sym kept.steps)
     (always_after (KeepsPlan script journal.start) (steps_of turns) [] tt
     (each_map (StepFits script journal.start) (KeepsPlan script journal.start) (λ past s f. f.plan) (steps_of turns) [] fits.0))
 
@@ -128,7 +126,7 @@ pub kept_is_sent : KeptIsSent
 kept_is_sent script rooms turns journal kept =
     let fits = kept_fits script rooms turns journal kept in
     let Sent = λ (before : List Step) (s : Step). CauseSent (firsts_of journal) s.node before s in
-    subst (λ steps. Always Sent (after steps [])) (sym kept.steps)
+    subst (λ steps. Always Sent (appended steps [])) (sym kept.steps)
     (always_after Sent (steps_of turns) [] tt
     (causes_sent script (firsts_of journal) journal.start (steps_of turns) [] tt
     (all_own script turns (first_hub script rooms) nothing_known kept.nodes) fits.0))
@@ -176,6 +174,6 @@ kept_is_met script rooms turns journal kept =
       marks = (λ n. first_told script n (nodes_of script));
       rounds = (λ n r i flag e. absurd i);
     } in
-    subst (λ steps. Always (AwaitIsMet script) (after steps [])) (sym kept.steps)
+    subst (λ steps. Always (AwaitIsMet script) (appended steps [])) (sym kept.steps)
     (always_after (AwaitIsMet script) (steps_of turns) [] tt
     (met_from script turns first [] nothing_known tells kept.nodes raises))

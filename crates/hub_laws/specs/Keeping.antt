@@ -7,10 +7,9 @@ use Rattle.script_lines.specs.Sound.{same_node}
 use Rattle.script_lines.specs.declared.script.Deed.TheVariants.{Await, Restart as RestartLine}
 use Rattle.script_lines.specs.declared.script.Line.{Line}
 use Rattle.script_lines.specs.declared.script.Script.{Script}
-use Rattle.run_rules.specs.Runs.{IsLine}
-use Rattle.run_rules.specs.Lines.{IsNextLine, lines_of}
-use Rattle.run_rules.specs.Lists.{Each, In, after}
-use Rattle.run_rules.specs.TokenRuns.{IsFrom}
+use Rattle.run_rules.specs.Past.{EachInTurn, In, appended}
+use Rattle.run_rules.specs.Runs.{IsFrom, IsLine}
+use Rattle.run_rules.specs.Steps.{IsNextLine, lines_of}
 use Rattle.run_rules.specs.declared.step.Cause.{Cause}
 use Rattle.run_rules.specs.declared.step.Cause.TheVariants.{Line as LineOf, Restart, Message as CameBy}
 use Rattle.run_rules.specs.declared.step.Cause.TheVariants.{Lapse as LapsesBy}
@@ -43,7 +42,7 @@ rounds_of hub node (t ∷ turns) =
 -- From here on rounds and steps have the newest first. The steps of some rounds:
 abbrev pub steps_in : List Round → List Step
 steps_in [] = []
-steps_in (r ∷ past) = after r.steps (steps_in past)
+steps_in (r ∷ past) = appended r.steps (steps_in past)
 
 -- the messages that were given
 abbrev pub message_in : Option Given → List Message
@@ -95,7 +94,7 @@ WasTold past flag = (r : Round) × In r past × (r.given ≡ Some (WasRaised fla
 -- are some of those that it was given in its earlier turns, each as often at most; and so are lapses.
 pub record Keeps (script : Script) (node : Node) (past : List Round) (now : Round) : Type 0 where
   pub own : (s : Step) → In s now.steps → s.node ≡ node
-  pub lines : Each (LineGoes (lines_of script node)) now.steps (steps_in past)
+  pub lines : EachInTurn (LineGoes (lines_of script node)) now.steps (steps_in past)
   pub awaits : (s : Step) → In s now.steps → (n : ℕ) (line : Line) (flag : List ℕ) → s.cause ≡ LineOf n
       → IsLine script node n line → line.deed ≡ Await flag → WasTold past flag
   pub sends : (s : Step) → In s now.steps → (m : Message) → In m s.sent → IsFrom node m × IsSound script.roster m
@@ -104,4 +103,4 @@ pub record Keeps (script : Script) (node : Node) (past : List Round) (now : Roun
 
 -- it does so in all its turns
 abbrev pub NodeKeeps : Script → Hubbed → List Turn → Node → Type 0
-NodeKeeps script first turns node = Each (Keeps script node) (rounds_of first node turns) []
+NodeKeeps script first turns node = EachInTurn (Keeps script node) (rounds_of first node turns) []

@@ -18,11 +18,10 @@ use Rattle.hub_board.specs.declared.given.Gift.TheVariants.{Begun}
 use Rattle.hub_board.specs.Turning.{steps_of}
 use Rattle.hub_board.specs.declared.given.Given.TheVariants.{Message as Came}
 use Rattle.hub_board.specs.declared.given.Turn.{Turn}
+use Rattle.run_rules.specs.Past.{Always}
 use Rattle.run_rules.specs.Plans.{IsPlanned, due_first}
-use Rattle.run_rules.specs.Runs.{IsLine, IsRaised, firsts_of, past_of}
+use Rattle.run_rules.specs.Runs.{CameToHost, CameToServer, IsLine, IsRaised, firsts_of, past_of}
 use Rattle.run_rules.specs.declared.journal.Journal.{Journal}
-use Rattle.run_rules.specs.Lists.{Always}
-use Rattle.run_rules.specs.TokenRuns.{CameToHost, CameToServer}
 use Rattle.run_rules.specs.declared.step.Cause.TheVariants.{Line as LineOf}
 use Rattle.run_rules.specs.declared.step.Step.{Step}
 use Rattle.hub_laws.specs.Keeping.{NodeKeeps, gave}

@@ -7,9 +7,8 @@ use Rattle.message_types.specs.declared.message.Message.{Message}
 use Rattle.script_lines.specs.declared.script.Net.{Net}
 use Rattle.script_lines.specs.declared.script.PlanDeed.{PlanDeed}
 use Rattle.script_lines.specs.declared.script.PlanDeed.TheVariants.{Drop, Hold, Again}
-use Rattle.run_rules.specs.Fates.{word_after}
-use Rattle.run_rules.specs.Ends.{is_down}
-use Rattle.run_rules.specs.Fates.{counts, fate_by, fate_in_net, planned_fate, spent, until, ways_in}
+use Rattle.run_rules.specs.Plans.{counts, fate_by, fate_in_net, planned_fate, says_down, spent, until, ways_in}
+use Rattle.run_rules.specs.Plans.{word_after}
 use Rattle.run_rules.specs.declared.fate.Fate.{Fate}
 use Rattle.run_rules.specs.declared.fate.Fate.TheVariants.{Lost, Once, Twice}
 use Rattle.run_rules.specs.declared.fate.Left.{Left}
@@ -130,9 +129,9 @@ some_raised flag (Some fate) = refl
 module _ (flag : List ℕ) (net : Network) (m : Message) where
   fates_raised : next_fate (with_flag flag net) m ≡ raised_fate flag (next_fate net m)
   fates_raised =
-      ap (λ o. cond (is_down m) (Once Free) (unwrap_or o (fate_in_net net.net net.drawn net.left)))
+      ap (λ o. cond (says_down m) (Once Free) (unwrap_or o (fate_in_net net.net net.drawn net.left)))
       (plans_raised flag m net.lines)
-      ∙ by_test (is_down m) (planned net.lines m)
+      ∙ by_test (says_down m) (planned net.lines m)
     where
       by_test : (b : Bool) (o : Option Fate)
           → cond b (Once Free) (unwrap_or (option_map (raised_fate flag) o) (fate_in_net net.net net.drawn net.left))
@@ -143,7 +142,7 @@ module _ (flag : List ℕ) (net : Network) (m : Message) where
 
   left_raised : (with_message (with_flag flag net) m).left ≡ (with_message net m).left
   left_raised =
-      ap (λ b. cond (is_down m || b) net.left (spent (fate_in_net net.net net.drawn net.left) net.left))
+      ap (λ b. cond (says_down m || b) net.left (spent (fate_in_net net.net net.drawn net.left) net.left))
       (ap is_some (plans_raised flag m net.lines) ∙ some_raised flag (planned net.lines m))
 
 packet_raised : (flag : List ℕ) (m : Message) (step : ℕ) (way : Way)

@@ -4,7 +4,7 @@ use Rattle.std.specs.List.{find}
 use Rattle.std.specs.Option.{option_map}
 use Rattle.message_types.specs.declared.message.Message.{Message}
 use Rattle.script_lines.specs.declared.script.PlanLine.{PlanLine}
-use Rattle.run_rules.specs.Fates.{counts, planned_fate}
+use Rattle.run_rules.specs.Plans.{counts, planned_fate}
 use Rattle.run_rules.specs.declared.fate.Fate.{Fate}
 use Rattle.hub_wire.specs.Plans.{Lacking, accepted, counted_lines, forgotten, is_at, is_own, is_raised_by, passed, planned, raised_line, ready_lines, waiting_at, with_flag, with_message}
 use Rattle.hub_wire.specs.declared.plan.Waiting.{Waiting}

@@ -9,9 +9,9 @@ use Rattle.base_types.specs.declared.ids.ServerId.{ServerId}
 use Rattle.message_types.specs.declared.message.Message.{Message}
 use Rattle.script_lines.specs.declared.script.PlanLine.{PlanLine}
 use Rattle.script_lines.specs.declared.script.Script.{Script}
-use Rattle.run_rules.specs.Ends.{is_down}
-use Rattle.run_rules.specs.Fates.{counts, fate_in_net, planned_fate, spent, ways_in}
-use Rattle.run_rules.specs.Posting.{Posted, all_left, copies_of, fate_of, is_for, left_after, planned as planned_by, post, posted, words_drawn}
+use Rattle.run_rules.specs.Plans.{Posting, all_left, copies_of, counts, fate_in_net, fate_of, is_for, left_after}
+use Rattle.run_rules.specs.Plans.{planned_fate, planned_for as planned_by, post, posted, says_down, spent, ways_in}
+use Rattle.run_rules.specs.Plans.{words_drawn}
 use Rattle.run_rules.specs.declared.fate.Fate.{Fate}
 use Rattle.run_rules.specs.declared.fate.Fate.TheVariants.{Once}
 use Rattle.run_rules.specs.declared.fate.Left.{Left}
@@ -76,27 +76,27 @@ drawn_same false n = refl
 module _ (script : Script) (earlier : List Message) (left : Left) (net : Network) (m : Message) where
   fates_same : Stands script earlier left net → next_fate net m ≡ fate_of script earlier m left
   fates_same s =
-      ap (λ ls. cond (is_down m) (Once Free) (unwrap_or (planned ls m) (fate_in_net net.net net.drawn net.left))) s.lines
-      ∙ ap (λ o. cond (is_down m) (Once Free) (unwrap_or o (fate_in_net net.net net.drawn net.left)))
+      ap (λ ls. cond (says_down m) (Once Free) (unwrap_or (planned ls m) (fate_in_net net.net net.drawn net.left))) s.lines
+      ∙ ap (λ o. cond (says_down m) (Once Free) (unwrap_or o (fate_in_net net.net net.drawn net.left)))
       (planned_same script earlier m)
-      ∙ ap (λ n. cond (is_down m) (Once Free) (unwrap_or (planned_by script earlier m) (fate_in_net n net.drawn net.left)))
+      ∙ ap (λ n. cond (says_down m) (Once Free) (unwrap_or (planned_by script earlier m) (fate_in_net n net.drawn net.left)))
       s.nets
-      ∙ ap (λ n. cond (is_down m) (Once Free) (unwrap_or (planned_by script earlier m) (fate_in_net script.net n net.left)))
+      ∙ ap (λ n. cond (says_down m) (Once Free) (unwrap_or (planned_by script earlier m) (fate_in_net script.net n net.left)))
       s.drawn
-      ∙ ap (λ l. cond (is_down m) (Once Free)
+      ∙ ap (λ l. cond (says_down m) (Once Free)
       (unwrap_or (planned_by script earlier m) (fate_in_net script.net (words_drawn earlier) l))) s.rest
 
   left_same : Stands script earlier left net → (with_message net m).left ≡ left_after script earlier m left
   left_same s =
-      ap (λ ls. cond (is_down m || is_some (planned ls m)) net.left
+      ap (λ ls. cond (says_down m || is_some (planned ls m)) net.left
       (spent (fate_in_net net.net net.drawn net.left) net.left)) s.lines
-      ∙ ap (λ o. cond (is_down m || is_some o) net.left (spent (fate_in_net net.net net.drawn net.left) net.left))
+      ∙ ap (λ o. cond (says_down m || is_some o) net.left (spent (fate_in_net net.net net.drawn net.left) net.left))
       (planned_same script earlier m)
-      ∙ ap (λ n. cond (is_down m || is_some (planned_by script earlier m)) net.left
+      ∙ ap (λ n. cond (says_down m || is_some (planned_by script earlier m)) net.left
       (spent (fate_in_net n net.drawn net.left) net.left)) s.nets
-      ∙ ap (λ n. cond (is_down m || is_some (planned_by script earlier m)) net.left
+      ∙ ap (λ n. cond (says_down m || is_some (planned_by script earlier m)) net.left
       (spent (fate_in_net script.net n net.left) net.left)) s.drawn
-      ∙ ap (λ l. cond (is_down m || is_some (planned_by script earlier m)) l
+      ∙ ap (λ l. cond (says_down m || is_some (planned_by script earlier m)) l
       (spent (fate_in_net script.net (words_drawn earlier) l) l)) s.rest
 
   stands_then : Stands script earlier left net
@@ -106,8 +106,8 @@ module _ (script : Script) (earlier : List Message) (left : Left) (net : Network
     lines = ap (map (passed m)) s.lines ∙ map_twice (lacking_after earlier) (passed m) script.plan
         ∙ map_same (λ line. passed m (lacking_after earlier line)) (lacking_after (earlier ++ m ∷ []))
         (passed_same earlier m) script.plan;
-    drawn = drawn_same (is_down m) net.drawn ∙ ap (λ n. n + cond (not (is_down m)) 1 0) s.drawn
-        ∙ sym (one_more (λ (x : Message). not (is_down x)) earlier m);
+    drawn = drawn_same (says_down m) net.drawn ∙ ap (λ n. n + cond (not (says_down m)) 1 0) s.drawn
+        ∙ sym (one_more (λ (x : Message). not (says_down x)) earlier m);
     rest = left_same s;
   }
 
@@ -122,7 +122,7 @@ post_one_more : (script : Script) (ms earlier : List Message) (left : Left) (m :
 post_one_more script [] earlier left m =
     ap (λ es. record { message = m; fate = fate_of script es m left } ∷ []) (sym (append_none earlier))
 post_one_more script (x ∷ ms) earlier left m =
-    let first : Posted = record { message = x; fate = fate_of script earlier x left } in
+    let first : Posting = record { message = x; fate = fate_of script earlier x left } in
     let rest = left_after script earlier x left in
     let all = left_through script (earlier ++ x ∷ []) rest ms in
     ap (λ ps. first ∷ ps) (post_one_more script ms (earlier ++ x ∷ []) rest m)
@@ -151,7 +151,7 @@ after_message : (script : Script) (rooms : List ServerId) (all : List Message) (
     → After script rooms all net → After script rooms (all ++ m ∷ []) (with_message net m)
 after_message script rooms all net m a =
     let left = left_through script [] (all_left script.net) all in
-    let last : Posted = record { message = m; fate = fate_of script all m left } in
+    let last : Posting = record { message = m; fate = fate_of script all m left } in
     let fate = fates_same script all left net m a.stands in
     let more = post_one_more script all [] (all_left script.net) m in
     let packet : Way → Packet = λ way. record { message = m; way = way; step = net.steps } in

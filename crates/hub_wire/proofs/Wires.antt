@@ -6,7 +6,7 @@ use Rattle.base_types.specs.declared.ids.Node.TheVariants.{Server}
 use Rattle.base_types.specs.declared.ids.ServerId.{ServerId}
 use Rattle.message_types.specs.declared.message.Message.{Message}
 use Rattle.script_lines.specs.declared.script.Script.{Script}
-use Rattle.run_rules.specs.Posting.{all_left}
+use Rattle.run_rules.specs.Plans.{all_left}
 use Rattle.run_rules.specs.declared.fate.Left.{Left}
 use Rattle.hub_wire.specs.Networks.{Wired, both, fresh, with_flag as flagged, with_lines}
 use Rattle.hub_wire.specs.Packets.{raised_packet}

@@ -7,7 +7,7 @@ use Rattle.base_types.specs.declared.ids.Node.TheVariants.{Server}
 use Rattle.base_types.specs.declared.ids.ServerId.{ServerId}
 use Rattle.message_types.specs.declared.message.Message.{Message}
 use Rattle.script_lines.specs.declared.script.Script.{Script}
-use Rattle.run_rules.specs.Posting.{Copy, Posted, copies_of, posted}
+use Rattle.run_rules.specs.Plans.{Copy, Posting, copies_of, posted}
 use Rattle.hub_wire.specs.Networks.{Network, due_by, fresh, next_copy, with_flag, with_step, without_copy}
 use Rattle.hub_wire.specs.Packets.{is_next}
 use Rattle.hub_wire.specs.declared.packet.Packet.{Packet}
@@ -21,7 +21,7 @@ abbrev pub copy_of : Packet → Copy
 copy_of packet = record { message = packet.message; way = packet.way }
 
 -- a lapse is due for each message that is lost
-abbrev pub lost_due : Posted → List Node
+abbrev pub lost_due : Posting → List Node
 lost_due p = due_by p.fate p.message
 
 -- all messages of some steps, in order

@@ -10,9 +10,7 @@ use Rattle.message_types.specs.declared.message.Message.{Message}
 use Rattle.script_lines.specs.Sound.{same_node}
 use Rattle.script_lines.specs.declared.script.Net.{Net}
 use Rattle.script_lines.specs.declared.script.Script.{Script}
-use Rattle.run_rules.specs.Ends.{is_down, resender}
-use Rattle.run_rules.specs.Fates.{fate_in_net, spent, ways_in}
-use Rattle.run_rules.specs.Posting.{all_left}
+use Rattle.run_rules.specs.Plans.{all_left, fate_in_net, resender, says_down, spent, ways_in}
 use Rattle.run_rules.specs.declared.fate.Fate.{Fate}
 use Rattle.run_rules.specs.declared.fate.Fate.TheVariants.{Lost, Once}
 use Rattle.run_rules.specs.declared.fate.Left.{Left}
@@ -51,14 +49,14 @@ fresh script rooms = record {
 -- what becomes of the next message
 abbrev pub next_fate : Network → Message → Fate
 next_fate net m =
-    if is_down m then Once Free else unwrap_or (planned net.lines m) (fate_in_net net.net net.drawn net.left)
+    if says_down m then Once Free else unwrap_or (planned net.lines m) (fate_in_net net.net net.drawn net.left)
 
 -- The net's word for it is drawn, and counts where no plan line decides. None is drawn for what tells that a host
 -- stops.
 abbrev pub with_word : Network → Message → Network
 with_word net m = record net {
-  drawn = if is_down m then net.drawn else net.drawn + 1;
-  left = if is_down m || is_some (planned net.lines m) then net.left
+  drawn = if says_down m then net.drawn else net.drawn + 1;
+  left = if says_down m || is_some (planned net.lines m) then net.left
       else spent (fate_in_net net.net net.drawn net.left) net.left;
 }
 

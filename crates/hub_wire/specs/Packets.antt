@@ -7,7 +7,7 @@ use Rattle.base_types.specs.Name.{same_name}
 use Rattle.base_types.specs.declared.ids.Node.{Node}
 use Rattle.message_types.specs.declared.message.Message.{Message}
 use Rattle.script_lines.specs.Sound.{same_node}
-use Rattle.run_rules.specs.Ends.{receiver}
+use Rattle.run_rules.specs.Plans.{receiver}
 use Rattle.run_rules.specs.declared.fate.Way.{Way}
 use Rattle.run_rules.specs.declared.fate.Way.TheVariants.{Free, Delayed, Held}
 use Rattle.hub_wire.specs.declared.packet.Packet.{Packet}

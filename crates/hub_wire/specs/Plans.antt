@@ -5,7 +5,7 @@ use Rattle.std.specs.Prelude.{ℕ, ◌&&◌, ◌-◌, ◌==◌}
 use Rattle.base_types.specs.Name.{same_name}
 use Rattle.message_types.specs.declared.message.Message.{Message}
 use Rattle.script_lines.specs.declared.script.PlanLine.{PlanLine}
-use Rattle.run_rules.specs.Fates.{counts, planned_fate}
+use Rattle.run_rules.specs.Plans.{counts, planned_fate}
 use Rattle.run_rules.specs.declared.fate.Fate.{Fate}
 use Rattle.hub_wire.specs.declared.plan.Waiting.{Waiting}
 

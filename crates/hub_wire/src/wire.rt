@@ -3,8 +3,7 @@ ghost use Rattle.hub_wire.specs.Networks.{fresh, with_step, with_message, with_w
 ghost use Rattle.hub_wire.specs.Networks.{next_fate, with_copies, with_lines, with_flag, next_copy, without_copy};
 ghost use Rattle.hub_wire.specs.Networks.{lapse_place, without_lapse, both, with_packet, with_due};
 ghost use Rattle.hub_wire.specs.Plans.{passed};
-ghost use Rattle.run_rules.specs.Posting.{all_left};
-ghost use Rattle.run_rules.specs.Ends.{resender};
+ghost use Rattle.run_rules.specs.Plans.{all_left, resender};
 ghost use Rattle.std.specs.List.{position};
 ghost use Rattle.script_lines.specs.Sound.{same_node};
 
@@ -14,7 +13,7 @@ use crate::plan::{
 };
 use base_types::{Items, Name, NoMemory, Node, Plain, ServerId};
 use message_types::Message;
-use run_rules::{Fate, Left, Way, fate_in_net, is_down, resender};
+use run_rules::{Fate, Left, Way, fate_in_net, resender, says_down};
 use script_lines::{Net, Script, same_node};
 use std::alloc::Global;
 use std::marker::Model;
@@ -202,7 +201,7 @@ impl Wire {
         ensures ok { OnOk result (self.new ≡ record self.old { ready = with_word self.old.ready message.now }) }
         ensures err { OnErr result (self.new.counted ≡ self.old.counted) }
     {
-        if is_down(message) {
+        if says_down(message) {
             return Ok(Fate::Once(Way::Free));
         }
         let drawn = self.ready.drawn.checked_add(1).ok_or(NoMemory)?;

@@ -27,19 +27,16 @@ use Rattle.token_types.specs.declared.token.Token.{Token}
 use Rattle.tree_laws.proofs.Steps.{fid_is}
 use Rattle.tree_laws.specs.Parts.{Nature, Part, Seen}
 use Rattle.tree_laws.specs.Parts.Part.{ByteAt, Entries, Size, Traits}
-use Rattle.run_rules.specs.Dirty.{gives_at}
-use Rattle.run_rules.specs.HostRules.{HostMay}
-use Rattle.run_rules.specs.Knowing.{needs_in}
-use Rattle.run_rules.specs.Views.{sees as host_sees, writes_to}
-use Rattle.run_rules.specs.Told.{byte_of}
+use Rattle.run_rules.specs.HostMay.{HostMay}
+use Rattle.run_rules.specs.Past.{In}
+use Rattle.run_rules.specs.Tokens.{AtHand, Owns}
+use Rattle.run_rules.specs.Views.{byte_of, gives_at, needs_in, sees as host_sees, writes_to}
 use Rattle.run_parts.specs.Contents.{Contents, Knows, KnowsFile, Over, OwnsUpdate, sees, view}
 use Rattle.run_contents.proofs.Calls.{gives_none, stays}
 use Rattle.run_contents.proofs.Views.{one_alone, sees_same}
 use Rattle.run_contents.proofs.Words.{any_in}
 use Rattle.run_contents.proofs.WriteLooks.{WriteLook, of_write}
 use Rattle.run_contents.specs.Steps.{HostRun, IsOfJournal, Written, written_at, written_by, written_in, wrote}
-use Rattle.run_rules.specs.Lists.{In}
-use Rattle.run_rules.specs.Tokens.{AtHand, Owns}
 use Rattle.run_rules.specs.declared.applied.Answer.{Answer}
 use Rattle.run_rules.specs.declared.step.Step.{Step}
 

@@ -22,18 +22,16 @@ use Rattle.tree_laws.specs.Parts.{Nature, Part}
 use Rattle.tree_laws.specs.Parts.Part.{ByteAt, Entries, Size, Traits}
 use Rattle.run_rules.specs.HostAsks.{FetchNeeds, FileNeeds, IsNewFetch}
 use Rattle.run_rules.specs.HostAsks.FetchNeeds.{OfDirectory, OfFile, OfUnknown}
-use Rattle.run_rules.specs.HostRules.{HostMay}
-use Rattle.run_rules.specs.Knowing.{needs_in}
-use Rattle.run_rules.specs.Views.{sees as host_sees}
+use Rattle.run_rules.specs.HostMay.{HostMay}
+use Rattle.run_rules.specs.Messages.{HasStopped, SendsFetch}
+use Rattle.run_rules.specs.Past.{In}
+use Rattle.run_rules.specs.Tokens.{Owns}
+use Rattle.run_rules.specs.Views.{needs_in, sees as host_sees}
 use Rattle.run_parts.specs.Contents.{Asks, Contents, FetchesSo, Knows, KnowsDirectory, Pending}
 use Rattle.run_contents.proofs.Gives.{owns_held}
 use Rattle.run_contents.proofs.Views.{dirty_same, sees_same}
 use Rattle.run_contents.proofs.Words.{any_in, both, in_any}
 use Rattle.run_contents.specs.Steps.{HostRun, IsOfJournal}
-use Rattle.run_rules.specs.Lists.{In}
-use Rattle.run_rules.specs.Requests.{Fetches}
-use Rattle.run_rules.specs.Sends.{HasStopped}
-use Rattle.run_rules.specs.Tokens.{Owns}
 use Rattle.run_rules.specs.declared.step.Step.{Step}
 
 for_reading : (u : Bool) → (u || true) ≡ true
@@ -80,13 +78,13 @@ updates_status Traits (Opening m) u a b c = absurd (false≢true b)
 module _ (c : Contents) (same : IsOfJournal c) (script : Script) (host : HostId) (past : List Step) (s : Step)
     (run : HostRun script host past) (m : HostMay script host past s) where
   -- a host that fetches hasn't stopped
-  live : (f : FetchOf) → Fetches s f → HasStopped (s ∷ past) → ⊥
+  live : (f : FetchOf) → SendsFetch s f → HasStopped (s ∷ past) → ⊥
   live f (v, e, n, q) (w, d, k, inl z) =
       let r : Fetch f ≡ Down = m.tokens.stops_alone v e n (Fetch f) (w, d, k, z) q in
       cc
   live f q (w, d, k, inr z) = m.tokens.live (w, d, k, z)
 
-  kept_of : (f : FetchOf) → Fetches s f → (t : Token) → Owns (s ∷ past) t → In t m.stance.kept
+  kept_of : (f : FetchOf) → SendsFetch s f → (t : Token) → Owns (s ∷ past) t → In t m.stance.kept
   kept_of f q t owned = (m.stance.keeps t).1 (owns_held script host (s ∷ past) (run, m) (live f q) t owned)
 
   covered : (f : Fid) (t : Token) (k : Kind) → In t m.stance.kept → t.fid ≡ f → kind_covers t.kind k ≡ true
@@ -111,7 +109,7 @@ module _ (c : Contents) (same : IsOfJournal c) (script : Script) (host : HostId)
       }
 
   -- of a file nothing is asked for that may be unsaved
-  unasked : (f : FetchOf) → Fetches s f → (needs asked : List Need)
+  unasked : (f : FetchOf) → SendsFetch s f → (needs asked : List Need)
       → FileNeeds (s ∷ past) m.stance.kept needs f.fid asked → (p : Part) (n : Need) → In n asked
       → shows n.kind p ≡ true → Pending c (s ∷ past) f.fid p → ⊥
   unasked f q needs asked file p n i cov pending = go n.kind p (subst (λ (z : Need). In z asked) its i) cov pending
@@ -136,7 +134,7 @@ module _ (c : Contents) (same : IsOfJournal c) (script : Script) (host : HostId)
       go k Entries i cov d = d
 
   -- what may be unsaved of a status is under a token that covers it
-  status_known : (f : FetchOf) → Fetches s f → (p : Part) → shows (Status false) p ≡ true
+  status_known : (f : FetchOf) → SendsFetch s f → (p : Part) → shows (Status false) p ≡ true
       → Pending c (s ∷ past) f.fid p → Covers m.stance.kept (record { fid = f.fid; kind = Status false })
   status_known f q Size cov o = covered f.fid o.token (Status false) (kept_of f q o.token o.owned) o.file
       (covers_status Size o.token.kind cov o.covers)
@@ -144,7 +142,7 @@ module _ (c : Contents) (same : IsOfJournal c) (script : Script) (host : HostId)
   status_known f q Traits cov d = elim d [ ]
   status_known f q Entries cov d = elim d [ ]
 
-  free : (f : FetchOf) → Fetches s f → (needs : List Need) (asked : List Need)
+  free : (f : FetchOf) → SendsFetch s f → (needs : List Need) (asked : List Need)
       → FetchNeeds past s m.stance.kept needs f.fid asked → (p : Part) (n : Need) → In n asked
       → shows n.kind p ≡ true → Pending c (s ∷ past) f.fid p → KnowsDirectory c past s f.fid
   free f q needs asked (OfDirectory (inl root) eq) p n i cov o = inl (root ∙ sym (same.root f.fid.fileset))
@@ -157,7 +155,7 @@ module _ (c : Contents) (same : IsOfJournal c) (script : Script) (host : HostId)
       ]
   free f q needs asked (OfFile nd status file) p n i cov o = absurd (unasked f q needs asked file p n i cov o)
 
-  new_asks : (f : FetchOf) → Fetches s f → IsNewFetch script.roster host past s m.stance f → Asks c past s f
+  new_asks : (f : FetchOf) → SendsFetch s f → IsNewFetch script.roster host past s m.stance f → Asks c past s f
   new_asks f q new = record {
     new = λ g said files numbers. (let lt = new.next.above g.number (g, said, files, refl) in omega (arith, lt, numbers));
     free = free f q (needs_in m.stance new.call.call) f.needs new.needs;

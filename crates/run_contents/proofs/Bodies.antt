@@ -11,10 +11,9 @@ use Rattle.message_types.specs.declared.message.Body.TheVariants.{Hello, Fetch, 
 use Rattle.message_types.specs.declared.message.Body.TheVariants.{Kept, GiveBack, Gone, Reclaim, Reclaimed, Restarted}
 use Rattle.message_types.specs.declared.message.Body.TheVariants.{Down, Bye, NotHere, Ship, Shipped}
 use Rattle.run_parts.proofs.Cells.{cases_host}
-use Rattle.run_rules.specs.Acts.{Act, epoch}
-use Rattle.run_rules.specs.Acts.Act.{Admits, Begins, Flushes, Reserves, Sent, Took, Wants, Writes}
-use Rattle.run_rules.specs.Hosts.{Away, Ends, Hears, IsDown, IsLive, Listed}
-use Rattle.run_rules.specs.Places.{Here, home}
+use Rattle.run_rules.specs.Doings.{Doing, HasGoneAway, HasGoneDown, Hears, Here, IsLive, Listed, TakesBye, epoch}
+use Rattle.run_rules.specs.Doings.Doing.{Admits, BeginsEpoch, Flushes, MakesWant, Reserves, Sent, Took, WritesDown}
+use Rattle.run_rules.specs.Messages.{home}
 
 -- it is one of these four, or none
 abbrev pub tag : Body → ℕ
@@ -135,7 +134,7 @@ cases_nat a b = go (a == b) refl
 
 -- a doing hears this from a host
 module _ (target : Body) (same : (b : Body) → (b ≡ target) ⊎ (b ≡ target → ⊥)) where
-  hears : (a : Act) (h : HostId) → Hears a h target ⊎ (Hears a h target → ⊥)
+  hears : (a : Doing) (h : HostId) → Hears a h target ⊎ (Hears a h target → ⊥)
   hears (Took k e n b) h = elim (cases_host k h) [
     | inr apart ↦ inr (λ q. apart (let r : Took k e n b ≡ Took h q.0 q.1 target = q.2 in cc))
     | inl one ↦ elim (same b) [
@@ -143,15 +142,15 @@ module _ (target : Body) (same : (b : Body) → (b ≡ target) ⊎ (b ≡ target
       | inr non ↦ inr (λ q. non (let r : Took k e n b ≡ Took h q.0 q.1 target = q.2 in cc))
     ]
   ]
-  hears (Begins e) h = inr (λ q. let r : Begins e ≡ Took h q.0 q.1 target = q.2 in cc)
+  hears (BeginsEpoch e) h = inr (λ q. let r : BeginsEpoch e ≡ Took h q.0 q.1 target = q.2 in cc)
   hears Flushes h = inr (λ q. let r : Flushes ≡ Took h q.0 q.1 target = q.2 in cc)
-  hears (Wants w) h = inr (λ q. let r : Wants w ≡ Took h q.0 q.1 target = q.2 in cc)
-  hears (Writes w) h = inr (λ q. let r : Writes w ≡ Took h q.0 q.1 target = q.2 in cc)
+  hears (MakesWant w) h = inr (λ q. let r : MakesWant w ≡ Took h q.0 q.1 target = q.2 in cc)
+  hears (WritesDown w) h = inr (λ q. let r : WritesDown w ≡ Took h q.0 q.1 target = q.2 in cc)
   hears (Admits k ts) h = inr (λ q. let r : Admits k ts ≡ Took h q.0 q.1 target = q.2 in cc)
   hears (Sent k e n b) h = inr (λ q. let r : Sent k e n b ≡ Took h q.0 q.1 target = q.2 in cc)
   hears (Reserves ts) h = inr (λ q. let r : Reserves ts ≡ Took h q.0 q.1 target = q.2 in cc)
 
-pub down : (S : List Act) (h : HostId) → IsDown S h ⊎ (IsDown S h → ⊥)
+pub down : (S : List Doing) (h : HostId) → HasGoneDown S h ⊎ (HasGoneDown S h → ⊥)
 down [] h = inr (λ q. elim q [ ])
 down (a ∷ S) h = elim (hears Down is_down a h) [
   | inl now ↦ inl (inl now)
@@ -161,7 +160,7 @@ down (a ∷ S) h = elim (hears Down is_down a h) [
   ]
 ]
 
-listed : (S : List Act) (h : HostId) → Listed S h ⊎ (Listed S h → ⊥)
+listed : (S : List Doing) (h : HostId) → Listed S h ⊎ (Listed S h → ⊥)
 listed [] h = inr (λ q. elim q [ ])
 listed (a ∷ S) h = elim (listed S h) [
   | inl old ↦ inl (inr old)
@@ -174,7 +173,7 @@ listed (a ∷ S) h = elim (listed S h) [
   ]
 ]
 
-ends : (S : List Act) (a : Act) (h : HostId) → Ends S a h ⊎ (Ends S a h → ⊥)
+ends : (S : List Doing) (a : Doing) (h : HostId) → TakesBye S a h ⊎ (TakesBye S a h → ⊥)
 ends S a h = elim (hears Bye is_bye a h) [
   | inr non ↦ inr (λ q. non (epoch S, q.0.0, q.0.1))
   | inl now ↦ elim (cases_nat now.0 (epoch S)) [
@@ -189,7 +188,7 @@ ends S a h = elim (hears Bye is_bye a h) [
   ]
 ]
 
-away : (S : List Act) (h : HostId) → Away S h ⊎ (Away S h → ⊥)
+away : (S : List Doing) (h : HostId) → HasGoneAway S h ⊎ (HasGoneAway S h → ⊥)
 away [] h = inr (λ q. elim q [ ])
 away (a ∷ S) h = elim (away S h) [
   | inl was ↦ inl (inr was)
@@ -202,7 +201,7 @@ away (a ∷ S) h = elim (away S h) [
   ]
 ]
 
-pub live : (S : List Act) (h : HostId) → IsLive S h ⊎ (IsLive S h → ⊥)
+pub live : (S : List Doing) (h : HostId) → IsLive S h ⊎ (IsLive S h → ⊥)
 live S h = elim (listed S h) [
   | inr non ↦ inr (λ q. non q.0)
   | inl on ↦ elim (away S h) [
@@ -211,7 +210,7 @@ live S h = elim (listed S h) [
   ]
 ]
 
-pub here : (v : ServerId) (S : List Act) (fs : FilesetId) (n : ℕ) → Here v S fs n ⊎ (Here v S fs n → ⊥)
+pub here : (v : ServerId) (S : List Doing) (fs : FilesetId) (n : ℕ) → Here v S fs n ⊎ (Here v S fs n → ⊥)
 here v S fs n = elim (cases_nat (home fs).0 v.0) [
   | inr apart ↦ inr (λ q. apart (ap (λ p. p.server.0) q))
   | inl one ↦ elim (cases_nat 0 n) [

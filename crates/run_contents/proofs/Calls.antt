@@ -12,17 +12,14 @@ use Rattle.script_lines.specs.declared.script.Deed.TheVariants.{Call as MakesCal
 use Rattle.script_lines.specs.declared.script.Deed.TheVariants.{Restart as Restarts}
 use Rattle.script_lines.specs.declared.script.Script.{Script}
 use Rattle.token_types.specs.declared.token.Token.{Token}
-use Rattle.run_rules.specs.HostLines.{DoesDeed}
-use Rattle.run_rules.specs.HostRules.{HostMay}
-use Rattle.run_rules.specs.Labels.{InUse, end_of}
-use Rattle.run_rules.specs.OpenCalls.{Begins, IsOpen, NoneOpen, calls_begun}
-use Rattle.run_rules.specs.Lines.{servers_of}
+use Rattle.run_rules.specs.HostMay.{DoesLine, HostMay}
+use Rattle.run_rules.specs.Past.{In}
+use Rattle.run_rules.specs.Steps.{servers_of}
+use Rattle.run_rules.specs.Tokens.{AtHand, BeginsCall, Drops, IsOpen, LabelInUse, Made, NoneOpen, Owns, calls_begun}
+use Rattle.run_rules.specs.Tokens.{end_of}
 use Rattle.run_contents.proofs.Gives.{held_owns}
 use Rattle.run_contents.proofs.Views.{one_alone}
 use Rattle.run_contents.specs.Steps.{HostRun}
-use Rattle.run_rules.specs.Gives.{Made}
-use Rattle.run_rules.specs.Lists.{In}
-use Rattle.run_rules.specs.Tokens.{AtHand, Drops, Owns}
 use Rattle.run_rules.specs.declared.applied.Answer.{Answer}
 use Rattle.run_rules.specs.declared.step.Asked.{Asked}
 use Rattle.run_rules.specs.declared.step.Labelled.{Labelled}
@@ -61,7 +58,7 @@ module _ (script : Script) (host : HostId) where
     gives_none a i g n = elim (subst (In g) (m.answers.keeps a i).1 n) [ ]
 
   -- a host owns the token of a label in use
-  pub use_owned : (past : List Step) → HostRun script host past → (u : Labelled) → InUse past u → Owns past u.token
+  pub use_owned : (past : List Step) → HostRun script host past → (u : Labelled) → LabelInUse past u → Owns past u.token
   use_owned [] run u i = elim i [ ]
   use_owned (s ∷ past) run u (inl i) =
       let b = run.1.answers.begins u i in stays past s run.0 run.1 b.0 b.1 u.token b.4
@@ -75,7 +72,7 @@ module _ (script : Script) (host : HostId) where
 
   module _ (past : List Step) (s : Step) (m : HostMay script host past s) where
     -- a step begins one call at most
-    pub begins_one : (k l : ℕ) (a b : Call) → Begins s k a → Begins s l b → k ≡ l
+    pub begins_one : (k l : ℕ) (a b : Call) → BeginsCall s k a → BeginsCall s l b → k ≡ l
     begins_one k l a b (inl p) (inl q) =
         ap (λ (z : Asked). z.k) (some_same (record { k = k; call = a }) (record { k = l; call = b }) (sym p ∙ q))
     begins_one k l a b (inl p) (inr q) = absurd (m.answers.asked q.0 (record { k = k; call = a }) q.1 p)
@@ -83,25 +80,25 @@ module _ (script : Script) (host : HostId) where
     begins_one k l a b (inr p) (inr q) =
         sym p.3 ∙ (ap (λ (z : Answer). z.k) (one_alone s.answers m.answers.answers_one p.0 q.0 p.1 q.1) ∙ q.3)
 
-    bare : (k : ℕ) (call : Call) → s.asked ≡ None → s.answers ≡ [] → Begins s k call → ⊥
+    bare : (k : ℕ) (call : Call) → s.asked ≡ None → s.answers ≡ [] → BeginsCall s k call → ⊥
     bare k call asked answers (inl p) =
         let q : None ≡ Some (record { k = k; call = call }) = sym asked ∙ p in cc
     bare k call asked answers (inr p) = none_in p.0 s.answers answers p.1
 
     -- it begins one when none is open, with the next number
-    pub begins_free : (k : ℕ) (call : Call) → Begins s k call → NoneOpen past
+    pub begins_free : (k : ℕ) (call : Call) → BeginsCall s k call → NoneOpen past
     begins_free k call b = elim (m.lines.begins k call b) [
       | inl l ↦ (m.lines.free l.0 l.1).0
       | inr e ↦ (m.ends.after e).1
     ]
 
-    pub begins_next : (k : ℕ) (call : Call) → Begins s k call → k ≡ suc (calls_begun past)
+    pub begins_next : (k : ℕ) (call : Call) → BeginsCall s k call → k ≡ suc (calls_begun past)
     begins_next k call b = elim (m.lines.begins k call b) [
       | inl l ↦ (let d = m.lines.next l.0 l.1 in by d.0.deed d.2)
       | inr e ↦ (m.ends.implied k call e b).0
     ]
       where
-        by : (d : Deed) → DoesDeed (servers_of script.roster) past s d → k ≡ suc (calls_begun past)
+        by : (d : Deed) → DoesLine (servers_of script.roster) past s d → k ≡ suc (calls_begun past)
         by (MakesCall other) d = begins_one k (suc (calls_begun past)) call other b d
         by (Raise flag) d = absurd (bare k call (ap (λ (z : Step). z.asked) d) (ap (λ (z : Step). z.answers) d) b)
         by (Await flag) d = absurd (bare k call (ap (λ (z : Step). z.asked) d) (ap (λ (z : Step). z.answers) d) b)
@@ -109,7 +106,7 @@ module _ (script : Script) (host : HostId) where
         by Restarts d = elim d [ ]
 
     -- a step that begins none leaves their number
-    same_count : ((k : ℕ) (call : Call) → Begins s k call → ⊥) → calls_begun (s ∷ past) ≡ calls_begun past
+    same_count : ((k : ℕ) (call : Call) → BeginsCall s k call → ⊥) → calls_begun (s ∷ past) ≡ calls_begun past
     same_count none = go s.asked refl
       where
         go : (o : Option Asked) → s.asked ≡ o
@@ -131,7 +128,7 @@ module _ (script : Script) (host : HostId) where
     pub grows : (n : ℕ) → n ≤ calls_begun past → n ≤ calls_begun (s ∷ past)
     grows n le = omega (arith, le)
 
-    open_none : (call : Asked) → IsOpen past call → (k : ℕ) (other : Call) → Begins s k other → ⊥
+    open_none : (call : Asked) → IsOpen past call → (k : ℕ) (other : Call) → BeginsCall s k other → ⊥
     open_none call o k other b = begins_free k other b call o
 
   -- an open call is the last that was begun

@@ -29,7 +29,16 @@ use Rattle.message_types.specs.declared.message.Message.{Message}
 use Rattle.tree_laws.proofs.Steps.{fid_is}
 use Rattle.tree_laws.specs.Parts.{Nature, Part, Seen, cell_found, cell_in, nature_of}
 use Rattle.tree_laws.specs.Parts.Part.{ByteAt, Entries, Size, Traits}
-use Rattle.run_rules.specs.Told.{byte_of}
+use Rattle.run_rules.specs.Doings.{Doing, HasGoneAway, HasGoneDown as IsDownHost, Here, IsApplied as TakenIt, IsLive}
+use Rattle.run_rules.specs.Doings.{epoch}
+use Rattle.run_rules.specs.Doings.Doing.{Sent, Took}
+use Rattle.run_rules.specs.Kept.{filesets_through, length_given, pieces_in, pieces_of, takes_gifts, tree_given}
+use Rattle.run_rules.specs.ServerDecides.{FirstDown, FirstGiven, ServerApplies, by_cause, ended_by, span_of, stored_of}
+use Rattle.run_rules.specs.Tokens.{number_of}
+use Rattle.run_rules.specs.Views.{byte_of}
+use Rattle.run_rules.specs.declared.applied.Applied.TheVariants.{Done as IsDone, IsDown, Replied, Stored}
+use Rattle.run_rules.specs.declared.applied.Applied.TheVariants.{Wants as IsWanted}
+use Rattle.run_tokens.specs.TokenLaws.{Applies}
 use Rattle.run_parts.proofs.Cells.{cases_host}
 use Rattle.run_parts.specs.Cells.{Does, kept_after as kept_after_part}
 use Rattle.run_parts.specs.Cells.Does.{Loses, Nothing, Sets, Stores}
@@ -41,19 +50,8 @@ use Rattle.run_contents.proofs.Sent.{At, Fine as IsFine, all_alike, all_roots, u
 use Rattle.run_contents.specs.Doing.{does_first, stores_part, stores_some}
 use Rattle.run_contents.specs.Gives.{IsKept, part_given}
 use Rattle.run_contents.specs.Steps.{IsOfJournal, gives}
-use Rattle.run_rules.specs.Kept.{kept_through, length_given, pieces_in, pieces_of, takes_gifts, tree_given}
-use Rattle.run_rules.specs.ServerApplies.{FirstDown, FirstGiven, ServerApplies, by_cause, ended_by, span_of}
-use Rattle.run_rules.specs.ServerApplies.{stored_of}
 use Rattle.run_tokens.proofs.Words.{made_at}
-use Rattle.run_rules.specs.Acts.{Act, epoch}
-use Rattle.run_rules.specs.Acts.Act.{Sent, Took}
-use Rattle.run_rules.specs.Gives.{number_of}
-use Rattle.run_rules.specs.Grants.{Applied as TakenIt, Applies}
-use Rattle.run_rules.specs.Hosts.{Away, IsDown as IsDownHost, IsLive}
-use Rattle.run_rules.specs.Places.{Here}
 use Rattle.run_rules.specs.declared.applied.Applied.{Applied}
-use Rattle.run_rules.specs.declared.applied.Applied.TheVariants.{Done as IsDone, Ends, IsDown, Stored}
-use Rattle.run_rules.specs.declared.applied.Applied.TheVariants.{Wants as IsWanted}
 use Rattle.run_rules.specs.declared.step.Cause.{Cause}
 use Rattle.run_rules.specs.declared.step.Cause.TheVariants.{Message as Came}
 use Rattle.run_rules.specs.declared.step.Step.{Step}
@@ -67,24 +65,24 @@ BelowSize size _ = Unit {0}
 abbrev quiet_one : Applied → Bool
 quiet_one (Stored h f ss n) = false
 quiet_one (IsDone x) = false
-quiet_one (Ends x) = true
+quiet_one (Replied x) = true
 quiet_one (IsDown h) = true
 quiet_one (IsWanted x) = true
 
 abbrev good : Tree → List Applied → Bool
 good tree [] = true
 good tree (Stored h f ss n ∷ rest) = takes_gifts tree f && list_all quiet_one rest
-good tree (Ends x ∷ rest) = list_all quiet_one rest
+good tree (Replied x ∷ rest) = list_all quiet_one rest
 good tree (IsDown h ∷ rest) = list_all quiet_one rest
 good tree (IsWanted x ∷ rest) = list_all quiet_one rest
 good tree (IsDone x ∷ rest) = false
 
 through_quiet : (cause : Cause) (xs : List Applied) (tree : Tree) → list_all quiet_one xs ≡ true
-    → kept_through cause xs tree ≡ tree
+    → filesets_through cause xs tree ≡ tree
 through_quiet cause [] tree e = refl
 through_quiet cause (Stored h f ss n ∷ xs) tree e = absurd (false≢true e)
 through_quiet cause (IsDone x ∷ xs) tree e = absurd (false≢true e)
-through_quiet cause (Ends x ∷ xs) tree e = through_quiet cause xs tree e
+through_quiet cause (Replied x ∷ xs) tree e = through_quiet cause xs tree e
 through_quiet cause (IsDown h ∷ xs) tree e = through_quiet cause xs tree e
 through_quiet cause (IsWanted x ∷ xs) tree e = through_quiet cause xs tree e
 
@@ -98,7 +96,7 @@ module _ (tree : Tree) (h : HostId) (g : Give) where
       go : (b : Bool) → takes_gifts tree g.fid ≡ b → (s : Bool) (o : Option EndsOf)
           → good tree ((if b && s then Stored h g.fid (map span_of g.pieces) g.length ∷ [] else [])
           ++ option_map_or (λ ends.
-          Ends (record { host = h; k = ends.k; call = ends.call; reply = Fine; first = false }) ∷ []) o []) ≡ true
+          Replied (record { host = h; k = ends.k; call = ends.call; reply = Fine; first = false }) ∷ []) o []) ≡ true
       go true e true None = both (takes_gifts tree g.fid) true e refl
       go true e true (Some x) = both (takes_gifts tree g.fid) true e refl
       go true e false None = refl
@@ -143,7 +141,7 @@ module _ (cause : Cause) (tree : Tree) where
       go true e = stores_of p (pieces_in cause) n (length_given (kept_view tree g Size) n) y e
       go false e = let non : Nothing ≡ Sets y = e in cc
   never_sets (IsDown h ∷ rest) f p y e = let non : Loses h ≡ Sets y = e in cc
-  never_sets (Ends x ∷ rest) f p y e = let non : Nothing ≡ Sets y = e in cc
+  never_sets (Replied x ∷ rest) f p y e = let non : Nothing ≡ Sets y = e in cc
   never_sets (IsWanted x ∷ rest) f p y e = let non : Nothing ≡ Sets y = e in cc
   never_sets (IsDone x ∷ rest) f p y e = let non : Nothing ≡ Sets y = e in cc
 
@@ -182,7 +180,7 @@ module _ (cause : Cause) (tree : Tree) where
         go : (b : Bool) (o : Option EndsOf)
             → does_first cause tree ((if b then Stored h g.fid (map span_of g.pieces) g.length ∷ [] else [])
             ++ option_map_or (λ ends.
-            Ends (record { host = h; k = ends.k; call = ends.call; reply = Fine; first = false }) ∷ []) o []) f p
+            Replied (record { host = h; k = ends.k; call = ends.call; reply = Fine; first = false }) ∷ []) o []) f p
             ≡ Stores y → (g.fid ≡ f) × (gives g p ≡ Some y)
         go true None e = of (same_fid g.fid f) refl e
         go true (Some x) e = of (same_fid g.fid f) refl e
@@ -200,7 +198,7 @@ module _ (cause : Cause) (tree : Tree) where
         go : (b : Bool) (o : Option EndsOf)
             → does_first cause tree ((if b then Stored h g.fid (map span_of g.pieces) g.length ∷ [] else [])
             ++ option_map_or (λ ends.
-            Ends (record { host = h; k = ends.k; call = ends.call; reply = Fine; first = false }) ∷ []) o []) f p
+            Replied (record { host = h; k = ends.k; call = ends.call; reply = Fine; first = false }) ∷ []) o []) f p
             ≡ Loses k → ⊥
         go true None e = of (same_fid g.fid f) e
         go true (Some x) e = of (same_fid g.fid f) e
@@ -281,13 +279,13 @@ module _ (cause : Cause) (tree : Tree) where
         by true e Entries = refl
 
     first_view : (xs : List Applied) → good tree xs ≡ true → (f : Fid) (p : Part)
-        → kept_after_part p (does_first cause tree xs f p) (kept_view tree f p) ≡ kept_view (kept_through cause xs tree) f p
+        → kept_after_part p (does_first cause tree xs f p) (kept_view tree f p) ≡ kept_view (filesets_through cause xs tree) f p
     first_view [] e f p = refl
     first_view (Stored h g ss n ∷ rest) e f p =
         let q = and_parts (takes_gifts tree g) (list_all quiet_one rest) e in
         stored_view g f (pieces_in cause) n p q.0
         ∙ sym (ap (λ (t : Tree). kept_view t f p) (through_quiet cause rest (tree_given tree g (pieces_in cause) n) q.1))
-    first_view (Ends x ∷ rest) e f p = sym (ap (λ (t : Tree). kept_view t f p) (through_quiet cause rest tree e))
+    first_view (Replied x ∷ rest) e f p = sym (ap (λ (t : Tree). kept_view t f p) (through_quiet cause rest tree e))
     first_view (IsDown h ∷ rest) e f p = sym (ap (λ (t : Tree). kept_view t f p) (through_quiet cause rest tree e))
     first_view (IsWanted x ∷ rest) e f p = sym (ap (λ (t : Tree). kept_view t f p) (through_quiet cause rest tree e))
     first_view (IsDone x ∷ rest) e f p = absurd (false≢true e)
@@ -322,13 +320,13 @@ size_of : (o : Option ℕ) (n : ℕ) → kept_after_part Size (stores_some o) n 
 size_of None n = refl
 size_of (Some x) n = refl
 
-down_away : (S : List Act) (h : HostId) → IsDownHost S h → Away S h
+down_away : (S : List Doing) (h : HostId) → IsDownHost S h → HasGoneAway S h
 down_away [] h d = elim d [ ]
 down_away (a ∷ S) h (inl d) = inl (inl d)
 down_away (a ∷ S) h (inr d) = inr (down_away S h d)
 
 -- what the cause applies is good
-module _ (v : ServerId) (S : List Act) (tree : Tree) (s : Step) (k : ServerApplies v tree S s) where
+module _ (v : ServerId) (S : List Doing) (tree : Tree) (s : Step) (k : ServerApplies v tree S s) where
   pub shape : good tree (by_cause s.applied) ≡ true
   shape = go (good tree (by_cause s.applied)) refl
     where
@@ -500,7 +498,7 @@ module _ (c : Contents) (v : ServerId) (D : List Deed) (tree : Tree) (s : Step) 
           cc
 
   loses_all_first : (f : Fid) (p : Part) (h : HostId) (e n : ℕ) → first_deed.act ≡ Took h e n Down
-      → (Away (acts_in D) h → ⊥) → first_deed.does f p ≡ Loses h
+      → (HasGoneAway (acts_in D) h → ⊥) → first_deed.does f p ≡ Loses h
   loses_all_first f p h e n is up =
       let host : m.host ≡ h = cc in
       let body : m.body ≡ Down = cc in
@@ -508,7 +506,7 @@ module _ (c : Contents) (v : ServerId) (D : List Deed) (tree : Tree) (s : Step) 
       ap (λ xs. does_first s.cause tree xs f p) (k.down h first)
 
   abbrev pub after_it : Tree
-  after_it = kept_through s.cause (by_cause s.applied) tree
+  after_it = filesets_through s.cause (by_cause s.applied) tree
 
   pub at_first : IsKept after_it → At c v (first_deed ∷ D) after_it
   at_first keeps = record {

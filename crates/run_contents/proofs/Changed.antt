@@ -40,12 +40,12 @@ use Rattle.run_contents.proofs.KeptGives.{both}
 use Rattle.run_contents.proofs.Sent.{At, Fine, all_alike, all_roots, unsent}
 use Rattle.run_contents.proofs.Sets.{set_gone, set_is, set_kind, set_under, set_whole}
 use Rattle.run_contents.specs.Doing.{at_home, changes, comes, sets_part, wanted_by, writes}
-use Rattle.run_rules.specs.Kept.{is_refusal, kept_after}
+use Rattle.run_rules.specs.Doings.{Granted}
+use Rattle.run_rules.specs.Doings.Doing.{Sent, Took, WritesDown}
+use Rattle.run_rules.specs.Kept.{filesets_after, is_refusal}
 use Rattle.run_rules.specs.ServerDecides.{DecidedSo, IsWrittenSo, refusal_of}
-use Rattle.run_rules.specs.ServerDecides.DecidedSo.{HasEffect, IsRefused, MeetsPinned}
-use Rattle.run_rules.specs.Wants.{Blocks, CanGrant, asker, asker_of, exporter, is_move, is_use}
-use Rattle.run_rules.specs.Acts.Act.{Sent, Took, Writes}
-use Rattle.run_rules.specs.Grants.{Granted}
+use Rattle.run_rules.specs.ServerDecides.DecidedSo.{IsRefusedByTable, MeetsPinned, TakesEffect}
+use Rattle.run_rules.specs.Wants.{CanGrant, IsInWay, asker, asker_of, exporter, is_use, moves_fileset}
 use Rattle.run_rules.specs.declared.applied.Applied.TheVariants.{Done as IsDone}
 use Rattle.run_rules.specs.declared.applied.Written.{Written}
 use Rattle.run_rules.specs.declared.step.Cause.{Cause}
@@ -62,7 +62,7 @@ module _ (c : Contents) (v : ServerId) (tree : Tree) (cause : Cause) (D : List D
   left = (answer_to tree x.answer.host x.answer.call).tree
 
   abbrev deed : Deed
-  deed = record { act = Writes x; does = at_home v (writes cause tree x) }
+  deed = record { act = WritesDown x; does = at_home v (writes cause tree x) }
 
   -- one that isn't refused could be granted, for the exporter
   record Effective : Type 0 where
@@ -82,11 +82,11 @@ module _ (c : Contents) (v : ServerId) (tree : Tree) (cause : Cause) (D : List D
       parts false true move q = absurd (false≢true q)
 
       by : DecidedSo v tree (acts_in D) k.w k.change x.answer.reply → Effective
-      by (IsRefused refusal on is) = absurd (no_refusal x.answer.reply refusal is e)
+      by (IsRefusedByTable refusal on is) = absurd (no_refusal x.answer.reply refusal is e)
       by (MeetsPinned not row can is) =
           absurd (no_refusal x.answer.reply (refusal_of k.change.call) is e)
-      by (HasEffect effect row can is) =
-          let p = parts k.change.enter (is_use k.change.call) (is_move k.change.call) effect in
+      by (TakesEffect effect row can is) =
+          let p = parts k.change.enter (is_use k.change.call) (moves_fileset k.change.call) effect in
           let host = sym k.host in
           let call = sym k.call in
           record {
@@ -187,7 +187,7 @@ module _ (c : Contents) (v : ServerId) (tree : Tree) (cause : Cause) (D : List D
       → Bars v (acts_in D) t
   barred f t way = (f.can.over, λ g. f.can.free t (inl g) (blocked g))
     where
-      blocked : Granted v (acts_in D) t → Blocks k.w t
+      blocked : Granted v (acts_in D) t → IsInWay k.w t
       blocked g =
           let q = good t g in
           let low = q.0 in
@@ -232,7 +232,7 @@ module _ (c : Contents) (v : ServerId) (tree : Tree) (cause : Cause) (D : List D
   roomy (Opening kind) r = refl
 
   -- what is kept then is what the kept filesets show
-  pub changed_at : At c v (deed ∷ D) (kept_after cause tree (IsDone x))
+  pub changed_at : At c v (deed ∷ D) (filesets_after cause tree (IsDone x))
   changed_at = go (is_refusal x.answer.reply) refl
     where
       at_b : (b : Bool) → is_refusal x.answer.reply ≡ b → At c v (deed ∷ D) (if b then tree else left)
@@ -264,7 +264,7 @@ module _ (c : Contents) (v : ServerId) (tree : Tree) (cause : Cause) (D : List D
             keeps = answer_kept tree at.keeps x.answer.host x.answer.call s.0 s.1;
           }
 
-      go : (b : Bool) → is_refusal x.answer.reply ≡ b → At c v (deed ∷ D) (kept_after cause tree (IsDone x))
+      go : (b : Bool) → is_refusal x.answer.reply ≡ b → At c v (deed ∷ D) (filesets_after cause tree (IsDone x))
       go b e = subst (λ r. At c v (deed ∷ D) (if r then tree else left)) (sym e) (at_b b e)
 
   pub shows_change : ServerShows c v D deed
@@ -275,7 +275,7 @@ module _ (c : Contents) (v : ServerId) (tree : Tree) (cause : Cause) (D : List D
     there = plain.there;
     stores = λ f p y e. absurd (never_stores f p y e);
     stores_all = λ h g p y applies writable fits has.
-        absurd (let q : Writes x ≡ Took h _ applies.0.0 (GiveBack g) = applies.0.2.0 in cc);
+        absurd (let q : WritesDown x ≡ Took h _ applies.0.0 (GiveBack g) = applies.0.2.0 in cc);
     sets = λ f p y e.
         let s = is_set f p y e in
         let ok = sound s.takes in (
@@ -303,11 +303,11 @@ module _ (c : Contents) (v : ServerId) (tree : Tree) (cause : Cause) (D : List D
         let ok = sound s.takes in
         set_kind tree at.keeps.formed x.answer.host x.answer.call ok.1 f old new s.sets
         (sym (at.shows f Traits s.home) ∙ was);
-    alike = all_alike c v root (deed ∷ D) (kept_after cause tree (IsDone x)) changed_at;
-    roots = all_roots c v root (deed ∷ D) (kept_after cause tree (IsDone x)) changed_at;
+    alike = all_alike c v root (deed ∷ D) (filesets_after cause tree (IsDone x)) changed_at;
+    roots = all_roots c v root (deed ∷ D) (filesets_after cause tree (IsDone x)) changed_at;
     loses = λ f p h e. absurd (never_loses f p h e);
-    loses_all = λ f p h e n is away. absurd (let q : Writes x ≡ Took h e n Down = is in cc);
+    loses_all = λ f p h e n is away. absurd (let q : WritesDown x ≡ Took h e n Down = is in cc);
   }
     where
-      plain : Fine c v D (Writes x)
-      plain = unsent c v D (Writes x) (λ h e n b q. let r : Writes x ≡ Sent h e n b = q in cc)
+      plain : Fine c v D (WritesDown x)
+      plain = unsent c v D (WritesDown x) (λ h e n b q. let r : WritesDown x ≡ Sent h e n b = q in cc)

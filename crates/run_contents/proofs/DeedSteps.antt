@@ -26,7 +26,19 @@ use Rattle.script_lines.specs.declared.script.Script.{Script}
 use Rattle.token_types.specs.declared.token.Token.{Token}
 use Rattle.tree_laws.specs.Parts.{cell_in}
 use Rattle.tree_laws.specs.Parts.Part.{Traits}
+use Rattle.run_rules.specs.Doings.{Doing, Granted, admitting, after_admitting, after_cause, after_deciding, after_step}
+use Rattle.run_rules.specs.Doings.{deciding, doings_of, epoch, sending}
+use Rattle.run_rules.specs.Doings.Doing.{Admits, BeginsEpoch, Flushes, MakesWant, Reserves, Sent, Took, WritesDown}
+use Rattle.run_rules.specs.Kept.{filesets_after, filesets_kept, filesets_through}
+use Rattle.run_rules.specs.Messages.{Said, home}
+use Rattle.run_rules.specs.Past.{EachInTurn, In, appended}
 use Rattle.run_rules.specs.Runs.{IsRun, StepMeets, StepsMeet, firsts_of, past_of}
+use Rattle.run_rules.specs.ServerDecides.{MayDecideAll, by_cause, decisions}
+use Rattle.run_rules.specs.ServerMay.{MaySend, ServerWorks}
+use Rattle.run_rules.specs.ServerTokens.{ServerStep, ServerTokens}
+use Rattle.run_rules.specs.Steps.{is_node, steps_of_host, steps_of_server}
+use Rattle.run_rules.specs.declared.applied.Applied.TheVariants.{Done as IsDone, IsDown, Replied, Stored}
+use Rattle.run_rules.specs.declared.applied.Applied.TheVariants.{Wants as IsWanted}
 use Rattle.run_parts.proofs.Served.{after_doings}
 use Rattle.run_parts.specs.Doings.{doings, doings_cause}
 use Rattle.run_rules.specs.declared.journal.Journal.{Journal}
@@ -45,31 +57,14 @@ use Rattle.run_contents.proofs.Servers.{cause_heard, heard}
 use Rattle.run_contents.proofs.Shown.{host_shows}
 use Rattle.run_contents.proofs.Starts.{starts_kept}
 use Rattle.run_contents.proofs.Tokens.{AllGood, all_good, causes as causes_good, plain}
-use Rattle.run_contents.specs.Doing.{Doing, at_home, decided, deeds_at, deeds_of, does_first, does_nothing, with_doing}
+use Rattle.run_contents.specs.Doing.{Effect, at_home, decided, deeds_at, deeds_of, does_first, does_nothing, with_doing}
 use Rattle.run_contents.specs.Doing.{writes}
 use Rattle.run_contents.specs.Gives.{IsKept}
 use Rattle.run_contents.specs.Instance.{IsOfRun, RunsMeetContents}
 use Rattle.run_contents.specs.Steps.{IsOfJournal}
-use Rattle.run_rules.specs.Kept.{kept, kept_after, kept_through}
-use Rattle.run_rules.specs.ServerApplies.{by_cause, decisions}
-use Rattle.run_rules.specs.ServerDecides.{MayDecideAll}
-use Rattle.run_rules.specs.ServerRules.{ServerWorks}
-use Rattle.run_rules.specs.ServerSends.{MaySend}
 use Rattle.run_tokens.proofs.Words.{acts_after}
-use Rattle.run_rules.specs.Acts.{Act, acts, admitted_by, admitting, after_cause, after_step, deciding, epoch}
-use Rattle.run_rules.specs.Acts.{sending, written_by}
-use Rattle.run_rules.specs.Acts.Act.{Admits, Begins, Flushes, Reserves, Sent, Took, Wants, Writes}
-use Rattle.run_rules.specs.Grants.{Granted}
-use Rattle.run_rules.specs.Lists.{Each, In, after}
-use Rattle.run_rules.specs.Nodes.{is_node, own, served}
-use Rattle.run_rules.specs.Places.{home}
-use Rattle.run_rules.specs.Sends.{Said}
-use Rattle.run_rules.specs.ServerTokens.{ServerTokens}
-use Rattle.run_rules.specs.TokenRuns.{ServerStep}
 use Rattle.run_rules.specs.declared.applied.Admission.{Admission}
 use Rattle.run_rules.specs.declared.applied.Applied.{Applied}
-use Rattle.run_rules.specs.declared.applied.Applied.TheVariants.{Done as IsDone, Ends, IsDown, Stored}
-use Rattle.run_rules.specs.declared.applied.Applied.TheVariants.{Wants as IsWanted}
 use Rattle.run_rules.specs.declared.applied.Wanted.{Wanted}
 use Rattle.run_rules.specs.declared.step.Cause.{Cause}
 use Rattle.run_rules.specs.declared.step.Cause.TheVariants.{End, Evict, Flushed, Lapse, Line, Message as Came}
@@ -78,8 +73,8 @@ use Rattle.run_rules.specs.declared.step.Step.{Step}
 
 -- the deeds of the rest of a step meet the rules, and what is kept after them is what the kept filesets show
 record Ends_so (c : Contents) (v : ServerId) (D deeds : List Deed) (tree : Tree) : Type 0 where
-  all : Each (ServerShows c v) deeds D
-  last : At c v (after deeds D) tree
+  all : EachInTurn (ServerShows c v) deeds D
+  last : At c v (appended deeds D) tree
 
 module _ (c : Contents) (v : ServerId) where
   no_more : (D : List Deed) (tree : Tree) → At c v D tree → Ends_so c v D [] tree
@@ -90,20 +85,20 @@ module _ (c : Contents) (v : ServerId) where
   one_more D d more tree shows rest = record { all = (shows, rest.all); last = rest.last }
 
   -- a doing that does nothing to parts leaves what is kept
-  abbrev idle : Act → Deed
+  abbrev idle : Doing → Deed
   idle a = record { act = a; does = does_nothing }
 
-  still : (D : List Deed) (tree : Tree) (a : Act) → At c v D tree → At c v (idle a ∷ D) tree
+  still : (D : List Deed) (tree : Tree) (a : Doing) → At c v D tree → At c v (idle a ∷ D) tree
   still D tree a at = record { shows = at.shows; keeps = at.keeps }
 
 -- what waits was taken, through what makes no want
-taken_on : (S : List Act) (a : Act) → ((w : Wanted) → a ≡ Wants w → ⊥) → AllTaken S → AllTaken (a ∷ S)
+taken_on : (S : List Doing) (a : Doing) → ((w : Wanted) → a ≡ MakesWant w → ⊥) → AllTaken S → AllTaken (a ∷ S)
 taken_on S a never old w (inl e) = absurd (never w e)
 taken_on S a never old w (inr k) = inr (old w k.0, λ b. k.1 (inr (inr (inr b))))
 
 module _ (c : Contents) (same : IsOfJournal c) (v : ServerId) (s : Step) where
-  sents : (tree : Tree) (ms : List Message) (more : List Act) (D : List Deed) → At c v D tree → AllTaken (acts_in D)
-      → Each (MaySend v tree s) (sending ms) (acts_in D) → Each (ServerTokens v) (sending ms) (acts_in D)
+  sents : (tree : Tree) (ms : List Message) (more : List Doing) (D : List Deed) → At c v D tree → AllTaken (acts_in D)
+      → EachInTurn (MaySend v tree s) (sending ms) (acts_in D) → EachInTurn (ServerTokens v) (sending ms) (acts_in D)
       → ((D' : List Deed) → At c v D' tree → Ends_so c v D' (with_doing does_nothing more) tree)
       → Ends_so c v D (with_doing does_nothing (sending ms ++ more)) tree
   sents tree [] more D at taken may tokens rest = rest D at
@@ -113,11 +108,11 @@ module _ (c : Contents) (same : IsOfJournal c) (v : ServerId) (s : Step) where
       (quiet c v same.root D tree a at (fine_sent c v tree s same.tells D a at taken may.0 tokens.0)
       (λ h e n b q. let r : Sent m.host m.epoch m.moves m.body ≡ Took h e n b = q in cc))
       (sents tree ms more (idle c v a ∷ D) (still c v D tree a at)
-      (taken_on (acts_in D) a (λ w q. let r : Sent m.host m.epoch m.moves m.body ≡ Wants w = q in cc) taken)
+      (taken_on (acts_in D) a (λ w q. let r : Sent m.host m.epoch m.moves m.body ≡ MakesWant w = q in cc) taken)
       may.1 tokens.1 rest)
 
-  admits : (tree : Tree) (cs : List Admission) (more : List Act) (D : List Deed) → At c v D tree → AllTaken (acts_in D)
-      → ((D' : List Deed) → acts_in D' ≡ after (admitting cs) (acts_in D) → At c v D' tree → AllTaken (acts_in D')
+  admits : (tree : Tree) (cs : List Admission) (more : List Doing) (D : List Deed) → At c v D tree → AllTaken (acts_in D)
+      → ((D' : List Deed) → acts_in D' ≡ appended (admitting cs) (acts_in D) → At c v D' tree → AllTaken (acts_in D')
       → Ends_so c v D' (with_doing does_nothing more) tree)
       → Ends_so c v D (with_doing does_nothing (admitting cs ++ more)) tree
   admits tree [] more D at taken rest = rest D refl at taken
@@ -128,69 +123,69 @@ module _ (c : Contents) (same : IsOfJournal c) (v : ServerId) (s : Step) where
       (unsent c v D a (λ h e n b q. let r : Admits x.host x.tokens ≡ Sent h e n b = q in cc))
       (λ h e n b q. let r : Admits x.host x.tokens ≡ Took h e n b = q in cc))
       (admits tree cs more (idle c v a ∷ D) (still c v D tree a at)
-      (taken_on (acts_in D) a (λ w q. let r : Admits x.host x.tokens ≡ Wants w = q in cc) taken) rest)
+      (taken_on (acts_in D) a (λ w q. let r : Admits x.host x.tokens ≡ MakesWant w = q in cc) taken) rest)
 
 module _ (script : Script) (start : Tree) (firsts : ServerId → ℕ) (past : List Step)
     (run : StepsMeet script start firsts past) (v : ServerId) (s : Step) (c : Contents) (same : IsOfJournal c)
     (limit : length script.roster.hosts ≤ 16) where
-  abbrev before : List Act
-  before = acts (firsts v) v past
+  abbrev before : List Doing
+  before = doings_of (firsts v) v past
 
-  abbrev AllSaid : List Act → Type 0
-  AllSaid S = (h : HostId) (e n : ℕ) (b : Body) → In (Took h e n b) S → Said (own h past) v e n b
+  abbrev AllSaid : List Doing → Type 0
+  AllSaid S = (h : HostId) (e n : ℕ) (b : Body) → In (Took h e n b) S → Said (steps_of_host h past) v e n b
 
-  on_said : (S : List Act) (a : Act) → ((h : HostId) (e n : ℕ) (b : Body) → Took h e n b ≡ a → ⊥) → AllSaid S
+  on_said : (S : List Doing) (a : Doing) → ((h : HostId) (e n : ℕ) (b : Body) → Took h e n b ≡ a → ⊥) → AllSaid S
       → AllSaid (a ∷ S)
   on_said S a never old h e n b (inl q) = absurd (never h e n b q)
   on_said S a never old h e n b (inr i) = old h e n b i
 
-  good_host : (S : List Act) → AllGood script v S → (t : Token) → Granted v S t → (t.host.0 ≤ 16) × HasRoom t.kind
+  good_host : (S : List Doing) → AllGood script v S → (t : Token) → Granted v S t → (t.host.0 ≤ 16) × HasRoom t.kind
   good_host S good t g =
       let k = good t g in
       let low : t.host.0 ≤ length script.roster.hosts = k.0 in
       let most = limit in
       (omega (arith, low, most), k.1)
 
-  decides : (xs : List Applied) (S0 : List Act) (tree last : Tree) (more D : List Deed)
+  decides : (xs : List Applied) (S0 : List Doing) (tree last : Tree) (more D : List Deed)
       → MayDecideAll v tree S0 (acts_in D) s xs → At c v D tree → AllTaken (acts_in D) → Heard v S0 s (acts_in D)
       → AllSaid (acts_in D) → AllGood script v (acts_in D)
-      → ((D' : List Deed) → acts_in D' ≡ after (deciding xs) (acts_in D) → At c v D' (kept_through s.cause xs tree)
+      → ((D' : List Deed) → acts_in D' ≡ appended (deciding xs) (acts_in D) → At c v D' (filesets_through s.cause xs tree)
       → AllTaken (acts_in D') → Ends_so c v D' more last)
       → Ends_so c v D (decided v s.cause tree xs ++ more) last
   decides [] S0 tree last more D may at taken heard said good rest = rest D refl at taken
   decides (IsWanted x ∷ xs) S0 tree last more D may at taken heard said good rest =
       let q = wanted v S0 s x tree (acts_in D) may.0 taken heard in
-      one_more c v D (idle c v (Wants x)) (decided v s.cause tree xs ++ more) last
-      (quiet c v same.root D tree (Wants x) at
-      (unsent c v D (Wants x) (λ h e n b q. let r : Wants x ≡ Sent h e n b = q in cc))
-      (λ h e n b q. let r : Wants x ≡ Took h e n b = q in cc))
-      (decides xs S0 tree last more (idle c v (Wants x) ∷ D) may.1 (still c v D tree (Wants x) at) q.0 q.1
-      (on_said (acts_in D) (Wants x) (λ h e n b p. cc) said)
-      (plain script v (acts_in D) (Wants x) (λ h e n b q. cc) (λ h ts q. cc) good) rest)
+      one_more c v D (idle c v (MakesWant x)) (decided v s.cause tree xs ++ more) last
+      (quiet c v same.root D tree (MakesWant x) at
+      (unsent c v D (MakesWant x) (λ h e n b q. let r : MakesWant x ≡ Sent h e n b = q in cc))
+      (λ h e n b q. let r : MakesWant x ≡ Took h e n b = q in cc))
+      (decides xs S0 tree last more (idle c v (MakesWant x) ∷ D) may.1 (still c v D tree (MakesWant x) at) q.0 q.1
+      (on_said (acts_in D) (MakesWant x) (λ h e n b p. cc) said)
+      (plain script v (acts_in D) (MakesWant x) (λ h e n b q. cc) (λ h ts q. cc) good) rest)
   decides (IsDone x ∷ xs) S0 tree last more D may at taken heard said good rest =
       let q = written_down v S0 s x (acts_in D) taken heard in
-      let d : Deed = record { act = Writes x; does = at_home v (writes s.cause tree x) } in
+      let d : Deed = record { act = WritesDown x; does = at_home v (writes s.cause tree x) } in
       let sound = written_sound script start firsts past run v s tree (acts_in D) taken said x may.0 in
       let host = good_host (acts_in D) good in
-      one_more c v D d (decided v s.cause (kept_after s.cause tree (IsDone x)) xs ++ more) last
+      one_more c v D d (decided v s.cause (filesets_after s.cause tree (IsDone x)) xs ++ more) last
       (shows_change c v tree s.cause D x at may.0 host sound same.root)
-      (decides xs S0 (kept_after s.cause tree (IsDone x)) last more (d ∷ D) may.1
+      (decides xs S0 (filesets_after s.cause tree (IsDone x)) last more (d ∷ D) may.1
       (changed_at c v tree s.cause D x at may.0 host sound same.root) q.0 q.1
-      (on_said (acts_in D) (Writes x) (λ h e n b p. cc) said)
-      (plain script v (acts_in D) (Writes x) (λ h e n b q. cc) (λ h ts q. cc) good) rest)
-  decides (Ends x ∷ xs) S0 tree last more D may at taken heard said good rest = elim may.0 [ ]
+      (on_said (acts_in D) (WritesDown x) (λ h e n b p. cc) said)
+      (plain script v (acts_in D) (WritesDown x) (λ h e n b q. cc) (λ h ts q. cc) good) rest)
+  decides (Replied x ∷ xs) S0 tree last more D may at taken heard said good rest = elim may.0 [ ]
   decides (Stored h f ss n ∷ xs) S0 tree last more D may at taken heard said good rest = elim may.0 [ ]
   decides (IsDown h ∷ xs) S0 tree last more D may at taken heard said good rest = elim may.0 [ ]
 
   -- what a step is given
   module _ (tree : Tree) where
     abbrev caused : Tree
-    caused = kept_through s.cause (by_cause s.applied) tree
+    caused = filesets_through s.cause (by_cause s.applied) tree
 
     abbrev done : Tree
-    done = kept_through s.cause s.applied tree
+    done = filesets_through s.cause s.applied tree
 
-    record Given (S : List Act) : Type 0 where
+    record Given (S : List Doing) : Type 0 where
       works : ServerWorks v tree S s
       tokens : ServerStep v S s
       taken : AllTaken (after_cause s.cause S)
@@ -200,25 +195,25 @@ module _ (script : Script) (start : Tree) (firsts : ServerId → ℕ) (past : Li
       kept : IsKept caused
 
     module _ (D : List Deed) (at : At c v D tree) (g : Given (acts_in D)) where
-      abbrev S : List Act
+      abbrev S : List Doing
       S = acts_in D
 
-      abbrev tail : List Act
+      abbrev tail : List Doing
       tail = admitting s.admitted ++ (sending s.sent ++ (Reserves s.reserved ∷ []))
 
       abbrev rest : List Deed
       rest = decided v s.cause caused (decisions s.applied) ++ with_doing does_nothing tail
 
       -- what is sent, and kept by the exporter
-      sent_last : (D' : List Deed) → acts_in D' ≡ written_by s S → At c v D' done → AllTaken (acts_in D')
+      sent_last : (D' : List Deed) → acts_in D' ≡ after_deciding s S → At c v D' done → AllTaken (acts_in D')
           → Ends_so c v D' (with_doing does_nothing tail) done
       sent_last D' e at' taken =
           admits c same v s done s.admitted (sending s.sent ++ (Reserves s.reserved ∷ [])) D' at' taken
           (λ D'' f at'' taken''.
-          let all : acts_in D'' ≡ admitted_by s S = f ∙ ap (after (admitting s.admitted)) e in
+          let all : acts_in D'' ≡ after_admitting s S = f ∙ ap (appended (admitting s.admitted)) e in
           sents c same v s done s.sent (Reserves s.reserved ∷ []) D'' at'' taken''
-          (subst (Each (MaySend v done s) (sending s.sent)) (sym all) g.works.sends)
-          (subst (Each (ServerTokens v) (sending s.sent)) (sym all) g.tokens.sends)
+          (subst (EachInTurn (MaySend v done s) (sending s.sent)) (sym all) g.works.sends)
+          (subst (EachInTurn (ServerTokens v) (sending s.sent)) (sym all) g.tokens.sends)
           (λ E at.
           let a = Reserves s.reserved in
           one_more c v E (idle c v a) [] done
@@ -236,14 +231,14 @@ module _ (script : Script) (start : Tree) (firsts : ServerId → ℕ) (past : Li
           (subst (AllGood script v) (sym e) g.good)
           (λ D'' f at'' taken.
           sent_last D''
-          (f ∙ (ap (after (deciding (decisions s.applied))) e ∙ sym (same_decisions s.applied (after_cause s.cause S))))
+          (f ∙ (ap (appended (deciding (decisions s.applied))) e ∙ sym (same_decisions s.applied (after_cause s.cause S))))
           (subst (At c v D'') (sym (split s.cause s.applied tree)) at'') taken)
 
       -- where no message comes the cause applies nothing
-      abbrev firstly : List Applied → Act → Deed
+      abbrev firstly : List Applied → Doing → Deed
       firstly xs a = record { act = a; does = does_first s.cause tree xs }
 
-      without : (a : Act) → by_cause s.applied ≡ [] → ((h : HostId) (e n : ℕ) (b : Body) → a ≡ Sent h e n b → ⊥)
+      without : (a : Doing) → by_cause s.applied ≡ [] → ((h : HostId) (e n : ℕ) (b : Body) → a ≡ Sent h e n b → ⊥)
           → ((h : HostId) (e n : ℕ) (b : Body) → a ≡ Took h e n b → ⊥) → a ∷ S ≡ after_cause s.cause S
           → Ends_so c v D (firstly (by_cause s.applied) a ∷ rest) done
       without a none no_send no_take e =
@@ -251,11 +246,11 @@ module _ (script : Script) (start : Tree) (firsts : ServerId → ℕ) (past : Li
           (one_more c v D (firstly [] a) rest done
           (quiet c v same.root D tree a at (unsent c v D a no_send) no_take)
           (from_cause (firstly [] a ∷ D) e
-          (subst (λ xs. At c v (firstly [] a ∷ D) (kept_through s.cause xs tree)) (sym none) (still c v D tree a at))))
+          (subst (λ xs. At c v (firstly [] a ∷ D) (filesets_through s.cause xs tree)) (sym none) (still c v D tree a at))))
 
       bare : by_cause s.applied ≡ [] → S ≡ after_cause s.cause S → Ends_so c v D rest done
       bare none e =
-          from_cause D e (subst (λ xs. At c v D (kept_through s.cause xs tree)) (sym none) at)
+          from_cause D e (subst (λ xs. At c v D (filesets_through s.cause xs tree)) (sym none) at)
 
       causes : (x : Cause) → s.cause ≡ x → Ends_so c v D
           (with_doing (does_first s.cause tree (by_cause s.applied)) (doings_cause x S []) ++ rest) done
@@ -265,10 +260,10 @@ module _ (script : Script) (start : Tree) (firsts : ServerId → ℕ) (past : Li
           (from_cause (caused_deed c v D tree s same g.works.applies at m e ∷ D) (ap (λ x. after_cause x S) (sym e))
           (at_first c v D tree s same g.works.applies at m e g.kept))
       causes (Restart line) e =
-          without (Begins (suc (epoch S))) (no_message v S tree s g.works.applies (λ m q.
+          without (BeginsEpoch (suc (epoch S))) (no_message v S tree s g.works.applies (λ m q.
           let r : Restart line ≡ Came m = sym e ∙ q in cc))
-          (λ h d n b q. let r : Begins (suc (epoch S)) ≡ Sent h d n b = q in cc)
-          (λ h d n b q. let r : Begins (suc (epoch S)) ≡ Took h d n b = q in cc) (ap (λ x. after_cause x S) (sym e))
+          (λ h d n b q. let r : BeginsEpoch (suc (epoch S)) ≡ Sent h d n b = q in cc)
+          (λ h d n b q. let r : BeginsEpoch (suc (epoch S)) ≡ Took h d n b = q in cc) (ap (λ x. after_cause x S) (sym e))
       causes Flushed e =
           without Flushes (no_message v S tree s g.works.applies (λ m q. let r : Flushed ≡ Came m = sym e ∙ q in cc))
           (λ h d n b q. let r : Flushes ≡ Sent h d n b = q in cc)
@@ -294,17 +289,17 @@ in_both : (xs ys : List Deed) → acts_in (xs ++ ys) ≡ acts_in xs ++ acts_in y
 in_both [] ys = refl
 in_both (x ∷ xs) ys = ap (λ zs. x.act ∷ zs) (in_both xs ys)
 
-in_doing : (doing : Doing) (xs : List Act) → acts_in (with_doing doing xs) ≡ xs
+in_doing : (doing : Effect) (xs : List Doing) → acts_in (with_doing doing xs) ≡ xs
 in_doing doing [] = refl
 in_doing doing (x ∷ xs) = ap (λ zs. x ∷ zs) (in_doing doing xs)
 
 in_decided : (v : ServerId) (cause : Cause) (xs : List Applied) (tree : Tree)
     → acts_in (decided v cause tree xs) ≡ deciding xs
 in_decided v cause [] tree = refl
-in_decided v cause (IsWanted x ∷ xs) tree = ap (λ zs. Wants x ∷ zs) (in_decided v cause xs tree)
+in_decided v cause (IsWanted x ∷ xs) tree = ap (λ zs. MakesWant x ∷ zs) (in_decided v cause xs tree)
 in_decided v cause (IsDone x ∷ xs) tree =
-    ap (λ zs. Writes x ∷ zs) (in_decided v cause xs (kept_after cause tree (IsDone x)))
-in_decided v cause (Ends x ∷ xs) tree = in_decided v cause xs tree
+    ap (λ zs. WritesDown x ∷ zs) (in_decided v cause xs (filesets_after cause tree (IsDone x)))
+in_decided v cause (Replied x ∷ xs) tree = in_decided v cause xs tree
 in_decided v cause (Stored h f ss n ∷ xs) tree = in_decided v cause xs tree
 in_decided v cause (IsDown h ∷ xs) tree = in_decided v cause xs tree
 
@@ -312,11 +307,11 @@ only_decisions : (xs : List Applied) → deciding (decisions xs) ≡ deciding xs
 only_decisions [] = refl
 only_decisions (IsWanted x ∷ xs) = refl
 only_decisions (IsDone x ∷ xs) = refl
-only_decisions (Ends x ∷ xs) = only_decisions xs
+only_decisions (Replied x ∷ xs) = only_decisions xs
 only_decisions (Stored h f ss n ∷ xs) = only_decisions xs
 only_decisions (IsDown h ∷ xs) = only_decisions xs
 
-cause_first : (x : Cause) (S more : List Act) → doings_cause x S [] ++ more ≡ doings_cause x S more
+cause_first : (x : Cause) (S more : List Doing) → doings_cause x S [] ++ more ≡ doings_cause x S more
 cause_first (Came m) S more = refl
 cause_first (Restart line) S more = refl
 cause_first Flushed S more = refl
@@ -325,10 +320,10 @@ cause_first Lapse S more = refl
 cause_first Evict S more = refl
 cause_first End S more = refl
 
-acts_of : (v : ServerId) (tree : Tree) (S : List Act) (s : Step) → acts_in (deeds_of v tree S s) ≡ doings s S
+acts_of : (v : ServerId) (tree : Tree) (S : List Doing) (s : Step) → acts_in (deeds_of v tree S s) ≡ doings s S
 acts_of v tree S s =
     let tail = admitting s.admitted ++ (sending s.sent ++ (Reserves s.reserved ∷ [])) in
-    let caused = kept_through s.cause (by_cause s.applied) tree in
+    let caused = filesets_through s.cause (by_cause s.applied) tree in
     let first = with_doing (does_first s.cause tree (by_cause s.applied)) (doings_cause s.cause S []) in
     let middle = decided v s.cause caused (decisions s.applied) in
     in_both first (middle ++ with_doing does_nothing tail)
@@ -341,7 +336,7 @@ acts_of v tree S s =
     ∙ ap (λ zs. deciding s.applied ++ zs) (in_doing does_nothing tail)))
     ∙ cause_first s.cause S (deciding s.applied ++ tail)))
 
-acts_after_deeds : (deeds D : List Deed) → acts_in (after deeds D) ≡ after (acts_in deeds) (acts_in D)
+acts_after_deeds : (deeds D : List Deed) → acts_in (appended deeds D) ≡ appended (acts_in deeds) (acts_in D)
 acts_after_deeds [] D = refl
 acts_after_deeds (d ∷ deeds) D = acts_after_deeds deeds (d ∷ D)
 
@@ -349,19 +344,19 @@ acts_after_deeds (d ∷ deeds) D = acts_after_deeds deeds (d ∷ D)
 module _ (script : Script) (start : Tree) (firsts : ServerId → ℕ) (c : Contents) (of_run : IsOfRun start firsts c)
     (limit : length script.roster.hosts ≤ 16) where
   -- what a server has done, and keeps
-  pub record Stands (v : ServerId) (D : List Deed) (S : List Act) (L : List Step) : Type 0 where
+  pub record Stands (v : ServerId) (D : List Deed) (S : List Doing) (L : List Step) : Type 0 where
     pub doings_are : acts_in D ≡ S
-    pub at : At c v D (kept start v L)
+    pub at : At c v D (filesets_kept start v L)
 
   abbrev pub StandsNow : List Step → ServerId → Type 0
-  StandsNow past v = Stands v (served_deeds c (firsts v) v past) (acts (firsts v) v past) (served v past)
+  StandsNow past v = Stands v (served_deeds c (firsts v) v past) (doings_of (firsts v) v past) (steps_of_server v past)
 
   given : (past : List Step) (run : StepsMeet script start firsts past) (v : ServerId) (s : Step)
-      → StepMeets script start firsts (Server v) past s → IsKept (kept start v (served v past))
-      → Given script start firsts past run v s c of_run.hosts limit (kept start v (served v past))
-      (acts (firsts v) v past)
+      → StepMeets script start firsts (Server v) past s → IsKept (filesets_kept start v (steps_of_server v past))
+      → Given script start firsts past run v s c of_run.hosts limit (filesets_kept start v (steps_of_server v past))
+      (doings_of (firsts v) v past)
   given past run v s m keeps =
-      let S = acts (firsts v) v past in
+      let S = doings_of (firsts v) v past in
       record {
         works = m.0.works;
         tokens = m.0.tokens;
@@ -370,7 +365,7 @@ module _ (script : Script) (start : Tree) (firsts : ServerId → ℕ) (c : Conte
         said = λ h e n b i. cause_heard h e n b script start firsts past run v s m.1
             (heard h e n b script start firsts past run v) i;
         good = causes_good script v s.cause S (all_good script start firsts past run v);
-        kept = cause_kept script start firsts past run v s m s.applied (kept start v (served v past))
+        kept = cause_kept script start firsts past run v s m s.applied (filesets_kept start v (steps_of_server v past))
             (sizes script start firsts past run v s m) keeps;
       }
 
@@ -382,14 +377,14 @@ module _ (script : Script) (start : Tree) (firsts : ServerId → ℕ) (c : Conte
     D = served_deeds c (firsts v) v past
 
     abbrev tree : Tree
-    tree = kept start v (served v past)
+    tree = filesets_kept start v (steps_of_server v past)
 
     same_deeds : c.deeds past s ≡ deeds_of v tree (acts_in D) s
     same_deeds = deeds_are ∙ ap (λ S. deeds_of v tree S s) (sym k.doings_are)
 
-    ends : Ends_so c v D (c.deeds past s) (kept start v (s ∷ served v past))
+    ends : Ends_so c v D (c.deeds past s) (filesets_kept start v (s ∷ steps_of_server v past))
     ends =
-        subst (λ deeds. Ends_so c v D deeds (kept_through s.cause s.applied tree)) (sym same_deeds)
+        subst (λ deeds. Ends_so c v D deeds (filesets_through s.cause s.applied tree)) (sym same_deeds)
         (step_shows script start firsts past run v s c of_run.hosts limit tree D k.at
         (subst (Given script start firsts past run v s c of_run.hosts limit tree) (sym k.doings_are)
         (given past run v s m k.at.keeps)))
@@ -397,10 +392,10 @@ module _ (script : Script) (start : Tree) (firsts : ServerId → ℕ) (c : Conte
     acts_are : acts_in (c.deeds past s) ≡ doings s (acts_in D)
     acts_are = ap acts_in same_deeds ∙ acts_of v tree (acts_in D) s
 
-    next_stands : Stands v (after (c.deeds past s) D) (after_step s (acts (firsts v) v past)) (s ∷ served v past)
+    next_stands : Stands v (appended (c.deeds past s) D) (after_step s (doings_of (firsts v) v past)) (s ∷ steps_of_server v past)
     next_stands = record {
       doings_are = acts_after_deeds (c.deeds past s) D
-          ∙ (ap (λ doing. after doing (acts_in D)) acts_are ∙ (after_doings s (acts_in D) ∙ ap (after_step s) k.doings_are));
+          ∙ (ap (λ doing. appended doing (acts_in D)) acts_are ∙ (after_doings s (acts_in D) ∙ ap (after_step s) k.doings_are));
       at = ends.last;
     }
 
@@ -415,18 +410,18 @@ module _ (script : Script) (start : Tree) (firsts : ServerId → ℕ) (c : Conte
       → StepsMeet script start firsts past → StepMeets script start firsts n past s
       → ((v : ServerId) → StandsNow past v) → (v : ServerId)
       → Stands v (served_after c v n s past (served_deeds c (firsts v) v past))
-      (acts_after v n s (acts (firsts v) v past)) (if is_node n (Server v) then s ∷ served v past else served v past)
+      (acts_after v n s (doings_of (firsts v) v past)) (if is_node n (Server v) then s ∷ steps_of_server v past else steps_of_server v past)
   next (Host h) past s deeds run m all v = all v
   next (Server k) past s deeds run m all v = go (k.0 == v.0) refl
     where
       go : (b : Bool) → (k.0 == v.0) ≡ b
-          → Stands v (if b then after (c.deeds past s) (served_deeds c (firsts v) v past)
+          → Stands v (if b then appended (c.deeds past s) (served_deeds c (firsts v) v past)
           else served_deeds c (firsts v) v past)
-          (if b then after_step s (acts (firsts v) v past) else acts (firsts v) v past)
-          (if b then s ∷ served v past else served v past)
+          (if b then after_step s (doings_of (firsts v) v past) else doings_of (firsts v) v past)
+          (if b then s ∷ steps_of_server v past else steps_of_server v past)
       go true e =
-          subst (λ (w : ServerId). Stands w (after (c.deeds past s) (served_deeds c (firsts w) w past))
-          (after_step s (acts (firsts w) w past)) (s ∷ served w past)) (server_is k v e)
+          subst (λ (w : ServerId). Stands w (appended (c.deeds past s) (served_deeds c (firsts w) w past))
+          (after_step s (doings_of (firsts w) w past)) (s ∷ steps_of_server w past)) (server_is k v e)
           (next_stands past run k s m deeds (all k))
       go false e = all v
 

@@ -10,21 +10,19 @@ use Rattle.script_lines.specs.declared.script.Script.{Script}
 use Rattle.token_types.specs.declared.token.Kind.TheVariants.{Bytes, Status}
 use Rattle.token_types.specs.declared.token.Token.{Token}
 use Rattle.tree_laws.specs.Parts.Part.{ByteAt, Size}
-use Rattle.run_rules.specs.Dirty.{HasLength, IsLastLength, LengthIsClean, LengthIsDirty, TakesStatus, is_dirty}
-use Rattle.run_rules.specs.HostGives.{DirtyLength, OwnsUpdate as OwnsByte}
-use Rattle.run_rules.specs.HostRules.{HostMay}
-use Rattle.run_rules.specs.Views.{sees as host_sees}
-use Rattle.run_rules.specs.Told.{byte_of}
+use Rattle.run_rules.specs.HostMay.{HostMay}
+use Rattle.run_rules.specs.HostTokens.{DirtyLength, OwnsUpdate as OwnsByte}
+use Rattle.run_rules.specs.Messages.{HasStopped, Stops}
+use Rattle.run_rules.specs.Past.{In}
+use Rattle.run_rules.specs.Tokens.{AtHand, Held, Made, Owns}
+use Rattle.run_rules.specs.Views.{HasLength, IsLastLength, LengthIsClean, LengthIsDirty, TakesStatus, byte_of}
+use Rattle.run_rules.specs.Views.{is_dirty, sees as host_sees}
 use Rattle.run_parts.specs.Contents.{Clean, Contents, GivesShow, MadeSince, OverUpdate, OwnsUpdate, SendsBack}
 use Rattle.run_parts.specs.Contents.{TakesUpdate, dirty, sees}
 use Rattle.run_contents.proofs.Views.{view_same, sees_same, dirty_same}
 use Rattle.run_contents.proofs.Words.{given, gave, update_byte, update_size, byte_covers, byte_update, size_covers}
 use Rattle.run_contents.proofs.Words.{size_update}
 use Rattle.run_contents.specs.Steps.{HostRun, IsOfJournal}
-use Rattle.run_rules.specs.Gives.{Made}
-use Rattle.run_rules.specs.Lists.{In}
-use Rattle.run_rules.specs.Sends.{HasStopped, Stops}
-use Rattle.run_rules.specs.Tokens.{AtHand, Held, Owns}
 use Rattle.run_rules.specs.declared.step.Step.{Step}
 
 -- a host that hasn't stopped holds what it owns, and owns what it holds

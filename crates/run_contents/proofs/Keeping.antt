@@ -49,7 +49,21 @@ use Rattle.message_types.specs.declared.message.Message.{Message}
 use Rattle.script_lines.specs.declared.script.Script.{Script}
 use Rattle.token_types.specs.declared.token.Need.{Need}
 use Rattle.tree_laws.specs.Parts.{Cell, Seen, cell_at}
+use Rattle.run_rules.specs.Doings.{Doing, TookNow, after_cause, doings_of}
+use Rattle.run_rules.specs.Doings.Doing.{MakesWant, Took, WritesDown}
+use Rattle.run_rules.specs.Kept.{filesets_after, filesets_first, filesets_kept, filesets_through, is_refusal}
+use Rattle.run_rules.specs.Kept.{pieces_in, takes_gifts, tree_given}
+use Rattle.run_rules.specs.Messages.{Said}
+use Rattle.run_rules.specs.Past.{In}
 use Rattle.run_rules.specs.Runs.{StepMeets, StepsMeet, firsts_of, past_of}
+use Rattle.run_rules.specs.ServerDecides.{DecidedSo, FirstDown, FirstGiven, IsWrittenSo, MayDecideAll, by_cause}
+use Rattle.run_rules.specs.ServerDecides.{decisions, ended_by, is_decision, span_of, stored_of}
+use Rattle.run_rules.specs.ServerDecides.DecidedSo.{IsRefusedByTable, MeetsPinned, TakesEffect}
+use Rattle.run_rules.specs.Steps.{is_node, steps_of_host, steps_of_server}
+use Rattle.run_rules.specs.Wants.{IsQueued, body_of, has_effect, is_use, moves_fileset}
+use Rattle.run_rules.specs.declared.applied.Applied.TheVariants.{Done as IsDone, IsDown, Replied, Stored}
+use Rattle.run_rules.specs.declared.applied.Applied.TheVariants.{Wants as IsWanted}
+use Rattle.run_rules.specs.declared.applied.Request.TheVariants.{Change as Changes}
 use Rattle.run_contents.proofs.Grants.{AllTaken, Heard, all_taken, causes, taken_took, wanted, written_down}
 use Rattle.run_contents.proofs.KeptGives.{both, gives_keep}
 use Rattle.run_contents.proofs.Servers.{cause_heard, heard, took_in}
@@ -57,25 +71,9 @@ use Rattle.run_contents.proofs.Sound.{change_sound, said_sound}
 use Rattle.run_contents.proofs.Starts.{starts_kept}
 use Rattle.run_contents.specs.Gives.{IsKept}
 use Rattle.run_contents.specs.Keeping.{ServersKeepWell}
-use Rattle.run_rules.specs.Kept.{pieces_in, is_refusal, kept, kept_after, kept_first, kept_through, takes_gifts}
-use Rattle.run_rules.specs.Kept.{tree_given}
-use Rattle.run_rules.specs.ServerApplies.{FirstDown, FirstGiven, by_cause, decisions, ended_by, is_decision}
-use Rattle.run_rules.specs.ServerApplies.{span_of, stored_of}
-use Rattle.run_rules.specs.ServerDecides.{DecidedSo, IsWrittenSo, MayDecideAll}
-use Rattle.run_rules.specs.ServerDecides.DecidedSo.{HasEffect, IsRefused, MeetsPinned}
-use Rattle.run_rules.specs.Wants.{Waits, body_of, has_effect, is_move, is_use}
 use Rattle.run_tokens.proofs.Words.{if_server}
-use Rattle.run_rules.specs.Acts.{Act, acts, after_cause}
-use Rattle.run_rules.specs.Acts.Act.{Took, Wants, Writes}
-use Rattle.run_rules.specs.Hosts.{TookNow}
-use Rattle.run_rules.specs.Lists.{In}
-use Rattle.run_rules.specs.Nodes.{is_node, own, served}
-use Rattle.run_rules.specs.Sends.{Said}
 use Rattle.run_rules.specs.declared.applied.Answer.{Answer as AnswerOf}
 use Rattle.run_rules.specs.declared.applied.Applied.{Applied}
-use Rattle.run_rules.specs.declared.applied.Applied.TheVariants.{Stored, Ends, IsDown, Wants as IsWanted}
-use Rattle.run_rules.specs.declared.applied.Applied.TheVariants.{Done as IsDone}
-use Rattle.run_rules.specs.declared.applied.Request.TheVariants.{Change as Changes}
 use Rattle.run_rules.specs.declared.applied.Wanted.{Wanted}
 use Rattle.run_rules.specs.declared.applied.Written.{Written}
 use Rattle.run_rules.specs.declared.step.Cause.{Cause}
@@ -166,7 +164,7 @@ refused_is reply refusal e f = false≢true (sym f ∙ ap is_refusal e)
 has_effect_enters : (c : ChangeOf) → has_effect c ≡ true → c.enter ≡ false
 has_effect_enters c e = go c.enter refl e
   where
-    go : (b : Bool) → c.enter ≡ b → (not b && not (is_use c.call) && not (is_move c.call)) ≡ true → c.enter ≡ false
+    go : (b : Bool) → c.enter ≡ b → (not b && not (is_use c.call) && not (moves_fileset c.call)) ≡ true → c.enter ≡ false
     go true q e = absurd (false≢true e)
     go false q e = q
 
@@ -176,19 +174,19 @@ same_change c d e = cc
 -- the decisions of a step
 module _ (script : Script) (start : Tree) (firsts : ServerId → ℕ) (past : List Step)
     (run : StepsMeet script start firsts past) (v : ServerId) (s : Step) where
-  abbrev before : List Act
-  before = acts (firsts v) v past
+  abbrev before : List Doing
+  before = doings_of (firsts v) v past
 
-  abbrev AllSaid : List Act → Type 0
-  AllSaid S = (h : HostId) (e n : ℕ) (b : Body) → In (Took h e n b) S → Said (own h past) v e n b
+  abbrev AllSaid : List Doing → Type 0
+  AllSaid S = (h : HostId) (e n : ℕ) (b : Body) → In (Took h e n b) S → Said (steps_of_host h past) v e n b
 
-  on_said : (S : List Act) (a : Act) → ((h : HostId) (e n : ℕ) (b : Body) → Took h e n b ≡ a → ⊥) → AllSaid S
+  on_said : (S : List Doing) (a : Doing) → ((h : HostId) (e n : ℕ) (b : Body) → Took h e n b ≡ a → ⊥) → AllSaid S
       → AllSaid (a ∷ S)
   on_said S a never old h e n b (inl q) = absurd (never h e n b q)
   on_said S a never old h e n b (inr i) = old h e n b i
 
   -- a Change that waits is sound
-  pub waits_sound : (S : List Act) → AllTaken S → AllSaid S → (w : Wanted) (c : ChangeOf) → Waits S w
+  pub waits_sound : (S : List Doing) → AllTaken S → AllSaid S → (w : Wanted) (c : ChangeOf) → IsQueued S w
       → w.request ≡ Changes c → (keeps_limit c.call ≡ true) × (c.enter ≡ false → is_change c.call ≡ true)
   waits_sound S taken said w c waits is =
       let took : TookNow S w.host w.moves (Change c) =
@@ -198,7 +196,7 @@ module _ (script : Script) (start : Tree) (firsts : ServerId → ℕ) (past : Li
       (said w.host i.0 w.moves (Change c) i.1))
 
   -- so is one that is written down and not refused
-  pub written_sound : (tree : Tree) (S : List Act) → AllTaken S → AllSaid S → (x : Written) → IsWrittenSo v tree S x
+  pub written_sound : (tree : Tree) (S : List Doing) → AllTaken S → AllSaid S → (x : Written) → IsWrittenSo v tree S x
       → is_refusal x.answer.reply ≡ false → (keeps_limit x.answer.call ≡ true) × (is_change x.answer.call ≡ true)
   written_sound tree S taken said x so e = accepted so.so
     where
@@ -207,27 +205,27 @@ module _ (script : Script) (start : Tree) (firsts : ServerId → ℕ) (past : Li
 
       accepted : DecidedSo v tree S so.w so.change x.answer.reply
           → (keeps_limit x.answer.call ≡ true) × (is_change x.answer.call ≡ true)
-      accepted (IsRefused refusal on is) = absurd (refused_is x.answer.reply refusal is e)
+      accepted (IsRefusedByTable refusal on is) = absurd (refused_is x.answer.reply refusal is e)
       accepted (MeetsPinned not row can is) = absurd (refused_is x.answer.reply _ is e)
-      accepted (HasEffect effect row can is) =
+      accepted (TakesEffect effect row can is) =
           subst (λ (call : Call). (keeps_limit call ≡ true) × (is_change call ≡ true)) (sym so.call)
           (sound.0, sound.1 (has_effect_enters so.change effect))
 
-  written_kept : (tree : Tree) (S : List Act) → IsKept tree → AllTaken S → AllSaid S → (x : Written)
-      → IsWrittenSo v tree S x → IsKept (kept_after s.cause tree (IsDone x))
+  written_kept : (tree : Tree) (S : List Doing) → IsKept tree → AllTaken S → AllSaid S → (x : Written)
+      → IsWrittenSo v tree S x → IsKept (filesets_after s.cause tree (IsDone x))
   written_kept tree S k taken said x so = after_reply tree x.answer k (written_sound tree S taken said x so)
 
-  decided_kept : (xs : List Applied) (tree : Tree) (S : List Act) → MayDecideAll v tree before S s xs → IsKept tree
-      → AllTaken S → Heard v before s S → AllSaid S → IsKept (kept_through s.cause xs tree)
+  decided_kept : (xs : List Applied) (tree : Tree) (S : List Doing) → MayDecideAll v tree before S s xs → IsKept tree
+      → AllTaken S → Heard v before s S → AllSaid S → IsKept (filesets_through s.cause xs tree)
   decided_kept [] tree S may k taken heard said = k
   decided_kept (IsWanted x ∷ xs) tree S may k taken heard said =
       let q = wanted v before s x tree S may.0 taken heard in
-      decided_kept xs tree (Wants x ∷ S) may.1 k q.0 q.1 (on_said S (Wants x) (λ h e n b p. cc) said)
+      decided_kept xs tree (MakesWant x ∷ S) may.1 k q.0 q.1 (on_said S (MakesWant x) (λ h e n b p. cc) said)
   decided_kept (IsDone x ∷ xs) tree S may k taken heard said =
       let q = written_down v before s x S taken heard in
-      decided_kept xs (kept_after s.cause tree (IsDone x)) (Writes x ∷ S) may.1
-      (written_kept tree S k taken said x may.0) q.0 q.1 (on_said S (Writes x) (λ h e n b p. cc) said)
-  decided_kept (Ends x ∷ xs) tree S may k taken heard said = elim may.0 [ ]
+      decided_kept xs (filesets_after s.cause tree (IsDone x)) (WritesDown x ∷ S) may.1
+      (written_kept tree S k taken said x may.0) q.0 q.1 (on_said S (WritesDown x) (λ h e n b p. cc) said)
+  decided_kept (Replied x ∷ xs) tree S may k taken heard said = elim may.0 [ ]
   decided_kept (Stored h f ss n ∷ xs) tree S may k taken heard said = elim may.0 [ ]
   decided_kept (IsDown h ∷ xs) tree S may k taken heard said = elim may.0 [ ]
 
@@ -239,7 +237,7 @@ stored_some tree h g host f spans n i =
   where
     ends : (o : Option EndsOf) → In (Stored host f spans n)
         (option_map_or
-        (λ ends. Ends (record { host = h; k = ends.k; call = ends.call; reply = Fine; first = false }) ∷ []) o [])
+        (λ ends. Replied (record { host = h; k = ends.k; call = ends.call; reply = Fine; first = false }) ∷ []) o [])
         → ⊥
     ends None i = elim i [ ]
     ends (Some e) (inl q) = cc
@@ -252,24 +250,24 @@ stored_some tree h g host f spans n i =
     by false i = absurd (ends g.ends i)
 
 -- what a step applies is what its cause applies, and then what it decides
-pub split : (cause : Cause) (xs : List Applied) (tree : Tree) → kept_through cause xs tree
-    ≡ kept_through cause (decisions xs) (kept_through cause (by_cause xs) tree)
+pub split : (cause : Cause) (xs : List Applied) (tree : Tree) → filesets_through cause xs tree
+    ≡ filesets_through cause (decisions xs) (filesets_through cause (by_cause xs) tree)
 split cause [] tree = refl
-split cause (x ∷ xs) tree = go (split cause xs (kept_after cause tree x)) (is_decision x)
+split cause (x ∷ xs) tree = go (split cause xs (filesets_after cause tree x)) (is_decision x)
   where
-    go : kept_through cause xs (kept_after cause tree x)
-        ≡ kept_through cause (decisions xs) (kept_through cause (by_cause xs) (kept_after cause tree x))
-        → (b : Bool) → kept_through cause (x ∷ xs) tree
-        ≡ kept_through cause (if b then x ∷ xs else decisions xs)
-        (kept_through cause (if b then [] else x ∷ by_cause xs) tree)
+    go : filesets_through cause xs (filesets_after cause tree x)
+        ≡ filesets_through cause (decisions xs) (filesets_through cause (by_cause xs) (filesets_after cause tree x))
+        → (b : Bool) → filesets_through cause (x ∷ xs) tree
+        ≡ filesets_through cause (if b then x ∷ xs else decisions xs)
+        (filesets_through cause (if b then [] else x ∷ by_cause xs) tree)
     go rest true = refl
     go rest false = rest
 
 module _ (script : Script) (start : Tree) (firsts : ServerId → ℕ) (past : List Step)
     (run : StepsMeet script start firsts past) (v : ServerId) (s : Step)
     (m : StepMeets script start firsts (Server v) past s) where
-  abbrev earlier : List Act
-  earlier = acts (firsts v) v past
+  abbrev earlier : List Doing
+  earlier = doings_of (firsts v) v past
 
   give_sound : (g : Give) (x : Message) → s.cause ≡ Came x → x.body ≡ GiveBack g
       → IfSome g.length (λ n. n ≤ FILE_BYTES_MAX)
@@ -291,7 +289,7 @@ module _ (script : Script) (start : Tree) (firsts : ServerId → ℕ) (past : Li
           given_no h g first =
               let t = first.0.1.0 in
               let same : Some n ≡ g.length =
-              stored_some (kept start v (served v past)) h g host f spans (Some n)
+              stored_some (filesets_kept start v (steps_of_server v past)) h g host f spans (Some n)
               (subst (In (Stored host f spans (Some n))) (m.0.works.applies.given h g first) i) in
               over (subst (λ (o : Option ℕ). IfSome o (λ n. n ≤ FILE_BYTES_MAX)) (sym same)
               (give_sound g t.0 t.1 t.5))
@@ -312,7 +310,7 @@ module _ (script : Script) (start : Tree) (firsts : ServerId → ℕ) (past : Li
 
   pub cause_kept : (xs : List Applied) (tree : Tree)
       → ((host : HostId) (f : Fid) (spans : List Span) (n : ℕ) → In (Stored host f spans (Some n)) (by_cause xs)
-      → n ≤ FILE_BYTES_MAX) → IsKept tree → IsKept (kept_through s.cause (by_cause xs) tree)
+      → n ≤ FILE_BYTES_MAX) → IsKept tree → IsKept (filesets_through s.cause (by_cause xs) tree)
   cause_kept [] tree most k = k
   cause_kept (Stored h f ss n ∷ xs) tree most k =
       cause_kept xs (tree_given tree f (pieces_in s.cause) n) (λ host g spans l i. most host g spans l (inr i))
@@ -321,34 +319,34 @@ module _ (script : Script) (start : Tree) (firsts : ServerId → ℕ) (past : Li
       some : (o : Option ℕ) → ((l : ℕ) → o ≡ Some l → l ≤ FILE_BYTES_MAX) → IfSome o (λ n. n ≤ FILE_BYTES_MAX)
       some None all = tt
       some (Some l) all = all l refl
-  cause_kept (Ends x ∷ xs) tree most k = cause_kept xs tree (λ host g spans l i. most host g spans l (inr i)) k
+  cause_kept (Replied x ∷ xs) tree most k = cause_kept xs tree (λ host g spans l i. most host g spans l (inr i)) k
   cause_kept (IsDown h ∷ xs) tree most k = cause_kept xs tree (λ host g spans l i. most host g spans l (inr i)) k
   cause_kept (IsWanted x ∷ xs) tree most k = k
   cause_kept (IsDone x ∷ xs) tree most k = k
 
-  step_kept : IsKept (kept start v (served v past)) → IsKept (kept start v (s ∷ served v past))
+  step_kept : IsKept (filesets_kept start v (steps_of_server v past)) → IsKept (filesets_kept start v (s ∷ steps_of_server v past))
   step_kept k =
-      subst IsKept (sym (split s.cause s.applied (kept start v (served v past))))
+      subst IsKept (sym (split s.cause s.applied (filesets_kept start v (steps_of_server v past))))
       (decided_kept script start firsts past run v s (decisions s.applied)
-      (kept_through s.cause (by_cause s.applied) (kept start v (served v past))) (after_cause s.cause earlier)
-      m.0.works.decides (cause_kept s.applied (kept start v (served v past)) sizes k)
+      (filesets_through s.cause (by_cause s.applied) (filesets_kept start v (steps_of_server v past))) (after_cause s.cause earlier)
+      m.0.works.decides (cause_kept s.applied (filesets_kept start v (steps_of_server v past)) sizes k)
       (causes s.cause earlier (all_taken script start firsts past run v)) (taken_took earlier s)
       (λ h e n b i. cause_heard h e n b script start firsts past run v s m.1
       (heard h e n b script start firsts past run v) i))
 
-module _ (script : Script) (start : Tree) (firsts : ServerId → ℕ) (first : (v : ServerId) → IsKept (kept_first start v))
+module _ (script : Script) (start : Tree) (firsts : ServerId → ℕ) (first : (v : ServerId) → IsKept (filesets_first start v))
   where
     at_node : (n : Node) (past : List Step) (s : Step) → StepsMeet script start firsts past
-        → StepMeets script start firsts n past s → (v : ServerId) → IsKept (kept start v (served v past))
-        → IsKept (kept start v (if is_node n (Server v) then s ∷ served v past else served v past))
+        → StepMeets script start firsts n past s → (v : ServerId) → IsKept (filesets_kept start v (steps_of_server v past))
+        → IsKept (filesets_kept start v (if is_node n (Server v) then s ∷ steps_of_server v past else steps_of_server v past))
     at_node (Host k) past s run m v old = old
     at_node (Server k) past s run m v old =
-        if_server (λ L. IsKept (kept start v L)) k v (s ∷ served v past) (served v past)
-        (λ e. subst (λ w. IsKept (kept start w (served w past)) → IsKept (kept start w (s ∷ served w past))) e
+        if_server (λ L. IsKept (filesets_kept start v L)) k v (s ∷ steps_of_server v past) (steps_of_server v past)
+        (λ e. subst (λ w. IsKept (filesets_kept start w (steps_of_server w past)) → IsKept (filesets_kept start w (s ∷ steps_of_server w past))) e
         (step_kept script start firsts past run k s m) old) old
 
     pub all_kept : (past : List Step) → StepsMeet script start firsts past → (v : ServerId)
-        → IsKept (kept start v (served v past))
+        → IsKept (filesets_kept start v (steps_of_server v past))
     all_kept [] run v = first v
     all_kept (s ∷ past) run v = at_node s.node past s run.0 run.1.0 v (all_kept past run.0 v)
 

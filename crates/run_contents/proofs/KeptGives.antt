@@ -44,9 +44,9 @@ use Rattle.tree_laws.proofs.Steps.{number_is, same_number}
 use Rattle.tree_laws.specs.Fates.{names_use}
 use Rattle.tree_laws.specs.Parts.{Part, cell_found, cell_in, cell_of, object_in}
 use Rattle.tree_laws.specs.Parts.Part.{ByteAt, Entries, Size, Traits}
-use Rattle.run_rules.specs.Told.{byte_of}
-use Rattle.run_contents.specs.Gives.{GivesKeep, IsKept, part_given, view_given}
 use Rattle.run_rules.specs.Kept.{bytes_given, content_given, length_given, takes_gifts, tree_given}
+use Rattle.run_rules.specs.Views.{byte_of}
+use Rattle.run_contents.specs.Gives.{GivesKeep, IsKept, part_given, view_given}
 
 -- bytes after pieces were given
 no_less : (at : ℕ) → nat_lt at 0 ≡ false

@@ -43,11 +43,10 @@ use Rattle.tree_laws.specs.Parts.{Nature, Part}
 use Rattle.tree_laws.specs.Parts.Part.{ByteAt, Entries, Size, Traits}
 use Rattle.run_rules.specs.HostAsks.{FetchNeeds, FileNeeds, IsNewFetch}
 use Rattle.run_rules.specs.HostAsks.FetchNeeds.{OfDirectory, OfFile, OfUnknown}
-use Rattle.run_rules.specs.Knowing.{Stance, needs_in}
-use Rattle.run_rules.specs.Labels.{end_call, end_of}
-use Rattle.run_rules.specs.Views.{sees as host_sees}
+use Rattle.run_rules.specs.Past.{In}
+use Rattle.run_rules.specs.Tokens.{end_call, end_of}
+use Rattle.run_rules.specs.Views.{Stance, needs_in, sees as host_sees}
 use Rattle.run_contents.proofs.WriteLooks.{file_checks, search_ends, target_ends}
-use Rattle.run_rules.specs.Lists.{In}
 use Rattle.run_rules.specs.declared.step.Labelled.{Labelled}
 use Rattle.run_rules.specs.declared.step.Step.{Step}
 

@@ -38,19 +38,19 @@ use Rattle.token_types.specs.declared.token.Token.{Token}
 use Rattle.tree_laws.specs.Parts.{Part}
 use Rattle.tree_laws.specs.Parts.Part.{ByteAt, Entries, Size, Traits}
 use Rattle.run_contents.proofs.Words.{one_needed}
+use Rattle.run_rules.specs.Doings.{Doing, SentTo, after_admitting, doings_of, epoch, sending}
+use Rattle.run_rules.specs.Doings.Doing.{Sent}
+use Rattle.run_rules.specs.Kept.{filesets_kept, filesets_through}
+use Rattle.run_rules.specs.Past.{EachInTurn, In}
 use Rattle.run_rules.specs.Runs.{IsRun, StepMeets, StepsMeet, firsts_of, past_of}
+use Rattle.run_rules.specs.ServerMay.{AnsweredSo, DoneFor, MaySend}
+use Rattle.run_rules.specs.ServerMay.AnsweredSo.{IsEntered, NamesOther, TakesToken}
+use Rattle.run_rules.specs.ServerMay.DoneFor.{Answered, OfWritten, Repeated, TakenBack}
+use Rattle.run_rules.specs.ServerTokens.{ServerTokens}
+use Rattle.run_rules.specs.Steps.{steps_of_server}
+use Rattle.run_rules.specs.Wants.{is_use, row_needs}
 use Rattle.run_rules.specs.declared.journal.Journal.{Journal}
 use Rattle.run_contents.specs.Laws.{DonesAreBlind, DonesShowNothing, EachSent, SentAtNode}
-use Rattle.run_rules.specs.Kept.{kept, kept_through}
-use Rattle.run_rules.specs.ServerSends.{DoneFor, MaySend, SettledSo}
-use Rattle.run_rules.specs.ServerSends.DoneFor.{OfWritten, Repeated, Settled, TakenBack}
-use Rattle.run_rules.specs.ServerSends.SettledSo.{IsEntered, NamesOther, TakesToken}
-use Rattle.run_rules.specs.Wants.{is_use, row_needs}
-use Rattle.run_rules.specs.Acts.{sending, Act, SentTo, acts, admitted_by, epoch}
-use Rattle.run_rules.specs.Acts.Act.{Sent}
-use Rattle.run_rules.specs.Lists.{Each, In}
-use Rattle.run_rules.specs.Nodes.{served}
-use Rattle.run_rules.specs.ServerTokens.{ServerTokens}
 use Rattle.run_rules.specs.declared.step.Step.{Step}
 
 -- needs that show no part
@@ -121,27 +121,27 @@ no_tokens : (t : Token) (tokens : List Token) → tokens ≡ [] → In t tokens 
 no_tokens t tokens e i = elim (subst (In t) e i) [ ]
 
 module _ (v : ServerId) (tree : Tree) (s : Step) where
-  done_blind : (S : List Act) (h : HostId) (n : ℕ) (d : DoneOf) → DoneFor v tree S h n d → (t : Token) (p : Part)
+  done_blind : (S : List Doing) (h : HostId) (n : ℕ) (d : DoneOf) → DoneFor v tree S h n d → (t : Token) (p : Part)
       → In t d.bring.tokens → shows t.kind p ≡ true → SentTo S h (epoch S) n (Done d)
   done_blind S h n d (OfWritten written none last) t p i cov = absurd (no_tokens t d.bring.tokens none i)
   done_blind S h n d (Repeated sent last) t p i cov = sent
   done_blind S h n d (TakenBack was last outcome none) t p i cov = absurd (no_tokens t d.bring.tokens none i)
-  done_blind S h n d (Settled k) t p i cov = absurd (by k.so)
+  done_blind S h n d (Answered k) t p i cov = absurd (by k.so)
     where
-      by : SettledSo v tree S k.w k.change d → ⊥
+      by : AnsweredSo v tree S k.w k.change d → ⊥
       by (TakesToken uses accepted row can outcome needs) =
           let asked = one_needed k.w.needs d.bring.tokens needs t i in
           row_blind tree k.w.host k.change uses (need_of t) p (subst (In (need_of t)) row.0 asked) cov
       by (NamesOther uses accepted other ready outcome none) = no_tokens t d.bring.tokens none i
       by (IsEntered fileset place enters named known outcome none) = no_tokens t d.bring.tokens none i
 
-  pub one_sent : (S : List Act) (a : Act) → MaySend v tree s S a → ServerTokens v S a → DonesAreBlind S a
+  pub one_sent : (S : List Doing) (a : Doing) → MaySend v tree s S a → ServerTokens v S a → DonesAreBlind S a
   one_sent S a sends tokens h e n p d t is i cov =
       subst (λ j. SentTo S h j n (Done d)) (sym (tokens.epochs h e n (Done d) is))
       (done_blind S h n d (sends.dones h e n d is).2 t p i cov)
 
-  pub each_sent : (ms : List Message) (S : List Act) → Each (MaySend v tree s) (sending ms) S
-      → Each (ServerTokens v) (sending ms) S
+  pub each_sent : (ms : List Message) (S : List Doing) → EachInTurn (MaySend v tree s) (sending ms) S
+      → EachInTurn (ServerTokens v) (sending ms) S
       → EachSent DonesAreBlind ms S
   each_sent [] S sends tokens = tt
   each_sent (m ∷ ms) S sends tokens = (
@@ -154,8 +154,8 @@ module _ (script : Script) (start : Tree) (firsts : ServerId → ℕ) where
       → SentAtNode firsts n past s
   at_node (Host host) past s m = tt
   at_node (Server v) past s m =
-      each_sent v (kept_through s.cause s.applied (kept start v (served v past))) s s.sent
-      (admitted_by s (acts (firsts v) v past)) m.0.works.sends m.0.tokens.sends
+      each_sent v (filesets_through s.cause s.applied (filesets_kept start v (steps_of_server v past))) s s.sent
+      (after_admitting s (doings_of (firsts v) v past)) m.0.works.sends m.0.tokens.sends
 
   pub show_nothing : (past : List Step) → StepsMeet script start firsts past → DonesShowNothing firsts past
   show_nothing [] run = tt

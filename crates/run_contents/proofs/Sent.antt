@@ -30,7 +30,16 @@ use Rattle.token_types.specs.declared.token.Need.{Need}
 use Rattle.token_types.specs.declared.token.Token.{Token}
 use Rattle.tree_laws.specs.Parts.{Nature, Part, cell_at}
 use Rattle.tree_laws.specs.Parts.Part.{Traits}
-use Rattle.run_rules.specs.Told.{told}
+use Rattle.run_rules.specs.Doings.{BringsTokens, Doing, Granted, Issued, SentTo, TookNow, epoch}
+use Rattle.run_rules.specs.Doings.Doing.{Sent, Took}
+use Rattle.run_rules.specs.Messages.{home}
+use Rattle.run_rules.specs.Past.{In}
+use Rattle.run_rules.specs.ServerMay.{AnsweredSo, DoneFor, GrantsSo, MaySend}
+use Rattle.run_rules.specs.ServerMay.AnsweredSo.{IsEntered, NamesOther, TakesToken}
+use Rattle.run_rules.specs.ServerMay.DoneFor.{Answered, OfWritten, Repeated, TakenBack}
+use Rattle.run_rules.specs.ServerTokens.{MayBring, ServerTokens}
+use Rattle.run_rules.specs.Views.{part_told}
+use Rattle.run_rules.specs.Wants.{body_of, row_needs}
 use Rattle.run_parts.specs.Cells.Does.{Loses, Nothing, Sets, Stores}
 use Rattle.run_parts.specs.Contents.{AreAlike, Contents, HaveRoots, IsThere, ServerShows, kept, site}
 use Rattle.run_parts.specs.Deeds.{Deed, acts_in}
@@ -40,18 +49,7 @@ use Rattle.run_contents.proofs.Grants.{AllTaken}
 use Rattle.run_contents.proofs.Sends.{one_sent}
 use Rattle.run_contents.specs.Doing.{does_nothing}
 use Rattle.run_contents.specs.Gives.{IsKept}
-use Rattle.run_rules.specs.ServerSends.{DoneFor, GrantsSo, MaySend, SettledSo}
-use Rattle.run_rules.specs.ServerSends.DoneFor.{OfWritten, Repeated, Settled, TakenBack}
-use Rattle.run_rules.specs.ServerSends.SettledSo.{IsEntered, NamesOther, TakesToken}
-use Rattle.run_rules.specs.Wants.{body_of, row_needs}
 use Rattle.run_tokens.proofs.Words.{made_at}
-use Rattle.run_rules.specs.Acts.{Act, SentTo, epoch}
-use Rattle.run_rules.specs.Acts.Act.{Sent, Took}
-use Rattle.run_rules.specs.Grants.{Brings, Granted, Issued}
-use Rattle.run_rules.specs.Hosts.{TookNow}
-use Rattle.run_rules.specs.Lists.{In}
-use Rattle.run_rules.specs.Places.{home}
-use Rattle.run_rules.specs.ServerTokens.{MayBring, ServerTokens}
 use Rattle.run_rules.specs.declared.applied.Request.{Request}
 use Rattle.run_rules.specs.declared.applied.Wanted.{Wanted}
 use Rattle.run_rules.specs.declared.step.Step.{Step}
@@ -64,7 +62,7 @@ module _ (c : Contents) (v : ServerId) where
     pub keeps : IsKept tree
 
   -- rules on what is sent
-  pub record Fine (D : List Deed) (a : Act) : Type 0 where
+  pub record Fine (D : List Deed) (a : Doing) : Type 0 where
     pub tells : (h : HostId) (e n : ℕ) (p : Part) (w : GrantOf) (t : Token) → a ≡ Sent h e n (Grant w)
         → In t w.bring.tokens → shows t.kind p ≡ true → c.tells w p ≡ kept c D w.bring.fid p
     pub needs : (h : HostId) (e n : ℕ) (w : GrantOf) → a ≡ Sent h e n (Grant w)
@@ -73,10 +71,10 @@ module _ (c : Contents) (v : ServerId) where
         × ((t : Token) → In t w.bring.tokens → In (need_of t) f.needs)
     pub blind : (h : HostId) (e n : ℕ) (p : Part) (w : DoneOf) (t : Token) → a ≡ Sent h e n (Done w)
         → In t w.bring.tokens → shows t.kind p ≡ true → SentTo (acts_in D) h e n (Done w)
-    pub there : (h : HostId) (e n : ℕ) (w : Bring) (t : Token) → Brings a h e n w → In t w.tokens
+    pub there : (h : HostId) (e n : ℕ) (w : Bring) (t : Token) → BringsTokens a h e n w → In t w.tokens
         → Granted v (acts_in D) t ⊎ IsThere (kept c D t.fid Traits)
 
-  pub unsent : (D : List Deed) (a : Act) → ((h : HostId) (e n : ℕ) (b : Body) → a ≡ Sent h e n b → ⊥) → Fine D a
+  pub unsent : (D : List Deed) (a : Doing) → ((h : HostId) (e n : ℕ) (b : Body) → a ≡ Sent h e n b → ⊥) → Fine D a
   unsent D a never = record {
     tells = λ h e n p w t is. absurd (never h e n (Grant w) is);
     needs = λ h e n w is. absurd (never h e n (Grant w) is);
@@ -100,7 +98,7 @@ module _ (c : Contents) (v : ServerId) where
         ∙ (ap (λ (f : Fid). kept c D f Traits) (sym (root fs)) ∙ e))
 
     -- a doing that does nothing to parts
-    pub quiet : (D : List Deed) (tree : Tree) (a : Act) → At D tree → Fine D a
+    pub quiet : (D : List Deed) (tree : Tree) (a : Doing) → At D tree → Fine D a
         → ((h : HostId) (e n : ℕ) (b : Body) → a ≡ Took h e n b → ⊥)
         → ServerShows c v D (record { act = a; does = does_nothing })
     quiet D tree a at fine never = record {
@@ -121,20 +119,20 @@ module _ (c : Contents) (v : ServerId) where
     }
 
 -- tokens that were brought before aren't new
-issued : (S : List Act) (h : HostId) (e n : ℕ) (d : DoneOf) (t : Token) → In t d.bring.tokens
+issued : (S : List Doing) (h : HostId) (e n : ℕ) (d : DoneOf) (t : Token) → In t d.bring.tokens
     → SentTo S h e n (Done d) → Issued S t (record { moves = n; stamp = d.bring.stamp })
 issued [] h e n d t i q = elim q [ ]
 issued (a ∷ S) h e n d t i (inl q) = inl (h, e, d.bring, inr (d, q, refl), i, refl)
 issued (a ∷ S) h e n d t i (inr q) = inr (issued S h e n d t i q)
 
-not_new : (v : ServerId) (S : List Act) (h : HostId) (n : ℕ) (d : DoneOf) (t : Token) → MayBring v S h n d.bring
+not_new : (v : ServerId) (S : List Doing) (h : HostId) (n : ℕ) (d : DoneOf) (t : Token) → MayBring v S h n d.bring
     → In t d.bring.tokens → SentTo S h (epoch S) n (Done d) → ⊥
 not_new v S h n d t m i sent =
     let lt = m.new t t (record { moves = n; stamp = d.bring.stamp }) i (issued S h (epoch S) n d t i sent) (m.now t i) in
     omega (arith, lt)
 
 -- a Grant brings what a Fetch that was taken asks for
-asked_for : (v : ServerId) (tree : Tree) (S : List Act) → AllTaken S → (h : HostId) (n : ℕ) (g : GrantOf)
+asked_for : (v : ServerId) (tree : Tree) (S : List Doing) → AllTaken S → (h : HostId) (n : ℕ) (g : GrantOf)
     → GrantsSo v tree S h n g
     → (f : FetchOf) × (k : ℕ) × TookNow S h k (Fetch f) × (f.number ≡ g.bring.number) × (f.fid ≡ g.bring.fid)
     × ((t : Token) → In t g.bring.tokens → In (need_of t) f.needs)
@@ -152,14 +150,14 @@ asked_for v tree S taken h n g k = (
 )
 
 -- what is sent: a Grant tells what is kept, and brings what was asked for; a Done shows nothing new
-module _ (c : Contents) (v : ServerId) (tree : Tree) (s : Step) (tells : (g : GrantOf) (p : Part) → c.tells g p ≡ told g p)
+module _ (c : Contents) (v : ServerId) (tree : Tree) (s : Step) (tells : (g : GrantOf) (p : Part) → c.tells g p ≡ part_told g p)
   where
     -- an object that is there
     is_there : (o : Option Nature) → (o ≡ None → ⊥) → IsThere o
     is_there None never = absurd (never refl)
     is_there (Some n) never = (n, refl)
 
-    pub fine_sent : (D : List Deed) (a : Act) → At c v D tree → AllTaken (acts_in D) → MaySend v tree s (acts_in D) a
+    pub fine_sent : (D : List Deed) (a : Doing) → At c v D tree → AllTaken (acts_in D) → MaySend v tree s (acts_in D) a
         → ServerTokens v (acts_in D) a → Fine c v D a
     fine_sent D a at taken may tokens = record {
       tells = λ h e n p w t is i cov. (let g = may.grants h e n w is in
@@ -209,16 +207,16 @@ module _ (c : Contents) (v : ServerId) (tree : Tree) (s : Step) (tells : (g : Gr
           where
             repeated : SentTo (acts_in D) h (epoch (acts_in D)) n (Done d) → Granted v (acts_in D) t
             repeated sent = absurd (not_new v (acts_in D) h n d t m i sent)
-        settled h e n d t is i m (Settled k) = by k.so
+        settled h e n d t is i m (Answered k) = by k.so
           where
-            by : SettledSo v tree (acts_in D) k.w k.change d → Granted v (acts_in D) t ⊎ IsThere (kept c D t.fid Traits)
+            by : AnsweredSo v tree (acts_in D) k.w k.change d → Granted v (acts_in D) t ⊎ IsThere (kept c D t.fid Traits)
             by (TakesToken uses accepted row can outcome needs) =
                 let asked = one_needed k.w.needs d.bring.tokens needs t i in
                 inr (brought h e n d.bring t m i (of_row k.w k.change t at.keeps.formed row.0 asked))
             by (NamesOther uses accepted other ready outcome none) = elim (subst (In t) none i) [ ]
             by (IsEntered fileset place enters named known outcome none) = elim (subst (In t) none i) [ ]
 
-        there' : (h : HostId) (e n : ℕ) (w : Bring) (t : Token) → Brings a h e n w → In t w.tokens
+        there' : (h : HostId) (e n : ℕ) (w : Bring) (t : Token) → BringsTokens a h e n w → In t w.tokens
             → Granted v (acts_in D) t ⊎ IsThere (kept c D t.fid Traits)
         there' h e n w t (inl (g, is, same)) i =
             let k = may.grants h e n g is in

@@ -18,11 +18,11 @@ use Rattle.message_types.specs.declared.message.Body.{Body}
 use Rattle.message_types.specs.declared.message.Body.TheVariants.{Change}
 use Rattle.message_types.specs.declared.message.Message.{Message}
 use Rattle.script_lines.specs.declared.script.Script.{Script}
+use Rattle.run_rules.specs.Messages.{Said}
+use Rattle.run_rules.specs.Past.{In}
 use Rattle.run_rules.specs.Runs.{StepsMeet}
+use Rattle.run_rules.specs.Steps.{steps_of_host}
 use Rattle.run_tokens.proofs.Words.{own_after}
-use Rattle.run_rules.specs.Lists.{In}
-use Rattle.run_rules.specs.Nodes.{own}
-use Rattle.run_rules.specs.Sends.{Said}
 use Rattle.run_rules.specs.declared.step.Step.{Step}
 
 -- a sound message with a body
@@ -44,11 +44,11 @@ module _ (script : Script) (start : Tree) (firsts : ServerId → ℕ) (h : HostI
       go true (inl (m, i, server, epoch, moves, body)) =
           record { message = m; sound = sound m i; server = server; body = body }
 
-  pub said_sound : (past : List Step) → StepsMeet script start firsts past → Said (own h past) v e n b
+  pub said_sound : (past : List Step) → StepsMeet script start firsts past → Said (steps_of_host h past) v e n b
       → Sound script v b
   said_sound [] run said = elim said [ ]
   said_sound (s ∷ past) run said =
-      at_node s.node s (own h past) (λ m i. (run.1.3 m i).1) (said_sound past run.0) said
+      at_node s.node s (steps_of_host h past) (λ m i. (run.1.3 m i).1) (said_sound past run.0) said
 
 -- what a sound Change says
 pub change_sound : (script : Script) (v : ServerId) (c : ChangeOf) → Sound script v (Change c)

@@ -17,7 +17,7 @@ use Rattle.tree_answers.specs.declared.tree.Away.{Away}
 use Rattle.tree_answers.specs.declared.tree.Tree.{Tree}
 use Rattle.run_contents.proofs.KeptGives.{both}
 use Rattle.run_contents.specs.Starts.{StartsKept}
-use Rattle.run_rules.specs.Kept.{kept_first}
+use Rattle.run_rules.specs.Kept.{filesets_first}
 
 module _ (test : Fileset → Bool) where
   rise : (xs : List Fileset) → ids_rise xs ≡ true → ids_rise (filter test xs) ≡ true
@@ -100,25 +100,25 @@ module _ (tree : Tree) (server : ServerId) (w : IsWellFormed tree) (none : tree.
   abbrev mine : Fileset → Bool
   mine fileset = fileset.server.0 == server.0
 
-  records : AreRecords (kept_first tree server)
+  records : AreRecords (filesets_first tree server)
   records = by tree.away none
     where
       by : (away : List Away) → away ≡ []
-          → AreRecords (record (kept_first tree server) { away = away })
+          → AreRecords (record (filesets_first tree server) { away = away })
       by [] e = record { ordered = refl; named = refl; free = refl; declared = refl; elsewhere = refl }
       by (a ∷ away) e = absurd (let k : a ∷ away ≡ [] = e in cc)
 
-  counts : (at : ServerId) → count_at (kept_first tree server) at ≤ count_at tree at
+  counts : (at : ServerId) → count_at (filesets_first tree server) at ≤ count_at tree at
   counts at = let k = fewer mine at tree.filesets in omega (arith, k)
 
-  promises : (at : ServerId) → promised_at (kept_first tree server) at ≤ promised_at tree at
+  promises : (at : ServerId) → promised_at (filesets_first tree server) at ≤ promised_at tree at
   promises at =
       let k = less mine at tree.filesets in
       let a : away_promised at (filter mine tree.filesets) tree.away ≡ 0 =
       ap (λ records. away_promised at (filter mine tree.filesets) records) none in
       omega (arith, k, a)
 
-  start_formed : IsWellFormed (kept_first tree server)
+  start_formed : IsWellFormed (filesets_first tree server)
   start_formed = record {
     roster = w.roster;
     servers = w.servers;

@@ -21,28 +21,23 @@ use Rattle.token_types.specs.Conflicts.{need_of}
 use Rattle.token_types.specs.declared.token.Token.{Token}
 use Rattle.tree_laws.specs.Parts.{Part}
 use Rattle.tree_laws.specs.Parts.Part.{ByteAt, Size}
-use Rattle.run_rules.specs.Dirty.{IsDirtyUnder}
-use Rattle.run_rules.specs.HostLeaves.{MayLeave}
-use Rattle.run_rules.specs.HostRules.{HostMay}
-use Rattle.run_rules.specs.Labels.{end_of}
-use Rattle.run_rules.specs.OpenCalls.{IsEnded, IsOpen, IsTurn}
-use Rattle.run_rules.specs.Lines.{limit_of}
+use Rattle.run_rules.specs.Doings.{Doing, SentTo}
+use Rattle.run_rules.specs.Doings.Doing.{Took}
+use Rattle.run_rules.specs.HostMay.{HostMay}
+use Rattle.run_rules.specs.HostTokens.{MayLeave}
+use Rattle.run_rules.specs.Messages.{Asking, Changing, ComesIn, Said}
+use Rattle.run_rules.specs.Past.{In}
+use Rattle.run_rules.specs.Steps.{limit_of}
+use Rattle.run_rules.specs.Tokens.{AnswersRequest, CauseEnds, HasCall, IsOpen, LeavesHost, end_of}
+use Rattle.run_rules.specs.Views.{IsDirtyUnder}
+use Rattle.run_rules.specs.declared.applied.Why.TheVariants.{Ended, Evicted, ForCall as AskedFor, Revoked, Stopped}
 use Rattle.run_contents.proofs.Calls.{given_call, one_open, use_owned}
 use Rattle.run_contents.proofs.Gives.{owns_held}
 use Rattle.run_contents.proofs.Reading.{ReadsOnly, Suits, end_suits, new_suits}
 use Rattle.run_contents.proofs.Servers.{Sensible}
 use Rattle.run_contents.proofs.Words.{byte_covers, byte_update, size_covers, size_update}
 use Rattle.run_contents.specs.Steps.{HostRun}
-use Rattle.run_rules.specs.Acts.{Act, SentTo}
-use Rattle.run_rules.specs.Acts.Act.{Took}
-use Rattle.run_rules.specs.Epochs.{ComesIn}
-use Rattle.run_rules.specs.Floors.{Answers}
-use Rattle.run_rules.specs.Lists.{In}
-use Rattle.run_rules.specs.Requests.{Asking, Changing}
-use Rattle.run_rules.specs.Sends.{Said}
-use Rattle.run_rules.specs.Tokens.{Leaves}
 use Rattle.run_rules.specs.declared.applied.Why.{Why}
-use Rattle.run_rules.specs.declared.applied.Why.TheVariants.{Asked as AskedFor, Ended, Evicted, Revoked, Stopped}
 use Rattle.run_rules.specs.declared.step.Asked.{Asked}
 use Rattle.run_rules.specs.declared.step.Cause.{Cause}
 use Rattle.run_rules.specs.declared.step.Cause.TheVariants.{Message as Came, Line, Evict, End}
@@ -61,7 +56,7 @@ module _ (script : Script) (host : HostId) where
   stays_open past s run m call f o suits fs n before after =
       inr (o, ended, λ a i _. m.answers.answers_alone a fs n i after)
     where
-      ended : IsEnded past s call → ⊥
+      ended : CauseEnds past s call → ⊥
       ended (inl (v, done, reply, counts, outcome)) =
           none_of_both past run v fs done.fileset n done.bring.number before counts.1
       ended (inr (g, ends, made, is, same, learns, new)) =
@@ -131,14 +126,14 @@ message_is : (c : Cause) (m n : Message) → c ≡ Came m → c ≡ Came n → m
 message_is c m n p q = let r : Came m ≡ Came n = sym p ∙ q in cc
 
 module _ (script : Script) (host : HostId) (past : List Step) (s : Step) (run : HostRun script host past)
-    (m : HostMay script host past s) (S : ServerId → List Act) (sensible : (v : ServerId) → Sensible (S v))
+    (m : HostMay script host past s) (S : ServerId → List Doing) (sensible : (v : ServerId) → Sensible (S v))
     (came : (x : Message) → s.cause ≡ Came x → SentTo (S x.server) host x.epoch x.moves x.body)
     (heard : (v : ServerId) (e n : ℕ) (b : Body) → In (Took host e n b) (S v) → Said past v e n b) where
   module _ (t : Token) (i : In t s.taken) where
     abbrev w : Bring
     w = (m.tokens.takes t i).0
 
-    uses : Answers past s w
+    uses : AnswersRequest past s w
     uses = (m.tokens.takes t i).1.0
 
     brings : In t w.tokens
@@ -153,7 +148,7 @@ module _ (script : Script) (host : HostId) (past : List Step) (s : Step) (run : 
     no_line : (other : Cause) → s.cause ≡ other → (other ≡ Came bringing.by → ⊥) → ⊥
     no_line other e never = never (no_other s.cause bringing.by other bringing.cause e)
 
-    no_begin : (k : ℕ) (call : Call) → IsTurn past s k call → IsOpen past (record { k = k; call = call })
+    no_begin : (k : ℕ) (call : Call) → HasCall past s k call → IsOpen past (record { k = k; call = call })
     no_begin k call (inl b) = absurd (elim (m.lines.begins k call b) [
       | inl l ↦ no_line (Line l.0) l.1 (λ q. cc)
       | inr e ↦ no_line End e (λ q. cc)
@@ -207,7 +202,7 @@ module _ (script : Script) (host : HostId) (past : List Step) (s : Step) (run : 
     may_not Ended x = no_line End x.0 (λ q. cc)
     may_not Stopped x = let l = m.lines.stops x in no_line (Line l.0) l.2 (λ q. cc)
 
-    pub takes_stay : Leaves s t.id → ⊥
+    pub takes_stay : LeavesHost s t.id → ⊥
     takes_stay l =
         let d = m.tokens.drops t (inl i) l in
         may_not d.0.why (subst (MayLeave script.roster host (limit_of script.roster host) past s d.0.why) d.2

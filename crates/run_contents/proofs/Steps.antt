@@ -7,21 +7,20 @@ use Rattle.base_types.specs.declared.ids.ServerId.{ServerId}
 use Rattle.tree_calls.specs.declared.roster.Roster.{Roster}
 use Rattle.tree_answers.specs.declared.tree.Tree.{Tree}
 use Rattle.script_lines.specs.declared.script.Script.{Script}
-use Rattle.run_rules.specs.Coherence.{DroppedWithCause}
+use Rattle.run_rules.specs.HostMay.{HostMay}
+use Rattle.run_rules.specs.HostTokens.{HostLeaves}
 use Rattle.run_rules.specs.Runs.{StepMeets, StepsMeet}
-use Rattle.run_rules.specs.HostLeaves.{HostLeaves}
-use Rattle.run_rules.specs.HostRules.{HostMay}
-use Rattle.run_rules.specs.Lines.{limit_of}
+use Rattle.run_rules.specs.Steps.{limit_of, steps_of_host}
+use Rattle.run_tokens.specs.CacheLaws.{DroppedWithCause}
 use Rattle.run_contents.proofs.Calls.{begins_free, begins_next, one_open, open_last}
 use Rattle.run_contents.proofs.Runs.{own_run}
 use Rattle.run_contents.specs.Calls.{CallsInOrder, OneIsOpen}
 use Rattle.run_contents.specs.Steps.{HostRun}
-use Rattle.run_rules.specs.Nodes.{own}
 use Rattle.run_rules.specs.declared.step.Step.{Step}
 
 module _ (script : Script) (start : Tree) (firsts : ServerId → ℕ) where
   meets : (past : List Step) (s : Step) (host : HostId) → StepMeets script start firsts s.node past s
-      → s.node ≡ Host host → HostMay script host (own host past) s
+      → s.node ≡ Host host → HostMay script host (steps_of_host host past) s
   meets past s host m is = (subst (λ (n : Node). StepMeets script start firsts n past s) is m).0
 
   pub dropped : (past : List Step) → StepsMeet script start firsts past → start.roster ≡ script.roster
@@ -29,7 +28,7 @@ module _ (script : Script) (start : Tree) (firsts : ServerId → ℕ) where
   dropped [] run roster = tt
   dropped (s ∷ past) run roster = (
     dropped past run.0 roster,
-    λ host is. subst (λ (r : Roster). HostLeaves r host (limit_of r host) (own host past) s) (sym roster)
+    λ host is. subst (λ (r : Roster). HostLeaves r host (limit_of r host) (steps_of_host host past) s) (sym roster)
         (meets past s host run.1.0 is).leaves,
   )
 
@@ -39,7 +38,7 @@ module _ (script : Script) (start : Tree) (firsts : ServerId → ℕ) where
     in_order past run.0,
     λ host is k call b.
         let m = meets past s host run.1.0 is in
-        (begins_free script host (own host past) s m k call b, begins_next script host (own host past) s m k call b),
+        (begins_free script host (steps_of_host host past) s m k call b, begins_next script host (steps_of_host host past) s m k call b),
   )
 
   pub one_is_open : (past : List Step) → StepsMeet script start firsts past → OneIsOpen past
@@ -47,7 +46,7 @@ module _ (script : Script) (start : Tree) (firsts : ServerId → ℕ) where
   one_is_open (s ∷ past) run = (
     one_is_open past run.0,
     λ host is a b p q.
-        let all : HostRun script host (s ∷ own host past) =
+        let all : HostRun script host (s ∷ steps_of_host host past) =
         (own_run script start firsts past run.0 host, meets past s host run.1.0 is) in
-        (one_open script host (s ∷ own host past) all a b p q, open_last script host (s ∷ own host past) all a p),
+        (one_open script host (s ∷ steps_of_host host past) all a b p q, open_last script host (s ∷ steps_of_host host past) all a p),
   )

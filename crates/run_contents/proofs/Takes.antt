@@ -19,16 +19,14 @@ use Rattle.script_lines.specs.declared.script.Script.{Script}
 use Rattle.token_types.specs.declared.token.Token.{Token}
 use Rattle.tree_laws.proofs.Steps.{fid_is}
 use Rattle.tree_laws.specs.Parts.{Part, Seen}
-use Rattle.run_rules.specs.HostRules.{HostMay}
-use Rattle.run_rules.specs.Views.{is_shown}
-use Rattle.run_rules.specs.Told.{told}
+use Rattle.run_rules.specs.HostMay.{HostMay}
+use Rattle.run_rules.specs.Messages.{About, Asking, Changing, ComesIn}
+use Rattle.run_rules.specs.Past.{In, appended}
+use Rattle.run_rules.specs.Tokens.{Uses}
+use Rattle.run_rules.specs.Views.{is_shown, part_told}
 use Rattle.run_parts.specs.Contents.{ByDone, Contents, Shows, TakesShow}
 use Rattle.run_contents.proofs.Words.{any_in, in_any, both}
 use Rattle.run_contents.specs.Steps.{HostRun, IsOfJournal, shown, told_by, told_in}
-use Rattle.run_rules.specs.Epochs.{About, ComesIn}
-use Rattle.run_rules.specs.Floors.{Uses}
-use Rattle.run_rules.specs.Lists.{after, In}
-use Rattle.run_rules.specs.Requests.{Asking, Changing}
 use Rattle.run_rules.specs.declared.step.Cause.{Cause}
 use Rattle.run_rules.specs.declared.step.Cause.TheVariants.{Message as Came}
 use Rattle.run_rules.specs.declared.step.Step.{Step}
@@ -39,12 +37,12 @@ pub record Tells (s : Step) (p : Part) (x : Seen p) : Type 0 where
   pub grant : GrantOf
   pub came : s.cause ≡ Came message
   pub body : message.body ≡ Grant grant
-  pub tells : told grant p ≡ x
+  pub tells : part_told grant p ≡ x
 
 tells_body : (s : Step) (m : Message) (b : Body) (p : Part) (x : Seen p) → s.cause ≡ Came m → m.body ≡ b
     → told_by b p ≡ Some x → Tells s p x
 tells_body s m (Grant g) p x e q i =
-    record { message = m; grant = g; came = e; body = q; tells = (let k : Some (told g p) ≡ Some x = i in cc) }
+    record { message = m; grant = g; came = e; body = q; tells = (let k : Some (part_told g p) ≡ Some x = i in cc) }
 tells_body s m _ p x e q i = absurd (let k : None ≡ Some x = i in cc)
 
 tells_cause : (s : Step) (c : Cause) (p : Part) (x : Seen p) → s.cause ≡ c → told_in c p ≡ Some x → Tells s p x
@@ -115,7 +113,7 @@ module _ (c : Contents) (same : IsOfJournal c) (script : Script) (host : HostId)
         brings = i;
         file = sym at ∙ file;
         covers = cov;
-        tells = same.tells g p ∙ (ap (λ (y : GrantOf). told y p) one ∙ k.tells);
+        tells = same.tells g p ∙ (ap (λ (y : GrantOf). part_told y p) one ∙ k.tells);
       }
   told_is f p x t file cov k (inr (d, about, i)) =
       absurd (no_done k.grant d (sym k.body ∙ body_of s _ _ _ (Done d) k.message about k.came))
@@ -129,14 +127,14 @@ module _ (c : Contents) (same : IsOfJournal c) (script : Script) (host : HostId)
 
   -- the Grant that is the cause tells
   tells_of : (g : GrantOf) (v : ServerId) (e n : ℕ) (p : Part) → ComesIn s v e n (Grant g)
-      → told_in s.cause p ≡ Some (told g p)
-  tells_of g v e n p a = subst (λ (y : Cause). told_in y p ≡ Some (told g p)) (sym a.1)
-      (subst (λ (b : Body). told_by b p ≡ Some (told g p)) (sym a.5) refl)
+      → told_in s.cause p ≡ Some (part_told g p)
+  tells_of g v e n p a = subst (λ (y : Cause). told_in y p ≡ Some (part_told g p)) (sym a.1)
+      (subst (λ (b : Body). told_by b p ≡ Some (part_told g p)) (sym a.5) refl)
 
   shows_all' : (t : Token) (p : Part) → In t s.taken → shows t.kind p ≡ true
       → ((x : Seen p) × (c.shown s t.fid p ≡ Some x)) ⊎ ByDone past s t
   shows_all' t p i cov = elim (ways t (taken t i)) [
-    | inl g ↦ inl (told g.0 p, same.shown s t.fid p ∙ now g)
+    | inl g ↦ inl (part_told g.0 p, same.shown s t.fid p ∙ now g)
     | inr d ↦ inr d
   ]
     where
@@ -144,7 +142,7 @@ module _ (c : Contents) (same : IsOfJournal c) (script : Script) (host : HostId)
       here = in_any (λ (token : Token). same_fid token.fid t.fid && shows token.kind p) s.taken t i
           (both (same_fid t.fid t.fid) (shows t.kind p) (same_fid_itself t.fid) cov)
 
-      now : (g : ByGrant t) → shown s t.fid p ≡ Some (told g.0 p)
+      now : (g : ByGrant t) → shown s t.fid p ≡ Some (part_told g.0 p)
       now g = ap (λ (b : Bool). if b then told_in s.cause p else None) here ∙ tells_of g.0 _ _ _ p g.1.1
 
   -- one request is outstanding, so after it is answered none is that was so before

@@ -13,23 +13,22 @@ use Rattle.message_types.specs.declared.message.Message.{Message}
 use Rattle.message_types.specs.declared.telling.Bring.{Bring}
 use Rattle.script_lines.specs.declared.script.Script.{Script}
 use Rattle.token_types.specs.declared.token.Token.{Token}
+use Rattle.run_rules.specs.Doings.{Doing, Granted, IsNewlyGranted, admitting, after_admitting, after_cause}
+use Rattle.run_rules.specs.Doings.{after_deciding, after_sending, after_step, deciding, doings_of, epoch, sending}
+use Rattle.run_rules.specs.Doings.Doing.{Admits, BeginsEpoch, Flushes, MakesWant, Reserves, Sent, Took, WritesDown}
+use Rattle.run_rules.specs.Messages.{Said}
+use Rattle.run_rules.specs.Past.{EachInTurn, In, appended}
 use Rattle.run_rules.specs.Runs.{StepMeets, StepsMeet, firsts_of, past_of}
+use Rattle.run_rules.specs.ServerTokens.{MayAdmit, ServerTokens}
+use Rattle.run_rules.specs.Steps.{steps_of_host}
+use Rattle.run_rules.specs.declared.applied.Applied.TheVariants.{Done as IsDone, IsDown, Replied, Stored}
+use Rattle.run_rules.specs.declared.applied.Applied.TheVariants.{Wants as IsWanted}
 use Rattle.run_contents.proofs.Servers.{cause_heard, heard, took_in}
 use Rattle.run_contents.proofs.Sound.{said_sound}
 use Rattle.run_contents.specs.Tokens.{GrantedAreSound}
 use Rattle.run_tokens.proofs.Words.{acts_after, if_server}
-use Rattle.run_rules.specs.Acts.{Act, acts, admitted_by, admitting, after_cause, after_step, deciding, epoch}
-use Rattle.run_rules.specs.Acts.{sending, sent_by, written_by}
-use Rattle.run_rules.specs.Acts.Act.{Admits, Begins, Flushes, Reserves, Sent, Took, Wants, Writes}
-use Rattle.run_rules.specs.Grants.{Granted, IsNewlyGranted}
-use Rattle.run_rules.specs.Lists.{Each, In, after}
-use Rattle.run_rules.specs.Nodes.{own}
-use Rattle.run_rules.specs.Sends.{Said}
-use Rattle.run_rules.specs.ServerTokens.{MayAdmit, ServerTokens}
 use Rattle.run_rules.specs.declared.applied.Admission.{Admission}
 use Rattle.run_rules.specs.declared.applied.Applied.{Applied}
-use Rattle.run_rules.specs.declared.applied.Applied.TheVariants.{Stored, Ends, IsDown, Wants as IsWanted}
-use Rattle.run_rules.specs.declared.applied.Applied.TheVariants.{Done as IsDone}
 use Rattle.run_rules.specs.declared.step.Cause.{Cause}
 use Rattle.run_rules.specs.declared.step.Cause.TheVariants.{Message as Came, Restart, Flushed, Line, Lapse, Evict}
 use Rattle.run_rules.specs.declared.step.Cause.TheVariants.{End}
@@ -44,18 +43,18 @@ module _ (script : Script) (v : ServerId) where
   abbrev pub Good : Token → Type 0
   Good t = IsHost script.roster t.host × HasRoom t.kind
 
-  abbrev pub AllGood : List Act → Type 0
+  abbrev pub AllGood : List Doing → Type 0
   AllGood S = (t : Token) → Granted v S t → Good t
 
   good_token : (m : Message) → IsSound script.roster m → (t : Token) → IsToken m t → Good t
   good_token m sound t k = (subst (λ (h : HostId). IsHost script.roster h) (sym k.host) sound.host, k.room)
 
-  other : (S : List Act) (a : Act) → ((t : Token) → IsNewlyGranted a t → ⊥) → AllGood S → AllGood (a ∷ S)
+  other : (S : List Doing) (a : Doing) → ((t : Token) → IsNewlyGranted a t → ⊥) → AllGood S → AllGood (a ∷ S)
   other S a never old t (inl n) = absurd (never t n)
   other S a never old t (inr g) = old t g.0
 
   -- what brings and claims nothing makes nothing granted
-  dull : (a : Act) → ((h : HostId) (e n : ℕ) (b : Body) → a ≡ Sent h e n b → ⊥)
+  dull : (a : Doing) → ((h : HostId) (e n : ℕ) (b : Body) → a ≡ Sent h e n b → ⊥)
       → ((h : HostId) (ts : List Token) → a ≡ Admits h ts → ⊥) → (t : Token) → IsNewlyGranted a t → ⊥
   dull a no_send no_admit t (inl (mark, issues)) = elim issues.3 [
     | inl g ↦ no_send issues.0 issues.1 mark.moves (Grant g.0) g.1
@@ -67,7 +66,7 @@ module _ (script : Script) (v : ServerId) where
       → m.body ≡ b
   same_body m h e n b q = cc
 
-  sends : (S : List Act) (m : Message) → IsSound script.roster m → AllGood S
+  sends : (S : List Doing) (m : Message) → IsSound script.roster m → AllGood S
       → AllGood (Sent m.host m.epoch m.moves m.body ∷ S)
   sends S m sound old t (inr g) = old t g.0
   sends S m sound old t (inl (inr c)) = absurd (let q = c.1 in cc)
@@ -87,29 +86,29 @@ module _ (script : Script) (v : ServerId) where
       brought : {w : Bring} → BringsSoundly m w → In t w.tokens → Good t
       brought {w} k i = good_token m sound t (one_of (IsBrought m w.fid) w.tokens t k.tokens i).own
 
-  sents : (ms : List Message) (S : List Act) → ((m : Message) → In m ms → IsSound script.roster m) → AllGood S
-      → AllGood (after (sending ms) S)
+  sents : (ms : List Message) (S : List Doing) → ((m : Message) → In m ms → IsSound script.roster m) → AllGood S
+      → AllGood (appended (sending ms) S)
   sents [] S sound old = old
   sents (m ∷ ms) S sound old =
       sents ms (Sent m.host m.epoch m.moves m.body ∷ S) (λ x i. sound x (inr i)) (sends S m (sound m (inl refl)) old)
 
-  writes : (xs : List Applied) (S : List Act) → AllGood S → AllGood (after (deciding xs) S)
+  writes : (xs : List Applied) (S : List Doing) → AllGood S → AllGood (appended (deciding xs) S)
   writes [] S old = old
   writes (IsWanted x ∷ xs) S old =
-      writes xs (Wants x ∷ S) (other S (Wants x) (dull (Wants x) (λ h e n b q. cc) (λ h ts q. cc)) old)
+      writes xs (MakesWant x ∷ S) (other S (MakesWant x) (dull (MakesWant x) (λ h e n b q. cc) (λ h ts q. cc)) old)
   writes (IsDone x ∷ xs) S old =
-      writes xs (Writes x ∷ S) (other S (Writes x) (dull (Writes x) (λ h e n b q. cc) (λ h ts q. cc)) old)
-  writes (Ends x ∷ xs) S old = writes xs S old
+      writes xs (WritesDown x ∷ S) (other S (WritesDown x) (dull (WritesDown x) (λ h e n b q. cc) (λ h ts q. cc)) old)
+  writes (Replied x ∷ xs) S old = writes xs S old
   writes (Stored h f ss n ∷ xs) S old = writes xs S old
   writes (IsDown h ∷ xs) S old = writes xs S old
 
-  pub plain : (S : List Act) (a : Act) → ((h : HostId) (e n : ℕ) (b : Body) → a ≡ Sent h e n b → ⊥)
+  pub plain : (S : List Doing) (a : Doing) → ((h : HostId) (e n : ℕ) (b : Body) → a ≡ Sent h e n b → ⊥)
       → ((h : HostId) (ts : List Token) → a ≡ Admits h ts → ⊥) → AllGood S → AllGood (a ∷ S)
   plain S a no_send no_admit old = other S a (dull a no_send no_admit) old
 
-  pub causes : (c : Cause) (S : List Act) → AllGood S → AllGood (after_cause c S)
+  pub causes : (c : Cause) (S : List Doing) → AllGood S → AllGood (after_cause c S)
   causes (Came m) S old = plain S (Took m.host m.epoch m.moves m.body) (λ h e n b q. cc) (λ h ts q. cc) old
-  causes (Restart line) S old = plain S (Begins (suc (epoch S))) (λ h e n b q. cc) (λ h ts q. cc) old
+  causes (Restart line) S old = plain S (BeginsEpoch (suc (epoch S))) (λ h e n b q. cc) (λ h ts q. cc) old
   causes Flushed S old = plain S Flushes (λ h e n b q. cc) (λ h ts q. cc) old
   causes (Line line) S old = old
   causes Lapse S old = old
@@ -117,23 +116,23 @@ module _ (script : Script) (v : ServerId) where
   causes End S old = old
 
   module _ (start : Tree) (firsts : ServerId → ℕ) (past : List Step) (run : StepsMeet script start firsts past) where
-    abbrev AllSaid : List Act → Type 0
-    AllSaid S = (h : HostId) (e n : ℕ) (b : Body) → In (Took h e n b) S → Said (own h past) v e n b
+    abbrev AllSaid : List Doing → Type 0
+    AllSaid S = (h : HostId) (e n : ℕ) (b : Body) → In (Took h e n b) S → Said (steps_of_host h past) v e n b
 
-    on_said : (S : List Act) (a : Act) → ((h : HostId) (e n : ℕ) (b : Body) → Took h e n b ≡ a → ⊥) → AllSaid S
+    on_said : (S : List Doing) (a : Doing) → ((h : HostId) (e n : ℕ) (b : Body) → Took h e n b ≡ a → ⊥) → AllSaid S
         → AllSaid (a ∷ S)
     on_said S a never old h e n b (inl q) = absurd (never h e n b q)
     on_said S a never old h e n b (inr i) = old h e n b i
 
-    said_written : (xs : List Applied) (S : List Act) → AllSaid S → AllSaid (after (deciding xs) S)
+    said_written : (xs : List Applied) (S : List Doing) → AllSaid S → AllSaid (appended (deciding xs) S)
     said_written [] S old = old
-    said_written (IsWanted x ∷ xs) S old = said_written xs (Wants x ∷ S) (on_said S (Wants x) (λ h e n b q. cc) old)
-    said_written (IsDone x ∷ xs) S old = said_written xs (Writes x ∷ S) (on_said S (Writes x) (λ h e n b q. cc) old)
-    said_written (Ends x ∷ xs) S old = said_written xs S old
+    said_written (IsWanted x ∷ xs) S old = said_written xs (MakesWant x ∷ S) (on_said S (MakesWant x) (λ h e n b q. cc) old)
+    said_written (IsDone x ∷ xs) S old = said_written xs (WritesDown x ∷ S) (on_said S (WritesDown x) (λ h e n b q. cc) old)
+    said_written (Replied x ∷ xs) S old = said_written xs S old
     said_written (Stored h f ss n ∷ xs) S old = said_written xs S old
     said_written (IsDown h ∷ xs) S old = said_written xs S old
 
-    admits_one : (S : List Act) (h : HostId) (ts : List Token) → MayAdmit v S h ts → AllSaid S → (t : Token) → In t ts
+    admits_one : (S : List Doing) (h : HostId) (ts : List Token) → MayAdmit v S h ts → AllSaid S → (t : Token) → In t ts
         → Good t
     admits_one S h ts k said t i =
         let took = took_in S h k.moves (Reclaim k.claim) k.took in
@@ -144,8 +143,8 @@ module _ (script : Script) (v : ServerId) where
         good_token m.message m.sound t
         (one_of (λ (u : Token). IsToken m.message u) k.claim.tokens t b.tokens (k.sound t i).0)
 
-    admits : (cs : List Admission) (S : List Act) → Each (ServerTokens v) (admitting cs) S → AllSaid S → AllGood S
-        → AllGood (after (admitting cs) S)
+    admits : (cs : List Admission) (S : List Doing) → EachInTurn (ServerTokens v) (admitting cs) S → AllSaid S → AllGood S
+        → AllGood (appended (admitting cs) S)
     admits [] S may said old = old
     admits (c ∷ cs) S may said old =
         admits cs (Admits c.host c.tokens ∷ S) may.1 (on_said S (Admits c.host c.tokens) (λ h e n b q. cc) said) now
@@ -161,34 +160,34 @@ module _ (script : Script) (v : ServerId) where
             admits_one S c.host c.tokens (may.0.admits c.host c.tokens refl) said t (subst (In t) same i)
 
     step : (s : Step) → StepMeets script start firsts (Server v) past s
-        → ((m : Message) → In m s.sent → IsSound script.roster m) → AllGood (acts (firsts v) v past)
-        → AllGood (after_step s (acts (firsts v) v past))
+        → ((m : Message) → In m s.sent → IsSound script.roster m) → AllGood (doings_of (firsts v) v past)
+        → AllGood (after_step s (doings_of (firsts v) v past))
     step s m sound old =
-        let S = acts (firsts v) v past in
+        let S = doings_of (firsts v) v past in
         let said : AllSaid (after_cause s.cause S) = λ h e n b i.
         cause_heard h e n b script start firsts past run v s m.1 (heard h e n b script start firsts past run v) i in
-        plain (sent_by s S) (Reserves s.reserved) (λ h e n b q. cc) (λ h ts q. cc)
-        (sents s.sent (admitted_by s S) sound
-        (admits s.admitted (written_by s S) m.0.tokens.admits
+        plain (after_sending s S) (Reserves s.reserved) (λ h e n b q. cc) (λ h ts q. cc)
+        (sents s.sent (after_admitting s S) sound
+        (admits s.admitted (after_deciding s S) m.0.tokens.admits
         (said_written s.applied (after_cause s.cause S) said)
         (writes s.applied (after_cause s.cause S) (causes s.cause S old))))
 
 module _ (script : Script) (start : Tree) (firsts : ServerId → ℕ) where
   at_node : (n : Node) (past : List Step) (s : Step) → StepsMeet script start firsts past
       → StepMeets script start firsts n past s → ((m : Message) → In m s.sent → IsSound script.roster m)
-      → (v : ServerId) → AllGood script v (acts (firsts v) v past)
-      → AllGood script v (acts_after v n s (acts (firsts v) v past))
+      → (v : ServerId) → AllGood script v (doings_of (firsts v) v past)
+      → AllGood script v (acts_after v n s (doings_of (firsts v) v past))
   at_node (Host k) past s run m sound v old = old
   at_node (Server k) past s run m sound v old =
-      if_server (AllGood script v) k v (after_step s (acts (firsts v) v past)) (acts (firsts v) v past)
-      (λ e. subst (λ w. AllGood script w (acts (firsts w) w past)
-      → AllGood script w (after_step s (acts (firsts w) w past))) e (step script k start firsts past run s m sound) old)
+      if_server (AllGood script v) k v (after_step s (doings_of (firsts v) v past)) (doings_of (firsts v) v past)
+      (λ e. subst (λ w. AllGood script w (doings_of (firsts w) w past)
+      → AllGood script w (after_step s (doings_of (firsts w) w past))) e (step script k start firsts past run s m sound) old)
       old
 
   pub all_good : (past : List Step) → StepsMeet script start firsts past → (v : ServerId)
-      → AllGood script v (acts (firsts v) v past)
+      → AllGood script v (doings_of (firsts v) v past)
   all_good [] run v =
-      plain script v [] (Begins (firsts v)) (λ h e n b q. cc) (λ h ts q. cc) (λ t g. elim g [ ])
+      plain script v [] (BeginsEpoch (firsts v)) (λ h e n b q. cc) (λ h ts q. cc) (λ t g. elim g [ ])
   all_good (s ∷ past) run v =
       at_node s.node past s run.0 run.1.0 (λ m i. (run.1.3 m i).1) v (all_good past run.0 v)
 

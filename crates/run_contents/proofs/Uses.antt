@@ -31,14 +31,16 @@ use Rattle.token_types.specs.declared.token.Kind.{Kind}
 use Rattle.token_types.specs.declared.token.Kind.TheVariants.{Bytes, Lock, Opening, Status}
 use Rattle.token_types.specs.declared.token.Token.{Token}
 use Rattle.run_tokens.proofs.TokenRun.{token_run}
+use Rattle.run_rules.specs.HostMay.{HostMay, IsExact}
+use Rattle.run_rules.specs.Messages.{HasKeptToken}
+use Rattle.run_rules.specs.Past.{In}
 use Rattle.run_rules.specs.Runs.{IsRun, StepMeets, StepsMeet, firsts_of, past_of}
-use Rattle.run_rules.specs.HostAnswers.{IsExact}
-use Rattle.run_rules.specs.HostRules.{HostMay}
-use Rattle.run_rules.specs.Knowing.{NeedsServer}
-use Rattle.run_rules.specs.Gives.{Made}
-use Rattle.run_rules.specs.Labels.{EndsUse, GivesUse, HasEnded, InUse, IsUsed, end_call, end_of}
+use Rattle.run_rules.specs.Steps.{steps_of_host}
+use Rattle.run_rules.specs.Tokens.{EndsUse, GivesUse, HasEndedUse, Held, LabelInUse, Made, TokenInUse, end_call}
+use Rattle.run_rules.specs.Tokens.{end_of}
+use Rattle.run_rules.specs.Views.{NeedsServer, sees as host_sees}
+use Rattle.run_tokens.specs.TokenLaws.{IsTokenRun}
 use Rattle.run_parts.proofs.LabelWords.{HasBegun}
-use Rattle.run_rules.specs.Views.{sees as host_sees}
 use Rattle.run_rules.specs.declared.journal.Journal.{Journal}
 use Rattle.run_parts.specs.Uses.{HostUses, StepUses, UsesRun}
 use Rattle.run_contents.proofs.Calls.{gives_none, stays, use_owned}
@@ -46,11 +48,6 @@ use Rattle.run_contents.proofs.Gives.{owns_held}
 use Rattle.run_contents.proofs.Runs.{own_run}
 use Rattle.run_contents.proofs.Views.{one_alone}
 use Rattle.run_contents.specs.Steps.{HostRun}
-use Rattle.run_rules.specs.Lists.{In}
-use Rattle.run_rules.specs.Nodes.{own}
-use Rattle.run_rules.specs.Sends.{HasKept}
-use Rattle.run_rules.specs.TokenRuns.{IsTokenRun}
-use Rattle.run_rules.specs.Tokens.{Held}
 use Rattle.run_rules.specs.declared.applied.Answer.{Answer}
 use Rattle.run_rules.specs.declared.step.Labelled.{Labelled}
 use Rattle.run_rules.specs.declared.step.Step.{Step}
@@ -111,17 +108,17 @@ module _ (script : Script) (host : HostId) where
       let b = run.1.answers.begins u i in exact_use b.0.call u b.3
   begun_use (s ∷ past) run u (inr b) = begun_use past run.0 u b
 
-  pub used_begun : (past : List Step) (u : Labelled) → InUse past u → HasBegun past u
+  pub used_begun : (past : List Step) (u : Labelled) → LabelInUse past u → HasBegun past u
   used_begun [] u i = i
   used_begun (s ∷ past) u (inl i) = inl i
   used_begun (s ∷ past) u (inr x) = inr (used_begun past u x.0)
 
-  pub ended_begun : (past : List Step) (u : Labelled) (g : Give) → HasEnded past g u → HasBegun past u
+  pub ended_begun : (past : List Step) (u : Labelled) (g : Give) → HasEndedUse past g u → HasBegun past u
   ended_begun [] u g e = elim e [ ]
   ended_begun (s ∷ past) u g (inl x) = inr (used_begun past u x.1)
   ended_begun (s ∷ past) u g (inr e) = inr (ended_begun past u g e)
 
-  pub ended_gives : (past : List Step) (u : Labelled) (g : Give) → HasEnded past g u → Made past g × GivesUse g u
+  pub ended_gives : (past : List Step) (u : Labelled) (g : Give) → HasEndedUse past g u → Made past g × GivesUse g u
   ended_gives [] u g e = elim e [ ]
   ended_gives (s ∷ past) u g (inl x) = (inl x.0, x.2)
   ended_gives (s ∷ past) u g (inr e) = let x = ended_gives past u g e in (inr x.0, x.1)
@@ -139,10 +136,10 @@ module _ (script : Script) (host : HostId) where
       go all (inr h) (inr k) = all h k
 
   module _ (past : List Step) (s : Step) (run : HostRun script host past) (m : HostMay script host past s) where
-    held_used : (u : Labelled) → InUse past u → Held past u.token
+    held_used : (u : Labelled) → LabelInUse past u → Held past u.token
     held_used u i = owns_held script host past run m.tokens.live u.token (use_owned script host past run u i)
 
-    one_used : (u w : Labelled) → InUse past u → InUse past w → u.token.id ≡ w.token.id → u.label ≡ w.label → u ≡ w
+    one_used : (u w : Labelled) → LabelInUse past u → LabelInUse past w → u.token.id ≡ w.token.id → u.label ≡ w.label → u ≡ w
     one_used u w a b id label =
         let token : u.token ≡ w.token =
         one_held past run u.token w.token (held_used u a) (held_used w b) id in
@@ -191,15 +188,15 @@ module _ (script : Script) (host : HostId) where
         go false e = absurd (never (λ z. false≢true (sym e
             ∙ (ap (λ y. same_name a y) (sym z) ∙ same_self a))))
 
-    ends' : (u : Labelled) → EndsUse s u → InUse past u → HasKept past u.token.id
-        → (IsUsed (s ∷ past) u.token.id → ⊥) → ⊥
+    ends' : (u : Labelled) → EndsUse s u → LabelInUse past u → HasKeptToken past u.token.id
+        → (TokenInUse (s ∷ past) u.token.id → ⊥) → ⊥
     ends' u ends i kept none =
         not_ended u ends (used_begun past u i) (inl ((i, last), kept))
       where
-        last : (w : Labelled) → InUse past w → w.token.id ≡ u.token.id → w ≡ u
+        last : (w : Labelled) → LabelInUse past w → w.token.id ≡ u.token.id → w ≡ u
         last w j id = one_used w u j i id (same_label w.label u.label (λ two. still w j id two))
           where
-            still : (w : Labelled) → InUse past w → w.token.id ≡ u.token.id → (w.label ≡ u.label → ⊥) → ⊥
+            still : (w : Labelled) → LabelInUse past w → w.token.id ≡ u.token.id → (w.label ≡ u.label → ⊥) → ⊥
             still w j id two = none (
               w,
               inr (
@@ -231,7 +228,7 @@ module _ (script : Script) (start : Tree) (firsts : ServerId → ℕ) where
   at_node : (n : Node) (past : List Step) (s : Step) → StepsMeet script start firsts past
       → StepMeets script start firsts n past s → StepUses n past s
   at_node (Host h) past s steps m =
-      host_uses script h (own h past) s (own_run script start firsts past steps h) m.0
+      host_uses script h (steps_of_host h past) s (own_run script start firsts past steps h) m.0
   at_node (Server v) past s steps m = tt
 
   pub uses_run : (past : List Step) → StepsMeet script start firsts past → UsesRun past

@@ -15,14 +15,13 @@ use Rattle.message_types.specs.declared.message.Body.TheVariants.{Grant}
 use Rattle.script_lines.specs.declared.script.Script.{Script}
 use Rattle.tree_laws.specs.Parts.{Part, Seen}
 use Rattle.tree_laws.specs.Parts.Part.{ByteAt, Size, Traits, Entries}
-use Rattle.run_rules.specs.Dirty.{is_dirty, writes_at, writes_byte}
-use Rattle.run_rules.specs.Views.{after_answer, after_answers, is_shown, told_by as told_in_view, told_by_body}
-use Rattle.run_rules.specs.Views.{shown_by, writes_to, written_by as written_in_view, view as host_view}
-use Rattle.run_rules.specs.Views.{sees as host_sees}
+use Rattle.run_rules.specs.Past.{In}
+use Rattle.run_rules.specs.Views.{after_answers, after_call, changed_by_writes as written_in_view, is_dirty, is_shown}
+use Rattle.run_rules.specs.Views.{sees as host_sees, shown_by, told_by_body, told_by_cause as told_in_view}
+use Rattle.run_rules.specs.Views.{view as host_view, writes_at, writes_byte, writes_to}
 use Rattle.run_parts.specs.Contents.{Contents, view, sees, dirty}
 use Rattle.run_contents.specs.Steps.{written_by, written_in, written_at, wrote, told_by, told_in, shown, HostRun}
 use Rattle.run_contents.specs.Steps.{IsOfJournal}
-use Rattle.run_rules.specs.Lists.{In}
 use Rattle.run_rules.specs.declared.applied.Answer.{Answer}
 use Rattle.run_rules.specs.declared.step.Cause.{Cause}
 use Rattle.run_rules.specs.declared.step.Cause.TheVariants.{Message as Came}
@@ -51,7 +50,7 @@ range true x y = refl
 range false x y = refl
 
 leaves : (k : Call) (v : View) (f : Fid) (p : Part)
-    → unwrap_or (written_at (written_by k) (v f Size) p) (v f p) ≡ after_answer k p (v f p)
+    → unwrap_or (written_at (written_by k) (v f Size) p) (v f p) ≡ after_call k p (v f p)
 leaves (Write place from bytes) v f (ByteAt at) =
     range (nat_le from at && nat_lt at (from + length bytes)) (byte_at bytes (at - from)) (v f (ByteAt at))
 leaves (Write place from bytes) v f Size =
@@ -78,7 +77,7 @@ size_twice n x = go (nat_lt x n) refl
     go false e = ap (λ (b : Bool). if b then n else x) e
 
 -- a write that is made again changes nothing
-again : (k : Call) (p : Part) (x : Seen p) → after_answer k p (after_answer k p x) ≡ after_answer k p x
+again : (k : Call) (p : Part) (x : Seen p) → after_call k p (after_call k p x) ≡ after_call k p x
 again (Write place from bytes) (ByteAt at) x =
     twice (nat_le from at && nat_lt at (from + length bytes)) (byte_at bytes (at - from)) x
 again (Write place from bytes) Size x = size_twice (from + length bytes) x
@@ -87,10 +86,10 @@ again (Write place from bytes) Entries x = refl
 again _ p x = refl
 
 after_all : (a : Answer) (rest : List Answer) (p : Part) (x : Seen p) → ((b : Answer) → In b rest → b ≡ a)
-    → after_answers rest p (after_answer a.call p x) ≡ after_answer a.call p x
+    → after_answers rest p (after_call a.call p x) ≡ after_call a.call p x
 after_all a [] p x one = refl
 after_all a (b ∷ rest) p x one =
-    ap (λ (z : Answer). after_answers rest p (after_answer z.call p (after_answer a.call p x))) (one b (inl refl))
+    ap (λ (z : Answer). after_answers rest p (after_call z.call p (after_call a.call p x))) (one b (inl refl))
     ∙ (ap (λ y. after_answers rest p y) (again a.call p x) ∙ after_all a rest p x (λ z m. one z (inr m)))
 
 abbrev pub AnswersOne : Step → Type 0

@@ -17,10 +17,9 @@ use Rattle.token_types.specs.declared.token.Kind.{Kind}
 use Rattle.token_types.specs.declared.token.Kind.TheVariants.{Bytes, Status, Lock, Opening}
 use Rattle.tree_laws.proofs.Steps.{fid_is}
 use Rattle.tree_laws.specs.Parts.Part.{ByteAt, Size}
-use Rattle.run_rules.specs.Dirty.{gives_at}
-use Rattle.run_rules.specs.Told.{byte_of}
-use Rattle.run_rules.specs.Lists.{In}
-use Rattle.run_rules.specs.ServerSends.{AreNeeds}
+use Rattle.run_rules.specs.Past.{In}
+use Rattle.run_rules.specs.ServerMay.{AreNeeds}
+use Rattle.run_rules.specs.Views.{byte_of, gives_at}
 use Rattle.run_rules.specs.declared.step.Step.{Step}
 
 -- one of a list

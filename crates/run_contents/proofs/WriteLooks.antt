@@ -49,7 +49,7 @@ use Rattle.token_types.specs.declared.token.Kind.TheVariants.{Bytes, Status}
 use Rattle.token_types.specs.declared.token.Need.{Need}
 use Rattle.tree_laws.specs.Parts.{Nature}
 use Rattle.tree_laws.specs.Parts.Part.{Size, Traits}
-use Rattle.run_rules.specs.Lists.{In}
+use Rattle.run_rules.specs.Past.{In}
 
 pub in_front : {X : Type 0} (x : X) (xs ys : List X) → In x xs → In x (xs ++ ys)
 in_front x [] ys m = elim m [ ]

@@ -7,13 +7,13 @@ use Rattle.base_types.specs.declared.ids.HostId.{HostId}
 use Rattle.script_lines.specs.declared.script.Script.{Script}
 use Rattle.tree_laws.specs.Parts.{Part, Seen}
 use Rattle.tree_laws.specs.Parts.Part.{Size}
-use Rattle.run_rules.specs.HostRules.{HostMay}
+use Rattle.run_rules.specs.HostMay.{HostMay}
+use Rattle.run_rules.specs.Messages.{Asking}
+use Rattle.run_rules.specs.Past.{In}
 use Rattle.run_rules.specs.Views.{sees as host_sees, writes_to}
 use Rattle.run_parts.specs.Contents.{Contents, WritesGrow, sees}
 use Rattle.run_contents.proofs.Views.{sees_same}
 use Rattle.run_contents.specs.Steps.{HostRun, IsOfJournal, Written, wrote, written_at, written_in}
-use Rattle.run_rules.specs.Lists.{In}
-use Rattle.run_rules.specs.Requests.{Asking}
 use Rattle.run_rules.specs.declared.applied.Answer.{Answer}
 use Rattle.run_rules.specs.declared.step.Step.{Step}
 

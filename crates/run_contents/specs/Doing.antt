@@ -19,27 +19,27 @@ use Rattle.token_types.specs.declared.token.Need.{Need}
 use Rattle.tree_laws.specs.Parts.{Part, Seen}
 use Rattle.tree_laws.specs.Parts.Part.{ByteAt, Entries, Size, Traits}
 use Rattle.run_parts.specs.Doings.{doings_cause}
-use Rattle.run_rules.specs.Told.{byte_of}
+use Rattle.run_rules.specs.Doings.{Doing, admitting, doings_of, sending}
+use Rattle.run_rules.specs.Doings.Doing.{MakesWant, Reserves, WritesDown}
+use Rattle.run_rules.specs.Kept.{filesets_after, filesets_kept, filesets_through, is_refusal, length_given, pieces_in}
+use Rattle.run_rules.specs.ServerDecides.{by_cause, decisions}
+use Rattle.run_rules.specs.Steps.{steps_of_server}
+use Rattle.run_rules.specs.Views.{byte_of}
+use Rattle.run_rules.specs.declared.applied.Applied.TheVariants.{Done as IsDone, IsDown, Stored, Wants as IsWanted}
 use Rattle.run_parts.specs.Cells.{Does}
 use Rattle.run_parts.specs.Cells.Does.{Loses, Nothing, Sets, Stores}
 use Rattle.run_parts.specs.Contents.{site}
 use Rattle.run_parts.specs.Deeds.{Deed}
-use Rattle.run_rules.specs.Kept.{is_refusal, kept, kept_after, kept_through, length_given, pieces_in}
-use Rattle.run_rules.specs.ServerApplies.{by_cause, decisions}
-use Rattle.run_rules.specs.Acts.{Act, acts, admitting, sending}
-use Rattle.run_rules.specs.Acts.Act.{Reserves, Wants, Writes}
-use Rattle.run_rules.specs.Nodes.{served}
 use Rattle.run_rules.specs.declared.applied.Applied.{Applied}
-use Rattle.run_rules.specs.declared.applied.Applied.TheVariants.{Stored, IsDown, Wants as IsWanted, Done as IsDone}
 use Rattle.run_rules.specs.declared.applied.Written.{Written}
 use Rattle.run_rules.specs.declared.step.Cause.{Cause}
 use Rattle.run_rules.specs.declared.step.Step.{Step}
 
 -- what a doing does to each part
-abbrev pub Doing : Type 0
-Doing = Fid → (part : Part) → Does (Seen part)
+abbrev pub Effect : Type 0
+Effect = Fid → (part : Part) → Does (Seen part)
 
-abbrev pub does_nothing : Doing
+abbrev pub does_nothing : Effect
 does_nothing fid part = Nothing
 
 -- a part that has another value now; traits and entries, which are compared by nobody, where the object is touched
@@ -58,18 +58,19 @@ abbrev pub comes : Tree → Tree → Fid → Bool
 comes old new fid = is_none (kept_view old fid Traits) && is_some (kept_view new fid Traits)
 
 -- a Change touches an object under a want for updating its part, or where it comes
-abbrev pub changes : List Need → Tree → Tree → Doing
+abbrev pub changes : List Need → Tree → Tree → Effect
 changes needs old new fid part =
     sets_part (needs_update needs fid part || comes old new fid) part (kept_view old fid part) (kept_view new fid part)
 
 -- a server's Changes change its own files
-abbrev pub at_home : ServerId → Doing → Doing
+abbrev pub at_home : ServerId → Effect → Effect
 at_home v doing fid part = if (site fid).0 == v.0 then doing fid part else Nothing
 
-abbrev pub writes : Cause → Tree → Written → Doing
+abbrev pub writes : Cause → Tree → Written → Effect
 writes cause tree written fid part =
     if is_refusal written.answer.reply then Nothing
-    else changes (wanted_by tree written.answer.host written.answer.call) tree (kept_after cause tree (IsDone written))
+    else changes (wanted_by tree written.answer.host written.answer.call) tree
+    (filesets_after cause tree (IsDone written))
     fid part
 
 -- what a give-back has becomes kept: bytes below the size that is left, and the size
@@ -84,7 +85,7 @@ stores_part pieces given size Traits = Nothing
 stores_part pieces given size Entries = Nothing
 
 -- what a step applies by its cause stands first
-abbrev pub does_first : Cause → Tree → List Applied → Doing
+abbrev pub does_first : Cause → Tree → List Applied → Effect
 does_first cause tree (Stored host file spans given ∷ rest) fid part =
     if same_fid file fid
     then stores_part (pieces_in cause) given (length_given (kept_view tree file Size) given) part
@@ -93,26 +94,27 @@ does_first cause tree (IsDown host ∷ rest) fid part = Loses host
 does_first cause tree _ fid part = Nothing
 
 -- doings with what they do
-abbrev pub with_doing : Doing → List Act → List Deed
+abbrev pub with_doing : Effect → List Doing → List Deed
 with_doing doing acts = map (λ act. let deed : Deed = record { act = act; does = doing } in deed) acts
 
 -- wants are made and Changes written down, one after the other
 abbrev pub decided : ServerId → Cause → Tree → List Applied → List Deed
 decided v cause tree [] = []
 decided v cause tree (IsWanted wanted ∷ rest) =
-    record { act = Wants wanted; does = does_nothing } ∷ decided v cause tree rest
+    record { act = MakesWant wanted; does = does_nothing } ∷ decided v cause tree rest
 decided v cause tree (IsDone written ∷ rest) =
-    record { act = Writes written; does = at_home v (writes cause tree written) }
-    ∷ decided v cause (kept_after cause tree (IsDone written)) rest
+    record { act = WritesDown written; does = at_home v (writes cause tree written) }
+    ∷ decided v cause (filesets_after cause tree (IsDone written)) rest
 decided v cause tree (_ ∷ rest) = decided v cause tree rest
 
 -- all deeds of a server's step, the oldest first: `tree` is what it keeps before the step, `past` its doings
-abbrev pub deeds_of : ServerId → Tree → List Act → Step → List Deed
+abbrev pub deeds_of : ServerId → Tree → List Doing → Step → List Deed
 deeds_of v tree past s =
     with_doing (does_first s.cause tree (by_cause s.applied)) (doings_cause s.cause past [])
-    ++ (decided v s.cause (kept_through s.cause (by_cause s.applied) tree) (decisions s.applied)
+    ++ (decided v s.cause (filesets_through s.cause (by_cause s.applied) tree) (decisions s.applied)
     ++ with_doing does_nothing (admitting s.admitted ++ (sending s.sent ++ (Reserves s.reserved ∷ []))))
 
 abbrev pub deeds_at : Tree → (ServerId → ℕ) → Node → List Step → Step → List Deed
 deeds_at start firsts (Host host) past s = []
-deeds_at start firsts (Server v) past s = deeds_of v (kept start v (served v past)) (acts (firsts v) v past) s
+deeds_at start firsts (Server v) past s =
+    deeds_of v (filesets_kept start v (steps_of_server v past)) (doings_of (firsts v) v past) s

@@ -11,8 +11,8 @@ use Rattle.tree_answers.specs.WellFormed.{IsWellFormed}
 use Rattle.tree_answers.specs.declared.tree.Tree.{Tree}
 use Rattle.tree_laws.specs.Parts.{Part, Seen}
 use Rattle.tree_laws.specs.Parts.Part.{ByteAt, Entries, Size, Traits}
-use Rattle.run_rules.specs.Told.{byte_of}
 use Rattle.run_rules.specs.Kept.{length_given, takes_gifts, tree_given}
+use Rattle.run_rules.specs.Views.{byte_of}
 
 -- a part of a file of a size, after pieces were given: a byte below the size is the one that a piece has, and the size
 -- is that

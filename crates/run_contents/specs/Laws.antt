@@ -14,16 +14,15 @@ use Rattle.script_lines.specs.declared.script.Script.{Script}
 use Rattle.token_types.specs.Conflicts.{need_of}
 use Rattle.token_types.specs.declared.token.Token.{Token}
 use Rattle.tree_laws.specs.Parts.{Part}
+use Rattle.run_rules.specs.Doings.{Doing, SentTo, TookNow, after_admitting, doings_of}
+use Rattle.run_rules.specs.Doings.Doing.{Sent}
+use Rattle.run_rules.specs.HostMay.{HostMay}
+use Rattle.run_rules.specs.Past.{In}
 use Rattle.run_rules.specs.Runs.{IsRun, past_of}
-use Rattle.run_rules.specs.HostRules.{HostMay}
+use Rattle.run_rules.specs.Steps.{steps_of_host}
 use Rattle.run_rules.specs.declared.journal.Journal.{Journal}
 use Rattle.run_parts.specs.Contents.{Contents}
 use Rattle.run_contents.specs.Steps.{HostRun, IsOfJournal}
-use Rattle.run_rules.specs.Acts.{Act, SentTo, acts, admitted_by}
-use Rattle.run_rules.specs.Acts.Act.{Sent}
-use Rattle.run_rules.specs.Hosts.{TookNow}
-use Rattle.run_rules.specs.Lists.{In}
-use Rattle.run_rules.specs.Nodes.{own}
 use Rattle.run_rules.specs.declared.step.Step.{Step}
 
 -- so it is in each step that meets a host's rules, after steps that do
@@ -34,7 +33,7 @@ HoldsForHosts Holds =
 
 -- of a host's step and its own earlier ones
 abbrev pub AtNode : (List Step → Step → Type 0) → Node → List Step → Step → Type 0
-AtNode Holds (Host host) past s = Holds (own host past) s
+AtNode Holds (Host host) past s = Holds (steps_of_host host past) s
 AtNode Holds (Server server) past s = Unit {0}
 
 -- of each step of a host
@@ -49,20 +48,20 @@ HoldsInRuns Holds =
     → EachOwn (Holds c) (past_of journal)
 
 -- so it is for each message of a list that is sent, one after the other, after doings
-abbrev pub EachSent : (List Act → Act → Type 0) → List Message → List Act → Type 0
+abbrev pub EachSent : (List Doing → Doing → Type 0) → List Message → List Doing → Type 0
 EachSent Holds [] past = Unit {0}
 EachSent Holds (m ∷ ms) past =
     Holds past (Sent m.host m.epoch m.moves m.body) × EachSent Holds ms (Sent m.host m.epoch m.moves m.body ∷ past)
 
 -- a Done brings no token that shows a part, but one that was sent before
-abbrev pub DonesAreBlind : List Act → Act → Type 0
+abbrev pub DonesAreBlind : List Doing → Doing → Type 0
 DonesAreBlind past a =
     (h : HostId) (e n : ℕ) (p : Part) (d : DoneOf) (t : Token) → a ≡ Sent h e n (Done d) → In t d.bring.tokens
     → shows t.kind p ≡ true → SentTo past h e n (Done d)
 
 abbrev pub SentAtNode : (ServerId → ℕ) → Node → List Step → Step → Type 0
 SentAtNode firsts (Host host) past s = Unit {0}
-SentAtNode firsts (Server v) past s = EachSent DonesAreBlind s.sent (admitted_by s (acts (firsts v) v past))
+SentAtNode firsts (Server v) past s = EachSent DonesAreBlind s.sent (after_admitting s (doings_of (firsts v) v past))
 
 -- in each step of a server
 abbrev pub DonesShowNothing : (ServerId → ℕ) → List Step → Type 0
@@ -70,7 +69,7 @@ DonesShowNothing firsts [] = Unit {0}
 DonesShowNothing firsts (s ∷ past) = DonesShowNothing firsts past × SentAtNode firsts s.node past s
 
 -- a Grant brings tokens that a Fetch asks for, which was taken in this epoch
-abbrev pub GrantsAreAsked : List Act → Act → Type 0
+abbrev pub GrantsAreAsked : List Doing → Doing → Type 0
 GrantsAreAsked past a =
     (h : HostId) (e n : ℕ) (g : GrantOf) → a ≡ Sent h e n (Grant g)
     → (f : FetchOf) × (k : ℕ) × TookNow past h k (Fetch f) × (f.number ≡ g.bring.number) × (f.fid ≡ g.bring.fid)
@@ -78,7 +77,7 @@ GrantsAreAsked past a =
 
 abbrev pub GrantsAtNode : (ServerId → ℕ) → Node → List Step → Step → Type 0
 GrantsAtNode firsts (Host host) past s = Unit {0}
-GrantsAtNode firsts (Server v) past s = EachSent GrantsAreAsked s.sent (admitted_by s (acts (firsts v) v past))
+GrantsAtNode firsts (Server v) past s = EachSent GrantsAreAsked s.sent (after_admitting s (doings_of (firsts v) v past))
 
 abbrev pub GrantsBringNeeds : (ServerId → ℕ) → List Step → Type 0
 GrantsBringNeeds firsts [] = Unit {0}

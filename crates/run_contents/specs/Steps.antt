@@ -15,10 +15,8 @@ use Rattle.message_types.specs.declared.telling.Grant.{Grant as GrantOf}
 use Rattle.script_lines.specs.declared.script.Script.{Script}
 use Rattle.tree_laws.specs.Parts.{Part, Seen}
 use Rattle.tree_laws.specs.Parts.Part.{ByteAt, Size, Traits, Entries}
-use Rattle.run_rules.specs.Dirty.{gives_at}
-use Rattle.run_rules.specs.HostRules.{HostMay}
-use Rattle.run_rules.specs.Views.{is_shown, sees, writes_to}
-use Rattle.run_rules.specs.Told.{byte_of, told}
+use Rattle.run_rules.specs.HostMay.{HostMay}
+use Rattle.run_rules.specs.Views.{byte_of, gives_at, is_shown, part_told, sees, writes_to}
 use Rattle.run_parts.specs.Contents.{Contents}
 use Rattle.run_rules.specs.declared.applied.Answer.{Answer}
 use Rattle.run_rules.specs.declared.step.Cause.{Cause}
@@ -54,7 +52,7 @@ wrote past s fid part = if writes_to s fid then written_at (written_in s.answers
 
 -- what a Grant tells, under the tokens that are taken
 abbrev pub told_by : Body → (part : Part) → Option (Seen part)
-told_by (Grant grant) part = Some (told grant part)
+told_by (Grant grant) part = Some (part_told grant part)
 told_by _ part = None
 
 abbrev pub told_in : Cause → (part : Part) → Option (Seen part)
@@ -82,5 +80,5 @@ pub record IsOfJournal (c : Contents) : Type 0 where
   pub shown : (s : Step) (f : Fid) (p : Part) → c.shown s f p ≡ shown s f p
   pub gives : (g : Give) (p : Part) → c.gives g p ≡ gives g p
   pub hands : (s : Step) (f : Fid) (at : ℕ) → c.hands s f at ≡ gives_at s f at
-  pub tells : (g : GrantOf) (p : Part) → c.tells g p ≡ told g p
+  pub tells : (g : GrantOf) (p : Part) → c.tells g p ≡ part_told g p
   pub root : (fs : FilesetId) → c.root fs ≡ root_of fs

@@ -24,20 +24,17 @@ use Rattle.run_rules.specs.declared.step.Asked.{Asked}
 use Rattle.run_rules.specs.declared.step.Cause.{Cause}
 use Rattle.run_rules.specs.declared.step.Cause.TheVariants.{Message as Came, Line as LineOf, Restart, Lapse, Evict, End, Flushed}
 use Rattle.run_rules.specs.declared.step.Step.{Step}
-use Rattle.run_rules.specs.Lists.{In}
-use Rattle.run_rules.specs.Lines.{IsNextLine, goes_with, lines_gone, lines_of, servers_of}
-use Rattle.run_rules.specs.HostLines.{DoesDeed}
-use Rattle.run_rules.specs.HostRules.{HostMay}
-use Rattle.run_rules.specs.OpenCalls.{Begins, calls_begun}
+use Rattle.run_rules.specs.HostMay.{DoesLine, HostMay}
+use Rattle.run_rules.specs.Messages.{HasStopped}
+use Rattle.run_rules.specs.Past.{In}
+use Rattle.run_rules.specs.Runs.{StepMeets, StepsMeet, firsts_of, past_of}
+use Rattle.run_rules.specs.Steps.{IsNextLine, goes_with, lines_gone, lines_of, servers_of, steps_of_host}
+use Rattle.run_rules.specs.Tokens.{BeginsCall, calls_begun, end_call, end_of}
 use Rattle.run_due.specs.Begun.{HostRun, asked_as, first_in, begun_as, begun_by, call_in, calls_of, NumberedFrom, BegunByLines}
 use Rattle.run_due.specs.Begun.{CallsAreOfLines, EndedRunsBeginAll}
-use Rattle.run_rules.specs.Runs.{StepMeets, StepsMeet, firsts_of, past_of}
-use Rattle.run_rules.specs.Nodes.{own}
-use Rattle.run_rules.specs.Labels.{end_of, end_call}
 use Rattle.run_rules.specs.declared.step.Labelled.{Labelled}
 use Rattle.run_tokens.proofs.Words.{own_after, if_host}
 use Rattle.message_types.specs.Soundness.{Each, IsEnd}
-use Rattle.run_rules.specs.Sends.{HasStopped}
 
 too_many : (n : ℕ) → suc (suc n) ≤ 1 → ⊥
 too_many n le = let k : suc (suc n) ≤ 1 = le in omega (arith, k)
@@ -103,7 +100,7 @@ module _ (script : Script) (host : HostId) (past : List Step) (s : Step) (m : Ho
   begun = begun_as s.asked s.answers
 
   -- what it begins it has begun
-  begun_of : (k : ℕ) (call : Call) → Begins s k call → begun_as s.asked s.answers ≡ asked_as k call ∷ []
+  begun_of : (k : ℕ) (call : Call) → BeginsCall s k call → begun_as s.asked s.answers ≡ asked_as k call ∷ []
   begun_of k call (inl p) = ap (λ (o : Option Asked). begun_as o s.answers) p
   begun_of k call (inr (a, i, f, ek, ec)) = go s.asked refl
     where
@@ -121,17 +118,17 @@ module _ (script : Script) (host : HostId) (past : List Step) (s : Step) (m : Ho
 
   -- it begins none, or one
   begun_cases : (begun_as s.asked s.answers ≡ [])
-      ⊎ ((x : Asked) × (begun_as s.asked s.answers ≡ x ∷ []) × Begins s x.k x.call)
+      ⊎ ((x : Asked) × (begun_as s.asked s.answers ≡ x ∷ []) × BeginsCall s x.k x.call)
   begun_cases = go s.asked refl
     where
       one : (xs : List Answer) → s.answers ≡ xs → s.asked ≡ None → length xs ≤ 1
-          → (begun_as s.asked s.answers ≡ []) ⊎ ((x : Asked) × (begun_as s.asked s.answers ≡ x ∷ []) × Begins s x.k x.call)
+          → (begun_as s.asked s.answers ≡ []) ⊎ ((x : Asked) × (begun_as s.asked s.answers ≡ x ∷ []) × BeginsCall s x.k x.call)
       one [] e n le =
           inl (ap (λ (o : Option Asked). begun_as o s.answers) n ∙ ap first_in e)
       one (x ∷ []) e n le = by x.first refl
         where
           by : (b : Bool) → x.first ≡ b → (begun_as s.asked s.answers ≡ [])
-              ⊎ ((y : Asked) × (begun_as s.asked s.answers ≡ y ∷ []) × Begins s y.k y.call)
+              ⊎ ((y : Asked) × (begun_as s.asked s.answers ≡ y ∷ []) × BeginsCall s y.k y.call)
           by true f = inr (
             asked_as x.k x.call,
             ap (λ (o : Option Asked). begun_as o s.answers) n ∙ (ap first_in e ∙ first_one x f),
@@ -141,11 +138,11 @@ module _ (script : Script) (host : HostId) (past : List Step) (s : Step) (m : Ho
       one (x ∷ y ∷ xs) e n le = absurd (too_many (length xs) le)
 
       go : (o : Option Asked) → s.asked ≡ o → (begun_as s.asked s.answers ≡ [])
-          ⊎ ((x : Asked) × (begun_as s.asked s.answers ≡ x ∷ []) × Begins s x.k x.call)
+          ⊎ ((x : Asked) × (begun_as s.asked s.answers ≡ x ∷ []) × BeginsCall s x.k x.call)
       go (Some c) e = inr (c, ap (λ (o : Option Asked). begun_as o s.answers) e, inl e)
       go None e = one s.answers refl e m.answers.answers_one
 
-  begun_none : ((k : ℕ) (call : Call) → Begins s k call → ⊥) → begun_as s.asked s.answers ≡ []
+  begun_none : ((k : ℕ) (call : Call) → BeginsCall s k call → ⊥) → begun_as s.asked s.answers ≡ []
   begun_none none = elim begun_cases [ inl e ↦ e | inr x ↦ absurd (none x.0.k x.0.call x.2) ]
 
   step_count : calls_begun (s ∷ past) ≡ length (begun_as s.asked s.answers) + calls_begun past
@@ -234,7 +231,7 @@ module _ (script : Script) (host : HostId) (past : List Step) (s : Step) (m : Ho
     by_line n e = by next.0.deed refl next.2
       where
         next : (line : Line) × IsNextLine (lines_of script (Host host)) past n line
-            × DoesDeed (servers_of script.roster) past s line.deed
+            × DoesLine (servers_of script.roster) past s line.deed
         next = m.lines.next n e
 
         next_is : slice_get (lines_of script (Host host)) (lines_gone past) ≡ Some next.0
@@ -262,26 +259,26 @@ module _ (script : Script) (host : HostId) (past : List Step) (s : Step) (m : Ho
             ∙ (ap (λ z. calls_of (take (lines_gone past) (lines_of script (Host host))) ++ z) (sym q)
             ∙ (sym more ∙ sym (append-nil _)))) (inl refl) tt (λ st. refl)
 
-        by : (d : Deed) → next.0.deed ≡ d → DoesDeed (servers_of script.roster) past s next.0.deed
+        by : (d : Deed) → next.0.deed ≡ d → DoesLine (servers_of script.roster) past s next.0.deed
             → BegunByLines (lines_of script (Host host)) (s ∷ past)
         by (MakesCall call) q x =
-            let does : Begins s (suc (calls_begun past)) call = subst (DoesDeed (servers_of script.roster) past s) q x in
+            let does : BeginsCall s (suc (calls_begun past)) call = subst (DoesLine (servers_of script.roster) past s) q x in
             one_more (asked_as (suc (calls_begun past)) call) (begun_of (suc (calls_begun past)) call does) refl []
             (ap (λ z. (calls_of (take (lines_gone past) (lines_of script (Host host))) ++ z) ++ call ∷ []) none_implied
             ∙ (ap (λ z. z ++ call ∷ []) (append-nil _)
             ∙ (ap (λ z. calls_of (take (lines_gone past) (lines_of script (Host host))) ++ z) (sym (ap call_in q))
             ∙ (sym more ∙ sym (append-nil _))))) (inl refl) tt (λ st. refl)
         by (Raise flag) q x =
-            let bare = subst (DoesDeed (servers_of script.roster) past s) q x in
+            let bare = subst (DoesLine (servers_of script.roster) past s) q x in
             none_in (ap call_in q) (ap (λ (z : Step). begun_as z.asked z.answers) bare)
         by (Await flag) q x =
-            let bare = subst (DoesDeed (servers_of script.roster) past s) q x in
+            let bare = subst (DoesLine (servers_of script.roster) past s) q x in
             none_in (ap call_in q) (ap (λ (z : Step). begun_as z.asked z.answers) bare)
         by Stop q x =
-            let stop = subst (DoesDeed (servers_of script.roster) past s) q x in
+            let stop = subst (DoesLine (servers_of script.roster) past s) q x in
             none_in (ap call_in q)
             (ap (λ (o : Option Asked). begun_as o s.answers) stop.2 ∙ ap first_in stop.3)
-        by Restarts q x = elim (subst (DoesDeed (servers_of script.roster) past s) q x) [ ]
+        by Restarts q x = elim (subst (DoesLine (servers_of script.roster) past s) q x) [ ]
 
     by_end : s.cause ≡ End → BegunByLines (lines_of script (Host host)) (s ∷ past)
     by_end e = elim begun_cases [
@@ -296,7 +293,7 @@ module _ (script : Script) (host : HostId) (past : List Step) (s : Step) (m : Ho
         no_line : (n : ℕ) → s.cause ≡ LineOf n → ⊥
         no_line n q = let r : End ≡ LineOf n = sym e ∙ q in cc
 
-        is_end : (x : Asked) → Begins s x.k x.call → IsEnd x.call
+        is_end : (x : Asked) → BeginsCall s x.k x.call → IsEnd x.call
         is_end x begins =
             let k = (m.ends.implied x.k x.call e begins).1 in
             subst IsEnd (sym k.2) (ends_is_end k.0)
@@ -329,20 +326,20 @@ calls_are_of_lines script host [] run = record {
 calls_are_of_lines script host (s ∷ past) run = next_step script host past s run.1 (calls_are_of_lines script host past run.0)
 
 module _ (script : Script) (start : Tree) (firsts : ServerId → ℕ) where
-  own_step : (n : Node) (past : List Step) (s : Step) (h : HostId) → HostRun script h (own h past)
-      → StepMeets script start firsts n past s → HostRun script h (own_after h n s (own h past))
+  own_step : (n : Node) (past : List Step) (s : Step) (h : HostId) → HostRun script h (steps_of_host h past)
+      → StepMeets script start firsts n past s → HostRun script h (own_after h n s (steps_of_host h past))
   own_step (Host k) past s h run m =
-      if_host (HostRun script h) k h (s ∷ own h past) (own h past)
-      (λ e. (run, subst (λ (j : HostId). HostMay script j (own j past) s) e m.0)) run
+      if_host (HostRun script h) k h (s ∷ steps_of_host h past) (steps_of_host h past)
+      (λ e. (run, subst (λ (j : HostId). HostMay script j (steps_of_host j past) s) e m.0)) run
   own_step (Server k) past s h run m = run
 
-  own_run : (past : List Step) → StepsMeet script start firsts past → (h : HostId) → HostRun script h (own h past)
+  own_run : (past : List Step) → StepsMeet script start firsts past → (h : HostId) → HostRun script h (steps_of_host h past)
   own_run [] run h = tt
   own_run (s ∷ past) run h = own_step s.node past s h (own_run past run.0 h) run.1.0
 
 pub ended_runs : EndedRunsBeginAll
 ended_runs script journal host run ended part =
-    let b = calls_are_of_lines script host (own host (past_of journal))
+    let b = calls_are_of_lines script host (steps_of_host host (past_of journal))
     (own_run script run.start (firsts_of journal) (past_of journal) run.steps host) in
     let gone = (ended.hosts host part).0 in (
       b.implied,

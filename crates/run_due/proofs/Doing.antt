@@ -2,9 +2,8 @@
 use Rattle.std.proofs.Common.{[], ℕ, ◌≡◌, ◌∙◌, ◌∷◌, List, ap, subst, sym, refl, inl, inr, length, suc, arith}
 use Rattle.base_types.specs.declared.ids.Node.TheVariants.{Host}
 use Rattle.message_types.specs.declared.message.Body.TheVariants.{Fetch}
-use Rattle.run_rules.specs.Lists.{In, after}
-use Rattle.run_rules.specs.Nodes.{own}
-use Rattle.run_rules.specs.Lines.{lines_of, lines_gone}
+use Rattle.run_rules.specs.Past.{In, appended}
+use Rattle.run_rules.specs.Steps.{lines_gone, lines_of, steps_of_host}
 use Rattle.run_rules.specs.declared.applied.Leave.{Leave}
 use Rattle.run_due.specs.HostsDo.{HostsDo, LeftAlone, AsksEarly, GreetsAgain, LapsesMore, LapsesBusily, FetchesAgain, KeepsGive}
 use Rattle.run_due.specs.HostsDo.{ClaimsIdly, HoldsBack, FreesNothing, EvictsOther, DropsOther, EndsPartly, SaysByeHolding, SaysByeAgain, DoesServersWork, SyncsNothing, EvictsEarly}
@@ -131,7 +130,7 @@ runs_go_on = record {
   silent = λ script journal host part none some ended.
       let gone = (ended.hosts host part).0 in
       let zero_gone : 0 ≡ length (lines_of script (Host host)) =
-      subst (λ xs. lines_gone (own host (after xs [])) ≡ length (lines_of script (Host host))) none gone in
+      subst (λ xs. lines_gone (steps_of_host host (appended xs [])) ≡ length (lines_of script (Host host))) none gone in
       omega (arith, zero_gone, some);
   server = λ script journal server part left ended. left (ended.lines server part);
   known = λ script journal server host part listed stays ended. stays (ended.servers server host part listed);

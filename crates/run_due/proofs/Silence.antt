@@ -1,7 +1,7 @@
 -- Where something is due, something is said.
 use Rattle.std.proofs.Common.{[], ℕ, ◌≡◌, subst, inl, inr}
-use Rattle.run_rules.specs.Hosts.{IsLive}
-use Rattle.run_rules.specs.Lists.{In}
+use Rattle.run_rules.specs.Doings.{IsLive}
+use Rattle.run_rules.specs.Past.{In}
 use Rattle.run_due.specs.Due.{HostsSpeak, ServersSpeak, AskedForIdle, AskedForUsed, AskedForGiven, LapsesOwing}
 use Rattle.run_due.specs.Due.{LapsesClaimed, HearsRestart, ReclaimedOwing, EndsIdly}
 use Rattle.run_due.specs.Due.{HearsHello, HearsBye, HearsLate, RestartsKnown, LapsesKnown, TakesGive, WritesDown, ComesAgain, FetchWaits, LapsesOwed, ClaimsAgain}

@@ -1,5 +1,21 @@
 -- The calls that a host begins in a run are those of its lines.
-use Rattle.std.specs.Prelude.{◌≡◌, ◌⊎◌, ℕ, suc, if◌then◌else◌, List, [], ◌∷◌, ◌++◌, length, map, take, Option, Some, None}
+use Rattle.std.specs.Prelude.{
+  ◌≡◌,
+  ◌⊎◌,
+  ℕ,
+  suc,
+  if◌then◌else◌,
+  List,
+  [],
+  ◌∷◌,
+  ◌++◌,
+  length,
+  map,
+  take,
+  Option,
+  Some,
+  None,
+}
 use Rattle.base_types.specs.declared.ids.HostId.{HostId}
 use Rattle.base_types.specs.declared.ids.Node.TheVariants.{Host}
 use Rattle.tree_calls.specs.declared.call.Call.{Call}
@@ -10,14 +26,13 @@ use Rattle.script_lines.specs.declared.script.Script.{Script}
 use Rattle.run_rules.specs.declared.applied.Answer.{Answer}
 use Rattle.run_rules.specs.declared.step.Asked.{Asked}
 use Rattle.run_rules.specs.declared.step.Step.{Step}
-use Rattle.run_rules.specs.Nodes.{own}
-use Rattle.run_rules.specs.Sends.{HasStopped}
+use Rattle.run_rules.specs.HostMay.{HostMay}
+use Rattle.run_rules.specs.Messages.{HasStopped}
+use Rattle.run_rules.specs.Runs.{IsEnded, IsRun, TakesPart, past_of}
+use Rattle.run_rules.specs.Steps.{lines_gone, lines_of, steps_of_host}
+use Rattle.run_rules.specs.Tokens.{calls_begun}
 use Rattle.message_types.specs.Soundness.{Each, IsEnd}
 use Rattle.run_rules.specs.declared.journal.Journal.{Journal}
-use Rattle.run_rules.specs.Lines.{lines_gone, lines_of}
-use Rattle.run_rules.specs.HostRules.{HostMay}
-use Rattle.run_rules.specs.OpenCalls.{calls_begun}
-use Rattle.run_rules.specs.Runs.{IsRun, IsEnded, TakesPart, past_of}
 
 -- all steps of a host meet its rules
 abbrev pub HostRun : Script → HostId → List Step → Type 0
@@ -75,8 +90,9 @@ CallsAreOfLines = (script : Script) (host : HostId) (past : List Step) → HostR
 -- In an ended run each host has begun the calls of all its lines, and then those that it makes by itself, which end
 -- uses of labels.
 abbrev pub EndedRunsBeginAll : Type 0
-EndedRunsBeginAll = (script : Script) (journal : Journal) (host : HostId) → IsRun script journal → IsEnded script journal
+EndedRunsBeginAll =
+    (script : Script) (journal : Journal) (host : HostId) → IsRun script journal → IsEnded script journal
     → TakesPart script (Host host)
-    → let begun : List Asked = begun_by (own host (past_of journal)) in (implied : List Call)
+    → let begun : List Asked = begun_by (steps_of_host host (past_of journal)) in (implied : List Call)
     × (map (λ asked. asked.call) begun ≡ calls_of (lines_of script (Host host)) ++ implied) × NumberedFrom 1 begun
-    × Each IsEnd implied × (HasStopped (own host (past_of journal)) → implied ≡ [])
+    × Each IsEnd implied × (HasStopped (steps_of_host host (past_of journal)) → implied ≡ [])

@@ -10,7 +10,16 @@ use Rattle.base_types.specs.declared.ids.Fid.{Fid}
 use Rattle.tree_answers.specs.declared.tree.Tree.{Tree}
 use Rattle.token_types.specs.declared.token.Token.{Token}
 use Rattle.token_types.specs.declared.token.TokenId.{TokenId}
-use Rattle.message_types.specs.declared.message.Body.TheVariants.{Hello, Fetch, Change, Restarted, Gone, Revoke, Reclaim, Bye}
+use Rattle.message_types.specs.declared.message.Body.TheVariants.{
+  Hello,
+  Fetch,
+  Change,
+  Restarted,
+  Gone,
+  Revoke,
+  Reclaim,
+  Bye,
+}
 use Rattle.message_types.specs.declared.asking.Fetch.{Fetch as FetchOf}
 use Rattle.message_types.specs.declared.asking.Change.{Change as ChangeOf}
 use Rattle.message_types.specs.declared.giving.Give.{Give}
@@ -21,37 +30,35 @@ use Rattle.script_lines.specs.declared.script.Script.{Script}
 use Rattle.script_lines.specs.declared.script.Line.{Line}
 use Rattle.script_lines.specs.declared.script.Deed.TheVariants.{Await}
 use Rattle.run_rules.specs.declared.journal.Journal.{Journal}
-use Rattle.run_rules.specs.Lines.{lines_of, lines_gone, limit_of, setup}
-use Rattle.run_rules.specs.declared.applied.Request.{Request}
+use Rattle.run_rules.specs.Doings.{Doing, HasGoneAway, HasReclaimed, HeardNow, IsLive, Listed, ListedNow, SentNow}
+use Rattle.run_rules.specs.Doings.{TakenNow, TookNow, after_cause, after_deciding, after_step, doings_of}
+use Rattle.run_rules.specs.HostDue.{HasBye, HasDirty, IsUnanswered}
+use Rattle.run_rules.specs.HostMay.{ClaimsAt, LearnsRestart}
+use Rattle.run_rules.specs.HostTokens.{MayEvict}
+use Rattle.run_rules.specs.Kept.{filesets_kept, filesets_through}
+use Rattle.run_rules.specs.Messages.{About, Asking, Changing, Comes, HasGreeted, HasSaid, HasStopped, IsWelcome, Says}
+use Rattle.run_rules.specs.Messages.{Sends, epoch_at}
+use Rattle.run_rules.specs.Past.{Always, In}
+use Rattle.run_rules.specs.Runs.{FlagsMet, HostIsDone, IsDutiful, IsEnded, IsLine, IsRaised, IsRun, TakesPart}
+use Rattle.run_rules.specs.Runs.{firsts_of, past_of}
+use Rattle.run_rules.specs.ServerDecides.{IsNewRequest, IsOfRow, NotRefused, RefusedOn}
+use Rattle.run_rules.specs.ServerMay.{HasRevoked, IsAskedBack}
+use Rattle.run_rules.specs.ServerTokens.{HasTakenGives}
+use Rattle.run_rules.specs.Steps.{IsBareStep, IsNextLine, limit_of, lines_gone, lines_of, servers_of, setup}
+use Rattle.run_rules.specs.Steps.{steps_of_host, steps_of_server}
+use Rattle.run_rules.specs.Tokens.{AtHand, Drops, FreesPinned, HasCall, Held, IsKnown, IsOpen, IsOutstanding, Made}
+use Rattle.run_rules.specs.Tokens.{NoneOpen, NoneUsed, end_of}
+use Rattle.run_rules.specs.Views.{FindsFile, IsDirtyUnder, Stance}
+use Rattle.run_rules.specs.Wants.{CanDecide, CanGrant, CanRefuse, IsQueued, has_effect, is_use}
 use Rattle.run_rules.specs.declared.applied.Request.TheVariants.{Change as Changes}
+use Rattle.run_rules.specs.declared.applied.Why.TheVariants.{Ended}
+use Rattle.run_rules.specs.declared.applied.Request.{Request}
 use Rattle.run_rules.specs.declared.applied.Wanted.{Wanted}
 use Rattle.run_rules.specs.declared.step.Asked.{Asked}
 use Rattle.run_rules.specs.declared.step.Cause.TheVariants.{Evict, Flushed, Lapse, Line as LineOf, Restart}
 use Rattle.run_rules.specs.declared.step.Step.{Step}
-use Rattle.run_rules.specs.Acts.{Act, after_cause, after_step, written_by}
-use Rattle.run_rules.specs.Epochs.{About, IsWelcome}
-use Rattle.run_rules.specs.Gives.{Made, IsKnown, IsOutstanding}
-use Rattle.run_rules.specs.Hosts.{IsLive, HasReclaimed}
-use Rattle.run_rules.specs.Lists.{In}
-use Rattle.run_rules.specs.Nodes.{IsBare, own}
-use Rattle.run_rules.specs.Requests.{Asking, Changing}
-use Rattle.run_rules.specs.Sends.{HasStopped, HasGreeted, Sends, Says}
-use Rattle.run_rules.specs.ServerTokens.{HasAll}
-use Rattle.run_rules.specs.Hosts.{TookNow}
-use Rattle.run_rules.specs.Tokens.{AtHand, Held}
-use Rattle.run_rules.specs.Dirty.{IsDirtyUnder}
-use Rattle.run_rules.specs.HostLeaves.{MayEvict}
-use Rattle.run_rules.specs.Knowing.{FindsFile}
 use Rattle.run_rules.specs.declared.step.Labelled.{Labelled}
-use Rattle.run_rules.specs.Labels.{FreesPinned, end_of}
-use Rattle.run_rules.specs.OpenCalls.{IsOpen, IsTurn}
-use Rattle.run_rules.specs.ServerAnswers.{SentNow, TakenNow}
 use Rattle.tree_calls.specs.declared.reply.Refusal.{Refusal}
-use Rattle.run_rules.specs.ServerDecides.{IsNewRequest, RefusedOn, NotRefused}
-use Rattle.run_rules.specs.ServerSends.{IsAskedBack, Revoked}
-use Rattle.run_rules.specs.Kept.{kept, kept_through}
-use Rattle.run_rules.specs.Wants.{Waits, IsReady, has_effect}
-use Rattle.run_rules.specs.Runs.{IsEnded, FlagsMet, TakesPart, IsLine, IsRaised, HostIsDone, past_of}
 use Rattle.std.specs.Prelude.{◌++◌}
 use Rattle.base_types.specs.declared.ids.Node.TheVariants.{Server}
 use Rattle.message_types.specs.declared.message.Body.{Body}
@@ -59,26 +66,8 @@ use Rattle.message_types.specs.declared.message.Body.TheVariants.{GiveBack, Done
 use Rattle.message_types.specs.declared.message.Message.{Message}
 use Rattle.message_types.specs.declared.giving.Reclaimed.{Reclaimed as ReclaimedOf}
 use Rattle.message_types.specs.declared.telling.Done.{Done as DoneOf}
-use Rattle.run_rules.specs.Epochs.{Comes, epoch_at}
-use Rattle.run_rules.specs.Acts.{acts}
-use Rattle.run_rules.specs.Lists.{Always}
-use Rattle.run_rules.specs.Hosts.{Away, Listed}
-use Rattle.run_rules.specs.HostGives.{HasDirty}
-use Rattle.run_rules.specs.HostResends.{ClaimsAt, HasBye, LearnsRestart, Outstanding}
-use Rattle.run_rules.specs.Knowing.{Stance}
-use Rattle.run_rules.specs.Labels.{NoneUsed}
-use Rattle.run_rules.specs.Lines.{IsNextLine, servers_of}
-use Rattle.run_rules.specs.Nodes.{served}
-use Rattle.run_rules.specs.OpenCalls.{NoneOpen}
-use Rattle.run_rules.specs.Runs.{IsDutiful, IsRun, firsts_of}
-use Rattle.run_rules.specs.Sends.{HasSaid}
-use Rattle.run_rules.specs.ServerAnswers.{HeardNow, ListedNow}
-use Rattle.run_rules.specs.ServerDecides.{IsOfRow}
-use Rattle.run_rules.specs.Tokens.{Drops}
-use Rattle.run_rules.specs.Wants.{CanGrant, CanRefuse, is_use}
 use Rattle.run_rules.specs.declared.applied.Answer.{Answer}
 use Rattle.run_rules.specs.declared.applied.Leave.{Leave}
-use Rattle.run_rules.specs.declared.applied.Why.TheVariants.{Ended}
 use Rattle.run_rules.specs.declared.step.Cause.TheVariants.{End}
 use Rattle.script_lines.specs.declared.script.Deed.TheVariants.{Restart as Restarts}
 use Rattle.run_due.specs.Dutiful.{Never, NeverAt, NeverFrom, NeverIn, SaysTwice}
@@ -107,7 +96,7 @@ GreetsAgain past s = (v : ServerId) × (e : ℕ) × (n : ℕ) × Sends s v e n H
 -- a lapse sends something that isn't outstanding, and no claim
 abbrev pub LapsesMore : List Step → Step → Type 0
 LapsesMore past s = (v : ServerId) × (e : ℕ) × (n : ℕ) × (b : Body) × (s.cause ≡ Lapse) × Sends s v e n b
-    × (Outstanding past v n b → ⊥) × ((claim : ReclaimOf) → b ≡ Reclaim claim → ⊥)
+    × (IsUnanswered past v n b → ⊥) × ((claim : ReclaimOf) → b ≡ Reclaim claim → ⊥)
 
 -- a lapse answers a call, or makes a give-back
 abbrev pub LapsesBusily : List Step → Step → Type 0
@@ -116,12 +105,12 @@ LapsesBusily past s = (s.cause ≡ Lapse) × (((a : Answer) × In a s.answers) �
 -- an outstanding Fetch is sent again where no lapse and no answer to a claim comes
 abbrev pub FetchesAgain : List Step → Step → Type 0
 FetchesAgain past s = (v : ServerId) × (e : ℕ) × (n : ℕ) × (f : FetchOf) × Sends s v e n (Fetch f)
-    × Outstanding past v n (Fetch f) × (s.cause ≡ Lapse → ⊥)
+    × IsUnanswered past v n (Fetch f) × (s.cause ≡ Lapse → ⊥)
     × ((answer : ReclaimedOf) → Comes past s v (Reclaimed answer) → ⊥)
 
 -- a server has restarted, and a give-back that is outstanding there isn't sent again
 abbrev pub KeepsGive : List Step → Step → Type 0
-KeepsGive past s = (v : ServerId) × (n : ℕ) × (g : Give) × LearnsRestart past s v × Outstanding past v n (GiveBack g)
+KeepsGive past s = (v : ServerId) × (n : ℕ) × (g : Give) × LearnsRestart past s v × IsUnanswered past v n (GiveBack g)
     × (Sends s v (epoch_at (s ∷ past) v) n (GiveBack g) → ⊥)
 
 -- a server is sent a claim that hasn't restarted, at no lapse
@@ -144,7 +133,7 @@ pub record SyncsNothing (script : Script) (host : HostId) (past : List Step) (s 
   pub place : Place
   pub fid : Fid
   pub t : Token
-  pub turn : IsTurn past s k (Sync place)
+  pub turn : HasCall past s k (Sync place)
   pub finds : (stance : Stance script.roster host past s) → FindsFile stance place fid
   pub at : AtHand s past t
   pub file : t.fid ≡ fid
@@ -154,7 +143,7 @@ pub record SyncsNothing (script : Script) (host : HostId) (past : List Step) (s 
 -- the last use of a pinned token is ended, and no give-back made
 abbrev pub FreesNothing : List Step → Step → Type 0
 FreesNothing past s =
-    (k : ℕ) × (u : Labelled) × IsTurn past s k (end_of u) × FreesPinned past u × (s.made ≡ [])
+    (k : ℕ) × (u : Labelled) × HasCall past s k (end_of u) × FreesPinned past u × (s.made ≡ [])
 
 abbrev pub SaysByeHolding : List Step → Step → Type 0
 SaysByeHolding past s =

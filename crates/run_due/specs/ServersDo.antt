@@ -10,7 +10,16 @@ use Rattle.base_types.specs.declared.ids.Fid.{Fid}
 use Rattle.tree_answers.specs.declared.tree.Tree.{Tree}
 use Rattle.token_types.specs.declared.token.Token.{Token}
 use Rattle.token_types.specs.declared.token.TokenId.{TokenId}
-use Rattle.message_types.specs.declared.message.Body.TheVariants.{Hello, Fetch, Change, Restarted, Gone, Revoke, Reclaim, Bye}
+use Rattle.message_types.specs.declared.message.Body.TheVariants.{
+  Hello,
+  Fetch,
+  Change,
+  Restarted,
+  Gone,
+  Revoke,
+  Reclaim,
+  Bye,
+}
 use Rattle.message_types.specs.declared.asking.Fetch.{Fetch as FetchOf}
 use Rattle.message_types.specs.declared.asking.Change.{Change as ChangeOf}
 use Rattle.message_types.specs.declared.giving.Give.{Give}
@@ -21,37 +30,35 @@ use Rattle.script_lines.specs.declared.script.Script.{Script}
 use Rattle.script_lines.specs.declared.script.Line.{Line}
 use Rattle.script_lines.specs.declared.script.Deed.TheVariants.{Await}
 use Rattle.run_rules.specs.declared.journal.Journal.{Journal}
-use Rattle.run_rules.specs.Lines.{lines_of, lines_gone, limit_of, setup}
-use Rattle.run_rules.specs.declared.applied.Request.{Request}
+use Rattle.run_rules.specs.Doings.{Doing, HasGoneAway, HasReclaimed, HeardNow, IsLive, Listed, ListedNow, SentNow}
+use Rattle.run_rules.specs.Doings.{TakenNow, TookNow, after_cause, after_deciding, after_step, doings_of}
+use Rattle.run_rules.specs.HostDue.{HasBye, HasDirty, IsUnanswered}
+use Rattle.run_rules.specs.HostMay.{ClaimsAt, LearnsRestart}
+use Rattle.run_rules.specs.HostTokens.{MayEvict}
+use Rattle.run_rules.specs.Kept.{filesets_kept, filesets_through}
+use Rattle.run_rules.specs.Messages.{About, Asking, Changing, Comes, HasGreeted, HasSaid, HasStopped, IsWelcome, Says}
+use Rattle.run_rules.specs.Messages.{Sends, epoch_at}
+use Rattle.run_rules.specs.Past.{Always, In}
+use Rattle.run_rules.specs.Runs.{FlagsMet, HostIsDone, IsDutiful, IsEnded, IsLine, IsRaised, IsRun, TakesPart}
+use Rattle.run_rules.specs.Runs.{firsts_of, past_of}
+use Rattle.run_rules.specs.ServerDecides.{IsNewRequest, IsOfRow, NotRefused, RefusedOn}
+use Rattle.run_rules.specs.ServerMay.{HasRevoked, IsAskedBack}
+use Rattle.run_rules.specs.ServerTokens.{HasTakenGives}
+use Rattle.run_rules.specs.Steps.{IsBareStep, IsNextLine, limit_of, lines_gone, lines_of, servers_of, setup}
+use Rattle.run_rules.specs.Steps.{steps_of_host, steps_of_server}
+use Rattle.run_rules.specs.Tokens.{AtHand, Drops, FreesPinned, HasCall, Held, IsKnown, IsOpen, IsOutstanding, Made}
+use Rattle.run_rules.specs.Tokens.{NoneOpen, NoneUsed, end_of}
+use Rattle.run_rules.specs.Views.{FindsFile, IsDirtyUnder, Stance}
+use Rattle.run_rules.specs.Wants.{CanDecide, CanGrant, CanRefuse, IsQueued, has_effect, is_use}
 use Rattle.run_rules.specs.declared.applied.Request.TheVariants.{Change as Changes}
+use Rattle.run_rules.specs.declared.applied.Why.TheVariants.{Ended}
+use Rattle.run_rules.specs.declared.applied.Request.{Request}
 use Rattle.run_rules.specs.declared.applied.Wanted.{Wanted}
 use Rattle.run_rules.specs.declared.step.Asked.{Asked}
 use Rattle.run_rules.specs.declared.step.Cause.TheVariants.{Evict, Flushed, Lapse, Line as LineOf, Restart}
 use Rattle.run_rules.specs.declared.step.Step.{Step}
-use Rattle.run_rules.specs.Acts.{Act, after_cause, after_step, written_by}
-use Rattle.run_rules.specs.Epochs.{About, IsWelcome}
-use Rattle.run_rules.specs.Gives.{Made, IsKnown, IsOutstanding}
-use Rattle.run_rules.specs.Hosts.{IsLive, HasReclaimed}
-use Rattle.run_rules.specs.Lists.{In}
-use Rattle.run_rules.specs.Nodes.{IsBare, own}
-use Rattle.run_rules.specs.Requests.{Asking, Changing}
-use Rattle.run_rules.specs.Sends.{HasStopped, HasGreeted, Sends, Says}
-use Rattle.run_rules.specs.ServerTokens.{HasAll}
-use Rattle.run_rules.specs.Hosts.{TookNow}
-use Rattle.run_rules.specs.Tokens.{AtHand, Held}
-use Rattle.run_rules.specs.Dirty.{IsDirtyUnder}
-use Rattle.run_rules.specs.HostLeaves.{MayEvict}
-use Rattle.run_rules.specs.Knowing.{FindsFile}
 use Rattle.run_rules.specs.declared.step.Labelled.{Labelled}
-use Rattle.run_rules.specs.Labels.{FreesPinned, end_of}
-use Rattle.run_rules.specs.OpenCalls.{IsOpen, IsTurn}
-use Rattle.run_rules.specs.ServerAnswers.{SentNow, TakenNow}
 use Rattle.tree_calls.specs.declared.reply.Refusal.{Refusal}
-use Rattle.run_rules.specs.ServerDecides.{IsNewRequest, RefusedOn, NotRefused}
-use Rattle.run_rules.specs.ServerSends.{IsAskedBack, Revoked}
-use Rattle.run_rules.specs.Kept.{kept, kept_through}
-use Rattle.run_rules.specs.Wants.{Waits, IsReady, has_effect}
-use Rattle.run_rules.specs.Runs.{IsEnded, FlagsMet, TakesPart, IsLine, IsRaised, HostIsDone, past_of}
 use Rattle.std.specs.Prelude.{◌++◌}
 use Rattle.base_types.specs.declared.ids.Node.TheVariants.{Server}
 use Rattle.message_types.specs.declared.message.Body.{Body}
@@ -59,115 +66,97 @@ use Rattle.message_types.specs.declared.message.Body.TheVariants.{GiveBack, Done
 use Rattle.message_types.specs.declared.message.Message.{Message}
 use Rattle.message_types.specs.declared.giving.Reclaimed.{Reclaimed as ReclaimedOf}
 use Rattle.message_types.specs.declared.telling.Done.{Done as DoneOf}
-use Rattle.run_rules.specs.Epochs.{Comes, epoch_at}
-use Rattle.run_rules.specs.Acts.{acts}
-use Rattle.run_rules.specs.Lists.{Always}
-use Rattle.run_rules.specs.Hosts.{Away, Listed}
-use Rattle.run_rules.specs.HostGives.{HasDirty}
-use Rattle.run_rules.specs.HostResends.{ClaimsAt, HasBye, LearnsRestart, Outstanding}
-use Rattle.run_rules.specs.Knowing.{Stance}
-use Rattle.run_rules.specs.Labels.{NoneUsed}
-use Rattle.run_rules.specs.Lines.{IsNextLine, servers_of}
-use Rattle.run_rules.specs.Nodes.{served}
-use Rattle.run_rules.specs.OpenCalls.{NoneOpen}
-use Rattle.run_rules.specs.Runs.{IsDutiful, IsRun, firsts_of}
-use Rattle.run_rules.specs.Sends.{HasSaid}
-use Rattle.run_rules.specs.ServerAnswers.{HeardNow, ListedNow}
-use Rattle.run_rules.specs.ServerDecides.{IsOfRow}
-use Rattle.run_rules.specs.Tokens.{Drops}
-use Rattle.run_rules.specs.Wants.{CanGrant, CanRefuse, is_use}
 use Rattle.run_rules.specs.declared.applied.Answer.{Answer}
 use Rattle.run_rules.specs.declared.applied.Leave.{Leave}
-use Rattle.run_rules.specs.declared.applied.Why.TheVariants.{Ended}
 use Rattle.run_rules.specs.declared.step.Cause.TheVariants.{End}
 use Rattle.script_lines.specs.declared.script.Deed.TheVariants.{Restart as Restarts}
 use Rattle.run_due.specs.Dutiful.{Never, NeverAt, NeverFrom, NeverIn, SaysTwice}
 
 -- its kept filesets once the step has decided
 abbrev pub kept_now : Tree → ServerId → List Step → Step → Tree
-kept_now start v steps s = kept_through s.cause s.applied (kept start v steps)
+kept_now start v steps s = filesets_through s.cause s.applied (filesets_kept start v steps)
 
 -- A Change waits after all decisions, though it could be decided: it is refused, or has an effect, or is a use that
 -- meets a pinned token.
 pub record LeavesUndecided
-    (script : Script) (start : Tree) (v : ServerId) (steps : List Step) (past : List Act) (s : Step) : Type 0 where
+    (script : Script) (start : Tree) (v : ServerId) (steps : List Step) (past : List Doing) (s : Step) : Type 0 where
   pub w : Wanted
   pub c : ChangeOf
-  pub waits : Waits (written_by s past) w
+  pub waits : IsQueued (after_deciding s past) w
   pub request : w.request ≡ Changes c
-  pub due : (IsReady v (written_by s past) w
+  pub due : (CanDecide v (after_deciding s past) w
       × (((refusal : Refusal) × RefusedOn (kept_now start v steps s) w.host c refusal)
       ⊎ ((has_effect c ≡ true) × NotRefused (kept_now start v steps s) w.host c)))
-      ⊎ (CanRefuse v (written_by s past) w × IsOfRow (kept_now start v steps s) w c
+      ⊎ (CanRefuse v (after_deciding s past) w × IsOfRow (kept_now start v steps s) w c
       × NotRefused (kept_now start v steps s) w.host c)
 
 -- A lock, an open file or a fileset to enter, which nothing refuses, waits at the end of a step though it can be
 -- granted; or a use whose path names another file now waits though it could be decided.
 pub record LeavesUngranted
-    (script : Script) (start : Tree) (v : ServerId) (steps : List Step) (past : List Act) (s : Step) : Type 0 where
+    (script : Script) (start : Tree) (v : ServerId) (steps : List Step) (past : List Doing) (s : Step) : Type 0 where
   pub w : Wanted
   pub c : ChangeOf
-  pub waits : Waits (after_step s past) w
+  pub waits : IsQueued (after_step s past) w
   pub request : w.request ≡ Changes c
   pub accepted : NotRefused (kept_now start v steps s) w.host c
   pub due : (CanGrant v (after_step s past) w × ((is_use c.call ≡ true) ⊎ (c.enter ≡ true)))
-      ⊎ ((is_use c.call ≡ true) × IsReady v (after_step s past) w × (IsOfRow (kept_now start v steps s) w c → ⊥))
+      ⊎ ((is_use c.call ≡ true) × CanDecide v (after_step s past) w × (IsOfRow (kept_now start v steps s) w c → ⊥))
 
 -- a token in the way of a want hasn't been asked back at the end of a step
-abbrev pub LeavesBlocked : ServerId → List Act → Step → Type 0
+abbrev pub LeavesBlocked : ServerId → List Doing → Step → Type 0
 LeavesBlocked v past s =
-    (t : Token) × IsAskedBack v (after_step s past) t × (Revoked (after_step s past) t → ⊥)
+    (t : Token) × IsAskedBack v (after_step s past) t × (HasRevoked (after_step s past) t → ⊥)
 
 -- two Revokes of a step name one token
-abbrev pub RevokesTwice : ServerId → List Act → Step → Type 0
+abbrev pub RevokesTwice : ServerId → List Doing → Step → Type 0
 RevokesTwice v past s = (h : HostId) × (r q : RevokeOf) × (i : TokenId) × SentNow s h (Revoke r)
     × SentNow s h (Revoke q) × In i r.ids × In i q.ids × (r ≢ q)
 
 -- a new request makes no want
-abbrev pub ForgetsRequest : ServerId → List Act → Step → Type 0
+abbrev pub ForgetsRequest : ServerId → List Doing → Step → Type 0
 ForgetsRequest v past s = (h : HostId) × (n : ℕ) × (r : Request)
     × IsNewRequest v past (after_cause s.cause past) s h n r × (s.applied ≡ [])
 
 -- a claim that counts isn't admitted, or isn't answered
-pub record LeavesClaim (v : ServerId) (past : List Act) (s : Step) : Type 0 where
+pub record LeavesClaim (v : ServerId) (past : List Doing) (s : Step) : Type 0 where
   pub h : HostId
   pub n : ℕ
   pub claim : ReclaimOf
   pub took : TookNow (after_cause s.cause past) h n (Reclaim claim)
   pub first : HasReclaimed past h → ⊥
   pub live : IsLive (after_cause s.cause past) h
-  pub whole : HasAll v (after_cause s.cause past) h claim
+  pub whole : HasTakenGives v (after_cause s.cause past) h claim
   pub none : (s.admitted ≡ []) ⊎ (s.sent ≡ [])
 
 -- a live host that came on the list in an older epoch says Hello, and isn't told of the restart
-abbrev pub WelcomesOld : ServerId → List Act → Step → Type 0
+abbrev pub WelcomesOld : ServerId → List Doing → Step → Type 0
 WelcomesOld v past s = (h : HostId) × HeardNow s h Hello × IsLive past h × (ListedNow past h → ⊥)
     × (SentNow s h Restarted → ⊥)
 
 -- somebody is told of a restart who isn't live
-abbrev pub TellsStranger : ServerId → List Act → Step → Type 0
+abbrev pub TellsStranger : ServerId → List Doing → Step → Type 0
 TellsStranger v past s = (h : HostId) × SentNow s h Restarted × (IsLive past h → ⊥)
 
 -- at a lapse it answers what didn't come: a give-back, a claim or a greeting, a Bye, a Change
-abbrev pub GivesUnasked : ServerId → List Act → Step → Type 0
+abbrev pub GivesUnasked : ServerId → List Doing → Step → Type 0
 GivesUnasked v past s = (h : HostId) × (n : AppliedGive) × SentNow s h (Gone n) × (s.cause ≡ Lapse)
 
-abbrev pub WelcomesUnasked : ServerId → List Act → Step → Type 0
+abbrev pub WelcomesUnasked : ServerId → List Doing → Step → Type 0
 WelcomesUnasked v past s =
     (h : HostId) × (answer : ReclaimedOf) × SentNow s h (Reclaimed answer) × (s.cause ≡ Lapse) × (s.admitted ≡ [])
 
-abbrev pub EndsUnasked : ServerId → List Act → Step → Type 0
+abbrev pub EndsUnasked : ServerId → List Doing → Step → Type 0
 EndsUnasked v past s = (h : HostId) × SentNow s h Bye × (s.cause ≡ Lapse)
 
-abbrev pub SettlesUnasked : ServerId → List Act → Step → Type 0
+abbrev pub SettlesUnasked : ServerId → List Doing → Step → Type 0
 SettlesUnasked v past s = (h : HostId) × (d : DoneOf) × SentNow s h (Done d) × (s.cause ≡ Lapse)
-    × ((w : Wanted) → Waits past w → ⊥)
+    × ((w : Wanted) → IsQueued past w → ⊥)
 
 -- a line that is no restart does something; another line than `restart` restarts
-abbrev pub LineDoes : ServerId → List Act → Step → Type 0
-LineDoes v past s = (n : ℕ) × (s.cause ≡ LineOf n) × (IsBare s → ⊥)
+abbrev pub LineDoes : ServerId → List Doing → Step → Type 0
+LineDoes v past s = (n : ℕ) × (s.cause ≡ LineOf n) × (IsBareStep s → ⊥)
 
-abbrev pub RestartsByOther : Script → Tree → ServerId → List Step → List Act → Step → Type 0
+abbrev pub RestartsByOther : Script → Tree → ServerId → List Step → List Doing → Step → Type 0
 RestartsByOther script start v steps past s = (n : ℕ) × (s.cause ≡ Restart n)
     × ((line : Line) → IsNextLine (lines_of script (Server v)) steps n line → line.deed ≡ Restarts → ⊥)
 

@@ -31,16 +31,11 @@ use Rattle.token_types.specs.declared.token.Kind.{Kind}
 use Rattle.token_types.specs.declared.token.Kind.TheVariants.{Bytes, Status, Lock as LockToken, Opening}
 use Rattle.token_types.specs.declared.token.Need.{Need}
 use Rattle.token_types.specs.declared.token.Token.{Token}
-use Rattle.run_rules.specs.HostAnswers.{HostAnswers, IsExact}
-use Rattle.run_rules.specs.Knowing.{Stance}
-use Rattle.run_rules.specs.Dirty.{IsDirtyUnder}
-use Rattle.run_rules.specs.Gives.{Makes}
-use Rattle.run_rules.specs.Labels.{FreesPinned, GivesUse, end_of}
-use Rattle.run_rules.specs.OpenCalls.{GoesOn, IsTurn}
-use Rattle.run_rules.specs.Tokens.{AtHand}
+use Rattle.run_rules.specs.HostMay.{HostAnswers, IsExact}
+use Rattle.run_rules.specs.Past.{In}
+use Rattle.run_rules.specs.Tokens.{AtHand, CallGoesOn, FreesPinned, GivesUse, HasCall, Makes, end_of}
+use Rattle.run_rules.specs.Views.{IsDirtyUnder, Stance, sees}
 use Rattle.message_types.specs.declared.giving.Give.{Give}
-use Rattle.run_rules.specs.Views.{sees}
-use Rattle.run_rules.specs.Lists.{In}
 use Rattle.run_rules.specs.declared.applied.Answer.{Answer}
 use Rattle.run_rules.specs.declared.step.Asked.{Asked}
 use Rattle.run_rules.specs.declared.step.Labelled.{Labelled}
@@ -414,7 +409,7 @@ answer_tests site host user past s =
     ∷ []
 
 it_goes : (site : ServerId) (past : List Step) (s : Step) (a : Answer) → is_local site past ≡ true
-    → list_any (is_that a) (goes_on site past s) ≡ true → GoesOn past s a.k a.call
+    → list_any (is_that a) (goes_on site past s) ≡ true → CallGoesOn past s a.k a.call
 unfolding same_place same_call same_reply spans_all covers_kind covers_it lacks_kind lacks_it replies_so no_reply
     is_that answered_right cant turn_right is_short is_file wrote_right writes_file written_right is_lock_of is_exact
     takes_lock lock_right begun_right is_sync synced ends_in freed_right is_first_or_on no_asked answer_tests
@@ -423,7 +418,7 @@ it_goes site past s a local e =
     let q = and_parts (p.0.k == a.k) (same_call p.0.call a.call) p.2 in
     let k = eqb-true p.0.k a.k q.0 in
     let c = call_is p.0.call a.call q.1 in
-    subst (λ (x : Asked). GoesOn past s x.k x.call) (λ i. the_call (k i) (c i)) (in_goes site past s p.0 local p.1)
+    subst (λ (x : Asked). CallGoesOn past s x.k x.call) (λ i. the_call (k i) (c i)) (in_goes site past s p.0 local p.1)
 
 answered_none : (s : Step) (a : Answer) (b : Bool) → (is_none s.answers || b) ≡ true → In a s.answers → b ≡ true
 unfolding same_place same_call same_reply spans_all covers_kind covers_it lacks_kind lacks_it replies_so no_reply
@@ -590,7 +585,7 @@ module _ (site : ServerId) (roster : Roster) (host : HostId) (user : User) (past
   answers_meet e = answers_from (all_true (answer_tests site host user past s) e)
 
   pub syncs_meet : passes (answer_tests site host user past s) ≡ true → (k : ℕ) (place : Place) (t : Token)
-      → IsTurn past s k (Sync place) → AtHand s past t → IsDirtyUnder past s t → Makes s t.id
+      → HasCall past s k (Sync place) → AtHand s past t → IsDirtyUnder past s t → Makes s t.id
   unfolding synced answer_tests is_sync
   syncs_meet all k place t turn h d =
       let tests = (all_true (answer_tests site host user past s) all).1.1.1.1.1.1.1.1.1.1.1.1.1.1 in
@@ -603,7 +598,7 @@ module _ (site : ServerId) (roster : Roster) (host : HostId) (user : User) (past
       (gives_it s t.id)) (hand s past) t e (hand_in s past t h)) (dirty_under_is past s t d))
 
   pub frees_meet : passes (answer_tests site host user past s) ≡ true → (k : ℕ) (u : Labelled)
-      → IsTurn past s k (end_of u) → FreesPinned past u → (g : Give) × In g s.made × GivesUse g u
+      → HasCall past s k (end_of u) → FreesPinned past u → (g : Give) × In g s.made × GivesUse g u
   unfolding freed_right ends_in answer_tests
   frees_meet all k u turn x =
       let tests = (all_true (answer_tests site host user past s) all).1.1.1.1.1.1.1.1.1.1.1.1.1.1 in

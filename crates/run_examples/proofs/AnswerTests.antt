@@ -39,19 +39,19 @@ use Rattle.std.proofs.lemmas.Bool.{and_from, and_parts, eq-eqb, eqb-true, or_cas
 use Rattle.std.specs.List.{list_all, list_any}
 use Rattle.std.specs.Prelude.{not, slice_get}
 use Rattle.token_types.specs.declared.token.Token.{Token}
-use Rattle.run_rules.specs.Lines.{IsNextLine, lines_gone, lines_of}
-use Rattle.run_rules.specs.Kept.{kept, kept_through}
-use Rattle.run_rules.specs.ServerAnswers.{HeardNow, OnlyAnswers, SentNow, ServerAnswers, TakenNow, empty}
-use Rattle.run_rules.specs.ServerApplies.{FirstDown, FirstGiven, ServerApplies, by_cause, decisions, ended_by}
-use Rattle.run_rules.specs.ServerApplies.{is_decision, stored_of}
-use Rattle.run_rules.specs.ServerRules.{ServerMeets}
-use Rattle.run_rules.specs.Acts.{Act, admitted_by, admitting, after_cause, after_step, deciding, epoch, sending}
-use Rattle.run_rules.specs.Acts.{sent_by, written_by}
-use Rattle.run_rules.specs.Acts.Act.{Reserves}
-use Rattle.run_rules.specs.Gives.{number_of}
-use Rattle.run_rules.specs.Hosts.{HasReclaimed, IsDown, IsLive, Listed, TookNow}
-use Rattle.run_rules.specs.declared.applied.Admission.{Admission}
+use Rattle.run_rules.specs.Doings.{Doing, HasGoneDown, HasReclaimed, HeardNow, IsLive, Listed, SentNow, TakenNow}
+use Rattle.run_rules.specs.Doings.{TookNow, admitting, after_admitting, after_cause, after_deciding, after_sending}
+use Rattle.run_rules.specs.Doings.{after_step, deciding, epoch, sending}
+use Rattle.run_rules.specs.Doings.Doing.{Reserves}
+use Rattle.run_rules.specs.Kept.{filesets_kept, filesets_through}
+use Rattle.run_rules.specs.ServerDecides.{FirstDown, FirstGiven, ServerApplies, by_cause, decisions, ended_by}
+use Rattle.run_rules.specs.ServerDecides.{is_decision, stored_of}
+use Rattle.run_rules.specs.ServerDue.{ServerAnswers, ServerMeets, empty_reclaimed}
+use Rattle.run_rules.specs.ServerMay.{OnlyAnswers}
+use Rattle.run_rules.specs.Steps.{IsNextLine, lines_gone, lines_of}
+use Rattle.run_rules.specs.Tokens.{number_of}
 use Rattle.run_rules.specs.declared.applied.Applied.TheVariants.{IsDown as GoesDown}
+use Rattle.run_rules.specs.declared.applied.Admission.{Admission}
 use Rattle.run_rules.specs.declared.step.Cause.{Cause}
 use Rattle.run_rules.specs.declared.step.Cause.TheVariants.{Message as Came, End, Evict, Flushed, Lapse}
 use Rattle.run_rules.specs.declared.step.Cause.TheVariants.{Line as LineOf, Restart}
@@ -66,12 +66,12 @@ is_claim_body (Reclaim claim) = true
 is_claim_body _ = false
 
 -- a claim that comes is the host's first of the epoch, nothing was given up, and all is granted again
-unfoldable pub admits_so : List Act → Step → Message → Bool
+unfoldable pub admits_so : List Doing → Step → Message → Bool
 admits_so past s m =
     (not (reclaimed past m.host) && list_any (λ (c : Admission). same_host c.host m.host) s.admitted)
     && (sends_to s m.host is_empty && quiet (after_cause s.cause past))
 
-unfoldable pub answers_so : List Act → Step → Message → List Bool
+unfoldable pub answers_so : List Doing → Step → Message → List Bool
 answers_so past s m =
     implies (is_hello m.body) (not (listed past m.host) && sends_to s m.host is_empty)
     ∷ implies (is_bye m.body) (sends_to s m.host is_bye)
@@ -80,12 +80,12 @@ answers_so past s m =
     ∷ implies (is_claim_body m.body) (admits_so past s m)
     ∷ []
 
-unfoldable pub reclaimed_only : List Act → Step → Message → Body → Bool
+unfoldable pub reclaimed_only : List Doing → Step → Message → Body → Bool
 reclaimed_only past s k (Reclaimed r) =
     reclaimed_by past s.cause k || list_any (λ (c : Admission). same_host c.host k.host) s.admitted
 reclaimed_only past s k _ = true
 
-unfoldable pub answer_list : List Act → Step → List Bool
+unfoldable pub answer_list : List Doing → Step → List Bool
 answer_list past s =
     by_message true (λ m. passes (answers_so past s m)) s.cause
     ∷ list_all (bye_only past s.cause) s.sent
@@ -97,7 +97,7 @@ answer_list past s =
     ∷ list_all (λ k. reclaimed_only past s k k.body) s.sent
     ∷ []
 
-unfoldable pub first_body : ServerId → List Act → Message → Body → Bool
+unfoldable pub first_body : ServerId → List Doing → Message → Body → Bool
 first_body server past m (GiveBack g) =
     is_taken past m && (here server g.fid.fileset m.moves && not (applied server past m.host (number_of g)))
 first_body server past m Down = not (down past m.host)
@@ -121,22 +121,22 @@ unfoldable pub no_file : Option Fid → Bool
 no_file None = true
 no_file (Some fid) = false
 
-unfoldable pub step_tests : ServerId → List Line → Tree → List Step → List Act → Step → List Bool
+unfoldable pub step_tests : ServerId → List Line → Tree → List Step → List Doing → Step → List Bool
 step_tests server lines tree steps past s =
     passes (answer_list past s)
     ∷ acts_right server (deciding s.applied) (after_cause s.cause past)
-    ∷ acts_right server (admitting s.admitted) (written_by s past)
-    ∷ acts_right server (sending s.sent) (admitted_by s past)
+    ∷ acts_right server (admitting s.admitted) (after_deciding s past)
+    ∷ acts_right server (sending s.sent) (after_admitting s past)
     ∷ is_none s.reserved
     ∷ by_message true (λ m. first_body server past m m.body) s.cause
     ∷ list_all is_decision (decisions s.applied)
     ∷ lines_right lines steps s.cause
     ∷ no_asked s.asked ∷ is_none s.taken ∷ is_none s.answers ∷ no_file s.wrote ∷ is_none s.begun ∷ is_none s.made
     ∷ is_none s.dropped
-    ∷ all_decided server (kept_through s.cause (by_cause s.applied) tree) past (after_cause s.cause past) s
+    ∷ all_decided server (filesets_through s.cause (by_cause s.applied) tree) past (after_cause s.cause past) s
     (decisions s.applied)
-    ∷ passes (decided_tests server (kept_through s.cause s.applied tree) past (written_by s past) s)
-    ∷ sends_right server (kept_through s.cause s.applied tree) s (sending s.sent) (admitted_by s past)
+    ∷ passes (decided_tests server (filesets_through s.cause s.applied tree) past (after_deciding s past) s)
+    ∷ sends_right server (filesets_through s.cause s.applied tree) s (sending s.sent) (after_admitting s past)
     ∷ passes (sent_tests server past (after_step s past) s)
     ∷ []
 
@@ -146,7 +146,7 @@ unfolding send_words is_hello is_bye is_down is_restarted is_lapse is_to sends_t
     answer_list reclaimed_only reclaimed_by first_body is_restart_deed is_restart_line lines_right no_file step_tests
 answer_words = 0
 
-empty_body : (b : Body) → is_empty b ≡ true → b ≡ Reclaimed empty
+empty_body : (b : Body) → is_empty b ≡ true → b ≡ Reclaimed empty_reclaimed
 unfolding is_empty
 empty_body (Reclaimed r) e =
     let p = and_parts (is_none r.applied) (is_none r.left_out) e in
@@ -155,7 +155,7 @@ empty_body (Reclaimed r) e =
     λ i. Reclaimed (record { applied = a i; left_out = l i })
 empty_body b e = absurd (cc)
 
-module _ (server : ServerId) (past : List Act) (s : Step) where
+module _ (server : ServerId) (past : List Doing) (s : Step) where
   claims_before : (h : HostId) (n : ℕ) (claim : ReclaimOf) → list_all (reclaimed past) (claimants past) ≡ true
       → TookNow past h n (Reclaim claim) → HasReclaimed past h
   claims_before h n claim t x =
@@ -187,7 +187,7 @@ module _ (server : ServerId) (past : List Act) (s : Step) where
           let q = and_parts a (not (down past k.host)) p in
           let r = came_bye k.host s.cause refl q.0 in (
             subst (λ y. HeardNow s y Bye) at r,
-            λ x. is_not (down past k.host) q.1 (down_is past k.host (subst (λ y. IsDown past y) (sym at) x)),
+            λ x. is_not (down past k.host) q.1 (down_is past k.host (subst (λ y. HasGoneDown past y) (sym at) x)),
           );
       reclaimed_only = λ h r (k, i, at, is).
           let a = by_message false (λ m. is_hello m.body && same_host m.host k.host) s.cause in
@@ -197,7 +197,7 @@ module _ (server : ServerId) (past : List Act) (s : Step) where
           elim (or_cases (a && not (down past k.host)) b p) [
             | inl x ↦ (let q = and_parts a (not (down past k.host)) x in inl (
               subst (λ y. HeardNow s y Hello) at (came_hello k.host s.cause refl q.0),
-              λ z. is_not (down past k.host) q.1 (down_is past k.host (subst (λ y. IsDown past y) (sym at) z)),
+              λ z. is_not (down past k.host) q.1 (down_is past k.host (subst (λ y. HasGoneDown past y) (sym at) z)),
             ))
             | inr x ↦ (let c = some_in (λ (c : Admission). same_host c.host k.host) s.admitted x in
                 inr (inl (c.0, c.1, host_is c.0.host k.host c.2 ∙ at)))
@@ -207,7 +207,7 @@ module _ (server : ServerId) (past : List Act) (s : Step) where
       hello_old = λ h (m, c, at, is) l old.
           absurd (is_not (listed past m.host) (hello m c is).0 (listed_is past m.host (subst (Listed past) (sym at) l.0)));
       hello = λ h (m, c, at, is) d l.
-          subst (λ y. SentNow s y (Reclaimed empty)) at (sends_now s m.host is_empty (Reclaimed empty) empty_body
+          subst (λ y. SentNow s y (Reclaimed empty_reclaimed)) at (sends_now s m.host is_empty (Reclaimed empty_reclaimed) empty_body
           (hello m c is).1);
       bye = λ h (m, c, at, is) d l.
           subst (λ y. SentNow s y Bye) at (sends_now s m.host is_bye Bye bye_body (so (is_bye m.body)
@@ -260,8 +260,8 @@ module _ (server : ServerId) (past : List Act) (s : Step) where
           let c = some_in (λ (c : Admission). same_host c.host f.0.host) s.admitted r.1 in (
             (c.0, c.1, host_is c.0.host f.0.host c.2 ∙ f.2),
             (
-              empty,
-              subst (λ y. SentNow s y (Reclaimed empty)) f.2 (sends_now s f.0.host is_empty (Reclaimed empty) empty_body r.2),
+              empty_reclaimed,
+              subst (λ y. SentNow s y (Reclaimed empty_reclaimed)) f.2 (sends_now s f.0.host is_empty (Reclaimed empty_reclaimed) empty_body r.2),
               record {
                 applied = λ g y named. absurd (none_taken server (after_cause s.cause past) h g.fid.fileset g r.3 y);
                 applied_only = λ n m. elim m [ ];
@@ -357,7 +357,7 @@ abbrev pub AppliesCause : Tree → Step → Cause → Type 0
 AppliesCause tree s (Came m) = AppliesBody tree s m.host m.body
 AppliesCause tree s _ = by_cause s.applied ≡ []
 
-module _ (server : ServerId) (tree : Tree) (past : List Act) (s : Step) where
+module _ (server : ServerId) (tree : Tree) (past : List Doing) (s : Step) where
   pub all_applied : AppliesCause tree s s.cause → by_message true (λ m. first_body server past m m.body) s.cause ≡ true
       → list_all is_decision (decisions s.applied) ≡ true → is_none s.reserved ≡ true → ServerApplies server tree past s
   unfolding first_body is_taken
@@ -429,15 +429,15 @@ restart_line lines steps n (Some line) is e =
     (line, (is, eqb-true line.number n p.0), restart_deed line.deed p.1)
 
 -- all rules of a step
-pub step_meets : (script : Script) (start : Tree) (server : ServerId) (steps : List Step) (past : List Act) (s : Step)
-    → AppliesCause (kept start server steps) s s.cause
-    → TellsAll (kept_through s.cause s.applied (kept start server steps)) s.sent
-    → passes (step_tests server (lines_of script (Server server)) (kept start server steps) steps past s) ≡ true
+pub step_meets : (script : Script) (start : Tree) (server : ServerId) (steps : List Step) (past : List Doing) (s : Step)
+    → AppliesCause (filesets_kept start server steps) s s.cause
+    → TellsAll (filesets_through s.cause s.applied (filesets_kept start server steps)) s.sent
+    → passes (step_tests server (lines_of script (Server server)) (filesets_kept start server steps) steps past s) ≡ true
     → ServerMeets script start server steps past s
 unfolding step_tests lines_right act_right
 step_meets script start server steps past s applies_ tells e =
-    let tree = kept start server steps in
-    let now = kept_through s.cause s.applied tree in
+    let tree = filesets_kept start server steps in
+    let now = filesets_through s.cause s.applied tree in
     let lines = lines_of script (Server server) in
     let t = all_true (step_tests server lines tree steps past s) e in
     let u = t.1.1.1.1.1.1.1 in
@@ -447,9 +447,9 @@ step_meets script start server steps past s applies_ tells e =
       may = record {
         tokens = record {
           writes = may_all server (deciding s.applied) (after_cause s.cause past) t.1.0;
-          admits = may_all server (admitting s.admitted) (written_by s past) t.1.1.0;
-          sends = may_all server (sending s.sent) (admitted_by s past) t.1.1.1.0;
-          reserves = may_act server (sent_by s past) (Reserves s.reserved) (none_right s.reserved t.1.1.1.1.0);
+          admits = may_all server (admitting s.admitted) (after_deciding s past) t.1.1.0;
+          sends = may_all server (sending s.sent) (after_admitting s past) t.1.1.1.0;
+          reserves = may_act server (after_sending s past) (Reserves s.reserved) (none_right s.reserved t.1.1.1.1.0);
         };
         no_host = record {
           causes = (
@@ -469,9 +469,9 @@ step_meets script start server steps past s applies_ tells e =
         answers = said.0;
         works = record {
           applies = all_applied server tree past s applies_ t.1.1.1.1.1.0 t.1.1.1.1.1.1.0 t.1.1.1.1.0;
-          decides = decides_all server (kept_through s.cause (by_cause s.applied) tree) past (after_cause s.cause past)
+          decides = decides_all server (filesets_through s.cause (by_cause s.applied) tree) past (after_cause s.cause past)
               s (decisions s.applied) v.0;
-          sends = sends_all server now s s.sent (admitted_by s past) tells v.1.1.0;
+          sends = sends_all server now s s.sent (after_admitting s past) tells v.1.1.0;
         };
       };
       due = record {
@@ -480,12 +480,12 @@ step_meets script start server steps past s applies_ tells e =
           restarts = λ n c. restart_at lines n (subst (λ c. lines_right lines steps c ≡ true) c u.0);
         };
         answers = said.1;
-        decided = has_decided server now past (written_by s past) s v.1.0;
+        decided = has_decided server now past (after_deciding s past) s v.1.0;
         sent = has_sent server now past (after_step s past) s v.1.1.1.0;
       };
     }
   where
-    none_right : (ts : List Token) → is_none ts ≡ true → act_right server (sent_by s past) (Reserves ts) ≡ true
+    none_right : (ts : List Token) → is_none ts ≡ true → act_right server (after_sending s past) (Reserves ts) ≡ true
     none_right ts e = e
 
     not_line : (lines : List Line) (n : ℕ) → lines_right lines steps (LineOf n) ≡ true → ⊥

@@ -1,10 +1,11 @@
 -- The rules of asking for a host's step that asks nothing new, computed.
 use Rattle.run_examples.proofs.FetchWords.{asking_yes, fetch_body, is_asking, is_fetch}
 use Rattle.run_examples.proofs.Words.{in_said, said}
-use Rattle.run_rules.specs.HostAsks.{HasFetched}
-use Rattle.run_rules.specs.Sends.{Said}
+use Rattle.run_rules.specs.HostAsks.{AwaitsGone, HasFetched}
+use Rattle.run_rules.specs.Messages.{Asking, Said}
+use Rattle.run_rules.specs.Past.{In}
+use Rattle.run_rules.specs.Tokens.{GiveOpen, number_of}
 use Rattle.message_types.specs.declared.message.Message.{Message}
-use Rattle.run_rules.specs.Gives.{GiveOpen}
 use Rattle.std.proofs.Common.{Bool, List, Some, [], false, inl, inr, refl, subst, sym, true}
 use Rattle.std.proofs.Common.{◌&&◌, ◌||◌, ◌∙◌, ◌∷◌, ◌≡◌}
 use Rattle.std.proofs.lemmas.Bool.{and_parts, or_cases}
@@ -28,10 +29,6 @@ use Rattle.message_types.specs.declared.giving.AppliedGive.{AppliedGive}
 use Rattle.message_types.specs.declared.giving.Give.{Give}
 use Rattle.message_types.specs.declared.message.Body.{Body}
 use Rattle.message_types.specs.declared.message.Body.TheVariants.{Hello, Fetch, Change}
-use Rattle.run_rules.specs.HostAsks.{AwaitsGone}
-use Rattle.run_rules.specs.Gives.{number_of}
-use Rattle.run_rules.specs.Lists.{In}
-use Rattle.run_rules.specs.Requests.{Asking}
 use Rattle.run_rules.specs.declared.step.Asked.{Asked}
 use Rattle.run_rules.specs.declared.step.Step.{Step}
 use Rattle.run_examples.proofs.Tests.{passes, is_not, some_in, is_none, none_in, fid_is}

@@ -56,15 +56,10 @@ use Rattle.token_types.specs.declared.token.Token.{Token}
 use Rattle.tree_laws.specs.Parts.Part.{Traits}
 use Rattle.run_rules.specs.HostAsks.{AsksServer, FetchNeeds, GoesTo, HostAsks, IsNewChange, IsNewFetch}
 use Rattle.run_rules.specs.HostAsks.FetchNeeds.{OfDirectory}
-use Rattle.run_rules.specs.Knowing.{Stance, is_entering, stay_asked}
-use Rattle.run_rules.specs.OpenCalls.{IsOpen}
-use Rattle.run_rules.specs.Views.{sees}
-use Rattle.run_rules.specs.Epochs.{IsWelcome}
-use Rattle.run_rules.specs.Grants.{IsUseKind}
-use Rattle.run_rules.specs.Lists.{In}
-use Rattle.run_rules.specs.Places.{place}
-use Rattle.run_rules.specs.Requests.{Asking, Changing}
-use Rattle.run_rules.specs.Sends.{HasGreeted, Said, Sends}
+use Rattle.run_rules.specs.Messages.{Asking, Changing, HasGreeted, IsWelcome, Said, Sends, stay_of}
+use Rattle.run_rules.specs.Past.{In}
+use Rattle.run_rules.specs.Tokens.{IsOpen, IsUseKind}
+use Rattle.run_rules.specs.Views.{Stance, is_entering, sees, stay_asked}
 use Rattle.run_rules.specs.declared.step.Asked.{Asked as AskedCall}
 use Rattle.run_rules.specs.declared.step.Cause.TheVariants.{Lapse}
 use Rattle.run_rules.specs.declared.step.Step.{Step}
@@ -92,7 +87,7 @@ asks_at site host user past s call test =
 unfoldable pub goes_at : ServerId → HostId → User → List Step → Step → Call → ServerId → Bool
 goes_at site host user past s call v =
     lacks_such (lack_of (held (s ∷ past)) (needs_at site host user past s call))
-    (λ n. same_server (place (s ∷ past) n.fid.fileset).server v)
+    (λ n. same_server (stay_of (s ∷ past) n.fid.fileset).server v)
     || asks_at site host user past s call (λ q fid. same_server (stay_asked (s ∷ past) q).server v)
 
 -- no Hello was sent to the server
@@ -237,12 +232,12 @@ module _ (site : ServerId) (roster : Roster) (host : HostId) (user : User) (past
   unfolding goes_at
   goes_yes call v e =
       let needs = needs_at site host user past s call in
-      let near = λ (n : Need). same_server (place (s ∷ past) n.fid.fileset).server v in
+      let near = λ (n : Need). same_server (stay_of (s ∷ past) n.fid.fileset).server v in
       let far = λ (q : Question) (fid : Fid). same_server (stay_asked (s ∷ past) q).server v in
       elim (or_cases (lacks_such (lack_of (held (s ∷ past)) needs) near) (asks_at site host user past s call far) e) [
         | inl x ↦ (
             let r = lack_yes (held (s ∷ past)) needs near x in
-            inl (r.0, r.1, server_is (place (s ∷ past) r.0.fid.fileset).server v r.2)
+            inl (r.0, r.1, server_is (stay_of (s ∷ past) r.0.fid.fileset).server v r.2)
             )
         | inr x ↦ (
             let r = at_yes call far x in

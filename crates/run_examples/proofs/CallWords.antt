@@ -17,11 +17,11 @@ use Rattle.message_types.specs.declared.message.Message.{Message}
 use Rattle.message_types.specs.declared.telling.Done.{Done as DoneOf}
 use Rattle.message_types.specs.declared.telling.DoneIs.{DoneIs}
 use Rattle.message_types.specs.declared.telling.DoneIs.TheVariants.{Known as IsFileset, Reply as HasReply}
-use Rattle.run_rules.specs.Knowing.{Entered, Enters}
-use Rattle.run_rules.specs.OpenCalls.{Begins, Counts, GoesOn, IsEnded, IsOpen, IsTurn, LearnsEnd}
-use Rattle.run_rules.specs.Gives.{number_of}
-use Rattle.run_rules.specs.Lists.{In}
-use Rattle.run_rules.specs.Sends.{Said}
+use Rattle.run_rules.specs.Messages.{Said}
+use Rattle.run_rules.specs.Past.{In}
+use Rattle.run_rules.specs.Tokens.{BeginsCall, CallGoesOn, CauseEnds, DoneCounts, HasCall, IsOpen, LearnsEnd}
+use Rattle.run_rules.specs.Tokens.{number_of}
+use Rattle.run_rules.specs.Views.{Entered, Enters}
 use Rattle.run_rules.specs.declared.applied.Answer.{Answer}
 use Rattle.run_rules.specs.declared.step.Asked.{Asked}
 use Rattle.run_rules.specs.declared.step.Step.{Step}
@@ -101,7 +101,7 @@ unfoldable pub is_ended : ServerId → List Step → Step → ℕ → Bool
 is_ended site past s k = list_any (λ d. has_reply d.outcome) (counted site past s.cause) || learns_end past s k
 
 pub ended_yes : (site : ServerId) (past : List Step) (s : Step) (call : Asked) → is_ended site past s call.k ≡ true
-    → IsEnded past s call
+    → CauseEnds past s call
 unfolding ends_k tells_end learns_end has_reply is_ended
 ended_yes site past s call e =
     elim (or_cases (list_any (λ d. has_reply d.outcome) (counted site past s.cause)) (learns_end past s call.k) e) [
@@ -114,7 +114,7 @@ ended_yes site past s call e =
     ]
 
 pub ended_is : (site : ServerId) (past : List Step) (s : Step) (call : Asked) → is_local site past ≡ true
-    → IsEnded past s call
+    → CauseEnds past s call
     → is_ended site past s call.k ≡ true
 unfolding ends_k tells_end learns_end has_reply is_ended
 ended_is site past s call local (inl (v, d, reply, c, is)) =
@@ -190,7 +190,7 @@ begun_by a = if a.first then the_call a.k a.call ∷ [] else []
 unfoldable pub begins_now : Step → List Asked
 begins_now s = asked_in s.asked ++ flat_map begun_by s.answers
 
-pub begins_in : (s : Step) (k : ℕ) (call : Call) → Begins s k call → In (the_call k call) (begins_now s)
+pub begins_in : (s : Step) (k : ℕ) (call : Call) → BeginsCall s k call → In (the_call k call) (begins_now s)
 unfolding ends_k tells_end learns_end has_reply is_ended asked_in stays_open open_calls begun_by begins_now
 begins_in s k call (inl e) = in_front (the_call k call) (asked_in s.asked) (flat_map begun_by s.answers)
     (asked_is s.asked (the_call k call) e)
@@ -199,7 +199,7 @@ begins_in s k call (inr (a, m, f, n, c)) =
     (in_flat begun_by s.answers a (the_call k call) m
     (in_if a.first (the_call k call) (the_call a.k a.call ∷ []) f (inl (λ i. the_call (sym n i) (sym c i)))))
 
-pub in_begins : (s : Step) (c : Asked) → In c (begins_now s) → Begins s c.k c.call
+pub in_begins : (s : Step) (c : Asked) → In c (begins_now s) → BeginsCall s c.k c.call
 unfolding ends_k tells_end learns_end has_reply is_ended asked_in stays_open open_calls begun_by begins_now
 in_begins s c i =
     elim (in_split c (asked_in s.asked) (flat_map begun_by s.answers) i) [
@@ -224,7 +224,7 @@ unfoldable pub turns : ServerId → List Step → Step → List Asked
 turns site past s = begins_now s ++ goes_on site past s
 
 pub goes_in : (site : ServerId) (past : List Step) (s : Step) (k : ℕ) (call : Call) → is_local site past ≡ true
-    → GoesOn past s k call
+    → CallGoesOn past s k call
     → In (the_call k call) (goes_on site past s)
 unfolding ends_k tells_end learns_end has_reply is_ended asked_in stays_open open_calls begun_by begins_now goes_on
     turns
@@ -235,7 +235,7 @@ goes_in site past s k call local (o, n) =
 
 pub in_goes : (site : ServerId) (past : List Step) (s : Step) (c : Asked) → is_local site past ≡ true → In c
     (goes_on site past s)
-    → GoesOn past s c.k c.call
+    → CallGoesOn past s c.k c.call
 unfolding ends_k tells_end learns_end has_reply is_ended asked_in stays_open open_calls begun_by begins_now goes_on
     turns
 in_goes site past s c local i =
@@ -243,7 +243,7 @@ in_goes site past s c local i =
     (in_open site past c local p.0, λ x. is_not (is_ended site past s c.k) p.1 (ended_is site past s c local x))
 
 pub turns_in : (site : ServerId) (past : List Step) (s : Step) (k : ℕ) (call : Call) → is_local site past ≡ true
-    → IsTurn past s k call
+    → HasCall past s k call
     → In (the_call k call) (turns site past s)
 unfolding ends_k tells_end learns_end has_reply is_ended asked_in stays_open open_calls begun_by begins_now goes_on
     turns
@@ -254,7 +254,7 @@ turns_in site past s k call local (inr g) = in_back (the_call k call) (begins_no
 
 pub in_turns : (site : ServerId) (past : List Step) (s : Step) (c : Asked) → is_local site past ≡ true → In c
     (turns site past s)
-    → IsTurn past s c.k c.call
+    → HasCall past s c.k c.call
 unfolding ends_k tells_end learns_end has_reply is_ended asked_in stays_open open_calls begun_by begins_now goes_on
     turns
 in_turns site past s c local i =
@@ -296,7 +296,7 @@ entered site (s ∷ past) = enters_now site past s ++ entered site past
 
 led_by_of : (site : ServerId) (past : List Step) (s : Step) (d : DoneOf) (id : FilesetId) (l : Led) (m : Message)
     (b : Body)
-    → is_local site past ≡ true → Counts past s site d → d.outcome ≡ IsFileset id → m.body ≡ b → In m (said past)
+    → is_local site past ≡ true → DoneCounts past s site d → d.outcome ≡ IsFileset id → m.body ≡ b → In m (said past)
     → In l (led_by d id m b) → Enters past s l.server l.name l.id
 unfolding goes_to is_local ends_k tells_end learns_end has_reply is_ended asked_in stays_open open_calls begun_by
     begins_now goes_on turns led_place led_by led_of enters_now entered
@@ -341,7 +341,7 @@ led_by_of site past s d id l m b local counts out is i j = elim j [ ]
 
 led_of_of : (site : ServerId) (past : List Step) (s : Step) (d : DoneOf) (l : Led) (o : DoneIs)
     → is_local site past ≡ true
-    → Counts past s site d → d.outcome ≡ o → In l (led_of past d o) → Enters past s l.server l.name l.id
+    → DoneCounts past s site d → d.outcome ≡ o → In l (led_of past d o) → Enters past s l.server l.name l.id
 unfolding ends_k tells_end learns_end has_reply is_ended asked_in stays_open open_calls begun_by begins_now goes_on
     turns led_place led_by led_of enters_now entered
 led_of_of site past s d l (IsFileset id) local counts out i =

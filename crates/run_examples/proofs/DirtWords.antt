@@ -16,12 +16,11 @@ use Rattle.token_types.specs.declared.token.Kind.TheVariants.{Bytes, Status}
 use Rattle.token_types.specs.declared.token.Token.{Token}
 use Rattle.message_types.specs.declared.giving.Give.{Give}
 use Rattle.tree_laws.specs.Parts.Part.{Size}
-use Rattle.run_rules.specs.Dirty.{ByteIsDirty, HasLength, IsClean, IsDirtyUnder, IsLastLength, LengthIsClean}
-use Rattle.run_rules.specs.Dirty.{LengthIsDirty}
-use Rattle.run_rules.specs.Dirty.{TakesStatus, UpdatesByte, UpdatesStatus, gives_at, is_dirty, writes_at, writes_byte}
-use Rattle.run_rules.specs.Views.{sees, writes_to}
-use Rattle.run_rules.specs.Gives.{number_of}
-use Rattle.run_rules.specs.Lists.{In}
+use Rattle.run_rules.specs.Past.{In}
+use Rattle.run_rules.specs.Tokens.{number_of}
+use Rattle.run_rules.specs.Views.{ByteIsDirty, HasLength, IsClean, IsDirtyUnder, IsLastLength, LengthIsClean}
+use Rattle.run_rules.specs.Views.{LengthIsDirty, TakesStatus, UpdatesByte, UpdatesStatus, gives_at, is_dirty, sees}
+use Rattle.run_rules.specs.Views.{writes_at, writes_byte, writes_to}
 use Rattle.run_rules.specs.declared.applied.Answer.{Answer}
 use Rattle.run_rules.specs.declared.step.Step.{Step}
 use Rattle.run_examples.proofs.Tests.{implies, so, is_not, not_is, at_all, some_in, any_of, in_front, in_back}

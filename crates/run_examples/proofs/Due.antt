@@ -15,7 +15,7 @@ use Rattle.run_examples.proofs.Prefixes.{until_41, until_42, until_43, until_44,
 use Rattle.run_examples.proofs.Prefixes.{until_48, until_49, until_5, until_50, until_51, until_52, until_6, until_7}
 use Rattle.run_examples.proofs.Prefixes.{until_8, until_9}
 use Rattle.std.proofs.Common.{List}
-use Rattle.run_rules.specs.Lists.{Always}
+use Rattle.run_rules.specs.Past.{Always}
 use Rattle.run_rules.specs.Runs.{StepDue}
 use Rattle.run_rules.specs.declared.step.Step.{Step}
 

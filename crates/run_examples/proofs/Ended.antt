@@ -34,16 +34,12 @@ use Rattle.std.proofs.lemmas.Bool.{and_parts, or_cases}
 use Rattle.std.specs.List.{list_all}
 use Rattle.std.specs.Prelude.{codes, ◌⊎◌}
 use Rattle.run_examples.proofs.Due.{due_52}
+use Rattle.run_rules.specs.Doings.{HasGoneAway, Listed, doings_of}
+use Rattle.run_rules.specs.HostDue.{HasBye}
+use Rattle.run_rules.specs.Messages.{ComesIn, HasGreeted, home}
 use Rattle.run_rules.specs.Runs.{HostIsDone, IsDutiful, IsEnded, IsRun, IsValid, TakesPart, firsts_of}
-use Rattle.run_rules.specs.HostResends.{HasBye}
-use Rattle.run_rules.specs.Lines.{lines_gone, lines_of, setup}
+use Rattle.run_rules.specs.Steps.{lines_gone, lines_of, setup, steps_of_host, steps_of_server}
 use Rattle.run_tokens.specs.JournalWorked.{owner}
-use Rattle.run_rules.specs.Acts.{acts}
-use Rattle.run_rules.specs.Epochs.{ComesIn}
-use Rattle.run_rules.specs.Hosts.{Away, Listed}
-use Rattle.run_rules.specs.Nodes.{own, served}
-use Rattle.run_rules.specs.Places.{home}
-use Rattle.run_rules.specs.Sends.{HasGreeted}
 use Rattle.run_tokens.specs.Worked.{access, client, site_one}
 use Rattle.run_rules.specs.declared.step.Cause.{Cause}
 use Rattle.run_rules.specs.declared.step.Cause.TheVariants.{Message as Came}
@@ -90,11 +86,11 @@ setup_done = (refl, inr (λ v g. elim g.2 [ ]))
 
 first_done : HostIsDone script client until_52
 unfolding host_words greets_there
-first_done = (refl, inr (byes (own client until_52) refl refl))
+first_done = (refl, inr (byes (steps_of_host client until_52) refl refl))
 
 second_done : HostIsDone script other until_52
 unfolding host_words greets_there
-second_done = (refl, inr (byes (own other until_52) refl refl))
+second_done = (refl, inr (byes (steps_of_host other until_52) refl refl))
 
 host_of : (host : HostId) (n : ℕ) → host.0 ≡ n → host ≡ record { 0 = n }
 host_of host n e = λ i. record { 0 = e i }
@@ -114,7 +110,7 @@ all_away : list_all (away (deeds until_52)) (heard (deeds until_52)) ≡ true
 unfolding site_words
 all_away = refl
 
-is_away : (host : HostId) → Listed (deeds until_52) host → Away (deeds until_52) host
+is_away : (host : HostId) → Listed (deeds until_52) host → HasGoneAway (deeds until_52) host
 is_away host l =
     away_yes (deeds until_52) host (at_all (away (deeds until_52)) (heard (deeds until_52)) host all_away
     (listed_heard (deeds until_52) host l))
@@ -123,11 +119,11 @@ run_ended : IsEnded script journal
 run_ended = record {
   hosts = hosts_done;
   lines = λ v m. elim m [
-    | inl p ↦ subst (λ v. lines_gone (served v until_52) ≡ length (lines_of script (Server v))) (sym p) refl
+    | inl p ↦ subst (λ v. lines_gone (steps_of_server v until_52) ≡ length (lines_of script (Server v))) (sym p) refl
     | inr p ↦ elim p [ ]
   ];
   servers = λ v h m. elim m [
-    | inl p ↦ subst (λ v. Listed (acts (firsts_of journal v) v until_52) h → Away (acts (firsts_of journal v) v until_52) h) (sym p)
+    | inl p ↦ subst (λ v. Listed (doings_of (firsts_of journal v) v until_52) h → HasGoneAway (doings_of (firsts_of journal v) v until_52) h) (sym p)
         (is_away h)
     | inr p ↦ elim p [ ]
   ];

@@ -14,14 +14,16 @@ use Rattle.tree_calls.specs.declared.roster.Roster.{Roster}
 use Rattle.script_lines.specs.declared.script.Script.{Script}
 use Rattle.token_types.specs.declared.token.Token.{Token}
 use Rattle.run_tokens.proofs.Evicting.{last_before}
-use Rattle.run_rules.specs.HostLeaves.{HostLeaves, IsIdle, IsOldest, LastUsed, MayEvict, MayLeave, UsesToken, helps_cover}
-use Rattle.run_rules.specs.HostLines.{HostLines}
-use Rattle.run_rules.specs.HostRules.{HostMay}
-use Rattle.run_rules.specs.Lines.{limit_of, lines_of, servers_of}
-use Rattle.run_rules.specs.Lists.{In}
+use Rattle.run_rules.specs.HostDue.{HostDue, LeavesDue}
+use Rattle.run_rules.specs.HostMay.{HostLines, HostMay}
+use Rattle.run_rules.specs.HostTokens.{HostLeaves, IsOldest, IsUnused, LastUsed, MayEvict, MayLeave, UsesToken}
+use Rattle.run_rules.specs.HostTokens.{helps_cover}
+use Rattle.run_rules.specs.Past.{In}
+use Rattle.run_rules.specs.Steps.{limit_of, lines_of, servers_of}
+use Rattle.run_rules.specs.Tokens.{AtHand}
+use Rattle.run_rules.specs.declared.applied.Why.TheVariants.{Evicted}
 use Rattle.run_rules.specs.declared.applied.Answer.{Answer}
 use Rattle.run_rules.specs.declared.applied.Leave.{Leave}
-use Rattle.run_rules.specs.declared.applied.Why.TheVariants.{Evicted}
 use Rattle.run_rules.specs.declared.step.Cause.TheVariants.{Line as LineOf, Restart, Evict, End, Flushed}
 use Rattle.run_rules.specs.declared.step.Step.{Step}
 use Rattle.run_examples.proofs.Tests.{AllTrue, all_true, apart, from_filter, is_none, is_not, none_in, none_is, passes}
@@ -36,8 +38,6 @@ use Rattle.run_examples.proofs.AskTests.{all_asked, asking_tests}
 use Rattle.run_examples.proofs.GiveChecks.{give_tests, gives_meet, recall_tests, revoked_meet, revokes_due}
 use Rattle.run_examples.proofs.HostChecks.{are_alike, calls_due, sent_once}
 use Rattle.run_examples.specs.Laws.{Does}
-use Rattle.run_rules.specs.HostDue.{HostDue, LeavesDue}
-use Rattle.run_rules.specs.Tokens.{AtHand}
 use Rattle.run_examples.proofs.LapseChecks.{repeats_due, resend_tests, resends_meet, take_tests, takes_meet}
 use Rattle.run_examples.proofs.LeaveChecks.{end_tests, ends_meet, idle, idle_in, none_open_is}
 
@@ -70,7 +70,7 @@ last_now : (roster : Roster) (host : HostId) (past : List Step) (s : Step) (t : 
 last_now roster host past s t n uses (inl x) = x.1
 last_now roster host past s t n uses (inr x) = absurd (x.1 uses)
 
-in_idle : (past : List Step) (t : Token) → In t (idle past) → IsIdle past t
+in_idle : (past : List Step) (t : Token) → In t (idle past) → IsUnused past t
 unfolding idle
 in_idle past t m =
     let p = from_filter (λ (t : Token). not (is_used past t.id)) (held past) t m in
@@ -154,7 +154,7 @@ module _ (site : ServerId) (script : Script) (host : HostId) (user : User) (befo
       (at_all (uses_now site host user before last) (idle past) u used (idle_in past u its))) y in
       omega (arith, p, q)
 
-  evict_leaves : MayEvict past limit → IsIdle past t → IsOldest script.roster host past t
+  evict_leaves : MayEvict past limit → IsUnused past t → IsOldest script.roster host past t
       → HostLeaves script.roster host limit past s
   evict_leaves may its old = record { leaves = λ l m. go l (subst (In l) leaves m) }
     where
@@ -188,7 +188,7 @@ module _ (site : ServerId) (script : Script) (host : HostId) (user : User) (befo
         ends = ends_meet site (lines_of script (Host host)) limit past s all.1.1.1.1.1.1.1.1.0;
       }
 
-  leaves_one : MayEvict past limit → IsIdle past t → LeavesDue limit past s
+  leaves_one : MayEvict past limit → IsUnused past t → LeavesDue limit past s
   leaves_one may its = record {
     held = λ l m. elim (subst (In l) leaves m) [
       | inl p ↦ subst (λ (x : Leave). AtHand s past x.token) (sym p) (inr its.0)

@@ -3,7 +3,7 @@ use Rattle.std.proofs.Common.{[], refl, ◌∷◌, ℕ}
 use Rattle.need_host.specs.Calls.{call_look, write_look, lock_look}
 use Rattle.message_types.specs.declared.message.Body.TheVariants.{GiveBack, Bye}
 use Rattle.run_tokens.specs.JournalWorked.{owner}
-use Rattle.run_rules.specs.Places.{home}
+use Rattle.run_rules.specs.Messages.{home}
 use Rattle.run_tokens.specs.Worked.{client, site_one, to_server}
 use Rattle.run_examples.specs.Laws.{Does, locking, stopping, writing}
 use Rattle.run_examples.specs.Steps.{asks_lock, asks_update, begin, claims_all, claims_gift, ends, frees, gift}

@@ -19,15 +19,15 @@ use Rattle.token_types.specs.declared.token.Token.{Token}
 use Rattle.tree_laws.specs.Parts.{Nature}
 use Rattle.tree_laws.specs.Parts.Part.{Traits}
 use Rattle.run_examples.proofs.DirtWords.{dirty_in, spots}
-use Rattle.run_rules.specs.Dirty.{is_dirty}
-use Rattle.run_rules.specs.HostAsks.{AsksStatus, FetchNeeds, FileNeeds, HasLost, IsDirectory, IsFetchNumber, IsNext}
+use Rattle.run_rules.specs.HostAsks.{AsksStatus, FetchNeeds, FileNeeds, HasLost, IsDirectory, IsFetchNumber}
+use Rattle.run_rules.specs.HostAsks.{IsNextNumber}
 use Rattle.run_rules.specs.HostAsks.FetchNeeds.{OfFile, OfUnknown}
-use Rattle.run_rules.specs.Views.{sees}
-use Rattle.run_rules.specs.declared.applied.Leave.{Leave}
+use Rattle.run_rules.specs.Messages.{Said}
+use Rattle.run_rules.specs.Past.{In}
+use Rattle.run_rules.specs.Tokens.{IsUseKind}
+use Rattle.run_rules.specs.Views.{is_dirty, sees}
 use Rattle.run_rules.specs.declared.applied.Why.TheVariants.{Revoked}
-use Rattle.run_rules.specs.Grants.{IsUseKind}
-use Rattle.run_rules.specs.Lists.{In}
-use Rattle.run_rules.specs.Sends.{Said}
+use Rattle.run_rules.specs.declared.applied.Leave.{Leave}
 use Rattle.run_rules.specs.declared.step.Step.{Step}
 use Rattle.base_types.specs.declared.span.Span.{Span}
 use Rattle.run_examples.proofs.Tests.{all_true, at_all, fid_is, fids, fileset_is, implies, is_not}
@@ -253,7 +253,7 @@ next_tests past f =
     ∷ []
 
 pub next_is : (past : List Step) (f : FetchOf) → passes (next_tests past f) ≡ true
-    → IsNext (IsFetchNumber past f.fid.fileset) f.number
+    → IsNextNumber (IsFetchNumber past f.fid.fileset) f.number
 unfolding next_tests is_below
 next_is past f e =
     let t = all_true (next_tests past f) e in

@@ -9,8 +9,8 @@ use Rattle.message_types.specs.declared.giving.AppliedGive.{AppliedGive}
 use Rattle.message_types.specs.declared.message.Body.{Body}
 use Rattle.message_types.specs.declared.message.Body.TheVariants.{Fetch}
 use Rattle.token_types.specs.declared.token.Need.{Need}
-use Rattle.run_rules.specs.Lists.{In}
-use Rattle.run_rules.specs.Requests.{Asking}
+use Rattle.run_rules.specs.Messages.{Asking}
+use Rattle.run_rules.specs.Past.{In}
 use Rattle.run_rules.specs.declared.step.Step.{Step}
 use Rattle.run_examples.proofs.Tests.{any_of, at_all, fid_is, kind_is, list_is, number_is, numbers, same_kind, same_list}
 use Rattle.run_examples.proofs.Tests.{same_number, some_in}

@@ -17,24 +17,15 @@ use Rattle.message_types.specs.declared.giving.Give.{Give}
 use Rattle.message_types.specs.declared.message.Body.{Body}
 use Rattle.message_types.specs.declared.message.Body.TheVariants.{GiveBack, Returned, Revoke}
 use Rattle.tree_laws.specs.Parts.Part.{ByteAt, Size}
-use Rattle.run_rules.specs.Told.{byte_in, byte_of}
-use Rattle.run_rules.specs.Dirty.{UpdatesByte, is_dirty}
-use Rattle.run_rules.specs.HostDue.{AnswersOf, RevokeDue}
-use Rattle.run_rules.specs.HostGives.{DirtyLength, HasDirty, HostGives, HostRevoked}
-use Rattle.run_rules.specs.HostTokens.{HostTokens}
-use Rattle.run_rules.specs.Epochs.{About, epoch_at}
+use Rattle.run_rules.specs.HostDue.{AnswersOf, HasDirty, RevokeDue}
+use Rattle.run_rules.specs.HostTokens.{DirtyLength, HostGives, HostRevoked, HostTokens, OwnsUpdate}
+use Rattle.run_rules.specs.Messages.{About, ReturnsToken, SendsTo, Stay, epoch_at, stay_of}
+use Rattle.run_rules.specs.Past.{In}
+use Rattle.run_rules.specs.Tokens.{FreesPinned, Held, IsKnown, IsOpen, Made, TokenInUse, end_of, number_of}
+use Rattle.run_rules.specs.Views.{UpdatesByte, byte_in, byte_of, is_dirty, sees}
 use Rattle.message_types.specs.Soundness.{Each as EachSound, PiecesRise}
 use Rattle.message_types.specs.declared.message.Message.{Message}
 use Rattle.message_types.specs.declared.tokens.Revoke.{Revoke as RevokeOf}
-use Rattle.run_rules.specs.HostGives.{OwnsUpdate}
-use Rattle.run_rules.specs.Labels.{FreesPinned, IsUsed, end_of}
-use Rattle.run_rules.specs.OpenCalls.{IsOpen}
-use Rattle.run_rules.specs.Views.{sees}
-use Rattle.run_rules.specs.Gives.{IsKnown, Made, number_of}
-use Rattle.run_rules.specs.Lists.{In}
-use Rattle.run_rules.specs.Places.{Place, place}
-use Rattle.run_rules.specs.Sends.{SendsTo, Returns}
-use Rattle.run_rules.specs.Tokens.{Held}
 use Rattle.run_rules.specs.declared.step.Asked.{Asked}
 use Rattle.run_rules.specs.declared.step.Labelled.{Labelled}
 use Rattle.run_rules.specs.declared.step.Step.{Step}
@@ -182,7 +173,7 @@ unfoldable pub sends_give : List Step → Step → Give → Bool
 sends_give now s g = list_any (λ m. is_place now g.fid.fileset m && is_give g m.body) s.sent
 
 pub sends_give_yes : (now : List Step) (s : Step) (g : Give) → sends_give now s g ≡ true
-    → SendsTo s (place now g.fid.fileset) (GiveBack g)
+    → SendsTo s (stay_of now g.fid.fileset) (GiveBack g)
 unfolding positions owns_update gives_byte leaves_byte byte_right byte_saved dirty_length has_seen takes_length
     length_kept frees_by is_call ends_right is_give sends_give
 sends_give_yes now s g e =
@@ -193,10 +184,10 @@ sends_give_yes now s g e =
       (
         p.0,
         p.1,
-        sym (ap (λ (x : Place). x.server) at),
+        sym (ap (λ (x : Stay). x.server) at),
         refl,
         sym (ap (λ
-            (x : Place). x.moves) at),
+            (x : Stay). x.moves) at),
         give_body g p.0.body q.1,
       ),
     )
@@ -521,11 +512,11 @@ revoke_files past s _ = true
 
 file_returned : (past : List Step) (s : Step) → HostTokens past s
     → by_message true (λ m. revoke_files past s m.body) s.cause ≡ true → (r : RevokeOf) (i : TokenId)
-    → About past s r.fid.fileset (Revoke r) → (fid : Fid) → AnswersOf past r i fid → (x : Returns s i) → x.3.fid ≡ fid
+    → About past s r.fid.fileset (Revoke r) → (fid : Fid) → AnswersOf past r i fid → (x : ReturnsToken s i) → x.3.fid ≡ fid
 file_returned past s may t r i about fid (inl (k, held_, id, file)) (v, e, n, named, sends, m) =
     sym (may.answers_file named v e n k (inl sends) (inr held_) (subst (λ x. In x named.ids) (sym id) m)) ∙ file
 file_returned past s may t r i about fid (inr (none, is)) (v, e, n, named, sends, m) =
-    let place_ = place past r.fid.fileset in
+    let place_ = stay_of past r.fid.fileset in
     let all_ = at_comes (λ m. revoke_files past s m.body) s place_.server (epoch_at past place_.server) place_.moves
     (Revoke r) t about in
     let its = at_sends (λ m. returned_file past r m.body) s v e n (Returned named) all_ sends in
@@ -536,7 +527,7 @@ file_returned past s may t r i about fid (inr (none, is)) (v, e, n, named, sends
     ]
 
 revoke_from : (past : List Step) (s : Step) (r : RevokeOf) (i : TokenId)
-    → ((fid : Fid) → AnswersOf past r i fid → (x : Returns s i) → x.3.fid ≡ fid)
+    → ((fid : Fid) → AnswersOf past r i fid → (x : ReturnsToken s i) → x.3.fid ≡ fid)
     → AllTrue (revoke_tests past s i) → RevokeDue past s r i
 unfolding positions owns_update gives_byte leaves_byte byte_right byte_saved dirty_length has_seen takes_length
     length_kept frees_by is_call ends_right is_give sends_give was_first sent_right is_next same_file used_right
@@ -567,7 +558,7 @@ revoke_from past s r i of_file (keeps_, (gives_, (again_, (returns_, _)))) = rec
       ];
 }
   where
-    stays : (IsUsed past i → ⊥) → ((t : Token) → Held past t → t.id ≡ i → HasDirty past s t → ⊥)
+    stays : (TokenInUse past i → ⊥) → ((t : Token) → Held past t → t.id ≡ i → HasDirty past s t → ⊥)
         → ((g : Give) → Made past g → In i g.ids → IsKnown past g) → stays_back past s i ≡ true → ⊥
     stays unused clean known_ e =
         elim (or_cases (is_used past i) (list_any (is_dirty_id past s i) (held past) || list_any (is_on_way past i)

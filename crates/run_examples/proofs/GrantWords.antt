@@ -10,40 +10,38 @@ use Rattle.base_types.specs.declared.ids.ServerId.{ServerId}
 use Rattle.message_types.specs.declared.message.Body.TheVariants.{Grant, Done, Revoke, Kept}
 use Rattle.message_types.specs.declared.telling.Bring.{Bring}
 use Rattle.token_types.specs.declared.token.Token.{Token}
-use Rattle.run_rules.specs.Acts.{Act}
-use Rattle.run_rules.specs.Acts.Act.{Took, Admits, Sent, Reserves}
-use Rattle.run_rules.specs.Grants.{Granted, Issued, Issues, Mark, Pinned, Reserved}
-use Rattle.run_rules.specs.Hosts.{NoGrace}
-use Rattle.run_rules.specs.Lists.{In}
-use Rattle.run_rules.specs.Stamps.{Tells, Told}
+use Rattle.run_rules.specs.Doings.{Doing, Granted, HasUsedStamp, Issued, Issues, NoGrace, Pinned, Reserved, StayStamp}
+use Rattle.run_rules.specs.Doings.{UsesStamp}
+use Rattle.run_rules.specs.Doings.Doing.{Admits, Reserves, Sent, Took}
+use Rattle.run_rules.specs.Past.{In}
 use Rattle.run_examples.proofs.Tests.{at_all, fids, implies, in_back, in_front, is_none, is_not, none_in, so}
 use Rattle.run_examples.proofs.ServerWords.{begin_yes, begins, heard, listed_heard, reclaimed, reclaimed_yes}
 
 -- all tokens that were ever brought or granted again
-unfoldable pub brings : Act → List Token
+unfoldable pub brings : Doing → List Token
 brings (Sent h e n (Grant g)) = g.bring.tokens
 brings (Sent h e n (Done d)) = d.bring.tokens
 brings (Admits h tokens) = tokens
 brings _ = []
 
-unfoldable pub brought_ever : List Act → List Token
+unfoldable pub brought_ever : List Doing → List Token
 brought_ever [] = []
 brought_ever (a ∷ past) = brings a ++ brought_ever past
 
-pub issues_in : (a : Act) (t : Token) (k : Mark) → Issues a t k → In t (brings a)
+pub issues_in : (a : Doing) (t : Token) (k : StayStamp) → Issues a t k → In t (brings a)
 unfolding brings
 issues_in a t k (h, e, w, inl (g, is, b), m, q) =
     subst (λ x. In t (brings x)) (sym is) (subst (λ (x : Bring). In t x.tokens) (sym b) m)
 issues_in a t k (h, e, w, inr (d, is, b), m, q) =
     subst (λ x. In t (brings x)) (sym is) (subst (λ (x : Bring). In t x.tokens) (sym b) m)
 
-pub issued_in : (past : List Act) (t : Token) (k : Mark) → Issued past t k → In t (brought_ever past)
+pub issued_in : (past : List Doing) (t : Token) (k : StayStamp) → Issued past t k → In t (brought_ever past)
 unfolding brought_ever
 issued_in [] t k x = elim x [ ]
 issued_in (a ∷ past) t k (inl x) = in_front t (brings a) (brought_ever past) (issues_in a t k x)
 issued_in (a ∷ past) t k (inr x) = in_back t (brings a) (brought_ever past) (issued_in past t k x)
 
-pub granted_in : (server : ServerId) (past : List Act) (t : Token) → Granted server past t → In t (brought_ever past)
+pub granted_in : (server : ServerId) (past : List Doing) (t : Token) → Granted server past t → In t (brought_ever past)
 unfolding brought_ever brings
 granted_in server [] t x = elim x [ ]
 granted_in server (a ∷ past) t (inl (inl (k, x))) = in_front t (brings a) (brought_ever past) (issues_in a t k x)
@@ -52,13 +50,13 @@ granted_in server (a ∷ past) t (inl (inr (tokens, is, m))) =
 granted_in server (a ∷ past) t (inr (g, _, _, _)) = in_back t (brings a) (brought_ever past) (granted_in server past t g)
 
 -- all stamps of a file in this epoch lie below one
-unfoldable pub is_below : Fid → ℕ → Act → Bool
+unfoldable pub is_below : Fid → ℕ → Doing → Bool
 is_below fid stamp (Sent h e n (Grant g)) = implies (same_fid g.bring.fid fid) (nat_lt g.bring.stamp stamp)
 is_below fid stamp (Sent h e n (Done d)) = implies (same_fid d.bring.fid fid) (nat_lt d.bring.stamp stamp)
 is_below fid stamp (Sent h e n (Revoke r)) = implies (same_fid r.fid fid) (nat_lt r.stamp stamp)
 is_below fid stamp _ = true
 
-unfoldable pub told_below : Fid → ℕ → List Act → Bool
+unfoldable pub told_below : Fid → ℕ → List Doing → Bool
 told_below fid stamp [] = true
 told_below fid stamp (a ∷ past) = is_below fid stamp a && (begins a || told_below fid stamp past)
 
@@ -67,7 +65,7 @@ lower : (fid its : Fid) (x y stamp : ℕ) → its ≡ fid → x ≡ y → implie
 lower fid its x y stamp f s t =
     subst (λ z. z < stamp) s (ltb-true x stamp (so (same_fid its fid) (nat_lt x stamp) t (fids its fid f)))
 
-pub told_is : (fid : Fid) (stamp : ℕ) (past : List Act) (x : ℕ) → told_below fid stamp past ≡ true → Told past fid x
+pub told_is : (fid : Fid) (stamp : ℕ) (past : List Doing) (x : ℕ) → told_below fid stamp past ≡ true → HasUsedStamp past fid x
     → x < stamp
 unfolding told_below is_below
 told_is fid stamp [] x t y = elim y [ ]
@@ -76,7 +74,7 @@ told_is fid stamp (a ∷ past) x t (inl y) = go y
     p : (is_below fid stamp a ≡ true) × ((begins a || told_below fid stamp past) ≡ true)
     p = and_parts (is_below fid stamp a) (begins a || told_below fid stamp past) t
 
-    go : Tells a fid x → x < stamp
+    go : UsesStamp a fid x → x < stamp
     go (inl (h, e, n, w, inl (g, is, b), f, s)) =
         lower fid g.bring.fid g.bring.stamp x stamp (ap (λ (z : Bring). z.fid) b ∙ f) (ap (λ (z : Bring). z.stamp) b ∙ s)
         (subst (λ z. is_below fid stamp z ≡ true) is p.0)
@@ -93,11 +91,11 @@ told_is fid stamp (a ∷ past) x t (inr (y, quiet)) =
     ]
 
 -- no Kept was taken, no Revoke sent, nothing kept by the exporter
-unfoldable pub is_kept : Act → Bool
+unfoldable pub is_kept : Doing → Bool
 is_kept (Took h e n (Kept named)) = true
 is_kept _ = false
 
-pub none_pinned : (server : ServerId) (past : List Act) (t : Token) → list_all (λ a. not (is_kept a)) past ≡ true
+pub none_pinned : (server : ServerId) (past : List Doing) (t : Token) → list_all (λ a. not (is_kept a)) past ≡ true
     → Pinned server past t → ⊥
 unfolding is_kept
 none_pinned server [] t e x = elim x [ ]
@@ -107,11 +105,11 @@ none_pinned server (a ∷ past) t e (inl (named, (n, here, (is, live)), _, _, _)
 none_pinned server (a ∷ past) t e (inr x, g) =
     none_pinned server past t (and_parts (not (is_kept a)) (list_all (λ a. not (is_kept a)) past) e).1 x
 
-unfoldable pub keeps_none : Act → Bool
+unfoldable pub keeps_none : Doing → Bool
 keeps_none (Reserves tokens) = is_none tokens
 keeps_none _ = true
 
-pub none_kept : (past : List Act) (t : Token) → list_all keeps_none past ≡ true → Reserved past t → ⊥
+pub none_kept : (past : List Doing) (t : Token) → list_all keeps_none past ≡ true → Reserved past t → ⊥
 unfolding keeps_none
 none_kept [] t e x = elim x [ ]
 none_kept (a ∷ past) t e (inl (tokens, is, m)) =
@@ -121,5 +119,5 @@ none_kept (a ∷ past) t e (inr (x, quiet)) =
     none_kept past t (and_parts (keeps_none a) (list_all keeps_none past) e).1 x
 
 -- each host that was heard has reclaimed
-pub no_grace : (past : List Act) → list_all (reclaimed past) (heard past) ≡ true → NoGrace past
+pub no_grace : (past : List Doing) → list_all (reclaimed past) (heard past) ≡ true → NoGrace past
 no_grace past e h live = reclaimed_yes past h (at_all (reclaimed past) (heard past) h e (listed_heard past h live.0))

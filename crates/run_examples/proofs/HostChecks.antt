@@ -15,12 +15,12 @@ use Rattle.message_types.specs.declared.message.Message.{Message}
 use Rattle.std.proofs.lemmas.Bool.{and_from, and_parts}
 use Rattle.std.specs.List.{list_all}
 use Rattle.std.specs.Prelude.{not}
-use Rattle.run_rules.specs.Ends.{kind_of}
 use Rattle.run_rules.specs.HostDue.{CallsDue, HostDue}
-use Rattle.run_rules.specs.HostRules.{HostMay}
+use Rattle.run_rules.specs.HostMay.{HostMay}
+use Rattle.run_rules.specs.Past.{EachOnce}
+use Rattle.run_rules.specs.Plans.{kind_of}
+use Rattle.run_rules.specs.Steps.{limit_of, lines_of, servers_of}
 use Rattle.run_examples.specs.Laws.{Does}
-use Rattle.run_rules.specs.Lists.{EachOnce}
-use Rattle.run_rules.specs.Lines.{limit_of, lines_of, servers_of}
 use Rattle.run_rules.specs.declared.step.Step.{Step}
 use Rattle.run_examples.proofs.Tests.{all_true, apart, at_all, fids, is_not, passes, same_is}
 use Rattle.run_examples.proofs.TokenChecks.{token_tests, tokens_meet}

@@ -21,11 +21,10 @@ use Rattle.message_types.specs.declared.message.Body.{Body}
 use Rattle.message_types.specs.declared.message.Body.TheVariants.{Change, Done}
 use Rattle.message_types.specs.declared.message.Message.{Message}
 use Rattle.message_types.specs.declared.telling.Done.{Done as DoneOf}
-use Rattle.run_rules.specs.Labels.{EndsUse, FreesPinned, GivesUse, HasEnded, InUse, IsEnding, IsUsed, end_call, end_of}
-use Rattle.run_rules.specs.OpenCalls.{Counts}
-use Rattle.run_rules.specs.Gives.{number_of}
-use Rattle.run_rules.specs.Lists.{In}
-use Rattle.run_rules.specs.Requests.{Changing, Settles}
+use Rattle.run_rules.specs.Messages.{Changing, DoneComes}
+use Rattle.run_rules.specs.Past.{In}
+use Rattle.run_rules.specs.Tokens.{DoneCounts, EndsUse, FreesPinned, GivesUse, HasEndedUse, IsEnding, LabelInUse}
+use Rattle.run_rules.specs.Tokens.{TokenInUse, end_call, end_of, number_of}
 use Rattle.run_rules.specs.declared.step.Cause.{Cause}
 use Rattle.run_rules.specs.declared.step.Cause.TheVariants.{Message as Came}
 use Rattle.run_rules.specs.declared.step.Labelled.{Labelled}
@@ -166,7 +165,7 @@ stays_is s u n m =
     (ends_use_yes s u e)))
     (all_not (λ g. gives_use g u) s.made (λ g i e. m g i (gives_use_yes g u e)))
 
-pub used_in : (past : List Step) (u : Labelled) → InUse past u → In u (in_use past)
+pub used_in : (past : List Step) (u : Labelled) → LabelInUse past u → In u (in_use past)
 unfolding same_use begun is_fine ends_use ends_by gives_use stays_used in_use
 used_in [] u x = elim x [ ]
 used_in (s ∷ past) u (inl m) = in_front u s.begun (filter (stays_used s) (in_use past)) m
@@ -174,7 +173,7 @@ used_in (s ∷ past) u (inr x) =
     in_back u s.begun (filter (stays_used s) (in_use past)) (in_filter (stays_used s) (in_use past) u
     (used_in past u x.0) (stays_is s u x.1 x.2))
 
-pub in_used : (past : List Step) (u : Labelled) → In u (in_use past) → InUse past u
+pub in_used : (past : List Step) (u : Labelled) → In u (in_use past) → LabelInUse past u
 unfolding same_use begun is_fine ends_use ends_by gives_use stays_used in_use
 in_used [] u i = elim i [ ]
 in_used (s ∷ past) u i =
@@ -187,13 +186,13 @@ in_used (s ∷ past) u i =
 unfoldable pub is_used : List Step → TokenId → Bool
 is_used past id = list_any (λ u. same_id u.token.id id) (in_use past)
 
-pub is_used_yes : (past : List Step) (id : TokenId) → is_used past id ≡ true → IsUsed past id
+pub is_used_yes : (past : List Step) (id : TokenId) → is_used past id ≡ true → TokenInUse past id
 unfolding same_use begun is_fine ends_use ends_by gives_use stays_used in_use is_used
 is_used_yes past id e =
     let p = some_in (λ u. same_id u.token.id id) (in_use past) e in
     (p.0, in_used past p.0 p.1, id_is p.0.token.id id p.2)
 
-pub is_used_is : (past : List Step) (id : TokenId) → IsUsed past id → is_used past id ≡ true
+pub is_used_is : (past : List Step) (id : TokenId) → TokenInUse past id → is_used past id ≡ true
 unfolding same_use begun is_fine ends_use ends_by gives_use stays_used in_use is_used
 is_used_is past id x = any_of (λ u. same_id u.token.id id) (in_use past) x.0 (used_in past x.0 x.1)
     (ids x.0.token.id id x.2)
@@ -254,7 +253,7 @@ endings [] u = []
 endings (s ∷ past) u =
     (if list_any (same_use u) (in_use past) then filter (λ g. gives_use g u) s.made else []) ++ endings past u
 
-endings_in : (past : List Step) (u : Labelled) (g : Give) → HasEnded past g u → In g (endings past u)
+endings_in : (past : List Step) (u : Labelled) (g : Give) → HasEndedUse past g u → In g (endings past u)
 unfolding same_use begun is_fine ends_use ends_by gives_use stays_used in_use is_used frees
 endings_in [] u g e = elim e [ ]
 endings_in (s ∷ past) u g (inl x) =
@@ -267,7 +266,7 @@ endings_in (s ∷ past) u g (inr e) =
     in_back g (if list_any (same_use u) (in_use past) then filter (λ k. gives_use k u) s.made else [])
     (endings past u) (endings_in past u g e)
 
-in_endings : (past : List Step) (u : Labelled) (g : Give) → In g (endings past u) → HasEnded past g u
+in_endings : (past : List Step) (u : Labelled) (g : Give) → In g (endings past u) → HasEndedUse past g u
 unfolding same_use begun is_fine ends_use ends_by gives_use stays_used in_use is_used frees
 in_endings [] u g i = elim i [ ]
 in_endings (s ∷ past) u g i =
@@ -309,12 +308,12 @@ pub ending_begun : (past : List Step) (s : Step) (u : Labelled) → IsEnding pas
 unfolding begun
 ending_begun past s u (g, e, n) = ended past e
   where
-    used : (past : List Step) → InUse past u → In u (begun past)
+    used : (past : List Step) → LabelInUse past u → In u (begun past)
     used [] i = elim i [ ]
     used (s ∷ past) (inl i) = in_front u s.begun (begun past) i
     used (s ∷ past) (inr x) = in_back u s.begun (begun past) (used past x.0)
 
-    ended : (past : List Step) → HasEnded past g u → In u (begun past)
+    ended : (past : List Step) → HasEndedUse past g u → In u (begun past)
     ended [] e = elim e [ ]
     ended (s ∷ past) (inl x) = in_back u s.begun (begun past) (used past x.1)
     ended (s ∷ past) (inr e) = in_back u s.begun (begun past) (ended past e)
@@ -343,7 +342,7 @@ counted site past cause = by_message [] (λ m. counted_by site past m m.body) ca
 
 counted_of : (site : ServerId) (past : List Step) (s : Step) (d : DoneOf) (m : Message) (b : Body) → s.cause ≡ Came m
     → m.body ≡ b
-    → In d (counted_by site past m b) → Counts past s site d
+    → In d (counted_by site past m b) → DoneCounts past s site d
 unfolding same_use begun is_fine ends_use ends_by gives_use stays_used in_use is_used frees is_ending is_local
     counted_by counted
 counted_of site past s d m (Done its) c is i =
@@ -352,7 +351,7 @@ counted_of site past s d m (Done its) c is i =
     let q = and_parts (settles_it past site m its.fileset) a p.0 in
     let r = some_in (same_number (numbered its.fileset its.bring.number)) (changing site past) q.1 in
     elim p.1 [
-      | inl e ↦ subst (λ x. Counts past s site x) (sym e) (
+      | inl e ↦ subst (λ x. DoneCounts past s site x) (sym e) (
         settles_by past s site m its c is q.0,
         in_changing past site its.fileset its.bring.number (subst
             (λ x. In x (changing site past)) (sym (number_is (numbered its.fileset its.bring.number) r.0 r.2)) r.1),
@@ -362,19 +361,19 @@ counted_of site past s d m (Done its) c is i =
 counted_of site past s d m b c is i = elim i [ ]
 
 counted_from : (site : ServerId) (past : List Step) (s : Step) (d : DoneOf) (cause : Cause) → s.cause ≡ cause
-    → In d (counted site past cause) → Counts past s site d
+    → In d (counted site past cause) → DoneCounts past s site d
 unfolding same_use begun is_fine ends_use ends_by gives_use stays_used in_use is_used frees is_ending is_local
     counted_by counted
 counted_from site past s d (Came m) c i = counted_of site past s d m m.body c refl i
 counted_from site past s d cause c i = elim i [ ]
 
 pub in_counted : (site : ServerId) (past : List Step) (s : Step) (d : DoneOf) → In d (counted site past s.cause)
-    → Counts past s site d
+    → DoneCounts past s site d
 unfolding same_use begun is_fine ends_use ends_by gives_use stays_used in_use is_used frees is_ending is_local
     counted_by counted
 in_counted site past s d i = counted_from site past s d s.cause refl i
 
-pub counted_in : (site : ServerId) (past : List Step) (s : Step) (d : DoneOf) → Counts past s site d → In d
+pub counted_in : (site : ServerId) (past : List Step) (s : Step) (d : DoneOf) → DoneCounts past s site d → In d
     (counted site past s.cause)
 unfolding same_use begun is_fine ends_use ends_by gives_use stays_used in_use is_used frees is_ending is_local
     counted_by counted
@@ -389,11 +388,11 @@ counted_in site past s d (x, c) =
     (numbers n n refl))) (inl refl)))
 
 pub counts_to : (past : List Step) (s : Step) (v w : ServerId) (d : DoneOf) → (d.fileset.0 ≡ 0 → v ≡ w)
-    → Counts past s v d → Counts past s w d
+    → DoneCounts past s v d → DoneCounts past s w d
 unfolding same_use begun is_fine ends_use ends_by gives_use stays_used in_use is_used frees is_ending is_local
     counted_by counted
 counts_to past s v w d one (inl x, c) = (
-  subst (λ u. Settles past s u d) (one x.0)
+  subst (λ u. DoneComes past s u d) (one x.0)
       (inl x),
   moved past v w d.fileset d.bring.number one c,
 )
@@ -411,7 +410,7 @@ goes_there site past v fs n e c z =
 
 pub counts_here : (site : ServerId) (past : List Step) (s : Step) (v : ServerId) (d : DoneOf)
     → is_local site past ≡ true
-    → Counts past s v d → Counts past s site d
+    → DoneCounts past s v d → DoneCounts past s site d
 unfolding same_use begun is_fine ends_use ends_by gives_use stays_used in_use is_used frees is_ending is_local
     counted_by counted
 counts_here site past s v d e c = counts_to past s v site d (goes_there site past v d.fileset d.bring.number e c.1) c

@@ -19,14 +19,12 @@ use Rattle.message_types.specs.declared.message.Body.TheVariants.{GiveBack}
 use Rattle.message_types.specs.declared.message.Body.TheVariants.{Reclaim, Reclaimed, Restarted, Bye}
 use Rattle.message_types.specs.declared.message.Message.{Message}
 use Rattle.message_types.specs.declared.telling.Bring.{Bring}
-use Rattle.run_rules.specs.HostDue.{IsOther, RepeatsDue, SendsAgain}
-use Rattle.run_rules.specs.HostResends.{Claimed, ClaimsAt, HasBye, HostResends, LearnsRestart, Outstanding}
-use Rattle.run_rules.specs.HostTakes.{HostTakes}
-use Rattle.run_rules.specs.Epochs.{Comes, ComesIn, epoch_at}
-use Rattle.run_rules.specs.Lists.{In}
-use Rattle.run_rules.specs.Places.{Place, place}
-use Rattle.run_rules.specs.Gives.{number_of}
-use Rattle.run_rules.specs.Sends.{HasGreeted, HasSaid, Said, Sends}
+use Rattle.run_rules.specs.HostDue.{HasBye, IsNoGiveBack, IsUnanswered, RepeatsDue, SendsAgain}
+use Rattle.run_rules.specs.HostMay.{AwaitsReclaimed, ClaimsAt, HostResends, LearnsRestart}
+use Rattle.run_rules.specs.HostTokens.{HostTakes}
+use Rattle.run_rules.specs.Messages.{Comes, ComesIn, HasGreeted, HasSaid, Said, Sends, Stay, epoch_at, stay_of}
+use Rattle.run_rules.specs.Past.{In}
+use Rattle.run_rules.specs.Tokens.{number_of}
 use Rattle.run_rules.specs.declared.step.Asked.{Asked}
 use Rattle.run_rules.specs.declared.step.Cause.{Cause}
 use Rattle.run_rules.specs.declared.step.Cause.TheVariants.{Message as Came, Lapse}
@@ -199,7 +197,7 @@ answers_come past s v answer c =
     (and_from (same_server v v) ((epoch_at past v == epoch_at past v) && (0 == 0)) (servers v v refl)
     (and_from (epoch_at past v == epoch_at past v) (0 == 0) (same_is (epoch_at past v)) refl)))
 
-claimed_yes : (past : List Step) (v : ServerId) → has_claim past v ≡ true → Claimed past v
+claimed_yes : (past : List Step) (v : ServerId) → has_claim past v ≡ true → AwaitsReclaimed past v
 unfolding is_lapse is_hello is_reclaim is_restarted is_answer goes_as sends_bye byes_at has_bye claims_at raises_at
     answers_at has_claim is_bye is_local no_asked
 claimed_yes [] v t = absurd (cc)
@@ -220,7 +218,7 @@ claimed_yes (s ∷ past) v t =
       λ answer c. is_not (answers_at past v s.cause) p.1 (answers_come past s v answer c),
     )
 
-claimed_is : (past : List Step) (v : ServerId) → Claimed past v → has_claim past v ≡ true
+claimed_is : (past : List Step) (v : ServerId) → AwaitsReclaimed past v → has_claim past v ≡ true
 unfolding is_lapse is_hello is_reclaim is_restarted is_answer goes_as sends_bye byes_at has_bye claims_at raises_at
     answers_at has_claim is_bye is_local no_asked
 claimed_is [] v x = elim x [ ]
@@ -234,7 +232,7 @@ claimed_is (s ∷ past) v (from, unless) =
     ])
     (not_is (answers_at past v s.cause) (λ e. let p = answers_is past s v s.cause refl e in unless p.0 p.1))
 
-was_claimed : (past : List Step) (v : ServerId) → Claimed past v → (m : Message) × In m (said past) ×
+was_claimed : (past : List Step) (v : ServerId) → AwaitsReclaimed past v → (m : Message) × In m (said past) ×
     (is_reclaim m.body ≡ true) × (m.server ≡ v)
 unfolding is_lapse is_hello is_reclaim is_restarted is_answer goes_as sends_bye byes_at has_bye claims_at raises_at
     answers_at has_claim is_bye is_local no_asked
@@ -254,7 +252,7 @@ gives_as past s g e =
     list_any (λ m. is_place past g.fid.fileset m && ((m.epoch == e) && is_give g m.body)) s.sent
 
 gives_as_yes : (past : List Step) (s : Step) (g : Give) (e : ℕ) (v : ServerId) (n : ℕ) → gives_as past s g e ≡ true
-    → place past g.fid.fileset ≡ record { server = v; moves = n } → Sends s v e n (GiveBack g)
+    → stay_of past g.fid.fileset ≡ record { server = v; moves = n } → Sends s v e n (GiveBack g)
 unfolding is_lapse is_hello is_reclaim is_restarted is_answer goes_as sends_bye byes_at has_bye claims_at raises_at
     answers_at has_claim gives_as is_bye is_local no_asked
 gives_as_yes past s g e v n t at =
@@ -264,10 +262,10 @@ gives_as_yes past s g e v n t at =
     let w = sym (place_is past g.fid.fileset p.0 q.0) ∙ at in (
       p.0,
       p.1,
-      ap (λ (x : Place). x.server) w,
+      ap (λ (x : Stay). x.server) w,
       eqb-true p.0.epoch e r.0,
       ap (λ
-          (x : Place). x.moves) w,
+          (x : Stay). x.moves) w,
       give_body g p.0.body r.1,
     )
 
@@ -277,7 +275,7 @@ fetches_as past s f =
     list_any (λ m. is_place past f.fid.fileset m && ((m.epoch == epoch_at past m.server) && is_fetch f m.body)) s.sent
 
 fetches_as_yes : (past : List Step) (s : Step) (f : FetchOf) (v : ServerId) (n : ℕ) → fetches_as past s f ≡ true
-    → place past f.fid.fileset ≡ record { server = v; moves = n } → Sends s v (epoch_at past v) n (Fetch f)
+    → stay_of past f.fid.fileset ≡ record { server = v; moves = n } → Sends s v (epoch_at past v) n (Fetch f)
 unfolding fetches_as
 fetches_as_yes past s f v n t at =
     let p = some_in (λ m. is_place past f.fid.fileset m && ((m.epoch == epoch_at past m.server) && is_fetch f m.body))
@@ -286,12 +284,12 @@ fetches_as_yes past s f v n t at =
     p.2 in
     let r = and_parts (p.0.epoch == epoch_at past p.0.server) (is_fetch f p.0.body) q.1 in
     let w = sym (place_is past f.fid.fileset p.0 q.0) ∙ at in
-    let v_is : p.0.server ≡ v = ap (λ (x : Place). x.server) w in (
+    let v_is : p.0.server ≡ v = ap (λ (x : Stay). x.server) w in (
       p.0,
       p.1,
       v_is,
       eqb-true p.0.epoch (epoch_at past p.0.server) r.0 ∙ ap (epoch_at past) v_is,
-      ap (λ (x : Place). x.moves) w,
+      ap (λ (x : Stay). x.moves) w,
       fetch_body f p.0.body r.1,
     )
 
@@ -303,7 +301,7 @@ unfoldable pub greets_welcome : List Step → Message → Bool
 greets_welcome past m = implies (is_hello m.body) (is_welcome past m.server)
 
 unfoldable pub gives_late : List Step → Step → Give → Bool
-gives_late past s g = implies (is_first past g) (gives_as past s g (epoch_at past (place past g.fid.fileset).server))
+gives_late past s g = implies (is_first past g) (gives_as past s g (epoch_at past (stay_of past g.fid.fileset).server))
 
 unfoldable pub byes_late : List Step → Step → Message → Bool
 byes_late past s m = implies (is_bye m.body) (has_bye past m.server || sends_bye s m.server (epoch_at past m.server))
@@ -480,7 +478,7 @@ lapse_cause c e = absurd (cc)
 
 all_late : (site : ServerId) (past : List Step) (s : Step) → is_local site past ≡ true → AllTrue
     (lapse_tests site past s)
-    → (v : ServerId) (n : ℕ) (b : Body) → Outstanding past v n b → Sends s v (epoch_at past v) n b
+    → (v : ServerId) (n : ℕ) (b : Body) → IsUnanswered past v n b → Sends s v (epoch_at past v) n b
 unfolding is_lapse is_hello is_reclaim is_restarted is_answer goes_as sends_bye byes_at has_bye claims_at raises_at
     answers_at has_claim gives_as fetch_late greets_welcome gives_late byes_late claims_late late_right lapse_tests greeted
     learns_restart gives_restarted restart_right claims_only answered_all resend_tests is_bye is_local no_asked
@@ -493,8 +491,8 @@ all_late site past s local t v n (Change c) (h, a, at) = absurd (none_in (changi
     (numbered c.fileset c.number) t.1.1.0 (at_site site past v c.fileset c.number local a))
 all_late site past s local t v n (GiveBack g) (o, at) =
     gives_as_yes past s g (epoch_at past v) v n
-    (subst (λ x. gives_as past s g (epoch_at past x) ≡ true) (ap (λ (x : Place). x.server) at)
-    (so (is_first past g) (gives_as past s g (epoch_at past (place past g.fid.fileset).server)) (at_all
+    (subst (λ x. gives_as past s g (epoch_at past x) ≡ true) (ap (λ (x : Stay). x.server) at)
+    (so (is_first past g) (gives_as past s g (epoch_at past (stay_of past g.fid.fileset).server)) (at_all
     (gives_late past s) (made past) g t.1.1.1.0 (made_in past g o.made)) (first_is past g o))) at
 all_late site past s local t v n Bye ((e, k, h), none_, z) =
     let p = at_said (byes_late past s) past v e k Bye t.1.1.1.1.0 h in
@@ -506,7 +504,7 @@ all_late site past s local t v n Bye ((e, k, h), none_, z) =
 all_late site past s local t v n b x = elim x [ ]
 
 late_is : (past : List Step) (s : Step) (m : Message) (b : Body) → m.body ≡ b → late_right past m b ≡ true
-    → Outstanding past m.server m.moves b ⊎ (Claimed past m.server × ((claim : ReclaimOf) × (b ≡ Reclaim claim)))
+    → IsUnanswered past m.server m.moves b ⊎ (AwaitsReclaimed past m.server × ((claim : ReclaimOf) × (b ≡ Reclaim claim)))
 unfolding is_lapse is_hello is_reclaim is_restarted is_answer goes_as sends_bye byes_at has_bye claims_at raises_at
     answers_at has_claim gives_as fetch_late greets_welcome gives_late byes_late claims_late late_right lapse_tests greeted
     learns_restart gives_restarted restart_right claims_only answered_all resend_tests is_bye is_local no_asked
@@ -556,7 +554,7 @@ late_is past s m (Fetch f) is t =
 late_is past s m b is t = absurd (cc)
 
 late_all : (site : ServerId) (past : List Step) (s : Step) → AllTrue (lapse_tests site past s) → (v : ServerId)
-    → Claimed past v → ClaimsAt s v
+    → AwaitsReclaimed past v → ClaimsAt s v
 unfolding is_lapse is_hello is_reclaim is_restarted is_answer goes_as sends_bye byes_at has_bye claims_at raises_at
     answers_at has_claim gives_as fetch_late greets_welcome gives_late byes_late claims_late late_right lapse_tests greeted
     learns_restart gives_restarted restart_right claims_only answered_all resend_tests is_bye is_local no_asked
@@ -570,8 +568,8 @@ late_all site past s t v c =
 
 others : (site : ServerId) (past : List Step) (s : Step) → is_local site past ≡ true → by_message true
     (answered_all site past s) s.cause ≡ true
-    → (v : ServerId) (n : ℕ) (answer : ReclaimedOf) (b : Body) → Comes past s v (Reclaimed answer) → IsOther b
-    → Outstanding past v n b → Outstanding (s ∷ past) v n b → ⊥
+    → (v : ServerId) (n : ℕ) (answer : ReclaimedOf) (b : Body) → Comes past s v (Reclaimed answer) → IsNoGiveBack b
+    → IsUnanswered past v n b → IsUnanswered (s ∷ past) v n b → ⊥
 unfolding is_lapse is_hello is_reclaim is_restarted is_answer goes_as sends_bye byes_at has_bye claims_at raises_at
     answers_at has_claim gives_as fetch_late greets_welcome gives_late byes_late claims_late late_right lapse_tests greeted
     learns_restart gives_restarted restart_right claims_only answered_all resend_tests is_bye is_local no_asked
@@ -591,7 +589,7 @@ others site past s local t v n answer b c is out now = go b is out now
     q = and_parts (is_none (asking past) && is_none (changing site past)) (list_all (λ m. not (is_bye m.body))
         (said past)) p.1
 
-    go : (b : Body) → IsOther b → Outstanding past v n b → Outstanding (s ∷ past) v n b → ⊥
+    go : (b : Body) → IsNoGiveBack b → IsUnanswered past v n b → IsUnanswered (s ∷ past) v n b → ⊥
     go Hello i o x = x.1 (welcome_yes (s ∷ past) v (greets_is (s ∷ past) (s ∷ past) v p.0 x.0))
     go (Fetch f) i o x = none_in (asking past) (numbered f.fid.fileset f.number) (and_parts (is_none (asking past))
         (is_none (changing site past)) q.0).0 (asking_in past f.fid.fileset f.number o.1)
@@ -642,7 +640,7 @@ said_bye_is past v g =
     (servers h.0.server v h.2))
 
 again_is : (site : ServerId) (past : List Step) → is_local site past ≡ true → (m : Message) (v : ServerId) (n : ℕ)
-    (b : Body) → m.server ≡ v → Outstanding past v n b → is_again site past m b ≡ true
+    (b : Body) → m.server ≡ v → IsUnanswered past v n b → is_again site past m b ≡ true
 unfolding is_lapse is_hello is_reclaim is_restarted is_answer goes_as sends_bye byes_at has_bye claims_at raises_at
     answers_at has_claim gives_as fetch_late greets_welcome gives_late byes_late claims_late late_right lapse_tests greeted
     learns_restart gives_restarted restart_right claims_only answered_all resend_tests is_bye is_local no_asked

@@ -1,8 +1,13 @@
 -- The rules of lines, of leaving and of ending for a host's step, computed. A step that evicts passes no test here.
-use Rattle.run_rules.specs.Sends.{Says}
-use Rattle.run_rules.specs.Knowing.{FindsFile}
-use Rattle.run_rules.specs.Lists.{EachOnce}
-use Rattle.run_rules.specs.Sends.{HasSaid}
+use Rattle.run_rules.specs.HostDue.{LeavesDue}
+use Rattle.run_rules.specs.HostMay.{DoesLine, HostEnds, HostLines, TakenBefore}
+use Rattle.run_rules.specs.HostTokens.{HostLeaves, IsUnused, MayEvict, MayLeave}
+use Rattle.run_rules.specs.Messages.{HasGreeted, HasSaid, Said, Says, Sends}
+use Rattle.run_rules.specs.Past.{EachOnce, In}
+use Rattle.run_rules.specs.Steps.{IsNextLine, lines_gone}
+use Rattle.run_rules.specs.Tokens.{BeginsCall, Drops, HasCall, Held, NoneOpen, calls_begun, end_of}
+use Rattle.run_rules.specs.Views.{FindsFile, IsDirtyUnder, Stance, sees}
+use Rattle.run_rules.specs.declared.applied.Why.TheVariants.{Ended, Evicted, ForCall, Revoked, Stopped}
 use Rattle.std.proofs.Common.{Bool, List, None, Option, Some, [], arith, false, inl, inr, length, refl, subst}
 use Rattle.std.proofs.Common.{suc, sym, true}
 use Rattle.std.proofs.Common.{ℕ, ◌&&◌, ◌||◌, ◌==◌, ◌∙◌, ◌∷◌, ◌≡◌, ◌≤◌, ◌⊎◌}
@@ -32,21 +37,8 @@ use Rattle.token_types.specs.declared.token.Token.{Token}
 use Rattle.message_types.specs.declared.message.Body.TheVariants.{Hello, Down, Bye}
 use Rattle.message_types.specs.declared.message.Message.{Message}
 use Rattle.tree_laws.specs.Parts.{Nature}
-use Rattle.run_rules.specs.Dirty.{IsDirtyUnder}
-use Rattle.run_rules.specs.HostLeaves.{HostLeaves, IsIdle, MayEvict, MayLeave}
-use Rattle.run_rules.specs.HostDue.{LeavesDue}
-use Rattle.run_rules.specs.HostLines.{DoesDeed, HostEnds, HostLines, TakenBefore}
-use Rattle.run_rules.specs.Knowing.{Stance}
-use Rattle.run_rules.specs.Labels.{end_of}
-use Rattle.run_rules.specs.OpenCalls.{Begins, IsTurn, NoneOpen, calls_begun}
-use Rattle.run_rules.specs.Views.{sees}
-use Rattle.run_rules.specs.Lines.{IsNextLine, lines_gone}
-use Rattle.run_rules.specs.Lists.{In}
-use Rattle.run_rules.specs.Sends.{HasGreeted, Said, Sends}
-use Rattle.run_rules.specs.Tokens.{Drops, Held}
 use Rattle.run_rules.specs.declared.applied.Leave.{Leave}
 use Rattle.run_rules.specs.declared.applied.Why.{Why}
-use Rattle.run_rules.specs.declared.applied.Why.TheVariants.{Revoked, Evicted, Asked, Ended, Stopped}
 use Rattle.run_rules.specs.declared.step.Asked.{Asked as AskedCall}
 use Rattle.run_rules.specs.declared.step.Cause.{Cause}
 use Rattle.run_rules.specs.declared.step.Cause.TheVariants.{Message as Came, Line as LineOf, Restart, Lapse, Evict}
@@ -114,7 +106,7 @@ no_more {A = A} (x ∷ xs) ys once all =
 unfoldable pub idle : List Step → List Token
 idle past = filter (λ t. not (is_used past t.id)) (held past)
 
-pub idle_in : (past : List Step) (t : Token) → IsIdle past t → In t (idle past)
+pub idle_in : (past : List Step) (t : Token) → IsUnused past t → In t (idle past)
 unfolding is_end idle is_bye
 idle_in past t (h, n) =
     in_filter (λ (t : Token). not (is_used past t.id)) (held past) t (held_in past t h) (not_is (is_used past t.id)
@@ -159,14 +151,14 @@ down_to s v e =
     (p.0.epoch, p.0.moves, (p.0, p.1, server_is p.0.server v q.1, refl, refl, down_is p.0.body q.0))
 
 deed_is : (servers : List ServerId) (past : List Step) (s : Step) (d : Deed) → deed_right servers past s d ≡ true
-    → DoesDeed servers past s d
+    → DoesLine servers past s d
 unfolding is_end idle few_idle all_dropped begins_as says_down deed_right is_bye
 deed_is servers past s (MakesCall call) e =
     let p = some_in (begins_as past call) (begins_now s) e in
     let q = and_parts (p.0.k == suc (calls_begun past)) (same_call p.0.call call) p.2 in
     let k = eqb-true p.0.k (suc (calls_begun past)) q.0 in
     let c = call_is p.0.call call q.1 in
-    subst (λ (x : AskedCall). Begins s x.k x.call) (λ i. the_call (k i) (c i)) (in_begins s p.0 p.1)
+    subst (λ (x : AskedCall). BeginsCall s x.k x.call) (λ i. the_call (k i) (c i)) (in_begins s p.0 p.1)
 deed_is servers past s Stop e =
     let a = list_all (says_down s) servers in
     let p = and_parts (a && all_dropped past s) (no_asked s.asked && (is_none s.answers && is_none s.made)) e in
@@ -187,7 +179,7 @@ next_right servers past s n (Some line) = (line.number == n) && deed_right serve
 
 next_is : (lines : List Line) (servers : List ServerId) (past : List Step) (s : Step) (n : ℕ) (o : Option Line)
     → slice_get lines (lines_gone past) ≡ o → next_right servers past s n o ≡ true
-    → (line : Line) × IsNextLine lines past n line × DoesDeed servers past s line.deed
+    → (line : Line) × IsNextLine lines past n line × DoesLine servers past s line.deed
 unfolding is_end idle few_idle all_dropped begins_as says_down deed_right next_right is_bye
 next_is lines servers past s n None is e = absurd (cc)
 next_is lines servers past s n (Some line) is e =
@@ -353,7 +345,7 @@ last_use site past s t u =
 unfoldable pub may_leave : ServerId → User → List Step → Step → Why → Token → Bool
 may_leave site user past s Revoked t = list_any (same_id t.id) (recalled past s.cause) && not (is_used past t.id)
 may_leave site user past s Evicted t = false
-may_leave site user past s Asked t =
+may_leave site user past s ForCall t =
     (list_any (syncs_token site user past s t) (turns site past s) && dirty_under past s t)
     || list_any (last_use site past s t) (in_use past)
 may_leave site user past s Ended t = is_end s.cause && is_none (in_use past)
@@ -385,9 +377,9 @@ module _ (site : ServerId) (roster : Roster) (host : HostId) (user : User) (past
       let q = finds_is (outcome (sees past s) (file_look user (root_of id) place.path)) fid p.1 in
       (id, q.0, is, cover_all (hand s past) (needs_of (sees past s) (file_look user (root_of id) place.path)) p.0, q.1)
 
-  synced : (t : Token) (k : ℕ) (call : Call) → IsTurn past s k call → syncs_by site user past s t call ≡ true
+  synced : (t : Token) (k : ℕ) (call : Call) → HasCall past s k call → syncs_by site user past s t call ≡ true
       → IsDirtyUnder past s t
-      → (k : ℕ) × (place : Place) × (stance : Stance roster host past s) × IsTurn past s k (Sync place)
+      → (k : ℕ) × (place : Place) × (stance : Stance roster host past s) × HasCall past s k (Sync place)
       × FindsFile stance place t.fid × IsDirtyUnder past s t
   synced t k (Sync place) turn e d = (
     k,
@@ -407,7 +399,7 @@ module _ (site : ServerId) (roster : Roster) (host : HostId) (user : User) (past
       let p = and_parts (list_any (same_id t.id) (recalled past s.cause)) (not (is_used past t.id)) e in
       (is_recalled past s t.id p.0, λ u. is_not (is_used past t.id) p.1 (is_used_is past t.id u))
   leave_is limit Evicted t e = absurd (cc)
-  leave_is limit Asked t e =
+  leave_is limit ForCall t e =
       elim (or_cases (list_any (syncs_token site user past s t) (turns site past s) && dirty_under past s t)
       (list_any (last_use site past s t) (in_use past)) e) [
         | inl x ↦ (
@@ -425,7 +417,7 @@ module _ (site : ServerId) (roster : Roster) (host : HostId) (user : User) (past
             inr (
               c.0.k,
               q.0,
-              subst (λ x. IsTurn past s c.0.k x) (end_is c.0.call (end_of q.0) c.2)
+              subst (λ x. HasCall past s c.0.k x) (end_is c.0.call (end_of q.0) c.2)
                   (in_turns site past s c.0 local c.1),
               frees_yes past q.0 r.1,
               token_is q.0.token t r.0,
@@ -615,7 +607,7 @@ leaves_due site user lines limit past s left e =
         (end_right site lines limit past s)) t (subst (λ x. is_end x ≡ true) (sym c) refl))
 
     does : (not (is_none (begins_now s)) || (not (is_none s.dropped) || says is_bye s)) ≡ true
-        → ((k : ℕ) × (call : Call) × Begins s k call) ⊎ (((l : Leave) × In l s.dropped) ⊎ ((v : ServerId)
+        → ((k : ℕ) × (call : Call) × BeginsCall s k call) ⊎ (((l : Leave) × In l s.dropped) ⊎ ((v : ServerId)
         × Says s v Bye))
     does t =
         elim (or_cases (not (is_none (begins_now s))) (not (is_none s.dropped) || says is_bye s) t) [

@@ -32,19 +32,17 @@ use Rattle.std.specs.Prelude.{nat_lt, not}
 use Rattle.token_types.specs.Conflicts.{conflict, same_id}
 use Rattle.token_types.specs.declared.token.Token.{Token}
 use Rattle.token_types.specs.declared.token.TokenId.{TokenId}
-use Rattle.run_rules.specs.Acts.{Act, SentTo, epoch}
-use Rattle.run_rules.specs.Acts.Act.{Admits, Reserves, Sent, Writes}
-use Rattle.run_rules.specs.Grants.{Granted, IsDurable, Reserved, WasWritten}
-use Rattle.run_rules.specs.Hosts.{NoGrace, TookNow}
-use Rattle.run_rules.specs.Lists.{Each, In, Once}
+use Rattle.run_rules.specs.Doings.{Doing, Granted, IsDurable, NoGrace, Reserved, SentTo, TookNow, WasWritten, epoch}
+use Rattle.run_rules.specs.Doings.Doing.{Admits, Reserves, Sent, WritesDown}
+use Rattle.run_rules.specs.Past.{EachInTurn, In, Once}
 use Rattle.run_rules.specs.ServerTokens.{AskedChange, AskedFetch, ClaimsHere, MayAdmit, MayBring, ServerTokens}
 use Rattle.run_rules.specs.declared.applied.Written.{Written}
 
 -- no host is in its grace period; and what the exporter keeps is nothing
-unfoldable pub over : List Act → Bool
+unfoldable pub over : List Doing → Bool
 over past = list_all (reclaimed past) (heard past)
 
-unfoldable pub exporter_free : List Act → Bool
+unfoldable pub exporter_free : List Doing → Bool
 exporter_free past = list_all keeps_none past
 
 unfoldable pub is_token_of : ServerId → ℕ → HostId → Fid → Token → Bool
@@ -54,7 +52,7 @@ is_token_of server now h fid t =
 unfoldable pub is_newer : ℕ → Token → Token → Bool
 is_newer now t u = implies (u.id.epoch == now) (nat_lt u.id.seq t.id.seq)
 
-unfoldable pub bring_tests : ServerId → List Act → HostId → ℕ → Bring → List Bool
+unfoldable pub bring_tests : ServerId → List Doing → HostId → ℕ → Bring → List Bool
 bring_tests server past h n w =
     over past
     ∷ live past h
@@ -83,19 +81,19 @@ change_of w m (Change c) =
 change_of w m _ = false
 
 -- the host's Changes of the fileset that were written down or answered have lower numbers
-unfoldable pub is_lower : HostId → FilesetId → ℕ → Act → Bool
+unfoldable pub is_lower : HostId → FilesetId → ℕ → Doing → Bool
 is_lower h fs n (Sent host e m (Done d)) = implies (same_host host h && same_fileset d.fileset fs) (nat_lt d.bring.number n)
-is_lower h fs n (Writes w) = implies (same_host w.answer.host h && same_fileset w.fileset fs) (nat_lt w.number n)
+is_lower h fs n (WritesDown w) = implies (same_host w.answer.host h && same_fileset w.fileset fs) (nat_lt w.number n)
 is_lower h fs n _ = true
 
-unfoldable pub is_fresh : List Act → HostId → FilesetId → ℕ → Bool
+unfoldable pub is_fresh : List Doing → HostId → FilesetId → ℕ → Bool
 is_fresh past h fs n = list_all (is_lower h fs n) past
 
-unfoldable pub names_granted : ServerId → List Act → HostId → Fid → TokenId → Bool
+unfoldable pub names_granted : ServerId → List Doing → HostId → Fid → TokenId → Bool
 names_granted server past h fid i =
     list_any (λ t. same_id t.id i && (same_host t.host h && same_fid t.fid fid)) (granted server past)
 
-unfoldable pub body_right : ServerId → List Act → HostId → ℕ → Body → Bool
+unfoldable pub body_right : ServerId → List Doing → HostId → ℕ → Body → Bool
 body_right server past h n (Grant g) = passes (bring_tests server past h n g.bring) && took (fetch_for n g) past h
 body_right server past h n (Done d) =
     is_none d.bring.tokens || (passes (bring_tests server past h n d.bring) && took (change_for n d) past h)
@@ -116,17 +114,17 @@ is_claim_for server h ts n (Reclaim claim) =
     && (list_all (λ t. list_any (same_token t) ts) claim.tokens && apart same_token_id ts)
 is_claim_for server h ts n _ = false
 
-unfoldable pub act_right : ServerId → List Act → Act → Bool
+unfoldable pub act_right : ServerId → List Doing → Doing → Bool
 act_right server past (Sent h e n b) = (e == epoch past) && body_right server past h n b
 act_right server past (Admits h ts) =
     (not (reclaimed past h) && live past h)
     && ((quiet past && is_none (granted server past)) && took (is_claim_for server h ts) past h)
-act_right server past (Writes w) =
+act_right server past (WritesDown w) =
     took (change_of w) past w.answer.host && is_fresh past w.answer.host w.fileset w.number
 act_right server past (Reserves ts) = is_none ts
 act_right server past _ = true
 
-unfoldable pub acts_right : ServerId → List Act → List Act → Bool
+unfoldable pub acts_right : ServerId → List Doing → List Doing → Bool
 acts_right server [] past = true
 acts_right server (a ∷ more) past = act_right server past a && acts_right server more (a ∷ past)
 
@@ -135,15 +133,15 @@ unfolding list_words over exporter_free is_token_of is_newer bring_tests fetch_f
     names_granted body_right claims_here is_claim_for act_right acts_right
 may_words = 0
 
-pub over_yes : (past : List Act) → over past ≡ true → NoGrace past
+pub over_yes : (past : List Doing) → over past ≡ true → NoGrace past
 unfolding over
 over_yes past e = no_grace past e
 
-pub free_yes : (past : List Act) (t : Token) → exporter_free past ≡ true → Reserved past t → ⊥
+pub free_yes : (past : List Doing) (t : Token) → exporter_free past ≡ true → Reserved past t → ⊥
 unfolding exporter_free
 free_yes past t e r = none_kept past t e r
 
-brings_from : (server : ServerId) (past : List Act) (h : HostId) (n : ℕ) (w : Bring)
+brings_from : (server : ServerId) (past : List Doing) (h : HostId) (n : ℕ) (w : Bring)
     → AllTrue (bring_tests server past h n w) → MayBring server past h n w
 unfolding may_words
 brings_from server past h n w (over_, (live_, (here_, (told_, (of_, (new_, (apart_, (free_, (kept_, _))))))))) = record {
@@ -181,7 +179,7 @@ brings_from server past h n w (over_, (live_, (here_, (told_, (of_, (new_, (apar
         let r = and_parts (same_server t.id.server server) (t.id.epoch == epoch past) p.1 in
         (q.0, q.1, r.0, r.1)
 
-fetch_is : (past : List Act) (h : HostId) (n : ℕ) (g : GrantOf) (m : ℕ) (b : Body) → TookNow past h m b
+fetch_is : (past : List Doing) (h : HostId) (n : ℕ) (g : GrantOf) (m : ℕ) (b : Body) → TookNow past h m b
     → fetch_for n g m b ≡ true → AskedFetch past h n g
 unfolding may_words
 fetch_is past h n g m (Fetch f) x e =
@@ -194,7 +192,7 @@ fetch_is past h n g m (Fetch f) x e =
     )
 fetch_is past h n g m b x e = absurd (cc)
 
-change_is : (past : List Act) (h : HostId) (n : ℕ) (d : DoneOf) (m : ℕ) (b : Body) → TookNow past h m b
+change_is : (past : List Doing) (h : HostId) (n : ℕ) (d : DoneOf) (m : ℕ) (b : Body) → TookNow past h m b
     → change_for n d m b ≡ true → AskedChange past h n d
 unfolding may_words
 change_is past h n d m (Change c) x e =
@@ -211,11 +209,11 @@ change_is past h n d m (Change c) x e =
     )
 change_is past h n d m b x e = absurd (cc)
 
-abbrev Asked : List Act → Written → Type 0
+abbrev Asked : List Doing → Written → Type 0
 Asked past w = (c : ChangeOf) × (n : ℕ) × TookNow past w.answer.host n (Change c)
     × (c.fileset ≡ w.fileset) × (c.number ≡ w.number) × (c.k ≡ w.answer.k) × (c.call ≡ w.answer.call)
 
-written_is : (past : List Act) (w : Written) (m : ℕ) (b : Body) → TookNow past w.answer.host m b
+written_is : (past : List Doing) (w : Written) (m : ℕ) (b : Body) → TookNow past w.answer.host m b
     → change_of w m b ≡ true → Asked past w
 unfolding may_words
 written_is past w m (Change c) x e =
@@ -234,7 +232,7 @@ written_is past w m (Change c) x e =
 written_is past w m b x e = absurd (cc)
 
 -- nothing of this number or a higher one was answered or written down
-pub fresh_sent : (past : List Act) (h : HostId) (fs : FilesetId) (n : ℕ) → is_fresh past h fs n ≡ true → (e m : ℕ)
+pub fresh_sent : (past : List Doing) (h : HostId) (fs : FilesetId) (n : ℕ) → is_fresh past h fs n ≡ true → (e m : ℕ)
     (d : DoneOf) → SentTo past h e m (Done d) → d.fileset ≡ fs → d.bring.number < n
 unfolding may_words
 fresh_sent [] h fs n t e m d x f = elim x [ ]
@@ -246,33 +244,33 @@ fresh_sent (a ∷ past) h fs n t e m d (inl is) f =
 fresh_sent (a ∷ past) h fs n t e m d (inr x) f =
     fresh_sent past h fs n (and_parts (is_lower h fs n a) (list_all (is_lower h fs n) past) t).1 e m d x f
 
-pub fresh_written : (past : List Act) (h : HostId) (fs : FilesetId) (n : ℕ) → is_fresh past h fs n ≡ true → (w : Written)
-    → Once (λ before a. a ≡ Writes w) past → w.answer.host ≡ h → w.fileset ≡ fs → w.number < n
+pub fresh_written : (past : List Doing) (h : HostId) (fs : FilesetId) (n : ℕ) → is_fresh past h fs n ≡ true → (w : Written)
+    → Once (λ before a. a ≡ WritesDown w) past → w.answer.host ≡ h → w.fileset ≡ fs → w.number < n
 unfolding may_words
 fresh_written [] h fs n t w x at f = elim x [ ]
 fresh_written (a ∷ past) h fs n t w (inl is) at f =
     let p = (and_parts (is_lower h fs n a) (list_all (is_lower h fs n) past) t).0 in
-    let q : is_lower h fs n (Writes w) ≡ true = subst (λ x. is_lower h fs n x ≡ true) is p in
+    let q : is_lower h fs n (WritesDown w) ≡ true = subst (λ x. is_lower h fs n x ≡ true) is p in
     ltb-true w.number n (so (same_host w.answer.host h && same_fileset w.fileset fs) (nat_lt w.number n) q
     (and_from (same_host w.answer.host h) (same_fileset w.fileset fs) (hosts w.answer.host h at)
     (filesets w.fileset fs f)))
 fresh_written (a ∷ past) h fs n t w (inr x) at f =
     fresh_written past h fs n (and_parts (is_lower h fs n a) (list_all (is_lower h fs n) past) t).1 w x at f
 
-was_once : (past : List Act) (h : HostId) (fs : FilesetId) (n : ℕ) → WasWritten past h fs n
-    → (w : Written) × Once (λ before a. a ≡ Writes w) past × (w.answer.host ≡ h) × (w.fileset ≡ fs) × (w.number ≡ n)
+was_once : (past : List Doing) (h : HostId) (fs : FilesetId) (n : ℕ) → WasWritten past h fs n
+    → (w : Written) × Once (λ before a. a ≡ WritesDown w) past × (w.answer.host ≡ h) × (w.fileset ≡ fs) × (w.number ≡ n)
 was_once [] h fs n x = elim x [ ]
 was_once (a ∷ past) h fs n (inl (w, is, at, f, k)) = (w, inl is, at, f, k)
 was_once (a ∷ past) h fs n (inr x) = let r = was_once past h fs n x in (r.0, inr r.1, r.2, r.3, r.4)
 
-pub fresh_durable : (past : List Act) (h : HostId) (fs : FilesetId) (n : ℕ) → is_fresh past h fs n ≡ true
+pub fresh_durable : (past : List Doing) (h : HostId) (fs : FilesetId) (n : ℕ) → is_fresh past h fs n ≡ true
     → IsDurable past h fs n → ⊥
 fresh_durable past h fs n t (later, up, x) =
     let r = was_once past h fs later x in
     let low = fresh_written past h fs n t r.0 r.1 r.2 r.3 in
     let k = r.4 in omega (arith, up, low, k)
 
-revoke_is : (server : ServerId) (past : List Act) (h : HostId) (r : RevokeOf) (i : TokenId)
+revoke_is : (server : ServerId) (past : List Doing) (h : HostId) (r : RevokeOf) (i : TokenId)
     → list_all (names_granted server past h r.fid) r.ids ≡ true → In i r.ids
     → (t : Token) × Granted server past t × (t.id ≡ i) × (t.host ≡ h) × (t.fid ≡ r.fid)
 unfolding may_words
@@ -284,7 +282,7 @@ revoke_is server past h r i e m =
     let k = and_parts (same_host t.host h) (same_fid t.fid r.fid) q.1 in
     (t, granted_yes server past t p.1, id_is t.id i q.0, host_is t.host h k.0, fid_is t.fid r.fid k.1)
 
-admit_is : (server : ServerId) (past : List Act) (h : HostId) (ts : List Token)
+admit_is : (server : ServerId) (past : List Doing) (h : HostId) (ts : List Token)
     → act_right server past (Admits h ts) ≡ true → MayAdmit server past h ts
 unfolding may_words
 admit_is server past h ts e = go (found.0) (found.1) (found.2) (found.3)
@@ -348,7 +346,7 @@ admit_is server past h ts e = go (found.0) (found.1) (found.2) (found.3)
     go n b x c = absurd (cc)
 
 -- each doing that passes its test is allowed
-pub may_act : (server : ServerId) (past : List Act) (a : Act) → act_right server past a ≡ true
+pub may_act : (server : ServerId) (past : List Doing) (a : Doing) → act_right server past a ≡ true
     → ServerTokens server past a
 unfolding may_words
 may_act server past a e = record {
@@ -409,14 +407,14 @@ may_act server past a e = record {
         and_parts (here server r.fid.fileset n && told_below r.fid r.stamp past)
         (list_all (names_granted server past h r.fid) r.ids) (sends h f n (Revoke r) is).1
 
-    wrote : (w : Written) → a ≡ Writes w
+    wrote : (w : Written) → a ≡ WritesDown w
         → (took (change_of w) past w.answer.host ≡ true) × (is_fresh past w.answer.host w.fileset w.number ≡ true)
     wrote w is =
         and_parts (took (change_of w) past w.answer.host) (is_fresh past w.answer.host w.fileset w.number)
         (subst (λ x. act_right server past x ≡ true) is e)
 
-pub may_all : (server : ServerId) (more past : List Act) → acts_right server more past ≡ true
-    → Each (ServerTokens server) more past
+pub may_all : (server : ServerId) (more past : List Doing) → acts_right server more past ≡ true
+    → EachInTurn (ServerTokens server) more past
 unfolding may_words
 may_all server [] past e = tt
 may_all server (a ∷ more) past e =

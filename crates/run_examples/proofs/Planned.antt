@@ -28,31 +28,29 @@ use Rattle.std.proofs.Common.{Bool, List, None, false, [], ap, arith, inl, inr, 
 use Rattle.std.proofs.Common.{◌≡◌, ◌≤◌}
 use Rattle.std.specs.List.{list_all}
 use Rattle.std.specs.Prelude.{flat_map, if◌then◌else◌, map, not}
-use Rattle.run_rules.specs.Plans.{Counted, IsPlanned, KeepsPlan, MayCome, sent_in}
-use Rattle.run_rules.specs.Lists.{Always, In}
+use Rattle.run_rules.specs.Past.{Always, In}
+use Rattle.run_rules.specs.Plans.{Copy, CountIs, IsPlanned, KeepsPlan, MayCome, Posting, all_left, copies_of, fate_of}
+use Rattle.run_rules.specs.Plans.{left_after, post, posted, says_down, sent_in, ways_in}
 use Rattle.run_rules.specs.declared.step.Cause.{Cause}
 use Rattle.run_rules.specs.declared.step.Cause.TheVariants.{Message as Came, Lapse}
 use Rattle.run_rules.specs.declared.step.Step.{Step}
-use Rattle.run_rules.specs.Ends.{is_down}
-use Rattle.run_rules.specs.Fates.{ways_in}
-use Rattle.run_rules.specs.Posting.{Copy, Posted, all_left, copies_of, fate_of, left_after, post, posted}
 use Rattle.run_rules.specs.declared.fate.Fate.TheVariants.{Once}
 use Rattle.run_rules.specs.declared.fate.Left.{Left}
 use Rattle.run_rules.specs.declared.fate.Way.{Way}
 use Rattle.run_rules.specs.declared.fate.Way.TheVariants.{Free}
 
 -- so many of a list are so: none, or at least one
-none_counted : {A : Type 0} (P : A → Type 0) (xs : List A) (n : ℕ) → ((x : A) → In x xs → P x → ⊥) → Counted P xs n → n ≡ 0
+none_counted : {A : Type 0} (P : A → Type 0) (xs : List A) (n : ℕ) → ((x : A) → In x xs → P x → ⊥) → CountIs P xs n → n ≡ 0
 none_counted P [] n none c = c
 none_counted P (x ∷ xs) n none (inl (p, _)) = absurd (none x (inl refl) p)
 none_counted P (x ∷ xs) n none (inr (_, c)) = none_counted P xs n (λ y i. none y (inr i)) c
 
 at_most_one : {A : Type 0} (P : A → Type 0) (x : A) (xs : List A) (n : ℕ) → ((y : A) → In y xs → P y → ⊥)
-    → Counted P (x ∷ xs) n → n ≤ 1
+    → CountIs P (x ∷ xs) n → n ≤ 1
 at_most_one P x xs n none (inl (_, (m, e, c))) = let z = none_counted P xs m none c in omega (arith, e, z)
 at_most_one P x xs n none (inr (_, c)) = let z = none_counted P xs n none c in omega (arith, z)
 
-some_counted : {A : Type 0} (P : A → Type 0) (xs : List A) (k : ℕ) (x : A) → In x xs → P x → Counted P xs k → 1 ≤ k
+some_counted : {A : Type 0} (P : A → Type 0) (xs : List A) (k : ℕ) (x : A) → In x xs → P x → CountIs P xs k → 1 ≤ k
 some_counted P [] k x i p c = elim i [ ]
 some_counted P (y ∷ ys) k x i p (inl (_, (m, e, c))) = omega (arith, e)
 some_counted P (y ∷ ys) k x (inl e) p (inr (no_one, c)) = absurd (no_one (subst P e p))
@@ -66,7 +64,7 @@ one_way false = refl
 abbrev copy_by : Message → Way → Copy
 copy_by m way = record { message = m; way = way }
 
-abbrev posted_as : List Message → Left → Message → Posted
+abbrev posted_as : List Message → Left → Message → Posting
 posted_as earlier left m = record { message = m; fate = fate_of script earlier m left }
 
 abbrev FreeCopy : Message → List Copy → Type 0
@@ -84,7 +82,7 @@ copied earlier left (x ∷ ms) m (inl e) = (
 )
   where
     first : In (copy_by x Free) (copies_of (posted_as earlier left x))
-    first = subst (λ ways. In (copy_by x Free) (map (copy_by x) ways)) (sym (one_way (is_down x))) (inl refl)
+    first = subst (λ ways. In (copy_by x Free) (map (copy_by x) ways)) (sym (one_way (says_down x))) (inl refl)
 copied earlier left (x ∷ ms) m (inr i) =
     let r = copied (earlier ++ x ∷ []) (left_after script earlier x left) ms m i in (
       r.0,

@@ -3,12 +3,11 @@ use Rattle.std.proofs.Common.{[], ◌∷◌, ℕ, inl, inr, refl, sym, ◌≡◌
 use Rattle.base_types.specs.declared.ids.ServerId.{ServerId}
 use Rattle.message_types.specs.declared.message.Body.TheVariants.{Hello, Change}
 use Rattle.message_types.specs.declared.message.Message.{Message}
-use Rattle.run_rules.specs.Acts.{acts}
-use Rattle.run_rules.specs.Epochs.{IsWelcome}
+use Rattle.run_rules.specs.Doings.{doings_of}
 use Rattle.run_rules.specs.HostDue.{HostDue}
-use Rattle.run_rules.specs.HostRules.{HostMay}
-use Rattle.run_rules.specs.Sends.{HasGreeted}
-use Rattle.run_rules.specs.ServerRules.{ServerMay}
+use Rattle.run_rules.specs.HostMay.{HostMay}
+use Rattle.run_rules.specs.Messages.{HasGreeted, IsWelcome}
+use Rattle.run_rules.specs.ServerMay.{ServerMay}
 use Rattle.run_rules.specs.declared.step.Cause.TheVariants.{Message as Came, Lapse}
 use Rattle.run_tokens.specs.Worked.{client, enter, site_one, to_host, to_server, welcome}
 use Rattle.message_types.specs.declared.message.Body.TheVariants.{Reclaimed}
@@ -24,7 +23,7 @@ heard : Does looking client [] unasked
 unfolding computed
 heard = host_does site_one looking client owner [] unasked refl refl
 
-not_told : ServerMay looking file_tree site_one [] (acts 1 site_one []) tells_unasked → ⊥
+not_told : ServerMay looking file_tree site_one [] (doings_of 1 site_one []) tells_unasked → ⊥
 not_told may = elim (may.answers.reclaimed_only client welcome (to_host (Reclaimed welcome), inl refl, refl, refl)) [
   | inl x ↦ let p : Lapse ≡ Came x.0.0 = x.0.1 in cc
   | inr (inl x) ↦ elim x.1 [ ]

@@ -13,15 +13,13 @@ use Rattle.std.proofs.Common.{Bool, List, Some, [], false, inl, inr, refl, subst
 use Rattle.std.proofs.Common.{◌≡◌}
 use Rattle.std.specs.List.{list_all}
 use Rattle.std.specs.Prelude.{not, slice_get, ◌⊎◌}
-use Rattle.run_rules.specs.Runs.{FlagsMet, firsts_of}
-use Rattle.run_rules.specs.HostResends.{HasBye}
-use Rattle.run_rules.specs.Lines.{lines_gone, lines_of, setup}
-use Rattle.run_rules.specs.Acts.{Act, SentTo, acts}
-use Rattle.run_rules.specs.Acts.Act.{Sent}
-use Rattle.run_rules.specs.Lists.{In}
-use Rattle.run_rules.specs.Nodes.{own}
-use Rattle.run_rules.specs.Sends.{HasGreeted, HasStopped, Said}
-use Rattle.run_rules.specs.TokenRuns.{CameToHost, CameToServer}
+use Rattle.run_rules.specs.Doings.{Doing, SentTo, doings_of}
+use Rattle.run_rules.specs.Doings.Doing.{Sent}
+use Rattle.run_rules.specs.HostDue.{HasBye}
+use Rattle.run_rules.specs.Messages.{HasGreeted, HasStopped, Said}
+use Rattle.run_rules.specs.Past.{In}
+use Rattle.run_rules.specs.Runs.{CameToHost, CameToServer, FlagsMet, firsts_of}
+use Rattle.run_rules.specs.Steps.{lines_gone, lines_of, setup, steps_of_host}
 use Rattle.run_tokens.specs.Worked.{site_one}
 use Rattle.run_rules.specs.declared.step.Cause.{Cause}
 use Rattle.run_rules.specs.declared.step.Cause.TheVariants.{Message as Came}
@@ -37,7 +35,7 @@ at_place n [] x e = absurd (cc)
 at_place zero (y ∷ ys) x e = inl (let p : Some y ≡ Some x = e in cc)
 at_place (suc n) (y ∷ ys) x e = inr (at_place n ys x e)
 
-sent_at : (past : List Act) (h : HostId) (e n : ℕ) (b : Body) → In (Sent h e n b) past → SentTo past h e n b
+sent_at : (past : List Doing) (h : HostId) (e n : ℕ) (b : Body) → In (Sent h e n b) past → SentTo past h e n b
 sent_at [] h e n b m = elim m [ ]
 sent_at (a ∷ past) h e n b (inl p) = inl (sym p)
 sent_at (a ∷ past) h e n b (inr m) = inr (sent_at past h e n b m)
@@ -48,26 +46,26 @@ cause_of s m n a b = let p : Came m ≡ Came n = sym a ∙ b in cc
 
 pub to_a_host : (host : HostId) (past : List Step) (s : Step) (at : ℕ) (m : Message) → s.cause ≡ Came m → m.host ≡ host
     → m.direction ≡ ToHost → m.server ≡ site_one
-    → slice_get (acts 1 site_one past) at ≡ Some (Sent host m.epoch m.moves m.body) → CameToHost firsts host past s
+    → slice_get (doings_of 1 site_one past) at ≡ Some (Sent host m.epoch m.moves m.body) → CameToHost firsts host past s
 to_a_host host past s at m is h way v e n c =
     subst (λ (x : Message). (x.host ≡ host) × (x.direction ≡ ToHost)
-    × SentTo (acts (firsts x.server) x.server past) host x.epoch x.moves x.body) (cause_of s m n is c) (
+    × SentTo (doings_of (firsts x.server) x.server past) host x.epoch x.moves x.body) (cause_of s m n is c) (
       h,
       way,
-      subst (λ v. SentTo (acts (firsts v) v past) host m.epoch m.moves m.body) (sym v)
-          (sent_at (acts 1 site_one past) host m.epoch m.moves m.body
-          (at_place at (acts 1 site_one past) (Sent host m.epoch m.moves m.body) e)),
+      subst (λ v. SentTo (doings_of (firsts v) v past) host m.epoch m.moves m.body) (sym v)
+          (sent_at (doings_of 1 site_one past) host m.epoch m.moves m.body
+          (at_place at (doings_of 1 site_one past) (Sent host m.epoch m.moves m.body) e)),
     )
 
 pub to_the_server : (past : List Step) (s : Step) (at : ℕ) (m : Message) → s.cause ≡ Came m → m.server ≡ site_one
-    → m.direction ≡ ToServer → slice_get (said (own m.host past)) at ≡ Some m → CameToServer site_one past s
+    → m.direction ≡ ToServer → slice_get (said (steps_of_host m.host past)) at ≡ Some m → CameToServer site_one past s
 to_the_server past s at m is v way e n c =
     subst (λ (x : Message). (x.server ≡ site_one) × (x.direction ≡ ToServer)
-    × Said (own x.host past) site_one x.epoch x.moves x.body) (cause_of s m n is c) (
+    × Said (steps_of_host x.host past) site_one x.epoch x.moves x.body) (cause_of s m n is c) (
       v,
       way,
-      subst (λ v. Said (own m.host past) v m.epoch m.moves m.body) v
-          (in_said (own m.host past) m (at_place at (said (own m.host past)) m e)),
+      subst (λ v. Said (steps_of_host m.host past) v m.epoch m.moves m.body) v
+          (in_said (steps_of_host m.host past) m (at_place at (said (steps_of_host m.host past)) m e)),
     )
 
 unfoldable pub no_message : Cause → Bool
@@ -94,7 +92,7 @@ is_await (Await flag) = true
 is_await _ = false
 
 pub flags : (past : List Step) (s : Step) → list_all (λ l. not (is_await l.deed)) (lines_of script s.node) ≡ true
-    → own setup past ≡ [] → FlagsMet script past s
+    → steps_of_host setup past ≡ [] → FlagsMet script past s
 unfolding is_await
 flags past s lines none = record {
   awaits = λ n line flag c is e.

@@ -53,29 +53,27 @@ use Rattle.token_types.specs.declared.token.Token.{Token}
 use Rattle.token_types.specs.declared.token.TokenId.{TokenId}
 use Rattle.tree_laws.specs.Parts.{cell_at}
 use Rattle.tree_laws.specs.Parts.Part.{Traits}
-use Rattle.run_rules.specs.Ends.{kind_of}
-use Rattle.run_rules.specs.Kept.{is_refusal, kept_after}
-use Rattle.run_rules.specs.ServerAnswers.{SentNow, TakenNow}
-use Rattle.run_rules.specs.ServerDecides.{HasDecided, IsAskedHere, IsHere, IsNewRequest, IsOfRow, MayDecide}
-use Rattle.run_rules.specs.ServerDecides.{MayDecideAll, NotRefused, kept_reply, refusal_of}
+use Rattle.run_rules.specs.Doings.{Doing, IsLive, Pinned, SentNow, SentTo, TakenNow, after_cause, decisions_of, epoch}
+use Rattle.run_rules.specs.Doings.{sending}
+use Rattle.run_rules.specs.Doings.Doing.{Sent, WritesDown}
+use Rattle.run_rules.specs.Kept.{filesets_after, is_refusal}
+use Rattle.run_rules.specs.Messages.{stay_of}
+use Rattle.run_rules.specs.Past.{EachInTurn, In, Once, appended}
+use Rattle.run_rules.specs.Plans.{kind_of}
+use Rattle.run_rules.specs.ServerDecides.{IsAskedHere, IsDecidedHere, IsNewRequest, IsOfRow, MayDecide, MayDecideAll}
+use Rattle.run_rules.specs.ServerDecides.{NotRefused, kept_reply, refusal_of}
 use Rattle.run_rules.specs.ServerDecides.DecidedSo.{MeetsPinned}
-use Rattle.run_rules.specs.ServerSends.{AnswersChange, AreNeeds, DoneFor, GrantsSo, HasSent, HasWritten}
-use Rattle.run_rules.specs.ServerSends.{IsAskedBack, IsLast, IsOfChange, IsOwed, MaySend, Revoked, TellsKept}
-use Rattle.run_rules.specs.ServerSends.DoneFor.{OfWritten, Settled}
-use Rattle.run_rules.specs.ServerSends.SettledSo.{IsEntered, TakesToken}
-use Rattle.run_rules.specs.Wants.{Before, CanGrant, CanRefuse, IsBehind, IsOld, IsReady, NoneWaits, SameNumber, Waits}
-use Rattle.run_rules.specs.Wants.{asker, body_of}
-use Rattle.run_rules.specs.Wants.{has_effect, is_use, needs_for, row_needs}
-use Rattle.run_rules.specs.Acts.{Act, SentTo, after_cause, decisions_of, epoch, sending}
-use Rattle.run_rules.specs.Acts.Act.{Sent, Writes}
-use Rattle.run_rules.specs.Grants.{Pinned}
-use Rattle.run_rules.specs.Hosts.{IsLive}
-use Rattle.run_rules.specs.Lists.{Each, In, Once, after}
-use Rattle.run_rules.specs.Places.{place}
-use Rattle.run_rules.specs.declared.applied.Applied.{Applied as AppliedOf}
+use Rattle.run_rules.specs.ServerDue.{AnswersChange, HasDecided, HasSent, IsOfChange}
+use Rattle.run_rules.specs.ServerMay.{AreNeeds, DoneFor, GrantsSo, HasRevoked, HasWritten, IsAskedBack, IsLast, IsOwed}
+use Rattle.run_rules.specs.ServerMay.{MaySend, TellsKept}
+use Rattle.run_rules.specs.ServerMay.AnsweredSo.{IsEntered, TakesToken}
+use Rattle.run_rules.specs.ServerMay.DoneFor.{Answered, OfWritten}
+use Rattle.run_rules.specs.Wants.{CanDecide, CanGrant, CanRefuse, CannotBothWait, IsBehind, IsOld, IsQueued}
+use Rattle.run_rules.specs.Wants.{IsQueuedBefore, NoneQueued, asker, body_of, has_effect, is_use, needs_for, row_needs}
 use Rattle.run_rules.specs.declared.applied.Applied.TheVariants.{Done as IsDone, Wants as IsWanted}
+use Rattle.run_rules.specs.declared.applied.Request.TheVariants.{Change as Changes, Fetch as Asks}
+use Rattle.run_rules.specs.declared.applied.Applied.{Applied as AppliedOf}
 use Rattle.run_rules.specs.declared.applied.Request.{Request}
-use Rattle.run_rules.specs.declared.applied.Request.TheVariants.{Fetch as Asks, Change as Changes}
 use Rattle.run_rules.specs.declared.applied.Wanted.{Wanted}
 use Rattle.run_rules.specs.declared.applied.Written.{Written}
 use Rattle.run_rules.specs.declared.step.Cause.{Cause}
@@ -98,7 +96,7 @@ in_way w t = blocks (asker w) w.needs t
 unfoldable pub is_ahead : Wanted → Wanted → Bool
 is_ahead w v = wants_conflict (asker w) w.needs (asker v) v.needs
 
-unfoldable pub grant_tests : ServerId → List Act → Wanted → List Bool
+unfoldable pub grant_tests : ServerId → List Doing → Wanted → List Bool
 grant_tests server past w =
     over past
     ∷ list_all (λ t. not (in_way w t)) (granted server past)
@@ -106,7 +104,7 @@ grant_tests server past w =
     ∷ list_all (λ v. not (is_ahead w v)) (queue past)
     ∷ []
 
-unfoldable pub refuse_tests : ServerId → List Act → Wanted → List Bool
+unfoldable pub refuse_tests : ServerId → List Doing → Wanted → List Bool
 refuse_tests server past w =
     over past
     ∷ list_any (in_way w) (pinned server past)
@@ -114,7 +112,7 @@ refuse_tests server past w =
     ∷ []
 
 -- a token that isn't pinned is in the way of a want that waits
-unfoldable pub is_stuck : ServerId → List Act → Wanted → Bool
+unfoldable pub is_stuck : ServerId → List Doing → Wanted → Bool
 is_stuck server past w =
     list_any (in_way w) (granted server past) && list_all (λ t. not (in_way w t)) (pinned server past)
 
@@ -157,15 +155,15 @@ unfoldable pub asked_here : ServerId → ℕ → Request → Bool
 asked_here server n (Asks f) = here server f.fid.fileset n
 asked_here server n (Changes c) = is_here_now server c.fileset n && is_meant c
 
-unfoldable pub new_numbered : List Act → HostId → Request → Bool
+unfoldable pub new_numbered : List Doing → HostId → Request → Bool
 new_numbered past h (Asks f) = true
 new_numbered past h (Changes c) = is_fresh past h c.fileset c.number
 
-unfoldable pub comes_as : List Act → Wanted → Message → Bool
+unfoldable pub comes_as : List Doing → Wanted → Message → Bool
 comes_as before w m =
     (is_taken before m && (same_host m.host w.host && (m.moves == w.moves))) && is_body_of w.request m.body
 
-unfoldable pub is_new : ServerId → List Act → List Act → Step → Wanted → Bool
+unfoldable pub is_new : ServerId → List Doing → List Doing → Step → Wanted → Bool
 is_new server before past s w =
     (by_message false (comes_as before w) s.cause && asked_here server w.moves w.request)
     && (new_numbered past w.host w.request
@@ -184,13 +182,13 @@ is_lock_call (Lock label place writing from len) = true
 is_lock_call _ = false
 
 -- a use that meets a pinned token is refused
-unfoldable pub writes_so : ServerId → Tree → List Act → Written → Wanted → ChangeOf → Bool
+unfoldable pub writes_so : ServerId → Tree → List Doing → Written → Wanted → ChangeOf → Bool
 writes_so server tree past d w c =
     ((same_fileset d.fileset c.fileset && (d.number == c.number)) && ((d.answer.k == c.k) && same_call d.answer.call c.call))
     && ((accepted tree w.host c && of_row tree w c)
     && (passes (refuse_tests server past w) && (is_locked d.answer.reply && is_lock_call c.call)))
 
-unfoldable pub decides_right : ServerId → Tree → List Act → List Act → Step → AppliedOf → Bool
+unfoldable pub decides_right : ServerId → Tree → List Doing → List Doing → Step → AppliedOf → Bool
 decides_right server tree before past s (IsWanted w) = needs_right tree w w.request && is_new server before past s w
 decides_right server tree before past s (IsDone d) =
     not d.answer.first
@@ -198,11 +196,11 @@ decides_right server tree before past s (IsDone d) =
     (queue past)
 decides_right server tree before past s _ = false
 
-unfoldable pub all_decided : ServerId → Tree → List Act → List Act → Step → List AppliedOf → Bool
+unfoldable pub all_decided : ServerId → Tree → List Doing → List Doing → Step → List AppliedOf → Bool
 all_decided server tree before past s [] = true
 all_decided server tree before past s (x ∷ xs) =
     decides_right server tree before past s x
-    && all_decided server (kept_after s.cause tree x) before (after (decisions_of x) past) s xs
+    && all_decided server (filesets_after s.cause tree x) before (appended (decisions_of x) past) s xs
 
 -- what is so once it has decided
 unfoldable pub wants_it : HostId → Body → AppliedOf → Bool
@@ -226,16 +224,16 @@ holds_up _ _ = false
 unfoldable pub waits_before : Message → Wanted → Bool
 waits_before m v = same_host v.host m.host && holds_up m.body v.request
 
-unfoldable pub wanted_now : List Act → Step → Message → Bool
+unfoldable pub wanted_now : List Doing → Step → Message → Bool
 wanted_now before s m =
     implies (is_request m.body && is_meant_body m.body)
     (list_any (wants_it m.host m.body) s.applied || list_any (waits_before m) (queue (after_cause s.cause before)))
 
-unfoldable pub left_open : ServerId → Tree → List Act → Wanted → ChangeOf → Bool
+unfoldable pub left_open : ServerId → Tree → List Doing → Wanted → ChangeOf → Bool
 left_open server tree past w c =
     (accepted tree w.host c && not (has_effect c)) && list_all (λ t. not (in_way w t)) (pinned server past)
 
-unfoldable pub decided_tests : ServerId → Tree → List Act → List Act → Step → List Bool
+unfoldable pub decided_tests : ServerId → Tree → List Doing → List Doing → Step → List Bool
 decided_tests server tree before past s =
     by_message true (wanted_now before s) s.cause
     ∷ list_all (λ w. where_change w.request (left_open server tree past w)) (queue past)
@@ -250,17 +248,17 @@ unfoldable pub grants_such : GrantOf → FetchOf → Bool
 grants_such g f =
     ((g.bring.number == f.number) && same_fid g.bring.fid f.fid) && meets_needs f.needs g.bring.tokens
 
-unfoldable pub grants_for : ServerId → List Act → HostId → ℕ → GrantOf → Wanted → Bool
+unfoldable pub grants_for : ServerId → List Doing → HostId → ℕ → GrantOf → Wanted → Bool
 grants_for server past h n g w =
     ((same_host w.host h && (w.moves == n)) && passes (grant_tests server past w)) && asks_such w.request (grants_such g)
 
-unfoldable pub is_not_above : HostId → DoneOf → Act → Bool
+unfoldable pub is_not_above : HostId → DoneOf → Doing → Bool
 is_not_above h d (Sent host e n (Done o)) =
     implies (same_host host h && same_fileset o.fileset d.fileset) (nat_le o.bring.number d.bring.number)
 is_not_above h d _ = true
 
-unfoldable pub wrote_so : HostId → DoneOf → Reply → Act → Bool
-wrote_so h d reply (Writes w) =
+unfoldable pub wrote_so : HostId → DoneOf → Reply → Doing → Bool
+wrote_so h d reply (WritesDown w) =
     ((same_host w.answer.host h && same_fileset w.fileset d.fileset) && (w.number == d.bring.number))
     && (is_locked reply && is_locked w.answer.reply)
 wrote_so h d reply _ = false
@@ -278,7 +276,7 @@ enters_such tree d id c =
     (same_fileset d.fileset c.fileset && (d.bring.number == c.number))
     && (c.enter && named_right tree id (fileset_of c.call))
 
-unfoldable pub uses_such : ServerId → Tree → List Act → DoneOf → Wanted → ChangeOf → Bool
+unfoldable pub uses_such : ServerId → Tree → List Doing → DoneOf → Wanted → ChangeOf → Bool
 uses_such server tree past d w c =
     (same_fileset d.fileset c.fileset && (d.bring.number == c.number))
     && ((is_use c.call && accepted tree w.host c)
@@ -287,7 +285,7 @@ uses_such server tree past d w c =
 unfoldable pub settles_for : HostId → ℕ → (Wanted → ChangeOf → Bool) → Wanted → Bool
 settles_for h n test w = (same_host w.host h && (w.moves == n)) && changes_such w.request (test w)
 
-unfoldable pub outcome_right : ServerId → Tree → List Act → HostId → ℕ → DoneOf → DoneIs → Bool
+unfoldable pub outcome_right : ServerId → Tree → List Doing → HostId → ℕ → DoneOf → DoneIs → Bool
 outcome_right server tree past h n d (HasReply reply) =
     is_none d.bring.tokens && (list_all (is_not_above h d) past && list_any (wrote_so h d reply) past)
 outcome_right server tree past h n d (IsFileset id) =
@@ -296,22 +294,22 @@ outcome_right server tree past h n d IsGranted =
     list_any (settles_for h n (uses_such server tree past d)) (queue past)
 outcome_right server tree past h n d _ = false
 
-unfoldable pub blocks_some : ServerId → List Act → Token → Bool
+unfoldable pub blocks_some : ServerId → List Doing → Token → Bool
 blocks_some server past t = list_any (λ w. in_way w t) (queue past)
 
-unfoldable pub is_free : ServerId → List Act → Token → Bool
+unfoldable pub is_free : ServerId → List Doing → Token → Bool
 is_free server past t = not (list_any (same_token t) (pinned server past))
 
 -- it is asked back for the first time, or again
-unfoldable pub asks_first : ServerId → List Act → Token → Bool
+unfoldable pub asks_first : ServerId → List Doing → Token → Bool
 asks_first server past t = (over past && blocks_some server past t) && not (revoked past t)
 
-unfoldable pub asks_back : ServerId → List Act → Step → HostId → TokenId → Token → Bool
+unfoldable pub asks_back : ServerId → List Doing → Step → HostId → TokenId → Token → Bool
 asks_back server past s h i t =
     ((same_id t.id i && same_host t.host h) && is_free server past t)
     && (asks_first server past t || (is_lapse s.cause && revoked past t))
 
-unfoldable pub send_right : ServerId → Tree → Step → List Act → Act → Bool
+unfoldable pub send_right : ServerId → Tree → Step → List Doing → Doing → Bool
 send_right server tree s past (Sent h e n (Grant g)) =
     there_right ((cell_at tree g.bring.fid Traits).kept) && list_any (grants_for server past h n g) (queue past)
 send_right server tree s past (Sent h e n (Done d)) =
@@ -320,7 +318,7 @@ send_right server tree s past (Sent h e n (Revoke r)) =
     list_all (λ i. list_any (asks_back server past s h i) (granted server past)) r.ids
 send_right server tree s past _ = true
 
-unfoldable pub sends_right : ServerId → Tree → Step → List Act → List Act → Bool
+unfoldable pub sends_right : ServerId → Tree → Step → List Doing → List Doing → Bool
 sends_right server tree s [] past = true
 sends_right server tree s (a ∷ more) past =
     send_right server tree s past a && sends_right server tree s more (a ∷ past)
@@ -342,7 +340,7 @@ answered_now s (IsDone w) =
     is_locked w.answer.reply && list_any (is_done_of w.answer.host w.fileset w.number locked_reply) s.sent
 answered_now s _ = true
 
-unfoldable pub first_asked : List Act → Step → Message → Body → Bool
+unfoldable pub first_asked : List Doing → Step → Message → Body → Bool
 first_asked before s m (Change c) =
     is_fresh before m.host c.fileset c.number || list_any (is_done_of m.host c.fileset c.number (λ o. true)) s.sent
 first_asked before s m _ = true
@@ -367,18 +365,18 @@ unfoldable pub asks_for_done : DoneOf → Body → Bool
 asks_for_done d (Change c) = is_change_of d c
 asks_for_done d _ = false
 
-unfoldable pub brings_change : List Act → HostId → DoneOf → Message → Bool
+unfoldable pub brings_change : List Doing → HostId → DoneOf → Message → Bool
 brings_change before h d m = (is_taken before m && same_host m.host h) && asks_for_done d m.body
 
 unfoldable pub waits_for : HostId → DoneOf → Wanted → Bool
 waits_for h d w = same_host w.host h && changes_such w.request (is_change_of d)
 
-unfoldable pub done_due : List Act → Step → Message → Body → Bool
+unfoldable pub done_due : List Doing → Step → Message → Body → Bool
 done_due before s k (Done d) =
     by_message false (brings_change before k.host d) s.cause || list_any (waits_for k.host d) (queue before)
 done_due before s k _ = true
 
-unfoldable pub sent_tests : ServerId → List Act → List Act → Step → List Bool
+unfoldable pub sent_tests : ServerId → List Doing → List Doing → Step → List Bool
 sent_tests server before past s =
     list_all (answered_now s) s.applied
     ∷ by_message true (λ m. first_asked before s m m.body) s.cause
@@ -473,17 +471,17 @@ of_row_is tree w c e =
     let p = and_parts (row_right tree w c) (list_all (λ need. same_fid need.fid c.fid) w.needs) e in
     (row_is tree w c p.0, λ _ need i. fid_is need.fid c.fid (at_all (λ need. same_fid need.fid c.fid) w.needs need p.1 i))
 
-before_waits : (past : List Act) (v w : Wanted) → Before past v w → Waits past v
+before_waits : (past : List Doing) (v w : Wanted) → IsQueuedBefore past v w → IsQueued past v
 before_waits [] v w b = elim b [ ]
 before_waits (a ∷ past) v w b = b.1
 
-none_ahead : (past : List Act) (w : Wanted) → list_all (λ v. not (is_ahead w v)) (queue past) ≡ true
+none_ahead : (past : List Doing) (w : Wanted) → list_all (λ v. not (is_ahead w v)) (queue past) ≡ true
     → IsBehind past w → ⊥
 unfolding is_ahead
 none_ahead past w e (v, b, c) =
     is_not (is_ahead w v) (at_all (λ v. not (is_ahead w v)) (queue past) v e (queue_is past v (before_waits past v w b))) c
 
-can_yes : (server : ServerId) (past : List Act) (w : Wanted) → passes (grant_tests server past w) ≡ true
+can_yes : (server : ServerId) (past : List Doing) (w : Wanted) → passes (grant_tests server past w) ≡ true
     → CanGrant server past w
 unfolding grant_tests in_way
 can_yes server past w e =
@@ -498,7 +496,7 @@ can_yes server past w e =
       first = none_ahead past w t.1.1.1.0;
     }
 
-refuse_yes : (server : ServerId) (past : List Act) (w : Wanted) → passes (refuse_tests server past w) ≡ true
+refuse_yes : (server : ServerId) (past : List Doing) (w : Wanted) → passes (refuse_tests server past w) ≡ true
     → CanRefuse server past w
 unfolding refuse_tests in_way
 refuse_yes server past w e =
@@ -510,14 +508,14 @@ refuse_yes server past w e =
       first = none_ahead past w t.1.1.0;
     }
 
-none_pinned : (server : ServerId) (past : List Act) (w : Wanted)
+none_pinned : (server : ServerId) (past : List Doing) (w : Wanted)
     → list_all (λ t. not (in_way w t)) (pinned server past) ≡ true → CanRefuse server past w → ⊥
 unfolding in_way
 none_pinned server past w e can =
     is_not (in_way w can.pinned.0) (at_all (λ t. not (in_way w t)) (pinned server past) can.pinned.0 e
     (pinned_is server past can.pinned.0 can.pinned.1)) can.pinned.2
 
-stuck_grant : (server : ServerId) (past : List Act) (w : Wanted) → is_stuck server past w ≡ true
+stuck_grant : (server : ServerId) (past : List Doing) (w : Wanted) → is_stuck server past w ≡ true
     → CanGrant server past w → ⊥
 unfolding is_stuck in_way
 stuck_grant server past w e can =
@@ -525,8 +523,8 @@ stuck_grant server past w e can =
     (list_all (λ t. not (in_way w t)) (pinned server past)) e).0 in
     can.free p.0 (inl (granted_yes server past p.0 p.1)) p.2
 
-stuck_ready : (server : ServerId) (past : List Act) (w : Wanted) → is_stuck server past w ≡ true
-    → IsReady server past w → ⊥
+stuck_ready : (server : ServerId) (past : List Doing) (w : Wanted) → is_stuck server past w ≡ true
+    → CanDecide server past w → ⊥
 unfolding is_stuck
 stuck_ready server past w e (inl can) = stuck_grant server past w e can
 stuck_ready server past w e (inr can) =
@@ -537,8 +535,8 @@ needs_are : (needs : List Need) (ts : List Token) → meets_needs needs ts ≡ t
 unfolding meets_needs
 needs_are needs ts e = list_is same_need need_is (map need_of ts) needs e
 
-here_either : (server : ServerId) (past : List Act) (fs : FilesetId) (n : ℕ) → is_here_now server fs n ≡ true
-    → IsHere server past fs n
+here_either : (server : ServerId) (past : List Doing) (fs : FilesetId) (n : ℕ) → is_here_now server fs n ≡ true
+    → IsDecidedHere server past fs n
 unfolding is_here_now
 here_either server past fs n e =
     elim (or_cases ((fs.0 == 0) && (n == 0)) (here server fs n) e) [
@@ -555,13 +553,13 @@ came : (f : Message → Bool) (c : Cause) → by_message false f c ≡ true → 
 came f (Came m) e = (m, refl, e)
 came f c e = absurd (cc)
 
-taken_yes : (past : List Act) (m : Message) → is_taken past m ≡ true → IsLive past m.host × (m.epoch ≡ epoch past)
+taken_yes : (past : List Doing) (m : Message) → is_taken past m ≡ true → IsLive past m.host × (m.epoch ≡ epoch past)
 unfolding is_taken
 taken_yes past m e =
     let p = and_parts (live past m.host) (m.epoch == epoch past) e in
     (live_yes past m.host p.0, eqb-true m.epoch (epoch past) p.1)
 
-new_yes : (server : ServerId) (before past : List Act) (s : Step) (w : Wanted) → is_new server before past s w ≡ true
+new_yes : (server : ServerId) (before past : List Doing) (s : Step) (w : Wanted) → is_new server before past s w ≡ true
     → IsNewRequest server before past s w.host w.moves w.request
 unfolding send_words
 new_yes server before past s w e =
@@ -621,7 +619,7 @@ unfolding is_lock_call
 lock_refusal (Lock label place writing from len) e = refl
 lock_refusal c e = absurd (cc)
 
-one_right : (server : ServerId) (tree : Tree) (before past : List Act) (s : Step) (x : AppliedOf)
+one_right : (server : ServerId) (tree : Tree) (before past : List Doing) (s : Step) (x : AppliedOf)
     → decides_right server tree before past s x ≡ true → MayDecide server tree before past s x
 unfolding send_words
 one_right server tree before past s (IsWanted w) e =
@@ -670,19 +668,19 @@ one_right server tree before past s (IsDone d) e =
     not_first false t = refl
 one_right server tree before past s x e = absurd (cc)
 
-pub decides_all : (server : ServerId) (tree : Tree) (before past : List Act) (s : Step) (xs : List AppliedOf)
+pub decides_all : (server : ServerId) (tree : Tree) (before past : List Doing) (s : Step) (xs : List AppliedOf)
     → all_decided server tree before past s xs ≡ true → MayDecideAll server tree before past s xs
 unfolding all_decided
 decides_all server tree before past s [] e = tt
 decides_all server tree before past s (x ∷ xs) e =
-    let more = all_decided server (kept_after s.cause tree x) before (after (decisions_of x) past) s xs in
+    let more = all_decided server (filesets_after s.cause tree x) before (appended (decisions_of x) past) s xs in
     let p = and_parts (decides_right server tree before past s x) more e in (
       one_right server tree before past s x p.0,
-      decides_all server (kept_after s.cause tree x) before (after (decisions_of x) past) s xs p.1,
+      decides_all server (filesets_after s.cause tree x) before (appended (decisions_of x) past) s xs p.1,
     )
 
 -- what was decided
-pub has_decided : (server : ServerId) (tree : Tree) (before past : List Act) (s : Step)
+pub has_decided : (server : ServerId) (tree : Tree) (before past : List Doing) (s : Step)
     → passes (decided_tests server tree before past s) ≡ true → HasDecided server tree before past s
 unfolding send_words
 has_decided server tree before past s e = record {
@@ -695,7 +693,7 @@ has_decided server tree before past s e = record {
     t : AllTrue (decided_tests server tree before past s)
     t = all_true (decided_tests server tree before past s) e
 
-    parts : (w : Wanted) (c : ChangeOf) → Waits past w → w.request ≡ Changes c
+    parts : (w : Wanted) (c : ChangeOf) → IsQueued past w → w.request ≡ Changes c
         → (accepted tree w.host c ≡ true) × (not (has_effect c) ≡ true)
         × (list_all (λ t. not (in_way w t)) (pinned server past) ≡ true)
     parts w c waits is =
@@ -719,7 +717,7 @@ has_decided server tree before past s e = record {
         (w, i, host_is w.host m.host p.0 ∙ at, request_is w.request r b p.1 is)
     found h m b r x i y is at = absurd (cc)
 
-    held : (b : Body) (q r : Request) → holds_up b q ≡ true → b ≡ body_of r → SameNumber q r
+    held : (b : Body) (q r : Request) → holds_up b q ≡ true → b ≡ body_of r → CannotBothWait q r
     held (Change d) (Changes c) (Changes e) x is =
         let p : d ≡ e = cc in fileset_is c.fileset d.fileset x ∙ ap (λ (y : ChangeOf). y.fileset) p
     held (Change d) (Changes c) (Asks f) x is = absurd (cc)
@@ -739,7 +737,7 @@ has_decided server tree before past s e = record {
         (is_use c.call) at_home (λ e. filesets c.fid.fileset c.fileset (x.1.1 e)))
 
     news : (h : HostId) (n : ℕ) (r : Request) → TakenNow before s h n (body_of r)
-        → IsAskedHere server before n r → NoneWaits (after_cause s.cause before) h r
+        → IsAskedHere server before n r → NoneQueued (after_cause s.cause before) h r
         → (w : Wanted) × In (IsWanted w) s.applied × (w.host ≡ h) × (w.request ≡ r)
     news h n r ((m, c, at, _, _, is), _) here_ alone =
         let new = list_any (wants_it m.host m.body) s.applied in
@@ -770,7 +768,7 @@ abbrev pub TellsAll : Tree → List Message → Type 0
 TellsAll tree [] = Unit {0}
 TellsAll tree (m ∷ ms) = TellsBody tree m.body × TellsAll tree ms
 
-abbrev TellsAct : Tree → Act → Type 0
+abbrev TellsAct : Tree → Doing → Type 0
 TellsAct tree (Sent h e n b) = TellsBody tree b
 TellsAct tree _ = Unit {0}
 
@@ -779,7 +777,7 @@ unfolding there_right
 there_is None e is = cc
 there_is (Some x) e is = cc
 
-grant_so : (server : ServerId) (tree : Tree) (past : List Act) (h : HostId) (n : ℕ) (g : GrantOf)
+grant_so : (server : ServerId) (tree : Tree) (past : List Doing) (h : HostId) (n : ℕ) (g : GrantOf)
     → TellsKept tree g → there_right ((cell_at tree g.bring.fid Traits).kept) ≡ true
     → list_any (grants_for server past h n g) (queue past) ≡ true → GrantsSo server tree past h n g
 unfolding send_words
@@ -808,12 +806,12 @@ grant_so server tree past h n g tells there e =
       tells = tells;
     }
 
-module _ (server : ServerId) (tree : Tree) (past : List Act) (h : HostId) (n : ℕ) (d : DoneOf) where
+module _ (server : ServerId) (tree : Tree) (past : List Doing) (h : HostId) (n : ℕ) (d : DoneOf) where
   last_yes : list_all (is_not_above h d) past ≡ true → IsLast past h d
   unfolding is_not_above
   last_yes t e m o x f = go past t x
     where
-      go : (past : List Act) → list_all (is_not_above h d) past ≡ true → SentTo past h e m (Done o)
+      go : (past : List Doing) → list_all (is_not_above h d) past ≡ true → SentTo past h e m (Done o)
           → o.bring.number ≤ d.bring.number
       go [] t x = elim x [ ]
       go (a ∷ past) t (inl is) =
@@ -829,10 +827,10 @@ module _ (server : ServerId) (tree : Tree) (past : List Act) (h : HostId) (n : �
   unfolding wrote_so
   wrote_yes reply is t = go past t
     where
-      now : (a : Act) → wrote_so h d reply a ≡ true
-          → (w : Written) × (a ≡ Writes w) × (w.answer.host ≡ h) × (w.fileset ≡ d.fileset)
+      now : (a : Doing) → wrote_so h d reply a ≡ true
+          → (w : Written) × (a ≡ WritesDown w) × (w.answer.host ≡ h) × (w.fileset ≡ d.fileset)
           × (w.number ≡ d.bring.number) × (d.outcome ≡ HasReply w.answer.reply)
-      now (Writes w) e =
+      now (WritesDown w) e =
           let x = (same_host w.answer.host h && same_fileset w.fileset d.fileset) && (w.number == d.bring.number) in
           let p = and_parts x (is_locked reply && is_locked w.answer.reply) e in
           let q = and_parts (same_host w.answer.host h && same_fileset w.fileset d.fileset) (w.number == d.bring.number)
@@ -848,7 +846,7 @@ module _ (server : ServerId) (tree : Tree) (past : List Act) (h : HostId) (n : �
           )
       now a e = absurd (cc)
 
-      go : (past : List Act) → list_any (wrote_so h d reply) past ≡ true → HasWritten past h d
+      go : (past : List Doing) → list_any (wrote_so h d reply) past ≡ true → HasWritten past h d
       go [] e = absurd (cc)
       go (a ∷ past) e =
           elim (or_cases (wrote_so h d reply a) (list_any (wrote_so h d reply) past) e) [
@@ -877,7 +875,7 @@ module _ (server : ServerId) (tree : Tree) (past : List Act) (h : HostId) (n : �
       go (Err refusal) at e = absurd (cc)
 
   abbrev SettledBy : (Wanted → ChangeOf → Bool) → Type 0
-  SettledBy test = (w : Wanted) × (c : ChangeOf) × Waits past w × (w.request ≡ Changes c) × (w.host ≡ h) × (w.moves ≡ n)
+  SettledBy test = (w : Wanted) × (c : ChangeOf) × IsQueued past w × (w.request ≡ Changes c) × (w.host ≡ h) × (w.moves ≡ n)
       × (test w c ≡ true)
 
   settled_yes : (test : Wanted → ChangeOf → Bool) → list_any (settles_for h n test) (queue past) ≡ true → SettledBy test
@@ -908,7 +906,7 @@ module _ (server : ServerId) (tree : Tree) (past : List Act) (h : HostId) (n : �
       let r = and_parts (same_fileset d.fileset c.fileset) (d.bring.number == c.number) q.0 in
       let k = and_parts c.enter (named_right tree id (fileset_of c.call)) q.1 in
       let f = named_yes id c (fileset_of c.call) refl k.1 in
-      Settled (record {
+      Answered (record {
         w = s.0;
         waits = s.2;
         change = c;
@@ -931,7 +929,7 @@ module _ (server : ServerId) (tree : Tree) (past : List Act) (h : HostId) (n : �
       let u = and_parts (is_use c.call) (accepted tree w.host c) k.0 in
       let v = and_parts (of_row tree w c && passes (grant_tests server past w)) (meets_needs w.needs d.bring.tokens) k.1 in
       let y = and_parts (of_row tree w c) (passes (grant_tests server past w)) v.0 in
-      Settled (record {
+      Answered (record {
         w = w;
         waits = s.2;
         change = c;
@@ -945,23 +943,23 @@ module _ (server : ServerId) (tree : Tree) (past : List Act) (h : HostId) (n : �
       })
   outcome_is o is e = absurd (cc)
 
-free_is : (server : ServerId) (past : List Act) (t : Token) → is_free server past t ≡ true → Pinned server past t → ⊥
+free_is : (server : ServerId) (past : List Doing) (t : Token) → is_free server past t ≡ true → Pinned server past t → ⊥
 unfolding is_free
 free_is server past t e pin =
     is_not (list_any (same_token t) (pinned server past)) e
     (tokens_in t (pinned server past) (pinned_is server past t pin))
 
-is_free_yes : (server : ServerId) (past : List Act) (t : Token) → (Pinned server past t → ⊥)
+is_free_yes : (server : ServerId) (past : List Doing) (t : Token) → (Pinned server past t → ⊥)
     → is_free server past t ≡ true
 unfolding is_free
 is_free_yes server past t none = not_is (list_any (same_token t) (pinned server past)) (λ e.
     let q = some_in (same_token t) (pinned server past) e in
     none (subst (Pinned server past) (sym (token_is t q.0 q.2)) (pinned_yes server past q.0 q.1)))
 
-back_is : (server : ServerId) (past : List Act) (s : Step) (h : HostId) (i : TokenId)
+back_is : (server : ServerId) (past : List Doing) (s : Step) (h : HostId) (i : TokenId)
     → list_any (asks_back server past s h i) (granted server past) ≡ true
     → (t : Token) × (t.id ≡ i) × (t.host ≡ h)
-    × ((IsAskedBack server past t × (Revoked past t → ⊥)) ⊎ ((s.cause ≡ Lapse) × IsOwed server past t))
+    × ((IsAskedBack server past t × (HasRevoked past t → ⊥)) ⊎ ((s.cause ≡ Lapse) × IsOwed server past t))
 unfolding asks_back asks_first blocks_some in_way
 back_is server past s h i e =
     let p = some_in (asks_back server past s h i) (granted server past) e in
@@ -1006,7 +1004,7 @@ back_is server past s h i e =
       ],
     )
 
-may_send : (server : ServerId) (tree : Tree) (s : Step) (past : List Act) (a : Act) → TellsAct tree a
+may_send : (server : ServerId) (tree : Tree) (s : Step) (past : List Doing) (a : Doing) → TellsAct tree a
     → send_right server tree s past a ≡ true → MaySend server tree s past a
 unfolding send_right
 may_send server tree s past a tells e = record {
@@ -1028,11 +1026,11 @@ may_send server tree s past a tells e = record {
       (at (Sent h f n (Revoke r)) is) m);
 }
   where
-    at : (x : Act) → a ≡ x → send_right server tree s past x ≡ true
+    at : (x : Doing) → a ≡ x → send_right server tree s past x ≡ true
     at x is = subst (λ y. send_right server tree s past y ≡ true) is e
 
-pub sends_all : (server : ServerId) (tree : Tree) (s : Step) (ms : List Message) (past : List Act) → TellsAll tree ms
-    → sends_right server tree s (sending ms) past ≡ true → Each (MaySend server tree s) (sending ms) past
+pub sends_all : (server : ServerId) (tree : Tree) (s : Step) (ms : List Message) (past : List Doing) → TellsAll tree ms
+    → sends_right server tree s (sending ms) past ≡ true → EachInTurn (MaySend server tree s) (sending ms) past
 unfolding sends_right
 sends_all server tree s [] past tells e = tt
 sends_all server tree s (m ∷ ms) past tells e =
@@ -1066,7 +1064,7 @@ unfolding locked_reply
 reply_locked (HasReply r) e = ap HasReply (locked_is r e)
 reply_locked o e = absurd (cc)
 
-pub has_sent : (server : ServerId) (tree : Tree) (before past : List Act) (s : Step)
+pub has_sent : (server : ServerId) (tree : Tree) (before past : List Doing) (s : Step)
     → passes (sent_tests server before past s) ≡ true → HasSent server tree before past s
 unfolding sent_tests answered_now first_asked is_lapse blocks_some in_way recalls_it recalls_again same_sort
     is_change_of asks_for_done brings_change waits_for done_due
@@ -1119,7 +1117,7 @@ has_sent server tree before past s e = record {
 
     IsDue : HostId → DoneOf → Type 0
     IsDue h d = (c : ChangeOf) × IsOfChange c d × (((n : ℕ) × TakenNow before s h n (Change c))
-        ⊎ ((w : Wanted) × Waits before w × (w.host ≡ h) × (w.request ≡ Changes c)))
+        ⊎ ((w : Wanted) × IsQueued before w × (w.host ≡ h) × (w.request ≡ Changes c)))
 
     of_change : (d : DoneOf) (c : ChangeOf) → is_change_of d c ≡ true → IsOfChange c d
     of_change d c x =
@@ -1152,7 +1150,7 @@ has_sent server tree before past s e = record {
               )
         ]
 
-    stuck : (w : Wanted) → Waits past w → is_stuck server past w ≡ true
+    stuck : (w : Wanted) → IsQueued past w → is_stuck server past w ≡ true
     stuck w waits = at_all (is_stuck server past) (queue past) w t.1.1.0 (queue_is past w waits)
 
     lapse : s.cause ≡ Lapse → is_lapse s.cause ≡ true
@@ -1188,8 +1186,8 @@ has_sent server tree before past s e = record {
               )
         ]
       where
-        once_of : (past : List Act) → HasWritten past h d
-            → (w : Written) × Once (λ before a. a ≡ Writes w) past × (w.answer.host ≡ h) × (w.fileset ≡ d.fileset)
+        once_of : (past : List Doing) → HasWritten past h d
+            → (w : Written) × Once (λ before a. a ≡ WritesDown w) past × (w.answer.host ≡ h) × (w.fileset ≡ d.fileset)
             × (w.number ≡ d.bring.number)
         once_of [] x = elim x [ ]
         once_of (a ∷ past) (inl (w, is, at, f, k, _)) = (w, inl is, at, f, k)

@@ -11,9 +11,8 @@ use Rattle.message_types.specs.declared.message.Body.{Body}
 use Rattle.message_types.specs.declared.message.Body.TheVariants.{GiveBack}
 use Rattle.message_types.specs.declared.message.Body.TheVariants.{Gone}
 use Rattle.message_types.specs.declared.message.Message.{Message}
-use Rattle.run_rules.specs.ServerAnswers.{SentNow}
-use Rattle.run_rules.specs.Acts.{Act, epoch}
-use Rattle.run_rules.specs.Gives.{number_of}
+use Rattle.run_rules.specs.Doings.{Doing, SentNow, epoch}
+use Rattle.run_rules.specs.Tokens.{number_of}
 use Rattle.run_rules.specs.declared.step.Cause.{Cause}
 use Rattle.run_rules.specs.declared.step.Cause.TheVariants.{Restart}
 use Rattle.run_rules.specs.declared.step.Step.{Step}
@@ -59,7 +58,7 @@ restart_cause (Restart line) t = (line, refl)
 restart_cause c t = absurd (cc)
 
 -- the message is taken
-unfoldable pub is_taken : List Act → Message → Bool
+unfoldable pub is_taken : List Doing → Message → Bool
 is_taken past m = live past m.host && (m.epoch == epoch past)
 
 unfoldable pub gives_gone : Step → Message → Body → Bool
@@ -76,26 +75,26 @@ unfolding gives_number
 gives_body number (GiveBack g) t = (g, refl, number_is (number_of g) number t)
 gives_body number b t = absurd (cc)
 
-unfoldable pub gone_only : List Act → Cause → Message → Body → Bool
+unfoldable pub gone_only : List Doing → Cause → Message → Body → Bool
 gone_only past cause k (Gone number) =
     by_message false (λ m. (same_host m.host k.host && is_taken past m) && gives_number number m.body) cause
 gone_only past cause k _ = true
 
-unfoldable pub reclaimed_by : List Act → Cause → Message → Bool
+unfoldable pub reclaimed_by : List Doing → Cause → Message → Bool
 reclaimed_by past cause k =
     by_message false (λ m. is_hello m.body && same_host m.host k.host) cause && not (down past k.host)
 
-unfoldable pub bye_only : List Act → Cause → Message → Bool
+unfoldable pub bye_only : List Doing → Cause → Message → Bool
 bye_only past cause k =
     implies (is_bye k.body) (by_message false (λ m. is_bye m.body && same_host m.host k.host) cause && not
     (down past k.host))
 
-unfoldable pub restarted_only : List Act → Cause → Message → Bool
+unfoldable pub restarted_only : List Doing → Cause → Message → Bool
 restarted_only past cause k =
     implies (is_restarted k.body) (live past k.host && (is_restart cause || is_lapse cause))
 
-unfoldable pub tells_restart : List Act → Step → HostId → Bool
+unfoldable pub tells_restart : List Doing → Step → HostId → Bool
 tells_restart past s h = implies (live past h) (sends_to s h is_restarted)
 
-unfoldable pub tells_again : List Act → Step → HostId → Bool
+unfoldable pub tells_again : List Doing → Step → HostId → Bool
 tells_again past s h = implies (live past h && not (reclaimed past h)) (sends_to s h is_restarted)

@@ -21,15 +21,14 @@ use Rattle.token_types.specs.declared.token.Kind.TheVariants.{Status}
 use Rattle.token_types.specs.declared.token.Token.{Token}
 use Rattle.tree_laws.specs.Parts.{Part, cell_at}
 use Rattle.tree_laws.specs.Parts.Part.{ByteAt, Entries, Size, Traits}
-use Rattle.run_rules.specs.Told.{told}
+use Rattle.run_rules.specs.Doings.{Doing, doings_of}
+use Rattle.run_rules.specs.Kept.{filesets_kept, filesets_through, tree_given}
+use Rattle.run_rules.specs.Messages.{IsWelcome, home}
+use Rattle.run_rules.specs.Past.{In}
+use Rattle.run_rules.specs.ServerDue.{ServerDue, ServerMeets}
+use Rattle.run_rules.specs.ServerMay.{ServerMay, TellsKept}
+use Rattle.run_rules.specs.Views.{part_told}
 use Rattle.run_tokens.specs.JournalWorked.{script}
-use Rattle.run_rules.specs.Epochs.{IsWelcome}
-use Rattle.run_rules.specs.Kept.{kept, kept_through, tree_given}
-use Rattle.run_rules.specs.ServerRules.{ServerDue, ServerMay, ServerMeets}
-use Rattle.run_rules.specs.ServerSends.{TellsKept}
-use Rattle.run_rules.specs.Acts.{Act, acts}
-use Rattle.run_rules.specs.Lists.{In}
-use Rattle.run_rules.specs.Places.{home}
 use Rattle.run_tokens.specs.Worked.{client, entered, from_server, site_one, to_host, welcome}
 use Rattle.run_rules.specs.declared.applied.Wanted.{Wanted}
 use Rattle.run_rules.specs.declared.step.Step.{Step}
@@ -41,8 +40,8 @@ unfolding home tree_given updated takes_down takes_hello down listed takes_bye g
     answer_words
 served_words = 0
 
-abbrev pub past_of : List Step → List Act
-past_of steps = acts 1 site_one steps
+abbrev pub past_of : List Step → List Doing
+past_of steps = doings_of 1 site_one steps
 
 -- the rules of a step after others, and that they are met
 abbrev Meets : Script → List Step → Step → Type 0
@@ -50,10 +49,10 @@ Meets script past s = ServerMeets script file_tree site_one past (past_of past) 
 
 -- what the Grant tells is what is kept then: the length that was given back
 abbrev tree_then : Tree
-tree_then = kept_through stores_and_grants.cause stores_and_grants.applied (kept file_tree site_one (calls_back ∷ shared))
+tree_then = filesets_through stores_and_grants.cause stores_and_grants.applied (filesets_kept file_tree site_one (calls_back ∷ shared))
 
 told_part : (part : Part) → shows (Status false) part ≡ true
-    → told other_grant part ≡ (cell_at tree_then file part).kept
+    → part_told other_grant part ≡ (cell_at tree_then file part).kept
 unfolding served_words
 told_part (ByteAt at) e = absurd (cc)
 told_part Size e = refl

@@ -25,41 +25,40 @@ use Rattle.token_types.specs.declared.token.Kind.{Kind}
 use Rattle.token_types.specs.declared.token.Kind.TheVariants.{Bytes, Lock as LockToken, Opening, Status}
 use Rattle.token_types.specs.declared.token.Token.{Token}
 use Rattle.token_types.specs.declared.token.TokenId.{TokenId}
-use Rattle.run_rules.specs.ServerSends.{Revoked}
-use Rattle.run_rules.specs.Wants.{Decides, SameNumber, Unwants, Waits}
-use Rattle.run_rules.specs.Acts.{Act, epoch}
-use Rattle.run_rules.specs.Acts.Act.{Admits, Sent, Took, Wants, Writes}
-use Rattle.run_rules.specs.Grants.{GivenUp, Granted, IsNewlyGranted, IsUseKind, Names, Pinned}
-use Rattle.run_rules.specs.Hosts.{GoesAway, IsBegin, IsLive, Takes, TakesOf, TookNow, TookOf}
-use Rattle.run_rules.specs.Lists.{In}
-use Rattle.run_rules.specs.Places.{Here}
+use Rattle.run_rules.specs.Doings.{Doing, GivenUp, GivesUp, GoesAway, Granted, Here, IsLive, IsNewEpoch}
+use Rattle.run_rules.specs.Doings.{IsNewlyGranted, Pinned, TakesFrom, TakesOf, TookNow, TookOf, epoch}
+use Rattle.run_rules.specs.Doings.Doing.{Admits, MakesWant, Sent, Took, WritesDown}
+use Rattle.run_rules.specs.Past.{In}
+use Rattle.run_rules.specs.ServerMay.{HasRevoked}
+use Rattle.run_rules.specs.Tokens.{IsUseKind}
+use Rattle.run_rules.specs.Wants.{CannotBothWait, Decides, IsQueued, Unwants}
+use Rattle.run_rules.specs.declared.applied.Request.TheVariants.{Change as Changes, Fetch as Asks}
 use Rattle.run_rules.specs.declared.applied.Request.{Request}
-use Rattle.run_rules.specs.declared.applied.Request.TheVariants.{Fetch as Asks, Change as Changes}
 use Rattle.run_rules.specs.declared.applied.Wanted.{Wanted}
 
 -- a host's message is taken: it is of the server's epoch, the host is live, and its fileset is here in its stay
-unfoldable pub takes_it : ServerId → List Act → HostId → FilesetId → HostId → ℕ → ℕ → Bool
+unfoldable pub takes_it : ServerId → List Doing → HostId → FilesetId → HostId → ℕ → ℕ → Bool
 takes_it server past h fs host e n = (same_host host h && (e == epoch past)) && (live past h && here server fs n)
 
 -- a Returned or a give-back names the token
-unfoldable pub names_token : ServerId → List Act → Act → HostId → TokenId → Bool
+unfoldable pub names_token : ServerId → List Doing → Doing → HostId → TokenId → Bool
 names_token server past (Took host e n (Returned w)) h i =
     takes_it server past h w.fid.fileset host e n && list_any (same_id i) w.ids
 names_token server past (Took host e n (GiveBack g)) h i =
     takes_it server past h g.fid.fileset host e n && list_any (same_id i) g.ids
 names_token server past _ h i = false
 
-unfoldable pub ends_token : ServerId → List Act → Act → Token → Bool
+unfoldable pub ends_token : ServerId → List Doing → Doing → Token → Bool
 ends_token server past a t = begins a || (names_token server past a t.host t.id || goes_away past a t.host)
 
 -- the tokens that a doing brings, or grants again
-unfoldable pub newly : Act → List Token
+unfoldable pub newly : Doing → List Token
 newly (Sent h e n (Grant g)) = g.bring.tokens
 newly (Sent h e n (Done d)) = d.bring.tokens
 newly (Admits h ts) = filter (λ t. same_host h t.host) ts
 newly _ = []
 
-unfoldable pub granted : ServerId → List Act → List Token
+unfoldable pub granted : ServerId → List Doing → List Token
 granted server [] = []
 granted server (a ∷ past) = newly a ++ filter (λ t. not (ends_token server past a t)) (granted server past)
 
@@ -69,22 +68,22 @@ is_use_kind (Opening kind) = true
 is_use_kind _ = false
 
 -- a Kept names a lock or open token
-unfoldable pub pins : ServerId → List Act → Act → Token → Bool
+unfoldable pub pins : ServerId → List Doing → Doing → Token → Bool
 pins server past (Took host e n (Kept w)) t =
     takes_it server past t.host w.fid.fileset host e n && (list_any (same_id t.id) w.ids && is_use_kind t.kind)
 pins server past _ t = false
 
-unfoldable pub pinned : ServerId → List Act → List Token
+unfoldable pub pinned : ServerId → List Doing → List Token
 pinned server [] = []
 pinned server (a ∷ past) =
     filter (λ t. list_any (same_token t) (granted server (a ∷ past)))
     (filter (pins server past a) (granted server past) ++ pinned server past)
 
-unfoldable pub revokes_it : Act → Token → Bool
+unfoldable pub revokes_it : Doing → Token → Bool
 revokes_it (Sent h e n (Revoke r)) t = same_host h t.host && list_any (same_id t.id) r.ids
 revokes_it _ t = false
 
-unfoldable pub revoked : List Act → Token → Bool
+unfoldable pub revoked : List Doing → Token → Bool
 revoked [] t = false
 revoked (a ∷ past) t = revokes_it a t || (revoked past t && not (begins a))
 
@@ -94,46 +93,46 @@ same_asked (Asks f) (Asks g) = same_fileset f.fid.fileset g.fid.fileset && (f.nu
 same_asked (Changes c) (Changes d) = same_fileset c.fileset d.fileset
 same_asked _ _ = false
 
-unfoldable pub decides_it : Act → HostId → Request → Bool
+unfoldable pub decides_it : Doing → HostId → Request → Bool
 decides_it (Sent host e n (Grant g)) h (Asks f) =
     same_host host h && (same_fileset g.bring.fid.fileset f.fid.fileset && (g.bring.number == f.number))
 decides_it (Sent host e n (Done d)) h (Changes c) =
     same_host host h && (same_fileset d.fileset c.fileset && (d.bring.number == c.number))
-decides_it (Writes w) h (Changes c) =
+decides_it (WritesDown w) h (Changes c) =
     same_host w.answer.host h && (same_fileset w.fileset c.fileset && (w.number == c.number))
 decides_it _ h r = false
 
-unfoldable pub remakes : Act → Wanted → Bool
-remakes (Wants v) w = same_host v.host w.host && same_asked v.request w.request
+unfoldable pub remakes : Doing → Wanted → Bool
+remakes (MakesWant v) w = same_host v.host w.host && same_asked v.request w.request
 remakes _ w = false
 
-unfoldable pub lets_go : List Act → Act → Wanted → Bool
+unfoldable pub lets_go : List Doing → Doing → Wanted → Bool
 lets_go past a w = decides_it a w.host w.request || (remakes a w || (goes_away past a w.host || begins a))
 
-unfoldable pub made_by : Act → List Wanted
-made_by (Wants w) = w ∷ []
+unfoldable pub made_by : Doing → List Wanted
+made_by (MakesWant w) = w ∷ []
 made_by _ = []
 
-unfoldable pub queue : List Act → List Wanted
+unfoldable pub queue : List Doing → List Wanted
 queue [] = []
 queue (a ∷ past) = made_by a ++ filter (λ w. not (lets_go past a w)) (queue past)
 
 -- something was taken from the host in this epoch that passes a test
-unfoldable pub took_by : (ℕ → Body → Bool) → List Act → Act → HostId → Bool
+unfoldable pub took_by : (ℕ → Body → Bool) → List Doing → Doing → HostId → Bool
 took_by test past (Took host e n b) h = ((same_host host h && (e == epoch past)) && live past h) && test n b
 took_by test past _ h = false
 
-unfoldable pub took : (ℕ → Body → Bool) → List Act → HostId → Bool
+unfoldable pub took : (ℕ → Body → Bool) → List Doing → HostId → Bool
 took test [] h = false
 took test (a ∷ past) h = took_by test past a h || (took test past h && not (begins a))
 
 -- nothing was brought, granted again or given up since the epoch began
-unfoldable pub is_quiet : Act → Bool
+unfoldable pub is_quiet : Doing → Bool
 is_quiet (Took h e n (Returned w)) = false
 is_quiet (Took h e n (GiveBack g)) = false
 is_quiet _ = true
 
-unfoldable pub quiet : List Act → Bool
+unfoldable pub quiet : List Doing → Bool
 quiet [] = true
 quiet (a ∷ past) = is_quiet a && (begins a || quiet past)
 
@@ -143,7 +142,7 @@ unfolding takes_it names_token ends_token newly granted is_use_kind pins pinned 
 list_words = 0
 
 -- what they tell
-takes_yes : (server : ServerId) (past : List Act) (h : HostId) (fs : FilesetId) (host : HostId) (e n : ℕ) (b : Body)
+takes_yes : (server : ServerId) (past : List Doing) (h : HostId) (fs : FilesetId) (host : HostId) (e n : ℕ) (b : Body)
     → takes_it server past h fs host e n ≡ true → TakesOf server past (Took host e n b) h fs b
 unfolding list_words
 takes_yes server past h fs host e n b t =
@@ -154,7 +153,7 @@ takes_yes server past h fs host e n b t =
     let ee = eqb-true e (epoch past) q.1 in
     (n, here_yes server past fs n r.1, ((λ i. Took (hh i) (ee i) n b), live_yes past h r.0))
 
-takes_is : (server : ServerId) (past : List Act) (h : HostId) (fs : FilesetId) (n : ℕ) → Here server past fs n
+takes_is : (server : ServerId) (past : List Doing) (h : HostId) (fs : FilesetId) (n : ℕ) → Here server past fs n
     → IsLive past h → takes_it server past h fs h (epoch past) n ≡ true
 unfolding list_words
 takes_is server past h fs n at l =
@@ -169,8 +168,8 @@ in_ids i is e = let p = some_in (same_id i) is e in subst (λ x. In x is) (sym (
 pub ids_in : (i : TokenId) (is : List TokenId) → In i is → list_any (same_id i) is ≡ true
 ids_in i is m = any_of (same_id i) is i m (ids i i refl)
 
-pub names_yes : (server : ServerId) (past : List Act) (a : Act) (h : HostId) (i : TokenId)
-    → names_token server past a h i ≡ true → Names server past a h i
+pub names_yes : (server : ServerId) (past : List Doing) (a : Doing) (h : HostId) (i : TokenId)
+    → names_token server past a h i ≡ true → GivesUp server past a h i
 unfolding list_words
 names_yes server past (Took host e n (Returned w)) h i t =
     let p = and_parts (takes_it server past h w.fid.fileset host e n) (list_any (same_id i) w.ids) t in
@@ -180,7 +179,7 @@ names_yes server past (Took host e n (GiveBack g)) h i t =
     inr (g, takes_yes server past h g.fid.fileset host e n (GiveBack g) p.0, in_ids i g.ids p.1)
 names_yes server past a h i t = absurd (cc)
 
-pub names_is : (server : ServerId) (past : List Act) (a : Act) (h : HostId) (i : TokenId) → Names server past a h i
+pub names_is : (server : ServerId) (past : List Doing) (a : Doing) (h : HostId) (i : TokenId) → GivesUp server past a h i
     → names_token server past a h i ≡ true
 unfolding list_words
 names_is server past a h i (inl (w, (n, at, (is, l)), m)) =
@@ -192,7 +191,7 @@ names_is server past a h i (inr (g, (n, at, (is, l)), m)) =
     (and_from (takes_it server past h g.fid.fileset h (epoch past) n) (list_any (same_id i) g.ids)
     (takes_is server past h g.fid.fileset n at l) (ids_in i g.ids m))
 
-newly_yes : (a : Act) (t : Token) → In t (newly a) → IsNewlyGranted a t
+newly_yes : (a : Doing) (t : Token) → In t (newly a) → IsNewlyGranted a t
 unfolding list_words
 newly_yes (Sent h e n (Grant g)) t m =
     inl (record { moves = n; stamp = g.bring.stamp }, (h, e, g.bring, inl (g, refl, refl), m, refl))
@@ -204,7 +203,7 @@ newly_yes (Admits h ts) t m =
     inr (ts, (λ i. Admits (q i) ts), p.0)
 newly_yes a t m = elim m [ ]
 
-newly_is : (a : Act) (t : Token) → IsNewlyGranted a t → In t (newly a)
+newly_is : (a : Doing) (t : Token) → IsNewlyGranted a t → In t (newly a)
 unfolding list_words
 newly_is a t (inl (k, (h, e, w, inl (g, is, b), m, q))) =
     subst (λ x. In t (newly x)) (sym is) (subst (λ (x : Bring). In t x.tokens) (sym b) m)
@@ -215,8 +214,8 @@ newly_is a t (inr (ts, is, m)) =
     (in_filter (λ (u : Token). same_host t.host u.host) ts t m (hosts t.host t.host refl))
 
 -- a token stays
-stays : (server : ServerId) (past : List Act) (a : Act) (t : Token) → ends_token server past a t ≡ true
-    → IsBegin a ⊎ (Names server past a t.host t.id ⊎ GoesAway past a t.host)
+stays : (server : ServerId) (past : List Doing) (a : Doing) (t : Token) → ends_token server past a t ≡ true
+    → IsNewEpoch a ⊎ (GivesUp server past a t.host t.id ⊎ GoesAway past a t.host)
 unfolding list_words
 stays server past a t e =
     elim (or_cases (begins a) (names_token server past a t.host t.id || goes_away past a t.host) e) [
@@ -227,8 +226,8 @@ stays server past a t e =
       ]
     ]
 
-ended : (server : ServerId) (past : List Act) (a : Act) (t : Token)
-    → IsBegin a ⊎ (Names server past a t.host t.id ⊎ GoesAway past a t.host) → ends_token server past a t ≡ true
+ended : (server : ServerId) (past : List Doing) (a : Doing) (t : Token)
+    → IsNewEpoch a ⊎ (GivesUp server past a t.host t.id ⊎ GoesAway past a t.host) → ends_token server past a t ≡ true
 unfolding list_words
 ended server past a t (inl x) =
     or_left (begins a) (names_token server past a t.host t.id || goes_away past a t.host) (begin_is a x)
@@ -239,7 +238,7 @@ ended server past a t (inr (inr x)) =
     or_right (begins a) (names_token server past a t.host t.id || goes_away past a t.host)
     (or_right (names_token server past a t.host t.id) (goes_away past a t.host) (away_is_now past a t.host x))
 
-pub granted_is : (server : ServerId) (past : List Act) (t : Token) → Granted server past t → In t (granted server past)
+pub granted_is : (server : ServerId) (past : List Doing) (t : Token) → Granted server past t → In t (granted server past)
 unfolding list_words
 granted_is server [] t g = elim g [ ]
 granted_is server (a ∷ past) t (inl x) =
@@ -252,7 +251,7 @@ granted_is server (a ∷ past) t (inr (g, b, n, w)) =
       | inr x ↦ elim x [ inl y ↦ n y | inr y ↦ w y ]
     ])))
 
-pub granted_yes : (server : ServerId) (past : List Act) (t : Token) → In t (granted server past) → Granted server past t
+pub granted_yes : (server : ServerId) (past : List Doing) (t : Token) → In t (granted server past) → Granted server past t
 unfolding list_words
 granted_yes server [] t m = elim m [ ]
 granted_yes server (a ∷ past) t m =
@@ -260,7 +259,7 @@ granted_yes server (a ∷ past) t m =
       | inl p ↦ inl (newly_yes a t p)
       | inr p ↦ (
           let q = from_filter (λ t. not (ends_token server past a t)) (granted server past) t p in
-          let no_end : (x : IsBegin a ⊎ (Names server past a t.host t.id ⊎ GoesAway past a t.host)) → ⊥ =
+          let no_end : (x : IsNewEpoch a ⊎ (GivesUp server past a t.host t.id ⊎ GoesAway past a t.host)) → ⊥ =
           λ x. is_not (ends_token server past a t) q.1 (ended server past a t x) in
           inr (granted_yes server past t q.0, λ x. no_end (inl x), λ x. no_end (inr (inl x)), λ x. no_end (inr (inr x)))
           )
@@ -279,11 +278,11 @@ use_kind_is (Opening kind) u = refl
 use_kind_is (Bytes update span) u = elim u [ ]
 use_kind_is (Status update) u = elim u [ ]
 
-abbrev PinsNow : ServerId → List Act → Act → Token → Type 0
+abbrev PinsNow : ServerId → List Doing → Doing → Token → Type 0
 PinsNow server past a t = (named : Named) × TakesOf server past a t.host named.fid.fileset (Kept named)
     × In t.id named.ids × IsUseKind t.kind
 
-pins_yes : (server : ServerId) (past : List Act) (a : Act) (t : Token) → pins server past a t ≡ true
+pins_yes : (server : ServerId) (past : List Doing) (a : Doing) (t : Token) → pins server past a t ≡ true
     → PinsNow server past a t
 unfolding list_words
 pins_yes server past (Took host e n (Kept w)) t x =
@@ -297,7 +296,7 @@ pins_yes server past (Took host e n (Kept w)) t x =
     )
 pins_yes server past a t x = absurd (cc)
 
-pins_is : (server : ServerId) (past : List Act) (a : Act) (t : Token) → PinsNow server past a t
+pins_is : (server : ServerId) (past : List Doing) (a : Doing) (t : Token) → PinsNow server past a t
     → pins server past a t ≡ true
 unfolding list_words
 pins_is server past a t (w, (n, at, (is, l)), m, k) =
@@ -313,7 +312,7 @@ in_tokens t ts e = let p = some_in (same_token t) ts e in subst (λ x. In x ts) 
 pub tokens_in : (t : Token) (ts : List Token) → In t ts → list_any (same_token t) ts ≡ true
 tokens_in t ts m = any_of (same_token t) ts t m (tokens t t refl)
 
-pub pinned_is : (server : ServerId) (past : List Act) (t : Token) → Pinned server past t → In t (pinned server past)
+pub pinned_is : (server : ServerId) (past : List Doing) (t : Token) → Pinned server past t → In t (pinned server past)
 unfolding list_words
 pinned_is server [] t x = elim x [ ]
 pinned_is server (a ∷ past) t (from, g) =
@@ -328,7 +327,7 @@ pinned_is server (a ∷ past) t (from, g) =
     ])
     (tokens_in t (granted server (a ∷ past)) (granted_is server (a ∷ past) t g))
 
-pub pinned_yes : (server : ServerId) (past : List Act) (t : Token) → In t (pinned server past) → Pinned server past t
+pub pinned_yes : (server : ServerId) (past : List Doing) (t : Token) → In t (pinned server past) → Pinned server past t
 unfolding list_words
 pinned_yes server [] t m = elim m [ ]
 pinned_yes server (a ∷ past) t m =
@@ -345,10 +344,10 @@ pinned_yes server (a ∷ past) t m =
       granted_yes server (a ∷ past) t (in_tokens t (granted server (a ∷ past)) p.1),
     )
 
-abbrev RevokesNow : Act → Token → Type 0
+abbrev RevokesNow : Doing → Token → Type 0
 RevokesNow a t = (e n : ℕ) × (r : RevokeOf) × (a ≡ Sent t.host e n (Revoke r)) × In t.id r.ids
 
-revokes_yes : (a : Act) (t : Token) → revokes_it a t ≡ true → RevokesNow a t
+revokes_yes : (a : Doing) (t : Token) → revokes_it a t ≡ true → RevokesNow a t
 unfolding list_words
 revokes_yes (Sent h e n (Revoke r)) t x =
     let p = and_parts (same_host h t.host) (list_any (same_id t.id) r.ids) x in
@@ -356,7 +355,7 @@ revokes_yes (Sent h e n (Revoke r)) t x =
     (e, n, r, (λ i. Sent (q i) e n (Revoke r)), in_ids t.id r.ids p.1)
 revokes_yes a t x = absurd (cc)
 
-pub revoked_yes : (past : List Act) (t : Token) → revoked past t ≡ true → Revoked past t
+pub revoked_yes : (past : List Doing) (t : Token) → revoked past t ≡ true → HasRevoked past t
 unfolding list_words
 revoked_yes [] t x = absurd (cc)
 revoked_yes (a ∷ past) t x =
@@ -368,7 +367,7 @@ revoked_yes (a ∷ past) t x =
           )
     ]
 
-pub revoked_is : (past : List Act) (t : Token) → Revoked past t → revoked past t ≡ true
+pub revoked_is : (past : List Doing) (t : Token) → HasRevoked past t → revoked past t ≡ true
 unfolding list_words
 revoked_is [] t x = elim x [ ]
 revoked_is (a ∷ past) t (inl (e, n, r, is, m)) =
@@ -380,7 +379,7 @@ revoked_is (a ∷ past) t (inr (x, b)) =
     (and_from (revoked past t) (not (begins a)) (revoked_is past t x) (not_is (begins a) (λ e. b (begin_yes a e))))
 
 -- the queue
-pub asked_yes : (r q : Request) → same_asked r q ≡ true → SameNumber r q
+pub asked_yes : (r q : Request) → same_asked r q ≡ true → CannotBothWait r q
 unfolding list_words
 asked_yes (Asks f) (Asks g) e =
     let p = and_parts (same_fileset f.fid.fileset g.fid.fileset) (f.number == g.number) e in
@@ -389,7 +388,7 @@ asked_yes (Changes c) (Changes d) e = fileset_is c.fileset d.fileset e
 asked_yes (Asks f) (Changes d) e = absurd (cc)
 asked_yes (Changes c) (Asks g) e = absurd (cc)
 
-pub asked_is : (r q : Request) → SameNumber r q → same_asked r q ≡ true
+pub asked_is : (r q : Request) → CannotBothWait r q → same_asked r q ≡ true
 unfolding list_words
 asked_is (Asks f) (Asks g) (p, q) =
     and_from (same_fileset f.fid.fileset g.fid.fileset) (f.number == g.number)
@@ -398,7 +397,7 @@ asked_is (Changes c) (Changes d) p = filesets c.fileset d.fileset p
 asked_is (Asks f) (Changes d) p = elim p [ ]
 asked_is (Changes c) (Asks g) p = elim p [ ]
 
-decided_yes : (a : Act) (h : HostId) (r : Request) → decides_it a h r ≡ true → Decides a h r
+decided_yes : (a : Doing) (h : HostId) (r : Request) → decides_it a h r ≡ true → Decides a h r
 unfolding list_words
 decided_yes (Sent host e n (Grant g)) h (Asks f) t =
     let p = and_parts (same_host host h) (same_fileset g.bring.fid.fileset f.fid.fileset &&
@@ -424,13 +423,13 @@ decided_yes (Sent host e n (Done d)) h (Changes c) t =
       fileset_is d.fileset c.fileset q.0,
       eqb-true d.bring.number c.number q.1,
     )
-decided_yes (Writes w) h (Changes c) t =
+decided_yes (WritesDown w) h (Changes c) t =
     let p = and_parts (same_host w.answer.host h) (same_fileset w.fileset c.fileset && (w.number == c.number)) t in
     let q = and_parts (same_fileset w.fileset c.fileset) (w.number == c.number) p.1 in
     inl (w, refl, host_is w.answer.host h p.0, fileset_is w.fileset c.fileset q.0, eqb-true w.number c.number q.1)
 decided_yes a h r t = absurd (cc)
 
-decided_is : (a : Act) (h : HostId) (r : Request) → Decides a h r → decides_it a h r ≡ true
+decided_is : (a : Doing) (h : HostId) (r : Request) → Decides a h r → decides_it a h r ≡ true
 unfolding list_words
 decided_is a h (Asks f) (e, n, g, is, fs, k) =
     subst (λ x. decides_it x h (Asks f) ≡ true) (sym is)
@@ -448,15 +447,15 @@ decided_is a h (Changes c) (inr (e, n, d, is, fs, k)) =
     (hosts h h refl) (and_from (same_fileset d.fileset c.fileset) (d.bring.number == c.number)
     (filesets d.fileset c.fileset fs) (eq-eqb d.bring.number c.number k)))
 
-remade_yes : (a : Act) (w : Wanted) → remakes a w ≡ true
-    → (v : Wanted) × (a ≡ Wants v) × (v.host ≡ w.host) × SameNumber v.request w.request
+remade_yes : (a : Doing) (w : Wanted) → remakes a w ≡ true
+    → (v : Wanted) × (a ≡ MakesWant v) × (v.host ≡ w.host) × CannotBothWait v.request w.request
 unfolding list_words
-remade_yes (Wants v) w t =
+remade_yes (MakesWant v) w t =
     let p = and_parts (same_host v.host w.host) (same_asked v.request w.request) t in
     (v, refl, host_is v.host w.host p.0, asked_yes v.request w.request p.1)
 remade_yes a w t = absurd (cc)
 
-lets_yes : (past : List Act) (a : Act) (w : Wanted) → lets_go past a w ≡ true → Unwants past a w
+lets_yes : (past : List Doing) (a : Doing) (w : Wanted) → lets_go past a w ≡ true → Unwants past a w
 unfolding list_words
 lets_yes past a w t =
     elim (or_cases (decides_it a w.host w.request) (remakes a w || (goes_away past a w.host || begins a)) t) [
@@ -470,7 +469,7 @@ lets_yes past a w t =
       ])
     ]
 
-lets_is : (past : List Act) (a : Act) (w : Wanted) → Unwants past a w → lets_go past a w ≡ true
+lets_is : (past : List Doing) (a : Doing) (w : Wanted) → Unwants past a w → lets_go past a w ≡ true
 unfolding list_words
 lets_is past a w u =
     let x = goes_away past a w.host || begins a in
@@ -488,7 +487,7 @@ lets_is past a w u =
       ])
     ]
 
-pub queue_is : (past : List Act) (w : Wanted) → Waits past w → In w (queue past)
+pub queue_is : (past : List Doing) (w : Wanted) → IsQueued past w → In w (queue past)
 unfolding list_words
 queue_is [] w x = elim x [ ]
 queue_is (a ∷ past) w (inl e) =
@@ -499,13 +498,13 @@ queue_is (a ∷ past) w (inr x) =
     (in_filter (λ w. not (lets_go past a w)) (queue past) w (queue_is past w x.0)
     (not_is (lets_go past a w) (λ e. x.1 (lets_yes past a w e))))
 
-made_yes : (a : Act) (w : Wanted) → In w (made_by a) → a ≡ Wants w
+made_yes : (a : Doing) (w : Wanted) → In w (made_by a) → a ≡ MakesWant w
 unfolding list_words
-made_yes (Wants v) w (inl e) = λ i. Wants (sym e i)
-made_yes (Wants v) w (inr e) = elim e [ ]
+made_yes (MakesWant v) w (inl e) = λ i. MakesWant (sym e i)
+made_yes (MakesWant v) w (inr e) = elim e [ ]
 made_yes a w m = elim m [ ]
 
-pub queue_yes : (past : List Act) (w : Wanted) → In w (queue past) → Waits past w
+pub queue_yes : (past : List Doing) (w : Wanted) → In w (queue past) → IsQueued past w
 unfolding list_words
 queue_yes [] w m = elim m [ ]
 queue_yes (a ∷ past) w m =
@@ -517,7 +516,7 @@ queue_yes (a ∷ past) w m =
           )
     ]
 
-pub took_yes : (test : ℕ → Body → Bool) (past : List Act) (h : HostId) → took test past h ≡ true
+pub took_yes : (test : ℕ → Body → Bool) (past : List Doing) (h : HostId) → took test past h ≡ true
     → (n : ℕ) × (b : Body) × TookNow past h n b × (test n b ≡ true)
 unfolding list_words
 took_yes test [] h e = absurd (cc)
@@ -531,8 +530,8 @@ took_yes test (a ∷ past) h e =
           )
     ]
   where
-    now : (a : Act) → took_by test past a h ≡ true
-        → (n : ℕ) × (b : Body) × Takes past a h n b × (test n b ≡ true)
+    now : (a : Doing) → took_by test past a h ≡ true
+        → (n : ℕ) × (b : Body) × TakesFrom past a h n b × (test n b ≡ true)
     now (Took host e n b) t =
         let p = and_parts ((same_host host h && (e == epoch past)) && live past h) (test n b) t in
         let q = and_parts (same_host host h && (e == epoch past)) (live past h) p.0 in
@@ -543,15 +542,15 @@ took_yes test (a ∷ past) h e =
     now a t = absurd (cc)
 
 -- nothing was given up in the epoch
-none_named : (past : List Act) (server : ServerId) (a : Act) (h : HostId) (i : TokenId) → is_quiet a ≡ true
-    → Names server past a h i → ⊥
+none_named : (past : List Doing) (server : ServerId) (a : Doing) (h : HostId) (i : TokenId) → is_quiet a ≡ true
+    → GivesUp server past a h i → ⊥
 unfolding list_words
 none_named past server a h i e (inl (w, (n, at, (is, l)), m)) =
     let p : is_quiet (Took h (epoch past) n (Returned w)) ≡ true = subst (λ x. is_quiet x ≡ true) is e in cc
 none_named past server a h i e (inr (g, (n, at, (is, l)), m)) =
     let p : is_quiet (Took h (epoch past) n (GiveBack g)) ≡ true = subst (λ x. is_quiet x ≡ true) is e in cc
 
-pub none_given : (server : ServerId) (past : List Act) (h : HostId) (i : TokenId) → quiet past ≡ true
+pub none_given : (server : ServerId) (past : List Doing) (h : HostId) (i : TokenId) → quiet past ≡ true
     → GivenUp server past h i → ⊥
 unfolding list_words
 none_given server [] h i e x = elim x [ ]
@@ -563,7 +562,7 @@ none_given server (a ∷ past) h i e (inr (x, b)) =
       | inr p ↦ none_given server past h i p x
     ]
 
-pub none_taken : (server : ServerId) (past : List Act) (h : HostId) (fs : FilesetId) (g : Give) → quiet past ≡ true
+pub none_taken : (server : ServerId) (past : List Doing) (h : HostId) (fs : FilesetId) (g : Give) → quiet past ≡ true
     → TookOf server past h fs (GiveBack g) → ⊥
 unfolding list_words
 none_taken server [] h fs g e x = elim x [ ]

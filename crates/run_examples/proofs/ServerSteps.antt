@@ -24,13 +24,13 @@ use Rattle.token_types.specs.declared.token.Kind.TheVariants.{Status}
 use Rattle.token_types.specs.declared.token.Token.{Token}
 use Rattle.tree_laws.specs.Parts.{Part, cell_at}
 use Rattle.tree_laws.specs.Parts.Part.{ByteAt, Entries, Size, Traits}
-use Rattle.run_rules.specs.Told.{told}
-use Rattle.run_rules.specs.Kept.{kept, kept_through}
-use Rattle.run_rules.specs.ServerRules.{ServerMeets}
-use Rattle.run_rules.specs.ServerSends.{TellsKept}
-use Rattle.run_rules.specs.Acts.{Act, acts}
-use Rattle.run_rules.specs.Lists.{In}
-use Rattle.run_rules.specs.Nodes.{served}
+use Rattle.run_rules.specs.Doings.{Doing, doings_of}
+use Rattle.run_rules.specs.Kept.{filesets_kept, filesets_through}
+use Rattle.run_rules.specs.Past.{In}
+use Rattle.run_rules.specs.ServerDue.{ServerMeets}
+use Rattle.run_rules.specs.ServerMay.{TellsKept}
+use Rattle.run_rules.specs.Steps.{steps_of_server}
+use Rattle.run_rules.specs.Views.{part_told}
 use Rattle.run_tokens.specs.Worked.{root, site_one}
 use Rattle.run_rules.specs.declared.step.Step.{Step}
 
@@ -39,15 +39,15 @@ unfoldable pub site_words : ℕ
 unfolding served_words tree_words want want_in
 site_words = 0
 
-abbrev pub deeds : List Step → List Act
-deeds past = acts 1 site_one past
+abbrev pub deeds : List Step → List Doing
+deeds past = doings_of 1 site_one past
 
 abbrev pub Served : List Step → Step → Type 0
-Served past s = ServerMeets script start site_one (served site_one past) (deeds past) s
+Served past s = ServerMeets script start site_one (steps_of_server site_one past) (deeds past) s
 
 -- what is kept at the moment
 abbrev tree_at : List Step → Step → Tree
-tree_at past s = kept_through s.cause s.applied (kept start site_one (served site_one past))
+tree_at past s = filesets_through s.cause s.applied (filesets_kept start site_one (steps_of_server site_one past))
 
 -- what the first three Grants tell
 abbrev pub granted_in : ℕ → Fid → ℕ → List Token → Bool → List DirEntry → GrantOf
@@ -96,7 +96,7 @@ their_root_tells t Traits m e = refl
 their_root_tells t Entries m e = refl
 
 their_part : (part : Part) → shows (Status false) part ≡ true
-    → told their_grant part ≡ (cell_at (tree_at until_28 step_29) file part).kept
+    → part_told their_grant part ≡ (cell_at (tree_at until_28 step_29) file part).kept
 unfolding site_words
 their_part (ByteAt at) e = absurd (cc)
 their_part Size e = refl
@@ -112,95 +112,95 @@ their_file_tells t part m e = their_part part (subst (λ (x : Token). shows x.ki
 
 pub meets_2 : Served until_1 step_2
 unfolding site_words
-meets_2 = step_meets script start site_one (served site_one until_1) (deeds until_1) step_2 refl (tt, tt) refl
+meets_2 = step_meets script start site_one (steps_of_server site_one until_1) (deeds until_1) step_2 refl (tt, tt) refl
 
 pub meets_4 : Served until_3 step_4
 unfolding site_words
-meets_4 = step_meets script start site_one (served site_one until_3) (deeds until_3) step_4 refl (tt, tt) refl
+meets_4 = step_meets script start site_one (steps_of_server site_one until_3) (deeds until_3) step_4 refl (tt, tt) refl
 
 pub meets_6 : Served until_5 step_6
 unfolding site_words
-meets_6 = step_meets script start site_one (served site_one until_5) (deeds until_5) step_6 refl (root_tells, tt) refl
+meets_6 = step_meets script start site_one (steps_of_server site_one until_5) (deeds until_5) step_6 refl (root_tells, tt) refl
 
 pub meets_8 : Served until_7 step_8
 unfolding site_words
-meets_8 = step_meets script start site_one (served site_one until_7) (deeds until_7) step_8 refl (file_tells, tt) refl
+meets_8 = step_meets script start site_one (steps_of_server site_one until_7) (deeds until_7) step_8 refl (file_tells, tt) refl
 
 pub meets_10 : Served until_9 step_10
 unfolding site_words
-meets_10 = step_meets script start site_one (served site_one until_9) (deeds until_9) step_10 refl (update_tells, tt) refl
+meets_10 = step_meets script start site_one (steps_of_server site_one until_9) (deeds until_9) step_10 refl (update_tells, tt) refl
 
 pub meets_13 : Served until_12 step_13
 unfolding site_words
-meets_13 = step_meets script start site_one (served site_one until_12) (deeds until_12) step_13 refl (tt, tt) refl
+meets_13 = step_meets script start site_one (steps_of_server site_one until_12) (deeds until_12) step_13 refl (tt, tt) refl
 
 pub meets_15 : Served until_14 step_15
 unfolding site_words
-meets_15 = step_meets script start site_one (served site_one until_14) (deeds until_14) step_15 refl (tt, tt) refl
+meets_15 = step_meets script start site_one (steps_of_server site_one until_14) (deeds until_14) step_15 refl (tt, tt) refl
 
 pub meets_18 : Served until_17 step_18
 unfolding site_words
-meets_18 = step_meets script start site_one (served site_one until_17) (deeds until_17) step_18 refl (tt, tt) refl
+meets_18 = step_meets script start site_one (steps_of_server site_one until_17) (deeds until_17) step_18 refl (tt, tt) refl
 
 pub meets_21 : Served until_20 step_21
 unfolding site_words
-meets_21 = step_meets script start site_one (served site_one until_20) (deeds until_20) step_21 refl (tt, tt) refl
+meets_21 = step_meets script start site_one (steps_of_server site_one until_20) (deeds until_20) step_21 refl (tt, tt) refl
 
 pub meets_23 : Served until_22 step_23
 unfolding site_words
-meets_23 = step_meets script start site_one (served site_one until_22) (deeds until_22) step_23 refl (tt, tt) refl
+meets_23 = step_meets script start site_one (steps_of_server site_one until_22) (deeds until_22) step_23 refl (tt, tt) refl
 
 pub meets_25 : Served until_24 step_25
 unfolding site_words
-meets_25 = step_meets script start site_one (served site_one until_24) (deeds until_24) step_25 refl (their_root_tells, tt) refl
+meets_25 = step_meets script start site_one (steps_of_server site_one until_24) (deeds until_24) step_25 refl (their_root_tells, tt) refl
 
 pub meets_27 : Served until_26 step_27
 unfolding site_words
-meets_27 = step_meets script start site_one (served site_one until_26) (deeds until_26) step_27 refl (tt, tt) refl
+meets_27 = step_meets script start site_one (steps_of_server site_one until_26) (deeds until_26) step_27 refl (tt, tt) refl
 
 pub meets_29 : Served until_28 step_29
 unfolding site_words
-meets_29 = step_meets script start site_one (served site_one until_28) (deeds until_28) step_29 refl (tt, (their_file_tells, tt)) refl
+meets_29 = step_meets script start site_one (steps_of_server site_one until_28) (deeds until_28) step_29 refl (tt, (their_file_tells, tt)) refl
 
 pub meets_32 : Served until_31 step_32
 unfolding site_words
-meets_32 = step_meets script start site_one (served site_one until_31) (deeds until_31) step_32 refl (tt, tt) refl
+meets_32 = step_meets script start site_one (steps_of_server site_one until_31) (deeds until_31) step_32 refl (tt, tt) refl
 
 pub meets_34 : Served until_33 step_34
 unfolding site_words
-meets_34 = step_meets script start site_one (served site_one until_33) (deeds until_33) step_34 refl (tt, tt) refl
+meets_34 = step_meets script start site_one (steps_of_server site_one until_33) (deeds until_33) step_34 refl (tt, tt) refl
 
 pub meets_37 : Served until_36 step_37
 unfolding site_words
-meets_37 = step_meets script start site_one (served site_one until_36) (deeds until_36) step_37 refl (tt, tt) refl
+meets_37 = step_meets script start site_one (steps_of_server site_one until_36) (deeds until_36) step_37 refl (tt, tt) refl
 
 pub meets_40 : Served until_39 step_40
 unfolding site_words
-meets_40 = step_meets script start site_one (served site_one until_39) (deeds until_39) step_40 refl tt refl
+meets_40 = step_meets script start site_one (steps_of_server site_one until_39) (deeds until_39) step_40 refl tt refl
 
 pub meets_41 : Served until_40 step_41
 unfolding site_words
-meets_41 = step_meets script start site_one (served site_one until_40) (deeds until_40) step_41 refl tt refl
+meets_41 = step_meets script start site_one (steps_of_server site_one until_40) (deeds until_40) step_41 refl tt refl
 
 pub meets_43 : Served until_42 step_43
 unfolding site_words
-meets_43 = step_meets script start site_one (served site_one until_42) (deeds until_42) step_43 refl (tt, tt) refl
+meets_43 = step_meets script start site_one (steps_of_server site_one until_42) (deeds until_42) step_43 refl (tt, tt) refl
 
 pub meets_46 : Served until_45 step_46
 unfolding site_words
-meets_46 = step_meets script start site_one (served site_one until_45) (deeds until_45) step_46 refl (tt, tt) refl
+meets_46 = step_meets script start site_one (steps_of_server site_one until_45) (deeds until_45) step_46 refl (tt, tt) refl
 
 pub meets_47 : Served until_46 step_47
 unfolding site_words
-meets_47 = step_meets script start site_one (served site_one until_46) (deeds until_46) step_47 refl tt refl
+meets_47 = step_meets script start site_one (steps_of_server site_one until_46) (deeds until_46) step_47 refl tt refl
 
 pub meets_48 : Served until_47 step_48
 unfolding site_words
-meets_48 = step_meets script start site_one (served site_one until_47) (deeds until_47) step_48 refl tt refl
+meets_48 = step_meets script start site_one (steps_of_server site_one until_47) (deeds until_47) step_48 refl tt refl
 
 pub meets_51 : Served until_50 step_51
 unfolding site_words
-meets_51 = step_meets script start site_one (served site_one until_50) (deeds until_50) step_51 refl (tt, tt) refl
+meets_51 = step_meets script start site_one (steps_of_server site_one until_50) (deeds until_50) step_51 refl (tt, tt) refl
 
 -- while a Change waits another one of its host and fileset comes
 abbrev Reacts : List Step → Step → Type 0

@@ -11,52 +11,49 @@ use Rattle.message_types.specs.declared.giving.AppliedGive.{AppliedGive}
 use Rattle.message_types.specs.declared.giving.Give.{Give}
 use Rattle.message_types.specs.declared.giving.Reclaim.{Reclaim as ReclaimOf}
 use Rattle.message_types.specs.declared.message.Body.TheVariants.{Hello, Grant, Done, GiveBack, Reclaim, Down, Bye}
-use Rattle.run_rules.specs.Acts.{Act, epoch}
-use Rattle.run_rules.specs.Acts.Act.{Begins, Took, Admits, Sent}
-use Rattle.run_rules.specs.Grants.{Applied}
-use Rattle.run_rules.specs.Hosts.{Away, GoesAway, HasReclaimed, Hears, IsBegin, IsDown, IsLive}
-use Rattle.run_rules.specs.Hosts.{Listed}
-use Rattle.run_rules.specs.Hosts.{TakesOf, TookNow}
-use Rattle.run_rules.specs.Lists.{In}
-use Rattle.run_rules.specs.Places.{Here, Place, birth, home}
+use Rattle.run_rules.specs.Doings.{Doing, GoesAway, HasGoneAway, HasGoneDown, HasReclaimed, Hears, Here, IsApplied}
+use Rattle.run_rules.specs.Doings.{IsLive, IsNewEpoch, Listed, TakesOf, TookNow, epoch}
+use Rattle.run_rules.specs.Doings.Doing.{Admits, BeginsEpoch, Sent, Took}
+use Rattle.run_rules.specs.Messages.{Stay, first_stay, home}
+use Rattle.run_rules.specs.Past.{In}
+use Rattle.run_rules.specs.declared.applied.Request.TheVariants.{Change as Changes, Fetch as Asks}
 use Rattle.run_rules.specs.declared.applied.Request.{Request}
-use Rattle.run_rules.specs.declared.applied.Request.TheVariants.{Fetch as Asks, Change as Changes}
 use Rattle.run_examples.proofs.Tests.{is_not, not_is, in_front, in_back}
 use Rattle.run_examples.proofs.Tests.{same_host, host_is, hosts, same_server, server_is, servers}
 use Rattle.run_examples.proofs.Tests.{same_fileset}
 use Rattle.run_examples.proofs.Tests.{fileset_is, filesets, same_is}
 
-unfoldable pub takes_down : HostId → Act → Bool
+unfoldable pub takes_down : HostId → Doing → Bool
 takes_down h (Took host e n Down) = same_host host h
 takes_down h _ = false
 
-unfoldable pub takes_hello : HostId → Act → Bool
+unfoldable pub takes_hello : HostId → Doing → Bool
 takes_hello h (Took host e n Hello) = same_host host h
 takes_hello h _ = false
 
-down_heard : (h : HostId) (a : Act) → takes_down h a ≡ true → Hears a h Down
+down_heard : (h : HostId) (a : Doing) → takes_down h a ≡ true → Hears a h Down
 unfolding takes_down takes_hello
 down_heard h (Took host e n Down) t = (e, n, (let p = host_is host h t in λ i. Took (p i) e n Down))
 down_heard h a t = absurd (cc)
 
-heard_down : (h : HostId) (a : Act) → Hears a h Down → takes_down h a ≡ true
+heard_down : (h : HostId) (a : Doing) → Hears a h Down → takes_down h a ≡ true
 unfolding takes_down takes_hello
 heard_down h a (e, n, is) = subst (λ x. takes_down h x ≡ true) (sym is) (hosts h h refl)
 
-hello_heard : (h : HostId) (a : Act) → takes_hello h a ≡ true → Hears a h Hello
+hello_heard : (h : HostId) (a : Doing) → takes_hello h a ≡ true → Hears a h Hello
 unfolding takes_down takes_hello
 hello_heard h (Took host e n Hello) t = (e, n, (let p = host_is host h t in λ i. Took (p i) e n Hello))
 hello_heard h a t = absurd (cc)
 
-heard_hello : (h : HostId) (a : Act) → Hears a h Hello → takes_hello h a ≡ true
+heard_hello : (h : HostId) (a : Doing) → Hears a h Hello → takes_hello h a ≡ true
 unfolding takes_down takes_hello
 heard_hello h a (e, n, is) = subst (λ x. takes_hello h x ≡ true) (sym is) (hosts h h refl)
 
-unfoldable pub down : List Act → HostId → Bool
+unfoldable pub down : List Doing → HostId → Bool
 down [] h = false
 down (a ∷ past) h = takes_down h a || down past h
 
-pub down_yes : (past : List Act) (h : HostId) → down past h ≡ true → IsDown past h
+pub down_yes : (past : List Doing) (h : HostId) → down past h ≡ true → HasGoneDown past h
 unfolding takes_down takes_hello down
 down_yes [] h t = absurd (cc)
 down_yes (a ∷ past) h t =
@@ -66,17 +63,17 @@ down_yes (a ∷ past) h t =
           (down_yes past h p)
     ]
 
-pub down_is : (past : List Act) (h : HostId) → IsDown past h → down past h ≡ true
+pub down_is : (past : List Doing) (h : HostId) → HasGoneDown past h → down past h ≡ true
 unfolding takes_down takes_hello down
 down_is [] h x = elim x [ ]
 down_is (a ∷ past) h (inl x) = or_left (takes_down h a) (down past h) (heard_down h a x)
 down_is (a ∷ past) h (inr x) = or_right (takes_down h a) (down past h) (down_is past h x)
 
-unfoldable pub listed : List Act → HostId → Bool
+unfoldable pub listed : List Doing → HostId → Bool
 listed [] h = false
 listed (a ∷ past) h = (takes_hello h a && (not (listed past h) && not (down past h))) || listed past h
 
-listed_parts : (past : List Act) (h : HostId) → ((listed past h ≡ true) → Listed past h) × (Listed past h
+listed_parts : (past : List Doing) (h : HostId) → ((listed past h ≡ true) → Listed past h) × (Listed past h
     → listed past h ≡ true)
 unfolding takes_down takes_hello down listed
 listed_parts [] h = (λ t. absurd (cc), λ x. elim x [ ])
@@ -106,20 +103,20 @@ listed_parts (a ∷ past) h =
           ],
     )
 
-pub listed_yes : (past : List Act) (h : HostId) → listed past h ≡ true → Listed past h
+pub listed_yes : (past : List Doing) (h : HostId) → listed past h ≡ true → Listed past h
 unfolding takes_down takes_hello down listed
 listed_yes past h t = (listed_parts past h).0 t
 
-pub listed_is : (past : List Act) (h : HostId) → Listed past h → listed past h ≡ true
+pub listed_is : (past : List Doing) (h : HostId) → Listed past h → listed past h ≡ true
 unfolding takes_down takes_hello down listed
 listed_is past h x = (listed_parts past h).1 x
 
 -- who has gone away
-unfoldable pub takes_bye : HostId → ℕ → Act → Bool
+unfoldable pub takes_bye : HostId → ℕ → Doing → Bool
 takes_bye h now (Took host e n Bye) = same_host host h && (e == now)
 takes_bye h now _ = false
 
-bye_taken : (h : HostId) (now : ℕ) (a : Act) → takes_bye h now a ≡ true → (n : ℕ) × (a ≡ Took h now n Bye)
+bye_taken : (h : HostId) (now : ℕ) (a : Doing) → takes_bye h now a ≡ true → (n : ℕ) × (a ≡ Took h now n Bye)
 unfolding takes_down takes_hello down listed takes_bye
 bye_taken h now (Took host e n Bye) t =
     let p = and_parts (same_host host h) (e == now) t in
@@ -128,16 +125,16 @@ bye_taken h now (Took host e n Bye) t =
     (n, λ i. Took (q i) (r i) n Bye)
 bye_taken h now a t = absurd (cc)
 
-taken_bye : (h : HostId) (now n : ℕ) (a : Act) → a ≡ Took h now n Bye → takes_bye h now a ≡ true
+taken_bye : (h : HostId) (now n : ℕ) (a : Doing) → a ≡ Took h now n Bye → takes_bye h now a ≡ true
 unfolding takes_down takes_hello down listed takes_bye
 taken_bye h now n a is =
     subst (λ x. takes_bye h now x ≡ true) (sym is) (and_from (same_host h h) (now == now) (hosts h h refl)
     (same_is now))
 
-unfoldable pub goes_away : List Act → Act → HostId → Bool
+unfoldable pub goes_away : List Doing → Doing → HostId → Bool
 goes_away past a h = takes_down h a || (takes_bye h (epoch past) a && (listed past h && not (down past h)))
 
-pub away_yes_now : (past : List Act) (a : Act) (h : HostId) → goes_away past a h ≡ true → GoesAway past a h
+pub away_yes_now : (past : List Doing) (a : Doing) (h : HostId) → goes_away past a h ≡ true → GoesAway past a h
 unfolding takes_down takes_hello down listed takes_bye goes_away
 away_yes_now past a h t =
     elim (or_cases (takes_down h a) (takes_bye h (epoch past) a && (listed past h && not (down past h))) t) [
@@ -149,7 +146,7 @@ away_yes_now past a h t =
           )
     ]
 
-pub away_is_now : (past : List Act) (a : Act) (h : HostId) → GoesAway past a h → goes_away past a h ≡ true
+pub away_is_now : (past : List Doing) (a : Doing) (h : HostId) → GoesAway past a h → goes_away past a h ≡ true
 unfolding takes_down takes_hello down listed takes_bye goes_away
 away_is_now past a h (inl x) = or_left (takes_down h a) (takes_bye h (epoch past) a && (listed past h && not
     (down past h))) (heard_down h a x)
@@ -159,11 +156,11 @@ away_is_now past a h (inr ((n, is), l, d)) =
     (and_from (listed past h) (not (down past h)) (listed_is past h l) (not_is (down past h) (λ e. d
     (down_yes past h e)))))
 
-unfoldable pub away : List Act → HostId → Bool
+unfoldable pub away : List Doing → HostId → Bool
 away [] h = false
 away (a ∷ past) h = goes_away past a h || away past h
 
-pub away_yes : (past : List Act) (h : HostId) → away past h ≡ true → Away past h
+pub away_yes : (past : List Doing) (h : HostId) → away past h ≡ true → HasGoneAway past h
 unfolding takes_down takes_hello down listed takes_bye goes_away away
 away_yes [] h t = absurd (cc)
 away_yes (a ∷ past) h t =
@@ -173,37 +170,37 @@ away_yes (a ∷ past) h t =
           (away_yes past h p)
     ]
 
-pub away_is : (past : List Act) (h : HostId) → Away past h → away past h ≡ true
+pub away_is : (past : List Doing) (h : HostId) → HasGoneAway past h → away past h ≡ true
 unfolding takes_down takes_hello down listed takes_bye goes_away away
 away_is [] h x = elim x [ ]
 away_is (a ∷ past) h (inl x) = or_left (goes_away past a h) (away past h) (away_is_now past a h x)
 away_is (a ∷ past) h (inr x) = or_right (goes_away past a h) (away past h) (away_is past h x)
 
-unfoldable pub live : List Act → HostId → Bool
+unfoldable pub live : List Doing → HostId → Bool
 live past h = listed past h && not (away past h)
 
-pub live_yes : (past : List Act) (h : HostId) → live past h ≡ true → IsLive past h
+pub live_yes : (past : List Doing) (h : HostId) → live past h ≡ true → IsLive past h
 unfolding takes_down takes_hello down listed takes_bye goes_away away live
 live_yes past h t =
     let p = and_parts (listed past h) (not (away past h)) t in
     (listed_yes past h p.0, λ x. is_not (away past h) p.1 (away_is past h x))
 
-pub live_is : (past : List Act) (h : HostId) → IsLive past h → live past h ≡ true
+pub live_is : (past : List Doing) (h : HostId) → IsLive past h → live past h ≡ true
 unfolding takes_down takes_hello down listed takes_bye goes_away away live
 live_is past h (l, a) =
     and_from (listed past h) (not (away past h)) (listed_is past h l) (not_is (away past h) (λ e. a
     (away_yes past h e)))
 
 -- the hosts that were heard
-unfoldable pub heard_from : Act → List HostId
+unfoldable pub heard_from : Doing → List HostId
 heard_from (Took host e n b) = host ∷ []
 heard_from _ = []
 
-unfoldable pub heard : List Act → List HostId
+unfoldable pub heard : List Doing → List HostId
 heard [] = []
 heard (a ∷ past) = heard_from a ++ heard past
 
-pub listed_heard : (past : List Act) (h : HostId) → Listed past h → In h (heard past)
+pub listed_heard : (past : List Doing) (h : HostId) → Listed past h → In h (heard past)
 unfolding takes_down takes_hello down listed takes_bye goes_away away live heard_from heard
 listed_heard [] h x = elim x [ ]
 listed_heard (a ∷ past) h (inl x) =
@@ -211,35 +208,35 @@ listed_heard (a ∷ past) h (inl x) =
 listed_heard (a ∷ past) h (inr x) = in_back h (heard_from a) (heard past) (listed_heard past h x)
 
 -- who has reclaimed
-unfoldable pub begins : Act → Bool
-begins (Begins e) = true
+unfoldable pub begins : Doing → Bool
+begins (BeginsEpoch e) = true
 begins _ = false
 
-pub begin_yes : (a : Act) → begins a ≡ true → IsBegin a
+pub begin_yes : (a : Doing) → begins a ≡ true → IsNewEpoch a
 unfolding takes_down takes_hello down listed takes_bye goes_away away live heard_from heard begins
-begin_yes (Begins e) t = (e, refl)
+begin_yes (BeginsEpoch e) t = (e, refl)
 begin_yes a t = absurd (cc)
 
-pub begin_is : (a : Act) → IsBegin a → begins a ≡ true
+pub begin_is : (a : Doing) → IsNewEpoch a → begins a ≡ true
 unfolding takes_down takes_hello down listed takes_bye goes_away away live heard_from heard begins
 begin_is a (e, is) = subst (λ x. begins x ≡ true) (sym is) refl
 
-unfoldable pub admits_host : HostId → Act → Bool
+unfoldable pub admits_host : HostId → Doing → Bool
 admits_host h (Admits host ts) = same_host host h
 admits_host h _ = false
 
-admits_yes : (h : HostId) (a : Act) → admits_host h a ≡ true → (ts : List Token) × (a ≡ Admits h ts)
+admits_yes : (h : HostId) (a : Doing) → admits_host h a ≡ true → (ts : List Token) × (a ≡ Admits h ts)
 unfolding takes_down takes_hello down listed takes_bye goes_away away live heard_from heard begins admits_host
 admits_yes h (Admits host ts) t = (ts, (let p = host_is host h t in λ i. Admits (p i) ts))
 admits_yes h a t = absurd (cc)
 
-unfoldable pub reclaimed : List Act → HostId → Bool
+unfoldable pub reclaimed : List Doing → HostId → Bool
 reclaimed [] h = false
 reclaimed (a ∷ past) h =
     (admits_host h a || (takes_hello h a && (not (listed past h) && not (down past h)))) || (reclaimed past h && not
     (begins a))
 
-pub reclaimed_yes : (past : List Act) (h : HostId) → reclaimed past h ≡ true → HasReclaimed past h
+pub reclaimed_yes : (past : List Doing) (h : HostId) → reclaimed past h ≡ true → HasReclaimed past h
 unfolding takes_down takes_hello down listed takes_bye goes_away away live heard_from heard begins admits_host reclaimed
 reclaimed_yes [] h t = absurd (cc)
 reclaimed_yes (a ∷ past) h t =
@@ -264,7 +261,7 @@ reclaimed_yes (a ∷ past) h t =
       ))
     ]
 
-pub reclaimed_is : (past : List Act) (h : HostId) → HasReclaimed past h → reclaimed past h ≡ true
+pub reclaimed_is : (past : List Doing) (h : HostId) → HasReclaimed past h → reclaimed past h ≡ true
 unfolding takes_down takes_hello down listed takes_bye goes_away away live heard_from heard begins admits_host reclaimed
 reclaimed_is [] h x = elim x [ ]
 reclaimed_is (a ∷ past) h (inl x) =
@@ -288,7 +285,7 @@ reclaimed_is (a ∷ past) h (inr x) =
 unfoldable pub here : ServerId → FilesetId → ℕ → Bool
 here server fs n = same_server (home fs) server && (n == 0)
 
-pub here_yes : (server : ServerId) (past : List Act) (fs : FilesetId) (n : ℕ) → here server fs n ≡ true
+pub here_yes : (server : ServerId) (past : List Doing) (fs : FilesetId) (n : ℕ) → here server fs n ≡ true
     → Here server past fs n
 unfolding takes_down takes_hello down listed takes_bye goes_away away live heard_from heard begins admits_host
     reclaimed here
@@ -298,17 +295,17 @@ here_yes server past fs n t =
     let m = sym (eqb-true n 0 p.1) in
     λ i. record { server = s i; moves = m i }
 
-unfoldable pub takes_give : ServerId → List Act → HostId → AppliedGive → Act → Bool
+unfoldable pub takes_give : ServerId → List Doing → HostId → AppliedGive → Doing → Bool
 takes_give server past h number (Took host e n (GiveBack g)) =
     ((same_host host h && (e == epoch past)) && (live past h && here server g.fid.fileset n))
     && (same_fileset g.fid.fileset number.fileset && nat_le number.number g.number)
 takes_give server past h number _ = false
 
-unfoldable pub applied : ServerId → List Act → HostId → AppliedGive → Bool
+unfoldable pub applied : ServerId → List Doing → HostId → AppliedGive → Bool
 applied server [] h number = false
 applied server (a ∷ past) h number = takes_give server past h number a || applied server past h number
 
-give_taken : (server : ServerId) (past : List Act) (h : HostId) (number : AppliedGive) (a : Act)
+give_taken : (server : ServerId) (past : List Doing) (h : HostId) (number : AppliedGive) (a : Doing)
     → takes_give server past h number a ≡ true
     → (give : Give) × TakesOf server past a h number.fileset (GiveBack give) × (give.fid.fileset ≡ number.fileset)
     × (number.number ≤ give.number)
@@ -339,9 +336,9 @@ give_taken server past h number (Took host e n (GiveBack g)) t =
     )
 give_taken server past h number a t = absurd (cc)
 
-pub applied_yes : (server : ServerId) (past : List Act) (h : HostId) (number : AppliedGive)
+pub applied_yes : (server : ServerId) (past : List Doing) (h : HostId) (number : AppliedGive)
     → applied server past h number ≡ true
-    → Applied server past h number
+    → IsApplied server past h number
 unfolding takes_down takes_hello down listed takes_bye goes_away away live heard_from heard begins admits_host
     reclaimed here takes_give applied
 applied_yes server [] h number t = absurd (cc)
@@ -351,15 +348,15 @@ applied_yes server (a ∷ past) h number t =
       | inr p ↦ inr (applied_yes server past h number p)
     ]
 
-pub here_is : (server : ServerId) (fs : FilesetId) (n : ℕ) → birth fs ≡ record { server = server; moves = n }
+pub here_is : (server : ServerId) (fs : FilesetId) (n : ℕ) → first_stay fs ≡ record { server = server; moves = n }
     → here server fs n ≡ true
 unfolding takes_down takes_hello down listed takes_bye goes_away away live heard_from heard begins admits_host
     reclaimed here takes_give applied
 here_is server fs n e =
-    and_from (same_server (home fs) server) (n == 0) (servers (home fs) server (ap (λ (x : Place). x.server) e))
-    (eq-eqb n 0 (sym (ap (λ (x : Place). x.moves) e)))
+    and_from (same_server (home fs) server) (n == 0) (servers (home fs) server (ap (λ (x : Stay). x.server) e))
+    (eq-eqb n 0 (sym (ap (λ (x : Stay). x.moves) e)))
 
-taken_give : (server : ServerId) (past : List Act) (h : HostId) (number : AppliedGive) (a : Act) (g : Give)
+taken_give : (server : ServerId) (past : List Doing) (h : HostId) (number : AppliedGive) (a : Doing) (g : Give)
     → TakesOf server past a h number.fileset (GiveBack g) → g.fid.fileset ≡ number.fileset → number.number ≤ g.number
     → takes_give server past h number a ≡ true
 unfolding takes_down takes_hello down listed takes_bye goes_away away live heard_from heard begins admits_host
@@ -375,8 +372,8 @@ taken_give server past h number a g (n, at, (is, l)) f k =
     (and_from (same_fileset g.fid.fileset number.fileset) (nat_le number.number g.number)
     (filesets g.fid.fileset number.fileset f) (le-leb number.number g.number k)))
 
-pub applied_is : (server : ServerId) (past : List Act) (h : HostId) (number : AppliedGive)
-    → Applied server past h number
+pub applied_is : (server : ServerId) (past : List Doing) (h : HostId) (number : AppliedGive)
+    → IsApplied server past h number
     → applied server past h number ≡ true
 unfolding takes_down takes_hello down listed takes_bye goes_away away live heard_from heard begins admits_host
     reclaimed here takes_give applied
@@ -388,7 +385,7 @@ applied_is server (a ∷ past) h number (inr x) =
     or_right (takes_give server past h number a) (applied server past h number) (applied_is server past h number x)
 
 -- wants that wait: at most these
-unfoldable pub decides : HostId → Act → Request → Bool
+unfoldable pub decides : HostId → Doing → Request → Bool
 decides h (Sent host e n (Grant g)) (Asks f) =
     same_host host h && (same_fileset g.bring.fid.fileset f.fid.fileset && (g.bring.number == f.number))
 decides h (Sent host e n (Done d)) (Changes c) =
@@ -396,16 +393,16 @@ decides h (Sent host e n (Done d)) (Changes c) =
 decides h a r = false
 
 -- no claim was taken in this epoch
-unfoldable pub claims : Act → Bool
+unfoldable pub claims : Doing → Bool
 claims (Took host e n (Reclaim claim)) = true
 claims _ = false
 
 -- the hosts whose claims were taken in this epoch
-unfoldable pub claimant : Act → List HostId
+unfoldable pub claimant : Doing → List HostId
 claimant (Took host e n (Reclaim claim)) = host ∷ []
 claimant _ = []
 
-unfoldable pub claimants : List Act → List HostId
+unfoldable pub claimants : List Doing → List HostId
 claimants [] = []
 claimants (a ∷ past) = claimant a ++ (if begins a then [] else claimants past)
 
@@ -413,7 +410,7 @@ in_unless : {A : Type 0} (b : Bool) (x : A) (xs : List A) → (b ≡ true → �
 in_unless true x xs unless m = absurd (unless refl)
 in_unless false x xs unless m = m
 
-pub claims_in : (past : List Act) (h : HostId) (n : ℕ) (claim : ReclaimOf) → TookNow past h n (Reclaim claim)
+pub claims_in : (past : List Doing) (h : HostId) (n : ℕ) (claim : ReclaimOf) → TookNow past h n (Reclaim claim)
     → In h (claimants past)
 unfolding claimant claimants
 claims_in [] h n claim x = elim x [ ]

@@ -39,10 +39,10 @@ use Rattle.std.specs.Prelude.{IfSome, codes, if◌then◌else◌, ◌/◌}
 use Rattle.token_types.specs.declared.token.Token.{Token}
 use Rattle.token_types.specs.declared.token.TokenId.{TokenId}
 use Rattle.run_tokens.proofs.Plain.{few}
-use Rattle.run_rules.specs.Gives.{number_of}
-use Rattle.run_rules.specs.Lists.{In}
-use Rattle.run_rules.specs.Places.{home}
-use Rattle.run_rules.specs.TokenRuns.{IsFrom}
+use Rattle.run_rules.specs.Messages.{home}
+use Rattle.run_rules.specs.Past.{In}
+use Rattle.run_rules.specs.Runs.{IsFrom}
+use Rattle.run_rules.specs.Tokens.{number_of}
 use Rattle.run_tokens.specs.Worked.{client, entered, root, site_one, welcome}
 
 one_site : IsServer both site_one

@@ -1,5 +1,6 @@
 -- Where a host stands in a step, computed.
-use Rattle.run_rules.specs.Lists.{EachOnce}
+use Rattle.run_rules.specs.Past.{EachOnce, In}
+use Rattle.run_rules.specs.Views.{HasLabel, IsLock, IsOpening, KnowsItself, NeedsServer, Stance}
 use Rattle.std.proofs.Common.{Bool, List, None, Option, Some, [], false, inl, inr, refl, subst, sym, true}
 use Rattle.std.proofs.Common.{if◌then◌else◌, ℕ, ◌&&◌, ◌++◌, ◌||◌, ◌∙◌, ◌∷◌, ◌≡◌}
 use Rattle.std.proofs.lemmas.Bool.{and_parts, and_from, or_cases, or_left, or_right}
@@ -19,8 +20,6 @@ use Rattle.tree_answers.specs.declared.tree.LockUse.{LockUse}
 use Rattle.tree_answers.specs.declared.tree.OpenUse.{OpenUse}
 use Rattle.token_types.specs.declared.token.Kind.{Kind}
 use Rattle.token_types.specs.declared.token.Kind.TheVariants.{Lock as LockToken, Opening}
-use Rattle.run_rules.specs.Knowing.{HasLabel, IsLock, IsOpening, Knows, NeedsServer, Stance}
-use Rattle.run_rules.specs.Lists.{In}
 use Rattle.run_rules.specs.declared.step.Labelled.{Labelled}
 use Rattle.run_rules.specs.declared.step.Step.{Step}
 use Rattle.run_examples.proofs.Tests.{passes, all_true, implies, so, is_not, at_all, some_in, any_of}
@@ -256,7 +255,7 @@ stance_tests site host past s =
 
 pub knows_of : (site : ServerId) (host : HostId) (past : List Step) (s : Step) → passes
     (stance_tests site host past s) ≡ true
-    → Knows host past s (own_of site host past s)
+    → KnowsItself host past s (own_of site host past s)
 unfolding labels lock_by opening_by locks_of opens_of needs_server is_lock_kind is_open_kind gives_with gives_label
     leads seen_in one_id each_one_id stance_tests
 knows_of site host past s e =

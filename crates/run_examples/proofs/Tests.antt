@@ -29,7 +29,7 @@ use Rattle.token_types.specs.declared.token.TokenId.{TokenId}
 use Rattle.message_types.specs.declared.giving.AppliedGive.{AppliedGive}
 use Rattle.message_types.specs.declared.giving.Ends.{Ends}
 use Rattle.message_types.specs.declared.giving.Give.{Give}
-use Rattle.run_rules.specs.Lists.{In}
+use Rattle.run_rules.specs.Past.{In}
 
 -- a test that a condition has to pass only where another holds
 abbrev pub implies : Bool → Bool → Bool

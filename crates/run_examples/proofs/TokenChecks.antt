@@ -1,5 +1,8 @@
 -- The rules of tokens for a host's step, computed: where each test passes the rules hold.
-use Rattle.run_rules.specs.Sends.{HasSaid}
+use Rattle.run_rules.specs.HostTokens.{Claims, HostTokens, IsClaimable, IsInGive}
+use Rattle.run_rules.specs.Messages.{Changing, HasSaid, Sends, Stops, epoch_at, stay_of}
+use Rattle.run_rules.specs.Past.{In}
+use Rattle.run_rules.specs.Tokens.{NamesGive, number_of}
 use Rattle.std.proofs.Common.{Bool, List, [], ap, false, inl, inr, refl, subst, sym, true}
 use Rattle.std.proofs.Common.{ℕ, ◌&&◌, ◌||◌, ◌==◌, ◌∙◌, ◌∷◌, ◌≡◌}
 use Rattle.std.proofs.lemmas.Bool.{and_parts, and_from, or_cases, eqb-true, ltb-true, lt-ltb}
@@ -18,13 +21,6 @@ use Rattle.message_types.specs.declared.message.Body.{Body}
 use Rattle.message_types.specs.declared.message.Body.TheVariants.{Fetch, Change, Returned, Kept, GiveBack, Reclaim, Down}
 use Rattle.message_types.specs.declared.message.Body.TheVariants.{Bye}
 use Rattle.message_types.specs.declared.message.Message.{Message}
-use Rattle.run_rules.specs.Epochs.{epoch_at}
-use Rattle.run_rules.specs.Gives.{NamesGive, number_of}
-use Rattle.run_rules.specs.HostTokens.{Claims, HostTokens, IsClaimed, IsInGive}
-use Rattle.run_rules.specs.Lists.{In}
-use Rattle.run_rules.specs.Places.{place}
-use Rattle.run_rules.specs.Requests.{Changing}
-use Rattle.run_rules.specs.Sends.{Sends, Stops}
 use Rattle.run_rules.specs.declared.step.Step.{Step}
 use Rattle.run_examples.proofs.Tests.{AllTrue, passes, all_true, implies, so, is_not, at_all, some_in, any_of, apart}
 use Rattle.run_examples.proofs.Tests.{only_one}
@@ -77,15 +73,15 @@ stops_yes s e =
 
 -- the message goes to where the fileset is
 unfoldable pub is_place : List Step → FilesetId → Message → Bool
-is_place past fs m = same_server (place past fs).server m.server && ((place past fs).moves == m.moves)
+is_place past fs m = same_server (stay_of past fs).server m.server && ((stay_of past fs).moves == m.moves)
 
 pub place_is : (past : List Step) (fs : FilesetId) (m : Message) → is_place past fs m ≡ true
-    → place past fs ≡ record { server = m.server; moves = m.moves }
+    → stay_of past fs ≡ record { server = m.server; moves = m.moves }
 unfolding is_down is_bye says is_place
 place_is past fs m e =
-    let p = and_parts (same_server (place past fs).server m.server) ((place past fs).moves == m.moves) e in
-    let v = server_is (place past fs).server m.server p.0 in
-    let n = eqb-true (place past fs).moves m.moves p.1 in
+    let p = and_parts (same_server (stay_of past fs).server m.server) ((stay_of past fs).moves == m.moves) e in
+    let v = server_is (stay_of past fs).server m.server p.0 in
+    let n = eqb-true (stay_of past fs).moves m.moves p.1 in
     λ i. record { server = v i; moves = n i }
 
 unfoldable pub goes_right : List Step → Message → Body → Bool
@@ -125,13 +121,13 @@ unfoldable pub claimed : List Step → ServerId → TokenId → Bool
 claimed past server id = same_server id.server server && nat_lt id.epoch (epoch_at past server)
 
 claimed_yes : (past : List Step) (server : ServerId) (id : TokenId) → claimed past server id ≡ true
-    → IsClaimed past server id
+    → IsClaimable past server id
 unfolding is_down is_bye says is_place goes_right of_file was_made follows asks shares claimed
 claimed_yes past server id e =
     let p = and_parts (same_server id.server server) (nat_lt id.epoch (epoch_at past server)) e in
     (server_is id.server server p.0, ltb-true id.epoch (epoch_at past server) p.1)
 
-claimed_is : (past : List Step) (server : ServerId) (id : TokenId) → IsClaimed past server id
+claimed_is : (past : List Step) (server : ServerId) (id : TokenId) → IsClaimable past server id
     → claimed past server id ≡ true
 unfolding is_down is_bye says is_place goes_right of_file was_made follows asks shares claimed
 claimed_is past server id c =
@@ -190,7 +186,7 @@ claim_tests past server claim =
     ∷ list_all (names_all past server claim) (made past)
     ∷ list_all (is_due past server claim) claim.tokens
     ∷ list_all (λ t. list_any (λ o. same_fileset o.fileset t.fid.fileset) claim.numbers) claim.tokens
-    ∷ list_all (λ o. o.moves == (place past o.fileset).moves) claim.numbers
+    ∷ list_all (λ o. o.moves == (stay_of past o.fileset).moves) claim.numbers
     ∷ list_all (λ o. implies (nat_lt 0 o.give) (list_any (λ g. is_first past g && same_number (number_of g)
     (numbered o.fileset o.give)) (made past))) claim.numbers
     ∷ list_all (λ o. list_all (λ g. implies (is_first past g && same_fileset g.fid.fileset o.fileset)
@@ -268,8 +264,8 @@ claims_from past server claim (
       let p = some_in (λ o. same_fileset o.fileset t.fid.fileset) claim.numbers (at_all (λ t. list_any
       (λ o. same_fileset o.fileset t.fid.fileset) claim.numbers) claim.tokens t numbers_ m) in
       (p.0, p.1, fileset_is p.0.fileset t.fid.fileset p.2);
-  moves = λ o m. eqb-true o.moves (place past o.fileset).moves (at_all (λ o. o.moves ==
-      (place past o.fileset).moves) claim.numbers o moves_ m);
+  moves = λ o m. eqb-true o.moves (stay_of past o.fileset).moves (at_all (λ o. o.moves ==
+      (stay_of past o.fileset).moves) claim.numbers o moves_ m);
   gives = λ o m up.
       let e = so (nat_lt 0 o.give) (list_any (λ g. is_first past g && same_number (number_of g)
       (numbered o.fileset o.give)) (made past)) (at_all (λ o. implies (nat_lt 0 o.give) (list_any

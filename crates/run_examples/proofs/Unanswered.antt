@@ -8,17 +8,14 @@ use Rattle.message_types.specs.declared.message.Message.{Message}
 use Rattle.std.proofs.Common.{length}
 use Rattle.tree_answers.specs.WellFormed.{IsWellFormed}
 use Rattle.tree_answers.specs.declared.tree.Tree.{Tree}
-use Rattle.run_rules.specs.Acts.{acts}
-use Rattle.run_rules.specs.Epochs.{IsWelcome}
-use Rattle.run_rules.specs.HostRules.{HostMay}
-use Rattle.run_rules.specs.Hosts.{Listed, Away}
-use Rattle.run_rules.specs.Lines.{lines_gone, lines_of, setup, servers_of}
-use Rattle.run_rules.specs.Lists.{In}
-use Rattle.run_rules.specs.Nodes.{served}
+use Rattle.run_rules.specs.Doings.{HasGoneAway, Listed, doings_of}
+use Rattle.run_rules.specs.HostMay.{HostMay}
+use Rattle.run_rules.specs.Messages.{HasGreeted, IsWelcome}
+use Rattle.run_rules.specs.Past.{In}
 use Rattle.run_rules.specs.Plans.{IsPlanned, KeepsPlan}
 use Rattle.run_rules.specs.Runs.{HostIsDone, IsEnded, IsRun, IsValid, TakesPart, firsts_of, past_of}
-use Rattle.run_rules.specs.Sends.{HasGreeted}
-use Rattle.run_rules.specs.ServerRules.{ServerMay}
+use Rattle.run_rules.specs.ServerMay.{ServerMay}
+use Rattle.run_rules.specs.Steps.{lines_gone, lines_of, servers_of, setup, steps_of_server}
 use Rattle.run_rules.specs.declared.step.Cause.TheVariants.{Line, Message as Came, Lapse, Restart}
 use Rattle.run_tokens.specs.Worked.{client, site_one, welcome}
 use Rattle.run_examples.specs.Unanswered.{Unanswered, asks, asks_it, bare_tree, change, journal, restart_script, tells}
@@ -26,7 +23,7 @@ use Rattle.run_examples.specs.Unanswered.{tells_it, unasked}
 
 -- why it is no run
 
-not_told : ServerMay restart_script bare_tree site_one [] (acts 1 site_one []) tells → ⊥
+not_told : ServerMay restart_script bare_tree site_one [] (doings_of 1 site_one []) tells → ⊥
 not_told may = elim (may.answers.reclaimed_only setup welcome (tells_it (Reclaimed welcome), inl refl, refl, refl)) [
   | inl x ↦ let p : Restart 6 ≡ Came x.0.0 = x.0.1 in cc
   | inr (inl x) ↦ elim x.1 [ ]
@@ -55,7 +52,7 @@ start_is a b e = cc
 no_run : IsRun restart_script journal → ⊥
 no_run run =
     let is : run.start ≡ bare_tree = start_is run.start bare_tree (sym run.starts) in
-    not_told (subst (λ (t : Tree). ServerMay restart_script t site_one [] (acts 1 site_one []) tells) is
+    not_told (subst (λ (t : Tree). ServerMay restart_script t site_one [] (doings_of 1 site_one []) tells) is
     run.steps.0.0.1.0.0)
 
 -- the tree
@@ -109,7 +106,7 @@ hosts_done host e = elim (one_of_two host.0 e) [
 ]
 
 -- the server knows no host
-none_listed : (host : HostId) → Listed (acts 1 site_one (past_of journal)) host → ⊥
+none_listed : (host : HostId) → Listed (doings_of 1 site_one (past_of journal)) host → ⊥
 none_listed host (inl ((e, n, q), a, b)) = cc
 none_listed host (inr (inl ((e, n, q), a, b))) = cc
 none_listed host (inr (inr (inl ((e, n, q), a, b)))) = cc
@@ -124,9 +121,9 @@ ended : IsEnded restart_script journal
 ended = record {
   hosts = hosts_done;
   lines = λ server i.
-      subst (λ v. lines_gone (served v (past_of journal)) ≡ length (lines_of restart_script (Server v))) (sym (the_site server i)) refl;
+      subst (λ v. lines_gone (steps_of_server v (past_of journal)) ≡ length (lines_of restart_script (Server v))) (sym (the_site server i)) refl;
   servers = λ server host i.
-      subst (λ v. Listed (acts (firsts_of journal v) v (past_of journal)) host → Away (acts (firsts_of journal v) v (past_of journal)) host)
+      subst (λ v. Listed (doings_of (firsts_of journal v) v (past_of journal)) host → HasGoneAway (doings_of (firsts_of journal v) v (past_of journal)) host)
       (sym (the_site server i)) (λ l. absurd (none_listed host l));
 }
 

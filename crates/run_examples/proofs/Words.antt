@@ -1,5 +1,10 @@
 -- What a host's steps tell, as plain data: each word of the rules on tokens is membership in a list that is computed.
-use Rattle.run_rules.specs.Gives.{GiveOpen}
+use Rattle.run_rules.specs.Messages.{About, Asking, Changing, Comes, ComesIn, DoneComes, HasGreeted, HasKeptToken}
+use Rattle.run_rules.specs.Messages.{IsWelcome, KeepsToken, ReturnsToken, Said, Sends, epoch_at, stay_of}
+use Rattle.run_rules.specs.Past.{In}
+use Rattle.run_rules.specs.Tokens.{AboveFloor, AnswersRequest, AtHand, Drops, EverHeld, GiveOpen, Held, HoldsId}
+use Rattle.run_rules.specs.Tokens.{IsKnownNumber, IsOutstanding, Learns, LeavesHost, Made, Makes, Owns, Uses}
+use Rattle.run_rules.specs.Tokens.{WaitsBehind, number_of}
 use Rattle.std.proofs.Common.{Bool, List, [], ap, false, inl, inr, refl, subst, sym, true, if◌then◌else◌}
 use Rattle.std.proofs.Common.{ℕ, ◌&&◌, ◌++◌, ◌||◌, ◌==◌, ◌∙◌, ◌∷◌, ◌≡◌, ◌<◌, ◌⊎◌}
 use Rattle.std.proofs.lemmas.Bool.{and_parts, and_from, or_cases, or_left, or_right, eqb-true, eq-eqb, ltb-true, lt-ltb}
@@ -25,14 +30,6 @@ use Rattle.message_types.specs.declared.telling.Bring.{Bring}
 use Rattle.message_types.specs.declared.telling.Done.{Done as DoneOf}
 use Rattle.message_types.specs.declared.telling.Grant.{Grant as GrantOf}
 use Rattle.message_types.specs.declared.tokens.Revoke.{Revoke as RevokeOf}
-use Rattle.run_rules.specs.Epochs.{About, Comes, ComesIn, IsWelcome, epoch_at}
-use Rattle.run_rules.specs.Floors.{AboveFloor, Answers, Uses}
-use Rattle.run_rules.specs.Gives.{IsOutstanding, Known, Learns, Made, Makes, Waits, number_of}
-use Rattle.run_rules.specs.Lists.{In}
-use Rattle.run_rules.specs.Places.{place}
-use Rattle.run_rules.specs.Requests.{Asking, Changing, Settles}
-use Rattle.run_rules.specs.Sends.{HasGreeted, HasKept, Keeps, Returns, Said, Sends}
-use Rattle.run_rules.specs.Tokens.{AtHand, Drops, EverHeld, Held, HoldsId, Leaves, Owns}
 use Rattle.run_rules.specs.declared.step.Cause.{Cause}
 use Rattle.run_rules.specs.declared.step.Cause.TheVariants.{Message as Came}
 use Rattle.run_rules.specs.declared.step.Step.{Step}
@@ -102,49 +99,49 @@ in_said (s ∷ past) m i =
 -- of the fileset's server, epoch and stay
 unfoldable pub is_about : List Step → Message → FilesetId → Bool
 is_about past m fileset =
-    same_server m.server (place past fileset).server
-    && ((m.epoch == epoch_at past (place past fileset).server) && (m.moves == (place past fileset).moves))
+    same_server m.server (stay_of past fileset).server
+    && ((m.epoch == epoch_at past (stay_of past fileset).server) && (m.moves == (stay_of past fileset).moves))
 
 pub about : (past : List Step) (s : Step) (m : Message) (fileset : FilesetId) (b : Body) → s.cause ≡ Came m → m.body ≡ b
     → is_about past m fileset ≡ true → About past s fileset b
 unfolding said is_about
 about past s m fileset b c is e =
-    let p = and_parts (same_server m.server (place past fileset).server) ((m.epoch == epoch_at past
-    (place past fileset).server) && (m.moves == (place past fileset).moves)) e in
-    let q = and_parts (m.epoch == epoch_at past (place past fileset).server) (m.moves ==
-    (place past fileset).moves) p.1 in (
+    let p = and_parts (same_server m.server (stay_of past fileset).server) ((m.epoch == epoch_at past
+    (stay_of past fileset).server) && (m.moves == (stay_of past fileset).moves)) e in
+    let q = and_parts (m.epoch == epoch_at past (stay_of past fileset).server) (m.moves ==
+    (stay_of past fileset).moves) p.1 in (
       m,
       c,
-      server_is m.server (place past fileset).server p.0,
+      server_is m.server (stay_of past fileset).server p.0,
       eqb-true m.epoch (epoch_at past
-          (place past fileset).server) q.0,
-      eqb-true m.moves (place past fileset).moves q.1,
+          (stay_of past fileset).server) q.0,
+      eqb-true m.moves (stay_of past fileset).moves q.1,
       is,
     )
 
 -- what comes about a fileset is about it
 is_about_it : (past : List Step) (m : Message) (fileset : FilesetId) (b : Body)
-    → is_about past (told m (place past fileset).server (epoch_at past (place past fileset).server)
-    (place past fileset).moves b) fileset ≡ true
+    → is_about past (told m (stay_of past fileset).server (epoch_at past (stay_of past fileset).server)
+    (stay_of past fileset).moves b) fileset ≡ true
 unfolding said is_about
 is_about_it past m fileset b =
-    and_from (same_server (place past fileset).server (place past fileset).server) ((epoch_at past
-    (place past fileset).server == epoch_at past (place past fileset).server) && ((place past fileset).moves ==
-    (place past fileset).moves))
-    (servers (place past fileset).server (place past fileset).server refl)
-    (and_from (epoch_at past (place past fileset).server == epoch_at past (place past fileset).server)
-    ((place past fileset).moves == (place past fileset).moves) (same_is (epoch_at past
-    (place past fileset).server)) (same_is (place past fileset).moves))
+    and_from (same_server (stay_of past fileset).server (stay_of past fileset).server) ((epoch_at past
+    (stay_of past fileset).server == epoch_at past (stay_of past fileset).server) && ((stay_of past fileset).moves ==
+    (stay_of past fileset).moves))
+    (servers (stay_of past fileset).server (stay_of past fileset).server refl)
+    (and_from (epoch_at past (stay_of past fileset).server == epoch_at past (stay_of past fileset).server)
+    ((stay_of past fileset).moves == (stay_of past fileset).moves) (same_is (epoch_at past
+    (stay_of past fileset).server)) (same_is (stay_of past fileset).moves))
 
 abbrev about_is : (past : List Step) (s : Step) (fileset : FilesetId) (b : Body) → About past s fileset b → Message
-about_is past s fileset b c = told c.0 (place past fileset).server (epoch_at past (place past fileset).server)
-    (place past fileset).moves b
+about_is past s fileset b c = told c.0 (stay_of past fileset).server (epoch_at past (stay_of past fileset).server)
+    (stay_of past fileset).moves b
 
 about_cause : (past : List Step) (s : Step) (fileset : FilesetId) (b : Body) → (c : About past s fileset b)
     → s.cause ≡ Came (about_is past s fileset b c)
 unfolding said is_about
 about_cause past s fileset b c =
-    cause_is s (place past fileset).server (epoch_at past (place past fileset).server) (place past fileset).moves b c
+    cause_is s (stay_of past fileset).server (epoch_at past (stay_of past fileset).server) (stay_of past fileset).moves b c
 
 -- give-backs
 unfoldable pub made : List Step → List Give
@@ -238,13 +235,13 @@ unfoldable pub known : List Step → List AppliedGive
 known [] = []
 known (s ∷ past) = learnt past s.cause ++ known past
 
-known_in : (past : List Step) (number : AppliedGive) → Known past number → In number (known past)
+known_in : (past : List Step) (number : AppliedGive) → IsKnownNumber past number → In number (known past)
 unfolding said is_about is_present learnt_by learnt known
 known_in [] number k = elim k [ ]
 known_in (s ∷ past) number (inl l) = in_front number (learnt past s.cause) (known past) (learns_in past s number l)
 known_in (s ∷ past) number (inr k) = in_back number (learnt past s.cause) (known past) (known_in past number k)
 
-in_known : (past : List Step) (number : AppliedGive) → In number (known past) → Known past number
+in_known : (past : List Step) (number : AppliedGive) → In number (known past) → IsKnownNumber past number
 unfolding said is_about is_present learnt_by learnt known
 in_known [] number i = elim i [ ]
 in_known (s ∷ past) number i =
@@ -257,13 +254,13 @@ in_known (s ∷ past) number i =
 unfoldable pub is_known : List Step → AppliedGive → Bool
 is_known past number = list_any (same_number number) (known past)
 
-pub known_yes : (past : List Step) (number : AppliedGive) → is_known past number ≡ true → Known past number
+pub known_yes : (past : List Step) (number : AppliedGive) → is_known past number ≡ true → IsKnownNumber past number
 unfolding said is_about is_present learnt_by learnt known is_known
 known_yes past number e =
     let p = some_in (same_number number) (known past) e in
     in_known past number (subst (λ x. In x (known past)) (sym (number_is number p.0 p.2)) p.1)
 
-pub known_is : (past : List Step) (number : AppliedGive) → Known past number → is_known past number ≡ true
+pub known_is : (past : List Step) (number : AppliedGive) → IsKnownNumber past number → is_known past number ≡ true
 unfolding said is_about is_present learnt_by learnt known is_known
 known_is past number k =
     any_of (same_number number) (known past) number (known_in past number k) (numbers number number refl)
@@ -345,18 +342,18 @@ returned_by _ = []
 unfoldable pub returned : Step → List TokenId
 returned s = flat_map (λ m. returned_by m.body) s.sent
 
-pub returned_in : (s : Step) (id : TokenId) → Returns s id → In id (returned s)
+pub returned_in : (s : Step) (id : TokenId) → ReturnsToken s id → In id (returned s)
 unfolding said is_about is_present learnt_by learnt known is_known drops_it held holds_id ever returned_by returned
 returned_in s id r =
     in_flat (λ m. returned_by m.body) s.sent r.4.0 id r.4.1 (subst (λ b. In id (returned_by b)) (sym r.4.5) r.5)
 
 returned_of : (s : Step) (id : TokenId) (m : Message) (b : Body) → m.body ≡ b → In m s.sent → In id (returned_by b)
-    → Returns s id
+    → ReturnsToken s id
 unfolding said is_about is_present learnt_by learnt known is_known drops_it held holds_id ever returned_by returned
 returned_of s id m (Returned named) is i j = (m.server, m.epoch, m.moves, named, (m, i, refl, refl, refl, is), j)
 returned_of s id m b is i j = elim j [ ]
 
-pub in_returned : (s : Step) (id : TokenId) → In id (returned s) → Returns s id
+pub in_returned : (s : Step) (id : TokenId) → In id (returned s) → ReturnsToken s id
 unfolding said is_about is_present learnt_by learnt known is_known drops_it held holds_id ever returned_by returned
 in_returned s id i =
     let p = from_flat (λ m. returned_by m.body) s.sent id i in returned_of s id p.0 p.0.body refl p.1 p.2
@@ -386,7 +383,7 @@ gives_yes s id e =
 unfoldable pub leaves_it : Step → TokenId → Bool
 leaves_it s id = list_any (same_id id) (given s ++ returned s)
 
-pub leaves_yes : (s : Step) (id : TokenId) → leaves_it s id ≡ true → Leaves s id
+pub leaves_yes : (s : Step) (id : TokenId) → leaves_it s id ≡ true → LeavesHost s id
 unfolding said is_about is_present learnt_by learnt known is_known drops_it held holds_id ever returned_by returned
     given gives_it leaves_it
 leaves_yes s id e =
@@ -394,7 +391,7 @@ leaves_yes s id e =
     let q = subst (λ x. In x (given s ++ returned s)) (sym (id_is id p.0 p.2)) p.1 in
     elim (in_split id (given s) (returned s) q) [ inl x ↦ inl (in_given s id x) | inr y ↦ inr (in_returned s id y) ]
 
-pub leaves_is : (s : Step) (id : TokenId) → Leaves s id → leaves_it s id ≡ true
+pub leaves_is : (s : Step) (id : TokenId) → LeavesHost s id → leaves_it s id ≡ true
 unfolding said is_about is_present learnt_by learnt known is_known drops_it held holds_id ever returned_by returned
     given gives_it leaves_it
 leaves_is s id (inl m) =
@@ -425,7 +422,7 @@ unfolding said is_about is_present learnt_by learnt known is_known drops_it held
 in_owned [] t i = elim i [ ]
 in_owned (s ∷ past) t i =
     let p = from_filter (λ u. not (leaves_it s u.id)) (s.taken ++ owned past) t i in
-    let kept : Leaves s t.id → ⊥ = λ d. is_not (leaves_it s t.id) p.1 (leaves_is s t.id d) in
+    let kept : LeavesHost s t.id → ⊥ = λ d. is_not (leaves_it s t.id) p.1 (leaves_is s t.id d) in
     elim (in_split t s.taken (owned past) p.0) [ inl q ↦ (inl q, kept) | inr q ↦ (inr (in_owned past t q), kept) ]
 
 -- files without a give-back on its way
@@ -446,7 +443,7 @@ is_waited past g k =
 unfoldable pub waits : List Step → Give → Bool
 waits past g = list_any (is_waited past g) (made past)
 
-pub waits_yes : (past : List Step) (g : Give) → waits past g ≡ true → Waits past g
+pub waits_yes : (past : List Step) (g : Give) → waits past g ≡ true → WaitsBehind past g
 unfolding said is_about is_present learnt_by learnt known is_known drops_it held holds_id ever returned_by returned
     given gives_it leaves_it owned made none_open is_waited waits
 waits_yes past g e =
@@ -463,7 +460,7 @@ waits_yes past g e =
           (is_known past (number_of k)) r.1 (known_is past (number_of k) x),
     )
 
-pub waits_is : (past : List Step) (g : Give) → Waits past g → waits past g ≡ true
+pub waits_is : (past : List Step) (g : Give) → WaitsBehind past g → waits past g ≡ true
 unfolding said is_about is_present learnt_by learnt known is_known drops_it held holds_id ever returned_by returned
     given gives_it leaves_it owned made none_open is_waited waits
 waits_is past g w =
@@ -632,7 +629,7 @@ changing v (s ∷ past) =
 
 pub settles_by : (past : List Step) (s : Step) (v : ServerId) (m : Message) (d : DoneOf) → s.cause ≡ Came m
     → m.body ≡ Done d
-    → settles_it past v m d.fileset ≡ true → Settles past s v d
+    → settles_it past v m d.fileset ≡ true → DoneComes past s v d
 unfolding said is_about is_present learnt_by learnt known is_known drops_it held holds_id ever returned_by returned
     given gives_it leaves_it owned made none_open is_waited waits is_first fetched_by granted_by answered asking is_at
     changed_by settles_it settled_by settled changing
@@ -661,7 +658,7 @@ settles_by past s v m d c is e =
 settled_of : (past : List Step) (s : Step) (v : ServerId) (fs : FilesetId) (n : ℕ) (m : Message) (b : Body)
     → s.cause ≡ Came m
     → m.body ≡ b → In (numbered fs n) (settled_by past v m b)
-    → (d : DoneOf) × Settles past s v d × (d.fileset ≡ fs) × (d.bring.number ≡ n)
+    → (d : DoneOf) × DoneComes past s v d × (d.fileset ≡ fs) × (d.bring.number ≡ n)
 unfolding said is_about is_present learnt_by learnt known is_known drops_it held holds_id ever returned_by returned
     given gives_it leaves_it owned made none_open is_waited waits is_first fetched_by granted_by answered asking is_at
     changed_by settles_it settled_by settled changing
@@ -680,7 +677,7 @@ settled_of past s v fs n m (Done d) c is i =
 settled_of past s v fs n m b c is i = elim i [ ]
 
 settled_from : (past : List Step) (s : Step) (v : ServerId) (fs : FilesetId) (n : ℕ) (cause : Cause) → s.cause ≡ cause
-    → In (numbered fs n) (settled past v cause) → (d : DoneOf) × Settles past s v d × (d.fileset ≡ fs) ×
+    → In (numbered fs n) (settled past v cause) → (d : DoneOf) × DoneComes past s v d × (d.fileset ≡ fs) ×
     (d.bring.number ≡ n)
 unfolding said is_about is_present learnt_by learnt known is_known drops_it held holds_id ever returned_by returned
     given gives_it leaves_it owned made none_open is_waited waits is_first fetched_by granted_by answered asking is_at
@@ -688,7 +685,7 @@ unfolding said is_about is_present learnt_by learnt known is_known drops_it held
 settled_from past s v fs n (Came m) c i = settled_of past s v fs n m m.body c refl i
 settled_from past s v fs n cause c i = elim i [ ]
 
-pub settles_is : (past : List Step) (s : Step) (v : ServerId) (d : DoneOf) → Settles past s v d
+pub settles_is : (past : List Step) (s : Step) (v : ServerId) (d : DoneOf) → DoneComes past s v d
     → (m : Message) × (s.cause ≡ Came m) × (m.body ≡ Done d) × (settles_it past v m d.fileset ≡ true)
 unfolding is_about settles_it
 settles_is past s v d (inl (z, c)) = (
@@ -706,13 +703,13 @@ settles_is past s v d (inr c) = (
   about_is past s d.fileset (Done d) c,
   about_cause past s d.fileset (Done d) c,
   refl,
-  or_right ((d.fileset.0 == 0) && (same_server (place past d.fileset).server v && ((epoch_at past
-      (place past d.fileset).server == epoch_at past v) && ((place past d.fileset).moves == 0))))
+  or_right ((d.fileset.0 == 0) && (same_server (stay_of past d.fileset).server v && ((epoch_at past
+      (stay_of past d.fileset).server == epoch_at past v) && ((stay_of past d.fileset).moves == 0))))
       (is_about past (about_is past s d.fileset
       (Done d) c) d.fileset) (is_about_it past c.0 d.fileset (Done d)),
 )
 
-settled_in : (past : List Step) (s : Step) (v : ServerId) (d : DoneOf) → Settles past s v d
+settled_in : (past : List Step) (s : Step) (v : ServerId) (d : DoneOf) → DoneComes past s v d
     → In (numbered d.fileset d.bring.number) (settled past v s.cause)
 unfolding said is_about is_present learnt_by learnt known is_known drops_it held holds_id ever returned_by returned
     given gives_it leaves_it owned made none_open is_waited waits is_first fetched_by granted_by answered asking is_at
@@ -835,7 +832,7 @@ moved (s ∷ past) v w fs n one (from, unless) = (
     | inr a ↦ inr (moved past v w fs n one a)
   ],
   λ d x f k. unless d (elim x [
-    | inl y ↦ subst (λ u. Settles past s u d) (sym (one (sym (ap (λ
+    | inl y ↦ subst (λ u. DoneComes past s u d) (sym (one (sym (ap (λ
         (x : FilesetId). x.0) f) ∙ y.0))) (inl y)
     | inr y ↦ inr y
   ]) f k,
@@ -988,20 +985,20 @@ kept_by _ = []
 unfoldable pub kept_now : Step → List TokenId
 kept_now s = flat_map (λ m. kept_by m.body) s.sent
 
-pub kept_in : (s : Step) (id : TokenId) → Keeps s id → In id (kept_now s)
+pub kept_in : (s : Step) (id : TokenId) → KeepsToken s id → In id (kept_now s)
 unfolding said is_about is_present learnt_by learnt known is_known drops_it held holds_id ever returned_by returned
     given gives_it leaves_it owned made none_open is_waited waits is_first fetched_by granted_by answered asking is_at
     changed_by settles_it settled_by settled changing welcomed_by welcomed welcomes is_welcome kept_by kept_now
 kept_in s id r = in_flat (λ m. kept_by m.body) s.sent r.4.0 id r.4.1 (subst (λ b. In id (kept_by b)) (sym r.4.5) r.5)
 
-kept_of : (s : Step) (id : TokenId) (m : Message) (b : Body) → m.body ≡ b → In m s.sent → In id (kept_by b) → Keeps s id
+kept_of : (s : Step) (id : TokenId) (m : Message) (b : Body) → m.body ≡ b → In m s.sent → In id (kept_by b) → KeepsToken s id
 unfolding said is_about is_present learnt_by learnt known is_known drops_it held holds_id ever returned_by returned
     given gives_it leaves_it owned made none_open is_waited waits is_first fetched_by granted_by answered asking is_at
     changed_by settles_it settled_by settled changing welcomed_by welcomed welcomes is_welcome kept_by kept_now
 kept_of s id m (Kept named) is i j = (m.server, m.epoch, m.moves, named, (m, i, refl, refl, refl, is), j)
 kept_of s id m b is i j = elim j [ ]
 
-pub in_kept : (s : Step) (id : TokenId) → In id (kept_now s) → Keeps s id
+pub in_kept : (s : Step) (id : TokenId) → In id (kept_now s) → KeepsToken s id
 unfolding said is_about is_present learnt_by learnt known is_known drops_it held holds_id ever returned_by returned
     given gives_it leaves_it owned made none_open is_waited waits is_first fetched_by granted_by answered asking is_at
     changed_by settles_it settled_by settled changing welcomed_by welcomed welcomes is_welcome kept_by kept_now
@@ -1014,7 +1011,7 @@ unfoldable pub has_kept : List Step → TokenId → Bool
 has_kept [] id = false
 has_kept (s ∷ past) id = list_any (same_id id) (kept_now s) || (has_kept past id && not (takes_id s id))
 
-pub has_kept_yes : (past : List Step) (id : TokenId) → has_kept past id ≡ true → HasKept past id
+pub has_kept_yes : (past : List Step) (id : TokenId) → has_kept past id ≡ true → HasKeptToken past id
 unfolding said is_about is_present learnt_by learnt known is_known drops_it held holds_id ever returned_by returned
     given gives_it leaves_it owned made none_open is_waited waits is_first fetched_by granted_by answered asking is_at
     changed_by settles_it settled_by settled changing welcomed_by welcomed welcomes is_welcome kept_by kept_now
@@ -1033,7 +1030,7 @@ has_kept_yes (s ∷ past) id e =
           )
     ]
 
-pub has_kept_is : (past : List Step) (id : TokenId) → HasKept past id → has_kept past id ≡ true
+pub has_kept_is : (past : List Step) (id : TokenId) → HasKeptToken past id → has_kept past id ≡ true
 unfolding said is_about is_present learnt_by learnt known is_known drops_it held holds_id ever returned_by returned
     given gives_it leaves_it owned made none_open is_waited waits is_first fetched_by granted_by answered asking is_at
     changed_by settles_it settled_by settled changing welcomed_by welcomed welcomes is_welcome kept_by kept_now
@@ -1056,7 +1053,7 @@ floor_by fid stamp (Done d) = implies (same_fid d.bring.fid fid) (nat_lt d.bring
 floor_by fid stamp _ = true
 
 unfoldable pub renews : List Step → Step → FilesetId → Bool
-renews past s fs = nat_lt (epoch_at past (place past fs).server) (epoch_at (s ∷ past) (place past fs).server)
+renews past s fs = nat_lt (epoch_at past (stay_of past fs).server) (epoch_at (s ∷ past) (stay_of past fs).server)
 
 unfoldable pub is_above : List Step → Fid → ℕ → Bool
 is_above [] fid stamp = nat_lt 0 stamp
@@ -1076,8 +1073,8 @@ above_yes (s ∷ past) fid stamp e =
       | inl p ↦ (
           let q = and_parts (renews past s fid.fileset) (nat_lt 0 stamp) p in
           inl (
-            inl (ltb-true (epoch_at past (place past fid.fileset).server) (epoch_at (s ∷ past)
-                (place past fid.fileset).server) q.0),
+            inl (ltb-true (epoch_at past (stay_of past fid.fileset).server) (epoch_at (s ∷ past)
+                (stay_of past fid.fileset).server) q.0),
             ltb-true 0 stamp q.1,
           )
           )
@@ -1089,22 +1086,22 @@ above_yes (s ∷ past) fid stamp e =
         → (r : RevokeOf) → About past s fid.fileset (Revoke r) → r.fid ≡ fid → r.stamp < stamp
     revokes t r c f =
         ltb-true r.stamp stamp (so (same_fid r.fid fid) (nat_lt r.stamp stamp) (at_comes
-        (λ m. floor_by fid stamp m.body) s (place past fid.fileset).server (epoch_at past
-        (place past fid.fileset).server) (place past fid.fileset).moves (Revoke r) t c) (fids r.fid fid f))
+        (λ m. floor_by fid stamp m.body) s (stay_of past fid.fileset).server (epoch_at past
+        (stay_of past fid.fileset).server) (stay_of past fid.fileset).moves (Revoke r) t c) (fids r.fid fid f))
 
     brings : by_message true (λ m. floor_by fid stamp m.body) s.cause ≡ true
-        → (w : Bring) → Answers past s w → AboveFloor past w.fid w.stamp → (GiveOpen past w.fid → ⊥) → w.fid ≡ fid
+        → (w : Bring) → AnswersRequest past s w → AboveFloor past w.fid w.stamp → (GiveOpen past w.fid → ⊥) → w.fid ≡ fid
         → w.stamp < stamp
     brings t w (inl (g, c, is, a)) up free f =
         let p = so (same_fid g.bring.fid fid) (nat_lt g.bring.stamp stamp) (at_comes
-        (λ m. floor_by fid stamp m.body) s (place past w.fid.fileset).server (epoch_at past
-        (place past w.fid.fileset).server) (place past w.fid.fileset).moves (Grant g) t c) (fids g.bring.fid fid
+        (λ m. floor_by fid stamp m.body) s (stay_of past w.fid.fileset).server (epoch_at past
+        (stay_of past w.fid.fileset).server) (stay_of past w.fid.fileset).moves (Grant g) t c) (fids g.bring.fid fid
         (ap (λ (x : Bring). x.fid) is ∙ f)) in
         subst (λ (x : Bring). x.stamp < stamp) is (ltb-true g.bring.stamp stamp p)
     brings t w (inr (d, c, is, a)) up free f =
         let p = so (same_fid d.bring.fid fid) (nat_lt d.bring.stamp stamp) (at_comes
-        (λ m. floor_by fid stamp m.body) s (place past w.fid.fileset).server (epoch_at past
-        (place past w.fid.fileset).server) (place past w.fid.fileset).moves (Done d) t c) (fids d.bring.fid fid
+        (λ m. floor_by fid stamp m.body) s (stay_of past w.fid.fileset).server (epoch_at past
+        (stay_of past w.fid.fileset).server) (stay_of past w.fid.fileset).moves (Done d) t c) (fids d.bring.fid fid
         (ap (λ (x : Bring). x.fid) is ∙ f)) in
         subst (λ (x : Bring). x.stamp < stamp) is (ltb-true d.bring.stamp stamp p)
 
@@ -1176,7 +1173,7 @@ uses_by past m (Grant g) =
 uses_by past m (Done d) =
     is_about past m d.bring.fid.fileset
     && (list_any (same_number (numbered d.fileset d.bring.number)) (changing
-    (place past d.bring.fid.fileset).server past)
+    (stay_of past d.bring.fid.fileset).server past)
     && (is_above past d.bring.fid d.bring.stamp && none_open past d.bring.fid))
 uses_by past m _ = false
 
@@ -1228,7 +1225,7 @@ uses_of past s m (Grant g) c is e w (inr q) = elim q [ ]
 uses_of past s m (Done d) c is e w (inl q) =
     let i = is_about past m d.bring.fid.fileset in
     let a = list_any (same_number (numbered d.fileset d.bring.number)) (changing
-    (place past d.bring.fid.fileset).server past) in
+    (stay_of past d.bring.fid.fileset).server past) in
     let p = and_parts i (a && (is_above past d.bring.fid d.bring.stamp && none_open past d.bring.fid)) e in
     let r = and_parts a (is_above past d.bring.fid d.bring.stamp && none_open past d.bring.fid) p.1 in
     let u = and_parts (is_above past d.bring.fid d.bring.stamp) (none_open past d.bring.fid) r.1 in
@@ -1238,7 +1235,7 @@ uses_of past s m (Done d) c is e w (inl q) =
         about past s m d.bring.fid.fileset (Done d) c is p.0,
         refl,
         changed_yes past
-            (place past d.bring.fid.fileset).server (numbered d.fileset d.bring.number) r.0,
+            (stay_of past d.bring.fid.fileset).server (numbered d.fileset d.bring.number) r.0,
       ),
       above_yes past d.bring.fid d.bring.stamp u.0,
       none_open_yes past d.bring.fid u.1,
@@ -1288,7 +1285,7 @@ take_yes past s t e = take_of past s t s.cause refl e
 unfoldable pub brought : Cause → List Bring
 brought cause = by_message [] (λ m. brought_by m.body) cause
 
-pub used_in : (past : List Step) (s : Step) (w : Bring) → Answers past s w → In w (brought s.cause)
+pub used_in : (past : List Step) (s : Step) (w : Bring) → AnswersRequest past s w → In w (brought s.cause)
 unfolding said is_about is_present learnt_by learnt known is_known drops_it held holds_id ever returned_by returned
     given gives_it leaves_it owned made none_open is_waited waits is_first fetched_by granted_by answered asking is_at
     changed_by settles_it settled_by settled changing welcomed_by welcomed welcomes is_welcome kept_by kept_now

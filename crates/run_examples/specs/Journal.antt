@@ -19,7 +19,16 @@ use Rattle.need_server.specs.Wants.{want}
 use Rattle.message_types.specs.declared.asking.Change.{Change as ChangeOf}
 use Rattle.message_types.specs.declared.giving.Give.{Give}
 use Rattle.message_types.specs.declared.message.Body.{Body}
-use Rattle.message_types.specs.declared.message.Body.TheVariants.{Bye, Change, Done, Fetch, GiveBack, Gone, Grant, Hello}
+use Rattle.message_types.specs.declared.message.Body.TheVariants.{
+  Bye,
+  Change,
+  Done,
+  Fetch,
+  GiveBack,
+  Gone,
+  Grant,
+  Hello,
+}
 use Rattle.message_types.specs.declared.message.Body.TheVariants.{Kept, Reclaimed, Returned, Revoke}
 use Rattle.message_types.specs.declared.message.Message.{Message}
 use Rattle.message_types.specs.declared.telling.Done.{Done as DoneOf}
@@ -42,15 +51,15 @@ use Rattle.token_types.specs.declared.token.Need.{Need}
 use Rattle.token_types.specs.declared.token.Token.{Token}
 use Rattle.run_tokens.specs.JournalWorked.{roster}
 use Rattle.run_rules.specs.declared.journal.Journal.{Journal}
-use Rattle.run_rules.specs.Gives.{number_of}
+use Rattle.run_rules.specs.Tokens.{number_of}
+use Rattle.run_rules.specs.declared.applied.Applied.TheVariants.{Done as Decided, Replied, Stored, Wants}
+use Rattle.run_rules.specs.declared.applied.Request.TheVariants.{Change as AsksChange, Fetch as AsksFetch}
+use Rattle.run_rules.specs.declared.applied.Why.TheVariants.{Ended, ForCall as AskedBack, Revoked}
 use Rattle.run_tokens.specs.Worked.{client, entered, from_server, no_fid, root, serves, site_one, to_host, to_server}
 use Rattle.run_tokens.specs.Worked.{welcome}
 use Rattle.run_rules.specs.declared.applied.Answer.{Answer}
 use Rattle.run_rules.specs.declared.applied.Applied.{Applied as AppliedOf}
-use Rattle.run_rules.specs.declared.applied.Applied.TheVariants.{Done as Decided, Ends, Stored, Wants}
 use Rattle.run_rules.specs.declared.applied.Request.{Request}
-use Rattle.run_rules.specs.declared.applied.Request.TheVariants.{Change as AsksChange, Fetch as AsksFetch}
-use Rattle.run_rules.specs.declared.applied.Why.TheVariants.{Asked as AskedBack, Ended, Revoked}
 use Rattle.run_rules.specs.declared.step.Cause.TheVariants.{Message as Came, End, Line}
 use Rattle.run_rules.specs.declared.step.Step.{Step}
 
@@ -370,7 +379,7 @@ step_36 =
 abbrev pub step_37 : Step
 step_37 =
     serves (Came (asks (GiveBack unlock_gift)))
-    (Ends (record { host = client; k = 4; call = unlocks; reply = Fine; first = false }) ∷ []) []
+    (Replied (record { host = client; k = 4; call = unlocks; reply = Fine; first = false }) ∷ []) []
     (tells (Gone (number_of unlock_gift)) ∷ [])
 
 abbrev pub step_38 : Step

@@ -4,18 +4,19 @@ use Rattle.std.specs.Prelude.{List, [], false, length, suc, true, ◌∷◌}
 use Rattle.base_types.specs.declared.ids.HostId.{HostId}
 use Rattle.tree_calls.specs.declared.roster.Roster.{Roster}
 use Rattle.token_types.specs.declared.token.Token.{Token}
-use Rattle.run_rules.specs.Epochs.{IsWelcome}
-use Rattle.run_rules.specs.HostLeaves.{LastUsed}
-use Rattle.run_rules.specs.Lists.{In}
+use Rattle.run_rules.specs.Doings.{doings_of}
+use Rattle.run_rules.specs.HostDue.{HostDue}
+use Rattle.run_rules.specs.HostMay.{HostMay}
+use Rattle.run_rules.specs.HostTokens.{LastUsed}
+use Rattle.run_rules.specs.Messages.{IsWelcome}
+use Rattle.run_rules.specs.Past.{In}
+use Rattle.run_rules.specs.ServerDue.{ServerDue, ServerMeets}
+use Rattle.run_rules.specs.ServerMay.{ServerMay}
 use Rattle.base_types.specs.declared.ids.Node.TheVariants.{Server}
 use Rattle.script_lines.specs.declared.script.Deed.TheVariants.{Call as MakesCall, Restart, Stop}
 use Rattle.script_lines.specs.declared.script.Script.{Script}
 use Rattle.message_types.specs.declared.message.Body.TheVariants.{Done, GiveBack, Reclaimed, Revoke, Bye, Restarted}
 use Rattle.message_types.specs.declared.message.Message.{Message}
-use Rattle.run_rules.specs.HostDue.{HostDue}
-use Rattle.run_rules.specs.HostRules.{HostMay}
-use Rattle.run_rules.specs.ServerRules.{ServerDue, ServerMay, ServerMeets}
-use Rattle.run_rules.specs.Acts.{acts}
 use Rattle.run_tokens.specs.Worked.{client, entered, from_server, site_one, to_host, to_server, welcome}
 use Rattle.run_rules.specs.declared.step.Step.{Step}
 use Rattle.run_examples.specs.Steps.{asks_lock, asks_update, begin, claims_all, claims_gift, ends, frees, gift, gives}
@@ -156,8 +157,8 @@ GrantOverDirtyIsTaken =
 -- so does a step of the server, from a tree that has the file on, after its own steps
 abbrev pub Serves : Script → List Step → Step → List Message → Type 0
 Serves script past s again =
-    ServerMeets script file_tree site_one past (acts 1 site_one past) s
-    × ServerMeets script file_tree site_one (s ∷ past) (acts 1 site_one (s ∷ past)) (server_lapses again)
+    ServerMeets script file_tree site_one past (doings_of 1 site_one past) s
+    × ServerMeets script file_tree site_one (s ∷ past) (doings_of 1 site_one (s ∷ past)) (server_lapses again)
 
 -- A give-back is stored and answered by Gone; a Returned is heard; a host goes down, once, or says Bye, which is
 -- answered; a restart tells each host, and a lapse those again that haven't reclaimed; a claim is admitted and
@@ -184,11 +185,11 @@ OwedIsAskedAgain = Serves writing (calls_back ∷ shared) other_stops (to_host (
 -- What a server says out of turn is refused: a Reclaimed for which nobody asked, a Done that is sent again at a lapse,
 -- and a Bye that is sent twice. A host that greeted nobody isn't welcome by a Reclaimed.
 pub record OutOfTurnIsRefused : Type 0 where
-  pub unasked : ServerMay writing file_tree site_one served (acts 1 site_one served)
+  pub unasked : ServerMay writing file_tree site_one served (doings_of 1 site_one served)
       (server_lapses (to_host (Reclaimed welcome) ∷ [])) → ⊥
-  pub again : ServerDue writing file_tree site_one served (acts 1 site_one served)
+  pub again : ServerDue writing file_tree site_one served (doings_of 1 site_one served)
       (server_lapses (to_host (Done entered) ∷ [])) → ⊥
-  pub twice : ServerDue writing file_tree site_one served (acts 1 site_one served)
+  pub twice : ServerDue writing file_tree site_one served (doings_of 1 site_one served)
       (record answers_bye { sent = to_host Bye ∷ to_host Bye ∷ [] }) → ⊥
   pub ungreeted : IsWelcome (hears (to_host (Reclaimed welcome)) [] [] ∷ []) site_one → ⊥
 
@@ -198,7 +199,7 @@ NamelessIsIgnored = Serves writing served hears_nameless []
 
 -- A Change that comes while another of its host and fileset waits makes no want; the one that waits is decided.
 abbrev pub Reacts : List Step → Step → Type 0
-Reacts past s = ServerMeets script start site_one past (acts 1 site_one past) s
+Reacts past s = ServerMeets script start site_one past (doings_of 1 site_one past) s
 
 abbrev pub SecondChangeIsIgnored : Type 0
 SecondChangeIsIgnored = Reacts waiting second_change × Reacts (second_change ∷ waiting) step_34

@@ -4,10 +4,10 @@ use Rattle.message_types.specs.declared.giving.Give.{Give}
 use Rattle.message_types.specs.declared.message.Body.TheVariants.{Hello, Change, Done, GiveBack, Reclaimed}
 use Rattle.script_lines.specs.declared.script.Deed.TheVariants.{Call as MakesCall}
 use Rattle.script_lines.specs.declared.script.Script.{Script}
-use Rattle.run_rules.specs.Acts.{acts as acts_of}
+use Rattle.run_rules.specs.Doings.{doings_of as acts_of}
 use Rattle.run_rules.specs.HostDue.{HostDue}
-use Rattle.run_rules.specs.HostRules.{HostMay}
-use Rattle.run_rules.specs.ServerRules.{ServerMay}
+use Rattle.run_rules.specs.HostMay.{HostMay}
+use Rattle.run_rules.specs.ServerMay.{ServerMay}
 use Rattle.run_rules.specs.declared.step.Cause.TheVariants.{Line as LineOf, Message as Came, Lapse}
 use Rattle.run_rules.specs.declared.step.Step.{Step}
 use Rattle.run_tokens.specs.Worked.{client, site_one, serves, to_host, to_server, welcome, stat, enter, entered}

@@ -24,8 +24,25 @@ use Rattle.message_types.specs.declared.asking.Change.{Change as ChangeOf}
 use Rattle.message_types.specs.declared.giving.Give.{Give}
 use Rattle.message_types.specs.declared.giving.Reclaim.{Reclaim as ReclaimOf}
 use Rattle.message_types.specs.declared.message.Body.{Body}
-use Rattle.message_types.specs.declared.message.Body.TheVariants.{Hello, Fetch, Grant, Change, Done, Revoke, Returned, Kept}
-use Rattle.message_types.specs.declared.message.Body.TheVariants.{GiveBack, Gone, Reclaim, Reclaimed, Restarted, Down, Bye}
+use Rattle.message_types.specs.declared.message.Body.TheVariants.{
+  Hello,
+  Fetch,
+  Grant,
+  Change,
+  Done,
+  Revoke,
+  Returned,
+  Kept,
+}
+use Rattle.message_types.specs.declared.message.Body.TheVariants.{
+  GiveBack,
+  Gone,
+  Reclaim,
+  Reclaimed,
+  Restarted,
+  Down,
+  Bye,
+}
 use Rattle.message_types.specs.declared.message.Message.{Message}
 use Rattle.message_types.specs.declared.telling.DoneIs.TheVariants.{Granted as IsGranted}
 use Rattle.run_tokens.specs.JournalWorked.{home_fileset, root_object, roster, start}
@@ -33,16 +50,16 @@ use Rattle.tree_objects.specs.declared.content.Content.TheVariants.{Dir, File}
 use Rattle.tree_answers.specs.declared.tree.Tree.{Tree}
 use Rattle.message_types.specs.declared.asking.Fetch.{Fetch as FetchOf}
 use Rattle.run_rules.specs.declared.applied.Applied.{Applied as AppliedOf}
-use Rattle.run_rules.specs.declared.applied.Applied.TheVariants.{Stored, IsDown as GoesDown, Wants}
-use Rattle.run_rules.specs.declared.applied.Request.TheVariants.{Fetch as AsksFetch, Change as AsksChange}
-use Rattle.run_rules.specs.Nodes.{bare}
-use Rattle.run_rules.specs.Gives.{number_of}
+use Rattle.run_rules.specs.Steps.{bare}
+use Rattle.run_rules.specs.Tokens.{number_of}
+use Rattle.run_rules.specs.declared.applied.Applied.TheVariants.{IsDown as GoesDown, Stored, Wants}
+use Rattle.run_rules.specs.declared.applied.Request.TheVariants.{Change as AsksChange, Fetch as AsksFetch}
+use Rattle.run_rules.specs.declared.applied.Why.TheVariants.{Ended, Evicted, ForCall as AskedBack, Revoked, Stopped}
 use Rattle.run_tokens.specs.Worked.{access, client, entered, from_server, no_fid, root, serves, site_one, to_host}
 use Rattle.run_tokens.specs.Worked.{to_server, welcome}
 use Rattle.run_rules.specs.declared.applied.Answer.{Answer}
 use Rattle.run_rules.specs.declared.applied.Leave.{Leave}
 use Rattle.run_rules.specs.declared.applied.Why.{Why}
-use Rattle.run_rules.specs.declared.applied.Why.TheVariants.{Revoked, Evicted, Asked as AskedBack, Ended, Stopped}
 use Rattle.run_rules.specs.declared.step.Asked.{Asked}
 use Rattle.run_rules.specs.declared.step.Cause.{Cause}
 use Rattle.run_rules.specs.declared.step.Cause.TheVariants.{Line, Message as Came, Lapse, Evict, End, Restart}
@@ -408,7 +425,8 @@ abbrev pub evicts : Step
 evicts = acts Evict None [] [] None [] (evicted ∷ []) (leaves Evicted file_bytes ∷ [])
     (to_server 1 (GiveBack evicted) ∷ [])
 
--- A Write over the end of a block, of which the first is dirty: the second alone is asked for. Before it comes the first
+-- A Write over the end of a block, of which the first is dirty: the second alone is asked for. Before it comes the
+-- first
 -- is asked back, and goes. Then both are asked for, though the second is held.
 abbrev pub writes_wide : Call
 writes_wide = Write at_file 1000 (codes "abcdefghijklmnopqrstuvwxabcdefghijklmnopqrstuvwx")
@@ -448,7 +466,11 @@ abbrev pub gives_status : Step
 gives_status =
     acts (Came (to_host (Revoke (record { fid = file; stamp = 3; ids = file_status.id ∷ file_update.id ∷ [] })))) None
     [] [] None [] (status_gift ∷ []) (leaves Revoked file_status ∷ leaves Revoked file_update ∷ [])
-    (to_server 1 (GiveBack status_gift) ∷ to_server 1 (Returned (record { fid = file; ids = file_status.id ∷ [] })) ∷ [])
+    (to_server 1 (GiveBack status_gift) ∷ to_server 1 (Returned (record {
+      fid = file;
+      ids =
+          file_status.id ∷ [];
+    })) ∷ [])
 
 abbrev pub learns_status : Step
 learns_status = hears (to_host (Gone (number_of status_gift))) [] []

@@ -13,15 +13,13 @@ use Rattle.message_types.specs.declared.message.Message.{Message}
 use Rattle.script_lines.specs.Sound.{IsSound}
 use Rattle.script_lines.specs.declared.script.Deed.TheVariants.{Call as MakesCall, Restart as Restarts}
 use Rattle.script_lines.specs.declared.script.Script.{Script}
-use Rattle.run_rules.specs.Acts.{acts}
-use Rattle.run_rules.specs.Histories.{history_of}
-use Rattle.run_rules.specs.HostRules.{HostMay}
-use Rattle.run_rules.specs.Lines.{setup}
-use Rattle.run_rules.specs.Nodes.{bare, own}
-use Rattle.run_rules.specs.OpenCalls.{IsOpen}
+use Rattle.run_rules.specs.Doings.{doings_of}
+use Rattle.run_rules.specs.HostMay.{HostMay}
 use Rattle.run_rules.specs.Plans.{IsPlanned}
-use Rattle.run_rules.specs.Runs.{IsEnded, IsRun, IsValid, past_of}
-use Rattle.run_rules.specs.ServerRules.{ServerMay}
+use Rattle.run_rules.specs.Runs.{IsEnded, IsRun, IsValid, history_of, past_of}
+use Rattle.run_rules.specs.ServerMay.{ServerMay}
+use Rattle.run_rules.specs.Steps.{bare, setup, steps_of_host}
+use Rattle.run_rules.specs.Tokens.{IsOpen}
 use Rattle.run_rules.specs.declared.journal.Journal.{Journal}
 use Rattle.run_rules.specs.declared.step.Cause.TheVariants.{Line as LineOf, Message as Came, Restart}
 use Rattle.run_rules.specs.declared.step.Step.{Step}
@@ -80,8 +78,8 @@ pub record Unanswered : Type 0 where
   pub valid : IsValid bare_tree
   pub planned : IsPlanned restart_script journal
   pub ended : IsEnded restart_script journal
-  pub open_is : IsOpen (own setup (past_of journal)) (record { k = 1; call = makes })
+  pub open_is : IsOpen (steps_of_host setup (past_of journal)) (record { k = 1; call = makes })
   pub none : history_of journal.steps ≡ []
-  pub told : ServerMay restart_script bare_tree site_one [] (acts 1 site_one []) tells → ⊥
+  pub told : ServerMay restart_script bare_tree site_one [] (doings_of 1 site_one []) tells → ⊥
   pub asked : HostMay restart_script setup (unasked ∷ []) asks → ⊥
   pub no_run : IsRun restart_script journal → ⊥

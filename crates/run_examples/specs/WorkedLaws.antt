@@ -6,8 +6,7 @@ use Rattle.run_examples.specs.Steps.{other}
 use Rattle.run_examples.specs.Journal.{entries, journal, reads, script, start}
 use Rattle.std.specs.Prelude.{[], codes, ◌≡◌}
 use Rattle.run_rules.specs.Plans.{IsPlanned}
-use Rattle.run_rules.specs.Runs.{IsDutiful, IsEnded, IsRun}
-use Rattle.run_rules.specs.Histories.{history_of}
+use Rattle.run_rules.specs.Runs.{IsDutiful, IsEnded, IsRun, history_of}
 
 pub record IsWhole : Type 0 where
   -- all rules admit it, and what is due is done; it keeps to the plan of its script; and it is ended

@@ -15,28 +15,25 @@ use Rattle.tree_answers.specs.declared.tree.Tree.{Tree}
 use Rattle.message_types.specs.declared.message.Body.{Body}
 use Rattle.message_types.specs.declared.telling.Bring.{Bring}
 use Rattle.script_lines.specs.declared.script.Script.{Script}
-use Rattle.run_rules.specs.Coherence.{CachedAt}
-use Rattle.run_rules.specs.Runs.{StepMeets, StepsMeet, firsts_of, past_of}
+use Rattle.run_rules.specs.HostMay.{CanAnswer, HostMay}
+use Rattle.run_rules.specs.Messages.{ComesIn}
+use Rattle.run_rules.specs.Past.{Always, In}
+use Rattle.run_rules.specs.Runs.{StepMeets, StepsMeet, firsts_of, past_of, tree_at}
+use Rattle.run_rules.specs.Steps.{steps_of_host}
+use Rattle.run_rules.specs.Tokens.{BeginsCall, NoneOpen, Uses}
+use Rattle.run_rules.specs.Views.{look_of, sees}
+use Rattle.run_tokens.specs.CacheLaws.{CachedAt}
 use Rattle.run_history.proofs.Knowing.{agrees}
 use Rattle.run_history.proofs.Stances.{covers_one, look_one}
 use Rattle.run_history.specs.Agreement.{CellsAgree}
-use Rattle.run_history.specs.Exactly.{AnswersFromCacheExactly, CachedOn, CoveredOn}
-use Rattle.run_rules.specs.HostAnswers.{CanAnswer}
-use Rattle.run_rules.specs.HostRules.{HostMay}
-use Rattle.run_rules.specs.Knowing.{look_of}
-use Rattle.run_rules.specs.OpenCalls.{Begins, NoneOpen}
-use Rattle.run_rules.specs.Views.{sees}
-use Rattle.run_rules.specs.Histories.{tree_at}
+use Rattle.run_history.specs.Exactly.{AnswersFromCacheExactly}
+use Rattle.run_tokens.specs.CacheLaws.{CachedOn, CoveredOn}
 use Rattle.run_parts.proofs.PlaceLaw.{legal}
 use Rattle.run_parts.specs.Contents.{Contents}
 use Rattle.run_parts.specs.Legal.{Legal, LegalStep}
 use Rattle.run_contents.proofs.DeedSteps.{runs_meet}
 use Rattle.run_contents.proofs.Uses.{run_tokens}
 use Rattle.run_contents.specs.Steps.{IsOfJournal}
-use Rattle.run_rules.specs.Epochs.{ComesIn}
-use Rattle.run_rules.specs.Floors.{Uses}
-use Rattle.run_rules.specs.Lists.{Always, In}
-use Rattle.run_rules.specs.Nodes.{own}
 use Rattle.run_rules.specs.declared.applied.Answer.{Answer}
 use Rattle.run_rules.specs.declared.step.Step.{Step}
 
@@ -70,22 +67,22 @@ module _ (script : Script) (host : HostId) (past : List Step) (s : Step) (m : Ho
   }
 
   -- a call begins while none is open, and when no message comes
-  none_open : (k : ℕ) (call : Call) → Begins s k call → NoneOpen past
+  none_open : (k : ℕ) (call : Call) → BeginsCall s k call → NoneOpen past
   none_open k call b = elim (m.lines.begins k call b) [ inl c ↦ (m.lines.free c.0 c.1).0 | inr c ↦ (m.ends.after c).1 ]
 
-  none_comes : (k : ℕ) (call : Call) → Begins s k call → (v : ServerId) (e n : ℕ) (b : Body) → ComesIn s v e n b → ⊥
+  none_comes : (k : ℕ) (call : Call) → BeginsCall s k call → (v : ServerId) (e n : ℕ) (b : Body) → ComesIn s v e n b → ⊥
   none_comes k call begun v e n b c = elim (m.lines.begins k call begun) [
     | inl at ↦ let p = sym at.1 ∙ c.1 in cc
     | inr at ↦ let p = sym at ∙ c.1 in cc
   ]
 
-  none_used : (k : ℕ) (call : Call) → Begins s k call → (w : Bring) → Uses past s w → ⊥
+  none_used : (k : ℕ) (call : Call) → BeginsCall s k call → (w : Bring) → Uses past s w → ⊥
   none_used k call begun w u = elim u.0 [ inl g ↦ none_comes k call begun _ _ _ _ g.1 | inr d ↦ none_comes k call begun _ _ _ _ d.1 ]
 
-  begun_by : (a : Answer) → In a s.answers → a.first ≡ true → Begins s a.k a.call
+  begun_by : (a : Answer) → In a s.answers → a.first ≡ true → BeginsCall s a.k a.call
   begun_by a i f = inr (a, i, f, refl, refl)
 
-  answered : (k : ℕ) (call : Call) → Begins s k call → CoveredOn script.roster host past s tree call → (a : Answer) × In a s.answers × (a.k ≡ k) × (a.first ≡ true)
+  answered : (k : ℕ) (call : Call) → BeginsCall s k call → CoveredOn script.roster host past s tree call → (a : Answer) × In a s.answers × (a.k ≡ k) × (a.first ≡ true)
   answered k call begun on =
       let a = m.answers.answers_all k call on.reply (inl begun) (can call on) in
       (a.0, a.1, a.2, elim (m.answers.first a.0 a.1) [ inl f ↦ f | inr on ↦ absurd (none_open k call begun _ on.1.0) ])
@@ -109,28 +106,21 @@ module _ (script : Script) (host : HostId) (past : List Step) (s : Step) (m : Ho
 
 -- on the tree of the journal's history
 module _ (start : Tree) (script : Script) (host : HostId) (past : List Step) (s : Step) where
-  pub cached_at : start.roster ≡ script.roster → CachedOn script.roster host (own host past) s (tree_view (tree_at start past)) → CachedAt start host past s
-  cached_at e on = record {
-    covered = λ k call begun c. on.covered k call begun (subst (λ r. CoveredOn r host (own host past) s (tree_view (tree_at start past)) call) e (record { stance = c.stance; reply = c.reply; covered = c.covered; settled = c.settled }));
-    first = λ a i f.
-        let k = on.first a i f in
-        let c = subst (λ r. CoveredOn r host (own host past) s (tree_view (tree_at start past)) a.call) (sym e) k.1 in
-        (k.0, record { stance = c.stance; reply = c.reply; covered = c.covered; settled = c.settled });
-    quiet = on.quiet;
-  }
+  pub cached_at : start.roster ≡ script.roster → CachedOn script.roster host (steps_of_host host past) s (tree_view (tree_at start past)) → CachedAt start host past s
+  cached_at e on = subst (λ r. CachedOn r host (steps_of_host host past) s (tree_view (tree_at start past))) (sym e) on
 
 -- in a run
 module _ (script : Script) (start : Tree) (firsts : ServerId → ℕ) (c : Contents) (same : IsOfJournal c) where
   at_node : (n : Node) (past : List Step) (s : Step) → StepsMeet script start firsts past → StepMeets script start firsts n past s → LegalStep c firsts n s past
-      → (host : HostId) (tree_is : Tree) → n ≡ Host host → IsWellFormed tree_is → CellsAgree c past tree_is → CachedOn script.roster host (own host past) s (tree_view tree_is)
+      → (host : HostId) (tree_is : Tree) → n ≡ Host host → IsWellFormed tree_is → CellsAgree c past tree_is → CachedOn script.roster host (steps_of_host host past) s (tree_view tree_is)
   at_node (Host k) past s run m legal host tree_is e formed cells =
       let one : k ≡ host = cc in
-      subst (λ h. CachedOn script.roster h (own h past) s (tree_view tree_is)) one
-      (cached_on script k (own k past) s m.0 (tree_view tree_is) (agrees script start firsts c same past run k s m tree_is formed cells legal))
+      subst (λ h. CachedOn script.roster h (steps_of_host h past) s (tree_view tree_is)) one
+      (cached_on script k (steps_of_host k past) s m.0 (tree_view tree_is) (agrees script start firsts c same past run k s m tree_is formed cells legal))
   at_node (Server v) past s run m legal host tree_is e formed cells = absurd (cc)
 
   always_cached : (past : List Step) → StepsMeet script start firsts past → Legal c firsts past
-      → Always (λ before s. (host : HostId) (tree_is : Tree) → s.node ≡ Host host → IsWellFormed tree_is → CellsAgree c before tree_is → CachedOn script.roster host (own host before) s (tree_view tree_is)) past
+      → Always (λ before s. (host : HostId) (tree_is : Tree) → s.node ≡ Host host → IsWellFormed tree_is → CellsAgree c before tree_is → CachedOn script.roster host (steps_of_host host before) s (tree_view tree_is)) past
   always_cached [] steps legal = tt
   always_cached (s ∷ past) steps legal = (always_cached past steps.0 legal.0, at_node s.node past s steps.0 steps.1.0 legal.1)
 

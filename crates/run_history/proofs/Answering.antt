@@ -64,12 +64,12 @@ use Rattle.tree_laws.specs.Fates.{Fate, after_fate, if_reached, is_of}
 use Rattle.tree_laws.specs.Fates.Fate.{IsSynced, Stays}
 use Rattle.tree_laws.specs.Parts.{Part, Seen, cell_at, present}
 use Rattle.tree_laws.specs.Parts.Part.{Size}
+use Rattle.run_rules.specs.Past.{In}
 use Rattle.run_rules.specs.Runs.{StepMeets, StepsMeet}
+use Rattle.run_rules.specs.Steps.{steps_of_host}
+use Rattle.run_rules.specs.Views.{Entered, IsClean, needs_in, sees as host_sees}
 use Rattle.run_history.proofs.Knowing.{agrees}
 use Rattle.run_history.proofs.Writing.{no_bytes, write_leaves, writes}
-use Rattle.run_rules.specs.Dirty.{IsClean}
-use Rattle.run_rules.specs.Knowing.{Entered, needs_in}
-use Rattle.run_rules.specs.Views.{sees as host_sees}
 use Rattle.run_parts.specs.Cells.{written}
 use Rattle.run_parts.specs.Contents.{Contents}
 use Rattle.run_parts.specs.Legal.{LegalStep, tree}
@@ -77,8 +77,6 @@ use Rattle.run_contents.proofs.Answers.{covered_in}
 use Rattle.run_contents.proofs.Views.{one_alone}
 use Rattle.run_contents.proofs.WriteLooks.{of_write}
 use Rattle.run_contents.specs.Steps.{IsOfJournal, Written, written_by, written_in}
-use Rattle.run_rules.specs.Lists.{In}
-use Rattle.run_rules.specs.Nodes.{own}
 use Rattle.run_rules.specs.declared.applied.Answer.{Answer}
 use Rattle.run_rules.specs.declared.step.Step.{Step}
 
@@ -285,12 +283,12 @@ module _ (script : Script) (start : Tree) (firsts : ServerId → ℕ) (c : Conte
     (m : StepMeets script start firsts (Host h) past s) (tree_is : Tree) (formed : IsWellFormed tree_is)
     (cells : (f : Fid) (p : Part) → cell_at tree_is f p ≡ tree c past f p) (legal : LegalStep c firsts (Host h) s past)
     (roster : tree_is.roster ≡ script.roster)
-    (clean : (f : Fid) → IsClean (own h past) s f → (p : Part) → is_of h (cell_at tree_is f p).unsaved ≡ false)
-    (names : (server : ServerId) (name : List ℕ) (id : FilesetId) → Entered (s ∷ own h past) server name id
+    (clean : (f : Fid) → IsClean (steps_of_host h past) s f → (p : Part) → is_of h (cell_at tree_is f p).unsaved ≡ false)
+    (names : (server : ServerId) (name : List ℕ) (id : FilesetId) → Entered (s ∷ steps_of_host h past) server name id
     → (fileset : Fileset) × (fileset_named tree_is server name ≡ Ok fileset) × (fileset.id ≡ id))
     (labels : SameLabels m.0.stance.own h tree_is) where
   abbrev A : List Step
-  A = own h past
+  A = steps_of_host h past
 
   abbrev there : Own
   there = own_there m.0.stance.own h m.0.stance.user tree_is labels

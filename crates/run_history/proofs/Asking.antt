@@ -32,17 +32,15 @@ use Rattle.script_lines.specs.declared.script.Script.{Script}
 use Rattle.need_laws.specs.Known.{IsAt}
 use Rattle.token_types.specs.declared.token.Need.{Need}
 use Rattle.token_types.specs.declared.token.Token.{Token}
-use Rattle.run_rules.specs.Runs.{StepMeets, StepsMeet, firsts_of, past_of}
+use Rattle.run_rules.specs.Doings.{SentTo, doings_of}
 use Rattle.run_rules.specs.HostAsks.{HasChanged, IsNewChange}
-use Rattle.run_rules.specs.HostRules.{HostMay}
-use Rattle.run_rules.specs.Knowing.{Entered, Enters, is_entering, needs_in, stay_asked, verdict_in}
-use Rattle.run_rules.specs.Views.{sees as host_sees}
+use Rattle.run_rules.specs.HostMay.{HostMay}
+use Rattle.run_rules.specs.Messages.{Said, Sends, Stay, home}
+use Rattle.run_rules.specs.Past.{In}
+use Rattle.run_rules.specs.Runs.{StepMeets, StepsMeet, firsts_of, past_of}
+use Rattle.run_rules.specs.Steps.{steps_of_host}
+use Rattle.run_rules.specs.Views.{Entered, Enters, is_entering, needs_in, sees as host_sees, stay_asked, verdict_in}
 use Rattle.run_tokens.proofs.Words.{if_host, own_after}
-use Rattle.run_rules.specs.Acts.{SentTo, acts}
-use Rattle.run_rules.specs.Lists.{In}
-use Rattle.run_rules.specs.Nodes.{own}
-use Rattle.run_rules.specs.Places.{Place, home}
-use Rattle.run_rules.specs.Sends.{Said, Sends}
 use Rattle.run_rules.specs.declared.step.Cause.TheVariants.{Message as Came}
 use Rattle.run_rules.specs.declared.step.Step.{Step}
 use Rattle.run_history.proofs.Sending.{all_known}
@@ -138,7 +136,7 @@ module _ (script : Script) (h : HostId) (A : List Step) (s : Step) (m : HostMay 
     (new : IsNewChange script.roster h A s m.stance v n c) (w : ServerId)
     (sound : c.enter ≡ false → IsDecided w c.call) where
   goes_to : (q : Question) → new.question ≡ q → (stay_asked (s ∷ A) q).server ≡ v
-  goes_to q e = ap (λ (p : Place). p.server) (sym (ap (stay_asked (s ∷ A)) e) ∙ new.goes)
+  goes_to q e = ap (λ (p : Stay). p.server) (sym (ap (stay_asked (s ∷ A)) e) ∙ new.goes)
 
   enter_is : (q : Question) → new.question ≡ q → c.enter ≡ is_entering q
   enter_is q e = new.enters ∙ ap is_entering e
@@ -213,9 +211,9 @@ zero_home fileset e = ap (λ (n : ℕ). n / 65536) e
 -- a step of a host
 module _ (script : Script) (start : Tree) (firsts : ServerId → ℕ) (past : List Step)
     (run : StepsMeet script start firsts past) (h : HostId) (s : Step)
-    (m : StepMeets script start firsts (Host h) past s) (old : IsWell (own h past)) where
+    (m : StepMeets script start firsts (Host h) past s) (old : IsWell (steps_of_host h past)) where
   abbrev A : List Step
-  A = own h past
+  A = steps_of_host h past
 
   -- what came from a server that told a fileset's number
   told : (x : Message) → s.cause ≡ Came x → (d : DoneOf) (id : FilesetId) → x.body ≡ Done d → d.outcome ≡ Known id
@@ -269,18 +267,18 @@ module _ (script : Script) (start : Tree) (firsts : ServerId → ℕ) (past : Li
             | inl none ↦ zero none
             | inr home_w ↦ elim (m.0.tokens.changes c v e n sends).0 [
               | inl none ↦ zero none.0
-              | inr home_v ↦ sym home_w ∙ ap (λ (p : Place). p.server) home_v
+              | inr home_v ↦ sym home_w ∙ ap (λ (p : Stay). p.server) home_v
             ]
           ]
 
   -- by which message it was told
   pub told_by : (server : ServerId) (name : List ℕ) (id : FilesetId) → (entered : Enters A s server name id)
-      → (e : ℕ) × (n : ℕ) × SentTo (acts (firsts server) server past) h e n (Done entered.1)
+      → (e : ℕ) × (n : ℕ) × SentTo (doings_of (firsts server) server past) h e n (Done entered.1)
   told_by server name id (c, d, e, n, said, enter, of, counts, number, fileset, outcome) = elim counts.0 [
     | inl (zero, (x, cause, at, epoch, its, body)) ↦ (
       x.epoch,
       x.moves,
-      subst (λ (y : ServerId × Body). SentTo (acts (firsts y.0) y.0 past) h x.epoch x.moves y.1) (λ i. (at i, body i))
+      subst (λ (y : ServerId × Body). SentTo (doings_of (firsts y.0) y.0 past) h x.epoch x.moves y.1) (λ i. (at i, body i))
           (m.1 x cause).2,
     )
     | inr (x, cause, at, epoch, its, body) ↦ (
@@ -310,13 +308,13 @@ none_well = record {
 module _ (script : Script) (start : Tree) (firsts : ServerId → ℕ) where
   at_node : (k : Node) (past : List Step) (s : Step) → StepsMeet script start firsts past
       → StepMeets script start firsts k past s → ((x : Message) → In x s.sent → IsSound script.roster x)
-      → ((h : HostId) → IsWell (own h past)) → (h : HostId) → IsWell (own_after h k s (own h past))
+      → ((h : HostId) → IsWell (steps_of_host h past)) → (h : HostId) → IsWell (own_after h k s (steps_of_host h past))
   at_node (Server k) past s run m sound old h = old h
   at_node (Host k) past s run m sound old h =
-      if_host IsWell k h (s ∷ own h past) (own h past)
-      (λ e. subst (λ j. IsWell (s ∷ own j past)) e (step_well script start firsts past run k s m (old k) sound)) (old h)
+      if_host IsWell k h (s ∷ steps_of_host h past) (steps_of_host h past)
+      (λ e. subst (λ j. IsWell (s ∷ steps_of_host j past)) e (step_well script start firsts past run k s m (old k) sound)) (old h)
 
-  pub all_well : (past : List Step) → StepsMeet script start firsts past → (h : HostId) → IsWell (own h past)
+  pub all_well : (past : List Step) → StepsMeet script start firsts past → (h : HostId) → IsWell (steps_of_host h past)
   all_well [] run h = none_well
   all_well (s ∷ past) run h =
       at_node s.node past s run.0 run.1.0 (λ x i. (run.1.3 x i).1) (all_well past run.0) h

@@ -10,26 +10,23 @@ use Rattle.message_types.specs.declared.message.Body.TheVariants.{Down, GiveBack
 use Rattle.message_types.specs.declared.message.Message.{Message}
 use Rattle.run_contents.proofs.Bodies.{cases_nat, down, here, is_down, is_give, live}
 use Rattle.run_contents.proofs.Caused.{no_message}
-use Rattle.run_rules.specs.ServerApplies.{FirstDown, FirstGiven, ServerApplies, by_cause, ended_by, stored_of}
-use Rattle.run_rules.specs.Acts.{Act, epoch}
-use Rattle.run_rules.specs.Gives.{number_of}
-use Rattle.run_rules.specs.Grants.{Applied as IsApplied}
-use Rattle.run_rules.specs.Hosts.{IsDown as IsDownHost, IsLive}
-use Rattle.run_rules.specs.Places.{Here}
-use Rattle.run_rules.specs.declared.applied.Applied.{Applied}
+use Rattle.run_rules.specs.Doings.{Doing, HasGoneDown as IsDownHost, Here, IsApplied, IsLive, epoch}
+use Rattle.run_rules.specs.ServerDecides.{FirstDown, FirstGiven, ServerApplies, by_cause, ended_by, stored_of}
+use Rattle.run_rules.specs.Tokens.{number_of}
 use Rattle.run_rules.specs.declared.applied.Applied.TheVariants.{IsDown}
+use Rattle.run_rules.specs.declared.applied.Applied.{Applied}
 use Rattle.run_rules.specs.declared.step.Cause.{Cause}
 use Rattle.run_rules.specs.declared.step.Cause.TheVariants.{End, Evict, Flushed, Lapse, Line, Message as Came}
 use Rattle.run_rules.specs.declared.step.Cause.TheVariants.{Restart}
 use Rattle.run_rules.specs.declared.step.Step.{Step}
 
-pub data CauseIs (v : ServerId) (S : List Act) (K : Tree) (s : Step) : Type 0 where
+pub data CauseIs (v : ServerId) (S : List Doing) (K : Tree) (s : Step) : Type 0 where
   Gives : (m : Message) (g : Give) → s.cause ≡ Came m → m.body ≡ GiveBack g → FirstGiven v S s m.host g
       → by_cause s.applied ≡ stored_of K m.host g ++ ended_by m.host g → CauseIs v S K s
   Downs : (h : HostId) → by_cause s.applied ≡ IsDown h ∷ [] → CauseIs v S K s
   AppliesNone : by_cause s.applied ≡ [] → CauseIs v S K s
 
-module _ (v : ServerId) (S : List Act) (K : Tree) (s : Step) (k : ServerApplies v K S s) where
+module _ (v : ServerId) (S : List Doing) (K : Tree) (s : Step) (k : ServerApplies v K S s) where
   -- a message is the cause, and something is applied
   module _ (some : by_cause s.applied ≡ [] → ⊥) (m : Message) (cause : s.cause ≡ Came m) where
     one_message : (n : Message) → s.cause ≡ Came n → m ≡ n

@@ -36,11 +36,23 @@ use Rattle.tree_laws.specs.Fates.{after_fate, without}
 use Rattle.tree_laws.specs.Fates.Fate.{IsForgotten, Stays}
 use Rattle.tree_laws.specs.Parts.{Cell, Nature, Part, Seen, Written, cell_at, cell_in, no_cell}
 use Rattle.tree_laws.specs.Parts.Part.{ByteAt, Entries, Size, Traits}
+use Rattle.run_rules.specs.Doings.{Doing, HasGoneDown as IsDownHost, Here, IsApplied, IsLive, admitting, doings_of}
+use Rattle.run_rules.specs.Doings.{epoch, sending}
+use Rattle.run_rules.specs.Doings.Doing.{Reserves, Took}
+use Rattle.run_rules.specs.Kept.{filesets_kept, filesets_through, length_given, pieces_in, pieces_of, takes_gifts}
+use Rattle.run_rules.specs.Messages.{home}
+use Rattle.run_rules.specs.Past.{In}
 use Rattle.run_rules.specs.Runs.{StepMeets, StepsMeet}
+use Rattle.run_rules.specs.ServerDecides.{FirstDown, FirstGiven, ServerApplies, by_cause, decisions, ended_by}
+use Rattle.run_rules.specs.ServerDecides.{is_decision, span_of, stored_of}
+use Rattle.run_rules.specs.Steps.{steps_of_server}
+use Rattle.run_rules.specs.Tokens.{number_of}
+use Rattle.run_rules.specs.Views.{byte_of}
+use Rattle.run_rules.specs.declared.applied.Applied.TheVariants.{IsDown, Replied, Stored}
+use Rattle.run_tokens.specs.TokenLaws.{Applies}
 use Rattle.run_parts.specs.Doings.{doings_cause}
 use Rattle.run_history.proofs.Storing.{gift_file, stores_cells, stores_legally}
 use Rattle.run_history.specs.Agreement.{AreHome, CausedCells, CellsAgree}
-use Rattle.run_rules.specs.Told.{byte_of}
 use Rattle.run_parts.proofs.PlaceLaw.{Kept}
 use Rattle.run_parts.specs.Cells.{Does, by, cell_after, kept_after as kept_after_part}
 use Rattle.run_parts.specs.Cells.Does.{Loses, Nothing}
@@ -54,20 +66,8 @@ use Rattle.run_contents.proofs.Sound.{said_sound}
 use Rattle.run_contents.proofs.Words.{any_in, both, in_any}
 use Rattle.run_contents.specs.Doing.{decided, deeds_at, does_first, does_nothing, stores_part, stores_some, with_doing}
 use Rattle.run_contents.specs.Instance.{IsOfRun}
-use Rattle.run_rules.specs.Kept.{kept, kept_through, length_given, pieces_in, pieces_of, takes_gifts}
-use Rattle.run_rules.specs.ServerApplies.{FirstDown, FirstGiven, ServerApplies, by_cause, decisions, ended_by}
-use Rattle.run_rules.specs.ServerApplies.{is_decision, span_of, stored_of}
 use Rattle.run_tokens.proofs.Words.{made_at}
-use Rattle.run_rules.specs.Acts.{Act, acts, admitting, epoch, sending}
-use Rattle.run_rules.specs.Acts.Act.{Reserves, Took}
-use Rattle.run_rules.specs.Gives.{number_of}
-use Rattle.run_rules.specs.Grants.{Applied as IsApplied, Applies}
-use Rattle.run_rules.specs.Hosts.{IsDown as IsDownHost, IsLive}
-use Rattle.run_rules.specs.Lists.{In}
-use Rattle.run_rules.specs.Nodes.{served}
-use Rattle.run_rules.specs.Places.{Here, home}
 use Rattle.run_rules.specs.declared.applied.Applied.{Applied}
-use Rattle.run_rules.specs.declared.applied.Applied.TheVariants.{Ends, IsDown, Stored}
 use Rattle.run_rules.specs.declared.step.Cause.{Cause}
 use Rattle.run_rules.specs.declared.step.Cause.TheVariants.{End, Evict, Flushed, Lapse, Line, Message as Came}
 use Rattle.run_rules.specs.declared.step.Cause.TheVariants.{Restart}
@@ -103,7 +103,7 @@ stored_is tree h host g f spans n i =
   where
     ends : (o : Option EndsOf) → In (Stored host f spans n)
         (option_map_or
-        (λ ends. Ends (record { host = h; k = ends.k; call = ends.call; reply = Fine; first = false }) ∷ []) o [])
+        (λ ends. Replied (record { host = h; k = ends.k; call = ends.call; reply = Fine; first = false }) ∷ []) o [])
         → ⊥
     ends None i = elim i [ ]
     ends (Some e) (inl q) = cc
@@ -128,7 +128,7 @@ no_down tree h host g i = by (takes_gifts tree g.fid && (nat_lt 0 (length g.piec
   where
     ends : (o : Option EndsOf) → In (IsDown host)
         (option_map_or
-        (λ ends. Ends (record { host = h; k = ends.k; call = ends.call; reply = Fine; first = false }) ∷ []) o [])
+        (λ ends. Replied (record { host = h; k = ends.k; call = ends.call; reply = Fine; first = false }) ∷ []) o [])
         → ⊥
     ends None i = elim i [ ]
     ends (Some e) (inl q) = cc
@@ -141,7 +141,7 @@ no_down tree h host g i = by (takes_gifts tree g.fid && (nat_lt 0 (length g.piec
     by false i = ends g.ends i
 
 -- the cause that applies something
-module _ (v : ServerId) (S : List Act) (tree : Tree) (s : Step) (k : ServerApplies v tree S s) where
+module _ (v : ServerId) (S : List Doing) (tree : Tree) (s : Step) (k : ServerApplies v tree S s) where
   abbrev Cause_is : Type 0
   Cause_is = (m : Message) × (s.cause ≡ Came m)
 
@@ -273,19 +273,19 @@ size_given (Some x) n = refl
 module _ (script : Script) (start : Tree) (firsts : ServerId → ℕ) (c : Contents) (of_run : IsOfRun start firsts c)
     (past : List Step) (run : StepsMeet script start firsts past) (v : ServerId) (s : Step)
     (m : StepMeets script start firsts (Server v) past s) (kept_now : Kept c firsts past)
-    (doings_are : acts_in (served_deeds c (firsts v) v past) ≡ acts (firsts v) v past)
-    (at : At c v (served_deeds c (firsts v) v past) (kept start v (served v past)))
+    (doings_are : acts_in (served_deeds c (firsts v) v past) ≡ doings_of (firsts v) v past)
+    (at : At c v (served_deeds c (firsts v) v past) (filesets_kept start v (steps_of_server v past)))
     (deeds_are : c.deeds past s ≡ deeds_at start firsts (Server v) past s)
     (legal : LegalStep c firsts (Server v) s past) (tree_is : Tree) (formed : IsWellFormed tree_is)
     (cells : CellsAgree c past tree_is) where
-  abbrev S : List Act
-  S = acts (firsts v) v past
+  abbrev S : List Doing
+  S = doings_of (firsts v) v past
 
   abbrev D : List Deed
   D = served_deeds c (firsts v) v past
 
   abbrev K : Tree
-  K = kept start v (served v past)
+  K = filesets_kept start v (steps_of_server v past)
 
   abbrev k : ServerApplies v K S s
   k = m.0.works.applies
@@ -295,7 +295,7 @@ module _ (script : Script) (start : Tree) (firsts : ServerId → ℕ) (c : Conte
 
   legal_first : (x : Message) → s.cause ≡ Came x → LegalDoing c v D (first x) (tree c past)
   legal_first x cause =
-      let rest = decided v s.cause (kept_through s.cause (by_cause s.applied) K) (decisions s.applied)
+      let rest = decided v s.cause (filesets_through s.cause (by_cause s.applied) K) (decisions s.applied)
       ++ with_doing does_nothing (admitting s.admitted ++ (sending s.sent ++ (Reserves s.reserved ∷ []))) in
       let is : c.deeds past s ≡ first x ∷ rest =
       deeds_are

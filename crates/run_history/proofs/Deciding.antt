@@ -72,14 +72,14 @@ use Rattle.run_parts.specs.Contents.{site}
 use Rattle.run_contents.proofs.Words.{both}
 use Rattle.run_contents.specs.Doing.{changes, sets_part, wanted_by}
 use Rattle.run_contents.specs.Gives.{IsKept}
+use Rattle.run_rules.specs.Doings.{Doing, Granted, Pinned}
 use Rattle.run_rules.specs.Kept.{is_refusal}
+use Rattle.run_rules.specs.Messages.{home}
 use Rattle.run_rules.specs.ServerDecides.{DecidedSo, IsOfRow, IsWrittenSo, kept_reply}
-use Rattle.run_rules.specs.ServerDecides.DecidedSo.{HasEffect, IsRefused, MeetsPinned}
-use Rattle.run_rules.specs.Wants.{CanGrant, CanRefuse, asker, asker_of, exporter, has_effect, is_move, is_use}
+use Rattle.run_rules.specs.ServerDecides.DecidedSo.{IsRefusedByTable, MeetsPinned, TakesEffect}
+use Rattle.run_rules.specs.Tokens.{IsUseKind}
+use Rattle.run_rules.specs.Wants.{CanGrant, CanRefuse, asker, asker_of, exporter, has_effect, is_use, moves_fileset}
 use Rattle.run_rules.specs.Wants.{row_needs}
-use Rattle.run_rules.specs.Acts.{Act}
-use Rattle.run_rules.specs.Grants.{Granted, IsUseKind, Pinned}
-use Rattle.run_rules.specs.Places.{home}
 use Rattle.run_rules.specs.declared.applied.Written.{Written}
 use Rattle.run_rules.specs.declared.step.Cause.{Cause}
 
@@ -252,7 +252,7 @@ module _ (tree : Tree) (user : User) where
   plain_want (GetAcl place which) n m = absurd (false≢true n)
   plain_want (Sync place) n m = absurd (false≢true n)
 
-pub pinned_use : (v : ServerId) (S : List Act) (t : Token) → Pinned v S t → IsUseKind t.kind
+pub pinned_use : (v : ServerId) (S : List Doing) (t : Token) → Pinned v S t → IsUseKind t.kind
 pinned_use v [] t p = elim p [ ]
 pinned_use v (a ∷ S) t p = elim p.0 [ inl b ↦ b.3 | inr old ↦ pinned_use v S t old ]
 
@@ -290,9 +290,9 @@ pub refusal_of_it : (reply : Reply) → is_refusal reply ≡ true → (r : Refus
 refusal_of_it (Refused r) e = (r, refl)
 refusal_of_it _ e = absurd (false≢true e)
 
-module _ (v : ServerId) (cause : Cause) (S : List Act) (K : Tree) (x : Written) (k : IsWrittenSo v K S x)
+module _ (v : ServerId) (cause : Cause) (S : List Doing) (K : Tree) (x : Written) (k : IsWrittenSo v K S x)
     (keeps : IsKept K) (good : (t : Token) → Granted v S t → t.host.0 ≤ 16) (T : Tree) (agree : AgreesKept v S K T)
-    (change : is_change x.answer.call ≡ true) (here : IsAt v x.answer.call) (no_move : is_move x.answer.call
+    (change : is_change x.answer.call ≡ true) (here : IsAt v x.answer.call) (no_move : moves_fileset x.answer.call
     ≡ false) where
   abbrev host : HostId
   host = x.answer.host
@@ -320,7 +320,7 @@ module _ (v : ServerId) (cause : Cause) (S : List Act) (K : Tree) (x : Written) 
 
   pub granted_so : has_effect k.change ≡ true → IsOfRow K k.w k.change → CanGrant v S k.w → Granting
   granted_so effect row can =
-      let p = parts k.change.enter (is_use k.change.call) (is_move k.change.call) effect in
+      let p = parts k.change.enter (is_use k.change.call) (moves_fileset k.change.call) effect in
       record {
         can = can;
         asks = ap (asker_of k.w.host) k.request ∙ ap (λ b. if b then k.w.host else exporter) p.1;
@@ -497,13 +497,13 @@ module _ (v : ServerId) (cause : Cause) (S : List Act) (K : Tree) (x : Written) 
   unfolding answer_to
   nobody_refused e = ap (λ (o : Option User). (for_user T o (answer_for T host call)).reply) e
 
-module _ (v : ServerId) (cause : Cause) (S : List Act) (K : Tree) (x : Written) (k : IsWrittenSo v K S x)
+module _ (v : ServerId) (cause : Cause) (S : List Doing) (K : Tree) (x : Written) (k : IsWrittenSo v K S x)
     (keeps : IsKept K) (good : (t : Token) → Granted v S t → t.host.0 ≤ 16) (T : Tree) (agree : AgreesKept v S K T)
     (meant : IsMeant v x) where
-  no_move : is_move x.answer.call ≡ false
+  no_move : moves_fileset x.answer.call ≡ false
   no_move = go x.answer.call meant.minds_none
     where
-      go : (c : Call) → minds_uses c ≡ false → is_move c ≡ false
+      go : (c : Call) → minds_uses c ≡ false → moves_fileset c ≡ false
       go (MoveFileset server name to) e = absurd (false≢true (sym e))
       go _ e = refl
 
@@ -580,10 +580,10 @@ module _ (v : ServerId) (cause : Cause) (S : List Act) (K : Tree) (x : Written) 
   legal_change = by k.so
     where
       by : DecidedSo v K S k.w k.change x.answer.reply → IsLegalChange v cause K x T
-      by (HasEffect effect row can is) =
+      by (TakesEffect effect row can is) =
           by_grant (granted_so v cause S K x k keeps good T agree meant.change meant.here no_move effect row can)
           (is ∙ kept_reply_same v cause S K x k keeps good T agree meant.change meant.here no_move)
-      by (IsRefused refusal on is) =
+      by (IsRefusedByTable refusal on is) =
           by_refusal refusal is (sym
           (kept_reply_same v cause S K x k keeps good T agree meant.change meant.here no_move)
           ∙ on.0)

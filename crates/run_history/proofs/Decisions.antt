@@ -43,7 +43,17 @@ use Rattle.tree_laws.specs.Parts.{Cell, Part, Seen, cell_at}
 use Rattle.run_history.specs.Agreement.{LeadsTo}
 use Rattle.run_history.specs.Changes.{AgreesKept, EachChange, IsLegalChange, are_home, is_home}
 use Rattle.run_history.specs.Granted.{GrantedAt}
-use Rattle.run_rules.specs.Histories.{call_entry, entries_in}
+use Rattle.run_rules.specs.Doings.{Doing, decisions_of}
+use Rattle.run_rules.specs.Doings.Doing.{WritesDown}
+use Rattle.run_rules.specs.Kept.{filesets_after, filesets_kept, filesets_through, is_refusal}
+use Rattle.run_rules.specs.Messages.{home}
+use Rattle.run_rules.specs.Past.{In, appended}
+use Rattle.run_rules.specs.Runs.{call_entry, entries_in}
+use Rattle.run_rules.specs.ServerDecides.{is_decision}
+use Rattle.run_rules.specs.Steps.{steps_of_server}
+use Rattle.run_rules.specs.Wants.{is_use}
+use Rattle.run_rules.specs.declared.applied.Applied.TheVariants.{Done as IsDone, IsDown, Replied, Stored}
+use Rattle.run_rules.specs.declared.applied.Applied.TheVariants.{Wants as IsWanted}
 use Rattle.run_history.proofs.Keeping.{homes_of, is_its, same_keeps}
 use Rattle.run_history.specs.PastStanding.{KeepsAs}
 use Rattle.run_parts.specs.Cells.{cell_after}
@@ -53,17 +63,7 @@ use Rattle.run_parts.specs.Legal.{Cells, cells_served, tree}
 use Rattle.run_contents.proofs.Bodies.{server_is}
 use Rattle.run_contents.proofs.Words.{any_in}
 use Rattle.run_contents.specs.Doing.{decided, writes}
-use Rattle.run_rules.specs.Kept.{is_refusal, kept, kept_after, kept_through}
-use Rattle.run_rules.specs.ServerApplies.{is_decision}
-use Rattle.run_rules.specs.Wants.{is_use}
-use Rattle.run_rules.specs.Acts.{Act, decisions_of}
-use Rattle.run_rules.specs.Acts.Act.{Writes}
-use Rattle.run_rules.specs.Lists.{In, after}
-use Rattle.run_rules.specs.Nodes.{served}
-use Rattle.run_rules.specs.Places.{home}
 use Rattle.run_rules.specs.declared.applied.Applied.{Applied}
-use Rattle.run_rules.specs.declared.applied.Applied.TheVariants.{Done as IsDone, Ends, IsDown, Stored}
-use Rattle.run_rules.specs.declared.applied.Applied.TheVariants.{Wants as IsWanted}
 use Rattle.run_rules.specs.declared.applied.Written.{Written}
 use Rattle.run_rules.specs.declared.step.Step.{Step}
 use Rattle.run_history.specs.UseGranted.{CellsWritten, GrantedThrough}
@@ -188,7 +188,7 @@ module _ (script : Script) (start : Tree) (c : Contents) (past : List Step) (v :
     pub unmoved : t.away ≡ []
     pub homes : are_home t ≡ true
     pub keeps : KeepsAs v K t
-    pub others : (w : ServerId) → w ≢ v → KeepsAs w (kept start w (served w past)) t
+    pub others : (w : ServerId) → w ≢ v → KeepsAs w (filesets_kept start w (steps_of_server w past)) t
     pub cells_here : (f : Fid) (p : Part) → site f ≡ v → cell_at t f p ≡ cells f p
     pub cells_else : (f : Fid) (p : Part) → (site f ≡ v → ⊥) → cell_at t f p ≡ tree c past f p
     pub leads : (server : ServerId) (name : List ℕ) (id : FilesetId) → LeadsTo old server name id
@@ -202,12 +202,12 @@ module _ (script : Script) (start : Tree) (c : Contents) (past : List Step) (v :
   Mid K cells old t = Amid script start c past v K cells old t
 
   -- what is known of a Change that is written down
-  pub record Fits (before : List Act) (K : Tree) (x : Written) : Type 0 where
+  pub record Fits (before : List Doing) (K : Tree) (x : Written) : Type 0 where
     pub legal : (t : Tree) → AgreesKept v before K t → Labels t → IsLegalChange v s.cause K x t
     pub goes : is_refusal x.answer.reply ≡ false → GoesHere v x.answer.call
 
   -- one Change
-  module _ (before : List Act) (K : Tree) (cells : Cells) (old t : Tree) (m : Mid K cells old t) (labels : Labels t)
+  module _ (before : List Doing) (K : Tree) (cells : Cells) (old t : Tree) (m : Mid K cells old t) (labels : Labels t)
       (x : Written) (fits : Fits before K x) (granted : GrantedAt v before cells) where
     abbrev host : HostId
     host = x.answer.host
@@ -219,7 +219,7 @@ module _ (script : Script) (start : Tree) (c : Contents) (past : List Step) (v :
     next = (answer_to t host call).tree
 
     abbrev K' : Tree
-    K' = kept_after s.cause K (IsDone x)
+    K' = filesets_after s.cause K (IsDone x)
 
     agree : AgreesKept v before K t
     agree = record {
@@ -268,7 +268,7 @@ module _ (script : Script) (start : Tree) (c : Contents) (past : List Step) (v :
             locks = ap (λ (z : Tree). z.locks) kept_is ∙ m.keeps.locks;
             opens = ap (λ (z : Tree). z.opens) kept_is ∙ m.keeps.opens;
           };
-          others = λ w other. subst (KeepsAs w (kept start w (served w past))) (sym stays) (m.others w other);
+          others = λ w other. subst (KeepsAs w (filesets_kept start w (steps_of_server w past))) (sym stays) (m.others w other);
           cells_here = here_then;
           cells_else = λ f p other. ap (λ (z : Tree). cell_at z f p) stays ∙ m.cells_else f p other;
           leads = leads_then;
@@ -295,7 +295,7 @@ module _ (script : Script) (start : Tree) (c : Contents) (past : List Step) (v :
             locks = ap (λ (z : Tree). z.locks) kept_is ∙ (kept_uses.0 ∙ m.keeps.locks);
             opens = ap (λ (z : Tree). z.opens) kept_is ∙ (kept_uses.1 ∙ m.keeps.opens);
           };
-          others = λ w other. same_keeps w (kept start w (served w past)) t next
+          others = λ w other. same_keeps w (filesets_kept start w (steps_of_server w past)) t next
               (others_stay t v w host call m.unmoved g.here other) (m.others w other);
           cells_here = here_then;
           cells_else = λ f p other. calls_leave_others t v host call f p m.unmoved g.here
@@ -324,21 +324,21 @@ module _ (script : Script) (start : Tree) (c : Contents) (past : List Step) (v :
         go false e = (legal.reply, accepted e, accepted_labels e)
 
   -- one after the other
-  pub all_changes : (xs : List Applied) (before : List Act) (K : Tree) (cells : Cells) (old t : Tree)
+  pub all_changes : (xs : List Applied) (before : List Doing) (K : Tree) (cells : Cells) (old t : Tree)
       → list_all is_decision xs ≡ true → EachChange Fits s.cause K before xs
       → GrantedThrough v s.cause K before cells xs → Mid K cells old t → Labels t
       → IsHistory t (flat_map (entries_in v) xs)
-      × Mid (kept_through s.cause xs K) (cells_served (decided v s.cause K xs) cells) old
+      × Mid (filesets_through s.cause xs K) (cells_served (decided v s.cause K xs) cells) old
       (after_history t (flat_map (entries_in v) xs))
       × Labels (after_history t (flat_map (entries_in v) xs))
   all_changes [] before K cells old t all fits granted m labels = (tt, m, labels)
   all_changes (IsDone x ∷ xs) before K cells old t all fits granted m labels =
       let one = one_change before K cells old t m labels x fits.0 granted.0 in
-      let rest = all_changes xs (Writes x ∷ before) (kept_after s.cause K (IsDone x)) (CellsWritten v s.cause K x cells)
+      let rest = all_changes xs (WritesDown x ∷ before) (filesets_after s.cause K (IsDone x)) (CellsWritten v s.cause K x cells)
       old (answer_to t x.answer.host x.answer.call).tree all fits.1 granted.1 one.1 one.2 in
       ((one.0, rest.0), rest.1, rest.2)
   all_changes (IsWanted w ∷ xs) before K cells old t all fits granted m labels =
-      all_changes xs (after (decisions_of (IsWanted w)) before) K cells old t all fits granted m labels
-  all_changes (Ends a ∷ xs) before K cells old t all fits granted m labels = absurd (false≢true all)
+      all_changes xs (appended (decisions_of (IsWanted w)) before) K cells old t all fits granted m labels
+  all_changes (Replied a ∷ xs) before K cells old t all fits granted m labels = absurd (false≢true all)
   all_changes (Stored h f spans n ∷ xs) before K cells old t all fits granted m labels = absurd (false≢true all)
   all_changes (IsDown h ∷ xs) before K cells old t all fits granted m labels = absurd (false≢true all)

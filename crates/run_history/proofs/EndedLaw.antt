@@ -11,11 +11,12 @@ use Rattle.need_laws.specs.Known.{SameAt}
 use Rattle.need_server.specs.Kept.{kept_tree}
 use Rattle.script_lines.specs.declared.script.Script.{Script}
 use Rattle.tree_laws.specs.Parts.{Cell, Part, Seen, cell_at}
-use Rattle.run_rules.specs.Runs.{IsEnded, IsRun, IsValid, firsts_of, past_of}
+use Rattle.run_rules.specs.Kept.{filesets_kept}
+use Rattle.run_rules.specs.Runs.{IsEnded, IsRun, IsValid, firsts_of, history, past_of, tree_at}
+use Rattle.run_rules.specs.Steps.{steps_of_server}
 use Rattle.run_history.proofs.Ended.{nothing_unsaved}
 use Rattle.run_history.proofs.Instance.{contents_of, is_of_run}
 use Rattle.run_history.specs.Changes.{is_home}
-use Rattle.run_rules.specs.Histories.{history, tree_at}
 use Rattle.run_rules.specs.declared.journal.Journal.{Journal}
 use Rattle.run_history.proofs.Kept.{Unmoved, kept_unmoved, tree_unmoved, unmoved_tree}
 use Rattle.run_history.proofs.Law.{histories_make_the_tree}
@@ -27,8 +28,6 @@ use Rattle.run_history.specs.PastEnded.{EndedRunsMayBeFollowed}
 use Rattle.run_history.specs.Past.{IsOfPast, IsThroughout}
 use Rattle.run_parts.specs.Contents.{Contents}
 use Rattle.run_contents.specs.Instance.{IsOfRun}
-use Rattle.run_rules.specs.Kept.{kept}
-use Rattle.run_rules.specs.Nodes.{served}
 use Rattle.run_rules.specs.declared.step.Step.{Step}
 use Rattle.run_history.proofs.Meaning.{changes_are_meant, none_away}
 
@@ -60,15 +59,15 @@ module _ (script : Script) (journal : Journal) (run : IsRun script journal) (end
   last : IsOfPast run.start firsts c past left
   last = last_of run.start firsts c past (histories_make_the_tree script journal run c of_run)
 
-  none_moved : (v : ServerId) → (kept run.start v (served v past)).away ≡ []
+  none_moved : (v : ServerId) → (filesets_kept run.start v (steps_of_server v past)).away ≡ []
   none_moved = none_away script run.start firsts run.valid.unmoved past run.steps
 
-  kept_same : (v : ServerId) → SameAt v (kept run.start v (served v past)) (kept_tree left)
+  kept_same : (v : ServerId) → SameAt v (filesets_kept run.start v (steps_of_server v past)) (kept_tree left)
   kept_same v = (last.kept v).same
 
   unmoved : Unmoved left
   unmoved =
-      tree_unmoved (λ v. kept run.start v (served v past)) left kept_same none_moved
+      tree_unmoved (λ v. filesets_kept run.start v (steps_of_server v past)) left kept_same none_moved
       (kept_unmoved run.start firsts (all_parts is_home never_moved run.start.filesets run.valid.at_home) past
       (changes_are_meant script journal run))
 
@@ -83,7 +82,7 @@ module _ (script : Script) (journal : Journal) (run : IsRun script journal) (end
     at_rest = all_rest left last.formed.ordered none_unsaved;
     locks = no_locks script journal run ended left last.labels;
     opens = no_opens script journal run ended left last.labels;
-    unmoved = unmoved_tree (λ v. kept run.start v (served v past)) left kept_same none_moved;
+    unmoved = unmoved_tree (λ v. filesets_kept run.start v (steps_of_server v past)) left kept_same none_moved;
     at_home = all_both is_home never_moved left.filesets unmoved.0 unmoved.1;
   }
 

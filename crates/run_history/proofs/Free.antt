@@ -22,18 +22,18 @@ use Rattle.tree_laws.specs.Labels.{locks_agree, opens_agree}
 use Rattle.message_types.specs.Soundness.{IsEnd}
 use Rattle.message_types.specs.declared.asking.Change.{Change as ChangeOf}
 use Rattle.script_lines.specs.declared.script.Script.{Script}
+use Rattle.run_rules.specs.HostAsks.{HasChanged}
+use Rattle.run_rules.specs.Messages.{Changing}
+use Rattle.run_rules.specs.Past.{EachOnce, In}
 use Rattle.run_rules.specs.Runs.{StepsMeet}
+use Rattle.run_rules.specs.Steps.{steps_of_host}
+use Rattle.run_rules.specs.Tokens.{LabelInUse}
+use Rattle.run_rules.specs.Views.{IsLock, IsOpening}
 use Rattle.run_history.proofs.Labels.{filter_in, filter_once, in_filter, lock_alone, no_more, of_host, once_of_two}
 use Rattle.run_history.proofs.Labels.{open_alone}
-use Rattle.run_rules.specs.HostAsks.{HasChanged}
-use Rattle.run_rules.specs.Knowing.{IsLock, IsOpening}
-use Rattle.run_rules.specs.Labels.{InUse}
 use Rattle.run_parts.specs.Uses.{Locked}
 use Rattle.run_contents.proofs.Calls.{one_open}
 use Rattle.run_contents.proofs.Words.{any_in, in_any}
-use Rattle.run_rules.specs.Lists.{EachOnce, In}
-use Rattle.run_rules.specs.Nodes.{own}
-use Rattle.run_rules.specs.Requests.{Changing}
 use Rattle.run_rules.specs.declared.step.Asked.{Asked}
 use Rattle.run_rules.specs.declared.step.Labelled.{Labelled}
 use Rattle.run_rules.specs.declared.step.Step.{Step}
@@ -74,15 +74,15 @@ below max n m le e = grind (arith, common_steps, le, e)
 
 module _ (script : Script) (start : Tree) (firsts : ServerId → ℕ) (real : (v : ServerId) → 0 < firsts v)
     (past : List Step) (run : StepsMeet script start firsts past) (h : HostId) (c : ChangeOf) (v : ServerId)
-    (has : HasChanged (own h past) v c) (changing : Changing (own h past) v c.fileset c.number) where
+    (has : HasChanged (steps_of_host h past) v c) (changing : Changing (steps_of_host h past) v c.fileset c.number) where
   abbrev A : List Step
-  A = own h past
+  A = steps_of_host h past
 
   out : Outstanding h A v c
   out = (firm_now script start firsts real past run h).asked v c has changing
 
   -- a label of the host that is in use in the tree is in use there
-  locked_used : (u : Labelled) → Locked firsts past h u → InUse A u
+  locked_used : (u : Labelled) → Locked firsts past h u → LabelInUse A u
   locked_used u l = elim (locked_had script start firsts real past run h u l) [
     | inl usage ↦ usage
     | inr (g, given, gives, unknown) ↦ (

@@ -5,10 +5,14 @@ use Rattle.base_types.specs.declared.ids.HostId.{HostId}
 use Rattle.base_types.specs.declared.ids.Node.{Node}
 use Rattle.base_types.specs.declared.ids.Node.TheVariants.{Host, Server}
 use Rattle.base_types.specs.declared.ids.ServerId.{ServerId}
+use Rattle.run_rules.specs.Past.{Always, EachInTurn}
 use Rattle.run_rules.specs.Runs.{firsts_of, past_of}
+use Rattle.run_rules.specs.ServerTokens.{ServerStep}
+use Rattle.run_rules.specs.Steps.{steps_of_host}
+use Rattle.run_tokens.specs.TokenLaws.{IsTokenRun, StepMay}
 use Rattle.run_parts.proofs.Served.{Next, each_next}
 use Rattle.run_history.specs.Granted.{EachGranted, GrantedAt, UnsavedIsGranted}
-use Rattle.run_parts.proofs.ActStep.{Doing, shown_act, treed_act}
+use Rattle.run_parts.proofs.ActStep.{OneDoing, shown_act, treed_act}
 use Rattle.run_parts.proofs.Invariant.{Alike, mine_writes}
 use Rattle.run_parts.proofs.PlaceLaw.{At, Kept, coherent}
 use Rattle.run_parts.specs.Contents.{Contents, ServerShows}
@@ -17,9 +21,6 @@ use Rattle.run_parts.specs.Legal.{Cells, ContentsRun, StepShows, cells_after, se
 use Rattle.run_contents.proofs.DeedSteps.{runs_meet}
 use Rattle.run_contents.proofs.Uses.{run_tokens}
 use Rattle.run_tokens.proofs.Invariant.{Alone}
-use Rattle.run_rules.specs.Lists.{Always, Each}
-use Rattle.run_rules.specs.Nodes.{own}
-use Rattle.run_rules.specs.TokenRuns.{IsTokenRun, ServerStep, StepMay}
 use Rattle.run_rules.specs.declared.step.Step.{Step}
 
 module _ (c : Contents) (own_of : HostId → List Step) (alone : (h : HostId) → Alone (own_of h))
@@ -34,10 +35,10 @@ module _ (c : Contents) (own_of : HostId → List Step) (alone : (h : HostId) �
       )
 
   each_granted : (more D : List Deed) (cells : Cells) → At c own_of cells v D
-      → Each (Next own_of v) (acts_in more) (acts_in D) → Each (ServerShows c v) more D → EachGranted v more D cells
+      → EachInTurn (Next own_of v) (acts_in more) (acts_in D) → EachInTurn (ServerShows c v) more D → EachGranted v more D cells
   each_granted [] D cells x may rules = granted_now D cells x
   each_granted (d ∷ more) D cells x may rules =
-      let o : Doing c own_of cells v D d =
+      let o : OneDoing c own_of cells v D d =
       record {
         at = x.at;
         alone = alone;
@@ -61,10 +62,10 @@ module _ (c : Contents) (firsts : ServerId → ℕ) where
   at_node (Server k) past s old may rules v e =
       let same : k ≡ v = let q : Server k ≡ Server v = e in cc in
       subst (λ w. EachGranted w (c.deeds past s) (served c (firsts w) w past) (tree c past)) same
-      (each_granted c (λ h. own h past) old.whole.alone old.seen k (c.deeds past s) (served c (firsts k) k past)
+      (each_granted c (λ h. steps_of_host h past) old.whole.alone old.seen k (c.deeds past s) (served c (firsts k) k past)
       (tree c past) (old.at k)
-      (subst (λ l. Each (Next (λ h. own h past) k) l (acts_in (served c (firsts k) k past))) (sym rules.0)
-      (each_next (λ h. own h past) old.whole.alone k s (acts_in (served c (firsts k) k past))
+      (subst (λ l. EachInTurn (Next (λ h. steps_of_host h past) k) l (acts_in (served c (firsts k) k past))) (sym rules.0)
+      (each_next (λ h. steps_of_host h past) old.whole.alone k s (acts_in (served c (firsts k) k past))
       (subst (λ S. ServerStep k S s) (sym (old.same k)) may.0) (λ m e. (may.1 m e).2))) rules.1)
 
   all_granted : (past : List Step) → IsTokenRun firsts past → ContentsRun c firsts past

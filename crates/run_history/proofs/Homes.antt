@@ -40,8 +40,8 @@ use Rattle.tree_answers.specs.declared.tree.ServerRoom.{ServerRoom}
 use Rattle.tree_answers.specs.declared.tree.Tree.{Tree}
 use Rattle.tree_laws.proofs.Steps.{same_number}
 use Rattle.run_history.specs.Changes.{is_home}
-use Rattle.run_rules.specs.Wants.{is_move}
-use Rattle.run_rules.specs.Places.{home}
+use Rattle.run_rules.specs.Messages.{home}
+use Rattle.run_rules.specs.Wants.{moves_fileset}
 
 all_at : {X : Type 0} (p : X → Bool) (xs : List X) (i : ℕ) (x : X) → list_all p xs ≡ true → slice_get xs i ≡ Some x
     → p x ≡ true
@@ -157,7 +157,7 @@ module _ (tree : Tree) (homes : list_all is_home tree.filesets ≡ true) where
   either_home (Err refusal) next all = homes
 
   module _ (host : HostId) (user : User) where
-    for_home : (call : Call) → is_move call ≡ false
+    for_home : (call : Call) → moves_fileset call ≡ false
         → list_all is_home (answer_for tree host call user).tree.filesets ≡ true
     unfolding answer_for fileset_row new_fileset_answer clone_answer lock_answer open_answer unlock_answer close_answer
     for_home (NewFileset server name objects owner) e =
@@ -197,7 +197,7 @@ module _ (tree : Tree) (homes : list_all is_home tree.filesets ≡ true) where
     for_home (GetAcl place which) e = row_home _ (λ fileset. stays_itself fileset _ host user (GetAcl place which)) _
     for_home (Sync place) e = row_home _ (λ fileset. stays_itself fileset _ host user (Sync place)) _
 
-  pub homes_after : (host : HostId) (call : Call) → is_move call ≡ false
+  pub homes_after : (host : HostId) (call : Call) → moves_fileset call ≡ false
       → list_all is_home (answer_to tree host call).tree.filesets ≡ true
   unfolding answer_to
   homes_after host call e = by (user_of tree.roster host)

@@ -46,16 +46,17 @@ use Rattle.token_types.specs.declared.token.Kind.TheVariants.{Lock as LockToken,
 use Rattle.tree_laws.proofs.Steps.{fid_is, same_number}
 use Rattle.tree_laws.specs.Fates.{is_of}
 use Rattle.tree_laws.specs.Parts.{Cell, Part, Seen, cell_at}
-use Rattle.run_rules.specs.Runs.{StepMeets, StepsMeet, firsts_of, past_of}
+use Rattle.run_rules.specs.Doings.{doings_of}
+use Rattle.run_rules.specs.HostMay.{IsExact}
+use Rattle.run_rules.specs.Past.{Always, In}
+use Rattle.run_rules.specs.Runs.{StepMeets, StepsMeet, call_entry, firsts_of, past_of}
+use Rattle.run_rules.specs.Steps.{steps_of_host}
+use Rattle.run_rules.specs.Views.{IsClean, sees as host_sees, verdict_in}
+use Rattle.run_tokens.specs.TokenLaws.{IsTokenRun}
 use Rattle.run_history.proofs.Answering.{SameLabels, cells_left, reply_is}
 use Rattle.run_history.proofs.Knowing.{is_clean}
 use Rattle.run_history.proofs.Labels.{same_labels}
 use Rattle.run_history.specs.Agreement.{AgreesAt, AnswersLegally, HostsAnswerLegally}
-use Rattle.run_rules.specs.Dirty.{IsClean}
-use Rattle.run_rules.specs.HostAnswers.{IsExact}
-use Rattle.run_rules.specs.Knowing.{verdict_in}
-use Rattle.run_rules.specs.Views.{sees as host_sees}
-use Rattle.run_rules.specs.Histories.{call_entry}
 use Rattle.run_parts.proofs.PlaceLaw.{Kept, coherent}
 use Rattle.run_parts.specs.Cells.{written}
 use Rattle.run_parts.specs.Contents.{Contents}
@@ -66,10 +67,6 @@ use Rattle.run_contents.proofs.Words.{any_in, both}
 use Rattle.run_contents.specs.Steps.{IsOfJournal}
 use Rattle.run_tokens.proofs.Law.{Whole, always}
 use Rattle.run_tokens.proofs.Words.{acts_after, own_after}
-use Rattle.run_rules.specs.Acts.{acts}
-use Rattle.run_rules.specs.Lists.{Always, In}
-use Rattle.run_rules.specs.Nodes.{own}
-use Rattle.run_rules.specs.TokenRuns.{IsTokenRun}
 use Rattle.run_rules.specs.declared.applied.Answer.{Answer}
 use Rattle.run_rules.specs.declared.step.Labelled.{Labelled}
 use Rattle.run_rules.specs.declared.step.Step.{Step}
@@ -149,10 +146,10 @@ module _ (script : Script) (start : Tree) (firsts : ServerId → ℕ) (c : Conte
     (past : List Step) (run : StepsMeet script start firsts past) (h : HostId) (s : Step)
     (m : StepMeets script start firsts (Host h) past s) (tree_is : Tree)
     (agree : AgreesAt script.roster c past h s tree_is) (kept : Kept c firsts past)
-    (whole : Whole (λ k. own_after k (Host h) s (own k past)) (λ v. acts (firsts v) v past))
+    (whole : Whole (λ k. own_after k (Host h) s (steps_of_host k past)) (λ v. doings_of (firsts v) v past))
     (legal : LegalStep c firsts (Host h) s past) where
   abbrev A : List Step
-  A = own h past
+  A = steps_of_host h past
 
   clean : (f : Fid) → IsClean A s f → (p : Part) → is_of h (cell_at tree_is f p).unsaved ≡ false
   clean = is_clean script start firsts c same past run h s m tree_is agree.formed agree.cells kept whole legal
@@ -219,7 +216,7 @@ module _ (script : Script) (start : Tree) (firsts : ServerId → ℕ) (c : Conte
 module _ (script : Script) (start : Tree) (firsts : ServerId → ℕ) (c : Contents) (same : IsOfJournal c) where
   at_node : (n : Node) (past : List Step) (s : Step) → StepsMeet script start firsts past
       → StepMeets script start firsts n past s → Kept c firsts past
-      → Whole (λ k. own_after k n s (own k past)) (λ v. acts_after v n s (acts (firsts v) v past))
+      → Whole (λ k. own_after k n s (steps_of_host k past)) (λ v. acts_after v n s (doings_of (firsts v) v past))
       → LegalStep c firsts n s past → (h : HostId) (tree_is : Tree) → n ≡ Host h
       → AgreesAt script.roster c past h s tree_is → (a : Answer) → In a s.answers
       → IsLegal tree_is (call_entry a)

@@ -32,14 +32,14 @@ use Rattle.tree_laws.specs.Labels.{locks_for, opens_for}
 use Rattle.token_types.specs.declared.token.Kind.{Kind}
 use Rattle.token_types.specs.declared.token.Kind.TheVariants.{Lock as LockToken, Opening}
 use Rattle.tree_laws.proofs.Steps.{same_number}
-use Rattle.run_rules.specs.HostAnswers.{IsExact}
-use Rattle.run_rules.specs.Knowing.{IsLock, IsOpening}
-use Rattle.run_rules.specs.Labels.{EndsUse, end_call, end_of}
-use Rattle.run_rules.specs.Histories.{call_entry}
+use Rattle.run_rules.specs.HostMay.{IsExact}
+use Rattle.run_rules.specs.Past.{In}
+use Rattle.run_rules.specs.Runs.{call_entry}
+use Rattle.run_rules.specs.Tokens.{EndsUse, end_call, end_of}
+use Rattle.run_rules.specs.Views.{IsLock, IsOpening}
 use Rattle.run_parts.specs.Uses.{Locked}
 use Rattle.run_contents.proofs.Views.{one_alone}
 use Rattle.run_contents.proofs.Words.{both, in_any}
-use Rattle.run_rules.specs.Lists.{In}
 use Rattle.run_rules.specs.declared.applied.Answer.{Answer}
 use Rattle.run_rules.specs.declared.step.Labelled.{Labelled}
 use Rattle.run_rules.specs.declared.step.Step.{Step}

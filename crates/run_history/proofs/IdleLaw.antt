@@ -10,16 +10,16 @@ use Rattle.script_lines.specs.declared.script.Deed.{Deed}
 use Rattle.script_lines.specs.declared.script.Deed.TheVariants.{Stop}
 use Rattle.script_lines.specs.declared.script.Line.{Line}
 use Rattle.script_lines.specs.declared.script.Script.{Script}
-use Rattle.run_rules.specs.Runs.{StepMeets, StepsMeet, firsts_of, past_of}
+use Rattle.run_rules.specs.Doings.{HasGoneAway, doings_of}
+use Rattle.run_rules.specs.HostMay.{DoesLine, HostMay}
+use Rattle.run_rules.specs.Messages.{HasStopped, Stops}
+use Rattle.run_rules.specs.Past.{Always, In, appended}
+use Rattle.run_rules.specs.Runs.{StepMeets, StepsMeet, firsts_of, past_of, tree_at}
+use Rattle.run_rules.specs.Steps.{servers_of, steps_of_host}
+use Rattle.run_rules.specs.Tokens.{IsOpen, LabelInUse, NoneOpen, end_of}
+use Rattle.run_rules.specs.Views.{IsLock, IsOpening}
 use Rattle.run_parts.proofs.Words.{host_split}
 use Rattle.run_history.proofs.Instance.{contents_of, is_of_run}
-use Rattle.run_rules.specs.HostLines.{DoesDeed}
-use Rattle.run_rules.specs.HostRules.{HostMay}
-use Rattle.run_rules.specs.Knowing.{IsLock, IsOpening}
-use Rattle.run_rules.specs.Labels.{InUse, end_of}
-use Rattle.run_rules.specs.OpenCalls.{IsOpen, NoneOpen}
-use Rattle.run_rules.specs.Histories.{tree_at}
-use Rattle.run_rules.specs.Lines.{servers_of}
 use Rattle.run_parts.specs.Uses.{Locked}
 use Rattle.run_history.proofs.Law.{histories_make_the_tree}
 use Rattle.run_history.specs.Idle.{AnswersLeaveIdle, HasItsLabels, IdleHostsHaveLabels, IsIdleHost, LabelsAreTheRuns}
@@ -29,11 +29,6 @@ use Rattle.run_parts.specs.Contents.{Contents}
 use Rattle.run_contents.proofs.Calls.{begins_free, one_open, use_owned}
 use Rattle.run_contents.specs.Steps.{HostRun}
 use Rattle.run_tokens.proofs.Words.{own_after}
-use Rattle.run_rules.specs.Acts.{acts}
-use Rattle.run_rules.specs.Hosts.{Away}
-use Rattle.run_rules.specs.Lists.{Always, In, after}
-use Rattle.run_rules.specs.Nodes.{own}
-use Rattle.run_rules.specs.Sends.{HasStopped, Stops}
 use Rattle.run_rules.specs.declared.applied.Answer.{Answer}
 use Rattle.run_rules.specs.declared.step.Asked.{Asked}
 use Rattle.run_rules.specs.declared.step.Labelled.{Labelled}
@@ -48,12 +43,12 @@ line_same : (a b : Line) → Some a ≡ Some b → a ≡ b
 line_same a b e = cc
 
 -- what is so of a run is so of its earlier part
-always_before : (P : List Step → Step → Type 0) (more past : List Step) → Always P (after more past) → Always P past
+always_before : (P : List Step → Step → Type 0) (more past : List Step) → Always P (appended more past) → Always P past
 always_before P [] past all = all
 always_before P (x ∷ more) past all = (always_before P more (x ∷ past) all).0
 
 module _ (start : Tree) (firsts : ServerId → ℕ) (c : Contents) where
-  throughout_before : (more past : List Step) → IsThroughout start firsts c (after more past)
+  throughout_before : (more past : List Step) → IsThroughout start firsts c (appended more past)
       → IsThroughout start firsts c past
   throughout_before [] past all = all
   throughout_before (x ∷ more) past all = (throughout_before more (x ∷ past) all).0
@@ -66,10 +61,10 @@ module _ (start : Tree) (firsts : ServerId → ℕ) (c : Contents) where
 module _ (script : Script) (start : Tree) (firsts : ServerId → ℕ) (real : (v : ServerId) → 0 < firsts v) where
   module _ (past : List Step) (run : StepsMeet script start firsts past) (h : HostId) where
     abbrev A : List Step
-    A = own h past
+    A = steps_of_host h past
 
     -- no server takes a host for away that has something in use and hasn't stopped
-    not_away : (u : Labelled) → InUse A u → (HasStopped A → ⊥) → (v : ServerId) → Away (acts (firsts v) v past) h → ⊥
+    not_away : (u : Labelled) → LabelInUse A u → (HasStopped A → ⊥) → (v : ServerId) → HasGoneAway (doings_of (firsts v) v past) h → ⊥
     not_away u usage live v away =
         let w = whole script start firsts real past run in
         elim (((w.at v).link h).away away) [
@@ -78,14 +73,14 @@ module _ (script : Script) (start : Tree) (firsts : ServerId → ℕ) (real : (v
               (use_owned script h A (host_run script start firsts real past run h) u usage)
         ]
 
-    used_locked : (u : Labelled) → InUse A u → (HasStopped A → ⊥) → Locked firsts past h u
+    used_locked : (u : Labelled) → LabelInUse A u → (HasStopped A → ⊥) → Locked firsts past h u
     used_locked u usage live =
         ((all script start firsts real past run).uses h u.token.id.server).use_locked u refl usage
         (not_away u usage live u.token.id.server)
 
     -- what isn't in use any more is in a give-back for the open call
     locked_used : (u : Labelled) → Locked firsts past h u
-        → InUse A u ⊎ ((k : ℕ) × IsOpen A (record { k = k; call = end_of u }))
+        → LabelInUse A u ⊎ ((k : ℕ) × IsOpen A (record { k = k; call = end_of u }))
     locked_used u l =
         elim (locked_had script start firsts real past run h u l) [
           | inl usage ↦ inl usage
@@ -97,7 +92,7 @@ module _ (script : Script) (start : Tree) (firsts : ServerId → ℕ) (real : (v
           )
         ]
 
-    idle_used : NoneOpen A → (u : Labelled) → Locked firsts past h u → InUse A u
+    idle_used : NoneOpen A → (u : Labelled) → Locked firsts past h u → LabelInUse A u
     idle_used none u l = elim (locked_used u l) [
       | inl usage ↦ usage
       | inr (k, o) ↦ absurd (none (record { k = k; call = end_of u }) o)
@@ -168,7 +163,7 @@ module _ (script : Script) (start : Tree) (firsts : ServerId → ℕ) (real : (v
         let next = m.lines.next stop.0 stop.2 in
         let deed : next.0.deed ≡ Stop =
         ap (λ (line : Line). line.deed) (line_same next.0 stop.1 (sym next.1.0 ∙ stop.3.0)) ∙ stop.4 in
-        let none = subst (λ (d : Deed). DoesDeed (servers_of script.roster) mine s d) deed next.2 in
+        let none = subst (λ (d : Deed). DoesLine (servers_of script.roster) mine s d) deed next.2 in
         elim (subst (In a) none.3 i) [ ]
 
     idle_after : (HasStopped (s ∷ mine) → ⊥) × NoneOpen (s ∷ mine)
@@ -186,9 +181,9 @@ module _ (script : Script) (start : Tree) (firsts : ServerId → ℕ) (real : (v
     where
       leaves : LeavesIdle script firsts past s
       leaves h a node i =
-          subst (λ (n : Node). Idle (own_after h n s (own h past))) (sym node)
-          (host_split Idle h h (s ∷ own h past) (own h past)
-          (λ _. idle_after h (own h past) s (host_run script start firsts real past run.0 h) met.0 a i)
+          subst (λ (n : Node). Idle (own_after h n s (steps_of_host h past))) (sym node)
+          (host_split Idle h h (s ∷ steps_of_host h past) (steps_of_host h past)
+          (λ _. idle_after h (steps_of_host h past) s (host_run script start firsts real past run.0 h) met.0 a i)
           (λ two. absurd (two refl)))
         where
           Idle : List Step → Type 0

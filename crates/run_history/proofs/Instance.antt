@@ -11,10 +11,8 @@ use Rattle.script_lines.specs.declared.script.Script.{Script}
 use Rattle.tree_laws.specs.Parts.{Part, Seen}
 use Rattle.tree_laws.specs.Parts.Part.{ByteAt, Entries, Size, Traits}
 use Rattle.run_rules.specs.Runs.{IsRun, firsts_of, past_of}
+use Rattle.run_rules.specs.Views.{gives_at, part_told, sees as host_sees, writes_to}
 use Rattle.run_history.specs.Coherent.{RunsAreCoherent}
-use Rattle.run_rules.specs.Dirty.{gives_at}
-use Rattle.run_rules.specs.Views.{sees as host_sees, writes_to}
-use Rattle.run_rules.specs.Told.{told}
 use Rattle.run_rules.specs.declared.journal.Journal.{Journal}
 use Rattle.run_parts.proofs.PlaceLaw.{keeps_tree, legal, lies_inside, loses_exactly, sees_present}
 use Rattle.run_parts.specs.Contents.{Contents, IsData}
@@ -59,7 +57,7 @@ gives_data g Entries x e = cc
 pub contents_of : Tree → (ServerId → ℕ) → Contents
 contents_of start firsts = record {
   start = kept_view start;
-  tells = told;
+  tells = part_told;
   gives = gives;
   wrote = wrote;
   shown = shown;

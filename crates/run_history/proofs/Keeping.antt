@@ -21,8 +21,8 @@ use Rattle.need_laws.specs.Keeps.{KeepsAll}
 use Rattle.need_laws.specs.Known.{SameAt, filesets_of, is_known, is_record_of, records_of}
 use Rattle.run_history.specs.Changes.{are_home, is_home}
 use Rattle.run_history.specs.PastStanding.{KeepsAs}
-use Rattle.run_rules.specs.Kept.{kept_first}
-use Rattle.run_rules.specs.Lists.{In}
+use Rattle.run_rules.specs.Kept.{filesets_first}
+use Rattle.run_rules.specs.Past.{In}
 
 -- lists
 pub filter_mapped : {X Y : Type 0} (p : Y → Bool) (q : X → Bool) (f : X → Y) → ((x : X) → p (f x) ≡ q x) → (xs : List X)
@@ -196,9 +196,9 @@ rest_all (x ∷ xs) e =
     λ i. rest_fileset x q.0 i ∷ rest_all xs q.1 i
 
 pub starts_as : (v : ServerId) (start : Tree) → list_all is_at_rest start.filesets ≡ true → start.away ≡ []
-    → KeepsAs v (kept_first start v) start
+    → KeepsAs v (filesets_first start v) start
 starts_as v start rests none = record {
-  same = from_list v (kept_first start v) start refl refl refl (filter_all (is_its v) start.filesets) none
+  same = from_list v (filesets_first start v) start refl refl refl (filter_all (is_its v) start.filesets) none
       (sym (ap (λ xs. filter (is_its v) xs) (rest_all start.filesets rests))
       ∙ filter_mapped (is_its v) (is_its v) kept_fileset (λ x. refl) start.filesets);
   own = filter_all (is_its v) start.filesets;

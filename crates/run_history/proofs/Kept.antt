@@ -27,18 +27,18 @@ use Rattle.run_history.specs.Changes.{EachChange, is_home}
 use Rattle.run_history.proofs.Keeping.{all_mapped, filter_mapped, filter_some, is_its, its_filesets, no_records}
 use Rattle.run_history.proofs.Moves.{never_after, never_moved}
 use Rattle.run_contents.proofs.Keeping.{split}
-use Rattle.run_rules.specs.Kept.{is_refusal, kept, kept_after, kept_through, pieces_in, takes_gifts, content_given}
-use Rattle.run_rules.specs.Kept.{tree_given}
-use Rattle.run_rules.specs.ServerApplies.{by_cause, decisions}
-use Rattle.run_rules.specs.Wants.{is_move}
-use Rattle.run_tokens.proofs.Words.{if_server}
-use Rattle.run_rules.specs.Acts.{Act, acts, after_cause}
-use Rattle.run_rules.specs.Acts.Act.{Wants, Writes}
-use Rattle.run_rules.specs.Lists.{Always}
-use Rattle.run_rules.specs.Nodes.{is_node, served}
-use Rattle.run_rules.specs.declared.applied.Applied.{Applied}
-use Rattle.run_rules.specs.declared.applied.Applied.TheVariants.{Done as IsDone, Ends, IsDown, Stored}
+use Rattle.run_rules.specs.Doings.{Doing, after_cause, doings_of}
+use Rattle.run_rules.specs.Doings.Doing.{MakesWant, WritesDown}
+use Rattle.run_rules.specs.Kept.{content_given, filesets_after, filesets_kept, filesets_through, is_refusal, pieces_in}
+use Rattle.run_rules.specs.Kept.{takes_gifts, tree_given}
+use Rattle.run_rules.specs.Past.{Always}
+use Rattle.run_rules.specs.ServerDecides.{by_cause, decisions}
+use Rattle.run_rules.specs.Steps.{is_node, steps_of_server}
+use Rattle.run_rules.specs.Wants.{moves_fileset}
+use Rattle.run_rules.specs.declared.applied.Applied.TheVariants.{Done as IsDone, IsDown, Replied, Stored}
 use Rattle.run_rules.specs.declared.applied.Applied.TheVariants.{Wants as IsWanted}
+use Rattle.run_tokens.proofs.Words.{if_server}
+use Rattle.run_rules.specs.declared.applied.Applied.{Applied}
 use Rattle.run_rules.specs.declared.applied.Written.{Written}
 use Rattle.run_rules.specs.declared.step.Cause.{Cause}
 use Rattle.run_rules.specs.declared.step.Step.{Step}
@@ -90,17 +90,17 @@ given_unmoved tree fid pieces given e = (
 )
 
 -- what a Change leaves
-not_move : (v : ServerId) (c : Call) → IsAt v c → is_move c ≡ false
+not_move : (v : ServerId) (c : Call) → IsAt v c → moves_fileset c ≡ false
 not_move v (MoveFileset server name to) at = elim at [ ]
 not_move v _ at = refl
 
-done_unmoved : (v : ServerId) (cause : Cause) (S : List Act) (K : Tree) (x : Written) → MeantSo v cause S K x
-    → Unmoved K → Unmoved (kept_after cause K (IsDone x))
+done_unmoved : (v : ServerId) (cause : Cause) (S : List Doing) (K : Tree) (x : Written) → MeantSo v cause S K x
+    → Unmoved K → Unmoved (filesets_after cause K (IsDone x))
 done_unmoved v cause S K x (Refuses refused legal) e =
     subst (λ (b : Bool). Unmoved (if b then K else (answer_to K x.answer.host x.answer.call).tree)) (sym refused) e
 done_unmoved v cause S K x (Decides change at) e = go (is_refusal x.answer.reply)
   where
-    stays : is_move x.answer.call ≡ false
+    stays : moves_fileset x.answer.call ≡ false
     stays = not_move v x.answer.call at
 
     go : (b : Bool) → Unmoved (if b then K else (answer_to K x.answer.host x.answer.call).tree)
@@ -111,49 +111,49 @@ done_unmoved v cause S K x (Decides change at) e = go (is_refusal x.answer.reply
     )
 
 cause_unmoved : (cause : Cause) (xs : List Applied) (K : Tree) → Unmoved K
-    → Unmoved (kept_through cause (by_cause xs) K)
+    → Unmoved (filesets_through cause (by_cause xs) K)
 cause_unmoved cause [] K e = e
 cause_unmoved cause (Stored h f ss n ∷ xs) K e =
     cause_unmoved cause xs (tree_given K f (pieces_in cause) n) (given_unmoved K f (pieces_in cause) n e)
-cause_unmoved cause (Ends x ∷ xs) K e = cause_unmoved cause xs K e
+cause_unmoved cause (Replied x ∷ xs) K e = cause_unmoved cause xs K e
 cause_unmoved cause (IsDown h ∷ xs) K e = cause_unmoved cause xs K e
 cause_unmoved cause (IsWanted x ∷ xs) K e = e
 cause_unmoved cause (IsDone x ∷ xs) K e = e
 
-decided_unmoved : (v : ServerId) (cause : Cause) (xs : List Applied) (S : List Act) (K : Tree)
-    → EachChange (MeantSo v cause) cause K S xs → Unmoved K → Unmoved (kept_through cause xs K)
+decided_unmoved : (v : ServerId) (cause : Cause) (xs : List Applied) (S : List Doing) (K : Tree)
+    → EachChange (MeantSo v cause) cause K S xs → Unmoved K → Unmoved (filesets_through cause xs K)
 decided_unmoved v cause [] S K meant e = e
 decided_unmoved v cause (IsDone x ∷ xs) S K meant e =
-    decided_unmoved v cause xs (Writes x ∷ S) (kept_after cause K (IsDone x)) meant.1
+    decided_unmoved v cause xs (WritesDown x ∷ S) (filesets_after cause K (IsDone x)) meant.1
     (done_unmoved v cause S K x meant.0 e)
-decided_unmoved v cause (IsWanted x ∷ xs) S K meant e = decided_unmoved v cause xs (Wants x ∷ S) K meant e
+decided_unmoved v cause (IsWanted x ∷ xs) S K meant e = decided_unmoved v cause xs (MakesWant x ∷ S) K meant e
 decided_unmoved v cause (Stored h f ss n ∷ xs) S K meant e =
     decided_unmoved v cause xs S (tree_given K f (pieces_in cause) n) meant
     (given_unmoved K f (pieces_in cause) n e)
-decided_unmoved v cause (Ends x ∷ xs) S K meant e = decided_unmoved v cause xs S K meant e
+decided_unmoved v cause (Replied x ∷ xs) S K meant e = decided_unmoved v cause xs S K meant e
 decided_unmoved v cause (IsDown h ∷ xs) S K meant e = decided_unmoved v cause xs S K meant e
 
 -- what servers keep
 module _ (start : Tree) (firsts : ServerId → ℕ) (first : Unmoved start) where
   step_unmoved : (past : List Step) (s : Step) (v : ServerId) → s.node ≡ Server v → DecidesMeant start firsts past s
-      → Unmoved (kept start v (served v past)) → Unmoved (kept_through s.cause s.applied (kept start v (served v past)))
+      → Unmoved (filesets_kept start v (steps_of_server v past)) → Unmoved (filesets_through s.cause s.applied (filesets_kept start v (steps_of_server v past)))
   step_unmoved past s v node meant e =
-      let K = kept start v (served v past) in
+      let K = filesets_kept start v (steps_of_server v past) in
       subst Unmoved (sym (split s.cause s.applied K))
-      (decided_unmoved v s.cause (decisions s.applied) (after_cause s.cause (acts (firsts v) v past))
-      (kept_through s.cause (by_cause s.applied) K) (meant v node) (cause_unmoved s.cause s.applied K e))
+      (decided_unmoved v s.cause (decisions s.applied) (after_cause s.cause (doings_of (firsts v) v past))
+      (filesets_through s.cause (by_cause s.applied) K) (meant v node) (cause_unmoved s.cause s.applied K e))
 
   node_unmoved : (n : Node) (past : List Step) (s : Step)
-      → ((v : ServerId) → n ≡ Server v → Unmoved (kept_through s.cause s.applied (kept start v (served v past))))
-      → (v : ServerId) → Unmoved (kept start v (served v past))
-      → Unmoved (kept start v (if is_node n (Server v) then s ∷ served v past else served v past))
+      → ((v : ServerId) → n ≡ Server v → Unmoved (filesets_through s.cause s.applied (filesets_kept start v (steps_of_server v past))))
+      → (v : ServerId) → Unmoved (filesets_kept start v (steps_of_server v past))
+      → Unmoved (filesets_kept start v (if is_node n (Server v) then s ∷ steps_of_server v past else steps_of_server v past))
   node_unmoved (Host h) past s new v old = old
   node_unmoved (Server k) past s new v old =
-      if_server (λ L. Unmoved (kept start v L)) k v (s ∷ served v past) (served v past)
+      if_server (λ L. Unmoved (filesets_kept start v L)) k v (s ∷ steps_of_server v past) (steps_of_server v past)
       (λ e. new v (λ i. Server (e i))) old
 
   pub kept_unmoved : (past : List Step) → Always (DecidesMeant start firsts) past → (v : ServerId)
-      → Unmoved (kept start v (served v past))
+      → Unmoved (filesets_kept start v (steps_of_server v past))
   kept_unmoved [] meant v = (
     filter_some is_home (λ (fileset : Fileset). fileset.server.0 == v.0) start.filesets first.0,
     filter_some never_moved (λ (fileset : Fileset). fileset.server.0 == v.0) start.filesets first.1,

@@ -23,11 +23,14 @@ use Rattle.tree_laws.proofs.Steps.{fid_is}
 use Rattle.tree_laws.specs.Fates.{is_of}
 use Rattle.tree_laws.specs.Parts.{Cell, Part, Seen, Written, cell_at, present}
 use Rattle.tree_laws.specs.Parts.Part.{ByteAt, Entries, Size, Traits}
+use Rattle.run_rules.specs.Doings.{HasGoneAway, IsApplied, doings_of}
+use Rattle.run_rules.specs.Past.{In}
 use Rattle.run_rules.specs.Runs.{StepMeets, StepsMeet}
+use Rattle.run_rules.specs.Steps.{steps_of_host}
+use Rattle.run_rules.specs.Tokens.{AtHand, IsKnown, Made, Owns, number_of}
+use Rattle.run_rules.specs.Views.{IsClean, IsLastLength, LengthIsClean, sees as host_sees}
 use Rattle.run_parts.proofs.Words.{host_split}
 use Rattle.run_history.proofs.Sound.{sees_zero, view_zero}
-use Rattle.run_rules.specs.Dirty.{IsClean, IsLastLength, LengthIsClean}
-use Rattle.run_rules.specs.Views.{sees as host_sees}
 use Rattle.run_parts.proofs.Cells.{none_some}
 use Rattle.run_parts.proofs.Invariant.{Shown}
 use Rattle.run_parts.proofs.PlaceLaw.{Kept}
@@ -43,13 +46,6 @@ use Rattle.run_contents.specs.Steps.{HostRun, IsOfJournal}
 use Rattle.run_tokens.proofs.Invariant.{Link}
 use Rattle.run_tokens.proofs.Law.{Whole}
 use Rattle.run_tokens.proofs.Words.{own_after}
-use Rattle.run_rules.specs.Acts.{acts}
-use Rattle.run_rules.specs.Gives.{IsKnown, Made, number_of}
-use Rattle.run_rules.specs.Grants.{Applied}
-use Rattle.run_rules.specs.Hosts.{Away}
-use Rattle.run_rules.specs.Lists.{In}
-use Rattle.run_rules.specs.Nodes.{own}
-use Rattle.run_rules.specs.Tokens.{AtHand, Owns}
 use Rattle.run_rules.specs.declared.step.Step.{Step}
 
 -- a token among some that shows a part
@@ -98,7 +94,7 @@ module _ (script : Script) (start : Tree) (firsts : ServerId → ℕ) (c : Conte
     (m : StepMeets script start firsts (Host h) past s) (tree_is : Tree) (formed : IsWellFormed tree_is)
     (cells : (f : Fid) (p : Part) → cell_at tree_is f p ≡ tree c past f p) where
   abbrev A : List Step
-  A = own h past
+  A = steps_of_host h past
 
   own_steps : HostRun script h A
   own_steps = own_run script start firsts past run h
@@ -124,14 +120,14 @@ module _ (script : Script) (start : Tree) (firsts : ServerId → ℕ) (c : Conte
           ∙ sym (nothing_beyond tree_is f at formed far))
 
   -- of a file that it calls clean nothing of its own is unsaved
-  module _ (kept : Kept c firsts past) (whole : Whole (λ k. own_after k (Host h) s (own k past)) (λ v. acts (firsts v) v past))
+  module _ (kept : Kept c firsts past) (whole : Whole (λ k. own_after k (Host h) s (steps_of_host k past)) (λ v. doings_of (firsts v) v past))
       (legal : LegalStep c firsts (Host h) s past) where
     abbrev at : (f : Fid) → Shown c h A (tree c past) (site f) (served_deeds c (firsts (site f)) (site f) past)
     at f = (kept.at (site f)).shown h
 
-    link : (v : ServerId) → Link h v (s ∷ A) (acts (firsts v) v past)
+    link : (v : ServerId) → Link h v (s ∷ A) (doings_of (firsts v) v past)
     link v =
-        subst (λ L. Link h v L (acts (firsts v) v past))
+        subst (λ L. Link h v L (doings_of (firsts v) v past))
         (host_split (λ L. L ≡ s ∷ A) h h (s ∷ A) A (λ _. refl) (λ two. absurd (two refl))) ((whole.at v).link h)
 
     held : (t : Token) → Owns A t → AtHand s A t
@@ -139,13 +135,13 @@ module _ (script : Script) (start : Tree) (firsts : ServerId → ℕ) (c : Conte
 
     -- what is known as applied is applied
     applied : (g : Give) (f : Fid) → g.fid ≡ f → IsKnown (s ∷ A) g
-        → Applied (site f) (acts_in (served_deeds c (firsts (site f)) (site f) past)) h (number_of g)
+        → IsApplied (site f) (acts_in (served_deeds c (firsts (site f)) (site f) past)) h (number_of g)
     applied g f file known =
-        subst (λ S. Applied (site f) S h (number_of g)) (sym (kept.same (site f)))
+        subst (λ S. IsApplied (site f) S h (number_of g)) (sym (kept.same (site f)))
         ((link (site f)).known (number_of g) (ap site file) known)
 
     none_pending : (f : Fid) → IsClean A s f → (p : Part) → (x : Seen p) → (tree c past f p).unsaved ≡ Some (by h x)
-        → (Away (acts_in (served_deeds c (firsts (site f)) (site f) past)) h → ⊥) → Pending c A f p → ⊥
+        → (HasGoneAway (acts_in (served_deeds c (firsts (site f)) (site f) past)) h → ⊥) → Pending c A f p → ⊥
     none_pending f k (ByteAt q) x e live d =
         let u = (kept.seen h).dirty_owned q f d in
         let b = update_byte u.token.kind q u.covers u.update in
@@ -166,7 +162,7 @@ module _ (script : Script) (start : Tree) (firsts : ServerId → ℕ) (c : Conte
         seen_now = subst (λ (g : Fid). sees c A s g Size ≡ view c A g Size) u.file
             (legal u.token Size (held u.token u.owned) u.covers
             ∙ sym ((at u.token.fid).cached Size u.token refl u.owned u.covers
-            (λ w. live (subst (λ (g : Fid). Away (acts_in (served_deeds c (firsts (site g)) (site g) past)) h) u.file w))))
+            (λ w. live (subst (λ (g : Fid). HasGoneAway (acts_in (served_deeds c (firsts (site g)) (site g) past)) h) u.file w))))
 
         unclean : LengthIsClean A s u.token.fid → ⊥
         unclean l =

@@ -20,7 +20,7 @@ use Rattle.tree_laws.specs.Labels.{UsesAgree, each_two, locks_agree, opens_agree
 use Rattle.tree_laws.proofs.Steps.{same_number}
 use Rattle.run_history.proofs.Answering.{SameLabels}
 use Rattle.run_contents.proofs.Words.{any_in, in_any}
-use Rattle.run_rules.specs.Lists.{EachOnce, In}
+use Rattle.run_rules.specs.Past.{EachOnce, In}
 
 -- a list without one of its elements
 one_less : {X : Type 0} (x : X) (ys : List X) → In x ys → (zs : List X) × (length ys ≡ suc (length zs))

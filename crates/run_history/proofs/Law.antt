@@ -13,15 +13,19 @@ use Rattle.tree_answers.specs.declared.tree.Tree.{Tree}
 use Rattle.need_server.specs.Kept.{kept_tree}
 use Rattle.script_lines.specs.declared.script.Script.{Script}
 use Rattle.need_laws.specs.Known.{SameAt}
-use Rattle.run_rules.specs.Coherence.{CachedAt, CachedExactly}
-use Rattle.run_rules.specs.Runs.{IsRun, firsts_of, past_of}
+use Rattle.run_rules.specs.Doings.{after_cause, doings_of}
+use Rattle.run_rules.specs.Kept.{filesets_kept, filesets_through}
+use Rattle.run_rules.specs.Past.{Always, appended}
+use Rattle.run_rules.specs.Runs.{IsLegalPast, IsRun, entries_of, firsts_of, history, history_of, past_of, tree_at}
+use Rattle.run_rules.specs.ServerDecides.{by_cause}
+use Rattle.run_rules.specs.Steps.{steps_of_host, steps_of_server}
+use Rattle.run_tokens.specs.CacheLaws.{CachedAt, CachedExactly}
 use Rattle.run_history.proofs.Answered.{answers_from_cache_exactly, cached_at}
 use Rattle.run_history.proofs.ChangeLaw.{servers_decide}
 use Rattle.run_history.proofs.Instance.{contents_of, is_of_run}
 use Rattle.run_history.specs.Agreement.{CellsAgree, LeadsTo}
 use Rattle.run_history.specs.Changes.{DecidesLegally}
-use Rattle.run_history.specs.Exactly.{CachedOn}
-use Rattle.run_rules.specs.Histories.{IsLegalPast, entries_of, history, history_of, tree_at}
+use Rattle.run_tokens.specs.CacheLaws.{CachedOn}
 use Rattle.run_rules.specs.declared.journal.Journal.{Journal}
 use Rattle.run_history.proofs.PastDeciding.{all_legal}
 use Rattle.run_history.proofs.PassLaw.{always_both, always_map, hosts_pass, servers_pass, starts_stand}
@@ -32,11 +36,6 @@ use Rattle.run_history.specs.Past.{RunsAreLegal, ServersKeepTheTree}
 use Rattle.run_history.specs.PastStanding.{PassesOn, Stands}
 use Rattle.run_parts.specs.Contents.{Contents}
 use Rattle.run_contents.specs.Instance.{IsOfRun}
-use Rattle.run_rules.specs.Kept.{kept, kept_through}
-use Rattle.run_rules.specs.ServerApplies.{by_cause}
-use Rattle.run_rules.specs.Acts.{acts, after_cause}
-use Rattle.run_rules.specs.Lists.{Always, after}
-use Rattle.run_rules.specs.Nodes.{own, served}
 use Rattle.run_rules.specs.declared.step.Step.{Step}
 use Rattle.run_history.proofs.UseHostLaw.{labels_begin}
 use Rattle.run_history.proofs.Meaning.{changes_are_meant}
@@ -66,8 +65,8 @@ module _ (script : Script) (journal : Journal) (run : IsRun script journal) (c :
 
   each_legal : (past : List Step) (s : Step) → Decided past s → EachLegal past s
   each_legal past s k v node =
-      all_legal v s (kept_through s.cause (by_cause s.applied) (kept start v (served v past)))
-      (after_cause s.cause (acts (firsts v) v past)) (LabelsStand firsts (s ∷ past))
+      all_legal v s (filesets_through s.cause (by_cause s.applied) (filesets_kept start v (steps_of_server v past)))
+      (after_cause s.cause (doings_of (firsts v) v past)) (LabelsStand firsts (s ∷ past))
       (λ t labels x i. k.1.1 v t node labels x i) (k.0.0 v node) (k.0.1 v node) (k.1.0 v node)
 
   -- names go on
@@ -75,7 +74,7 @@ module _ (script : Script) (journal : Journal) (run : IsRun script journal) (c :
   NamesGoOnAt past s =
       (old new : Tree) → NamesStand firsts past old → ((server : ServerId) (name : List ℕ) (id : FilesetId)
       → LeadsTo old server name id → LeadsTo new server name id)
-      → ((v : ServerId) → SameAt v (kept start v (served v (s ∷ past))) (kept_tree new))
+      → ((v : ServerId) → SameAt v (filesets_kept start v (steps_of_server v (s ∷ past))) (kept_tree new))
       → NamesStand firsts (s ∷ past) new
 
   -- what is known of a step
@@ -155,7 +154,7 @@ module _ (script : Script) (journal : Journal) (run : IsRun script journal) (c :
   abbrev Cached : List Step → Step → Type 0
   Cached before s =
       ((host : HostId) (tree_is : Tree) → s.node ≡ Host host → IsWellFormed tree_is → CellsAgree c before tree_is
-      → CachedOn script.roster host (own host before) s (tree_view tree_is))
+      → CachedOn script.roster host (steps_of_host host before) s (tree_view tree_is))
       × IsOfPast start firsts c before (tree_at start before)
 
   exact_at : (before : List Step) (s : Step) → Cached before s → (host : HostId) → s.node ≡ Host host
@@ -180,7 +179,7 @@ join_three : {X : Type 0} (a b d : List X) → (a ++ b) ++ d ≡ a ++ (b ++ d)
 join_three [] b d = refl
 join_three (x ∷ a) b d = ap (λ zs. x ∷ zs) (join_three a b d)
 
-pub same_history : (steps past : List Step) → history (after steps past) ≡ history past ++ history_of steps
+pub same_history : (steps past : List Step) → history (appended steps past) ≡ history past ++ history_of steps
 same_history [] past = sym (none_more (history past))
 same_history (s ∷ more) past =
     same_history more (s ∷ past) ∙ join_three (history past) (entries_of s) (history_of more)

@@ -4,7 +4,7 @@ use Rattle.std.proofs.Common.{arith, inl, inr, ◌⊎◌}
 use Rattle.std.specs.List.{count_by, list_any}
 use Rattle.tree_answers.proofs.Totals.{total, sum_total}
 use Rattle.run_contents.proofs.Words.{any_in, in_any}
-use Rattle.run_rules.specs.Lists.{EachOnce, In}
+use Rattle.run_rules.specs.Past.{EachOnce, In}
 
 -- an element with what stands before and behind it
 split_in : {X : Type 0} (x : X) (ys : List X) → In x ys → (l : List X) × (r : List X) × (ys ≡ l ++ x ∷ r)

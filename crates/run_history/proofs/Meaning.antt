@@ -34,7 +34,19 @@ use Rattle.token_types.specs.Conflicts.{any_conflict, blocks, need_of}
 use Rattle.token_types.specs.declared.token.Need.{Need}
 use Rattle.token_types.specs.declared.token.Token.{Token}
 use Rattle.tree_laws.specs.Parts.{cell_at}
+use Rattle.run_rules.specs.Doings.{Doing, TookNow, after_cause, doings_of}
+use Rattle.run_rules.specs.Doings.Doing.{MakesWant, WritesDown}
+use Rattle.run_rules.specs.Kept.{filesets_after, filesets_kept, filesets_through, is_refusal, pieces_in, takes_gifts}
+use Rattle.run_rules.specs.Kept.{tree_given}
+use Rattle.run_rules.specs.Past.{Always}
 use Rattle.run_rules.specs.Runs.{StepMeets, StepsMeet, firsts_of, past_of}
+use Rattle.run_rules.specs.ServerDecides.{DecidedSo, IsOfRow, IsWrittenSo, MayDecideAll, NotRefused, RefusedOn}
+use Rattle.run_rules.specs.ServerDecides.{by_cause, decisions, refusal_of}
+use Rattle.run_rules.specs.ServerDecides.DecidedSo.{IsRefusedByTable, MeetsPinned, TakesEffect}
+use Rattle.run_rules.specs.Steps.{is_node, steps_of_server}
+use Rattle.run_rules.specs.Wants.{CanRefuse, asker, body_of, has_effect, is_use, moves_fileset, row_needs}
+use Rattle.run_rules.specs.declared.applied.Applied.TheVariants.{Done as IsDone, IsDown, Replied, Stored}
+use Rattle.run_rules.specs.declared.applied.Applied.TheVariants.{Wants as IsWanted}
 use Rattle.run_history.specs.Changes.{AgreesKept, EachChange, IsLegalChange, are_home}
 use Rattle.run_parts.specs.Cells.{cell_after}
 use Rattle.run_parts.specs.Cells.Does.{Nothing}
@@ -42,21 +54,8 @@ use Rattle.run_contents.proofs.Grants.{Heard, taken_took}
 use Rattle.run_contents.proofs.Keeping.{split}
 use Rattle.run_contents.proofs.Servers.{took_in}
 use Rattle.run_contents.specs.Doing.{changes, wanted_by}
-use Rattle.run_rules.specs.Kept.{is_refusal, kept, kept_after, kept_through, pieces_in, takes_gifts, tree_given}
-use Rattle.run_rules.specs.ServerApplies.{by_cause, decisions}
-use Rattle.run_rules.specs.ServerDecides.{DecidedSo, IsOfRow, IsWrittenSo, MayDecideAll, NotRefused, RefusedOn}
-use Rattle.run_rules.specs.ServerDecides.{refusal_of}
-use Rattle.run_rules.specs.ServerDecides.DecidedSo.{HasEffect, IsRefused, MeetsPinned}
-use Rattle.run_rules.specs.Wants.{CanRefuse, asker, body_of, has_effect, is_move, is_use, row_needs}
 use Rattle.run_tokens.proofs.Words.{if_server}
-use Rattle.run_rules.specs.Acts.{Act, acts, after_cause}
-use Rattle.run_rules.specs.Acts.Act.{Wants, Writes}
-use Rattle.run_rules.specs.Hosts.{TookNow}
-use Rattle.run_rules.specs.Lists.{Always}
-use Rattle.run_rules.specs.Nodes.{is_node, served}
 use Rattle.run_rules.specs.declared.applied.Applied.{Applied}
-use Rattle.run_rules.specs.declared.applied.Applied.TheVariants.{Done as IsDone, Ends, IsDown, Stored}
-use Rattle.run_rules.specs.declared.applied.Applied.TheVariants.{Wants as IsWanted}
 use Rattle.run_rules.specs.declared.applied.Written.{Written}
 use Rattle.run_rules.specs.declared.step.Cause.{Cause}
 use Rattle.run_rules.specs.declared.step.Step.{Step}
@@ -74,10 +73,10 @@ row_is K w c row = row.0
 
 enter_no_effect : (c : ChangeOf) → c.enter ≡ true → has_effect c ≡ true → ⊥
 enter_no_effect c e h =
-    false≢true (sym (ap (λ (b : Bool). not b && not (is_use c.call) && not (is_move c.call)) e) ∙ h)
+    false≢true (sym (ap (λ (b : Bool). not b && not (is_use c.call) && not (moves_fileset c.call)) e) ∙ h)
 
-move_no_effect : (c : ChangeOf) → is_move c.call ≡ true → has_effect c ≡ true → ⊥
-move_no_effect c e h = go (not c.enter && not (is_use c.call)) (is_move c.call) e h
+move_no_effect : (c : ChangeOf) → moves_fileset c.call ≡ true → has_effect c ≡ true → ⊥
+move_no_effect c e h = go (not c.enter && not (is_use c.call)) (moves_fileset c.call) e h
   where
     go : (a b : Bool) → b ≡ true → (a && not b) ≡ true → ⊥
     go true true q r = false≢true r
@@ -91,7 +90,7 @@ unblocked a needs t e b =
     (sym (ap (λ ns. blocks a ns t) e) ∙ b)).1
 
 -- what is refused in the tree too is legal
-module _ (v : ServerId) (cause : Cause) (S : List Act) (K : Tree) (x : Written) (T : Tree) (agree : AgreesKept v S K T)
+module _ (v : ServerId) (cause : Cause) (S : List Doing) (K : Tree) (x : Written) (T : Tree) (agree : AgreesKept v S K T)
   where
     abbrev host : HostId
     host = x.answer.host
@@ -121,7 +120,7 @@ module _ (v : ServerId) (cause : Cause) (S : List Act) (K : Tree) (x : Written) 
         }
 
 -- a Change that is written down
-module _ (v : ServerId) (cause : Cause) (S : List Act) (K : Tree) (unmoved : K.away ≡ []) (x : Written)
+module _ (v : ServerId) (cause : Cause) (S : List Doing) (K : Tree) (unmoved : K.away ≡ []) (x : Written)
     (so : IsWrittenSo v K S x) where
   abbrev its_host : HostId
   its_host = x.answer.host
@@ -145,7 +144,7 @@ module _ (v : ServerId) (cause : Cause) (S : List Act) (K : Tree) (unmoved : K.a
           option_map_or (λ user. want K user so.change.call) (user_of K.roster so.w.host) []) enter
 
       by : DecidedSo v K S so.w so.change x.answer.reply → MeantSo v cause S K x
-      by (IsRefused refusal on is) =
+      by (IsRefusedByTable refusal on is) =
           let none : refusal ≡ NoFileset = on.1 enter in
           Refuses (ap is_refusal is) (λ T agree free used.
           refused_legal v cause S K x T agree NoFileset (is ∙ ap Refused none)
@@ -153,15 +152,15 @@ module _ (v : ServerId) (cause : Cause) (S : List Act) (K : Tree) (unmoved : K.a
           (on_host refusal on ∙ ap Refused none)))
       by (MeetsPinned none row can is) =
           absurd (unblocked (asker so.w) so.w.needs can.pinned.0 (no_needs row) can.pinned.2)
-      by (HasEffect effect row can is) = absurd (enter_no_effect so.change enter effect)
+      by (TakesEffect effect row can is) = absurd (enter_no_effect so.change enter effect)
 
   -- one that moves a fileset
   moved : so.change.enter ≡ false → (name : List ℕ) (to : ServerId) → so.change.call ≡ MoveFileset v name to
       → MeantSo v cause S K x
   moved enter name to is_call = by so.so
     where
-      moves : is_move so.change.call ≡ true
-      moves = ap is_move is_call
+      moves : moves_fileset so.change.call ≡ true
+      moves = ap moves_fileset is_call
 
       same_call : its_call ≡ MoveFileset v name to
       same_call = so.call ∙ is_call
@@ -215,7 +214,7 @@ module _ (v : ServerId) (cause : Cause) (S : List Act) (K : Tree) (unmoved : K.a
               (used can.pinned.0 can.pinned.1)
 
       by : DecidedSo v K S so.w so.change x.answer.reply → MeantSo v cause S K x
-      by (IsRefused refusal on is) =
+      by (IsRefusedByTable refusal on is) =
           Refuses (ap is_refusal is) (λ T agree free used.
           refused_legal v cause S K x T agree refusal is
           (in_tree T refusal (move_alike v K T its_host name to agree.formed agree.same (of_server T agree) refusal
@@ -225,7 +224,7 @@ module _ (v : ServerId) (cause : Cause) (S : List Act) (K : Tree) (unmoved : K.a
           is ∙ ap (λ (y : Call). Refused (refusal_of y)) is_call in
           Refuses (ap is_refusal said) (λ T agree free used.
           refused_legal v cause S K x T agree InUse said (in_tree T InUse (pinned_in_use T agree used none row can)))
-      by (HasEffect effect row can is) = absurd (move_no_effect so.change moves effect)
+      by (TakesEffect effect row can is) = absurd (move_no_effect so.change moves effect)
 
   pub meant : AsksRightly v so.change → MeantSo v cause S K x
   meant (AsksDecision plain change at) =
@@ -234,8 +233,8 @@ module _ (v : ServerId) (cause : Cause) (S : List Act) (K : Tree) (unmoved : K.a
   meant (Moves plain name to is) = moved plain name to is
 
 -- no fileset moves away from what is kept
-away_after : (v : ServerId) (cause : Cause) (S : List Act) (K : Tree) (x : Written) → MeantSo v cause S K x
-    → K.away ≡ [] → (kept_after cause K (IsDone x)).away ≡ []
+away_after : (v : ServerId) (cause : Cause) (S : List Doing) (K : Tree) (x : Written) → MeantSo v cause S K x
+    → K.away ≡ [] → (filesets_after cause K (IsDone x)).away ≡ []
 away_after v cause S K x (Refuses refused legal) e =
     ap (λ (b : Bool). (if b then K else (answer_to K x.answer.host x.answer.call).tree).away) refused ∙ e
 away_after v cause S K x (Decides change at) e = go (is_refusal x.answer.reply)
@@ -255,11 +254,11 @@ unfolding tree_given
 given_away tree fid pieces given = either_away (takes_gifts tree fid) tree _
 
 cause_away : (cause : Cause) (xs : List Applied) (K : Tree) → K.away ≡ []
-    → (kept_through cause (by_cause xs) K).away ≡ []
+    → (filesets_through cause (by_cause xs) K).away ≡ []
 cause_away cause [] K e = e
 cause_away cause (Stored h f ss n ∷ xs) K e =
     cause_away cause xs (tree_given K f (pieces_in cause) n) (given_away K f (pieces_in cause) n ∙ e)
-cause_away cause (Ends x ∷ xs) K e = cause_away cause xs K e
+cause_away cause (Replied x ∷ xs) K e = cause_away cause xs K e
 cause_away cause (IsDown h ∷ xs) K e = cause_away cause xs K e
 cause_away cause (IsWanted x ∷ xs) K e = e
 cause_away cause (IsDone x ∷ xs) K e = e
@@ -267,10 +266,10 @@ cause_away cause (IsDone x ∷ xs) K e = e
 -- the decisions of a step
 module _ (script : Script) (start : Tree) (firsts : ServerId → ℕ) (past : List Step)
     (run : StepsMeet script start firsts past) (v : ServerId) (s : Step) where
-  abbrev S0 : List Act
-  S0 = acts (firsts v) v past
+  abbrev S0 : List Doing
+  S0 = doings_of (firsts v) v past
 
-  written_so : (S : List Act) (K : Tree) → K.away ≡ [] → Good past v S → (x : Written) → IsWrittenSo v K S x
+  written_so : (S : List Doing) (K : Tree) → K.away ≡ [] → Good past v S → (x : Written) → IsWrittenSo v K S x
       → MeantSo v s.cause S K x
   written_so S K unmoved g x so =
       let took : TookNow S so.w.host so.w.moves (Change so.change) =
@@ -280,60 +279,60 @@ module _ (script : Script) (start : Tree) (firsts : ServerId → ℕ) (past : Li
       ((all_well script start firsts past run so.w.host).asked v i.0 so.w.moves so.change
       (g.said so.w.host i.0 so.w.moves (Change so.change) i.1)).asks
 
-  decides : (xs : List Applied) (S : List Act) (K : Tree) → MayDecideAll v K S0 S s xs → K.away ≡ []
+  decides : (xs : List Applied) (S : List Doing) (K : Tree) → MayDecideAll v K S0 S s xs → K.away ≡ []
       → Good past v S → Heard v S0 s S
-      → EachChange (MeantSo v s.cause) s.cause K S xs × ((kept_through s.cause xs K).away ≡ [])
+      → EachChange (MeantSo v s.cause) s.cause K S xs × ((filesets_through s.cause xs K).away ≡ [])
   decides [] S K may e g heard = (tt, e)
   decides (IsWanted x ∷ xs) S K may e g heard =
-      let q = on_want past v S0 s x K S may.0 g heard in decides xs (Wants x ∷ S) K may.1 e q.0 q.1
+      let q = on_want past v S0 s x K S may.0 g heard in decides xs (MakesWant x ∷ S) K may.1 e q.0 q.1
   decides (IsDone x ∷ xs) S K may e g heard =
       let q = on_write past v S0 s x S g heard in
       let now = written_so S K e g x may.0 in
-      let rest = decides xs (Writes x ∷ S) (kept_after s.cause K (IsDone x)) may.1 (away_after v s.cause S K x now e)
+      let rest = decides xs (WritesDown x ∷ S) (filesets_after s.cause K (IsDone x)) may.1 (away_after v s.cause S K x now e)
       q.0 q.1 in ((now, rest.0), rest.1)
   decides (_ ∷ xs) S K may e g heard = elim may.0 [ ]
 
   abbrev K0 : Tree
-  K0 = kept start v (served v past)
+  K0 = filesets_kept start v (steps_of_server v past)
 
   step : (m : StepMeets script start firsts (Server v) past s) → K0.away ≡ []
-      → EachChange (MeantSo v s.cause) s.cause (kept_through s.cause (by_cause s.applied) K0) (after_cause s.cause S0)
+      → EachChange (MeantSo v s.cause) s.cause (filesets_through s.cause (by_cause s.applied) K0) (after_cause s.cause S0)
       (decisions s.applied)
-      × ((kept_through s.cause s.applied K0).away ≡ [])
+      × ((filesets_through s.cause s.applied K0).away ≡ [])
   step m e =
       let both = decides (decisions s.applied) (after_cause s.cause S0)
-      (kept_through s.cause (by_cause s.applied) K0) m.0.works.decides (cause_away s.cause s.applied K0 e)
+      (filesets_through s.cause (by_cause s.applied) K0) m.0.works.decides (cause_away s.cause s.applied K0 e)
       (caused script start firsts past run v s m) (taken_took S0 s) in
       (both.0, ap (λ (t : Tree). t.away) (split s.cause s.applied K0) ∙ both.1)
 
 -- all steps of a run
 module _ (script : Script) (start : Tree) (firsts : ServerId → ℕ) (unmoved : start.away ≡ []) where
   away_node : (n : Node) (past : List Step) (s : Step) → StepsMeet script start firsts past
-      → StepMeets script start firsts n past s → ((v : ServerId) → (kept start v (served v past)).away ≡ [])
+      → StepMeets script start firsts n past s → ((v : ServerId) → (filesets_kept start v (steps_of_server v past)).away ≡ [])
       → (v : ServerId)
-      → (kept start v (if is_node n (Server v) then s ∷ served v past else served v past)).away ≡ []
+      → (filesets_kept start v (if is_node n (Server v) then s ∷ steps_of_server v past else steps_of_server v past)).away ≡ []
   away_node (Host k) past s run m old v = old v
   away_node (Server k) past s run m old v =
-      if_server (λ L. (kept start v L).away ≡ []) k v (s ∷ served v past) (served v past)
-      (λ e. subst (λ w. (kept start w (s ∷ served w past)).away ≡ []) e
+      if_server (λ L. (filesets_kept start v L).away ≡ []) k v (s ∷ steps_of_server v past) (steps_of_server v past)
+      (λ e. subst (λ w. (filesets_kept start w (s ∷ steps_of_server w past)).away ≡ []) e
       (step script start firsts past run k s m (old k)).1) (old v)
 
   pub none_away : (past : List Step) → StepsMeet script start firsts past → (v : ServerId)
-      → (kept start v (served v past)).away ≡ []
+      → (filesets_kept start v (steps_of_server v past)).away ≡ []
   none_away [] run v = unmoved
   none_away (s ∷ past) run v = away_node s.node past s run.0 run.1.0 (none_away past run.0) v
 
   at_node : (n : Node) (past : List Step) (s : Step) → StepsMeet script start firsts past
       → StepMeets script start firsts n past s → (v : ServerId) → n ≡ Server v
       → EachChange (MeantSo v s.cause) s.cause
-      (kept_through s.cause (by_cause s.applied) (kept start v (served v past)))
-      (after_cause s.cause (acts (firsts v) v past)) (decisions s.applied)
+      (filesets_through s.cause (by_cause s.applied) (filesets_kept start v (steps_of_server v past)))
+      (after_cause s.cause (doings_of (firsts v) v past)) (decisions s.applied)
   at_node (Host h) past s run m v e = cc
   at_node (Server k) past s run m v e =
       let same : k ≡ v = let q : Server k ≡ Server v = e in cc in
       subst (λ w. EachChange (MeantSo w s.cause) s.cause
-      (kept_through s.cause (by_cause s.applied) (kept start w (served w past)))
-      (after_cause s.cause (acts (firsts w) w past)) (decisions s.applied)) same
+      (filesets_through s.cause (by_cause s.applied) (filesets_kept start w (steps_of_server w past)))
+      (after_cause s.cause (doings_of (firsts w) w past)) (decisions s.applied)) same
       (step script start firsts past run k s m (none_away past run k)).0
 
   all_meant : (past : List Step) → StepsMeet script start firsts past → Always (DecidesMeant start firsts) past

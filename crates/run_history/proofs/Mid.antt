@@ -8,24 +8,23 @@ use Rattle.tree_answers.specs.declared.tree.Tree.{Tree}
 use Rattle.message_types.specs.declared.message.Body.{Body}
 use Rattle.script_lines.specs.declared.script.Script.{Script}
 use Rattle.token_types.specs.declared.token.Token.{Token}
+use Rattle.run_rules.specs.Doings.{Doing, Issued, SentTo, StayStamp, admitting, after_cause, deciding, doings_of}
+use Rattle.run_rules.specs.Doings.{sending}
+use Rattle.run_rules.specs.Doings.Doing.{MakesWant, Reserves, WritesDown}
+use Rattle.run_rules.specs.Kept.{filesets_after, filesets_kept, filesets_through}
+use Rattle.run_rules.specs.Past.{EachInTurn, appended}
 use Rattle.run_rules.specs.Runs.{StepMeets, StepsMeet}
+use Rattle.run_rules.specs.ServerDecides.{MayDecideAll, by_cause, decisions}
+use Rattle.run_rules.specs.Steps.{steps_of_host, steps_of_server}
+use Rattle.run_rules.specs.declared.applied.Applied.TheVariants.{Done as IsDone, IsDown, Replied, Stored}
+use Rattle.run_rules.specs.declared.applied.Applied.TheVariants.{Wants as IsWanted}
 use Rattle.run_parts.proofs.Served.{Next, each_next}
 use Rattle.run_parts.specs.Doings.{doings, doings_cause}
 use Rattle.run_history.specs.Changes.{EachChange}
 use Rattle.run_parts.proofs.LabelLaw.{Uses, same_uses, serve}
 use Rattle.run_parts.specs.Uses.{Frees, FreesAny, Locked}
-use Rattle.run_rules.specs.Kept.{kept, kept_after, kept_through}
-use Rattle.run_rules.specs.ServerApplies.{by_cause, decisions}
-use Rattle.run_rules.specs.ServerDecides.{MayDecideAll}
 use Rattle.run_tokens.proofs.Law.{AtServer}
-use Rattle.run_rules.specs.Acts.{Act, SentTo, acts, admitting, after_cause, deciding, sending}
-use Rattle.run_rules.specs.Acts.Act.{Reserves, Wants, Writes}
-use Rattle.run_rules.specs.Grants.{Issued, Mark}
-use Rattle.run_rules.specs.Lists.{Each, after}
-use Rattle.run_rules.specs.Nodes.{own, served}
 use Rattle.run_rules.specs.declared.applied.Applied.{Applied}
-use Rattle.run_rules.specs.declared.applied.Applied.TheVariants.{Done as IsDone, Ends, IsDown, Stored}
-use Rattle.run_rules.specs.declared.applied.Applied.TheVariants.{Wants as IsWanted}
 use Rattle.run_rules.specs.declared.step.Cause.{Cause}
 use Rattle.run_rules.specs.declared.step.Cause.TheVariants.{End, Evict, Flushed, Lapse, Line, Message as Came}
 use Rattle.run_rules.specs.declared.step.Cause.TheVariants.{Restart}
@@ -42,36 +41,36 @@ same_deciding : (xs : List Applied) → deciding xs ≡ deciding (decisions xs)
 same_deciding [] = refl
 same_deciding (IsWanted x ∷ xs) = refl
 same_deciding (IsDone x ∷ xs) = refl
-same_deciding (Ends x ∷ xs) = same_deciding xs
+same_deciding (Replied x ∷ xs) = same_deciding xs
 same_deciding (Stored h f ss n ∷ xs) = same_deciding xs
 same_deciding (IsDown h ∷ xs) = same_deciding xs
 
 module _ (script : Script) (start : Tree) (firsts : ServerId → ℕ) (real : (v : ServerId) → 0 < firsts v)
     (past : List Step) (s : Step) (run : StepsMeet script start firsts (s ∷ past)) (v : ServerId)
     (node : s.node ≡ Server v) where
-  abbrev S : List Act
-  S = acts (firsts v) v past
+  abbrev S : List Doing
+  S = doings_of (firsts v) v past
 
   abbrev own_of : HostId → List Step
-  own_of h = own h past
+  own_of h = steps_of_host h past
 
   abbrev Now : HostId → Labelled → Type 0
   Now = LockedNow firsts past s (Server v)
 
   -- after some doings of the step
-  pub record Mid (D : List Act) : Type 0 where
-    pub at : AtServer (λ h. own h past) v D
-    pub uses : (h : HostId) → Uses h v (own h past) D (LockedNow firsts past s (Server v) h)
+  pub record Mid (D : List Doing) : Type 0 where
+    pub at : AtServer (λ h. steps_of_host h past) v D
+    pub uses : (h : HostId) → Uses h v (steps_of_host h past) D (LockedNow firsts past s (Server v) h)
     pub fresh : AllFresh D
-    pub sent : (h : HostId) (e n : ℕ) (b : Body) → SentTo (acts (firsts v) v past) h e n b → SentTo D h e n b
-    pub issued : (t : Token) (x : Mark) → Issued (acts (firsts v) v past) t x → Issued D t x
+    pub sent : (h : HostId) (e n : ℕ) (b : Body) → SentTo (doings_of (firsts v) v past) h e n b → SentTo D h e n b
+    pub issued : (t : Token) (x : StayStamp) → Issued (doings_of (firsts v) v past) t x → Issued D t x
 
   -- a doing that frees nothing
-  goes_on : (D : List Act) (a : Act) → Next own_of v D a → ((h : HostId) (u : Labelled) → Frees v D a h u → ⊥)
+  goes_on : (D : List Doing) (a : Doing) → Next own_of v D a → ((h : HostId) (u : Labelled) → Frees v D a h u → ⊥)
       → AllFresh (a ∷ D) → Mid D → Mid (a ∷ D)
   goes_on D a next none fresh old = record {
     at = next.next old.at;
-    uses = λ h. same_uses h v (own h past) (a ∷ D) (λ u. Now h u × (u.token.id.server ≡ v
+    uses = λ h. same_uses h v (steps_of_host h past) (a ∷ D) (λ u. Now h u × (u.token.id.server ≡ v
         → FreesAny v (a ∷ []) D h u → ⊥))
         (Now h) (λ u at y. y.0) (λ u at y. (y, λ _ f. elim f [ inl x ↦ none h u x | inr x ↦ elim x [ ] ]))
         (serve own_of (whole script start firsts real past run.0).alone h v
@@ -81,20 +80,20 @@ module _ (script : Script) (start : Tree) (firsts : ServerId → ℕ) (real : (v
     issued = λ t x i. inr (old.issued t x i);
   }
 
-  none_wants : (D : List Act) (x : _) (h : HostId) (u : Labelled) → Frees v D (Wants x) h u → ⊥
+  none_wants : (D : List Doing) (x : _) (h : HostId) (u : Labelled) → Frees v D (MakesWant x) h u → ⊥
   none_wants D x h u (inl (e, n, q)) = cc
   none_wants D x h u (inr (g, (t, fresh), gives)) = let q = t.2.0 in cc
 
-  none_writes : (D : List Act) (x : _) (h : HostId) (u : Labelled) → Frees v D (Writes x) h u → ⊥
+  none_writes : (D : List Doing) (x : _) (h : HostId) (u : Labelled) → Frees v D (WritesDown x) h u → ⊥
   none_writes D x h u (inl (e, n, q)) = cc
   none_writes D x h u (inr (g, (t, fresh), gives)) = let q = t.2.0 in cc
 
-  abbrev rest : List Act
+  abbrev rest : List Doing
   rest = admitting s.admitted ++ (sending s.sent ++ (Reserves s.reserved ∷ []))
 
   -- once the cause is taken
-  taken_next : (c : Cause) (more : List Act) → Each (Next own_of v) (doings_cause c S more) S
-      → AtServer own_of v S → AtServer own_of v (after_cause c S) × Each (Next own_of v) more (after_cause c S)
+  taken_next : (c : Cause) (more : List Doing) → EachInTurn (Next own_of v) (doings_cause c S more) S
+      → AtServer own_of v S → AtServer own_of v (after_cause c S) × EachInTurn (Next own_of v) more (after_cause c S)
   taken_next (Came m) more each at = (each.0.next at, each.1)
   taken_next (Restart line) more each at = (each.0.next at, each.1)
   taken_next Flushed more each at = (each.0.next at, each.1)
@@ -103,8 +102,8 @@ module _ (script : Script) (start : Tree) (firsts : ServerId → ℕ) (real : (v
   taken_next Evict more each at = (at, each)
   taken_next End more each at = (at, each)
 
-  serve_them : (h : HostId) (todo : List Act) → Each (Next own_of v) todo S
-      → Uses h v (own h past) (after todo S) (λ u. Locked firsts past h u × (u.token.id.server ≡ v
+  serve_them : (h : HostId) (todo : List Doing) → EachInTurn (Next own_of v) todo S
+      → Uses h v (steps_of_host h past) (appended todo S) (λ u. Locked firsts past h u × (u.token.id.server ≡ v
       → FreesAny v todo S h u → ⊥))
   serve_them h todo each =
       serve own_of (whole script start firsts real past run.0).alone h v
@@ -112,8 +111,8 @@ module _ (script : Script) (start : Tree) (firsts : ServerId → ℕ) (real : (v
       todo S (Locked firsts past h) ((whole script start firsts real past run.0).at v) each
       ((all script start firsts real past run.0).uses h v)
 
-  taken_uses : (c : Cause) (more : List Act) → Each (Next own_of v) (doings_cause c S more) S → (h : HostId)
-      → Uses h v (own h past) (after_cause c S)
+  taken_uses : (c : Cause) (more : List Doing) → EachInTurn (Next own_of v) (doings_cause c S more) S → (h : HostId)
+      → Uses h v (steps_of_host h past) (after_cause c S)
       (λ u. Locked firsts past h u × (u.token.id.server ≡ v → FreesAny v (doings_cause c S []) S h u → ⊥))
   taken_uses (Came m) more each h = serve_them h (doings_cause (Came m) S []) (each.0, tt)
   taken_uses (Restart line) more each h = serve_them h (doings_cause (Restart line) S []) (each.0, tt)
@@ -123,7 +122,7 @@ module _ (script : Script) (start : Tree) (firsts : ServerId → ℕ) (real : (v
   taken_uses Evict more each h = serve_them h [] tt
   taken_uses End more each h = serve_them h [] tt
 
-  issued_past : (c : Cause) (t : Token) (x : Mark) → Issued S t x → Issued (after_cause c S) t x
+  issued_past : (c : Cause) (t : Token) (x : StayStamp) → Issued S t x → Issued (after_cause c S) t x
   issued_past (Came m) t x i = inr i
   issued_past (Restart line) t x i = inr i
   issued_past Flushed t x i = inr i
@@ -135,14 +134,14 @@ module _ (script : Script) (start : Tree) (firsts : ServerId → ℕ) (real : (v
   m : StepMeets script start firsts (Server v) past s
   m = met script start firsts real past s run v node
 
-  nexts : Each (Next own_of v) (doings s S) S
+  nexts : EachInTurn (Next own_of v) (doings s S) S
   nexts =
       each_next own_of (whole script start firsts real past run.0).alone v s S m.0.tokens (λ x e. (m.1 x e).2)
 
   first : Mid (after_cause s.cause S)
   first = record {
     at = (taken_next s.cause (deciding s.applied ++ rest) nexts ((whole script start firsts real past run.0).at v)).0;
-    uses = λ h. same_uses h v (own h past) (after_cause s.cause S)
+    uses = λ h. same_uses h v (steps_of_host h past) (after_cause s.cause S)
         (λ u. Locked firsts past h u × (u.token.id.server ≡ v → FreesAny v (doings_cause s.cause S []) S h u
         → ⊥)) (Now h)
         (λ u at y. (y.0, λ here f. y.1 here (to_cause v h u s S f)))
@@ -154,29 +153,29 @@ module _ (script : Script) (start : Tree) (firsts : ServerId → ℕ) (real : (v
   }
 
   -- and after each decision
-  walk : (xs : List Applied) (K : Tree) (D : List Act) → MayDecideAll v K S D s xs
-      → Each (Next own_of v) (deciding xs ++ rest) D
+  walk : (xs : List Applied) (K : Tree) (D : List Doing) → MayDecideAll v K S D s xs
+      → EachInTurn (Next own_of v) (deciding xs ++ rest) D
       → Mid D → EachChange (λ before K x. Mid before) s.cause K D xs
   walk [] K D may next mid = tt
   walk (IsWanted x ∷ xs) K D may next mid =
-      walk xs (kept_after s.cause K (IsWanted x)) (Wants x ∷ D) may.1 next.1
-      (goes_on D (Wants x) next.0 (none_wants D x) (wanted_fresh v S s x K D may.0 mid.fresh) mid)
+      walk xs (filesets_after s.cause K (IsWanted x)) (MakesWant x ∷ D) may.1 next.1
+      (goes_on D (MakesWant x) next.0 (none_wants D x) (wanted_fresh v S s x K D may.0 mid.fresh) mid)
   walk (IsDone x ∷ xs) K D may next mid = (
     mid,
-    walk xs (kept_after s.cause K (IsDone x)) (Writes x ∷ D) may.1 next.1
-        (goes_on D (Writes x) next.0 (none_writes D x) (written_fresh x D mid.fresh) mid),
+    walk xs (filesets_after s.cause K (IsDone x)) (WritesDown x ∷ D) may.1 next.1
+        (goes_on D (WritesDown x) next.0 (none_writes D x) (written_fresh x D mid.fresh) mid),
   )
-  walk (Ends x ∷ xs) K D may next mid = elim may.0 [ ]
+  walk (Replied x ∷ xs) K D may next mid = elim may.0 [ ]
   walk (Stored h f ss n ∷ xs) K D may next mid = elim may.0 [ ]
   walk (IsDown h ∷ xs) K D may next mid = elim may.0 [ ]
 
   pub each_mid : EachChange (λ before K x. Mid before) s.cause
-      (kept_through s.cause (by_cause s.applied) (kept start v (served v past))) (after_cause s.cause (acts
+      (filesets_through s.cause (by_cause s.applied) (filesets_kept start v (steps_of_server v past))) (after_cause s.cause (doings_of
       (firsts v) v past))
       (decisions s.applied)
   each_mid =
-      walk (decisions s.applied) (kept_through s.cause (by_cause s.applied) (kept start v (served v past)))
+      walk (decisions s.applied) (filesets_through s.cause (by_cause s.applied) (filesets_kept start v (steps_of_server v past)))
       (after_cause s.cause S) m.0.works.decides
-      (subst (λ ds. Each (Next own_of v) (ds ++ rest) (after_cause s.cause S)) (same_deciding s.applied)
+      (subst (λ ds. EachInTurn (Next own_of v) (ds ++ rest) (after_cause s.cause S)) (same_deciding s.applied)
       (taken_next s.cause (deciding s.applied ++ rest) nexts
       ((whole script start firsts real past run.0).at v)).1) first

@@ -33,7 +33,7 @@ use Rattle.tree_answers.specs.Locks.{has_lock, lock_answer, lock_check, unlock_a
 use Rattle.tree_answers.specs.Opens.{close_answer, has_open, open_answer, open_check}
 use Rattle.tree_answers.specs.declared.tree.ServerRoom.{ServerRoom}
 use Rattle.tree_answers.specs.declared.tree.Tree.{Tree}
-use Rattle.run_rules.specs.Wants.{is_move}
+use Rattle.run_rules.specs.Wants.{moves_fileset}
 
 -- a fileset that never moved
 abbrev pub never_moved : Fileset → Bool
@@ -89,7 +89,7 @@ module _ (tree : Tree) (never : list_all never_moved tree.filesets ≡ true) whe
   either_never (Err refusal) next all = never
 
   module _ (host : HostId) (user : User) where
-    for_never : (call : Call) → is_move call ≡ false
+    for_never : (call : Call) → moves_fileset call ≡ false
         → list_all never_moved (answer_for tree host call user).tree.filesets ≡ true
     unfolding answer_for fileset_row new_fileset_answer clone_answer lock_answer open_answer unlock_answer close_answer
     for_never (NewFileset server name objects owner) e =
@@ -131,7 +131,7 @@ module _ (tree : Tree) (never : list_all never_moved tree.filesets ≡ true) whe
         row_never _ (λ fileset. stays_itself fileset _ host user (GetAcl place which)) _
     for_never (Sync place) e = row_never _ (λ fileset. stays_itself fileset _ host user (Sync place)) _
 
-  pub never_after : (host : HostId) (call : Call) → is_move call ≡ false
+  pub never_after : (host : HostId) (call : Call) → moves_fileset call ≡ false
       → list_all never_moved (answer_to tree host call).tree.filesets ≡ true
   unfolding answer_to
   never_after host call e = by (user_of tree.roster host)

@@ -52,8 +52,8 @@ use Rattle.token_types.specs.Conflicts.{any_conflict, kinds_conflict, need_of}
 use Rattle.token_types.specs.declared.token.Need.{Need}
 use Rattle.token_types.specs.declared.token.Token.{Token}
 use Rattle.tree_laws.proofs.Steps.{fid_is, same_number, then_same, then_then}
+use Rattle.run_rules.specs.Past.{In}
 use Rattle.run_rules.specs.ServerDecides.{tells_alone}
-use Rattle.run_rules.specs.Lists.{In}
 use Rattle.run_history.proofs.Refusing.{for_its, for_none, then_err}
 
 -- the checks of a move on what is kept of a tree

@@ -24,29 +24,28 @@ use Rattle.message_types.specs.declared.telling.DoneIs.TheVariants.{Again, Grant
 use Rattle.script_lines.specs.declared.script.Script.{Script}
 use Rattle.need_laws.proofs.Founds.{same_named}
 use Rattle.need_laws.specs.Known.{SameAt}
-use Rattle.run_rules.specs.Runs.{StepMeets, StepsMeet, firsts_of, past_of}
-use Rattle.run_history.specs.Agreement.{LeadsTo}
+use Rattle.run_rules.specs.Doings.{Doing, SentTo, TookNow, admitting, after_admitting, after_cause, after_deciding}
+use Rattle.run_rules.specs.Doings.{after_step, deciding, doings_of, sending}
+use Rattle.run_rules.specs.Doings.Doing.{BeginsEpoch, Sent, Took}
 use Rattle.run_rules.specs.HostAsks.{HasChanged, IsNewChange}
-use Rattle.run_rules.specs.HostRules.{HostMay}
-use Rattle.run_rules.specs.Knowing.{Entered, Enters}
+use Rattle.run_rules.specs.HostMay.{HostMay}
+use Rattle.run_rules.specs.Kept.{filesets_kept, filesets_through}
+use Rattle.run_rules.specs.Messages.{Said}
+use Rattle.run_rules.specs.Past.{Always, In, Once, appended}
+use Rattle.run_rules.specs.Runs.{StepMeets, StepsMeet, firsts_of, past_of}
+use Rattle.run_rules.specs.ServerMay.{AnsweredSo, AnswersSo, DoneFor, HasWritten, MaySend}
+use Rattle.run_rules.specs.ServerMay.AnsweredSo.{IsEntered, NamesOther, TakesToken}
+use Rattle.run_rules.specs.ServerMay.DoneFor.{Answered, OfWritten, Repeated, TakenBack}
+use Rattle.run_rules.specs.Steps.{is_node, steps_of_host, steps_of_server}
+use Rattle.run_rules.specs.Views.{Entered, Enters}
+use Rattle.run_rules.specs.Wants.{body_of}
+use Rattle.run_history.specs.Agreement.{LeadsTo}
 use Rattle.run_contents.proofs.Bodies.{server_is}
 use Rattle.run_contents.proofs.Calls.{one_open}
 use Rattle.run_contents.proofs.Runs.{own_run}
 use Rattle.run_contents.proofs.Servers.{took_in}
 use Rattle.run_contents.specs.Steps.{HostRun}
-use Rattle.run_rules.specs.Kept.{kept, kept_through}
-use Rattle.run_rules.specs.ServerSends.{DoneFor, HasWritten, MaySend, SettledSo, SettlesSo}
-use Rattle.run_rules.specs.ServerSends.DoneFor.{OfWritten, Repeated, Settled, TakenBack}
-use Rattle.run_rules.specs.ServerSends.SettledSo.{IsEntered, NamesOther, TakesToken}
-use Rattle.run_rules.specs.Wants.{body_of}
 use Rattle.run_tokens.proofs.Words.{acts_after, if_host, if_server, own_after}
-use Rattle.run_rules.specs.Acts.{Act, SentTo, acts, admitted_by, admitting, after_cause, after_step, deciding}
-use Rattle.run_rules.specs.Acts.{sending, written_by}
-use Rattle.run_rules.specs.Acts.Act.{Begins, Sent, Took}
-use Rattle.run_rules.specs.Hosts.{TookNow}
-use Rattle.run_rules.specs.Lists.{Always, In, Once, after}
-use Rattle.run_rules.specs.Nodes.{is_node, own, served}
-use Rattle.run_rules.specs.Sends.{Said}
 use Rattle.run_rules.specs.declared.step.Asked.{Asked as AskedOf}
 use Rattle.run_rules.specs.declared.step.Cause.{Cause}
 use Rattle.run_rules.specs.declared.step.Cause.TheVariants.{Flushed, Message as Came, Restart}
@@ -58,25 +57,25 @@ use Rattle.run_history.specs.Asked.AsksRightly.{Decides, Enters as AsksToEnter, 
 use Rattle.run_history.specs.Names.{NamesAreKnown, NamesGoOn, NamesStand, NamesStartSo}
 
 -- what was sent stays so, and what was said
-once_after : {A : Type 0} (P : List A → A → Type 0) (more past : List A) → Once P past → Once P (after more past)
+once_after : {A : Type 0} (P : List A → A → Type 0) (more past : List A) → Once P past → Once P (appended more past)
 once_after P [] past o = o
 once_after P (x ∷ more) past o = once_after P more (x ∷ past) (inr o)
 
 module _ (h : HostId) (e n : ℕ) (b : Body) where
-  cause_keeps : (c : Cause) (S : List Act) → SentTo S h e n b → SentTo (after_cause c S) h e n b
+  cause_keeps : (c : Cause) (S : List Doing) → SentTo S h e n b → SentTo (after_cause c S) h e n b
   cause_keeps (Came m) S o = inr o
   cause_keeps (Restart line) S o = inr o
   cause_keeps Flushed S o = inr o
   cause_keeps _ S o = o
 
-  step_keeps : (s : Step) (S : List Act) → SentTo S h e n b → SentTo (after_step s S) h e n b
+  step_keeps : (s : Step) (S : List Doing) → SentTo S h e n b → SentTo (after_step s S) h e n b
   step_keeps s S o =
-      inr (once_after (λ before a. a ≡ Sent h e n b) (sending s.sent) (admitted_by s S)
-      (once_after (λ before a. a ≡ Sent h e n b) (admitting s.admitted) (written_by s S)
+      inr (once_after (λ before a. a ≡ Sent h e n b) (sending s.sent) (after_admitting s S)
+      (once_after (λ before a. a ≡ Sent h e n b) (admitting s.admitted) (after_deciding s S)
       (once_after (λ before a. a ≡ Sent h e n b) (deciding s.applied) (after_cause s.cause S)
       (cause_keeps s.cause S o))))
 
-  node_keeps : (k : Node) (s : Step) (v : ServerId) (S : List Act) → SentTo S h e n b
+  node_keeps : (k : Node) (s : Step) (v : ServerId) (S : List Doing) → SentTo S h e n b
       → SentTo (acts_after v k s S) h e n b
   node_keeps (Host k) s v S o = o
   node_keeps (Server k) s v S o =
@@ -157,12 +156,12 @@ pub record WasTold (firsts : ServerId → ℕ) (past : List Step) (h : HostId) (
   pub done : DoneOf
   pub told_in : ℕ
   pub told_under : ℕ
-  pub sent : SentTo (acts (firsts server) server past) h told_in told_under (Done done)
+  pub sent : SentTo (doings_of (firsts server) server past) h told_in told_under (Done done)
   pub outcome : done.outcome ≡ Known id
   pub change : ChangeOf
   pub epoch : ℕ
   pub moves : ℕ
-  pub said : Said (own h past) server epoch moves (Change change)
+  pub said : Said (steps_of_host h past) server epoch moves (Change change)
   pub zero : change.fileset.0 ≡ 0
   pub fileset : change.fileset ≡ done.fileset
   pub number : change.number ≡ done.bring.number
@@ -175,12 +174,12 @@ module _ (script : Script) (start : Tree) (firsts : ServerId → ℕ) where
     done = t.done;
     told_in = t.told_in;
     told_under = t.told_under;
-    sent = node_keeps h t.told_in t.told_under (Done t.done) s.node s server (acts (firsts server) server past) t.sent;
+    sent = node_keeps h t.told_in t.told_under (Done t.done) s.node s server (doings_of (firsts server) server past) t.sent;
     outcome = t.outcome;
     change = t.change;
     epoch = t.epoch;
     moves = t.moves;
-    said = said_keeps s.node s h (own h past) server t.epoch t.moves (Change t.change) t.said;
+    said = said_keeps s.node s h (steps_of_host h past) server t.epoch t.moves (Change t.change) t.said;
     zero = t.zero;
     fileset = t.fileset;
     number = t.number;
@@ -190,7 +189,7 @@ module _ (script : Script) (start : Tree) (firsts : ServerId → ℕ) where
   -- in the very step
   told_now : (past : List Step) (run : StepsMeet script start firsts past) (h : HostId) (s : Step)
       → StepMeets script start firsts (Host h) past s → (server : ServerId) (name : List ℕ) (id : FilesetId)
-      → Enters (own h past) s server name id → WasTold firsts past h server name id
+      → Enters (steps_of_host h past) s server name id → WasTold firsts past h server name id
   told_now past run h s m server name id entered =
       let (c, d, e, n, said, enter, of, counts, number, fileset, outcome) = entered in
       let well = all_well script start firsts past run h in
@@ -213,11 +212,11 @@ module _ (script : Script) (start : Tree) (firsts : ServerId → ℕ) where
 
   told_node : (k : Node) (past : List Step) (s : Step) → StepsMeet script start firsts past
       → StepMeets script start firsts k past s → (h : HostId) (server : ServerId) (name : List ℕ) (id : FilesetId)
-      → (Entered (own h past) server name id → WasTold firsts past h server name id)
-      → Entered (own_after h k s (own h past)) server name id → WasTold firsts past h server name id
+      → (Entered (steps_of_host h past) server name id → WasTold firsts past h server name id)
+      → Entered (own_after h k s (steps_of_host h past)) server name id → WasTold firsts past h server name id
   told_node (Server k) past s run m h server name id old e = old e
   told_node (Host k) past s run m h server name id old e =
-      if_host (λ A. Entered A server name id → WasTold firsts past h server name id) k h (s ∷ own h past) (own h past)
+      if_host (λ A. Entered A server name id → WasTold firsts past h server name id) k h (s ∷ steps_of_host h past) (steps_of_host h past)
       (λ same q. elim q [
         | inl now ↦
             told_now past run h s (subst (λ j. StepMeets script start firsts (Host j) past s) same m) server name id now
@@ -225,7 +224,7 @@ module _ (script : Script) (start : Tree) (firsts : ServerId → ℕ) where
       ]) old e
 
   entered_told : (past : List Step) → StepsMeet script start firsts past → (h : HostId) (server : ServerId)
-      (name : List ℕ) (id : FilesetId) → Entered (own h past) server name id → WasTold firsts past h server name id
+      (name : List ℕ) (id : FilesetId) → Entered (steps_of_host h past) server name id → WasTold firsts past h server name id
   entered_told [] run h server name id e = elim e [ ]
   entered_told (s ∷ past) run h server name id e =
       told_on past s h server name id
@@ -244,7 +243,7 @@ module _ (script : Script) (start : Tree) (firsts : ServerId → ℕ) where
   leads past run h tree_is stands server name id t =
       let a = stands.told server h t.told_in t.told_under t.done id t.sent t.outcome in
       let one : t.change.call ≡ a.change.call =
-      same_call script h (own h past) (own_run script start firsts past run h) server t.epoch t.moves a.epoch a.moves
+      same_call script h (steps_of_host h past) (own_run script start firsts past run h) server t.epoch t.moves a.epoch a.moves
       t.change a.change t.said a.said (t.fileset ∙ sym a.fileset, t.number ∙ sym a.number, t.zero) in
       subst (λ l. LeadsTo tree_is server l id)
       (name_is server a.name name (sym a.asks ∙ (sym (ap fileset_of one) ∙ t.asks))) a.leads
@@ -252,7 +251,7 @@ module _ (script : Script) (start : Tree) (firsts : ServerId → ℕ) where
   names_node : (k : Node) (past : List Step) (s : Step) → StepsMeet script start firsts past
       → StepMeets script start firsts k past s → (h : HostId) (tree_is : Tree) → k ≡ Host h
       → NamesStand firsts past tree_is → (server : ServerId) (name : List ℕ) (id : FilesetId)
-      → Entered (s ∷ own h past) server name id → LeadsTo tree_is server name id
+      → Entered (s ∷ steps_of_host h past) server name id → LeadsTo tree_is server name id
   names_node k past s run m h tree_is e stands server name id (inl now) =
       leads past run h tree_is stands server name id
       (told_now past run h s (subst (λ j. StepMeets script start firsts j past s) e m) server name id now)
@@ -262,7 +261,7 @@ module _ (script : Script) (start : Tree) (firsts : ServerId → ℕ) where
   all_known_names : (past : List Step) → StepsMeet script start firsts past
       → Always (λ past s. (h : HostId) (tree_is : Tree) → s.node ≡ Host h
       → NamesStand firsts past tree_is → (server : ServerId) (name : List ℕ) (id : FilesetId)
-      → Entered (s ∷ own h past) server name id → LeadsTo tree_is server name id) past
+      → Entered (s ∷ steps_of_host h past) server name id → LeadsTo tree_is server name id) past
   all_known_names [] run = tt
   all_known_names (s ∷ past) run =
       (all_known_names past run.0, λ h tree_is. names_node s.node past s run.0 run.1.0 h tree_is)
@@ -293,15 +292,15 @@ module _ (script : Script) (start : Tree) (firsts : ServerId → ℕ) (past : Li
   -- what a server told before goes on
   abbrev Now : Node → ServerId → HostId → ℕ → ℕ → Body → Type 0
   Now k v h e n b =
-      (d : DoneOf) (id : FilesetId) → b ≡ Done d → d.outcome ≡ Known id → Asked (own_after h k s (own h past)) v d id
+      (d : DoneOf) (id : FilesetId) → b ≡ Done d → d.outcome ≡ Known id → Asked (own_after h k s (steps_of_host h past)) v d id
 
-  before : (k : Node) (v : ServerId) → AllSent (Now k v) (acts (firsts v) v past)
+  before : (k : Node) (v : ServerId) → AllSent (Now k v) (doings_of (firsts v) v past)
   before k v h e n b sent d id is outcome =
-      let a = stands.told v h e n d id (subst (SentTo (acts (firsts v) v past) h e n) is sent) outcome in (
+      let a = stands.told v h e n d id (subst (SentTo (doings_of (firsts v) v past) h e n) is sent) outcome in (
         a.change,
         a.epoch,
         a.moves,
-        said_keeps k s h (own h past) v a.epoch a.moves (Change a.change) a.said,
+        said_keeps k s h (steps_of_host h past) v a.epoch a.moves (Change a.change) a.said,
         a.enters,
         a.fileset,
         a.number,
@@ -310,15 +309,15 @@ module _ (script : Script) (start : Tree) (firsts : ServerId → ℕ) (past : Li
 
   -- what it tells now is what it keeps
   module _ (v : ServerId) (K : Tree) (same : SameAt v K (kept_tree new)) where
-    written_reply : (S : List Act) (h : HostId) (d : DoneOf) (id : FilesetId) → HasWritten S h d
+    written_reply : (S : List Doing) (h : HostId) (d : DoneOf) (id : FilesetId) → HasWritten S h d
         → d.outcome ≡ Known id → ⊥
     written_reply [] h d id w e = w
     written_reply (a ∷ S) h d id (inl w) e =
         let q : Known id ≡ HasReply w.0.answer.reply = sym e ∙ w.5 in cc
     written_reply (a ∷ S) h d id (inr w) e = written_reply S h d id w e
 
-    settled : (S : List Act) (h : HostId) (n : ℕ) (d : DoneOf) (id : FilesetId) → Good past v S
-        → SettlesSo v K S h n d → d.outcome ≡ Known id → Asked (own h past) v d id
+    settled : (S : List Doing) (h : HostId) (n : ℕ) (d : DoneOf) (id : FilesetId) → Good past v S
+        → AnswersSo v K S h n d → d.outcome ≡ Known id → Asked (steps_of_host h past) v d id
     settled S h n d id g so outcome = by so.so
       where
         took : TookNow S h so.w.moves (Change so.change)
@@ -328,10 +327,10 @@ module _ (script : Script) (start : Tree) (firsts : ServerId → ℕ) (past : Li
         its : (e : ℕ) × In (Took h e so.w.moves (Change so.change)) S
         its = took_in S h so.w.moves (Change so.change) took
 
-        said : Said (own h past) v its.0 so.w.moves (Change so.change)
+        said : Said (steps_of_host h past) v its.0 so.w.moves (Change so.change)
         said = g.said h its.0 so.w.moves (Change so.change) its.1
 
-        by : SettledSo v K S so.w so.change d → Asked (own h past) v d id
+        by : AnsweredSo v K S so.w so.change d → Asked (steps_of_host h past) v d id
         by (TakesToken takes none row can is needs) = absurd (let q : Known id ≡ IsGranted = sym outcome ∙ is in cc)
         by (NamesOther takes none row can is needs) = absurd (let q : Known id ≡ Again = sym outcome ∙ is in cc)
         by (IsEntered fileset place enter of named is none) =
@@ -340,7 +339,7 @@ module _ (script : Script) (start : Tree) (firsts : ServerId → ℕ) (past : Li
             its_id : fileset.id ≡ id
             its_id = known_is fileset.id id (sym is ∙ outcome)
 
-            enters : AsksRightly v so.change → Asked (own h past) v d id
+            enters : AsksRightly v so.change → Asked (steps_of_host h past) v d id
             enters (Decides plain change at) = absurd (false≢true (sym plain ∙ enter))
             enters (Moves plain label to call) = absurd (false≢true (sym plain ∙ enter))
             enters (AsksToEnter entering name asks) =
@@ -362,38 +361,38 @@ module _ (script : Script) (start : Tree) (firsts : ServerId → ℕ) (past : Li
                   ),
                 )
 
-    sends_so : (S : List Act) (x : Message) → Good past v S → AllSent (Now (Server v) v) S
+    sends_so : (S : List Doing) (x : Message) → Good past v S → AllSent (Now (Server v) v) S
         → MaySend v K s S (Sent x.host x.epoch x.moves x.body) → Now (Server v) v x.host x.epoch x.moves x.body
     sends_so S x g all may d id body outcome =
         by (may.dones x.host x.epoch x.moves d (ap (λ (b : Body). Sent x.host x.epoch x.moves b) body)).2
       where
-        by : DoneFor v K S x.host x.moves d → Asked (own x.host past) v d id
+        by : DoneFor v K S x.host x.moves d → Asked (steps_of_host x.host past) v d id
         by (OfWritten w tokens last) = absurd (written_reply S x.host d id w outcome)
-        by (Settled so) = settled S x.host x.moves d id g so outcome
+        by (Answered so) = settled S x.host x.moves d id g so outcome
         by (Repeated sent last) = all x.host _ x.moves (Done d) sent d id refl outcome
         by (TakenBack was last is tokens) = absurd (let q : Known id ≡ Again = sym outcome ∙ is in cc)
 
   at_node : (k : Node) → StepMeets script start firsts k past s
-      → ((v : ServerId) → SameAt v (kept start v (if is_node k (Server v) then s ∷ served v past else served v past))
+      → ((v : ServerId) → SameAt v (filesets_kept start v (if is_node k (Server v) then s ∷ steps_of_server v past else steps_of_server v past))
       (kept_tree new))
-      → (v : ServerId) → AllSent (Now k v) (acts_after v k s (acts (firsts v) v past))
+      → (v : ServerId) → AllSent (Now k v) (acts_after v k s (doings_of (firsts v) v past))
   at_node (Host k) m same v = before (Host k) v
   at_node (Server k) m same v = go (k.0 == v.0) refl (same v)
     where
       go : (b : Bool) → (k.0 == v.0) ≡ b
-          → SameAt v (kept start v (if b then s ∷ served v past else served v past)) (kept_tree new)
-          → AllSent (Now (Server k) v) (if b then after_step s (acts (firsts v) v past) else acts (firsts v) v past)
+          → SameAt v (filesets_kept start v (if b then s ∷ steps_of_server v past else steps_of_server v past)) (kept_tree new)
+          → AllSent (Now (Server k) v) (if b then after_step s (doings_of (firsts v) v past) else doings_of (firsts v) v past)
       go false e so = before (Server k) v
       go true e so =
-          subst (λ (w : ServerId). SameAt w (kept start w (s ∷ served w past)) (kept_tree new)
-          → AllSent (Now (Server k) w) (after_step s (acts (firsts w) w past))) (server_is k v e)
+          subst (λ (w : ServerId). SameAt w (filesets_kept start w (s ∷ steps_of_server w past)) (kept_tree new)
+          → AllSent (Now (Server k) w) (after_step s (doings_of (firsts w) w past))) (server_is k v e)
           (λ here. after_sends script start firsts past run k s m (Now (Server k) k)
           (λ T x i g all may.
-          sends_so k (kept_through s.cause s.applied (kept start k (served k past))) here T x g all may)
+          sends_so k (filesets_through s.cause s.applied (filesets_kept start k (steps_of_server k past))) here T x g all may)
           (before (Server k) k)) so
 
   pub names_after : StepMeets script start firsts s.node past s
-      → ((v : ServerId) → SameAt v (kept start v (served v (s ∷ past))) (kept_tree new))
+      → ((v : ServerId) → SameAt v (filesets_kept start v (steps_of_server v (s ∷ past))) (kept_tree new))
       → NamesStand firsts (s ∷ past) new
   names_after m same = record {
     told = λ v h e n d id sent outcome.
@@ -416,7 +415,7 @@ module _ (script : Script) (start : Tree) (firsts : ServerId → ℕ) (past : Li
 pub names_start : NamesStartSo
 names_start firsts tree_is = record {
   told = λ v h e n d id sent outcome. elim sent [
-    | inl q ↦ absurd (let p : Begins (firsts v) ≡ Sent h e n (Done d) = q in cc)
+    | inl q ↦ absurd (let p : BeginsEpoch (firsts v) ≡ Sent h e n (Done d) = q in cc)
     | inr q ↦ elim q [ ]
   ];
 }
@@ -430,7 +429,7 @@ module _ (script : Script) (start : Tree) (firsts : ServerId → ℕ) where
       → Always (λ past s. (old new : Tree) → NamesStand firsts past old
       → ((server : ServerId) (name : List ℕ) (id : FilesetId) → LeadsTo old server name id
       → LeadsTo new server name id)
-      → ((v : ServerId) → SameAt v (kept start v (served v (s ∷ past))) (kept_tree new))
+      → ((v : ServerId) → SameAt v (filesets_kept start v (steps_of_server v (s ∷ past))) (kept_tree new))
       → NamesStand firsts (s ∷ past) new) past
   all_go_on [] run = tt
   all_go_on (s ∷ past) run = (

@@ -47,24 +47,19 @@ use Rattle.token_types.specs.declared.token.Kind.{Kind}
 use Rattle.token_types.specs.declared.token.Kind.TheVariants.{Bytes, Lock as LockToken, Opening, Status}
 use Rattle.token_types.specs.declared.token.TokenId.{TokenId}
 use Rattle.tree_laws.proofs.Steps.{same_number}
-use Rattle.run_rules.specs.HostAnswers.{IsExact}
 use Rattle.run_rules.specs.HostAsks.{AsksServer, HasChanged, IsNewChange}
-use Rattle.run_rules.specs.HostRules.{HostMay}
-use Rattle.run_rules.specs.Knowing.{HasLabel, IsLock, IsOpening, is_entering, stay_asked}
-use Rattle.run_rules.specs.Labels.{GivesUse, InUse, IsEnding, end_call, end_of}
+use Rattle.run_rules.specs.HostMay.{HostMay, IsExact}
+use Rattle.run_rules.specs.Messages.{Changing, DoneComes, HasKeptToken, Sends, Stay, home, stay_of}
+use Rattle.run_rules.specs.Past.{EachOnce, In}
+use Rattle.run_rules.specs.Tokens.{CauseEnds, DoneCounts, GivesUse, IsEnding, IsKnown, IsOpen, LabelInUse, Learns}
+use Rattle.run_rules.specs.Tokens.{Made, end_call, end_of, number_of}
+use Rattle.run_rules.specs.Views.{HasLabel, IsLock, IsOpening, is_entering, sees as host_sees, stay_asked}
 use Rattle.run_parts.proofs.LabelWords.{HadKept, HasBegun}
-use Rattle.run_rules.specs.OpenCalls.{Counts, IsEnded, IsOpen}
-use Rattle.run_rules.specs.Views.{sees as host_sees}
 use Rattle.run_parts.proofs.LabelLaw.{Given, given_ended}
 use Rattle.run_contents.proofs.Calls.{begins_free, one_open}
 use Rattle.run_contents.proofs.Uses.{IsUse, begun_use, ended_begun, ended_gives, used_begun}
 use Rattle.run_contents.proofs.Words.{in_any}
 use Rattle.run_contents.specs.Steps.{HostRun}
-use Rattle.run_rules.specs.Gives.{IsKnown, Learns, Made, number_of}
-use Rattle.run_rules.specs.Lists.{EachOnce, In}
-use Rattle.run_rules.specs.Places.{Place, home, place}
-use Rattle.run_rules.specs.Requests.{Changing, Settles}
-use Rattle.run_rules.specs.Sends.{HasKept, Sends}
 use Rattle.run_rules.specs.declared.applied.Answer.{Answer}
 use Rattle.run_rules.specs.declared.step.Asked.{Asked}
 use Rattle.run_rules.specs.declared.step.Labelled.{Labelled}
@@ -74,7 +69,7 @@ use Rattle.run_history.proofs.Rows.{unlock_asks, unlock_gives}
 
 -- the label is in use, or a give-back that ends its use isn't known as applied
 abbrev pub Has : List Step → Labelled → Type 0
-Has A u = InUse A u ⊎ ((g : Give) × Given A u g × GivesUse g u × (IsKnown A g → ⊥))
+Has A u = LabelInUse A u ⊎ ((g : Give) × Given A u g × GivesUse g u × (IsKnown A g → ⊥))
 
 -- no token stands in two give-backs
 abbrev pub MadeOnce : List Step → Type 0
@@ -109,9 +104,9 @@ Passes own host c _ = Unit {0}
 -- the labels in use are those with which a Change was asked
 pub record Labelling (host : HostId) (A : List Step) (c : ChangeOf) : Type 0 where
   pub own : Own
-  pub locks : (lock : LockUse) → In lock own.locks ↔ ((u : Labelled) × InUse A u × IsLock host lock u)
+  pub locks : (lock : LockUse) → In lock own.locks ↔ ((u : Labelled) × LabelInUse A u × IsLock host lock u)
   pub locks_once : EachOnce own.locks
-  pub opens : (opened : OpenUse) → In opened own.opens ↔ ((u : Labelled) × InUse A u × IsOpening host opened u)
+  pub opens : (opened : OpenUse) → In opened own.opens ↔ ((u : Labelled) × LabelInUse A u × IsOpening host opened u)
   pub opens_once : EachOnce own.opens
   pub passes : Passes own host c c.call
 
@@ -248,7 +243,7 @@ given_made (s ∷ A) u g (inl x) = inl x.1
 given_made (s ∷ A) u g (inr e) = inr (given_made A u g e)
 
 -- what was kept since it was taken was kept
-had_kept : (A : List Step) (i : TokenId) → HasKept A i → HadKept A i
+had_kept : (A : List Step) (i : TokenId) → HasKeptToken A i → HadKept A i
 had_kept [] i e = e
 had_kept (s ∷ A) i (inl q) = inl q
 had_kept (s ∷ A) i (inr (q, _)) = inr (had_kept A i q)
@@ -483,7 +478,7 @@ module _ (script : Script) (host : HostId) where
           o : IsOpen A (record { k = ends.k; call = ends.call })
           o = firm.given_open g ends made e before
 
-          not_ended : IsEnded A s (record { k = ends.k; call = ends.call }) → ⊥
+          not_ended : CauseEnds A s (record { k = ends.k; call = ends.call }) → ⊥
           not_ended (inl (v, done, reply, counts, is)) =
               no_done g ends made e before v done.fileset done.bring.number counts.1
           not_ended (inr (h, other, b, q, same, learns, new)) =
@@ -524,16 +519,16 @@ module _ (script : Script) (host : HostId) where
             (record { k = ends.k; call = ends.call }) is_open (m.gives.ends g ends i gives.1).1 in
             no_end (subst IsEnd (sym (ap (λ (z : Asked). z.call) one ∙ gives.2)) (ends_is_end u))
 
-        stays_used : (u : Labelled) → InUse A u → InUse (s ∷ A) u
+        stays_used : (u : Labelled) → LabelInUse A u → LabelInUse (s ∷ A) u
         stays_used u usage =
             inr (usage, λ e. no_answer e.0 e.1, λ g i gives. none_made g u i gives)
 
-        was_used : (u : Labelled) → InUse (s ∷ A) u → InUse A u
+        was_used : (u : Labelled) → LabelInUse (s ∷ A) u → LabelInUse A u
         was_used u (inl i) = let b = m.answers.begins u i in absurd (no_answer b.0 b.1)
         was_used u (inr x) = x.0
 
         -- what the host has is in use
-        is_used : (u : Labelled) → HasLabel A s u → InUse (s ∷ A) u
+        is_used : (u : Labelled) → HasLabel A s u → LabelInUse (s ∷ A) u
         is_used u (inl usage) = stays_used u usage
         is_used u (inr (g, ended, unknown)) =
             let (made, gives) = ended_gives script host A u g ended in
@@ -585,7 +580,7 @@ module _ (script : Script) (host : HostId) where
           call = record { k = c.k; call = c.call }
 
           -- a Done that counts is this Change's
-          settled_by : (w : ServerId) (d : DoneOf) → Counts A s w d → ⊥
+          settled_by : (w : ServerId) (d : DoneOf) → DoneCounts A s w d → ⊥
           settled_by w d counts =
               let one = one_changing A run.0 v w c.fileset d.fileset c.number d.bring.number before counts.1 in
               let (b, had_it, files, numbers) = changing_said A w d.fileset d.bring.number counts.1 in
@@ -600,11 +595,11 @@ module _ (script : Script) (host : HostId) where
                     sym (other.at (ap (λ (f : FilesetId). f.0) files ∙ y.0))
                     ∙ (ap (λ (z : Asked). named z.call) same
                     ∙ old.at (ap (λ (f : FilesetId). f.0) one.0 ∙ y.0)) in
-                    after.1 d (subst (λ (x : ServerId). Settles A s x d) to (inl y)) (sym one.0) (sym one.1)
+                    after.1 d (subst (λ (x : ServerId). DoneComes A s x d) to (inl y)) (sym one.0) (sym one.1)
                     )
               ]
 
-          ended : IsEnded A s (record { k = c.k; call = c.call }) → ⊥
+          ended : CauseEnds A s (record { k = c.k; call = c.call }) → ⊥
           ended (inl (w, d, reply, counts, is)) = settled_by w d counts
           ended (inr (g, ends, made, e, same, learns, new)) =
               let one = one_open script host A run.0 (record { k = c.k; call = c.call })
@@ -627,7 +622,7 @@ module _ (script : Script) (host : HostId) where
         unfolding home
         at_home fileset files goes zero =
             let none : fileset.0 ≡ 0 = sym (ap (λ (f : FilesetId). f.0) files) ∙ zero in
-            let to : home fileset ≡ v = ap (λ (p : Place). p.server) goes in
+            let to : home fileset ≡ v = ap (λ (p : Stay). p.server) goes in
             let at : v.0 ≡ fileset.0 / 65536 = sym (ap (λ (w : ServerId). w.0) to) in
             let no : v.0 ≡ 0 = at ∙ ap (λ k. k / 65536) none in
             also.1 sends.0 sends.1 (ap (λ (w : ServerId). w.0) sends.2 ∙ no)
@@ -641,12 +636,12 @@ module _ (script : Script) (host : HostId) where
             by (EnterAt server) (inl x) numbered goes =
                 let about : IsAbout mine c.call (EnterAt server) =
                 questions_are_about_filesets mine host m.stance.user c.call (host_sees A s) (EnterAt server) x.0 in
-                named_is c.call server about.0 about.1 ∙ ap (λ (p : Place). p.server) goes
+                named_is c.call server about.0 about.1 ∙ ap (λ (p : Stay). p.server) goes
             by (ChangeAt server) (inl x) numbered goes =
                 let about : IsAbout mine c.call (ChangeAt server) =
                 questions_are_about_filesets mine host m.stance.user c.call (host_sees A s) (ChangeAt server) x.0 in
                 founded_at (host_sees A s) mine host m.stance.user c.call server about.0 about.1 x.0
-                ∙ ap (λ (p : Place). p.server) goes
+                ∙ ap (λ (p : Stay). p.server) goes
             by (ChangeIn fileset) (inl x) numbered goes = absurd (at_home fileset numbered goes zero)
             by q (inr x) numbered goes =
                 absurd (at_home x.0.fid.fileset (numbered ∙ ap numbered_under x.4)

@@ -17,13 +17,18 @@ use Rattle.tree_answers.specs.declared.tree.Tree.{Tree}
 use Rattle.need_server.proofs.Settled.{kept_is_settled}
 use Rattle.script_lines.specs.declared.script.Script.{Script}
 use Rattle.tree_laws.specs.Parts.{Part, cell_at, cell_in, settled}
-use Rattle.run_rules.specs.Runs.{IsRun, StepMeets, StepsMeet, firsts_of, past_of}
+use Rattle.run_rules.specs.Kept.{filesets_kept}
+use Rattle.run_rules.specs.Messages.{home}
+use Rattle.run_rules.specs.Past.{Always, In}
+use Rattle.run_rules.specs.Runs.{IsRun, StepMeets, StepsMeet, applied_entries, call_entry, entries_of, firsts_of}
+use Rattle.run_rules.specs.Runs.{past_of}
+use Rattle.run_rules.specs.Steps.{steps_of_host, steps_of_server}
+use Rattle.run_rules.specs.Views.{Entered}
+use Rattle.run_tokens.specs.TokenLaws.{IsTokenRun}
 use Rattle.run_history.proofs.HostLaw.{hosts_answer}
 use Rattle.run_history.proofs.ServerLaw.{downs_forget, store_legally}
 use Rattle.run_history.specs.Agreement.{AgreesAt, AnswersLegally, DownsForget, LeadsTo, StoresLegally}
 use Rattle.run_history.specs.Changes.{is_home}
-use Rattle.run_rules.specs.Knowing.{Entered}
-use Rattle.run_rules.specs.Histories.{applied_entries, call_entry, entries_of}
 use Rattle.run_rules.specs.declared.journal.Journal.{Journal}
 use Rattle.run_history.proofs.PastAnswering.{leaves_answers}
 use Rattle.run_history.proofs.Fitting.{all_fit}
@@ -42,11 +47,6 @@ use Rattle.run_contents.proofs.Keeping.{cause_kept, sizes}
 use Rattle.run_contents.proofs.Uses.{run_tokens}
 use Rattle.run_contents.specs.Doing.{deeds_at}
 use Rattle.run_contents.specs.Instance.{IsOfRun}
-use Rattle.run_rules.specs.Kept.{kept}
-use Rattle.run_rules.specs.Lists.{Always, In}
-use Rattle.run_rules.specs.Nodes.{own, served}
-use Rattle.run_rules.specs.Places.{home}
-use Rattle.run_rules.specs.TokenRuns.{IsTokenRun}
 use Rattle.run_rules.specs.declared.applied.Answer.{Answer}
 use Rattle.run_rules.specs.declared.step.Step.{Step}
 use Rattle.run_history.proofs.UseGranting.{decisions_granted}
@@ -111,7 +111,7 @@ module _ (script : Script) (journal : Journal) (run : IsRun script journal) (c :
   abbrev KnowsNames : List Step → Step → Type 0
   KnowsNames past s =
       (h : HostId) (tree_is : Tree) → s.node ≡ Host h → NamesStand firsts past tree_is → (server : ServerId)
-      (name : List ℕ) (id : FilesetId) → Entered (s ∷ own h past) server name id → LeadsTo tree_is server name id
+      (name : List ℕ) (id : FilesetId) → Entered (s ∷ steps_of_host h past) server name id → LeadsTo tree_is server name id
 
   -- a step
   module _ (past : List Step) (s : Step) (t : Tree) (stands : Stands script start c past t)
@@ -172,7 +172,7 @@ module _ (script : Script) (journal : Journal) (run : IsRun script journal) (c :
         (cause : CauseLeavesLabels script firsts past s) (meant : DecidesMeant start firsts past s)
         (granted : DecidesGranted start firsts c past s) (changes : ChangesAreLegal start firsts past s v) where
       abbrev K : Tree
-      K = kept start v (served v past)
+      K = filesets_kept start v (steps_of_server v past)
 
       deeds_are : c.deeds past s ≡ deeds_at start firsts (Server v) past s
       deeds_are = of_run.deeds past s ∙ ap (λ (n : Node). deeds_at start firsts n past s) node

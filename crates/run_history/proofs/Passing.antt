@@ -11,7 +11,12 @@ use Rattle.message_types.specs.declared.message.Message.{Message}
 use Rattle.script_lines.specs.declared.script.Script.{Script}
 use Rattle.tree_laws.proofs.Steps.{same_number}
 use Rattle.tree_laws.specs.Parts.{Cell, Part, Seen}
+use Rattle.run_rules.specs.Doings.{Doing, admitting, doings_of, epoch, sending}
+use Rattle.run_rules.specs.Doings.Doing.{BeginsEpoch, Flushes, Reserves, Took}
+use Rattle.run_rules.specs.Kept.{filesets_kept, filesets_through}
 use Rattle.run_rules.specs.Runs.{StepMeets, StepsMeet}
+use Rattle.run_rules.specs.ServerDecides.{ServerApplies, by_cause, decisions}
+use Rattle.run_rules.specs.Steps.{steps_of_server}
 use Rattle.run_parts.specs.Doings.{doings_cause}
 use Rattle.run_history.specs.Agreement.{CausedCells}
 use Rattle.run_history.proofs.Serving.{cells_still, not_here}
@@ -23,14 +28,9 @@ use Rattle.run_parts.specs.Legal.{Cells, KeptIsPresent, LegalDoings, LegalStep, 
 use Rattle.run_parts.specs.Legal.{served as served_deeds, tree, tree_after}
 use Rattle.run_contents.proofs.Caused.{at_first, no_message}
 use Rattle.run_contents.proofs.Sent.{At}
-use Rattle.run_contents.specs.Doing.{Doing, decided, deeds_at, does_first, does_nothing, with_doing}
+use Rattle.run_contents.specs.Doing.{Effect, decided, deeds_at, does_first, does_nothing, with_doing}
 use Rattle.run_contents.specs.Gives.{IsKept}
 use Rattle.run_contents.specs.Instance.{IsOfRun}
-use Rattle.run_rules.specs.Kept.{kept, kept_through}
-use Rattle.run_rules.specs.ServerApplies.{ServerApplies, by_cause, decisions}
-use Rattle.run_rules.specs.Acts.{Act, acts, admitting, epoch, sending}
-use Rattle.run_rules.specs.Acts.Act.{Begins, Flushes, Reserves, Took}
-use Rattle.run_rules.specs.Nodes.{served}
 use Rattle.run_rules.specs.declared.applied.Applied.{Applied}
 use Rattle.run_rules.specs.declared.step.Cause.{Cause}
 use Rattle.run_rules.specs.declared.step.Cause.TheVariants.{End, Evict, Flushed, Lapse, Line, Message as Came}
@@ -43,7 +43,7 @@ served_both : (xs ys : List Deed) (cells : Cells)
 served_both [] ys cells = refl
 served_both (d ∷ xs) ys cells = served_both xs ys (cells_after d cells)
 
-served_idle : (xs : List Act) (cells : Cells) → cells_served (with_doing does_nothing xs) cells ≡ cells
+served_idle : (xs : List Doing) (cells : Cells) → cells_served (with_doing does_nothing xs) cells ≡ cells
 served_idle [] cells = refl
 served_idle (a ∷ xs) cells = served_idle xs cells
 
@@ -77,24 +77,24 @@ module _ (script : Script) (start : Tree) (firsts : ServerId → ℕ) (c : Conte
     (m : StepMeets script start firsts (Server v) past s) (node : s.node ≡ Server v)
     (deeds_are : c.deeds past s ≡ deeds_at start firsts (Server v) past s) where
   abbrev K : Tree
-  K = kept start v (served v past)
+  K = filesets_kept start v (steps_of_server v past)
 
   abbrev caused : Tree
-  caused = kept_through s.cause (by_cause s.applied) K
+  caused = filesets_through s.cause (by_cause s.applied) K
 
   abbrev cells_then : Cells
   cells_then = CausedCells v K s (tree c past)
 
-  abbrev S : List Act
-  S = acts (firsts v) v past
+  abbrev S : List Doing
+  S = doings_of (firsts v) v past
 
   abbrev D : List Deed
   D = served_deeds c (firsts v) v past
 
-  abbrev first_does : Doing
+  abbrev first_does : Effect
   first_does = does_first s.cause K (by_cause s.applied)
 
-  abbrev tail : List Act
+  abbrev tail : List Doing
   tail = admitting s.admitted ++ (sending s.sent ++ (Reserves s.reserved ∷ []))
 
   abbrev rest : List Deed
@@ -115,7 +115,7 @@ module _ (script : Script) (start : Tree) (firsts : ServerId → ℕ) (c : Conte
       → cells_served (with_doing first_does (doings_cause s.cause S [])) (tree c past) f p ≡ cells_then f p
   first_cells f p at = go s.cause refl
     where
-      one : (a : Act) → cells_served (with_doing first_does (a ∷ [])) (tree c past) f p ≡ cells_then f p
+      one : (a : Doing) → cells_served (with_doing first_does (a ∷ [])) (tree c past) f p ≡ cells_then f p
       one a = sym (here_then f p at)
 
       none : (x : Cause) → s.cause ≡ x → ((m : Message) → x ≡ Came m → ⊥) → tree c past f p ≡ cells_then f p
@@ -126,7 +126,7 @@ module _ (script : Script) (start : Tree) (firsts : ServerId → ℕ) (c : Conte
       go : (x : Cause) → s.cause ≡ x
           → cells_served (with_doing first_does (doings_cause x S [])) (tree c past) f p ≡ cells_then f p
       go (Came x) e = one (Took x.host x.epoch x.moves x.body)
-      go (Restart line) e = one (Begins (suc (epoch S)))
+      go (Restart line) e = one (BeginsEpoch (suc (epoch S)))
       go Flushed e = one Flushes
       go (Line line) e = none (Line line) e (λ m q. cc)
       go Lapse e = none Lapse e (λ m q. cc)
@@ -191,7 +191,7 @@ module _ (script : Script) (start : Tree) (firsts : ServerId → ℕ) (c : Conte
             (cells_still script start firsts c past run v s m node [] q (λ f p. refl) f p)
             ∙ ((kept_now.at v).treed.kept_is p f at
             ∙ (at_then.shows f p at
-            ∙ ap (λ (xs : List Applied). kept_view (kept_through s.cause xs K) f p) (sym q)))
+            ∙ ap (λ (xs : List Applied). kept_view (filesets_through s.cause xs K) f p) (sym q)))
 
         go : (x : Cause) → s.cause ≡ x → (cells_then f p).kept ≡ kept_view caused f p
         go (Came x) e = came x e f p at

@@ -27,9 +27,11 @@ use Rattle.need_laws.specs.Keeps.{KeepsAll, is_answered_alone}
 use Rattle.script_lines.specs.declared.script.Script.{Script}
 use Rattle.tree_laws.specs.Parts.{Cell, Part, Seen, cell_at}
 use Rattle.tree_laws.specs.Parts.Part.{Size}
-use Rattle.run_rules.specs.Runs.{StepMeets}
+use Rattle.run_rules.specs.Kept.{filesets_kept}
+use Rattle.run_rules.specs.Past.{In}
+use Rattle.run_rules.specs.Runs.{StepMeets, call_entry}
+use Rattle.run_rules.specs.Steps.{steps_of_host, steps_of_server}
 use Rattle.run_rules.specs.Views.{sees, writes_to}
-use Rattle.run_rules.specs.Histories.{call_entry}
 use Rattle.run_history.proofs.Keeping.{still_home, still_keeps}
 use Rattle.run_history.proofs.Stands.{StandsNext}
 use Rattle.run_history.specs.PastStanding.{LeadsOn, Stands}
@@ -37,9 +39,6 @@ use Rattle.run_parts.specs.Cells.{written}
 use Rattle.run_parts.specs.Contents.{Contents}
 use Rattle.run_parts.specs.Legal.{tree, tree_after}
 use Rattle.run_contents.specs.Steps.{IsOfJournal, written_at, written_in}
-use Rattle.run_rules.specs.Kept.{kept}
-use Rattle.run_rules.specs.Lists.{In}
-use Rattle.run_rules.specs.Nodes.{own, served}
 use Rattle.run_rules.specs.declared.applied.Answer.{Answer}
 use Rattle.run_rules.specs.declared.step.Step.{Step}
 
@@ -104,11 +103,11 @@ module _ (script : Script) (start : Tree) (firsts : ServerId → ℕ) (c : Conte
 
     -- a step that answers nothing writes nothing
     none_wrote : s.answers ≡ [] → (f : Fid) (p : Part)
-        → c.wrote (own h past) s f p ≡ (let none : Option (Seen p) = None in none)
+        → c.wrote (steps_of_host h past) s f p ≡ (let none : Option (Seen p) = None in none)
     none_wrote e f p =
-        same.wrote (own h past) s f p
+        same.wrote (steps_of_host h past) s f p
         ∙ (ap (λ (xs : List Answer). if writes_to s f
-        then written_at (written_in xs) (sees (own h past) s f Size) p else None) e
+        then written_at (written_in xs) (sees (steps_of_host h past) s f Size) p else None) e
         ∙ both (writes_to s f))
       where
         both : (b : Bool) → (if b then (let none : Option (Seen p) = None in none) else None)
@@ -138,13 +137,13 @@ module _ (script : Script) (start : Tree) (firsts : ServerId → ℕ) (c : Conte
 
       is_alone : (is_answered_alone a.call ≡ true) × (keeps_limit a.call ≡ true)
       is_alone =
-          alone (sees (own h past) s) m.0.stance.own h m.0.stance.user a.reply a.call
+          alone (sees (steps_of_host h past) s) m.0.stance.own h m.0.stance.user a.reply a.call
           (m.0.answers.answers a i).2.settled
 
       kept_same : (f : Fid) (p : Part) → (cell_at left f p).kept ≡ (cell_at t f p).kept
       kept_same f p =
           ap (λ (z : Cell (Seen p)). z.kept) ((answers a i).1 f p)
-          ∙ (kept_written h (c.wrote (own h past) s f p) (tree c past f p)
+          ∙ (kept_written h (c.wrote (steps_of_host h past) s f p) (tree c past f p)
           ∙ ap (λ (z : Cell (Seen p)). z.kept) (sym (stands.cells f p)))
 
       all : KeepsAll t left
@@ -158,7 +157,7 @@ module _ (script : Script) (start : Tree) (firsts : ServerId → ℕ) (c : Conte
           roster_is = all.roster ∙ stands.roster_is;
           unmoved = all.away ∙ stands.unmoved;
           homes = still_home t left all stands.homes;
-          keeps = λ v. still_keeps v (kept start v (served v past)) t left all (stands.keeps v);
+          keeps = λ v. still_keeps v (filesets_kept start v (steps_of_server v past)) t left all (stands.keeps v);
           cells = (answers a i).1;
         },
         λ server name id k. (let r = names_lead_on t (call_entry a) server name k.0 stands.formed k.1 in

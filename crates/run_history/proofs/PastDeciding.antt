@@ -8,9 +8,9 @@ use Rattle.need_laws.specs.Known.{IsAt}
 use Rattle.run_history.proofs.ChangeLaw.{each_both}
 use Rattle.run_history.specs.Changes.{AgreesKept, EachChange, IsLegalChange, IsMeant}
 use Rattle.run_history.proofs.Fitting.{each_map, in_decided}
-use Rattle.run_rules.specs.ServerApplies.{decisions}
-use Rattle.run_rules.specs.Acts.{Act}
-use Rattle.run_rules.specs.Lists.{In}
+use Rattle.run_rules.specs.Doings.{Doing}
+use Rattle.run_rules.specs.Past.{In}
+use Rattle.run_rules.specs.ServerDecides.{decisions}
 use Rattle.run_rules.specs.declared.applied.Applied.TheVariants.{Done as IsDone}
 use Rattle.run_rules.specs.declared.applied.Written.{Written}
 use Rattle.run_rules.specs.declared.step.Step.{Step}
@@ -19,30 +19,30 @@ use Rattle.run_history.specs.Meant.MeantSo.{Decides, Refuses}
 
 -- a server's step: `caused` is what the server keeps after the cause, `at` its doings then; `Labels` says that the
 -- labels of the run are in use
-module _ (v : ServerId) (s : Step) (caused : Tree) (at : List Act) (Labels : Tree → Type 0) where
-  abbrev Each : (List Act → Tree → Written → Type 0) → Type 0
+module _ (v : ServerId) (s : Step) (caused : Tree) (at : List Doing) (Labels : Tree → Type 0) where
+  abbrev Each : (List Doing → Tree → Written → Type 0) → Type 0
   Each Holds = EachChange Holds s.cause caused at (decisions s.applied)
 
   -- a Change that looks at no use
-  abbrev Plain : List Act → Tree → Written → Type 0
+  abbrev Plain : List Doing → Tree → Written → Type 0
   Plain before K x = (t : Tree) → AgreesKept v before K t → IsMeant v x → IsLegalChange v s.cause K x t
 
   -- one that does
-  abbrev Uses : List Act → Tree → Written → Type 0
+  abbrev Uses : List Doing → Tree → Written → Type 0
   Uses before K x =
       (t : Tree) → Labels t → PinnedAreUsed v before t
       × (AgreesKept v before K t → is_change x.answer.call ≡ true → IsAt v x.answer.call
       → minds_uses x.answer.call ≡ true → IsLegalChange v s.cause K x t)
 
-  abbrev Legal : List Act → Tree → Written → Type 0
+  abbrev Legal : List Doing → Tree → Written → Type 0
   Legal before K x = (t : Tree) → AgreesKept v before K t → Labels t → IsLegalChange v s.cause K x t
 
-  abbrev All : List Act → Tree → Written → Type 0
+  abbrev All : List Doing → Tree → Written → Type 0
   All before K x = Plain before K x × (MeantSo v s.cause before K x × Uses before K x)
 
   module _ (free : (t : Tree) → Labels t → (x : Written) → In (IsDone x) s.applied
       → LabelIsFree t x.answer.host x.answer.call) where
-    legal_one : (before : List Act) (K : Tree) (x : Written) → In (IsDone x) s.applied → All before K x
+    legal_one : (before : List Doing) (K : Tree) (x : Written) → In (IsDone x) s.applied → All before K x
         → Legal before K x
     legal_one before K x i all t agree labels = by all.1.0
       where

@@ -3,7 +3,7 @@ use Rattle.std.proofs.Common.{Bool, List, Some, inl, inr, refl, suc, true, ℕ, 
 use Rattle.std.proofs.lemmas.Bool.{and_parts}
 use Rattle.std.specs.List.{list_all}
 use Rattle.std.specs.Prelude.{[], slice_get}
-use Rattle.run_rules.specs.Lists.{In}
+use Rattle.run_rules.specs.Past.{In}
 
 -- each that stands in it does
 pub all_in : {X : Type 0} (p : X → Bool) (xs : List X) → ((x : X) → In x xs → p x ≡ true) → list_all p xs ≡ true

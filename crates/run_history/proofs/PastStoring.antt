@@ -46,8 +46,8 @@ use Rattle.run_history.proofs.Keeping.{all_mapped, filter_mapped, found_in, from
 use Rattle.run_history.proofs.Keeping.{kept_list, map_in}
 use Rattle.run_history.specs.PastStanding.{KeepsAs}
 use Rattle.run_rules.specs.Kept.{content_given, takes_gifts, tree_given}
-use Rattle.run_rules.specs.Lists.{In}
-use Rattle.run_rules.specs.Places.{home}
+use Rattle.run_rules.specs.Messages.{home}
+use Rattle.run_rules.specs.Past.{In}
 
 -- a file in which the same is kept then
 stored_given : (host : HostId) (spans : List Span) (len : Option ℕ) (pieces : List Piece) (content : Content)

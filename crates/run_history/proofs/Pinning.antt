@@ -21,24 +21,22 @@ use Rattle.token_types.specs.declared.token.Kind.{Kind}
 use Rattle.token_types.specs.declared.token.Kind.TheVariants.{Bytes, Lock as LockToken, Opening, Status}
 use Rattle.token_types.specs.declared.token.Token.{Token}
 use Rattle.token_types.specs.declared.token.TokenId.{TokenId}
+use Rattle.run_rules.specs.Doings.{Doing, Granted, HasGoneAway, Issued, NoGrace, Pinned, StayStamp, TookNow, doings_of}
+use Rattle.run_rules.specs.Doings.{epoch}
+use Rattle.run_rules.specs.Messages.{Changing, HasKeptToken, Said, epoch_at}
+use Rattle.run_rules.specs.Past.{In}
 use Rattle.run_rules.specs.Runs.{StepsMeet}
+use Rattle.run_rules.specs.ServerDecides.{IsWrittenSo}
+use Rattle.run_rules.specs.Steps.{steps_of_host}
+use Rattle.run_rules.specs.Tokens.{IsUseKind}
+use Rattle.run_rules.specs.Wants.{body_of}
 use Rattle.run_history.proofs.Deciding.{pinned_use}
 use Rattle.run_parts.proofs.LabelLaw.{Labels, locked_owed}
 use Rattle.run_parts.proofs.LabelWords.{pinned_granted, pinned_kept, said_kept}
 use Rattle.run_contents.proofs.Grants.{AllTaken}
 use Rattle.run_contents.proofs.Words.{in_any}
-use Rattle.run_rules.specs.ServerDecides.{IsWrittenSo}
-use Rattle.run_rules.specs.Wants.{body_of}
 use Rattle.run_tokens.proofs.Invariant.{Link}
 use Rattle.run_tokens.proofs.Owed.{Owed}
-use Rattle.run_rules.specs.Acts.{Act, acts, epoch}
-use Rattle.run_rules.specs.Epochs.{epoch_at}
-use Rattle.run_rules.specs.Grants.{Granted, Issued, IsUseKind, Mark, Pinned}
-use Rattle.run_rules.specs.Hosts.{Away, NoGrace, TookNow}
-use Rattle.run_rules.specs.Lists.{In}
-use Rattle.run_rules.specs.Nodes.{own}
-use Rattle.run_rules.specs.Requests.{Changing}
-use Rattle.run_rules.specs.Sends.{HasKept, Said}
 use Rattle.run_rules.specs.declared.applied.Request.{Request}
 use Rattle.run_rules.specs.declared.applied.Written.{Written}
 use Rattle.run_rules.specs.declared.step.Labelled.{Labelled}
@@ -50,23 +48,23 @@ use Rattle.run_history.proofs.Waiting.{still_changing}
 
 module _ (script : Script) (start : Tree) (firsts : ServerId → ℕ) (real : (v : ServerId) → 0 < firsts v)
     (past : List Step) (s : Step) (run : StepsMeet script start firsts (s ∷ past)) (v : ServerId)
-    (node : s.node ≡ Server v) (D : List Act) (mid : Mid script start firsts real past s run v node D) where
-  abbrev S : List Act
-  S = acts (firsts v) v past
+    (node : s.node ≡ Server v) (D : List Doing) (mid : Mid script start firsts real past s run v node D) where
+  abbrev S : List Doing
+  S = doings_of (firsts v) v past
 
   abbrev Now : HostId → Labelled → Type 0
   Now = LockedNow firsts past s (Server v)
 
-  labels : (h : HostId) → Labels (own h past)
+  labels : (h : HostId) → Labels (steps_of_host h past)
   labels = (all script start firsts real past run.0).labels
 
   -- the token of a label in use was issued here
-  issued_now : (h : HostId) (u : Labelled) → u.token.id.server ≡ v → Now h u → (x : Mark) × Issued D u.token x
+  issued_now : (h : HostId) (u : Labelled) → u.token.id.server ≡ v → Now h u → (x : StayStamp) × Issued D u.token x
   issued_now h u at l =
       let o = (locked_owed firsts past (tokens script start firsts real past run.0)
       (rules script start firsts real past run.0) h u l.0
       (locked_live script start firsts real past run.0 h u l.0)).0 in
-      let mine : Owed v S u.token = subst (λ (w : ServerId). Owed w (acts (firsts w) w past) u.token) at o in
+      let mine : Owed v S u.token = subst (λ (w : ServerId). Owed w (doings_of (firsts w) w past) u.token) at o in
       let i = ((whole script start firsts real past run.0).at v).served.owed_issued u.token mine in
       (i.0, mid.issued u.token i.0 i.1)
 
@@ -78,7 +76,7 @@ module _ (script : Script) (start : Tree) (firsts : ServerId → ℕ) (real : (v
       (λ g. (mid.uses t.host).kept_locked g.0 t.id here g.1 g.2 kept
       (λ a. link.taken g.0 t g.1 g.2 refl a granted) live (λ u same gives l. none u same l))
     where
-      link : Link t.host v (own t.host past) D
+      link : Link t.host v (steps_of_host t.host past) D
       link = mid.at.link t.host
 
       granted : Granted v D t
@@ -87,20 +85,20 @@ module _ (script : Script) (start : Tree) (firsts : ServerId → ℕ) (real : (v
       owed : Owed v D t
       owed = link.granted_owed t refl granted
 
-      live : Away D t.host → ⊥
+      live : HasGoneAway D t.host → ⊥
       live = (mid.at.served.owed_live t owed).1
 
-      mark : (x : Mark) × Issued D t x
+      mark : (x : StayStamp) × Issued D t x
       mark = mid.at.served.owed_issued t owed
 
       here : t.id.server ≡ v
       here = mid.at.served.id t mark.0 mark.1
 
-      kept : HasKept (own t.host past) t.id
+      kept : HasKeptToken (steps_of_host t.host past) t.id
       kept =
           let k = pinned_kept v D t p in
           let d = link.took_ever k.named.fid.fileset (Kept k.named) k.took in
-          (labels t.host).kept_since t.id (said_kept (own t.host past) v d.0 d.1 k.named t.id d.2 k.names)
+          (labels t.host).kept_since t.id (said_kept (steps_of_host t.host past) v d.0 d.1 k.named t.id d.2 k.names)
 
       none : (u : Labelled) → u.token.id ≡ t.id → Now t.host u → ⊥
       none u same l =
@@ -114,7 +112,7 @@ module _ (script : Script) (start : Tree) (firsts : ServerId → ℕ) (real : (v
       let o = owed in
       (mid.at.served.owed_granted u.token o.0 (over u.token.host (mid.at.served.owed_live u.token o.0)), o.1)
     where
-      live : Away D h → ⊥
+      live : HasGoneAway D h → ⊥
       live = (mid.uses h).none_away u at l
 
       owed : Owed v D u.token × (u.token.host ≡ h)
@@ -184,7 +182,7 @@ module _ (script : Script) (start : Tree) (firsts : ServerId → ℕ) (real : (v
       h = so.w.host
 
       abbrev A : List Step
-      A = own h past
+      A = steps_of_host h past
 
       took : TookNow D h so.w.moves (Change so.change)
       took = subst (λ (r : Request). TookNow D h so.w.moves (body_of r)) so.request (taken so.w so.waits)

@@ -47,8 +47,8 @@ use Rattle.token_types.specs.declared.token.Token.{Token}
 use Rattle.tree_laws.specs.Parts.{Nature, Part}
 use Rattle.tree_laws.specs.Parts.Part.{ByteAt, Entries, Size, Traits}
 use Rattle.run_contents.proofs.WriteLooks.{file_checks, search_ends, target_ends}
-use Rattle.run_rules.specs.Grants.{IsUseKind}
-use Rattle.run_rules.specs.Lists.{In}
+use Rattle.run_rules.specs.Past.{In}
+use Rattle.run_rules.specs.Tokens.{IsUseKind}
 
 -- none of these needs is a lock or an open token
 abbrev NoUse : List Need → Type 0

@@ -15,26 +15,23 @@ use Rattle.message_types.specs.declared.telling.Done.{Done as DoneOf}
 use Rattle.message_types.specs.declared.telling.DoneIs.{DoneIs}
 use Rattle.message_types.specs.declared.telling.DoneIs.TheVariants.{Known}
 use Rattle.script_lines.specs.declared.script.Script.{Script}
-use Rattle.run_rules.specs.Runs.{StepMeets, StepsMeet}
+use Rattle.run_rules.specs.Doings.{Doing, SentTo, admitting, after_admitting, after_cause, after_deciding}
+use Rattle.run_rules.specs.Doings.{after_sending, after_step, deciding, doings_of, epoch, sending}
+use Rattle.run_rules.specs.Doings.Doing.{Admits, BeginsEpoch, Flushes, MakesWant, Reserves, Sent, Took, WritesDown}
+use Rattle.run_rules.specs.Kept.{filesets_after, filesets_kept, filesets_through}
+use Rattle.run_rules.specs.Messages.{Said, home}
+use Rattle.run_rules.specs.Past.{EachInTurn, In, appended}
+use Rattle.run_rules.specs.Runs.{IsFrom, StepMeets, StepsMeet}
+use Rattle.run_rules.specs.ServerDecides.{MayDecide, MayDecideAll, by_cause, decisions}
+use Rattle.run_rules.specs.ServerMay.{MaySend}
+use Rattle.run_rules.specs.Steps.{steps_of_host, steps_of_server}
+use Rattle.run_rules.specs.declared.applied.Applied.TheVariants.{Done as IsDoneChange, Wants as IsWanted}
 use Rattle.run_contents.proofs.Grants.{AllTaken, Heard, all_taken, causes as causes_taken, taken_took, wanted}
 use Rattle.run_contents.proofs.Grants.{written_down}
 use Rattle.run_contents.proofs.Servers.{cause_heard, heard}
-use Rattle.run_rules.specs.Kept.{kept, kept_after, kept_through}
-use Rattle.run_rules.specs.ServerApplies.{by_cause, decisions}
-use Rattle.run_rules.specs.ServerDecides.{MayDecide, MayDecideAll}
-use Rattle.run_rules.specs.ServerSends.{MaySend}
 use Rattle.run_tokens.proofs.Words.{acts_after, if_server, never_moved}
-use Rattle.run_rules.specs.Acts.{Act, SentTo, acts, admitted_by, admitting, after_cause, after_step, deciding}
-use Rattle.run_rules.specs.Acts.{epoch, sending, sent_by, written_by}
-use Rattle.run_rules.specs.Acts.Act.{Admits, Begins, Flushes, Reserves, Sent, Took, Wants, Writes}
-use Rattle.run_rules.specs.Lists.{Each, In, after}
-use Rattle.run_rules.specs.Nodes.{own, served}
-use Rattle.run_rules.specs.Places.{home}
-use Rattle.run_rules.specs.Sends.{Said}
-use Rattle.run_rules.specs.TokenRuns.{IsFrom}
 use Rattle.run_rules.specs.declared.applied.Admission.{Admission}
 use Rattle.run_rules.specs.declared.applied.Applied.{Applied}
-use Rattle.run_rules.specs.declared.applied.Applied.TheVariants.{Done as IsDoneChange, Wants as IsWanted}
 use Rattle.run_rules.specs.declared.applied.Wanted.{Wanted}
 use Rattle.run_rules.specs.declared.applied.Written.{Written}
 use Rattle.run_rules.specs.declared.step.Cause.{Cause}
@@ -42,12 +39,12 @@ use Rattle.run_rules.specs.declared.step.Cause.TheVariants.{Flushed, Message as 
 use Rattle.run_rules.specs.declared.step.Step.{Step}
 
 -- what waits was taken, and what was taken its host said
-pub record Good (past : List Step) (v : ServerId) (S : List Act) : Type 0 where
+pub record Good (past : List Step) (v : ServerId) (S : List Doing) : Type 0 where
   pub taken : AllTaken S
-  pub said : (h : HostId) (e n : ℕ) (b : Body) → In (Took h e n b) S → Said (own h past) v e n b
+  pub said : (h : HostId) (e n : ℕ) (b : Body) → In (Took h e n b) S → Said (steps_of_host h past) v e n b
 
 module _ (past : List Step) (v : ServerId) where
-  on_said : (S : List Act) (a : Act) → ((h : HostId) (e n : ℕ) (b : Body) → Took h e n b ≡ a → ⊥) → Good past v S
+  on_said : (S : List Doing) (a : Doing) → ((h : HostId) (e n : ℕ) (b : Body) → Took h e n b ≡ a → ⊥) → Good past v S
       → AllTaken (a ∷ S) → Good past v (a ∷ S)
   on_said S a no_took g taken = record {
     taken = taken;
@@ -57,7 +54,7 @@ module _ (past : List Step) (v : ServerId) where
     ];
   }
 
-  quiet : (S : List Act) (a : Act) → ((w : Wanted) → a ≡ Wants w → ⊥)
+  quiet : (S : List Doing) (a : Doing) → ((w : Wanted) → a ≡ MakesWant w → ⊥)
       → ((h : HostId) (e n : ℕ) (b : Body) → Took h e n b ≡ a → ⊥) → Good past v S → Good past v (a ∷ S)
   quiet S a no_want no_took g = on_said S a no_took g (λ w k. elim k [
     | inl e ↦ absurd (no_want w e)
@@ -65,35 +62,35 @@ module _ (past : List Step) (v : ServerId) where
   ])
 
   -- after one decision, and after all
-  pub on_want : (S0 : List Act) (s : Step) (x : Wanted) (K : Tree) (S : List Act) → MayDecide v K S0 S s (IsWanted x)
-      → Good past v S → Heard v S0 s S → Good past v (Wants x ∷ S) × Heard v S0 s (Wants x ∷ S)
+  pub on_want : (S0 : List Doing) (s : Step) (x : Wanted) (K : Tree) (S : List Doing) → MayDecide v K S0 S s (IsWanted x)
+      → Good past v S → Heard v S0 s S → Good past v (MakesWant x ∷ S) × Heard v S0 s (MakesWant x ∷ S)
   on_want S0 s x K S may g heard =
       let q = wanted v S0 s x K S may g.taken heard in
-      (on_said S (Wants x) (λ h e n b p. cc) g q.0, q.1)
+      (on_said S (MakesWant x) (λ h e n b p. cc) g q.0, q.1)
 
-  pub on_write : (S0 : List Act) (s : Step) (x : Written) (S : List Act) → Good past v S → Heard v S0 s S
-      → Good past v (Writes x ∷ S) × Heard v S0 s (Writes x ∷ S)
+  pub on_write : (S0 : List Doing) (s : Step) (x : Written) (S : List Doing) → Good past v S → Heard v S0 s S
+      → Good past v (WritesDown x ∷ S) × Heard v S0 s (WritesDown x ∷ S)
   on_write S0 s x S g heard =
       let q = written_down v S0 s x S g.taken heard in
-      (on_said S (Writes x) (λ h e n b p. cc) g q.0, q.1)
+      (on_said S (WritesDown x) (λ h e n b p. cc) g q.0, q.1)
 
-  decides : (S0 : List Act) (s : Step) (xs : List Applied) (K : Tree) (S : List Act) → MayDecideAll v K S0 S s xs
-      → Good past v S → Heard v S0 s S → Good past v (after (deciding xs) S)
+  decides : (S0 : List Doing) (s : Step) (xs : List Applied) (K : Tree) (S : List Doing) → MayDecideAll v K S0 S s xs
+      → Good past v S → Heard v S0 s S → Good past v (appended (deciding xs) S)
   decides S0 s [] K S may g heard = g
   decides S0 s (IsWanted x ∷ xs) K S may g heard =
-      let q = on_want S0 s x K S may.0 g heard in decides S0 s xs K (Wants x ∷ S) may.1 q.0 q.1
+      let q = on_want S0 s x K S may.0 g heard in decides S0 s xs K (MakesWant x ∷ S) may.1 q.0 q.1
   decides S0 s (IsDoneChange x ∷ xs) K S may g heard =
       let q = on_write S0 s x S g heard in
-      decides S0 s xs (kept_after s.cause K (IsDoneChange x)) (Writes x ∷ S) may.1 q.0 q.1
+      decides S0 s xs (filesets_after s.cause K (IsDoneChange x)) (WritesDown x ∷ S) may.1 q.0 q.1
   decides S0 s (_ ∷ xs) K S may g heard = elim may.0 [ ]
 
-  admits : (cs : List Admission) (S : List Act) → Good past v S → Good past v (after (admitting cs) S)
+  admits : (cs : List Admission) (S : List Doing) → Good past v S → Good past v (appended (admitting cs) S)
   admits [] S g = g
   admits (c ∷ cs) S g =
       admits cs (Admits c.host c.tokens ∷ S)
       (quiet S (Admits c.host c.tokens) (λ w e. absurd (cc)) (λ h e n b p. absurd (cc)) g)
 
-same_decisions : (xs : List Applied) (S : List Act) → after (deciding (decisions xs)) S ≡ after (deciding xs) S
+same_decisions : (xs : List Applied) (S : List Doing) → appended (deciding (decisions xs)) S ≡ appended (deciding xs) S
 same_decisions [] S = refl
 same_decisions (IsWanted x ∷ xs) S = refl
 same_decisions (IsDoneChange x ∷ xs) S = refl
@@ -101,45 +98,45 @@ same_decisions (_ ∷ xs) S = same_decisions xs S
 
 -- each message that was sent is so
 module _ (Q : HostId → ℕ → ℕ → Body → Type 0) where
-  abbrev pub AllSent : List Act → Type 0
+  abbrev pub AllSent : List Doing → Type 0
   AllSent S = (h : HostId) (e n : ℕ) (b : Body) → SentTo S h e n b → Q h e n b
 
-  other : (S : List Act) (a : Act) → ((h : HostId) (e n : ℕ) (b : Body) → a ≡ Sent h e n b → ⊥) → AllSent S
+  other : (S : List Doing) (a : Doing) → ((h : HostId) (e n : ℕ) (b : Body) → a ≡ Sent h e n b → ⊥) → AllSent S
       → AllSent (a ∷ S)
   other S a never old h e n b (inl q) = absurd (never h e n b q)
   other S a never old h e n b (inr q) = old h e n b q
 
-  admits_sent : (cs : List Admission) (S : List Act) → AllSent S → AllSent (after (admitting cs) S)
+  admits_sent : (cs : List Admission) (S : List Doing) → AllSent S → AllSent (appended (admitting cs) S)
   admits_sent [] S old = old
   admits_sent (c ∷ cs) S old =
       admits_sent cs (Admits c.host c.tokens ∷ S) (other S (Admits c.host c.tokens) (λ h e n b q. absurd (cc)) old)
 
-  writes_sent : (xs : List Applied) (S : List Act) → AllSent S → AllSent (after (deciding xs) S)
+  writes_sent : (xs : List Applied) (S : List Doing) → AllSent S → AllSent (appended (deciding xs) S)
   writes_sent [] S old = old
   writes_sent (IsWanted x ∷ xs) S old =
-      writes_sent xs (Wants x ∷ S) (other S (Wants x) (λ h e n b q. absurd (cc)) old)
+      writes_sent xs (MakesWant x ∷ S) (other S (MakesWant x) (λ h e n b q. absurd (cc)) old)
   writes_sent (IsDoneChange x ∷ xs) S old =
-      writes_sent xs (Writes x ∷ S) (other S (Writes x) (λ h e n b q. absurd (cc)) old)
+      writes_sent xs (WritesDown x ∷ S) (other S (WritesDown x) (λ h e n b q. absurd (cc)) old)
   writes_sent (_ ∷ xs) S old = writes_sent xs S old
 
-  causes_sent : (c : Cause) (S : List Act) → AllSent S → AllSent (after_cause c S)
+  causes_sent : (c : Cause) (S : List Doing) → AllSent S → AllSent (after_cause c S)
   causes_sent (Came m) S old = other S (Took m.host m.epoch m.moves m.body) (λ h e n b q. absurd (cc)) old
-  causes_sent (Restart line) S old = other S (Begins (suc (epoch S))) (λ h e n b q. absurd (cc)) old
+  causes_sent (Restart line) S old = other S (BeginsEpoch (suc (epoch S))) (λ h e n b q. absurd (cc)) old
   causes_sent Flushed S old = other S Flushes (λ h e n b q. absurd (cc)) old
   causes_sent _ S old = old
 
-  pub none_sent : (first : ℕ) → AllSent (Begins first ∷ [])
-  none_sent first = other [] (Begins first) (λ h e n b q. absurd (cc)) (λ h e n b q. elim q [ ])
+  pub none_sent : (first : ℕ) → AllSent (BeginsEpoch first ∷ [])
+  none_sent first = other [] (BeginsEpoch first) (λ h e n b q. absurd (cc)) (λ h e n b q. elim q [ ])
 
 -- a step of a server
 module _ (script : Script) (start : Tree) (firsts : ServerId → ℕ) (past : List Step)
     (run : StepsMeet script start firsts past) (v : ServerId) (s : Step)
     (m : StepMeets script start firsts (Server v) past s) where
-  abbrev S : List Act
-  S = acts (firsts v) v past
+  abbrev S : List Doing
+  S = doings_of (firsts v) v past
 
   abbrev kept_then : Tree
-  kept_then = kept_through s.cause s.applied (kept start v (served v past))
+  kept_then = filesets_through s.cause s.applied (filesets_kept start v (steps_of_server v past))
 
   pub caused : Good past v (after_cause s.cause S)
   caused = record {
@@ -148,19 +145,19 @@ module _ (script : Script) (start : Tree) (firsts : ServerId → ℕ) (past : Li
         (heard h e n b script start firsts past run v) i;
   }
 
-  admitted : Good past v (admitted_by s S)
+  admitted : Good past v (after_admitting s S)
   admitted =
-      admits past v s.admitted (written_by s S)
+      admits past v s.admitted (after_deciding s S)
       (subst (Good past v) (same_decisions s.applied (after_cause s.cause S))
       (decides past v S s (decisions s.applied)
-      (kept_through s.cause (by_cause s.applied) (kept start v (served v past))) (after_cause s.cause S)
+      (filesets_through s.cause (by_cause s.applied) (filesets_kept start v (steps_of_server v past))) (after_cause s.cause S)
       m.0.works.decides caused (taken_took S s)))
 
   module _ (Q : HostId → ℕ → ℕ → Body → Type 0)
-      (each : (T : List Act) (x : Message) → In x s.sent → Good past v T → AllSent Q T
+      (each : (T : List Doing) (x : Message) → In x s.sent → Good past v T → AllSent Q T
       → MaySend v kept_then s T (Sent x.host x.epoch x.moves x.body) → Q x.host x.epoch x.moves x.body) where
-    sends : (ms : List Message) (T : List Act) → ((x : Message) → In x ms → In x s.sent)
-        → Each (MaySend v kept_then s) (sending ms) T → Good past v T → AllSent Q T → AllSent Q (after (sending ms) T)
+    sends : (ms : List Message) (T : List Doing) → ((x : Message) → In x ms → In x s.sent)
+        → EachInTurn (MaySend v kept_then s) (sending ms) T → Good past v T → AllSent Q T → AllSent Q (appended (sending ms) T)
     sends [] T sub may g old = old
     sends (x ∷ ms) T sub may g old =
         sends ms (Sent x.host x.epoch x.moves x.body ∷ T) (λ y i. sub y (inr i)) may.1
@@ -178,9 +175,9 @@ module _ (script : Script) (start : Tree) (firsts : ServerId → ℕ) (past : Li
 
     pub after_sends : AllSent Q S → AllSent Q (after_step s S)
     after_sends old =
-        other Q (sent_by s S) (Reserves s.reserved) (λ h e n b q. absurd (cc))
-        (sends s.sent (admitted_by s S) (λ x i. i) m.0.works.sends admitted
-        (admits_sent Q s.admitted (written_by s S)
+        other Q (after_sending s S) (Reserves s.reserved) (λ h e n b q. absurd (cc))
+        (sends s.sent (after_admitting s S) (λ x i. i) m.0.works.sends admitted
+        (admits_sent Q s.admitted (after_deciding s S)
         (writes_sent Q s.applied (after_cause s.cause S) (causes_sent Q s.cause S old))))
 
 -- a Done that tells a fileset's number is of the server at which that was made
@@ -193,7 +190,7 @@ unfolding home
 home_is id v e = ap (λ (n : ℕ). record { 0 = n }) e
 
 module _ (script : Script) (start : Tree) (firsts : ServerId → ℕ) where
-  known_at_home : (v : ServerId) (tree : Tree) (s : Step) (T : List Act) (x : Message) → IsFrom (Server v) x
+  known_at_home : (v : ServerId) (tree : Tree) (s : Step) (T : List Doing) (x : Message) → IsFrom (Server v) x
       → IsSound script.roster x → MaySend v tree s T (Sent x.host x.epoch x.moves x.body)
       → KnownAtHome v x.host x.epoch x.moves x.body
   known_at_home v tree s T x from sound may d id body outcome = (
@@ -218,16 +215,16 @@ module _ (script : Script) (start : Tree) (firsts : ServerId → ℕ) where
   at_node : (k : Node) (past : List Step) (s : Step) (run : StepsMeet script start firsts past)
       → StepMeets script start firsts k past s
       → ((x : Message) → In x s.sent → IsFrom k x × IsSound script.roster x)
-      → ((v : ServerId) → AllSent (KnownAtHome v) (acts (firsts v) v past)) → (v : ServerId)
-      → AllSent (KnownAtHome v) (acts_after v k s (acts (firsts v) v past))
+      → ((v : ServerId) → AllSent (KnownAtHome v) (doings_of (firsts v) v past)) → (v : ServerId)
+      → AllSent (KnownAtHome v) (acts_after v k s (doings_of (firsts v) v past))
   at_node (Host k) past s run m from old v = old v
   at_node (Server k) past s run m from old v =
-      if_server (AllSent (KnownAtHome v)) k v (after_step s (acts (firsts v) v past)) (acts (firsts v) v past)
-      (λ e. subst (λ w. AllSent (KnownAtHome w) (after_step s (acts (firsts w) w past))) e
+      if_server (AllSent (KnownAtHome v)) k v (after_step s (doings_of (firsts v) v past)) (doings_of (firsts v) v past)
+      (λ e. subst (λ w. AllSent (KnownAtHome w) (after_step s (doings_of (firsts w) w past))) e
       (after_sends script start firsts past run k s m (KnownAtHome k)
       (λ T x i g all may. known_at_home k _ s T x (from x i).0 (from x i).1 may) (old k))) (old v)
 
   pub all_known : (past : List Step) → StepsMeet script start firsts past → (v : ServerId)
-      → AllSent (KnownAtHome v) (acts (firsts v) v past)
+      → AllSent (KnownAtHome v) (doings_of (firsts v) v past)
   all_known [] run v = none_sent (KnownAtHome v) (firsts v)
   all_known (s ∷ past) run v = at_node s.node past s run.0 run.1.0 run.1.3 (all_known past run.0) v

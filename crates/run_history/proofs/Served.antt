@@ -11,10 +11,15 @@ use Rattle.tree_answers.specs.Histories.{IsHistory, IsLegal, after_history}
 use Rattle.tree_answers.specs.declared.tree.Tree.{Tree}
 use Rattle.script_lines.specs.declared.script.Script.{Script}
 use Rattle.tree_laws.specs.Parts.{Part, cell_at}
-use Rattle.run_rules.specs.Runs.{StepMeets, StepsMeet}
+use Rattle.run_rules.specs.Doings.{after_cause, doings_of}
+use Rattle.run_rules.specs.Kept.{filesets_kept, filesets_through}
+use Rattle.run_rules.specs.Past.{In}
+use Rattle.run_rules.specs.Runs.{StepMeets, StepsMeet, call_entry, entries_in}
+use Rattle.run_rules.specs.ServerDecides.{by_cause, decisions}
+use Rattle.run_rules.specs.Steps.{steps_of_server}
+use Rattle.run_rules.specs.declared.applied.Applied.TheVariants.{Replied}
 use Rattle.run_history.specs.Agreement.{CausedCells}
 use Rattle.run_history.specs.Changes.{EachChange}
-use Rattle.run_rules.specs.Histories.{call_entry, entries_in}
 use Rattle.run_history.proofs.Decisions.{Amid, Fits, all_changes}
 use Rattle.run_history.proofs.Passing.{last_else, last_here}
 use Rattle.run_history.proofs.Serving.{Before, Known, leaves_caused}
@@ -26,13 +31,7 @@ use Rattle.run_contents.proofs.Bodies.{server_is}
 use Rattle.run_contents.proofs.Keeping.{split}
 use Rattle.run_contents.specs.Doing.{decided, deeds_at}
 use Rattle.run_contents.specs.Instance.{IsOfRun}
-use Rattle.run_rules.specs.Kept.{kept, kept_through}
-use Rattle.run_rules.specs.ServerApplies.{by_cause, decisions}
-use Rattle.run_rules.specs.Acts.{acts, after_cause}
-use Rattle.run_rules.specs.Lists.{In}
-use Rattle.run_rules.specs.Nodes.{served}
 use Rattle.run_rules.specs.declared.applied.Answer.{Answer}
-use Rattle.run_rules.specs.declared.applied.Applied.TheVariants.{Ends}
 use Rattle.run_rules.specs.declared.step.Step.{Step}
 use Rattle.run_history.specs.UseGranted.{GrantedThrough}
 
@@ -41,16 +40,16 @@ module _ (script : Script) (start : Tree) (firsts : ServerId → ℕ) (c : Conte
     (m : StepMeets script start firsts (Server v) past s) (node : s.node ≡ Server v)
     (deeds_are : c.deeds past s ≡ deeds_at start firsts (Server v) past s) where
   abbrev K : Tree
-  K = kept start v (served v past)
+  K = filesets_kept start v (steps_of_server v past)
 
   abbrev caused : Tree
-  caused = kept_through s.cause (by_cause s.applied) K
+  caused = filesets_through s.cause (by_cause s.applied) K
 
   abbrev cells_then : Cells
   cells_then = CausedCells v K s (tree c past)
 
   abbrev K_last : Tree
-  K_last = kept_through s.cause (decisions s.applied) caused
+  K_last = filesets_through s.cause (decisions s.applied) caused
 
   abbrev cells_last : Cells
   cells_last = cells_served (decided v s.cause caused (decisions s.applied)) cells_then
@@ -68,9 +67,9 @@ module _ (script : Script) (start : Tree) (firsts : ServerId → ℕ) (c : Conte
   }
     where
       keeps : (w : ServerId) (b : Bool) → (v.0 == w.0) ≡ b
-          → KeepsAs w (kept start w (if b then s ∷ served w past else served w past)) t
+          → KeepsAs w (filesets_kept start w (if b then s ∷ steps_of_server w past else steps_of_server w past)) t
       keeps w true e =
-          subst (λ (u : ServerId). KeepsAs u (kept start u (s ∷ served u past)) t) (server_is v w e)
+          subst (λ (u : ServerId). KeepsAs u (filesets_kept start u (s ∷ steps_of_server u past)) t) (server_is v w e)
           (subst (λ (k : Tree). KeepsAs v k t) (sym (split s.cause s.applied K)) a.keeps)
       keeps w false e = a.others w (λ q. eqb-false v.0 w.0 e (ap (λ (u : ServerId). u.0) (sym q)))
 
@@ -90,13 +89,13 @@ module _ (script : Script) (start : Tree) (firsts : ServerId → ℕ) (c : Conte
       (labels_same : (a b : Tree) → a.locks ≡ b.locks → a.opens ≡ b.opens → Labels a → Labels b)
       (then_same : (a b : Tree) → a.locks ≡ b.locks → a.opens ≡ b.opens → Labels_then a → Labels_then b)
       (t : Tree) (stands : Stands script start c past t) (labels : Labels t)
-      (ends_legal : (now : Tree) → now.roster ≡ script.roster → Labels now → (a : Answer) → In (Ends a) s.applied
+      (ends_legal : (now : Tree) → now.roster ≡ script.roster → Labels now → (a : Answer) → In (Replied a) s.applied
       → IsLegal now (call_entry a))
       (labels_caused : Labels_then (after_history t (flat_map (entries_in v) (by_cause s.applied))))
       (known : Known script start firsts c past run v s m node)
       (fits : EachChange (Fits script start c past v s Labels_then then_same) s.cause caused
-      (after_cause s.cause (acts (firsts v) v past)) (decisions s.applied))
-      (granted : GrantedThrough v s.cause caused (after_cause s.cause (acts (firsts v) v past)) cells_then
+      (after_cause s.cause (doings_of (firsts v) v past)) (decisions s.applied))
+      (granted : GrantedThrough v s.cause caused (after_cause s.cause (doings_of (firsts v) v past)) cells_then
       (decisions s.applied)) where
     abbrev Leaves : List Entry → Type 0
     Leaves xs =
@@ -129,7 +128,7 @@ module _ (script : Script) (start : Tree) (firsts : ServerId → ℕ) (c : Conte
         × Labels_then (after_history (after_history t first) second)
     decided_leaves =
         all_changes script start c past v s Labels_then then_same (decisions s.applied)
-        (after_cause s.cause (acts (firsts v) v past)) caused cells_then t (after_history t first)
+        (after_cause s.cause (doings_of (firsts v) v past)) caused cells_then t (after_history t first)
         m.0.works.applies.decided fits granted caused_leaves.1 labels_caused
 
     both_leave : Leaves (first ++ second)

@@ -12,7 +12,13 @@ use Rattle.tree_answers.specs.WellFormed.{IsWellFormed}
 use Rattle.tree_answers.specs.declared.tree.Tree.{Tree}
 use Rattle.script_lines.specs.declared.script.Script.{Script}
 use Rattle.tree_laws.specs.Parts.{Part, cell_at}
+use Rattle.run_rules.specs.Doings.{doings_of}
+use Rattle.run_rules.specs.Kept.{filesets_kept}
+use Rattle.run_rules.specs.Past.{Always, In}
 use Rattle.run_rules.specs.Runs.{IsRun, StepMeets, StepsMeet, firsts_of, past_of}
+use Rattle.run_rules.specs.Steps.{steps_of_server}
+use Rattle.run_rules.specs.declared.applied.Applied.TheVariants.{IsDown, Stored}
+use Rattle.run_tokens.specs.TokenLaws.{IsTokenRun}
 use Rattle.run_history.proofs.Causing.{cells_lost, cells_stored, legal_store}
 use Rattle.run_history.specs.Agreement.{AreHome, CausedCells, CellsAgree, DownsForget, ServersStoreLegally}
 use Rattle.run_history.specs.Agreement.{StoresLegally}
@@ -26,12 +32,6 @@ use Rattle.run_contents.proofs.Sent.{At}
 use Rattle.run_contents.proofs.Uses.{run_tokens}
 use Rattle.run_contents.specs.Doing.{deeds_at}
 use Rattle.run_contents.specs.Instance.{IsOfRun}
-use Rattle.run_rules.specs.Kept.{kept}
-use Rattle.run_rules.specs.Acts.{acts}
-use Rattle.run_rules.specs.Lists.{Always, In}
-use Rattle.run_rules.specs.Nodes.{served}
-use Rattle.run_rules.specs.TokenRuns.{IsTokenRun}
-use Rattle.run_rules.specs.declared.applied.Applied.TheVariants.{IsDown, Stored}
 use Rattle.run_rules.specs.declared.step.Step.{Step}
 
 one_server : (a b : ServerId) → Server a ≡ Server b → a ≡ b
@@ -40,8 +40,8 @@ one_server a b e = cc
 module _ (script : Script) (start : Tree) (firsts : ServerId → ℕ) (c : Contents) (of_run : IsOfRun start firsts c) where
   abbrev Stands_so : List Step → Type 0
   Stands_so past =
-      (v : ServerId) → (acts_in (served_deeds c (firsts v) v past) ≡ acts (firsts v) v past)
-      × At c v (served_deeds c (firsts v) v past) (kept start v (served v past))
+      (v : ServerId) → (acts_in (served_deeds c (firsts v) v past) ≡ doings_of (firsts v) v past)
+      × At c v (served_deeds c (firsts v) v past) (filesets_kept start v (steps_of_server v past))
 
   -- what a step does at its server
   abbrev Holds_at : Node → List Step → Step → Type 0
@@ -50,10 +50,10 @@ module _ (script : Script) (start : Tree) (firsts : ServerId → ℕ) (c : Conte
       → ((h : HostId) (fid : Fid) (spans : List Span) (len : Option ℕ) → In (Stored h fid spans len) s.applied
       → IsLegal tree_is (StoredEntry h fid spans len)
       × ((f : Fid) (p : Part) → cell_at (after_entry tree_is (StoredEntry h fid spans len)) f p
-      ≡ CausedCells v (kept start v (served v past)) s (tree c past) f p))
+      ≡ CausedCells v (filesets_kept start v (steps_of_server v past)) s (tree c past) f p))
       × ((h : HostId) → In (IsDown h) s.applied → AreHome tree_is → (f : Fid) (p : Part)
       → cell_at (after_entry tree_is (Down h v)) f p
-      ≡ CausedCells v (kept start v (served v past)) s (tree c past) f p)
+      ≡ CausedCells v (filesets_kept start v (steps_of_server v past)) s (tree c past) f p)
 
   at_node : (n : Node) (past : List Step) (s : Step) → StepsMeet script start firsts past
       → StepMeets script start firsts n past s → Kept c firsts past → Stands_so past
@@ -65,10 +65,10 @@ module _ (script : Script) (start : Tree) (firsts : ServerId → ℕ) (c : Conte
       ((h : HostId) (fid : Fid) (spans : List Span) (len : Option ℕ) → In (Stored h fid spans len) s.applied
       → IsLegal tree_is (StoredEntry h fid spans len)
       × ((f : Fid) (p : Part) → cell_at (after_entry tree_is (StoredEntry h fid spans len)) f p
-      ≡ CausedCells w (kept start w (served w past)) s (tree c past) f p))
+      ≡ CausedCells w (filesets_kept start w (steps_of_server w past)) s (tree c past) f p))
       × ((h : HostId) → In (IsDown h) s.applied → AreHome tree_is → (f : Fid) (p : Part)
       → cell_at (after_entry tree_is (Down h w)) f p
-      ≡ CausedCells w (kept start w (served w past)) s (tree c past) f p)) (let q : Server k ≡ Server v = e in one_server k v q) (
+      ≡ CausedCells w (filesets_kept start w (steps_of_server w past)) s (tree c past) f p)) (let q : Server k ≡ Server v = e in one_server k v q) (
         λ h fid spans len i. (
           legal_store script start firsts c of_run past run k s m kept_now (stands k).0 (stands k).1 deeds legal tree_is
               formed cells h fid spans len i,

@@ -47,32 +47,27 @@ use Rattle.script_lines.specs.declared.script.Script.{Script}
 use Rattle.token_types.specs.declared.token.Kind.TheVariants.{Lock as LockToken, Opening}
 use Rattle.token_types.specs.declared.token.TokenId.{TokenId}
 use Rattle.tree_laws.proofs.Steps.{same_number}
-use Rattle.run_rules.specs.Runs.{StepMeets, StepsMeet}
+use Rattle.run_rules.specs.Doings.{Doing, HasGoneAway, HasGoneDown, doings_of, epoch}
+use Rattle.run_rules.specs.Doings.Doing.{Took}
+use Rattle.run_rules.specs.Kept.{filesets_kept, takes_gifts}
+use Rattle.run_rules.specs.Messages.{Said, home}
+use Rattle.run_rules.specs.Past.{In}
+use Rattle.run_rules.specs.Runs.{StepMeets, StepsMeet, call_entry, entries_in}
+use Rattle.run_rules.specs.ServerDecides.{FirstDown, FirstGiven, ServerApplies, by_cause, ended_by, span_of, stored_of}
+use Rattle.run_rules.specs.Steps.{steps_of_host, steps_of_server}
+use Rattle.run_rules.specs.Tokens.{GivesUse, Made, end_of}
+use Rattle.run_rules.specs.Views.{IsLock, IsOpening}
+use Rattle.run_rules.specs.declared.applied.Applied.TheVariants.{IsDown as GoesDown, Replied, Stored}
 use Rattle.run_parts.specs.Doings.{doings}
 use Rattle.run_history.specs.Changes.{are_home, is_home}
-use Rattle.run_rules.specs.Knowing.{IsLock, IsOpening}
-use Rattle.run_rules.specs.Labels.{GivesUse, end_of}
-use Rattle.run_rules.specs.Histories.{call_entry, entries_in}
 use Rattle.run_parts.proofs.LabelLaw.{given_ended, locked_owed}
 use Rattle.run_parts.specs.Uses.{Frees, FreesAny, Locked}
 use Rattle.run_contents.proofs.Uses.{IsUse, begun_use, ended_begun}
 use Rattle.run_contents.proofs.Words.{any_in, both, in_any}
-use Rattle.run_rules.specs.Kept.{kept, takes_gifts}
-use Rattle.run_rules.specs.ServerApplies.{FirstDown, FirstGiven, ServerApplies, by_cause, ended_by, span_of}
-use Rattle.run_rules.specs.ServerApplies.{stored_of}
 use Rattle.run_tokens.proofs.Invariant.{Link}
 use Rattle.run_tokens.proofs.Words.{made_at}
-use Rattle.run_rules.specs.Acts.{Act, acts, epoch}
-use Rattle.run_rules.specs.Acts.Act.{Took}
-use Rattle.run_rules.specs.Gives.{Made}
-use Rattle.run_rules.specs.Hosts.{Away, IsDown}
-use Rattle.run_rules.specs.Lists.{In}
-use Rattle.run_rules.specs.Nodes.{own, served}
-use Rattle.run_rules.specs.Places.{home}
-use Rattle.run_rules.specs.Sends.{Said}
 use Rattle.run_rules.specs.declared.applied.Answer.{Answer}
 use Rattle.run_rules.specs.declared.applied.Applied.{Applied as AppliedOf}
-use Rattle.run_rules.specs.declared.applied.Applied.TheVariants.{Ends, IsDown as GoesDown, Stored}
 use Rattle.run_rules.specs.declared.step.Cause.TheVariants.{Message as Came}
 use Rattle.run_rules.specs.declared.step.Labelled.{Labelled}
 use Rattle.run_rules.specs.declared.step.Step.{Step}
@@ -149,11 +144,11 @@ stored_stands had tree h fid spans len old = record {
 module _ (script : Script) (start : Tree) (firsts : ServerId → ℕ) (real : (v : ServerId) → 0 < firsts v)
     (past : List Step) (s : Step) (run : StepsMeet script start firsts (s ∷ past)) (v : ServerId)
     (node : s.node ≡ Server v) where
-  abbrev S : List Act
-  S = acts (firsts v) v past
+  abbrev S : List Doing
+  S = doings_of (firsts v) v past
 
   abbrev K : Tree
-  K = kept start v (served v past)
+  K = filesets_kept start v (steps_of_server v past)
 
   pub met : StepMeets script start firsts (Server v) past s
   met = subst (λ (n : Node). StepMeets script start firsts n past s) node run.1.0
@@ -167,7 +162,7 @@ module _ (script : Script) (start : Tree) (firsts : ServerId → ℕ) (real : (v
   abbrev Now : HostId → Labelled → Type 0
   Now = LockedNow firsts past s (Server v)
 
-  link : (h : HostId) → Link h v (own h past) S
+  link : (h : HostId) → Link h v (steps_of_host h past) S
   link h = ((whole script start firsts real past run.0).at v).link h
 
   -- a label in use is of the server of its file
@@ -177,12 +172,12 @@ module _ (script : Script) (start : Tree) (firsts : ServerId → ℕ) (real : (v
       let o = (locked_owed firsts past (tokens script start firsts real past run.0)
       (rules script start firsts real past run.0) h u l (locked_live script start firsts real past run.0 h u l)).0 in
       let i = at.served.owed_issued u.token o in
-      made_at u.token.id.server (acts (firsts u.token.id.server) u.token.id.server past) u.token.fid.fileset i.0.moves
+      made_at u.token.id.server (doings_of (firsts u.token.id.server) u.token.id.server past) u.token.fid.fileset i.0.moves
       (at.served.at u.token i.0 i.1)
 
   use_kind : (h : HostId) (u : Labelled) → Old h u → IsUse u.token.kind
   use_kind h u l =
-      begun_use script h (own h past) (host_run script start firsts real past run.0 h) u
+      begun_use script h (steps_of_host h past) (host_run script start firsts real past run.0 h) u
       (((all script start firsts real past run.0).uses h u.token.id.server).locked_begun u refl l)
 
   -- where nothing in use is freed, all stay
@@ -220,13 +215,13 @@ module _ (script : Script) (start : Tree) (firsts : ServerId → ℕ) (real : (v
   -- a give-back that is applied for the first time
   module _ (h : HostId) (g : Give) (first : FirstGiven v S s h g) where
     abbrev A : List Step
-    A = own h past
+    A = steps_of_host h past
 
     pub made : Made A g
     made =
         let x = first.0.1.0 in
         let said = (met.1 x.0 x.1).2 in
-        let said' = subst (λ (y : HostId × Body). Said (own y.0 past) v x.0.epoch x.0.moves y.1)
+        let said' = subst (λ (y : HostId × Body). Said (steps_of_host y.0 past) v x.0.epoch x.0.moves y.1)
         (λ i. (x.2 i, x.5 i)) said in
         (((whole script start firsts real past run.0).alone h).said_made g v x.0.epoch x.0.moves said').0
 
@@ -236,7 +231,7 @@ module _ (script : Script) (start : Tree) (firsts : ServerId → ℕ) (real : (v
         let there = (((whole script start firsts real past run.0).at i.server).link h).made_id g i made j refl in
         sym there ∙ here
 
-    live : Away S h → ⊥
+    live : HasGoneAway S h → ⊥
     live = first.0.1.1.1
 
     -- what it frees
@@ -525,7 +520,7 @@ module _ (script : Script) (start : Tree) (firsts : ServerId → ℕ) (real : (v
             → StandsWith Now (after_history tree (flat_map (entries_in v)
             ((if b then Stored h g.fid (map span_of g.pieces) g.length ∷ [] else [])
             ++ option_map_or (λ ends.
-            Ends (record { host = h; k = ends.k; call = ends.call; reply = Fine; first = false }) ∷ []) o [])))
+            Replied (record { host = h; k = ends.k; call = ends.call; reply = Fine; first = false }) ∷ []) o [])))
         go true None e =
             none_left e (after_entry tree (StoredEntry h g.fid (map span_of g.pieces) g.length))
             (stored_stands Old tree h g.fid (map span_of g.pieces) g.length old)
@@ -612,7 +607,7 @@ module _ (script : Script) (start : Tree) (firsts : ServerId → ℕ) (real : (v
     }
 
   -- where the cause applies nothing it frees nothing that is in use
-  down_away : (D : List Act) (k : HostId) → IsDown D k → Away D k
+  down_away : (D : List Doing) (k : HostId) → HasGoneDown D k → HasGoneAway D k
   down_away [] k d = elim d [ ]
   down_away (a ∷ D) k (inl d) = inl (inl d)
   down_away (a ∷ D) k (inr d) = inr (down_away D k d)
@@ -621,10 +616,10 @@ module _ (script : Script) (start : Tree) (firsts : ServerId → ℕ) (real : (v
       → FreesAny v (doings s S) S k u → ⊥
   none_applied none k u at l f = by (frees_is v k u s S f)
     where
-      not_away : Away S k → ⊥
+      not_away : HasGoneAway S k → ⊥
       not_away away =
           locked_live script start firsts real past run.0 k u l
-          (subst (λ (w : ServerId). Away (acts (firsts w) w past) k) (sym at) away)
+          (subst (λ (w : ServerId). HasGoneAway (doings_of (firsts w) w past) k) (sym at) away)
 
       by : (m : Message) × (s.cause ≡ Came m) × Frees v S (Took m.host m.epoch m.moves m.body) k u → ⊥
       by (m, cause, inl (e, n, q)) =
@@ -649,7 +644,7 @@ module _ (script : Script) (start : Tree) (firsts : ServerId → ℕ) (real : (v
 
           ends_some : (xs : List AppliedOf) (o : Option EndsCall) (ends : EndsCall) → o ≡ Some ends
               → xs ++ option_map_or (λ ends.
-              Ends (record { host = k; k = ends.k; call = ends.call; reply = Fine; first = false }) ∷ []) o [] ≡ []
+              Replied (record { host = k; k = ends.k; call = ends.call; reply = Fine; first = false }) ∷ []) o [] ≡ []
               → ⊥
           ends_some [] None ends e q = let w : None ≡ Some ends = e in cc
           ends_some [] (Some x) ends e q = cc
@@ -684,38 +679,38 @@ module _ (script : Script) (start : Tree) (firsts : ServerId → ℕ) (real : (v
 
   -- the end of a use that the server takes is legal
   pub end_legal : (tree : Tree) → tree.roster ≡ script.roster → LabelsStand firsts past tree → (a : Answer)
-      → In (Ends a) s.applied → IsLegal tree (call_entry a)
+      → In (Replied a) s.applied → IsLegal tree (call_entry a)
   end_legal tree roster stands a i =
-      by (first_of v S K s applies (λ none. elim (subst (In (Ends a)) none j) [ ]))
+      by (first_of v S K s applies (λ none. elim (subst (In (Replied a)) none j) [ ]))
     where
-      j : In (Ends a) (by_cause s.applied)
+      j : In (Replied a) (by_cause s.applied)
       j = end_by_cause s.applied a applies.decided i
 
       stored_no : (h : HostId) (g : Give) (b : Bool)
-          → In (Ends a) (if b then Stored h g.fid (map span_of g.pieces) g.length ∷ [] else []) → ⊥
-      stored_no h g true (inl e) = let q : Ends a ≡ Stored h g.fid (map span_of g.pieces) g.length = e in cc
+          → In (Replied a) (if b then Stored h g.fid (map span_of g.pieces) g.length ∷ [] else []) → ⊥
+      stored_no h g true (inl e) = let q : Replied a ≡ Stored h g.fid (map span_of g.pieces) g.length = e in cc
       stored_no h g true (inr e) = elim e [ ]
       stored_no h g false e = elim e [ ]
 
       ended_is : (h : HostId) (o : Option EndsCall)
-          → In (Ends a) (option_map_or (λ ends.
-          Ends (record { host = h; k = ends.k; call = ends.call; reply = Fine; first = false }) ∷ []) o [])
+          → In (Replied a) (option_map_or (λ ends.
+          Replied (record { host = h; k = ends.k; call = ends.call; reply = Fine; first = false }) ∷ []) o [])
           → (ends : EndsCall) × (o ≡ Some ends)
           × (a ≡ record { host = h; k = ends.k; call = ends.call; reply = Fine; first = false })
       ended_is h None e = elim e [ ]
       ended_is h (Some ends) (inl e) = (ends, refl, end_same a _ e)
         where
-          end_same : (x y : Answer) → Ends x ≡ Ends y → x ≡ y
+          end_same : (x y : Answer) → Replied x ≡ Replied y → x ≡ y
           end_same x y q = cc
       ended_is h (Some ends) (inr e) = elim e [ ]
 
       by : First v S K s applies → IsLegal tree (call_entry a)
-      by (inr (h, first)) = absurd (elim (subst (In (Ends a)) (applies.down h first) j) [
-        | inl e ↦ (let q : Ends a ≡ GoesDown h = e in cc)
+      by (inr (h, first)) = absurd (elim (subst (In (Replied a)) (applies.down h first) j) [
+        | inl e ↦ (let q : Replied a ≡ GoesDown h = e in cc)
         | inr e ↦ elim e [ ]
       ])
       by (inl (h, g, first)) =
-          elim (of_both (Ends a) (stored_of K h g) (ended_by h g) (subst (In (Ends a)) (applies.given h g first) j)) [
+          elim (of_both (Replied a) (stored_of K h g) (ended_by h g) (subst (In (Replied a)) (applies.given h g first) j)) [
             | inl x ↦ absurd (stored_no h g (takes_gifts K g.fid && (nat_lt 0 (length g.pieces) || is_some g.length)) x)
             | inr x ↦ (
                 let (ends, is, same) = ended_is h g.ends x in

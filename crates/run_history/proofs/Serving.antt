@@ -35,10 +35,16 @@ use Rattle.message_types.specs.declared.message.Body.TheVariants.{GiveBack}
 use Rattle.message_types.specs.declared.message.Message.{Message}
 use Rattle.script_lines.specs.declared.script.Script.{Script}
 use Rattle.tree_laws.specs.Parts.{Cell, Part, Seen, cell_at}
-use Rattle.run_rules.specs.Runs.{StepMeets, StepsMeet}
+use Rattle.run_rules.specs.Doings.{doings_of}
+use Rattle.run_rules.specs.Kept.{filesets_kept, filesets_through, pieces_in, takes_gifts}
+use Rattle.run_rules.specs.Messages.{Stay, home}
+use Rattle.run_rules.specs.Past.{In}
+use Rattle.run_rules.specs.Runs.{StepMeets, StepsMeet, call_entry, entries_in}
+use Rattle.run_rules.specs.ServerDecides.{by_cause, ended_by, is_decision, span_of, stored_of}
+use Rattle.run_rules.specs.Steps.{steps_of_server}
+use Rattle.run_rules.specs.declared.applied.Applied.TheVariants.{IsDown, Replied, Stored}
 use Rattle.run_history.specs.Agreement.{AreHome, CausedCells, CellsAgree, DownsForget, LeadsTo, StoresLegally}
 use Rattle.run_history.specs.Changes.{are_home, is_home}
-use Rattle.run_rules.specs.Histories.{call_entry, entries_in}
 use Rattle.run_history.proofs.Causes.{CauseIs, cause_is}
 use Rattle.run_history.proofs.Causes.CauseIs.{AppliesNone, Downs, Gives}
 use Rattle.run_history.proofs.Decisions.{Amid}
@@ -53,15 +59,8 @@ use Rattle.run_contents.proofs.Bodies.{server_is}
 use Rattle.run_contents.proofs.Sound.{said_sound}
 use Rattle.run_contents.specs.Doing.{does_first}
 use Rattle.run_contents.specs.Gives.{IsKept}
-use Rattle.run_rules.specs.Kept.{kept, kept_through, pieces_in, takes_gifts}
-use Rattle.run_rules.specs.ServerApplies.{by_cause, ended_by, is_decision, span_of, stored_of}
-use Rattle.run_rules.specs.Acts.{acts}
-use Rattle.run_rules.specs.Lists.{In}
-use Rattle.run_rules.specs.Nodes.{served}
-use Rattle.run_rules.specs.Places.{Place, home}
 use Rattle.run_rules.specs.declared.applied.Answer.{Answer}
 use Rattle.run_rules.specs.declared.applied.Applied.{Applied}
-use Rattle.run_rules.specs.declared.applied.Applied.TheVariants.{Ends, IsDown, Stored}
 use Rattle.run_rules.specs.declared.step.Cause.TheVariants.{Message as Came}
 use Rattle.run_rules.specs.declared.step.Step.{Step}
 
@@ -95,10 +94,10 @@ module _ (script : Script) (start : Tree) (firsts : ServerId → ℕ) (c : Conte
     (run : StepsMeet script start firsts past) (v : ServerId) (s : Step)
     (m : StepMeets script start firsts (Server v) past s) (node : s.node ≡ Server v) where
   abbrev K : Tree
-  K = kept start v (served v past)
+  K = filesets_kept start v (steps_of_server v past)
 
   abbrev caused : Tree
-  caused = kept_through s.cause (by_cause s.applied) K
+  caused = filesets_through s.cause (by_cause s.applied) K
 
   abbrev cells_then : Cells
   cells_then = CausedCells v K s (tree c past)
@@ -134,7 +133,7 @@ module _ (script : Script) (start : Tree) (firsts : ServerId → ℕ) (c : Conte
     pub roster_is : t.roster ≡ script.roster
     pub unmoved : t.away ≡ []
     pub homes : are_home t ≡ true
-    pub keeps : (w : ServerId) → KeepsAs w (kept start w (served w past)) t
+    pub keeps : (w : ServerId) → KeepsAs w (filesets_kept start w (steps_of_server w past)) t
     pub cells : CellsAgree c past t
 
   -- what is known of the step
@@ -156,7 +155,7 @@ module _ (script : Script) (start : Tree) (firsts : ServerId → ℕ) (c : Conte
       unmoved = all.away ∙ a.unmoved;
       homes = still_home now next all a.homes;
       keeps = still_keeps v kept_is now next all a.keeps;
-      others = λ w other. still_keeps w (kept start w (served w past)) now next all (a.others w other);
+      others = λ w other. still_keeps w (filesets_kept start w (steps_of_server w past)) now next all (a.others w other);
       cells_here = λ f p at. same f p ∙ a.cells_here f p at;
       cells_else = λ f p other. same f p ∙ a.cells_else f p other;
       leads = λ server name id q. (let l = a.leads server name id q in
@@ -194,7 +193,7 @@ module _ (script : Script) (start : Tree) (firsts : ServerId → ℕ) (c : Conte
     abbrev Leaves : List Applied → Type 0
     Leaves xs =
         IsHistory t (flat_map (entries_in v) xs)
-        × On (kept_through s.cause xs K) cells_then t (after_history t (flat_map (entries_in v) xs))
+        × On (filesets_through s.cause xs K) cells_then t (after_history t (flat_map (entries_in v) xs))
 
     in_by : (xs : List Applied) (x : Applied) → In x (by_cause xs) → In x xs
     in_by [] x i = i
@@ -219,7 +218,7 @@ module _ (script : Script) (start : Tree) (firsts : ServerId → ℕ) (c : Conte
             unmoved = all.away ∙ b.unmoved;
             homes = still_home t (after_entry t (DownEntry h v)) all b.homes;
             keeps = still_keeps v K t (after_entry t (DownEntry h v)) all (b.keeps v);
-            others = λ w other. still_keeps w (kept start w (served w past)) t (after_entry t (DownEntry h v)) all
+            others = λ w other. still_keeps w (filesets_kept start w (steps_of_server w past)) t (after_entry t (DownEntry h v)) all
                 (b.keeps w);
             cells_here = λ f p at. cells f p;
             cells_else = λ f p other. cells f p ∙ cells_apart f p other;
@@ -233,7 +232,7 @@ module _ (script : Script) (start : Tree) (firsts : ServerId → ℕ) (c : Conte
         (home_is : home g.fid.fileset ≡ v)
         (ends_legal : (now : Tree) → now.roster ≡ script.roster → now.locks ≡ t.locks → now.opens ≡ t.opens
         → (a : Answer)
-        → In (Ends a) s.applied → IsLegal now (call_entry a)) where
+        → In (Replied a) s.applied → IsLegal now (call_entry a)) where
       abbrev the_end : EndsOf → Answer
       the_end ends = record { host = x.host; k = ends.k; call = ends.call; reply = Fine; first = false }
 
@@ -256,11 +255,11 @@ module _ (script : Script) (start : Tree) (firsts : ServerId → ℕ) (c : Conte
       stored_t = after_entry t entry
 
       abbrev given_K : Tree
-      given_K = kept_through s.cause (store ∷ []) K
+      given_K = filesets_through s.cause (store ∷ []) K
 
       -- with something stored
       module _ (rest : List Applied) (e : by_cause s.applied ≡ store ∷ rest) (takes : takes_gifts K g.fid ≡ true)
-          (kept_rest : kept_through s.cause rest given_K ≡ given_K) where
+          (kept_rest : filesets_through s.cause rest given_K ≡ given_K) where
         i : In store s.applied
         i = in_by s.applied store (subst (In store) (sym e) (inl refl))
 
@@ -268,7 +267,7 @@ module _ (script : Script) (start : Tree) (firsts : ServerId → ℕ) (c : Conte
         its = k.stores v t node b.formed b.cells x.host g.fid (map span_of g.pieces) g.length i
 
         caused_is : caused ≡ given_K
-        caused_is = ap (λ (xs : List Applied). kept_through s.cause xs K) e ∙ kept_rest
+        caused_is = ap (λ (xs : List Applied). filesets_through s.cause xs K) e ∙ kept_rest
 
         seen : (p : Part) → kept_view given_K g.fid p ≡ (cell_at stored_t g.fid p).kept
         seen p =
@@ -286,7 +285,7 @@ module _ (script : Script) (start : Tree) (firsts : ServerId → ℕ) (c : Conte
                   (map span_of g.pieces) g.length (pieces_in s.cause) takes b.homes;
               keeps = keeps_given v K t (b.keeps v) b.unmoved b.formed.ordered k.keeps_well.formed.ordered x.host g.fid
                   (map span_of g.pieces) g.length (pieces_in s.cause) takes seen;
-              others = λ w other. same_keeps w (kept start w (served w past)) t stored_t
+              others = λ w other. same_keeps w (filesets_kept start w (steps_of_server w past)) t stored_t
                   (stored_others w t x.host g.fid (map span_of g.pieces) g.length (λ q. other (sym q ∙ home_is))
                   b.formed.ordered b.homes b.unmoved) (b.keeps w);
               cells_here = λ f p at. its.1 f p;
@@ -295,35 +294,35 @@ module _ (script : Script) (start : Tree) (firsts : ServerId → ℕ) (c : Conte
                   (r.0, r.1, r.2 ∙ q.2));
             }
 
-        stored_ends : (ends : EndsOf) → g.ends ≡ Some ends → In (Ends (the_end ends)) rest
+        stored_ends : (ends : EndsOf) → g.ends ≡ Some ends → In (Replied (the_end ends)) rest
             → IsLegal stored_t (call_entry (the_end ends))
             × On given_K cells_then t (after_entry stored_t (call_entry (the_end ends)))
         stored_ends ends q j =
             let left = stored_rest t x.host g.fid (map span_of g.pieces) g.length in
-            let l : In (Ends (the_end ends)) s.applied =
-            in_by s.applied (Ends (the_end ends)) (subst (In (Ends (the_end ends))) (sym e) (inr j)) in (
+            let l : In (Replied (the_end ends)) s.applied =
+            in_by s.applied (Replied (the_end ends)) (subst (In (Replied (the_end ends))) (sym e) (inr j)) in (
               ends_legal stored_t (left.0 ∙ b.roster_is) left.3 left.4 (the_end ends) l,
               ended given_K cells_then t stored_t (the_end ends) stored_on (is_end ends q),
             )
 
       leaves_stored : takes_gifts K g.fid ≡ true → (o : Option EndsOf) → g.ends ≡ o
-          → by_cause s.applied ≡ store ∷ option_map_or (λ ends. Ends (the_end ends) ∷ []) o []
-          → Leaves (store ∷ option_map_or (λ ends. Ends (the_end ends) ∷ []) o [])
+          → by_cause s.applied ≡ store ∷ option_map_or (λ ends. Replied (the_end ends) ∷ []) o []
+          → Leaves (store ∷ option_map_or (λ ends. Replied (the_end ends) ∷ []) o [])
       leaves_stored takes None q e =
           (((its [] e takes refl).0, tt), stored_on [] e takes refl)
       leaves_stored takes (Some ends) q e =
-          let r = stored_ends (Ends (the_end ends) ∷ []) e takes refl ends q (inl refl) in
-          (((its (Ends (the_end ends) ∷ []) e takes refl).0, (r.0, tt)), r.1)
+          let r = stored_ends (Replied (the_end ends) ∷ []) e takes refl ends q (inl refl) in
+          (((its (Replied (the_end ends) ∷ []) e takes refl).0, (r.0, tt)), r.1)
 
       leaves_ended : (o : Option EndsOf) → g.ends ≡ o
-          → by_cause s.applied ≡ option_map_or (λ ends. Ends (the_end ends) ∷ []) o []
-          → Leaves (option_map_or (λ ends. Ends (the_end ends) ∷ []) o [])
+          → by_cause s.applied ≡ option_map_or (λ ends. Replied (the_end ends) ∷ []) o []
+          → Leaves (option_map_or (λ ends. Replied (the_end ends) ∷ []) o [])
       leaves_ended None q e = (tt, on_still [] e (λ f p. refl))
       leaves_ended (Some ends) q e =
-          let l : In (Ends (the_end ends)) s.applied =
-          in_by s.applied (Ends (the_end ends)) (subst (In (Ends (the_end ends))) (sym e) (inl refl)) in (
+          let l : In (Replied (the_end ends)) s.applied =
+          in_by s.applied (Replied (the_end ends)) (subst (In (Replied (the_end ends))) (sym e) (inl refl)) in (
             (ends_legal t b.roster_is refl refl (the_end ends) l, tt),
-            ended K cells_then t t (the_end ends) (on_still (Ends (the_end ends) ∷ []) e (λ f p. refl)) (is_end ends q),
+            ended K cells_then t t (the_end ends) (on_still (Replied (the_end ends) ∷ []) e (λ f p. refl)) (is_end ends q),
           )
 
       leaves_given : by_cause s.applied ≡ stored_of K x.host g ++ ended_by x.host g → Leaves (by_cause s.applied)
@@ -340,12 +339,12 @@ module _ (script : Script) (start : Tree) (firsts : ServerId → ℕ) (c : Conte
           go false q e = subst Leaves (sym e) (leaves_ended g.ends refl e)
 
     pub leaves_caused : ((now : Tree) → now.roster ≡ script.roster → now.locks ≡ t.locks → now.opens ≡ t.opens
-        → (a : Answer) → In (Ends a) s.applied → IsLegal now (call_entry a))
+        → (a : Answer) → In (Replied a) s.applied → IsLegal now (call_entry a))
         → Leaves (by_cause s.applied)
-    leaves_caused ends_legal = by (cause_is v (acts (firsts v) v past) K s m.0.works.applies)
+    leaves_caused ends_legal = by (cause_is v (doings_of (firsts v) v past) K s m.0.works.applies)
       where
-        by : CauseIs v (acts (firsts v) v past) K s → Leaves (by_cause s.applied)
+        by : CauseIs v (doings_of (firsts v) v past) K s → Leaves (by_cause s.applied)
         by (Gives x g cause body first e) =
-            leaves_given x g cause body (ap (λ (z : Place). z.server) first.0.2) ends_legal e
+            leaves_given x g cause body (ap (λ (z : Stay). z.server) first.0.2) ends_legal e
         by (Downs h e) = subst Leaves (sym e) (leaves_down h e)
         by (AppliesNone e) = subst Leaves (sym e) (tt, on_still [] e (λ f p. refl))

@@ -21,24 +21,23 @@ use Rattle.message_types.specs.declared.message.Message.{Message}
 use Rattle.message_types.specs.declared.telling.Grant.{Grant as GrantOf}
 use Rattle.script_lines.specs.declared.script.Script.{Script}
 use Rattle.tree_laws.specs.Parts.Part.{ByteAt}
+use Rattle.run_rules.specs.Doings.{Doing, SentTo, admitting, after_admitting, after_cause, after_deciding, after_step}
+use Rattle.run_rules.specs.Doings.{deciding, doings_of, epoch, sending}
+use Rattle.run_rules.specs.Doings.Doing.{Admits, BeginsEpoch, Flushes, MakesWant, Reserves, Sent, Took, WritesDown}
+use Rattle.run_rules.specs.HostMay.{HostMay}
+use Rattle.run_rules.specs.Past.{In, appended}
 use Rattle.run_rules.specs.Runs.{StepMeets, StepsMeet}
-use Rattle.run_rules.specs.HostRules.{HostMay}
-use Rattle.run_rules.specs.Views.{is_shown}
-use Rattle.run_rules.specs.Told.{byte_in, byte_of, told}
+use Rattle.run_rules.specs.Steps.{is_node, steps_of_host}
+use Rattle.run_rules.specs.Views.{byte_in, byte_of, is_shown, part_told}
+use Rattle.run_rules.specs.declared.applied.Applied.TheVariants.{Done as IsDone, IsDown, Replied, Stored}
+use Rattle.run_rules.specs.declared.applied.Applied.TheVariants.{Wants as IsWanted}
 use Rattle.run_parts.specs.Contents.{Contents, sees, view}
 use Rattle.run_contents.proofs.Answers.{wrote_so}
 use Rattle.run_contents.proofs.Runs.{own_run}
 use Rattle.run_contents.specs.Steps.{HostRun, IsOfJournal, shown, told_by, told_in, written_at, wrote}
 use Rattle.run_tokens.proofs.Words.{if_host, own_after}
-use Rattle.run_rules.specs.Acts.{Act, SentTo, acts, admitted_by, admitting, after_cause, after_step, deciding}
-use Rattle.run_rules.specs.Acts.{epoch, sending, written_by}
-use Rattle.run_rules.specs.Acts.Act.{Admits, Begins, Flushes, Reserves, Sent, Took, Wants, Writes}
-use Rattle.run_rules.specs.Lists.{In, after}
-use Rattle.run_rules.specs.Nodes.{is_node, own}
 use Rattle.run_rules.specs.declared.applied.Admission.{Admission}
 use Rattle.run_rules.specs.declared.applied.Applied.{Applied}
-use Rattle.run_rules.specs.declared.applied.Applied.TheVariants.{Done as IsDone, Ends, IsDown, Stored}
-use Rattle.run_rules.specs.declared.applied.Applied.TheVariants.{Wants as IsWanted}
 use Rattle.run_rules.specs.declared.step.Cause.{Cause}
 use Rattle.run_rules.specs.declared.step.Cause.TheVariants.{End, Evict, Flushed, Lapse, Line, Message as Came}
 use Rattle.run_rules.specs.declared.step.Cause.TheVariants.{Restart}
@@ -51,15 +50,15 @@ pub record SentSound (script : Script) (b : Body) : Type 0 where
   pub body : message.body ≡ b
 
 module _ (script : Script) (h : HostId) (e n : ℕ) (b : Body) where
-  abbrev AllSound : List Act → Type 0
+  abbrev AllSound : List Doing → Type 0
   AllSound S = SentTo S h e n b → SentSound script b
 
-  other : (S : List Act) (a : Act) → (a ≡ Sent h e n b → ⊥) → AllSound S → AllSound (a ∷ S)
+  other : (S : List Doing) (a : Doing) → (a ≡ Sent h e n b → ⊥) → AllSound S → AllSound (a ∷ S)
   other S a never old (inl q) = absurd (never q)
   other S a never old (inr q) = old q
 
-  sents : (ms : List Message) (S : List Act) → ((m : Message) → In m ms → IsSound script.roster m) → AllSound S
-      → AllSound (after (sending ms) S)
+  sents : (ms : List Message) (S : List Doing) → ((m : Message) → In m ms → IsSound script.roster m) → AllSound S
+      → AllSound (appended (sending ms) S)
   sents [] S sound old = old
   sents (m ∷ ms) S sound old = sents ms (Sent m.host m.epoch m.moves m.body ∷ S) (λ x i. sound x (inr i)) now
     where
@@ -71,36 +70,36 @@ module _ (script : Script) (h : HostId) (e n : ℕ) (b : Body) where
       }
       now (inr q) = old q
 
-  admits : (cs : List Admission) (S : List Act) → AllSound S → AllSound (after (admitting cs) S)
+  admits : (cs : List Admission) (S : List Doing) → AllSound S → AllSound (appended (admitting cs) S)
   admits [] S old = old
   admits (c ∷ cs) S old = admits cs (Admits c.host c.tokens ∷ S) (other S (Admits c.host c.tokens) (λ q. cc) old)
 
-  writes : (xs : List Applied) (S : List Act) → AllSound S → AllSound (after (deciding xs) S)
+  writes : (xs : List Applied) (S : List Doing) → AllSound S → AllSound (appended (deciding xs) S)
   writes [] S old = old
-  writes (IsWanted x ∷ xs) S old = writes xs (Wants x ∷ S) (other S (Wants x) (λ q. cc) old)
-  writes (IsDone x ∷ xs) S old = writes xs (Writes x ∷ S) (other S (Writes x) (λ q. cc) old)
-  writes (Ends x ∷ xs) S old = writes xs S old
+  writes (IsWanted x ∷ xs) S old = writes xs (MakesWant x ∷ S) (other S (MakesWant x) (λ q. cc) old)
+  writes (IsDone x ∷ xs) S old = writes xs (WritesDown x ∷ S) (other S (WritesDown x) (λ q. cc) old)
+  writes (Replied x ∷ xs) S old = writes xs S old
   writes (Stored k f ss l ∷ xs) S old = writes xs S old
   writes (IsDown k ∷ xs) S old = writes xs S old
 
-  causes : (c : Cause) (S : List Act) → AllSound S → AllSound (after_cause c S)
+  causes : (c : Cause) (S : List Doing) → AllSound S → AllSound (after_cause c S)
   causes (Came m) S old = other S (Took m.host m.epoch m.moves m.body) (λ q. cc) old
-  causes (Restart line) S old = other S (Begins (suc (epoch S))) (λ q. cc) old
+  causes (Restart line) S old = other S (BeginsEpoch (suc (epoch S))) (λ q. cc) old
   causes Flushed S old = other S Flushes (λ q. cc) old
   causes (Line line) S old = old
   causes Lapse S old = old
   causes Evict S old = old
   causes End S old = old
 
-  steps : (s : Step) (S : List Act) → ((m : Message) → In m s.sent → IsSound script.roster m) → AllSound S
+  steps : (s : Step) (S : List Doing) → ((m : Message) → In m s.sent → IsSound script.roster m) → AllSound S
       → AllSound (after_step s S)
   steps s S sound old =
-      other (after (sending s.sent) (admitted_by s S)) (Reserves s.reserved) (λ q. cc)
-      (sents s.sent (admitted_by s S) sound
-      (admits s.admitted (written_by s S) (writes s.applied (after_cause s.cause S) (causes s.cause S old))))
+      other (appended (sending s.sent) (after_admitting s S)) (Reserves s.reserved) (λ q. cc)
+      (sents s.sent (after_admitting s S) sound
+      (admits s.admitted (after_deciding s S) (writes s.applied (after_cause s.cause S) (causes s.cause S old))))
 
   module _ (start : Tree) (firsts : ServerId → ℕ) (v : ServerId) where
-    at_node : (k : Node) (s : Step) (S : List Act) → ((m : Message) → In m s.sent → IsSound script.roster m)
+    at_node : (k : Node) (s : Step) (S : List Doing) → ((m : Message) → In m s.sent → IsSound script.roster m)
         → AllSound S → AllSound (if is_node k (Server v) then after_step s S else S)
     at_node (Host k) s S sound old = old
     at_node (Server k) s S sound old = go (k.0 == v.0)
@@ -110,10 +109,10 @@ module _ (script : Script) (h : HostId) (e n : ℕ) (b : Body) where
         go false = old
 
     pub sent_sound : (past : List Step) → StepsMeet script start firsts past
-        → SentTo (acts (firsts v) v past) h e n b → SentSound script b
-    sent_sound [] run sent = other [] (Begins (firsts v)) (λ q. cc) (λ q. elim q [ ]) sent
+        → SentTo (doings_of (firsts v) v past) h e n b → SentSound script b
+    sent_sound [] run sent = other [] (BeginsEpoch (firsts v)) (λ q. cc) (λ q. elim q [ ]) sent
     sent_sound (s ∷ past) run sent =
-        at_node s.node s (acts (firsts v) v past) (λ m i. (run.1.3 m i).1) (sent_sound past run.0) sent
+        at_node s.node s (doings_of (firsts v) v past) (λ m i. (run.1.3 m i).1) (sent_sound past run.0) sent
 
 -- pieces that lie in a file have no byte beyond its limit
 piece_beyond : (piece : Piece) (at : ℕ) → FILE_BYTES_MAX ≤ at → piece.from + length piece.bytes ≤ FILE_BYTES_MAX
@@ -159,16 +158,16 @@ written_near from bytes at far fits x e = go (nat_le from at && nat_lt at (from 
 module _ (script : Script) (h : HostId) (c : Contents) (same : IsOfJournal c) (f : Fid) (at : ℕ)
     (far : FILE_BYTES_MAX ≤ at) where
   shown_zero : (s : Step) (old : ℕ) → ((m : Message) (g : GrantOf) → s.cause ≡ Came m → m.body ≡ Grant g
-      → told g (ByteAt at) ≡ 0) → old ≡ 0 → unwrap_or (shown s f (ByteAt at)) old ≡ 0
+      → part_told g (ByteAt at) ≡ 0) → old ≡ 0 → unwrap_or (shown s f (ByteAt at)) old ≡ 0
   shown_zero s old none zero = go (is_shown s f (ByteAt at)) s.cause none
     where
-      body : (b : Body) → ((g : GrantOf) → b ≡ Grant g → told g (ByteAt at) ≡ 0)
+      body : (b : Body) → ((g : GrantOf) → b ≡ Grant g → part_told g (ByteAt at) ≡ 0)
           → unwrap_or (told_by b (ByteAt at)) old ≡ 0
       body (Grant g) all = all g refl
       body _ all = zero
 
       go : (b : Bool) (x : Cause) → ((m : Message) (g : GrantOf) → x ≡ Came m → m.body ≡ Grant g
-          → told g (ByteAt at) ≡ 0) → unwrap_or (if b then told_in x (ByteAt at) else None) old ≡ 0
+          → part_told g (ByteAt at) ≡ 0) → unwrap_or (if b then told_in x (ByteAt at) else None) old ≡ 0
       go false x all = zero
       go true (Came m) all = body m.body (λ g e. all m g refl e)
       go true _ all = zero
@@ -188,7 +187,7 @@ module _ (script : Script) (start : Tree) (firsts : ServerId → ℕ) (c : Conte
     (f : Fid) (at : ℕ) (far : FILE_BYTES_MAX ≤ at) where
   told_zero : (past : List Step) → StepsMeet script start firsts past → (s : Step)
       → StepMeets script start firsts (Host h) past s → (m : Message) (g : GrantOf) → s.cause ≡ Came m
-      → m.body ≡ Grant g → told g (ByteAt at) ≡ 0
+      → m.body ≡ Grant g → part_told g (ByteAt at) ≡ 0
   told_zero past run s may m g cause body =
       let sent = sent_sound script h m.epoch m.moves m.body start firsts m.server past run (may.1 m cause).2 in
       let k : IsGrant sent.message g =
@@ -197,24 +196,24 @@ module _ (script : Script) (start : Tree) (firsts : ServerId → ℕ) (c : Conte
 
   -- what is seen then, once a step has taken its tokens
   pub sees_zero : (past : List Step) → StepsMeet script start firsts past → (s : Step)
-      → StepMeets script start firsts (Host h) past s → view c (own h past) f (ByteAt at) ≡ 0
-      → sees c (own h past) s f (ByteAt at) ≡ 0
+      → StepMeets script start firsts (Host h) past s → view c (steps_of_host h past) f (ByteAt at) ≡ 0
+      → sees c (steps_of_host h past) s f (ByteAt at) ≡ 0
   sees_zero past run s may old =
-      ap (λ (o : Option ℕ). unwrap_or o (view c (own h past) f (ByteAt at))) (same.shown s f (ByteAt at))
-      ∙ shown_zero script h c same f at far s (view c (own h past) f (ByteAt at)) (told_zero past run s may) old
+      ap (λ (o : Option ℕ). unwrap_or o (view c (steps_of_host h past) f (ByteAt at))) (same.shown s f (ByteAt at))
+      ∙ shown_zero script h c same f at far s (view c (steps_of_host h past) f (ByteAt at)) (told_zero past run s may) old
 
   view_node : (k : Node) (past : List Step) → StepsMeet script start firsts past → (s : Step)
-      → StepMeets script start firsts k past s → view c (own h past) f (ByteAt at) ≡ 0
-      → view c (own_after h k s (own h past)) f (ByteAt at) ≡ 0
+      → StepMeets script start firsts k past s → view c (steps_of_host h past) f (ByteAt at) ≡ 0
+      → view c (own_after h k s (steps_of_host h past)) f (ByteAt at) ≡ 0
   view_node (Server k) past run s may old = old
   view_node (Host k) past run s may old =
-      if_host (λ A. view c A f (ByteAt at) ≡ 0) k h (s ∷ own h past) (own h past)
+      if_host (λ A. view c A f (ByteAt at) ≡ 0) k h (s ∷ steps_of_host h past) (steps_of_host h past)
       (λ one. let mine = subst (λ (j : HostId). StepMeets script start firsts (Host j) past s) one may in
-      ap (λ (o : Option ℕ). unwrap_or o (sees c (own h past) s f (ByteAt at)))
-      (same.wrote (own h past) s f (ByteAt at))
-      ∙ written_zero script h c same f at far (own h past) s (own_run script start firsts past run h) mine.0
-      (sees c (own h past) s f (ByteAt at)) (sees_zero past run s mine old)) old
+      ap (λ (o : Option ℕ). unwrap_or o (sees c (steps_of_host h past) s f (ByteAt at)))
+      (same.wrote (steps_of_host h past) s f (ByteAt at))
+      ∙ written_zero script h c same f at far (steps_of_host h past) s (own_run script start firsts past run h) mine.0
+      (sees c (steps_of_host h past) s f (ByteAt at)) (sees_zero past run s mine old)) old
 
-  pub view_zero : (past : List Step) → StepsMeet script start firsts past → view c (own h past) f (ByteAt at) ≡ 0
+  pub view_zero : (past : List Step) → StepsMeet script start firsts past → view c (steps_of_host h past) f (ByteAt at) ≡ 0
   view_zero [] run = refl
   view_zero (s ∷ past) run = view_node s.node past run.0 s run.1.0 (view_zero past run.0)

@@ -39,8 +39,8 @@ use Rattle.token_types.specs.declared.token.Kind.TheVariants.{Bytes, Lock as Loc
 use Rattle.token_types.specs.declared.token.Need.{Need}
 use Rattle.token_types.specs.declared.token.Token.{Token}
 use Rattle.run_history.proofs.Lists.{same_any, same_bool, same_count}
-use Rattle.run_rules.specs.Knowing.{Stance, look_of}
-use Rattle.run_rules.specs.Lists.{In}
+use Rattle.run_rules.specs.Past.{In}
+use Rattle.run_rules.specs.Views.{Stance, look_of}
 use Rattle.run_rules.specs.declared.step.Step.{Step}
 
 -- lists of tokens with the same elements cover the same

@@ -11,16 +11,16 @@ use Rattle.script_lines.specs.declared.script.Script.{Script}
 use Rattle.run_history.specs.PastStanding.{Agrees}
 use Rattle.run_parts.specs.Contents.{Contents}
 use Rattle.run_parts.specs.Legal.{tree, tree_after}
-use Rattle.run_rules.specs.Kept.{kept}
-use Rattle.run_rules.specs.ServerApplies.{by_cause, decisions, is_decision}
-use Rattle.run_rules.specs.Nodes.{is_node, served}
+use Rattle.run_rules.specs.Kept.{filesets_kept}
+use Rattle.run_rules.specs.ServerDecides.{by_cause, decisions, is_decision}
+use Rattle.run_rules.specs.Steps.{is_node, steps_of_server}
 use Rattle.run_rules.specs.declared.applied.Applied.{Applied}
 use Rattle.run_rules.specs.declared.step.Step.{Step}
 
 -- and after a step of a node
 abbrev pub StandsNext : Script → Tree → Contents → List Step → Step → Node → Tree → Type 0
 StandsNext script start c past s n t =
-    Agrees script (λ v. kept start v (if is_node n (Server v) then s ∷ served v past else served v past))
+    Agrees script (λ v. filesets_kept start v (if is_node n (Server v) then s ∷ steps_of_server v past else steps_of_server v past))
     (tree_after c n s past (tree c past)) t
 
 -- histories one after the other

@@ -11,10 +11,13 @@ use Rattle.tree_answers.specs.declared.tree.Tree.{Tree}
 use Rattle.tree_laws.specs.Labels.{UsesAgree}
 use Rattle.script_lines.specs.declared.script.Script.{Script}
 use Rattle.run_tokens.proofs.TokenRun.{token_run}
+use Rattle.run_rules.specs.Doings.{HasGoneAway, doings_of}
 use Rattle.run_rules.specs.Runs.{StepsMeet}
+use Rattle.run_rules.specs.Steps.{steps_of_host}
+use Rattle.run_rules.specs.Tokens.{end_of}
+use Rattle.run_rules.specs.Views.{IsLock, IsOpening}
+use Rattle.run_tokens.specs.TokenLaws.{IsTokenRun}
 use Rattle.run_parts.proofs.Words.{host_split}
-use Rattle.run_rules.specs.Knowing.{IsLock, IsOpening}
-use Rattle.run_rules.specs.Labels.{end_of}
 use Rattle.run_parts.proofs.LabelLaw.{AllUses, all_uses}
 use Rattle.run_parts.specs.Uses.{Locked, LockedAfter, UsesRun}
 use Rattle.run_contents.proofs.Runs.{own_run}
@@ -23,10 +26,6 @@ use Rattle.run_contents.specs.Steps.{HostRun}
 use Rattle.run_tokens.proofs.Invariant.{Link}
 use Rattle.run_tokens.proofs.Law.{Whole, always}
 use Rattle.run_tokens.proofs.Words.{own_after}
-use Rattle.run_rules.specs.Acts.{acts}
-use Rattle.run_rules.specs.Hosts.{Away}
-use Rattle.run_rules.specs.Nodes.{own}
-use Rattle.run_rules.specs.TokenRuns.{IsTokenRun}
 use Rattle.run_rules.specs.declared.step.Labelled.{Labelled}
 use Rattle.run_rules.specs.declared.step.Step.{Step}
 use Rattle.run_history.proofs.Open.{Also, Firm, Has, MadeOnce, SendsReal, firm}
@@ -72,48 +71,48 @@ module _ (script : Script) (start : Tree) (firsts : ServerId → ℕ) (real : (v
   rules past run = uses_run script start firsts past run
 
   pub whole : (past : List Step) → StepsMeet script start firsts past
-      → Whole (λ h. own h past) (λ v. acts (firsts v) v past)
+      → Whole (λ h. steps_of_host h past) (λ v. doings_of (firsts v) v past)
   whole past run = always firsts past (tokens past run)
 
   pub all : (past : List Step) → StepsMeet script start firsts past → AllUses firsts past
   all past run = all_uses firsts past (tokens past run) (rules past run)
 
-  pub also : (past : List Step) → StepsMeet script start firsts past → (h : HostId) → Also (own h past)
+  pub also : (past : List Step) → StepsMeet script start firsts past → (h : HostId) → Also (steps_of_host h past)
   also [] run h = tt
   also (s ∷ past) run h = at_node s.node sends (also past run.0 h) made
     where
       sends : SendsReal s
       sends m i z = let k = (run.1.3 m i).1.server.first in absurd (omega (arith, k, z))
 
-      made : MadeOnce (own_after h s.node s (own h past))
+      made : MadeOnce (own_after h s.node s (steps_of_host h past))
       made g k i a b c d = (((whole (s ∷ past) run).at i.server).link h).made_once g k i refl a b c d
 
-      at_node : (n : Node) → SendsReal s → Also (own h past) → MadeOnce (own_after h n s (own h past))
-          → Also (own_after h n s (own h past))
+      at_node : (n : Node) → SendsReal s → Also (steps_of_host h past) → MadeOnce (own_after h n s (steps_of_host h past))
+          → Also (own_after h n s (steps_of_host h past))
       at_node (Server v) sends old made = old
       at_node (Host k) sends old made =
-          host_split (λ L. MadeOnce L → Also L) k h (s ∷ own h past) (own h past) (λ e now. (old, sends, now))
+          host_split (λ L. MadeOnce L → Also L) k h (s ∷ steps_of_host h past) (steps_of_host h past) (λ e now. (old, sends, now))
           (λ e now. old) made
 
-  pub host_run : (past : List Step) → StepsMeet script start firsts past → (h : HostId) → HostRun script h (own h past)
+  pub host_run : (past : List Step) → StepsMeet script start firsts past → (h : HostId) → HostRun script h (steps_of_host h past)
   host_run past run h = own_run script start firsts past run h
 
-  pub firm_now : (past : List Step) → StepsMeet script start firsts past → (h : HostId) → Firm h (own h past)
-  firm_now past run h = firm script h (own h past) (host_run past run h) (also past run h)
+  pub firm_now : (past : List Step) → StepsMeet script start firsts past → (h : HostId) → Firm h (steps_of_host h past)
+  firm_now past run h = firm script h (steps_of_host h past) (host_run past run h) (also past run h)
 
   module _ (past : List Step) (run : StepsMeet script start firsts past) (h : HostId) where
     abbrev A : List Step
-    A = own h past
+    A = steps_of_host h past
 
     -- a label in use in the tree is the host's
     pub locked_live : (u : Labelled) → Locked firsts past h u
-        → Away (acts (firsts u.token.id.server) u.token.id.server past) h → ⊥
+        → HasGoneAway (doings_of (firsts u.token.id.server) u.token.id.server past) h → ⊥
     locked_live u l = ((all past run).uses h u.token.id.server).none_away u refl l
 
     pub locked_had : (u : Labelled) → Locked firsts past h u → Has A u
     locked_had u l =
         let v = u.token.id.server in
-        let S = acts (firsts v) v past in
+        let S = doings_of (firsts v) v past in
         let link : Link h v A S = ((whole past run).at v).link h in
         elim (((all past run).uses h v).locked_is u refl l (locked_live u l)) [
           | inl usage ↦ inl usage

@@ -39,14 +39,14 @@ use Rattle.tree_laws.specs.Fates.Fate.{IsStored, Stays}
 use Rattle.tree_laws.specs.Parts.{Cell, Nature, Part, Seen, Written, byte_cell, cell_at, cell_found, cell_in}
 use Rattle.tree_laws.specs.Parts.{object_in, present, settled, size_cell}
 use Rattle.tree_laws.specs.Parts.Part.{ByteAt, Entries, Size, Traits}
-use Rattle.run_rules.specs.Told.{byte_in, byte_of}
+use Rattle.run_rules.specs.Kept.{length_given, takes_gifts}
+use Rattle.run_rules.specs.ServerDecides.{span_of}
+use Rattle.run_rules.specs.Views.{byte_in, byte_of}
 use Rattle.run_parts.specs.Cells.{Does, by, cell_after}
 use Rattle.run_parts.specs.Cells.Does.{Nothing}
 use Rattle.run_parts.specs.Legal.{LegalSize}
 use Rattle.run_contents.proofs.Words.{both}
 use Rattle.run_contents.specs.Doing.{stores_part, stores_some}
-use Rattle.run_rules.specs.Kept.{length_given, takes_gifts}
-use Rattle.run_rules.specs.ServerApplies.{span_of}
 
 -- the bytes of pieces lie in their spans
 piece_in : (piece : Piece) (at : ℕ) → has_byte (span_of piece) at ≡ true → (x : ℕ) × (byte_in piece at ≡ Some x)

@@ -5,7 +5,7 @@ use Rattle.std.specs.Prelude.{filter, insert, ◌↔◌}
 use Rattle.base_types.specs.declared.ids.HostId.{HostId}
 use Rattle.run_history.proofs.Labels.{filter_in, in_filter}
 use Rattle.run_contents.proofs.WriteLooks.{in_back, in_front}
-use Rattle.run_rules.specs.Lists.{In}
+use Rattle.run_rules.specs.Past.{In}
 use Rattle.run_rules.specs.declared.step.Labelled.{Labelled}
 use Rattle.run_history.proofs.Rows.{of_both}
 

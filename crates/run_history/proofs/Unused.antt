@@ -7,17 +7,16 @@ use Rattle.tree_answers.specs.declared.tree.LockUse.{LockUse}
 use Rattle.tree_answers.specs.declared.tree.OpenUse.{OpenUse}
 use Rattle.tree_answers.specs.declared.tree.Tree.{Tree}
 use Rattle.script_lines.specs.declared.script.Script.{Script}
+use Rattle.run_rules.specs.Doings.{HasGoneAway, IsLive, doings_of}
+use Rattle.run_rules.specs.Past.{In}
 use Rattle.run_rules.specs.Runs.{IsEnded, IsRun, firsts_of, past_of}
+use Rattle.run_tokens.specs.TokenLaws.{IsTokenRun}
 use Rattle.run_history.proofs.Ended.{takes_part}
 use Rattle.run_rules.specs.declared.journal.Journal.{Journal}
 use Rattle.run_parts.proofs.LabelLaw.{all_uses, locked_owed}
 use Rattle.run_parts.specs.Uses.{Locked, UsesRun}
 use Rattle.run_contents.proofs.Uses.{run_tokens, run_uses}
 use Rattle.run_tokens.proofs.Law.{always}
-use Rattle.run_rules.specs.Acts.{acts}
-use Rattle.run_rules.specs.Hosts.{Away, IsLive}
-use Rattle.run_rules.specs.Lists.{In}
-use Rattle.run_rules.specs.TokenRuns.{IsTokenRun}
 use Rattle.run_rules.specs.declared.step.Labelled.{Labelled}
 use Rattle.run_rules.specs.declared.step.Step.{Step}
 use Rattle.run_history.specs.UseStanding.{LabelsStand}
@@ -35,11 +34,11 @@ module _ (script : Script) (journal : Journal) (run : IsRun script journal) (end
       let v = u.token.id.server in
       let tokens : IsTokenRun firsts past = run_tokens script journal run in
       let rules : UsesRun past = run_uses script journal run in
-      let up : (Away (acts (firsts v) v past) h → ⊥) =
+      let up : (HasGoneAway (doings_of (firsts v) v past) h → ⊥) =
       ((all_uses firsts past tokens rules).uses h v).none_away u refl l in
       let owed = locked_owed firsts past tokens rules h u l up in
-      let live : IsLive (acts (firsts v) v past) h =
-      subst (λ k. IsLive (acts (firsts v) v past) k) owed.1
+      let live : IsLive (doings_of (firsts v) v past) h =
+      subst (λ k. IsLive (doings_of (firsts v) v past) k) owed.1
       (((always firsts past tokens).at v).served.owed_live u.token owed.0) in
       up (ended.servers v h (takes_part script run.start firsts v h past run.steps live.0) live.0)
 

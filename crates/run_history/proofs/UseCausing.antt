@@ -14,19 +14,16 @@ use Rattle.run_parts.specs.Doings.{doings, doings_cause}
 use Rattle.run_parts.specs.Uses.{Frees, FreesAny}
 use Rattle.run_contents.proofs.Bodies.{cases_nat, here, is_down, is_give, live}
 use Rattle.run_contents.proofs.Caused.{no_message}
-use Rattle.run_rules.specs.ServerApplies.{FirstDown, FirstGiven, ServerApplies, by_cause, decisions, is_decision}
-use Rattle.run_rules.specs.Acts.{Act, admitting, deciding, epoch, sending}
-use Rattle.run_rules.specs.Acts.Act.{Admits, Begins, Flushes, Reserves, Sent, Took, Wants, Writes}
-use Rattle.run_rules.specs.Gives.{number_of}
-use Rattle.run_rules.specs.Grants.{Applied}
-use Rattle.run_rules.specs.Hosts.{IsDown, IsLive}
-use Rattle.run_rules.specs.Lists.{In}
-use Rattle.run_rules.specs.Places.{Here}
+use Rattle.run_rules.specs.Doings.{Doing, HasGoneDown, Here, IsApplied, IsLive, admitting, deciding, epoch, sending}
+use Rattle.run_rules.specs.Doings.Doing.{Admits, BeginsEpoch, Flushes, MakesWant, Reserves, Sent, Took, WritesDown}
+use Rattle.run_rules.specs.Past.{In}
+use Rattle.run_rules.specs.ServerDecides.{FirstDown, FirstGiven, ServerApplies, by_cause, decisions, is_decision}
+use Rattle.run_rules.specs.Tokens.{number_of}
+use Rattle.run_rules.specs.declared.applied.Applied.TheVariants.{Done as IsDone, IsDown as GoesDown, Replied, Stored}
+use Rattle.run_rules.specs.declared.applied.Applied.TheVariants.{Wants as IsWanted}
 use Rattle.run_rules.specs.declared.applied.Admission.{Admission}
 use Rattle.run_rules.specs.declared.applied.Answer.{Answer}
 use Rattle.run_rules.specs.declared.applied.Applied.{Applied as AppliedOf}
-use Rattle.run_rules.specs.declared.applied.Applied.TheVariants.{Done as IsDone, Ends, IsDown as GoesDown, Stored}
-use Rattle.run_rules.specs.declared.applied.Applied.TheVariants.{Wants as IsWanted}
 use Rattle.run_rules.specs.declared.step.Cause.{Cause}
 use Rattle.run_rules.specs.declared.step.Cause.TheVariants.{End, Evict, Flushed, Lapse, Line, Message as Came}
 use Rattle.run_rules.specs.declared.step.Cause.TheVariants.{Restart}
@@ -35,42 +32,42 @@ use Rattle.run_rules.specs.declared.step.Step.{Step}
 
 -- the cause alone frees uses
 module _ (v : ServerId) (h : HostId) (u : Labelled) where
-  frees_took : (S : List Act) (a : Act) → Frees v S a h u → (e n : ℕ) × (b : Body) × (a ≡ Took h e n b)
+  frees_took : (S : List Doing) (a : Doing) → Frees v S a h u → (e n : ℕ) × (b : Body) × (a ≡ Took h e n b)
   frees_took S a (inl x) = (x.0, x.1, Down, x.2)
   frees_took S a (inr (g, (t, fresh), gives)) = (epoch S, t.0, GiveBack g, t.2.0)
 
-  abbrev None : List Act → Type 0
-  None more = (S : List Act) → FreesAny v more S h u → ⊥
+  abbrev None : List Doing → Type 0
+  None more = (S : List Doing) → FreesAny v more S h u → ⊥
 
-  one_less : (a : Act) (more : List Act) → ((e n : ℕ) (b : Body) → a ≡ Took h e n b → ⊥) → None more → None (a ∷ more)
+  one_less : (a : Doing) (more : List Doing) → ((e n : ℕ) (b : Body) → a ≡ Took h e n b → ⊥) → None more → None (a ∷ more)
   one_less a more never rest S (inl f) = let k = frees_took S a f in never k.0 k.1 k.2 k.3
   one_less a more never rest S (inr f) = rest (a ∷ S) f
 
   kept_none : (ts : _) → None (Reserves ts ∷ [])
   kept_none ts = one_less (Reserves ts) [] (λ e n b q. cc) (λ S f. elim f [ ])
 
-  sents_none : (ms : List Message) (more : List Act) → None more → None (sending ms ++ more)
+  sents_none : (ms : List Message) (more : List Doing) → None more → None (sending ms ++ more)
   sents_none [] more rest = rest
   sents_none (m ∷ ms) more rest =
       one_less (Sent m.host m.epoch m.moves m.body) (sending ms ++ more) (λ e n b q. cc) (sents_none ms more rest)
 
-  admits_none : (cs : List Admission) (more : List Act) → None more → None (admitting cs ++ more)
+  admits_none : (cs : List Admission) (more : List Doing) → None more → None (admitting cs ++ more)
   admits_none [] more rest = rest
   admits_none (c ∷ cs) more rest =
       one_less (Admits c.host c.tokens) (admitting cs ++ more) (λ e n b q. cc) (admits_none cs more rest)
 
-  writes_none : (xs : List AppliedOf) (more : List Act) → None more → None (deciding xs ++ more)
+  writes_none : (xs : List AppliedOf) (more : List Doing) → None more → None (deciding xs ++ more)
   writes_none [] more rest = rest
   writes_none (IsWanted x ∷ xs) more rest =
-      one_less (Wants x) (deciding xs ++ more) (λ e n b q. cc) (writes_none xs more rest)
+      one_less (MakesWant x) (deciding xs ++ more) (λ e n b q. cc) (writes_none xs more rest)
   writes_none (IsDone x ∷ xs) more rest =
-      one_less (Writes x) (deciding xs ++ more) (λ e n b q. cc) (writes_none xs more rest)
-  writes_none (Ends x ∷ xs) more rest = writes_none xs more rest
+      one_less (WritesDown x) (deciding xs ++ more) (λ e n b q. cc) (writes_none xs more rest)
+  writes_none (Replied x ∷ xs) more rest = writes_none xs more rest
   writes_none (Stored k f ss n ∷ xs) more rest = writes_none xs more rest
   writes_none (GoesDown k ∷ xs) more rest = writes_none xs more rest
 
-  module _ (s : Step) (S : List Act) where
-    abbrev more : List Act
+  module _ (s : Step) (S : List Doing) where
+    abbrev more : List Doing
     more = deciding s.applied ++ (admitting s.admitted ++ (sending s.sent ++ (Reserves s.reserved ∷ [])))
 
     none_more : None more
@@ -81,7 +78,7 @@ module _ (v : ServerId) (h : HostId) (u : Labelled) where
         → (m : Message) × (c ≡ Came m) × Frees v S (Took m.host m.epoch m.moves m.body) h u
     by_message (Came m) (inl f) = (m, refl, f)
     by_message (Came m) (inr f) = absurd (none_more (Took m.host m.epoch m.moves m.body ∷ S) f)
-    by_message (Restart line) f = absurd (one_less (Begins _) more (λ e n b q. cc) none_more S f)
+    by_message (Restart line) f = absurd (one_less (BeginsEpoch _) more (λ e n b q. cc) none_more S f)
     by_message Flushed f = absurd (one_less Flushes more (λ e n b q. cc) none_more S f)
     by_message (Line line) f = absurd (none_more S f)
     by_message Lapse f = absurd (none_more S f)
@@ -104,7 +101,7 @@ module _ (v : ServerId) (h : HostId) (u : Labelled) where
         go (Came m) (inl f) = inl f
         go (Came m) (inr f) = absurd (none_more (Took m.host m.epoch m.moves m.body ∷ S) f)
         go (Restart line) (inl f) = inl f
-        go (Restart line) (inr f) = absurd (none_more (Begins (suc (epoch S)) ∷ S) f)
+        go (Restart line) (inr f) = absurd (none_more (BeginsEpoch (suc (epoch S)) ∷ S) f)
         go Flushed (inl f) = inl f
         go Flushed (inr f) = absurd (none_more (Flushes ∷ S) f)
         go (Line line) f = absurd (none_more S f)
@@ -134,7 +131,7 @@ give_of : (g k : Give) → GiveBack g ≡ GiveBack k → g ≡ k
 give_of g k e = cc
 
 -- what is applied by the cause is of a give-back, or a host goes down
-module _ (v : ServerId) (S : List Act) (tree : Tree) (s : Step) (k : ServerApplies v tree S s) where
+module _ (v : ServerId) (S : List Doing) (tree : Tree) (s : Step) (k : ServerApplies v tree S s) where
   abbrev pub First : Type 0
   First = ((h : HostId) × (g : Give) × FirstGiven v S s h g) ⊎ ((h : HostId) × FirstDown S s h)
 
@@ -162,7 +159,7 @@ module _ (v : ServerId) (S : List Act) (tree : Tree) (s : Step) (k : ServerAppli
         (m, cause, refl, is),
         λ was. never
             (λ h g first. (let q : Down ≡ GiveBack g = sym is ∙ (given_message h g first).2 in cc))
-            (λ h first. first.1 (subst (IsDown S) (down_message h first).0 was)),
+            (λ h first. first.1 (subst (HasGoneDown S) (down_message h first).0 was)),
       )
 
       gives : (g : Give) → m.body ≡ GiveBack g → FirstGiven v S s m.host g
@@ -172,7 +169,7 @@ module _ (v : ServerId) (S : List Act) (tree : Tree) (s : Step) (k : ServerAppli
             (λ h j first.
             let p = given_message h j first in
             let one : g ≡ j = give_of g j (sym is ∙ p.2) in
-            first.1 (subst (λ (y : HostId × Give). Applied v S y.0 (number_of y.1)) (λ i. (p.0 i, one i)) was)) no_down,
+            first.1 (subst (λ (y : HostId × Give). IsApplied v S y.0 (number_of y.1)) (λ i. (p.0 i, one i)) was)) no_down,
       )
         where
           no_down : (h : HostId) → FirstDown S s h → ⊥
@@ -227,25 +224,25 @@ module _ (v : ServerId) (S : List Act) (tree : Tree) (s : Step) (k : ServerAppli
         go End e = absurd (some (no_message v S tree s k (λ m q. (let r : End ≡ Came m = sym e ∙ q in cc))))
 
 -- the end of a use stands before what is decided
-pub end_by_cause : (xs : List AppliedOf) (a : Answer) → list_all is_decision (decisions xs) ≡ true → In (Ends a) xs
-    → In (Ends a) (by_cause xs)
+pub end_by_cause : (xs : List AppliedOf) (a : Answer) → list_all is_decision (decisions xs) ≡ true → In (Replied a) xs
+    → In (Replied a) (by_cause xs)
 end_by_cause [] a all i = i
-end_by_cause (Ends x ∷ xs) a all (inl e) = inl e
-end_by_cause (Ends x ∷ xs) a all (inr i) = inr (end_by_cause xs a all i)
+end_by_cause (Replied x ∷ xs) a all (inl e) = inl e
+end_by_cause (Replied x ∷ xs) a all (inr i) = inr (end_by_cause xs a all i)
 end_by_cause (Stored k f ss n ∷ xs) a all (inl e) = absurd (cc)
 end_by_cause (Stored k f ss n ∷ xs) a all (inr i) = inr (end_by_cause xs a all i)
 end_by_cause (GoesDown k ∷ xs) a all (inl e) = absurd (cc)
 end_by_cause (GoesDown k ∷ xs) a all (inr i) = inr (end_by_cause xs a all i)
 end_by_cause (IsWanted x ∷ xs) a all i = absurd (decided (IsWanted x ∷ xs) all i)
   where
-    decided : (ys : List AppliedOf) → list_all is_decision ys ≡ true → In (Ends a) ys → ⊥
+    decided : (ys : List AppliedOf) → list_all is_decision ys ≡ true → In (Replied a) ys → ⊥
     decided [] e i = i
     decided (y ∷ ys) e (inl q) =
         false≢true (ap is_decision q ∙ (and_parts (is_decision y) (list_all is_decision ys) e).0)
     decided (y ∷ ys) e (inr i) = decided ys (and_parts (is_decision y) (list_all is_decision ys) e).1 i
 end_by_cause (IsDone x ∷ xs) a all i = absurd (decided (IsDone x ∷ xs) all i)
   where
-    decided : (ys : List AppliedOf) → list_all is_decision ys ≡ true → In (Ends a) ys → ⊥
+    decided : (ys : List AppliedOf) → list_all is_decision ys ≡ true → In (Replied a) ys → ⊥
     decided [] e i = i
     decided (y ∷ ys) e (inl q) =
         false≢true (ap is_decision q ∙ (and_parts (is_decision y) (list_all is_decision ys) e).0)

@@ -11,7 +11,14 @@ use Rattle.message_types.specs.declared.message.Message.{Message}
 use Rattle.script_lines.specs.declared.script.Script.{Script}
 use Rattle.tree_laws.proofs.Steps.{same_number}
 use Rattle.tree_laws.specs.Parts.{Cell, Part, Seen}
+use Rattle.run_rules.specs.Doings.{Doing, admitting, after_cause, doings_of, epoch, sending}
+use Rattle.run_rules.specs.Doings.Doing.{BeginsEpoch, Flushes, MakesWant, Reserves, Took, WritesDown}
+use Rattle.run_rules.specs.Kept.{filesets_after, filesets_kept, filesets_through}
+use Rattle.run_rules.specs.Past.{Always}
 use Rattle.run_rules.specs.Runs.{IsRun, StepMeets, StepsMeet, firsts_of, past_of}
+use Rattle.run_rules.specs.ServerDecides.{by_cause, decisions, is_decision}
+use Rattle.run_rules.specs.Steps.{steps_of_server}
+use Rattle.run_rules.specs.declared.applied.Applied.TheVariants.{Done as IsDone, Stored, Wants as IsWanted}
 use Rattle.run_parts.specs.Doings.{doings_cause}
 use Rattle.run_history.proofs.Granting.{unsaved_is_granted}
 use Rattle.run_history.specs.Agreement.{CausedCells}
@@ -24,17 +31,10 @@ use Rattle.run_parts.specs.Deeds.{Deed, acts_in}
 use Rattle.run_parts.specs.Legal.{Cells, served as served_deeds, tree}
 use Rattle.run_contents.proofs.Caused.{no_message}
 use Rattle.run_contents.proofs.DeedSteps.{deeds_stand}
-use Rattle.run_contents.specs.Doing.{Doing, at_home, decided, deeds_at, deeds_of, does_first, does_nothing, with_doing}
+use Rattle.run_contents.specs.Doing.{Effect, at_home, decided, deeds_at, deeds_of, does_first, does_nothing, with_doing}
 use Rattle.run_contents.specs.Doing.{writes}
 use Rattle.run_contents.specs.Instance.{IsOfRun}
-use Rattle.run_rules.specs.Kept.{kept, kept_after, kept_through}
-use Rattle.run_rules.specs.ServerApplies.{by_cause, decisions, is_decision}
-use Rattle.run_rules.specs.Acts.{Act, acts, admitting, after_cause, epoch, sending}
-use Rattle.run_rules.specs.Acts.Act.{Begins, Flushes, Reserves, Took, Wants, Writes}
-use Rattle.run_rules.specs.Lists.{Always}
-use Rattle.run_rules.specs.Nodes.{served}
 use Rattle.run_rules.specs.declared.applied.Applied.{Applied}
-use Rattle.run_rules.specs.declared.applied.Applied.TheVariants.{Done as IsDone, Stored, Wants as IsWanted}
 use Rattle.run_rules.specs.declared.step.Cause.{Cause}
 use Rattle.run_rules.specs.declared.step.Cause.TheVariants.{End, Evict, Flushed, Lapse, Line, Message as Came}
 use Rattle.run_rules.specs.declared.step.Cause.TheVariants.{Restart}
@@ -46,22 +46,22 @@ module _ (v : ServerId) (cause : Cause) where
   abbrev SameCells : Cells → Cells → Type 0
   SameCells a b = (f : Fid) (p : Part) → site f ≡ v → a f p ≡ b f p
 
-  same_granted : (S : List Act) (a b : Cells) → SameCells a b → GrantedAt v S a → GrantedAt v S b
+  same_granted : (S : List Doing) (a b : Cells) → SameCells a b → GrantedAt v S a → GrantedAt v S b
   same_granted S a b same all grace f p u home e =
       all grace f p u home (ap (λ (z : Cell (Seen p)). z.unsaved) (same f p home) ∙ e)
 
-  same_through : (xs : List Applied) (K : Tree) (S : List Act) (a b : Cells) → SameCells a b
+  same_through : (xs : List Applied) (K : Tree) (S : List Doing) (a b : Cells) → SameCells a b
       → GrantedThrough v cause K S a xs → GrantedThrough v cause K S b xs
   same_through [] K S a b same g = tt
   same_through (IsDone x ∷ xs) K S a b same g = (
     same_granted S a b same g.0,
-    same_through xs (kept_after cause K (IsDone x)) (Writes x ∷ S) (CellsWritten v cause K x a)
+    same_through xs (filesets_after cause K (IsDone x)) (WritesDown x ∷ S) (CellsWritten v cause K x a)
         (CellsWritten v cause K x b)
         (λ f p at. ap (λ (z : Cell (Seen p)). cell_after p (at_home v (writes cause K x) f p) z) (same f p at)) g.1,
   )
-  same_through (IsWanted x ∷ xs) K S a b same g = same_through xs K (Wants x ∷ S) a b same g
+  same_through (IsWanted x ∷ xs) K S a b same g = same_through xs K (MakesWant x ∷ S) a b same g
   same_through (Stored h f ss n ∷ xs) K S a b same g =
-      same_through xs (kept_after cause K (Stored h f ss n)) S a b same g
+      same_through xs (filesets_after cause K (Stored h f ss n)) S a b same g
   same_through (_ ∷ xs) K S a b same g = same_through xs K S a b same g
 
   -- the decisions among the deeds of a step
@@ -70,18 +70,18 @@ module _ (v : ServerId) (cause : Cause) where
   through [] rest D K cells all g = tt
   through (IsDone x ∷ xs) rest D K cells all g = (
     g.0,
-    through xs rest (record { act = Writes x; does = at_home v (writes cause K x) } ∷ D) (kept_after cause K (IsDone x))
+    through xs rest (record { act = WritesDown x; does = at_home v (writes cause K x) } ∷ D) (filesets_after cause K (IsDone x))
         (CellsWritten v cause K x cells) all g.1,
   )
   through (IsWanted x ∷ xs) rest D K cells all g =
-      through xs rest (record { act = Wants x; does = does_nothing } ∷ D) K cells all g.1
+      through xs rest (record { act = MakesWant x; does = does_nothing } ∷ D) K cells all g.1
   through (_ ∷ xs) rest D K cells all g = absurd (false≢true all)
 
-  abbrev CellsFirst : Doing → Cells → Cells
+  abbrev CellsFirst : Effect → Cells → Cells
   CellsFirst does cells f p = cell_after p (does f p) (cells f p)
 
   -- after the cause: what it does is nothing, where it is no message
-  module _ (does : Doing) (K : Tree) (D : List Deed) (cells : Cells) (xs : List Applied) (rest : List Deed)
+  module _ (does : Effect) (K : Tree) (D : List Deed) (cells : Cells) (xs : List Applied) (rest : List Deed)
       (all : list_all is_decision xs ≡ true) where
     abbrev Granting : Cause → Type 0
     Granting x =
@@ -96,13 +96,13 @@ module _ (v : ServerId) (cause : Cause) where
         (λ f p at. ap (λ (d : Does (Seen p)). cell_after p d (cells f p)) (sym (none f p)))
         (through xs rest D K cells all g)
 
-    one : (act : Act) → EachGranted v (record { act = act; does = does } ∷ (decided v cause K xs ++ rest)) D cells
+    one : (act : Doing) → EachGranted v (record { act = act; does = does } ∷ (decided v cause K xs ++ rest)) D cells
         → GrantedThrough v cause K (act ∷ acts_in D) (CellsFirst does cells) xs
     one act g = through xs rest (record { act = act; does = does } ∷ D) K (CellsFirst does cells) all g.1
 
     from_cause : (x : Cause) → Granting x
     from_cause (Came m) g none = one (Took m.host m.epoch m.moves m.body) g
-    from_cause (Restart line) g none = one (Begins (suc (epoch (acts_in D)))) g
+    from_cause (Restart line) g none = one (BeginsEpoch (suc (epoch (acts_in D)))) g
     from_cause Flushed g none = one Flushes g
     from_cause (Line line) g none = bare g (none (λ m q. cc))
     from_cause Lapse g none = bare g (none (λ m q. cc))
@@ -127,13 +127,13 @@ module _ (script : Script) (journal : Journal) (run : IsRun script journal) (c :
       (e : s.node ≡ Server v) (meets : StepMeets script start firsts s.node past s)
       (granted : EachGranted v (c.deeds past s) (served_deeds c (firsts v) v past) (tree c past)) where
     abbrev K : Tree
-    K = kept start v (served v past)
+    K = filesets_kept start v (steps_of_server v past)
 
     abbrev K1 : Tree
-    K1 = kept_through s.cause (by_cause s.applied) K
+    K1 = filesets_through s.cause (by_cause s.applied) K
 
-    abbrev S : List Act
-    S = acts (firsts v) v past
+    abbrev S : List Doing
+    S = doings_of (firsts v) v past
 
     abbrev D : List Deed
     D = served_deeds c (firsts v) v past
@@ -141,7 +141,7 @@ module _ (script : Script) (journal : Journal) (run : IsRun script journal) (c :
     abbrev xs : List Applied
     xs = decisions s.applied
 
-    abbrev does : Doing
+    abbrev does : Effect
     does = does_first s.cause K (by_cause s.applied)
 
     abbrev rest : List Deed

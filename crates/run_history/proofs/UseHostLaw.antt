@@ -33,14 +33,15 @@ use Rattle.tree_answers.specs.declared.tree.Tree.{Tree}
 use Rattle.tree_laws.specs.Labels.{each_two, locks_agree, opens_agree}
 use Rattle.script_lines.specs.declared.script.Script.{Script}
 use Rattle.token_types.specs.declared.token.Kind.TheVariants.{Lock as LockToken}
-use Rattle.run_rules.specs.Runs.{StepMeets, StepsMeet, firsts_of, past_of}
+use Rattle.run_rules.specs.HostMay.{IsExact}
+use Rattle.run_rules.specs.Past.{Always, In}
+use Rattle.run_rules.specs.Runs.{StepMeets, StepsMeet, call_entry, firsts_of, past_of}
+use Rattle.run_rules.specs.Steps.{steps_of_host}
+use Rattle.run_rules.specs.Tokens.{EndsUse}
+use Rattle.run_rules.specs.Views.{IsLock, IsOpening, sees as host_sees}
+use Rattle.run_tokens.specs.TokenLaws.{IsTokenRun}
 use Rattle.run_history.proofs.Knowing.{agrees}
 use Rattle.run_history.specs.Agreement.{AgreesAt}
-use Rattle.run_rules.specs.HostAnswers.{IsExact}
-use Rattle.run_rules.specs.Knowing.{IsLock, IsOpening}
-use Rattle.run_rules.specs.Labels.{EndsUse}
-use Rattle.run_rules.specs.Views.{sees as host_sees}
-use Rattle.run_rules.specs.Histories.{call_entry}
 use Rattle.run_parts.specs.Uses.{Locked}
 use Rattle.run_parts.proofs.PlaceLaw.{coherent}
 use Rattle.run_parts.specs.Contents.{Contents}
@@ -48,9 +49,6 @@ use Rattle.run_parts.specs.Legal.{ContentsRun, LegalStep}
 use Rattle.run_contents.proofs.DeedSteps.{runs_meet}
 use Rattle.run_contents.proofs.Uses.{run_tokens}
 use Rattle.run_contents.specs.Steps.{IsOfJournal}
-use Rattle.run_rules.specs.Lists.{Always, In}
-use Rattle.run_rules.specs.Nodes.{own}
-use Rattle.run_rules.specs.TokenRuns.{IsTokenRun}
 use Rattle.run_rules.specs.declared.applied.Answer.{Answer}
 use Rattle.run_rules.specs.declared.step.Labelled.{Labelled}
 use Rattle.run_rules.specs.declared.step.Step.{Step}
@@ -127,7 +125,7 @@ module _ (script : Script) (start : Tree) (firsts : ServerId → ℕ) (real : (v
     (node : s.node ≡ Host h) (legal : LegalStep c firsts (Host h) s past) (tree : Tree)
     (stands : LabelsStand firsts past tree) where
   abbrev A : List Step
-  A = own h past
+  A = steps_of_host h past
 
   m : StepMeets script start firsts (Host h) past s
   m = met script start firsts real past s run h node

@@ -15,10 +15,14 @@ use Rattle.script_lines.specs.declared.script.Script.{Script}
 use Rattle.token_types.specs.Conflicts.{conflict, kinds_conflict}
 use Rattle.token_types.specs.declared.token.Kind.{Kind}
 use Rattle.token_types.specs.declared.token.Token.{Token}
+use Rattle.run_rules.specs.Doings.{HasGoneAway, doings_of}
+use Rattle.run_rules.specs.Past.{In}
 use Rattle.run_rules.specs.Runs.{StepMeets, StepsMeet}
+use Rattle.run_rules.specs.Steps.{steps_of_host}
+use Rattle.run_rules.specs.Tokens.{LabelInUse, number_of}
+use Rattle.run_rules.specs.Views.{HasLabel, IsLock, IsOpening}
+use Rattle.run_tokens.specs.TokenLaws.{IsTokenRun}
 use Rattle.run_parts.proofs.Words.{host_split}
-use Rattle.run_rules.specs.Knowing.{HasLabel, IsLock, IsOpening}
-use Rattle.run_rules.specs.Labels.{InUse}
 use Rattle.run_parts.proofs.LabelLaw.{given_ended, locked_owed, locks_apart}
 use Rattle.run_parts.specs.Uses.{Locked, LockedAfter, UsesRun}
 use Rattle.run_contents.proofs.Calls.{use_owned}
@@ -27,12 +31,6 @@ use Rattle.run_contents.specs.Steps.{HostRun}
 use Rattle.run_tokens.proofs.Invariant.{Link}
 use Rattle.run_tokens.proofs.Law.{Whole}
 use Rattle.run_tokens.proofs.Words.{acts_after, own_after}
-use Rattle.run_rules.specs.Acts.{acts}
-use Rattle.run_rules.specs.Gives.{number_of}
-use Rattle.run_rules.specs.Hosts.{Away}
-use Rattle.run_rules.specs.Lists.{In}
-use Rattle.run_rules.specs.Nodes.{own}
-use Rattle.run_rules.specs.TokenRuns.{IsTokenRun}
 use Rattle.run_rules.specs.declared.applied.Answer.{Answer}
 use Rattle.run_rules.specs.declared.step.Labelled.{Labelled}
 use Rattle.run_rules.specs.declared.step.Step.{Step}
@@ -60,7 +58,7 @@ module _ (script : Script) (start : Tree) (firsts : ServerId → ℕ) (real : (v
     (past : List Step) (s : Step) (run : StepsMeet script start firsts (s ∷ past)) (h : HostId)
     (node : s.node ≡ Host h) where
   abbrev A : List Step
-  A = own h past
+  A = steps_of_host h past
 
   pub met : StepMeets script start firsts (Host h) past s
   met = subst (λ (n : Node). StepMeets script start firsts n past s) node run.1.0
@@ -69,16 +67,16 @@ module _ (script : Script) (start : Tree) (firsts : ServerId → ℕ) (real : (v
   my_run = (host_run script start firsts real past run.0 h, met.0)
 
   -- what the host learns, a server applied
-  pub known : (v : ServerId) → Link h v (s ∷ A) (acts (firsts v) v past)
+  pub known : (v : ServerId) → Link h v (s ∷ A) (doings_of (firsts v) v past)
   known v =
-      subst (λ L. Link h v L (acts (firsts v) v past))
+      subst (λ L. Link h v L (doings_of (firsts v) v past))
       (host_split (λ L. L ≡ s ∷ A) h h (s ∷ A) A (λ _. refl) (λ two. absurd (two refl)))
-      (((subst (λ (n : Node). Whole (λ k. own_after k n s (own k past)) (λ w. acts_after w n s (acts
+      (((subst (λ (n : Node). Whole (λ k. own_after k n s (steps_of_host k past)) (λ w. acts_after w n s (doings_of
       (firsts w) w past)))
       node (whole script start firsts real (s ∷ past) run)).at v).link h)
 
   -- while it takes steps no server takes it for away, if it has something in use
-  pub not_away : (u : Labelled) → InUse A u → (v : ServerId) → Away (acts (firsts v) v past) h → ⊥
+  pub not_away : (u : Labelled) → LabelInUse A u → (v : ServerId) → HasGoneAway (doings_of (firsts v) v past) h → ⊥
   not_away u usage v away =
       let w = whole script start firsts real past run.0 in
       elim (((w.at v).link h).away away) [
@@ -87,13 +85,13 @@ module _ (script : Script) (start : Tree) (firsts : ServerId → ℕ) (real : (v
             (use_owned script h A (host_run script start firsts real past run.0 h) u usage)
       ]
 
-  pub used_locked : (u : Labelled) → InUse A u → Locked firsts past h u
+  pub used_locked : (u : Labelled) → LabelInUse A u → Locked firsts past h u
   used_locked u usage =
       ((all script start firsts real past run.0).uses h u.token.id.server).use_locked u refl usage
       (not_away u usage u.token.id.server)
 
   module _ (a : Answer) (i : In a s.answers) where
-    pub locked_used : (u : Labelled) → Locked firsts past h u → InUse A u
+    pub locked_used : (u : Labelled) → Locked firsts past h u → LabelInUse A u
     locked_used u l =
         let v = u.token.id.server in
         elim (((all script start firsts real past run.0).uses h v).locked_is u refl l
@@ -108,7 +106,7 @@ module _ (script : Script) (start : Tree) (firsts : ServerId → ℕ) (real : (v
           ))
         ]
 
-    pub has_used : (u : Labelled) → HasLabel A s u → InUse A u
+    pub has_used : (u : Labelled) → HasLabel A s u → LabelInUse A u
     has_used u (inl usage) = usage
     has_used u (inr ending) =
         absurd (none_ends script h A s my_run (also script start firsts real past run.0 h) a i u ending)
@@ -184,7 +182,7 @@ module _ (script : Script) (start : Tree) (firsts : ServerId → ℕ) (real : (v
               at (Server v) e = absurd (let q : Server v ≡ Host h = e in cc)
 
           live : (g : HostId) (w : Labelled) → Locked firsts (s ∷ past) g w
-              → Away (acts (firsts w.token.id.server) w.token.id.server (s ∷ past)) g → ⊥
+              → HasGoneAway (doings_of (firsts w.token.id.server) w.token.id.server (s ∷ past)) g → ⊥
           live g w = locked_live script start firsts real (s ∷ past) run g w
 
           owner : (g : HostId) (w : Labelled) → Locked firsts (s ∷ past) g w → w.token.host ≡ g

@@ -13,20 +13,20 @@ use Rattle.message_types.specs.declared.asking.Change.{Change as ChangeOf}
 use Rattle.script_lines.specs.declared.script.Script.{Script}
 use Rattle.need_laws.specs.Idle.{minds_uses}
 use Rattle.need_laws.specs.Known.{IsAt}
+use Rattle.run_rules.specs.Doings.{Doing, after_cause, doings_of}
+use Rattle.run_rules.specs.Doings.Doing.{MakesWant, WritesDown}
+use Rattle.run_rules.specs.Kept.{filesets_after, filesets_first, filesets_kept, filesets_through}
+use Rattle.run_rules.specs.Past.{Always, In}
 use Rattle.run_rules.specs.Runs.{StepsMeet, firsts_of, past_of}
+use Rattle.run_rules.specs.ServerDecides.{by_cause, decisions}
+use Rattle.run_rules.specs.Steps.{steps_of_server}
+use Rattle.run_rules.specs.Wants.{moves_fileset}
+use Rattle.run_rules.specs.declared.applied.Applied.TheVariants.{Done as IsDone, IsDown, Replied, Stored}
+use Rattle.run_rules.specs.declared.applied.Applied.TheVariants.{Wants as IsWanted}
 use Rattle.run_history.proofs.ChangeLaw.{WrittenAt, each_both, each_map, run_first, run_limit, step_writes}
 use Rattle.run_history.specs.Changes.{AgreesKept, EachChange, IsLegalChange}
 use Rattle.run_contents.specs.Gives.{IsKept}
-use Rattle.run_rules.specs.Kept.{kept, kept_after, kept_first, kept_through}
-use Rattle.run_rules.specs.ServerApplies.{by_cause, decisions}
-use Rattle.run_rules.specs.Wants.{is_move}
-use Rattle.run_rules.specs.Acts.{Act, acts, after_cause}
-use Rattle.run_rules.specs.Acts.Act.{Wants, Writes}
-use Rattle.run_rules.specs.Lists.{Always, In}
-use Rattle.run_rules.specs.Nodes.{served}
 use Rattle.run_rules.specs.declared.applied.Applied.{Applied}
-use Rattle.run_rules.specs.declared.applied.Applied.TheVariants.{Done as IsDone, Ends, IsDown, Stored}
-use Rattle.run_rules.specs.declared.applied.Applied.TheVariants.{Wants as IsWanted}
 use Rattle.run_rules.specs.declared.applied.Written.{Written}
 use Rattle.run_rules.specs.declared.step.Cause.{Cause}
 use Rattle.run_rules.specs.declared.step.Step.{Step}
@@ -40,36 +40,36 @@ use Rattle.run_history.specs.Deciding.{DecidesUses, DecisionsFindLabels, FindsLa
 use Rattle.run_history.specs.Meant.{LabelIsFree, PinnedAreUsed}
 use Rattle.run_history.specs.UseStanding.{LabelsStand}
 
-at_none_moves : (v : ServerId) (c : Call) → IsAt v c → is_move c ≡ false
+at_none_moves : (v : ServerId) (c : Call) → IsAt v c → moves_fileset c ≡ false
 at_none_moves v (MoveFileset server name to) at = elim at [ ]
 at_none_moves v _ at = refl
 
 -- what is said of each Change is so of one
-each_in : (P : List Act → Tree → Written → Type 0) (cause : Cause) (xs : List Applied) (K : Tree) (D : List Act)
-    → EachChange P cause K D xs → (x : Written) → In (IsDone x) xs → (E : List Act) × (J : Tree) × P E J x
+each_in : (P : List Doing → Tree → Written → Type 0) (cause : Cause) (xs : List Applied) (K : Tree) (D : List Doing)
+    → EachChange P cause K D xs → (x : Written) → In (IsDone x) xs → (E : List Doing) × (J : Tree) × P E J x
 each_in P cause [] K D all x i = elim i [ ]
 each_in P cause (IsDone y ∷ xs) K D all x (inl e) =
     let same : y ≡ x = cc in (D, K, subst (λ (z : Written). P D K z) same all.0)
 each_in P cause (IsDone y ∷ xs) K D all x (inr i) =
-    each_in P cause xs (kept_after cause K (IsDone y)) (Writes y ∷ D) all.1 x i
+    each_in P cause xs (filesets_after cause K (IsDone y)) (WritesDown y ∷ D) all.1 x i
 each_in P cause (IsWanted y ∷ xs) K D all x (inl e) = cc
 each_in P cause (IsWanted y ∷ xs) K D all x (inr i) =
-    each_in P cause xs (kept_after cause K (IsWanted y)) (Wants y ∷ D) all x i
-each_in P cause (Ends y ∷ xs) K D all x (inl e) = cc
-each_in P cause (Ends y ∷ xs) K D all x (inr i) = each_in P cause xs (kept_after cause K (Ends y)) D all x i
+    each_in P cause xs (filesets_after cause K (IsWanted y)) (MakesWant y ∷ D) all x i
+each_in P cause (Replied y ∷ xs) K D all x (inl e) = cc
+each_in P cause (Replied y ∷ xs) K D all x (inr i) = each_in P cause xs (filesets_after cause K (Replied y)) D all x i
 each_in P cause (Stored h f ss n ∷ xs) K D all x (inl e) = cc
 each_in P cause (Stored h f ss n ∷ xs) K D all x (inr i) =
-    each_in P cause xs (kept_after cause K (Stored h f ss n)) D all x i
+    each_in P cause xs (filesets_after cause K (Stored h f ss n)) D all x i
 each_in P cause (IsDown h ∷ xs) K D all x (inl e) = cc
-each_in P cause (IsDown h ∷ xs) K D all x (inr i) = each_in P cause xs (kept_after cause K (IsDown h)) D all x i
+each_in P cause (IsDown h ∷ xs) K D all x (inr i) = each_in P cause xs (filesets_after cause K (IsDown h)) D all x i
 
 -- what is written down is decided
 done_decided : (x : Written) (xs : List Applied) → In (IsDone x) xs → In (IsDone x) (decisions xs)
 done_decided x [] i = elim i [ ]
 done_decided x (IsDone y ∷ xs) i = i
 done_decided x (IsWanted y ∷ xs) i = i
-done_decided x (Ends y ∷ xs) (inl e) = cc
-done_decided x (Ends y ∷ xs) (inr i) = done_decided x xs i
+done_decided x (Replied y ∷ xs) (inl e) = cc
+done_decided x (Replied y ∷ xs) (inr i) = done_decided x xs i
 done_decided x (Stored h f ss n ∷ xs) (inl e) = cc
 done_decided x (Stored h f ss n ∷ xs) (inr i) = done_decided x xs i
 done_decided x (IsDown h ∷ xs) (inl e) = cc
@@ -83,25 +83,25 @@ label_free tree host c (OpenFile label place kind) k = (k.0, k.1)
 label_free tree host c _ k = tt
 
 module _ (script : Script) (start : Tree) (firsts : ServerId → ℕ) (real : (v : ServerId) → 0 < firsts v)
-    (few : length script.roster.hosts ≤ 16) (first : (v : ServerId) → IsKept (kept_first start v)) where
+    (few : length script.roster.hosts ≤ 16) (first : (v : ServerId) → IsKept (filesets_first start v)) where
   module _ (past : List Step) (s : Step) (run : StepsMeet script start firsts (s ∷ past)) (v : ServerId)
       (node : s.node ≡ Server v) where
-    abbrev Decides : (List Act → Tree → Written → Type 0) → Type 0
+    abbrev Decides : (List Doing → Tree → Written → Type 0) → Type 0
     Decides Holds =
-        EachChange Holds s.cause (kept_through s.cause (by_cause s.applied) (kept start v (served v past)))
-        (after_cause s.cause (acts (firsts v) v past)) (decisions s.applied)
+        EachChange Holds s.cause (filesets_through s.cause (by_cause s.applied) (filesets_kept start v (steps_of_server v past)))
+        (after_cause s.cause (doings_of (firsts v) v past)) (decisions s.applied)
 
-    abbrev MidAt : List Act → Tree → Written → Type 0
+    abbrev MidAt : List Doing → Tree → Written → Type 0
     MidAt D K x = Mid script start firsts real past s run v node D
 
-    abbrev At : List Act → Tree → Written → Type 0
+    abbrev At : List Doing → Tree → Written → Type 0
     At D K x = MidAt D K x × WrittenAt v D K x
 
     each_at : Decides At
     each_at =
         each_both MidAt (WrittenAt v) s.cause (decisions s.applied)
-        (kept_through s.cause (by_cause s.applied) (kept start v (served v past)))
-        (after_cause s.cause (acts (firsts v) v past)) (each_mid script start firsts real past s run v node)
+        (filesets_through s.cause (by_cause s.applied) (filesets_kept start v (steps_of_server v past)))
+        (after_cause s.cause (doings_of (firsts v) v past)) (each_mid script start firsts real past s run v node)
         (step_writes script start firsts few first past s run v node)
 
     now : (tree : Tree) → LabelsStand firsts (s ∷ past) tree → StandsWith (LockedNow firsts past s (Server v)) tree
@@ -123,15 +123,15 @@ module _ (script : Script) (start : Tree) (firsts : ServerId → ℕ) (real : (v
               use_legal script start firsts real past s run v node D y.0 K x y.1 tree
               (now tree stands) agree change here
               (at_none_moves v x.answer.call here) minds,
-        )) (decisions s.applied) (kept_through s.cause (by_cause s.applied) (kept start v (served v past)))
-        (after_cause s.cause (acts (firsts v) v past)) each_at
+        )) (decisions s.applied) (filesets_through s.cause (by_cause s.applied) (filesets_kept start v (steps_of_server v past)))
+        (after_cause s.cause (doings_of (firsts v) v past)) each_at
 
     label_found : (tree : Tree) → LabelsStand firsts (s ∷ past) tree → (x : Written) → In (IsDone x) s.applied
         → LabelIsFree tree x.answer.host x.answer.call
     label_found tree stands x i =
         let at = each_in At s.cause (decisions s.applied)
-        (kept_through s.cause (by_cause s.applied) (kept start v (served v past)))
-        (after_cause s.cause (acts (firsts v) v past)) each_at x (done_decided x s.applied i) in
+        (filesets_through s.cause (by_cause s.applied) (filesets_kept start v (steps_of_server v past)))
+        (after_cause s.cause (doings_of (firsts v) v past)) each_at x (done_decided x s.applied i) in
         label_free tree x.answer.host at.2.1.so.change x.answer.call
         (passes_now script start firsts real past s run v node at.0 at.2.0 tree (now tree stands) at.1 x at.2.1.so
         at.2.1.taken)

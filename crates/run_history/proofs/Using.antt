@@ -62,21 +62,21 @@ use Rattle.token_types.specs.declared.token.Need.{Need}
 use Rattle.token_types.specs.declared.token.Token.{Token}
 use Rattle.tree_laws.proofs.Steps.{fid_is}
 use Rattle.tree_laws.specs.Parts.Part.{Size}
+use Rattle.run_rules.specs.Doings.{Doing}
+use Rattle.run_rules.specs.Kept.{is_refusal}
+use Rattle.run_rules.specs.Messages.{home}
+use Rattle.run_rules.specs.Past.{In}
 use Rattle.run_rules.specs.Runs.{StepsMeet}
+use Rattle.run_rules.specs.ServerDecides.{DecidedSo, IsOfRow, kept_reply, refusal_of}
+use Rattle.run_rules.specs.ServerDecides.DecidedSo.{IsRefusedByTable, MeetsPinned, TakesEffect}
+use Rattle.run_rules.specs.Tokens.{IsUseKind}
+use Rattle.run_rules.specs.Wants.{CanRefuse, IsInWay, asker, asker_of, exporter, has_effect, is_use, moves_fileset}
 use Rattle.run_history.proofs.ChangeLaw.{WrittenAt}
 use Rattle.run_history.proofs.Deciding.{apart_kinds, granted_so, kept_reply_same, kept_same, need_there}
 use Rattle.run_history.proofs.Deciding.{nobody_refused, Granting, IdleAlike, nothing, pinned_use, refused_legal}
 use Rattle.run_history.proofs.Deciding.{settled_legal, there_own, wanted_same}
 use Rattle.run_history.specs.Changes.{AgreesKept, IsLegalChange}
 use Rattle.run_contents.proofs.Words.{any_in, both, in_any}
-use Rattle.run_rules.specs.Kept.{is_refusal}
-use Rattle.run_rules.specs.ServerDecides.{DecidedSo, IsOfRow, kept_reply, refusal_of}
-use Rattle.run_rules.specs.ServerDecides.DecidedSo.{HasEffect, IsRefused, MeetsPinned}
-use Rattle.run_rules.specs.Wants.{Blocks, CanRefuse, asker, asker_of, exporter, has_effect, is_move, is_use}
-use Rattle.run_rules.specs.Acts.{Act}
-use Rattle.run_rules.specs.Grants.{IsUseKind}
-use Rattle.run_rules.specs.Lists.{In}
-use Rattle.run_rules.specs.Places.{home}
 use Rattle.run_rules.specs.declared.applied.Written.{Written}
 use Rattle.run_rules.specs.declared.step.Labelled.{Labelled}
 use Rattle.run_rules.specs.declared.step.Step.{Step}
@@ -145,11 +145,11 @@ room_is (Opening kind) r = refl
 
 module _ (script : Script) (start : Tree) (firsts : ServerId → ℕ) (real : (v : ServerId) → 0 < firsts v)
     (past : List Step) (s : Step) (run : StepsMeet script start firsts (s ∷ past)) (v : ServerId)
-    (node : s.node ≡ Server v) (D : List Act) (mid : Mid script start firsts real past s run v node D)
+    (node : s.node ≡ Server v) (D : List Doing) (mid : Mid script start firsts real past s run v node D)
     (K : Tree) (x : Written) (w : WrittenAt v D K x) (T : Tree)
     (stands : StandsWith (LockedNow firsts past s (Server v)) T) (agree : AgreesKept v D K T)
     (change : is_change x.answer.call ≡ true) (here : IsAt v x.answer.call)
-    (no_move : is_move x.answer.call ≡ false) where
+    (no_move : moves_fileset x.answer.call ≡ false) where
   abbrev host : HostId
   host = x.answer.host
 
@@ -179,7 +179,7 @@ module _ (script : Script) (start : Tree) (firsts : ServerId → ℕ) (real : (v
       (names_change_alike (idle T) host call (idle_formed T agree.formed) names)
 
   -- a want that something is in the way of isn't for entering
-  not_enter : IsOfRow K w.so.w w.so.change → (t : Token) → Blocks w.so.w t → w.so.change.enter ≡ false
+  not_enter : IsOfRow K w.so.w w.so.change → (t : Token) → IsInWay w.so.w t → w.so.change.enter ≡ false
   not_enter row t way = go w.so.change.enter refl
     where
       go : (b : Bool) → w.so.change.enter ≡ b → w.so.change.enter ≡ false
@@ -191,17 +191,17 @@ module _ (script : Script) (start : Tree) (firsts : ServerId → ℕ) (real : (v
           (user_of K.roster w.so.w.host) []) e in
           absurd (false≢true (ap (λ ns. any_conflict (need_of t) ns) (sym none) ∙ p.1))
 
-  no_move_asked : is_move w.so.change.call ≡ true → ⊥
-  no_move_asked e = false≢true (sym no_move ∙ (ap is_move w.so.call ∙ e))
+  no_move_asked : moves_fileset w.so.change.call ≡ true → ⊥
+  no_move_asked e = false≢true (sym no_move ∙ (ap moves_fileset w.so.call ∙ e))
 
   -- one that the server refuses, and the tree alike
   by_refused : (r : Refusal) → k_reply ≡ Refused r → t_reply ≡ Refused r → Legal
   by_refused r refused told = by w.so.so
     where
       by : DecidedSo v K D w.so.w w.so.change x.answer.reply → Legal
-      by (IsRefused refusal on is) =
+      by (IsRefusedByTable refusal on is) =
           refused_so r (is ∙ (sym on.0 ∙ (kept_is ∙ refused))) told
-      by (HasEffect effect row can is) = refused_so r (is ∙ (kept_is ∙ refused)) told
+      by (TakesEffect effect row can is) = refused_so r (is ∙ (kept_is ∙ refused)) told
       by (MeetsPinned accepted row can is) =
           let enter = not_enter row can.pinned.0 can.pinned.2 in
           absurd (accepted r (
@@ -232,10 +232,10 @@ module _ (script : Script) (start : Tree) (firsts : ServerId → ℕ) (real : (v
       (ap (λ (r : Roster). user_of r host) agree.same.roster ∙ is)
       ∙ wanted_same v s.cause D K x w.so w.keeps w.low T agree change here no_move user)))
 
-  in_the_way : (t : Token) → Blocks w.so.w t → any_conflict (need_of t) w.so.w.needs ≡ true
+  in_the_way : (t : Token) → IsInWay w.so.w t → any_conflict (need_of t) w.so.w.needs ≡ true
   in_the_way t way = (and_parts (not (t.host.0 == (asker w.so.w).0)) (any_conflict (need_of t) w.so.w.needs) way).1
 
-  not_asker : (t : Token) → Blocks w.so.w t → not (t.host.0 == (asker w.so.w).0) ≡ true
+  not_asker : (t : Token) → IsInWay w.so.w t → not (t.host.0 == (asker w.so.w).0) ≡ true
   not_asker t way = (and_parts (not (t.host.0 == (asker w.so.w).0)) (any_conflict (need_of t) w.so.w.needs) way).0
 
   -- a Remove
@@ -337,10 +337,10 @@ module _ (script : Script) (start : Tree) (firsts : ServerId → ℕ) (real : (v
       by_use used told = by w.so.so
         where
           by : DecidedSo v K D w.so.w w.so.change x.answer.reply → Legal
-          by (IsRefused refusal on is_it) = absurd (not_refused refusal (sym kept_is ∙ on.0))
+          by (IsRefusedByTable refusal on is_it) = absurd (not_refused refusal (sym kept_is ∙ on.0))
           by (MeetsPinned accepted row can is_it) =
               refused_so InUse (is_it ∙ ap (λ (c : Call). Refused (refusal_of c)) (sym w.so.call ∙ is)) told
-          by (HasEffect effect row can is_it) =
+          by (TakesEffect effect row can is_it) =
               absurd (unused parent file wants
               (granted_so v s.cause D K x w.so w.keeps w.low T agree change here no_move effect row can) used)
 
@@ -356,9 +356,9 @@ module _ (script : Script) (start : Tree) (firsts : ServerId → ℕ) (real : (v
               same)
 
           by : DecidedSo v K D w.so.w w.so.change x.answer.reply → Legal
-          by (IsRefused refusal on is_it) = absurd (not_refused refusal (sym kept_is ∙ on.0))
+          by (IsRefusedByTable refusal on is_it) = absurd (not_refused refusal (sym kept_is ∙ on.0))
           by (MeetsPinned accepted row can is_it) = absurd (false≢true (sym free ∙ met_use row can))
-          by (HasEffect effect row can is_it) =
+          by (TakesEffect effect row can is_it) =
               let g = granted_so v s.cause D K x w.so w.keeps w.low T agree change here no_move effect row can in
               settled_legal v s.cause D K x w.so w.keeps w.low T agree change here no_move alike (is_it ∙ kept_is)
               (λ f u q. nothing v s.cause D K x w.so w.keeps w.low T agree change here no_move g u q)
@@ -394,7 +394,7 @@ module _ (script : Script) (start : Tree) (firsts : ServerId → ℕ) (real : (v
 
   has_no_effect : is_use call ≡ true → has_effect w.so.change ≡ true → ⊥
   has_no_effect use_call e =
-      go w.so.change.enter (is_use w.so.change.call) (is_move w.so.change.call) (ap is_use (sym w.so.call) ∙ use_call) e
+      go w.so.change.enter (is_use w.so.change.call) (moves_fileset w.so.change.call) (ap is_use (sym w.so.call) ∙ use_call) e
     where
       go : (a b m : Bool) → b ≡ true → (not a && not b && not m) ≡ true → ⊥
       go true b m q e = false≢true e
@@ -486,9 +486,9 @@ module _ (script : Script) (start : Tree) (firsts : ServerId → ℕ) (real : (v
     lock_legal (WantsLock file wants fine told) = by w.so.so
       where
         by : DecidedSo v K D w.so.w w.so.change x.answer.reply → Legal
-        by (IsRefused refusal on is_it) =
+        by (IsRefusedByTable refusal on is_it) =
             absurd (let q : Fine ≡ Refused refusal = sym (idle_is ∙ fine) ∙ (sym kept_is ∙ on.0) in cc)
-        by (HasEffect effect row can is_it) = absurd (has_no_effect (ap is_use is) effect)
+        by (TakesEffect effect row can is_it) = absurd (has_no_effect (ap is_use is) effect)
         by (MeetsPinned accepted row can is_it) =
             refused_so Locked (is_it ∙ ap (λ (c : Call). Refused (refusal_of c)) (sym w.so.call ∙ is))
             (sym told_is ∙ (told ∙ (λ i. if not_own file wants row can i then Refused AlreadyLocked
@@ -562,9 +562,9 @@ module _ (script : Script) (start : Tree) (firsts : ServerId → ℕ) (real : (v
     open_legal (WantsOpen file wants fine told) = by w.so.so
       where
         by : DecidedSo v K D w.so.w w.so.change x.answer.reply → Legal
-        by (IsRefused refusal on is_it) =
+        by (IsRefusedByTable refusal on is_it) =
             absurd (let q : Fine ≡ Refused refusal = sym (idle_open ∙ fine) ∙ (sym kept_is ∙ on.0) in cc)
-        by (HasEffect effect row can is_it) = absurd (has_no_effect (ap is_use is) effect)
+        by (TakesEffect effect row can is_it) = absurd (has_no_effect (ap is_use is) effect)
         by (MeetsPinned accepted row can is_it) =
             refused_so OpenConflict (is_it ∙ ap (λ (c : Call). Refused (refusal_of c)) (sym w.so.call ∙ is))
             (sym told_open ∙ (told ∙ ap (λ b. if b then Refused OpenConflict else Fine) (barred file wants row can)))

@@ -42,8 +42,8 @@ use Rattle.token_types.specs.declared.token.Need.{Need}
 use Rattle.tree_laws.specs.Parts.{Nature, Part}
 use Rattle.tree_laws.specs.Parts.Part.{ByteAt, Entries, Size, Traits}
 use Rattle.run_contents.proofs.WriteLooks.{file_checks, passed, search_ends, target_ends, unrefused}
-use Rattle.run_rules.specs.Grants.{IsUseKind}
-use Rattle.run_rules.specs.Lists.{In}
+use Rattle.run_rules.specs.Past.{In}
+use Rattle.run_rules.specs.Tokens.{IsUseKind}
 
 abbrev use_checks : User → Bool → ℕ → Fid × Nature → Look (Result Fid Refusal)
 use_checks user changing right (fid, nature) =

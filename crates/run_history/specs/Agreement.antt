@@ -20,22 +20,21 @@ use Rattle.script_lines.specs.declared.script.Script.{Script}
 use Rattle.token_types.specs.Conflicts.{kinds_conflict}
 use Rattle.token_types.specs.declared.token.Kind.TheVariants.{Lock as LockToken, Opening}
 use Rattle.tree_laws.specs.Parts.{Part, cell_at}
-use Rattle.run_rules.specs.Runs.{IsRun, firsts_of, past_of}
-use Rattle.run_rules.specs.Knowing.{Entered, HasLabel, IsLock, IsOpening}
-use Rattle.run_rules.specs.Histories.{call_entry}
+use Rattle.run_rules.specs.Kept.{filesets_kept}
+use Rattle.run_rules.specs.Messages.{home}
+use Rattle.run_rules.specs.Past.{Always, In}
+use Rattle.run_rules.specs.Runs.{IsRun, call_entry, firsts_of, past_of}
+use Rattle.run_rules.specs.ServerDecides.{by_cause}
+use Rattle.run_rules.specs.Steps.{steps_of_host, steps_of_server}
+use Rattle.run_rules.specs.Views.{Entered, HasLabel, IsLock, IsOpening}
+use Rattle.run_rules.specs.declared.applied.Applied.TheVariants.{IsDown, Stored}
 use Rattle.run_rules.specs.declared.journal.Journal.{Journal}
 use Rattle.run_parts.specs.Cells.{cell_after}
 use Rattle.run_parts.specs.Contents.{Contents, site}
 use Rattle.run_parts.specs.Legal.{Cells, tree}
 use Rattle.run_contents.specs.Doing.{does_first}
 use Rattle.run_contents.specs.Instance.{IsOfRun}
-use Rattle.run_rules.specs.Kept.{kept}
-use Rattle.run_rules.specs.ServerApplies.{by_cause}
-use Rattle.run_rules.specs.Lists.{Always, In}
-use Rattle.run_rules.specs.Nodes.{own, served}
-use Rattle.run_rules.specs.Places.{home}
 use Rattle.run_rules.specs.declared.applied.Answer.{Answer}
-use Rattle.run_rules.specs.declared.applied.Applied.TheVariants.{IsDown, Stored}
 use Rattle.run_rules.specs.declared.step.Labelled.{Labelled}
 use Rattle.run_rules.specs.declared.step.Step.{Step}
 
@@ -57,12 +56,12 @@ pub record AgreesAt (roster : Roster) (c : Contents) (past : List Step) (h : Hos
   pub uses : UsesAgree tree_is
   pub roster_is : tree_is.roster ≡ roster
   pub cells : CellsAgree c past tree_is
-  pub names : (server : ServerId) (name : List ℕ) (id : FilesetId) → Entered (s ∷ own h past) server name id
+  pub names : (server : ServerId) (name : List ℕ) (id : FilesetId) → Entered (s ∷ steps_of_host h past) server name id
       → LeadsTo tree_is server name id
   pub locks : (lock : LockUse) → (In lock tree_is.locks × (lock.host ≡ h))
-      ↔ ((u : Labelled) × HasLabel (own h past) s u × IsLock h lock u)
+      ↔ ((u : Labelled) × HasLabel (steps_of_host h past) s u × IsLock h lock u)
   pub opens : (opened : OpenUse) → (In opened tree_is.opens × (opened.host ≡ h))
-      ↔ ((u : Labelled) × HasLabel (own h past) s u × IsOpening h opened u)
+      ↔ ((u : Labelled) × HasLabel (steps_of_host h past) s u × IsOpening h opened u)
   pub locks_free : (lock : LockUse) (u : Labelled) → In lock tree_is.locks → (lock.host ≡ h → ⊥) → In u s.begun
       → lock.fid ≡ u.token.fid → kinds_conflict (LockToken lock.writing lock.span) u.token.kind ≡ true → ⊥
   pub opens_free : (opened : OpenUse) (u : Labelled) → In opened tree_is.opens → (opened.host ≡ h → ⊥) → In u s.begun
@@ -98,14 +97,14 @@ StoresLegally start c past s =
     → (h : HostId) (fid : Fid) (spans : List Span) (len : Option ℕ) → In (Stored h fid spans len) s.applied
     → IsLegal tree_is (StoredEntry h fid spans len)
     × ((f : Fid) (p : Part) → cell_at (after_entry tree_is (StoredEntry h fid spans len)) f p
-    ≡ CausedCells v (kept start v (served v past)) s (tree c past) f p)
+    ≡ CausedCells v (filesets_kept start v (steps_of_server v past)) s (tree c past) f p)
 
 abbrev pub DownsForget : Tree → Contents → List Step → Step → Type 0
 DownsForget start c past s =
     (v : ServerId) (tree_is : Tree) → s.node ≡ Server v → IsWellFormed tree_is → AreHome tree_is
     → CellsAgree c past tree_is → (h : HostId) → In (IsDown h) s.applied → (f : Fid) (p : Part)
     → cell_at (after_entry tree_is (Down h v)) f p
-    ≡ CausedCells v (kept start v (served v past)) s (tree c past) f p
+    ≡ CausedCells v (filesets_kept start v (steps_of_server v past)) s (tree c past) f p
 
 abbrev pub ServersStoreLegally : (Tree → Contents → List Step → Step → Type 0) → Type 0
 ServersStoreLegally Holds =

@@ -8,10 +8,10 @@ use Rattle.message_types.specs.declared.asking.Change.{Change as ChangeOf}
 use Rattle.message_types.specs.declared.message.Body.TheVariants.{Change}
 use Rattle.script_lines.specs.declared.script.Script.{Script}
 use Rattle.need_laws.specs.Known.{IsAt}
+use Rattle.run_rules.specs.Messages.{Said}
 use Rattle.run_rules.specs.Runs.{IsRun, past_of}
+use Rattle.run_rules.specs.Steps.{steps_of_host}
 use Rattle.run_rules.specs.declared.journal.Journal.{Journal}
-use Rattle.run_rules.specs.Nodes.{own}
-use Rattle.run_rules.specs.Sends.{Said}
 
 -- What a Change asks of a server: to enter the fileset by which its call names a place at the server, whatever the call
 -- is; or to decide a call that servers decide, and that names filesets of this server alone; or to move one of them.
@@ -24,4 +24,4 @@ pub data AsksRightly (v : ServerId) (c : ChangeOf) : Type 0 where
 abbrev pub ChangesAskRightly : Type 0
 ChangesAskRightly =
     (script : Script) (journal : Journal) → IsRun script journal → (h : HostId) (v : ServerId) (e n : ℕ) (c : ChangeOf)
-    → Said (own h (past_of journal)) v e n (Change c) → AsksRightly v c
+    → Said (steps_of_host h (past_of journal)) v e n (Change c) → AsksRightly v c

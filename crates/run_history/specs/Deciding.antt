@@ -7,15 +7,15 @@ use Rattle.tree_answers.specs.declared.tree.Tree.{Tree}
 use Rattle.script_lines.specs.declared.script.Script.{Script}
 use Rattle.need_laws.specs.Idle.{minds_uses}
 use Rattle.need_laws.specs.Known.{IsAt}
+use Rattle.run_rules.specs.Doings.{after_cause, doings_of}
+use Rattle.run_rules.specs.Kept.{filesets_kept, filesets_through}
+use Rattle.run_rules.specs.Past.{Always, In}
 use Rattle.run_rules.specs.Runs.{IsRun, firsts_of, past_of}
+use Rattle.run_rules.specs.ServerDecides.{by_cause, decisions}
+use Rattle.run_rules.specs.Steps.{steps_of_server}
+use Rattle.run_rules.specs.declared.applied.Applied.TheVariants.{Done}
 use Rattle.run_history.specs.Changes.{AgreesKept, EachChange, IsLegalChange}
 use Rattle.run_rules.specs.declared.journal.Journal.{Journal}
-use Rattle.run_rules.specs.Kept.{kept, kept_through}
-use Rattle.run_rules.specs.ServerApplies.{by_cause, decisions}
-use Rattle.run_rules.specs.Acts.{acts, after_cause}
-use Rattle.run_rules.specs.Lists.{Always, In}
-use Rattle.run_rules.specs.Nodes.{served}
-use Rattle.run_rules.specs.declared.applied.Applied.TheVariants.{Done}
 use Rattle.run_rules.specs.declared.applied.Written.{Written}
 use Rattle.run_rules.specs.declared.step.Step.{Step}
 use Rattle.run_history.specs.HostLaws.{InEachStep}
@@ -40,8 +40,8 @@ DecidesUses start firsts past s =
     → PinnedAreUsed v before tree_is
     × (AgreesKept v before kept_is tree_is → is_change x.answer.call ≡ true → IsAt v x.answer.call
     → minds_uses x.answer.call ≡ true → IsLegalChange v s.cause kept_is x tree_is)) s.cause
-    (kept_through s.cause (by_cause s.applied) (kept start v (served v past)))
-    (after_cause s.cause (acts (firsts v) v past)) (decisions s.applied)
+    (filesets_through s.cause (by_cause s.applied) (filesets_kept start v (steps_of_server v past)))
+    (after_cause s.cause (doings_of (firsts v) v past)) (decisions s.applied)
 
 abbrev pub UsesDecideLegally : Type 0
 UsesDecideLegally =

@@ -6,19 +6,17 @@ use Rattle.base_types.specs.declared.ids.ServerId.{ServerId}
 use Rattle.script_lines.specs.declared.script.Script.{Script}
 use Rattle.token_types.specs.declared.token.Token.{Token}
 use Rattle.tree_laws.specs.Parts.{Part, Seen, Written as Unsaved}
+use Rattle.run_rules.specs.Doings.{Doing, Granted, NoGrace}
+use Rattle.run_rules.specs.Past.{Always}
 use Rattle.run_rules.specs.Runs.{IsRun, firsts_of, past_of}
 use Rattle.run_rules.specs.declared.journal.Journal.{Journal}
 use Rattle.run_parts.specs.Contents.{Contents, OverUpdate, site}
 use Rattle.run_parts.specs.Deeds.{Deed, acts_in}
 use Rattle.run_parts.specs.Legal.{Cells, cells_after, served, tree}
 use Rattle.run_contents.specs.Instance.{IsOfRun}
-use Rattle.run_rules.specs.Acts.{Act}
-use Rattle.run_rules.specs.Grants.{Granted}
-use Rattle.run_rules.specs.Hosts.{NoGrace}
-use Rattle.run_rules.specs.Lists.{Always}
 
 -- after some doings, if no grace period is on: what is unsaved of the server's files
-abbrev pub GrantedAt : ServerId → List Act → Cells → Type 0
+abbrev pub GrantedAt : ServerId → List Doing → Cells → Type 0
 GrantedAt v past cells =
     NoGrace past → (f : Fid) (p : Part) (u : Unsaved (Seen p)) → site f ≡ v → (cells f p).unsaved ≡ Some u
     → (t : Token) × Granted v past t × OverUpdate t f p

@@ -14,15 +14,14 @@ use Rattle.tree_answers.specs.declared.tree.Tree.{Tree}
 use Rattle.script_lines.specs.declared.script.Script.{Script}
 use Rattle.need_laws.specs.Known.{IsAt}
 use Rattle.token_types.specs.declared.token.Token.{Token}
+use Rattle.run_rules.specs.Doings.{Doing, Pinned, after_cause, doings_of}
+use Rattle.run_rules.specs.Kept.{filesets_kept, filesets_through, is_refusal}
+use Rattle.run_rules.specs.Past.{Always}
 use Rattle.run_rules.specs.Runs.{IsRun, firsts_of, past_of}
+use Rattle.run_rules.specs.ServerDecides.{by_cause, decisions}
+use Rattle.run_rules.specs.Steps.{steps_of_server}
 use Rattle.run_history.specs.Changes.{AgreesKept, EachChange, IsLegalChange}
 use Rattle.run_rules.specs.declared.journal.Journal.{Journal}
-use Rattle.run_rules.specs.Kept.{is_refusal, kept, kept_through}
-use Rattle.run_rules.specs.ServerApplies.{by_cause, decisions}
-use Rattle.run_rules.specs.Acts.{Act, acts, after_cause}
-use Rattle.run_rules.specs.Grants.{Pinned}
-use Rattle.run_rules.specs.Lists.{Always}
-use Rattle.run_rules.specs.Nodes.{served}
 use Rattle.run_rules.specs.declared.applied.Written.{Written}
 use Rattle.run_rules.specs.declared.step.Cause.{Cause}
 use Rattle.run_rules.specs.declared.step.Step.{Step}
@@ -36,12 +35,12 @@ LabelIsFree tree_is host (OpenFile label place kind) =
 LabelIsFree tree_is host _ = Unit {0}
 
 -- the file of each pinned token is in use
-abbrev pub PinnedAreUsed : ServerId → List Act → Tree → Type 0
+abbrev pub PinnedAreUsed : ServerId → List Doing → Tree → Type 0
 PinnedAreUsed v past tree_is = (t : Token) → Pinned v past t → is_used tree_is.locks tree_is.opens t.fid ≡ true
 
 -- A Change that is written down has a call that servers decide, about filesets of this server alone; or, where it only
 -- enters a fileset or moves one, it is refused, and legally so in each tree that agrees.
-pub data MeantSo (v : ServerId) (cause : Cause) (past : List Act) (kept_is : Tree) (x : Written) : Type 0 where
+pub data MeantSo (v : ServerId) (cause : Cause) (past : List Doing) (kept_is : Tree) (x : Written) : Type 0 where
   Decides : is_change x.answer.call ≡ true → IsAt v x.answer.call → MeantSo v cause past kept_is x
   Refuses : is_refusal x.answer.reply ≡ true
       → ((tree_is : Tree) → AgreesKept v past kept_is tree_is → LabelIsFree tree_is x.answer.host x.answer.call
@@ -51,8 +50,8 @@ abbrev pub DecidesMeant : Tree → (ServerId → ℕ) → List Step → Step →
 DecidesMeant start firsts past s =
     (v : ServerId) → s.node ≡ Server v
     → EachChange (MeantSo v s.cause) s.cause
-    (kept_through s.cause (by_cause s.applied) (kept start v (served v past)))
-    (after_cause s.cause (acts (firsts v) v past)) (decisions s.applied)
+    (filesets_through s.cause (by_cause s.applied) (filesets_kept start v (steps_of_server v past)))
+    (after_cause s.cause (doings_of (firsts v) v past)) (decisions s.applied)
 
 abbrev pub ChangesAreMeant : Type 0
 ChangesAreMeant =

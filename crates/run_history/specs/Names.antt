@@ -13,15 +13,15 @@ use Rattle.message_types.specs.declared.telling.Done.{Done as DoneOf}
 use Rattle.message_types.specs.declared.telling.DoneIs.TheVariants.{Known}
 use Rattle.script_lines.specs.declared.script.Script.{Script}
 use Rattle.need_laws.specs.Known.{SameAt}
+use Rattle.run_rules.specs.Doings.{SentTo, doings_of}
+use Rattle.run_rules.specs.Kept.{filesets_kept}
+use Rattle.run_rules.specs.Messages.{Said}
+use Rattle.run_rules.specs.Past.{Always}
 use Rattle.run_rules.specs.Runs.{IsRun, firsts_of, past_of}
+use Rattle.run_rules.specs.Steps.{steps_of_host, steps_of_server}
+use Rattle.run_rules.specs.Views.{Entered}
 use Rattle.run_history.specs.Agreement.{LeadsTo}
-use Rattle.run_rules.specs.Knowing.{Entered}
 use Rattle.run_rules.specs.declared.journal.Journal.{Journal}
-use Rattle.run_rules.specs.Kept.{kept}
-use Rattle.run_rules.specs.Acts.{SentTo, acts}
-use Rattle.run_rules.specs.Lists.{Always}
-use Rattle.run_rules.specs.Nodes.{own, served}
-use Rattle.run_rules.specs.Sends.{Said}
 use Rattle.run_rules.specs.declared.step.Step.{Step}
 
 -- The Done answers an entering Change that its host said to the server, and the name by which that asked leads to the
@@ -31,7 +31,7 @@ pub record AnswersName
   pub change : ChangeOf
   pub epoch : ℕ
   pub moves : ℕ
-  pub said : Said (own h past) v epoch moves (Change change)
+  pub said : Said (steps_of_host h past) v epoch moves (Change change)
   pub enters : change.enter ≡ true
   pub fileset : change.fileset ≡ done.fileset
   pub number : change.number ≡ done.bring.number
@@ -42,7 +42,7 @@ pub record AnswersName
 -- so it is with each Done that a server has sent and that tells a fileset's number
 pub record NamesStand (firsts : ServerId → ℕ) (past : List Step) (tree_is : Tree) : Type 0 where
   pub told : (v : ServerId) (h : HostId) (e n : ℕ) (done : DoneOf) (id : FilesetId)
-      → SentTo (acts (firsts v) v past) h e n (Done done) → done.outcome ≡ Known id
+      → SentTo (doings_of (firsts v) v past) h e n (Done done) → done.outcome ≡ Known id
       → AnswersName past v h done id tree_is
 
 -- at the start nothing was told
@@ -55,7 +55,7 @@ NamesAreKnown =
     (script : Script) (journal : Journal) → IsRun script journal
     → Always (λ past s. (h : HostId) (tree_is : Tree) → s.node ≡ Host h
     → NamesStand (firsts_of journal) past tree_is → (server : ServerId) (name : List ℕ) (id : FilesetId)
-    → Entered (s ∷ own h past) server name id → LeadsTo tree_is server name id) (past_of journal)
+    → Entered (s ∷ steps_of_host h past) server name id → LeadsTo tree_is server name id) (past_of journal)
 
 -- and so it stays through a step that leaves names leading on, and a tree with what each server keeps
 abbrev pub NamesGoOn : Type 0
@@ -63,5 +63,5 @@ NamesGoOn =
     (script : Script) (journal : Journal) (run : IsRun script journal)
     → Always (λ past s. (old new : Tree) → NamesStand (firsts_of journal) past old
     → ((server : ServerId) (name : List ℕ) (id : FilesetId) → LeadsTo old server name id → LeadsTo new server name id)
-    → ((v : ServerId) → SameAt v (kept run.start v (served v (s ∷ past))) (kept_tree new))
+    → ((v : ServerId) → SameAt v (filesets_kept run.start v (steps_of_server v (s ∷ past))) (kept_tree new))
     → NamesStand (firsts_of journal) (s ∷ past) new) (past_of journal)

@@ -5,17 +5,17 @@ use Rattle.base_types.specs.declared.ids.Node.TheVariants.{Host, Server}
 use Rattle.base_types.specs.declared.ids.ServerId.{ServerId}
 use Rattle.tree_answers.specs.declared.tree.Tree.{Tree}
 use Rattle.script_lines.specs.declared.script.Script.{Script}
+use Rattle.run_rules.specs.Doings.{after_cause, doings_of}
+use Rattle.run_rules.specs.Kept.{filesets_kept, filesets_through}
+use Rattle.run_rules.specs.Past.{Always}
 use Rattle.run_rules.specs.Runs.{IsRun, firsts_of, past_of}
+use Rattle.run_rules.specs.ServerDecides.{by_cause, decisions}
+use Rattle.run_rules.specs.Steps.{steps_of_server}
 use Rattle.run_history.specs.Changes.{AgreesKept, EachChange, IsLegalChange}
 use Rattle.run_rules.specs.declared.journal.Journal.{Journal}
 use Rattle.run_history.specs.PastStanding.{PassesOn, Stands}
 use Rattle.run_parts.specs.Contents.{Contents}
 use Rattle.run_contents.specs.Instance.{IsOfRun}
-use Rattle.run_rules.specs.Kept.{kept, kept_through}
-use Rattle.run_rules.specs.ServerApplies.{by_cause, decisions}
-use Rattle.run_rules.specs.Acts.{acts, after_cause}
-use Rattle.run_rules.specs.Lists.{Always}
-use Rattle.run_rules.specs.Nodes.{served}
 use Rattle.run_rules.specs.declared.step.Step.{Step}
 use Rattle.run_history.specs.Names.{NamesStand}
 use Rattle.run_history.specs.UseStanding.{LabelsStand}
@@ -32,8 +32,8 @@ abbrev pub ChangesAreLegal : Tree → (ServerId → ℕ) → List Step → Step 
 ChangesAreLegal start firsts past s v =
     EachChange (λ before kept_is x. (t : Tree) → AgreesKept v before kept_is t → LabelsStand firsts (s ∷ past) t
     → IsLegalChange v s.cause kept_is x t) s.cause
-    (kept_through s.cause (by_cause s.applied) (kept start v (served v past)))
-    (after_cause s.cause (acts (firsts v) v past)) (decisions s.applied)
+    (filesets_through s.cause (by_cause s.applied) (filesets_kept start v (steps_of_server v past)))
+    (after_cause s.cause (doings_of (firsts v) v past)) (decisions s.applied)
 
 -- what a server applies by the cause of its step, and what it then decides
 abbrev pub ServerPasses : Script → Tree → (ServerId → ℕ) → Contents → List Step → Step → Type 0

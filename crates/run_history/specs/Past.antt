@@ -5,15 +5,14 @@ use Rattle.tree_answers.specs.Histories.{IsHistory}
 use Rattle.tree_answers.specs.WellFormed.{IsWellFormed}
 use Rattle.tree_answers.specs.declared.tree.Tree.{Tree}
 use Rattle.script_lines.specs.declared.script.Script.{Script}
-use Rattle.run_rules.specs.Coherence.{CachedExactly}
-use Rattle.run_rules.specs.Runs.{IsRun, firsts_of, past_of}
+use Rattle.run_rules.specs.Kept.{filesets_kept}
+use Rattle.run_rules.specs.Runs.{IsLegalPast, IsRun, firsts_of, history_of, past_of, tree_at}
+use Rattle.run_rules.specs.Steps.{steps_of_server}
+use Rattle.run_tokens.specs.CacheLaws.{CachedExactly}
 use Rattle.run_history.specs.Agreement.{CellsAgree}
-use Rattle.run_rules.specs.Histories.{IsLegalPast, history_of, tree_at}
 use Rattle.run_rules.specs.declared.journal.Journal.{Journal}
 use Rattle.run_parts.specs.Contents.{Contents}
 use Rattle.run_contents.specs.Instance.{IsOfRun}
-use Rattle.run_rules.specs.Kept.{kept}
-use Rattle.run_rules.specs.Nodes.{served}
 use Rattle.run_rules.specs.declared.step.Step.{Step}
 use Rattle.run_history.specs.PastStanding.{KeepsAs}
 use Rattle.run_history.specs.UseStanding.{LabelsStand}
@@ -36,7 +35,7 @@ pub record IsOfPast
     (start : Tree) (firsts : ServerId → ℕ) (c : Contents) (past : List Step) (tree_is : Tree) : Type 0 where
   pub formed : IsWellFormed tree_is
   pub cells : CellsAgree c past tree_is
-  pub kept : (server : ServerId) → KeepsAs server (kept start server (served server past)) tree_is
+  pub kept : (server : ServerId) → KeepsAs server (kept start server (steps_of_server server past)) tree_is
   pub labels : LabelsStand firsts past tree_is
 
 -- so the history's is from the start on, and after each step
@@ -54,7 +53,8 @@ HistoriesMakeTheTree =
 abbrev pub ServersKeepTheTree : Type 0
 ServersKeepTheTree =
     (script : Script) (journal : Journal) (run : IsRun script journal) (server : ServerId)
-    → KeepsAs server (kept run.start server (served server (past_of journal))) (tree_at run.start (past_of journal))
+    → KeepsAs server (filesets_kept run.start server (steps_of_server server (past_of journal)))
+    (tree_at run.start (past_of journal))
 
 -- on the tree of the history calls are answered from cache exactly where tokens cover their need
 abbrev pub CachesAreExact : Type 0

@@ -13,11 +13,11 @@ use Rattle.need_laws.specs.Known.{SameAt}
 use Rattle.tree_laws.specs.Parts.{Part, cell_at}
 use Rattle.run_history.specs.Agreement.{LeadsTo}
 use Rattle.run_history.specs.Changes.{are_home}
-use Rattle.run_rules.specs.Histories.{entries_of}
+use Rattle.run_rules.specs.Kept.{filesets_kept}
+use Rattle.run_rules.specs.Runs.{entries_of}
+use Rattle.run_rules.specs.Steps.{steps_of_server}
 use Rattle.run_parts.specs.Contents.{Contents}
 use Rattle.run_parts.specs.Legal.{Cells, tree}
-use Rattle.run_rules.specs.Kept.{kept}
-use Rattle.run_rules.specs.Nodes.{served}
 use Rattle.run_rules.specs.declared.step.Step.{Step}
 use Rattle.run_history.specs.UseStanding.{LabelsStand}
 
@@ -40,7 +40,7 @@ pub record Agrees (script : Script) (kept_now : ServerId → Tree) (cells_now : 
 
 -- so it does with a run after some steps
 abbrev pub Stands : Script → Tree → Contents → List Step → Tree → Type 0
-Stands script start c past t = Agrees script (λ v. kept start v (served v past)) (tree c past) t
+Stands script start c past t = Agrees script (λ v. filesets_kept start v (steps_of_server v past)) (tree c past) t
 
 -- names lead on from one tree to another
 abbrev pub LeadsOn : Tree → Tree → Type 0

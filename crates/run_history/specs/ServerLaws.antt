@@ -7,11 +7,11 @@ use Rattle.tree_answers.specs.WellFormed.{IsWellFormed}
 use Rattle.tree_answers.specs.declared.tree.Tree.{Tree}
 use Rattle.script_lines.specs.declared.script.Script.{Script}
 use Rattle.run_history.specs.Changes.{are_home}
-use Rattle.run_rules.specs.Histories.{call_entry, entries_in}
-use Rattle.run_rules.specs.ServerApplies.{by_cause}
-use Rattle.run_rules.specs.Lists.{In}
+use Rattle.run_rules.specs.Past.{In}
+use Rattle.run_rules.specs.Runs.{call_entry, entries_in}
+use Rattle.run_rules.specs.ServerDecides.{by_cause}
+use Rattle.run_rules.specs.declared.applied.Applied.TheVariants.{Replied}
 use Rattle.run_rules.specs.declared.applied.Answer.{Answer}
-use Rattle.run_rules.specs.declared.applied.Applied.TheVariants.{Ends}
 use Rattle.run_rules.specs.declared.step.Step.{Step}
 use Rattle.run_history.specs.HostLaws.{InEachStep}
 use Rattle.run_history.specs.UseStanding.{LabelsStand}
@@ -20,7 +20,7 @@ use Rattle.run_history.specs.UseStanding.{LabelsStand}
 abbrev pub EndsLegally : Script → (ServerId → ℕ) → List Step → Step → Type 0
 EndsLegally script firsts past s =
     (v : ServerId) (tree_is : Tree) → s.node ≡ Server v → tree_is.roster ≡ script.roster
-    → LabelsStand firsts past tree_is → (a : Answer) → In (Ends a) s.applied → IsLegal tree_is (call_entry a)
+    → LabelsStand firsts past tree_is → (a : Answer) → In (Replied a) s.applied → IsLegal tree_is (call_entry a)
 
 abbrev pub EndsAreLegal : Type 0
 EndsAreLegal = InEachStep EndsLegally

@@ -8,10 +8,10 @@ use Rattle.tree_answers.specs.declared.tree.Tree.{Tree}
 use Rattle.tree_laws.specs.Labels.{UsesAgree}
 use Rattle.token_types.specs.Conflicts.{kinds_conflict}
 use Rattle.token_types.specs.declared.token.Kind.TheVariants.{Lock as LockToken, Opening}
-use Rattle.run_rules.specs.Knowing.{HasLabel, IsLock, IsOpening}
+use Rattle.run_rules.specs.Past.{In}
+use Rattle.run_rules.specs.Steps.{steps_of_host}
+use Rattle.run_rules.specs.Views.{HasLabel, IsLock, IsOpening}
 use Rattle.run_parts.specs.Uses.{Locked}
-use Rattle.run_rules.specs.Lists.{In}
-use Rattle.run_rules.specs.Nodes.{own}
 use Rattle.run_rules.specs.declared.step.Labelled.{Labelled}
 use Rattle.run_rules.specs.declared.step.Step.{Step}
 
@@ -30,9 +30,9 @@ pub record LabelsStand (firsts : ServerId → ℕ) (past : List Step) (tree_is :
 pub record UsesAt (past : List Step) (h : HostId) (s : Step) (tree_is : Tree) : Type 0 where
   pub uses : UsesAgree tree_is
   pub locks : (lock : LockUse) → (In lock tree_is.locks × (lock.host ≡ h))
-      ↔ ((u : Labelled) × HasLabel (own h past) s u × IsLock h lock u)
+      ↔ ((u : Labelled) × HasLabel (steps_of_host h past) s u × IsLock h lock u)
   pub opens : (opened : OpenUse) → (In opened tree_is.opens × (opened.host ≡ h))
-      ↔ ((u : Labelled) × HasLabel (own h past) s u × IsOpening h opened u)
+      ↔ ((u : Labelled) × HasLabel (steps_of_host h past) s u × IsOpening h opened u)
   pub locks_free : (lock : LockUse) (u : Labelled) → In lock tree_is.locks → (lock.host ≡ h → ⊥) → In u s.begun
       → lock.fid ≡ u.token.fid → kinds_conflict (LockToken lock.writing lock.span) u.token.kind ≡ true → ⊥
   pub opens_free : (opened : OpenUse) (u : Labelled) → In opened tree_is.opens → (opened.host ≡ h → ⊥) → In u s.begun

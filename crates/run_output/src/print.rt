@@ -3,7 +3,7 @@ ghost use Rattle.tree_answers.specs.declared.tree.Tree.{Tree as TreeOf};
 ghost use Rattle.tree_answers.specs.Histories.{after_history, lost_in};
 ghost use Rattle.script_output.specs.Printed.{printed};
 ghost use Rattle.script_output.specs.Summary.{printed_json};
-ghost use Rattle.run_rules.specs.Histories.{history_of};
+ghost use Rattle.run_rules.specs.Runs.{history_of};
 
 use base_types::{Items, NoMemory, Plain};
 use run_rules::{Journal, hist};

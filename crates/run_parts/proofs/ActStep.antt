@@ -17,18 +17,13 @@ use Rattle.message_types.specs.declared.telling.Grant.{Grant as GrantOf}
 use Rattle.message_types.specs.declared.telling.Done.{Done as DoneOf}
 use Rattle.message_types.specs.declared.giving.Give.{Give}
 use Rattle.run_rules.specs.declared.step.Step.{Step}
-use Rattle.run_rules.specs.Lists.{In}
-use Rattle.run_rules.specs.Epochs.{epoch_at}
-use Rattle.run_rules.specs.Sends.{Said}
-use Rattle.run_rules.specs.Gives.{Made, number_of}
-use Rattle.run_rules.specs.Tokens.{Owns}
-use Rattle.run_rules.specs.Requests.{Asking}
-use Rattle.run_rules.specs.Floors.{AboveFloor}
-use Rattle.run_rules.specs.Acts.{Act, epoch, SentTo}
-use Rattle.run_rules.specs.Acts.Act.{Took, Sent}
-use Rattle.run_rules.specs.Hosts.{Away, TakesOf}
-use Rattle.run_rules.specs.Grants.{Brings, Applied, Applies}
+use Rattle.run_rules.specs.Doings.{BringsTokens, Doing, HasGoneAway, IsApplied, SentTo, TakesOf, epoch}
+use Rattle.run_rules.specs.Doings.Doing.{Sent, Took}
+use Rattle.run_rules.specs.Messages.{Asking, Said, epoch_at}
+use Rattle.run_rules.specs.Past.{In}
 use Rattle.run_rules.specs.ServerTokens.{MayBring, ServerTokens}
+use Rattle.run_rules.specs.Tokens.{AboveFloor, Made, Owns, number_of}
+use Rattle.run_tokens.specs.TokenLaws.{Applies}
 use Rattle.run_parts.proofs.Words.{taken_is, taken_live}
 use Rattle.run_tokens.proofs.Owed.{Owed}
 use Rattle.run_tokens.proofs.Invariant.{Alone}
@@ -51,7 +46,7 @@ use Rattle.run_parts.proofs.Invariant.{alone_there, pending_owned, owner_writes,
 use Rattle.run_parts.proofs.Invariant.{applied_below}
 
 -- the doing and what is so before it
-pub record Doing (c : Contents) (own_of : HostId
+pub record OneDoing (c : Contents) (own_of : HostId
     → List Step) (cells : Cells) (v : ServerId) (D : List Deed) (d : Deed) : Type 0 where
   pub at : AtServer own_of v (acts_in D)
   pub alone : (h : HostId) → Alone (own_of h)
@@ -64,20 +59,20 @@ pub record Doing (c : Contents) (own_of : HostId
   pub next : AtServer own_of v (d.act ∷ acts_in D)
 
 module _ (c : Contents) (own_of : HostId
-    → List Step) (cells : Cells) (v : ServerId) (D : List Deed) (d : Deed) (o : Doing c own_of cells v D d) where
-  abbrev S : List Act
+    → List Step) (cells : Cells) (v : ServerId) (D : List Deed) (d : Deed) (o : OneDoing c own_of cells v D d) where
+  abbrev S : List Doing
   S = acts_in D
 
-  abbrev a : Act
+  abbrev a : Doing
   a = d.act
 
   abbrev cells' : Cells
   cells' f p = cell_after p (d.does f p) (cells f p)
 
-  owner : (h : HostId) (p : Part) (f : Fid) → site f ≡ v → (Away S h → ⊥) → OwnsUpdate (own_of h) f p → Writes v S h f p
+  owner : (h : HostId) (p : Part) (f : Fid) → site f ≡ v → (HasGoneAway S h → ⊥) → OwnsUpdate (own_of h) f p → Writes v S h f p
   owner h = owner_writes c h (own_of h) cells v D o.at.served (o.at.link h) (o.seen h) (o.shown h)
 
-  giver : (h : HostId) (p : Part) (f : Fid) (x : Seen p) (g : Give) → site f ≡ v → (Away S h → ⊥)
+  giver : (h : HostId) (p : Part) (f : Fid) (x : Seen p) (g : Give) → site f ≡ v → (HasGoneAway S h → ⊥)
       → Open c (own_of h) v S h f p x g → Writes v S h f p
   giver h = open_writes c h (own_of h) cells v D o.at.served (o.at.link h) (o.seen h) (o.shown h)
 
@@ -111,12 +106,12 @@ module _ (c : Contents) (own_of : HostId
         on_way = record { made = made r.0 r.1.fid.fileset r.1 r.2.0; file = r.3; has = r.4; not_applied = r.2.1 };
       }
 
-  storing_live : (f : Fid) (p : Part) (x : Seen p) (r : Storing f p x) → Away S r.host → ⊥
+  storing_live : (f : Fid) (p : Part) (x : Seen p) (r : Storing f p x) → HasGoneAway S r.host → ⊥
   storing_live f p x r = taken_live v S a r.host r.give.fid.fileset (GiveBack r.give) r.applies.0
 
   -- a give-back that is applied after the doing was so before, or is taken now
-  applied_cases : (h : HostId) (g : Give) → site g.fid ≡ v → Made (own_of h) g → Applied v (a ∷ S) h (number_of g)
-      → Applied v S h (number_of g) ⊎ TakesOf v S a h g.fid.fileset (GiveBack g)
+  applied_cases : (h : HostId) (g : Give) → site g.fid ≡ v → Made (own_of h) g → IsApplied v (a ∷ S) h (number_of g)
+      → IsApplied v S h (number_of g) ⊎ TakesOf v S a h g.fid.fileset (GiveBack g)
   applied_cases h g home m (inr r) = inl r
   applied_cases h g home m (inl (k, t, same, le)) =
       let q = said h g.fid.fileset k t in
@@ -132,7 +127,7 @@ module _ (c : Contents) (own_of : HostId
   before h p f x g k = record { made = k.made; file = k.file; has = k.has; not_applied = λ r. k.not_applied (inr r) }
 
   -- what is on its way is for an object that is there
-  open_there : (h : HostId) (p : Part) (f : Fid) (x : Seen p) (g : Give) → site f ≡ v → (Away S h → ⊥)
+  open_there : (h : HostId) (p : Part) (f : Fid) (x : Seen p) (g : Give) → site f ≡ v → (HasGoneAway S h → ⊥)
       → Open c (own_of h) v S h f p x g → IsThere (kept c D f Traits)
   open_there h p f x g home live k = let w = giver h p f x g home live k in
       subst (λ j. IsThere (kept c D j Traits)) w.file (o.treed.there w.token (ap site w.file ∙ home) w.owed)
@@ -164,7 +159,7 @@ module _ (c : Contents) (own_of : HostId
         | inr r ↦ below r.0 r.1 r.2 r.3 r.4
       ]
     where
-      live : Away S h → ⊥
+      live : HasGoneAway S h → ⊥
       live = taken_live v S a h g.fid.fileset (GiveBack g) t
 
       grown : kept c D f Size ≤ kept c (d ∷ D) f Size
@@ -248,11 +243,11 @@ module _ (c : Contents) (own_of : HostId
       go (Loses j) r = absurd (let w = o.rules.loses f p j r in
           let q : Sent h e n b ≡ Took j w.0 w.1 Down = sym t ∙ w.2 in cc)
 
-  brings_nothing : (h : HostId) (e n : ℕ) (w : Bring) (f : Fid) (p : Part) → Brings a h e n w → d.does f p ≡ Nothing
+  brings_nothing : (h : HostId) (e n : ℕ) (w : Bring) (f : Fid) (p : Part) → BringsTokens a h e n w → d.does f p ≡ Nothing
   brings_nothing h e n w f p (inl q) = sends_nothing h e n (Grant q.0) f p q.1
   brings_nothing h e n w f p (inr q) = sends_nothing h e n (Done q.0) f p q.1
 
-  goes_down : (f : Fid) (p : Part) (h j : HostId) → d.does f p ≡ Loses h → h ≡ j → Away (a ∷ S) j
+  goes_down : (f : Fid) (p : Part) (h j : HostId) → d.does f p ≡ Loses h → h ≡ j → HasGoneAway (a ∷ S) j
   goes_down f p h j e same = let l = o.rules.loses f p h e in
       inl (inl (l.0, l.1, l.2 ∙ ap (λ i. Took i l.0 l.1 Down) same))
 
@@ -270,7 +265,7 @@ module _ (c : Contents) (own_of : HostId
   present_stored Entries f x home e = refl
 
   -- under a token that is owed to a host that stays, what is present stays
-  same_present : (p : Part) (f : Fid) (t : Token) → site f ≡ v → Owed v S t → (Away (a ∷ S) t.host → ⊥) → t.fid ≡ f
+  same_present : (p : Part) (f : Fid) (t : Token) → site f ≡ v → Owed v S t → (HasGoneAway (a ∷ S) t.host → ⊥) → t.fid ≡ f
       → shows t.kind p ≡ true → present (cells f p) ≡ present (cells' f p)
   same_present p f t home w live same cov = go (d.does f p) refl
     where
@@ -308,17 +303,17 @@ module _ (c : Contents) (own_of : HostId
     abbrev A : List Step
     A = own_of h
 
-    cached' : (p : Part) (t : Token) → site t.fid ≡ v → Owns A t → shows t.kind p ≡ true → (Away (a ∷ S) h → ⊥)
+    cached' : (p : Part) (t : Token) → site t.fid ≡ v → Owns A t → shows t.kind p ≡ true → (HasGoneAway (a ∷ S) h → ⊥)
         → view c A t.fid p ≡ present (cells' t.fid p)
     cached' p t home k cov live =
         let x = (o.at.link h).held t ((o.seen h).owned_at t k ∙ home) k in
-        let up : Away S h → ⊥ = λ w. live (inr w) in
+        let up : HasGoneAway S h → ⊥ = λ w. live (inr w) in
         (o.shown h).cached p t home k cov up
-        ∙ same_present p t.fid t home (x.owed up) (subst (λ j. Away (a ∷ S) j → ⊥) (sym x.host) live) refl cov
+        ∙ same_present p t.fid t home (x.owed up) (subst (λ j. HasGoneAway (a ∷ S) j → ⊥) (sym x.host) live) refl cov
 
     -- nothing is unsaved where a new Grant tells what is kept
     clean : (e n : ℕ) (p : Part) (w : GrantOf) (t : Token) → site w.bring.fid ≡ v → a ≡ Sent h e n (Grant w)
-        → Asking A w.bring.fid.fileset w.bring.number → In t w.bring.tokens → shows t.kind p ≡ true → (Away S h → ⊥)
+        → Asking A w.bring.fid.fileset w.bring.number → In t w.bring.tokens → shows t.kind p ≡ true → (HasGoneAway S h → ⊥)
         → (u : Written (Seen p)) → (cells w.bring.fid p).unsaved ≡ Some u → ⊥
     clean e n p w t home q asking m cov up u i =
         elim (cases_host u.writer h) [
@@ -359,7 +354,7 @@ module _ (c : Contents) (own_of : HostId
             ∙ sym y.file) cov y.covers y.update)
 
     new_flight : (e n : ℕ) (p : Part) (w : GrantOf) (t : Token) → site w.bring.fid ≡ v → a ≡ Sent h e n (Grant w)
-        → Asking A w.bring.fid.fileset w.bring.number → In t w.bring.tokens → shows t.kind p ≡ true → (Away S h → ⊥)
+        → Asking A w.bring.fid.fileset w.bring.number → In t w.bring.tokens → shows t.kind p ≡ true → (HasGoneAway S h → ⊥)
         → c.tells w p ≡ present (cells' w.bring.fid p)
     new_flight e n p w t home q asking m cov up = o.rules.tells h e n p w t q m cov
         ∙ (sym (o.treed.kept_is p w.bring.fid home)
@@ -370,19 +365,19 @@ module _ (c : Contents) (own_of : HostId
 
     flight' : (e n : ℕ) (p : Part) (w : GrantOf) (t : Token) → site w.bring.fid ≡ v → SentTo (a ∷ S) h e n (Grant w)
         → e ≡ epoch_at A v → Asking A w.bring.fid.fileset w.bring.number → AboveFloor A w.bring.fid w.bring.stamp
-        → In t w.bring.tokens → shows t.kind p ≡ true → (Away (a ∷ S) h → ⊥)
+        → In t w.bring.tokens → shows t.kind p ≡ true → (HasGoneAway (a ∷ S) h → ⊥)
         → c.tells w p ≡ present (cells' w.bring.fid p)
     flight' e n p w t home (inl q) now asking above m cov live =
         new_flight e n p w t home q asking m cov (λ z. live (inr z))
     flight' e n p w t home (inr k) now asking above m cov live =
         let i = o.at.served.grants h e n w t k m in
-        let up : Away S h → ⊥ = λ z. live (inr z) in
+        let up : HasGoneAway S h → ⊥ = λ z. live (inr z) in
         let g = (o.at.link h).in_flight t (record { moves = n; stamp = w.bring.stamp }) i.issued i.host (i.epoch_is
         ∙ now) (subst (λ x. AboveFloor A x w.bring.stamp) (sym i.file) above) up in
         (o.shown h).flight e n p w t home k now asking above m cov up
-        ∙ same_present p w.bring.fid t home g (subst (λ j. Away (a ∷ S) j → ⊥) (sym i.host) live) i.file cov
+        ∙ same_present p w.bring.fid t home g (subst (λ j. HasGoneAway (a ∷ S) j → ⊥) (sym i.host) live) i.file cov
 
-    mine' : (p : Part) (f : Fid) (x : Seen p) → site f ≡ v → (cells' f p).unsaved ≡ Some (by h x) → (Away (a ∷ S) h → ⊥)
+    mine' : (p : Part) (f : Fid) (x : Seen p) → site f ≡ v → (cells' f p).unsaved ≡ Some (by h x) → (HasGoneAway (a ∷ S) h → ⊥)
         × (Pending c A f p ⊎ ((g : Give) × Open c A v (a ∷ S) h f p x g))
     mine' p f x home e = (
       live,
@@ -395,7 +390,7 @@ module _ (c : Contents) (own_of : HostId
         was : ((cells f p).unsaved ≡ Some (by h x)) × (d.does f p ≡ Stores x → ⊥) × (d.does f p ≡ Loses h → ⊥)
         was = unsaved_was p (d.does f p) (cells f p) (by h x) e
 
-        old : (Away S h → ⊥) × (Pending c A f p ⊎ ((g : Give) × Open c A v S h f p x g))
+        old : (HasGoneAway S h → ⊥) × (Pending c A f p ⊎ ((g : Give) × Open c A v S h f p x g))
         old = (o.shown h).mine p f x home was.0
 
         -- a host that has something unsaved says no Bye
@@ -406,7 +401,7 @@ module _ (c : Contents) (own_of : HostId
             ((o.at.link h).known (number_of k.0) (ap site k.1.file ∙ home)
             ((o.seen h).bye_given v k.0 p x (epoch S, n, o.heard h (epoch S) n Bye b) k.1.made k.1.has))
 
-        live : Away (a ∷ S) h → ⊥
+        live : HasGoneAway (a ∷ S) h → ⊥
         live (inl (inl (e, n, down))) = was.2 (o.rules.loses_all f p h e n down old.0)
         live (inl (inr ((n, b), _, _))) = no_bye n b old.1
         live (inr w) = old.0 w
@@ -435,18 +430,18 @@ module _ (c : Contents) (own_of : HostId
         ]
 
     asked' : (p : Part) (f : FetchOf) (k : Need) → site f.fid ≡ v → HasSaid A f → Asking A f.fid.fileset f.number
-        → In k f.needs → shows k.kind p ≡ true → Pending c A f.fid p → (Away (a ∷ S) h → ⊥)
+        → In k f.needs → shows k.kind p ≡ true → Pending c A f.fid p → (HasGoneAway (a ∷ S) h → ⊥)
         → IsDirectory c (d ∷ D) f.fid
     asked' p f k home was asking m cov u live =
-        let up : Away S h → ⊥ = λ z. live (inr z) in
+        let up : HasGoneAway S h → ⊥ = λ z. live (inr z) in
         let w = owner h p f.fid home up (pending_owned c A (o.seen h) p f.fid u) in
         dir_on f.fid w.token w.owed w.file ((o.shown h).asked p f k home was asking m cov u up)
 
     asked_given' : (p : Part) (f : FetchOf) (x : Seen p) (k : Need) (g : Give) → site f.fid ≡ v → HasSaid A f
         → Asking A f.fid.fileset f.number → In k f.needs → shows k.kind p ≡ true → Open c A v (a ∷ S) h f.fid p x g
-        → (Away (a ∷ S) h → ⊥) → IsDirectory c (d ∷ D) f.fid
+        → (HasGoneAway (a ∷ S) h → ⊥) → IsDirectory c (d ∷ D) f.fid
     asked_given' p f x k g home was asking m cov y live =
-        let up : Away S h → ⊥ = λ z. live (inr z) in
+        let up : HasGoneAway S h → ⊥ = λ z. live (inr z) in
         let w = giver h p f.fid x g home up (before h p f.fid x g y) in
         dir_on f.fid w.token w.owed w.file
         ((o.shown h).asked_given p f x k g home was asking m cov (before h p f.fid x g y) up)
@@ -464,7 +459,7 @@ module _ (c : Contents) (own_of : HostId
     blind' e n p w t (inr q) m cov = (o.shown h).blind e n p w t q m cov
 
     -- a host's unsaved byte stays, but where it is stored
-    stays : (q : ℕ) (f : Fid) (x : ℕ) → site f ≡ v → (Away (a ∷ S) h → ⊥) → (cells f (ByteAt q)).unsaved ≡ Some (by h x)
+    stays : (q : ℕ) (f : Fid) (x : ℕ) → site f ≡ v → (HasGoneAway (a ∷ S) h → ⊥) → (cells f (ByteAt q)).unsaved ≡ Some (by h x)
         → ((y : ℕ) (r : Storing f (ByteAt q) y) → r.host ≡ h → ⊥) → (cells' f (ByteAt q)).unsaved ≡ Some (by h x)
     stays q f x home live i none = go (d.does f (ByteAt q)) refl
       where
@@ -480,7 +475,7 @@ module _ (c : Contents) (own_of : HostId
         go (Loses k) e = lost_same k (cells f (ByteAt q)).unsaved
             (λ u j w. live (goes_down f (ByteAt q) k h e (sym w ∙ (by_same u.writer h u.value x (sym j ∙ i)).0))) ∙ i
 
-    dirty_is' : (q : ℕ) (f : Fid) → site f ≡ v → dirty c A f q ≡ true → (Away (a ∷ S) h → ⊥)
+    dirty_is' : (q : ℕ) (f : Fid) → site f ≡ v → dirty c A f q ≡ true → (HasGoneAway (a ∷ S) h → ⊥)
         → (cells' f (ByteAt q)).unsaved ≡ Some (by h (view c A f (ByteAt q)))
     dirty_is' q f home k live = stays q f (view c A f (ByteAt q)) home live
         ((o.shown h).dirty_is q f home k (λ w. live (inr w)))
@@ -488,7 +483,7 @@ module _ (c : Contents) (own_of : HostId
         (subst (λ j. OwnsUpdate (own_of j) f (ByteAt q)) (sym same) ((o.seen h).dirty_owned q f k)))
 
     open_is' : (q : ℕ) (f : Fid) (x : ℕ) (g : Give) → site f ≡ v → Open c A v (a ∷ S) h f (ByteAt q) x g
-        → (Away (a ∷ S) h → ⊥) → (cells' f (ByteAt q)).unsaved ≡ Some (by h x)
+        → (HasGoneAway (a ∷ S) h → ⊥) → (cells' f (ByteAt q)).unsaved ≡ Some (by h x)
     open_is' q f x g home k live = stays q f x home live
         ((o.shown h).open_is q f x g home (before h (ByteAt q) f x g k) (λ w. live (inr w))) applied
       where
@@ -514,15 +509,15 @@ module _ (c : Contents) (own_of : HostId
               (λ e. two (sym y.host ∙ e))))
         ]
 
-    size_open' : (f : Fid) (x : ℕ) (g : Give) → site f ≡ v → Open c A v (a ∷ S) h f Size x g → (Away (a ∷ S) h → ⊥)
+    size_open' : (f : Fid) (x : ℕ) (g : Give) → site f ≡ v → Open c A v (a ∷ S) h f Size x g → (HasGoneAway (a ∷ S) h → ⊥)
         → ((cells' f Size).kept ≤ x) × (x ≤ present (cells' f Size))
     size_open' f x g home k live = (
       go (d.does f Size) refl,
       subst (λ y. x ≤ y) (same_present Size f w.token home w.owed
-          (subst (λ j. Away (a ∷ S) j → ⊥) (sym w.host) live) w.file w.covers) old.1,
+          (subst (λ j. HasGoneAway (a ∷ S) j → ⊥) (sym w.host) live) w.file w.covers) old.1,
     )
       where
-        up : Away S h → ⊥
+        up : HasGoneAway S h → ⊥
         up = λ q. live (inr q)
 
         w : Writes v S h f Size
@@ -554,7 +549,7 @@ module _ (c : Contents) (own_of : HostId
         go (Loses j) e = old.0
 
     settled' : (f : Fid) (g : Give) → site f ≡ v → OwnsUpdate A f Size → MadeSince A f g → Made A g → g.fid ≡ f
-        → c.gives g Size ≡ Some (view c A f Size) → Applied v (a ∷ S) h (number_of g) → (Away (a ∷ S) h → ⊥)
+        → c.gives g Size ≡ Some (view c A f Size) → IsApplied v (a ∷ S) h (number_of g) → (HasGoneAway (a ∷ S) h → ⊥)
         → (cells' f Size).unsaved ≡ None
     settled' f g home u m was file has applied live =
         elim (applied_cases h g (ap site file ∙ home) was applied) [
@@ -562,10 +557,10 @@ module _ (c : Contents) (own_of : HostId
           | inr t ↦ none_of (cells' f Size).unsaved (now t)
         ]
       where
-        up : Away S h → ⊥
+        up : HasGoneAway S h → ⊥
         up = λ q. live (inr q)
 
-        stay : Applied v S h (number_of g) → (cells' f Size).unsaved ≡ None
+        stay : IsApplied v S h (number_of g) → (cells' f Size).unsaved ≡ None
         stay r = none_stays Size (d.does f Size) (cells f Size) ((o.shown h).settled f g home u m was file has r up)
 
         sees : view c A f Size ≡ present (cells f Size)
@@ -575,7 +570,7 @@ module _ (c : Contents) (own_of : HostId
         -- it is stored now, or it was before
         now : TakesOf v S a h g.fid.fileset (GiveBack g) → (w : Written ℕ) → (cells' f Size).unsaved ≡ Some w → ⊥
         now t w e =
-            let fresh : Applied v S h (number_of g) → ⊥ = λ r. none_some (cells' f Size).unsaved w (stay r) e in
+            let fresh : IsApplied v S h (number_of g) → ⊥ = λ r. none_some (cells' f Size).unsaved w (stay r) e in
             let old = (unsaved_was Size (d.does f Size) (cells f Size) w e).0 in
             let does : d.does f Size ≡ Stores (view c A f Size) =
             stored_size h f (view c A f Size) g
@@ -598,7 +593,7 @@ module _ (c : Contents) (own_of : HostId
         go (Loses j) e = lt
 
     -- a size on its way stays so, or it is kept now
-    goes_on : (q : ℕ) (f : Fid) (y : ℕ) (r : Give) → site f ≡ v → (Away S h → ⊥)
+    goes_on : (q : ℕ) (f : Fid) (y : ℕ) (r : Give) → site f ≡ v → (HasGoneAway S h → ⊥)
         → ((x : ℕ) → d.does f Size ≡ Sets x → ⊥) → Open c A v S h f Size y r → q < y → Open c A v (a ∷ S) h f Size y r
         ⊎ (q < (cells' f Size).kept)
     goes_on q f y r home up never k lt = pick (cells f Size).unsaved refl
@@ -625,16 +620,16 @@ module _ (c : Contents) (own_of : HostId
                   | inr two ↦ inl (stay (λ i. two (let z : Stores x ≡ Stores y = sym e ∙ i in cc)))
                 ]
 
-    no_cut : (q : ℕ) (f : Fid) (x : ℕ) (g : Give) → site f ≡ v → (Away S h → ⊥) → Open c A v S h f (ByteAt q) x g
+    no_cut : (q : ℕ) (f : Fid) (x : ℕ) (g : Give) → site f ≡ v → (HasGoneAway S h → ⊥) → Open c A v S h f (ByteAt q) x g
         → (y : ℕ) → d.does f Size ≡ Sets y → ⊥
     no_cut q f x g home up k y e = let w = giver h (ByteAt q) f x g home up k in
         no_sets_whole f y q w.token home e w.owed w.file w.covers
 
     open_below' : (q : ℕ) (f : Fid) (x : ℕ) (g : Give) → site f ≡ v → Open c A v (a ∷ S) h f (ByteAt q) x g
-        → (Away (a ∷ S) h → ⊥) → (q < (cells' f Size).kept)
+        → (HasGoneAway (a ∷ S) h → ⊥) → (q < (cells' f Size).kept)
         ⊎ ((y : ℕ) × (r : Give) × Open c A v (a ∷ S) h f Size y r × (q < y) × (r.number ≤ g.number))
     open_below' q f x g home k live =
-        let up : Away S h → ⊥ = λ w. live (inr w) in
+        let up : HasGoneAway S h → ⊥ = λ w. live (inr w) in
         let never = no_cut q f x g home up (before h (ByteAt q) f x g k) in
         elim ((o.shown h).open_below q f x g home (before h (ByteAt q) f x g k) up) [
           | inl lt ↦ inl (kept_on q f home never lt)
@@ -794,7 +789,7 @@ module _ (c : Contents) (own_of : HostId
       → Open c (own_of h) v S h g.fid p x g
   on_way_now h g p x k has = record { made = made h g.fid.fileset g k.0; file = refl; has = has; not_applied = k.1 }
 
-  live_now : (h : HostId) (g : Give) → Applies v S a h g → Away S h → ⊥
+  live_now : (h : HostId) (g : Give) → Applies v S a h g → HasGoneAway S h → ⊥
   live_now h g k = taken_live v S a h g.fid.fileset (GiveBack g) k.0
 
   sizes' : (h : HostId) (g : Give) (x : ℕ) → site g.fid ≡ v → Applies v S a h g → c.gives g Size ≡ Some x

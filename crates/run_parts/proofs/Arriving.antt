@@ -7,16 +7,15 @@ use Rattle.message_types.specs.declared.message.Body.{Body}
 use Rattle.message_types.specs.declared.message.Body.TheVariants.{Done, Grant}
 use Rattle.message_types.specs.declared.telling.Bring.{Bring}
 use Rattle.token_types.specs.declared.token.Token.{Token}
-use Rattle.run_rules.specs.Acts.{Act, SentTo}
-use Rattle.run_rules.specs.Epochs.{ComesIn, epoch_at}
-use Rattle.run_rules.specs.Floors.{AboveFloor, Answers, Uses}
-use Rattle.run_rules.specs.Lists.{In}
-use Rattle.run_rules.specs.Places.{home}
-use Rattle.run_rules.specs.Tokens.{Left}
+use Rattle.run_rules.specs.Doings.{Doing, SentTo}
+use Rattle.run_rules.specs.Messages.{ComesIn, epoch_at, home}
+use Rattle.run_rules.specs.Past.{In}
+use Rattle.run_rules.specs.Tokens.{AboveFloor, AnswersRequest, Uses}
+use Rattle.run_tokens.specs.TokenLaws.{HasLeftHost}
 use Rattle.run_rules.specs.declared.step.Step.{Step}
 use Rattle.run_tokens.proofs.Invariant.{Brought, Link, Served}
 
-module _ (h : HostId) (A : List Step) (S : ServerId → List Act) (s : Step) (served : (v : ServerId) → Served v (S v))
+module _ (h : HostId) (A : List Step) (S : ServerId → List Doing) (s : Step) (served : (v : ServerId) → Served v (S v))
     (link : (v : ServerId) → Link h v A (S v))
     (came : (v : ServerId) (e n : ℕ) (b : Body) → ComesIn s v e n b → SentTo (S v) h e n b) where
   abbrev at : Bring → ServerId
@@ -25,7 +24,7 @@ module _ (h : HostId) (A : List Step) (S : ServerId → List Act) (s : Step) (se
   abbrev BroughtAt : Bring → Token → Type 0
   BroughtAt w t = Brought (S (at w)) h (epoch_at A (at w)) w 0 t
 
-  brought : (w : Bring) (t : Token) → Answers A s w → In t w.tokens → BroughtAt w t
+  brought : (w : Bring) (t : Token) → AnswersRequest A s w → In t w.tokens → BroughtAt w t
   brought w t (inl (g, c, e, _)) i =
       subst (λ (b : Bring). Brought (S (at w)) h (epoch_at A (at w)) b 0 t) e
       ((served (at w)).grants h (epoch_at A (at w)) 0 g t (came (at w) (epoch_at A (at w)) 0 (Grant g) c)
@@ -35,7 +34,7 @@ module _ (h : HostId) (A : List Step) (S : ServerId → List Act) (s : Step) (se
       ((served (at w)).dones h (epoch_at A (at w)) 0 d t (came (at w) (epoch_at A (at w)) 0 (Done d) c)
       (subst (λ (b : Bring). In t b.tokens) (sym e) i))
 
-  pub unreturned : (w : Bring) (t : Token) → Uses A s w → In t w.tokens → Left A t.id → ⊥
+  pub unreturned : (w : Bring) (t : Token) → Uses A s w → In t w.tokens → HasLeftHost A t.id → ⊥
   unreturned w t uses i l =
       let b = brought w t uses.0 i in
       let x = (link (at w)).left t.id ((served (at w)).id t _ b.issued) l in

@@ -19,16 +19,10 @@ use Rattle.message_types.specs.declared.telling.Done.{Done as DoneOf}
 use Rattle.message_types.specs.declared.giving.Give.{Give}
 use Rattle.message_types.specs.declared.giving.AppliedGive.{AppliedGive}
 use Rattle.run_rules.specs.declared.step.Step.{Step}
-use Rattle.run_rules.specs.Lists.{In}
-use Rattle.run_rules.specs.Epochs.{epoch_at}
-use Rattle.run_rules.specs.Gives.{Made, IsKnown, number_of}
-use Rattle.run_rules.specs.Tokens.{Owns}
-use Rattle.run_rules.specs.Requests.{Asking}
-use Rattle.run_rules.specs.Sends.{HasSaid as HasTold}
-use Rattle.run_rules.specs.Floors.{AboveFloor}
-use Rattle.run_rules.specs.Acts.{Act, SentTo}
-use Rattle.run_rules.specs.Hosts.{Away, TakesOf}
-use Rattle.run_rules.specs.Grants.{Mark, Issued, Applied}
+use Rattle.run_rules.specs.Doings.{Doing, HasGoneAway, IsApplied, Issued, SentTo, StayStamp, TakesOf}
+use Rattle.run_rules.specs.Messages.{Asking, HasSaid as HasTold, epoch_at}
+use Rattle.run_rules.specs.Past.{In}
+use Rattle.run_rules.specs.Tokens.{AboveFloor, IsKnown, Made, Owns, number_of}
 use Rattle.run_tokens.proofs.Owed.{Owed}
 use Rattle.run_tokens.proofs.Invariant.{Served, Link}
 use Rattle.tree_laws.specs.Parts.{Nature, Part, Seen, Written, present}
@@ -55,22 +49,22 @@ abbrev pub IsDirectory : Contents → List Deed → Fid → Type 0
 IsDirectory c D f = (n : Nature) × (kept c D f Traits ≡ Some n) × (n.dir ≡ true)
 
 -- the host's give-back has the value, and the server hasn't applied it
-pub record Open (c : Contents) (A : List Step) (v : ServerId) (S : List Act) (h : HostId) (f : Fid) (p : Part)
+pub record Open (c : Contents) (A : List Step) (v : ServerId) (S : List Doing) (h : HostId) (f : Fid) (p : Part)
     (x : Seen p) (g : Give) : Type 0 where
   pub made : Made A g
   pub file : g.fid ≡ f
   pub has : c.gives g p ≡ Some x
-  pub not_applied : Applied v S h (number_of g) → ⊥
+  pub not_applied : IsApplied v S h (number_of g) → ⊥
 
 -- a give-back that isn't applied, of this number or a later one, names a token for update of the part
-pub record Leaving (A : List Step) (v : ServerId) (S : List Act) (h : HostId) (f : Fid) (p : Part)
+pub record Leaving (A : List Step) (v : ServerId) (S : List Doing) (h : HostId) (f : Fid) (p : Part)
     (n : ℕ) : Type 0 where
   pub give : Give
   pub token : Token
-  pub mark : Mark
+  pub mark : StayStamp
   pub made : Made A give
   pub same : give.fid ≡ f
-  pub not_applied : Applied v S h (number_of give) → ⊥
+  pub not_applied : IsApplied v S h (number_of give) → ⊥
   pub issued : Issued S token mark
   pub names : In token.id give.ids
   pub file : token.fid ≡ f
@@ -83,34 +77,34 @@ pub record Shown (c : Contents) (h : HostId) (A : List Step) (cells : Cells) (v 
     (D : List Deed) : Type 0 where
   -- at any part. The view under an owned token, and what a Grant of the host's present epoch tells that answers the
   -- outstanding Fetch above the floor, is what is present
-  pub cached : (p : Part) (t : Token) → site t.fid ≡ v → Owns A t → shows t.kind p ≡ true → (Away (acts_in D) h → ⊥)
+  pub cached : (p : Part) (t : Token) → site t.fid ≡ v → Owns A t → shows t.kind p ≡ true → (HasGoneAway (acts_in D) h → ⊥)
       → view c A t.fid p ≡ present (cells t.fid p)
   pub flight : (e n : ℕ) (p : Part) (w : GrantOf) (t : Token) → site w.bring.fid ≡ v
       → SentTo (acts_in D) h e n (Grant w) → e ≡ epoch_at A v → Asking A w.bring.fid.fileset w.bring.number
-      → AboveFloor A w.bring.fid w.bring.stamp → In t w.bring.tokens → shows t.kind p ≡ true → (Away (acts_in D) h → ⊥)
+      → AboveFloor A w.bring.fid w.bring.stamp → In t w.bring.tokens → shows t.kind p ≡ true → (HasGoneAway (acts_in D) h → ⊥)
       → c.tells w p ≡ present (cells w.bring.fid p)
   -- what it has unsaved is pending, or on its way; it isn't away
   pub mine : (p : Part) (f : Fid) (x : Seen p) → site f ≡ v → (cells f p).unsaved ≡ Some (by h x)
-      → (Away (acts_in D) h → ⊥) × (Pending c A f p ⊎ ((g : Give) × Open c A v (acts_in D) h f p x g))
+      → (HasGoneAway (acts_in D) h → ⊥) × (Pending c A f p ⊎ ((g : Give) × Open c A v (acts_in D) h f p x g))
   -- what is on its way is under a token for update that is there or leaves no earlier
   pub open_under : (p : Part) (f : Fid) (x : Seen p) (g : Give) → site f ≡ v → Open c A v (acts_in D) h f p x g
       → OwnsUpdate A f p ⊎ Leaving A v (acts_in D) h f p g.number
   -- the outstanding Fetch asks for nothing of a file that may be unsaved, and for nothing on its way
   pub asked : (p : Part) (f : FetchOf) (k : Need) → site f.fid ≡ v → HasSaid A f → Asking A f.fid.fileset f.number
-      → In k f.needs → shows k.kind p ≡ true → Pending c A f.fid p → (Away (acts_in D) h → ⊥) → IsDirectory c D f.fid
+      → In k f.needs → shows k.kind p ≡ true → Pending c A f.fid p → (HasGoneAway (acts_in D) h → ⊥) → IsDirectory c D f.fid
   pub asked_given : (p : Part) (f : FetchOf) (x : Seen p) (k : Need) (g : Give) → site f.fid ≡ v → HasSaid A f
       → Asking A f.fid.fileset f.number → In k f.needs → shows k.kind p ≡ true → Open c A v (acts_in D) h f.fid p x g
-      → (Away (acts_in D) h → ⊥) → IsDirectory c D f.fid
+      → (HasGoneAway (acts_in D) h → ⊥) → IsDirectory c D f.fid
   pub asked_for : (e n : ℕ) (w : GrantOf) → SentTo (acts_in D) h e n (Grant w) → (f : FetchOf) × HasSaid A f
       × (f.number ≡ w.bring.number) × (f.fid ≡ w.bring.fid)
       × ((t : Token) → In t w.bring.tokens → In (need_of t) f.needs)
   pub blind : (e n : ℕ) (p : Part) (w : DoneOf) (t : Token) → SentTo (acts_in D) h e n (Done w) → In t w.bring.tokens
       → shows t.kind p ≡ true → ⊥
   -- bytes. A dirty one, and one on its way, is unsaved
-  pub dirty_is : (q : ℕ) (f : Fid) → site f ≡ v → dirty c A f q ≡ true → (Away (acts_in D) h → ⊥)
+  pub dirty_is : (q : ℕ) (f : Fid) → site f ≡ v → dirty c A f q ≡ true → (HasGoneAway (acts_in D) h → ⊥)
       → (cells f (ByteAt q)).unsaved ≡ Some (by h (view c A f (ByteAt q)))
   pub open_is : (q : ℕ) (f : Fid) (x : ℕ) (g : Give) → site f ≡ v → Open c A v (acts_in D) h f (ByteAt q) x g
-      → (Away (acts_in D) h → ⊥) → (cells f (ByteAt q)).unsaved ≡ Some (by h x)
+      → (HasGoneAway (acts_in D) h → ⊥) → (cells f (ByteAt q)).unsaved ≡ Some (by h x)
   -- while a byte is on its way its host owns no token for update over it, and it is on its way once
   pub open_free : (q : ℕ) (f : Fid) (x : ℕ) (g : Give) → site f ≡ v → Open c A v (acts_in D) h f (ByteAt q) x g
       → OwnsUpdate A f (ByteAt q) → ⊥
@@ -118,19 +112,19 @@ pub record Shown (c : Contents) (h : HostId) (A : List Step) (cells : Cells) (v 
       → Open c A v (acts_in D) h f (ByteAt q) y k → g ≡ k
   -- sizes. One on its way is between the kept and the present one, and a later one isn't below it
   pub size_open : (f : Fid) (x : ℕ) (g : Give) → site f ≡ v → Open c A v (acts_in D) h f Size x g
-      → (Away (acts_in D) h → ⊥) → ((cells f Size).kept ≤ x) × (x ≤ present (cells f Size))
+      → (HasGoneAway (acts_in D) h → ⊥) → ((cells f Size).kept ≤ x) × (x ≤ present (cells f Size))
   pub open_order : (f : Fid) (x y : ℕ) (g k : Give) → site f ≡ v → Open c A v (acts_in D) h f Size x g
-      → Open c A v (acts_in D) h f Size y k → (Away (acts_in D) h → ⊥) → g.number ≤ k.number → x ≤ y
+      → Open c A v (acts_in D) h f Size y k → (HasGoneAway (acts_in D) h → ⊥) → g.number ≤ k.number → x ≤ y
   -- since the token was taken, no size that was given back is above the present one; where that one is applied, nothing
   -- is unsaved
   pub since_le : (f : Fid) (x : ℕ) (g : Give) → site f ≡ v → OwnsUpdate A f Size → MadeSince A f g → g.fid ≡ f
-      → c.gives g Size ≡ Some x → (Away (acts_in D) h → ⊥) → x ≤ view c A f Size
+      → c.gives g Size ≡ Some x → (HasGoneAway (acts_in D) h → ⊥) → x ≤ view c A f Size
   pub settled : (f : Fid) (g : Give) → site f ≡ v → OwnsUpdate A f Size → MadeSince A f g → Made A g → g.fid ≡ f
-      → c.gives g Size ≡ Some (view c A f Size) → Applied v (acts_in D) h (number_of g) → (Away (acts_in D) h → ⊥)
+      → c.gives g Size ≡ Some (view c A f Size) → IsApplied v (acts_in D) h (number_of g) → (HasGoneAway (acts_in D) h → ⊥)
       → (cells f Size).unsaved ≡ None
   -- both. A byte on its way lies below the kept size, or below one on its way that is applied no later
   pub open_below : (q : ℕ) (f : Fid) (x : ℕ) (g : Give) → site f ≡ v → Open c A v (acts_in D) h f (ByteAt q) x g
-      → (Away (acts_in D) h → ⊥) → (q < (cells f Size).kept)
+      → (HasGoneAway (acts_in D) h → ⊥) → (q < (cells f Size).kept)
       ⊎ ((y : ℕ) × (r : Give) × Open c A v (acts_in D) h f Size y r × (q < y) × (r.number ≤ g.number))
 
 -- of the tree and the server
@@ -182,7 +176,7 @@ conflict_at p t u two same a b up =
     (tokens_show_parts.conflict (need_of t) (need_of u ∷ []) p a update))
 
 -- a token for update over the part is owed to the host
-pub record Writes (v : ServerId) (S : List Act) (h : HostId) (f : Fid) (p : Part) : Type 0 where
+pub record Writes (v : ServerId) (S : List Doing) (h : HostId) (f : Fid) (p : Part) : Type 0 where
   pub token : Token
   pub owed : Owed v S token
   pub host : token.host ≡ h
@@ -191,7 +185,7 @@ pub record Writes (v : ServerId) (S : List Act) (h : HostId) (f : Fid) (p : Part
   pub update : is_update token.kind ≡ true
 
 -- no other host is owed a token over the part then
-pub alone_there : (v : ServerId) (S : List Act) → Served v S → (h : HostId) (p : Part) (f : Fid) (t : Token)
+pub alone_there : (v : ServerId) (S : List Doing) → Served v S → (h : HostId) (p : Part) (f : Fid) (t : Token)
     → Writes v S h f p → Owed v S t → t.fid ≡ f → shows t.kind p ≡ true → (t.host ≡ h → ⊥) → ⊥
 alone_there v S served h p f t w o same cov two =
     served.apart t w.token o w.owed
@@ -207,13 +201,13 @@ pending_owned c A seen Entries f d = elim d [ ]
 module _ (c : Contents) (h : HostId) (A : List Step) (cells : Cells) (v : ServerId) (D : List Deed)
     (served : Served v (acts_in D)) (link : Link h v A (acts_in D)) (seen : Alike c A)
     (shown : Shown c h A cells v D) where
-  pub owner_writes : (p : Part) (f : Fid) → site f ≡ v → (Away (acts_in D) h → ⊥) → OwnsUpdate A f p
+  pub owner_writes : (p : Part) (f : Fid) → site f ≡ v → (HasGoneAway (acts_in D) h → ⊥) → OwnsUpdate A f p
       → Writes v (acts_in D) h f p
   owner_writes p f home live u =
       let x = link.held u.token (seen.owned_at u.token u.owned ∙ (ap site u.file ∙ home)) u.owned in
       record { token = u.token; owed = x.owed live; host = x.host; file = u.file; covers = u.covers; update = u.update }
 
-  pub open_writes : (p : Part) (f : Fid) (x : Seen p) (g : Give) → site f ≡ v → (Away (acts_in D) h → ⊥)
+  pub open_writes : (p : Part) (f : Fid) (x : Seen p) (g : Give) → site f ≡ v → (HasGoneAway (acts_in D) h → ⊥)
       → Open c A v (acts_in D) h f p x g → Writes v (acts_in D) h f p
   open_writes p f x g home live o = elim (shown.open_under p f x g home o) [
     | inl u ↦ owner_writes p f home live u
@@ -245,12 +239,12 @@ module _ (c : Contents) (h : HostId) (A : List Step) (cells : Cells) (v : Server
       ]
 
 -- what is barred isn't owed
-pub barred : (v : ServerId) (S : List Act) → Served v S → (t : Token) → Bars v S t → Owed v S t → ⊥
+pub barred : (v : ServerId) (S : List Doing) → Served v S → (t : Token) → Bars v S t → Owed v S t → ⊥
 barred v S served t b o = b.1 (served.owed_granted t o (b.0 t.host (served.owed_live t o)))
 
 -- what is applied is so with all below it
-pub applied_below : (v : ServerId) (S : List Act) (h : HostId) (n m : AppliedGive) → m.fileset ≡ n.fileset
-    → m.number ≤ n.number → Applied v S h n → Applied v S h m
+pub applied_below : (v : ServerId) (S : List Doing) (h : HostId) (n m : AppliedGive) → m.fileset ≡ n.fileset
+    → m.number ≤ n.number → IsApplied v S h n → IsApplied v S h m
 applied_below v [] h n m same le e = elim e [ ]
 applied_below v (a ∷ S) h n m same le (inl (g, t, f, l)) =
     inl (g, subst (λ fs. TakesOf v S a h fs (GiveBack g)) (sym same) t, f ∙ sym same, omega (arith, le, l))

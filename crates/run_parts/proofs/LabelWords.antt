@@ -8,12 +8,11 @@ use Rattle.message_types.specs.declared.message.Body.TheVariants.{Kept}
 use Rattle.message_types.specs.declared.tokens.Named.{Named}
 use Rattle.token_types.specs.declared.token.Token.{Token}
 use Rattle.token_types.specs.declared.token.TokenId.{TokenId}
-use Rattle.run_rules.specs.Acts.{Act}
-use Rattle.run_rules.specs.Grants.{Granted, Pinned}
-use Rattle.run_rules.specs.Hosts.{TookEver}
-use Rattle.run_rules.specs.Lists.{In, Once}
-use Rattle.run_rules.specs.Sends.{Keeps, Said}
+use Rattle.run_rules.specs.Doings.{Doing, Granted, Pinned}
+use Rattle.run_rules.specs.Messages.{KeepsToken, Said}
+use Rattle.run_rules.specs.Past.{In, Once}
 use Rattle.run_rules.specs.Tokens.{EverHeld, Owns}
+use Rattle.run_tokens.specs.TokenLaws.{TookEver}
 use Rattle.run_rules.specs.declared.step.Labelled.{Labelled}
 use Rattle.run_rules.specs.declared.step.Step.{Step}
 
@@ -23,7 +22,7 @@ HasBegun past u = Once (λ before s. In u s.begun) past
 
 -- a Kept of an earlier step named the token
 abbrev pub HadKept : List Step → TokenId → Type 0
-HadKept past i = Once (λ before s. Keeps s i) past
+HadKept past i = Once (λ before s. KeepsToken s i) past
 
 pub said_kept : (A : List Step) (v : ServerId) (e n : ℕ) (w : Named) (i : TokenId) → Said A v e n (Kept w)
     → In i w.ids → HadKept A i
@@ -32,12 +31,12 @@ said_kept (s ∷ A) v e n w i (inl p) m = inl (v, e, n, w, p, m)
 said_kept (s ∷ A) v e n w i (inr p) m = inr (said_kept A v e n w i p m)
 
 -- what is pinned was named by a Kept that was taken, and is granted
-pub record KeptOnce (v : ServerId) (S : List Act) (t : Token) : Type 0 where
+pub record KeptOnce (v : ServerId) (S : List Doing) (t : Token) : Type 0 where
   pub named : Named
   pub took : TookEver v S t.host named.fid.fileset (Kept named)
   pub names : In t.id named.ids
 
-pub pinned_kept : (v : ServerId) (S : List Act) (t : Token) → Pinned v S t → KeptOnce v S t
+pub pinned_kept : (v : ServerId) (S : List Doing) (t : Token) → Pinned v S t → KeptOnce v S t
 pinned_kept v [] t p = elim p [ ]
 pinned_kept v (a ∷ S) t (inl (w, took, names, kind, granted), _) =
     record { named = w; took = inl took; names = names }
@@ -45,7 +44,7 @@ pinned_kept v (a ∷ S) t (inr p, _) =
     let k = pinned_kept v S t p in
     record { named = k.named; took = inr k.took; names = k.names }
 
-pub pinned_granted : (v : ServerId) (S : List Act) (t : Token) → Pinned v S t → Granted v S t
+pub pinned_granted : (v : ServerId) (S : List Doing) (t : Token) → Pinned v S t → Granted v S t
 pinned_granted v [] t p = elim p [ ]
 pinned_granted v (a ∷ S) t p = p.1
 

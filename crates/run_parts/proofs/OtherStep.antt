@@ -9,12 +9,10 @@ use Rattle.message_types.specs.declared.message.Body.TheVariants.{Grant}
 use Rattle.message_types.specs.declared.telling.Grant.{Grant as GrantOf}
 use Rattle.message_types.specs.declared.giving.Give.{Give}
 use Rattle.run_rules.specs.declared.step.Step.{Step}
-use Rattle.run_rules.specs.Lists.{In}
-use Rattle.run_rules.specs.Epochs.{epoch_at}
-use Rattle.run_rules.specs.Requests.{Asking}
-use Rattle.run_rules.specs.Floors.{AboveFloor}
-use Rattle.run_rules.specs.Acts.{Act, SentTo}
-use Rattle.run_rules.specs.Hosts.{Away}
+use Rattle.run_rules.specs.Doings.{Doing, HasGoneAway, SentTo}
+use Rattle.run_rules.specs.Messages.{Asking, epoch_at}
+use Rattle.run_rules.specs.Past.{In}
+use Rattle.run_rules.specs.Tokens.{AboveFloor}
 use Rattle.run_tokens.proofs.Owed.{Owed}
 use Rattle.run_tokens.proofs.Invariant.{Served, Link}
 use Rattle.tree_laws.specs.Parts.{Part, Seen, Cell, present}
@@ -34,7 +32,7 @@ module _ (c : Contents) (j : HostId) (v : ServerId) (B : List Step) (k : HostId)
     (seen : Alike c B) (shown : Shown c j B cells v D) (two : j ≡ k → ⊥) (foreign : (p : Part) (x : Seen p) (t : Token)
     → site t.fid ≡ v → Owed v (acts_in D) t → (t.host ≡ k → ⊥) → shows t.kind p ≡ true → wrote t.fid p ≡ Some x
     → ⊥) where
-  abbrev S : List Act
+  abbrev S : List Doing
   S = acts_in D
 
   unwritten_under : (p : Part) (f : Fid) (t : Token) → site f ≡ v → Owed v S t → t.host ≡ j → t.fid ≡ f
@@ -47,25 +45,25 @@ module _ (c : Contents) (j : HostId) (v : ServerId) (B : List Step) (k : HostId)
   unwritten_by : (p : Part) (f : Fid) → site f ≡ v → Writes v S j f p → cells f p ≡ written k (wrote f p) (cells f p)
   unwritten_by p f home w = unwritten_under p f w.token home w.owed w.host w.file w.covers
 
-  owner : (p : Part) (f : Fid) → site f ≡ v → (Away S j → ⊥) → OwnsUpdate B f p → Writes v S j f p
+  owner : (p : Part) (f : Fid) → site f ≡ v → (HasGoneAway S j → ⊥) → OwnsUpdate B f p → Writes v S j f p
   owner = owner_writes c j B cells v D served link seen shown
 
-  giver : (p : Part) (f : Fid) (x : Seen p) (g : Give) → site f ≡ v → (Away S j → ⊥) → Open c B v S j f p x g
+  giver : (p : Part) (f : Fid) (x : Seen p) (g : Give) → site f ≡ v → (HasGoneAway S j → ⊥) → Open c B v S j f p x g
       → Writes v S j f p
   giver = open_writes c j B cells v D served link seen shown
 
   mine' : (p : Part) (f : Fid) (x : Seen p) → site f ≡ v → (written k (wrote f p) (cells f p)).unsaved ≡ Some (by j x)
-      → (Away S j → ⊥) × (Pending c B f p ⊎ ((g : Give) × Open c B v S j f p x g))
+      → (HasGoneAway S j → ⊥) × (Pending c B f p ⊎ ((g : Give) × Open c B v S j f p x g))
   mine' p f x home = go (wrote f p)
     where
-      go : (o : Option (Seen p)) → (written k o (cells f p)).unsaved ≡ Some (by j x) → (Away S j → ⊥)
+      go : (o : Option (Seen p)) → (written k o (cells f p)).unsaved ≡ Some (by j x) → (HasGoneAway S j → ⊥)
           × (Pending c B f p ⊎ ((g : Give) × Open c B v S j f p x g))
       go None e = shown.mine p f x home e
       go (Some y) e = absurd (two (sym (by_same k j y x e).0))
 
   flight' : (e n : ℕ) (p : Part) (w : GrantOf) (t : Token) → site w.bring.fid ≡ v → SentTo S j e n (Grant w)
       → e ≡ epoch_at B v → Asking B w.bring.fid.fileset w.bring.number → AboveFloor B w.bring.fid w.bring.stamp
-      → In t w.bring.tokens → shows t.kind p ≡ true → (Away S j → ⊥)
+      → In t w.bring.tokens → shows t.kind p ≡ true → (HasGoneAway S j → ⊥)
       → c.tells w p ≡ present (written k (wrote w.bring.fid p) (cells w.bring.fid p))
   flight' e n p w t home sent now asking above m cov up =
       let i = served.grants j e n w t sent m in

@@ -7,11 +7,9 @@ use Rattle.base_types.specs.declared.ids.ServerId.{ServerId}
 use Rattle.base_types.specs.declared.ids.Fid.{Fid}
 use Rattle.message_types.specs.declared.giving.Give.{Give}
 use Rattle.run_rules.specs.declared.step.Step.{Step}
-use Rattle.run_rules.specs.Lists.{In}
-use Rattle.run_rules.specs.Gives.{Made, number_of}
-use Rattle.run_rules.specs.Acts.{Act}
-use Rattle.run_rules.specs.Hosts.{Away}
-use Rattle.run_rules.specs.Grants.{Applied}
+use Rattle.run_rules.specs.Doings.{Doing, HasGoneAway, IsApplied}
+use Rattle.run_rules.specs.Past.{In}
+use Rattle.run_rules.specs.Tokens.{Made, number_of}
 use Rattle.tree_laws.specs.Parts.{Part, Seen, Written, Cell, present}
 use Rattle.tree_laws.specs.Parts.Part.{ByteAt, Size, Traits}
 use Rattle.run_parts.specs.Cells.{by, value_of, written}
@@ -29,7 +27,7 @@ use Rattle.run_parts.proofs.OwnStep.{known_file}
 
 module _ (c : Contents) (h : HostId) (v : ServerId) (A : List Step) (s : Step) (cells : Cells) (D : List Deed)
     (o : Own c h v A s cells D) where
-  abbrev S : List Act
+  abbrev S : List Doing
   S = acts_in D
 
   abbrev new_cells : Cells
@@ -39,7 +37,7 @@ module _ (c : Contents) (h : HostId) (v : ServerId) (A : List Step) (s : Step) (
       → (new_cells f p).unsaved ≡ (cells f p).unsaved
   same_unsaved p f never = ap (λ (z : Cell (Seen p)). z.unsaved) (sym (same_cell c h v A s cells D o p f never))
 
-  dirty_is' : (q : ℕ) (f : Fid) → site f ≡ v → dirty c (s ∷ A) f q ≡ true → (Away S h → ⊥)
+  dirty_is' : (q : ℕ) (f : Fid) → site f ≡ v → dirty c (s ∷ A) f q ≡ true → (HasGoneAway S h → ⊥)
       → (new_cells f (ByteAt q)).unsaved ≡ Some (by h (view c (s ∷ A) f (ByteAt q)))
   dirty_is' q f home d up =
       elim (option_cases (c.wrote A s f (ByteAt q))) [
@@ -73,7 +71,7 @@ module _ (c : Contents) (h : HostId) (v : ServerId) (A : List Step) (s : Step) (
                 (record { token = u.token; owned = w; file = u.file; covers = u.covers; update = u.update })
           ]
 
-  open_is' : (q : ℕ) (f : Fid) (x : ℕ) (g : Give) → site f ≡ v → Open c (s ∷ A) v S h f (ByteAt q) x g → (Away S h → ⊥)
+  open_is' : (q : ℕ) (f : Fid) (x : ℕ) (g : Give) → site f ≡ v → Open c (s ∷ A) v S h f (ByteAt q) x g → (HasGoneAway S h → ⊥)
       → (new_cells f (ByteAt q)).unsaved ≡ Some (by h x)
   open_is' q f x g home k up = go (open_was c h v A s cells D o (ByteAt q) f x g k)
     where
@@ -128,7 +126,7 @@ module _ (c : Contents) (h : HostId) (v : ServerId) (A : List Step) (s : Step) (
       (subst (λ x. (cells f Size).kept ≤ x)
       (ap (λ (y : Option (Written ℕ)). value_of y (new_cells f Size).kept) e) le)
 
-  size_open' : (f : Fid) (x : ℕ) (g : Give) → site f ≡ v → Open c (s ∷ A) v S h f Size x g → (Away S h → ⊥)
+  size_open' : (f : Fid) (x : ℕ) (g : Give) → site f ≡ v → Open c (s ∷ A) v S h f Size x g → (HasGoneAway S h → ⊥)
       → ((new_cells f Size).kept ≤ x) × (x ≤ present (new_cells f Size))
   size_open' f x g home k up = go (open_was c h v A s cells D o Size f x g k)
     where
@@ -145,7 +143,7 @@ module _ (c : Contents) (h : HostId) (v : ServerId) (A : List Step) (s : Step) (
           on (omega arith, omega arith)
 
   open_order' : (f : Fid) (x y : ℕ) (g r : Give) → site f ≡ v → Open c (s ∷ A) v S h f Size x g
-      → Open c (s ∷ A) v S h f Size y r → (Away S h → ⊥) → g.number ≤ r.number → x ≤ y
+      → Open c (s ∷ A) v S h f Size y r → (HasGoneAway S h → ⊥) → g.number ≤ r.number → x ≤ y
   open_order' f x y g r home k l up le =
       go (open_was c h v A s cells D o Size f x g k) (open_was c h v A s cells D o Size f y r l)
     where
@@ -182,7 +180,7 @@ module _ (c : Contents) (h : HostId) (v : ServerId) (A : List Step) (s : Step) (
       go (Some y) e = let lt = o.rules.grown.grows f y e in omega arith
 
   since_le' : (f : Fid) (x : ℕ) (g : Give) → site f ≡ v → OwnsUpdate (s ∷ A) f Size → MadeSince (s ∷ A) f g → g.fid ≡ f
-      → c.gives g Size ≡ Some x → (Away S h → ⊥) → x ≤ view c (s ∷ A) f Size
+      → c.gives g Size ≡ Some x → (HasGoneAway S h → ⊥) → x ≤ view c (s ∷ A) f Size
   since_le' f x g home u m file has up =
       elim (since_cases f g u m) [
         | inl n ↦ (let is : sees c A s f Size ≡ x = (gave_size c h v A s cells D o f x g n file has).1 in
@@ -192,7 +190,7 @@ module _ (c : Contents) (h : HostId) (v : ServerId) (A : List Step) (s : Step) (
       ]
 
   settled' : (f : Fid) (g : Give) → site f ≡ v → OwnsUpdate (s ∷ A) f Size → MadeSince (s ∷ A) f g → Made (s ∷ A) g
-      → g.fid ≡ f → c.gives g Size ≡ Some (view c (s ∷ A) f Size) → Applied v S h (number_of g) → (Away S h → ⊥)
+      → g.fid ≡ f → c.gives g Size ≡ Some (view c (s ∷ A) f Size) → IsApplied v S h (number_of g) → (HasGoneAway S h → ⊥)
       → (new_cells f Size).unsaved ≡ None
   settled' f g home u m made file has applied up =
       elim (since_cases f g u m) [ inl j ↦ absurd (not_applied c h v A s cells D o g j applied) | inr p ↦ on p.0 p.1 ]
@@ -284,7 +282,7 @@ module _ (c : Contents) (h : HostId) (v : ServerId) (A : List Step) (s : Step) (
                   ]
 
   open_below' : (q : ℕ) (f : Fid) (x : ℕ) (g : Give) → site f ≡ v → Open c (s ∷ A) v S h f (ByteAt q) x g
-      → (Away S h → ⊥) → (q < (new_cells f Size).kept)
+      → (HasGoneAway S h → ⊥) → (q < (new_cells f Size).kept)
       ⊎ ((y : ℕ) × (r : Give) × Open c (s ∷ A) v S h f Size y r × (q < y) × (r.number ≤ g.number))
   open_below' q f x g home k up = split (open_was c h v A s cells D o (ByteAt q) f x g k)
     where
@@ -332,7 +330,7 @@ module _ (c : Contents) (h : HostId) (v : ServerId) (A : List Step) (s : Step) (
                     omega arith,
                   )
 
-              ours : (Away S h → ⊥) × (OwnsUpdate A f Size ⊎ ((r : Give) × Open c A v S h f Size l.value r))
+              ours : (HasGoneAway S h → ⊥) × (OwnsUpdate A f Size ⊎ ((r : Give) × Open c A v S h f Size l.value r))
                   → (q < (new_cells f Size).kept)
                   ⊎ ((y : ℕ) × (r : Give) × Open c (s ∷ A) v S h f Size y r × (q < y) × (r.number ≤ g.number))
               ours (_, inl u) = owns u

@@ -19,17 +19,11 @@ use Rattle.message_types.specs.declared.giving.Give.{Give}
 use Rattle.run_rules.specs.declared.step.Cause.{Cause}
 use Rattle.run_rules.specs.declared.step.Cause.TheVariants.{Message as Came}
 use Rattle.run_rules.specs.declared.step.Step.{Step}
-use Rattle.run_rules.specs.Lists.{In}
-use Rattle.run_rules.specs.Places.{home as made_at}
-use Rattle.run_rules.specs.Epochs.{epoch_at, ComesIn, Raises}
-use Rattle.run_rules.specs.Gives.{Made, number_of}
-use Rattle.run_rules.specs.Tokens.{AtHand, Owns}
-use Rattle.run_rules.specs.Requests.{Asking}
-use Rattle.run_rules.specs.Floors.{AboveFloor}
+use Rattle.run_rules.specs.Doings.{Doing, HasGoneAway, IsApplied, SentTo}
 use Rattle.run_rules.specs.HostTokens.{HostTokens}
-use Rattle.run_rules.specs.Acts.{Act, SentTo}
-use Rattle.run_rules.specs.Hosts.{Away}
-use Rattle.run_rules.specs.Grants.{Applied}
+use Rattle.run_rules.specs.Messages.{Asking, ComesIn, RaisesEpoch, epoch_at, home as made_at}
+use Rattle.run_rules.specs.Past.{In}
+use Rattle.run_rules.specs.Tokens.{AboveFloor, AtHand, Made, Owns, number_of}
 use Rattle.run_tokens.proofs.Owed.{Owed}
 use Rattle.run_tokens.proofs.Words.{epoch_grows}
 use Rattle.run_tokens.proofs.Invariant.{Served, Alone, Link, Brought}
@@ -79,7 +73,7 @@ pub record Own (c : Contents) (h : HostId) (v : ServerId) (A : List Step) (s : S
 
 module _ (c : Contents) (h : HostId) (v : ServerId) (A : List Step) (s : Step) (cells : Cells) (D : List Deed)
     (o : Own c h v A s cells D) where
-  abbrev S : List Act
+  abbrev S : List Doing
   S = acts_in D
 
   abbrev pub cells' : Cells
@@ -90,10 +84,10 @@ module _ (c : Contents) (h : HostId) (v : ServerId) (A : List Step) (s : Step) (
   same_cell p f never = sym (unwritten h (c.wrote A s f p) (cells f p) (none_of (c.wrote A s f p) never))
 
   -- a host that owns a token after its step isn't away
-  pub live : (t : Token) → Owns (s ∷ A) t → Away S h → ⊥
+  pub live : (t : Token) → Owns (s ∷ A) t → HasGoneAway S h → ⊥
   live t k w = elim (o.link.away w) [ inl d ↦ o.may.live d | inr b ↦ o.alone'.bye_held t v (b.0, b.1, inr b.2) k ]
 
-  pub live_owner : (p : Part) (f : Fid) → OwnsUpdate (s ∷ A) f p → Away S h → ⊥
+  pub live_owner : (p : Part) (f : Fid) → OwnsUpdate (s ∷ A) f p → HasGoneAway S h → ⊥
   live_owner p f u = live u.token u.owned
 
   pub stays : (t : Token) → In t s.taken → Owns (s ∷ A) t
@@ -103,7 +97,7 @@ module _ (c : Contents) (h : HostId) (v : ServerId) (A : List Step) (s : Step) (
   hand t (inl m) = inl m
   hand t (inr k) = inr (o.alone.owns t k)
 
-  pub live_hand : (t : Token) → AtHand s A t → Away S h → ⊥
+  pub live_hand : (t : Token) → AtHand s A t → HasGoneAway S h → ⊥
   live_hand t (inl m) w = live t (stays t m) w
   live_hand t (inr k) w = elim (o.link.away w) [
     | inl d ↦ o.may.live d
@@ -126,7 +120,7 @@ module _ (c : Contents) (h : HostId) (v : ServerId) (A : List Step) (s : Step) (
       (subst (λ g. c.wrote A s g p ≡ Some x) (sym w.file) e)
 
   -- what the step shows is present
-  pub shown_is : (p : Part) (f : Fid) (x : Seen p) → site f ≡ v → (Away S h → ⊥) → c.shown s f p ≡ Some x
+  pub shown_is : (p : Part) (f : Fid) (x : Seen p) → site f ≡ v → (HasGoneAway S h → ⊥) → c.shown s f p ≡ Some x
       → x ≡ present (cells f p)
   shown_is p f x home up q =
       let r = o.rules.takes.shown_by f p x q in
@@ -143,7 +137,7 @@ module _ (c : Contents) (h : HostId) (v : ServerId) (A : List Step) (s : Step) (
 
   -- what the host sees in the step, before it writes
   pub sees_in : (p : Part) (t : Token) → site t.fid ≡ v → In t s.taken ⊎ Owns A t → shows t.kind p ≡ true
-      → (Away S h → ⊥) → sees c A s t.fid p ≡ present (cells t.fid p)
+      → (HasGoneAway S h → ⊥) → sees c A s t.fid p ≡ present (cells t.fid p)
   sees_in p t home k cov up =
       elim (option_cases (c.shown s t.fid p)) [
         | inr x ↦ some_is (c.shown s t.fid p) (view c A t.fid p) x.0 x.1 ∙ shown_is p t.fid x.0 home up x.1
@@ -159,22 +153,22 @@ module _ (c : Contents) (h : HostId) (v : ServerId) (A : List Step) (s : Step) (
       ]
 
   pub sees_at : (p : Part) (f : Fid) (t : Token) → t.fid ≡ f → site f ≡ v → In t s.taken ⊎ Owns A t
-      → shows t.kind p ≡ true → (Away S h → ⊥) → sees c A s f p ≡ present (cells f p)
+      → shows t.kind p ≡ true → (HasGoneAway S h → ⊥) → sees c A s f p ≡ present (cells f p)
   sees_at p f t file home k cov up =
       subst (λ g. sees c A s g p ≡ present (cells g p)) file (sees_in p t (ap site file ∙ home) k cov up)
 
-  pub cached' : (p : Part) (t : Token) → site t.fid ≡ v → Owns (s ∷ A) t → shows t.kind p ≡ true → (Away S h → ⊥)
+  pub cached' : (p : Part) (t : Token) → site t.fid ≡ v → Owns (s ∷ A) t → shows t.kind p ≡ true → (HasGoneAway S h → ⊥)
       → view c (s ∷ A) t.fid p ≡ present (cells' t.fid p)
   cached' p t home k cov up = ap (λ y. unwrap_or (c.wrote A s t.fid p) y) (sees_in p t home k.0 cov up)
       ∙ sym (present_written h (c.wrote A s t.fid p) (cells t.fid p))
 
   -- what it sees under a token for update, before and in the step
-  pub view_is : (p : Part) (f : Fid) → site f ≡ v → OwnsUpdate A f p → (Away S h → ⊥)
+  pub view_is : (p : Part) (f : Fid) → site f ≡ v → OwnsUpdate A f p → (HasGoneAway S h → ⊥)
       → view c A f p ≡ present (cells f p)
   view_is p f home u up = subst (λ g. view c A g p ≡ present (cells g p)) u.file
       (o.shown.cached p u.token (ap site u.file ∙ home) u.owned u.covers up)
 
-  pub sees_on : (p : Part) (f : Fid) → site f ≡ v → OwnsUpdate A f p → (Away S h → ⊥) → sees c A s f p ≡ view c A f p
+  pub sees_on : (p : Part) (f : Fid) → site f ≡ v → OwnsUpdate A f p → (HasGoneAway S h → ⊥) → sees c A s f p ≡ view c A f p
   sees_on p f home u up = sees_at p f u.token u.file home (inr u.owned) u.covers up ∙ sym (view_is p f home u up)
 
   -- the traits that the host knows are kept
@@ -197,7 +191,7 @@ module _ (c : Contents) (h : HostId) (v : ServerId) (A : List Step) (s : Step) (
 
   pub flight' : (e n : ℕ) (p : Part) (w : GrantOf) (t : Token) → site w.bring.fid ≡ v → SentTo S h e n (Grant w)
       → e ≡ epoch_at (s ∷ A) v → Asking (s ∷ A) w.bring.fid.fileset w.bring.number
-      → AboveFloor (s ∷ A) w.bring.fid w.bring.stamp → In t w.bring.tokens → shows t.kind p ≡ true → (Away S h → ⊥)
+      → AboveFloor (s ∷ A) w.bring.fid w.bring.stamp → In t w.bring.tokens → shows t.kind p ≡ true → (HasGoneAway S h → ⊥)
       → c.tells w p ≡ present (cells' w.bring.fid p)
   flight' e n p w t home sent now asking above m cov up = go above
     where
@@ -217,7 +211,7 @@ module _ (c : Contents) (h : HostId) (v : ServerId) (A : List Step) (s : Step) (
           (subst (λ (y : Fid × ℕ). Asking (s ∷ A) y.0.fileset y.1) (λ j. (sym x.3 j, sym x.2 j)) asking))
 
       go : AboveFloor (s ∷ A) w.bring.fid w.bring.stamp → c.tells w p ≡ present (cells' w.bring.fid p)
-      go (inl (inl r, _)) = absurd (let lt : epoch_at A v < epoch_at (s ∷ A) v = subst (λ z. Raises A s z) home r in
+      go (inl (inl r, _)) = absurd (let lt : epoch_at A v < epoch_at (s ∷ A) v = subst (λ z. RaisesEpoch A s z) home r in
           let same = before in omega (arith, lt, same, now))
       go (inl (inr r, _)) = absurd (omega (arith, r))
       go (inr r) = o.shown.flight e n p w t home sent before was r.0 m cov up
@@ -234,7 +228,7 @@ module _ (c : Contents) (h : HostId) (v : ServerId) (A : List Step) (s : Step) (
       said (u, d, k, q) = (u, d, k, inr q)
 
   -- a new give-back isn't applied
-  pub not_applied : (g : Give) → In g s.made → Applied v S h (number_of g) → ⊥
+  pub not_applied : (g : Give) → In g s.made → IsApplied v S h (number_of g) → ⊥
   not_applied g m a = let q = o.link.applied_made (number_of g) a in
       absurd (let new : q.0.number < g.number = o.may.makes_new g q.0 m q.1 q.2 in
       let le : g.number ≤ q.0.number = q.3 in omega (arith, new, le))
@@ -248,7 +242,7 @@ module _ (c : Contents) (h : HostId) (v : ServerId) (A : List Step) (s : Step) (
       )
 
   -- a byte that is given back was the same before
-  pub byte_was : (q : ℕ) (f : Fid) (x : ℕ) (g : Give) → site f ≡ v → (Away S h → ⊥) → In g s.made → g.fid ≡ f
+  pub byte_was : (q : ℕ) (f : Fid) (x : ℕ) (g : Give) → site f ≡ v → (HasGoneAway S h → ⊥) → In g s.made → g.fid ≡ f
       → c.gives g (ByteAt q) ≡ Some x → view c A f (ByteAt q) ≡ x
   byte_was q f x g home up m file has =
       let gave = gave_byte q f x g m file has in sym (sees_on (ByteAt q) f home gave.0 up) ∙ gave.1
@@ -259,7 +253,7 @@ module _ (c : Contents) (h : HostId) (v : ServerId) (A : List Step) (s : Step) (
       × (sees c A s j Size ≡ x)) file (o.rules.gives.gives_own g x m has, o.rules.gives.gives_size g x m has)
 
   -- a size that is given back is present
-  pub size_is : (f : Fid) (x : ℕ) → site f ≡ v → (Away S h → ⊥) → (OwnsUpdate A f Size ⊎ TakesUpdate s f Size)
+  pub size_is : (f : Fid) (x : ℕ) → site f ≡ v → (HasGoneAway S h → ⊥) → (OwnsUpdate A f Size ⊎ TakesUpdate s f Size)
       × (sees c A s f Size ≡ x) → present (cells f Size) ≡ x
   size_is f x home up (inl u, e) = sym (sees_at Size f u.token u.file home (inr u.owned) u.covers up) ∙ e
   size_is f x home up (inr t, e) = sym (sees_at Size f t.0 t.2.file home (inl t.1) t.2.covers up) ∙ e
@@ -281,11 +275,11 @@ module _ (c : Contents) (h : HostId) (v : ServerId) (A : List Step) (s : Step) (
   open_new p f x g m file has = record { made = inl m; file = file; has = has; not_applied = not_applied g m }
 
   -- the give-back by which a size is clean is applied
-  clean_applied : (f : Fid) → site f ≡ v → (k : Clean c A s f) → Applied v S h (number_of k.give)
+  clean_applied : (f : Fid) → site f ≡ v → (k : Clean c A s f) → IsApplied v S h (number_of k.give)
   clean_applied f home k = o.link'.known (number_of k.give) (ap site k.file ∙ home) k.known
 
   -- a clean size isn't unsaved
-  pub clean_none : (f : Fid) → site f ≡ v → OwnsUpdate A f Size → Clean c A s f → (Away S h → ⊥)
+  pub clean_none : (f : Fid) → site f ≡ v → OwnsUpdate A f Size → Clean c A s f → (HasGoneAway S h → ⊥)
       → (cells f Size).unsaved ≡ None
   clean_none f home u k up = o.shown.settled f k.give home u k.since k.made k.file (k.has
       ∙ ap (λ z. Some z) (sees_on Size f home u up)) (clean_applied f home k) up
@@ -298,7 +292,7 @@ module _ (c : Contents) (h : HostId) (v : ServerId) (A : List Step) (s : Step) (
   pending_now Entries f x e = elim (c.wrote_data A s f Entries x e) [ ]
 
   -- what is pending stays so, or a new give-back has it
-  pending_on : (p : Part) (f : Fid) (x : Seen p) → site f ≡ v → (Away S h → ⊥) → (cells f p).unsaved ≡ Some (by h x)
+  pending_on : (p : Part) (f : Fid) (x : Seen p) → site f ≡ v → (HasGoneAway S h → ⊥) → (cells f p).unsaved ≡ Some (by h x)
       → Pending c A f p → Pending c (s ∷ A) f p ⊎ ((g : Give) × Open c (s ∷ A) v S h f p x g)
   pending_on (ByteAt q) f x home up e d =
       elim (bool_cases (c.hands s f q)) [
@@ -324,12 +318,12 @@ module _ (c : Contents) (h : HostId) (v : ServerId) (A : List Step) (s : Step) (
   pending_on Traits f x home up e d = elim d [ ]
   pending_on Entries f x home up e d = elim d [ ]
 
-  pub mine' : (p : Part) (f : Fid) (x : Seen p) → site f ≡ v → (cells' f p).unsaved ≡ Some (by h x) → (Away S h → ⊥)
+  pub mine' : (p : Part) (f : Fid) (x : Seen p) → site f ≡ v → (cells' f p).unsaved ≡ Some (by h x) → (HasGoneAway S h → ⊥)
       × (Pending c (s ∷ A) f p ⊎ ((g : Give) × Open c (s ∷ A) v S h f p x g))
   mine' p f x home = go (c.wrote A s f p) refl
     where
       go : (w : Option (Seen p)) → c.wrote A s f p ≡ w → (written h w (cells f p)).unsaved ≡ Some (by h x)
-          → (Away S h → ⊥) × (Pending c (s ∷ A) f p ⊎ ((g : Give) × Open c (s ∷ A) v S h f p x g))
+          → (HasGoneAway S h → ⊥) × (Pending c (s ∷ A) f p ⊎ ((g : Give) × Open c (s ∷ A) v S h f p x g))
       go (Some y) q e = (live_owner p f (o.rules.writes f p y q), inl (pending_now p f y q))
       go None q e =
           let old = o.shown.mine p f x home e in
@@ -442,7 +436,7 @@ module _ (c : Contents) (h : HostId) (v : ServerId) (A : List Step) (s : Step) (
   -- one that was sent before asks for nothing of a file that may be unsaved after the step
   asked_on : (p : Part) (f : FetchOf) (k : Need) → site f.fid ≡ v → HasSaid A f → Asking A f.fid.fileset f.number
       → Asking (s ∷ A) f.fid.fileset f.number → In k f.needs → shows k.kind p ≡ true → Pending c (s ∷ A) f.fid p
-      → (Away S h → ⊥) → IsDirectory c D f.fid
+      → (HasGoneAway S h → ⊥) → IsDirectory c D f.fid
   asked_on p f k home said was a m cov u up = go p cov u
     where
       go : (p : Part) → shows k.kind p ≡ true → Pending c (s ∷ A) f.fid p → IsDirectory c D f.fid
@@ -475,7 +469,7 @@ module _ (c : Contents) (h : HostId) (v : ServerId) (A : List Step) (s : Step) (
 
   pub asked' : (p : Part) (f : FetchOf) (k : Need) → site f.fid ≡ v → HasSaid (s ∷ A) f
       → Asking (s ∷ A) f.fid.fileset f.number → In k f.needs → shows k.kind p ≡ true → Pending c (s ∷ A) f.fid p
-      → (Away S h → ⊥) → IsDirectory c D f.fid
+      → (HasGoneAway S h → ⊥) → IsDirectory c D f.fid
   asked' p f k home (w, e, n, inl q) a m cov u up =
       elim (o.rules.fetches f (w, e, n, q)) [
         | inl old ↦ asked_on p f k home old.0 old.1 a m cov u up
@@ -487,7 +481,7 @@ module _ (c : Contents) (h : HostId) (v : ServerId) (A : List Step) (s : Step) (
   -- one that was sent before asks for nothing of a file that is on its way after the step
   back_on : (p : Part) (f : FetchOf) (x : Seen p) (k : Need) (g : Give) → site f.fid ≡ v → HasSaid A f
       → Asking A f.fid.fileset f.number → Asking (s ∷ A) f.fid.fileset f.number → In k f.needs → shows k.kind p ≡ true
-      → Open c (s ∷ A) v S h f.fid p x g → (Away S h → ⊥) → IsDirectory c D f.fid
+      → Open c (s ∷ A) v S h f.fid p x g → (HasGoneAway S h → ⊥) → IsDirectory c D f.fid
   back_on p f x k g home b was a m cov w up = elim (open_was p f.fid x g w) [
     | inl j ↦ new p x cov w j
     | inr j ↦ o.shown.asked_given p f x k g home b was m cov j up
@@ -507,7 +501,7 @@ module _ (c : Contents) (h : HostId) (v : ServerId) (A : List Step) (s : Step) (
 
   pub asked_given' : (p : Part) (f : FetchOf) (x : Seen p) (k : Need) (g : Give) → site f.fid ≡ v → HasSaid (s ∷ A) f
       → Asking (s ∷ A) f.fid.fileset f.number → In k f.needs → shows k.kind p ≡ true → Open c (s ∷ A) v S h f.fid p x g
-      → (Away S h → ⊥) → IsDirectory c D f.fid
+      → (HasGoneAway S h → ⊥) → IsDirectory c D f.fid
   asked_given' p f x k g home (w, e, n, inl q) a m cov y up =
       elim (o.rules.fetches f (w, e, n, q)) [
         | inl old ↦ back_on p f x k g home old.0 old.1 a m cov y up

@@ -1,5 +1,12 @@
 -- In every run what is so at the parts of objects is kept, and the laws follow.
-use Rattle.run_rules.specs.Lists.{Each, after}
+use Rattle.run_rules.specs.Doings.{Doing, HasGoneAway, IsApplied, SentTo, after_step, doings_of}
+use Rattle.run_rules.specs.Doings.Doing.{BeginsEpoch}
+use Rattle.run_rules.specs.Messages.{ComesIn, HasStopped}
+use Rattle.run_rules.specs.Past.{EachInTurn, appended}
+use Rattle.run_rules.specs.ServerTokens.{ServerStep}
+use Rattle.run_rules.specs.Steps.{steps_of_host}
+use Rattle.run_rules.specs.Tokens.{AtHand, Held, Owns, number_of}
+use Rattle.run_tokens.specs.TokenLaws.{IsTokenRun, StepMay}
 use Rattle.run_tokens.proofs.Words.{acts_after, own_after}
 use Rattle.std.proofs.Common.{◌≡◌, ℕ, ◌==◌, ◌<◌, ◌≤◌, ◌⊎◌, true, false, Bool, if◌then◌else◌, Some, List, []}
 use Rattle.std.proofs.Common.{◌∷◌, inl, inr, sym, ◌∙◌, ap, subst, refl, eqb-true}
@@ -12,16 +19,6 @@ use Rattle.token_types.specs.declared.token.Token.{Token}
 use Rattle.message_types.specs.declared.message.Body.{Body}
 use Rattle.message_types.specs.declared.giving.Give.{Give}
 use Rattle.run_rules.specs.declared.step.Step.{Step}
-use Rattle.run_rules.specs.Nodes.{own}
-use Rattle.run_rules.specs.Epochs.{ComesIn}
-use Rattle.run_rules.specs.Sends.{HasStopped}
-use Rattle.run_rules.specs.Gives.{number_of}
-use Rattle.run_rules.specs.Tokens.{AtHand, Held, Owns}
-use Rattle.run_rules.specs.Acts.{Act, SentTo, acts, after_step}
-use Rattle.run_rules.specs.Acts.Act.{Begins}
-use Rattle.run_rules.specs.Hosts.{Away}
-use Rattle.run_rules.specs.Grants.{Applied}
-use Rattle.run_rules.specs.TokenRuns.{StepMay, IsTokenRun, ServerStep}
 use Rattle.run_tokens.proofs.Owed.{Owed}
 use Rattle.run_tokens.proofs.Words.{made_at}
 use Rattle.run_tokens.proofs.Invariant.{Alone, Link}
@@ -44,7 +41,7 @@ use Rattle.run_parts.proofs.SeenStep.{seen_step}
 use Rattle.run_parts.proofs.OwnStep.{Own, hand_is, foreign}
 use Rattle.run_parts.proofs.OwnRest.{shown_own, treed_own}
 use Rattle.run_parts.proofs.OtherStep.{shown_other}
-use Rattle.run_parts.proofs.ActStep.{Doing, shown_act, treed_act, legal_act, kept_present}
+use Rattle.run_parts.proofs.ActStep.{OneDoing, shown_act, treed_act, legal_act, kept_present}
 use Rattle.run_parts.proofs.Served.{Next, each_next, after_doings}
 
 -- the token layer and the parts, at one server
@@ -113,12 +110,12 @@ same_at c own_of v D old new same x =
 -- a server's doings, one after the other
 module _ (c : Contents) (own_of : HostId → List Step) (alone : (h : HostId) → Alone (own_of h)) (seen : (h : HostId)
     → Alike c (own_of h)) (v : ServerId) where
-  serve : (more D : List Deed) (cells : Cells) → At c own_of cells v D → Each (Next own_of v) (acts_in more) (acts_in D)
-      → Each (ServerShows c v) more D → At c own_of (cells_served more cells) v (after more D)
+  serve : (more D : List Deed) (cells : Cells) → At c own_of cells v D → EachInTurn (Next own_of v) (acts_in more) (acts_in D)
+      → EachInTurn (ServerShows c v) more D → At c own_of (cells_served more cells) v (appended more D)
       × LegalDoings c v more D cells
   serve [] D cells x may rules = (x, tt)
   serve (d ∷ more) D cells x may rules =
-      let o : Doing c own_of cells v D d =
+      let o : OneDoing c own_of cells v D d =
       record {
         at = x.at;
         alone = alone;
@@ -135,12 +132,12 @@ module _ (c : Contents) (own_of : HostId → List Step) (alone : (h : HostId) �
       let rest = serve more (d ∷ D) (cells_after d cells) next may.1 rules.1 in
       (rest.0, (legal_act c own_of cells v D d o, kept_present c own_of cells v D d o, rest.1))
 
-acts_after_deeds : (deeds D : List Deed) → acts_in (after deeds D) ≡ after (acts_in deeds) (acts_in D)
+acts_after_deeds : (deeds D : List Deed) → acts_in (appended deeds D) ≡ appended (acts_in deeds) (acts_in D)
 acts_after_deeds [] D = refl
 acts_after_deeds (d ∷ deeds) D = acts_after_deeds deeds (d ∷ D)
 
 -- a token is issued by the server of its file
-owned_site : (own_of : HostId → List Step) (acts_of : ServerId → List Act) → Whole own_of acts_of
+owned_site : (own_of : HostId → List Step) (acts_of : ServerId → List Doing) → Whole own_of acts_of
     → (h : HostId) (t : Token) → Owns (own_of h) t → t.id.server ≡ site t.fid
 owned_site own_of acts_of w h t k =
     let g = ((w.at t.id.server).link h).held t refl k in
@@ -153,34 +150,34 @@ module _ (c : Contents) (firsts : ServerId → ℕ) where
 
   -- what is so after a run
   pub record Kept (past : List Step) : Type 0 where
-    pub same : (v : ServerId) → acts_in (served c (firsts v) v past) ≡ acts (firsts v) v past
-    pub whole : Whole (λ h. own h past) (λ v. acts_in (served c (firsts v) v past))
-    pub seen : (h : HostId) → Alike c (own h past)
-    pub at : (v : ServerId) → At c (λ h. own h past) (tree c past) v (served c (firsts v) v past)
+    pub same : (v : ServerId) → acts_in (served c (firsts v) v past) ≡ doings_of (firsts v) v past
+    pub whole : Whole (λ h. steps_of_host h past) (λ v. acts_in (served c (firsts v) v past))
+    pub seen : (h : HostId) → Alike c (steps_of_host h past)
+    pub at : (v : ServerId) → At c (λ h. steps_of_host h past) (tree c past) v (served c (firsts v) v past)
 
   -- a host's step, at one server
   module _ (past : List Step) (k : HostId) (s : Step) (old : Kept past)
-      (next : Whole (λ h. own_after h (Host k) s (own h past)) (λ v. acts_in (served c (firsts v) v past)))
-      (may : StepMay firsts (Host k) past s) (rules : HostShows c (own k past) s) where
+      (next : Whole (λ h. own_after h (Host k) s (steps_of_host h past)) (λ v. acts_in (served c (firsts v) v past)))
+      (may : StepMay firsts (Host k) past s) (rules : HostShows c (steps_of_host k past) s) where
     -- what is so of the host's own steps after it
-    mine : (P : List Step → Type 0) → P (own_after k (Host k) s (own k past)) → P (s ∷ own k past)
-    mine P x = subst P (host_split (λ L. L ≡ s ∷ own k past) k k (s ∷ own k past) (own k past) (λ _. refl)
+    mine : (P : List Step → Type 0) → P (own_after k (Host k) s (steps_of_host k past)) → P (s ∷ steps_of_host k past)
+    mine P x = subst P (host_split (λ L. L ≡ s ∷ steps_of_host k past) k k (s ∷ steps_of_host k past) (steps_of_host k past) (λ _. refl)
         (λ two. absurd (two refl))) x
 
-    seen' : Alike c (s ∷ own k past)
-    seen' = seen_step c (own k past) s rules (old.whole.alone k) may.0 (old.seen k)
+    seen' : Alike c (s ∷ steps_of_host k past)
+    seen' = seen_step c (steps_of_host k past) s rules (old.whole.alone k) may.0 (old.seen k)
         (mine (λ L. (t : Token) → Owns L t
-        → t.id.server ≡ site t.fid) (owned_site (λ h. own_after h (Host k) s (own h past))
+        → t.id.server ≡ site t.fid) (owned_site (λ h. own_after h (Host k) s (steps_of_host h past))
         (λ v. acts_in (served c (firsts v) v past)) next k))
 
     came : (v : ServerId) (e n : ℕ) (b : Body) → ComesIn s v e n b
         → SentTo (acts_in (served c (firsts v) v past)) k e n b
     came v e n b (m, cause, at, epoch_is, moves, body) =
         subst (λ S. SentTo S k e n b) (sym (old.same v))
-        (subst (λ (y : ServerId × ℕ × ℕ × Body). SentTo (acts (firsts y.0) y.0 past) k y.1 y.2 y.3)
+        (subst (λ (y : ServerId × ℕ × ℕ × Body). SentTo (doings_of (firsts y.0) y.0 past) k y.1 y.2 y.3)
         (λ i. (at i, epoch_is i, moves i, body i)) (may.1 m cause).2)
 
-    its : (v : ServerId) → Own c k v (own k past) s (tree c past) (served c (firsts v) v past)
+    its : (v : ServerId) → Own c k v (steps_of_host k past) s (tree c past) (served c (firsts v) v past)
     its v = record {
       served = (old.whole.at v).served;
       alone = old.whole.alone k;
@@ -191,7 +188,7 @@ module _ (c : Contents) (firsts : ServerId → ℕ) where
       seen' = seen';
       shown = (old.at v).shown k;
       treed = (old.at v).treed;
-      writes = λ p f u home e. mine_writes c u.writer (own u.writer past) (tree c past) v (served c (firsts v) v past)
+      writes = λ p f u home e. mine_writes c u.writer (steps_of_host u.writer past) (tree c past) v (served c (firsts v) v past)
           (old.whole.at v).served ((old.whole.at v).link u.writer) (old.seen u.writer)
           ((old.at v).shown u.writer) p f u.value home e;
       may = may.0;
@@ -200,58 +197,58 @@ module _ (c : Contents) (firsts : ServerId → ℕ) where
     }
 
     abbrev new_cells : Cells
-    new_cells f p = written k (c.wrote (own k past) s f p) (tree c past f p)
+    new_cells f p = written k (c.wrote (steps_of_host k past) s f p) (tree c past f p)
 
-    host_at : (v : ServerId) → At c (λ h. own_after h (Host k) s (own h past)) new_cells v (served c (firsts v) v past)
+    host_at : (v : ServerId) → At c (λ h. own_after h (Host k) s (steps_of_host h past)) new_cells v (served c (firsts v) v past)
     host_at v = record {
       at = next.at v;
-      shown = λ h. host_split (λ L. Shown c h L new_cells v (served c (firsts v) v past)) k h (s ∷ own h past)
-          (own h past)
-          (λ e. subst (λ j. Shown c j (s ∷ own j past) new_cells v (served c (firsts v) v past)) e
-          (shown_own c k v (own k past) s (tree c past) (served c (firsts v) v past) (its v)))
-          (λ two. shown_other c h v (own h past) k (λ f p. c.wrote (own k past) s f p) (tree c past)
+      shown = λ h. host_split (λ L. Shown c h L new_cells v (served c (firsts v) v past)) k h (s ∷ steps_of_host h past)
+          (steps_of_host h past)
+          (λ e. subst (λ j. Shown c j (s ∷ steps_of_host j past) new_cells v (served c (firsts v) v past)) e
+          (shown_own c k v (steps_of_host k past) s (tree c past) (served c (firsts v) v past) (its v)))
+          (λ two. shown_other c h v (steps_of_host h past) k (λ f p. c.wrote (steps_of_host k past) s f p) (tree c past)
           (served c (firsts v) v past) (old.whole.at v).served ((old.whole.at v).link h) (old.seen h)
           ((old.at v).shown h) (λ q. two (sym q))
-          (foreign c k v (own k past) s (tree c past) (served c (firsts v) v past) (its v)));
-      treed = treed_own c k v (own k past) s (tree c past) (served c (firsts v) v past) (its v);
+          (foreign c k v (steps_of_host k past) s (tree c past) (served c (firsts v) v past) (its v)));
+      treed = treed_own c k v (steps_of_host k past) s (tree c past) (served c (firsts v) v past) (its v);
     }
 
-    host_seen : (h : HostId) → Alike c (own_after h (Host k) s (own h past))
-    host_seen h = host_split (Alike c) k h (s ∷ own h past) (own h past)
-        (λ e. subst (λ j. Alike c (s ∷ own j past)) e seen') (λ _. old.seen h)
+    host_seen : (h : HostId) → Alike c (own_after h (Host k) s (steps_of_host h past))
+    host_seen h = host_split (Alike c) k h (s ∷ steps_of_host h past) (steps_of_host h past)
+        (λ e. subst (λ j. Alike c (s ∷ steps_of_host j past)) e seen') (λ _. old.seen h)
 
-    host_legal : (t : Token) (p : Part) → AtHand s (own k past) t → shows t.kind p ≡ true
-        → sees c (own k past) s t.fid p ≡ present (tree c past t.fid p)
-    host_legal t p hand cov = hand_is c k (site t.fid) (own k past) s (tree c past)
+    host_legal : (t : Token) (p : Part) → AtHand s (steps_of_host k past) t → shows t.kind p ≡ true
+        → sees c (steps_of_host k past) s t.fid p ≡ present (tree c past t.fid p)
+    host_legal t p hand cov = hand_is c k (site t.fid) (steps_of_host k past) s (tree c past)
         (served c (firsts (site t.fid)) (site t.fid) past) (its (site t.fid)) p t refl hand cov
 
   -- what servers do in a step is what the step says
   same_step : (n : Node) (past : List Step) (s : Step) → Kept past → StepShows c firsts n past s → (v : ServerId)
-      → acts_in (served_after c v n s past (served c (firsts v) v past)) ≡ acts_after v n s (acts (firsts v) v past)
+      → acts_in (served_after c v n s past (served c (firsts v) v past)) ≡ acts_after v n s (doings_of (firsts v) v past)
   same_step (Host k) past s old rules v = old.same v
   same_step (Server k) past s old rules v = go (k.0 == v.0) refl
     where
       go : (b : Bool) → (k.0 == v.0) ≡ b
-          → acts_in (if b then after (c.deeds past s) (served c (firsts v) v past) else served c (firsts v) v past) ≡
-          (if b then after_step s (acts (firsts v) v past) else acts (firsts v) v past)
+          → acts_in (if b then appended (c.deeds past s) (served c (firsts v) v past) else served c (firsts v) v past) ≡
+          (if b then after_step s (doings_of (firsts v) v past) else doings_of (firsts v) v past)
       go false e = old.same v
       go true e =
           let one : k ≡ v = ap (λ (n : ℕ). record { 0 = n }) (eqb-true k.0 v.0 e) in
           let deeds : acts_in (c.deeds past s) ≡ doings s (acts_in (served c (firsts v) v past)) =
           subst (λ w. acts_in (c.deeds past s) ≡ doings s (acts_in (served c (firsts w) w past))) one rules.0 in
           acts_after_deeds (c.deeds past s) (served c (firsts v) v past)
-          ∙ (ap (λ l. after l (acts_in (served c (firsts v) v past))) deeds
+          ∙ (ap (λ l. appended l (acts_in (served c (firsts v) v past))) deeds
           ∙ (after_doings s (acts_in (served c (firsts v) v past)) ∙ ap (λ S. after_step s S) (old.same v)))
 
   abbrev After : Node → List Step → Step → Type 0
   After n past s =
-      ((h : HostId) → Alike c (own_after h n s (own h past)))
-      × ((v : ServerId) → At c (λ h. own_after h n s (own h past)) (tree_after c n s past (tree c past)) v
+      ((h : HostId) → Alike c (own_after h n s (steps_of_host h past)))
+      × ((v : ServerId) → At c (λ h. own_after h n s (steps_of_host h past)) (tree_after c n s past (tree c past)) v
       (served_after c v n s past (served c (firsts v) v past)))
       × LegalStep c firsts n s past
 
   step : (n : Node) (past : List Step) (s : Step) → Kept past
-      → Whole (λ h. own_after h n s (own h past))
+      → Whole (λ h. own_after h n s (steps_of_host h past))
       (λ v. acts_in (served_after c v n s past (served c (firsts v) v past))) → StepMay firsts n past s
       → StepShows c firsts n past s → After n past s
   step (Host k) past s old next may rules = (
@@ -261,15 +258,15 @@ module _ (c : Contents) (firsts : ServerId → ℕ) where
   )
   step (Server k) past s old next may rules = (old.seen, at', x.1)
     where
-      each : Each (Next (λ h. own h past) k) (acts_in (c.deeds past s)) (acts_in (served c (firsts k) k past))
-      each = subst (λ l. Each (Next (λ h. own h past) k) l (acts_in (served c (firsts k) k past))) (sym rules.0)
-          (each_next (λ h. own h past) old.whole.alone k s (acts_in (served c (firsts k) k past))
+      each : EachInTurn (Next (λ h. steps_of_host h past) k) (acts_in (c.deeds past s)) (acts_in (served c (firsts k) k past))
+      each = subst (λ l. EachInTurn (Next (λ h. steps_of_host h past) k) l (acts_in (served c (firsts k) k past))) (sym rules.0)
+          (each_next (λ h. steps_of_host h past) old.whole.alone k s (acts_in (served c (firsts k) k past))
           (subst (λ S. ServerStep k S s) (sym (old.same k)) may.0) (λ m e. (may.1 m e).2))
 
-      x : At c (λ h. own h past) (cells_served (c.deeds past s) (tree c past)) k
-          (after (c.deeds past s) (served c (firsts k) k past))
+      x : At c (λ h. steps_of_host h past) (cells_served (c.deeds past s) (tree c past)) k
+          (appended (c.deeds past s) (served c (firsts k) k past))
           × LegalDoings c k (c.deeds past s) (served c (firsts k) k past) (tree c past)
-      x = serve c (λ h. own h past) old.whole.alone old.seen k (c.deeds past s) (served c (firsts k) k past)
+      x = serve c (λ h. steps_of_host h past) old.whole.alone old.seen k (c.deeds past s) (served c (firsts k) k past)
           (tree c past) (old.at k) each rules.1
 
       -- the parts at this server, at another
@@ -284,30 +281,30 @@ module _ (c : Contents) (firsts : ServerId → ℕ) where
           (cells_served (c.deeds past s) (tree c past) f p) (tree c past f p) (λ one. absurd (two (one ∙ e)))
           (λ _. refl)
 
-      home : At c (λ h. own h past) (tree_after c (Server k) s past (tree c past)) k
-          (after (c.deeds past s) (served c (firsts k) k past))
-      home = same_at c (λ h. own h past) k (after (c.deeds past s) (served c (firsts k) k past))
+      home : At c (λ h. steps_of_host h past) (tree_after c (Server k) s past (tree c past)) k
+          (appended (c.deeds past s) (served c (firsts k) k past))
+      home = same_at c (λ h. steps_of_host h past) k (appended (c.deeds past s) (served c (firsts k) k past))
           (cells_served (c.deeds past s) (tree c past)) (tree_after c (Server k) s past (tree c past)) at_home x.0
 
-      at' : (v : ServerId) → At c (λ h. own h past) (tree_after c (Server k) s past (tree c past)) v
+      at' : (v : ServerId) → At c (λ h. steps_of_host h past) (tree_after c (Server k) s past (tree c past)) v
           (served_after c v (Server k) s past (served c (firsts v) v past))
-      at' v = server_split (λ l. At c (λ h. own h past) (tree_after c (Server k) s past (tree c past)) v l) k v
-          (after (c.deeds past s) (served c (firsts v) v past)) (served c (firsts v) v past)
-          (λ e. subst (λ w. At c (λ h. own h past) (tree_after c (Server k) s past (tree c past)) w
-          (after (c.deeds past s) (served c (firsts w) w past))) e home)
-          (λ two. same_at c (λ h. own h past) v (served c (firsts v) v past) (tree c past)
+      at' v = server_split (λ l. At c (λ h. steps_of_host h past) (tree_after c (Server k) s past (tree c past)) v l) k v
+          (appended (c.deeds past s) (served c (firsts v) v past)) (served c (firsts v) v past)
+          (λ e. subst (λ w. At c (λ h. steps_of_host h past) (tree_after c (Server k) s past (tree c past)) w
+          (appended (c.deeds past s) (served c (firsts w) w past))) e home)
+          (λ two. same_at c (λ h. steps_of_host h past) v (served c (firsts v) v past) (tree c past)
           (tree_after c (Server k) s past (tree c past)) (elsewhere v two) (old.at v))
 
   -- at the start
-  begins_sends : (n : ℕ) (h : HostId) (e k : ℕ) (b : Body) → SentTo (Begins n ∷ []) h e k b → ⊥
+  begins_sends : (n : ℕ) (h : HostId) (e k : ℕ) (b : Body) → SentTo (BeginsEpoch n ∷ []) h e k b → ⊥
   begins_sends n h e k b (inl q) = cc
   begins_sends n h e k b (inr q) = q
 
-  begins_owes : (v : ServerId) (n : ℕ) (t : Token) → Owed v (Begins n ∷ []) t → ⊥
+  begins_owes : (v : ServerId) (n : ℕ) (t : Token) → Owed v (BeginsEpoch n ∷ []) t → ⊥
   begins_owes v n t (inl (k, (h, e, w, b, m, q))) = elim b [ inl x ↦ (let z = x.1 in cc) | inr x ↦ (let z = x.1 in cc) ]
   begins_owes v n t (inr q) = q.0
 
-  at_first : (v : ServerId) → AtServer (λ h. []) v (Begins (firsts v) ∷ []) → AreAlike c v [] × HaveRoots c v []
+  at_first : (v : ServerId) → AtServer (λ h. []) v (BeginsEpoch (firsts v) ∷ []) → AreAlike c v [] × HaveRoots c v []
       → At c (λ h. []) (tree c []) v (first_deed (firsts v) ∷ [])
   at_first v at facts = record {
     at = at;
@@ -363,10 +360,10 @@ module _ (c : Contents) (firsts : ServerId → ℕ) where
       let old = coherent past run.0 rules.0 in
       let same = same_step s.node past s old.0 rules.1 in
       let w = always firsts (s ∷ past) run in
-      let whole : Whole (λ h. own_after h s.node s (own h past))
+      let whole : Whole (λ h. own_after h s.node s (steps_of_host h past))
       (λ v. acts_in (served_after c v s.node s past (served c (firsts v) v past))) = record {
         alone = w.alone;
-        at = λ v. subst (AtServer (λ h. own_after h s.node s (own h past)) v) (sym (same v)) (w.at v);
+        at = λ v. subst (AtServer (λ h. own_after h s.node s (steps_of_host h past)) v) (sym (same v)) (w.at v);
       } in
       let x = step s.node past s old.0 whole run.1 rules.1 in
       (record { same = same; whole = whole; seen = x.0; at = x.1 }, (old.1, x.2))
@@ -378,13 +375,13 @@ module _ (c : Contents) (firsts : ServerId → ℕ) where
     pub legal : Legal c firsts past
     legal = (coherent past run rules).1
 
-    at : (f : Fid) (h : HostId) → Shown c h (own h past) (tree c past) (site f)
+    at : (f : Fid) (h : HostId) → Shown c h (steps_of_host h past) (tree c past) (site f)
         (served c (firsts (site f)) (site f) past)
     at f h = (kept_now.at (site f)).shown h
 
     -- a host that hasn't stopped and holds a token hasn't gone away
-    here : (v : ServerId) (h : HostId) (t : Token) → (HasStopped (own h past) → ⊥) → Held (own h past) t
-        → Away (acts_in (served c (firsts v) v past)) h → ⊥
+    here : (v : ServerId) (h : HostId) (t : Token) → (HasStopped (steps_of_host h past) → ⊥) → Held (steps_of_host h past) t
+        → HasGoneAway (acts_in (served c (firsts v) v past)) h → ⊥
     here v h t up held away = elim (((kept_now.whole.at v).link h).away away) [
       | inl d ↦ up d
       | inr b ↦ (kept_now.whole.alone h).bye_held t v b ((kept_now.whole.alone h).owns t held)
@@ -405,28 +402,28 @@ module _ (c : Contents) (firsts : ServerId → ℕ) where
     }
 
     -- in the words of the journal's doings
-    gone : (f : Fid) (h : HostId) → Away (acts_in (served c (firsts (site f)) (site f) past)) h
-        → Away (acts (firsts (site f)) (site f) past) h
-    gone f h w = subst (λ S. Away S h) (kept_now.same (site f)) w
+    gone : (f : Fid) (h : HostId) → HasGoneAway (acts_in (served c (firsts (site f)) (site f) past)) h
+        → HasGoneAway (doings_of (firsts (site f)) (site f) past) h
+    gone f h w = subst (λ S. HasGoneAway S h) (kept_now.same (site f)) w
 
     way : (h : HostId) (p : Part) (f : Fid) (x : Seen p) (g : Give)
-        → Open c (own h past) (site f) (acts_in (served c (firsts (site f)) (site f) past)) h f p x g
+        → Open c (steps_of_host h past) (site f) (acts_in (served c (firsts (site f)) (site f) past)) h f p x g
         → IsOnItsWay c firsts past h f p x
     way h p f x g o = (
       g,
       o.made,
       o.file,
       o.has,
-      λ r. o.not_applied (subst (λ S. Applied (site f) S h (number_of g)) (sym (kept_now.same (site f))) r),
+      λ r. o.not_applied (subst (λ S. IsApplied (site f) S h (number_of g)) (sym (kept_now.same (site f))) r),
     )
 
     back : (h : HostId) (p : Part) (f : Fid) (x : Seen p) (y : IsOnItsWay c firsts past h f p x)
-        → Open c (own h past) (site f) (acts_in (served c (firsts (site f)) (site f) past)) h f p x y.0
+        → Open c (steps_of_host h past) (site f) (acts_in (served c (firsts (site f)) (site f) past)) h f p x y.0
     back h p f x y = record {
       made = y.1;
       file = y.2;
       has = y.3;
-      not_applied = λ r. y.4 (subst (λ S. Applied (site f) S h (number_of y.0)) (kept_now.same (site f)) r);
+      not_applied = λ r. y.4 (subst (λ S. IsApplied (site f) S h (number_of y.0)) (kept_now.same (site f)) r);
     }
 
     pub loses_exactly : LosesExactly c firsts past
@@ -434,7 +431,7 @@ module _ (c : Contents) (firsts : ServerId → ℕ) where
       all = all';
       only = only';
       sizes = sizes';
-      away = λ h p x f e w. ((at f h).mine p f x refl e).0 (subst (λ S. Away S h) (sym (kept_now.same (site f))) w);
+      away = λ h p x f e w. ((at f h).mine p f x refl e).0 (subst (λ S. HasGoneAway S h) (sym (kept_now.same (site f))) w);
     }
       where
         all' : (h : HostId) (q x : ℕ) (f : Fid) → (tree c past f (ByteAt q)).unsaved ≡ Some (by h x)
@@ -444,28 +441,28 @@ module _ (c : Contents) (firsts : ServerId → ℕ) where
             elim m.1 [
               | inl d ↦ inl (
                 d,
-                (by_same h h (view c (own h past) f (ByteAt q)) x
+                (by_same h h (view c (steps_of_host h past) f (ByteAt q)) x
                     (sym ((at f h).dirty_is q f refl d m.0) ∙ e)).1,
               )
               | inr o ↦ inr (way h (ByteAt q) f x o.0 o.1)
             ]
 
-        only' : (h : HostId) (q x : ℕ) (f : Fid) → (Away (acts (firsts (site f)) (site f) past) h → ⊥)
+        only' : (h : HostId) (q x : ℕ) (f : Fid) → (HasGoneAway (doings_of (firsts (site f)) (site f) past) h → ⊥)
             → Unstored c firsts past h f q x → (tree c past f (ByteAt q)).unsaved ≡ Some (by h x)
         only' h q x f live (inl d) = (at f h).dirty_is q f refl d.0 (λ w. live (gone f h w))
             ∙ ap (λ z. Some (by h z)) d.1
         only' h q x f live (inr o) = (at f h).open_is q f x o.0 refl (back h (ByteAt q) f x o) (λ w. live (gone f h w))
 
         sizes' : (h : HostId) (x : ℕ) (f : Fid) → (tree c past f Size).unsaved ≡ Some (by h x)
-            → (OwnsUpdate (own h past) f Size × (view c (own h past) f Size ≡ x)) ⊎ IsOnItsWay c firsts past h f Size x
+            → (OwnsUpdate (steps_of_host h past) f Size × (view c (steps_of_host h past) f Size ≡ x)) ⊎ IsOnItsWay c firsts past h f Size x
         sizes' h x f e =
             let m = (at f h).mine Size f x refl e in
             elim m.1 [
               | inl u ↦ inl (
                 u,
-                subst (λ j. view c (own h past) j Size ≡ present (tree c past j Size)) u.file
+                subst (λ j. view c (steps_of_host h past) j Size ≡ present (tree c past j Size)) u.file
                     ((at u.token.fid h).cached Size u.token refl u.owned u.covers
-                    (λ w. m.0 (subst (λ j. Away (acts_in (served c (firsts (site j)) (site j) past)) h) u.file w)))
+                    (λ w. m.0 (subst (λ j. HasGoneAway (acts_in (served c (firsts (site j)) (site j) past)) h) u.file w)))
                     ∙ value_is (tree c past f Size).unsaved (tree c past f Size).kept (by h x) e,
               )
               | inr o ↦ inr (way h Size f x o.0 o.1)

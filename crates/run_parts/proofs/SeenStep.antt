@@ -10,12 +10,10 @@ use Rattle.token_types.specs.declared.token.Token.{Token}
 use Rattle.message_types.specs.declared.asking.Fetch.{Fetch as FetchOf}
 use Rattle.message_types.specs.declared.giving.Give.{Give}
 use Rattle.run_rules.specs.declared.step.Step.{Step}
-use Rattle.run_rules.specs.Lists.{In}
-use Rattle.run_rules.specs.Gives.{Made, IsKnown}
-use Rattle.run_rules.specs.Tokens.{Owns}
-use Rattle.run_rules.specs.Requests.{Asking}
-use Rattle.run_rules.specs.Sends.{HasSaid as HasTold}
 use Rattle.run_rules.specs.HostTokens.{HostTokens}
+use Rattle.run_rules.specs.Messages.{Asking, HasSaid as HasTold}
+use Rattle.run_rules.specs.Past.{In}
+use Rattle.run_rules.specs.Tokens.{IsKnown, Made, Owns}
 use Rattle.run_tokens.proofs.Invariant.{Alone}
 use Rattle.tree_laws.specs.Parts.{Part, Seen}
 use Rattle.tree_laws.specs.Parts.Part.{ByteAt, Size, Traits, Entries}

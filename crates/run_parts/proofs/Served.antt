@@ -1,6 +1,12 @@
 -- The doings of a server's step, one after the other: each meets the rules of tokens, and they are those of the step.
-use Rattle.run_rules.specs.Acts.{admitting, deciding, sending}
-use Rattle.run_rules.specs.Lists.{Each, after}
+use Rattle.run_rules.specs.Doings.{Doing, Granted, IsNewEpoch, admitting, after_admitting, after_cause, after_deciding}
+use Rattle.run_rules.specs.Doings.{after_sending, after_step, deciding, epoch, sending}
+use Rattle.run_rules.specs.Doings.Doing.{Admits, BeginsEpoch, Flushes, MakesWant, Reserves, Sent, Took, WritesDown}
+use Rattle.run_rules.specs.Messages.{Said}
+use Rattle.run_rules.specs.Past.{EachInTurn, appended}
+use Rattle.run_rules.specs.ServerTokens.{ServerStep, ServerTokens}
+use Rattle.run_rules.specs.declared.applied.Applied.TheVariants.{Done as IsDone, IsDown, Replied, Stored}
+use Rattle.run_rules.specs.declared.applied.Applied.TheVariants.{Wants as IsWanted}
 use Rattle.std.proofs.Common.{◌≡◌, ℕ, ◌<◌, suc, List, [], ◌∷◌, ◌++◌, ◌∙◌, subst, refl, arith}
 use Rattle.base_types.specs.declared.ids.HostId.{HostId}
 use Rattle.base_types.specs.declared.ids.ServerId.{ServerId}
@@ -9,20 +15,10 @@ use Rattle.message_types.specs.declared.message.Body.{Body}
 use Rattle.message_types.specs.declared.message.Message.{Message}
 use Rattle.run_rules.specs.declared.applied.Admission.{Admission}
 use Rattle.run_rules.specs.declared.applied.Applied.{Applied}
-use Rattle.run_rules.specs.declared.applied.Applied.TheVariants.{Stored, Ends, IsDown, Wants as IsWanted}
-use Rattle.run_rules.specs.declared.applied.Applied.TheVariants.{Done as IsDone}
 use Rattle.run_rules.specs.declared.step.Cause.{Cause}
 use Rattle.run_rules.specs.declared.step.Cause.TheVariants.{Message as Came, Line, Restart, Lapse, Evict, End}
 use Rattle.run_rules.specs.declared.step.Cause.TheVariants.{Flushed}
 use Rattle.run_rules.specs.declared.step.Step.{Step}
-use Rattle.run_rules.specs.Sends.{Said}
-use Rattle.run_rules.specs.Acts.{Act, epoch, after_cause, written_by}
-use Rattle.run_rules.specs.Acts.{admitted_by, sent_by, after_step}
-use Rattle.run_rules.specs.Acts.Act.{Begins, Took, Flushes, Wants, Writes, Admits, Sent, Reserves}
-use Rattle.run_rules.specs.Hosts.{IsBegin}
-use Rattle.run_rules.specs.Grants.{Granted}
-use Rattle.run_rules.specs.ServerTokens.{ServerTokens}
-use Rattle.run_rules.specs.TokenRuns.{ServerStep}
 use Rattle.run_tokens.proofs.Owed.{Owed}
 use Rattle.run_tokens.proofs.Invariant.{Alone}
 use Rattle.run_tokens.proofs.ServerAct.{served_act, link_act}
@@ -31,7 +27,7 @@ use Rattle.run_tokens.proofs.Law.{AtServer}
 use Rattle.run_parts.specs.Doings.{doings, doings_cause}
 
 -- a doing that sends, admits, writes and keeps nothing needs no leave
-took_may : (v : ServerId) (S : List Act) (h : HostId) (e n : ℕ) (b : Body) → ServerTokens v S (Took h e n b)
+took_may : (v : ServerId) (S : List Doing) (h : HostId) (e n : ℕ) (b : Body) → ServerTokens v S (Took h e n b)
 took_may v S h e n b = record {
   epochs = λ k d m c p. absurd (cc);
   grants = λ k d m w p. absurd (cc);
@@ -48,7 +44,7 @@ took_may v S h e n b = record {
   reserves = λ ts t u p. absurd (cc);
 }
 
-flush_may : (v : ServerId) (S : List Act) → ServerTokens v S Flushes
+flush_may : (v : ServerId) (S : List Doing) → ServerTokens v S Flushes
 flush_may v S = record {
   epochs = λ k d m c p. absurd (cc);
   grants = λ k d m w p. absurd (cc);
@@ -65,7 +61,7 @@ flush_may v S = record {
   reserves = λ ts t u p. absurd (cc);
 }
 
-begin_may : (v : ServerId) (S : List Act) (n : ℕ) → ServerTokens v S (Begins n)
+begin_may : (v : ServerId) (S : List Doing) (n : ℕ) → ServerTokens v S (BeginsEpoch n)
 begin_may v S n = record {
   epochs = λ k d m c p. absurd (cc);
   grants = λ k d m w p. absurd (cc);
@@ -82,17 +78,17 @@ begin_may v S n = record {
   reserves = λ ts t u p. absurd (cc);
 }
 
-abbrev pub IsHeard : (HostId → List Step) → ServerId → Act → Type 0
+abbrev pub IsHeard : (HostId → List Step) → ServerId → Doing → Type 0
 IsHeard own_of v a = (h : HostId) (e n : ℕ) (b : Body) → a ≡ Took h e n b → Said (own_of h) v e n b
 
 -- a doing that meets the rules of tokens, and keeps what they keep
-pub record Next (own_of : HostId → List Step) (v : ServerId) (S : List Act) (a : Act) : Type 0 where
+pub record Next (own_of : HostId → List Step) (v : ServerId) (S : List Doing) (a : Doing) : Type 0 where
   pub may : ServerTokens v S a
   pub heard : IsHeard own_of v a
   pub next : AtServer own_of v S → AtServer own_of v (a ∷ S)
 
 module _ (own_of : HostId → List Step) (alone : (h : HostId) → Alone (own_of h)) (v : ServerId) where
-  act : (S : List Act) (a : Act) → ServerTokens v S a → (IsBegin a → ⊥) → epoch (a ∷ S) ≡ epoch S → IsHeard own_of v a
+  act : (S : List Doing) (a : Doing) → ServerTokens v S a → (IsNewEpoch a → ⊥) → epoch (a ∷ S) ≡ epoch S → IsHeard own_of v a
       → Next own_of v S a
   act S a may quiet same came = record {
     may = may;
@@ -106,38 +102,38 @@ module _ (own_of : HostId → List Step) (alone : (h : HostId) → Alone (own_of
         };
   }
 
-  sents : (ms : List Message) (S more : List Act) → Each (ServerTokens v) (sending ms) S → Each (Next own_of v) more (after (sending ms) S)
-      → Each (Next own_of v) (sending ms ++ more) S
+  sents : (ms : List Message) (S more : List Doing) → EachInTurn (ServerTokens v) (sending ms) S → EachInTurn (Next own_of v) more (appended (sending ms) S)
+      → EachInTurn (Next own_of v) (sending ms ++ more) S
   sents [] S more may rest = rest
   sents (m ∷ ms) S more may rest = (
     act S (Sent m.host m.epoch m.moves m.body) may.0 (λ p. let q = p.1 in cc) refl (λ h e n b p. absurd (cc)),
     sents ms (Sent m.host m.epoch m.moves m.body ∷ S) more may.1 rest,
   )
 
-  admits : (cs : List Admission) (S more : List Act) → Each (ServerTokens v) (admitting cs) S
-      → Each (Next own_of v) more (after (admitting cs) S) → Each (Next own_of v) (admitting cs ++ more) S
+  admits : (cs : List Admission) (S more : List Doing) → EachInTurn (ServerTokens v) (admitting cs) S
+      → EachInTurn (Next own_of v) more (appended (admitting cs) S) → EachInTurn (Next own_of v) (admitting cs ++ more) S
   admits [] S more may rest = rest
   admits (c ∷ cs) S more may rest = (
     act S (Admits c.host c.tokens) may.0 (λ p. let q = p.1 in cc) refl (λ h e n b p. absurd (cc)),
     admits cs (Admits c.host c.tokens ∷ S) more may.1 rest,
   )
 
-  writes : (xs : List Applied) (S more : List Act) → Each (ServerTokens v) (deciding xs) S → Each (Next own_of v) more (after (deciding xs) S)
-      → Each (Next own_of v) (deciding xs ++ more) S
+  writes : (xs : List Applied) (S more : List Doing) → EachInTurn (ServerTokens v) (deciding xs) S → EachInTurn (Next own_of v) more (appended (deciding xs) S)
+      → EachInTurn (Next own_of v) (deciding xs ++ more) S
   writes [] S more may rest = rest
   writes (IsWanted x ∷ xs) S more may rest = (
-    act S (Wants x) may.0 (λ p. let q = p.1 in cc) refl (λ h e n b p. absurd (cc)),
-    writes xs (Wants x ∷ S) more may.1 rest,
+    act S (MakesWant x) may.0 (λ p. let q = p.1 in cc) refl (λ h e n b p. absurd (cc)),
+    writes xs (MakesWant x ∷ S) more may.1 rest,
   )
   writes (IsDone x ∷ xs) S more may rest = (
-    act S (Writes x) may.0 (λ p. let q = p.1 in cc) refl (λ h e n b p. absurd (cc)),
-    writes xs (Writes x ∷ S) more may.1 rest,
+    act S (WritesDown x) may.0 (λ p. let q = p.1 in cc) refl (λ h e n b p. absurd (cc)),
+    writes xs (WritesDown x ∷ S) more may.1 rest,
   )
-  writes (Ends x ∷ xs) S more may rest = writes xs S more may rest
+  writes (Replied x ∷ xs) S more may rest = writes xs S more may rest
   writes (Stored h f ss n ∷ xs) S more may rest = writes xs S more may rest
   writes (IsDown h ∷ xs) S more may rest = writes xs S more may rest
 
-  begins : (S : List Act) (n : ℕ) → epoch S < n → Next own_of v S (Begins n)
+  begins : (S : List Doing) (n : ℕ) → epoch S < n → Next own_of v S (BeginsEpoch n)
   begins S n up = record {
     may = begin_may v S n;
     heard = λ h e k b p. absurd (cc);
@@ -148,9 +144,9 @@ module _ (own_of : HostId → List Step) (alone : (h : HostId) → Alone (own_of
     };
   }
 
-  causes : (c : Cause) (S more : List Act)
+  causes : (c : Cause) (S more : List Doing)
       → ((m : Message) → c ≡ Came m → Said (own_of m.host) v m.epoch m.moves m.body)
-      → Each (Next own_of v) more (after_cause c S) → Each (Next own_of v) (doings_cause c S more) S
+      → EachInTurn (Next own_of v) more (after_cause c S) → EachInTurn (Next own_of v) (doings_cause c S more) S
   causes (Came m) S more came rest =
       let here = came m refl in (
         act S (Took m.host m.epoch m.moves m.body) (took_may v S m.host m.epoch m.moves m.body) (λ p. let q = p.1 in
@@ -167,37 +163,37 @@ module _ (own_of : HostId → List Step) (alone : (h : HostId) → Alone (own_of
   causes Evict S more came rest = rest
   causes End S more came rest = rest
 
-  pub each_next : (s : Step) (S : List Act) → ServerStep v S s
+  pub each_next : (s : Step) (S : List Doing) → ServerStep v S s
       → ((m : Message) → s.cause ≡ Came m → Said (own_of m.host) v m.epoch m.moves m.body)
-      → Each (Next own_of v) (doings s S) S
+      → EachInTurn (Next own_of v) (doings s S) S
   each_next s S may came =
       causes s.cause S _ came
       (writes s.applied (after_cause s.cause S) _ may.writes
-      (admits s.admitted (written_by s S) _ may.admits
-      (sents s.sent (admitted_by s S) (Reserves s.reserved ∷ []) may.sends (
-        act (sent_by s S) (Reserves s.reserved) may.reserves (λ p. let q = p.1 in cc) refl (λ h e n b p. absurd (cc)),
+      (admits s.admitted (after_deciding s S) _ may.admits
+      (sents s.sent (after_admitting s S) (Reserves s.reserved ∷ []) may.sends (
+        act (after_sending s S) (Reserves s.reserved) may.reserves (λ p. let q = p.1 in cc) refl (λ h e n b p. absurd (cc)),
         tt,
       ))))
 
-after_sents : (ms : List Message) (S more : List Act) → after (sending ms ++ more) S ≡ after more (after (sending ms) S)
+after_sents : (ms : List Message) (S more : List Doing) → appended (sending ms ++ more) S ≡ appended more (appended (sending ms) S)
 after_sents [] S more = refl
 after_sents (m ∷ ms) S more = after_sents ms (Sent m.host m.epoch m.moves m.body ∷ S) more
 
-after_admits : (cs : List Admission) (S more : List Act)
-    → after (admitting cs ++ more) S ≡ after more (after (admitting cs) S)
+after_admits : (cs : List Admission) (S more : List Doing)
+    → appended (admitting cs ++ more) S ≡ appended more (appended (admitting cs) S)
 after_admits [] S more = refl
 after_admits (c ∷ cs) S more = after_admits cs (Admits c.host c.tokens ∷ S) more
 
-after_writes : (xs : List Applied) (S more : List Act)
-    → after (deciding xs ++ more) S ≡ after more (after (deciding xs) S)
+after_writes : (xs : List Applied) (S more : List Doing)
+    → appended (deciding xs ++ more) S ≡ appended more (appended (deciding xs) S)
 after_writes [] S more = refl
-after_writes (IsWanted x ∷ xs) S more = after_writes xs (Wants x ∷ S) more
-after_writes (IsDone x ∷ xs) S more = after_writes xs (Writes x ∷ S) more
-after_writes (Ends x ∷ xs) S more = after_writes xs S more
+after_writes (IsWanted x ∷ xs) S more = after_writes xs (MakesWant x ∷ S) more
+after_writes (IsDone x ∷ xs) S more = after_writes xs (WritesDown x ∷ S) more
+after_writes (Replied x ∷ xs) S more = after_writes xs S more
 after_writes (Stored h f ss n ∷ xs) S more = after_writes xs S more
 after_writes (IsDown h ∷ xs) S more = after_writes xs S more
 
-after_causes : (c : Cause) (S more : List Act) → after (doings_cause c S more) S ≡ after more (after_cause c S)
+after_causes : (c : Cause) (S more : List Doing) → appended (doings_cause c S more) S ≡ appended more (after_cause c S)
 after_causes (Came m) S more = refl
 after_causes (Restart line) S more = refl
 after_causes Flushed S more = refl
@@ -207,8 +203,8 @@ after_causes Evict S more = refl
 after_causes End S more = refl
 
 -- after its doings a step is done
-pub after_doings : (s : Step) (S : List Act) → after (doings s S) S ≡ after_step s S
+pub after_doings : (s : Step) (S : List Doing) → appended (doings s S) S ≡ after_step s S
 after_doings s S =
     after_causes s.cause S _
     ∙ (after_writes s.applied (after_cause s.cause S) _
-    ∙ (after_admits s.admitted (written_by s S) _ ∙ after_sents s.sent (admitted_by s S) (Reserves s.reserved ∷ [])))
+    ∙ (after_admits s.admitted (after_deciding s S) _ ∙ after_sents s.sent (after_admitting s S) (Reserves s.reserved ∷ [])))

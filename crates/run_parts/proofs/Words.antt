@@ -5,17 +5,16 @@ use Rattle.base_types.specs.declared.ids.FilesetId.{FilesetId}
 use Rattle.base_types.specs.declared.ids.HostId.{HostId}
 use Rattle.base_types.specs.declared.ids.ServerId.{ServerId}
 use Rattle.message_types.specs.declared.message.Body.{Body}
-use Rattle.run_rules.specs.Acts.Act.{Took}
-use Rattle.run_rules.specs.Acts.{Act, epoch}
-use Rattle.run_rules.specs.Hosts.{Away, TakesOf}
+use Rattle.run_rules.specs.Doings.{Doing, HasGoneAway, TakesOf, epoch}
+use Rattle.run_rules.specs.Doings.Doing.{Took}
 
 -- a message that is taken comes from a host that isn't away
-pub taken_is : (v : ServerId) (S : List Act) (a : Act) (h : HostId) (fs : FilesetId) (b : Body) → TakesOf v S a h fs b
+pub taken_is : (v : ServerId) (S : List Doing) (a : Doing) (h : HostId) (fs : FilesetId) (b : Body) → TakesOf v S a h fs b
     → (n : ℕ) × (a ≡ Took h (epoch S) n b)
 taken_is v S a h fs b (n, here, (is, (listed, live))) = (n, is)
 
-pub taken_live : (v : ServerId) (S : List Act) (a : Act) (h : HostId) (fs : FilesetId) (b : Body) → TakesOf v S a h fs b
-    → Away S h → ⊥
+pub taken_live : (v : ServerId) (S : List Doing) (a : Doing) (h : HostId) (fs : FilesetId) (b : Body) → TakesOf v S a h fs b
+    → HasGoneAway S h → ⊥
 taken_live v S a h fs b (n, here, (is, (listed, live))) = live
 
 -- a choice by whether two nodes are the same

@@ -3,7 +3,7 @@ use Rattle.std.specs.Prelude.{List, ℕ}
 use Rattle.base_types.specs.declared.ids.ServerId.{ServerId}
 use Rattle.run_parts.specs.Contents.{Contents}
 use Rattle.run_parts.specs.Legal.{ContentsRun}
-use Rattle.run_rules.specs.TokenRuns.{IsTokenRun}
+use Rattle.run_tokens.specs.TokenLaws.{IsTokenRun}
 use Rattle.run_rules.specs.declared.step.Step.{Step}
 
 abbrev pub HoldsInRuns : (Contents → (ServerId → ℕ) → List Step → Type 0) → Type 0

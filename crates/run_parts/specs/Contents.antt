@@ -22,18 +22,12 @@ use Rattle.run_parts.specs.Deeds.{Deed, acts_in}
 use Rattle.tree_laws.specs.Parts.{Nature, Part, Seen, no_cell}
 use Rattle.tree_laws.specs.Parts.Part.{ByteAt, Size, Traits}
 use Rattle.need_host.specs.Shows.{is_update, shows}
-use Rattle.run_rules.specs.Acts.Act.{Took, Writes, Sent}
-use Rattle.run_rules.specs.Acts.{Act, SentTo}
-use Rattle.run_rules.specs.Epochs.{About}
-use Rattle.run_rules.specs.Floors.{Uses}
-use Rattle.run_rules.specs.Gives.{IsKnown, Made}
-use Rattle.run_rules.specs.Grants.{Applies, Brings, Granted}
-use Rattle.run_rules.specs.Hosts.{Away, NoGrace, TookNow}
-use Rattle.run_rules.specs.Lists.{In}
-use Rattle.run_rules.specs.Places.{home}
-use Rattle.run_rules.specs.Requests.{Asking, Fetches}
-use Rattle.run_rules.specs.Sends.{Said}
-use Rattle.run_rules.specs.Tokens.{AtHand, Leaves, Owns}
+use Rattle.run_rules.specs.Doings.{BringsTokens, Doing, Granted, HasGoneAway, NoGrace, SentTo, TookNow}
+use Rattle.run_rules.specs.Doings.Doing.{Sent, Took, WritesDown}
+use Rattle.run_rules.specs.Messages.{About, Asking, Said, SendsFetch, home}
+use Rattle.run_rules.specs.Past.{In}
+use Rattle.run_rules.specs.Tokens.{AtHand, IsKnown, LeavesHost, Made, Owns, Uses}
+use Rattle.run_tokens.specs.TokenLaws.{Applies}
 use Rattle.run_rules.specs.declared.applied.Written.{Written}
 use Rattle.run_rules.specs.declared.step.Step.{Step}
 
@@ -198,7 +192,7 @@ pub record Asks (c : Contents) (past : List Step) (s : Step) (f : FetchOf) : Typ
   pub back : (g : Give) → Made (s ∷ past) g → g.fid ≡ f.fid → (IsKnown (s ∷ past) g → ⊥) → ⊥
 
 abbrev pub FetchesSo : Contents → List Step → Step → Type 0
-FetchesSo c past s = (f : FetchOf) → Fetches s f → Repeats past f ⊎ Asks c past s f
+FetchesSo c past s = (f : FetchOf) → SendsFetch s f → Repeats past f ⊎ Asks c past s f
 
 -- what a step that takes tokens shows
 pub record TakesShow (c : Contents) (past : List Step) (s : Step) : Type 0 where
@@ -252,7 +246,7 @@ pub record HostShows (c : Contents) (past : List Step) (s : Step) : Type 0 where
   pub gives : GivesShow c past s
   pub grown : WritesGrow c past s
   -- what it takes stays in the step
-  pub takes_stay : (t : Token) → In t s.taken → Leaves s t.id → ⊥
+  pub takes_stay : (t : Token) → In t s.taken → LeavesHost s t.id → ⊥
   -- a part is written under a token for update, of a file; a byte by a step that doesn't give it back
   pub writes : (f : Fid) (p : Part) (x : Seen p) → c.wrote past s f p ≡ Some x → OwnsUpdate (s ∷ past) f p
   pub writes_file : (f : Fid) (p : Part) (x : Seen p) → c.wrote past s f p ≡ Some x → KnowsFile c past s f
@@ -266,7 +260,7 @@ pub record HostShows (c : Contents) (past : List Step) (s : Step) : Type 0 where
   pub fetches : FetchesSo c past s
 
 -- no host has the token: it isn't granted, and it is no grace period
-abbrev pub Bars : ServerId → List Act → Token → Type 0
+abbrev pub Bars : ServerId → List Doing → Token → Type 0
 Bars v past t = NoGrace past × (Granted v past t → ⊥)
 
 -- a byte is kept below the kept size
@@ -296,7 +290,7 @@ pub record ServerShows (c : Contents) (v : ServerId) (past : List Deed) (d : Dee
   pub blind : (h : HostId) (e n : ℕ) (p : Part) (w : DoneOf) (t : Token) → d.act ≡ Sent h e n (Done w)
       → In t w.bring.tokens → shows t.kind p ≡ true → SentTo (acts_in past) h e n (Done w)
   -- tokens are brought for an object that is there, or brought again
-  pub there : (h : HostId) (e n : ℕ) (w : Bring) (t : Token) → Brings d.act h e n w → In t w.tokens
+  pub there : (h : HostId) (e n : ℕ) (w : Bring) (t : Token) → BringsTokens d.act h e n w → In t w.tokens
       → Granted v (acts_in past) t ⊎ IsThere (kept c past t.fid Traits)
   -- what a give-back has is stored by the doing that applies it, of a file that can keep it; nothing else is stored
   pub stores : (f : Fid) (p : Part) (x : Seen p) → d.does f p ≡ Stores x
@@ -307,7 +301,7 @@ pub record ServerShows (c : Contents) (v : ServerId) (past : List Deed) (d : Dee
   -- a Change sets a part when it is written down: of an object that isn't there, or else while tokens over the part
   -- are barred; with the size those over bytes, and with the object's removal all of the object
   pub sets : (f : Fid) (p : Part) (x : Seen p) → d.does f p ≡ Sets x
-      → ((w : Written) × (d.act ≡ Writes w))
+      → ((w : Written) × (d.act ≡ WritesDown w))
       × ((kept c past f Traits ≡ None)
       ⊎ ((t : Token) → t.fid ≡ f → shows t.kind p ≡ true → Bars v (acts_in past) t))
   pub sets_whole : (f : Fid) (x q : ℕ) (t : Token) → d.does f Size ≡ Sets x → t.fid ≡ f
@@ -323,4 +317,4 @@ pub record ServerShows (c : Contents) (v : ServerId) (past : List Deed) (d : Dee
   pub loses : (f : Fid) (p : Part) (h : HostId) → d.does f p ≡ Loses h
       → (e : ℕ) × (n : ℕ) × (d.act ≡ Took h e n Down)
   pub loses_all : (f : Fid) (p : Part) (h : HostId) (e n : ℕ) → d.act ≡ Took h e n Down
-      → (Away (acts_in past) h → ⊥) → d.does f p ≡ Loses h
+      → (HasGoneAway (acts_in past) h → ⊥) → d.does f p ≡ Loses h

@@ -1,20 +1,19 @@
 -- A server's doings in a step, the oldest first. Lists that are called past have the newest first.
-use Rattle.run_rules.specs.Acts.{admitting, deciding, sending}
+use Rattle.run_rules.specs.Doings.{Doing, admitting, deciding, epoch, sending}
+use Rattle.run_rules.specs.Doings.Doing.{BeginsEpoch, Flushes, Reserves, Took}
 use Rattle.std.specs.Prelude.{List, [], suc, ◌++◌, ◌∷◌}
-use Rattle.run_rules.specs.Acts.{Act, epoch}
-use Rattle.run_rules.specs.Acts.Act.{Begins, Took, Flushes, Reserves}
 use Rattle.run_rules.specs.declared.step.Cause.{Cause}
 use Rattle.run_rules.specs.declared.step.Cause.TheVariants.{Message as Came, Restart, Flushed}
 use Rattle.run_rules.specs.declared.step.Step.{Step}
 
-abbrev pub doings_cause : Cause → List Act → List Act → List Act
+abbrev pub doings_cause : Cause → List Doing → List Doing → List Doing
 doings_cause (Came m) past more = Took m.host m.epoch m.moves m.body ∷ more
-doings_cause (Restart line) past more = Begins (suc (epoch past)) ∷ more
+doings_cause (Restart line) past more = BeginsEpoch (suc (epoch past)) ∷ more
 doings_cause Flushed past more = Flushes ∷ more
 doings_cause _ past more = more
 
 -- the doings of the step, after those before it
-abbrev pub doings : Step → List Act → List Act
+abbrev pub doings : Step → List Doing → List Doing
 doings s past =
     doings_cause s.cause past
     (deciding s.applied ++ (admitting s.admitted ++ (sending s.sent ++ (Reserves s.reserved ∷ []))))

@@ -1,5 +1,11 @@
 -- The tree of a run, part by part, and what holds of it. Lists of steps have the newest first.
-use Rattle.run_rules.specs.Lists.{Each, after}
+use Rattle.run_rules.specs.Doings.{HasGoneAway, IsApplied, doings_of}
+use Rattle.run_rules.specs.Doings.Doing.{BeginsEpoch}
+use Rattle.run_rules.specs.Messages.{HasStopped}
+use Rattle.run_rules.specs.Past.{EachInTurn, appended}
+use Rattle.run_rules.specs.Steps.{steps_of_host}
+use Rattle.run_rules.specs.Tokens.{AtHand, Held, Made, number_of}
+use Rattle.run_tokens.specs.TokenLaws.{Applies}
 use Rattle.std.specs.Prelude.{List, None, Some, [], if◌then◌else◌, true, ℕ, ◌==◌, ◌∷◌, ◌≡◌, ◌<◌, ◌≤◌, ◌⊎◌}
 use Rattle.base_types.specs.declared.ids.Fid.{Fid}
 use Rattle.base_types.specs.declared.ids.HostId.{HostId}
@@ -18,14 +24,6 @@ use Rattle.run_parts.specs.Deeds.{Deed, acts_in}
 use Rattle.tree_laws.specs.Parts.{Cell, Part, Seen, Written, present}
 use Rattle.tree_laws.specs.Parts.Part.{ByteAt, Size, Traits}
 use Rattle.need_host.specs.Shows.{is_update, shows}
-use Rattle.run_rules.specs.Acts.Act.{Begins}
-use Rattle.run_rules.specs.Acts.{acts}
-use Rattle.run_rules.specs.Gives.{Made, number_of}
-use Rattle.run_rules.specs.Grants.{Applied, Applies}
-use Rattle.run_rules.specs.Hosts.{Away}
-use Rattle.run_rules.specs.Nodes.{own}
-use Rattle.run_rules.specs.Sends.{HasStopped}
-use Rattle.run_rules.specs.Tokens.{AtHand, Held}
 use Rattle.run_rules.specs.declared.step.Step.{Step}
 
 -- a value at each part of each object
@@ -42,11 +40,11 @@ cells_served (d ∷ more) cells = cells_served more (cells_after d cells)
 
 -- a server starts in an epoch, which changes nothing
 abbrev pub first_deed : ℕ → Deed
-first_deed first = record { act = Begins first; does = λ f p. Nothing }
+first_deed first = record { act = BeginsEpoch first; does = λ f p. Nothing }
 
 abbrev pub served_after : Contents → ServerId → Node → Step → List Step → List Deed → List Deed
 served_after c v (Host host) s past deeds = deeds
-served_after c v (Server server) s past deeds = if server.0 == v.0 then after (c.deeds past s) deeds else deeds
+served_after c v (Server server) s past deeds = if server.0 == v.0 then appended (c.deeds past s) deeds else deeds
 
 -- all that a server has done, from its first epoch on
 abbrev pub served : Contents → ℕ → ServerId → List Step → List Deed
@@ -55,7 +53,7 @@ served c first v (s ∷ past) = served_after c v s.node s past (served c first v
 
 -- the tree after a step: a host writes; the server of the file stores, sets, loses
 abbrev pub tree_after : Contents → Node → Step → List Step → Cells → Cells
-tree_after c (Host host) s past cells f p = written host (c.wrote (own host past) s f p) (cells f p)
+tree_after c (Host host) s past cells f p = written host (c.wrote (steps_of_host host past) s f p) (cells f p)
 tree_after c (Server server) s past cells f p =
     if server.0 == (site f).0 then cells_served (c.deeds past s) cells f p else cells f p
 
@@ -65,10 +63,10 @@ tree c (s ∷ past) f p = tree_after c s.node s past (tree c past) f p
 
 -- each node's steps treat parts by the rules; `firsts` are the epochs in which the servers start
 abbrev pub StepShows : Contents → (ServerId → ℕ) → Node → List Step → Step → Type 0
-StepShows c firsts (Host host) past s = HostShows c (own host past) s
+StepShows c firsts (Host host) past s = HostShows c (steps_of_host host past) s
 StepShows c firsts (Server v) past s =
     (acts_in (c.deeds past s) ≡ doings s (acts_in (served c (firsts v) v past)))
-    × Each (ServerShows c v) (c.deeds past s) (served c (firsts v) v past)
+    × EachInTurn (ServerShows c v) (c.deeds past s) (served c (firsts v) v past)
 
 abbrev pub ContentsRun : Contents → (ServerId → ℕ) → List Step → Type 0
 ContentsRun c firsts [] = (v : ServerId) → AreAlike c v [] × HaveRoots c v []
@@ -114,8 +112,8 @@ LegalDoings c v (d ∷ more) past cells =
 -- what a host sees under a token at hand is present
 abbrev pub LegalStep : Contents → (ServerId → ℕ) → Node → Step → List Step → Type 0
 LegalStep c firsts (Host h) s past =
-    (t : Token) (p : Part) → AtHand s (own h past) t → shows t.kind p ≡ true
-    → sees c (own h past) s t.fid p ≡ present (tree c past t.fid p)
+    (t : Token) (p : Part) → AtHand s (steps_of_host h past) t → shows t.kind p ≡ true
+    → sees c (steps_of_host h past) s t.fid p ≡ present (tree c past t.fid p)
 LegalStep c firsts (Server v) s past =
     LegalDoings c v (c.deeds past s) (served c (firsts v) v past) (tree c past)
 
@@ -126,8 +124,8 @@ Legal c firsts (s ∷ past) = Legal c firsts past × LegalStep c firsts s.node s
 -- what a host that hasn't stopped sees under a token that it holds is what is present, in a grace period too
 abbrev pub SeesPresent : Contents → List Step → Type 0
 SeesPresent c past =
-    (h : HostId) (p : Part) (t : Token) → (HasStopped (own h past) → ⊥) → Held (own h past) t
-    → shows t.kind p ≡ true → view c (own h past) t.fid p ≡ present (tree c past t.fid p)
+    (h : HostId) (p : Part) (t : Token) → (HasStopped (steps_of_host h past) → ⊥) → Held (steps_of_host h past) t
+    → shows t.kind p ≡ true → view c (steps_of_host h past) t.fid p ≡ present (tree c past t.fid p)
 
 -- the server's kept values are the tree's
 abbrev pub KeepsTree : Contents → (ServerId → ℕ) → List Step → Type 0
@@ -137,13 +135,13 @@ KeepsTree c firsts past =
 -- a give-back that isn't applied has the value
 abbrev pub IsOnItsWay : Contents → (ServerId → ℕ) → List Step → HostId → Fid → (p : Part) → Seen p → Type 0
 IsOnItsWay c firsts past h f p x =
-    (g : Give) × Made (own h past) g × (g.fid ≡ f) × (c.gives g p ≡ Some x)
-    × (Applied (site f) (acts (firsts (site f)) (site f) past) h (number_of g) → ⊥)
+    (g : Give) × Made (steps_of_host h past) g × (g.fid ≡ f) × (c.gives g p ≡ Some x)
+    × (IsApplied (site f) (doings_of (firsts (site f)) (site f) past) h (number_of g) → ⊥)
 
 -- the byte is one that the host wrote and hasn't given back, or it is in a give-back that isn't applied
 abbrev pub Unstored : Contents → (ServerId → ℕ) → List Step → HostId → Fid → ℕ → ℕ → Type 0
 Unstored c firsts past h f q x =
-    ((dirty c (own h past) f q ≡ true) × (view c (own h past) f (ByteAt q) ≡ x))
+    ((dirty c (steps_of_host h past) f q ≡ true) × (view c (steps_of_host h past) f (ByteAt q) ≡ x))
     ⊎ IsOnItsWay c firsts past h f (ByteAt q) x
 
 -- Until the server takes a host's Down, the host's unsaved bytes are exactly these: what a Down then loses. Its unsaved
@@ -151,12 +149,13 @@ Unstored c firsts past h f q x =
 pub record LosesExactly (c : Contents) (firsts : ServerId → ℕ) (past : List Step) : Type 0 where
   pub all : (h : HostId) (q x : ℕ) (f : Fid) → (tree c past f (ByteAt q)).unsaved ≡ Some (by h x)
       → Unstored c firsts past h f q x
-  pub only : (h : HostId) (q x : ℕ) (f : Fid) → (Away (acts (firsts (site f)) (site f) past) h → ⊥)
+  pub only : (h : HostId) (q x : ℕ) (f : Fid) → (HasGoneAway (doings_of (firsts (site f)) (site f) past) h → ⊥)
       → Unstored c firsts past h f q x → (tree c past f (ByteAt q)).unsaved ≡ Some (by h x)
   pub sizes : (h : HostId) (x : ℕ) (f : Fid) → (tree c past f Size).unsaved ≡ Some (by h x)
-      → (OwnsUpdate (own h past) f Size × (view c (own h past) f Size ≡ x)) ⊎ IsOnItsWay c firsts past h f Size x
+      → (OwnsUpdate (steps_of_host h past) f Size × (view c (steps_of_host h past) f Size ≡ x))
+      ⊎ IsOnItsWay c firsts past h f Size x
   pub away : (h : HostId) (p : Part) (x : Seen p) (f : Fid) → (tree c past f p).unsaved ≡ Some (by h x)
-      → Away (acts (firsts (site f)) (site f) past) h → ⊥
+      → HasGoneAway (doings_of (firsts (site f)) (site f) past) h → ⊥
 
 -- each unsaved byte lies below the present size, and is of a file that can keep it
 pub record LiesInside (c : Contents) (firsts : ServerId → ℕ) (past : List Step) : Type 0 where

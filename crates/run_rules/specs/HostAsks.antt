@@ -1,47 +1,40 @@
--- What a host asks for, for its open call: one request at a time, under the tokens that it keeps.
-use Rattle.run_rules.specs.Grants.{IsUseKind}
-use Rattle.run_rules.specs.Gives.{GiveOpen}
+-- What a host asks for, for its open call: one request at a time, under the tokens that it keeps. `past` is the host's own
+-- earlier steps.
 use Rattle.std.specs.Prelude.{Bool, IsTrue, List, Some, [], false, suc, true, ℕ, ◌/◌, ◌<◌, ◌∷◌, ◌≡◌, ◌⊎◌}
 use Rattle.base_types.specs.Spans.{has_byte}
 use Rattle.base_types.specs.declared.ids.Fid.{Fid}
 use Rattle.base_types.specs.declared.ids.FilesetId.{FilesetId}
 use Rattle.base_types.specs.declared.ids.HostId.{HostId}
 use Rattle.base_types.specs.declared.ids.ServerId.{ServerId}
-use Rattle.base_types.specs.declared.span.Span.{Span}
 use Rattle.base_types.specs.declared.limits.TheConstants.{TOKEN_BYTES}
+use Rattle.base_types.specs.declared.span.Span.{Span}
 use Rattle.tree_calls.specs.declared.call.Call.{Call}
 use Rattle.tree_calls.specs.declared.roster.Roster.{Roster}
-use Rattle.need_host.specs.Looks.{IsCovered, IsFirstLack}
-use Rattle.need_host.specs.Questions.{Question, numbered_under}
-use Rattle.need_host.specs.Walks.{root_of}
-use Rattle.message_types.specs.Soundness.{no_fid}
-use Rattle.message_types.specs.declared.giving.Give.{Give}
+use Rattle.tree_laws.specs.Parts.{Nature}
+use Rattle.tree_laws.specs.Parts.Part.{Traits}
+use Rattle.tree_objects.specs.Spans.{whole}
 use Rattle.token_types.specs.Covers.{Covers}
+use Rattle.token_types.specs.declared.token.Kind.TheVariants.{Bytes, Status}
 use Rattle.token_types.specs.declared.token.Need.{Need}
 use Rattle.token_types.specs.declared.token.Token.{Token}
-use Rattle.tree_laws.specs.Parts.{Nature}
-use Rattle.run_rules.specs.Knowing.{Stance, is_entering, look_of, needs_in, stay_asked, verdict_in}
-use Rattle.run_rules.specs.OpenCalls.{Begins, IsOpen}
-use Rattle.run_rules.specs.Views.{sees}
-use Rattle.run_rules.specs.Epochs.{IsWelcome}
-use Rattle.run_rules.specs.Gives.{IsKnown, Made}
-use Rattle.run_rules.specs.Dirty.{is_dirty}
-use Rattle.run_rules.specs.Lists.{In, Since}
-use Rattle.run_rules.specs.Places.{place}
-use Rattle.run_rules.specs.Requests.{Asking, Changing, Fetches}
-use Rattle.run_rules.specs.Sends.{HasGreeted, HasStopped, Said, Sends}
-use Rattle.run_rules.specs.Tokens.{Held}
+use Rattle.message_types.specs.Soundness.{no_fid}
+use Rattle.message_types.specs.declared.asking.Change.{Change as ChangeOf}
+use Rattle.message_types.specs.declared.asking.Fetch.{Fetch as FetchOf}
+use Rattle.message_types.specs.declared.giving.Give.{Give}
+use Rattle.message_types.specs.declared.message.Body.TheVariants.{Change, Fetch}
+use Rattle.need_host.specs.Calls.Verdict.{Asks, Gives}
+use Rattle.need_host.specs.Looks.{IsCovered, IsFirstLack}
+use Rattle.need_host.specs.Questions.{Question, numbered_under}
+use Rattle.need_host.specs.Questions.Question.{ChangeIn}
+use Rattle.need_host.specs.Walks.{root_of}
+use Rattle.run_rules.specs.Messages.{Asking, Changing, HasGreeted, HasStopped, IsWelcome, Said, Sends, SendsFetch}
+use Rattle.run_rules.specs.Messages.{stay_of}
+use Rattle.run_rules.specs.Past.{In, Since}
+use Rattle.run_rules.specs.Tokens.{BeginsCall, GiveOpen, Held, IsKnown, IsOpen, IsUseKind, Made}
+use Rattle.run_rules.specs.Views.{Stance, is_dirty, is_entering, look_of, needs_in, sees, stay_asked, verdict_in}
 use Rattle.run_rules.specs.declared.applied.Why.TheVariants.{Revoked}
 use Rattle.run_rules.specs.declared.step.Asked.{Asked}
 use Rattle.run_rules.specs.declared.step.Step.{Step}
-use Rattle.tree_objects.specs.Spans.{whole}
-use Rattle.message_types.specs.declared.message.Body.TheVariants.{Fetch, Change}
-use Rattle.message_types.specs.declared.asking.Fetch.{Fetch as FetchOf}
-use Rattle.message_types.specs.declared.asking.Change.{Change as ChangeOf}
-use Rattle.token_types.specs.declared.token.Kind.TheVariants.{Bytes, Status}
-use Rattle.need_host.specs.Calls.Verdict.{Gives, Asks}
-use Rattle.tree_laws.specs.Parts.Part.{Traits}
-use Rattle.need_host.specs.Questions.Question.{ChangeIn}
 
 -- a Fetch, a Change that was sent, wherever and in whatever epoch
 abbrev pub HasFetched : List Step → FetchOf → Type 0
@@ -59,7 +52,7 @@ IsChangeNumber past server fileset n =
     (c : ChangeOf) × HasChanged past server c × (c.fileset ≡ fileset) × (c.number ≡ n)
 
 -- the number is the next one after some: they begin at 1
-pub record IsNext (IsNumber : ℕ → Type 0) (n : ℕ) : Type 0 where
+pub record IsNextNumber (IsNumber : ℕ → Type 0) (n : ℕ) : Type 0 where
   pub above : (m : ℕ) → IsNumber m → m < n
   pub after : (n ≡ 1) ⊎ ((m : ℕ) × IsNumber m × (suc m ≡ n))
 
@@ -83,7 +76,7 @@ LosesStatus past s fid =
 -- one has done so since the host's last call began
 abbrev pub HasLost : List Step → Fid → Type 0
 HasLost past fid = Since (λ before s. LosesStatus before s fid)
-    (λ before s. (k : ℕ) × (call : Call) × Begins s k call) past
+    (λ before s. (k : ℕ) × (call : Call) × BeginsCall s k call) past
 
 -- needs of bytes name the position, for reading or for update
 abbrev pub NamesByte : List Need → Fid → Bool → ℕ → Type 0
@@ -147,7 +140,7 @@ module _ (roster : Roster) (host : HostId) (past : List Step) (s : Step) (stance
   -- A Fetch is new: it is for the first object of the open call that lacks a token, and for what it lacks, and no
   -- give-back of the object is on its way.
   pub record IsNewFetch (f : FetchOf) : Type 0 where
-    pub next : IsNext (IsFetchNumber past f.fid.fileset) f.number
+    pub next : IsNextNumber (IsFetchNumber past f.fid.fileset) f.number
     pub no_give : GiveOpen (s ∷ past) f.fid → ⊥
     pub call : Asked
     pub is_open : IsOpen (s ∷ past) call
@@ -159,7 +152,7 @@ module _ (roster : Roster) (host : HostId) (past : List Step) (s : Step) (stance
 
   -- A Change is new: it asks the server about the open call.
   pub record IsNewChange (v : ServerId) (n : ℕ) (c : ChangeOf) : Type 0 where
-    pub next : IsNext (IsChangeNumber past v c.fileset) c.number
+    pub next : IsNextNumber (IsChangeNumber past v c.fileset) c.number
     pub is_open : IsOpen (s ∷ past) (record { k = c.k; call = c.call })
     pub question : Question
     pub asks : AsksServer c.call question c.fid
@@ -176,13 +169,14 @@ module _ (roster : Roster) (host : HostId) (past : List Step) (s : Step) (stance
   -- the server that the open call goes to next, as far as the host knows
   abbrev pub GoesTo : Call → ServerId → Type 0
   GoesTo call v =
-      ((need : Need) × FirstLack call need × ((place (s ∷ past) need.fid.fileset).server ≡ v))
+      ((need : Need) × FirstLack call need × ((stay_of (s ∷ past) need.fid.fileset).server ≡ v))
       ⊎ ((question : Question) × (fid : Fid) × AsksServer call question fid
       × ((stay_asked (s ∷ past) question).server ≡ v))
 
   pub record HostAsks : Type 0 where
     -- a Fetch is a repeat of one that is outstanding, or it is new; so is a Change
-    pub fetches : (f : FetchOf) → Fetches s f → (HasFetched past f × Asking past f.fid.fileset f.number) ⊎ IsNewFetch f
+    pub fetches : (f : FetchOf) → SendsFetch s f
+        → (HasFetched past f × Asking past f.fid.fileset f.number) ⊎ IsNewFetch f
     pub changes : (v : ServerId) (e n : ℕ) (c : ChangeOf) → Sends s v e n (Change c)
         → (HasChanged past v c × Changing past v c.fileset c.number) ⊎ IsNewChange v n c
     -- one request is outstanding

@@ -1,5 +1,4 @@
--- What is due of a host: that it answers, asks, gives back and sends again, so that runs end. No law of safety rests on
--- it.
+-- What is due of a host: what it sends again, and when. That runs end rests on it, and no law of safety does.
 use Rattle.std.specs.Prelude.{List, None, [], ℕ, ◌∷◌, ◌≡◌, ◌⊎◌}
 use Rattle.base_types.specs.declared.ids.Fid.{Fid}
 use Rattle.base_types.specs.declared.ids.HostId.{HostId}
@@ -10,45 +9,55 @@ use Rattle.tree_calls.specs.declared.place.Place.{Place}
 use Rattle.tree_calls.specs.declared.roster.Roster.{Roster}
 use Rattle.token_types.specs.declared.token.Token.{Token}
 use Rattle.token_types.specs.declared.token.TokenId.{TokenId}
+use Rattle.script_lines.specs.declared.script.Script.{Script}
 use Rattle.message_types.specs.declared.giving.Give.{Give}
-use Rattle.message_types.specs.declared.giving.Reclaimed.{Reclaimed as ReclaimedOf}
 use Rattle.message_types.specs.declared.giving.Reclaim.{Reclaim as ReclaimOf}
+use Rattle.message_types.specs.declared.giving.Reclaimed.{Reclaimed as ReclaimedOf}
 use Rattle.message_types.specs.declared.message.Body.{Body}
-use Rattle.message_types.specs.declared.message.Body.TheVariants.{Hello, Revoke, Returned, GiveBack, Reclaim, Reclaimed}
-use Rattle.message_types.specs.declared.message.Body.TheVariants.{Bye}
+use Rattle.message_types.specs.declared.message.Body.TheVariants.{Bye, Change, Fetch, GiveBack, Hello, Reclaim}
+use Rattle.message_types.specs.declared.message.Body.TheVariants.{Reclaimed, Returned, Revoke}
 use Rattle.message_types.specs.declared.tokens.Named.{Named}
 use Rattle.message_types.specs.declared.tokens.Revoke.{Revoke as RevokeOf}
-use Rattle.script_lines.specs.declared.script.Script.{Script}
-use Rattle.run_rules.specs.Dirty.{IsDirtyUnder}
-use Rattle.run_rules.specs.Epochs.{About, Comes, IsWelcome, epoch_at}
-use Rattle.run_rules.specs.Gives.{IsKnown, IsOutstanding, Made, Makes}
-use Rattle.run_rules.specs.HostAsks.{GoesTo}
-use Rattle.run_rules.specs.HostGives.{HasDirty}
-use Rattle.run_rules.specs.HostLeaves.{MayEvict}
-use Rattle.run_rules.specs.HostResends.{Claimed, ClaimsAt, HasBye, LearnsRestart, Outstanding}
-use Rattle.run_rules.specs.Knowing.{FindsFile, Stance}
-use Rattle.run_rules.specs.Labels.{FreesPinned, GivesUse, IsUsed, NoneUsed, end_of}
-use Rattle.run_rules.specs.Lines.{limit_of}
-use Rattle.run_rules.specs.Lists.{EachOnce, In}
-use Rattle.run_rules.specs.OpenCalls.{Begins, IsOpen, IsTurn}
-use Rattle.run_rules.specs.Places.{place}
-use Rattle.run_rules.specs.Sends.{HasGreeted, HasSaid, Keeps, Says, Sends, SendsTo}
-use Rattle.run_rules.specs.Tokens.{AtHand, Drops, Held, HoldsId}
+use Rattle.run_rules.specs.HostAsks.{GoesTo, HasChanged, HasFetched}
+use Rattle.run_rules.specs.HostMay.{AwaitsReclaimed, ClaimsAt, LearnsRestart}
+use Rattle.run_rules.specs.HostTokens.{MayEvict, OwnsUpdate}
+use Rattle.run_rules.specs.Messages.{About, Asking, Changing, Comes, ComesIn, HasGreeted, HasSaid, IsDecidedAt}
+use Rattle.run_rules.specs.Messages.{IsWelcome, KeepsToken, Says, Sends, SendsTo, StaysAt, epoch_at, stay_of}
+use Rattle.run_rules.specs.Past.{EachOnce, In, Once}
+use Rattle.run_rules.specs.Steps.{limit_of}
+use Rattle.run_rules.specs.Tokens.{AtHand, BeginsCall, Drops, FreesPinned, GivesUse, HasCall, Held, HoldsId, IsKnown}
+use Rattle.run_rules.specs.Tokens.{IsOpen, IsOutstanding, Made, Makes, NoneUsed, TokenInUse, end_of}
+use Rattle.run_rules.specs.Views.{ByteIsDirty, FindsFile, IsDirtyUnder, LengthIsDirty, Stance}
 use Rattle.run_rules.specs.declared.applied.Leave.{Leave}
 use Rattle.run_rules.specs.declared.applied.Why.TheVariants.{Ended}
 use Rattle.run_rules.specs.declared.step.Asked.{Asked}
-use Rattle.run_rules.specs.declared.step.Cause.TheVariants.{Lapse, Evict, End}
+use Rattle.run_rules.specs.declared.step.Cause.TheVariants.{End, Evict, Lapse}
 use Rattle.run_rules.specs.declared.step.Labelled.{Labelled}
 use Rattle.run_rules.specs.declared.step.Step.{Step}
+
+-- the server has said Bye
+abbrev pub HasBye : List Step → ServerId → Type 0
+HasBye past server = Once (λ before s. (e n : ℕ) × ComesIn s server e n Bye) past
+
+-- The message is outstanding at a server, with so many moves. A claim is another matter: it is made anew each time.
+abbrev pub IsUnanswered : List Step → ServerId → ℕ → Body → Type 0
+IsUnanswered past server n Hello = HasGreeted past server × (IsWelcome past server → ⊥) × (n ≡ 0)
+IsUnanswered past server n (Fetch f) =
+    HasFetched past f × Asking past f.fid.fileset f.number × StaysAt past f.fid.fileset server n
+IsUnanswered past server n (Change c) =
+    HasChanged past server c × Changing past server c.fileset c.number × IsDecidedAt past c.fileset server n
+IsUnanswered past server n (GiveBack g) = IsOutstanding past g × StaysAt past g.fid.fileset server n
+IsUnanswered past server n Bye = HasSaid past server Bye × (HasBye past server → ⊥) × (n ≡ 0)
+IsUnanswered past server n _ = ⊥
 
 -- of its open call, from where the host stands
 pub record CallsDue
     (roster : Roster) (host : HostId) (past : List Step) (s : Step) (stance : Stance roster host past s) : Type 0 where
   -- a Sync whose walk lacks no token gives back each token of its file under which something is dirty
-  pub syncs : (k : ℕ) (place : Place) (fid : Fid) (t : Token) → IsTurn past s k (Sync place)
+  pub syncs : (k : ℕ) (place : Place) (fid : Fid) (t : Token) → HasCall past s k (Sync place)
       → FindsFile stance place fid → AtHand s past t → t.fid ≡ fid → IsDirtyUnder past s t → Makes s t.id
   -- the last use of a pinned token is ended by a give-back
-  pub frees : (k : ℕ) (u : Labelled) → IsTurn past s k (end_of u) → FreesPinned past u
+  pub frees : (k : ℕ) (u : Labelled) → HasCall past s k (end_of u) → FreesPinned past u
       → (g : Give) × In g s.made × GivesUse g u
   -- a server is greeted once, before anything is asked of it, for an open call; and again at a lapse
   pub greets : (v : ServerId) (e n : ℕ) → Sends s v e n Hello → (IsWelcome (s ∷ past) v → ⊥)
@@ -67,24 +76,10 @@ AnswersOf past revoke id fid =
     ((token : Token) × Held past token × (token.id ≡ id) × (token.fid ≡ fid))
     ⊎ ((HoldsId past id → ⊥) × (revoke.fid ≡ fid))
 
--- of each token that a Revoke names
-pub record RevokeDue (past : List Step) (s : Step) (revoke : RevokeOf) (i : TokenId) : Type 0 where
-  -- a held token in use is kept
-  pub keeps : HoldsId past i → IsUsed past i → Keeps s i
-  -- one under which something is dirty goes into a give-back
-  pub gives : (t : Token) → Held past t → t.id ≡ i → HasDirty past s t → Makes s i
-  -- one in a give-back that isn't known as applied is answered by that, where it is outstanding
-  pub gives_again : (g : Give) → IsOutstanding past g → In i g.ids
-      → SendsTo s (place (s ∷ past) g.fid.fileset) (GiveBack g)
-  -- all others are returned
-  pub returns : (fid : Fid) → AnswersOf past revoke i fid → (IsUsed past i → ⊥)
-      → ((t : Token) → Held past t → t.id ≡ i → HasDirty past s t → ⊥)
-      → ((g : Give) → Made past g → In i g.ids → IsKnown past g) → ReturnsOf s fid i
-
 -- no give-back: those are sent again where the server has restarted
-abbrev pub IsOther : Body → Type 0
-IsOther (GiveBack give) = ⊥
-IsOther _ = Unit {0}
+abbrev pub IsNoGiveBack : Body → Type 0
+IsNoGiveBack (GiveBack give) = ⊥
+IsNoGiveBack _ = Unit {0}
 
 -- a Revoke names a token of the give-back
 abbrev pub AsksBack : List Step → Step → Give → Type 0
@@ -100,23 +95,23 @@ SendsAgain past s v _ = (answer : ReclaimedOf) × Comes past s v (Reclaimed answ
 -- what is sent again, and when
 pub record RepeatsDue (past : List Step) (s : Step) : Type 0 where
   -- at a lapse it sends again what is outstanding, and the claim that waits; all of it, and nothing else
-  pub lapse_all : (v : ServerId) (n : ℕ) (b : Body) → s.cause ≡ Lapse → Outstanding past v n b
+  pub lapse_all : (v : ServerId) (n : ℕ) (b : Body) → s.cause ≡ Lapse → IsUnanswered past v n b
       → Sends s v (epoch_at past v) n b
-  pub lapse_claims : (v : ServerId) → s.cause ≡ Lapse → Claimed past v → ClaimsAt s v
+  pub lapse_claims : (v : ServerId) → s.cause ≡ Lapse → AwaitsReclaimed past v → ClaimsAt s v
   pub lapse_only : (v : ServerId) (e n : ℕ) (b : Body) → s.cause ≡ Lapse → Sends s v e n b
-      → Outstanding past v n b ⊎ (Claimed past v × ((claim : ReclaimOf) × (b ≡ Reclaim claim)))
+      → IsUnanswered past v n b ⊎ (AwaitsReclaimed past v × ((claim : ReclaimOf) × (b ≡ Reclaim claim)))
   -- and it changes nothing
   pub lapse_quiet : s.cause ≡ Lapse
       → (s.asked ≡ None) × (s.answers ≡ []) × (s.taken ≡ []) × (s.dropped ≡ []) × (s.made ≡ [])
   -- where a server has restarted it sends its outstanding give-backs again, and a claim
-  pub restarted_gives : (v : ServerId) (n : ℕ) (g : Give) → LearnsRestart past s v → Outstanding past v n (GiveBack g)
+  pub restarted_gives : (v : ServerId) (n : ℕ) (g : Give) → LearnsRestart past s v → IsUnanswered past v n (GiveBack g)
       → Sends s v (epoch_at (s ∷ past) v) n (GiveBack g)
   pub restarted_claims : (v : ServerId) → LearnsRestart past s v → ClaimsAt s v
   -- once its claim is answered it sends what else is still outstanding again
   pub reclaimed_all : (v : ServerId) (n : ℕ) (answer : ReclaimedOf) (b : Body) → Comes past s v (Reclaimed answer)
-      → IsOther b → Outstanding past v n b → Outstanding (s ∷ past) v n b → Sends s v (epoch_at (s ∷ past) v) n b
+      → IsNoGiveBack b → IsUnanswered past v n b → IsUnanswered (s ∷ past) v n b → Sends s v (epoch_at (s ∷ past) v) n b
   -- at no other time is anything sent again that is outstanding, nor a Bye that was answered
-  pub again_only : (v : ServerId) (e n : ℕ) (b : Body) → Sends s v e n b → Outstanding past v n b
+  pub again_only : (v : ServerId) (e n : ℕ) (b : Body) → Sends s v e n b → IsUnanswered past v n b
       → (s.cause ≡ Lapse) ⊎ SendsAgain past s v b
   pub bye_again : (v : ServerId) → Says s v Bye → HasSaid past v Bye → HasBye past v → ⊥
 
@@ -127,11 +122,31 @@ pub record LeavesDue (limit : ℕ) (past : List Step) (s : Step) : Type 0 where
   -- it evicts one token, where it may evict
   pub evicts : s.cause ≡ Evict → MayEvict past limit × ((l : Leave) × (s.dropped ≡ l ∷ []))
   -- each step of its end does something
-  pub ends : s.cause ≡ End → ((k : ℕ) × (call : Call) × Begins s k call)
+  pub ends : s.cause ≡ End → ((k : ℕ) × (call : Call) × BeginsCall s k call)
       ⊎ (((l : Leave) × In l s.dropped) ⊎ ((v : ServerId) × Says s v Bye))
   -- then what is held leaves at once, when no label is in use; but for a pinned token, that goes back with its last use
   pub ends_all : (l : Leave) → s.cause ≡ End → In l s.dropped → l.why ≡ Ended
       → NoneUsed past × ((t : Token) → Held past t → Drops s t)
+
+-- What is dirty under the token leaves with it: a byte that no token for update covers after the step, or a length.
+abbrev pub HasDirty : List Step → Step → Token → Type 0
+HasDirty past s token =
+    ((at : ℕ) × ByteIsDirty past token at × (OwnsUpdate (s ∷ past) token.fid at → ⊥))
+    ⊎ LengthIsDirty past s token
+
+-- of each token that a Revoke names
+pub record RevokeDue (past : List Step) (s : Step) (revoke : RevokeOf) (i : TokenId) : Type 0 where
+  -- a held token in use is kept
+  pub keeps : HoldsId past i → TokenInUse past i → KeepsToken s i
+  -- one under which something is dirty goes into a give-back
+  pub gives : (t : Token) → Held past t → t.id ≡ i → HasDirty past s t → Makes s i
+  -- one in a give-back that isn't known as applied is answered by that, where it is outstanding
+  pub gives_again : (g : Give) → IsOutstanding past g → In i g.ids
+      → SendsTo s (stay_of (s ∷ past) g.fid.fileset) (GiveBack g)
+  -- all others are returned
+  pub returns : (fid : Fid) → AnswersOf past revoke i fid → (TokenInUse past i → ⊥)
+      → ((t : Token) → Held past t → t.id ≡ i → HasDirty past s t → ⊥)
+      → ((g : Give) → Made past g → In i g.ids → IsKnown past g) → ReturnsOf s fid i
 
 pub record HostDue (script : Script) (host : HostId) (past : List Step) (s : Step) : Type 0 where
   pub stance : Stance script.roster host past s

@@ -7,25 +7,25 @@ use Rattle.base_types.specs.Image.{byte_at}
 use Rattle.base_types.specs.Lists.{changed_at}
 use Rattle.base_types.specs.declared.ids.Fid.{Fid}
 use Rattle.base_types.specs.declared.ids.ServerId.{ServerId}
-use Rattle.tree_calls.specs.declared.part.Piece.{Piece}
-use Rattle.tree_filesets.specs.Laws.{is_file_at}
 use Rattle.tree_answers.specs.Answers.{answer_to}
 use Rattle.tree_answers.specs.Finding.{has_id}
 use Rattle.tree_answers.specs.Stores.{place_with_id}
 use Rattle.tree_answers.specs.declared.tree.Tree.{Tree}
-use Rattle.message_types.specs.declared.message.Body.{Body}
-use Rattle.run_rules.specs.Told.{byte_of}
-use Rattle.run_rules.specs.declared.applied.Applied.{Applied}
-use Rattle.run_rules.specs.declared.step.Cause.{Cause}
-use Rattle.run_rules.specs.declared.step.Step.{Step}
+use Rattle.tree_calls.specs.declared.part.Piece.{Piece}
 use Rattle.tree_calls.specs.declared.reply.Reply.{Reply}
+use Rattle.tree_calls.specs.declared.reply.Reply.TheVariants.{Refused}
+use Rattle.tree_filesets.specs.Laws.{is_file_at}
 use Rattle.tree_filesets.specs.Updates.{changed}
 use Rattle.tree_objects.specs.declared.content.Content.{Content}
 use Rattle.tree_objects.specs.declared.content.Content.TheVariants.{Dir, File}
-use Rattle.tree_calls.specs.declared.reply.Reply.TheVariants.{Refused}
+use Rattle.message_types.specs.declared.message.Body.{Body}
 use Rattle.message_types.specs.declared.message.Body.TheVariants.{GiveBack}
+use Rattle.run_rules.specs.Views.{byte_of}
+use Rattle.run_rules.specs.declared.applied.Applied.{Applied}
 use Rattle.run_rules.specs.declared.applied.Applied.TheVariants.{Done, Stored}
+use Rattle.run_rules.specs.declared.step.Cause.{Cause}
 use Rattle.run_rules.specs.declared.step.Cause.TheVariants.{Message as Came}
+use Rattle.run_rules.specs.declared.step.Step.{Step}
 
 -- the kept length where a length is given: it only grows
 abbrev pub length_given : ℕ → Option ℕ → ℕ
@@ -71,22 +71,22 @@ is_refusal _ = false
 
 -- A Change that is written down has the call's effect on the kept filesets; a refused one has none. What is stored
 -- is the bytes and the length of the give-back that is the step's cause. Locks and open files aren't kept.
-abbrev pub kept_after : Cause → Tree → Applied → Tree
-kept_after cause tree (Done written) =
+abbrev pub filesets_after : Cause → Tree → Applied → Tree
+filesets_after cause tree (Done written) =
     if is_refusal written.answer.reply then tree else (answer_to tree written.answer.host written.answer.call).tree
-kept_after cause tree (Stored host fid spans given) = tree_given tree fid (pieces_in cause) given
-kept_after cause tree _ = tree
+filesets_after cause tree (Stored host fid spans given) = tree_given tree fid (pieces_in cause) given
+filesets_after cause tree _ = tree
 
 -- after some of what a step applies
-abbrev pub kept_through : Cause → List Applied → Tree → Tree
-kept_through cause applied tree = fold (kept_after cause) tree applied
+abbrev pub filesets_through : Cause → List Applied → Tree → Tree
+filesets_through cause applied tree = fold (filesets_after cause) tree applied
 
 -- what a server keeps at the start: its filesets, with nothing in use
-abbrev pub kept_first : Tree → ServerId → Tree
-kept_first start server =
+abbrev pub filesets_first : Tree → ServerId → Tree
+filesets_first start server =
     record start { filesets = filter (λ fileset. fileset.server.0 == server.0) start.filesets; locks = []; opens = [] }
 
 -- the kept filesets after the server's steps
-abbrev pub kept : Tree → ServerId → List Step → Tree
-kept start server [] = kept_first start server
-kept start server (s ∷ past) = kept_through s.cause s.applied (kept start server past)
+abbrev pub filesets_kept : Tree → ServerId → List Step → Tree
+filesets_kept start server [] = filesets_first start server
+filesets_kept start server (s ∷ past) = filesets_through s.cause s.applied (filesets_kept start server past)

@@ -11,7 +11,7 @@ pub enum Why {
     /// The host cached more tokens than it may.
     Evicted,
     /// A call of the host asks for it: a Sync, or the last unlock or close of a pinned token.
-    Asked,
+    ForCall,
     /// The host's lines have gone.
     Ended,
     /// The host stopped.
@@ -90,7 +90,7 @@ pub enum Applied {
         length: Option<u32>,
     },
     /// The reply to the call that a give-back ends.
-    Ends(Answer),
+    Replied(Answer),
     /// The host is down.
     IsDown(HostId),
     /// A request makes a want, or makes its want anew.

@@ -1,8 +1,7 @@
 ghost use Rattle.std.specs.Prelude.{◌≡◌, IfOk};
-ghost use Rattle.run_rules.specs.Fates.{counts, until, planned_fate, fate_by, fate_in_net, spent};
-ghost use Rattle.run_rules.specs.Fates.{word_after};
+ghost use Rattle.run_rules.specs.Plans.{counts, fate_by, fate_in_net, planned_fate, spent, until, word_after};
 
-use crate::ends::{kind_of, receiver, sender};
+use crate::route::{kind_of, receiver, sender};
 use base_types::{Name, NoMemory, Plain};
 use message_types::Message;
 use rand_pcg::Pcg32;
@@ -86,7 +85,7 @@ pub fn fate_in_net(net: &Option<Net>, drawn: u64, left: &Left) -> Fate
 
 // The word that the generator of a seed (O'Neill, "PCG: a family of simple fast space-efficient statistically good
 // algorithms for random number generation") gives after so many others.
-#[tactic(auto, unfolding(crate::specs::Fates::word_after))]
+#[tactic(auto, unfolding(crate::specs::Plans::word_after))]
 fn word_after(seed: u64, drawn: u64) -> u32
     ensures { result ≡ word_after seed drawn }
 {

@@ -1,6 +1,6 @@
 //! The history that a journal is.
 ghost use Rattle.std.specs.Prelude.{◌≡◌, ◌++◌, flat_map, map, IfOk, OnOk};
-ghost use Rattle.run_rules.specs.Histories.{call_entry, entries_in, applied_entries, entries_of, history_of};
+ghost use Rattle.run_rules.specs.Runs.{applied_entries, call_entry, entries_in, entries_of, history_of};
 
 use crate::applied::{Answer, Applied};
 use crate::journal::Journal;
@@ -68,7 +68,7 @@ fn push_one(history: &mut Items<Entry>, server: ServerId, applied: &Applied) -> 
             spans: spans.copy()?,
             length: *length,
         }),
-        Applied::Ends(answer) => history.push(call_entry(answer)?),
+        Applied::Replied(answer) => history.push(call_entry(answer)?),
         Applied::IsDown(host) => history.push(Entry::Down {
             host: *host,
             server,

@@ -10,8 +10,8 @@ use Rattle.tree_calls.specs.declared.part.Piece.{Piece}
 use Rattle.tree_objects.specs.Files.{resized}
 use Rattle.tree_objects.specs.declared.content.Content.TheVariants.{Dir, File}
 use Rattle.store_state.specs.Giving.{lengthened, put_bytes, put_pieces}
-use Rattle.run_rules.specs.Told.{byte_in, byte_of}
 use Rattle.run_rules.specs.Kept.{bytes_given, length_given}
+use Rattle.run_rules.specs.Views.{byte_in, byte_of}
 use Rattle.run_stores.specs.Pieces.{GivesAreAlike}
 
 order : (a b : ℕ) → (a < b) ⊎ ((a ≡ b) ⊎ (b < a))

@@ -26,7 +26,7 @@ use Rattle.store_state.specs.declared.state.Stay.TheVariants.{Writable, Clone, L
 use Rattle.store_state.specs.declared.state.StoreState.{StoreState}
 use Rattle.run_stores.specs.Keeping.{FirstIsKept, IsOf}
 use Rattle.run_stores.specs.Ending.{LastIsKept}
-use Rattle.run_rules.specs.Kept.{kept_first}
+use Rattle.run_rules.specs.Kept.{filesets_first}
 use Rattle.store_laws.specs.TreeKeeping.{KeepsOf, gone_from, if_at, if_gone, left_for, record_at, record_kept}
 
 -- whether a fileset is at a server
@@ -195,7 +195,7 @@ all_filtered p (f ∷ fs) = by (p f) refl (all_filtered p fs)
     by true e rest = ap (λ c. c && list_all p (filter p fs)) e ∙ rest
     by false e rest = rest
 
-first_is_of : (start : Tree) (server : ServerId) → start.away ≡ [] → IsOf server (kept_first start server)
+first_is_of : (start : Tree) (server : ServerId) → start.away ≡ [] → IsOf server (filesets_first start server)
 first_is_of start server unmoved = record {
   own = all_filtered (λ f. f.server.0 == server.0) start.filesets;
   unmoved = unmoved;
@@ -204,7 +204,7 @@ first_is_of start server unmoved = record {
 }
 
 first_keeps : (start : Tree) (state : StoreState) → IsWellFormed start → start.away ≡ [] → KeepsOf start state →
-    KeepsOf (kept_first start state.server) state
+    KeepsOf (filesets_first start state.server) state
 first_keeps start state w unmoved keeps =
     let v = state.server in
     let none : (id : FilesetId) → record_kept state id ≡ None =

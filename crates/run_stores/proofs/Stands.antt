@@ -77,7 +77,7 @@ use Rattle.store_laws.proofs.KeptSteps.{held_here}
 use Rattle.run_contents.specs.Gives.{IsKept}
 use Rattle.run_contents.proofs.KeptGives.{gives_keep}
 use Rattle.run_contents.proofs.Starts.{starts_kept}
-use Rattle.run_rules.specs.Kept.{is_refusal, kept_first, tree_given}
+use Rattle.run_rules.specs.Kept.{filesets_first, is_refusal, tree_given}
 use Rattle.run_stores.specs.Keeping.{IsOf, StandsFor}
 use Rattle.message_types.specs.Soundness.{PiecesRise}
 use Rattle.run_stores.specs.Standing.{ActsStand}
@@ -118,7 +118,7 @@ stands_after tree next state act s fits formed own keeps = record {
 }
 
 first_stands : (start : Tree) (state : StoreState) → IsKept start → start.away ≡ [] → KeepsOf start state →
-    StandsFor (kept_first start state.server) state
+    StandsFor (filesets_first start state.server) state
 first_stands start state kept unmoved keeps = record {
   formed = (starts_kept start state.server kept unmoved).formed;
   is_of = first_is_kept.is_of start state.server unmoved;
@@ -130,9 +130,9 @@ unfolding act_done
 same_booted state = refl
 
 booted_stands : (start : Tree) (state : StoreState) → IsKept start → start.away ≡ [] → KeepsOf start state →
-    StandsFor (kept_first start state.server) (act_done state Boot).state
+    StandsFor (filesets_first start state.server) (act_done state Boot).state
 booted_stands start state kept unmoved keeps =
-    subst (λ v. StandsFor (kept_first start v) (act_done state Boot).state) (same_booted state)
+    subst (λ v. StandsFor (filesets_first start v) (act_done state Boot).state) (same_booted state)
     (first_stands start (act_done state Boot).state kept unmoved (boots_are_kept.boot start state keeps).keeps)
 
 given_stands : (tree : Tree) (state : StoreState) (host : HostId) (number : ℕ) (fid : Fid) (pieces : List Piece)

@@ -60,13 +60,13 @@ use Rattle.store_laws.specs.Calls.{IsNewChange}
 use Rattle.store_laws.specs.KeptGives.{IsNewGive}
 use Rattle.store_laws.specs.TreeKeeping.{KeepsOf}
 use Rattle.run_contents.specs.Gives.{IsKept}
-use Rattle.run_rules.specs.Kept.{is_refusal, kept, kept_after, kept_through, pieces_in}
-use Rattle.run_rules.specs.Nodes.{served}
+use Rattle.run_rules.specs.Kept.{filesets_after, filesets_kept, filesets_through, is_refusal, pieces_in}
 use Rattle.run_rules.specs.Runs.{past_of}
+use Rattle.run_rules.specs.Steps.{steps_of_server}
+use Rattle.run_rules.specs.declared.applied.Applied.TheVariants.{Done, IsDown, Replied, Stored, Wants}
 use Rattle.run_rules.specs.declared.applied.Applied.{Applied}
 use Rattle.run_rules.specs.declared.step.Cause.{Cause}
 use Rattle.run_rules.specs.declared.step.Step.{Step}
-use Rattle.run_rules.specs.declared.applied.Applied.TheVariants.{Done, Ends, IsDown, Stored, Wants}
 use Rattle.run_rules.specs.declared.applied.Written.{Written}
 use Rattle.run_stores.specs.Elsewhere.{named_at}
 use Rattle.run_stores.specs.Keeping.{IsOf, StandsFor}
@@ -256,14 +256,14 @@ none_taken act acts e h =
 
 abbrev Stand : Cause → List Act → Type 0
 Stand cause acts = (applied : List Applied) (tree : Tree) (state : StoreState) → StandsFor tree state
-    → Fits cause applied acts tree state → StandsFor (kept_through cause applied tree) (state_after state acts)
+    → Fits cause applied acts tree state → StandsFor (filesets_through cause applied tree) (state_after state acts)
 
 -- no act
 no_act : (cause : Cause) → Stand cause []
 no_act cause [] tree state s fit = s
 no_act cause (Done written ∷ applied) tree state s fit = let clash = fit.takes in absurd (cc)
 no_act cause (Stored host fid spans given ∷ applied) tree state s fit = let clash = fit.takes in absurd (cc)
-no_act cause (Ends answer ∷ applied) tree state s fit = no_act cause applied tree state s (record {
+no_act cause (Replied answer ∷ applied) tree state s fit = no_act cause applied tree state s (record {
   rise = fit.rise;
   decided = fit.decided.1;
   takes = fit.takes;
@@ -302,10 +302,10 @@ change_first : (cause : Cause) (act : Act) (acts : List Act) (written : Written)
     (state : StoreState) → act ≡ change_act written.answer.reply written →
     filter is_of_filesets acts ≡ acts_of cause applied → Stand cause acts → StandsFor tree state →
     Fits cause (Done written ∷ applied) (act ∷ acts) tree state →
-    StandsFor (kept_through cause (Done written ∷ applied) tree) (state_after state (act ∷ acts))
+    StandsFor (filesets_through cause (Done written ∷ applied) tree) (state_after state (act ∷ acts))
 change_first cause act acts written applied tree state same taken rest s fit =
-    rest applied (kept_after cause tree (Done written)) (act_done state act).state
-    (subst (λ a. StandsFor (kept_after cause tree (Done written)) (act_done state a).state) (sym same)
+    rest applied (filesets_after cause tree (Done written)) (act_done state act).state
+    (subst (λ a. StandsFor (filesets_after cause tree (Done written)) (act_done state a).state) (sym same)
     (written_stands tree state written written.answer.reply s
     (subst (IsAct state.roster state.server) same fit.acts_are.0)
     (subst (λ a. (act_done state a).done.fresh ≡ true) same fit.fresh.0) fit.decided.0)) (record {
@@ -320,10 +320,10 @@ give_first : (cause : Cause) (act : Act) (acts : List Act) (host : HostId) (fid 
     (given : Option ℕ) (applied : List Applied) (tree : Tree) (state : StoreState) →
     act ≡ give_act cause host fid given → filter is_of_filesets acts ≡ acts_of cause applied → Stand cause acts →
     StandsFor tree state → Fits cause (Stored host fid spans given ∷ applied) (act ∷ acts) tree state →
-    StandsFor (kept_through cause (Stored host fid spans given ∷ applied) tree) (state_after state (act ∷ acts))
+    StandsFor (filesets_through cause (Stored host fid spans given ∷ applied) tree) (state_after state (act ∷ acts))
 give_first cause act acts host fid spans given applied tree state same taken rest s fit =
-    rest applied (kept_after cause tree (Stored host fid spans given)) (act_done state act).state
-    (subst (λ a. StandsFor (kept_after cause tree (Stored host fid spans given)) (act_done state a).state) (sym same)
+    rest applied (filesets_after cause tree (Stored host fid spans given)) (act_done state act).state
+    (subst (λ a. StandsFor (filesets_after cause tree (Stored host fid spans given)) (act_done state a).state) (sym same)
     (acts_stand.given tree state host (number_in cause) fid (pieces_in cause) given s
     (give_new state host (number_in cause) fid _ given (subst (λ a. (act_done state a).done.fresh ≡ true) same fit.fresh.0)) fit.rise
     (subst (IsAct state.roster state.server) same fit.acts_are.0))) (record {
@@ -343,7 +343,7 @@ first_act cause act acts e rest (Done written ∷ applied) tree state s fit =
 first_act cause act acts e rest (Stored host fid spans given ∷ applied) tree state s fit =
     let both = taken_first act (give_act cause host fid given) acts (acts_of cause applied) e fit.takes in
     give_first cause act acts host fid spans given applied tree state both.0 both.1 rest s fit
-first_act cause act acts e rest (Ends answer ∷ applied) tree state s fit =
+first_act cause act acts e rest (Replied answer ∷ applied) tree state s fit =
     first_act cause act acts e rest applied tree state s (record {
       rise = fit.rise;
       decided = fit.decided.1;
@@ -385,7 +385,7 @@ stores_stand start state [] [] kept_is unmoved keeps fits = acts_stand.first sta
 stores_stand start state [] (acts ∷ given) kept_is unmoved keeps fits = absurd fits
 stores_stand start state (s ∷ past) [] kept_is unmoved keeps fits = absurd fits
 stores_stand start state (s ∷ past) (acts ∷ given) kept_is unmoved keeps fits =
-    steps_are_kept s.cause s.applied acts (kept start state.server past) (store_after state given)
+    steps_are_kept s.cause s.applied acts (filesets_kept start state.server past) (store_after state given)
     (stores_stand start state past given kept_is unmoved keeps fits.0) fits.1
 
 -- acts leave a store with its server
@@ -410,9 +410,9 @@ server_stays start state (s ∷ past) (acts ∷ given) kept_is unmoved keeps fit
 
 pub stores_end : StoresEnd
 stores_end script journal run ended state given keeps fits =
-    let past = served state.server (past_of journal) in
+    let past = steps_of_server state.server (past_of journal) in
     let first : IsKept run.start = record { formed = run.valid.well_formed; rests = run.valid.at_rest } in
     let stands = stores_stand run.start state past given first run.valid.unmoved keeps fits in
     let same = server_stays run.start state past given first run.valid.unmoved keeps fits in
     stores_follow script journal run ended (store_after state given)
-    (subst (λ v. KeepsOf (kept run.start v (served v (past_of journal))) (store_after state given)) (sym same) stands.keeps)
+    (subst (λ v. KeepsOf (filesets_kept run.start v (steps_of_server v (past_of journal))) (store_after state given)) (sym same) stands.keeps)

@@ -37,7 +37,7 @@ use Rattle.store_laws.proofs.Called.{same_id}
 use Rattle.store_laws.proofs.Keys.{same_key}
 use Rattle.store_laws.proofs.Slots.{found_is, none_used, only_slot}
 use Rattle.store_laws.proofs.KeptSteps.{held_here}
-use Rattle.run_rules.specs.Told.{byte_in, byte_of, nature_told, told}
+use Rattle.run_rules.specs.Views.{byte_in, byte_of, nature_told, part_told}
 use Rattle.run_stores.specs.Keeping.{StandsFor}
 use Rattle.run_stores.specs.Telling.{GiftsAreTold, GrantsTellKept, HasPart, is_dir_told, TellsAreKept, is_within, may_take, pieces_told}
 use Rattle.run_stores.proofs.Gives.{its_own, none_there}
@@ -373,7 +373,7 @@ none_told kept spans at none =
     by (x ∷ xs) e = absurd (cc)
 
 tells_part : (tree : Tree) (state : StoreState) (grant : GrantOf) (spans : List Span) (part : Part) →
-    StandsFor tree state → HasPart state grant spans part → told grant part ≡ (cell_at tree grant.bring.fid part).kept
+    StandsFor tree state → HasPart state grant spans part → part_told grant part ≡ (cell_at tree grant.bring.fid part).kept
 tells_part tree state grant spans Traits s e = ap (option_map nature_told) e ∙ traits_told tree state grant.bring.fid s
 tells_part tree state grant spans Size s e =
     ap (λ o. option_map_or (λ (status : Status). status.length) o 0) (e ∙ status_is tree state grant.bring.fid s)

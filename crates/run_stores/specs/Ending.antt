@@ -8,10 +8,9 @@ use Rattle.script_lines.specs.declared.script.Script.{Script}
 use Rattle.store_laws.specs.TreeKeeping.{KeepsOf}
 use Rattle.store_state.specs.declared.state.StoreState.{StoreState}
 use Rattle.run_history.specs.PastStanding.{KeepsAs}
-use Rattle.run_rules.specs.Histories.{tree_at}
-use Rattle.run_rules.specs.Kept.{kept}
-use Rattle.run_rules.specs.Nodes.{served}
-use Rattle.run_rules.specs.Runs.{IsEnded, IsRun, past_of}
+use Rattle.run_rules.specs.Kept.{filesets_kept}
+use Rattle.run_rules.specs.Runs.{IsEnded, IsRun, past_of, tree_at}
+use Rattle.run_rules.specs.Steps.{steps_of_server}
 use Rattle.run_rules.specs.declared.journal.Journal.{Journal}
 
 -- What a server keeps is what is kept of a well formed tree in which nothing is unsaved and none moved away: then its
@@ -26,5 +25,5 @@ LastIsKept =
 abbrev pub StoresFollow : Type 0
 StoresFollow =
     (script : Script) (journal : Journal) (run : IsRun script journal) → IsEnded script journal → (state : StoreState)
-    → KeepsOf (kept run.start state.server (served state.server (past_of journal))) state
+    → KeepsOf (filesets_kept run.start state.server (steps_of_server state.server (past_of journal))) state
     → KeepsOf (tree_at run.start (past_of journal)) state

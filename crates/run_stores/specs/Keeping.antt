@@ -19,7 +19,7 @@ use Rattle.store_state.specs.Outcomes.{now_done}
 use Rattle.store_state.specs.declared.state.StoreState.{StoreState}
 use Rattle.store_laws.specs.KeptGives.{IsNewGive}
 use Rattle.store_laws.specs.TreeKeeping.{KeepsOf}
-use Rattle.run_rules.specs.Kept.{kept_first, tree_given}
+use Rattle.run_rules.specs.Kept.{filesets_first, tree_given}
 use Rattle.message_types.specs.Soundness.{PiecesRise}
 
 -- all filesets of a tree are at a server, and none moved away; nothing is in use
@@ -37,9 +37,9 @@ pub record StandsFor (tree : Tree) (state : StoreState) : Type 0 where
 
 -- A store that keeps its part of the start tree keeps what its server keeps at the start.
 pub record FirstIsKept : Type 0 where
-  pub is_of : (start : Tree) (server : ServerId) → start.away ≡ [] → IsOf server (kept_first start server)
+  pub is_of : (start : Tree) (server : ServerId) → start.away ≡ [] → IsOf server (filesets_first start server)
   pub keeps : (start : Tree) (state : StoreState) → IsWellFormed start → start.away ≡ [] → KeepsOf start state
-      → KeepsOf (kept_first start state.server) state
+      → KeepsOf (filesets_first start state.server) state
 
 -- A give-back that is stored, whose pieces rise. Where the fileset isn't there nothing changes in either.
 pub record GivesAreKept : Type 0 where

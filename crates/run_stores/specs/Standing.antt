@@ -19,17 +19,17 @@ use Rattle.store_laws.specs.Calls.{IsNewChange}
 use Rattle.store_laws.specs.KeptGives.{IsNewGive}
 use Rattle.store_laws.specs.TreeKeeping.{KeepsOf}
 use Rattle.run_contents.specs.Gives.{IsKept}
-use Rattle.run_rules.specs.Kept.{is_refusal, kept_first, tree_given}
+use Rattle.run_rules.specs.Kept.{filesets_first, is_refusal, tree_given}
 use Rattle.run_stores.specs.Keeping.{StandsFor}
 use Rattle.message_types.specs.Soundness.{PiecesRise}
 
 -- A store stands for what its server keeps at the start, and after each act.
 pub record ActsStand : Type 0 where
   pub first : (start : Tree) (state : StoreState) → IsKept start → start.away ≡ [] → KeepsOf start state
-      → StandsFor (kept_first start state.server) state
+      → StandsFor (filesets_first start state.server) state
   -- once the run has begun in it
   pub booted : (start : Tree) (state : StoreState) → IsKept start → start.away ≡ [] → KeepsOf start state
-      → StandsFor (kept_first start state.server) (act_done state Boot).state
+      → StandsFor (filesets_first start state.server) (act_done state Boot).state
   pub given : (tree : Tree) (state : StoreState) (host : HostId) (number : ℕ) (fid : Fid) (pieces : List Piece)
       (given : Option ℕ)
       → StandsFor tree state → IsNewGive state fid.fileset host number

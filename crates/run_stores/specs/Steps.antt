@@ -18,13 +18,12 @@ use Rattle.store_state.specs.declared.state.StoreState.{StoreState}
 use Rattle.store_laws.specs.TreeKeeping.{KeepsOf}
 use Rattle.run_contents.specs.Gives.{IsKept}
 use Rattle.script_lines.specs.declared.script.Script.{Script}
-use Rattle.run_rules.specs.Histories.{tree_at}
-use Rattle.run_rules.specs.Nodes.{served}
-use Rattle.run_rules.specs.Runs.{IsEnded, IsRun, past_of}
+use Rattle.run_rules.specs.Kept.{filesets_after, filesets_kept, filesets_through, is_refusal, pieces_in}
+use Rattle.run_rules.specs.Runs.{IsEnded, IsRun, past_of, tree_at}
+use Rattle.run_rules.specs.Steps.{steps_of_server}
+use Rattle.run_rules.specs.declared.applied.Applied.TheVariants.{Done, IsDown, Replied, Stored, Wants}
 use Rattle.run_rules.specs.declared.journal.Journal.{Journal}
-use Rattle.run_rules.specs.Kept.{is_refusal, kept, kept_after, kept_through, pieces_in}
 use Rattle.run_rules.specs.declared.applied.Applied.{Applied}
-use Rattle.run_rules.specs.declared.applied.Applied.TheVariants.{Done, Ends, IsDown, Stored, Wants}
 use Rattle.run_rules.specs.declared.applied.Written.{Written}
 use Rattle.run_rules.specs.declared.step.Cause.{Cause}
 use Rattle.run_rules.specs.declared.step.Cause.TheVariants.{Message as Came}
@@ -54,7 +53,7 @@ abbrev pub acts_of : Cause → List Applied → List Act
 acts_of cause [] = []
 acts_of cause (Done written ∷ applied) = change_act written.answer.reply written ∷ acts_of cause applied
 acts_of cause (Stored host fid spans given ∷ applied) = give_act cause host fid given ∷ acts_of cause applied
-acts_of cause (Ends answer ∷ applied) = acts_of cause applied
+acts_of cause (Replied answer ∷ applied) = acts_of cause applied
 acts_of cause (IsDown host ∷ applied) = acts_of cause applied
 acts_of cause (Wants wanted ∷ applied) = acts_of cause applied
 
@@ -73,7 +72,7 @@ IsDecidedSo tree _ = Unit {0}
 
 abbrev pub AreDecidedSo : Cause → Tree → List Applied → Type 0
 AreDecidedSo cause tree [] = Unit {0}
-AreDecidedSo cause tree (x ∷ applied) = IsDecidedSo tree x × AreDecidedSo cause (kept_after cause tree x) applied
+AreDecidedSo cause tree (x ∷ applied) = IsDecidedSo tree x × AreDecidedSo cause (filesets_after cause tree x) applied
 
 -- In a step a store does some acts: it may be given each, and does it now. Beside acts that tell of epochs and hosts
 -- these are those that what is applied takes, in their order. The pieces of a give-back rise, as they do in each sound
@@ -91,7 +90,7 @@ abbrev pub StepsAreKept : Type 0
 StepsAreKept =
     (cause : Cause) (applied : List Applied) (acts : List Act) (tree : Tree) (state : StoreState)
     → StandsFor tree state → Fits cause applied acts tree state
-    → StandsFor (kept_through cause applied tree) (state_after state acts)
+    → StandsFor (filesets_through cause applied tree) (state_after state acts)
 
 -- the store after the acts of some steps, those of the newest step first
 abbrev pub store_after : StoreState → List (List Act) → StoreState
@@ -103,7 +102,7 @@ abbrev pub PastFits : Tree → StoreState → List Step → List (List Act) → 
 PastFits start state [] [] = Unit {0}
 PastFits start state (s ∷ past) (acts ∷ given) =
     PastFits start state past given
-    × Fits s.cause s.applied acts (kept start state.server past) (store_after state given)
+    × Fits s.cause s.applied acts (filesets_kept start state.server past) (store_after state given)
 PastFits start state _ _ = ⊥
 
 -- A store that keeps its part of the start tree stands for what its server keeps after all its steps.
@@ -111,7 +110,7 @@ abbrev pub StoresStand : Type 0
 StoresStand =
     (start : Tree) (state : StoreState) (past : List Step) (given : List (List Act)) → IsKept start → start.away ≡ []
     → KeepsOf start state → PastFits start state past given
-    → StandsFor (kept start state.server past) (store_after state given)
+    → StandsFor (filesets_kept start state.server past) (store_after state given)
 
 -- So once a run is ended, a store that kept its part of the tree from which the run started keeps its part of the tree
 -- that the history of the run makes.
@@ -119,5 +118,5 @@ abbrev pub StoresEnd : Type 0
 StoresEnd =
     (script : Script) (journal : Journal) (run : IsRun script journal) → IsEnded script journal
     → (state : StoreState) (given : List (List Act)) → KeepsOf run.start state
-    → PastFits run.start state (served state.server (past_of journal)) given
+    → PastFits run.start state (steps_of_server state.server (past_of journal)) given
     → KeepsOf (tree_at run.start (past_of journal)) (store_after state given)

@@ -12,11 +12,11 @@ use Rattle.message_types.specs.declared.telling.Grant.{Grant as GrantOf}
 use Rattle.store_state.specs.declared.state.StoreState.{StoreState}
 use Rattle.tree_laws.specs.Parts.{Part, cell_at}
 use Rattle.tree_laws.specs.Parts.Part.{ByteAt, Entries, Size, Traits}
-use Rattle.run_rules.specs.Told.{told}
-use Rattle.need_host.specs.Shows.{shows}
 use Rattle.run_rules.specs.Kept.{takes_gifts}
-use Rattle.run_rules.specs.Lists.{In}
-use Rattle.run_rules.specs.ServerSends.{TellsKept}
+use Rattle.run_rules.specs.Past.{In}
+use Rattle.run_rules.specs.ServerMay.{TellsKept}
+use Rattle.run_rules.specs.Views.{part_told}
+use Rattle.need_host.specs.Shows.{shows}
 use Rattle.token_types.specs.declared.token.Token.{Token}
 use Rattle.run_stores.specs.Keeping.{StandsFor}
 
@@ -51,7 +51,7 @@ pub record TellsAreKept : Type 0 where
       → is_some (status_told state fid) ≡ is_some (cell_at tree fid Traits).kept
   pub parts : (tree : Tree) (state : StoreState) (grant : GrantOf) (spans : List Span) (part : Part)
       → StandsFor tree state → HasPart state grant spans part
-      → told grant part ≡ (cell_at tree grant.bring.fid part).kept
+      → part_told grant part ≡ (cell_at tree grant.bring.fid part).kept
 
 -- A Grant that has so each part that a token which it brings shows tells what is kept.
 abbrev pub GrantsTellKept : Type 0

@@ -10,14 +10,11 @@ use Rattle.message_types.specs.declared.tokens.Named.{Named}
 use Rattle.message_types.specs.declared.giving.Give.{Give}
 use Rattle.run_rules.specs.declared.step.Cause.{Cause}
 use Rattle.run_rules.specs.declared.step.Step.{Step}
-use Rattle.run_rules.specs.Lists.{In}
-use Rattle.run_rules.specs.Places.{home, Here}
-use Rattle.run_rules.specs.Epochs.{About, epoch_at, raised, raised_by}
-use Rattle.run_rules.specs.Floors.{AboveFloor}
-use Rattle.run_rules.specs.Acts.{Act, epoch}
-use Rattle.run_rules.specs.Acts.Act.{Took, Admits}
-use Rattle.run_rules.specs.Hosts.{IsLive}
-use Rattle.run_rules.specs.Grants.{IsNewlyGranted, Granted, IsUseKind, Pinned}
+use Rattle.run_rules.specs.Doings.{Doing, Granted, Here, IsLive, IsNewlyGranted, Pinned, epoch}
+use Rattle.run_rules.specs.Doings.Doing.{Admits, Took}
+use Rattle.run_rules.specs.Messages.{About, epoch_at, epoch_raised, epoch_raised_by, home}
+use Rattle.run_rules.specs.Past.{In}
+use Rattle.run_rules.specs.Tokens.{AboveFloor, IsUseKind}
 use Rattle.run_tokens.specs.Effects.{takes, Effects}
 
 -- to take a message makes no token granted
@@ -26,15 +23,15 @@ taken_none h e n b t (inl (x, (k, d, w, inl g, _, _))) = (let q = g.1 in cc)
 taken_none h e n b t (inl (x, (k, d, w, inr g, _, _))) = (let q = g.1 in cc)
 taken_none h e n b t (inr (ts, q, _)) = cc
 
-returned : (v : ServerId) (past : List Act) (h : HostId) (n : ℕ) (w : Named) (t : Token) → Here v past w.fid.fileset n → IsLive past h → t.host ≡ h → In t.id w.ids → Granted v (takes past h n (Returned w)) t → ⊥
+returned : (v : ServerId) (past : List Doing) (h : HostId) (n : ℕ) (w : Named) (t : Token) → Here v past w.fid.fileset n → IsLive past h → t.host ≡ h → In t.id w.ids → Granted v (takes past h n (Returned w)) t → ⊥
 returned v past h n w t here live mine m (inl g) = taken_none h (epoch past) n (Returned w) t g
 returned v past h n w t here live mine m (inr (g, _, names, _)) = names (inl (w, (n, here, (ap (λ k. Took k (epoch past) n (Returned w)) (sym mine), subst (IsLive past) (sym mine) live)), m))
 
-given : (v : ServerId) (past : List Act) (h : HostId) (n : ℕ) (g : Give) (t : Token) → Here v past g.fid.fileset n → IsLive past h → t.host ≡ h → In t.id g.ids → Granted v (takes past h n (GiveBack g)) t → ⊥
+given : (v : ServerId) (past : List Doing) (h : HostId) (n : ℕ) (g : Give) (t : Token) → Here v past g.fid.fileset n → IsLive past h → t.host ≡ h → In t.id g.ids → Granted v (takes past h n (GiveBack g)) t → ⊥
 given v past h n g t here live mine m (inl k) = taken_none h (epoch past) n (GiveBack g) t k
 given v past h n g t here live mine m (inr (k, _, names, _)) = names (inr (g, (n, here, (ap (λ j. Took j (epoch past) n (GiveBack g)) (sym mine), subst (IsLive past) (sym mine) live)), m))
 
-kept : (v : ServerId) (past : List Act) (n : ℕ) (w : Named) (t : Token) → Here v past w.fid.fileset n → IsLive past t.host → In t.id w.ids → IsUseKind t.kind → Granted v past t → Pinned v (takes past t.host n (Kept w)) t
+kept : (v : ServerId) (past : List Doing) (n : ℕ) (w : Named) (t : Token) → Here v past w.fid.fileset n → IsLive past t.host → In t.id w.ids → IsUseKind t.kind → Granted v past t → Pinned v (takes past t.host n (Kept w)) t
 kept v past n w t here live m kind g = (
   inl (w, (n, here, (refl, live)), m, kind, g),
   inr (
@@ -45,7 +42,7 @@ kept v past n w t here live m kind g = (
   ),
 )
 
-down : (v : ServerId) (past : List Act) (e n : ℕ) (t : Token) → Granted v (Took t.host e n Down ∷ past) t → ⊥
+down : (v : ServerId) (past : List Doing) (e n : ℕ) (t : Token) → Granted v (Took t.host e n Down ∷ past) t → ⊥
 down v past e n t (inl g) = taken_none t.host e n Down t g
 down v past e n t (inr (g, _, _, away)) = away (inl (e, n, refl))
 
@@ -53,7 +50,7 @@ floor : (past : List Step) (s : Step) (r : RevokeOf) (x : ℕ) → About past s 
 floor past s r x comes (inl (inl up, _)) = absurd (let q = same (home r.fid.fileset) in let lt : epoch_at past (home r.fid.fileset) < epoch_at (s ∷ past) (home r.fid.fileset) = up in omega (arith, q))
   where
     same : (v : ServerId) → epoch_at (s ∷ past) v ≡ epoch_at past v
-    same v = ap (λ (c : Cause). raised c v (epoch_at past v)) comes.1 ∙ ap (λ (b : Body). raised_by b (comes.0.server.0 == v.0) comes.0.epoch (epoch_at past v)) comes.5
+    same v = ap (λ (c : Cause). epoch_raised c v (epoch_at past v)) comes.1 ∙ ap (λ (b : Body). epoch_raised_by b (comes.0.server.0 == v.0) comes.0.epoch (epoch_at past v)) comes.5
 floor past s r x comes (inl (inr moved, _)) = absurd (omega (arith, moved))
 floor past s r x comes (inr a) = a.1 r comes refl
 

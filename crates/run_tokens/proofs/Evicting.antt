@@ -4,7 +4,7 @@ use Rattle.base_types.specs.declared.ids.HostId.{HostId}
 use Rattle.tree_calls.specs.declared.roster.Roster.{Roster}
 use Rattle.token_types.specs.declared.token.Token.{Token}
 use Rattle.run_tokens.specs.Evictions.{OldestGoes}
-use Rattle.run_rules.specs.HostLeaves.{LastUsed}
+use Rattle.run_rules.specs.HostTokens.{LastUsed}
 use Rattle.run_rules.specs.declared.step.Step.{Step}
 
 pub last_before : (roster : Roster) (host : HostId) (past : List Step) (t : Token) (n : ℕ)

@@ -25,29 +25,25 @@ use Rattle.run_rules.specs.declared.step.Asked.{Asked}
 use Rattle.run_rules.specs.declared.step.Cause.{Cause}
 use Rattle.run_rules.specs.declared.step.Cause.TheVariants.{Line, Message as Came}
 use Rattle.run_rules.specs.declared.step.Step.{Step}
-use Rattle.run_rules.specs.Lists.{In}
-use Rattle.run_rules.specs.Places.{home, Here}
-use Rattle.run_rules.specs.Nodes.{own}
-use Rattle.run_rules.specs.Epochs.{epoch_at, ComesIn, About}
-use Rattle.run_rules.specs.Sends.{Sends, Said, Returns}
-use Rattle.run_rules.specs.Tokens.{Held, HoldsId, Leaves}
-use Rattle.run_rules.specs.Requests.{Asking}
-use Rattle.run_rules.specs.Floors.{Answers, AboveFloor, Uses}
+use Rattle.run_rules.specs.Doings.{BringsTokens, Doing, Granted, HasGoneAway, HasGoneDown, HasReclaimed, HasUsedStamp}
+use Rattle.run_rules.specs.Doings.{Here, IsNewEpoch, IsNewlyGranted, Issued, Issues, Listed, Reserved, SentTo}
+use Rattle.run_rules.specs.Doings.{StayStamp, UsesStamp, doings_of, epoch}
+use Rattle.run_rules.specs.Doings.Doing.{Admits, BeginsEpoch, MakesWant as WantsOf, Reserves, Sent, Took}
 use Rattle.run_rules.specs.HostTokens.{HostTokens}
-use Rattle.run_rules.specs.Acts.{Act, epoch, SentTo, acts}
-use Rattle.run_rules.specs.Acts.Act.{Begins, Took, Wants as WantsOf, Admits, Sent, Reserves}
-use Rattle.run_rules.specs.Hosts.{IsDown, Listed, Away, IsBegin, HasReclaimed}
-use Rattle.run_rules.specs.Grants.{Mark, Brings, Issues, Issued, Granted, IsNewlyGranted, Reserved}
-use Rattle.run_rules.specs.Stamps.{Tells, Told}
-use Rattle.run_rules.specs.ServerTokens.{MayBring, AskedFetch, ServerTokens}
-use Rattle.run_rules.specs.TokenRuns.{IsTokenRun, ServerStep, CameToHost, CameToServer, IsFrom}
+use Rattle.run_rules.specs.Messages.{About, Asking, ComesIn, ReturnsToken, Said, Sends, epoch_at, home}
+use Rattle.run_rules.specs.Past.{In}
+use Rattle.run_rules.specs.Runs.{CameToHost, CameToServer, IsFrom}
+use Rattle.run_rules.specs.ServerTokens.{AskedFetch, MayBring, ServerStep, ServerTokens}
+use Rattle.run_rules.specs.Steps.{steps_of_host}
+use Rattle.run_rules.specs.Tokens.{AboveFloor, AnswersRequest, Held, HoldsId, LeavesHost, Uses}
+use Rattle.run_tokens.specs.TokenLaws.{IsTokenRun}
 use Rattle.run_tokens.specs.Worked.{client, site_one, no_fid, root, plain, to_server, to_host, welcome, enter, entered, asks_for, token, granted, wants_enter, wants_root, greets, enters, fetches, takes, from_cache, welcomes, tells, grants, worked}
 
 pub at_one : home root.fileset ≡ site_one
 unfolding home
 at_one = refl
 
-pub here_one : (past : List Act) → Here site_one past root.fileset 0
+pub here_one : (past : List Doing) → Here site_one past root.fileset 0
 here_one past = λ i. record { server = at_one i; moves = 0 }
 
 -- a message that the host sends without giving anything up
@@ -72,14 +68,14 @@ module _ (past : List Step) (node : Node) (cause : Cause) (asked : Option Asked)
   abbrev s : Step
   s = plain node cause asked answers taken sent
 
-  no_returned : (i : TokenId) → Returns s i → ⊥
+  no_returned : (i : TokenId) → ReturnsToken s i → ⊥
   no_returned i (v, e, n, named, p, m) = (only v e n (Returned named) p).0
 
   no_answer : (w : Named) (v : ServerId) (e n : ℕ) → Sends s v e n (Returned w) ⊎ Sends s v e n (Kept w) → ⊥
   no_answer w v e n (inl p) = (only v e n (Returned w) p).0
   no_answer w v e n (inr p) = (only v e n (Kept w) p).0
 
-  left : (i : TokenId) → Leaves s i → ⊥
+  left : (i : TokenId) → LeavesHost s i → ⊥
   left i (inl e) = elim e.1 [ ]
   left i (inr e) = no_returned i e
 
@@ -205,15 +201,15 @@ module _ (whole : Span) where
     λ w a up free at. absurd (no_answer_three w a at),
   )
     where
-      no_answer : (w : Bring) → Answers [] greets w → ⊥
+      no_answer : (w : Bring) → AnswersRequest [] greets w → ⊥
       no_answer w (inl g) = no_line 6 (home w.fid.fileset) 0 0 (Grant g.0) greets refl g.1
       no_answer w (inr g) = no_line 6 (home w.fid.fileset) 0 0 (Done g.0) greets refl g.1
 
-      no_answer_two : (w : Bring) → Answers one enters w → ⊥
+      no_answer_two : (w : Bring) → AnswersRequest one enters w → ⊥
       no_answer_two w (inl (g, c, _, _)) = (let p = its_body enters (to_host (Reclaimed welcome)) (home w.fid.fileset) (epoch_at one (home w.fid.fileset)) 0 (Grant g) refl c in cc)
       no_answer_two w (inr (g, c, _, _)) = (let p = its_body enters (to_host (Reclaimed welcome)) (home w.fid.fileset) (epoch_at one (home w.fid.fileset)) 0 (Done g) refl c in cc)
 
-      no_answer_three : (w : Bring) → Answers two (fetches whole) w → w.fid ≡ root → ⊥
+      no_answer_three : (w : Bring) → AnswersRequest two (fetches whole) w → w.fid ≡ root → ⊥
       no_answer_three w (inl (g, c, _, _)) at = (let p = its_body (fetches whole) (to_host (Done entered)) (home w.fid.fileset) (epoch_at two (home w.fid.fileset)) 0 (Grant g) refl c in cc)
       no_answer_three w (inr (g, c, is, _)) at =
           let p : Done entered ≡ Done g = its_body (fetches whole) (to_host (Done entered)) (home w.fid.fileset) (epoch_at two (home w.fid.fileset)) 0 (Done g) refl c in
@@ -248,41 +244,41 @@ module _ (whole : Span) where
       taken t m = ((granted whole).bring, used, m, fid_of t m, λ k. none_held k.0 k.1)
 
   -- the server's doings before it grants
-  abbrev pub began : List Act
-  began = Begins 1 ∷ []
+  abbrev pub began : List Doing
+  began = BeginsEpoch 1 ∷ []
 
-  abbrev pub welcomed : List Act
+  abbrev pub welcomed : List Doing
   welcomed = Reserves [] ∷ Sent client 1 0 (Reclaimed welcome) ∷ Took client 0 0 Hello ∷ began
 
-  abbrev pub told : List Act
+  abbrev pub told : List Doing
   told = Reserves [] ∷ Sent client 1 0 (Done entered) ∷ WantsOf wants_enter ∷ Took client 1 0 (Change enter) ∷ welcomed
 
-  abbrev pub asked : List Act
+  abbrev pub asked : List Doing
   asked = WantsOf (wants_root whole) ∷ Took client 1 0 (Fetch (asks_for whole)) ∷ told
 
   -- a doing that neither lists a host, nor ends one, nor grants or tells anything of the root
-  pub record IsDull (a : Act) : Type 0 where
+  pub record IsDull (a : Doing) : Type 0 where
     pub no_hello : (h : HostId) (e n : ℕ) → a ≡ Took h e n Hello → ⊥
     pub no_down : (h : HostId) (e n : ℕ) → a ≡ Took h e n Down → ⊥
     pub no_bye : (h : HostId) (e n : ℕ) → a ≡ Took h e n Bye → ⊥
-    pub no_begin : IsBegin a → ⊥
-    pub no_issue : (t : Token) (k : Mark) → Issues a t k → ⊥
+    pub no_begin : IsNewEpoch a → ⊥
+    pub no_issue : (t : Token) (k : StayStamp) → Issues a t k → ⊥
     pub no_grant : (t : Token) → IsNewlyGranted a t → ⊥
-    pub no_tell : (x : ℕ) → Tells a root x → ⊥
+    pub no_tell : (x : ℕ) → UsesStamp a root x → ⊥
     pub no_reserve : (t : Token) → ((ts : List Token) × (a ≡ Reserves ts) × In t ts) → ⊥
 
   -- what is so of what the server has done before it grants
-  pub record IsNew (past : List Act) : Type 0 where
+  pub record IsNew (past : List Doing) : Type 0 where
     pub listed : Listed past client
     pub listed_is : (h : HostId) → Listed past h → h ≡ client
-    pub here : (h : HostId) → Away past h → ⊥
+    pub here : (h : HostId) → HasGoneAway past h → ⊥
     pub reclaimed : HasReclaimed past client
-    pub none_issued : (t : Token) (k : Mark) → Issued past t k → ⊥
+    pub none_issued : (t : Token) (k : StayStamp) → Issued past t k → ⊥
     pub none_granted : (t : Token) → Granted site_one past t → ⊥
-    pub none_told : (x : ℕ) → Told past root x → ⊥
+    pub none_told : (x : ℕ) → HasUsedStamp past root x → ⊥
     pub none_reserved : (t : Token) → Reserved past t → ⊥
 
-  pub still_new : (past : List Act) (a : Act) → IsNew past → IsDull a → IsNew (a ∷ past)
+  pub still_new : (past : List Doing) (a : Doing) → IsNew past → IsDull a → IsNew (a ∷ past)
   still_new past a is dull = record {
     listed = inr is.listed;
     listed_is = λ h l. elim l [ inl p ↦ absurd (dull.no_hello h p.0.0 p.0.1 p.0.2) | inr p ↦ is.listed_is h p ];
@@ -295,15 +291,15 @@ module _ (whole : Span) where
   }
 
   -- a doing that brings nothing and reserves nothing is dull
-  pub record BringsNone (a : Act) : Type 0 where
+  pub record BringsNone (a : Doing) : Type 0 where
     pub no_send : (h : HostId) (e n : ℕ) (b : Body) → a ≡ Sent h e n b → ⊥
     pub no_admit : (h : HostId) (ts : List Token) → a ≡ Admits h ts → ⊥
 
-  no_bring : (a : Act) → BringsNone a → (k : HostId) (d n : ℕ) (w : Bring) → Brings a k d n w → ⊥
+  no_bring : (a : Doing) → BringsNone a → (k : HostId) (d n : ℕ) (w : Bring) → BringsTokens a k d n w → ⊥
   no_bring a none k d n w (inl p) = none.no_send k d n (Grant p.0) p.1
   no_bring a none k d n w (inr p) = none.no_send k d n (Done p.0) p.1
 
-  none_dull : (a : Act) → BringsNone a → ((h : HostId) (e n : ℕ) → a ≡ Took h e n Hello → ⊥) → ((h : HostId) (e n : ℕ) → a ≡ Took h e n Down → ⊥) → ((h : HostId) (e n : ℕ) → a ≡ Took h e n Bye → ⊥) → (IsBegin a → ⊥) → ((t : Token) → ((ts : List Token) × (a ≡ Reserves ts) × In t ts) → ⊥) → IsDull a
+  none_dull : (a : Doing) → BringsNone a → ((h : HostId) (e n : ℕ) → a ≡ Took h e n Hello → ⊥) → ((h : HostId) (e n : ℕ) → a ≡ Took h e n Down → ⊥) → ((h : HostId) (e n : ℕ) → a ≡ Took h e n Bye → ⊥) → (IsNewEpoch a → ⊥) → ((t : Token) → ((ts : List Token) × (a ≡ Reserves ts) × In t ts) → ⊥) → IsDull a
   none_dull a none hello down bye begin reserve = record {
     no_hello = hello;
     no_down = down;
@@ -325,7 +321,7 @@ module _ (whole : Span) where
   reserves_dull = none_dull (Reserves []) (record { no_send = λ k d m c p. cc; no_admit = λ k ts p. cc }) (λ k d m p. cc) (λ k d m p. cc) (λ k d m p. cc) (λ p. let q = p.1 in cc) (λ t p. let q : [] ≡ p.0 = cc in subst (In t) (sym q) p.2)
 
   -- a Reclaimed brings nothing, and the Done brings nothing of the root
-  brings_welcome : (k : HostId) (d n : ℕ) (w : Bring) → Brings (Sent client 1 0 (Reclaimed welcome)) k d n w → ⊥
+  brings_welcome : (k : HostId) (d n : ℕ) (w : Bring) → BringsTokens (Sent client 1 0 (Reclaimed welcome)) k d n w → ⊥
   brings_welcome k d n w (inl p) = let q = p.1 in cc
   brings_welcome k d n w (inr p) = let q = p.1 in cc
 
@@ -341,7 +337,7 @@ module _ (whole : Span) where
     no_reserve = λ t p. let q = p.1 in cc;
   }
 
-  brings_entered : (k : HostId) (d n : ℕ) (w : Bring) → Brings (Sent client 1 0 (Done entered)) k d n w → entered.bring ≡ w
+  brings_entered : (k : HostId) (d n : ℕ) (w : Bring) → BringsTokens (Sent client 1 0 (Done entered)) k d n w → entered.bring ≡ w
   brings_entered k d n w (inl p) = absurd (let q = p.1 in cc)
   brings_entered k d n w (inr p) = let q = p.1 in let r : entered ≡ p.0 = cc in ap (λ (x : DoneOf). x.bring) r ∙ p.2
 
@@ -357,7 +353,7 @@ module _ (whole : Span) where
     no_reserve = λ t p. let q = p.1 in cc;
   }
 
-  begins_none : (n : ℕ) → BringsNone (Begins n)
+  begins_none : (n : ℕ) → BringsNone (BeginsEpoch n)
   begins_none n = record { no_send = λ k d m c p. cc; no_admit = λ k ts p. cc }
 
   hello_none : BringsNone (Took client 0 0 Hello)
@@ -369,13 +365,13 @@ module _ (whole : Span) where
     listed_is = λ h l. elim l [ inl p ↦ (let q = p.0.2 in cc) | inr p ↦ absurd (unlisted h p) ];
     here = λ h w. elim w [ inl p ↦ elim p [ inl q ↦ (let r = q.2 in cc) | inr q ↦ (let r = q.0.1 in cc) ] | inr p ↦ elim p [ inl q ↦ elim q [ inl r ↦ (let x = r.2 in cc) | inr r ↦ (let x = r.0.1 in cc) ] | inr q ↦ elim q [ ] ] ];
     reclaimed = inl (inr (inl ((0, 0, refl), unlisted client, down client), unlisted client));
-    none_issued = λ t k i. elim i [ inl p ↦ no_bring (Took client 0 0 Hello) hello_none p.0 p.1 k.moves p.2 p.3 | inr p ↦ elim p [ inl q ↦ no_bring (Begins 1) (begins_none 1) q.0 q.1 k.moves q.2 q.3 | inr q ↦ elim q [ ] ] ];
-    none_granted = λ t g. elim g [ inl p ↦ elim p [ inl q ↦ no_bring (Took client 0 0 Hello) hello_none q.1.0 q.1.1 q.0.moves q.1.2 q.1.3 | inr q ↦ (let r = q.1 in cc) ] | inr p ↦ elim p.0 [ inl q ↦ elim q [ inl r ↦ no_bring (Begins 1) (begins_none 1) r.1.0 r.1.1 r.0.moves r.1.2 r.1.3 | inr r ↦ (let x = r.1 in cc) ] | inr q ↦ elim q.0 [ ] ] ];
-    none_told = λ x t. elim t [ inl p ↦ elim p [ inl q ↦ no_bring (Took client 0 0 Hello) hello_none q.0 q.1 q.2 q.3 q.4 | inr q ↦ (let r = q.4 in cc) ] | inr p ↦ elim p.0 [ inl q ↦ elim q [ inl r ↦ no_bring (Begins 1) (begins_none 1) r.0 r.1 r.2 r.3 r.4 | inr r ↦ (let y = r.4 in cc) ] | inr q ↦ elim q.0 [ ] ] ];
+    none_issued = λ t k i. elim i [ inl p ↦ no_bring (Took client 0 0 Hello) hello_none p.0 p.1 k.moves p.2 p.3 | inr p ↦ elim p [ inl q ↦ no_bring (BeginsEpoch 1) (begins_none 1) q.0 q.1 k.moves q.2 q.3 | inr q ↦ elim q [ ] ] ];
+    none_granted = λ t g. elim g [ inl p ↦ elim p [ inl q ↦ no_bring (Took client 0 0 Hello) hello_none q.1.0 q.1.1 q.0.moves q.1.2 q.1.3 | inr q ↦ (let r = q.1 in cc) ] | inr p ↦ elim p.0 [ inl q ↦ elim q [ inl r ↦ no_bring (BeginsEpoch 1) (begins_none 1) r.1.0 r.1.1 r.0.moves r.1.2 r.1.3 | inr r ↦ (let x = r.1 in cc) ] | inr q ↦ elim q.0 [ ] ] ];
+    none_told = λ x t. elim t [ inl p ↦ elim p [ inl q ↦ no_bring (Took client 0 0 Hello) hello_none q.0 q.1 q.2 q.3 q.4 | inr q ↦ (let r = q.4 in cc) ] | inr p ↦ elim p.0 [ inl q ↦ elim q [ inl r ↦ no_bring (BeginsEpoch 1) (begins_none 1) r.0 r.1 r.2 r.3 r.4 | inr r ↦ (let y = r.4 in cc) ] | inr q ↦ elim q.0 [ ] ] ];
     none_reserved = λ t r. elim r [ inl p ↦ (let q = p.1 in cc) | inr p ↦ elim p.0 [ inl q ↦ (let x = q.1 in cc) | inr q ↦ elim q.0 [ ] ] ];
   }
     where
-      down : (h : HostId) → IsDown began h → ⊥
+      down : (h : HostId) → HasGoneDown began h → ⊥
       down h d = elim d [ inl p ↦ (let q = p.2 in cc) | inr p ↦ elim p [ ] ]
 
       unlisted : (h : HostId) → Listed began h → ⊥
@@ -420,11 +416,11 @@ module _ (whole : Span) where
       two t u (inl p) (inr q) e = absurd (let s : 1 ≡ 2 = ap (λ (x : Token). x.id.seq) (sym p) ∙ (ap (λ (x : TokenId). x.seq) e ∙ ap (λ (x : Token). x.id.seq) q) in omega (arith, s))
       two t u (inr p) (inl q) e = absurd (let s : 2 ≡ 1 = ap (λ (x : Token). x.id.seq) (sym p) ∙ (ap (λ (x : TokenId). x.seq) e ∙ ap (λ (x : Token). x.id.seq) q) in omega (arith, s))
 
-  epoch_of_sent : (past : List Act) (b c : Body) (h : HostId) (e n : ℕ) → epoch past ≡ 1 → Sent client 1 0 b ≡ Sent h e n c → e ≡ epoch past
+  epoch_of_sent : (past : List Doing) (b c : Body) (h : HostId) (e n : ℕ) → epoch past ≡ 1 → Sent client 1 0 b ≡ Sent h e n c → e ≡ epoch past
   epoch_of_sent past b c h e n now p = let q : 1 ≡ e = cc in sym q ∙ sym now
 
   -- a Reclaimed and a Done that bring nothing, a want, and what the exporter doesn't keep
-  pub welcome_may : (past : List Act) → epoch past ≡ 1 → ServerTokens site_one past (Sent client 1 0 (Reclaimed welcome))
+  pub welcome_may : (past : List Doing) → epoch past ≡ 1 → ServerTokens site_one past (Sent client 1 0 (Reclaimed welcome))
   welcome_may past now = record {
     epochs = λ h e n b p. epoch_of_sent past (Reclaimed welcome) b h e n now p;
     grants = λ h e n w p. absurd (cc);
@@ -441,7 +437,7 @@ module _ (whole : Span) where
     reserves = λ ts t u p. absurd (cc);
   }
 
-  pub entered_may : (past : List Act) → epoch past ≡ 1 → ServerTokens site_one past (Sent client 1 0 (Done entered))
+  pub entered_may : (past : List Doing) → epoch past ≡ 1 → ServerTokens site_one past (Sent client 1 0 (Done entered))
   entered_may past now = record {
     epochs = λ h e n b p. epoch_of_sent past (Done entered) b h e n now p;
     grants = λ h e n w p. absurd (cc);
@@ -476,7 +472,7 @@ module _ (whole : Span) where
     reserves = λ ts t u p. absurd (cc);
   }
 
-  pub wants_may : (past : List Act) (x : Wanted) → ServerTokens site_one past (WantsOf x)
+  pub wants_may : (past : List Doing) (x : Wanted) → ServerTokens site_one past (WantsOf x)
   wants_may past x = record {
     epochs = λ h e n b p. absurd (cc);
     grants = λ h e n w p. absurd (cc);
@@ -493,7 +489,7 @@ module _ (whole : Span) where
     reserves = λ ts t u p. absurd (cc);
   }
 
-  pub reserves_may : (past : List Act) → ServerTokens site_one past (Reserves [])
+  pub reserves_may : (past : List Doing) → ServerTokens site_one past (Reserves [])
   reserves_may past = record {
     epochs = λ h e n b p. absurd (cc);
     grants = λ h e n w p. absurd (cc);
@@ -533,15 +529,15 @@ module _ (whole : Span) where
   from_it b m (inr e) = elim e [ ]
 
   -- a host's cause that its server sent, a server's that its host said
-  pub host_cause : (past : List Step) (s : Step) (b : Body) → s.cause ≡ Came (to_host b) → SentTo (acts 1 site_one past) client 1 0 b → CameToHost (λ v. 1) client past s
+  pub host_cause : (past : List Step) (s : Step) (b : Body) → s.cause ≡ Came (to_host b) → SentTo (doings_of 1 site_one past) client 1 0 b → CameToHost (λ v. 1) client past s
   host_cause past s b is sent m e =
       let p : to_host b ≡ m = came (to_host b) m (sym is ∙ e) in
-      subst (λ (x : Message). (x.host ≡ client) × (x.direction ≡ ToHost) × SentTo (acts 1 x.server past) client x.epoch x.moves x.body) p (refl, refl, sent)
+      subst (λ (x : Message). (x.host ≡ client) × (x.direction ≡ ToHost) × SentTo (doings_of 1 x.server past) client x.epoch x.moves x.body) p (refl, refl, sent)
 
-  pub server_cause : (past : List Step) (s : Step) (n : ℕ) (b : Body) → s.cause ≡ Came (to_server n b) → Said (own client past) site_one n 0 b → CameToServer site_one past s
+  pub server_cause : (past : List Step) (s : Step) (n : ℕ) (b : Body) → s.cause ≡ Came (to_server n b) → Said (steps_of_host client past) site_one n 0 b → CameToServer site_one past s
   server_cause past s n b is said m e =
       let p : to_server n b ≡ m = came (to_server n b) m (sym is ∙ e) in
-      subst (λ (x : Message). (x.server ≡ site_one) × (x.direction ≡ ToServer) × Said (own x.host past) site_one x.epoch x.moves x.body) p (refl, refl, said)
+      subst (λ (x : Message). (x.server ≡ site_one) × (x.direction ≡ ToServer) × Said (steps_of_host x.host past) site_one x.epoch x.moves x.body) p (refl, refl, said)
 
   pub line_cause : (past : List Step) (s : Step) (n : ℕ) → s.cause ≡ Line n → CameToHost (λ v. 1) client past s
   line_cause past s n is m e = absurd (same_line n m (sym is ∙ e))
@@ -591,5 +587,5 @@ module _ (whole : Span) where
   pub a_run : IsTokenRun (λ v. 1) (worked whole)
   a_run = (run_7, (cache_may, line_cause steps_7 from_cache 7 refl), λ m i. elim i [ ])
 
-  pub holds : Held (own client (worked whole)) (token 2 (Bytes false whole))
+  pub holds : Held (steps_of_host client (worked whole)) (token 2 (Bytes false whole))
   holds = (inr (inl (inr (inl refl)), λ d. elim d.1 [ ]), λ d. elim d.1 [ ])

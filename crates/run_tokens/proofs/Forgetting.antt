@@ -2,22 +2,21 @@
 use Rattle.std.proofs.Common.{ℕ, List, ◌∷◌, inl, inr, refl}
 use Rattle.base_types.specs.declared.ids.ServerId.{ServerId}
 use Rattle.token_types.specs.declared.token.Token.{Token}
-use Rattle.run_rules.specs.Acts.{Act}
-use Rattle.run_rules.specs.Acts.Act.{Begins, Flushes}
-use Rattle.run_rules.specs.Grants.{IsNewlyGranted, Granted}
+use Rattle.run_rules.specs.Doings.{Doing, Granted, IsNewlyGranted}
+use Rattle.run_rules.specs.Doings.Doing.{BeginsEpoch, Flushes}
 use Rattle.run_tokens.specs.Forgetting.{IsForgotten, IsKept, Forgetting}
 
-module _ (v : ServerId) (past : List Act) (n : ℕ) where
-  new_none : (t : Token) → IsNewlyGranted (Begins n) t → ⊥
+module _ (v : ServerId) (past : List Doing) (n : ℕ) where
+  new_none : (t : Token) → IsNewlyGranted (BeginsEpoch n) t → ⊥
   new_none t (inl (x, (h, e, w, inl g, _, _))) = (let q = g.1 in cc)
   new_none t (inl (x, (h, e, w, inr g, _, _))) = (let q = g.1 in cc)
   new_none t (inr (ts, e, _)) = cc
 
-  none_granted : (t : Token) → Granted v (Begins n ∷ past) t → ⊥
+  none_granted : (t : Token) → Granted v (BeginsEpoch n ∷ past) t → ⊥
   none_granted t (inl g) = new_none t g
   none_granted t (inr (g, q, _, _)) = q (n, refl)
 
-  forgotten : IsForgotten v (Begins n ∷ past)
+  forgotten : IsForgotten v (BeginsEpoch n ∷ past)
   forgotten = record {
     granted = none_granted;
     pinned = λ t p. none_granted t p.1;
@@ -27,7 +26,7 @@ module _ (v : ServerId) (past : List Act) (n : ℕ) where
     told = λ f x t. elim t [ inl y ↦ elim y [ inl z ↦ elim z.4 [ inl g ↦ (let q = g.1 in cc) | inr g ↦ (let q = g.1 in cc) ] | inr z ↦ (let q = z.4 in cc) ] | inr y ↦ y.1 (n, refl) ];
   }
 
-  kept : IsKept v past (Begins n)
+  kept : IsKept v past (BeginsEpoch n)
   kept = record {
     applied = λ h k. ((λ a. elim a [ inl x ↦ absurd (let q = x.1.2.0 in cc) | inr x ↦ x ]), λ a. inr a);
     written = λ h fs k. ((λ a. elim a [ inl x ↦ absurd (let q = x.1 in cc) | inr x ↦ x ]), λ a. inr a);

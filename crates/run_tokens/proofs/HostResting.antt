@@ -1,5 +1,11 @@
 -- A host at rest meets all its rules in a lapse in which it does nothing.
-use Rattle.run_rules.specs.Nodes.{bare}
+use Rattle.run_rules.specs.HostAsks.{HostAsks}
+use Rattle.run_rules.specs.HostDue.{CallsDue, HostDue, LeavesDue, RepeatsDue}
+use Rattle.run_rules.specs.HostMay.{ClaimsAt, HostAnswers, HostEnds, HostLines, HostMay, HostResends, LearnsRestart}
+use Rattle.run_rules.specs.HostTokens.{HostGives, HostLeaves, HostRevoked, HostTakes, HostTokens}
+use Rattle.run_rules.specs.Messages.{Asking, Changing, ComesIn, Sends}
+use Rattle.run_rules.specs.Steps.{bare, limit_of, lines_of, servers_of}
+use Rattle.run_rules.specs.Tokens.{BeginsCall, CauseEnds, HasCall, IsOpen, Learns, Made, Owns, Uses, WaitsBehind}
 use Rattle.std.proofs.Common.{List, arith, inl, inr, refl, ℕ, ◌∷◌}
 use Rattle.base_types.specs.declared.ids.FilesetId.{FilesetId}
 use Rattle.base_types.specs.declared.ids.HostId.{HostId}
@@ -10,24 +16,6 @@ use Rattle.script_lines.specs.declared.script.Script.{Script}
 use Rattle.message_types.specs.declared.giving.AppliedGive.{AppliedGive}
 use Rattle.token_types.specs.declared.token.Token.{Token}
 use Rattle.tree_laws.specs.Parts.{settled}
-use Rattle.run_rules.specs.HostAnswers.{HostAnswers}
-use Rattle.run_rules.specs.HostAsks.{HostAsks}
-use Rattle.run_rules.specs.HostDue.{CallsDue, HostDue, LeavesDue, RepeatsDue}
-use Rattle.run_rules.specs.HostRules.{HostMay}
-use Rattle.run_rules.specs.HostGives.{HostGives, HostRevoked}
-use Rattle.run_rules.specs.HostLeaves.{HostLeaves}
-use Rattle.run_rules.specs.HostLines.{HostEnds, HostLines}
-use Rattle.run_rules.specs.HostResends.{ClaimsAt, HostResends, LearnsRestart}
-use Rattle.run_rules.specs.HostTakes.{HostTakes}
-use Rattle.run_rules.specs.OpenCalls.{Begins, IsEnded, IsOpen, IsTurn}
-use Rattle.run_rules.specs.Lines.{limit_of, lines_of, servers_of}
-use Rattle.run_rules.specs.Epochs.{ComesIn}
-use Rattle.run_rules.specs.Floors.{Uses}
-use Rattle.run_rules.specs.Gives.{Learns, Made, Waits}
-use Rattle.run_rules.specs.HostTokens.{HostTokens}
-use Rattle.run_rules.specs.Requests.{Asking, Changing}
-use Rattle.run_rules.specs.Sends.{Sends}
-use Rattle.run_rules.specs.Tokens.{Owns}
 use Rattle.run_rules.specs.declared.step.Step.{Step}
 use Rattle.script_lines.specs.declared.script.Line.{Line as ScriptLine}
 use Rattle.run_tokens.specs.HostRest.{IsAtRest, HostMayRest}
@@ -55,7 +43,7 @@ module _ (roster : Roster) (host : HostId) (past : List Step) (rest : IsAtRest r
   none_learnt n (made, inl c) = none_comes _ _ _ _ c
   none_learnt n (made, inr (v, r, c, m)) = none_comes _ _ _ _ c
 
-  not_ended : (c : Asked) → IsEnded past s c → ⊥
+  not_ended : (c : Asked) → CauseEnds past s c → ⊥
   not_ended c (inl (v, d, r, (settled, q), e)) = elim settled [ inl x ↦ none_comes _ _ _ _ x.1 | inr x ↦ none_comes _ _ _ _ x ]
   not_ended c (inr e) = none_learnt _ e.5
 
@@ -63,11 +51,11 @@ module _ (roster : Roster) (host : HostId) (past : List Step) (rest : IsAtRest r
   none_open c (inl e) = cc
   none_open c (inr o) = rest.none_open c o.0
 
-  none_begins : (k : ℕ) (call : Call) → Begins s k call → ⊥
+  none_begins : (k : ℕ) (call : Call) → BeginsCall s k call → ⊥
   none_begins k call (inl e) = cc
   none_begins k call (inr b) = elim b.1 [ ]
 
-  none_turn : (k : ℕ) (call : Call) → IsTurn past s k call → ⊥
+  none_turn : (k : ℕ) (call : Call) → HasCall past s k call → ⊥
   none_turn k call (inl b) = none_begins k call b
   none_turn k call (inr g) = rest.none_open _ g.0
 
@@ -138,7 +126,7 @@ module _ (roster : Roster) (host : HostId) (past : List Step) (rest : IsAtRest r
       before g (inl m) = elim m [ ]
       before g (inr m) = m
 
-      waits : (g : Give) → Waits past g → Waits (s ∷ past) g
+      waits : (g : Give) → WaitsBehind past g → WaitsBehind (s ∷ past) g
       waits g (first, made, same, less, unknown) =
           (first, inr made, same, less, λ k. elim k [ inl l ↦ none_learnt _ l | inr p ↦ unknown p ])
 

@@ -13,27 +13,19 @@ use Rattle.message_types.specs.Soundness.{no_fid}
 use Rattle.token_types.specs.declared.token.Token.{Token}
 use Rattle.token_types.specs.declared.token.TokenId.{TokenId}
 use Rattle.run_tokens.proofs.Plain.{IsPlain, IsYoung, young_first, young_more, few, may, gives, revoked, resends, leaves, ends, ended_made}
-use Rattle.run_rules.specs.Dirty.{IsClean, IsDirtyUnder, UpdatesStatus}
-use Rattle.run_rules.specs.HostAnswers.{CanAnswer, HostAnswers}
 use Rattle.run_rules.specs.HostAsks.{FirstLack, GoesTo, HasChanged, HostAsks, IsNewChange, IsNewFetch}
 use Rattle.run_rules.specs.HostAsks.FetchNeeds.{OfDirectory}
-use Rattle.run_rules.specs.HostLeaves.{HasIdle}
-use Rattle.run_rules.specs.HostLines.{HostLines}
-use Rattle.run_rules.specs.HostRules.{HostMay}
-use Rattle.run_rules.specs.HostTakes.{HostTakes}
-use Rattle.run_rules.specs.Knowing.{Entered, Enters, HasLabel, Knows, NeedsServer, Stance, look_of, verdict_in}
-use Rattle.run_rules.specs.Labels.{end_call, end_of}
-use Rattle.run_rules.specs.OpenCalls.{Begins, GoesOn, IsEnded, IsOpen, IsTurn}
-use Rattle.run_rules.specs.Views.{sees}
-use Rattle.run_rules.specs.Lines.{lines_of, servers_of}
+use Rattle.run_rules.specs.HostMay.{CanAnswer, HostAnswers, HostLines, HostMay}
+use Rattle.run_rules.specs.HostTokens.{HasUnused, HostTakes, HostTokens}
+use Rattle.run_rules.specs.Messages.{About, Asking, Changing, Comes, ComesIn, DoneComes, HasGreeted, IsWelcome, Said}
+use Rattle.run_rules.specs.Messages.{Sends, Stay, Stops, epoch_at, home, stay_of}
+use Rattle.run_rules.specs.Past.{In}
+use Rattle.run_rules.specs.Steps.{lines_of, servers_of}
+use Rattle.run_rules.specs.Tokens.{AboveFloor, AnswersRequest, AtHand, BeginsCall, CallGoesOn, CauseEnds, HasCall}
+use Rattle.run_rules.specs.Tokens.{Held, HoldsId, IsOpen, Uses, end_call, end_of}
+use Rattle.run_rules.specs.Views.{Entered, Enters, HasLabel, IsClean, IsDirtyUnder, KnowsItself, NeedsServer, Stance}
+use Rattle.run_rules.specs.Views.{UpdatesStatus, look_of, sees, verdict_in}
 use Rattle.run_tokens.specs.JournalWorked.{owner, roster, script}
-use Rattle.run_rules.specs.Epochs.{About, Comes, ComesIn, IsWelcome, epoch_at}
-use Rattle.run_rules.specs.Floors.{AboveFloor, Answers, Uses}
-use Rattle.run_rules.specs.HostTokens.{HostTokens}
-use Rattle.run_rules.specs.Lists.{In}
-use Rattle.run_rules.specs.Requests.{Asking, Changing, Settles}
-use Rattle.run_rules.specs.Sends.{HasGreeted, Said, Sends, Stops}
-use Rattle.run_rules.specs.Tokens.{AtHand, Held, HoldsId}
 use Rattle.run_tokens.specs.Worked.{answer, asks_for, client, enter, entered, enters, facts, fetches, from_cache}
 use Rattle.run_tokens.specs.Worked.{granted, greets, root, site_one, stat, takes, to_host, to_server, token, welcome}
 use Rattle.run_rules.specs.declared.step.Step.{Step}
@@ -64,7 +56,6 @@ use Rattle.need_host.specs.Questions.Question.{EnterAt}
 use Rattle.token_types.specs.declared.token.Kind.{Kind}
 use Rattle.token_types.specs.declared.token.Kind.TheVariants.{Bytes, Status, Lock, Opening}
 use Rattle.script_lines.specs.declared.script.Deed.TheVariants.{Call as MakesCall}
-use Rattle.run_rules.specs.Places.{Place, place, home}
 
 abbrev pub one : List Step
 one = greets ∷ []
@@ -88,10 +79,10 @@ abbrev pub second : Token
 second = token 2 (Bytes false whole)
 
 -- where the root's fileset is
-abbrev pub here : Place
+abbrev pub here : Stay
 here = record { server = site_one; moves = 0 }
 
-pub at_here : place [] root.fileset ≡ here
+pub at_here : stay_of [] root.fileset ≡ here
 unfolding home
 at_here = refl
 
@@ -227,27 +218,27 @@ are_homes v name id h = subst (λ (x : ServerId × List ℕ × FilesetId). homes
 
 -- nobody has entered before the Done came
 none_first : (s : Step) (past : List Step) (v : ServerId) (name : List ℕ) (id : FilesetId)
-    → ((server : ServerId) (d : DoneOf) → Settles past s server d → ⊥) → Enters past s v name id → ⊥
+    → ((server : ServerId) (d : DoneOf) → DoneComes past s server d → ⊥) → Enters past s v name id → ⊥
 none_first s past v name id none e = none v e.1 e.7.0
 
-no_done_by_line : (s : Step) (past : List Step) (k : ℕ) → s.cause ≡ Line k → (v : ServerId) (d : DoneOf) → Settles past s v d → ⊥
+no_done_by_line : (s : Step) (past : List Step) (k : ℕ) → s.cause ≡ Line k → (v : ServerId) (d : DoneOf) → DoneComes past s v d → ⊥
 no_done_by_line s past k at v d (inl x) = no_line s k v _ _ (Done d) at x.1
 no_done_by_line s past k at v d (inr x) = no_line s k _ _ _ (Done d) at x
 
-no_done_by : (s : Step) (past : List Step) (m : Message) → s.cause ≡ Came m → ((d : DoneOf) → m.body ≡ Done d → ⊥) → (v : ServerId) (d : DoneOf) → Settles past s v d → ⊥
+no_done_by : (s : Step) (past : List Step) (m : Message) → s.cause ≡ Came m → ((d : DoneOf) → m.body ≡ Done d → ⊥) → (v : ServerId) (d : DoneOf) → DoneComes past s v d → ⊥
 no_done_by s past m at none v d (inl x) = none d (its_body s m v _ _ (Done d) at x.1)
 no_done_by s past m at none v d (inr x) = none d (its_body s m _ _ _ (Done d) at x)
 
-no_done_one : (v : ServerId) (d : DoneOf) → Settles [] greets v d → ⊥
+no_done_one : (v : ServerId) (d : DoneOf) → DoneComes [] greets v d → ⊥
 no_done_one = no_done_by_line greets [] 6 refl
 
-no_done_two : (v : ServerId) (d : DoneOf) → Settles one enters v d → ⊥
+no_done_two : (v : ServerId) (d : DoneOf) → DoneComes one enters v d → ⊥
 no_done_two = no_done_by enters one (to_host (Reclaimed welcome)) refl (λ d p. cc)
 
-no_done_four : (v : ServerId) (d : DoneOf) → Settles three (takes whole) v d → ⊥
+no_done_four : (v : ServerId) (d : DoneOf) → DoneComes three (takes whole) v d → ⊥
 no_done_four = no_done_by (takes whole) three (to_host (Grant (granted whole))) refl (λ d p. cc)
 
-no_done_five : (v : ServerId) (d : DoneOf) → Settles four from_cache v d → ⊥
+no_done_five : (v : ServerId) (d : DoneOf) → DoneComes four from_cache v d → ⊥
 no_done_five = no_done_by_line from_cache four 7 refl
 
 none_one : (v : ServerId) (name : List ℕ) (id : FilesetId) → Entered one v name id → ⊥
@@ -259,7 +250,7 @@ none_two v name id (inl e) = none_first enters one v name id no_done_two e
 none_two v name id (inr e) = none_one v name id e
 
 -- what the Done of the third step is
-the_done : (v : ServerId) (d : DoneOf) → Settles two (fetches whole) v d → entered ≡ d
+the_done : (v : ServerId) (d : DoneOf) → DoneComes two (fetches whole) v d → entered ≡ d
 the_done v d (inl x) = let p = its_body (fetches whole) (to_host (Done entered)) v _ _ (Done d) refl x.1 in cc
 the_done v d (inr x) = let p = its_body (fetches whole) (to_host (Done entered)) _ _ _ (Done d) refl x in cc
 
@@ -309,14 +300,14 @@ changing = (
   λ d c f n. no_done_two site_one d c,
 )
 
-settles : Settles two (fetches whole) site_one entered
+settles : DoneComes two (fetches whole) site_one entered
 settles = inl (refl, (to_host (Done entered), refl, refl, refl, refl, refl))
 
 none_changing_three : (v : ServerId) (fs : FilesetId) (k : ℕ) → Changing three v fs k → ⊥
 none_changing_three v fs k a =
     elim a.0 [
       | inl c ↦ (let p = (only_fetch _ _ _ (Change c.0) c.1.3).3 in cc)
-      | inr p ↦ (let q = changing_two v fs k p in a.1 entered (subst (λ (x : ServerId). Settles two (fetches whole) x entered) q.0 settles) q.1 q.2)
+      | inr p ↦ (let q = changing_two v fs k p in a.1 entered (subst (λ (x : ServerId). DoneComes two (fetches whole) x entered) q.0 settles) q.1 q.2)
     ]
 
 -- what the host has entered
@@ -374,7 +365,7 @@ module _ (past : List Step) (s : Step) (young : IsYoung first second past)
   needs_none u (inl p) = young.no_used u p.0.0
   needs_none u (inr p) = young.no_made p.0 (ended_made past p.0 u p.1)
 
-  pub knows : Knows client past s (knows_homes its)
+  pub knows : KnowsItself client past s (knows_homes its)
   knows = record {
     locks = λ lock. (λ m. elim m [ ], λ u. absurd (no_label u.0 u.1));
     locks_once = tt;
@@ -480,7 +471,7 @@ not_end (Opening kind) label e = cc
 
 -- a step that answers nothing: its one call can't be answered
 no_answers : (past : List Step) (s : Step) (stance : Stance roster client past s) → s.answers ≡ [] → s.wrote ≡ None → s.begun ≡ []
-    → ((k : ℕ) (call : Call) → IsTurn past s k call → stat ≡ call) → ((reply : Reply) → CanAnswer roster client past s stance stat reply → ⊥)
+    → ((k : ℕ) (call : Call) → HasCall past s k call → stat ≡ call) → ((reply : Reply) → CanAnswer roster client past s stance stat reply → ⊥)
     → HostAnswers roster client past s stance
 no_answers past s stance none unwritten unbegun turn cant = record {
   answers = λ a m. absurd (gone a m);
@@ -525,17 +516,17 @@ open_three c (inr o) = open_two c o.0
 is_open_one : IsOpen one the_call
 is_open_one = inl refl
 
-not_ended_two : IsEnded one enters the_call → ⊥
+not_ended_two : CauseEnds one enters the_call → ⊥
 not_ended_two (inl (v, d, r, c, is)) = no_done_two v d c.0
 not_ended_two (inr e) = young_one.no_made e.0 e.2
 
-not_ended_three : IsEnded two (fetches whole) the_call → ⊥
+not_ended_three : CauseEnds two (fetches whole) the_call → ⊥
 not_ended_three (inl (v, d, r, c, is)) =
     let q = the_done v d c.0 in
     let k : Known root.fileset ≡ HasReply r = ap (λ (x : DoneOf). x.outcome) q ∙ is in cc
 not_ended_three (inr e) = young_two.no_made e.0 e.2
 
-not_ended_four : IsEnded three (takes whole) the_call → ⊥
+not_ended_four : CauseEnds three (takes whole) the_call → ⊥
 not_ended_four (inl (v, d, r, c, is)) = no_done_four v d c.0
 not_ended_four (inr e) = young_three.no_made e.0 e.2
 
@@ -546,22 +537,22 @@ is_open_three : IsOpen three the_call
 is_open_three = inr (is_open_two, not_ended_three, λ a m. elim m [ ])
 
 -- each step's only call is the Stat
-turn_one : (k : ℕ) (call : Call) → IsTurn [] greets k call → stat ≡ call
+turn_one : (k : ℕ) (call : Call) → HasCall [] greets k call → stat ≡ call
 turn_one k call (inl (inl e)) = let p : the_call ≡ record { k = k; call = call } = cc in ap (λ (x : Asked). x.call) p
 turn_one k call (inl (inr b)) = elim b.1 [ ]
 turn_one k call (inr g) = elim g.0 [ ]
 
-turn_two : (k : ℕ) (call : Call) → IsTurn one enters k call → stat ≡ call
+turn_two : (k : ℕ) (call : Call) → HasCall one enters k call → stat ≡ call
 turn_two k call (inl (inl e)) = absurd (cc)
 turn_two k call (inl (inr b)) = elim b.1 [ ]
 turn_two k call (inr g) = ap (λ (x : Asked). x.call) (open_one _ g.0)
 
-turn_three : (k : ℕ) (call : Call) → IsTurn two (fetches whole) k call → stat ≡ call
+turn_three : (k : ℕ) (call : Call) → HasCall two (fetches whole) k call → stat ≡ call
 turn_three k call (inl (inl e)) = absurd (cc)
 turn_three k call (inl (inr b)) = elim b.1 [ ]
 turn_three k call (inr g) = ap (λ (x : Asked). x.call) (open_two _ g.0)
 
-turn_four : (k : ℕ) (call : Call) → IsTurn three (takes whole) k call → (1 ≡ k) × (stat ≡ call)
+turn_four : (k : ℕ) (call : Call) → HasCall three (takes whole) k call → (1 ≡ k) × (stat ≡ call)
 turn_four k call (inl (inl e)) = absurd (cc)
 turn_four k call (inl (inr (a, inl p, e, _, _))) = absurd (let q : false ≡ true = ap (λ (x : Answer). x.first) (sym p) ∙ e in cc)
 turn_four k call (inl (inr (a, inr p, _, _, _))) = elim p [ ]
@@ -571,7 +562,7 @@ none_open_four : (c : Asked) → IsOpen four c → ⊥
 none_open_four c (inl e) = cc
 none_open_four c (inr o) = o.2 (answer 1 false) (inl refl) (ap (λ (x : Asked). x.k) (open_three c o.0))
 
-turn_five : (k : ℕ) (call : Call) → IsTurn four from_cache k call → (2 ≡ k) × (stat ≡ call)
+turn_five : (k : ℕ) (call : Call) → HasCall four from_cache k call → (2 ≡ k) × (stat ≡ call)
 turn_five k call (inl (inl e)) = absurd (cc)
 turn_five k call (inl (inr (a, inl p, _, n, at))) = (ap (λ (x : Answer). x.k) (sym p) ∙ n, ap (λ (x : Answer). x.call) (sym p) ∙ at)
 turn_five k call (inl (inr (a, inr p, _, _, _))) = elim p [ ]
@@ -698,7 +689,7 @@ asks_fetches = record {
 
 -- a step whose cause is a message and that begins no call
 pub by_message : (past : List Step) (s : Step) (m : Message) → s.cause ≡ Came m → s.applied ≡ [] → s.admitted ≡ [] → s.reserved ≡ []
-    → ((k : ℕ) (call : Call) → Begins s k call → ⊥) → (Stops s → ⊥)
+    → ((k : ℕ) (call : Call) → BeginsCall s k call → ⊥) → (Stops s → ⊥)
     → HostLines (lines_of script (Host client)) (servers_of roster) 64 past s
 by_message past s m is applied admitted reserved none up = record {
   next = λ n c. absurd (not_line n c);
@@ -768,9 +759,9 @@ replies_five = refl
 module _ (past : List Step) (s : Step) (stance : Stance roster client past s) (k : ℕ) (is_first : Bool)
     (one_answer : s.answers ≡ answer k is_first ∷ []) (unwritten : s.wrote ≡ None) (unbegun : s.begun ≡ []) (unasked : s.asked ≡ None)
     (undropped : s.dropped ≡ []) (unmade : s.made ≡ []) (unsent : s.sent ≡ [])
-    (its_turn : IsTurn past s k stat) (turn : (j : ℕ) (call : Call) → IsTurn past s j call → (k ≡ j) × (stat ≡ call))
+    (its_turn : HasCall past s k stat) (turn : (j : ℕ) (call : Call) → HasCall past s j call → (k ≡ j) × (stat ≡ call))
     (can : CanAnswer roster client past s stance stat facts) (is : verdict_in stance stat ≡ Replies facts)
-    (was : (is_first ≡ true) ⊎ ((is_first ≡ false) × GoesOn past s k stat)) (alone : (fs : FilesetId) (n : ℕ) → Asking (s ∷ past) fs n → ⊥)
+    (was : (is_first ≡ true) ⊎ ((is_first ≡ false) × CallGoesOn past s k stat)) (alone : (fs : FilesetId) (n : ℕ) → Asking (s ∷ past) fs n → ⊥)
     (none_changing : (v : ServerId) (fs : FilesetId) (n : ℕ) → Changing (s ∷ past) v fs n → ⊥) where
   it : (a : Answer) → In a s.answers → answer k is_first ≡ a
   it a m = go (subst (In a) one_answer m)
@@ -787,9 +778,9 @@ module _ (past : List Step) (s : Step) (stance : Stance roster client past s) (k
 
   answers_stat : HostAnswers roster client past s stance
   answers_stat = record {
-    answers = λ a m. subst (λ (x : Answer). (x.host ≡ client) × IsTurn past s x.k x.call × CanAnswer roster client past s stance x.call x.reply) (it a m) (refl, its_turn, can);
+    answers = λ a m. subst (λ (x : Answer). (x.host ≡ client) × HasCall past s x.k x.call × CanAnswer roster client past s stance x.call x.reply) (it a m) (refl, its_turn, can);
     answers_all = λ j call reply t c. (answer k is_first, subst (In (answer k is_first)) (sym one_answer) (inl refl), (turn j call t).0);
-    first = λ a m. subst (λ (x : Answer). (x.first ≡ true) ⊎ ((x.first ≡ false) × GoesOn past s x.k x.call)) (it a m) was;
+    first = λ a m. subst (λ (x : Answer). (x.first ≡ true) ⊎ ((x.first ≡ false) × CallGoesOn past s x.k x.call)) (it a m) was;
     asked = λ a c m e. absurd (let p = sym unasked ∙ e in cc);
     answers_one = subst (λ (xs : List Answer). length xs ≤ 1) (sym one_answer) (omega arith);
     answers_alone = λ a fs n m. alone fs n;
@@ -841,19 +832,19 @@ no_reclaimed_four : (v : ServerId) (r : ReclaimedOf) → Comes three (takes whol
 no_reclaimed_four v r c = let p = its_body (takes whole) (to_host (Grant (granted whole))) v _ _ (Reclaimed r) refl c in cc
 
 -- what is used
-none_answers_line : (past : List Step) (s : Step) (k : ℕ) → s.cause ≡ Line k → (w : Bring) → Answers past s w → ⊥
+none_answers_line : (past : List Step) (s : Step) (k : ℕ) → s.cause ≡ Line k → (w : Bring) → AnswersRequest past s w → ⊥
 none_answers_line past s k at w (inl g) = no_line s k _ _ _ (Grant g.0) at g.1
 none_answers_line past s k at w (inr d) = no_line s k _ _ _ (Done d.0) at d.1
 
-none_answers_two : (w : Bring) → Answers one enters w → ⊥
+none_answers_two : (w : Bring) → AnswersRequest one enters w → ⊥
 none_answers_two w (inl g) = let p = its_body enters (to_host (Reclaimed welcome)) _ _ _ (Grant g.0) refl g.1 in cc
 none_answers_two w (inr d) = let p = its_body enters (to_host (Reclaimed welcome)) _ _ _ (Done d.0) refl d.1 in cc
 
-brings_three : (w : Bring) → Answers two (fetches whole) w → entered.bring ≡ w
+brings_three : (w : Bring) → AnswersRequest two (fetches whole) w → entered.bring ≡ w
 brings_three w (inl g) = absurd (let p = its_body (fetches whole) (to_host (Done entered)) _ _ _ (Grant g.0) refl g.1 in cc)
 brings_three w (inr d) = let p = its_body (fetches whole) (to_host (Done entered)) _ _ _ (Done d.0) refl d.1 in let q : entered ≡ d.0 = cc in ap (λ (x : DoneOf). x.bring) q ∙ d.2
 
-brings_four : (w : Bring) → Answers three (takes whole) w → (granted whole).bring ≡ w
+brings_four : (w : Bring) → AnswersRequest three (takes whole) w → (granted whole).bring ≡ w
 brings_four w (inl g) = let p = its_body (takes whole) (to_host (Grant (granted whole))) _ _ _ (Grant g.0) refl g.1 in let q : granted whole ≡ g.0 = cc in ap (λ (x : GrantOf). x.bring) q ∙ g.2
 brings_four w (inr d) = absurd (let p = its_body (takes whole) (to_host (Grant (granted whole))) _ _ _ (Done d.0) refl d.1 in cc)
 
@@ -913,8 +904,8 @@ may_fetches = may first second two (fetches whole).cause (fetches whole).asked (
     (λ f v e n p. let q = only_fetch v e n (Fetch f) p in let r = q.3 in let is : asks_for whole ≡ f = cc in at f v n is q.0 q.2)
     (λ c v e n p. absurd (let q = (only_fetch v e n (Change c) p).3 in cc))
   where
-    at : (f : FetchOf) (v : ServerId) (n : ℕ) → asks_for whole ≡ f → site_one ≡ v → 0 ≡ n → place three f.fid.fileset ≡ record { server = v; moves = n }
-    at f v n is p q = ap (λ (x : FetchOf). place three x.fid.fileset) (sym is) ∙ (at_here ∙ (λ i. record { server = p i; moves = q i }))
+    at : (f : FetchOf) (v : ServerId) (n : ℕ) → asks_for whole ≡ f → site_one ≡ v → 0 ≡ n → stay_of three f.fid.fileset ≡ record { server = v; moves = n }
+    at f v n is p q = ap (λ (x : FetchOf). stay_of three x.fid.fileset) (sym is) ∙ (at_here ∙ (λ i. record { server = p i; moves = q i }))
 
 may_takes : HostTokens three (takes whole)
 may_takes = may first second three (takes whole).cause (takes whole).asked (takes whole).answers (takes whole).taken [] young_three plain_takes
@@ -930,15 +921,15 @@ may_cache = may first second four from_cache.cause from_cache.asked from_cache.a
     (λ f v e n p. absurd (cache_nothing v e n (Fetch f) p))
     (λ c v e n p. absurd (cache_nothing v e n (Change c) p))
 
-none_begins : (s : Step) → s.asked ≡ None → ((a : Answer) → In a s.answers → a.first ≡ true → ⊥) → (k : ℕ) (call : Call) → Begins s k call → ⊥
+none_begins : (s : Step) → s.asked ≡ None → ((a : Answer) → In a s.answers → a.first ≡ true → ⊥) → (k : ℕ) (call : Call) → BeginsCall s k call → ⊥
 none_begins s unasked late k call (inl e) = let p = sym unasked ∙ e in cc
 none_begins s unasked late k call (inr b) = late b.0 b.1 b.2
 
-none_idle : (n : ℕ) → HasIdle [] (suc n) → ⊥
+none_idle : (n : ℕ) → HasUnused [] (suc n) → ⊥
 none_idle n ([], _, e, _) = omega (arith, e)
 none_idle n (t ∷ ts, _, _, all) = elim (all t (inl refl)).0 [ ]
 
-takes_all : (past : List Step) (s : Step) → s.taken ≡ [] → ((w : Bring) (t : Token) → Answers past s w → In t w.tokens → ⊥) → HostTakes past s
+takes_all : (past : List Step) (s : Step) → s.taken ≡ [] → ((w : Bring) (t : Token) → AnswersRequest past s w → In t w.tokens → ⊥) → HostTakes past s
 takes_all past s none unused = record {
   all = λ w t u m. absurd (unused w t u.0 m);
   once = λ t u m. absurd (subst (In t) none m);
@@ -1040,5 +1031,5 @@ meets_from_cache = record {
   ends = ends first second four from_cache.cause from_cache.asked from_cache.answers [] [] young_four plain_cache (no_revoke_line from_cache 7 refl) (no_restarted_line from_cache 7 refl) (no_reclaimed_line four from_cache 7 refl) (λ c. cc) (λ c. cc) (λ c. cc) (lines_of script (Host client));
 }
   where
-    begun : IsTurn four from_cache 2 stat
+    begun : HasCall four from_cache 2 stat
     begun = inl (inr (answer 2 true, inl refl, refl, refl, refl))

@@ -1,6 +1,14 @@
 -- A step of the host keeps what it has by itself, and what it has with each server.
 use Rattle.message_types.specs.declared.message.Body.TheVariants.{Bye}
-use Rattle.run_rules.specs.Sends.{HasSaid}
+use Rattle.run_rules.specs.Doings.{Doing, Granted, HasGoneAway, HasReclaimed, IsApplied, Issued, SentTo, StayStamp}
+use Rattle.run_rules.specs.Doings.{TookOf, epoch}
+use Rattle.run_rules.specs.HostTokens.{HostTokens, IsInGive}
+use Rattle.run_rules.specs.Messages.{About, Asking, Changing, ComesIn, HasSaid, HasStopped, RaisesEpoch, Renews, Said}
+use Rattle.run_rules.specs.Messages.{Sends, epoch_at, home, stay_of}
+use Rattle.run_rules.specs.Past.{In}
+use Rattle.run_rules.specs.Tokens.{AboveFloor, AnswersRequest, AtHand, EverHeld, Held, IsKnown, IsKnownNumber, Made}
+use Rattle.run_rules.specs.Tokens.{NamesGive, Owns, Uses, WaitsBehind, number_of}
+use Rattle.run_tokens.specs.TokenLaws.{HasLeftHost, HasReturnedToken, TookEver}
 use Rattle.std.proofs.Common.{◌≡◌, ℕ, ◌<◌, ◌≤◌, ◌⊎◌, List, ◌∷◌, inl, inr, sym, ◌∙◌, ap, subst, refl, arith}
 use Rattle.std.proofs.lemmas.Bool.{cases_lt}
 use Rattle.base_types.specs.declared.ids.HostId.{HostId}
@@ -18,18 +26,6 @@ use Rattle.message_types.specs.declared.giving.AppliedGive.{AppliedGive}
 use Rattle.message_types.specs.declared.giving.Outstanding.{Outstanding}
 use Rattle.message_types.specs.declared.giving.Reclaim.{Reclaim as ReclaimOf}
 use Rattle.run_rules.specs.declared.step.Step.{Step}
-use Rattle.run_rules.specs.Lists.{In}
-use Rattle.run_rules.specs.Places.{home, place}
-use Rattle.run_rules.specs.Epochs.{epoch_at, Raises, ComesIn, About, Renews}
-use Rattle.run_rules.specs.Sends.{Sends, Said, HasReturned, HasStopped}
-use Rattle.run_rules.specs.Gives.{number_of, Made, Known, IsKnown, Waits, NamesGive}
-use Rattle.run_rules.specs.Tokens.{Held, Owns, AtHand, EverHeld, Left}
-use Rattle.run_rules.specs.Requests.{Asking, Changing}
-use Rattle.run_rules.specs.Floors.{AboveFloor, Answers, Uses}
-use Rattle.run_rules.specs.HostTokens.{HostTokens, IsInGive}
-use Rattle.run_rules.specs.Acts.{Act, epoch, SentTo}
-use Rattle.run_rules.specs.Hosts.{Away, HasReclaimed, TookOf, TookEver}
-use Rattle.run_rules.specs.Grants.{Mark, Issued, Granted, Applied}
 use Rattle.run_tokens.proofs.Owed.{Owed}
 use Rattle.run_tokens.proofs.Words.{returned_left, made_left, raised_cases, epoch_grows, made_at, applied_at}
 use Rattle.run_tokens.proofs.Invariant.{Served, Alone, Link, Passed, Good, Spent, Brought, OwedId, IssuedBelow, Claiming}
@@ -37,7 +33,7 @@ use Rattle.run_tokens.proofs.Invariant.{Served, Alone, Link, Passed, Good, Spent
 pub alone_step : (A : List Step) (s : Step) → Alone A → HostTokens A s → Alone (s ∷ A)
 alone_step A s alone may = record { said_made = made'; said_epoch = epoch'; said_first = first'; claim_ever = ever'; claim_numbers = numbers_of'; claim_moves = moves'; numbers = numbers'; from_one = one'; bye_asking = asking'; bye_changing = changing'; bye_held = held'; owns = owns'; holds = holds' }
   where
-    made' : (g : Give) (v : ServerId) (e n : ℕ) → Said (s ∷ A) v e n (GiveBack g) → Made (s ∷ A) g × (place (s ∷ A) g.fid.fileset ≡ record { server = v; moves = n })
+    made' : (g : Give) (v : ServerId) (e n : ℕ) → Said (s ∷ A) v e n (GiveBack g) → Made (s ∷ A) g × (stay_of (s ∷ A) g.fid.fileset ≡ record { server = v; moves = n })
     made' g v e n (inl p) = may.gives g v e n p
     made' g v e n (inr p) = let x = alone.said_made g v e n p in (inr x.0, x.1)
 
@@ -58,7 +54,7 @@ alone_step A s alone may = record { said_made = made'; said_epoch = epoch'; said
     numbers_of' v e n c t (inl p) m = (may.claims v e n c p).numbers t m
     numbers_of' v e n c t (inr p) m = alone.claim_numbers v e n c t p m
 
-    moves' : (v : ServerId) (e n : ℕ) (c : ReclaimOf) (o : Outstanding) → Said (s ∷ A) v e n (Reclaim c) → In o c.numbers → o.moves ≡ (place (s ∷ A) o.fileset).moves
+    moves' : (v : ServerId) (e n : ℕ) (c : ReclaimOf) (o : Outstanding) → Said (s ∷ A) v e n (Reclaim c) → In o c.numbers → o.moves ≡ (stay_of (s ∷ A) o.fileset).moves
     moves' v e n c o (inl p) m = (may.claims v e n c p).moves o m
     moves' v e n c o (inr p) m = alone.claim_moves v e n c o p m
 
@@ -80,9 +76,9 @@ alone_step A s alone may = record { said_made = made'; said_epoch = epoch'; said
     changing' v w fs n (d, m, inl e) a = may.bye_changing v w d m fs n e a
     changing' v w fs n (d, m, inr e) a = elim a.0 [ inl q ↦ (may.changes q.0 q.1.0 q.1.1 q.1.2 q.1.3).1 v (d, m, e) | inr q ↦ alone.bye_changing v w fs n (d, m, e) q ]
 
-    unasked : (v : ServerId) (w : Bring) → HasSaid A v Bye → Answers A s w → ⊥
+    unasked : (v : ServerId) (w : Bring) → HasSaid A v Bye → AnswersRequest A s w → ⊥
     unasked v w e (inl q) = alone.bye_asking v w.fid.fileset w.number e q.3
-    unasked v w e (inr q) = alone.bye_changing v (place A w.fid.fileset).server q.0.fileset w.number e q.3
+    unasked v w e (inr q) = alone.bye_changing v (stay_of A w.fid.fileset).server q.0.fileset w.number e q.3
 
     held' : (t : Token) (v : ServerId) → HasSaid (s ∷ A) v Bye → Owns (s ∷ A) t → ⊥
     held' t v (d, m, inl e) k = may.bye_held v d m t e k
@@ -97,21 +93,21 @@ alone_step A s alone may = record { said_made = made'; said_epoch = epoch'; said
       λ l. elim (may.drops_only t l) [ inl q ↦ k.1 q | inr q ↦ up (q.0, q.1, q.2, inl q.3) ],
     )
 
-module _ (h : HostId) (A : List Step) (S : ServerId → List Act) (s : Step) (served : (v : ServerId) → Served v (S v)) (alone : Alone A) (link : (v : ServerId) → Link h v A (S v)) (may : HostTokens A s) (came : (v : ServerId) (e n : ℕ) (b : Body) → ComesIn s v e n b → SentTo (S v) h e n b) where
+module _ (h : HostId) (A : List Step) (S : ServerId → List Doing) (s : Step) (served : (v : ServerId) → Served v (S v)) (alone : Alone A) (link : (v : ServerId) → Link h v A (S v)) (may : HostTokens A s) (came : (v : ServerId) (e n : ℕ) (b : Body) → ComesIn s v e n b → SentTo (S v) h e n b) where
   -- a token of the epoch after the step is of the epoch before it: none was issued in an epoch that the host hadn't reached
-  still : (v : ServerId) (t : Token) (k : Mark) → Issued (S v) t k → t.host ≡ h → t.id.epoch ≡ epoch_at (s ∷ A) v → t.id.epoch ≡ epoch_at A v
+  still : (v : ServerId) (t : Token) (k : StayStamp) → Issued (S v) t k → t.host ≡ h → t.id.epoch ≡ epoch_at (s ∷ A) v → t.id.epoch ≡ epoch_at A v
   still v t k i mine e = (let le = (link v).asked t k i mine in let up = epoch_grows A s v in omega arith)
 
   -- the fileset of an issued token is where it was issued
-  issued_at : (v : ServerId) (t : Token) (k : Mark) → Issued (S v) t k → home t.fid.fileset ≡ v
+  issued_at : (v : ServerId) (t : Token) (k : StayStamp) → Issued (S v) t k → home t.fid.fileset ≡ v
   issued_at v t k i = made_at v (S v) t.fid.fileset k.moves ((served v).at t k i)
 
   -- floors begin anew only with an epoch that the token isn't of
-  renewed : (v : ServerId) (t : Token) (k : Mark) → Issued (S v) t k → t.host ≡ h → t.id.epoch ≡ epoch_at (s ∷ A) v → Renews A s t.fid.fileset → ⊥
-  renewed v t k i mine e (inl q) = (let same = still v t k i mine e in let up : epoch_at A v < epoch_at (s ∷ A) v = subst (Raises A s) (issued_at v t k i) q in omega arith)
+  renewed : (v : ServerId) (t : Token) (k : StayStamp) → Issued (S v) t k → t.host ≡ h → t.id.epoch ≡ epoch_at (s ∷ A) v → Renews A s t.fid.fileset → ⊥
+  renewed v t k i mine e (inl q) = (let same = still v t k i mine e in let up : epoch_at A v < epoch_at (s ∷ A) v = subst (RaisesEpoch A s) (issued_at v t k i) q in omega arith)
   renewed v t k i mine e (inr q) = (omega (arith, q))
 
-  passed_on : (v : ServerId) (t : Token) (k : Mark) → Issued (S v) t k → t.host ≡ h → Passed v A t k → Passed v (s ∷ A) t k
+  passed_on : (v : ServerId) (t : Token) (k : StayStamp) → Issued (S v) t k → t.host ≡ h → Passed v A t k → Passed v (s ∷ A) t k
   passed_on v t k i mine p e (inl q) = renewed v t k i mine e q.0
   passed_on v t k i mine p e (inr q) = p (still v t k i mine e) q.0
 
@@ -140,11 +136,11 @@ module _ (h : HostId) (A : List Step) (S : ServerId → List Act) (s : Step) (se
       passed e (inl q) = renewed t.id.server t (record { moves = 0; stamp = w.stamp }) at.issued at.host e q.0
       passed e (inr a) = absurd (let lt : w.stamp < w.stamp = a.2 w u.0 u.1 u.2 (sym at.file) in omega arith)
 
-      stays : Left A t.id → ⊥
+      stays : HasLeftHost A t.id → ⊥
       stays l =
           let v = (link t.id.server).left t.id refl l in
           let one = (served t.id.server).unique v.token t v.mark (record { moves = 0; stamp = w.stamp }) v.issued at.issued v.same in
-          v.passed (ap (λ (u : Token). u.id.epoch) one.0 ∙ at.epoch_is) (subst (λ (q : Token × Mark). AboveFloor A q.0.fid q.1.stamp) (λ j. (sym one.0 j, sym one.1 j)) above)
+          v.passed (ap (λ (u : Token). u.id.epoch) one.0 ∙ at.epoch_is) (subst (λ (q : Token × StayStamp). AboveFloor A q.0.fid q.1.stamp) (λ j. (sym one.0 j, sym one.1 j)) above)
 
   had : (t : Token) → In t s.taken ⊎ Owns A t → Good t.id.server (S t.id.server) h A (s ∷ A) t
   had t (inl m) = let w = may.takes t m in used t w.0 w.1 w.2
@@ -175,8 +171,8 @@ module _ (h : HostId) (A : List Step) (S : ServerId → List Act) (s : Step) (se
       passed x e (inl q) = renewed (home r.fid.fileset) x.token x.mark x.issued x.host e q.0
       passed x e (inr a) = absurd (let p = x.below (still (home r.fid.fileset) x.token x.mark x.issued x.host e) in let lt : r.stamp < x.mark.stamp = a.1 r (subst (λ (g : Fid). About A s g.fileset (Revoke r)) (sym x.file) c) (sym x.file) in omega arith)
 
-  new_once : (g : Give) (i : TokenId) → In g s.made → In i g.ids → Left A i → ⊥
-  new_once g i m n l = let t = may.makes g i m n in (at_hand t.0 t.1).stays (subst (Left A) (sym t.2) l)
+  new_once : (g : Give) (i : TokenId) → In g s.made → In i g.ids → HasLeftHost A i → ⊥
+  new_once g i m n l = let t = may.makes g i m n in (at_hand t.0 t.1).stays (subst (HasLeftHost A) (sym t.2) l)
 
   module _ (v : ServerId) where
     behind' : epoch_at (s ∷ A) v ≤ epoch (S v)
@@ -186,14 +182,14 @@ module _ (h : HostId) (A : List Step) (S : ServerId → List Act) (s : Step) (se
           | inr f ↦ (let le = (served v).sent_epoch h f.by.epoch f.by.moves f.by.body (came v f.by.epoch f.by.moves f.by.body (f.by, f.cause, f.at, refl, refl, refl)) in let q = f.epoch in omega arith)
         ]
 
-    known' : (n : AppliedGive) → home n.fileset ≡ v → Known (s ∷ A) n → Applied v (S v) h n
+    known' : (n : AppliedGive) → home n.fileset ≡ v → IsKnownNumber (s ∷ A) n → IsApplied v (S v) h n
     known' n at (inl (made, inl e)) = (served v).gones h (epoch_at A v) 0 n (came v (epoch_at A v) 0 (Gone n) (subst (λ w. ComesIn s w (epoch_at A w) 0 (Gone n)) at e))
     known' n at (inl (made, inr (w, r, c, m))) =
         let a = (served w).reclaimed h (epoch_at A w) 0 r n (came w (epoch_at A w) 0 (Reclaimed r) c) m in
-        subst (λ u. Applied u (S u) h n) (sym (applied_at w (S w) h n a) ∙ at) a
+        subst (λ u. IsApplied u (S u) h n) (sym (applied_at w (S w) h n a) ∙ at) a
     known' n at (inr e) = (link v).known n at e
 
-    in_flight' : (t : Token) (k : Mark) → Issued (S v) t k → t.host ≡ h → t.id.epoch ≡ epoch_at (s ∷ A) v → AboveFloor (s ∷ A) t.fid k.stamp → (Away (S v) h → ⊥) → Owed v (S v) t
+    in_flight' : (t : Token) (k : StayStamp) → Issued (S v) t k → t.host ≡ h → t.id.epoch ≡ epoch_at (s ∷ A) v → AboveFloor (s ∷ A) t.fid k.stamp → (HasGoneAway (S v) h → ⊥) → Owed v (S v) t
     in_flight' t k i mine e (inl q) live = absurd (renewed v t k i mine e q.0)
     in_flight' t k i mine e (inr a) live = (link v).in_flight t k i mine (still v t k i mine e) a.0 live
 
@@ -203,11 +199,11 @@ module _ (h : HostId) (A : List Step) (S : ServerId → List Act) (s : Step) (se
         let here : Good t.id.server (S t.id.server) h (s ∷ A) (s ∷ A) t = record { mark = x.mark; issued = x.issued; host = x.host; passed = x.passed; stays = λ l. elim l [ inl n ↦ k.1 n | inr o ↦ x.stays o ]; owed = x.owed } in
         subst (λ w. Good w (S w) h (s ∷ A) (s ∷ A) t) at here
 
-    ever' : (t : Token) → t.id.server ≡ v → EverHeld (s ∷ A) t → (k : Mark) × Issued (S v) t k × (t.host ≡ h)
+    ever' : (t : Token) → t.id.server ≡ v → EverHeld (s ∷ A) t → (k : StayStamp) × Issued (S v) t k × (t.host ≡ h)
     ever' t at (inl m) = let x = good_at v t at (inl m) in (x.mark, x.issued, x.host)
     ever' t at (inr o) = (link v).ever t at o
 
-    left' : (i : TokenId) → i.server ≡ v → Left (s ∷ A) i → Spent v (S v) h (s ∷ A) i
+    left' : (i : TokenId) → i.server ≡ v → HasLeftHost (s ∷ A) i → Spent v (S v) h (s ∷ A) i
     left' i at (inl (inl m)) = let t = may.makes m.0 i m.1 m.2 in spent v t.0 i t.1 t.2 at
     left' i at (inl (inr r)) = elim (may.returns i r) [ inl t ↦ spent v t.0 i t.1 t.2 at | inr q ↦ revoked v q.0 i q.1 q.2 at ]
     left' i at (inr o) =
@@ -221,17 +217,17 @@ module _ (h : HostId) (A : List Step) (S : ServerId → List Act) (s : Step) (se
         ap (λ (f : Fid). home f.fileset) (sym t.3) ∙ issued_at v t.0 x.mark x.issued
     made_id' g i (inr m) n at = (link v).made_id g i m n at
 
-    given' : (g : Give) (i : TokenId) → i.server ≡ v → Made (s ∷ A) g → In i g.ids → (Applied v (S v) h (number_of g) → ⊥) → (Away (S v) h → ⊥) → OwedId v (S v) h i
+    given' : (g : Give) (i : TokenId) → i.server ≡ v → Made (s ∷ A) g → In i g.ids → (IsApplied v (S v) h (number_of g) → ⊥) → (HasGoneAway (S v) h → ⊥) → OwedId v (S v) h i
     given' g i at (inl m) n not live =
         let t = may.makes g i m n in
         let x = good_at v t.0 (ap (λ (j : TokenId). j.server) t.2 ∙ at) t.1 in
         record { token = t.0; owed = x.owed live; same = t.2; host = x.host }
     given' g i at (inr o) n not live = (link v).given g i at o n not live
 
-    not_yet : (g : Give) → In g s.made → Applied v (S v) h (number_of g) → ⊥
+    not_yet : (g : Give) → In g s.made → IsApplied v (S v) h (number_of g) → ⊥
     not_yet g m a = let k = (link v).applied_made (number_of g) a in absurd (let new : k.0.number < g.number = may.makes_new g k.0 m k.1 k.2 in let le = k.3 in omega arith)
 
-    returned' : (i : TokenId) (g : Give) → i.server ≡ v → HasReturned (s ∷ A) i → Made (s ∷ A) g → In i g.ids → Applied v (S v) h (number_of g)
+    returned' : (i : TokenId) (g : Give) → i.server ≡ v → HasReturnedToken (s ∷ A) i → Made (s ∷ A) g → In i g.ids → IsApplied v (S v) h (number_of g)
     returned' i g at (inl r) m n = known' (number_of g) (made_id' g i m n at) (may.returns_free i g r m n)
     returned' i g at (inr r) (inl m) n = absurd (new_once g i m n (returned_left A i r))
     returned' i g at (inr r) (inr m) n = (link v).returned i g at r m n
@@ -242,7 +238,7 @@ module _ (h : HostId) (A : List Step) (S : ServerId → List Act) (s : Step) (se
     made_once' g k i at (inr a) (inl b) p q = absurd (new_once k i b q (made_left A g i a p))
     made_once' g k i at (inr a) (inr b) p q = (link v).made_once g k i at a b p q
 
-    applied_taken' : (g : Give) → Made (s ∷ A) g → Applied v (S v) h (number_of g) → TookEver v (S v) h g.fid.fileset (GiveBack g)
+    applied_taken' : (g : Give) → Made (s ∷ A) g → IsApplied v (S v) h (number_of g) → TookEver v (S v) h g.fid.fileset (GiveBack g)
     applied_taken' g (inl m) a = absurd (not_yet g m a)
     applied_taken' g (inr m) a = (link v).applied_taken g m a
 
@@ -257,7 +253,7 @@ module _ (h : HostId) (A : List Step) (S : ServerId → List Act) (s : Step) (se
         first (subst (HasReclaimed (S v)) u.host ((served v).issued_now t (record { moves = 0; stamp = w.0.stamp }) u.issued (omega arith)))
 
     -- what a server has issued whose claim hasn't counted yet is of an earlier epoch
-    older : (t : Token) (k : Mark) (e : ℕ) → Issued (S v) t k → t.host ≡ h → e ≡ epoch (S v) → e ≡ epoch_at (s ∷ A) v → (HasReclaimed (S v) h → ⊥) → t.id.epoch < epoch_at (s ∷ A) v
+    older : (t : Token) (k : StayStamp) (e : ℕ) → Issued (S v) t k → t.host ≡ h → e ≡ epoch (S v) → e ≡ epoch_at (s ∷ A) v → (HasReclaimed (S v) h → ⊥) → t.id.epoch < epoch_at (s ∷ A) v
     older t k e i mine now at first =
         elim (cases_lt t.id.epoch (epoch_at (s ∷ A) v)) [
           | inl lt ↦ lt
@@ -282,7 +278,7 @@ module _ (h : HostId) (A : List Step) (S : ServerId → List Act) (s : Step) (se
             (may.claims v k.epoch_is k.moves c p).held t ((alone_step A s alone may).holds (going c k.epoch_is k.moves p) t own) (at, older t x.mark k.epoch_is x.issued x.host k.now (may.epochs v k.epoch_is k.moves (Reclaim c) p) k.first)
         go (inr p) = elim own.0 [ inl m ↦ absurd (untaken c k.epoch_is k.moves t p k.now k.first at m) | inr o ↦ (link v).claim_held c t (before c k p) at o ]
 
-    claim_given' : (c : ReclaimOf) (g : Give) (i : TokenId) → Claiming v (S v) h (s ∷ A) c → i.server ≡ v → Made (s ∷ A) g → In i g.ids → (Applied v (S v) h (number_of g) → ⊥) → (t : Token) × In t c.tokens × (t.id ≡ i)
+    claim_given' : (c : ReclaimOf) (g : Give) (i : TokenId) → Claiming v (S v) h (s ∷ A) c → i.server ≡ v → Made (s ∷ A) g → In i g.ids → (IsApplied v (S v) h (number_of g) → ⊥) → (t : Token) × In t c.tokens × (t.id ≡ i)
     claim_given' c g i k at m n not = go k.said m
       where
         go : Said (s ∷ A) v k.epoch_is k.moves (Reclaim c) → Made (s ∷ A) g → (t : Token) × In t c.tokens × (t.id ≡ i)
@@ -300,12 +296,12 @@ module _ (h : HostId) (A : List Step) (S : ServerId → List Act) (s : Step) (se
             ]
 
     -- a give-back that waits isn't applied
-    waiting : (g : Give) → Made (s ∷ A) g → Waits (s ∷ A) g → Applied v (S v) h (number_of g) → ⊥
+    waiting : (g : Give) → Made (s ∷ A) g → WaitsBehind (s ∷ A) g → IsApplied v (S v) h (number_of g) → ⊥
     waiting g m w a =
         let said = (link v).took_ever g.fid.fileset (GiveBack g) (applied_taken' g m a) in
         w.4 ((alone_step A s alone may).said_first g w.0 v said.0 said.1 (inr said.2) w.1 w.2 w.3)
 
-    claim_owed' : (c : ReclaimOf) (t : Token) → Claiming v (S v) h (s ∷ A) c → (Away (S v) h → ⊥) → In t c.tokens → Owed v (S v) t ⊎ ((g : Give) × Made (s ∷ A) g × In t.id g.ids × NamesGive c.numbers g)
+    claim_owed' : (c : ReclaimOf) (t : Token) → Claiming v (S v) h (s ∷ A) c → (HasGoneAway (S v) h → ⊥) → In t c.tokens → Owed v (S v) t ⊎ ((g : Give) × Made (s ∷ A) g × In t.id g.ids × NamesGive c.numbers g)
     claim_owed' c t k live m = go k.said
       where
         fresh : EverHeld (s ∷ A) t → t.id.server ≡ v → Held (s ∷ A) t ⊎ IsInGive (s ∷ A) c t → Owed v (S v) t ⊎ ((g : Give) × Made (s ∷ A) g × In t.id g.ids × NamesGive c.numbers g)
@@ -321,11 +317,11 @@ module _ (h : HostId) (A : List Step) (S : ServerId → List Act) (s : Step) (se
         go (inl p) = let o = (may.claims v k.epoch_is k.moves c p).only t m in fresh o.0 o.1.0 o.2
         go (inr p) = elim ((link v).claim_owed c t (before c k p) live m) [ inl o ↦ inl o | inr g ↦ inr (g.0, inr g.1, g.2, g.3) ]
 
-    taken' : (g : Give) (t : Token) → Made (s ∷ A) g → In t.id g.ids → t.host ≡ h → Applied v (S v) h (number_of g) → Granted v (S v) t → ⊥
+    taken' : (g : Give) (t : Token) → Made (s ∷ A) g → In t.id g.ids → t.host ≡ h → IsApplied v (S v) h (number_of g) → Granted v (S v) t → ⊥
     taken' g t (inl m) n mine a k = not_yet g m a
     taken' g t (inr m) n mine a k = (link v).taken g t m n mine a k
 
-    claim_spent' : (c : ReclaimOf) (g : Give) (t : Token) → Claiming v (S v) h (s ∷ A) c → In t c.tokens → Made (s ∷ A) g → In t.id g.ids → Applied v (S v) h (number_of g) → NamesGive c.numbers g ⊎ TookOf v (S v) h g.fid.fileset (GiveBack g)
+    claim_spent' : (c : ReclaimOf) (g : Give) (t : Token) → Claiming v (S v) h (s ∷ A) c → In t c.tokens → Made (s ∷ A) g → In t.id g.ids → IsApplied v (S v) h (number_of g) → NamesGive c.numbers g ⊎ TookOf v (S v) h g.fid.fileset (GiveBack g)
     claim_spent' c g t k m (inl j) n a = absurd (not_yet g j a)
     claim_spent' c g t k m (inr j) n a = go k.said
       where
@@ -335,7 +331,7 @@ module _ (h : HostId) (A : List Step) (S : ServerId → List Act) (s : Step) (se
         pick : t.id.server ≡ v → Held (s ∷ A) t ⊎ IsInGive (s ∷ A) c t → NamesGive c.numbers g ⊎ TookOf v (S v) h g.fid.fileset (GiveBack g)
         pick at (inl o) = absurd ((held' t at ((alone_step A s alone may).owns t o)).stays (made_left (s ∷ A) g t.id (inr j) n))
         pick at (inr (f, made, q, i, inl o)) = inl (subst (λ (y : Give). NamesGive c.numbers y) (one at f made i) o)
-        pick at (inr (f, made, q, i, inr w)) = absurd (waiting f made w (subst (λ (y : Give). Applied v (S v) h (number_of y)) (sym (one at f made i)) a))
+        pick at (inr (f, made, q, i, inr w)) = absurd (waiting f made w (subst (λ (y : Give). IsApplied v (S v) h (number_of y)) (sym (one at f made i)) a))
 
         go : Said (s ∷ A) v k.epoch_is k.moves (Reclaim c) → NamesGive c.numbers g ⊎ TookOf v (S v) h g.fid.fileset (GiveBack g)
         go (inl p) = let o = (may.claims v k.epoch_is k.moves c p).only t m in pick o.1.0 o.2

@@ -1,7 +1,19 @@
 -- Every run keeps the invariant, and the laws follow from it.
 use Rattle.run_tokens.proofs.Words.{acts_after, own_after}
-use Rattle.run_rules.specs.Acts.{admitting, deciding, sending}
-use Rattle.run_rules.specs.Lists.{Each, In, after}
+use Rattle.run_rules.specs.Doings.{Doing, Granted, HasGoneAway, HasReclaimed, Here, IsApplied, IsNewEpoch, Reserved}
+use Rattle.run_rules.specs.Doings.{SentTo, TakesOf, admitting, after_admitting, after_cause, after_deciding}
+use Rattle.run_rules.specs.Doings.{after_sending, after_step, deciding, doings_of, epoch, sending}
+use Rattle.run_rules.specs.Doings.Doing.{Admits, BeginsEpoch, Flushes, MakesWant, Reserves, Sent, Took, WritesDown}
+use Rattle.run_rules.specs.HostTokens.{HostTokens}
+use Rattle.run_rules.specs.Messages.{ComesIn, HasStopped, Said, home}
+use Rattle.run_rules.specs.Past.{EachInTurn, In, appended}
+use Rattle.run_rules.specs.ServerTokens.{ServerTokens}
+use Rattle.run_rules.specs.Steps.{steps_of_host}
+use Rattle.run_rules.specs.Tokens.{Held, Made, number_of}
+use Rattle.run_rules.specs.declared.applied.Applied.TheVariants.{Done as IsDone, IsDown, Replied, Stored}
+use Rattle.run_rules.specs.declared.applied.Applied.TheVariants.{Wants as IsWanted}
+use Rattle.run_tokens.specs.TokenLaws.{AreAlwaysSafe, ChangesOnce, GivesOnce, IsTokenRun, NoConflict, StepMay}
+use Rattle.run_tokens.specs.TokenLaws.{TokensAreSafe, TokensNeverConflict, TookEver, WasApplied}
 use Rattle.std.proofs.Common.{◌≡◌, ℕ, ◌<◌, suc, true, List, [], ◌∷◌, inl, inr, sym, ◌∙◌, ap, subst, refl, arith}
 use Rattle.base_types.specs.declared.ids.HostId.{HostId}
 use Rattle.base_types.specs.declared.ids.ServerId.{ServerId}
@@ -18,24 +30,9 @@ use Rattle.message_types.specs.declared.message.Message.{Message}
 use Rattle.message_types.specs.declared.giving.AppliedGive.{AppliedGive}
 use Rattle.run_rules.specs.declared.applied.Admission.{Admission}
 use Rattle.run_rules.specs.declared.applied.Applied.{Applied}
-use Rattle.run_rules.specs.declared.applied.Applied.TheVariants.{Stored, Ends, IsDown, Wants as IsWanted, Done as IsDone}
 use Rattle.run_rules.specs.declared.step.Cause.{Cause}
 use Rattle.run_rules.specs.declared.step.Cause.TheVariants.{Message as Came, Line, Restart, Lapse, Evict, End, Flushed}
 use Rattle.run_rules.specs.declared.step.Step.{Step}
-use Rattle.run_rules.specs.Places.{Here, home}
-use Rattle.run_rules.specs.Nodes.{own}
-use Rattle.run_rules.specs.Epochs.{ComesIn}
-use Rattle.run_rules.specs.Sends.{Said, HasStopped}
-use Rattle.run_rules.specs.Gives.{Made, number_of}
-use Rattle.run_rules.specs.Tokens.{Held}
-use Rattle.run_rules.specs.HostTokens.{HostTokens}
-use Rattle.run_rules.specs.Acts.{Act, epoch, SentTo, after_cause, written_by, admitted_by, sent_by, after_step, acts}
-use Rattle.run_rules.specs.Acts.Act.{Begins, Took, Flushes, Wants, Writes, Admits, Sent, Reserves}
-use Rattle.run_rules.specs.Hosts.{Away, TakesOf, HasReclaimed, IsBegin, TookEver}
-use Rattle.run_rules.specs.Grants.{Granted, Reserved, Applied as IsApplied, WasApplied}
-use Rattle.run_rules.specs.ServerTokens.{ServerTokens}
-use Rattle.run_rules.specs.TokenRuns.{StepMay, IsTokenRun}
-use Rattle.run_rules.specs.TokenLaws.{NoConflict, GivesOnce, ChangesOnce, TokensAreSafe, AreAlwaysSafe, TokensNeverConflict}
 use Rattle.run_tokens.proofs.Owed.{Owed}
 use Rattle.run_tokens.proofs.Words.{of_one, if_host, if_server, made_at}
 use Rattle.run_tokens.proofs.Invariant.{Served, Alone, Link}
@@ -46,49 +43,49 @@ use Rattle.run_tokens.proofs.ServerBegin.{served_begin, link_begin}
 -- the law, part by part
 abbrev GrantsApart : (ServerId → ℕ) → List Step → Type 0
 GrantsApart firsts past =
-    (v w : ServerId) (t u : Token) → Granted v (acts (firsts v) v past) t → Granted w (acts (firsts w) w past) u
+    (v w : ServerId) (t u : Token) → Granted v (doings_of (firsts v) v past) t → Granted w (doings_of (firsts w) w past) u
     → conflict t u ≡ true → ⊥
 
 abbrev GrantedHere : (ServerId → ℕ) → List Step → Type 0
 GrantedHere firsts past =
-    (v : ServerId) (t : Token) → Granted v (acts (firsts v) v past) t
-    → (moves : ℕ) × Here v (acts (firsts v) v past) t.fid.fileset moves
+    (v : ServerId) (t : Token) → Granted v (doings_of (firsts v) v past) t
+    → (moves : ℕ) × Here v (doings_of (firsts v) v past) t.fid.fileset moves
 
 abbrev HeldGranted : (ServerId → ℕ) → List Step → Type 0
 HeldGranted firsts past =
-    (h : HostId) (v : ServerId) (t : Token) → (HasStopped (own h past) → ⊥) → Held (own h past) t → t.id.server ≡ v
-    → HasReclaimed (acts (firsts v) v past) h → Granted v (acts (firsts v) v past) t
+    (h : HostId) (v : ServerId) (t : Token) → (HasStopped (steps_of_host h past) → ⊥) → Held (steps_of_host h past) t → t.id.server ≡ v
+    → HasReclaimed (doings_of (firsts v) v past) h → Granted v (doings_of (firsts v) v past) t
 
 abbrev NoneRefused : (ServerId → ℕ) → List Step → Type 0
 NoneRefused firsts past =
     (h : HostId) (v : ServerId) (e n : ℕ) (r : ReclaimedOf) (t : Token)
-    → SentTo (acts (firsts v) v past) h e n (Reclaimed r) → In t.id r.left_out → Held (own h past) t → ⊥
+    → SentTo (doings_of (firsts v) v past) h e n (Reclaimed r) → In t.id r.left_out → Held (steps_of_host h past) t → ⊥
 
 abbrev GivenEnded : (ServerId → ℕ) → List Step → Type 0
 GivenEnded firsts past =
-    (h : HostId) (v : ServerId) (g : Give) (t : Token) → Made (own h past) g → In t.id g.ids → t.host ≡ h
-    → IsApplied v (acts (firsts v) v past) h (number_of g) → Granted v (acts (firsts v) v past) t → ⊥
+    (h : HostId) (v : ServerId) (g : Give) (t : Token) → Made (steps_of_host h past) g → In t.id g.ids → t.host ≡ h
+    → IsApplied v (doings_of (firsts v) v past) h (number_of g) → Granted v (doings_of (firsts v) v past) t → ⊥
 
 abbrev NonePassed : (ServerId → ℕ) → List Step → Type 0
 NonePassed firsts past =
-    (h : HostId) (v : ServerId) (g : Give) → Made (own h past) g → IsApplied v (acts (firsts v) v past) h (number_of g)
-    → TookEver v (acts (firsts v) v past) h g.fid.fileset (GiveBack g)
+    (h : HostId) (v : ServerId) (g : Give) → Made (steps_of_host h past) g → IsApplied v (doings_of (firsts v) v past) h (number_of g)
+    → TookEver v (doings_of (firsts v) v past) h g.fid.fileset (GiveBack g)
 
 abbrev OnceEach : (ServerId → ℕ) → List Step → Type 0
-OnceEach firsts past = (v : ServerId) → GivesOnce v (acts (firsts v) v past) × ChangesOnce (acts (firsts v) v past)
+OnceEach firsts past = (v : ServerId) → GivesOnce v (doings_of (firsts v) v past) × ChangesOnce (doings_of (firsts v) v past)
 
 abbrev ReservedApart : (ServerId → ℕ) → List Step → Type 0
 ReservedApart firsts past =
-    (v : ServerId) (r t : Token) → Reserved (acts (firsts v) v past) r → Granted v (acts (firsts v) v past) t
+    (v : ServerId) (r t : Token) → Reserved (doings_of (firsts v) v past) r → Granted v (doings_of (firsts v) v past) t
     → conflict t r ≡ true → ⊥
 
-pub record AtServer (own_of : HostId → List Step) (v : ServerId) (S : List Act) : Type 0 where
+pub record AtServer (own_of : HostId → List Step) (v : ServerId) (S : List Doing) : Type 0 where
   pub served : Served v S
   pub link : (h : HostId) → Link h v (own_of h) S
   pub changes : ChangesOnce S
 
 -- taking a message, a flush and wants need no leave
-took_may : (v : ServerId) (S : List Act) (h : HostId) (e n : ℕ) (b : Body) → ServerTokens v S (Took h e n b)
+took_may : (v : ServerId) (S : List Doing) (h : HostId) (e n : ℕ) (b : Body) → ServerTokens v S (Took h e n b)
 took_may v S h e n b = record {
   epochs = λ k d m c p. absurd (cc);
   grants = λ k d m w p. absurd (cc);
@@ -105,7 +102,7 @@ took_may v S h e n b = record {
   reserves = λ ts t u p. absurd (cc);
 }
 
-flush_may : (v : ServerId) (S : List Act) → ServerTokens v S Flushes
+flush_may : (v : ServerId) (S : List Doing) → ServerTokens v S Flushes
 flush_may v S = record {
   epochs = λ k d m c p. absurd (cc);
   grants = λ k d m w p. absurd (cc);
@@ -123,7 +120,7 @@ flush_may v S = record {
 }
 
 module _ (own_of : HostId → List Step) (alone : (h : HostId) → Alone (own_of h)) (v : ServerId) where
-  act : (S : List Act) (a : Act) → AtServer own_of v S → ServerTokens v S a → (IsBegin a → ⊥) → epoch (a ∷ S) ≡ epoch S → ((h : HostId) (e n : ℕ) (b : Body) → a ≡ Took h e n b → Said (own_of h) v e n b) → AtServer own_of v (a ∷ S)
+  act : (S : List Doing) (a : Doing) → AtServer own_of v S → ServerTokens v S a → (IsNewEpoch a → ⊥) → epoch (a ∷ S) ≡ epoch S → ((h : HostId) (e n : ℕ) (b : Body) → a ≡ Took h e n b → Said (own_of h) v e n b) → AtServer own_of v (a ∷ S)
   act S a at may quiet same came =
       let owed : (t : Token) → Granted v S t → Owed v S t = λ t g. (at.link t.host).granted_owed t refl g in
       record {
@@ -132,26 +129,26 @@ module _ (own_of : HostId → List Step) (alone : (h : HostId) → Alone (own_of
         changes = (at.changes, λ w e old. may.writes_once w e (w.number, omega arith, old));
       }
 
-  sends : (ms : List Message) (S : List Act) → AtServer own_of v S → Each (ServerTokens v) (sending ms) S → AtServer own_of v (after (sending ms) S)
+  sends : (ms : List Message) (S : List Doing) → AtServer own_of v S → EachInTurn (ServerTokens v) (sending ms) S → AtServer own_of v (appended (sending ms) S)
   sends [] S at may = at
   sends (m ∷ ms) S at may = sends ms (Sent m.host m.epoch m.moves m.body ∷ S) (act S (Sent m.host m.epoch m.moves m.body) at may.0 (λ p. let q = p.1 in cc) refl (λ h e n b p. absurd (cc))) may.1
 
-  writes : (xs : List Applied) (S : List Act) → AtServer own_of v S → Each (ServerTokens v) (deciding xs) S → AtServer own_of v (after (deciding xs) S)
+  writes : (xs : List Applied) (S : List Doing) → AtServer own_of v S → EachInTurn (ServerTokens v) (deciding xs) S → AtServer own_of v (appended (deciding xs) S)
   writes [] S at may = at
-  writes (IsWanted x ∷ xs) S at may = writes xs (Wants x ∷ S) (act S (Wants x) at may.0 (λ p. let q = p.1 in cc) refl (λ h e n b p. absurd (cc))) may.1
-  writes (IsDone x ∷ xs) S at may = writes xs (Writes x ∷ S) (act S (Writes x) at may.0 (λ p. let q = p.1 in cc) refl (λ h e n b p. absurd (cc))) may.1
-  writes (Ends x ∷ xs) S at may = writes xs S at may
+  writes (IsWanted x ∷ xs) S at may = writes xs (MakesWant x ∷ S) (act S (MakesWant x) at may.0 (λ p. let q = p.1 in cc) refl (λ h e n b p. absurd (cc))) may.1
+  writes (IsDone x ∷ xs) S at may = writes xs (WritesDown x ∷ S) (act S (WritesDown x) at may.0 (λ p. let q = p.1 in cc) refl (λ h e n b p. absurd (cc))) may.1
+  writes (Replied x ∷ xs) S at may = writes xs S at may
   writes (Stored h f ss n ∷ xs) S at may = writes xs S at may
   writes (IsDown h ∷ xs) S at may = writes xs S at may
 
-  admits : (cs : List Admission) (S : List Act) → AtServer own_of v S → Each (ServerTokens v) (admitting cs) S → AtServer own_of v (after (admitting cs) S)
+  admits : (cs : List Admission) (S : List Doing) → AtServer own_of v S → EachInTurn (ServerTokens v) (admitting cs) S → AtServer own_of v (appended (admitting cs) S)
   admits [] S at may = at
   admits (c ∷ cs) S at may = admits cs (Admits c.host c.tokens ∷ S) (act S (Admits c.host c.tokens) at may.0 (λ p. let q = p.1 in cc) refl (λ h e n b p. absurd (cc))) may.1
 
-  begins : (S : List Act) (n : ℕ) → epoch S < n → AtServer own_of v S → AtServer own_of v (Begins n ∷ S)
+  begins : (S : List Doing) (n : ℕ) → epoch S < n → AtServer own_of v S → AtServer own_of v (BeginsEpoch n ∷ S)
   begins S n up at = record { served = served_begin v S n up at.served; link = λ h. link_begin v S n h (own_of h) up (alone h) (at.link h); changes = (at.changes, λ w e. absurd (cc)) }
 
-  takes : (c : Cause) (S : List Act) → AtServer own_of v S → ((m : Message) → c ≡ Came m → Said (own_of m.host) v m.epoch m.moves m.body) → AtServer own_of v (after_cause c S)
+  takes : (c : Cause) (S : List Doing) → AtServer own_of v S → ((m : Message) → c ≡ Came m → Said (own_of m.host) v m.epoch m.moves m.body) → AtServer own_of v (after_cause c S)
   takes (Came m) S at came =
       let here = came m refl in
       act S (Took m.host m.epoch m.moves m.body) at (took_may v S m.host m.epoch m.moves m.body) (λ p. let q = p.1 in cc) refl (λ k d n c e. let p : m.host ≡ k = cc in let r : m.epoch ≡ d = cc in let o : m.moves ≡ n = cc in let q : m.body ≡ c = cc in subst (λ (x : HostId × ℕ × ℕ × Body). Said (own_of x.0) v x.1 x.2 x.3) (λ i. (p i, r i, o i, q i)) here)
@@ -162,56 +159,56 @@ module _ (own_of : HostId → List Step) (alone : (h : HostId) → Alone (own_of
   takes Evict S at came = at
   takes End S at came = at
 
-pub record Whole (own_of : HostId → List Step) (acts_of : ServerId → List Act) : Type 0 where
+pub record Whole (own_of : HostId → List Step) (acts_of : ServerId → List Doing) : Type 0 where
   pub alone : (h : HostId) → Alone (own_of h)
   pub at : (v : ServerId) → AtServer own_of v (acts_of v)
 
 -- what was applied counts as applied
-was_applied : (v : ServerId) (S : List Act) (h : HostId) (n : AppliedGive) → WasApplied v S h n → IsApplied v S h n
+was_applied : (v : ServerId) (S : List Doing) (h : HostId) (n : AppliedGive) → WasApplied v S h n → IsApplied v S h n
 was_applied v [] h n e = elim e [ ]
 was_applied v (a ∷ S) h n (inl (g, p, e)) =
     let files = ap (λ (x : AppliedGive). x.fileset) e in
     inl (g, subst (λ f. TakesOf v S a h f (GiveBack g)) files p.0, files, (let q : g.number ≡ n.number = ap (λ (x : AppliedGive). x.number) e in omega arith))
 was_applied v (a ∷ S) h n (inr e) = inr (was_applied v S h n e)
 
-gives_once : (v : ServerId) (S : List Act) → GivesOnce v S
+gives_once : (v : ServerId) (S : List Doing) → GivesOnce v S
 gives_once v [] = tt
 gives_once v (a ∷ S) = (gives_once v S, λ h g p q. p.1 (was_applied v S h (number_of g) q))
 
 module _ (firsts : ServerId → ℕ) where
-  step : (n : Node) (past : List Step) (s : Step) → Whole (λ h. own h past) (λ v. acts (firsts v) v past) → StepMay firsts n past s → Whole (λ h. own_after h n s (own h past)) (λ v. acts_after v n s (acts (firsts v) v past))
+  step : (n : Node) (past : List Step) (s : Step) → Whole (λ h. steps_of_host h past) (λ v. doings_of (firsts v) v past) → StepMay firsts n past s → Whole (λ h. own_after h n s (steps_of_host h past)) (λ v. acts_after v n s (doings_of (firsts v) v past))
   step (Host k) past s kept may = record {
-    alone = λ h. if_host Alone k h (s ∷ own h past) (own h past) (λ e. alone_step (own h past) s (kept.alone h) (mine h e)) (kept.alone h);
+    alone = λ h. if_host Alone k h (s ∷ steps_of_host h past) (steps_of_host h past) (λ e. alone_step (steps_of_host h past) s (kept.alone h) (mine h e)) (kept.alone h);
     at = λ v. record {
       served = (kept.at v).served;
-      link = λ h. if_host (λ A. Link h v A (acts (firsts v) v past)) k h (s ∷ own h past) (own h past) (λ e. host_step h (own h past) (λ w. acts (firsts w) w past) s (λ w. (kept.at w).served) (kept.alone h) (λ w. (kept.at w).link h) (mine h e) (sent h e) v) ((kept.at v).link h);
+      link = λ h. if_host (λ A. Link h v A (doings_of (firsts v) v past)) k h (s ∷ steps_of_host h past) (steps_of_host h past) (λ e. host_step h (steps_of_host h past) (λ w. doings_of (firsts w) w past) s (λ w. (kept.at w).served) (kept.alone h) (λ w. (kept.at w).link h) (mine h e) (sent h e) v) ((kept.at v).link h);
       changes = (kept.at v).changes;
     };
   }
     where
-      mine : (h : HostId) → k ≡ h → HostTokens (own h past) s
-      mine h e = subst (λ g. HostTokens (own g past) s) e may.0
+      mine : (h : HostId) → k ≡ h → HostTokens (steps_of_host h past) s
+      mine h e = subst (λ g. HostTokens (steps_of_host g past) s) e may.0
 
-      sent : (h : HostId) → k ≡ h → (w : ServerId) (d n : ℕ) (b : Body) → ComesIn s w d n b → SentTo (acts (firsts w) w past) h d n b
+      sent : (h : HostId) → k ≡ h → (w : ServerId) (d n : ℕ) (b : Body) → ComesIn s w d n b → SentTo (doings_of (firsts w) w past) h d n b
       sent h e w d n b (m, cause, at, epoch_is, moves, body) =
-          subst (λ (y : ServerId × HostId × ℕ × ℕ × Body). SentTo (acts (firsts y.0) y.0 past) y.1 y.2 y.3 y.4) (λ i. (at i, e i, epoch_is i, moves i, body i)) (may.1 m cause).2
+          subst (λ (y : ServerId × HostId × ℕ × ℕ × Body). SentTo (doings_of (firsts y.0) y.0 past) y.1 y.2 y.3 y.4) (λ i. (at i, e i, epoch_is i, moves i, body i)) (may.1 m cause).2
   step (Server k) past s kept may = record {
     alone = kept.alone;
-    at = λ v. if_server (λ S. AtServer (λ h. own h past) v S) k v (after_step s (acts (firsts v) v past)) (acts (firsts v) v past) (λ e. subst (λ w. AtServer (λ h. own h past) w (after_step s (acts (firsts w) w past))) e here) (kept.at v);
+    at = λ v. if_server (λ S. AtServer (λ h. steps_of_host h past) v S) k v (after_step s (doings_of (firsts v) v past)) (doings_of (firsts v) v past) (λ e. subst (λ w. AtServer (λ h. steps_of_host h past) w (after_step s (doings_of (firsts w) w past))) e here) (kept.at v);
   }
     where
-      written : AtServer (λ h. own h past) k (written_by s (acts (firsts k) k past))
+      written : AtServer (λ h. steps_of_host h past) k (after_deciding s (doings_of (firsts k) k past))
       written =
-          writes (λ h. own h past) kept.alone k s.applied (after_cause s.cause (acts (firsts k) k past))
-          (takes (λ h. own h past) kept.alone k s.cause (acts (firsts k) k past) (kept.at k) (λ m e. (may.1 m e).2)) may.0.writes
+          writes (λ h. steps_of_host h past) kept.alone k s.applied (after_cause s.cause (doings_of (firsts k) k past))
+          (takes (λ h. steps_of_host h past) kept.alone k s.cause (doings_of (firsts k) k past) (kept.at k) (λ m e. (may.1 m e).2)) may.0.writes
 
-      sent : AtServer (λ h. own h past) k (sent_by s (acts (firsts k) k past))
+      sent : AtServer (λ h. steps_of_host h past) k (after_sending s (doings_of (firsts k) k past))
       sent =
-          sends (λ h. own h past) kept.alone k s.sent (admitted_by s (acts (firsts k) k past))
-          (admits (λ h. own h past) kept.alone k s.admitted (written_by s (acts (firsts k) k past)) written may.0.admits) may.0.sends
+          sends (λ h. steps_of_host h past) kept.alone k s.sent (after_admitting s (doings_of (firsts k) k past))
+          (admits (λ h. steps_of_host h past) kept.alone k s.admitted (after_deciding s (doings_of (firsts k) k past)) written may.0.admits) may.0.sends
 
-      here : AtServer (λ h. own h past) k (after_step s (acts (firsts k) k past))
-      here = act (λ h. own h past) kept.alone k (sent_by s (acts (firsts k) k past)) (Reserves s.reserved) sent may.0.reserves (λ p. let q = p.1 in cc) refl (λ h e n b p. absurd (cc))
+      here : AtServer (λ h. steps_of_host h past) k (after_step s (doings_of (firsts k) k past))
+      here = act (λ h. steps_of_host h past) kept.alone k (after_sending s (doings_of (firsts k) k past)) (Reserves s.reserved) sent may.0.reserves (λ p. let q = p.1 in cc) refl (λ h e n b p. absurd (cc))
 
   -- before anything has happened
   alone_first : Alone []
@@ -281,28 +278,28 @@ module _ (firsts : ServerId → ℕ) where
     away = λ e. elim e [ ];
   }
 
-  pub always : (past : List Step) → IsTokenRun firsts past → Whole (λ h. own h past) (λ v. acts (firsts v) v past)
+  pub always : (past : List Step) → IsTokenRun firsts past → Whole (λ h. steps_of_host h past) (λ v. doings_of (firsts v) v past)
   always [] run = record {
     alone = λ h. alone_first;
     at = λ v. begins (λ h. []) (λ h. alone_first) v [] (firsts v) (run v) (record { served = served_first v; link = λ h. link_first h v; changes = tt });
   }
   always (s ∷ past) run = step s.node past s (always past run.0) run.1
 
-  module _ (past : List Step) (kept : Whole (λ h. own h past) (λ v. acts (firsts v) v past)) where
+  module _ (past : List Step) (kept : Whole (λ h. steps_of_host h past) (λ v. doings_of (firsts v) v past)) where
     -- a host that hasn't stopped and holds a token hasn't gone away
-    here : (v : ServerId) (g : HostId) → (HasStopped (own g past) → ⊥) → (w : Token) → Held (own g past) w → Away (acts (firsts v) v past) g → ⊥
+    here : (v : ServerId) (g : HostId) → (HasStopped (steps_of_host g past) → ⊥) → (w : Token) → Held (steps_of_host g past) w → HasGoneAway (doings_of (firsts v) v past) g → ⊥
     here v g up w held away = elim (((kept.at v).link g).away away) [ inl d ↦ up d | inr b ↦ (kept.alone g).bye_held w v b ((kept.alone g).owns w held) ]
 
-    placed : (v : ServerId) (t : Token) → Owed v (acts (firsts v) v past) t → home t.fid.fileset ≡ v
-    placed v t o = let i = (kept.at v).served.owed_issued t o in made_at v (acts (firsts v) v past) t.fid.fileset i.0.moves ((kept.at v).served.at t i.0 i.1)
+    placed : (v : ServerId) (t : Token) → Owed v (doings_of (firsts v) v past) t → home t.fid.fileset ≡ v
+    placed v t o = let i = (kept.at v).served.owed_issued t o in made_at v (doings_of (firsts v) v past) t.fid.fileset i.0.moves ((kept.at v).served.at t i.0 i.1)
 
     -- what two servers owe doesn't conflict
-    owed_apart : (v w : ServerId) (t u : Token) → Owed v (acts (firsts v) v past) t → Owed w (acts (firsts w) w past) u → conflict t u ≡ true → ⊥
+    owed_apart : (v w : ServerId) (t u : Token) → Owed v (doings_of (firsts v) v past) t → Owed w (doings_of (firsts w) w past) u → conflict t u ≡ true → ⊥
     owed_apart v w t u o p c =
         let one : w ≡ v = sym (placed w u p) ∙ (ap (λ (f : Fid). home f.fileset) (sym (of_one t u c)) ∙ placed v t o) in
-        (kept.at v).served.apart t u o (subst (λ x. Owed x (acts (firsts x) x past) u) one p) c
+        (kept.at v).served.apart t u o (subst (λ x. Owed x (doings_of (firsts x) x past) u) one p) c
 
-    owed : (v : ServerId) (t : Token) → Granted v (acts (firsts v) v past) t → Owed v (acts (firsts v) v past) t
+    owed : (v : ServerId) (t : Token) → Granted v (doings_of (firsts v) v past) t → Owed v (doings_of (firsts v) v past) t
     owed v t g = ((kept.at v).link t.host).granted_owed t refl g
 
     no_conflict : NoConflict past
@@ -320,7 +317,7 @@ module _ (firsts : ServerId → ℕ) where
     held_granted : HeldGranted firsts past
     held_granted h v t up held at r =
         let x = ((kept.at v).link h).held t at ((kept.alone h).owns t held) in
-        (kept.at v).served.owed_granted t (x.owed (here v h up t held)) (subst (HasReclaimed (acts (firsts v) v past)) (sym x.host) r)
+        (kept.at v).served.owed_granted t (x.owed (here v h up t held)) (subst (HasReclaimed (doings_of (firsts v) v past)) (sym x.host) r)
 
     none_refused : NoneRefused firsts past
     none_refused h v e n r t sent m held =
@@ -333,7 +330,7 @@ module _ (firsts : ServerId → ℕ) where
     none_passed h v g made applied = ((kept.at v).link h).applied_taken g made applied
 
     once_each : OnceEach firsts past
-    once_each v = (gives_once v (acts (firsts v) v past), (kept.at v).changes)
+    once_each v = (gives_once v (doings_of (firsts v) v past), (kept.at v).changes)
 
     reserved_apart : ReservedApart firsts past
     reserved_apart v r t k g c = ((kept.at v).served.reserved r k).1 t (owed v t g) c

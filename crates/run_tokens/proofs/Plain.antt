@@ -6,21 +6,13 @@ use Rattle.base_types.specs.declared.ids.ServerId.{ServerId}
 use Rattle.token_types.specs.declared.token.Kind.TheVariants.{Status}
 use Rattle.token_types.specs.declared.token.Token.{Token}
 use Rattle.token_types.specs.declared.token.TokenId.{TokenId}
-use Rattle.run_rules.specs.Dirty.{UpdatesStatus, is_dirty}
-use Rattle.run_rules.specs.HostGives.{HostGives, HostRevoked}
-use Rattle.run_rules.specs.HostLeaves.{HasIdle, HostLeaves}
-use Rattle.run_rules.specs.HostLines.{HostEnds}
-use Rattle.run_rules.specs.HostResends.{ClaimsAt, HostResends}
-use Rattle.run_rules.specs.Labels.{HasEnded, InUse}
+use Rattle.run_rules.specs.HostMay.{ClaimsAt, HostEnds, HostResends}
+use Rattle.run_rules.specs.HostTokens.{HasUnused, HostGives, HostLeaves, HostRevoked, HostTokens}
+use Rattle.run_rules.specs.Messages.{Comes, ComesIn, ReturnsToken, Said, Sends, epoch_at, stay_of}
+use Rattle.run_rules.specs.Past.{In}
+use Rattle.run_rules.specs.Tokens.{HasEndedUse, Held, HoldsId, LabelInUse, Made, Owns, Uses}
+use Rattle.run_rules.specs.Views.{UpdatesStatus, is_dirty}
 use Rattle.run_tokens.specs.JournalWorked.{roster}
-use Rattle.run_rules.specs.Epochs.{Comes, ComesIn, epoch_at}
-use Rattle.run_rules.specs.Floors.{Uses}
-use Rattle.run_rules.specs.Gives.{Made}
-use Rattle.run_rules.specs.HostTokens.{HostTokens}
-use Rattle.run_rules.specs.Lists.{In}
-use Rattle.run_rules.specs.Places.{place}
-use Rattle.run_rules.specs.Sends.{Returns, Said, Sends}
-use Rattle.run_rules.specs.Tokens.{Held, HoldsId, Owns}
 use Rattle.run_tokens.specs.Worked.{client, plain, takes}
 use Rattle.run_rules.specs.declared.step.Step.{Step}
 use Rattle.run_rules.specs.declared.step.Cause.{Cause}
@@ -48,7 +40,7 @@ IsPlain (Change change) = Unit {0}
 IsPlain _ = ⊥
 
 -- a give-back that ended a use was made
-pub ended_made : (past : List Step) (give : Give) (u : Labelled) → HasEnded past give u → Made past give
+pub ended_made : (past : List Step) (give : Give) (u : Labelled) → HasEndedUse past give u → Made past give
 ended_made [] give u e = elim e [ ]
 ended_made (s ∷ past) give u (inl x) = inl x.0
 ended_made (s ∷ past) give u (inr e) = inr (ended_made past give u e)
@@ -56,7 +48,7 @@ ended_made (s ∷ past) give u (inr e) = inr (ended_made past give u e)
 -- a host that has given nothing back, has used no label, and has for reading two tokens at most
 pub record IsYoung (a b : Token) (past : List Step) : Type 0 where
   pub no_made : (g : Give) → Made past g → ⊥
-  pub no_used : (u : Labelled) → InUse past u → ⊥
+  pub no_used : (u : Labelled) → LabelInUse past u → ⊥
   pub no_dirty : (fid : Fid) (at : ℕ) → is_dirty past fid at ≡ false
   pub no_update : (t : Token) → Owns past t → UpdatesStatus t t.fid → ⊥
   pub held : (t : Token) → Held past t → (t ≡ a) ⊎ (t ≡ b)
@@ -89,7 +81,7 @@ module _ (a b : Token) (past : List Step) (cause : Cause) (asked : Option Asked)
   }
 
   -- of three tokens that it holds two are the same
-  pub few : (n : ℕ) → HasIdle past (suc (suc (suc n))) → ⊥
+  pub few : (n : ℕ) → HasUnused past (suc (suc (suc n))) → ⊥
   few n ([], _, e, _) = omega (arith, e)
   few n (t ∷ [], _, e, _) = omega (arith, e)
   few n (t ∷ u ∷ [], _, e, _) = omega (arith, e)
@@ -104,7 +96,7 @@ module _ (a b : Token) (past : List Step) (cause : Cause) (asked : Option Asked)
       go (inr p) (inl q) (inl r) = once.1.0 (inl (q ∙ sym r))
       go (inr p) (inl q) (inr r) = once.0 (inr (inl (p ∙ sym r)))
 
-  no_returned : (i : TokenId) → Returns s i → ⊥
+  no_returned : (i : TokenId) → ReturnsToken s i → ⊥
   no_returned i r = only _ _ _ (Returned r.3) r.4
 
   owns : (t : Token) → Owns past t → Owns (s ∷ past) t
@@ -128,8 +120,8 @@ module _ (a b : Token) (past : List Step) (cause : Cause) (asked : Option Asked)
 
   pub may : ((t : Token) → In t taken → (w : Bring) × Uses past s w × In t w.tokens × (t.fid ≡ w.fid) × (HoldsId past t.id → ⊥))
       → ((v : ServerId) (e n : ℕ) (m : Body) → Sends s v e n m → e ≡ epoch_at (s ∷ past) v)
-      → ((f : FetchOf) (v : ServerId) (e n : ℕ) → Sends s v e n (Fetch f) → place (s ∷ past) f.fid.fileset ≡ record { server = v; moves = n })
-      → ((c : ChangeOf) (v : ServerId) (e n : ℕ) → Sends s v e n (Change c) → ((c.fileset.0 ≡ 0) × (n ≡ 0)) ⊎ (place (s ∷ past) c.fileset ≡ record { server = v; moves = n }))
+      → ((f : FetchOf) (v : ServerId) (e n : ℕ) → Sends s v e n (Fetch f) → stay_of (s ∷ past) f.fid.fileset ≡ record { server = v; moves = n })
+      → ((c : ChangeOf) (v : ServerId) (e n : ℕ) → Sends s v e n (Change c) → ((c.fileset.0 ≡ 0) × (n ≡ 0)) ⊎ (stay_of (s ∷ past) c.fileset ≡ record { server = v; moves = n }))
       → HostTokens past s
   may takes now fetched changed = record {
     live = λ d. young.said d.0 d.1 d.2 Down d.3;

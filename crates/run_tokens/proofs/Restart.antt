@@ -1,5 +1,16 @@
 -- The rules of tokens admit a restart, a claim and a give-back.
-use Rattle.run_rules.specs.Sends.{HasSaid}
+use Rattle.run_rules.specs.Doings.{Doing, GivenUp, Granted, HasReclaimed, IsApplied, IsLive, IsNewlyGranted, SentTo}
+use Rattle.run_rules.specs.Doings.{TookOf, doings_of, epoch}
+use Rattle.run_rules.specs.Doings.Doing.{Admits, BeginsEpoch, Reserves, Sent, Took}
+use Rattle.run_rules.specs.HostTokens.{Claims, HostTokens, IsClaimable}
+use Rattle.run_rules.specs.Messages.{Changing, HasSaid, HasStopped, ReturnsToken, Said, Sends, epoch_at, home}
+use Rattle.run_rules.specs.Past.{In}
+use Rattle.run_rules.specs.Runs.{CameToHost, IsFrom}
+use Rattle.run_rules.specs.ServerTokens.{ClaimsHere, MayAdmit, ServerStep, ServerTokens}
+use Rattle.run_rules.specs.Steps.{steps_of_host}
+use Rattle.run_rules.specs.Tokens.{AtHand, Drops, Held, IsKnown, LeavesHost, Made, number_of}
+use Rattle.run_rules.specs.declared.applied.Why.TheVariants.{Evicted}
+use Rattle.run_tokens.specs.TokenLaws.{IsTokenRun, TokensAreSafe}
 use Rattle.run_tokens.proofs.Words.{given_up}
 use Rattle.std.proofs.Common.{◌≡◌, ℕ, ◌<◌, ◌⊎◌, false, List, [], ◌∷◌, inl, inr, sym, ◌∙◌, ap, subst, refl, arith}
 use Rattle.base_types.specs.declared.ids.HostId.{HostId}
@@ -25,26 +36,9 @@ use Rattle.message_types.specs.declared.giving.Outstanding.{Outstanding}
 use Rattle.message_types.specs.declared.giving.Reclaim.{Reclaim as ReclaimOf}
 use Rattle.message_types.specs.declared.giving.Reclaimed.{Reclaimed as ReclaimedOf}
 use Rattle.run_rules.specs.declared.applied.Leave.{Leave}
-use Rattle.run_rules.specs.declared.applied.Why.TheVariants.{Evicted}
 use Rattle.run_rules.specs.declared.step.Cause.TheVariants.{Message as Came}
 use Rattle.run_rules.specs.declared.step.Step.{Step}
-use Rattle.run_rules.specs.Lists.{In}
-use Rattle.run_rules.specs.Places.{home}
-use Rattle.run_rules.specs.Nodes.{own}
-use Rattle.run_rules.specs.Epochs.{epoch_at}
-use Rattle.run_rules.specs.Sends.{Sends, Said, Returns, HasStopped}
-use Rattle.run_rules.specs.Gives.{number_of, Made, IsKnown}
-use Rattle.run_rules.specs.Tokens.{Held, AtHand, Drops, Leaves}
-use Rattle.run_rules.specs.Requests.{Changing}
-use Rattle.run_rules.specs.HostTokens.{HostTokens, Claims, IsClaimed}
-use Rattle.run_rules.specs.Acts.{Act, epoch, SentTo, acts}
-use Rattle.run_rules.specs.Acts.Act.{Begins, Took, Admits, Sent, Reserves}
-use Rattle.run_rules.specs.Hosts.{IsLive, TookOf, HasReclaimed}
-use Rattle.run_rules.specs.Grants.{IsNewlyGranted, Granted, Applied, GivenUp}
-use Rattle.run_rules.specs.ServerTokens.{MayAdmit, ServerTokens, ClaimsHere}
-use Rattle.run_rules.specs.TokenRuns.{ServerStep, CameToHost, IsFrom, IsTokenRun}
 use Rattle.run_tokens.specs.Worked.{client, site_one, root, token, to_server, granted, from_cache, worked, claim, reclaims, from_server, restarts, claimed, admits, give, gives, stores, learns, worked_restart, IsExample}
-use Rattle.run_rules.specs.TokenLaws.{TokensAreSafe}
 use Rattle.run_tokens.proofs.Law.{always, safe}
 use Rattle.run_tokens.proofs.Example.{at_one, here_one, came, four, SaidPlain, said_four, asked, asked_new, reserves_may, to_it, server_cause, a_run, holds}
 
@@ -62,7 +56,7 @@ record IsBare (b : Body) : Type 0 where
   done : (w : DoneOf) → b ≡ Done w → ⊥
   revoke : (r : RevokeOf) → b ≡ Revoke r → ⊥
 
-sends_bare : (past : List Act) (b : Body) → epoch past ≡ 2 → IsBare b → ((g : AppliedGive) → b ≡ Gone g → (home g.fileset ≡ site_one) × Applied site_one past client g) → ((r : ReclaimedOf) → b ≡ Reclaimed r → claimed ≡ r) → ServerTokens site_one past (Sent client 2 0 b)
+sends_bare : (past : List Doing) (b : Body) → epoch past ≡ 2 → IsBare b → ((g : AppliedGive) → b ≡ Gone g → (home g.fileset ≡ site_one) × IsApplied site_one past client g) → ((r : ReclaimedOf) → b ≡ Reclaimed r → claimed ≡ r) → ServerTokens site_one past (Sent client 2 0 b)
 sends_bare past b now bare gone says = record {
   epochs = λ h e n c p. let q : 2 ≡ e = cc in sym q ∙ sym now;
   grants = λ h e n w p. absurd (bare.grant w (cc));
@@ -70,7 +64,7 @@ sends_bare past b now bare gone says = record {
   revokes = λ h e n r i p. absurd (bare.revoke r (cc));
   revokes_here = λ h e n r p. absurd (bare.revoke r (cc));
   stamps = λ h e n x r p. absurd (bare.revoke r (cc));
-  gones = λ h e n g p. let q : client ≡ h = cc in let o : 0 ≡ n = cc in let x = gone g (cc) in ((λ i. record { server = x.0 i; moves = o i }), subst (λ k. Applied site_one past k g) q x.1);
+  gones = λ h e n g p. let q : client ≡ h = cc in let o : 0 ≡ n = cc in let x = gone g (cc) in ((λ i. record { server = x.0 i; moves = o i }), subst (λ k. IsApplied site_one past k g) q x.1);
   reclaimed = λ h e n r g p m. let q : claimed ≡ r = says r (cc) in elim (subst (λ (x : ReclaimedOf). In g x.applied) (sym q) m) [ ];
   left_out = λ h e n r i p m. let q : claimed ≡ r = says r (cc) in elim (subst (λ (x : ReclaimedOf). In i x.left_out) (sym q) m) [ ];
   admits = λ h ts p. absurd (cc);
@@ -80,20 +74,20 @@ sends_bare past b now bare gone says = record {
 }
 
 -- the host is live all the time
-stays : (a : Act) (S : List Act) → IsLive S client → ((e n : ℕ) → a ≡ Took client e n Down → ⊥) → ((e n : ℕ) → a ≡ Took client e n Bye → ⊥) → IsLive (a ∷ S) client
+stays : (a : Doing) (S : List Doing) → IsLive S client → ((e n : ℕ) → a ≡ Took client e n Down → ⊥) → ((e n : ℕ) → a ≡ Took client e n Bye → ⊥) → IsLive (a ∷ S) client
 stays a S live down bye = (inr live.0, λ w. elim w [ inl g ↦ elim g [ inl d ↦ down d.0 d.1 d.2 | inr b ↦ bye (epoch S) b.0.0 b.0.1 ] | inr o ↦ live.1 o ])
 
-back : (a : Act) (S : List Act) → ((ts : List Token) → a ≡ Admits client ts → ⊥) → ((e n : ℕ) → a ≡ Took client e n Hello → ⊥) → HasReclaimed (a ∷ S) client → HasReclaimed S client
+back : (a : Doing) (S : List Doing) → ((ts : List Token) → a ≡ Admits client ts → ⊥) → ((e n : ℕ) → a ≡ Took client e n Hello → ⊥) → HasReclaimed (a ∷ S) client → HasReclaimed S client
 back a S claims hello (inl (inl z)) = absurd (claims z.0 z.1)
 back a S claims hello (inl (inr z)) = absurd (elim z.0 [ inl p ↦ hello p.0.0 p.0.1 p.0.2 | inr p ↦ z.1 p ])
 back a S claims hello (inr y) = y.0
 
-fresh_none : (a : Act) → ((h : HostId) (e n : ℕ) (g : GrantOf) → a ≡ Sent h e n (Grant g) → ⊥) → ((h : HostId) (e n : ℕ) (d : DoneOf) → a ≡ Sent h e n (Done d) → ⊥) → ((h : HostId) (ts : List Token) → a ≡ Admits h ts → ⊥) → (t : Token) → IsNewlyGranted a t → ⊥
+fresh_none : (a : Doing) → ((h : HostId) (e n : ℕ) (g : GrantOf) → a ≡ Sent h e n (Grant g) → ⊥) → ((h : HostId) (e n : ℕ) (d : DoneOf) → a ≡ Sent h e n (Done d) → ⊥) → ((h : HostId) (ts : List Token) → a ≡ Admits h ts → ⊥) → (t : Token) → IsNewlyGranted a t → ⊥
 fresh_none a no_grant no_done no_claim t (inl (x, (h, e, w, inl g, _, _))) = no_grant h e x.moves g.0 g.1
 fresh_none a no_grant no_done no_claim t (inl (x, (h, e, w, inr g, _, _))) = no_done h e x.moves g.0 g.1
 fresh_none a no_grant no_done no_claim t (inr (ts, e, _)) = no_claim t.host ts e
 
-ungrant : (a : Act) (S : List Act) (t : Token) → ((u : Token) → IsNewlyGranted a u → ⊥) → Granted site_one (a ∷ S) t → Granted site_one S t
+ungrant : (a : Doing) (S : List Doing) (t : Token) → ((u : Token) → IsNewlyGranted a u → ⊥) → Granted site_one (a ∷ S) t → Granted site_one S t
 ungrant a S t none (inl n) = absurd (none t n)
 ungrant a S t none (inr g) = g.0
 
@@ -105,13 +99,13 @@ module _ (whole : Span) where
   second = token 2 (Bytes false whole)
 
   -- the server's doings
-  abbrev pub before : List Act
+  abbrev pub before : List Doing
   before = Reserves [] ∷ Sent client 1 0 (Grant (granted whole)) ∷ asked whole
 
-  abbrev pub began_again : List Act
-  began_again = Reserves [] ∷ Sent client 2 0 Restarted ∷ Begins 2 ∷ before
+  abbrev pub began_again : List Doing
+  began_again = Reserves [] ∷ Sent client 2 0 Restarted ∷ BeginsEpoch 2 ∷ before
 
-  abbrev pub asked_again : List Act
+  abbrev pub asked_again : List Doing
   asked_again = Took client 2 0 (Reclaim (claim whole)) ∷ began_again
 
   live_asked : IsLive (asked whole) client
@@ -122,9 +116,9 @@ module _ (whole : Span) where
 
   live_began : IsLive began_again client
   live_began =
-      let a = stays (Begins 2) before live_before (λ e n p. cc) (λ e n p. cc) in
-      let b = stays (Sent client 2 0 Restarted) (Begins 2 ∷ before) a (λ e n p. cc) (λ e n p. cc) in
-      stays (Reserves []) (Sent client 2 0 Restarted ∷ Begins 2 ∷ before) b (λ e n p. cc) (λ e n p. cc)
+      let a = stays (BeginsEpoch 2) before live_before (λ e n p. cc) (λ e n p. cc) in
+      let b = stays (Sent client 2 0 Restarted) (BeginsEpoch 2 ∷ before) a (λ e n p. cc) (λ e n p. cc) in
+      stays (Reserves []) (Sent client 2 0 Restarted ∷ BeginsEpoch 2 ∷ before) b (λ e n p. cc) (λ e n p. cc)
 
   live_again : IsLive asked_again client
   live_again = stays (Took client 2 0 (Reclaim (claim whole))) began_again live_began (λ e n p. cc) (λ e n p. cc)
@@ -140,16 +134,16 @@ module _ (whole : Span) where
   not_reclaimed : HasReclaimed asked_again client → ⊥
   not_reclaimed r =
       let r1 = back (Took client 2 0 (Reclaim (claim whole))) began_again (λ ts p. cc) (λ e n p. cc) r in
-      let r2 = back (Reserves []) (Sent client 2 0 Restarted ∷ Begins 2 ∷ before) (λ ts p. cc) (λ e n p. cc) r1 in
-      let r3 = back (Sent client 2 0 Restarted) (Begins 2 ∷ before) (λ ts p. cc) (λ e n p. cc) r2 in
+      let r2 = back (Reserves []) (Sent client 2 0 Restarted ∷ BeginsEpoch 2 ∷ before) (λ ts p. cc) (λ e n p. cc) r1 in
+      let r3 = back (Sent client 2 0 Restarted) (BeginsEpoch 2 ∷ before) (λ ts p. cc) (λ e n p. cc) r2 in
       elim r3 [ inl y ↦ elim y [ inl z ↦ (let q = z.1 in cc) | inr z ↦ elim z.0 [ inl p ↦ (let q = p.0.2 in cc) | inr p ↦ z.1 p ] ] | inr y ↦ y.1 (2, refl) ]
 
   not_granted : (t : Token) → Granted site_one asked_again t → ⊥
   not_granted t g =
       let g1 = ungrant (Took client 2 0 (Reclaim (claim whole))) began_again t (fresh_none (Took client 2 0 (Reclaim (claim whole))) (λ h e n w p. cc) (λ h e n w p. cc) (λ h ts p. cc)) g in
-      let g2 = ungrant (Reserves []) (Sent client 2 0 Restarted ∷ Begins 2 ∷ before) t (fresh_none (Reserves []) (λ h e n w p. cc) (λ h e n w p. cc) (λ h ts p. cc)) g1 in
-      let g3 = ungrant (Sent client 2 0 Restarted) (Begins 2 ∷ before) t (fresh_none (Sent client 2 0 Restarted) (λ h e n w p. cc) (λ h e n w p. cc) (λ h ts p. cc)) g2 in
-      elim g3 [ inl n ↦ fresh_none (Begins 2) (λ h e n w p. cc) (λ h e n w p. cc) (λ h ts p. cc) t n | inr y ↦ y.1 (2, refl) ]
+      let g2 = ungrant (Reserves []) (Sent client 2 0 Restarted ∷ BeginsEpoch 2 ∷ before) t (fresh_none (Reserves []) (λ h e n w p. cc) (λ h e n w p. cc) (λ h ts p. cc)) g1 in
+      let g3 = ungrant (Sent client 2 0 Restarted) (BeginsEpoch 2 ∷ before) t (fresh_none (Sent client 2 0 Restarted) (λ h e n w p. cc) (λ h e n w p. cc) (λ h ts p. cc)) g2 in
+      elim g3 [ inl n ↦ fresh_none (BeginsEpoch 2) (λ h e n w p. cc) (λ h e n w p. cc) (λ h ts p. cc) t n | inr y ↦ y.1 (2, refl) ]
 
   not_given_up : (i : TokenId) → GivenUp site_one asked_again client i → ⊥
   not_given_up i given =
@@ -268,7 +262,7 @@ module _ (whole : Span) where
   it_claims = record {
     held = λ t k i. elim k.0 [ inl m ↦ elim m [ ] | inr o ↦ mine t o ];
     given = λ g i m. absurd (none_made g m);
-    only = λ t m. (inr (inr (inl m)), both (λ x. IsClaimed six site_one x.id) (refl, omega arith) (refl, omega arith) t m, inl (inr (held t m), λ d. elim d.1 [ ]));
+    only = λ t m. (inr (inr (inl m)), both (λ x. IsClaimable six site_one x.id) (refl, omega arith) (refl, omega arith) t m, inl (inr (held t m), λ d. elim d.1 [ ]));
     numbers = both (λ x. (o : Outstanding) × In o (claim whole).numbers × (o.fileset ≡ x.fid.fileset)) (at_root, inl refl, refl) (at_root, inl refl, refl);
     moves = λ o m. ap (λ (x : Outstanding). x.moves) (sym (number_is o m));
     gives = λ o m up. absurd (it_waits o m up);
@@ -309,10 +303,10 @@ module _ (whole : Span) where
       answers_none w v e n (inl p) = let q = (only_claim v e n (Returned w) p).3 in cc
       answers_none w v e n (inr p) = let q = (only_claim v e n (Kept w) p).3 in cc
 
-      returns_none : (i : TokenId) → Returns (reclaims whole) i → ⊥
+      returns_none : (i : TokenId) → ReturnsToken (reclaims whole) i → ⊥
       returns_none i (v, e, n, named, p, m) = let q = (only_claim v e n (Returned named) p).3 in cc
 
-      leaves_none : (i : TokenId) → Leaves (reclaims whole) i → ⊥
+      leaves_none : (i : TokenId) → LeavesHost (reclaims whole) i → ⊥
       leaves_none i (inl m) = elim m.1 [ ]
       leaves_none i (inr r) = returns_none i r
 
@@ -324,7 +318,7 @@ module _ (whole : Span) where
   is_give g (inl e) = sym e
   is_give g (inr e) = elim e [ ]
 
-  leaves_second : (i : TokenId) → Leaves (gives whole) i → i ≡ second.id
+  leaves_second : (i : TokenId) → LeavesHost (gives whole) i → i ≡ second.id
   leaves_second i (inl (g, m, n)) = go (subst (λ (x : Give). In i x.ids) (sym (is_give g m)) n)
     where
       go : In i (second.id ∷ []) → i ≡ second.id
@@ -353,7 +347,7 @@ module _ (whole : Span) where
     epochs = λ v e n b p. let q = only_give v e n b p in sym q.1 ∙ ap (epoch_at seven) q.0;
     takes = λ t m. elim m [ ];
     drops = drops;
-    drops_only = λ t d. inl (subst (λ (x : Token). Leaves (gives whole) x.id) (dropped_is t d) (inl (give whole, inl refl, inl refl)));
+    drops_only = λ t d. inl (subst (λ (x : Token). LeavesHost (gives whole) x.id) (dropped_is t d) (inl (give whole, inl refl, inl refl)));
     returns = λ i r. absurd (returns_none i r);
     returns_free = λ i g r. absurd (returns_none i r);
     answers = λ w v e n p. absurd (answers_none w v e n p);
@@ -378,10 +372,10 @@ module _ (whole : Span) where
       answers_none w v e n (inl p) = let q = (only_give v e n (Returned w) p).3 in cc
       answers_none w v e n (inr p) = let q = (only_give v e n (Kept w) p).3 in cc
 
-      returns_none : (i : TokenId) → Returns (gives whole) i → ⊥
+      returns_none : (i : TokenId) → ReturnsToken (gives whole) i → ⊥
       returns_none i (v, e, n, named, p, m) = let q = (only_give v e n (Returned named) p).3 in cc
 
-      drops : (t : Token) → AtHand (gives whole) six t → Leaves (gives whole) t.id → Drops (gives whole) t
+      drops : (t : Token) → AtHand (gives whole) six t → LeavesHost (gives whole) t.id → Drops (gives whole) t
       drops t (inl m) l = elim m [ ]
       drops t (inr (inl m, _)) l = elim m [ ]
       drops t (inr (inr k, _)) l = go (mine t k)
@@ -422,18 +416,18 @@ module _ (whole : Span) where
     bye_changing = λ v w e n fs k p. absurd (learns_nothing v e n Bye p);
   }
     where
-      returns_none : (i : TokenId) → Returns (learns whole) i → ⊥
+      returns_none : (i : TokenId) → ReturnsToken (learns whole) i → ⊥
       returns_none i (v, e, n, named, p, m) = learns_nothing v e n (Returned named) p
 
-      leaves_none : (i : TokenId) → Leaves (learns whole) i → ⊥
+      leaves_none : (i : TokenId) → LeavesHost (learns whole) i → ⊥
       leaves_none i (inl m) = elim m.1 [ ]
       leaves_none i (inr r) = returns_none i r
 
   -- the server's doings after it has granted the claim, and after it has stored
-  abbrev pub granted_again : List Act
+  abbrev pub granted_again : List Doing
   granted_again = Reserves [] ∷ Sent client 2 0 (Reclaimed claimed) ∷ Admits client (claim whole).tokens ∷ asked_again
 
-  abbrev pub stored : List Act
+  abbrev pub stored : List Doing
   stored = Took client 2 0 (GiveBack (give whole)) ∷ granted_again
 
   live_granted : IsLive granted_again client
@@ -442,7 +436,7 @@ module _ (whole : Span) where
       let b = stays (Sent client 2 0 (Reclaimed claimed)) (Admits client (claim whole).tokens ∷ asked_again) a (λ e n p. cc) (λ e n p. cc) in
       stays (Reserves []) (Sent client 2 0 (Reclaimed claimed) ∷ Admits client (claim whole).tokens ∷ asked_again) b (λ e n p. cc) (λ e n p. cc)
 
-  is_applied : Applied site_one stored client (number_of (give whole))
+  is_applied : IsApplied site_one stored client (number_of (give whole))
   is_applied = inl (give whole, (0, here_one granted_again, (refl, live_granted)), refl, omega arith)
 
   -- the server's steps
@@ -450,13 +444,13 @@ module _ (whole : Span) where
   plain_words = record { grant = λ w p. cc; done = λ w p. cc; revoke = λ r p. cc }
 
   pub restarts_may : ServerStep site_one before restarts
-  restarts_may = record { writes = tt; admits = tt; sends = (sends_bare (Begins 2 ∷ before) Restarted refl plain_words (λ n p. absurd (cc)) (λ r p. absurd (cc)), tt); reserves = reserves_may whole (Sent client 2 0 Restarted ∷ Begins 2 ∷ before) }
+  restarts_may = record { writes = tt; admits = tt; sends = (sends_bare (BeginsEpoch 2 ∷ before) Restarted refl plain_words (λ n p. absurd (cc)) (λ r p. absurd (cc)), tt); reserves = reserves_may whole (Sent client 2 0 Restarted ∷ BeginsEpoch 2 ∷ before) }
 
   pub admits_may : ServerStep site_one began_again (admits whole)
   admits_may = record { writes = tt; admits = (admits_them, tt); sends = (sends_bare (Admits client (claim whole).tokens ∷ asked_again) (Reclaimed claimed) refl (record { grant = λ w p. cc; done = λ w p. cc; revoke = λ r p. cc }) (λ n p. absurd (cc)) (λ r p. cc), tt); reserves = reserves_may whole (Sent client 2 0 (Reclaimed claimed) ∷ Admits client (claim whole).tokens ∷ asked_again) }
 
   pub stores_may : ServerStep site_one granted_again (stores whole)
-  stores_may = record { writes = tt; admits = tt; sends = (sends_bare stored (Gone (number_of (give whole))) refl (record { grant = λ w p. cc; done = λ w p. cc; revoke = λ r p. cc }) (λ n p. let q : number_of (give whole) ≡ n = cc in subst (λ (x : AppliedGive). (home x.fileset ≡ site_one) × Applied site_one stored client x) q (at_one, is_applied)) (λ r p. absurd (cc)), tt); reserves = reserves_may whole (Sent client 2 0 (Gone (number_of (give whole))) ∷ stored) }
+  stores_may = record { writes = tt; admits = tt; sends = (sends_bare stored (Gone (number_of (give whole))) refl (record { grant = λ w p. cc; done = λ w p. cc; revoke = λ r p. cc }) (λ n p. let q : number_of (give whole) ≡ n = cc in subst (λ (x : AppliedGive). (home x.fileset ≡ site_one) × IsApplied site_one stored client x) q (at_one, is_applied)) (λ r p. absurd (cc)), tt); reserves = reserves_may whole (Sent client 2 0 (Gone (number_of (give whole))) ∷ stored) }
 
   -- the run
   abbrev steps_9 : List Step
@@ -478,10 +472,10 @@ module _ (whole : Span) where
   from_it b m (inl e) = (ap (λ (x : Message). x.server) e, ap (λ (x : Message). x.direction) e)
   from_it b m (inr e) = elim e [ ]
 
-  host_cause : (past : List Step) (s : Step) (b : Body) → s.cause ≡ Came (from_server b) → SentTo (acts 1 site_one past) client 2 0 b → CameToHost (λ v. 1) client past s
+  host_cause : (past : List Step) (s : Step) (b : Body) → s.cause ≡ Came (from_server b) → SentTo (doings_of 1 site_one past) client 2 0 b → CameToHost (λ v. 1) client past s
   host_cause past s b is sent m e =
       let p : from_server b ≡ m = came whole (from_server b) m (sym is ∙ e) in
-      subst (λ (x : Message). (x.host ≡ client) × (x.direction ≡ ToHost) × SentTo (acts 1 x.server past) client x.epoch x.moves x.body) p (refl, refl, sent)
+      subst (λ (x : Message). (x.host ≡ client) × (x.direction ≡ ToHost) × SentTo (doings_of 1 x.server past) client x.epoch x.moves x.body) p (refl, refl, sent)
 
   run_9 : IsTokenRun (λ v. 1) steps_9
   run_9 = (a_run whole, (restarts_may, λ m e. absurd (cc)), from_it Restarted)
@@ -501,7 +495,7 @@ module _ (whole : Span) where
   pub restart_run : IsTokenRun (λ v. 1) (worked_restart whole)
   restart_run = (run_13, (learns_may, host_cause steps_13 (learns whole) (Gone (number_of (give whole))) refl (inr (inl refl))), λ m i. elim i [ ])
 
-  pub was_applied : Applied site_one (acts 1 site_one (worked_restart whole)) client (number_of (give whole))
+  pub was_applied : IsApplied site_one (doings_of 1 site_one (worked_restart whole)) client (number_of (give whole))
   was_applied = inr (inr is_applied)
 
   second_gone : Held seven second → ⊥
@@ -510,7 +504,7 @@ module _ (whole : Span) where
   first_stays : Held seven first
   first_stays = (inr (held_six first (inl refl)), λ d. let q : 2 ≡ 1 = ap (λ (x : Token). x.id.seq) (dropped_is first d) in omega (arith, q))
 
-  is_known : IsKnown (own client (worked_restart whole)) (give whole)
+  is_known : IsKnown (steps_of_host client (worked_restart whole)) (give whole)
   is_known = inl (
     (give whole, inl (inl refl), refl),
     inl (from_server (Gone (number_of (give whole))), refl, sym at_one, sym (ap (epoch_at seven) at_one), refl, refl),
@@ -520,7 +514,7 @@ module _ (whole : Span) where
   going_on (v, e, n, inl p) = learns_nothing v e n Down p
   going_on (v, e, n, inr p) = learns_may.live (v, e, n, p)
 
-  has_reclaimed : HasReclaimed (acts 1 site_one (worked_restart whole)) client
+  has_reclaimed : HasReclaimed (doings_of 1 site_one (worked_restart whole)) client
   has_reclaimed = inr (inr (inr (inr (inr (inl (inl ((claim whole).tokens, refl)), λ b. let q = b.1 in cc), λ b. let q = b.1 in cc), λ b. let q = b.1 in cc), λ b. let q = b.1 in cc), λ b. let q = b.1 in cc)
 
   is_safe : TokensAreSafe (λ v. 1) (worked_restart whole)

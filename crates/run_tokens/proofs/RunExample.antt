@@ -2,16 +2,15 @@
 use Rattle.std.proofs.Common.{List, [], ap, arith, codes, inl, inr, refl, subst, sym, ℕ, ◌<◌, ◌∙◌, ◌∷◌, ◌≡◌, ◌⊎◌}
 use Rattle.base_types.specs.declared.ids.ServerId.{ServerId}
 use Rattle.message_types.specs.Soundness.{Goes, HasMoves, IsBody, IsSound}
-use Rattle.run_rules.specs.Runs.{FlagsMet, HostIsDone, IsRun, IsValid, StepsMeet, firsts_of}
+use Rattle.run_rules.specs.Doings.{SentTo, doings_of}
+use Rattle.run_rules.specs.HostDue.{HasBye}
+use Rattle.run_rules.specs.Messages.{HasGreeted, HasStopped, Said, home}
+use Rattle.run_rules.specs.Past.{In}
+use Rattle.run_rules.specs.Runs.{CameToHost, CameToServer, FlagsMet, HostIsDone, IsFrom, IsRun, IsValid, StepsMeet}
+use Rattle.run_rules.specs.Runs.{firsts_of}
+use Rattle.run_rules.specs.Steps.{lines_gone, lines_of, setup, steps_of_host}
 use Rattle.run_tokens.specs.RunWorked.{worked_journal}
-use Rattle.run_rules.specs.HostResends.{HasBye}
-use Rattle.run_rules.specs.Lines.{lines_gone, lines_of}
 use Rattle.run_tokens.specs.JournalWorked.{owner, roster, script, start}
-use Rattle.run_rules.specs.Lists.{In}
-use Rattle.run_rules.specs.Nodes.{own}
-use Rattle.run_rules.specs.Places.{home}
-use Rattle.run_rules.specs.Sends.{HasGreeted, HasStopped, Said}
-use Rattle.run_rules.specs.TokenRuns.{IsFrom}
 use Rattle.run_tokens.specs.Worked.{asks_for, client, enter, entered, enters, fetches, from_cache, granted, grants}
 use Rattle.run_tokens.specs.Worked.{greets, site_one, stat, takes, tells, to_host, to_server, welcome, welcomes}
 use Rattle.run_rules.specs.declared.step.Step.{Step}
@@ -41,11 +40,8 @@ use Rattle.tree_answers.specs.declared.tree.Tree.{Tree}
 use Rattle.run_tokens.specs.Worked.{access}
 use Rattle.tree_answers.specs.WellFormed.{IsWellFormed}
 use Rattle.tree_calls.specs.declared.call.Call.{Call}
-use Rattle.run_rules.specs.Lines.{setup}
 use Rattle.run_tokens.proofs.HostRunSteps.{meets_greets, meets_enters, meets_fetches, meets_takes, meets_from_cache}
 use Rattle.run_tokens.proofs.ServerRunSteps.{meets_welcomes, meets_tells, meets_grants}
-use Rattle.run_rules.specs.Acts.{SentTo, acts}
-use Rattle.run_rules.specs.TokenRuns.{CameToHost, CameToServer}
 
 abbrev firsts : ServerId → ℕ
 firsts = firsts_of worked_journal
@@ -54,22 +50,22 @@ firsts = firsts_of worked_journal
 cause_of : (s : Step) (m n : Message) → s.cause ≡ Came m → s.cause ≡ Came n → m ≡ n
 cause_of s m n a b = let p : Came m ≡ Came n = sym a ∙ b in cc
 
-host_cause : (past : List Step) (s : Step) (b : Body) → s.cause ≡ Came (to_host b) → SentTo (acts 1 site_one past) client 1 0 b → CameToHost firsts client past s
+host_cause : (past : List Step) (s : Step) (b : Body) → s.cause ≡ Came (to_host b) → SentTo (doings_of 1 site_one past) client 1 0 b → CameToHost firsts client past s
 host_cause past s b is sent m e =
-    subst (λ (x : Message). (x.host ≡ client) × (x.direction ≡ ToHost) × SentTo (acts (firsts x.server) x.server past) client x.epoch x.moves x.body) (cause_of s (to_host b) m is e) (refl, refl, sent)
+    subst (λ (x : Message). (x.host ≡ client) × (x.direction ≡ ToHost) × SentTo (doings_of (firsts x.server) x.server past) client x.epoch x.moves x.body) (cause_of s (to_host b) m is e) (refl, refl, sent)
 
-server_cause : (past : List Step) (s : Step) (n : ℕ) (b : Body) → s.cause ≡ Came (to_server n b) → Said (own client past) site_one n 0 b → CameToServer site_one past s
+server_cause : (past : List Step) (s : Step) (n : ℕ) (b : Body) → s.cause ≡ Came (to_server n b) → Said (steps_of_host client past) site_one n 0 b → CameToServer site_one past s
 server_cause past s n b is said m e =
-    subst (λ (x : Message). (x.server ≡ site_one) × (x.direction ≡ ToServer) × Said (own x.host past) site_one x.epoch x.moves x.body) (cause_of s (to_server n b) m is e) (refl, refl, said)
+    subst (λ (x : Message). (x.server ≡ site_one) × (x.direction ≡ ToServer) × Said (steps_of_host x.host past) site_one x.epoch x.moves x.body) (cause_of s (to_server n b) m is e) (refl, refl, said)
 
 line_cause : (past : List Step) (s : Step) (n : ℕ) → s.cause ≡ Line n → CameToHost firsts client past s
 line_cause past s n is m e = absurd (let p : Line n ≡ Came m = sym is ∙ e in cc)
 
 -- no line awaits, and the setup host has no line
-setup_done : (past : List Step) → own setup past ≡ [] → HostIsDone script setup past
+setup_done : (past : List Step) → steps_of_host setup past ≡ [] → HostIsDone script setup past
 setup_done past e = subst (λ (x : List Step). (lines_gone x ≡ 0) × (HasStopped x ⊎ ((v : ServerId) → HasGreeted x v → HasBye x v))) (sym e) (refl, inr (λ v g. elim g.2 [ ]))
 
-host_flags : (past : List Step) (s : Step) → s.node ≡ Host client → own setup past ≡ [] → FlagsMet script past s
+host_flags : (past : List Step) (s : Step) → s.node ≡ Host client → steps_of_host setup past ≡ [] → FlagsMet script past s
 host_flags past s node none = record {
   awaits = λ n line flag c is e. absurd (no_await line flag (subst (λ x. In line (lines_of script x)) node is.0) e);
   setup_first = λ h n at other c. setup_done past none;
@@ -172,13 +168,13 @@ steps_6 = grants whole ∷ steps_5
 abbrev steps_7 : List Step
 steps_7 = takes whole ∷ steps_6
 
-said_hello : Said (own client steps_1) site_one 0 0 Hello
+said_hello : Said (steps_of_host client steps_1) site_one 0 0 Hello
 said_hello = inl (to_server 0 Hello, inl refl, refl, refl, refl, refl)
 
-said_enter : Said (own client steps_3) site_one 1 0 (Change enter)
+said_enter : Said (steps_of_host client steps_3) site_one 1 0 (Change enter)
 said_enter = inl (to_server 1 (Change enter), inl refl, refl, refl, refl, refl)
 
-said_fetch : Said (own client steps_5) site_one 1 0 (Fetch (asks_for whole))
+said_fetch : Said (steps_of_host client steps_5) site_one 1 0 (Fetch (asks_for whole))
 said_fetch = inl (to_server 1 (Fetch (asks_for whole)), inl refl, refl, refl, refl, refl)
 
 meet_1 : StepsMeet script start firsts steps_1

@@ -1,5 +1,13 @@
 -- A doing of a server but the begin of an epoch keeps what it has by itself, and what it has with each host.
-use Rattle.run_rules.specs.Sends.{HasSaid}
+use Rattle.run_rules.specs.Doings.{BringsTokens, Doing, GivenUp, GivesUp, GoesAway, Granted, HasGoneAway, HasReclaimed}
+use Rattle.run_rules.specs.Doings.{HasUsedStamp, Here, IsApplied, IsLive, IsNewEpoch, Issued, Issues, NoGrace}
+use Rattle.run_rules.specs.Doings.{Reserved, SentTo, StayStamp, TakesOf, TookNow, TookOf, epoch}
+use Rattle.run_rules.specs.Doings.Doing.{Admits, Reserves, Took}
+use Rattle.run_rules.specs.Messages.{HasSaid, HasStopped, Said, epoch_at, home}
+use Rattle.run_rules.specs.Past.{In}
+use Rattle.run_rules.specs.ServerTokens.{ClaimsHere, IsGrantedId, MayAdmit, MayBring, ServerTokens}
+use Rattle.run_rules.specs.Tokens.{AboveFloor, Made, NamesGive, Owns, number_of}
+use Rattle.run_tokens.specs.TokenLaws.{HasLeftHost, HasReturnedToken, TookEver}
 use Rattle.run_tokens.proofs.Words.{TookGiven, given_up, gives_up}
 use Rattle.std.proofs.Common.{◌≡◌, ℕ, ◌<◌, ◌≤◌, ◌⊎◌, true, List, [], ◌∷◌, inl, inr, sym, ◌∙◌, ap, subst, refl, arith}
 use Rattle.std.proofs.lemmas.Bool.{cases_lt}
@@ -24,29 +32,16 @@ use Rattle.message_types.specs.declared.giving.Outstanding.{Outstanding}
 use Rattle.message_types.specs.declared.giving.Reclaim.{Reclaim as ReclaimOf}
 use Rattle.message_types.specs.declared.giving.Reclaimed.{Reclaimed as ReclaimedOf}
 use Rattle.run_rules.specs.declared.step.Step.{Step}
-use Rattle.run_rules.specs.Lists.{In}
-use Rattle.run_rules.specs.Places.{home, Here}
-use Rattle.run_rules.specs.Epochs.{epoch_at}
-use Rattle.run_rules.specs.Sends.{Said, HasReturned, HasStopped}
-use Rattle.run_rules.specs.Gives.{number_of, Made, NamesGive}
-use Rattle.run_rules.specs.Tokens.{Left, Owns}
-use Rattle.run_rules.specs.Floors.{AboveFloor}
-use Rattle.run_rules.specs.Acts.{Act, epoch, SentTo}
-use Rattle.run_rules.specs.Acts.Act.{Took, Admits, Reserves}
-use Rattle.run_rules.specs.Hosts.{TakesOf, GoesAway, Away, IsLive, IsBegin, HasReclaimed, NoGrace, TookNow, TookOf, TookEver}
-use Rattle.run_rules.specs.Grants.{Mark, Brings, Issues, Issued, Names, Granted, Reserved, Applied, GivenUp}
-use Rattle.run_rules.specs.Stamps.{Told}
-use Rattle.run_rules.specs.ServerTokens.{MayBring, MayAdmit, ServerTokens, ClaimsHere, IsGrantedId}
 use Rattle.run_tokens.proofs.Owed.{Stays, Owed}
 use Rattle.run_tokens.proofs.Words.{said_returned, returned_left, made_left, of_two, brings_one, mark_is, made_at, took_applied}
 use Rattle.run_tokens.proofs.Invariant.{Served, Alone, Link, Good, Spent, Brought, OwedId, IssuedBelow, Claiming}
 
 -- the doing brings this token, new, under this mark
-record New (v : ServerId) (S : List Act) (a : Act) (t : Token) (k : Mark) : Type 0 where
+record New (v : ServerId) (S : List Doing) (a : Doing) (t : Token) (k : StayStamp) : Type 0 where
   to : HostId
   of : ℕ
   with : Bring
-  brings : Brings a to of k.moves with
+  brings : BringsTokens a to of k.moves with
   may : MayBring v S to k.moves with
   ask : Body
   asked : TookNow S to k.moves ask
@@ -56,8 +51,8 @@ record New (v : ServerId) (S : List Act) (a : Act) (t : Token) (k : Mark) : Type
 none_in : (t : Token) (ts : List Token) → ts ≡ [] → In t ts → ⊥
 none_in t ts e m = subst (In t) e m
 
-module _ (v : ServerId) (S : List Act) (a : Act) (served : Served v S) (may : ServerTokens v S a) (quiet : IsBegin a → ⊥) (same : epoch (a ∷ S) ≡ epoch S) (granted_owed : (t : Token) → Granted v S t → Owed v S t) where
-  issues : (t : Token) (k : Mark) → Issues a t k → New v S a t k ⊎ (Issued S t k × Granted v S t)
+module _ (v : ServerId) (S : List Doing) (a : Doing) (served : Served v S) (may : ServerTokens v S a) (quiet : IsNewEpoch a → ⊥) (same : epoch (a ∷ S) ≡ epoch S) (granted_owed : (t : Token) → Granted v S t → Owed v S t) where
+  issues : (t : Token) (k : StayStamp) → Issues a t k → New v S a t k ⊎ (Issued S t k × Granted v S t)
   issues t k (h, d, w, inl (g, e, b), m, q) =
       let n = may.grants h d k.moves g e in
       inl (record { to = h; of = d; with = w; brings = inl (g, e, b); may = subst (MayBring v S h k.moves) b n.0; ask = Fetch n.1.0; asked = n.1.1; in_it = m; stamp = q })
@@ -70,15 +65,15 @@ module _ (v : ServerId) (S : List Act) (a : Act) (served : Served v S) (may : Se
             (inr (subst (Issued S t) (mark_is (record { moves = k.moves; stamp = g.bring.stamp }) k refl (ap (λ (y : Bring). y.stamp) b ∙ q)) (served.dones h d k.moves g t r.0 j).issued, r.1 t j)))
       ]
 
-  issued : (t : Token) (k : Mark) → Issued (a ∷ S) t k → New v S a t k ⊎ Issued S t k
+  issued : (t : Token) (k : StayStamp) → Issued (a ∷ S) t k → New v S a t k ⊎ Issued S t k
   issued t k (inl i) = elim (issues t k i) [ inl n ↦ inl n | inr o ↦ inr o.0 ]
   issued t k (inr o) = inr o
 
-  owes : (t : Token) → Owed v (a ∷ S) t → ((k : Mark) × New v S a t k) ⊎ Owed v S t
+  owes : (t : Token) → Owed v (a ∷ S) t → ((k : StayStamp) × New v S a t k) ⊎ Owed v S t
   owes t (inl i) = elim (issues t i.0 i.1) [ inl n ↦ inl (i.0, n) | inr o ↦ inr (granted_owed t o.1) ]
   owes t (inr o) = inr o.0
 
-  unique' : (t u : Token) (x y : Mark) → Issued (a ∷ S) t x → Issued (a ∷ S) u y → t.id ≡ u.id → (t ≡ u) × (x ≡ y)
+  unique' : (t u : Token) (x y : StayStamp) → Issued (a ∷ S) t x → Issued (a ∷ S) u y → t.id ≡ u.id → (t ≡ u) × (x ≡ y)
   unique' t u x y i j e = go (issued t x i) (issued u y j)
     where
       seqs : t.id.seq ≡ u.id.seq
@@ -95,33 +90,33 @@ module _ (v : ServerId) (S : List Act) (a : Act) (served : Served v S) (may : Se
       go (inr o) (inl m) = absurd (let lt : t.id.seq < u.id.seq = m.may.new u t x m.in_it o (epochs ∙ m.may.now u m.in_it) in omega (arith, seqs))
       go (inr o) (inr p) = served.unique t u x y o p e
 
-  told' : (t : Token) (k : Mark) → Issued (a ∷ S) t k → t.id.epoch ≡ epoch (a ∷ S) → Told (a ∷ S) t.fid k.stamp
+  told' : (t : Token) (k : StayStamp) → Issued (a ∷ S) t k → t.id.epoch ≡ epoch (a ∷ S) → HasUsedStamp (a ∷ S) t.fid k.stamp
   told' t k i e =
       elim (issued t k i) [
         | inl n ↦ inl (inl (n.to, n.of, k.moves, n.with, n.brings, sym (n.may.file t n.in_it), n.stamp))
         | inr o ↦ inr (served.told t k o (e ∙ same), quiet)
       ]
 
-  id' : (t : Token) (k : Mark) → Issued (a ∷ S) t k → t.id.server ≡ v
+  id' : (t : Token) (k : StayStamp) → Issued (a ∷ S) t k → t.id.server ≡ v
   id' t k i = elim (issued t k i) [ inl n ↦ n.may.id t n.in_it | inr o ↦ served.id t k o ]
 
-  at' : (t : Token) (k : Mark) → Issued (a ∷ S) t k → Here v (a ∷ S) t.fid.fileset k.moves
+  at' : (t : Token) (k : StayStamp) → Issued (a ∷ S) t k → Here v (a ∷ S) t.fid.fileset k.moves
   at' t k i = elim (issued t k i) [ inl n ↦ subst (λ (f : Fid). Here v S f.fileset k.moves) (sym (n.may.file t n.in_it)) n.may.home | inr o ↦ served.at t k o ]
 
-  issued_epoch' : (t : Token) (k : Mark) → Issued (a ∷ S) t k → t.id.epoch ≤ epoch (a ∷ S)
+  issued_epoch' : (t : Token) (k : StayStamp) → Issued (a ∷ S) t k → t.id.epoch ≤ epoch (a ∷ S)
   issued_epoch' t k i = elim (issued t k i) [ inl n ↦ (let e = n.may.now t n.in_it in omega (arith, same)) | inr o ↦ (let e = served.issued_epoch t k o in omega (arith, same)) ]
 
-  reclaimed_by : (t : Token) (k : Mark) → New v S a t k → HasReclaimed S t.host
+  reclaimed_by : (t : Token) (k : StayStamp) → New v S a t k → HasReclaimed S t.host
   reclaimed_by t k n = subst (HasReclaimed S) (sym (n.may.host_is t n.in_it)) (n.may.over n.to n.may.live)
 
-  issued_now' : (t : Token) (k : Mark) → Issued (a ∷ S) t k → t.id.epoch ≡ epoch (a ∷ S) → HasReclaimed (a ∷ S) t.host
+  issued_now' : (t : Token) (k : StayStamp) → Issued (a ∷ S) t k → t.id.epoch ≡ epoch (a ∷ S) → HasReclaimed (a ∷ S) t.host
   issued_now' t k i e = elim (issued t k i) [ inl n ↦ inr (reclaimed_by t k n, quiet) | inr o ↦ inr (served.issued_now t k o (e ∙ same), quiet) ]
 
-  owed_issued' : (t : Token) → Owed v (a ∷ S) t → (k : Mark) × Issued (a ∷ S) t k
+  owed_issued' : (t : Token) → Owed v (a ∷ S) t → (k : StayStamp) × Issued (a ∷ S) t k
   owed_issued' t (inl i) = (i.0, inl i.1)
   owed_issued' t (inr o) = let i = served.owed_issued t o.0 in (i.0, inr i.1)
 
-  sent_stays : (h k : HostId) (d n : ℕ) (w : Bring) → Brings a h d n w → GoesAway S a k → ⊥
+  sent_stays : (h k : HostId) (d n : ℕ) (w : Bring) → BringsTokens a h d n w → GoesAway S a k → ⊥
   sent_stays h k d n w (inl p) (inl q) = let e = p.1 in let r = q.2 in cc
   sent_stays h k d n w (inr p) (inl q) = let e = p.1 in let r = q.2 in cc
   sent_stays h k d n w (inl p) (inr q) = let e = p.1 in let r = q.0.1 in cc
@@ -153,7 +148,7 @@ module _ (v : ServerId) (S : List Act) (a : Act) (served : Served v S) (may : Se
   revokes' h d n r i (inl e) m =
       let t = may.revokes h d n r i e m in
       let y = served.owed_issued t.0 (granted_owed t.0 t.1) in
-      record { token = t.0; mark = y.0; issued = inr y.1; same = t.2; host = t.3; file = t.4; below = λ now. may.stamps h d n y.0.stamp r e (subst (λ g. Told S g y.0.stamp) t.4 (served.told t.0 y.0 y.1 (now ∙ may.epochs h d n (Revoke r) e))) }
+      record { token = t.0; mark = y.0; issued = inr y.1; same = t.2; host = t.3; file = t.4; below = λ now. may.stamps h d n y.0.stamp r e (subst (λ g. HasUsedStamp S g y.0.stamp) t.4 (served.told t.0 y.0 y.1 (now ∙ may.epochs h d n (Revoke r) e))) }
   revokes' h d n r i (inr o) m =
       let x = served.revokes h d n r i o m in
       record { token = x.token; mark = x.mark; issued = inr x.issued; same = x.same; host = x.host; file = x.file; below = x.below }
@@ -173,11 +168,11 @@ module _ (v : ServerId) (S : List Act) (a : Act) (served : Served v S) (may : Se
       ]
   dones' h d n w t (inr o) m = let i = served.dones h d n w t o m in record { issued = inr i.issued; host = i.host; file = i.file; epoch_is = i.epoch_is }
 
-  gones' : (h : HostId) (d n : ℕ) (g : AppliedGive) → SentTo (a ∷ S) h d n (Gone g) → Applied v (a ∷ S) h g
+  gones' : (h : HostId) (d n : ℕ) (g : AppliedGive) → SentTo (a ∷ S) h d n (Gone g) → IsApplied v (a ∷ S) h g
   gones' h d n g (inl e) = inr (may.gones h d n g e).1
   gones' h d n g (inr o) = inr (served.gones h d n g o)
 
-  reclaimed' : (h : HostId) (d n : ℕ) (r : ReclaimedOf) (g : AppliedGive) → SentTo (a ∷ S) h d n (Reclaimed r) → In g r.applied → Applied v (a ∷ S) h g
+  reclaimed' : (h : HostId) (d n : ℕ) (r : ReclaimedOf) (g : AppliedGive) → SentTo (a ∷ S) h d n (Reclaimed r) → In g r.applied → IsApplied v (a ∷ S) h g
   reclaimed' h d n r g (inl e) m = inr (may.reclaimed h d n r g e m)
   reclaimed' h d n r g (inr e) m = inr (served.reclaimed h d n r g e m)
 
@@ -188,7 +183,7 @@ module _ (v : ServerId) (S : List Act) (a : Act) (served : Served v S) (may : Se
   apart' : (t u : Token) → Owed v (a ∷ S) t → Owed v (a ∷ S) u → conflict t u ≡ true → ⊥
   apart' t u i j c = go (owes t i) (owes u j)
     where
-      go : ((x : Mark) × New v S a t x) ⊎ Owed v S t → ((x : Mark) × New v S a u x) ⊎ Owed v S u → ⊥
+      go : ((x : StayStamp) × New v S a t x) ⊎ Owed v S t → ((x : StayStamp) × New v S a u x) ⊎ Owed v S u → ⊥
       go (inl n) (inl m) = let one = brings_one a n.1.to m.1.to n.1.of m.1.of n.0.moves m.0.moves n.1.with m.1.with n.1.brings m.1.brings in of_two t u c (n.1.may.host_is t n.1.in_it ∙ (one.0 ∙ sym (m.1.may.host_is u m.1.in_it)))
       go (inl n) (inr o) = n.1.may.free t u n.1.in_it (inl (served.owed_granted u o (n.1.may.over u.host (served.owed_live u o)))) c
       go (inr o) (inl m) = m.1.may.free u t m.1.in_it (inl (served.owed_granted t o (m.1.may.over t.host (served.owed_live t o)))) (conflict_both u t ∙ c)
@@ -199,7 +194,7 @@ module _ (v : ServerId) (S : List Act) (a : Act) (served : Served v S) (may : Se
   grace_on over k (inl hello, live) = inl (inr (inl hello, hello.1))
   grace_on over k (inr l, live) = inr (over k (l, λ w. live (inr w)), quiet)
 
-  keeps_brings : (ts : List Token) (t : Token) (k : Mark) → a ≡ Reserves ts → Issues a t k → ⊥
+  keeps_brings : (ts : List Token) (t : Token) (k : StayStamp) → a ≡ Reserves ts → Issues a t k → ⊥
   keeps_brings ts t k e (h, d, w, inl (g, q, b), m, _) = cc
   keeps_brings ts t k e (h, d, w, inr (g, q, b), m, _) = cc
 
@@ -233,18 +228,18 @@ module _ (v : ServerId) (S : List Act) (a : Act) (served : Served v S) (may : Se
     reserved = reserved';
   }
 
-module _ (h : HostId) (v : ServerId) (A : List Step) (S : List Act) (a : Act) (served : Served v S) (may : ServerTokens v S a) (quiet : IsBegin a → ⊥) (same : epoch (a ∷ S) ≡ epoch S) (granted_owed : (t : Token) → Granted v S t → Owed v S t) (alone : Alone A) (link : Link h v A S) (came : (d n : ℕ) (b : Body) → a ≡ Took h d n b → Said A v d n b) where
+module _ (h : HostId) (v : ServerId) (A : List Step) (S : List Doing) (a : Doing) (served : Served v S) (may : ServerTokens v S a) (quiet : IsNewEpoch a → ⊥) (same : epoch (a ∷ S) ≡ epoch S) (granted_owed : (t : Token) → Granted v S t → Owed v S t) (alone : Alone A) (link : Link h v A S) (came : (d n : ℕ) (b : Body) → a ≡ Took h d n b → Said A v d n b) where
   took_made : (fs : FilesetId) (g : Give) → TakesOf v S a h fs (GiveBack g) → Made A g
   took_made fs g e = (alone.said_made g v (epoch S) e.0 (came (epoch S) e.0 (GiveBack g) e.2.0)).0
 
   now_made : (fs : FilesetId) (g : Give) → TookOf v S h fs (GiveBack g) → Made A g
   now_made fs g e = let x = link.took_of fs (GiveBack g) e in (alone.said_made g v (epoch S) x.0 x.1).0
 
-  now_returned : (fs : FilesetId) (n : Named) (i : TokenId) → TookOf v S h fs (Returned n) → In i n.ids → HasReturned A i
+  now_returned : (fs : FilesetId) (n : Named) (i : TokenId) → TookOf v S h fs (Returned n) → In i n.ids → HasReturnedToken A i
   now_returned fs n i e m = let x = link.took_of fs (Returned n) e in said_returned A v (epoch S) x.0 n i x.1 m
 
   -- what its host has given up has left it
-  given_up_left : (i : TokenId) → GivenUp v S h i → Left A i
+  given_up_left : (i : TokenId) → GivenUp v S h i → HasLeftHost A i
   given_up_left i given =
       elim (given_up v S h i given) [
         | inl l ↦ made_left A l.0 i (now_made l.0.fid.fileset l.0 l.1) l.2
@@ -263,7 +258,7 @@ module _ (h : HostId) (v : ServerId) (A : List Step) (S : List Act) (a : Act) (s
   named_here : (c : ReclaimOf) (o : Outstanding) → Claiming v S h A c → In o c.numbers → home o.fileset ≡ v → Here v S o.fileset o.moves
   named_here c o k m at = let moves = alone.claim_moves v k.epoch_is k.moves c o k.said m in λ i. record { server = at i; moves = sym moves i }
 
-  claims_here : (c : ReclaimOf) (t : Token) (x : Mark) → Claiming v S h A c → Issued S t x → In t c.tokens → ClaimsHere v S c t
+  claims_here : (c : ReclaimOf) (t : Token) (x : StayStamp) → Claiming v S h A c → Issued S t x → In t c.tokens → ClaimsHere v S c t
   claims_here c t x k i m =
       let o = alone.claim_numbers v k.epoch_is k.moves c t k.said m in
       (o.0, o.1, o.2, named_here c o.0 k o.1 (ap home o.2 ∙ made_at v S t.fid.fileset x.moves (served.at t x i)))
@@ -278,7 +273,7 @@ module _ (h : HostId) (v : ServerId) (A : List Step) (S : List Act) (a : Act) (s
       gives_up v S h g i (subst (λ (y : Give). TookOf v S h g.fid.fileset (GiveBack y)) is (subst (λ (f : FilesetId). TookOf v S h f (GiveBack w.0)) o.2 w.1)) n
 
   -- an issued token that a claim names, and that the host hasn't given up, is granted by it
-  admitted_is : (ts : List Token) (p : MayAdmit v S h ts) (t : Token) (x : Mark) → Issued S t x → t.host ≡ h → In t p.claim.tokens → (GivenUp v S h t.id → ⊥) → In t ts
+  admitted_is : (ts : List Token) (p : MayAdmit v S h ts) (t : Token) (x : StayStamp) → Issued S t x → t.host ≡ h → In t p.claim.tokens → (GivenUp v S h t.id → ⊥) → In t ts
   admitted_is ts p t x i mine m out =
       let w = p.whole t m (claims_here p.claim t x (claiming ts p) i m) out free in
       let k = claiming ts p in
@@ -293,18 +288,18 @@ module _ (h : HostId) (v : ServerId) (A : List Step) (S : List Act) (a : Act) (s
           p.first (subst (HasReclaimed S) (ap (λ (z : Token). z.host) one ∙ mine) (served.granted_reclaimed u g))
 
   -- what hasn't left its host stays owed
-  stays_owed : (t : Token) → t.host ≡ h → (Left A t.id → ⊥) → (Away (a ∷ S) h → ⊥) → ((ts : List Token) → a ≡ Admits h ts → In t ts) → Stays v S a t
+  stays_owed : (t : Token) → t.host ≡ h → (HasLeftHost A t.id → ⊥) → (HasGoneAway (a ∷ S) h → ⊥) → ((ts : List Token) → a ≡ Admits h ts → In t ts) → Stays v S a t
   stays_owed t mine stays live admitted = record {
-    unnamed = λ r n. names (subst (λ k. Names v S a k t.id) mine n);
+    unnamed = λ r n. names (subst (λ k. GivesUp v S a k t.id) mine n);
     here = λ g. live (inl (subst (GoesAway S a) mine g));
     admitted = λ ts e. admitted ts (e ∙ ap (λ k. Admits k ts) mine);
   }
     where
-      names : Names v S a h t.id → ⊥
+      names : GivesUp v S a h t.id → ⊥
       names (inl (n, e, m)) = stays (returned_left A t.id (said_returned A v (epoch S) e.0 n t.id (came (epoch S) e.0 (Returned n) e.2.0) m))
       names (inr (g, e, m)) = stays (made_left A g t.id (took_made g.fid.fileset g e) m)
 
-  asked' : (t : Token) (k : Mark) → Issued (a ∷ S) t k → t.host ≡ h → t.id.epoch ≤ epoch_at A v
+  asked' : (t : Token) (k : StayStamp) → Issued (a ∷ S) t k → t.host ≡ h → t.id.epoch ≤ epoch_at A v
   asked' t k i mine =
       elim (issued v S a served may quiet same granted_owed t k i) [
         | inl n ↦ (let to : TookNow S h k.moves n.ask = subst (λ j. TookNow S j k.moves n.ask) (sym (n.may.host_is t n.in_it) ∙ mine) n.asked in let lo = alone.said_epoch v (epoch S) k.moves n.ask (link.took k.moves n.ask to) in let e = n.may.now t n.in_it in omega arith)
@@ -323,15 +318,15 @@ module _ (h : HostId) (v : ServerId) (A : List Step) (S : List Act) (a : Act) (s
   took_ever' fs b (inl e) = (epoch S, e.0, came (epoch S) e.0 b e.2.0)
   took_ever' fs b (inr o) = link.took_ever fs b o
 
-  in_flight' : (t : Token) (k : Mark) → Issued (a ∷ S) t k → t.host ≡ h → t.id.epoch ≡ epoch_at A v → AboveFloor A t.fid k.stamp → (Away (a ∷ S) h → ⊥) → Owed v (a ∷ S) t
+  in_flight' : (t : Token) (k : StayStamp) → Issued (a ∷ S) t k → t.host ≡ h → t.id.epoch ≡ epoch_at A v → AboveFloor A t.fid k.stamp → (HasGoneAway (a ∷ S) h → ⊥) → Owed v (a ∷ S) t
   in_flight' t k (inl i) mine e above live = inl (k, i)
   in_flight' t k (inr o) mine e above live = inr (link.in_flight t k o mine e above (λ w. live (inr w)), stays_owed t mine stays live admitted)
     where
-      stays : Left A t.id → ⊥
+      stays : HasLeftHost A t.id → ⊥
       stays l =
           let s = link.left t.id (served.id t k o) l in
           let one = served.unique s.token t s.mark k s.issued o s.same in
-          s.passed (ap (λ (u : Token). u.id.epoch) one.0 ∙ e) (subst (λ (q : Token × Mark). AboveFloor A q.0.fid q.1.stamp) (λ j. (sym one.0 j, sym one.1 j)) above)
+          s.passed (ap (λ (u : Token). u.id.epoch) one.0 ∙ e) (subst (λ (q : Token × StayStamp). AboveFloor A q.0.fid q.1.stamp) (λ j. (sym one.0 j, sym one.1 j)) above)
 
       admitted : (ts : List Token) → a ≡ Admits h ts → In t ts
       admitted ts q =
@@ -350,26 +345,26 @@ module _ (h : HostId) (v : ServerId) (A : List Step) (S : List Act) (a : Act) (s
           let m = may.admits h ts q in
           admitted_is ts m t x.mark x.issued x.host (link.claim_held m.claim t (claiming ts m) at k) (λ l. x.stays (given_up_left t.id l))
 
-  left' : (i : TokenId) → i.server ≡ v → Left A i → Spent v (a ∷ S) h A i
+  left' : (i : TokenId) → i.server ≡ v → HasLeftHost A i → Spent v (a ∷ S) h A i
   left' i at l = let x = link.left i at l in record { token = x.token; mark = x.mark; issued = inr x.issued; same = x.same; host = x.host; passed = x.passed }
 
-  given' : (g : Give) (i : TokenId) → i.server ≡ v → Made A g → In i g.ids → (Applied v (a ∷ S) h (number_of g) → ⊥) → (Away (a ∷ S) h → ⊥) → OwedId v (a ∷ S) h i
+  given' : (g : Give) (i : TokenId) → i.server ≡ v → Made A g → In i g.ids → (IsApplied v (a ∷ S) h (number_of g) → ⊥) → (HasGoneAway (a ∷ S) h → ⊥) → OwedId v (a ∷ S) h i
   given' g i at m n not live =
       let x = link.given g i at m n (λ p. not (inr p)) (λ w. live (inr w)) in
-      record { token = x.token; owed = inr (x.owed, record { unnamed = λ r k. names x (subst (λ j. Names v S a j x.token.id) x.host k); here = λ w. live (inl (subst (GoesAway S a) x.host w)); admitted = λ ts e. admitted x ts (e ∙ ap (λ k. Admits k ts) x.host) }); same = x.same; host = x.host }
+      record { token = x.token; owed = inr (x.owed, record { unnamed = λ r k. names x (subst (λ j. GivesUp v S a j x.token.id) x.host k); here = λ w. live (inl (subst (GoesAway S a) x.host w)); admitted = λ ts e. admitted x ts (e ∙ ap (λ k. Admits k ts) x.host) }); same = x.same; host = x.host }
     where
-      names : (x : OwedId v S h i) → Names v S a h x.token.id → ⊥
+      names : (x : OwedId v S h i) → GivesUp v S a h x.token.id → ⊥
       names x (inl (f, e, k)) = not (inr (link.returned i g at (said_returned A v (epoch S) e.0 f i (came (epoch S) e.0 (Returned f) e.2.0) (subst (λ j. In j f.ids) x.same k)) m n))
       names x (inr (k, took, q)) =
           let one : g ≡ k = link.made_once g k i at m (took_made k.fid.fileset k took) n (subst (λ j. In j k.ids) x.same q) in
           let files = ap (λ (y : Give). y.fid.fileset) (sym one) in
           not (inl (k, subst (λ (f : FilesetId). TakesOf v S a h f (GiveBack k)) files took, files, (let e : g.number ≡ k.number = ap (λ (y : Give). y.number) one in omega arith)))
 
-      by_either : (x : OwedId v S h i) → TookGiven v S h x.token.id → Applied v S h (number_of g)
-      by_either x (inl l) = subst (λ (y : Give). Applied v S h (number_of y)) (link.made_once l.0 g i at (now_made l.0.fid.fileset l.0 l.1) m (subst (λ y. In y l.0.ids) x.same l.2) n) (took_applied v S h l.0 l.1)
+      by_either : (x : OwedId v S h i) → TookGiven v S h x.token.id → IsApplied v S h (number_of g)
+      by_either x (inl l) = subst (λ (y : Give). IsApplied v S h (number_of y)) (link.made_once l.0 g i at (now_made l.0.fid.fileset l.0 l.1) m (subst (λ y. In y l.0.ids) x.same l.2) n) (took_applied v S h l.0 l.1)
       by_either x (inr l) = link.returned i g at (now_returned l.0.fid.fileset l.0 i l.1 (subst (λ y. In y l.0.ids) x.same l.2)) m n
 
-      given_applied : (x : OwedId v S h i) → GivenUp v S h x.token.id → Applied v S h (number_of g)
+      given_applied : (x : OwedId v S h i) → GivenUp v S h x.token.id → IsApplied v S h (number_of g)
       given_applied x l = by_either x (given_up v S h x.token.id l)
 
       admitted : (x : OwedId v S h i) (ts : List Token) → a ≡ Admits h ts → In x.token ts
@@ -383,18 +378,18 @@ module _ (h : HostId) (v : ServerId) (A : List Step) (S : List Act) (a : Act) (s
           let one : u.0 ≡ x.token = (served.unique u.0 x.token j.0 k.0 j.1 k.1 (u.2 ∙ sym x.same)).0 in
           admitted_is ts p x.token k.0 k.1 x.host (subst (λ (y : Token). In y p.claim.tokens) one u.1) (λ l. not (inr (given_applied x l)))
 
-  applied_now : (g k : Give) → Made A g → TakesOf v S a h g.fid.fileset (GiveBack k) → k.fid.fileset ≡ g.fid.fileset → g.number ≤ k.number → Applied v S h (number_of g) ⊎ (k ≡ g)
+  applied_now : (g k : Give) → Made A g → TakesOf v S a h g.fid.fileset (GiveBack k) → k.fid.fileset ≡ g.fid.fileset → g.number ≤ k.number → IsApplied v S h (number_of g) ⊎ (k ≡ g)
   applied_now g k m e f le =
       elim (cases_lt g.number k.number) [
         | inl lt ↦ inl (link.known (number_of g) (made_at v S g.fid.fileset e.0 e.1) (alone.said_first k g v (epoch S) e.0 (came (epoch S) e.0 (GiveBack k) e.2.0) m (sym f) lt))
         | inr ge ↦ inr (alone.numbers k g (took_made g.fid.fileset k e) m f (omega arith))
       ]
 
-  applied_made' : (n : AppliedGive) → Applied v (a ∷ S) h n → (g : Give) × Made A g × (g.fid.fileset ≡ n.fileset) × (n.number ≤ g.number)
+  applied_made' : (n : AppliedGive) → IsApplied v (a ∷ S) h n → (g : Give) × Made A g × (g.fid.fileset ≡ n.fileset) × (n.number ≤ g.number)
   applied_made' n (inl (g, e, f, le)) = (g, took_made n.fileset g e, f, le)
   applied_made' n (inr o) = link.applied_made n o
 
-  applied_taken' : (g : Give) → Made A g → Applied v (a ∷ S) h (number_of g) → TookEver v (a ∷ S) h g.fid.fileset (GiveBack g)
+  applied_taken' : (g : Give) → Made A g → IsApplied v (a ∷ S) h (number_of g) → TookEver v (a ∷ S) h g.fid.fileset (GiveBack g)
   applied_taken' g m (inl (k, e, f, le)) =
       elim (applied_now g k m e f le) [
         | inl p ↦ inr (link.applied_taken g m p)
@@ -405,7 +400,7 @@ module _ (h : HostId) (v : ServerId) (A : List Step) (S : List Act) (a : Act) (s
   claim_host : (c : ReclaimOf) (t : Token) → Claiming v S h A c → In t c.tokens → t.host ≡ h
   claim_host c t k m = let e = alone.claim_ever v k.epoch_is k.moves c t k.said m in (link.ever t e.1 e.0).2
 
-  claim_owed' : (c : ReclaimOf) (t : Token) → Claiming v (a ∷ S) h A c → (Away (a ∷ S) h → ⊥) → In t c.tokens → Owed v (a ∷ S) t ⊎ ((g : Give) × Made A g × In t.id g.ids × NamesGive c.numbers g)
+  claim_owed' : (c : ReclaimOf) (t : Token) → Claiming v (a ∷ S) h A c → (HasGoneAway (a ∷ S) h → ⊥) → In t c.tokens → Owed v (a ∷ S) t ⊎ ((g : Give) × Made A g × In t.id g.ids × NamesGive c.numbers g)
   claim_owed' c t k live m =
       let b = claiming_before c k in
       let mine = claim_host c t b m in
@@ -432,24 +427,24 @@ module _ (h : HostId) (v : ServerId) (A : List Step) (S : List Act) (a : Act) (s
       go (inr (g, k, n, o)) = absurd ((p.sound t m).3 (named_given ts p g t.id k n (alone.claim_ever v c.epoch_is c.moves p.claim t c.said (p.sound t m).0).1 o))
   granted_owed' t mine (inr (g, q, unnamed, here)) = inr (link.granted_owed t mine g, record { unnamed = λ _ n. unnamed n; here = here; admitted = λ ts e. absurd ((may.admits t.host ts e).first (served.granted_reclaimed t g)) })
 
-  taken' : (g : Give) (t : Token) → Made A g → In t.id g.ids → t.host ≡ h → Applied v (a ∷ S) h (number_of g) → Granted v (a ∷ S) t → ⊥
+  taken' : (g : Give) (t : Token) → Made A g → In t.id g.ids → t.host ≡ h → IsApplied v (a ∷ S) h (number_of g) → Granted v (a ∷ S) t → ⊥
   taken' g t m n mine r k = go r k
     where
-      before : Applied v (a ∷ S) h (number_of g) → Applied v S h (number_of g) ⊎ TakesOf v S a h g.fid.fileset (GiveBack g)
+      before : IsApplied v (a ∷ S) h (number_of g) → IsApplied v S h (number_of g) ⊎ TakesOf v S a h g.fid.fileset (GiveBack g)
       before (inl (j, e, f, le)) = elim (applied_now g j m e f le) [ inl p ↦ inl p | inr one ↦ inr (subst (λ y. TakesOf v S a h g.fid.fileset (GiveBack y)) one e) ]
       before (inr o) = inl o
 
       -- no new token has the number of one that has left
-      fresh : (x : Mark) → New v S a t x → ⊥
+      fresh : (x : StayStamp) → New v S a t x → ⊥
       fresh x i =
           let s = link.left t.id (i.may.id t i.in_it) (made_left A g t.id m n) in
           absurd (let lt : s.token.id.seq < t.id.seq = i.may.new t s.token s.mark i.in_it s.issued (ap (λ (j : TokenId). j.epoch) s.same ∙ i.may.now t i.in_it) in let one : s.token.id.seq ≡ t.id.seq = ap (λ (j : TokenId). j.seq) s.same in omega arith)
 
-      took_brings : TakesOf v S a h g.fid.fileset (GiveBack g) → (x : Mark) → Issues a t x → ⊥
+      took_brings : TakesOf v S a h g.fid.fileset (GiveBack g) → (x : StayStamp) → Issues a t x → ⊥
       took_brings e x (j, d, w, inl p, _, _) = (let q = e.2.0 in let z = p.1 in cc)
       took_brings e x (j, d, w, inr p, _, _) = (let q = e.2.0 in let z = p.1 in cc)
 
-      claimed : (ts : List Token) → a ≡ Admits h ts → In t ts → Applied v S h (number_of g) → ⊥
+      claimed : (ts : List Token) → a ≡ Admits h ts → In t ts → IsApplied v S h (number_of g) → ⊥
       claimed ts q i r =
           let w = may.admits h ts q in
           let c = claiming ts w in
@@ -458,7 +453,7 @@ module _ (h : HostId) (v : ServerId) (A : List Step) (S : List Act) (a : Act) (s
             | inr o ↦ (w.sound t i).3 (gives_up v S h g t.id o n)
           ]
 
-      go : Applied v (a ∷ S) h (number_of g) → Granted v (a ∷ S) t → ⊥
+      go : IsApplied v (a ∷ S) h (number_of g) → Granted v (a ∷ S) t → ⊥
       go p (inl (inl i)) =
           elim (issues v S a served may quiet same granted_owed t i.0 i.1) [
             | inl f ↦ fresh i.0 f
@@ -467,18 +462,18 @@ module _ (h : HostId) (v : ServerId) (A : List Step) (S : List Act) (a : Act) (s
       go p (inl (inr (ts, e, i))) = elim (before p) [ inl q ↦ claimed ts (e ∙ ap (λ j. Admits j ts) mine) i q | inr q ↦ absurd (let y = q.2.0 in cc) ]
       go p (inr (o, q, unnamed, here)) = elim (before p) [ inl f ↦ link.taken g t m n mine f o | inr e ↦ unnamed (inr (g, subst (λ j. TakesOf v S a j g.fid.fileset (GiveBack g)) (sym mine) e, n)) ]
 
-  spent_before : (c : ReclaimOf) (g : Give) (t : Token) → Claiming v (a ∷ S) h A c → In t c.tokens → Made A g → In t.id g.ids → Applied v S h (number_of g) → NamesGive c.numbers g ⊎ TookOf v (a ∷ S) h g.fid.fileset (GiveBack g)
+  spent_before : (c : ReclaimOf) (g : Give) (t : Token) → Claiming v (a ∷ S) h A c → In t c.tokens → Made A g → In t.id g.ids → IsApplied v S h (number_of g) → NamesGive c.numbers g ⊎ TookOf v (a ∷ S) h g.fid.fileset (GiveBack g)
   spent_before c g t k i m n p = elim (link.claim_spent c g t (claiming_before c k) i m n p) [ inl o ↦ inl o | inr o ↦ inr (inr (o, quiet)) ]
 
-  claim_spent' : (c : ReclaimOf) (g : Give) (t : Token) → Claiming v (a ∷ S) h A c → In t c.tokens → Made A g → In t.id g.ids → Applied v (a ∷ S) h (number_of g) → NamesGive c.numbers g ⊎ TookOf v (a ∷ S) h g.fid.fileset (GiveBack g)
+  claim_spent' : (c : ReclaimOf) (g : Give) (t : Token) → Claiming v (a ∷ S) h A c → In t c.tokens → Made A g → In t.id g.ids → IsApplied v (a ∷ S) h (number_of g) → NamesGive c.numbers g ⊎ TookOf v (a ∷ S) h g.fid.fileset (GiveBack g)
   claim_spent' c g t k i m n (inl (j, e, f, le)) = elim (applied_now g j m e f le) [ inl p ↦ spent_before c g t k i m n p | inr one ↦ inr (inl (subst (λ y. TakesOf v S a h g.fid.fileset (GiveBack y)) one e)) ]
   claim_spent' c g t k i m n (inr p) = spent_before c g t k i m n p
 
-  left_out' : (d n : ℕ) (r : ReclaimedOf) (i : TokenId) → SentTo (a ∷ S) h d n (Reclaimed r) → In i r.left_out → Left A i
+  left_out' : (d n : ℕ) (r : ReclaimedOf) (i : TokenId) → SentTo (a ∷ S) h d n (Reclaimed r) → In i r.left_out → HasLeftHost A i
   left_out' d n r i (inl e) m = given_up_left i (may.left_out h d n r i e m)
   left_out' d n r i (inr o) m = link.left_out d n r i o m
 
-  away' : Away (a ∷ S) h → HasStopped A ⊎ HasSaid A v Bye
+  away' : HasGoneAway (a ∷ S) h → HasStopped A ⊎ HasSaid A v Bye
   away' (inl (inl (d, n, e))) = inl (v, d, n, came d n Down e)
   away' (inl (inr e)) = inr (epoch S, e.0.0, came (epoch S) e.0.0 Bye e.0.1)
   away' (inr o) = link.away o

@@ -8,59 +8,58 @@ use Rattle.message_types.specs.declared.message.Body.TheVariants.{Grant, Done, R
 use Rattle.message_types.specs.declared.telling.Bring.{Bring}
 use Rattle.message_types.specs.declared.giving.Reclaim.{Reclaim as ReclaimOf}
 use Rattle.run_rules.specs.declared.step.Step.{Step}
-use Rattle.run_rules.specs.Acts.{Act, epoch, SentTo}
-use Rattle.run_rules.specs.Acts.Act.{Begins}
-use Rattle.run_rules.specs.Hosts.{Away, HasReclaimed}
-use Rattle.run_rules.specs.Grants.{Mark, Brings, Issued, Granted}
+use Rattle.run_rules.specs.Doings.{BringsTokens, Doing, Granted, HasGoneAway, HasReclaimed, Issued, SentTo, StayStamp}
+use Rattle.run_rules.specs.Doings.{epoch}
+use Rattle.run_rules.specs.Doings.Doing.{BeginsEpoch}
 use Rattle.run_tokens.proofs.Owed.{Stays, Owed}
 use Rattle.run_tokens.proofs.Invariant.{Served, Alone, Link, Brought, Claiming}
 
-module _ (v : ServerId) (S : List Act) (n : ℕ) where
-  no_bring : (h : HostId) (e m : ℕ) (w : Bring) → Brings (Begins n) h e m w → ⊥
+module _ (v : ServerId) (S : List Doing) (n : ℕ) where
+  no_bring : (h : HostId) (e m : ℕ) (w : Bring) → BringsTokens (BeginsEpoch n) h e m w → ⊥
   no_bring h e m w (inl p) = (let q = p.1 in cc)
   no_bring h e m w (inr p) = (let q = p.1 in cc)
 
-  old : (t : Token) (k : Mark) → Issued (Begins n ∷ S) t k → Issued S t k
+  old : (t : Token) (k : StayStamp) → Issued (BeginsEpoch n ∷ S) t k → Issued S t k
   old t k (inl (h, e, w, b, _, _)) = absurd (no_bring h e k.moves w b)
   old t k (inr i) = i
 
-  was_owed : (t : Token) → Owed v (Begins n ∷ S) t → Owed v S t
+  was_owed : (t : Token) → Owed v (BeginsEpoch n ∷ S) t → Owed v S t
   was_owed t (inl (k, (h, e, w, b, _, _))) = absurd (no_bring h e k.moves w b)
   was_owed t (inr o) = o.0
 
-  stays : (t : Token) → Stays v S (Begins n) t
+  stays : (t : Token) → Stays v S (BeginsEpoch n) t
   stays t = record {
     unnamed = λ r k. elim k [ inl p ↦ (let q = p.1.2.0 in cc) | inr p ↦ (let q = p.1.2.0 in cc) ];
     here = λ w. elim w [ inl p ↦ (let q = p.2 in cc) | inr p ↦ (let q = p.0.1 in cc) ];
     admitted = λ ts e. absurd (cc);
   }
 
-  still_owed : (t : Token) → Owed v S t → Owed v (Begins n ∷ S) t
+  still_owed : (t : Token) → Owed v S t → Owed v (BeginsEpoch n ∷ S) t
   still_owed t o = inr (o, stays t)
 
-  not_granted : (t : Token) → Granted v (Begins n ∷ S) t → ⊥
+  not_granted : (t : Token) → Granted v (BeginsEpoch n ∷ S) t → ⊥
   not_granted t (inl (inl (k, (h, e, w, b, _, _)))) = no_bring h e k.moves w b
   not_granted t (inl (inr (ts, e, _))) = cc
   not_granted t (inr (g, q, _, _)) = q (n, refl)
 
-  not_reclaimed : (h : HostId) → HasReclaimed (Begins n ∷ S) h → ⊥
+  not_reclaimed : (h : HostId) → HasReclaimed (BeginsEpoch n ∷ S) h → ⊥
   not_reclaimed h (inl (inl (ts, e))) = cc
   not_reclaimed h (inl (inr e)) = elim e.0 [ inl z ↦ (let q = z.0.2 in cc) | inr z ↦ e.1 z ]
   not_reclaimed h (inr (r, q)) = q (n, refl)
 
-  was_away : (h : HostId) → Away (Begins n ∷ S) h → Away S h
+  was_away : (h : HostId) → HasGoneAway (BeginsEpoch n ∷ S) h → HasGoneAway S h
   was_away h (inl (inl (e, m, p))) = absurd (cc)
   was_away h (inl (inr p)) = absurd (let q = p.0.1 in cc)
   was_away h (inr w) = w
 
-  was_sent : (h : HostId) (e m : ℕ) (b : Body) → SentTo (Begins n ∷ S) h e m b → SentTo S h e m b
+  was_sent : (h : HostId) (e m : ℕ) (b : Body) → SentTo (BeginsEpoch n ∷ S) h e m b → SentTo S h e m b
   was_sent h e m b (inl p) = absurd (cc)
   was_sent h e m b (inr o) = o
 
-  brought : (h : HostId) (e m : ℕ) (w : Bring) (t : Token) → Brought S h e w m t → Brought (Begins n ∷ S) h e w m t
+  brought : (h : HostId) (e m : ℕ) (w : Bring) (t : Token) → Brought S h e w m t → Brought (BeginsEpoch n ∷ S) h e w m t
   brought h e m w t i = record { issued = inr i.issued; host = i.host; file = i.file; epoch_is = i.epoch_is }
 
-  pub served_begin : epoch S < n → Served v S → Served v (Begins n ∷ S)
+  pub served_begin : epoch S < n → Served v S → Served v (BeginsEpoch n ∷ S)
   served_begin up served = record {
     unique = λ t u x y i j. served.unique t u x y (old t x i) (old u y j);
     told = λ t x i e. absurd (let le = served.issued_epoch t x (old t x i) in omega arith);
@@ -82,7 +81,7 @@ module _ (v : ServerId) (S : List Act) (n : ℕ) where
     reserved = λ r k. elim k [ inl x ↦ absurd (let q = x.1 in cc) | inr x ↦ absurd (x.1 (inl (n, refl))) ];
   }
 
-  pub link_begin : (h : HostId) (A : List Step) → epoch S < n → Alone A → Link h v A S → Link h v A (Begins n ∷ S)
+  pub link_begin : (h : HostId) (A : List Step) → epoch S < n → Alone A → Link h v A S → Link h v A (BeginsEpoch n ∷ S)
   link_begin h A up alone link = record {
     behind = (let le = link.behind in omega arith);
     asked = λ t x i. link.asked t x (old t x i);
@@ -111,5 +110,5 @@ module _ (v : ServerId) (S : List Act) (n : ℕ) where
   }
     where
       -- no host has claimed in an epoch that begins
-      too_new : (c : ReclaimOf) → Claiming v (Begins n ∷ S) h A c → ⊥
+      too_new : (c : ReclaimOf) → Claiming v (BeginsEpoch n ∷ S) h A c → ⊥
       too_new c k = (let q = k.now in let lo = alone.said_epoch v k.epoch_is k.moves (Reclaim c) k.said in let hi = link.behind in omega arith)

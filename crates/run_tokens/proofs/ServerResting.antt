@@ -1,32 +1,29 @@
 -- A settled server meets all its rules in a lapse in which it does nothing.
-use Rattle.run_rules.specs.Nodes.{bare}
+use Rattle.run_rules.specs.Doings.{Doing, HeardNow, SentNow, TakenNow}
+use Rattle.run_rules.specs.Doings.Doing.{Reserves}
+use Rattle.run_rules.specs.Kept.{filesets_kept}
+use Rattle.run_rules.specs.Past.{In}
+use Rattle.run_rules.specs.ServerDecides.{ServerApplies}
+use Rattle.run_rules.specs.ServerDue.{HasDecided, HasSent, ServerAnswers, ServerLines}
+use Rattle.run_rules.specs.ServerMay.{NoHostStep, OnlyAnswers}
+use Rattle.run_rules.specs.ServerTokens.{ServerStep}
+use Rattle.run_rules.specs.Steps.{bare, lines_of}
+use Rattle.run_rules.specs.Wants.{body_of}
 use Rattle.std.proofs.Common.{List, [], inl, inr, refl, subst, sym, ℕ, ◌∷◌, ◌≡◌}
 use Rattle.base_types.specs.declared.ids.HostId.{HostId}
 use Rattle.base_types.specs.declared.ids.ServerId.{ServerId}
 use Rattle.tree_answers.specs.declared.tree.Tree.{Tree}
 use Rattle.token_types.specs.declared.token.Token.{Token}
-use Rattle.run_rules.specs.Lines.{lines_of}
-use Rattle.run_rules.specs.ServerAnswers.{HeardNow, OnlyAnswers, SentNow, ServerAnswers, TakenNow}
-use Rattle.run_rules.specs.ServerApplies.{ServerApplies}
-use Rattle.run_rules.specs.ServerDecides.{HasDecided}
-use Rattle.run_rules.specs.ServerRules.{NoHostStep, ServerLines}
-use Rattle.run_rules.specs.ServerSends.{HasSent}
-use Rattle.run_rules.specs.Wants.{body_of}
-use Rattle.run_rules.specs.Lists.{In}
-use Rattle.run_rules.specs.TokenRuns.{ServerStep}
 use Rattle.run_rules.specs.declared.step.Step.{Step}
 use Rattle.script_lines.specs.declared.script.Line.{Line as ScriptLine}
-use Rattle.run_rules.specs.Kept.{kept}
 use Rattle.run_tokens.specs.ServerRest.{IsSettled, ServerMayRest}
-use Rattle.run_rules.specs.Acts.{Act}
-use Rattle.run_rules.specs.Acts.Act.{Reserves}
 use Rattle.run_rules.specs.declared.step.Cause.TheVariants.{Lapse}
 use Rattle.message_types.specs.declared.message.Body.TheVariants.{Hello, Change, Done, Revoke, GiveBack, Gone, Reclaim, Reclaimed, Restarted, Down, Bye}
 use Rattle.message_types.specs.declared.message.Body.{Body}
 use Rattle.base_types.specs.declared.ids.Node.TheVariants.{Server}
 use Rattle.run_tokens.proofs.Still.{can_grant, owed, ready, waited, asked_back}
 
-module _ (server : ServerId) (tree : Tree) (past : List Act) (settled : IsSettled server tree past) where
+module _ (server : ServerId) (tree : Tree) (past : List Doing) (settled : IsSettled server tree past) where
   abbrev s : Step
   s = bare (Server server) Lapse
 
@@ -80,7 +77,7 @@ module _ (server : ServerId) (tree : Tree) (past : List Act) (settled : IsSettle
     pinned = λ w c waits is row not r. settled.changes w c waits is (inr r);
   }
 
-  abbrev after : List Act
+  abbrev after : List Doing
   after = Reserves [] ∷ past
 
   sent : HasSent server tree past after s
@@ -116,12 +113,12 @@ module _ (server : ServerId) (tree : Tree) (past : List Act) (settled : IsSettle
       admits = λ h tokens x. absurd (cc);
       writes = λ w x. absurd (cc);
       writes_once = λ w x. absurd (cc);
-      reserves = λ tokens t u is m. absurd (kept tokens t is m);
+      reserves = λ tokens t u is m. absurd (filesets_kept tokens t is m);
     };
   }
     where
-      kept : (tokens : List Token) (t : Token) → Reserves [] ≡ Reserves tokens → In t tokens → ⊥
-      kept tokens t is m = let p : [] ≡ tokens = cc in elim (subst (In t) (sym p) m) [ ]
+      filesets_kept : (tokens : List Token) (t : Token) → Reserves [] ≡ Reserves tokens → In t tokens → ⊥
+      filesets_kept tokens t is m = let p : [] ≡ tokens = cc in elim (subst (In t) (sym p) m) [ ]
 
   no_host : NoHostStep s
   no_host = record { causes = (λ c. cc, λ c. cc); does_none = (refl, refl, refl, refl, refl, refl, refl) }
@@ -132,19 +129,19 @@ module _ (server : ServerId) (tree : Tree) (past : List Act) (settled : IsSettle
 pub may_rest : ServerMayRest
 may_rest script start server steps past settled = record {
   may = record {
-    tokens = tokens server (kept start server steps) past settled;
-    no_host = no_host server (kept start server steps) past settled;
-    answers = only server (kept start server steps) past settled;
+    tokens = tokens server (filesets_kept start server steps) past settled;
+    no_host = no_host server (filesets_kept start server steps) past settled;
+    answers = only server (filesets_kept start server steps) past settled;
     works = record {
-      applies = applies server (kept start server steps) past settled;
+      applies = applies server (filesets_kept start server steps) past settled;
       decides = tt;
       sends = tt;
     };
   };
   due = record {
-    lines = lines_meet server (kept start server steps) past settled (lines_of script (Server server)) steps;
-    answers = answers server (kept start server steps) past settled;
-    decided = decided server (kept start server steps) past settled;
-    sent = sent server (kept start server steps) past settled;
+    lines = lines_meet server (filesets_kept start server steps) past settled (lines_of script (Server server)) steps;
+    answers = answers server (filesets_kept start server steps) past settled;
+    decided = decided server (filesets_kept start server steps) past settled;
+    sent = sent server (filesets_kept start server steps) past settled;
   };
 }

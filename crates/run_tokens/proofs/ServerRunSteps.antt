@@ -6,27 +6,29 @@ use Rattle.base_types.specs.declared.ids.FilesetId.{FilesetId}
 use Rattle.base_types.specs.declared.ids.HostId.{HostId}
 use Rattle.token_types.specs.declared.token.Token.{Token}
 use Rattle.tree_laws.specs.Parts.{Part, cell_at}
-use Rattle.run_rules.specs.Lines.{lines_of}
+use Rattle.run_rules.specs.Doings.{Doing, Granted, HasReclaimed, HeardNow, Hears, Here, IsLive, NoGrace, Pinned}
+use Rattle.run_rules.specs.Doings.{SentNow, SentTo, TakenNow, TookNow, WasWritten, after_cause, epoch}
+use Rattle.run_rules.specs.Doings.Doing.{BeginsEpoch, MakesWant, Reserves, Sent, Took, WritesDown}
+use Rattle.run_rules.specs.Kept.{filesets_kept}
+use Rattle.run_rules.specs.Messages.{home}
+use Rattle.run_rules.specs.Past.{EachOnce, In}
+use Rattle.run_rules.specs.ServerDecides.{IsDecidedHere, IsNewRequest, RefusedOn, ServerApplies, by_cause, decisions}
+use Rattle.run_rules.specs.ServerDecides.{is_decision, kept_reply}
+use Rattle.run_rules.specs.ServerDue.{HasDecided, HasSent, IsOfChange, ServerAnswers, ServerLines, ServerMeets}
+use Rattle.run_rules.specs.ServerMay.{AnswersSo, AreNeeds, DoneFor, GrantsSo, HasWritten, MaySend, NoHostStep}
+use Rattle.run_rules.specs.ServerMay.{OnlyAnswers}
+use Rattle.run_rules.specs.ServerMay.AnsweredSo.{IsEntered}
+use Rattle.run_rules.specs.ServerMay.DoneFor.{Answered}
+use Rattle.run_rules.specs.Steps.{lines_of}
+use Rattle.run_rules.specs.Views.{part_told as told_of}
+use Rattle.run_rules.specs.Wants.{CanGrant, CanRefuse, Decides, IsQueued, IsQueuedBefore, body_of, has_effect}
+use Rattle.run_rules.specs.declared.applied.Request.TheVariants.{Change as Changes, Fetch as Asks}
 use Rattle.run_tokens.specs.JournalWorked.{home_fileset, script, start}
-use Rattle.run_rules.specs.ServerAnswers.{HeardNow, OnlyAnswers, SentNow, ServerAnswers, TakenNow}
-use Rattle.run_rules.specs.ServerDecides.{HasDecided, IsHere, IsNewRequest, RefusedOn, kept_reply}
-use Rattle.run_rules.specs.ServerRules.{NoHostStep, ServerLines, ServerMeets}
-use Rattle.run_rules.specs.ServerSends.{AreNeeds, DoneFor, GrantsSo, HasSent, HasWritten, IsOfChange, MaySend, SettlesSo}
-use Rattle.run_rules.specs.Wants.{Before, CanGrant, CanRefuse, Decides, Waits, body_of, has_effect}
-use Rattle.run_rules.specs.Acts.{after_cause}
-use Rattle.run_rules.specs.Grants.{Granted, Pinned, WasWritten}
-use Rattle.run_rules.specs.Hosts.{HasReclaimed, Hears, IsLive, NoGrace, TookNow}
-use Rattle.run_rules.specs.Lists.{EachOnce, In}
-use Rattle.run_rules.specs.Places.{Here}
 use Rattle.run_tokens.specs.Worked.{asks_for, client, enter, entered, facts, granted, grants, root, site_one}
 use Rattle.run_tokens.specs.Worked.{stat, tells, to_host, to_server, wants_enter, wants_root, welcome, welcomes}
 use Rattle.run_rules.specs.declared.step.Step.{Step}
 use Rattle.tree_calls.specs.declared.reply.Reply.TheVariants.{Refused}
-use Rattle.run_rules.specs.ServerApplies.{ServerApplies, by_cause, decisions, is_decision}
-use Rattle.run_rules.specs.Kept.{kept}
 use Rattle.tree_objects.specs.Spans.{whole}
-use Rattle.run_rules.specs.Acts.{Act, SentTo, epoch}
-use Rattle.run_rules.specs.Acts.Act.{Begins, Took, Wants, Writes, Sent, Reserves}
 use Rattle.run_rules.specs.declared.step.Cause.{Cause}
 use Rattle.run_rules.specs.declared.step.Cause.TheVariants.{Message as Came, Lapse, Line, Restart, Evict, End}
 use Rattle.message_types.specs.declared.message.Body.TheVariants.{Hello, Fetch, Grant, Change, Done, Revoke, GiveBack, Gone, Reclaim, Reclaimed, Restarted, Down, Bye}
@@ -40,57 +42,52 @@ use Rattle.message_types.specs.declared.asking.Fetch.{Fetch as FetchOf}
 use Rattle.message_types.specs.declared.asking.Change.{Change as ChangeOf}
 use Rattle.base_types.specs.declared.ids.Node.TheVariants.{Server}
 use Rattle.run_rules.specs.declared.applied.Request.{Request}
-use Rattle.run_rules.specs.declared.applied.Request.TheVariants.{Fetch as Asks, Change as Changes}
 use Rattle.run_rules.specs.declared.applied.Wanted.{Wanted}
 use Rattle.run_rules.specs.declared.applied.Written.{Written}
 use Rattle.tree_laws.specs.Parts.Part.{ByteAt, Size, Traits, Entries}
-use Rattle.run_rules.specs.Places.{home}
 use Rattle.tree_answers.specs.declared.tree.Tree.{Tree}
 use Rattle.tree_calls.specs.declared.reply.Refusal.{Refusal}
-use Rattle.run_rules.specs.Told.{told as told_of}
 use Rattle.tree_answers.specs.Answers.{answer_to, answer_for, fileset_row}
 use Rattle.tree_answers.specs.Finding.{fileset_place, fileset_named}
 use Rattle.tree_filesets.specs.Rows.{fileset_answer}
 use Rattle.tree_filesets.specs.Telling.{stat_reply}
 use Rattle.tree_filesets.specs.Walk.{target}
-use Rattle.run_rules.specs.ServerSends.SettledSo.{IsEntered}
-use Rattle.run_rules.specs.ServerSends.DoneFor.{Settled}
 use Rattle.run_tokens.proofs.Example.{IsNew, still_new, took_dull, wants_dull, welcomed_new, told_new, asked_new, welcomes_may, tells_may, grants_may}
 
 at_one : home root.fileset ≡ site_one
 unfolding home
 at_one = refl
 
-is_here : (past : List Act) → Here site_one past root.fileset 0
+is_here : (past : List Doing) → Here site_one past root.fileset 0
 is_here past = λ i. record { server = at_one i; moves = 0 }
 
 -- the server's doings before each step
-abbrev pub began : List Act
-began = Begins 1 ∷ []
+abbrev pub began : List Doing
+began = BeginsEpoch 1 ∷ []
 
-abbrev pub greeted : List Act
+abbrev pub greeted : List Doing
 greeted = Took client 0 0 Hello ∷ began
 
-abbrev pub welcomed : List Act
+abbrev pub welcomed : List Doing
 welcomed = Reserves [] ∷ Sent client 1 0 (Reclaimed welcome) ∷ greeted
 
-abbrev pub entering : List Act
+abbrev pub entering : List Doing
 entering = Took client 1 0 (Change enter) ∷ welcomed
 
-abbrev pub told : List Act
-told = Reserves [] ∷ Sent client 1 0 (Done entered) ∷ Wants wants_enter ∷ entering
+abbrev pub told : List Doing
+told = Reserves [] ∷ Sent client 1 0 (Done entered) ∷ MakesWant wants_enter ∷ entering
 
-abbrev pub fetching : List Act
+abbrev pub fetching : List Doing
 fetching = Took client 1 0 (Fetch (asks_for whole)) ∷ told
 
-abbrev pub granted_now : List Act
-granted_now = Reserves [] ∷ Sent client 1 0 (Grant (granted whole)) ∷ Wants (wants_root whole) ∷ fetching
+abbrev pub granted_now : List Doing
+granted_now = Reserves [] ∷ Sent client 1 0 (Grant (granted whole)) ∷ MakesWant (wants_root whole) ∷ fetching
 
 -- nothing was written down
-abbrev none_written : (past : List Act) → Type 0
+abbrev none_written : (past : List Doing) → Type 0
 none_written past = (h : HostId) (fs : FilesetId) (n : ℕ) → WasWritten past h fs n → ⊥
 
-still_none : (past : List Act) (a : Act) → ((w : Written) → a ≡ Writes w → ⊥) → none_written past → none_written (a ∷ past)
+still_none : (past : List Doing) (a : Doing) → ((w : Written) → a ≡ WritesDown w → ⊥) → none_written past → none_written (a ∷ past)
 still_none past a unlike none = λ h fs n w. elim w [ inl p ↦ unlike p.0 p.1 | inr p ↦ none h fs n p ]
 
 none_written_entering : none_written entering
@@ -99,7 +96,7 @@ none_written_entering =
     (still_none (Sent client 1 0 (Reclaimed welcome) ∷ greeted) (Reserves []) (λ w p. cc)
     (still_none greeted (Sent client 1 0 (Reclaimed welcome)) (λ w p. cc)
     (still_none began (Took client 0 0 Hello) (λ w p. cc)
-    (still_none [] (Begins 1) (λ w p. cc) (λ h fs n w. elim w [ ])))))
+    (still_none [] (BeginsEpoch 1) (λ w p. cc) (λ h fs n w. elim w [ ])))))
 
 -- no Done was sent before the first Change
 none_done : (h : HostId) (e n : ℕ) (d : DoneOf) → SentTo entering h e n (Done d) → ⊥
@@ -113,63 +110,63 @@ none_done h e n d (inr (inr (inr (inr (inr p))))) = elim p [ ]
 new_entering : IsNew whole entering
 new_entering = still_new whole welcomed (Took client 1 0 (Change enter)) (welcomed_new whole) (took_dull whole client 1 0 (Change enter) (λ p. cc) (λ p. cc) (λ p. cc))
 
-new_wanted : IsNew whole (Wants wants_enter ∷ entering)
-new_wanted = still_new whole entering (Wants wants_enter) new_entering (wants_dull whole wants_enter)
+new_wanted : IsNew whole (MakesWant wants_enter ∷ entering)
+new_wanted = still_new whole entering (MakesWant wants_enter) new_entering (wants_dull whole wants_enter)
 
-over : (past : List Act) → IsNew whole past → NoGrace past
+over : (past : List Doing) → IsNew whole past → NoGrace past
 over past is h l = subst (HasReclaimed past) (sym (is.listed_is h l.0)) is.reclaimed
 
-live : (past : List Act) → IsNew whole past → IsLive past client
+live : (past : List Doing) → IsNew whole past → IsLive past client
 live past is = (is.listed, is.here client)
 
 -- which wants wait
-none_waits_greeted : (w : Wanted) → Waits greeted w → ⊥
+none_waits_greeted : (w : Wanted) → IsQueued greeted w → ⊥
 none_waits_greeted w (inl p) = cc
 none_waits_greeted w (inr p) = elim p.0 [ inl q ↦ absurd (let r = q in cc) | inr q ↦ elim q.0 [ ] ]
 
-none_waits_sent : (w : Wanted) → Waits (Sent client 1 0 (Reclaimed welcome) ∷ greeted) w → ⊥
+none_waits_sent : (w : Wanted) → IsQueued (Sent client 1 0 (Reclaimed welcome) ∷ greeted) w → ⊥
 none_waits_sent w (inl p) = cc
 none_waits_sent w (inr p) = none_waits_greeted w p.0
 
-none_waits_welcomed : (w : Wanted) → Waits welcomed w → ⊥
+none_waits_welcomed : (w : Wanted) → IsQueued welcomed w → ⊥
 none_waits_welcomed w (inl p) = cc
 none_waits_welcomed w (inr p) = none_waits_sent w p.0
 
-none_waits_entering : (w : Wanted) → Waits entering w → ⊥
+none_waits_entering : (w : Wanted) → IsQueued entering w → ⊥
 none_waits_entering w (inl p) = cc
 none_waits_entering w (inr p) = none_waits_welcomed w p.0
 
-waits_wanted : (w : Wanted) → Waits (Wants wants_enter ∷ entering) w → wants_enter ≡ w
+waits_wanted : (w : Wanted) → IsQueued (MakesWant wants_enter ∷ entering) w → wants_enter ≡ w
 waits_wanted w (inl p) = cc
 waits_wanted w (inr p) = absurd (none_waits_entering w p.0)
 
 decides_enter : Decides (Sent client 1 0 (Done entered)) client (Changes enter)
 decides_enter = inr (1, 0, entered, refl, refl, refl)
 
-none_waits_done : (w : Wanted) → Waits (Sent client 1 0 (Done entered) ∷ Wants wants_enter ∷ entering) w → ⊥
+none_waits_done : (w : Wanted) → IsQueued (Sent client 1 0 (Done entered) ∷ MakesWant wants_enter ∷ entering) w → ⊥
 none_waits_done w (inl p) = cc
 none_waits_done w (inr p) = p.1 (inl (subst (λ (x : Wanted). Decides (Sent client 1 0 (Done entered)) x.host x.request) (waits_wanted w p.0) decides_enter))
 
-none_waits_told : (w : Wanted) → Waits told w → ⊥
+none_waits_told : (w : Wanted) → IsQueued told w → ⊥
 none_waits_told w (inl p) = cc
 none_waits_told w (inr p) = none_waits_done w p.0
 
-none_waits_fetching : (w : Wanted) → Waits fetching w → ⊥
+none_waits_fetching : (w : Wanted) → IsQueued fetching w → ⊥
 none_waits_fetching w (inl p) = cc
 none_waits_fetching w (inr p) = none_waits_told w p.0
 
-waits_root : (w : Wanted) → Waits (Wants (wants_root whole) ∷ fetching) w → wants_root whole ≡ w
+waits_root : (w : Wanted) → IsQueued (MakesWant (wants_root whole) ∷ fetching) w → wants_root whole ≡ w
 waits_root w (inl p) = cc
 waits_root w (inr p) = absurd (none_waits_fetching w p.0)
 
 decides_root : Decides (Sent client 1 0 (Grant (granted whole))) client (Asks (asks_for whole))
 decides_root = (1, 0, granted whole, refl, refl, refl)
 
-none_waits_sent_grant : (w : Wanted) → Waits (Sent client 1 0 (Grant (granted whole)) ∷ Wants (wants_root whole) ∷ fetching) w → ⊥
+none_waits_sent_grant : (w : Wanted) → IsQueued (Sent client 1 0 (Grant (granted whole)) ∷ MakesWant (wants_root whole) ∷ fetching) w → ⊥
 none_waits_sent_grant w (inl p) = cc
 none_waits_sent_grant w (inr p) = p.1 (inl (subst (λ (x : Wanted). Decides (Sent client 1 0 (Grant (granted whole))) x.host x.request) (waits_root w p.0) decides_root))
 
-none_waits_granted : (w : Wanted) → Waits granted_now w → ⊥
+none_waits_granted : (w : Wanted) → IsQueued granted_now w → ⊥
 none_waits_granted w (inl p) = cc
 none_waits_granted w (inr p) = none_waits_sent_grant w p.0
 
@@ -180,7 +177,7 @@ its_message s m n a b = let p : Came m ≡ Came n = sym a ∙ b in cc
 heard_is : (s : Step) (m : Message) (h : HostId) (b : Body) → s.cause ≡ Came m → HeardNow s h b → (m.host ≡ h) × (m.body ≡ b)
 heard_is s m h b at x = let p = its_message s m x.0 at x.1 in (ap (λ (y : Message). y.host) p ∙ x.2, ap (λ (y : Message). y.body) p ∙ x.3)
 
-taken_is : (past : List Act) (s : Step) (m : Message) (h : HostId) (n : ℕ) (b : Body) → s.cause ≡ Came m → TakenNow past s h n b → (m.host ≡ h) × (m.moves ≡ n) × (m.body ≡ b)
+taken_is : (past : List Doing) (s : Step) (m : Message) (h : HostId) (n : ℕ) (b : Body) → s.cause ≡ Came m → TakenNow past s h n b → (m.host ≡ h) × (m.moves ≡ n) × (m.body ≡ b)
 taken_is past s m h n b at x = let p = its_message s m x.0.0 at x.0.1 in
     (ap (λ (y : Message). y.host) p ∙ x.0.2, ap (λ (y : Message). y.moves) p ∙ x.0.4, ap (λ (y : Message). y.body) p ∙ x.0.5)
 
@@ -215,7 +212,7 @@ names_none s m is none h r x = none r (sent_is s m is h (Revoke r) x).1
 
 -- the kept filesets haven't changed since the start
 abbrev pub tree : Tree
-tree = kept start site_one []
+tree = filesets_kept start site_one []
 
 -- requests, and their answers
 abbrev IsAsking : Body → Type 0
@@ -229,7 +226,7 @@ IsTelling (Done d) = Unit {0}
 IsTelling _ = ⊥
 
 -- a step whose cause is a message of the present epoch and is neither Hello, Bye, GiveBack, Reclaim nor Down, and that sends one that answers it
-module _ (past : List Act) (s : Step) (m reply : Message) (is_new : IsNew whole past) (at : s.cause ≡ Came m) (sends : s.sent ≡ reply ∷ [])
+module _ (past : List Doing) (s : Step) (m reply : Message) (is_new : IsNew whole past) (at : s.cause ≡ Came m) (sends : s.sent ≡ reply ∷ [])
     (now : m.epoch ≡ epoch past) (asks : IsAsking m.body) (tells : IsTelling reply.body) where
   answers_request : ServerAnswers site_one past s
   answers_request = record {
@@ -353,7 +350,7 @@ meets_welcomes = record {
   };
 }
   where
-    quiet_send : (past : List Act) (b : Body) → ((g : GrantOf) → b ≡ Grant g → ⊥) → ((d : DoneOf) → b ≡ Done d → ⊥) → ((r : RevokeOf) → b ≡ Revoke r → ⊥) → MaySend site_one tree welcomes past (Sent client 1 0 b)
+    quiet_send : (past : List Doing) (b : Body) → ((g : GrantOf) → b ≡ Grant g → ⊥) → ((d : DoneOf) → b ≡ Done d → ⊥) → ((r : RevokeOf) → b ≡ Revoke r → ⊥) → MaySend site_one tree welcomes past (Sent client 1 0 b)
     quiet_send past b no_grant no_done no_revoke = record {
       grants = λ h e n g p. absurd (no_grant g (let q : b ≡ Grant g = cc in q));
       dones = λ h e n d p. absurd (no_done d (let q : b ≡ Done d = cc in q));
@@ -370,14 +367,14 @@ new_request = record {
 }
 
 -- a want that waits after the want was made, and its request
-is_enter : (w : Wanted) → Waits (Wants wants_enter ∷ entering) w → Changes enter ≡ w.request
+is_enter : (w : Wanted) → IsQueued (MakesWant wants_enter ∷ entering) w → Changes enter ≡ w.request
 is_enter w waits = ap (λ (x : Wanted). x.request) (waits_wanted w waits)
 
 replied : (refusal : Refusal) → kept_reply tree client stat ≡ Refused refusal → ⊥
 unfolding answer_to answer_for fileset_row fileset_place fileset_answer stat_reply target
 replied refusal r = let p : facts ≡ Refused refusal = r in cc
 
-not_refused : (w : Wanted) (c : ChangeOf) (refusal : Refusal) → Waits (Wants wants_enter ∷ entering) w → w.request ≡ Changes c → RefusedOn tree w.host c refusal → ⊥
+not_refused : (w : Wanted) (c : ChangeOf) (refusal : Refusal) → IsQueued (MakesWant wants_enter ∷ entering) w → w.request ≡ Changes c → RefusedOn tree w.host c refusal → ⊥
 not_refused w c refusal waits is so =
     let e : Changes enter ≡ Changes c = is_enter w waits ∙ is in
     let c_is : enter ≡ c = cc in
@@ -385,7 +382,7 @@ not_refused w c refusal waits is so =
     let r : kept_reply tree client stat ≡ Refused refusal = subst (λ (x : HostId × ChangeOf). kept_reply tree x.0 x.1.call ≡ Refused refusal) (λ i. (sym h_is i, sym c_is i)) so.0 in
     replied refusal r
 
-decided_enter : HasDecided site_one tree welcomed (Wants wants_enter ∷ entering) tells
+decided_enter : HasDecided site_one tree welcomed (MakesWant wants_enter ∷ entering) tells
 decided_enter = record {
   news = λ h n r x. let t = taken_is welcomed tells (to_server 1 (Change enter)) h n (body_of r) refl x.taken in (wants_enter, inl refl, t.0, its r t.2);
   refused = λ w c refusal waits is so. absurd (not_refused w c refusal waits is so);
@@ -397,23 +394,23 @@ decided_enter = record {
     its (Asks f) e = absurd (cc)
     its (Changes c) e = let p : enter ≡ c = cc in ap (λ (x : ChangeOf). Changes x) p
 
-    no_effect : (w : Wanted) (c : ChangeOf) → Waits (Wants wants_enter ∷ entering) w → w.request ≡ Changes c → has_effect c ≡ true → ⊥
+    no_effect : (w : Wanted) (c : ChangeOf) → IsQueued (MakesWant wants_enter ∷ entering) w → w.request ≡ Changes c → has_effect c ≡ true → ⊥
     no_effect w c waits is effect =
         let e : Changes enter ≡ Changes c = is_enter w waits ∙ is in
         let c_is : enter ≡ c = cc in
         let f : has_effect enter ≡ true = subst (λ (x : ChangeOf). has_effect x ≡ true) (sym c_is) effect in cc
 
-    granted_of : (t : Token) → Pinned site_one (Wants wants_enter ∷ entering) t → Granted site_one (Wants wants_enter ∷ entering) t
+    granted_of : (t : Token) → Pinned site_one (MakesWant wants_enter ∷ entering) t → Granted site_one (MakesWant wants_enter ∷ entering) t
     granted_of t p = p.1
 
-    no_pins : {w : Wanted} → CanRefuse site_one (Wants wants_enter ∷ entering) w → ⊥
+    no_pins : {w : Wanted} → CanRefuse site_one (MakesWant wants_enter ∷ entering) w → ⊥
     no_pins r = new_wanted.none_granted r.pinned.0 (granted_of r.pinned.0 r.pinned.1)
 
 named : fileset_named tree site_one (codes "home") ≡ Ok home_fileset
 unfolding fileset_named
 named = refl
 
-settles_enter : SettlesSo site_one tree (Wants wants_enter ∷ entering) client 0 entered
+settles_enter : AnswersSo site_one tree (MakesWant wants_enter ∷ entering) client 0 entered
 settles_enter = record {
   w = wants_enter;
   waits = inl refl;
@@ -426,7 +423,7 @@ settles_enter = record {
   so = IsEntered home_fileset (site_one, codes "home") refl refl named refl refl;
 }
 
-sends_entered : MaySend site_one tree tells (Wants wants_enter ∷ entering) (Sent client 1 0 (Done entered))
+sends_entered : MaySend site_one tree tells (MakesWant wants_enter ∷ entering) (Sent client 1 0 (Done entered))
 sends_entered = record {
   grants = λ h e n g p. absurd (cc);
   dones = λ h e n d p. its h e n d (let q : client ≡ h = cc in q) (let q : 0 ≡ n = cc in q) (let q : entered ≡ d = cc in q);
@@ -434,11 +431,11 @@ sends_entered = record {
 }
   where
     Sendable : HostId → ℕ → DoneOf → Type 0
-    Sendable h n d = IsLive (Wants wants_enter ∷ entering) h × IsHere site_one (Wants wants_enter ∷ entering) d.fileset n × DoneFor site_one tree (Wants wants_enter ∷ entering) h n d
+    Sendable h n d = IsLive (MakesWant wants_enter ∷ entering) h × IsDecidedHere site_one (MakesWant wants_enter ∷ entering) d.fileset n × DoneFor site_one tree (MakesWant wants_enter ∷ entering) h n d
 
     its : (h : HostId) (e n : ℕ) (d : DoneOf) → client ≡ h → 0 ≡ n → entered ≡ d → Sendable h n d
     its h e n d p q r = subst (λ (x : HostId × ℕ × DoneOf). Sendable x.0 x.1 x.2) (λ i. (p i, q i, r i))
-        (live (Wants wants_enter ∷ entering) new_wanted, inl (refl, refl), Settled settles_enter)
+        (live (MakesWant wants_enter ∷ entering) new_wanted, inl (refl, refl), Answered settles_enter)
 
 sent_entered : HasSent site_one tree welcomed told tells
 sent_entered = record {
@@ -457,12 +454,12 @@ sent_entered = record {
   where
     IsDue : HostId → DoneOf → Type 0
     IsDue h d = (c : ChangeOf) × IsOfChange c d × (((n : ℕ) × TakenNow welcomed tells h n (Change c))
-        ⊎ ((w : Wanted) × Waits welcomed w × (w.host ≡ h) × (w.request ≡ Changes c)))
+        ⊎ ((w : Wanted) × IsQueued welcomed w × (w.host ≡ h) × (w.request ≡ Changes c)))
 
     its : (h : HostId) (d : DoneOf) → client ≡ h → entered ≡ d → IsDue h d
     its h d p q = subst (λ (x : HostId × DoneOf). IsDue x.0 x.1) (λ i. (p i, q i)) (enter, (refl, refl), inl (0, new_request.taken))
 
-    none_written_by : (past : List Act) (h : HostId) (d : DoneOf) → HasWritten welcomed h d → ⊥
+    none_written_by : (past : List Doing) (h : HostId) (d : DoneOf) → HasWritten welcomed h d → ⊥
     none_written_by past h d (inl p) = let q = p.1 in cc
     none_written_by past h d (inr (inl p)) = let q = p.1 in cc
     none_written_by past h d (inr (inr (inl p))) = let q = p.1 in cc
@@ -486,7 +483,7 @@ meets_tells = record {
 }
 
 -- the third step: the Fetch is granted
-new_wanted_root : IsNew whole (Wants (wants_root whole) ∷ fetching)
+new_wanted_root : IsNew whole (MakesWant (wants_root whole) ∷ fetching)
 new_wanted_root = asked_new whole
 
 fetch_request : IsNewRequest site_one told fetching (grants whole) client 0 (Asks (asks_for whole))
@@ -497,18 +494,18 @@ fetch_request = record {
   alone = λ w waits. absurd (none_waits_fetching w waits);
 }
 
-free_root : CanGrant site_one (Wants (wants_root whole) ∷ fetching) (wants_root whole)
+free_root : CanGrant site_one (MakesWant (wants_root whole) ∷ fetching) (wants_root whole)
 free_root = record {
-  over = over (Wants (wants_root whole) ∷ fetching) new_wanted_root;
+  over = over (MakesWant (wants_root whole) ∷ fetching) new_wanted_root;
   free = λ t g b. elim g [ inl p ↦ new_wanted_root.none_granted t p | inr p ↦ new_wanted_root.none_reserved t p ];
   first = λ b. no_before b.0 b.1;
 }
   where
-    none_before : (past : List Act) (v w : Wanted) → Before past v w → ((x : Wanted) → Waits past x → ⊥) → ⊥
+    none_before : (past : List Doing) (v w : Wanted) → IsQueuedBefore past v w → ((x : Wanted) → IsQueued past x → ⊥) → ⊥
     none_before [] v w b none = elim b [ ]
     none_before (a ∷ past) v w b none = none v b.1
 
-    no_before : (v : Wanted) → Before (Wants (wants_root whole) ∷ fetching) v (wants_root whole) → ⊥
+    no_before : (v : Wanted) → IsQueuedBefore (MakesWant (wants_root whole) ∷ fetching) v (wants_root whole) → ⊥
     no_before v b = elim b.0 [ inl p ↦ none_waits_fetching v p.0 | inr p ↦ none_before fetching v (wants_root whole) p none_waits_fetching ]
 
 are_needs : AreNeeds (asks_for whole).needs (granted whole).bring.tokens
@@ -520,7 +517,7 @@ tells_kept Size = refl
 tells_kept Traits = refl
 tells_kept Entries = refl
 
-grants_so : GrantsSo site_one tree (Wants (wants_root whole) ∷ fetching) client 0 (granted whole)
+grants_so : GrantsSo site_one tree (MakesWant (wants_root whole) ∷ fetching) client 0 (granted whole)
 grants_so = record {
   w = wants_root whole;
   waits = inl refl;
@@ -535,21 +532,21 @@ grants_so = record {
   tells = λ t part m s. tells_kept part;
 }
 
-sends_grant : MaySend site_one tree (grants whole) (Wants (wants_root whole) ∷ fetching) (Sent client 1 0 (Grant (granted whole)))
+sends_grant : MaySend site_one tree (grants whole) (MakesWant (wants_root whole) ∷ fetching) (Sent client 1 0 (Grant (granted whole)))
 sends_grant = record {
   grants = λ h e n g p. its h n g (let q : client ≡ h = cc in q) (let q : 0 ≡ n = cc in q) (let q : granted whole ≡ g = cc in q);
   dones = λ h e n d p. absurd (cc);
   revokes = λ h e n r i p. absurd (cc);
 }
   where
-    its : (h : HostId) (n : ℕ) (g : GrantOf) → client ≡ h → 0 ≡ n → granted whole ≡ g → GrantsSo site_one tree (Wants (wants_root whole) ∷ fetching) h n g
-    its h n g p q r = subst (λ (x : HostId × ℕ × GrantOf). GrantsSo site_one tree (Wants (wants_root whole) ∷ fetching) x.0 x.1 x.2) (λ i. (p i, q i, r i)) grants_so
+    its : (h : HostId) (n : ℕ) (g : GrantOf) → client ≡ h → 0 ≡ n → granted whole ≡ g → GrantsSo site_one tree (MakesWant (wants_root whole) ∷ fetching) h n g
+    its h n g p q r = subst (λ (x : HostId × ℕ × GrantOf). GrantsSo site_one tree (MakesWant (wants_root whole) ∷ fetching) x.0 x.1 x.2) (λ i. (p i, q i, r i)) grants_so
 
 -- what waits then is the Fetch, which is no Change
-no_change : (w : Wanted) (c : ChangeOf) → Waits (Wants (wants_root whole) ∷ fetching) w → w.request ≡ Changes c → ⊥
+no_change : (w : Wanted) (c : ChangeOf) → IsQueued (MakesWant (wants_root whole) ∷ fetching) w → w.request ≡ Changes c → ⊥
 no_change w c waits is = let e : Asks (asks_for whole) ≡ Changes c = ap (λ (x : Wanted). x.request) (waits_root w waits) ∙ is in cc
 
-decided_fetch : HasDecided site_one tree told (Wants (wants_root whole) ∷ fetching) (grants whole)
+decided_fetch : HasDecided site_one tree told (MakesWant (wants_root whole) ∷ fetching) (grants whole)
 decided_fetch = record {
   news = λ h n r x. let t = taken_is told (grants whole) (to_server 1 (Fetch (asks_for whole))) h n (body_of r) refl x.taken in (wants_root whole, inl refl, t.0, its r t.2);
   refused = λ w c refusal waits is. absurd (no_change w c waits is);

@@ -4,34 +4,31 @@ use Rattle.base_types.specs.declared.ids.HostId.{HostId}
 use Rattle.base_types.specs.declared.ids.ServerId.{ServerId}
 use Rattle.token_types.specs.declared.token.Token.{Token}
 use Rattle.token_types.specs.declared.token.TokenId.{TokenId}
-use Rattle.run_rules.specs.ServerSends.{IsAskedBack, IsOwed, Revoked}
-use Rattle.run_rules.specs.Wants.{Before, CanGrant, CanRefuse, Decides, IsReady, Unwants, Waits}
-use Rattle.run_rules.specs.Grants.{Granted, IsNewlyGranted, Pinned, Reserved}
-use Rattle.run_rules.specs.Hosts.{GoesAway, HasReclaimed, Hears, IsBegin, IsDown, IsLive, Listed, NoGrace}
-use Rattle.run_rules.specs.Grants.{Names}
-use Rattle.run_rules.specs.Hosts.{Away}
-use Rattle.run_rules.specs.Acts.{Act}
-use Rattle.run_rules.specs.Acts.Act.{Reserves}
+use Rattle.run_rules.specs.Doings.{Doing, GivesUp, GoesAway, Granted, HasGoneAway, HasGoneDown, HasReclaimed, Hears}
+use Rattle.run_rules.specs.Doings.{IsLive, IsNewEpoch, IsNewlyGranted, Listed, NoGrace, Pinned, Reserved}
+use Rattle.run_rules.specs.Doings.Doing.{Reserves}
+use Rattle.run_rules.specs.ServerMay.{HasRevoked, IsAskedBack, IsOwed}
+use Rattle.run_rules.specs.Wants.{CanDecide, CanGrant, CanRefuse, Decides, IsQueued, IsQueuedBefore, Unwants}
+use Rattle.run_rules.specs.declared.applied.Request.TheVariants.{Change as Changes, Fetch as Asks}
 use Rattle.message_types.specs.declared.message.Body.{Body}
 use Rattle.message_types.specs.declared.message.Body.TheVariants.{Hello, Down}
 use Rattle.run_rules.specs.declared.applied.Request.{Request}
-use Rattle.run_rules.specs.declared.applied.Request.TheVariants.{Fetch as Asks, Change as Changes}
 use Rattle.run_rules.specs.declared.applied.Wanted.{Wanted}
 
 -- of two wants in their order both wait
-both : (past : List Act) (w v : Wanted) → Before past w v → Waits past w × Waits past v
+both : (past : List Doing) (w v : Wanted) → IsQueuedBefore past w v → IsQueued past w × IsQueued past v
 both [] w v b = elim b [ ]
 both (a ∷ past) w v b = (b.1, b.2)
 
 -- its exporter keeps nothing
-module _ (server : ServerId) (past : List Act) where
-  abbrev a : Act
+module _ (server : ServerId) (past : List Doing) where
+  abbrev a : Doing
   a = Reserves []
 
   heard : (h : HostId) (b : Body) → Hears a h b → ⊥
   heard h b x = let p = x.2 in cc
 
-  down : (h : HostId) → IsDown (a ∷ past) h → IsDown past h
+  down : (h : HostId) → HasGoneDown (a ∷ past) h → HasGoneDown past h
   down h (inl x) = absurd (heard h Down x)
   down h (inr p) = p
 
@@ -43,10 +40,10 @@ module _ (server : ServerId) (past : List Act) where
   goes_away h (inl x) = heard h Down x
   goes_away h (inr x) = let p = x.0.1 in cc
 
-  not_begun : IsBegin a → ⊥
+  not_begun : IsNewEpoch a → ⊥
   not_begun x = let p = x.1 in cc
 
-  away : (h : HostId) → Away (a ∷ past) h → Away past h
+  away : (h : HostId) → HasGoneAway (a ∷ past) h → HasGoneAway past h
   away h (inl x) = absurd (goes_away h x)
   away h (inr p) = p
 
@@ -65,7 +62,7 @@ module _ (server : ServerId) (past : List Act) where
     | inr y ↦ y.0
   ]
 
-  names : (h : HostId) (i : TokenId) → Names server past a h i → ⊥
+  names : (h : HostId) (i : TokenId) → GivesUp server past a h i → ⊥
   names h i (inl x) = let p = x.1.2.0 in cc
   names h i (inr x) = let p = x.1.2.0 in cc
 
@@ -100,14 +97,14 @@ module _ (server : ServerId) (past : List Act) where
   unwants w (inr (inr (inl g))) = goes_away w.host g
   unwants w (inr (inr (inr b))) = not_begun b
 
-  waits : (w : Wanted) → Waits (a ∷ past) w → Waits past w
+  waits : (w : Wanted) → IsQueued (a ∷ past) w → IsQueued past w
   waits w (inl x) = absurd (cc)
   waits w (inr p) = p.0
 
-  still_waits : (w : Wanted) → Waits past w → Waits (a ∷ past) w
+  still_waits : (w : Wanted) → IsQueued past w → IsQueued (a ∷ past) w
   still_waits w p = inr (p, unwants w)
 
-  before : (w v : Wanted) → Before past w v → Before (a ∷ past) w v
+  before : (w v : Wanted) → IsQueuedBefore past w v → IsQueuedBefore (a ∷ past) w v
   before w v b = let p = both past w v b in (inr b, still_waits w p.0, still_waits v p.1)
 
   pub can_grant : (w : Wanted) → CanGrant server (a ∷ past) w → CanGrant server past w
@@ -124,11 +121,11 @@ module _ (server : ServerId) (past : List Act) where
     first = λ b. c.first (b.0, before b.0 w b.1, b.2);
   }
 
-  pub ready : (w : Wanted) → IsReady server (a ∷ past) w → IsReady server past w
+  pub ready : (w : Wanted) → CanDecide server (a ∷ past) w → CanDecide server past w
   ready w (inl c) = inl (can_grant w c)
   ready w (inr c) = inr (can_refuse w c)
 
-  pub waited : (w : Wanted) → Waits (a ∷ past) w → Waits past w
+  pub waited : (w : Wanted) → IsQueued (a ∷ past) w → IsQueued past w
   waited = waits
 
   pub asked_back : (t : Token) → IsAskedBack server (a ∷ past) t → IsAskedBack server past t
@@ -141,7 +138,7 @@ module _ (server : ServerId) (past : List Act) where
     blocks_it = k.blocks_it;
   }
 
-  is_revoked : (t : Token) → Revoked (a ∷ past) t → Revoked past t
+  is_revoked : (t : Token) → HasRevoked (a ∷ past) t → HasRevoked past t
   is_revoked t (inl x) = let p = x.3 in cc
   is_revoked t (inr p) = p.0
 

@@ -4,11 +4,10 @@ use Rattle.base_types.specs.declared.ids.Node.{Node}
 use Rattle.base_types.specs.declared.ids.ServerId.{ServerId}
 use Rattle.tree_answers.specs.declared.tree.Tree.{Tree}
 use Rattle.script_lines.specs.declared.script.Script.{Script}
-use Rattle.run_rules.specs.Coherence.{NeverInConflict}
 use Rattle.run_rules.specs.Runs.{IsRun, StepMeets, StepsMeet, firsts_of, past_of}
+use Rattle.run_tokens.specs.CacheLaws.{NeverInConflict}
+use Rattle.run_tokens.specs.TokenLaws.{AreAlwaysSafe, IsTokenRun, StepMay}
 use Rattle.run_rules.specs.declared.journal.Journal.{Journal}
-use Rattle.run_rules.specs.TokenLaws.{AreAlwaysSafe}
-use Rattle.run_rules.specs.TokenRuns.{IsTokenRun, StepMay}
 use Rattle.run_rules.specs.declared.step.Step.{Step}
 use Rattle.base_types.specs.declared.ids.Node.TheVariants.{Host, Server}
 use Rattle.run_tokens.proofs.Law.{never_conflict}

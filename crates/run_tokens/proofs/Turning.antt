@@ -6,33 +6,33 @@ use Rattle.base_types.specs.declared.ids.HostId.{HostId}
 use Rattle.base_types.specs.declared.ids.ServerId.{ServerId}
 use Rattle.tree_answers.specs.declared.tree.Tree.{Tree}
 use Rattle.message_types.specs.declared.asking.Change.{Change as ChangeOf}
+use Rattle.run_rules.specs.Doings.{Doing}
+use Rattle.run_rules.specs.Doings.Doing.{MakesWant}
 use Rattle.run_rules.specs.ServerDecides.{DecidedSo, RefusedOn}
-use Rattle.run_rules.specs.ServerDecides.DecidedSo.{HasEffect, IsRefused, MeetsPinned}
+use Rattle.run_rules.specs.ServerDecides.DecidedSo.{IsRefusedByTable, MeetsPinned, TakesEffect}
+use Rattle.run_rules.specs.Wants.{CanDecide, Decides, IsBehind, IsQueued, IsQueuedBefore}
+use Rattle.run_rules.specs.declared.applied.Request.TheVariants.{Change as Changes, Fetch as Asks}
 use Rattle.run_tokens.specs.Turns.{ServedInTurn}
-use Rattle.run_rules.specs.Wants.{Before, Decides, IsBehind, IsReady, Waits}
-use Rattle.run_rules.specs.Acts.{Act}
-use Rattle.run_rules.specs.Acts.Act.{Wants}
 use Rattle.run_rules.specs.declared.applied.Request.{Request}
-use Rattle.run_rules.specs.declared.applied.Request.TheVariants.{Fetch as Asks, Change as Changes}
 use Rattle.run_rules.specs.declared.applied.Wanted.{Wanted}
 
-want_is : (v w : Wanted) → Wants v ≡ Wants w → v ≡ w
+want_is : (v w : Wanted) → MakesWant v ≡ MakesWant w → v ≡ w
 want_is v w e = cc
 
-no_want : (a : Act) (w : Wanted) (h : HostId) (r : Request) → Decides a h r → a ≡ Wants w → ⊥
+no_want : (a : Doing) (w : Wanted) (h : HostId) (r : Request) → Decides a h r → a ≡ MakesWant w → ⊥
 no_want a w h (Asks f) (e, n, g, is, _, _) at = let p = sym is ∙ at in cc
 no_want a w h (Changes c) (inl (written, is, _, _, _)) at = let p = sym is ∙ at in cc
 no_want a w h (Changes c) (inr (e, n, d, is, _, _)) at = let p = sym is ∙ at in cc
 
-never : (server : ServerId) (past : List Act) (w : Wanted) → IsBehind past w → IsReady server past w → ⊥
+never : (server : ServerId) (past : List Doing) (w : Wanted) → IsBehind past w → CanDecide server past w → ⊥
 never server past w b (inl can) = can.first b
 never server past w b (inr can) = can.first b
 
-decided_so : (server : ServerId) (tree : Tree) (past : List Act) (w : Wanted) (c : ChangeOf) (reply : Reply)
+decided_so : (server : ServerId) (tree : Tree) (past : List Doing) (w : Wanted) (c : ChangeOf) (reply : Reply)
     → DecidedSo server tree past w c reply → IsBehind past w → (refusal : Refusal) × RefusedOn tree w.host c refusal
-decided_so server tree past w c reply (IsRefused refusal is _) b = (refusal, is)
+decided_so server tree past w c reply (IsRefusedByTable refusal is _) b = (refusal, is)
 decided_so server tree past w c reply (MeetsPinned _ _ can _) b = absurd (can.first b)
-decided_so server tree past w c reply (HasEffect _ _ can _) b = absurd (can.first b)
+decided_so server tree past w c reply (TakesEffect _ _ can _) b = absurd (can.first b)
 
 pub in_turn : ServedInTurn
 in_turn = record {
@@ -53,10 +53,10 @@ in_turn = record {
   written = decided_so;
 }
   where
-    both_first : (past : List Act) (w v : Wanted) → Before past w v → Waits past w
+    both_first : (past : List Doing) (w v : Wanted) → IsQueuedBefore past w v → IsQueued past w
     both_first [] w v b = elim b [ ]
     both_first (a ∷ past) w v b = b.1
 
-    both_second : (past : List Act) (w v : Wanted) → Before past w v → Waits past v
+    both_second : (past : List Doing) (w v : Wanted) → IsQueuedBefore past w v → IsQueued past v
     both_second [] w v b = elim b [ ]
     both_second (a ∷ past) w v b = b.2

@@ -1,6 +1,10 @@
 -- How the words follow from one another.
-use Rattle.run_rules.specs.Acts.{after_step}
-use Rattle.run_rules.specs.Nodes.{is_node}
+use Rattle.run_rules.specs.Doings.{BringsTokens, Doing, GivenUp, Here, IsApplied, StayStamp, TookOf, after_step}
+use Rattle.run_rules.specs.Messages.{Said, Stay, epoch_at, epoch_raised, epoch_raised_by, home}
+use Rattle.run_rules.specs.Past.{In}
+use Rattle.run_rules.specs.Steps.{is_node}
+use Rattle.run_rules.specs.Tokens.{Made, number_of}
+use Rattle.run_tokens.specs.TokenLaws.{HasLeftHost, HasReturnedToken, TookEver}
 use Rattle.std.proofs.Common.{◌≡◌, ℕ, ◌⊎◌, ◌==◌, ◌&&◌, ◌≤◌, nat_lt, not, Bool, true, false, if◌then◌else◌, List, [], ◌∷◌, inl, inr, sym, ◌∙◌, ap, refl, arith, eqb-true, ltb-true}
 use Rattle.std.proofs.lemmas.Bool.{and_parts, false≢true}
 use Rattle.base_types.specs.declared.ids.HostId.{HostId}
@@ -25,27 +29,18 @@ use Rattle.message_types.specs.declared.giving.AppliedGive.{AppliedGive}
 use Rattle.run_rules.specs.declared.step.Cause.{Cause}
 use Rattle.run_rules.specs.declared.step.Cause.TheVariants.{Message as Came}
 use Rattle.run_rules.specs.declared.step.Step.{Step}
-use Rattle.run_rules.specs.Lists.{In}
-use Rattle.run_rules.specs.Epochs.{epoch_at, raised, raised_by}
-use Rattle.run_rules.specs.Sends.{Said, HasReturned}
-use Rattle.run_rules.specs.Gives.{number_of, Made}
-use Rattle.run_rules.specs.Tokens.{Left}
-use Rattle.run_rules.specs.Places.{Place, home, Here}
-use Rattle.run_rules.specs.Acts.{Act}
-use Rattle.run_rules.specs.Hosts.{TookOf, TookEver}
-use Rattle.run_rules.specs.Grants.{Mark, Brings, Applied, GivenUp}
 
-pub said_returned : (A : List Step) (v : ServerId) (e n : ℕ) (named : Named) (i : TokenId) → Said A v e n (Returned named) → In i named.ids → HasReturned A i
+pub said_returned : (A : List Step) (v : ServerId) (e n : ℕ) (named : Named) (i : TokenId) → Said A v e n (Returned named) → In i named.ids → HasReturnedToken A i
 said_returned [] v e n named i p m = elim p [ ]
 said_returned (s ∷ A) v e n named i (inl p) m = inl (v, e, n, named, p, m)
 said_returned (s ∷ A) v e n named i (inr p) m = inr (said_returned A v e n named i p m)
 
-pub returned_left : (A : List Step) (i : TokenId) → HasReturned A i → Left A i
+pub returned_left : (A : List Step) (i : TokenId) → HasReturnedToken A i → HasLeftHost A i
 returned_left [] i e = elim e [ ]
 returned_left (s ∷ A) i (inl e) = inl (inr e)
 returned_left (s ∷ A) i (inr e) = inr (returned_left A i e)
 
-pub made_left : (A : List Step) (g : Give) (i : TokenId) → Made A g → In i g.ids → Left A i
+pub made_left : (A : List Step) (g : Give) (i : TokenId) → Made A g → In i g.ids → HasLeftHost A i
 made_left [] g i e m = elim e [ ]
 made_left (s ∷ A) g i (inl e) m = inl (inl (g, e, m))
 made_left (s ∷ A) g i (inr e) m = inr (made_left A g i e m)
@@ -77,49 +72,49 @@ of_one t u c =
     let p = (and_parts (not (t.host.0 == u.host.0)) (needs_conflict (need_of t) (need_of u)) c).1 in
     fid_is t.fid u.fid (and_parts (same_fid t.fid u.fid) (kinds_conflict t.kind u.kind) p).0
 
-pub brings_one : (a : Act) (h k : HostId) (e d n m : ℕ) (w v : Bring) → Brings a h e n w → Brings a k d m v → (h ≡ k) × (w ≡ v) × (n ≡ m)
+pub brings_one : (a : Doing) (h k : HostId) (e d n m : ℕ) (w v : Bring) → BringsTokens a h e n w → BringsTokens a k d m v → (h ≡ k) × (w ≡ v) × (n ≡ m)
 brings_one a h k e d n m w v (inl (x, p, r)) (inl (y, q, z)) = (cc, (let one : x ≡ y = cc in sym r ∙ (ap (λ (g : GrantOf). g.bring) one ∙ z)), cc)
 brings_one a h k e d n m w v (inr (x, p, r)) (inr (y, q, z)) = (cc, (let one : x ≡ y = cc in sym r ∙ (ap (λ (g : DoneOf). g.bring) one ∙ z)), cc)
 brings_one a h k e d n m w v (inl (x, p, r)) (inr (y, q, z)) = (cc, cc, cc)
 brings_one a h k e d n m w v (inr (x, p, r)) (inl (y, q, z)) = (cc, cc, cc)
 
 -- a mark is its two numbers
-pub mark_is : (k l : Mark) → k.moves ≡ l.moves → k.stamp ≡ l.stamp → k ≡ l
+pub mark_is : (k l : StayStamp) → k.moves ≡ l.moves → k.stamp ≡ l.stamp → k ≡ l
 mark_is k l moves stamp = λ i. record { moves = moves i; stamp = stamp i }
 
 -- a fileset that is at a server was made there, and a fileset of which a give-back is applied is there
-pub made_at : (v : ServerId) (S : List Act) (fs : FilesetId) (n : ℕ) → Here v S fs n → home fs ≡ v
-made_at v S fs n here = ap (λ (p : Place). p.server) here
+pub made_at : (v : ServerId) (S : List Doing) (fs : FilesetId) (n : ℕ) → Here v S fs n → home fs ≡ v
+made_at v S fs n here = ap (λ (p : Stay). p.server) here
 
-pub never_moved : (v : ServerId) (S : List Act) (fs : FilesetId) (n : ℕ) → Here v S fs n → 0 ≡ n
-never_moved v S fs n here = ap (λ (p : Place). p.moves) here
+pub never_moved : (v : ServerId) (S : List Doing) (fs : FilesetId) (n : ℕ) → Here v S fs n → 0 ≡ n
+never_moved v S fs n here = ap (λ (p : Stay). p.moves) here
 
-pub stays_here : (v : ServerId) (S : List Act) (fs : FilesetId) → home fs ≡ v → Here v S fs 0
+pub stays_here : (v : ServerId) (S : List Doing) (fs : FilesetId) → home fs ≡ v → Here v S fs 0
 stays_here v S fs at = λ i. record { server = at i; moves = 0 }
 
-pub applied_at : (v : ServerId) (S : List Act) (h : HostId) (n : AppliedGive) → Applied v S h n → home n.fileset ≡ v
+pub applied_at : (v : ServerId) (S : List Doing) (h : HostId) (n : AppliedGive) → IsApplied v S h n → home n.fileset ≡ v
 applied_at v [] h n a = elim a [ ]
 applied_at v (a ∷ S) h n (inl (g, (m, here, _), _, _)) = made_at v S n.fileset m here
 applied_at v (a ∷ S) h n (inr o) = applied_at v S h n o
 
 -- what was taken in this epoch was taken
-pub took_ever : (v : ServerId) (S : List Act) (h : HostId) (fs : FilesetId) (b : Body) → TookOf v S h fs b → TookEver v S h fs b
+pub took_ever : (v : ServerId) (S : List Doing) (h : HostId) (fs : FilesetId) (b : Body) → TookOf v S h fs b → TookEver v S h fs b
 took_ever v [] h fs b e = elim e [ ]
 took_ever v (a ∷ S) h fs b (inl e) = inl e
 took_ever v (a ∷ S) h fs b (inr e) = inr (took_ever v S h fs b e.0)
 
-pub took_applied : (v : ServerId) (S : List Act) (h : HostId) (g : Give) → TookOf v S h g.fid.fileset (GiveBack g) → Applied v S h (number_of g)
+pub took_applied : (v : ServerId) (S : List Doing) (h : HostId) (g : Give) → TookOf v S h g.fid.fileset (GiveBack g) → IsApplied v S h (number_of g)
 took_applied v [] h g e = elim e [ ]
 took_applied v (a ∷ S) h g (inl e) = inl (g, e, refl, omega arith)
 took_applied v (a ∷ S) h g (inr e) = inr (took_applied v S h g e.0)
 
 -- what the host gave up in this epoch, by a give-back or by a Returned that was taken in it
-abbrev pub TookGiven : ServerId → List Act → HostId → TokenId → Type 0
+abbrev pub TookGiven : ServerId → List Doing → HostId → TokenId → Type 0
 TookGiven v S h i =
     ((give : Give) × TookOf v S h give.fid.fileset (GiveBack give) × In i give.ids)
     ⊎ ((named : Named) × TookOf v S h named.fid.fileset (Returned named) × In i named.ids)
 
-pub given_up : (v : ServerId) (S : List Act) (h : HostId) (i : TokenId) → GivenUp v S h i → TookGiven v S h i
+pub given_up : (v : ServerId) (S : List Doing) (h : HostId) (i : TokenId) → GivenUp v S h i → TookGiven v S h i
 given_up v [] h i e = elim e [ ]
 given_up v (a ∷ S) h i (inl (inl (w, e, m))) = inr (w, inl e, m)
 given_up v (a ∷ S) h i (inl (inr (g, e, m))) = inl (g, inl e, m)
@@ -129,7 +124,7 @@ given_up v (a ∷ S) h i (inr (e, quiet)) =
       | inr l ↦ inr (l.0, inr (l.1, quiet), l.2)
     ]
 
-pub gives_up : (v : ServerId) (S : List Act) (h : HostId) (g : Give) (i : TokenId)
+pub gives_up : (v : ServerId) (S : List Doing) (h : HostId) (g : Give) (i : TokenId)
     → TookOf v S h g.fid.fileset (GiveBack g) → In i g.ids → GivenUp v S h i
 gives_up v [] h g i e m = elim e [ ]
 gives_up v (a ∷ S) h g i (inl e) m = inl (inr (g, e, m))
@@ -139,7 +134,7 @@ gives_up v (a ∷ S) h g i (inr e) m = inr (gives_up v S h g i e.0 m, e.1)
 abbrev pub own_after : HostId → Node → Step → List Step → List Step
 own_after host node step steps = if is_node node (Host host) then step ∷ steps else steps
 
-abbrev pub acts_after : ServerId → Node → Step → List Act → List Act
+abbrev pub acts_after : ServerId → Node → Step → List Doing → List Doing
 acts_after server node step past = if is_node node (Server server) then after_step step past else past
 
 -- where the host's epoch comes from
@@ -147,14 +142,14 @@ pub record From (c : Cause) (v : ServerId) (n : ℕ) : Type 0 where
   pub by : Message
   pub cause : c ≡ Came by
   pub at : by.server ≡ v
-  pub epoch : raised c v n ≡ by.epoch
+  pub epoch : epoch_raised c v n ≡ by.epoch
   pub up : n ≤ by.epoch
 
 if_cases : (b : Bool) (e n : ℕ) → ((if b then e else n) ≡ n) ⊎ ((b ≡ true) × ((if b then e else n) ≡ e))
 if_cases true e n = inr (refl, refl)
 if_cases false e n = inl refl
 
-by_cases : (b : Body) (mine : Bool) (e n : ℕ) → (raised_by b mine e n ≡ n) ⊎ ((mine ≡ true) × (raised_by b mine e n ≡ e) × (n ≤ e))
+by_cases : (b : Body) (mine : Bool) (e n : ℕ) → (epoch_raised_by b mine e n ≡ n) ⊎ ((mine ≡ true) × (epoch_raised_by b mine e n ≡ e) × (n ≤ e))
 by_cases Restarted mine e n =
     elim (if_cases (mine && nat_lt n e) e n) [
       | inl q ↦ inl q
@@ -170,7 +165,7 @@ by_cases _ mine e n = inl refl
 server_is : (a b : ServerId) → (a.0 == b.0) ≡ true → a ≡ b
 server_is a b e = ap (λ (n : ℕ). record { 0 = n }) (eqb-true a.0 b.0 e)
 
-pub raised_cases : (c : Cause) (v : ServerId) (n : ℕ) → (raised c v n ≡ n) ⊎ From c v n
+pub raised_cases : (c : Cause) (v : ServerId) (n : ℕ) → (epoch_raised c v n ≡ n) ⊎ From c v n
 raised_cases (Came m) v n =
     elim (by_cases m.body (m.server.0 == v.0) m.epoch n) [
       | inl q ↦ inl q

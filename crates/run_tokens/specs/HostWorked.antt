@@ -1,11 +1,11 @@
 -- Steps of the small run's host after the run.
-use Rattle.run_rules.specs.Nodes.{bare}
+use Rattle.run_rules.specs.Steps.{bare}
+use Rattle.run_rules.specs.declared.applied.Why.TheVariants.{Revoked}
 use Rattle.std.specs.Prelude.{List, [], false, ◌∷◌}
 use Rattle.run_tokens.specs.Worked.{client, enters, fetches, from_cache, greets, root, site_one, takes, to_host}
 use Rattle.run_tokens.specs.Worked.{to_server, token}
 use Rattle.run_rules.specs.declared.step.Step.{Step}
 use Rattle.run_rules.specs.declared.step.Cause.TheVariants.{Message as Came}
-use Rattle.run_rules.specs.declared.applied.Why.TheVariants.{Revoked}
 use Rattle.run_rules.specs.declared.applied.Leave.{Leave}
 use Rattle.base_types.specs.declared.ids.Node.TheVariants.{Host}
 use Rattle.message_types.specs.declared.message.Body.TheVariants.{Revoke, Returned, Reclaim, Restarted}

@@ -8,3 +8,6 @@ pub mod Evictions
 pub mod ServerRest
 pub mod Turns
 pub mod RunWorked
+pub mod TokenLaws
+pub mod DoingNothing
+pub mod CacheLaws

@@ -1,7 +1,13 @@
 -- A small run: a host greets a server, enters a fileset, asks for its root, gets tokens, answers a call under them, and
 -- answers the next call from its cache. Then the server restarts; the host claims its tokens, and they are granted
 -- again; and it gives one back.
-use Rattle.run_rules.specs.Nodes.{bare}
+use Rattle.run_rules.specs.Doings.{Granted, IsApplied, doings_of}
+use Rattle.run_rules.specs.Steps.{bare, steps_of_host}
+use Rattle.run_rules.specs.Tokens.{Held, IsKnown, number_of}
+use Rattle.run_rules.specs.declared.applied.Applied.TheVariants.{Wants}
+use Rattle.run_rules.specs.declared.applied.Request.TheVariants.{Change as AsksChange, Fetch as AsksFetch}
+use Rattle.run_rules.specs.declared.applied.Why.TheVariants.{Evicted}
+use Rattle.run_tokens.specs.TokenLaws.{IsTokenRun}
 use Rattle.std.specs.Prelude.{ℕ, Bool, true, false, List, [], ◌∷◌, Option, Some, None, codes}
 use Rattle.base_types.specs.declared.ids.HostId.{HostId}
 use Rattle.base_types.specs.declared.ids.ServerId.{ServerId}
@@ -44,20 +50,11 @@ use Rattle.message_types.specs.declared.giving.Reclaimed.{Reclaimed as Reclaimed
 use Rattle.run_rules.specs.declared.applied.Admission.{Admission}
 use Rattle.run_rules.specs.declared.applied.Answer.{Answer}
 use Rattle.run_rules.specs.declared.applied.Applied.{Applied as AppliedOf}
-use Rattle.run_rules.specs.declared.applied.Applied.TheVariants.{Wants}
-use Rattle.run_rules.specs.declared.applied.Request.TheVariants.{Fetch as AsksFetch, Change as AsksChange}
 use Rattle.run_rules.specs.declared.applied.Wanted.{Wanted}
-use Rattle.run_rules.specs.declared.applied.Why.TheVariants.{Evicted}
 use Rattle.run_rules.specs.declared.step.Asked.{Asked}
 use Rattle.run_rules.specs.declared.step.Cause.{Cause}
 use Rattle.run_rules.specs.declared.step.Cause.TheVariants.{Line, Restart, Message as Came}
 use Rattle.run_rules.specs.declared.step.Step.{Step}
-use Rattle.run_rules.specs.Nodes.{own}
-use Rattle.run_rules.specs.Gives.{number_of, IsKnown}
-use Rattle.run_rules.specs.Tokens.{Held}
-use Rattle.run_rules.specs.Acts.{acts}
-use Rattle.run_rules.specs.Grants.{Granted, Applied}
-use Rattle.run_rules.specs.TokenRuns.{IsTokenRun}
 
 abbrev pub client : HostId
 client = record { 0 = 1 }
@@ -269,11 +266,11 @@ pub record IsExample (whole : Span) : Type 0 where
   -- the rules of tokens admit it: whole, and so each part that begins with its start
   pub run : IsTokenRun (λ server. 1) (worked_restart whole)
   -- before the restart the host holds both tokens; after it the first alone, and the first alone is granted
-  pub held : Held (own client (worked whole)) (token 2 (Bytes false whole))
-  pub still_held : Held (own client (worked_restart whole)) (token 1 (StatusToken false))
-  pub gone : Held (own client (worked_restart whole)) (token 2 (Bytes false whole)) → ⊥
-  pub still_granted : Granted site_one (acts 1 site_one (worked_restart whole)) (token 1 (StatusToken false))
-  pub ended : Granted site_one (acts 1 site_one (worked_restart whole)) (token 2 (Bytes false whole)) → ⊥
+  pub held : Held (steps_of_host client (worked whole)) (token 2 (Bytes false whole))
+  pub still_held : Held (steps_of_host client (worked_restart whole)) (token 1 (StatusToken false))
+  pub gone : Held (steps_of_host client (worked_restart whole)) (token 2 (Bytes false whole)) → ⊥
+  pub still_granted : Granted site_one (doings_of 1 site_one (worked_restart whole)) (token 1 (StatusToken false))
+  pub ended : Granted site_one (doings_of 1 site_one (worked_restart whole)) (token 2 (Bytes false whole)) → ⊥
   -- the give-back is applied, and its host knows it
-  pub applied : Applied site_one (acts 1 site_one (worked_restart whole)) client (number_of (give whole))
-  pub known : IsKnown (own client (worked_restart whole)) (give whole)
+  pub applied : IsApplied site_one (doings_of 1 site_one (worked_restart whole)) client (number_of (give whole))
+  pub known : IsKnown (steps_of_host client (worked_restart whole)) (give whole)

@@ -2,7 +2,7 @@ ghost use Rattle.std.specs.Prelude.{[], ◌∷◌};
 ghost use Rattle.tree_objects.specs.Spans.{whole};
 ghost use Rattle.run_tokens.specs.Worked.{client, greets, enters, fetches, takes, from_cache};
 ghost use Rattle.run_tokens.specs.JournalWorked.{script};
-ghost use Rattle.run_rules.specs.HostRules.{HostMay};
+ghost use Rattle.run_rules.specs.HostMay.{HostMay};
 
 /// The rules admit each step of a host that greets a server, enters a fileset, asks for its root, answers a call under
 /// the tokens that it gets, and answers the next call from its cache.

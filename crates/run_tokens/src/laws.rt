@@ -1,7 +1,7 @@
-ghost use Rattle.run_rules.specs.Idle.{MayDoNothing};
+ghost use Rattle.run_tokens.specs.DoingNothing.{MayDoNothing};
+ghost use Rattle.run_tokens.specs.TokenLaws.{TokensNeverConflict};
 ghost use Rattle.run_tokens.specs.Effects.{Effects};
 ghost use Rattle.run_tokens.specs.Forgetting.{Forgetting};
-ghost use Rattle.run_rules.specs.TokenLaws.{TokensNeverConflict};
 
 /// A step that does nothing meets every rule of tokens: a host's that hasn't stopped, whatever came, and a server's.
 pub fn nothing_is_allowed()

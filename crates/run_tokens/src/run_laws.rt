@@ -1,8 +1,8 @@
 ghost use Rattle.script_lines.specs.declared.script.Script.{Script};
 ghost use Rattle.run_rules.specs.declared.journal.Journal.{Journal};
 ghost use Rattle.run_rules.specs.Runs.{IsRun, firsts_of, past_of};
-ghost use Rattle.run_rules.specs.TokenLaws.{AreAlwaysSafe};
-ghost use Rattle.run_rules.specs.Coherence.{NeverInConflict};
+ghost use Rattle.run_tokens.specs.CacheLaws.{NeverInConflict};
+ghost use Rattle.run_tokens.specs.TokenLaws.{AreAlwaysSafe};
 
 /// In every journal that is a run, after each step: no two hosts that haven't stopped hold conflicting tokens.
 /// Moreover no two tokens that servers have granted conflict, in a grace period too, nor does one with what an exporter

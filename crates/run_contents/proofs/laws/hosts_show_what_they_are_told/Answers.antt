@@ -1,8 +1,7 @@
 use Rattle.std.proofs.Common.{ℕ, ◌≡◌}
 use Rattle.base_types.specs.declared.ids.Fid.{Fid}
 use Rattle.tree_laws.specs.Parts.{Part}
-use Rattle.run_rules.specs.Dirty.{is_dirty}
-use Rattle.run_rules.specs.Views.{sees as host_sees}
+use Rattle.run_rules.specs.Views.{is_dirty, sees as host_sees}
 use Rattle.run_parts.specs.Uses.{UsesStay}
 use Rattle.run_parts.specs.Contents.{FetchesSo, GivesShow, TakesShow, WritesGrow, dirty, sees}
 use Rattle.run_contents.proofs.Asks.{fetches_so}

@@ -1,5 +1,5 @@
 use Rattle.std.proofs.Common.{◌≡◌, ◌++◌, flat_map, drop}
-use Rattle.run_rules.specs.Histories.{entries_of, history_of}
+use Rattle.run_rules.specs.Runs.{entries_of, history_of}
 use Rattle.run_rules.proofs.history.hist.Given as goal
 
 -- the entries so far, and those of the steps that are left

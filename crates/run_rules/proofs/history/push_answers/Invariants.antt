@@ -1,5 +1,5 @@
 use Rattle.std.proofs.Common.{◌≡◌, ◌++◌, map, drop}
-use Rattle.run_rules.specs.Histories.{call_entry}
+use Rattle.run_rules.specs.Runs.{call_entry}
 use Rattle.run_rules.proofs.history.push_answers.Given as goal
 
 -- the entries so far, and those of the answers that are left

@@ -1,5 +1,5 @@
 use Rattle.std.proofs.Common.{◌≡◌, ◌++◌, flat_map, drop}
-use Rattle.run_rules.specs.Histories.{entries_in}
+use Rattle.run_rules.specs.Runs.{entries_in}
 use Rattle.run_rules.proofs.history.push_applied.Given as goal
 
 -- the entries so far, and those of what is left

@@ -1,5 +1,5 @@
 ghost use Rattle.std.specs.Prelude.{◌≡◌, ◌≤◌};
-ghost use Rattle.run_rules.specs.Ends.{kind_of, is_down, shipped_to, sender, receiver, resender};
+ghost use Rattle.run_rules.specs.Plans.{kind_of, receiver, resender, says_down, sender, shipped_to};
 
 use base_types::{Node, ServerId};
 use message_types::{Body, Direction, Message};
@@ -32,8 +32,8 @@ pub fn kind_of(body: &Body) -> u8
 }
 
 /// Whether it says that a host has stopped. Such a message is never lost, held or delayed.
-pub fn is_down(message: &Message) -> bool
-    ensures { result ≡ is_down message.now }
+pub fn says_down(message: &Message) -> bool
+    ensures { result ≡ says_down message.now }
 {
     kind_of(&message.body) == 14
 }

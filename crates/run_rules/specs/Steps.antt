@@ -1,9 +1,8 @@
--- Which lines of a script are a node's, how many of them have gone, and who takes part. Steps have the newest first.
-use Rattle.run_rules.specs.Nodes.{is_node}
+-- Steps, whose they are, and the lines of a script that they go by. All lists of steps have the newest first.
 use Rattle.std.specs.List.{enumerate_from}
 use Rattle.std.specs.Option.{option_map_or}
-use Rattle.std.specs.Prelude.{List, Some, [], filter, if◌then◌else◌, map, max, slice_get}
-use Rattle.std.specs.Prelude.{unwrap_or, ℕ, ◌+◌, ◌-◌, ◌==◌, ◌∷◌, ◌≡◌}
+use Rattle.std.specs.Prelude.{Bool, List, None, Some, [], false, filter, if◌then◌else◌, map, max, slice_get, unwrap_or}
+use Rattle.std.specs.Prelude.{ℕ, ◌+◌, ◌-◌, ◌==◌, ◌∷◌, ◌≡◌}
 use Rattle.base_types.specs.declared.ids.HostId.{HostId}
 use Rattle.base_types.specs.declared.ids.Node.{Node}
 use Rattle.base_types.specs.declared.ids.Node.TheVariants.{Host, Server}
@@ -13,8 +12,47 @@ use Rattle.tree_calls.specs.declared.roster.Roster.{Roster}
 use Rattle.script_lines.specs.declared.script.Line.{Line}
 use Rattle.script_lines.specs.declared.script.Script.{Script}
 use Rattle.run_rules.specs.declared.step.Cause.{Cause}
-use Rattle.run_rules.specs.declared.step.Step.{Step}
 use Rattle.run_rules.specs.declared.step.Cause.TheVariants.{Line as LineOf, Restart}
+use Rattle.run_rules.specs.declared.step.Step.{Step}
+
+-- # Whose steps
+
+-- whether two nodes are one
+abbrev pub is_node : Node → Node → Bool
+is_node (Host host) (Host other) = host.0 == other.0
+is_node (Server server) (Server other) = server.0 == other.0
+is_node _ _ = false
+
+-- a step of a node in which nothing happens but its cause
+abbrev pub bare : Node → Cause → Step
+bare node cause = record {
+  node = node;
+  cause = cause;
+  asked = None;
+  taken = [];
+  answers = [];
+  wrote = None;
+  begun = [];
+  made = [];
+  dropped = [];
+  applied = [];
+  admitted = [];
+  sent = [];
+  reserved = [];
+}
+
+abbrev pub IsBareStep : Step → Type 0
+IsBareStep step = step ≡ bare step.node step.cause
+
+-- a host's own steps
+abbrev pub steps_of_host : HostId → List Step → List Step
+steps_of_host host past = filter (λ step. is_node step.node (Host host)) past
+
+-- a server's own steps
+abbrev pub steps_of_server : ServerId → List Step → List Step
+steps_of_server server past = filter (λ step. is_node step.node (Server server)) past
+
+-- # Lines: which are a node's, how many have gone, and who takes part
 
 -- the host that makes the filesets before the others begin
 abbrev pub setup : HostId
