@@ -287,7 +287,7 @@ def quick_check(journal):
                 entries.append(("call", x.answer))
             elif isinstance(x, w.Stored):
                 entries.append(("stored", x))
-            elif isinstance(x, w.HasGoneDown):
+            elif isinstance(x, w.IsDown):
                 entries.append(("down", x))
         for kind, x in entries:
             if kind == "call":

@@ -128,7 +128,7 @@ SERVED = [serves(Came(up(0, Hello())), sent=(down(1, Reclaimed()),)),
 STORED = Stored(1, FILE, (span_between(0, 2),), 2)
 STORES = serves(Came(up(1, GiveBack(GIFT))), (STORED,), (), (down(1, Gone(number_of(GIFT))),))
 HEARS_RETURNED = serves(Came(up(1, Returned(FILE, (FILE_STATUS.id,)))))
-HEARS_DOWN = serves(Came(up(1, Down())), (HasGoneDown(1),))
+HEARS_DOWN = serves(Came(up(1, Down())), (IsDown(1),))
 ANSWERS_BYE = serves(Came(up(1, Bye())), sent=(down(1, Bye()),))
 RESTARTS = serves(RestartAt(8), sent=(down(2, Restarted()),))
 ADMITS = serves(Came(claim(ALL, 0)), (), (Admission(1, ALL),), (down(2, Reclaimed()),))

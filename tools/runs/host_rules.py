@@ -68,7 +68,7 @@ class HostPast:
         self.held = {}              # [Held] token: None, in the order of taking
         self.ever = set()           # [EverHeld]
         self.owned = set()          # [Owns]
-        self.left = set()           # [Left] ids
+        self.left = set()           # [HasLeftHost] ids
         self.fetched = set()        # [HasFetched] Fetch
         self.changed = set()        # [HasChanged] (server, Change)
         self.epochs = {}            # [epoch_at]
@@ -78,7 +78,7 @@ class HostPast:
         self.said_bye = set()       # [HasSaid .. Bye]
         self.stopped = False        # [HasStopped]
         self.made = []              # [Made]
-        self.known = set()          # [Known]
+        self.known = set()          # [IsKnownNumber]
         self.floors = {}            # [AboveFloor]: above this
         self.welcome = set()        # [IsWelcome]
         self.has_bye = set()        # [HasBye]
@@ -90,7 +90,7 @@ class HostPast:
         self.lost = frozenset()     # [HasLost] fids
         self.calls_begun = 0
         self.lines_gone = 0
-        self.claimed = set()        # [Claimed]
+        self.claimed = set()        # [AwaitsReclaimed]
         self.entered = {}           # [Entered] (server, name): set of ids
         self.last_used = {}         # [LastUsed] token: n
         self.dirty = {}             # [is_dirty] fid: frozenset of positions
@@ -155,7 +155,7 @@ class HostPast:
         return all(self.last_used.get(u) is None or n <= self.last_used[u] for u in self.idle())
 
     def outstanding(self):
-        """[Outstanding]: (server, moves, body) of all."""
+        """[IsUnanswered]: (server, moves, body) of all."""
         out = [(v, 0, Hello()) for v in self.greeted if v not in self.welcome]
         out += [(home(f.fid.fileset), 0, f) for f in self.fetched if (f.fid.fileset, f.number) in self.asking]
         for v, c in self.changed:
@@ -213,7 +213,7 @@ class Look:
         return self.message.body if self.message is not None and isinstance(self.message.body, kind) else None
 
     def settles(self):
-        """[Settles]: (server or 0, done), or None; where the fileset isn't 0 it is so of each server."""
+        """[DoneComes]: (server or 0, done), or None; where the fileset isn't 0 it is so of each server."""
         done = self.body(Done)
         if done is None:
             return None
@@ -223,7 +223,7 @@ class Look:
         return (0, done) if self.about(done.fileset) else None
 
     def counts(self):
-        """[Counts]"""
+        """[DoneCounts]"""
         found = self.settles()
         if found is None:
             return None
@@ -249,7 +249,7 @@ class Look:
         return out & {number_of(g) for g in self.past.made}
 
     def answered(self):
-        """[Answers]: the Bring that answers the outstanding request, or None"""
+        """[AnswersRequest]: the Bring that answers the outstanding request, or None"""
         grant, done = self.body(Grant), self.body(Done)
         if grant is not None:
             b = grant.bring
@@ -428,7 +428,7 @@ class Look:
         return (found is not None and isinstance(found[1].outcome, HasReply)) or self.learns_end(call)
 
     def begins(self):
-        """[Begins]: (k, call)"""
+        """[BeginsCall]: (k, call)"""
         out = [] if self.s.asked is None else [(self.s.asked.k, self.s.asked.call)]
         return out + [(a.k, a.call) for a in self.s.answers if a.first]
 
@@ -450,7 +450,7 @@ class Look:
         self.returned, self.made_ids = returned, made_ids
         self.kept_now = {i for m in s.sent if isinstance(m.body, Kept) for i in m.body.ids}
         leaves = returned | made_ids
-        self.leaves_ids = leaves                                    # [Leaves]
+        self.leaves_ids = leaves                                    # [LeavesHost]
         dropped = {x.token for x in s.dropped}                      # [Drops]
         n.held = dict.fromkeys(t for t in self.at_hand if t not in dropped)
         n.ever = p.ever | set(s.taken)
@@ -1087,6 +1087,9 @@ class Look:
         for m in self.sent(Bye):
             if m.server in p.said_bye and m.server in p.has_bye:
                 bad("RepeatsDue.bye_again", m)
+        for m in self.sent(GiveBack):
+            if not n.is_outstanding(m.body.give):
+                bad("RepeatsDue.gives_only", m)
         if isinstance(s.cause, Lapse):
             for v, moves, b in out:
                 if not self.sends(v, p.epoch_at(v), moves, b):
@@ -1234,9 +1237,12 @@ class Look:
         self.revoke_due()
         self.repeats_due()
         self.leaves_due()
-        for i, m in enumerate(self.s.sent):
-            if m in self.s.sent[:i]:
-                self.bad("HostDue.once", m)
+        dropped = tuple(x.token for x in self.s.dropped)
+        for name, found in (("once", self.s.sent), ("once_taken", self.s.taken), ("once_dropped", dropped),
+                            ("once_made", self.s.made)):
+            for i, x in enumerate(found):
+                if x in found[:i]:
+                    self.bad("HostDue." + name, x)
 
     def host_meets(self):
         """Both halves: (rule, why) of each rule that the step breaks"""

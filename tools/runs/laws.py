@@ -17,7 +17,7 @@ labels                  a host without an open call has just its labels of the t
 """
 import re
 
-from words import Bytes, Came, EndsCall, GiveBack, HasGoneDown, LockTok, Reclaimed, Status, Stored, Written, home, number_of
+from words import Bytes, Came, EndsCall, GiveBack, IsDown, LockTok, Reclaimed, Status, Stored, Written, home, number_of
 from needs import call_look, conflict, covers, kinds_conflict, reply_now
 from host_rules import view_of
 from tree import (ENTRIES, SIZE, TRAITS, answer_to, byte_of, cell, down_tree, kept_part, may_store, object_of,
@@ -36,7 +36,7 @@ def entries_of(step):
                 out.append(("stored", x))
             elif isinstance(x, EndsCall):
                 out.append(("call", x.answer))
-            elif isinstance(x, HasGoneDown):
+            elif isinstance(x, IsDown):
                 out.append(("down", x.host, step.node[1]))
             elif isinstance(x, Written):
                 out.append(("call", x.answer))

@@ -10,7 +10,7 @@ the cause, decide, admit, send, keep.  Beside each table stands how it is indexe
 import words as w
 from words import (NO_FID, WHOLE, Admission, Again, Answer, Asked, Bring, Bye, Came, Change, DirEntry, Done, Down, End,
                    Ends, EndsCall, Evict, Fetch, Fid, Flushed, Give, GiveBack, GiveNo, Gone, Granted, HasReply, Hello,
-                   HasGoneDown, Kept, Known, Labelled, Lapse, Leave, LineOf, LockTok, Need, Opening, Outstanding, Piece,
+                   IsDown, Kept, Known, Labelled, Lapse, Leave, LineOf, LockTok, Need, Opening, Outstanding, Piece,
                    Reclaim, Reclaimed, Restarted, RestartAt, Returned, Revoke, Span, Status, StatusOf, Step, Stored,
                    Token, TokenId, Wanted, Written, home, number_of, root_of, span_between, to_host, to_server)
 from dfs_oracle import base as ob
@@ -1402,7 +1402,7 @@ class Server:
         new = None
         if isinstance(body, Down):
             if not member.down:
-                d.applied.append(HasGoneDown(host))
+                d.applied.append(IsDown(host))
                 member.down = True
                 self.goes_away(host)
         elif member.down:

@@ -2,7 +2,7 @@
 
     check(journal)      Report: .broken = [(step, rule, why)], steps counted from 1 (0: the journal as a whole)
     Checker(script, start, epochs)      the same step by step: .step(step) -> [(rule, why)], for drivers
-                        .ended() -> [(rule, why)] of CauseEnds, .done(host) -> HostIsDone
+                        .ended() -> [(rule, why)] of IsEnded, .done(host) -> HostIsDone
                         .left(message) -> how many copies of a message may still come now, .lapses_due(node)
 
     half(rule)          "may": what a node may do, on which all safety rests; "due": what is due of it, so that runs
@@ -22,7 +22,7 @@ FREE, DELAYED = ("free",), ("delayed",)
 # the records of HostDue and ServerDue, and of what is asked of a journal
 DUE = ("HostDue", "CallsDue", "RevokeDue", "RepeatsDue", "LeavesDue", "ServerDue", "ServerLines", "ServerAnswers",
        "HasDecided", "HasSent")
-RUN = ("StepsMeet", "CameToHost", "CameToServer", "KeepsPlan", "FlagsMet", "IsRun", "CauseEnds")
+RUN = ("StepsMeet", "CameToHost", "CameToServer", "KeepsPlan", "FlagsMet", "IsRun", "IsEnded")
 
 
 def half(rule):
@@ -208,11 +208,11 @@ class Checker:
         return out
 
     def ended(self):
-        """[CauseEnds]: what isn't so yet"""
-        out = [("CauseEnds.hosts", h) for h in self.hosts if not self.done(h)]
-        out += [("CauseEnds.lines", v) for v in self.servers
+        """[IsEnded]: what isn't so yet"""
+        out = [("IsEnded.hosts", h) for h in self.hosts if not self.done(h)]
+        out += [("IsEnded.lines", v) for v in self.servers
                 if self.gone[v] != len(lines_of(self.script, ("s", v)))]
-        out += [("CauseEnds.servers", (v, h)) for v, p in self.servers.items() for h in p.listed if h not in p.away]
+        out += [("IsEnded.servers", (v, h)) for v, p in self.servers.items() for h in p.listed if h not in p.away]
         return out
 
 

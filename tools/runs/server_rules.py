@@ -6,7 +6,7 @@ Turn is one step of a server on them, with all rules as methods named as their r
 from typing import NamedTuple
 
 from words import (Again, Answer, Bye, Bytes, Came, Change, Done, Down, EXPORTER, End, EndsCall, Evict, Fetch, Flushed,
-                   GiveBack, Gone, Grant, Granted, HasReply, Hello, HasGoneDown, Kept, Known, Lapse, LineOf, Lock, LockTok,
+                   GiveBack, Gone, Grant, Granted, HasReply, Hello, IsDown, Kept, Known, Lapse, LineOf, Lock, LockTok,
                    MoveFileset, OK, OpenFile, Opening, Reclaim, Reclaimed, Restart, RestartAt, Restarted, Returned,
                    Revoke, Status, Stored, Wanted, Written, bare, home, is_refusal, lines_of, need_of, number_of,
                    refused, span_between, user_of)
@@ -130,15 +130,15 @@ class ServerPast:
         self.epoch = first          # [epoch]
         self.listed = set()         # [Listed]
         self.down = set()           # [HasGoneDown]
-        self.away = set()           # [Away]
+        self.away = set()           # [HasGoneAway]
         self.listed_now = set()     # [ListedNow]
         self.reclaimed = set()      # [HasReclaimed]
         self.granted = {}           # [Granted] token: None
         self.pinned = set()         # [Pinned]
         self.reserved = set()       # [Reserved]
         self.issued = {}            # epoch: the highest seq that was issued; [Issued]
-        self.told = {}              # fid: the highest stamp of this epoch; [Told]
-        self.applied = {}           # (host, fileset): the highest give-back that was taken; [Applied]
+        self.told = {}              # fid: the highest stamp of this epoch; [HasUsedStamp]
+        self.applied = {}           # (host, fileset): the highest give-back that was taken; [IsApplied]
         self.given_up = set()       # [GivenUp] (host, id)
         self.took_now = set()       # [TookNow] (host, moves, body)
         self.took_of = set()        # [TookOf] (host, fileset, body), where it was here
@@ -147,9 +147,9 @@ class ServerPast:
         self.durable = {}           # (host, fileset): the highest number; [IsDurable]
         self.sent = set()           # [SentTo] (host, epoch, moves, body)
         self.dones = {}             # (host, fileset): [(epoch, moves, done)]
-        self.revoked = set()        # [Revoked] (host, id) of this epoch
-        self.waiting = []           # [Waits]
-        self.order = set()          # [Before] pairs
+        self.revoked = set()        # [HasRevoked] (host, id) of this epoch
+        self.waiting = []           # [IsQueued]
+        self.order = set()          # [IsQueuedBefore] pairs
         self._free = {}
 
     def copy(self):
@@ -168,7 +168,7 @@ class ServerPast:
         return all(h in self.reclaimed for h in self.listed if self.is_live(h))
 
     def takes(self, a):
-        """[Takes]"""
+        """[TakesFrom]"""
         return isinstance(a, Took) and a.epoch == self.epoch and self.is_live(a.host)
 
     def goes_away(self, a):
@@ -191,7 +191,7 @@ class ServerPast:
         return number <= self.durable.get((host, fileset), -1)
 
     def is_applied(self, host, number):
-        """[Applied]"""
+        """[IsApplied]"""
         return (host, number.fileset) in self.applied and number.number <= self.applied[host, number.fileset]
 
     def is_old(self, host, request):
@@ -300,7 +300,7 @@ class ServerPast:
         if bring is not None:
             for t in bring.tokens:
                 self.issued[t.id.epoch] = max(self.issued.get(t.id.epoch, -1), t.id.seq)
-        # what was told [Told], sent, revoked
+        # what was told [HasUsedStamp], sent, revoked
         if begin:
             self.told, self.revoked = {}, set()
         if bring is not None:
@@ -335,7 +335,7 @@ class ServerPast:
             self.written.append(w)
             key = (w.answer.host, w.fileset)
             self.durable[key] = max(self.durable.get(key, -1), w.number)
-        # hosts [Listed, HasGoneDown, Away, HasReclaimed]
+        # hosts [Listed, HasGoneDown, HasGoneAway, HasReclaimed]
         if begin:
             self.reclaimed, self.listed_now = set(), set()
         if isinstance(a, Took) and isinstance(a.body, Hello) and a.host not in self.listed and a.host not in self.down:
@@ -616,6 +616,13 @@ class Turn:
         if s.asked is not None or s.taken or s.answers or s.wrote is not None or s.begun or s.made or s.dropped:
             bad("NoHostStep.does_none")
 
+    def hears_of_restart(self, h):
+        """[HearsOfRestart]"""
+        p, cause, m = self.before, self.s.cause, self.message
+        if m is not None and m.host == h:
+            return h not in p.listed_now if isinstance(m.body, Hello) else m.epoch != p.epoch and m.body != Down()
+        return isinstance(cause, RestartAt) or (isinstance(cause, Lapse) and h not in p.reclaimed)
+
     def server_answers(self):
         p, s, bad, m = self.before, self.s, self.bad, self.message
         c = self.caused
@@ -647,8 +654,7 @@ class Turn:
             if isinstance(x.body, Bye) and not (self.heard_now(h, Bye) and h not in p.down):
                 bad("OnlyAnswers.bye_only", x)
             if isinstance(x.body, Restarted):
-                heard = m is not None and m.host == h
-                if not p.is_live(h) or not (heard or isinstance(s.cause, (RestartAt, Lapse))):
+                if not p.is_live(h) or not self.hears_of_restart(h):
                     bad("ServerAnswers.restarted_only", x)
             if isinstance(x.body, Reclaimed):
                 again = self.taken_now(Reclaim)
@@ -711,7 +717,7 @@ class Turn:
         given, down = self.first_given(), self.first_down()
         if given is not None and caused != self.stored_of(self.tree, *given) + self.ended_by(*given):
             bad("ServerApplies.given", caused)
-        if down is not None and caused != (HasGoneDown(down),):
+        if down is not None and caused != (IsDown(down),):
             bad("ServerApplies.down", caused)
         if given is None and down is None and caused:
             bad("ServerApplies.else_none", caused)

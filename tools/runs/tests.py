@@ -33,7 +33,7 @@ CASES = [
     (1, "no greeting", lambda s: w.change(s, sent=()), "HostAsks.asks"),
     (1, "another call", lambda s: w.change(s, asked=Asked(2, WRITES)), "HostLines.next"),
     (1, "greets twice", lambda s: w.change(s, sent=s.sent * 2), "HostDue.once"),
-    (1, "applies", lambda s: w.change(s, applied=(HasGoneDown(1),)), "HostLines.applies_none"),
+    (1, "applies", lambda s: w.change(s, applied=(IsDown(1),)), "HostLines.applies_none"),
     (1, "flushes", lambda s: w.change(s, cause=Flushed()), "HostLines.no_server"),
     (2, "no welcome", lambda s: w.change(s, sent=()), "ServerAnswers.hello"),
     (2, "welcomes twice", lambda s: w.change(s, sent=s.sent * 2), "HasSent.once"),
@@ -54,6 +54,9 @@ CASES = [
     (6, "two tokens for a need", lambda s: body(s, 0, bring=w.change(s.sent[0].body.bring, tokens=(
         ROOT_STATUS, ROOT_ENTRIES, token(3, ROOT, ROOT_ENTRIES.kind)))), "MaySend.grants/brings"),
     (6, "settles again", lambda s: w.change(s, sent=s.sent + (down(1, ENTERED),)), "HasSent.dones_only"),
+    (6, "tells of no restart", lambda s: w.change(s, sent=s.sent + (down(1, Restarted()),)),
+     "ServerAnswers.restarted_only"),
+    (7, "takes twice", lambda s: w.change(s, taken=s.taken * 2), "HostDue.once_taken"),
     (7, "takes none", lambda s: w.change(s, taken=()), "HostTakes.all"),
     (10, "tells a byte", lambda s: body(s, 0, pieces=(Piece(3, b"x"),)), "MaySend.grants/tells bytes"),
     (10, "conflicts", lambda s: body(s, 0, bring=w.change(s.sent[0].body.bring, stamp=1)),
@@ -78,9 +81,14 @@ CASES = [
                                          sent=(up(2, GiveBack(w.change(s.made[0], length=None))),)),
      "HostGives.length_too"),
     (28, "no token", lambda s: w.change(s, made=(w.change(s.made[0], ids=()),)), "HostGives.names"),
+    (28, "makes twice", lambda s: w.change(s, made=s.made * 2), "HostDue.once_made"),
+    (28, "drops twice", lambda s: w.change(s, dropped=s.dropped + (w.change(s.dropped[0], why=EVICTED),)),
+     "HostDue.once_dropped"),
     (28, "not sent", lambda s: w.change(s, sent=()), "HostGives.sends"),
     (29, "stores none", lambda s: w.change(s, applied=()), "ServerApplies.given"),
     (29, "no Gone", lambda s: w.change(s, sent=s.sent[1:]), "ServerAnswers.gone"),
+    (30, "gives again what is known", lambda s: w.change(s, sent=s.sent + (up(2, GiveBack(J.steps[27].made[0])),)),
+     "RepeatsDue.gives_only"),
     (33, "returns a used one", lambda s: w.change(s, sent=(up(2, Returned(FILE, s.sent[0].body.ids)),)),
      "HostRevoked.returns_idle"),
     (34, "refuses late", lambda s: w.change(s, applied=(), sent=()), "HasDecided.pinned"),
@@ -159,7 +167,7 @@ def main():
             bad += 1
             print("step %d, %s: expected %s, broken %s" % (n, what, rule, broken))
     # the run as a whole
-    for steps, rule in ((J.steps[:51], "CauseEnds.hosts"), (J.steps[:2] + J.steps[1:], "KeepsPlan.copies"),
+    for steps, rule in ((J.steps[:51], "IsEnded.hosts"), (J.steps[:2] + J.steps[1:], "KeepsPlan.copies"),
                         (J.steps[:1] + J.steps[2:], "CameToHost"), (J.steps[:12] + [host_step(Lapse())] + J.steps[12:],
                                                                    "KeepsPlan.lapses")):
         found = check(J.with_steps(steps)).rules()

@@ -610,7 +610,7 @@ class Labelled:
     token: Token
 
 
-# what a server applies: Stored, EndsCall, HasGoneDown by the cause; then Wanted, Written
+# what a server applies: Stored, EndsCall, IsDown by the cause; then Wanted, Written
 @word
 class Stored:
     host: int
@@ -626,7 +626,7 @@ class EndsCall:
 
 
 @word
-class HasGoneDown:
+class IsDown:
     host: int
 
 

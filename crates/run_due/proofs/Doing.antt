@@ -1,5 +1,6 @@
 -- What is due is done.
-use Rattle.std.proofs.Common.{[], ℕ, ◌≡◌, ◌∙◌, ◌∷◌, List, ap, subst, sym, refl, inl, inr, length, suc, arith}
+use Rattle.std.proofs.Common.{[], ℕ, ◌≡◌, ◌∙◌, ◌∷◌, ◌⊎◌, List, ap, map, subst, sym, refl, inl, inr, length, suc, arith}
+use Rattle.std.specs.Prelude.{◌≢◌}
 use Rattle.base_types.specs.declared.ids.Node.TheVariants.{Host}
 use Rattle.message_types.specs.declared.message.Body.TheVariants.{Fetch}
 use Rattle.run_rules.specs.Past.{In, appended}
@@ -7,17 +8,50 @@ use Rattle.run_rules.specs.Steps.{lines_gone, lines_of, steps_of_host}
 use Rattle.run_rules.specs.declared.applied.Leave.{Leave}
 use Rattle.run_due.specs.HostsDo.{HostsDo, LeftAlone, AsksEarly, GreetsAgain, LapsesMore, LapsesBusily, FetchesAgain, KeepsGive}
 use Rattle.run_due.specs.HostsDo.{ClaimsIdly, HoldsBack, FreesNothing, EvictsOther, DropsOther, EndsPartly, SaysByeHolding, SaysByeAgain, DoesServersWork, SyncsNothing, EvictsEarly}
+use Rattle.run_due.specs.HostsDo.{GivesKnown, ListsTwice}
 use Rattle.run_due.specs.ServersDo.{ServersDo, LeavesUndecided, LeavesUngranted, RestartsByOther}
-use Rattle.run_due.specs.ServersDo.{ForgetsRequest, LeavesBlocked, RevokesTwice, LeavesClaim, WelcomesOld, TellsStranger, GivesUnasked, WelcomesUnasked, EndsUnasked, SettlesUnasked, LineDoes}
+use Rattle.run_due.specs.ServersDo.{ForgetsRequest, LeavesBlocked, RevokesTwice, LeavesClaim, WelcomesOld, TellsStranger, TellsAgain, GivesUnasked, WelcomesUnasked, EndsUnasked, SettlesUnasked, LineDoes}
 use Rattle.run_due.specs.Dutiful.{SaysTwice}
+use Rattle.base_types.specs.declared.ids.HostId.{HostId}
+use Rattle.message_types.specs.declared.message.Body.TheVariants.{Hello}
+use Rattle.message_types.specs.declared.message.Message.{Message}
+use Rattle.run_rules.specs.Doings.{Doing, HasReclaimed, epoch}
+use Rattle.run_rules.specs.Past.{EachOnce}
+use Rattle.run_rules.specs.ServerDue.{HearsOfRestart}
+use Rattle.run_rules.specs.declared.step.Cause.TheVariants.{Lapse, Message as Came, Restart}
+use Rattle.run_rules.specs.declared.step.Step.{Step}
 use Rattle.run_due.specs.RunsGoOn.{RunsGoOn}
-use Rattle.run_due.proofs.Steps.{lapse_came, never, never_at, never_from, never_in, said_once, unsent, untold}
+use Rattle.run_due.proofs.Steps.{lapse_came, never, never_at, never_from, never_in, said_once, untold}
 
 two_left : (xs ys : List Leave) (l k x : Leave) → xs ≡ x ∷ [] → xs ≡ l ∷ k ∷ ys → ⊥
 two_left xs ys l k x e q =
     let r : x ∷ [] ≡ l ∷ k ∷ ys = sym e ∙ q in
     let n : 1 ≡ suc (suc (length ys)) = ap length r in
     omega (arith, n)
+
+came_once : (s : Step) (m k : Message) → s.cause ≡ Came m → s.cause ≡ Came k → k ≡ m
+came_once s m k c d = let p : Came k ≡ Came m = sym d ∙ c in cc
+
+restart_came : (s : Step) (m : Message) (line : ℕ) → s.cause ≡ Came m → s.cause ≡ Restart line → ⊥
+restart_came s m line c d = let p : Came m ≡ Restart line = sym c ∙ d in cc
+
+lapse_restart : (s : Step) (line : ℕ) → s.cause ≡ Lapse → s.cause ≡ Restart line → ⊥
+lapse_restart s line c d = let p : Lapse ≡ Restart line = sym c ∙ d in cc
+
+-- a host hears of a restart for no message of the present epoch but a Hello, and at no lapse once it has reclaimed
+tells_again : (past : List Doing) (s : Step) (h : HostId) → HearsOfRestart past s h
+    → ((m : Message) × (s.cause ≡ Came m) × (m.epoch ≡ epoch past) × (m.body ≢ Hello))
+    ⊎ ((s.cause ≡ Lapse) × HasReclaimed past h) → ⊥
+tells_again past s h (inl (x, old)) (inl (m, c, at, other)) =
+    other (ap (λ (k : Message). k.body) (sym (came_once s m x.0 c x.1)) ∙ x.3)
+tells_again past s h (inl (x, old)) (inr (l, _)) = lapse_came s x.0 l x.1
+tells_again past s h (inr (inl x)) (inl (m, c, at, other)) =
+    x.3 (ap (λ (k : Message). k.epoch) (came_once s m x.0 c x.1) ∙ at)
+tells_again past s h (inr (inl x)) (inr (l, _)) = lapse_came s x.0 l x.1
+tells_again past s h (inr (inr (inl x))) (inl (m, c, at, other)) = restart_came s m x.0 c x.1
+tells_again past s h (inr (inr (inl x))) (inr (l, _)) = lapse_restart s x.0 l x.1
+tells_again past s h (inr (inr (inr x))) (inl (m, c, at, other)) = lapse_came s m x.0 c
+tells_again past s h (inr (inr (inr x))) (inr (l, reclaimed)) = x.1 reclaimed
 
 pub hosts_do : HostsDo
 hosts_do = record {
@@ -77,6 +111,13 @@ hosts_do = record {
   bye = never SaysByeHolding (λ script host past s may due d.
       let b = may.ends.bye d.0 d.1 in elim d.2 [ inl t ↦ b.1 t.0 t.1 | inr none ↦ none b.0 ]);
   bye_again = never SaysByeAgain (λ script host past s may due d. due.repeats.bye_again d.0 d.1 d.2 d.3);
+  gives_known = never GivesKnown (λ script host past s may due d.
+      (due.repeats.gives_only d.0 d.1 d.2 d.3 d.4).unknown d.5);
+  lists = never ListsTwice (λ script host past s may due d. elim d [
+    | inl x ↦ (subst EachOnce x.2 due.once_taken).0 (inl refl)
+    | inr (inl x) ↦ (subst (λ (ls : List Leave). EachOnce (map (λ l. l.token) ls)) x.3 due.once_dropped).0 (inl x.4)
+    | inr (inr x) ↦ (subst EachOnce x.2 due.once_made).0 (inl refl)
+  ]);
   servers_work = never DoesServersWork (λ script host past s may due d. elim d [
     | inl x ↦ may.lines.no_server.0 x.0 x.1
     | inr x ↦ may.lines.no_server.1 x
@@ -106,6 +147,8 @@ servers_do = record {
   welcomes_old = never_at WelcomesOld (λ script start v steps past s may due d. d.4 (due.answers.hello_old d.0 d.1 d.2 d.3));
   twice = never_at (λ v past s. SaysTwice past s) (λ script start v steps past s may due d. said_once past s due.sent.once d);
   restarted = never_at TellsStranger (λ script start v steps past s may due d. d.2 (due.answers.restarted_only d.0 d.1).0);
+  restarted_again = never_at TellsAgain (λ script start v steps past s may due d.
+      tells_again past s d.0 (due.answers.restarted_only d.0 d.1).1 d.2);
   gones = never_at GivesUnasked (λ script start v steps past s may due d.
       let x = due.answers.gone_only d.0 d.1 d.2 in lapse_came s x.2.0.0 d.3 x.2.0.1);
   reclaimed = never_at WelcomesUnasked (λ script start v steps past s may due d. elim (may.answers.reclaimed_only d.0 d.1 d.2) [

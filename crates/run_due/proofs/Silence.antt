@@ -1,5 +1,5 @@
 -- Where something is due, something is said.
-use Rattle.std.proofs.Common.{[], ℕ, ◌≡◌, subst, inl, inr}
+use Rattle.std.proofs.Common.{subst, inl, inr}
 use Rattle.run_rules.specs.Doings.{IsLive}
 use Rattle.run_rules.specs.Past.{In}
 use Rattle.run_due.specs.Due.{HostsSpeak, ServersSpeak, AskedForIdle, AskedForUsed, AskedForGiven, LapsesOwing}

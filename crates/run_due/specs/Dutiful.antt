@@ -40,6 +40,6 @@ Silent Due = Never (λ past s. (s.sent ≡ []) × Due past s)
 abbrev pub SilentAt : (ServerId → List Doing → Step → Type 0) → Type 0
 SilentAt Due = NeverAt (λ server past s. (s.sent ≡ []) × Due server past s)
 
--- a message is sent twice
+-- a message is sent twice, one after the other
 abbrev pub SaysTwice : {A : Type 0} → A → Step → Type 0
 SaysTwice past s = (m : Message) × (ms : List Message) × (s.sent ≡ m ∷ m ∷ ms)

@@ -1,76 +1,41 @@
 -- What a host may not do, and what it may not leave undone.
-use Rattle.std.specs.Prelude.{◌≡◌, ◌≢◌, ◌<◌, ◌⊎◌, ℕ, true, List, [], ◌∷◌, length}
+use Rattle.std.specs.Prelude.{◌≡◌, ◌⊎◌, ℕ, List, [], ◌∷◌}
 use Rattle.base_types.specs.declared.ids.HostId.{HostId}
 use Rattle.base_types.specs.declared.ids.ServerId.{ServerId}
 use Rattle.base_types.specs.declared.ids.FilesetId.{FilesetId}
-use Rattle.base_types.specs.declared.ids.Node.TheVariants.{Host}
 use Rattle.tree_calls.specs.declared.call.Call.TheVariants.{Sync}
 use Rattle.tree_calls.specs.declared.place.Place.{Place}
 use Rattle.base_types.specs.declared.ids.Fid.{Fid}
-use Rattle.tree_answers.specs.declared.tree.Tree.{Tree}
 use Rattle.token_types.specs.declared.token.Token.{Token}
-use Rattle.token_types.specs.declared.token.TokenId.{TokenId}
-use Rattle.message_types.specs.declared.message.Body.TheVariants.{
-  Hello,
-  Fetch,
-  Change,
-  Restarted,
-  Gone,
-  Revoke,
-  Reclaim,
-  Bye,
-}
+use Rattle.message_types.specs.declared.message.Body.TheVariants.{Hello, Fetch, Change, Revoke, Reclaim, Bye}
 use Rattle.message_types.specs.declared.asking.Fetch.{Fetch as FetchOf}
 use Rattle.message_types.specs.declared.asking.Change.{Change as ChangeOf}
 use Rattle.message_types.specs.declared.giving.Give.{Give}
-use Rattle.message_types.specs.declared.giving.AppliedGive.{AppliedGive}
 use Rattle.message_types.specs.declared.giving.Reclaim.{Reclaim as ReclaimOf}
 use Rattle.message_types.specs.declared.tokens.Revoke.{Revoke as RevokeOf}
 use Rattle.script_lines.specs.declared.script.Script.{Script}
-use Rattle.script_lines.specs.declared.script.Line.{Line}
-use Rattle.script_lines.specs.declared.script.Deed.TheVariants.{Await}
-use Rattle.run_rules.specs.declared.journal.Journal.{Journal}
-use Rattle.run_rules.specs.Doings.{Doing, HasGoneAway, HasReclaimed, HeardNow, IsLive, Listed, ListedNow, SentNow}
-use Rattle.run_rules.specs.Doings.{TakenNow, TookNow, after_cause, after_deciding, after_step, doings_of}
 use Rattle.run_rules.specs.HostDue.{HasBye, HasDirty, IsUnanswered}
 use Rattle.run_rules.specs.HostMay.{ClaimsAt, LearnsRestart}
 use Rattle.run_rules.specs.HostTokens.{MayEvict}
-use Rattle.run_rules.specs.Kept.{filesets_kept, filesets_through}
 use Rattle.run_rules.specs.Messages.{About, Asking, Changing, Comes, HasGreeted, HasSaid, HasStopped, IsWelcome, Says}
 use Rattle.run_rules.specs.Messages.{Sends, epoch_at}
-use Rattle.run_rules.specs.Past.{Always, In}
-use Rattle.run_rules.specs.Runs.{FlagsMet, HostIsDone, IsDutiful, IsEnded, IsLine, IsRaised, IsRun, TakesPart}
-use Rattle.run_rules.specs.Runs.{firsts_of, past_of}
-use Rattle.run_rules.specs.ServerDecides.{IsNewRequest, IsOfRow, NotRefused, RefusedOn}
-use Rattle.run_rules.specs.ServerMay.{HasRevoked, IsAskedBack}
-use Rattle.run_rules.specs.ServerTokens.{HasTakenGives}
-use Rattle.run_rules.specs.Steps.{IsBareStep, IsNextLine, limit_of, lines_gone, lines_of, servers_of, setup}
-use Rattle.run_rules.specs.Steps.{steps_of_host, steps_of_server}
-use Rattle.run_rules.specs.Tokens.{AtHand, Drops, FreesPinned, HasCall, Held, IsKnown, IsOpen, IsOutstanding, Made}
+use Rattle.run_rules.specs.Past.{In}
+use Rattle.run_rules.specs.Steps.{limit_of}
+use Rattle.run_rules.specs.Tokens.{AtHand, Drops, FreesPinned, HasCall, Held, IsKnown, IsOpen, Made}
 use Rattle.run_rules.specs.Tokens.{NoneOpen, NoneUsed, end_of}
 use Rattle.run_rules.specs.Views.{FindsFile, IsDirtyUnder, Stance}
-use Rattle.run_rules.specs.Wants.{CanDecide, CanGrant, CanRefuse, IsQueued, has_effect, is_use}
-use Rattle.run_rules.specs.declared.applied.Request.TheVariants.{Change as Changes}
 use Rattle.run_rules.specs.declared.applied.Why.TheVariants.{Ended}
-use Rattle.run_rules.specs.declared.applied.Request.{Request}
-use Rattle.run_rules.specs.declared.applied.Wanted.{Wanted}
 use Rattle.run_rules.specs.declared.step.Asked.{Asked}
-use Rattle.run_rules.specs.declared.step.Cause.TheVariants.{Evict, Flushed, Lapse, Line as LineOf, Restart}
+use Rattle.run_rules.specs.declared.step.Cause.TheVariants.{Evict, Flushed, Lapse, Restart}
 use Rattle.run_rules.specs.declared.step.Step.{Step}
 use Rattle.run_rules.specs.declared.step.Labelled.{Labelled}
-use Rattle.tree_calls.specs.declared.reply.Refusal.{Refusal}
-use Rattle.std.specs.Prelude.{◌++◌}
-use Rattle.base_types.specs.declared.ids.Node.TheVariants.{Server}
 use Rattle.message_types.specs.declared.message.Body.{Body}
-use Rattle.message_types.specs.declared.message.Body.TheVariants.{GiveBack, Done, Reclaimed}
-use Rattle.message_types.specs.declared.message.Message.{Message}
+use Rattle.message_types.specs.declared.message.Body.TheVariants.{GiveBack, Reclaimed}
 use Rattle.message_types.specs.declared.giving.Reclaimed.{Reclaimed as ReclaimedOf}
-use Rattle.message_types.specs.declared.telling.Done.{Done as DoneOf}
 use Rattle.run_rules.specs.declared.applied.Answer.{Answer}
 use Rattle.run_rules.specs.declared.applied.Leave.{Leave}
 use Rattle.run_rules.specs.declared.step.Cause.TheVariants.{End}
-use Rattle.script_lines.specs.declared.script.Deed.TheVariants.{Restart as Restarts}
-use Rattle.run_due.specs.Dutiful.{Never, NeverAt, NeverFrom, NeverIn, SaysTwice}
+use Rattle.run_due.specs.Dutiful.{Never, NeverIn, SaysTwice}
 
 -- an open call is left alone: nothing is asked, each give-back is known, and each server that was greeted welcomes
 pub record LeftAlone (past : List Step) (s : Step) : Type 0 where
@@ -170,6 +135,16 @@ abbrev pub EndsPartly : List Step → Step → Type 0
 EndsPartly past s = (l : Leave) × (s.cause ≡ End) × In l s.dropped × (l.why ≡ Ended)
     × (((t : Token) × Held past t × (Drops s t → ⊥)) ⊎ (NoneUsed past → ⊥))
 
+-- a give-back is sent that is known as applied
+abbrev pub GivesKnown : List Step → Step → Type 0
+GivesKnown past s = (v : ServerId) × (e : ℕ) × (n : ℕ) × (g : Give) × Sends s v e n (GiveBack g) × IsKnown (s ∷ past) g
+
+-- a token is taken twice, or dropped twice, for whatever causes, or a give-back is made twice
+abbrev pub ListsTwice : List Step → Step → Type 0
+ListsTwice past s = ((t : Token) × (ts : List Token) × (s.taken ≡ t ∷ t ∷ ts))
+    ⊎ (((l k : Leave) × (ls : List Leave) × (s.dropped ≡ l ∷ k ∷ ls) × (l.token ≡ k.token))
+    ⊎ ((g : Give) × (gs : List Give) × (s.made ≡ g ∷ g ∷ gs)))
+
 abbrev pub DoesServersWork : List Step → Step → Type 0
 DoesServersWork past s = ((n : ℕ) × (s.cause ≡ Restart n)) ⊎ (s.cause ≡ Flushed)
 
@@ -192,4 +167,6 @@ pub record HostsDo : Type 0 where
   pub ends_partly : Never EndsPartly
   pub bye : Never SaysByeHolding
   pub bye_again : Never SaysByeAgain
+  pub gives_known : Never GivesKnown
+  pub lists : Never ListsTwice
   pub servers_work : Never DoesServersWork

@@ -1,76 +1,40 @@
 -- What a server may not do, and what it may not leave undone.
-use Rattle.std.specs.Prelude.{◌≡◌, ◌≢◌, ◌<◌, ◌⊎◌, ℕ, true, List, [], ◌∷◌, length}
+use Rattle.std.specs.Prelude.{◌≡◌, ◌≢◌, ◌⊎◌, ℕ, true, List, []}
 use Rattle.base_types.specs.declared.ids.HostId.{HostId}
 use Rattle.base_types.specs.declared.ids.ServerId.{ServerId}
-use Rattle.base_types.specs.declared.ids.FilesetId.{FilesetId}
-use Rattle.base_types.specs.declared.ids.Node.TheVariants.{Host}
-use Rattle.tree_calls.specs.declared.call.Call.TheVariants.{Sync}
-use Rattle.tree_calls.specs.declared.place.Place.{Place}
-use Rattle.base_types.specs.declared.ids.Fid.{Fid}
 use Rattle.tree_answers.specs.declared.tree.Tree.{Tree}
 use Rattle.token_types.specs.declared.token.Token.{Token}
 use Rattle.token_types.specs.declared.token.TokenId.{TokenId}
-use Rattle.message_types.specs.declared.message.Body.TheVariants.{
-  Hello,
-  Fetch,
-  Change,
-  Restarted,
-  Gone,
-  Revoke,
-  Reclaim,
-  Bye,
-}
-use Rattle.message_types.specs.declared.asking.Fetch.{Fetch as FetchOf}
+use Rattle.message_types.specs.declared.message.Body.TheVariants.{Hello, Restarted, Gone, Revoke, Reclaim, Bye}
 use Rattle.message_types.specs.declared.asking.Change.{Change as ChangeOf}
-use Rattle.message_types.specs.declared.giving.Give.{Give}
 use Rattle.message_types.specs.declared.giving.AppliedGive.{AppliedGive}
 use Rattle.message_types.specs.declared.giving.Reclaim.{Reclaim as ReclaimOf}
 use Rattle.message_types.specs.declared.tokens.Revoke.{Revoke as RevokeOf}
 use Rattle.script_lines.specs.declared.script.Script.{Script}
 use Rattle.script_lines.specs.declared.script.Line.{Line}
-use Rattle.script_lines.specs.declared.script.Deed.TheVariants.{Await}
-use Rattle.run_rules.specs.declared.journal.Journal.{Journal}
-use Rattle.run_rules.specs.Doings.{Doing, HasGoneAway, HasReclaimed, HeardNow, IsLive, Listed, ListedNow, SentNow}
-use Rattle.run_rules.specs.Doings.{TakenNow, TookNow, after_cause, after_deciding, after_step, doings_of}
-use Rattle.run_rules.specs.HostDue.{HasBye, HasDirty, IsUnanswered}
-use Rattle.run_rules.specs.HostMay.{ClaimsAt, LearnsRestart}
-use Rattle.run_rules.specs.HostTokens.{MayEvict}
+use Rattle.run_rules.specs.Doings.{Doing, HasReclaimed, HeardNow, IsLive, ListedNow, SentNow}
+use Rattle.run_rules.specs.Doings.{TookNow, after_cause, after_deciding, after_step, epoch}
 use Rattle.run_rules.specs.Kept.{filesets_kept, filesets_through}
-use Rattle.run_rules.specs.Messages.{About, Asking, Changing, Comes, HasGreeted, HasSaid, HasStopped, IsWelcome, Says}
-use Rattle.run_rules.specs.Messages.{Sends, epoch_at}
-use Rattle.run_rules.specs.Past.{Always, In}
-use Rattle.run_rules.specs.Runs.{FlagsMet, HostIsDone, IsDutiful, IsEnded, IsLine, IsRaised, IsRun, TakesPart}
-use Rattle.run_rules.specs.Runs.{firsts_of, past_of}
+use Rattle.run_rules.specs.Past.{In}
 use Rattle.run_rules.specs.ServerDecides.{IsNewRequest, IsOfRow, NotRefused, RefusedOn}
 use Rattle.run_rules.specs.ServerMay.{HasRevoked, IsAskedBack}
 use Rattle.run_rules.specs.ServerTokens.{HasTakenGives}
-use Rattle.run_rules.specs.Steps.{IsBareStep, IsNextLine, limit_of, lines_gone, lines_of, servers_of, setup}
-use Rattle.run_rules.specs.Steps.{steps_of_host, steps_of_server}
-use Rattle.run_rules.specs.Tokens.{AtHand, Drops, FreesPinned, HasCall, Held, IsKnown, IsOpen, IsOutstanding, Made}
-use Rattle.run_rules.specs.Tokens.{NoneOpen, NoneUsed, end_of}
-use Rattle.run_rules.specs.Views.{FindsFile, IsDirtyUnder, Stance}
+use Rattle.run_rules.specs.Steps.{IsBareStep, IsNextLine, lines_of}
 use Rattle.run_rules.specs.Wants.{CanDecide, CanGrant, CanRefuse, IsQueued, has_effect, is_use}
 use Rattle.run_rules.specs.declared.applied.Request.TheVariants.{Change as Changes}
-use Rattle.run_rules.specs.declared.applied.Why.TheVariants.{Ended}
 use Rattle.run_rules.specs.declared.applied.Request.{Request}
 use Rattle.run_rules.specs.declared.applied.Wanted.{Wanted}
-use Rattle.run_rules.specs.declared.step.Asked.{Asked}
-use Rattle.run_rules.specs.declared.step.Cause.TheVariants.{Evict, Flushed, Lapse, Line as LineOf, Restart}
+use Rattle.run_rules.specs.declared.step.Cause.TheVariants.{Lapse, Line as LineOf, Message as Came}
+use Rattle.run_rules.specs.declared.step.Cause.TheVariants.{Restart}
 use Rattle.run_rules.specs.declared.step.Step.{Step}
-use Rattle.run_rules.specs.declared.step.Labelled.{Labelled}
 use Rattle.tree_calls.specs.declared.reply.Refusal.{Refusal}
-use Rattle.std.specs.Prelude.{◌++◌}
 use Rattle.base_types.specs.declared.ids.Node.TheVariants.{Server}
-use Rattle.message_types.specs.declared.message.Body.{Body}
-use Rattle.message_types.specs.declared.message.Body.TheVariants.{GiveBack, Done, Reclaimed}
+use Rattle.message_types.specs.declared.message.Body.TheVariants.{Done, Reclaimed}
 use Rattle.message_types.specs.declared.message.Message.{Message}
 use Rattle.message_types.specs.declared.giving.Reclaimed.{Reclaimed as ReclaimedOf}
 use Rattle.message_types.specs.declared.telling.Done.{Done as DoneOf}
-use Rattle.run_rules.specs.declared.applied.Answer.{Answer}
-use Rattle.run_rules.specs.declared.applied.Leave.{Leave}
-use Rattle.run_rules.specs.declared.step.Cause.TheVariants.{End}
 use Rattle.script_lines.specs.declared.script.Deed.TheVariants.{Restart as Restarts}
-use Rattle.run_due.specs.Dutiful.{Never, NeverAt, NeverFrom, NeverIn, SaysTwice}
+use Rattle.run_due.specs.Dutiful.{NeverAt, NeverFrom, SaysTwice}
 
 -- its kept filesets once the step has decided
 abbrev pub kept_now : Tree → ServerId → List Step → Step → Tree
@@ -137,6 +101,12 @@ WelcomesOld v past s = (h : HostId) × HeardNow s h Hello × IsLive past h × (L
 abbrev pub TellsStranger : ServerId → List Doing → Step → Type 0
 TellsStranger v past s = (h : HostId) × SentNow s h Restarted × (IsLive past h → ⊥)
 
+-- a host is told of a restart that speaks in the present epoch, and not to greet; or at a lapse, though it has reclaimed
+abbrev pub TellsAgain : ServerId → List Doing → Step → Type 0
+TellsAgain v past s = (h : HostId) × SentNow s h Restarted
+    × (((m : Message) × (s.cause ≡ Came m) × (m.epoch ≡ epoch past) × (m.body ≢ Hello))
+    ⊎ ((s.cause ≡ Lapse) × HasReclaimed past h))
+
 -- at a lapse it answers what didn't come: a give-back, a claim or a greeting, a Bye, a Change
 abbrev pub GivesUnasked : ServerId → List Doing → Step → Type 0
 GivesUnasked v past s = (h : HostId) × (n : AppliedGive) × SentNow s h (Gone n) × (s.cause ≡ Lapse)
@@ -170,6 +140,7 @@ pub record ServersDo : Type 0 where
   pub welcomes_old : NeverAt WelcomesOld
   pub twice : NeverAt (λ v past s. SaysTwice past s)
   pub restarted : NeverAt TellsStranger
+  pub restarted_again : NeverAt TellsAgain
   pub gones : NeverAt GivesUnasked
   pub reclaimed : NeverAt WelcomesUnasked
   pub byes : NeverAt EndsUnasked

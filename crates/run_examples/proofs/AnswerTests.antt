@@ -46,7 +46,8 @@ use Rattle.run_rules.specs.Doings.Doing.{Reserves}
 use Rattle.run_rules.specs.Kept.{filesets_kept, filesets_through}
 use Rattle.run_rules.specs.ServerDecides.{FirstDown, FirstGiven, ServerApplies, by_cause, decisions, ended_by}
 use Rattle.run_rules.specs.ServerDecides.{is_decision, stored_of}
-use Rattle.run_rules.specs.ServerDue.{ServerAnswers, ServerMeets, empty_reclaimed}
+use Rattle.run_rules.specs.ServerDue.{ServerAnswers, empty_reclaimed}
+use Rattle.run_tokens.specs.ServerRest.{ServerMeets}
 use Rattle.run_rules.specs.ServerMay.{OnlyAnswers}
 use Rattle.run_rules.specs.Steps.{IsNextLine, lines_gone, lines_of}
 use Rattle.run_rules.specs.Tokens.{number_of}
@@ -233,14 +234,20 @@ module _ (server : ServerId) (past : List Doing) (s : Step) where
           (and_from (live past h) (not (reclaimed past h)) (live_is past h l) (not_is (reclaimed past h) (λ e. n
           (reclaimed_yes past h e)))));
       restarted_only = λ h (k, i, at, is).
-          let a = is_restart s.cause || is_lapse s.cause in
+          let b = is_lapse s.cause && not (reclaimed past k.host) in
+          let a = is_restart s.cause || b in
           let p = so (is_restarted k.body) (live past k.host && a) (at_all
           (restarted_only past s.cause) s.sent k t.1.1.1.1.0 i) (subst (λ b. is_restarted b ≡ true) (sym is) refl) in
           let q = and_parts (live past k.host) a p in (
             subst (λ y. IsLive past y) at (live_yes past k.host q.0),
-            elim (or_cases (is_restart s.cause) (is_lapse s.cause) q.1) [
-              | inl x ↦ inr (inl (restart_cause s.cause x))
-              | inr x ↦ inr (inr (lapse_cause s.cause x))
+            elim (or_cases (is_restart s.cause) b q.1) [
+              | inl x ↦ inr (inr (inl (restart_cause s.cause x)))
+              | inr x ↦ (let r = and_parts (is_lapse s.cause) (not (reclaimed past k.host)) x in
+                  inr (inr (inr (
+                    lapse_cause s.cause r.0,
+                    λ z. is_not (reclaimed past k.host) r.1
+                        (reclaimed_is past k.host (subst (λ y. HasReclaimed past y) (sym at) z)),
+                  ))))
             ],
           );
       gone = λ h n g x at_.

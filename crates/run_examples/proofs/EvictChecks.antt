@@ -3,7 +3,7 @@
 use Rattle.std.proofs.Common.{Bool, List, Some, [], arith, inl, inr, length, refl, subst, suc, sym, true}
 use Rattle.std.proofs.Common.{ℕ, ◌||◌, ◌==◌, ◌∙◌, ◌∷◌, ◌≡◌}
 use Rattle.std.proofs.lemmas.Bool.{eqb-true, or_cases}
-use Rattle.std.specs.Prelude.{not}
+use Rattle.std.specs.Prelude.{map, not}
 use Rattle.std.specs.List.{list_all, list_any}
 use Rattle.base_types.specs.declared.ids.HostId.{HostId}
 use Rattle.base_types.specs.declared.ids.ServerId.{ServerId}
@@ -18,7 +18,7 @@ use Rattle.run_rules.specs.HostDue.{HostDue, LeavesDue}
 use Rattle.run_rules.specs.HostMay.{HostLines, HostMay}
 use Rattle.run_rules.specs.HostTokens.{HostLeaves, IsOldest, IsUnused, LastUsed, MayEvict, MayLeave, UsesToken}
 use Rattle.run_rules.specs.HostTokens.{helps_cover}
-use Rattle.run_rules.specs.Past.{In}
+use Rattle.run_rules.specs.Past.{EachOnce, In}
 use Rattle.run_rules.specs.Steps.{limit_of, lines_of, servers_of}
 use Rattle.run_rules.specs.Tokens.{AtHand}
 use Rattle.run_rules.specs.declared.applied.Why.TheVariants.{Evicted}
@@ -26,7 +26,7 @@ use Rattle.run_rules.specs.declared.applied.Answer.{Answer}
 use Rattle.run_rules.specs.declared.applied.Leave.{Leave}
 use Rattle.run_rules.specs.declared.step.Cause.TheVariants.{Line as LineOf, Restart, Evict, End, Flushed}
 use Rattle.run_rules.specs.declared.step.Step.{Step}
-use Rattle.run_examples.proofs.Tests.{AllTrue, all_true, apart, from_filter, is_none, is_not, none_in, none_is, passes}
+use Rattle.run_examples.proofs.Tests.{AllTrue, all_true, apart, fids, from_filter, is_none, is_not, none_in, none_is, passes}
 use Rattle.run_examples.proofs.Tests.{at_all, same_token, some_in, token_is, tokens}
 use Rattle.run_examples.proofs.Words.{held, in_held}
 use Rattle.run_examples.proofs.TokenChecks.{is_down, says, stops_it, token_tests, tokens_meet}
@@ -36,9 +36,9 @@ use Rattle.run_examples.proofs.StanceChecks.{once_from, stance_of, stance_tests}
 use Rattle.run_examples.proofs.AnswerChecks.{answer_tests, answers_meet, needs_at}
 use Rattle.run_examples.proofs.AskTests.{all_asked, asking_tests}
 use Rattle.run_examples.proofs.GiveChecks.{give_tests, gives_meet, recall_tests, revoked_meet, revokes_due}
-use Rattle.run_examples.proofs.HostChecks.{are_alike, calls_due, sent_once}
+use Rattle.run_examples.proofs.HostChecks.{are_alike, calls_due, same_gift, sent_once}
 use Rattle.run_examples.specs.Laws.{Does}
-use Rattle.run_examples.proofs.LapseChecks.{repeats_due, resend_tests, resends_meet, take_tests, takes_meet}
+use Rattle.run_examples.proofs.LapseChecks.{repeats_due, resend_tests, resends_meet, take_tests, taken_once, takes_meet}
 use Rattle.run_examples.proofs.LeaveChecks.{end_tests, ends_meet, idle, idle_in, none_open_is}
 
 -- a step uses a token
@@ -116,6 +116,7 @@ evict_tests site script host user before last s t =
     ∷ is_none s.admitted
     ∷ is_none s.reserved
     ∷ apart are_alike s.sent
+    ∷ apart same_gift s.made
     ∷ []
 
 module _ (site : ServerId) (script : Script) (host : HostId) (user : User) (before : List Step) (last s : Step)
@@ -215,6 +216,9 @@ module _ (site : ServerId) (script : Script) (host : HostId) (user : User) (befo
         repeats = repeats_due site past s all.1.1.1.1.1.1.1.0;
         leaves = leaves_one may idles;
         once = sent_once s.sent rest.1.1.1.1.1.0;
+        once_taken = taken_once past s all.1.1.0;
+        once_dropped = subst (λ (ls : List Leave). EachOnce (map (λ l. l.token) ls)) (sym leaves) (λ m. elim m [ ], tt);
+        once_made = once_from same_gift s.made (λ g. fids g.fid g.fid refl) rest.1.1.1.1.1.1.0;
       }
 
   pub evict_does : Does script host past s

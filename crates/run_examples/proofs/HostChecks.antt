@@ -9,12 +9,13 @@ use Rattle.script_lines.specs.declared.script.Script.{Script}
 use Rattle.base_types.specs.Ids.{same_fid}
 use Rattle.base_types.specs.declared.ids.Fid.{Fid}
 use Rattle.message_types.specs.Soundness.{no_fid}
+use Rattle.message_types.specs.declared.giving.Give.{Give}
 use Rattle.message_types.specs.declared.message.Body.{Body}
 use Rattle.message_types.specs.declared.message.Body.TheVariants.{GiveBack, Kept, Returned}
 use Rattle.message_types.specs.declared.message.Message.{Message}
 use Rattle.std.proofs.lemmas.Bool.{and_from, and_parts}
 use Rattle.std.specs.List.{list_all}
-use Rattle.std.specs.Prelude.{not}
+use Rattle.std.specs.Prelude.{map, not}
 use Rattle.run_rules.specs.HostDue.{CallsDue, HostDue}
 use Rattle.run_rules.specs.HostMay.{HostMay}
 use Rattle.run_rules.specs.Past.{EachOnce}
@@ -22,13 +23,13 @@ use Rattle.run_rules.specs.Plans.{kind_of}
 use Rattle.run_rules.specs.Steps.{limit_of, lines_of, servers_of}
 use Rattle.run_examples.specs.Laws.{Does}
 use Rattle.run_rules.specs.declared.step.Step.{Step}
-use Rattle.run_examples.proofs.Tests.{all_true, apart, at_all, fids, is_not, passes, same_is}
+use Rattle.run_examples.proofs.Tests.{all_true, apart, at_all, fids, ids, is_not, passes, same_is}
 use Rattle.run_examples.proofs.TokenChecks.{token_tests, tokens_meet}
-use Rattle.run_examples.proofs.StanceChecks.{stance_of, stance_tests}
+use Rattle.run_examples.proofs.StanceChecks.{once_from, stance_of, stance_tests}
 use Rattle.run_examples.proofs.AnswerChecks.{answer_tests, answers_meet, frees_meet, syncs_meet}
 use Rattle.run_examples.proofs.AskTests.{all_asked, asking_tests, greets_right_at}
 use Rattle.run_examples.proofs.GiveChecks.{give_tests, gives_meet, recall_tests, revoked_meet, revokes_due}
-use Rattle.run_examples.proofs.LapseChecks.{repeats_due, resend_tests, resends_meet, take_tests, takes_meet}
+use Rattle.run_examples.proofs.LapseChecks.{repeats_due, resend_tests, resends_meet, same_token_id, take_tests, taken_once, takes_meet}
 use Rattle.run_examples.proofs.LeaveChecks.{end_tests, ends_meet, leave_tests, leaves_due, leaves_meet, line_tests}
 use Rattle.run_examples.proofs.LeaveChecks.{lines_meet}
 use Rattle.run_examples.proofs.LabelWords.{is_local}
@@ -42,6 +43,10 @@ file_in _ = no_fid
 
 abbrev pub are_alike : Message → Message → Bool
 are_alike m k = (kind_of m.body == kind_of k.body) && same_fid (file_in m.body) (file_in k.body)
+
+-- give-backs of one file
+abbrev pub same_gift : Give → Give → Bool
+same_gift g k = same_fid g.fid k.fid
 
 pub sent_once : (ms : List Message) → apart are_alike ms ≡ true → EachOnce ms
 sent_once [] e = tt
@@ -81,6 +86,8 @@ host_tests site script host user past s =
     ∷ passes (end_tests site (lines_of script (Host host)) (limit_of script.roster host) past s)
     ∷ is_local site past
     ∷ apart are_alike s.sent
+    ∷ apart same_token_id (map (λ l. l.token) s.dropped)
+    ∷ apart same_gift s.made
     ∷ []
 
 pub host_meets : (site : ServerId) (script : Script) (host : HostId) (user : User) (past : List Step) (s : Step)
@@ -119,6 +126,10 @@ host_due site script host user past s acts e =
       leaves = leaves_due site user (lines_of script (Host host)) (limit_of script.roster host) past s
           t.1.1.1.1.1.1.1.1.0 t.1.1.1.1.1.1.1.1.1.1.0;
       once = sent_once s.sent t.1.1.1.1.1.1.1.1.1.1.1.1.0;
+      once_taken = taken_once past s t.1.1.0;
+      once_dropped = once_from same_token_id (map (λ l. l.token) s.dropped) (λ k. ids k.id k.id refl)
+          t.1.1.1.1.1.1.1.1.1.1.1.1.1.0;
+      once_made = once_from same_gift s.made (λ g. fids g.fid g.fid refl) t.1.1.1.1.1.1.1.1.1.1.1.1.1.1.0;
     }
 
 pub host_does : (site : ServerId) (script : Script) (host : HostId) (user : User) (past : List Step) (s : Step)

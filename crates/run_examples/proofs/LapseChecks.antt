@@ -23,12 +23,13 @@ use Rattle.run_rules.specs.HostDue.{HasBye, IsNoGiveBack, IsUnanswered, RepeatsD
 use Rattle.run_rules.specs.HostMay.{AwaitsReclaimed, ClaimsAt, HostResends, LearnsRestart}
 use Rattle.run_rules.specs.HostTokens.{HostTakes}
 use Rattle.run_rules.specs.Messages.{Comes, ComesIn, HasGreeted, HasSaid, Said, Sends, Stay, epoch_at, stay_of}
-use Rattle.run_rules.specs.Past.{In}
+use Rattle.run_rules.specs.Past.{EachOnce, In}
 use Rattle.run_rules.specs.Tokens.{number_of}
 use Rattle.run_rules.specs.declared.step.Asked.{Asked}
 use Rattle.run_rules.specs.declared.step.Cause.{Cause}
 use Rattle.run_rules.specs.declared.step.Cause.TheVariants.{Message as Came, Lapse}
 use Rattle.run_rules.specs.declared.step.Step.{Step}
+use Rattle.run_examples.proofs.StanceChecks.{once_from}
 use Rattle.run_examples.proofs.Tests.{AllTrue, passes, all_true, implies, so, is_not, not_is, at_all, some_in}
 use Rattle.run_examples.proofs.Tests.{any_of, apart}
 use Rattle.run_examples.proofs.Tests.{is_none, none_in, none_is, only_one, same_server, server_is, servers, same_give, give_is}
@@ -384,6 +385,11 @@ again_right site past s m b = not (is_again site past m b) || (is_lapse s.cause 
 abbrev pub bye_once : List Step → Message → Bool
 bye_once past m = implies (is_bye m.body) (not (has_bye past m.server && said_bye past m.server))
 
+-- a give-back is outstanding
+abbrev pub gives_out : List Step → Body → Bool
+gives_out past (GiveBack g) = list_any (same_give g) (made past) && is_first past g
+gives_out past _ = true
+
 unfoldable pub resend_tests : ServerId → List Step → Step → List Bool
 resend_tests site past s =
     implies (is_lapse s.cause) (passes (lapse_tests site past s))
@@ -393,6 +399,7 @@ resend_tests site past s =
     ∷ is_local site past
     ∷ list_all (λ m. again_right site past s m m.body) s.sent
     ∷ list_all (bye_once past) s.sent
+    ∷ list_all (λ m. gives_out (s ∷ past) m.body) s.sent
     ∷ []
 
 pub not_asked : (o : Option Asked) → no_asked o ≡ true → o ≡ None
@@ -727,6 +734,13 @@ repeats_due site past s e =
           let t = at_sends (bye_once past) s v d n Bye t.1.1.1.1.1.1.0 p in
           is_not (has_bye past v && said_bye past v) t
           (and_from (has_bye past v) (said_bye past v) (has_bye_is past v bye_) (said_bye_is past v said_));
+      gives_only = λ v d n g p.
+          let q : gives_out (s ∷ past) (GiveBack g) ≡ true = at_sends
+          (λ m. gives_out (s ∷ past) m.body) s v d n (GiveBack g) t.1.1.1.1.1.1.1.0 p in
+          let r = and_parts (list_any (same_give g) (made (s ∷ past))) (is_first (s ∷ past) g) q in
+          let k = some_in (same_give g) (made (s ∷ past)) r.0 in
+          first_yes (s ∷ past) g (in_made (s ∷ past) g (subst (λ x. In x (made (s ∷ past))) (sym
+          (give_is g k.0 k.2)) k.1)) r.1;
     }
 
 -- tokens that are taken
@@ -758,3 +772,8 @@ takes_meet past s e =
           ];
       once = λ k u m n is. only_one same_token_id s.taken k u t.1.0 m n (ids k.id u.id is);
     }
+
+pub taken_once : (past : List Step) (s : Step) → passes (take_tests past s) ≡ true → EachOnce s.taken
+unfolding take_tests
+taken_once past s e =
+    let t = all_true (take_tests past s) e in once_from same_token_id s.taken (λ k. ids k.id k.id refl) t.1.0

@@ -91,7 +91,8 @@ bye_only past cause k =
 
 unfoldable pub restarted_only : List Doing → Cause → Message → Bool
 restarted_only past cause k =
-    implies (is_restarted k.body) (live past k.host && (is_restart cause || is_lapse cause))
+    implies (is_restarted k.body) (live past k.host && (is_restart cause || (is_lapse cause && not
+    (reclaimed past k.host))))
 
 unfoldable pub tells_restart : List Doing → Step → HostId → Bool
 tells_restart past s h = implies (live past h) (sends_to s h is_restarted)

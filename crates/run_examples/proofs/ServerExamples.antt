@@ -25,7 +25,8 @@ use Rattle.run_rules.specs.Doings.{Doing, doings_of}
 use Rattle.run_rules.specs.Kept.{filesets_kept, filesets_through, tree_given}
 use Rattle.run_rules.specs.Messages.{IsWelcome, home}
 use Rattle.run_rules.specs.Past.{In}
-use Rattle.run_rules.specs.ServerDue.{ServerDue, ServerMeets}
+use Rattle.run_rules.specs.ServerDue.{ServerDue}
+use Rattle.run_tokens.specs.ServerRest.{ServerMeets}
 use Rattle.run_rules.specs.ServerMay.{ServerMay, TellsKept}
 use Rattle.run_rules.specs.Views.{part_told}
 use Rattle.run_tokens.specs.JournalWorked.{script}

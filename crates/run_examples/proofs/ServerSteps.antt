@@ -27,7 +27,7 @@ use Rattle.tree_laws.specs.Parts.Part.{ByteAt, Entries, Size, Traits}
 use Rattle.run_rules.specs.Doings.{Doing, doings_of}
 use Rattle.run_rules.specs.Kept.{filesets_kept, filesets_through}
 use Rattle.run_rules.specs.Past.{In}
-use Rattle.run_rules.specs.ServerDue.{ServerMeets}
+use Rattle.run_tokens.specs.ServerRest.{ServerMeets}
 use Rattle.run_rules.specs.ServerMay.{TellsKept}
 use Rattle.run_rules.specs.Steps.{steps_of_server}
 use Rattle.run_rules.specs.Views.{part_told}

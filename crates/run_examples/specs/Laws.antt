@@ -10,7 +10,8 @@ use Rattle.run_rules.specs.HostMay.{HostMay}
 use Rattle.run_rules.specs.HostTokens.{LastUsed}
 use Rattle.run_rules.specs.Messages.{IsWelcome}
 use Rattle.run_rules.specs.Past.{In}
-use Rattle.run_rules.specs.ServerDue.{ServerDue, ServerMeets}
+use Rattle.run_rules.specs.ServerDue.{ServerDue}
+use Rattle.run_tokens.specs.ServerRest.{ServerMeets}
 use Rattle.run_rules.specs.ServerMay.{ServerMay}
 use Rattle.base_types.specs.declared.ids.Node.TheVariants.{Server}
 use Rattle.script_lines.specs.declared.script.Deed.TheVariants.{Call as MakesCall, Restart, Stop}

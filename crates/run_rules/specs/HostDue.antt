@@ -1,5 +1,5 @@
 -- What is due of a host: what it sends again, and when. That runs end rests on it, and no law of safety does.
-use Rattle.std.specs.Prelude.{List, None, [], ℕ, ◌∷◌, ◌≡◌, ◌⊎◌}
+use Rattle.std.specs.Prelude.{List, None, [], map, ℕ, ◌∷◌, ◌≡◌, ◌⊎◌}
 use Rattle.base_types.specs.declared.ids.Fid.{Fid}
 use Rattle.base_types.specs.declared.ids.HostId.{HostId}
 use Rattle.base_types.specs.declared.ids.ServerId.{ServerId}
@@ -114,6 +114,8 @@ pub record RepeatsDue (past : List Step) (s : Step) : Type 0 where
   pub again_only : (v : ServerId) (e n : ℕ) (b : Body) → Sends s v e n b → IsUnanswered past v n b
       → (s.cause ≡ Lapse) ⊎ SendsAgain past s v b
   pub bye_again : (v : ServerId) → Says s v Bye → HasSaid past v Bye → HasBye past v → ⊥
+  -- a give-back that is sent is outstanding then: none goes again once it is known as applied
+  pub gives_only : (v : ServerId) (e n : ℕ) (g : Give) → Sends s v e n (GiveBack g) → IsOutstanding (s ∷ past) g
 
 -- what leaves it
 pub record LeavesDue (limit : ℕ) (past : List Step) (s : Step) : Type 0 where
@@ -155,5 +157,8 @@ pub record HostDue (script : Script) (host : HostId) (past : List Step) (s : Ste
       → RevokeDue past s r i
   pub repeats : RepeatsDue past s
   pub leaves : LeavesDue (limit_of script.roster host) past s
-  -- each message is sent once
+  -- each message is sent once, each token is taken and dropped once, and each give-back made once
   pub once : EachOnce s.sent
+  pub once_taken : EachOnce s.taken
+  pub once_dropped : EachOnce (map (λ l. l.token) s.dropped)
+  pub once_made : EachOnce s.made

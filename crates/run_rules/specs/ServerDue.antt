@@ -17,7 +17,6 @@ use Rattle.message_types.specs.declared.giving.AppliedGive.{AppliedGive}
 use Rattle.message_types.specs.declared.giving.Give.{Give}
 use Rattle.message_types.specs.declared.giving.Reclaim.{Reclaim as ReclaimOf}
 use Rattle.message_types.specs.declared.giving.Reclaimed.{Reclaimed as ReclaimedOf}
-use Rattle.message_types.specs.declared.message.Body.{Body}
 use Rattle.message_types.specs.declared.message.Body.TheVariants.{Bye, Change, Done, Down, GiveBack, Gone, Hello}
 use Rattle.message_types.specs.declared.message.Body.TheVariants.{Reclaim, Reclaimed, Restarted, Revoke}
 use Rattle.message_types.specs.declared.message.Message.{Message}
@@ -30,7 +29,7 @@ use Rattle.run_rules.specs.Doings.{after_step, epoch}
 use Rattle.run_rules.specs.Kept.{filesets_kept, filesets_through}
 use Rattle.run_rules.specs.Past.{EachOnce, In}
 use Rattle.run_rules.specs.ServerDecides.{IsDecidedHere, IsNewRequest, IsOfRow, NotRefused, RefusedOn}
-use Rattle.run_rules.specs.ServerMay.{HasRevoked, HasWritten, IsAskedBack, IsLast, IsOwed, ServerMay}
+use Rattle.run_rules.specs.ServerMay.{HasRevoked, HasWritten, IsAskedBack, IsLast, IsOwed}
 use Rattle.run_rules.specs.ServerTokens.{HasTakenGives}
 use Rattle.run_rules.specs.Steps.{IsBareStep, IsNextLine, lines_of}
 use Rattle.run_rules.specs.Tokens.{NamesGive, number_of}
@@ -64,6 +63,13 @@ abbrev pub AdmitsNow : ServerId → List Doing → Step → HostId → ReclaimOf
 AdmitsNow server past s host claim = ((c : Admission) × In c s.admitted × (c.host ≡ host))
     × ((answer : ReclaimedOf) × SentNow s host (Reclaimed answer) × AnswersClaim server past host claim answer)
 
+-- when a live host is told of a restart: it says Hello, and came on the list in an older epoch; it says something else,
+-- but Down, in another epoch; the server restarts; at a lapse, until it has reclaimed
+abbrev pub HearsOfRestart : List Doing → Step → HostId → Type 0
+HearsOfRestart past s h = (HeardNow s h Hello × (ListedNow past h → ⊥))
+    ⊎ (((m : Message) × (s.cause ≡ Came m) × (m.host ≡ h) × (m.epoch ≢ epoch past) × (m.body ≢ Hello) × (m.body ≢ Down))
+    ⊎ (((line : ℕ) × (s.cause ≡ Restart line)) ⊎ ((s.cause ≡ Lapse) × (HasReclaimed past h → ⊥))))
+
 -- What a server has to answer at once, and to tell by itself.
 pub record ServerAnswers (server : ServerId) (past : List Doing) (s : Step) : Type 0 where
   -- a Hello of a live host that came on the list in an older epoch is answered by Restarted; any other, but of a
@@ -81,8 +87,7 @@ pub record ServerAnswers (server : ServerId) (past : List Doing) (s : Step) : Ty
   pub restarted : (line : ℕ) (h : HostId) → s.cause ≡ Restart line → IsLive past h → SentNow s h Restarted
   pub restarted_again : (h : HostId) → s.cause ≡ Lapse → IsLive past h → (HasReclaimed past h → ⊥)
       → SentNow s h Restarted
-  pub restarted_only : (h : HostId) → SentNow s h Restarted → IsLive past h
-      × (((body : Body) × HeardNow s h body) ⊎ (((line : ℕ) × (s.cause ≡ Restart line)) ⊎ (s.cause ≡ Lapse)))
+  pub restarted_only : (h : HostId) → SentNow s h Restarted → IsLive past h × HearsOfRestart past s h
   -- a give-back that is taken was applied, now or earlier, and is answered by Gone
   pub gone : (h : HostId) (n : ℕ) (g : Give) → TakenNow past s h n (GiveBack g) → Here server past g.fid.fileset n
       → SentNow s h (Gone (number_of g))
@@ -173,10 +178,3 @@ pub record ServerDue
         (after_deciding s past) s
     pub sent : HasSent server (filesets_through s.cause s.applied (filesets_kept start server steps)) past
         (after_step s past) s
-
--- all rules of a server
-pub record ServerMeets
-    (script : Script) (start : Tree) (server : ServerId) (steps : List Step) (past : List Doing) (s : Step) : Type 0
-  where
-    pub may : ServerMay script start server steps past s
-    pub due : ServerDue script start server steps past s

@@ -156,6 +156,7 @@ module _ (roster : Roster) (host : HostId) (past : List Step) (rest : IsAtRest r
     reclaimed_all = λ v n r b c. absurd (none_comes _ _ _ _ c);
     again_only = λ v e n b p. absurd (none_sent _ _ _ _ p);
     bye_again = λ v b. absurd (none_sent _ _ _ _ b.2);
+    gives_only = λ v e n g p. absurd (none_sent _ _ _ _ p);
   }
 
   leaves : (limit : ℕ) → HostLeaves roster host limit past s
@@ -242,6 +243,9 @@ due_step script host past rest = record {
   repeats = repeats script.roster host past rest;
   leaves = leaves_due script.roster host past rest (limit_of script.roster host);
   once = tt;
+  once_taken = tt;
+  once_dropped = tt;
+  once_made = tt;
 }
 
 pub may_rest : HostMayRest

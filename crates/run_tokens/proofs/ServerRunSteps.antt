@@ -14,7 +14,8 @@ use Rattle.run_rules.specs.Messages.{home}
 use Rattle.run_rules.specs.Past.{EachOnce, In}
 use Rattle.run_rules.specs.ServerDecides.{IsDecidedHere, IsNewRequest, RefusedOn, ServerApplies, by_cause, decisions}
 use Rattle.run_rules.specs.ServerDecides.{is_decision, kept_reply}
-use Rattle.run_rules.specs.ServerDue.{HasDecided, HasSent, IsOfChange, ServerAnswers, ServerLines, ServerMeets}
+use Rattle.run_rules.specs.ServerDue.{HasDecided, HasSent, IsOfChange, ServerAnswers, ServerLines}
+use Rattle.run_tokens.specs.ServerRest.{ServerMeets}
 use Rattle.run_rules.specs.ServerMay.{AnswersSo, AreNeeds, DoneFor, GrantsSo, HasWritten, MaySend, NoHostStep}
 use Rattle.run_rules.specs.ServerMay.{OnlyAnswers}
 use Rattle.run_rules.specs.ServerMay.AnsweredSo.{IsEntered}

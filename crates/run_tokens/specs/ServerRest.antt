@@ -1,8 +1,8 @@
 -- A server that is settled may do nothing: then no rule is in another's way.
 use Rattle.run_rules.specs.Doings.{Doing, NoGrace}
 use Rattle.run_rules.specs.Kept.{filesets_kept}
-use Rattle.run_rules.specs.ServerDue.{ServerMeets}
-use Rattle.run_rules.specs.ServerMay.{IsAskedBack, IsOwed}
+use Rattle.run_rules.specs.ServerDue.{ServerDue}
+use Rattle.run_rules.specs.ServerMay.{IsAskedBack, IsOwed, ServerMay}
 use Rattle.run_rules.specs.Steps.{bare}
 use Rattle.run_rules.specs.Wants.{CanDecide, CanGrant, IsQueued}
 use Rattle.run_rules.specs.declared.applied.Request.TheVariants.{Change as Changes, Fetch as Asks}
@@ -26,6 +26,13 @@ pub record IsSettled (server : ServerId) (tree : Tree) (past : List Doing) : Typ
   pub changes : (w : Wanted) (c : ChangeOf) → IsQueued past w → w.request ≡ Changes c → CanDecide server past w → ⊥
   pub none_asked_back : (t : Token) → IsAskedBack server past t → ⊥
   pub none_owed : (t : Token) → IsOwed server past t → ⊥
+
+-- all rules of a server
+pub record ServerMeets
+    (script : Script) (start : Tree) (server : ServerId) (steps : List Step) (past : List Doing) (s : Step) : Type 0
+  where
+    pub may : ServerMay script start server steps past s
+    pub due : ServerDue script start server steps past s
 
 abbrev pub ServerMayRest : Type 0
 ServerMayRest = (script : Script) (start : Tree) (server : ServerId) (steps : List Step) (past : List Doing)

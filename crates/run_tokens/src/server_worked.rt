@@ -1,7 +1,7 @@
 ghost use Rattle.std.specs.Prelude.{[], ◌∷◌};
 ghost use Rattle.tree_objects.specs.Spans.{whole};
 ghost use Rattle.run_rules.specs.Doings.{doings_of};
-ghost use Rattle.run_rules.specs.ServerDue.{ServerMeets};
+ghost use Rattle.run_tokens.specs.ServerRest.{ServerMeets};
 ghost use Rattle.run_tokens.specs.Worked.{site_one, welcomes, tells, grants};
 ghost use Rattle.run_tokens.specs.JournalWorked.{script, start};
 
