@@ -14,7 +14,8 @@ use Rattle.message_types.specs.declared.giving.Give.{Give}
 use Rattle.message_types.specs.declared.giving.Reclaim.{Reclaim as ReclaimOf}
 use Rattle.message_types.specs.declared.tokens.Revoke.{Revoke as RevokeOf}
 use Rattle.script_lines.specs.declared.script.Script.{Script}
-use Rattle.run_rules.specs.HostDue.{HasBye, HasDirty, IsUnanswered}
+use Rattle.run_rules.specs.HostDue.{HasDirty, IsUnanswered}
+use Rattle.run_rules.specs.Messages.{HasBye}
 use Rattle.run_rules.specs.HostMay.{ClaimsAt, LearnsRestart}
 use Rattle.run_rules.specs.HostTokens.{MayEvict}
 use Rattle.run_rules.specs.Messages.{About, Asking, Changing, Comes, HasGreeted, HasSaid, HasStopped, IsWelcome, Says}

@@ -101,7 +101,8 @@ WelcomesOld v past s = (h : HostId) × HeardNow s h Hello × IsLive past h × (L
 abbrev pub TellsStranger : ServerId → List Doing → Step → Type 0
 TellsStranger v past s = (h : HostId) × SentNow s h Restarted × (IsLive past h → ⊥)
 
--- a host is told of a restart that speaks in the present epoch, and not to greet; or at a lapse, though it has reclaimed
+-- a host is told of a restart that speaks in the present epoch, and says no Hello; or at a lapse, though it has
+-- reclaimed
 abbrev pub TellsAgain : ServerId → List Doing → Step → Type 0
 TellsAgain v past s = (h : HostId) × SentNow s h Restarted
     × (((m : Message) × (s.cause ≡ Came m) × (m.epoch ≡ epoch past) × (m.body ≢ Hello))

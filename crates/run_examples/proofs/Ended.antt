@@ -35,7 +35,7 @@ use Rattle.std.specs.List.{list_all}
 use Rattle.std.specs.Prelude.{codes, ◌⊎◌}
 use Rattle.run_examples.proofs.Due.{due_52}
 use Rattle.run_rules.specs.Doings.{HasGoneAway, Listed, doings_of}
-use Rattle.run_rules.specs.HostDue.{HasBye}
+use Rattle.run_rules.specs.Messages.{HasBye}
 use Rattle.run_rules.specs.Messages.{ComesIn, HasGreeted, home}
 use Rattle.run_rules.specs.Runs.{HostIsDone, IsDutiful, IsEnded, IsRun, IsValid, TakesPart, firsts_of}
 use Rattle.run_rules.specs.Steps.{lines_gone, lines_of, setup, steps_of_host, steps_of_server}

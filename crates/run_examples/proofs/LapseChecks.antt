@@ -19,7 +19,8 @@ use Rattle.message_types.specs.declared.message.Body.TheVariants.{GiveBack}
 use Rattle.message_types.specs.declared.message.Body.TheVariants.{Reclaim, Reclaimed, Restarted, Bye}
 use Rattle.message_types.specs.declared.message.Message.{Message}
 use Rattle.message_types.specs.declared.telling.Bring.{Bring}
-use Rattle.run_rules.specs.HostDue.{HasBye, IsNoGiveBack, IsUnanswered, RepeatsDue, SendsAgain}
+use Rattle.run_rules.specs.HostDue.{IsNoGiveBack, IsUnanswered, RepeatsDue, SendsAgain}
+use Rattle.run_rules.specs.Messages.{HasBye}
 use Rattle.run_rules.specs.HostMay.{AwaitsReclaimed, ClaimsAt, HostResends, LearnsRestart}
 use Rattle.run_rules.specs.HostTokens.{HostTakes}
 use Rattle.run_rules.specs.Messages.{Comes, ComesIn, HasGreeted, HasSaid, Said, Sends, Stay, epoch_at, stay_of}

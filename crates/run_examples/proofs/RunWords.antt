@@ -15,7 +15,7 @@ use Rattle.std.specs.List.{list_all}
 use Rattle.std.specs.Prelude.{not, slice_get, ◌⊎◌}
 use Rattle.run_rules.specs.Doings.{Doing, SentTo, doings_of}
 use Rattle.run_rules.specs.Doings.Doing.{Sent}
-use Rattle.run_rules.specs.HostDue.{HasBye}
+use Rattle.run_rules.specs.Messages.{HasBye}
 use Rattle.run_rules.specs.Messages.{HasGreeted, HasStopped, Said}
 use Rattle.run_rules.specs.Past.{In}
 use Rattle.run_rules.specs.Runs.{CameToHost, CameToServer, FlagsMet, firsts_of}

@@ -18,7 +18,8 @@ use Rattle.script_lines.specs.declared.script.Script.{Script}
 use Rattle.run_rules.specs.HostMay.{CanAnswer, HostMay}
 use Rattle.run_rules.specs.Messages.{ComesIn}
 use Rattle.run_rules.specs.Past.{Always, In}
-use Rattle.run_rules.specs.Runs.{StepMeets, StepsMeet, firsts_of, past_of, tree_at}
+use Rattle.run_rules.specs.Runs.{StepMeets, StepsMeet, firsts_of, past_of}
+use Rattle.run_tokens.specs.Pasts.{tree_at}
 use Rattle.run_rules.specs.Steps.{steps_of_host}
 use Rattle.run_rules.specs.Tokens.{BeginsCall, NoneOpen, Uses}
 use Rattle.run_rules.specs.Views.{look_of, sees}

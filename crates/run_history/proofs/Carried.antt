@@ -4,7 +4,8 @@ use Rattle.std.specs.Prelude.{[]}
 use Rattle.tree_answers.specs.declared.tree.Tree.{Tree}
 use Rattle.run_examples.proofs.Ended.{is_whole}
 use Rattle.run_examples.specs.Journal.{journal, script, start}
-use Rattle.run_rules.specs.Runs.{IsLegalPast, IsRun, IsValid, firsts_of, past_of, tree_at}
+use Rattle.run_rules.specs.Runs.{IsRun, IsValid, firsts_of, past_of}
+use Rattle.run_tokens.specs.Pasts.{IsLegalPast, tree_at}
 use Rattle.run_tokens.specs.CacheLaws.{CachedExactly}
 use Rattle.run_history.proofs.EndedLaw.{ended_runs_may_be_followed}
 use Rattle.run_history.proofs.Law.{caches_are_exact, histories_make_the_tree, runs_are_legal}

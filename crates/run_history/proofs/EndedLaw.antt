@@ -12,7 +12,8 @@ use Rattle.need_server.specs.Kept.{kept_tree}
 use Rattle.script_lines.specs.declared.script.Script.{Script}
 use Rattle.tree_laws.specs.Parts.{Cell, Part, Seen, cell_at}
 use Rattle.run_rules.specs.Kept.{filesets_kept}
-use Rattle.run_rules.specs.Runs.{IsEnded, IsRun, IsValid, firsts_of, history, past_of, tree_at}
+use Rattle.run_rules.specs.Runs.{IsEnded, IsRun, IsValid, firsts_of, past_of}
+use Rattle.run_tokens.specs.Pasts.{history, tree_at}
 use Rattle.run_rules.specs.Steps.{steps_of_server}
 use Rattle.run_history.proofs.Ended.{nothing_unsaved}
 use Rattle.run_history.proofs.Instance.{contents_of, is_of_run}

@@ -14,7 +14,8 @@ use Rattle.run_rules.specs.Doings.{HasGoneAway, doings_of}
 use Rattle.run_rules.specs.HostMay.{DoesLine, HostMay}
 use Rattle.run_rules.specs.Messages.{HasStopped, Stops}
 use Rattle.run_rules.specs.Past.{Always, In, appended}
-use Rattle.run_rules.specs.Runs.{StepMeets, StepsMeet, firsts_of, past_of, tree_at}
+use Rattle.run_rules.specs.Runs.{StepMeets, StepsMeet, firsts_of, past_of}
+use Rattle.run_tokens.specs.Pasts.{tree_at}
 use Rattle.run_rules.specs.Steps.{servers_of, steps_of_host}
 use Rattle.run_rules.specs.Tokens.{IsOpen, LabelInUse, NoneOpen, end_of}
 use Rattle.run_rules.specs.Views.{IsLock, IsOpening}

@@ -16,7 +16,8 @@ use Rattle.need_laws.specs.Known.{SameAt}
 use Rattle.run_rules.specs.Doings.{after_cause, doings_of}
 use Rattle.run_rules.specs.Kept.{filesets_kept, filesets_through}
 use Rattle.run_rules.specs.Past.{Always, appended}
-use Rattle.run_rules.specs.Runs.{IsLegalPast, IsRun, entries_of, firsts_of, history, history_of, past_of, tree_at}
+use Rattle.run_rules.specs.Runs.{IsRun, entries_of, firsts_of, history_of, past_of}
+use Rattle.run_tokens.specs.Pasts.{IsLegalPast, history, tree_at}
 use Rattle.run_rules.specs.ServerDecides.{by_cause}
 use Rattle.run_rules.specs.Steps.{steps_of_host, steps_of_server}
 use Rattle.run_tokens.specs.CacheLaws.{CachedAt, CachedExactly}

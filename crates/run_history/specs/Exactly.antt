@@ -15,7 +15,8 @@ use Rattle.run_rules.specs.declared.journal.Journal.{Journal}
 use Rattle.run_parts.specs.Contents.{Contents}
 use Rattle.run_contents.specs.Instance.{IsOfRun}
 
--- the step that begins a call answers it exactly where it can (`CachedOn`): so it does on each well formed tree with the cells of the run before the step
+-- the step that begins a call answers it exactly where it can (`CachedOn`): so it does on each well formed tree with
+-- the cells of the run before the step
 abbrev pub AnswersFromCacheExactly : Type 0
 AnswersFromCacheExactly =
     (script : Script) (journal : Journal) (run : IsRun script journal) (c : Contents)

@@ -10,7 +10,8 @@ use Rattle.tree_answers.specs.declared.tree.Tree.{Tree}
 use Rattle.script_lines.specs.declared.script.Script.{Script}
 use Rattle.run_rules.specs.Messages.{HasStopped}
 use Rattle.run_rules.specs.Past.{In, appended}
-use Rattle.run_rules.specs.Runs.{IsRun, firsts_of, past_of, tree_at}
+use Rattle.run_rules.specs.Runs.{IsRun, firsts_of, past_of}
+use Rattle.run_tokens.specs.Pasts.{tree_at}
 use Rattle.run_rules.specs.Steps.{steps_of_host}
 use Rattle.run_rules.specs.Tokens.{IsOpen, LabelInUse, NoneOpen, end_of}
 use Rattle.run_rules.specs.Views.{IsLock, IsOpening}

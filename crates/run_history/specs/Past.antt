@@ -6,7 +6,8 @@ use Rattle.tree_answers.specs.WellFormed.{IsWellFormed}
 use Rattle.tree_answers.specs.declared.tree.Tree.{Tree}
 use Rattle.script_lines.specs.declared.script.Script.{Script}
 use Rattle.run_rules.specs.Kept.{filesets_kept}
-use Rattle.run_rules.specs.Runs.{IsLegalPast, IsRun, firsts_of, history_of, past_of, tree_at}
+use Rattle.run_rules.specs.Runs.{IsRun, firsts_of, history_of, past_of}
+use Rattle.run_tokens.specs.Pasts.{IsLegalPast, tree_at}
 use Rattle.run_rules.specs.Steps.{steps_of_server}
 use Rattle.run_tokens.specs.CacheLaws.{CachedExactly}
 use Rattle.run_history.specs.Agreement.{CellsAgree}
@@ -35,7 +36,7 @@ pub record IsOfPast
     (start : Tree) (firsts : ServerId → ℕ) (c : Contents) (past : List Step) (tree_is : Tree) : Type 0 where
   pub formed : IsWellFormed tree_is
   pub cells : CellsAgree c past tree_is
-  pub kept : (server : ServerId) → KeepsAs server (kept start server (steps_of_server server past)) tree_is
+  pub kept : (server : ServerId) → KeepsAs server (filesets_kept start server (steps_of_server server past)) tree_is
   pub labels : LabelsStand firsts past tree_is
 
 -- so the history's is from the start on, and after each step

@@ -1,6 +1,7 @@
 -- What the laws say of the run that is worked out.
 use Rattle.run_examples.specs.Journal.{journal, start}
-use Rattle.run_rules.specs.Runs.{IsLegalPast, IsValid, firsts_of, past_of, tree_at}
+use Rattle.run_rules.specs.Runs.{IsValid, firsts_of, past_of}
+use Rattle.run_tokens.specs.Pasts.{IsLegalPast, tree_at}
 use Rattle.run_tokens.specs.CacheLaws.{CachedExactly}
 use Rattle.run_history.specs.Past.{IsThroughout}
 use Rattle.run_parts.specs.Contents.{Contents}

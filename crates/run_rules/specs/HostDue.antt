@@ -1,4 +1,5 @@
--- What is due of a host: what it sends again, and when. That runs end rests on it, and no law of safety does.
+-- What is due of a host: what it answers, gives back and sends again, and when; and that it does nothing twice. That
+-- runs end rests on it, and no law of safety does. `past` is the host's own earlier steps.
 use Rattle.std.specs.Prelude.{List, None, [], map, ℕ, ◌∷◌, ◌≡◌, ◌⊎◌}
 use Rattle.base_types.specs.declared.ids.Fid.{Fid}
 use Rattle.base_types.specs.declared.ids.HostId.{HostId}
@@ -21,9 +22,9 @@ use Rattle.message_types.specs.declared.tokens.Revoke.{Revoke as RevokeOf}
 use Rattle.run_rules.specs.HostAsks.{GoesTo, HasChanged, HasFetched}
 use Rattle.run_rules.specs.HostMay.{AwaitsReclaimed, ClaimsAt, LearnsRestart}
 use Rattle.run_rules.specs.HostTokens.{MayEvict, OwnsUpdate}
-use Rattle.run_rules.specs.Messages.{About, Asking, Changing, Comes, ComesIn, HasGreeted, HasSaid, IsDecidedAt}
+use Rattle.run_rules.specs.Messages.{About, Asking, Changing, Comes, HasBye, HasGreeted, HasSaid, IsDecidedAt}
 use Rattle.run_rules.specs.Messages.{IsWelcome, KeepsToken, Says, Sends, SendsTo, StaysAt, epoch_at, stay_of}
-use Rattle.run_rules.specs.Past.{EachOnce, In, Once}
+use Rattle.run_rules.specs.Past.{EachOnce, In}
 use Rattle.run_rules.specs.Steps.{limit_of}
 use Rattle.run_rules.specs.Tokens.{AtHand, BeginsCall, Drops, FreesPinned, GivesUse, HasCall, Held, HoldsId, IsKnown}
 use Rattle.run_rules.specs.Tokens.{IsOpen, IsOutstanding, Made, Makes, NoneUsed, TokenInUse, end_of}
@@ -34,10 +35,6 @@ use Rattle.run_rules.specs.declared.step.Asked.{Asked}
 use Rattle.run_rules.specs.declared.step.Cause.TheVariants.{End, Evict, Lapse}
 use Rattle.run_rules.specs.declared.step.Labelled.{Labelled}
 use Rattle.run_rules.specs.declared.step.Step.{Step}
-
--- the server has said Bye
-abbrev pub HasBye : List Step → ServerId → Type 0
-HasBye past server = Once (λ before s. (e n : ℕ) × ComesIn s server e n Bye) past
 
 -- The message is outstanding at a server, with so many moves. A claim is another matter: it is made anew each time.
 abbrev pub IsUnanswered : List Step → ServerId → ℕ → Body → Type 0

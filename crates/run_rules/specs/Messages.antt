@@ -9,7 +9,7 @@ use Rattle.message_types.specs.declared.asking.Change.{Change as ChangeOf}
 use Rattle.message_types.specs.declared.asking.Fetch.{Fetch as FetchOf}
 use Rattle.message_types.specs.declared.giving.Reclaimed.{Reclaimed as ReclaimedOf}
 use Rattle.message_types.specs.declared.message.Body.{Body}
-use Rattle.message_types.specs.declared.message.Body.TheVariants.{Change, Done, Down, Fetch, Grant, Hello, Kept}
+use Rattle.message_types.specs.declared.message.Body.TheVariants.{Bye, Change, Done, Down, Fetch, Grant, Hello, Kept}
 use Rattle.message_types.specs.declared.message.Body.TheVariants.{Reclaimed, Restarted, Returned}
 use Rattle.message_types.specs.declared.message.Message.{Message}
 use Rattle.message_types.specs.declared.telling.Done.{Done as DoneOf}
@@ -61,16 +61,17 @@ Sends step server epoch moves body = (m : Message) × In m step.sent
 abbrev pub Said : List Step → ServerId → ℕ → ℕ → Body → Type 0
 Said past server epoch moves body = Once (λ before step. Sends step server epoch moves body) past
 
--- in whatever epoch, with whatever number of moves
+-- the step sends a server this, in whatever epoch, with whatever number of moves
 abbrev pub Says : Step → ServerId → Body → Type 0
 Says step server body = (epoch : ℕ) × (moves : ℕ) × Sends step server epoch moves body
 
+-- an earlier step sent it so
 abbrev pub HasSaid : List Step → ServerId → Body → Type 0
 HasSaid past server body = (epoch : ℕ) × (moves : ℕ) × Said past server epoch moves body
 
 -- the step sends this to where a fileset is
 abbrev pub SendsTo : Step → Stay → Body → Type 0
-SendsTo step place body = (epoch : ℕ) × Sends step place.server epoch place.moves body
+SendsTo step stay body = (epoch : ℕ) × Sends step stay.server epoch stay.moves body
 
 -- a Returned of the step names the token
 abbrev pub ReturnsToken : Step → TokenId → Type 0
@@ -147,6 +148,10 @@ Renews past step fileset =
 abbrev pub IsWelcome : List Step → ServerId → Type 0
 IsWelcome past server = Once (λ before step. HasGreeted before server × ((answer : ReclaimedOf)
     × ComesIn step server (epoch_at (step ∷ before) server) 0 (Reclaimed answer))) past
+
+-- the server has said Bye
+abbrev pub HasBye : List Step → ServerId → Type 0
+HasBye past server = Once (λ before step. (e n : ℕ) × ComesIn step server e n Bye) past
 
 -- # Outstanding requests. Those that are numbered under a fileset keep their numbers wherever the fileset is. Fileset 0
 -- stands for calls about filesets themselves: it is nowhere, and each server has numbers of its own under it.

@@ -5,7 +5,6 @@ use Rattle.base_types.specs.declared.ids.HostId.{HostId}
 use Rattle.base_types.specs.declared.ids.Node.{Node}
 use Rattle.base_types.specs.declared.ids.Node.TheVariants.{Host, Server}
 use Rattle.base_types.specs.declared.ids.ServerId.{ServerId}
-use Rattle.tree_answers.specs.Histories.{IsHistory, after_history}
 use Rattle.tree_answers.specs.WellFormed.{IsWellFormed}
 use Rattle.tree_answers.specs.declared.tree.Tree.{Tree}
 use Rattle.tree_calls.specs.declared.entry.Entry.{Entry}
@@ -18,9 +17,9 @@ use Rattle.message_types.specs.Soundness.{IsSound}
 use Rattle.message_types.specs.declared.message.Direction.TheVariants.{ToHost, ToServer}
 use Rattle.message_types.specs.declared.message.Message.{Message}
 use Rattle.run_rules.specs.Doings.{HasGoneAway, Listed, SentTo, doings_of}
-use Rattle.run_rules.specs.HostDue.{HasBye, HostDue}
+use Rattle.run_rules.specs.HostDue.{HostDue}
 use Rattle.run_rules.specs.HostMay.{HostMay}
-use Rattle.run_rules.specs.Messages.{HasGreeted, HasStopped, Said, home}
+use Rattle.run_rules.specs.Messages.{HasBye, HasGreeted, HasStopped, Said, home}
 use Rattle.run_rules.specs.Past.{Always, In, Once, appended}
 use Rattle.run_rules.specs.ServerDue.{ServerDue}
 use Rattle.run_rules.specs.ServerMay.{ServerMay}
@@ -59,19 +58,6 @@ entries_of step = map call_entry step.answers ++ applied_entries step.node step.
 -- the history of steps, in their order
 abbrev pub history_of : List Step → List Entry
 history_of steps = flat_map entries_of steps
-
--- the history so far
-abbrev pub history : List Step → List Entry
-history [] = []
-history (step ∷ past) = history past ++ entries_of step
-
--- the tree after these steps
-abbrev pub tree_at : Tree → List Step → Tree
-tree_at start past = after_history start (history past)
-
--- the history so far is legal
-abbrev pub IsLegalPast : Tree → List Step → Type 0
-IsLegalPast start past = IsHistory start (history past)
 
 -- # What comes was sent
 

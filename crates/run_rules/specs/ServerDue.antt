@@ -1,4 +1,5 @@
--- What is due of a server: what it answers, and when. That runs end rests on it, and no law of safety does.
+-- What is due of a server: what it decides, answers and asks back, and when. That runs end rests on it, and no law of
+-- safety does. `past` is its doings so far.
 use Rattle.std.specs.Prelude.{List, [], true, ℕ, ◌≡◌, ◌≢◌, ◌⊎◌}
 use Rattle.base_types.specs.declared.ids.FilesetId.{FilesetId}
 use Rattle.base_types.specs.declared.ids.HostId.{HostId}
@@ -63,8 +64,8 @@ abbrev pub AdmitsNow : ServerId → List Doing → Step → HostId → ReclaimOf
 AdmitsNow server past s host claim = ((c : Admission) × In c s.admitted × (c.host ≡ host))
     × ((answer : ReclaimedOf) × SentNow s host (Reclaimed answer) × AnswersClaim server past host claim answer)
 
--- when a live host is told of a restart: it says Hello, and came on the list in an older epoch; it says something else,
--- but Down, in another epoch; the server restarts; at a lapse, until it has reclaimed
+-- when a live host is told of a restart: where it says Hello, and came on the list in an older epoch; where it says
+-- anything else but Down, in another epoch; where the server restarts; and at a lapse, until it has reclaimed
 abbrev pub HearsOfRestart : List Doing → Step → HostId → Type 0
 HearsOfRestart past s h = (HeardNow s h Hello × (ListedNow past h → ⊥))
     ⊎ (((m : Message) × (s.cause ≡ Came m) × (m.host ≡ h) × (m.epoch ≢ epoch past) × (m.body ≢ Hello) × (m.body ≢ Down))

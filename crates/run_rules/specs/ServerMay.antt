@@ -169,7 +169,7 @@ pub record MaySend (server : ServerId) (tree : Tree) (s : Step) (past : List Doi
   pub grants : (h : HostId) (e n : ℕ) (g : GrantOf) → a ≡ Sent h e n (Grant g) → GrantsSo server tree past h n g
   pub dones : (h : HostId) (e n : ℕ) (d : DoneOf) → a ≡ Sent h e n (Done d)
       → IsLive past h × IsDecidedHere server past d.fileset n × DoneFor server tree past h n d
-  -- a token is asked back once, while it is in the way of a want; and again at each lapse while that is owed
+  -- a token is asked back once, while it is in the way of a want; and again at each lapse while it is owed
   pub revokes : (h : HostId) (e n : ℕ) (r : RevokeOf) (i : TokenId) → a ≡ Sent h e n (Revoke r) → In i r.ids
       → (t : Token) × (t.id ≡ i) × (t.host ≡ h)
       × ((IsAskedBack server past t × (HasRevoked past t → ⊥)) ⊎ ((s.cause ≡ Lapse) × IsOwed server past t))

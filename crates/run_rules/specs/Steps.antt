@@ -41,6 +41,7 @@ bare node cause = record {
   reserved = [];
 }
 
+-- nothing happens in the step but its cause
 abbrev pub IsBareStep : Step → Type 0
 IsBareStep step = step ≡ bare step.node step.cause
 
@@ -78,7 +79,7 @@ limit_of roster host =
 abbrev pub first_epoch : List ℕ → ServerId → ℕ
 first_epoch epochs server = max 1 (unwrap_or (slice_get epochs (server.0 - 1)) 1)
 
--- whether a line of the node goes with such a cause
+-- how many lines of a node go with such a cause
 abbrev pub goes_with : Cause → ℕ
 goes_with (LineOf line) = 1
 goes_with (Restart line) = 1

@@ -57,6 +57,7 @@ Learns past step number =
 abbrev pub IsKnownNumber : List Step → AppliedGive → Type 0
 IsKnownNumber past number = Once (λ before step. Learns before step number) past
 
+-- the give-back is known as applied
 abbrev pub IsKnown : List Step → Give → Type 0
 IsKnown past give = IsKnownNumber past (number_of give)
 
@@ -90,7 +91,7 @@ Drops step token = (leave : Leave) × In leave step.dropped × (leave.token ≡ 
 abbrev pub Held : List Step → Token → Type 0
 Held past token = Still (λ before step. In token step.taken) (λ before step. Drops step token) past
 
--- the token is there once the step has taken what it takes
+-- the token is at hand in the step: it is held, or the step takes it
 abbrev pub AtHand : Step → List Step → Token → Type 0
 AtHand step past token = In token step.taken ⊎ Held past token
 
@@ -186,7 +187,7 @@ NoneUsed past = (usage : Labelled) → LabelInUse past usage → ⊥
 abbrev pub TokenInUse : List Step → TokenId → Type 0
 TokenInUse past id = (usage : Labelled) × LabelInUse past usage × (usage.token.id ≡ id)
 
--- the use of its token that ends last
+-- of the labels in use it is the only one left of its token
 abbrev pub IsLastUse : List Step → Labelled → Type 0
 IsLastUse past usage = LabelInUse past usage
     × ((other : Labelled) → LabelInUse past other → other.token.id ≡ usage.token.id → other ≡ usage)

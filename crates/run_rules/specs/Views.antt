@@ -85,6 +85,7 @@ part_told grant Entries = grant.entries
 abbrev pub is_shown : Step → Fid → Part → Bool
 is_shown s fid part = list_any (λ token. same_fid token.fid fid && shows token.kind part) s.taken
 
+-- what a host would see of all that its cause tells; only a Grant tells
 abbrev pub told_by_body : Body → View → View
 told_by_body (Grant grant) view fid part = part_told grant part
 told_by_body _ view fid part = view fid part

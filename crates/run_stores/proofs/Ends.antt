@@ -5,7 +5,8 @@ use Rattle.run_history.proofs.Law.{servers_keep_the_tree}
 use Rattle.run_history.specs.Past.{ServersKeepTheTree}
 use Rattle.run_history.specs.PastEnded.{EndedRunsMayBeFollowed}
 use Rattle.run_rules.specs.Kept.{filesets_kept}
-use Rattle.run_rules.specs.Runs.{past_of, tree_at}
+use Rattle.run_rules.specs.Runs.{past_of}
+use Rattle.run_tokens.specs.Pasts.{tree_at}
 use Rattle.run_rules.specs.Steps.{steps_of_server}
 use Rattle.run_stores.proofs.Firsts.{last_is_kept}
 use Rattle.run_stores.specs.Ending.{StoresFollow}

@@ -9,7 +9,8 @@ use Rattle.store_laws.specs.TreeKeeping.{KeepsOf}
 use Rattle.store_state.specs.declared.state.StoreState.{StoreState}
 use Rattle.run_history.specs.PastStanding.{KeepsAs}
 use Rattle.run_rules.specs.Kept.{filesets_kept}
-use Rattle.run_rules.specs.Runs.{IsEnded, IsRun, past_of, tree_at}
+use Rattle.run_rules.specs.Runs.{IsEnded, IsRun, past_of}
+use Rattle.run_tokens.specs.Pasts.{tree_at}
 use Rattle.run_rules.specs.Steps.{steps_of_server}
 use Rattle.run_rules.specs.declared.journal.Journal.{Journal}
 

@@ -19,7 +19,8 @@ use Rattle.store_laws.specs.TreeKeeping.{KeepsOf}
 use Rattle.run_contents.specs.Gives.{IsKept}
 use Rattle.script_lines.specs.declared.script.Script.{Script}
 use Rattle.run_rules.specs.Kept.{filesets_after, filesets_kept, filesets_through, is_refusal, pieces_in}
-use Rattle.run_rules.specs.Runs.{IsEnded, IsRun, past_of, tree_at}
+use Rattle.run_rules.specs.Runs.{IsEnded, IsRun, past_of}
+use Rattle.run_tokens.specs.Pasts.{tree_at}
 use Rattle.run_rules.specs.Steps.{steps_of_server}
 use Rattle.run_rules.specs.declared.applied.Applied.TheVariants.{Done, IsDown, Replied, Stored, Wants}
 use Rattle.run_rules.specs.declared.journal.Journal.{Journal}

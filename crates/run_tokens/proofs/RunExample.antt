@@ -3,7 +3,7 @@ use Rattle.std.proofs.Common.{List, [], ap, arith, codes, inl, inr, refl, subst,
 use Rattle.base_types.specs.declared.ids.ServerId.{ServerId}
 use Rattle.message_types.specs.Soundness.{Goes, HasMoves, IsBody, IsSound}
 use Rattle.run_rules.specs.Doings.{SentTo, doings_of}
-use Rattle.run_rules.specs.HostDue.{HasBye}
+use Rattle.run_rules.specs.Messages.{HasBye}
 use Rattle.run_rules.specs.Messages.{HasGreeted, HasStopped, Said, home}
 use Rattle.run_rules.specs.Past.{In}
 use Rattle.run_rules.specs.Runs.{CameToHost, CameToServer, FlagsMet, HostIsDone, IsFrom, IsRun, IsValid, StepsMeet}

@@ -11,7 +11,7 @@ use Rattle.tree_calls.specs.declared.roster.Roster.{Roster}
 use Rattle.need_host.specs.Looks.{IsCovered, View, outcome, tree_view}
 use Rattle.run_rules.specs.HostTokens.{HostLeaves}
 use Rattle.run_rules.specs.Past.{Always, In}
-use Rattle.run_rules.specs.Runs.{tree_at}
+use Rattle.run_tokens.specs.Pasts.{tree_at}
 use Rattle.run_rules.specs.Steps.{limit_of, steps_of_host}
 use Rattle.run_rules.specs.Tokens.{BeginsCall}
 use Rattle.run_rules.specs.Views.{Stance, look_of}

@@ -9,5 +9,6 @@ pub mod ServerRest
 pub mod Turns
 pub mod RunWorked
 pub mod TokenLaws
+pub mod Pasts
 pub mod DoingNothing
 pub mod CacheLaws
