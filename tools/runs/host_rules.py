@@ -840,7 +840,7 @@ class Look:
         return {m.kind.update for m in asked if isinstance(m.kind, Status)} == due
 
     def lacking_needs(self, needs, fid, asked):
-        """[LackingNeeds]"""
+        """What a Fetch asked for before [FileNeeds]: what the call needs and lacks (`before.py`)."""
         held = self.after.held
         lacked = [n for n in needs if n.fid == fid and not covers(held, n)]
         for n in asked:

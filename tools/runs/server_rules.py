@@ -261,7 +261,7 @@ class ServerPast:
         away = self.goes_away(a)
         takes = self.takes(a)
         bring = self.brings(a)
-        # wants [Unwants, Waits, Before]
+        # wants [Unwants, IsQueued, IsQueuedBefore]
         gone = {w for w in self.waiting
                 if begin or w.host == away or decides(a, w.host, w.request)
                 or (isinstance(a, Wants) and a.wanted.host == w.host and same_number(a.wanted.request, w.request))}
@@ -353,7 +353,7 @@ class ServerPast:
         return self
 
 
-# taking a step apart [Acts]
+# taking a step apart [Doings]
 def after_cause(cause, past):
     """The doings of the cause, after some."""
     if isinstance(cause, Came):
