@@ -1,5 +1,5 @@
 -- A disk over a file, which tells nothing of its bytes.
-use Rattle.std.specs.Prelude.{◌≡◌, [], false, IsTrue, Result, IsErr}
+use Rattle.std.specs.Prelude.{◌≡◌, [], None, is_some, IsTrue, Result, IsErr}
 use Rattle.base_types.specs.View.{View}
 use Rattle.disk_device.specs.declared.file.FileDisk.{FileDisk}
 
@@ -11,20 +11,20 @@ untold_view disk = record {
   moment = 0;
   left_since = λ t c. ⊥;
   faults = disk.faults;
-  last_failed = disk.failed;
+  last_failed = is_some disk.failed;
   counts_now = λ t c le now. now;
   only_now = λ c left. left;
 }
 
 -- a sync failed: what was written since the one before may be lost
 abbrev pub IsLost : FileDisk → Type 0
-IsLost disk = IsTrue disk.lost
+IsLost disk = IsTrue (is_some disk.lost)
 
 -- a disk that has counted no fault, and isn't lost
 pub record IsWhole (disk : FileDisk) : Type 0 where
   pub faults : disk.faults ≡ 0
-  pub passes : disk.failed ≡ false
-  pub kept : disk.lost ≡ false
+  pub passes : disk.failed ≡ None
+  pub kept : disk.lost ≡ None
 
 -- once lost, every call fails
 pub record FailsForGood {T E : Type 0} (result : Result T E) (old new : FileDisk) : Type 0 where
