@@ -12,9 +12,9 @@ pub enum FileFault {
     /// The folder in which it is to be made isn't there.
     #[error("no such folder")]
     NoFolder,
-    /// It is a folder, a device, a pipe or the like.
-    #[error("not a regular file")]
-    NotRegular,
+    /// It is a folder, a pipe or a socket.
+    #[error("neither a file nor a device")]
+    NoDisk,
     /// It is open as a disk already, in another program or under another name.
     #[error("in use by another program, or named twice")]
     InUse,

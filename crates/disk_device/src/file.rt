@@ -8,7 +8,8 @@ ghost use Rattle.base_types.specs.declared.limits.TheConstants.{DISK_END};
 use crate::fault::FileFault;
 use base_types::{DISK_END, Disk, Failed};
 use std::fs::{File, OpenOptions};
-use std::os::unix::fs::FileExt;
+use std::io::{Seek, SeekFrom};
+use std::os::unix::fs::{FileExt, FileTypeExt};
 use std::path::Path;
 use std::rt::Files;
 use std::{fs, io};
@@ -28,15 +29,15 @@ pub struct FileDisk {
 }
 
 impl FileDisk {
-    ghost use Rattle.disk_device.specs.File.{IsLost, FailsForGood, IsWhole};
+    ghost use Rattle.disk_device.specs.File.{last_fault, IsLost, FailsForGood, IsWhole};
 
     /// Opens the file, or makes an empty one and syncs its folder; and takes its lock. The disk has counted no fault.
-    /// The error says why the system refused that: the file is no regular one, another program has its lock, or this
-    /// one has, as of a file that was named twice.
+    /// The error says why the system refused that; it is `NoDisk` where the name is that of a folder, a pipe or a
+    /// socket, and `InUse` where another program has the lock, or this one has it, as of a file that was named twice.
     pub fn open_or_make<F: Files<File = File>>(rt: &F, name: &str) -> Result<FileDisk, FileFault>
         ensures { IfOk result (λ disk. IsWhole disk) }
     {
-        let file = match regular(rt, name, OpenOptions::new().read(true).write(true)) {
+        let file = match opened(rt, name, OpenOptions::new().read(true).write(true)) {
             Err(FileFault::NoFile) => made(rt, name)?,
             answer => answer?,
         };
@@ -49,7 +50,7 @@ impl FileDisk {
     pub fn open_to_read<F: Files<File = File>>(rt: &F, name: &str) -> Result<FileDisk, FileFault>
         ensures { IfOk result (λ disk. IsWhole disk) }
     {
-        let file = regular(rt, name, OpenOptions::new().read(true))?;
+        let file = opened(rt, name, OpenOptions::new().read(true))?;
         file.try_lock_shared()?;
         Ok(FileDisk::of(file))
     }
@@ -67,7 +68,7 @@ impl FileDisk {
 
     /// Why its last call failed; none where it didn't.
     pub fn fault(&self) -> Option<FileFault>
-        ensures { result ≡ self.now.failed }
+        ensures { result ≡ last_fault self.now }
     {
         self.failed
     }
@@ -103,18 +104,21 @@ impl FileDisk {
     }
 }
 
-// Opens a regular file that is there. What else has the name isn't opened: a pipe would wait, and the length of a
-// device isn't that of what is on it.
-fn regular<F: Files<File = File>>(
+// Opens a file that is there, or a device. A folder isn't opened, nor a pipe or a socket, at which an open could wait.
+fn opened<F: Files<File = File>>(
     rt: &F,
     name: &str,
     options: &OpenOptions,
 ) -> Result<File, FileFault> {
-    match fs::metadata(rt, name) {
-        Ok(metadata) if metadata.is_file() => Ok(options.open(rt, name)?),
-        Ok(_) => Err(FileFault::NotRegular),
-        Err(error) if error.kind() == io::ErrorKind::NotFound => Err(FileFault::NoFile),
-        Err(error) => Err(FileFault::from(error)),
+    let kind = match fs::metadata(rt, name) {
+        Ok(metadata) => metadata.file_type(),
+        Err(error) if error.kind() == io::ErrorKind::NotFound => return Err(FileFault::NoFile),
+        Err(error) => return Err(FileFault::from(error)),
+    };
+    if kind.is_file() || kind.is_block_device() || kind.is_char_device() {
+        Ok(options.open(rt, name)?)
+    } else {
+        Err(FileFault::NoDisk)
     }
 }
 
@@ -183,7 +187,7 @@ impl Disk for FileDisk {
         if let Some(fault) = self.lost {
             return self.fail(fault);
         }
-        let answer = self.file.metadata().map(|metadata| metadata.len());
+        let answer = (&self.file).seek(SeekFrom::End(0));
         self.told(answer)
     }
 
