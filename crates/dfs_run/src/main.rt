@@ -114,7 +114,7 @@ fn is_check(words: &[String]) -> bool {
 // Opens the disks of these names. A file that isn't there is made, empty, but for a check. Why one isn't opened goes to
 // standard error.
 fn opened(
-    rt: &(impl Files<File = File> + Print + AllocGlobal),
+    rt: &(impl Files<File = File> + Eprint + AllocGlobal),
     names: &[String],
     is_check: bool,
     streams: &Result<Streams, FileFault>,
@@ -150,7 +150,7 @@ fn disk_at(
 }
 
 // Writes why the last call of a disk failed, of each where it did.
-fn tell_faults(rt: &impl Print, names: &[String], disks: &[FileDisk]) {
+fn tell_faults(rt: &impl Eprint, names: &[String], disks: &[FileDisk]) {
     for (name, disk) in names.iter().zip(disks.iter()) {
         if let Some(fault) = disk.fault() {
             tell(rt, name.as_str(), fault);
@@ -159,6 +159,6 @@ fn tell_faults(rt: &impl Print, names: &[String], disks: &[FileDisk]) {
 }
 
 // Writes the name of a file and why it fails to standard error. Where that fails too, nothing is told.
-fn tell(rt: &impl Print, name: &str, fault: FileFault) {
+fn tell(rt: &impl Eprint, name: &str, fault: FileFault) {
     let _ = eprintln!(rt; "{name}: {fault}");
 }
