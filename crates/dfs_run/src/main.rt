@@ -1,7 +1,10 @@
 //! The file service as a program: it reads a script from standard input, runs it over disks, which are files, and
 //! writes what came of it to standard output; or it checks disks. The words are those of the top call,
-//! `service_run::run`, whose status is the number with which the program ends.
+//! `service_run::run`, whose status is the number with which the program ends. Where a file can't be opened, or a call
+//! of it failed, its name and the system's reason go to standard error.
 #![tactic(auto)]
+
+mod streams;
 
 ghost use Rattle.std.specs.Prelude.{◌≡◌, length, map, IfOk};
 ghost use Rattle.std.specs.String.{string_bytes};
@@ -9,12 +12,13 @@ ghost use Rattle.script_commands.specs.Command.{disk_names};
 ghost use Rattle.service_run.specs.Checks.{AreNamed};
 ghost use Rattle.service_run.specs.Outcomes.{code_of};
 
+use crate::streams::Streams;
 use base_io::{StdSink, StdSource};
 use base_types::NoMemory;
-use disk_device::{FileDisk, FileRefused};
+use disk_device::{FileDisk, FileFault};
 use script_commands::disk_names;
 use service_run::{Outcome, Status, refuse_disk, run};
-use std::alloc::AllocError;
+use std::alloc::{AllocError, Global};
 use std::env;
 use std::fs::File;
 use std::io::ErrorKind;
@@ -24,7 +28,7 @@ use std::rt::{Env, Files};
 // Why there are no disks.
 #[derive(Clone, Copy)]
 enum NotOpened {
-    // The system refused the file of the disk of this number, from 1.
+    // The file of the disk of this number, from 1, can't be opened.
     Refused(usize),
     // Memory ran out.
     Memory,
@@ -37,20 +41,28 @@ impl From<AllocError> for NotOpened {
 }
 
 fn main(rt: HostRuntime) -> ExitCode {
+    let streams = Streams::hold(&rt, &rt.stdin(), &rt.stdout(), &rt.stderr());
     let mut source = StdSource::new(rt.stdin());
     let mut sink = StdSink::new(rt.stdout());
     let Ok(words) = words(&rt) else {
         return ExitCode::from(Status::NoMemory.code());
     };
-    let code = match disks_of(&rt, words.as_slice()) {
-        Ok(mut disks) => code_of(run(
-            &rt,
-            rt.alloc(),
-            words.as_slice(),
-            &mut source,
-            &mut sink,
-            &mut disks,
-        )),
+    let Ok(names) = names_in(rt.alloc(), words.as_slice()) else {
+        return ExitCode::from(Status::NoMemory.code());
+    };
+    let code = match opened(&rt, names.as_slice(), is_check(words.as_slice()), &streams) {
+        Ok(mut disks) => {
+            let outcome = run(
+                &rt,
+                rt.alloc(),
+                words.as_slice(),
+                &mut source,
+                &mut sink,
+                &mut disks,
+            );
+            tell_faults(&rt, names.as_slice(), disks.as_slice());
+            code_of(outcome)
+        }
         Err(NotOpened::Refused(number)) => code_of(refuse_disk(rt.alloc(), number, &mut sink)),
         Err(NotOpened::Memory) => Status::NoMemory.code(),
     };
@@ -84,33 +96,69 @@ fn words(rt: &(impl Env + AllocGlobal)) -> Result<Vec<String>, AllocError> {
     Ok(words)
 }
 
-// The disks that the words name. A file that isn't there is made, empty.
-fn disks_of(
-    rt: &(impl Files<File = File> + AllocGlobal),
-    words: &[String],
-) -> Result<Vec<FileDisk>, NotOpened>
-    ensures { IfOk result (λ disks. AreNamed (disk_names (map string_bytes words.now)) (length disks.items)) }
+// The names of the disks in these words.
+fn names_in(alloc: Global, words: &[String]) -> Result<Vec<String>, NoMemory>
+    ensures { IfOk result (λ names. AreNamed (disk_names (map string_bytes words.now)) (length names.items)) }
 {
-    match disk_names(rt.alloc(), words) {
-        Ok(Some(names)) => opened(rt, names.as_slice()),
-        Ok(None) => Ok(Vec::new(rt.alloc())),
-        Err(NoMemory) => Err(NotOpened::Memory),
+    match disk_names(alloc, words)? {
+        Some(names) => Ok(names),
+        None => Ok(Vec::new(alloc)),
     }
 }
 
+// Whether the words ask for a check, which reads disks and makes none.
+fn is_check(words: &[String]) -> bool {
+    words.first().is_some_and(|word| word.as_str() == "check")
+}
+
+// Opens the disks of these names. A file that isn't there is made, empty, but for a check. Why one isn't opened goes to
+// standard error.
 fn opened(
-    rt: &(impl Files<File = File> + AllocGlobal),
+    rt: &(impl Files<File = File> + Eprint + AllocGlobal),
     names: &[String],
+    is_check: bool,
+    streams: &Result<Streams, FileFault>,
 ) -> Result<Vec<FileDisk>, NotOpened>
     ensures { IfOk result (λ disks. length disks.items ≡ length names.now) }
 {
     let mut disks = Vec::new(rt.alloc());
     for (k, name) in names.iter().enumerate() {
-        match FileDisk::open_or_make(rt, name.as_str()) {
+        match disk_at(rt, name.as_str(), is_check, streams) {
             Ok(disk) => disks.push(disk).map_err(AllocError::from)?,
-            Err(FileRefused::Failed) => return Err(NotOpened::Refused(k + 1)),
-            Err(FileRefused::Memory) => return Err(NotOpened::Memory),
+            Err(FileFault::Memory) => return Err(NotOpened::Memory),
+            Err(fault) => {
+                tell(rt, name.as_str(), fault);
+                return Err(NotOpened::Refused(k + 1));
+            }
         }
     }
     Ok(disks)
+}
+
+// Opens the disk of a name, once the standard streams have their descriptors.
+fn disk_at(
+    rt: &impl Files<File = File>,
+    name: &str,
+    is_check: bool,
+    streams: &Result<Streams, FileFault>,
+) -> Result<FileDisk, FileFault> {
+    match streams {
+        Ok(_) if is_check => FileDisk::open_to_read(rt, name),
+        Ok(_) => FileDisk::open_or_make(rt, name),
+        Err(fault) => Err(*fault),
+    }
+}
+
+// Writes why the last call of a disk failed, of each where it did.
+fn tell_faults(rt: &impl Eprint, names: &[String], disks: &[FileDisk]) {
+    for (name, disk) in names.iter().zip(disks.iter()) {
+        if let Some(fault) = disk.fault() {
+            tell(rt, name.as_str(), fault);
+        }
+    }
+}
+
+// Writes the name of a file and why it fails to standard error. Where that fails too, nothing is told.
+fn tell(rt: &impl Eprint, name: &str, fault: FileFault) {
+    let _ = eprintln!(rt; "{name}: {fault}");
 }

@@ -1,102 +1,138 @@
-ghost use Rattle.std.specs.Prelude.{◌≡◌, ◌+◌, ◌≤◌, ◌<◌, ◌^◌, ◌↔◌, length, IsTrue, IsErr, is_ok, IfOk, OnOk, OnErr};
+ghost use Rattle.std.specs.Prelude.{◌≡◌, ◌+◌, ◌≤◌, ◌<◌, ◌^◌, ◌↔◌, length, Some, is_some, IsTrue, IsErr, is_ok, IfOk, OnOk, OnErr};
 ghost use Rattle.base_types.specs.Crash.{IsSettled, IsQuiet, ChangesBy};
 ghost use Rattle.base_types.specs.Faults.{RoseBy};
 ghost use Rattle.base_types.specs.Image.{bytes_from, Torn, Holds};
 ghost use Rattle.base_types.specs.View.{IsCounted};
 ghost use Rattle.base_types.specs.declared.limits.TheConstants.{DISK_END};
 
+use crate::fault::FileFault;
 use base_types::{DISK_END, Disk, Failed};
 use std::fs::{File, OpenOptions};
-use std::io;
-use std::os::unix::fs::FileExt;
+use std::io::{Seek, SeekFrom};
+use std::os::unix::fs::{FileExt, FileTypeExt};
 use std::path::Path;
 use std::rt::Files;
-use thiserror::Error;
-
-/// Why a file could not be opened as a disk.
-#[derive(Clone, Copy, Debug, PartialEq, Eq, Error)]
-pub enum FileRefused {
-    /// The system refused it.
-    #[error("the system refused the file")]
-    Failed,
-    /// Memory ran out.
-    #[error("memory ran out")]
-    Memory,
-}
+use std::{fs, io};
 
 /// A disk over a file. It tells nothing of its bytes: what a file does with them, and what a crash leaves of them, is
-/// not proved. It counts each call that failed. After a sync that failed every later call fails, since a kernel may
-/// drop what it could not write and answer the next sync well.
+/// not proved. It counts each call that failed, and tells why the last one did. After a sync that failed every later
+/// call fails, since a kernel may drop what it could not write and answer the next sync well.
+///
+/// It holds the file's lock as long as it is open: for itself alone, or, where it was opened to be read, together with
+/// others that only read. The lock is advisory: it keeps out programs that ask for it, as this one does.
 #[derive(Drop)]
 pub struct FileDisk {
     file: File,
     faults: u64,
-    failed: bool,
-    lost: bool,
+    failed: Option<FileFault>,
+    lost: Option<FileFault>,
 }
 
 impl FileDisk {
-    ghost use Rattle.disk_device.specs.File.{IsLost, FailsForGood, IsWhole};
+    ghost use Rattle.disk_device.specs.File.{last_fault, IsLost, FailsForGood, IsWhole};
 
-    /// Opens the file, or makes an empty one and syncs its folder. The disk has counted no fault. `Failed` is the
-    /// system's refusal.
-    pub fn open_or_make<F: Files<File = File>>(rt: &F, name: &str) -> Result<FileDisk, FileRefused>
+    /// Opens the file, or makes an empty one and syncs its folder; and takes its lock. The disk has counted no fault.
+    /// The error says why the system refused that; it is `NoDisk` where the name is that of a folder, a pipe or a
+    /// socket, and `InUse` where another program has the lock, or this one has it, as of a file that was named twice.
+    pub fn open_or_make<F: Files<File = File>>(rt: &F, name: &str) -> Result<FileDisk, FileFault>
         ensures { IfOk result (λ disk. IsWhole disk) }
     {
-        match opened_or_made(rt, name) {
-            Ok(file) => Ok(FileDisk {
-                file,
-                faults: 0,
-                failed: false,
-                lost: false,
-            }),
-            Err(error) if error.kind() == io::ErrorKind::OutOfMemory => Err(FileRefused::Memory),
-            Err(_) => Err(FileRefused::Failed),
+        let file = match opened(rt, name, OpenOptions::new().read(true).write(true)) {
+            Err(FileFault::NoFile) => made(rt, name)?,
+            answer => answer?,
+        };
+        file.try_lock()?;
+        Ok(FileDisk::of(file))
+    }
+
+    /// Opens the file for reading alone, and takes its lock together with others that only read. The disk has counted
+    /// no fault. The error says why the system refused that, as above; a file that isn't there is not made.
+    pub fn open_to_read<F: Files<File = File>>(rt: &F, name: &str) -> Result<FileDisk, FileFault>
+        ensures { IfOk result (λ disk. IsWhole disk) }
+    {
+        let file = opened(rt, name, OpenOptions::new().read(true))?;
+        file.try_lock_shared()?;
+        Ok(FileDisk::of(file))
+    }
+
+    fn of(file: File) -> FileDisk
+        ensures { IsWhole result }
+    {
+        FileDisk {
+            file,
+            faults: 0,
+            failed: None,
+            lost: None,
         }
+    }
+
+    /// Why its last call failed; none where it didn't.
+    pub fn fault(&self) -> Option<FileFault>
+        ensures { result ≡ last_fault self.now }
+    {
+        self.failed
     }
 
     // Counts a call, and a fault where it failed.
     fn told<T: Drop>(&mut self, answer: io::Result<T>) -> Result<T, Failed>
         ensures counted { self.old.faults ≤ self.new.faults }
         ensures cause { OnErr result (RoseBy 1 self.old.faults self.new.faults) }
-        ensures last { IsTrue self.new.failed ↔ IsErr result }
+        ensures last { IsTrue (is_some self.new.failed) ↔ IsErr result }
         ensures kind { is_ok result ≡ is_ok answer }
         ensures lost { self.new.lost ≡ self.old.lost }
     {
         match answer {
             Ok(value) => {
-                self.failed = false;
+                self.failed = None;
                 Ok(value)
             }
-            Err(_) => self.fail(),
+            Err(error) => self.fail(FileFault::from(error)),
         }
     }
 
-    // Counts a call that failed.
-    fn fail<T: Drop>(&mut self) -> Result<T, Failed>
+    // Counts a call that failed, and why.
+    fn fail<T: Drop>(&mut self, fault: FileFault) -> Result<T, Failed>
         ensures cause { RoseBy 1 self.old.faults self.new.faults }
         ensures counted { self.old.faults ≤ self.new.faults }
-        ensures last { IsTrue self.new.failed }
+        ensures last { self.new.failed ≡ Some fault }
         ensures failed { IsErr result }
         ensures lost { self.new.lost ≡ self.old.lost }
     {
-        self.failed = true;
+        self.failed = Some(fault);
         self.faults = self.faults.saturating_add(1);
         Err(Failed)
     }
 }
 
-fn opened_or_made<F: Files<File = File>>(rt: &F, name: &str) -> io::Result<File> {
+// Opens a file that is there, or a device. A folder isn't opened, nor a pipe or a socket, at which an open could wait.
+fn opened<F: Files<File = File>>(
+    rt: &F,
+    name: &str,
+    options: &OpenOptions,
+) -> Result<File, FileFault> {
+    let kind = match fs::metadata(rt, name) {
+        Ok(metadata) => metadata.file_type(),
+        Err(error) if error.kind() == io::ErrorKind::NotFound => return Err(FileFault::NoFile),
+        Err(error) => return Err(FileFault::from(error)),
+    };
+    if kind.is_file() || kind.is_block_device() || kind.is_char_device() {
+        Ok(options.open(rt, name)?)
+    } else {
+        Err(FileFault::NoDisk)
+    }
+}
+
+// Makes an empty file, and its name durable.
+fn made<F: Files<File = File>>(rt: &F, name: &str) -> Result<File, FileFault> {
     let mut options = OpenOptions::new();
-    options.read(true).write(true);
+    options.read(true).write(true).create(true);
     match options.open(rt, name) {
-        Err(error) if error.kind() == io::ErrorKind::NotFound => {
-            options.create(true);
-            let file = options.open(rt, name)?;
+        Ok(file) => {
             sync_folder(rt, name)?;
             Ok(file)
         }
-        answer => answer,
+        Err(error) if error.kind() == io::ErrorKind::NotFound => Err(FileFault::NoFolder),
+        Err(error) => Err(FileFault::from(error)),
     }
 }
 
@@ -148,10 +184,10 @@ impl Disk for FileDisk {
         ensures faults { IsCounted result (untold_view self.old) (untold_view self.new) }
         ensures lost { FailsForGood result self.old self.new }
     {
-        if self.lost {
-            return self.fail();
+        if let Some(fault) = self.lost {
+            return self.fail(fault);
         }
-        let answer = self.file.metadata().map(|metadata| metadata.len());
+        let answer = (&self.file).seek(SeekFrom::End(0));
         self.told(answer)
     }
 
@@ -162,8 +198,8 @@ impl Disk for FileDisk {
         ensures faults { IsCounted result (untold_view self.old) (untold_view self.new) }
         ensures lost { FailsForGood result self.old self.new }
     {
-        if self.lost {
-            return self.fail();
+        if let Some(fault) = self.lost {
+            return self.fail(fault);
         }
         let answer = read_padded(&self.file, at, out);
         self.told(answer)
@@ -177,8 +213,8 @@ impl Disk for FileDisk {
         ensures faults { IsCounted result (untold_view self.old) (untold_view self.new) }
         ensures lost { FailsForGood result self.old self.new }
     {
-        if self.lost {
-            return self.fail();
+        if let Some(fault) = self.lost {
+            return self.fail(fault);
         }
         let answer = self.file.write_all_at(piece, at);
         self.told(answer)
@@ -191,14 +227,15 @@ impl Disk for FileDisk {
         ensures lost { FailsForGood result self.old self.new }
         ensures loses { OnErr result (IsLost self.new) }
     {
-        if self.lost {
-            return self.fail();
+        if let Some(fault) = self.lost {
+            return self.fail(fault);
         }
         match self.file.sync_all() {
             Ok(()) => self.told(Ok(())),
-            Err(_) => {
-                self.lost = true;
-                self.fail()
+            Err(error) => {
+                let fault = FileFault::from(error);
+                self.lost = Some(fault);
+                self.fail(fault)
             }
         }
     }

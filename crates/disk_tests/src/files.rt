@@ -3,7 +3,7 @@ use crate::disks::{calls_said, worked};
 use crate::words::plain;
 use anyhow::{Result, bail};
 use base_types::Disk;
-use disk_device::{FileDisk, FileRefused};
+use disk_device::{FileDisk, FileFault};
 use std::alloc::Global;
 use std::fs::File;
 use std::rt::Files;
@@ -34,6 +34,21 @@ fn swallowed_said(alloc: Global, disk: &mut FileDisk) -> Result<String> {
     calls_said(alloc, &[written, first, synced, second, length], &read)
 }
 
+// Whether a file that is open as a disk can be opened again: to be written, and to be read.
+fn again_said(rt: &(impl AllocGlobal + Files<File = File>), name: &str) -> Result<String> {
+    let written = FileDisk::open_or_make(rt, name).is_ok();
+    let read = FileDisk::open_to_read(rt, name).is_ok();
+    calls_said(rt.alloc(), &[written, read], b"")
+}
+
+// The file of a row, opened as it says.
+fn disk_of(rt: &impl Files<File = File>, kind: &str, name: &str) -> Result<FileDisk, FileFault> {
+    match kind {
+        "read" | "both_read" => FileDisk::open_to_read(rt, name),
+        _ => FileDisk::open_or_make(rt, name),
+    }
+}
+
 // What a row about a file is answered.
 pub fn file_said(
     rt: &(impl AllocGlobal + Files<File = File>),
@@ -45,15 +60,15 @@ pub fn file_said(
         std::fs::remove_file(rt, name)?;
         return Ok(String::new(alloc));
     }
-    let mut disk = match FileDisk::open_or_make(rt, name) {
+    let mut disk = match disk_of(rt, kind, name) {
         Ok(disk) => disk,
-        Err(FileRefused::Failed) => return Ok(String::from_str(alloc, "refused")?),
-        Err(FileRefused::Memory) => bail!("memory"),
+        Err(fault) => return Ok(format!(in alloc; "{fault}")?),
     };
     match kind {
         "file" => worked_said(alloc, &mut disk),
-        "kept" => kept_said(alloc, &mut disk),
+        "kept" | "read" => kept_said(alloc, &mut disk),
         "device" => swallowed_said(alloc, &mut disk),
+        "written_twice" | "both_read" => again_said(rt, name),
         _ => bail!("no row: {kind}"),
     }
 }

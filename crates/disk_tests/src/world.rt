@@ -150,7 +150,9 @@ impl World {
         }
         match kind {
             "fuse" | "calls" | "through" => disk_said(alloc, kind, words),
-            "file" | "kept" | "device" | "remove_file" => file_said(rt, kind, words),
+            "file" | "kept" | "read" | "device" | "written_twice" | "both_read" | "remove_file" => {
+                file_said(rt, kind, words)
+            }
             "on_file" => on_file(rt, words),
             _ => self.act(alloc, row),
         }
