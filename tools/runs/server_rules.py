@@ -895,14 +895,14 @@ class Turn:
         if isinstance(a.body, Grant):
             why = self.grants_so(tree, past, a.host, a.moves, a.body)
             if why:
-                bad("MaySend.grants/" + why, a.body)
+                bad("MaySend.grant_for/" + why, a.body)
         if isinstance(a.body, Done):
             if not past.is_live(a.host):
-                bad("MaySend.dones/IsLive", a.body)
+                bad("MaySend.done_for/IsLive", a.body)
             if not is_here(self.server, a.body.fileset, a.moves):
-                bad("MaySend.dones/IsDecidedHere", a.body)
+                bad("MaySend.done_for/IsDecidedHere", a.body)
             if not self.done_for(tree, past, a.host, a.moves, a.body):
-                bad("MaySend.dones/DoneFor", a.body)
+                bad("MaySend.done_for/DoneFor", a.body)
         if isinstance(a.body, Revoke):
             lapse = isinstance(self.s.cause, Lapse)
             may = [t for t in past.asked_back() if (t.host, t.id) not in past.revoked]
@@ -910,7 +910,7 @@ class Turn:
                 may += past.asked_back() if "revoked_once" in BEFORE else past.owed()
             for i in a.body.ids:
                 if not any(t.id == i and t.host == a.host for t in may):
-                    bad("MaySend.revokes", i)
+                    bad("MaySend.revoke_for", i)
 
     def is_for_change(self, host, d):
         """[HasSent.dones_only]: of a Change that the step takes, or that waited"""

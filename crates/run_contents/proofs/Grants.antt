@@ -180,7 +180,7 @@ module _ (script : Script) (start : Tree) (v : ServerId) (steps : List Step) (S 
       → EachSent GrantsAreAsked ms S
   each_sent tree [] S taken may = tt
   each_sent tree (x ∷ ms) S taken may = (
-    λ h e n g is. granted tree S taken h n g (may.0.grants h e n g is),
+    λ h e n g is. granted tree S taken h n g (may.0.grant_for h e n g is),
     each_sent tree ms (Sent x.host x.epoch x.moves x.body ∷ S)
         (on S (Sent x.host x.epoch x.moves x.body) (λ w e. absurd (cc)) taken) may.1,
   )

@@ -138,7 +138,7 @@ module _ (v : ServerId) (tree : Tree) (s : Step) where
   pub one_sent : (S : List Doing) (a : Doing) → MaySend v tree s S a → ServerTokens v S a → DonesAreBlind S a
   one_sent S a sends tokens h e n p d t is i cov =
       subst (λ j. SentTo S h j n (Done d)) (sym (tokens.epochs h e n (Done d) is))
-      (done_blind S h n d (sends.dones h e n d is).2 t p i cov)
+      (done_blind S h n d (sends.done_for h e n d is).2 t p i cov)
 
   pub each_sent : (ms : List Message) (S : List Doing) → EachInTurn (MaySend v tree s) (sending ms) S
       → EachInTurn (ServerTokens v) (sending ms) S

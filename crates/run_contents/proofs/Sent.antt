@@ -160,11 +160,11 @@ module _ (c : Contents) (v : ServerId) (tree : Tree) (s : Step) (tells : (g : Gr
     pub fine_sent : (D : List Deed) (a : Doing) → At c v D tree → AllTaken (acts_in D) → MaySend v tree s (acts_in D) a
         → ServerTokens v (acts_in D) a → Fine c v D a
     fine_sent D a at taken may tokens = record {
-      tells = λ h e n p w t is i cov. (let g = may.grants h e n w is in
+      tells = λ h e n p w t is i cov. (let g = may.grant_for h e n w is in
           tells w p ∙ (g.tells t p i cov
           ∙ sym (at.shows w.bring.fid p
           (made_at v (acts_in D) w.bring.fid.fileset n (tokens.grants h e n w is).0.home))));
-      needs = λ h e n w is. asked_for v tree (acts_in D) taken h n w (may.grants h e n w is);
+      needs = λ h e n w is. asked_for v tree (acts_in D) taken h n w (may.grant_for h e n w is);
       blind = λ h e n p w t is i cov. one_sent v tree s (acts_in D) a may tokens h e n p w t is i cov;
       there = there';
     }
@@ -219,7 +219,7 @@ module _ (c : Contents) (v : ServerId) (tree : Tree) (s : Step) (tells : (g : Gr
         there' : (h : HostId) (e n : ℕ) (w : Bring) (t : Token) → BringsTokens a h e n w → In t w.tokens
             → Granted v (acts_in D) t ⊎ IsThere (kept c D t.fid Traits)
         there' h e n w t (inl (g, is, same)) i =
-            let k = may.grants h e n g is in
+            let k = may.grant_for h e n g is in
             let j : In t g.bring.tokens = subst (λ (y : Bring). In t y.tokens) (sym same) i in
             let m = (tokens.grants h e n g is).0 in
             elim k.brings [
@@ -232,7 +232,7 @@ module _ (c : Contents) (v : ServerId) (tree : Tree) (s : Step) (tells : (g : Gr
             elim (tokens.dones h e n d is) [
               | inl none ↦ elim (subst (In t) none j) [ ]
               | inr k ↦ elim k [
-                | inl new ↦ settled h e n d t is j new.0 (may.dones h e n d is).2
+                | inl new ↦ settled h e n d t is j new.0 (may.done_for h e n d is).2
                 | inr old ↦ inl (old.1 t j)
               ]
             ]

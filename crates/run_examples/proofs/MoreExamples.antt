@@ -11,7 +11,8 @@ use Rattle.run_examples.specs.Steps.{file_bytes, frees_last, greets, grows, grow
 use Rattle.run_examples.specs.Steps.{asks_both, asks_second_block, asks_status, ends_again, ends_second, freed_first}
 use Rattle.run_examples.specs.Steps.{gives_first_block, gives_shown, gives_status, learns_first_block, learns_status}
 use Rattle.run_examples.specs.Steps.{locks_again, shown_gift, takes_second_block}
-use Rattle.run_examples.specs.Steps.{needs, returns_all, unlocks_last, writes}
+use Rattle.run_examples.specs.Steps.{hears_moved, hears_unmade, needs, returns_all, returns_other, unlocks_last}
+use Rattle.run_examples.specs.Steps.{writes}
 use Rattle.need_host.specs.Calls.{sync_look}
 use Rattle.run_rules.specs.declared.step.Step.{Step}
 use Rattle.run_examples.proofs.Examples.{computed}
@@ -140,3 +141,23 @@ unfolding syncing_words
 shown_lapse =
     host_does site_one syncing client owner (gives_shown ∷ awaiting)
     (lapses (to_server 1 (GiveBack shown_gift) ∷ [])) refl refl
+
+pub unmade_meets : Does writing client grown hears_unmade
+unfolding computed
+unmade_meets = host_does site_one writing client owner grown hears_unmade refl refl
+
+pub unmade_lapse : Does writing client (hears_unmade ∷ grown) (lapses [])
+unfolding computed
+unmade_lapse = host_does site_one writing client owner (hears_unmade ∷ grown) (lapses []) refl refl
+
+pub moved_meets : Does writing client (enters writes ∷ greets writes ∷ []) hears_moved
+unfolding computed
+moved_meets = host_does site_one writing client owner (enters writes ∷ greets writes ∷ []) hears_moved refl refl
+
+pub other_meets : Does writing client grown returns_other
+unfolding computed
+other_meets = host_does site_one writing client owner grown returns_other refl refl
+
+pub other_lapse : Does writing client (returns_other ∷ grown) (lapses [])
+unfolding computed
+other_lapse = host_does site_one writing client owner (returns_other ∷ grown) (lapses []) refl refl

@@ -1008,11 +1008,11 @@ may_send : (server : ServerId) (tree : Tree) (s : Step) (past : List Doing) (a :
     → send_right server tree s past a ≡ true → MaySend server tree s past a
 unfolding send_right
 may_send server tree s past a tells e = record {
-  grants = λ h f n g is.
+  grant_for = λ h f n g is.
       let p = and_parts (there_right ((cell_at tree g.bring.fid Traits).kept))
       (list_any (grants_for server past h n g) (queue past)) (at (Sent h f n (Grant g)) is) in
       grant_so server tree past h n g (subst (TellsAct tree) is tells) p.0 p.1;
-  dones = λ h f n d is.
+  done_for = λ h f n d is.
       let p = and_parts (live past h && is_here_now server d.fileset n) (outcome_right server tree past h n d d.outcome)
       (at (Sent h f n (Done d)) is) in
       let q = and_parts (live past h) (is_here_now server d.fileset n) p.0 in (
@@ -1020,7 +1020,7 @@ may_send server tree s past a tells e = record {
         here_either server past d.fileset n q.1,
         outcome_is server tree past h n d d.outcome refl p.1,
       );
-  revokes = λ h f n r i is m.
+  revoke_for = λ h f n r i is m.
       back_is server past s h i
       (at_all (λ i. list_any (asks_back server past s h i) (granted server past)) r.ids i
       (at (Sent h f n (Revoke r)) is) m);

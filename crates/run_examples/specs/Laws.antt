@@ -23,7 +23,8 @@ use Rattle.run_rules.specs.declared.step.Step.{Step}
 use Rattle.run_examples.specs.Steps.{asks_lock, asks_update, begin, claims_all, claims_gift, ends, frees, gift, gives}
 use Rattle.run_examples.specs.Steps.{asks_file, asks_for, asks_root, enters, evicted, evicts, file, frees_last, greets}
 use Rattle.run_examples.specs.Journal.{script, second_change, start, step_34, waiting}
-use Rattle.run_examples.specs.Steps.{hears, hears_nameless, other_stops}
+use Rattle.run_examples.specs.Steps.{hears, hears_misplaced, hears_moved, hears_nameless, hears_unmade, other_stops}
+use Rattle.run_examples.specs.Steps.{returns_other}
 use Rattle.run_examples.specs.Steps.{calls_back, grown, needs, recall, returns_all, shared, stores_and_grants}
 use Rattle.run_examples.specs.Steps.{asks_both, asks_second_block, asks_status, ends_again, ends_second, freed_first}
 use Rattle.run_examples.specs.Steps.{gives_first_block, gives_shown, gives_status, learns_first_block, learns_status}
@@ -197,6 +198,15 @@ pub record OutOfTurnIsRefused : Type 0 where
 -- A Change that enters, with a call that names no fileset, makes no want.
 abbrev pub NamelessIsIgnored : Type 0
 NamelessIsIgnored = Serves writing served hears_nameless []
+
+-- Sound messages that only a wrong peer sends admit a step, too: a Gone of a give-back that wasn't made; a Done under
+-- fileset 0 with moves, while the Change that it names is outstanding; a Revoke that names a token of another file; a
+-- Change of a lock that is numbered under another fileset than its file's.
+pub record OddMessagesAreBorne : Type 0 where
+  pub unmade : Meets writing grown hears_unmade []
+  pub moved : Does writing client (enters writes ∷ greets writes ∷ []) hears_moved
+  pub other_file : Meets writing grown returns_other []
+  pub misplaced : Serves writing served hears_misplaced []
 
 -- A Change that comes while another of its host and fileset waits makes no want; the one that waits is decided.
 abbrev pub Reacts : List Step → Step → Type 0

@@ -634,3 +634,28 @@ abbrev pub stores_and_grants : Step
 stores_and_grants =
     serves (Came (to_server 1 (GiveBack gift))) (Stored client file (span_between 0 2 ∷ []) (Some 2) ∷ []) []
     (to_host (Gone (number_of gift)) ∷ to_other (Grant other_grant) ∷ [])
+
+-- Sound messages that no honest node sends. A Gone of a give-back that the host didn't make teaches it nothing; a Done
+-- under fileset 0 with moves answers nothing; a token that a Revoke of another file names is returned under its own.
+abbrev pub hears_unmade : Step
+hears_unmade = hears (to_host (Gone (record { fileset = root.fileset; number = 7 }))) [] []
+
+abbrev pub hears_moved : Step
+hears_moved = hears (record (to_host (Done entered)) { moves = 1 }) [] []
+
+abbrev pub returns_other : Step
+returns_other =
+    acts (Came (to_host (Revoke (record { fid = root; stamp = 3; ids = file_status.id ∷ [] })))) None [] [] None [] []
+    (leaves Revoked file_status ∷ []) (to_server 1 (Returned (record { fid = file; ids = file_status.id ∷ [] })) ∷ [])
+
+-- a lock that is numbered under another fileset than its file's makes no want
+abbrev pub hears_misplaced : Step
+hears_misplaced =
+    serves (Came (to_server 1 (Change (record {
+      number = 2;
+      fileset = record { 0 = 65538 };
+      fid = file;
+      enter = false;
+      k = 2;
+      call = locks;
+    })))) [] [] []

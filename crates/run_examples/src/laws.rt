@@ -1,7 +1,7 @@
 ghost use Rattle.run_examples.specs.Laws.{WriteIsAskedFor, WriteIsAnswered, RevokeIsAnswered, RestartIsAnswered};
 ghost use Rattle.run_examples.specs.Laws.{StopIsAllowed, EndIsAllowed, LockIsKept, UseIsEnded, EvictionIsAllowed};
 ghost use Rattle.run_examples.specs.Laws.{BlockedFetchIsGranted, NamelessIsIgnored, OutOfTurnIsRefused};
-ghost use Rattle.run_examples.specs.Laws.{OwedIsAskedAgain, SecondChangeIsIgnored, ServerReacts, TakenIsUsed};
+ghost use Rattle.run_examples.specs.Laws.{OddMessagesAreBorne, OwedIsAskedAgain, SecondChangeIsIgnored, ServerReacts, TakenIsUsed};
 ghost use Rattle.run_examples.specs.Laws.{FetchAsksForAll, GrantOverDirtyIsTaken, LabelsTakenTwiceEnd};
 
 /// A Write asks for the status of a file that its host doesn't know, and then to change the status and the block that
@@ -97,6 +97,11 @@ pub fn out_of_turn_is_refused()
 /// A Change that enters a fileset but names none changes nothing.
 pub fn a_nameless_change_is_ignored()
     ensures { NamelessIsIgnored }
+{}
+
+/// Messages that are sound and that no honest peer sends are borne: they change nothing, or are answered.
+pub fn odd_messages_are_borne()
+    ensures { OddMessagesAreBorne }
 {}
 
 /// A host's Change that comes while another one of it waits under the same fileset changes nothing, and the one that

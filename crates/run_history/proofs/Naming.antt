@@ -364,7 +364,7 @@ module _ (script : Script) (start : Tree) (firsts : ServerId → ℕ) (past : Li
     sends_so : (S : List Doing) (x : Message) → Good past v S → AllSent (Now (Server v) v) S
         → MaySend v K s S (Sent x.host x.epoch x.moves x.body) → Now (Server v) v x.host x.epoch x.moves x.body
     sends_so S x g all may d id body outcome =
-        by (may.dones x.host x.epoch x.moves d (ap (λ (b : Body). Sent x.host x.epoch x.moves b) body)).2
+        by (may.done_for x.host x.epoch x.moves d (ap (λ (b : Body). Sent x.host x.epoch x.moves b) body)).2
       where
         by : DoneFor v K S x.host x.moves d → Asked (steps_of_host x.host past) v d id
         by (OfWritten w tokens last) = absurd (written_reply S x.host d id w outcome)

@@ -206,7 +206,7 @@ module _ (script : Script) (start : Tree) (firsts : ServerId → ℕ) where
 
       stays : x.moves ≡ 0
       stays =
-          let q = may.dones x.host x.epoch x.moves d (ap (λ (b : Body). Sent x.host x.epoch x.moves b) body) in
+          let q = may.done_for x.host x.epoch x.moves d (ap (λ (b : Body). Sent x.host x.epoch x.moves b) body) in
           elim q.1 [
             | inl none ↦ none.1
             | inr here ↦ sym (never_moved v T d.fileset x.moves here)

@@ -164,13 +164,15 @@ pub record IsOwed (server : ServerId) (past : List Doing) (t : Token) : Type 0 w
   pub unpinned : Pinned server past t → ⊥
   pub revoked : HasRevoked past t
 
--- What a server may send next.
+-- For what a server sends what it sends next. What it may do with tokens by it is said by `ServerTokens`.
 pub record MaySend (server : ServerId) (tree : Tree) (s : Step) (past : List Doing) (a : Doing) : Type 0 where
-  pub grants : (h : HostId) (e n : ℕ) (g : GrantOf) → a ≡ Sent h e n (Grant g) → GrantsSo server tree past h n g
-  pub dones : (h : HostId) (e n : ℕ) (d : DoneOf) → a ≡ Sent h e n (Done d)
+  -- a Grant is for a Fetch that waits
+  pub grant_for : (h : HostId) (e n : ℕ) (g : GrantOf) → a ≡ Sent h e n (Grant g) → GrantsSo server tree past h n g
+  -- a Done is for a Change that waits, or was decided
+  pub done_for : (h : HostId) (e n : ℕ) (d : DoneOf) → a ≡ Sent h e n (Done d)
       → IsLive past h × IsDecidedHere server past d.fileset n × DoneFor server tree past h n d
   -- a token is asked back once, while it is in the way of a want; and again at each lapse while it is owed
-  pub revokes : (h : HostId) (e n : ℕ) (r : RevokeOf) (i : TokenId) → a ≡ Sent h e n (Revoke r) → In i r.ids
+  pub revoke_for : (h : HostId) (e n : ℕ) (r : RevokeOf) (i : TokenId) → a ≡ Sent h e n (Revoke r) → In i r.ids
       → (t : Token) × (t.id ≡ i) × (t.host ≡ h)
       × ((IsAskedBack server past t × (HasRevoked past t → ⊥)) ⊎ ((s.cause ≡ Lapse) × IsOwed server past t))
 

@@ -353,9 +353,9 @@ meets_welcomes = record {
   where
     quiet_send : (past : List Doing) (b : Body) → ((g : GrantOf) → b ≡ Grant g → ⊥) → ((d : DoneOf) → b ≡ Done d → ⊥) → ((r : RevokeOf) → b ≡ Revoke r → ⊥) → MaySend site_one tree welcomes past (Sent client 1 0 b)
     quiet_send past b no_grant no_done no_revoke = record {
-      grants = λ h e n g p. absurd (no_grant g (let q : b ≡ Grant g = cc in q));
-      dones = λ h e n d p. absurd (no_done d (let q : b ≡ Done d = cc in q));
-      revokes = λ h e n r i p. absurd (no_revoke r (let q : b ≡ Revoke r = cc in q));
+      grant_for = λ h e n g p. absurd (no_grant g (let q : b ≡ Grant g = cc in q));
+      done_for = λ h e n d p. absurd (no_done d (let q : b ≡ Done d = cc in q));
+      revoke_for = λ h e n r i p. absurd (no_revoke r (let q : b ≡ Revoke r = cc in q));
     }
 
 -- the second step: the host enters the fileset
@@ -426,9 +426,9 @@ settles_enter = record {
 
 sends_entered : MaySend site_one tree tells (MakesWant wants_enter ∷ entering) (Sent client 1 0 (Done entered))
 sends_entered = record {
-  grants = λ h e n g p. absurd (cc);
-  dones = λ h e n d p. its h e n d (let q : client ≡ h = cc in q) (let q : 0 ≡ n = cc in q) (let q : entered ≡ d = cc in q);
-  revokes = λ h e n r i p. absurd (cc);
+  grant_for = λ h e n g p. absurd (cc);
+  done_for = λ h e n d p. its h e n d (let q : client ≡ h = cc in q) (let q : 0 ≡ n = cc in q) (let q : entered ≡ d = cc in q);
+  revoke_for = λ h e n r i p. absurd (cc);
 }
   where
     Sendable : HostId → ℕ → DoneOf → Type 0
@@ -535,9 +535,9 @@ grants_so = record {
 
 sends_grant : MaySend site_one tree (grants whole) (MakesWant (wants_root whole) ∷ fetching) (Sent client 1 0 (Grant (granted whole)))
 sends_grant = record {
-  grants = λ h e n g p. its h n g (let q : client ≡ h = cc in q) (let q : 0 ≡ n = cc in q) (let q : granted whole ≡ g = cc in q);
-  dones = λ h e n d p. absurd (cc);
-  revokes = λ h e n r i p. absurd (cc);
+  grant_for = λ h e n g p. its h n g (let q : client ≡ h = cc in q) (let q : 0 ≡ n = cc in q) (let q : granted whole ≡ g = cc in q);
+  done_for = λ h e n d p. absurd (cc);
+  revoke_for = λ h e n r i p. absurd (cc);
 }
   where
     its : (h : HostId) (n : ℕ) (g : GrantOf) → client ≡ h → 0 ≡ n → granted whole ≡ g → GrantsSo site_one tree (MakesWant (wants_root whole) ∷ fetching) h n g
