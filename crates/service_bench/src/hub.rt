@@ -1,12 +1,10 @@
-//! Times the network and the hub. For each line `COUNT` of standard input it sends so many messages, each in a step of
-//! its own, to a server that takes each at once; then the server looks as often and finds nothing; and the last of 16
-//! hosts and 4 servers takes so many turns at a hub, where there is nothing for it. It prints how much came of each;
-//! with the word `times` it prints beside it how many nanoseconds a message, a look and a turn took.
-#![tactic(auto)]
+//! The network and the hub: messages that are sent and taken, looks in vain, and the turns of a node for which there
+//! is nothing.
 
 ghost use Rattle.std.specs.Prelude.{◌≡◌, IfOk, OnOk, length};
 ghost use Rattle.std.specs.List.{All};
 
+use crate::clock::nanos_each;
 use anyhow::{Result, anyhow};
 use base_types::{HostId, Items, NoMemory, Node, ServerId};
 use hub_turns::{Hub, NodePass, Pending};
@@ -14,8 +12,6 @@ use hub_wire::Wire;
 use message_types::{Body, Direction, Message};
 use script_lines::{Net, Script};
 use std::alloc::Global;
-use std::env;
-use std::rt::Env;
 use std::sync::Wait;
 use std::time::{Clock, Instant};
 use tree_calls::{HostLine, Roster};
@@ -28,12 +24,7 @@ struct Told {
 }
 
 fn spent<R: Clock>(rt: &R, start: Instant, count: u32, came: u32) -> Result<Told> {
-    let took = start.elapsed(rt)?;
-    let all = took
-        .as_secs()
-        .wrapping_mul(1_000_000_000)
-        .wrapping_add(u64::from(took.subsec_nanos()));
-    let each = all / u64::from(count.max(1));
+    let each = nanos_each(rt, start, u64::from(count))?;
     Ok(Told { came, each })
 }
 
@@ -245,8 +236,21 @@ fn time_hub<R: Clock + Wait>(rt: &R, alloc: Global, count: u32) -> Result<Told> 
     told
 }
 
-fn measure<R: Clock + Wait + AllocGlobal + Print>(rt: &R, line: &str, times: bool) -> Result<()> {
-    let count: u32 = line.trim().parse()?;
+/// Sends so many messages as a load `COUNT` says, each in a step of its own, to a server that takes each at once; then
+/// the server looks as often and finds nothing; and the last of 16 hosts and 4 servers takes so many turns at a hub,
+/// where there is nothing for it. It prints how much came of each and, with `times`, the nanoseconds of a message, a
+/// look and a turn. `None` where it is no load.
+///
+/// # Errors
+/// The clock's, that of printing, or want of memory.
+pub fn measure<R: AllocGlobal + Clock + Print + Wait>(
+    rt: &R,
+    line: &str,
+    times: bool,
+) -> Result<Option<()>> {
+    let Ok(count) = line.trim().parse::<u32>() else {
+        return Ok(None);
+    };
     let (passed, looked) = time_network(rt, rt.alloc(), count)?;
     let turned = time_hub(rt, rt.alloc(), count)?;
     println!(rt;
@@ -256,13 +260,5 @@ fn measure<R: Clock + Wait + AllocGlobal + Print>(rt: &R, line: &str, times: boo
     if times {
         println!(rt; "{} {} {}", passed.each, looked.each, turned.each)?;
     }
-    Ok(())
-}
-
-fn main(rt: HostRuntime) -> Result<()> {
-    let times = env::args(&rt)?.count() > 1;
-    for line in rt.lines(rt.alloc()) {
-        measure(&rt, line?.as_str(), times)?;
-    }
-    Ok(())
+    Ok(Some(()))
 }

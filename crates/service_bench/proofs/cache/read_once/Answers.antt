@@ -1,5 +1,5 @@
 use Rattle.std.proofs.Common.{arith}
-use Rattle.host_bench.proofs.read_once.Goals as goal
+use Rattle.service_bench.proofs.cache.read_once.Goals as goal
 
 pub bytes_into-requires : goal.bytes_into-requires
 bytes_into-requires c = λ at low high.

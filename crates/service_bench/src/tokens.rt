@@ -1,16 +1,12 @@
-//! Times a token table and a token manager: for each line `FILES TOKENS` of standard input it grants so many tokens
-//! over so many files and 16 hosts, and then works on one file. It prints how many tokens that file has; with the word
-//! `times` it prints beside it the nanoseconds of a grant and drop, of a search for conflicts and of a look at what is
-//! covered in the table, and of a want that is asked and its token's return in the manager.
-#![tactic(auto)]
+//! A token table and a token manager: so many tokens over so many files and 16 hosts, and then work on one file.
 
 ghost use Rattle.std.specs.Prelude.{◌≤◌, ◌<◌, ◌^◌, IfSome};
 
+use crate::clock::nanos_each;
+use anyhow::Result;
 use base_types::{Fid, FilesetId, HostId, Items, NoMemory, ServerId};
 use std::alloc::Global;
-use std::rt::Env;
 use std::time::{Clock, Instant};
-use std::{env, io};
 use token_manager::{Asked, TokenManager, Want};
 use token_table::TokenTable;
 use token_types::{Kind, Need, TokenId, covers};
@@ -153,29 +149,22 @@ fn look(table: &TokenTable, need: Need) -> bool {
     covered
 }
 
-fn nanos<R: Clock>(rt: &R, start: Instant) -> io::Result<u64> {
-    let took = start.elapsed(rt)?;
-    let all = took
-        .as_secs()
-        .wrapping_mul(1_000_000_000)
-        .wrapping_add(u64::from(took.subsec_nanos()));
-    Ok(all / ROUNDS)
-}
-
-fn measure<R: Clock + Print>(rt: &R, table: &mut TokenTable, times: bool) -> io::Result<()> {
+// Works on one file of a table. It prints how many of its tokens are in the way of a change, and what a grant and drop,
+// a search and a look took.
+fn time_table<R: Clock + Print>(rt: &R, table: &mut TokenTable, times: bool) -> Result<()> {
     let need = Need {
         fid: file(0),
         kind: Kind::Status { update: true },
     };
     let start = Instant::now(rt)?;
     let granted = grant_and_drop(table, need.fid).is_ok();
-    let grants = nanos(rt, start)?;
+    let grants = nanos_each(rt, start, ROUNDS)?;
     let start = Instant::now(rt)?;
     let found = search(table, need).unwrap_or(0);
-    let searches = nanos(rt, start)?;
+    let searches = nanos_each(rt, start, ROUNDS)?;
     let start = Instant::now(rt)?;
     let covered = look(table, need);
-    let looks = nanos(rt, start)?;
+    let looks = nanos_each(rt, start, ROUNDS)?;
     println!(rt; "{found} tokens in the way, granted {granted}, covered {covered}")?;
     if times {
         println!(rt; "{grants} {searches} {looks}")?;
@@ -183,15 +172,16 @@ fn measure<R: Clock + Print>(rt: &R, table: &mut TokenTable, times: bool) -> io:
     Ok(())
 }
 
-fn measure_manager<R: Clock + Print>(
+// Works on one file of a manager. It prints how many wants were granted, and what each took with its token's return.
+fn time_manager<R: Clock + Print>(
     rt: &R,
     alloc: Global,
     manager: &mut TokenManager,
     times: bool,
-) -> io::Result<()> {
+) -> Result<()> {
     let start = Instant::now(rt)?;
     let granted = ask_and_return(manager, alloc, file(0)).unwrap_or(0);
-    let asks = nanos(rt, start)?;
+    let asks = nanos_each(rt, start, ROUNDS)?;
     println!(rt; "{granted} wants granted")?;
     if times {
         println!(rt; "{asks}")?;
@@ -199,26 +189,27 @@ fn measure_manager<R: Clock + Print>(
     Ok(())
 }
 
-fn wants_times(rt: &(impl Env + AllocGlobal)) -> io::Result<bool> {
-    Ok(env::args(rt)?.count() > 1)
-}
-
-fn main(rt: HostRuntime) -> io::Result<()> {
-    let times = wants_times(&rt)?;
-    for line in rt.lines(rt.alloc()) {
-        let line = line?;
-        let Some((files, tokens)) = load(line.as_str()) else {
-            println!(rt; "not a load: {line}")?;
-            continue;
-        };
-        match filled(rt.alloc(), files, tokens) {
-            Ok(mut table) => measure(&rt, &mut table, times)?,
-            Err(NoMemory) => println!(rt; "no memory")?,
-        }
-        match managed(rt.alloc(), files, tokens) {
-            Ok(mut manager) => measure_manager(&rt, rt.alloc(), &mut manager, times)?,
-            Err(NoMemory) => println!(rt; "no memory")?,
-        }
+/// Fills a table and a manager by a load `FILES TOKENS`, works on them, and prints what came of it and, with `times`,
+/// the nanoseconds of a grant and drop, of a search for conflicts and of a look at what is covered, and of a want that
+/// is asked and its token's return. `None` where it is no load.
+///
+/// # Errors
+/// The clock's, or that of printing. Want of memory is printed.
+pub fn measure<R: AllocGlobal + Clock + Print>(
+    rt: &R,
+    line: &str,
+    times: bool,
+) -> Result<Option<()>> {
+    let Some((files, tokens)) = load(line) else {
+        return Ok(None);
+    };
+    match filled(rt.alloc(), files, tokens) {
+        Ok(mut table) => time_table(rt, &mut table, times)?,
+        Err(NoMemory) => println!(rt; "no memory")?,
     }
-    Ok(())
+    match managed(rt.alloc(), files, tokens) {
+        Ok(mut manager) => time_manager(rt, rt.alloc(), &mut manager, times)?,
+        Err(NoMemory) => println!(rt; "no memory")?,
+    }
+    Ok(Some(()))
 }

@@ -1,18 +1,13 @@
-//! Times a host's cache: for each line `TOKENS` of standard input it holds so many tokens for reading, three on each
-//! file, and then works on some files. It prints what reads gave and which token is the oldest; with the word `times`
-//! it prints beside it the nanoseconds of a covered read of 64 bytes, of the look alone whether they are covered, of a
-//! token added and dropped, of tokens used, and of tokens used and a look for the oldest.
-#![tactic(auto)]
+//! A host's cache: so many tokens for reading, three on each file, and then work on some files.
 
 ghost use Rattle.std.specs.Prelude.{◌≡◌, ◌≤◌, length, IfSome};
 
+use crate::clock::nanos_each;
 use anyhow::Result;
 use base_types::{Fid, FilesetId, HostId, Items, NoMemory, ServerId, Span};
 use host_cache::Cache;
 use std::alloc::Global;
-use std::rt::Env;
 use std::time::{Clock, Instant};
-use std::{env, io};
 use token_types::{Kind, Need, Token, TokenId};
 use tree_calls::Piece;
 
@@ -166,23 +161,14 @@ fn oldest(cache: &mut Cache) -> u64 {
     seq
 }
 
-fn nanos<R: Clock>(rt: &R, start: Instant) -> io::Result<u64> {
-    let took = start.elapsed(rt)?;
-    let all = took
-        .as_secs()
-        .wrapping_mul(1_000_000_000)
-        .wrapping_add(u64::from(took.subsec_nanos()));
-    Ok(all / ROUNDS)
-}
-
 // What reads took, and what they gave.
-fn measure_reads<R: Clock + Print>(rt: &R, cache: &Cache, times: bool) -> io::Result<()> {
+fn time_reads<R: Clock + Print>(rt: &R, cache: &Cache, times: bool) -> Result<()> {
     let start = Instant::now(rt)?;
     let sum = read(cache);
-    let reads = nanos(rt, start)?;
+    let reads = nanos_each(rt, start, ROUNDS)?;
     let start = Instant::now(rt)?;
     let covered = look(cache);
-    let looks = nanos(rt, start)?;
+    let looks = nanos_each(rt, start, ROUNDS)?;
     println!(rt; "read {sum}, covered {covered}")?;
     if times {
         println!(rt; "{reads} {looks}")?;
@@ -191,25 +177,21 @@ fn measure_reads<R: Clock + Print>(rt: &R, cache: &Cache, times: bool) -> io::Re
 }
 
 // What changes took, and which token is the oldest.
-fn measure_changes<R: Clock + Print>(rt: &R, cache: &mut Cache, times: bool) -> io::Result<()> {
+fn time_changes<R: Clock + Print>(rt: &R, cache: &mut Cache, times: bool) -> Result<()> {
     let start = Instant::now(rt)?;
     let added = add_and_drop(cache, file(0)).is_ok();
-    let adds = nanos(rt, start)?;
+    let adds = nanos_each(rt, start, ROUNDS)?;
     let start = Instant::now(rt)?;
     used(cache);
-    let uses = nanos(rt, start)?;
+    let uses = nanos_each(rt, start, ROUNDS)?;
     let start = Instant::now(rt)?;
     let seq = oldest(cache);
-    let looks = nanos(rt, start)?;
+    let looks = nanos_each(rt, start, ROUNDS)?;
     println!(rt; "added {added}, oldest {seq}")?;
     if times {
         println!(rt; "{adds} {uses} {looks}")?;
     }
     Ok(())
-}
-
-fn wants_times(rt: &(impl Env + AllocGlobal)) -> io::Result<bool> {
-    Ok(env::args(rt)?.count() > 1)
 }
 
 fn pieces(alloc: Global) -> Result<Items<Piece>, NoMemory> {
@@ -219,8 +201,8 @@ fn pieces(alloc: Global) -> Result<Items<Piece>, NoMemory> {
     Ok(pieces)
 }
 
-// Puts so many tokens into a cache, and measures it.
-fn measure<R: Clock + Print + AllocGlobal>(
+// Puts so many tokens into a cache, and works on it.
+fn time_filled<R: AllocGlobal + Clock + Print>(
     rt: &R,
     cache: &mut Cache,
     tokens: u32,
@@ -228,27 +210,28 @@ fn measure<R: Clock + Print + AllocGlobal>(
 ) -> Result<()> {
     let pieces = pieces(rt.alloc())?;
     fill(cache, tokens, pieces.as_slice())?;
-    measure_reads(rt, cache, times)?;
-    measure_changes(rt, cache, times)?;
+    time_reads(rt, cache, times)?;
+    time_changes(rt, cache, times)?;
     Ok(())
 }
 
-// Measures a new cache with so many tokens.
-fn measure_new<R: Clock + Print + AllocGlobal>(rt: &R, tokens: u32, times: bool) -> Result<()> {
+/// Fills a cache by a load `TOKENS`, works on it, and prints what reads gave and which token is the oldest and, with
+/// `times`, the nanoseconds of a covered read of 64 bytes, of the look alone whether they are covered, of a token added
+/// and dropped, of tokens used, and of tokens used and a look for the oldest. `None` where it is no load.
+///
+/// # Errors
+/// The clock's, that of printing, or want of memory.
+pub fn measure<R: AllocGlobal + Clock + Print>(
+    rt: &R,
+    line: &str,
+    times: bool,
+) -> Result<Option<()>> {
+    let Some(tokens) = load(line) else {
+        return Ok(None);
+    };
     let mut cache = Cache::new(rt.alloc())?;
-    let measured = measure(rt, &mut cache, tokens, times);
+    let timed = time_filled(rt, &mut cache, tokens, times);
     drop(cache);
-    measured
-}
-
-fn main(rt: HostRuntime) -> Result<()> {
-    let times = wants_times(&rt)?;
-    for line in rt.lines(rt.alloc()) {
-        let line = line?;
-        match load(line.as_str()) {
-            Some(tokens) => measure_new(&rt, tokens, times)?,
-            None => println!(rt; "not a load: {line}")?,
-        }
-    }
-    Ok(())
+    timed?;
+    Ok(Some(()))
 }

@@ -2,7 +2,7 @@ use Rattle.std.proofs.Common.{◌≡◌, Option, subst}
 use Rattle.std.specs.Prelude.{IfSome}
 use Rattle.std.proofs.lemmas.List.Elements.{All-pop}
 use Rattle.hub_turns.specs.Views.{NodeView}
-use Rattle.hub_bench.proofs.time_last.Goals as goal
+use Rattle.service_bench.proofs.hub.time_last.Goals as goal
 
 pub time_turns-told-requires : goal.time_turns-told-requires
 time_turns-told-requires g c =
