@@ -1,7 +1,7 @@
 use Rattle.std.proofs.Common.{◌≡◌, ◌∷◌, [], length, arith, sym, ap, subst, length-append}
 use Rattle.service_plain.specs.Underway.{AreNew}
 use Rattle.service_plain.proofs.Steps.{new_more}
-use Rattle.service_plain.proofs.play.Play.new.Goals as goal
+use Rattle.service_plain.proofs.play.new_desks.Goals as goal
 
 pub loop-host-preserved : goal.loop-host-preserved
 loop-host-preserved c =
