@@ -10,7 +10,7 @@ RUNS = 25
 def cache(tokens):
     """The nanoseconds of a covered read, a look at what is covered, a token added and dropped, tokens
     used, and tokens used with a look for the oldest."""
-    ran = subprocess.run([CACHE, "times"], input="%d\n" % tokens, capture_output=True, text=True, check=True)
+    ran = subprocess.run([CACHE, "times"], input="cache %d\n" % tokens, capture_output=True, text=True, check=True)
     lines = ran.stdout.split("\n")
     return [float(word) for word in lines[1].split() + lines[3].split()]
 

@@ -9,7 +9,7 @@ RUNS = 5
 
 def times(files, tokens):
     """The nanoseconds of a grant and drop, a search for conflicts, a look at what is covered, and a want and return."""
-    rows = "%d %d\n" % (files, tokens)
+    rows = "tokens %d %d\n" % (files, tokens)
     answer = subprocess.run([PROGRAM, "times"], input=rows, capture_output=True, text=True, check=True).stdout
     lines = answer.split("\n")
     return [int(word) for word in lines[1].split() + lines[3].split()]

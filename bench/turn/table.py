@@ -16,7 +16,7 @@ def nanos(answer, workers, turns):
 
 
 def cell(workers, turns):
-    rows = "%d %d\n" % (workers, turns)
+    rows = "cell %d %d\n" % (workers, turns)
     ran = subprocess.run([CELL, "times"], input=rows, capture_output=True, text=True, check=True)
     return nanos(ran.stdout, workers, turns)
 

@@ -9,8 +9,8 @@ RUNS = 5
 
 def times(count):
     """The nanoseconds of a message, of a look in vain and of a turn."""
-    answer = subprocess.run([PROGRAM, "times"], input="%d\n" % count, capture_output=True, text=True, check=True).stdout
-    return [int(word) for word in answer.split("\n")[1].split()]
+    ran = subprocess.run([PROGRAM, "times"], input="hub %d\n" % count, capture_output=True, text=True, check=True)
+    return [int(word) for word in ran.stdout.split("\n")[1].split()]
 
 
 best = {}

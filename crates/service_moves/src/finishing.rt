@@ -59,7 +59,11 @@ fn send_again<S: Store>(stores: &mut [S], ship: &Ship) -> Result<(), RunStopped>
     ensures goes_on { AllGoOn S.view (66 * batch_wear) result stores.old stores.new }
 {
     match mover_again(ship) {
-        Ok(mover) => send_between(stores, ship, &mover),
+        Ok(mover) => {
+            let sent = send_between(stores, ship, &mover);
+            drop(mover);
+            sent
+        }
         Err(_) => Err(RunStopped::Memory),
     }
 }

@@ -158,5 +158,7 @@ pub fn keep_move<S: Store>(
         return Ok(());
     }
     let mover = request.mover()?;
-    move_over(stores, fileset.server, fileset.id, request.to, &mover)
+    let moved = move_over(stores, fileset.server, fileset.id, request.to, &mover);
+    drop(mover);
+    moved
 }

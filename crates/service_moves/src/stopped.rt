@@ -6,7 +6,7 @@ use service_starts::FitRefused;
 use store_memory::StoreFault;
 
 /// Why a run over stores stopped.
-#[derive(Clone, Copy, Debug, PartialEq)]
+#[derive(Clone, Copy)]
 pub enum RunStopped {
     /// The store of this server failed, and failed again when that was tried once more.
     Failed(ServerId),

@@ -86,7 +86,9 @@ impl Past {
         ensures { IfOk result (λ done. Makes host k (ending used.now) done self.old self.new) }
     {
         let call = used.ending()?;
-        self.make(host, k, &call)
+        let made = self.make(host, k, &call);
+        drop(call);
+        made
     }
 
     /// A host that made so many calls ends what it has in use.

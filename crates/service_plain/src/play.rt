@@ -15,6 +15,7 @@ ghost use Rattle.service_plain.specs.Underway.{
   GoesAlong,
   GoesOver,
   IsNew,
+  AreNew,
   keeps_deed,
   may_go,
   new_desk,
@@ -52,23 +53,23 @@ pub(crate) struct Play {
 
 impl Play {
     /// A script before its first line, from a tree on.
-    #[tactic(auto, using(crate::proofs::Steps::steps))]
     pub fn new(script: &Script, tree: Tree) -> Result<Play, NoMemory>
         requires count { length script.now.setup + length script.now.lines ≤ SCRIPT_LINES_MAX }
         ensures { IfOk result (λ play. IsNew script.now tree play) }
     {
-        let alloc = script.lines.alloc();
-        let mut desks = Items::new(alloc);
-        for host in 0..=HOSTS_MAX {
-            desks.push(new_desk(script, HostId(host)))?;
+        match new_desks(script) {
+            Ok(desks) => Ok(Play {
+                past: Past {
+                    tree,
+                    history: Items::new(script.lines.alloc()),
+                },
+                desks,
+            }),
+            Err(NoMemory) => {
+                drop(tree);
+                Err(NoMemory)
+            }
         }
-        Ok(Play {
-            past: Past {
-                tree,
-                history: Items::new(alloc),
-            },
-            desks,
-        })
     }
 
     /// All lines go: those that make the filesets, and then those at these places, in their order.
@@ -202,6 +203,20 @@ impl Play {
         self.past.end_uses(host, desk.calls, &desk.uses)?;
         Ok(())
     }
+}
+
+// What is known of the hosts before their first lines.
+#[tactic(auto, using(crate::proofs::Steps::steps))]
+fn new_desks(script: &Script) -> Result<Items<Desk>, NoMemory>
+    requires count { length script.now.setup + length script.now.lines ≤ SCRIPT_LINES_MAX }
+    ensures count { IfOk result (λ desks. length desks ≡ HOSTS_MAX + 1) }
+    ensures each { IfOk result (AreNew script.now) }
+{
+    let mut desks = Items::new(script.lines.alloc());
+    for host in 0..=HOSTS_MAX {
+        desks.push(new_desk(script, HostId(host)))?;
+    }
+    Ok(desks)
 }
 
 // What is known of a host before its first line.

@@ -25,10 +25,29 @@ fn past_of(script: &Script, start: Tree, order: &Items<usize>) -> Result<Past, N
     ensures { IfOk result (λ past. IsPlayed script.now (played_so start past order.now)) }
 {
     let mut play = Play::new(script, start)?;
-    let went = play.go_all(script, order);
-    let past = play.into_past();
-    went?;
-    Ok(past)
+    match play.go_all(script, order) {
+        Ok(()) => Ok(play.into_past()),
+        Err(NoMemory) => {
+            drop(play);
+            Err(NoMemory)
+        }
+    }
+}
+
+// What happens from a tree on, and the order in which the lines went.
+fn went_from(
+    alloc: Global,
+    script: &Script,
+    start: &Tree,
+) -> Result<(Past, Items<usize>), NoMemory>
+    requires sound { IsSound script.now }
+    requires goes { stuck_at script.now.lines ≡ None }
+    requires start { IsStart script.now.roster start.now }
+    ensures { IfOk result (λ went. IsPlayed script.now (played_so start.now went.0 went.1)) }
+{
+    let order = order_of(alloc, &script.lines)?;
+    let past = past_of(script, start.copy()?, &order)?;
+    Ok((past, order))
 }
 
 /// Runs a script from a file tree on: the calls that make the filesets come first; then, as long as a line can go, the
@@ -44,12 +63,16 @@ pub fn serve(alloc: Global, script: &Script, start: Tree) -> Result<Played, NoMe
     ensures played { IfOk result (IsPlayed script.now) }
     ensures start { IfOk result (λ played. played.start ≡ start) }
 {
-    let order = order_of(alloc, &script.lines)?;
-    let past = past_of(script, start.copy()?, &order)?;
-    Ok(Played {
-        start,
-        history: past.history,
-        last: past.tree,
-        order,
-    })
+    match went_from(alloc, script, &start) {
+        Ok((past, order)) => Ok(Played {
+            start,
+            history: past.history,
+            last: past.tree,
+            order,
+        }),
+        Err(NoMemory) => {
+            drop(start);
+            Err(NoMemory)
+        }
+    }
 }

@@ -1,5 +1,6 @@
 ghost use Rattle.std.specs.Prelude.{◌≡◌, IfOk, OnOk};
 ghost use Rattle.service_plain.specs.Uses.{same_use, without, used_after, ending};
+ghost use Rattle.service_plain.specs.declared.uses.Use.TheVariants.{Lock, Open};
 
 use base_types::{Items, Name, NoMemory, Plain};
 use tree_calls::Call;
@@ -13,36 +14,38 @@ pub enum Use {
     Open(Name),
 }
 
-impl Plain for Use {
-    fn copy(&self) -> Result<Use, NoMemory> {
-        Ok(match self {
-            Use::Lock(label) => Use::Lock(label.copy()?),
-            Use::Open(label) => Use::Open(label.copy()?),
-        })
-    }
-}
-
 impl Use {
     /// The call that ends it.
     pub(crate) fn ending(&self) -> Result<Call, NoMemory>
         ensures { IfOk result (λ call. call ≡ ending self.now) }
     {
-        Ok(match self {
-            Use::Lock(label) => Call::Unlock {
-                label: label.copy()?,
-            },
-            Use::Open(label) => Call::CloseFile {
-                label: label.copy()?,
-            },
-        })
+        match self {
+            Use::Lock(label) => {
+                let label = label.copy()?;
+                Ok(Call::Unlock { label })
+            }
+            Use::Open(label) => {
+                let label = label.copy()?;
+                Ok(Call::CloseFile { label })
+            }
+        }
     }
 
-    fn is(&self, other: &Use) -> bool
-        ensures { result ≡ same_use self.now other.now }
+    fn is_lock(&self, label: &Name) -> bool
+        ensures { result ≡ same_use self.now (Lock label.now) }
     {
-        match (self, other) {
-            (Use::Lock(a), Use::Lock(b)) | (Use::Open(a), Use::Open(b)) => *a == *b,
-            _ => false,
+        match self {
+            Use::Lock(other) => *other == *label,
+            Use::Open(_) => false,
+        }
+    }
+
+    fn is_open(&self, label: &Name) -> bool
+        ensures { result ≡ same_use self.now (Open label.now) }
+    {
+        match self {
+            Use::Lock(_) => false,
+            Use::Open(other) => *other == *label,
         }
     }
 }
@@ -54,15 +57,21 @@ pub(crate) fn note(uses: &mut Items<Use>, call: &Call) -> Result<(), NoMemory>
     match call {
         Call::Lock { label, .. } => uses.push(Use::Lock(label.copy()?))?,
         Call::OpenFile { label, .. } => uses.push(Use::Open(label.copy()?))?,
-        Call::Unlock { label } => drop_use(uses, &Use::Lock(label.copy()?)),
-        Call::CloseFile { label } => drop_use(uses, &Use::Open(label.copy()?)),
+        Call::Unlock { label } => drop_lock(uses, label),
+        Call::CloseFile { label } => drop_open(uses, label),
         _ => (),
     }
     Ok(())
 }
 
-fn drop_use(uses: &mut Items<Use>, gone: &Use)
-    ensures { uses.new ≡ without gone.now uses.old }
+fn drop_lock(uses: &mut Items<Use>, label: &Name)
+    ensures { uses.new ≡ without (Lock label.now) uses.old }
 {
-    uses.retain(|other| !other.is(gone));
+    uses.retain(|other| !other.is_lock(label));
+}
+
+fn drop_open(uses: &mut Items<Use>, label: &Name)
+    ensures { uses.new ≡ without (Open label.now) uses.old }
+{
+    uses.retain(|other| !other.is_open(label));
 }
