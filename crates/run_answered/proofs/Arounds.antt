@@ -147,7 +147,8 @@ module _ (script : Script) (start : Tree) (firsts : ServerId → ℕ) (real : (v
             × ((u ≡ v) ⊎ (u ≡ home d.fileset))
         src = done_from v d counts.0
 
-        w : (w : Written) × Wrote (doings_of (firsts src.0) src.0 past) w × (w.answer.host ≡ h) × (w.fileset ≡ d.fileset)
+        w : (w : Written) × Wrote (doings_of (firsts src.0) src.0 past) w × (w.answer.host ≡ h)
+            × (w.fileset ≡ d.fileset)
             × (w.number ≡ d.bring.number)
         w = has_written (doings_of (firsts src.0) src.0 past) h d
             ((all_told script start firsts real past run src.0).reasons h (epoch_at A src.0) src.1 d r src.2 is)

@@ -77,14 +77,16 @@ always_before P (x ∷ more) past all = (always_before P more (x ∷ past) all).
 pub calls_have_entries : CallsHaveEntries
 calls_have_entries script journal run past more e host = go states
   where
-    states : State (steps_of_host host past) host (WroteBy (firsts_of journal) past) (AppliedBy (firsts_of journal) past host)
+    states : State (steps_of_host host past) host (WroteBy (firsts_of journal) past)
+        (AppliedBy (firsts_of journal) past host)
         (entered host (history past))
     states =
         all_states script run.start (firsts_of journal) (λ v. above _)
         (cited script run.start (firsts_of journal) (λ v. above _)) host past
         (always_before _ more past (subst (StepsMeet script run.start (firsts_of journal)) (sym e) run.steps))
 
-    go : State (steps_of_host host past) host (WroteBy (firsts_of journal) past) (AppliedBy (firsts_of journal) past host)
+    go : State (steps_of_host host past) host (WroteBy (firsts_of journal) past)
+        (AppliedBy (firsts_of journal) past host)
         (entered host (history past)) → HasEntries past host
     go (Whole q reasons) = inl q
     go (Waits x o q none_written none_given) = inr (x, o, q)

@@ -185,7 +185,8 @@ module _ (script : Script) (start : Tree) (firsts : ServerId → ℕ) (real : (v
     new_unknown past s run met g i known = elim known [
       | inl (given, inl about) ↦ fresh (home g.fid.fileset)
           (((whole script start firsts real past run).at (home g.fid.fileset)).served.gones h _ _ (number_of g)
-          (sent_of past s met (home g.fid.fileset) (epoch_at (steps_of_host h past) (home g.fid.fileset)) 0 (Gone (number_of g))
+          (sent_of past s met (home g.fid.fileset) (epoch_at (steps_of_host h past) (home g.fid.fileset)) 0
+          (Gone (number_of g))
           about))
       | inl (given, inr (u, answer, comes, j)) ↦ fresh u
           (((whole script start firsts real past run).at u).served.reclaimed h _ _ answer (number_of g)
@@ -204,7 +205,8 @@ module _ (script : Script) (start : Tree) (firsts : ServerId → ℕ) (real : (v
     ended_at : (k : Node) (past : List Step) (s : Step) → StepsMeet script start firsts past
         → StepMeets script start firsts k past s → (v : ServerId)
         → (HasSaid (steps_of_host h past) v Bye → HasEnded script h (steps_of_host h past))
-        → HasSaid (own_after h k s (steps_of_host h past)) v Bye → HasEnded script h (own_after h k s (steps_of_host h past))
+        → HasSaid (own_after h k s (steps_of_host h past)) v Bye
+        → HasEnded script h (own_after h k s (steps_of_host h past))
     ended_at (Server k) past s run m v old = old
     ended_at (Host k) past s run m v old =
         if_host (λ L. HasSaid L v Bye → HasEnded script h L) k h (s ∷ steps_of_host h past) (steps_of_host h past)
@@ -293,7 +295,8 @@ ended_runs_leave_none_open script journal run ended host part =
     names : GivesName (past_of journal)
     names = gives_name script run.start (firsts_of journal) (past_of journal) run.steps
 
-    closed : ((v : ServerId) → HasGreeted (steps_of_host host (past_of journal)) v → HasBye (steps_of_host host (past_of journal)) v)
+    closed : ((v : ServerId) → HasGreeted (steps_of_host host (past_of journal)) v
+        → HasBye (steps_of_host host (past_of journal)) v)
         → NoneOpen (steps_of_host host (past_of journal))
     closed byes x o = elim who [
       | inl w ↦ greeted w.0
@@ -304,7 +307,8 @@ ended_runs_leave_none_open script journal run ended host part =
         who : SomeWelcome script host (steps_of_host host (past_of journal))
             ⊎ ((v : ServerId) × HasGreeted (steps_of_host host (past_of journal)) v)
         who =
-            open_welcome script run.start (firsts_of journal) (λ v. above _) host (steps_of_host host (past_of journal)) ran
+            open_welcome script run.start (firsts_of journal) (λ v. above _) host
+            (steps_of_host host (past_of journal)) ran
             (names host) x o (λ st. stopped_none script host (steps_of_host host (past_of journal)) ran st x o)
 
         greeted : (v : ServerId) → HasGreeted (steps_of_host host (past_of journal)) v → ⊥

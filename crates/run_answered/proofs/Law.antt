@@ -59,7 +59,8 @@ module _ (script : Script) (start : Tree) (firsts : ServerId → ℕ) (real : (v
     of_host : (k : HostId) → s.node ≡ Host k → StepMeets script start firsts (Host k) past s → After (Host k)
     of_host k e met =
         host_split (λ L. State L h (WroteBy firsts past) (AppliedBy firsts past h)
-        (E ++ entered h (map call_entry s.answers ++ []))) k h (s ∷ steps_of_host h past) (steps_of_host h past) mine others
+        (E ++ entered h (map call_entry s.answers ++ []))) k h (s ∷ steps_of_host h past) (steps_of_host h past) mine
+        others
       where
         mine : k ≡ h → State (s ∷ steps_of_host h past) h (WroteBy firsts past) (AppliedBy firsts past h)
             (E ++ entered h (map call_entry s.answers ++ []))
@@ -111,7 +112,8 @@ module _ (script : Script) (start : Tree) (firsts : ServerId → ℕ) (real : (v
             → Once (P u) (doings_of (firsts u) u past) ⊎ ((u ≡ v) × Once (P v) (after_deciding s S))
         back sent admits reserves u o =
             if_server_or (λ X. Once (P u) X
-            → Once (P u) (doings_of (firsts u) u past) ⊎ ((u ≡ v) × Once (P v) (after_deciding s S))) (v.0 == u.0) refl o
+            → Once (P u) (doings_of (firsts u) u past) ⊎ ((u ≡ v) × Once (P v) (after_deciding s S))) (v.0 == u.0)
+            refl o
           where
             if_server_or : (Q : List Doing → Type 0) (b : Bool) → (v.0 == u.0) ≡ b
                 → Once (P u) (if b then after_step s (doings_of (firsts u) u past) else doings_of (firsts u) u past)
@@ -127,11 +129,13 @@ module _ (script : Script) (start : Tree) (firsts : ServerId → ℕ) (real : (v
 
       of_server : After (Server v)
       of_server =
-          subst (State (steps_of_host h past) h (λ u w. Wrote (acts_after u (Server v) s (doings_of (firsts u) u past)) w)
+          subst (State (steps_of_host h past) h
+          (λ u w. Wrote (acts_after u (Server v) s (doings_of (firsts u) u past)) w)
           (λ u m. IsApplied u (acts_after u (Server v) s (doings_of (firsts u) u past)) h m))
           (ap (λ (xs : List Answer). E ++ entered h (map call_entry xs ++ flat_map (entries_in v) s.applied))
           (sym met.0.no_host.does_none.2))
-          (map_state (steps_of_host h past) h _ (λ u w. Wrote (acts_after u (Server v) s (doings_of (firsts u) u past)) w) _
+          (map_state (steps_of_host h past) h _
+          (λ u w. Wrote (acts_after u (Server v) s (doings_of (firsts u) u past)) w) _
           (λ u m. IsApplied u (acts_after u (Server v) s (doings_of (firsts u) u past)) h m)
           (λ u w i. on (λ y. PW w) u i)
           (λ u w hh i. back (λ y. PW w) (λ before g e n b q. cc) (λ before g ts q. cc) (λ before ts q. cc) u i)

@@ -615,5 +615,6 @@ module _ (script : Script) (start : Tree) (firsts : ServerId → ℕ) (real : (v
       (sym (same_decisions s.applied (after_cause s.cause S)))
       (decides (decisions s.applied) (filesets_through s.cause (by_cause s.applied) kept_then) (after_cause s.cause S)
       (E ++ mine v h (by_cause s.applied)) met.0.works.decides
-      (subst (λ (ds : List Doing). EachInTurn (ServerTokens v) ds (after_cause s.cause S)) (sym (same_deciding s.applied))
+      (subst (λ (ds : List Doing). EachInTurn (ServerTokens v) ds (after_cause s.cause S))
+      (sym (same_deciding s.applied))
       met.0.tokens.writes) caused (cause_state E state)))

@@ -370,7 +370,8 @@ pub step_told : (script : Script) (start : Tree) (v : ServerId) (steps : List St
     → ServerMay script start v steps S s → Told S → Told (after_step s S)
 step_told script start v steps S s m old =
     on (after_sending s S) (Reserves s.reserved) (λ w e. cc) (λ h e n b q. cc) (λ w e. cc) refl
-    (sents v (filesets_through s.cause s.applied (filesets_kept start v steps)) s s.sent (after_admitting s S) m.works.sends
+    (sents v (filesets_through s.cause s.applied (filesets_kept start v steps)) s s.sent (after_admitting s S)
+    m.works.sends
     m.tokens.sends (admits s.admitted (after_deciding s S)
     (subst Told (sym (same_decisions s.applied (after_cause s.cause S)))
     (decides v S s (decisions s.applied) (filesets_through s.cause (by_cause s.applied) (filesets_kept start v steps))

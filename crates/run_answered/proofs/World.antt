@@ -93,7 +93,8 @@ on : (a : Doing) (S : List Doing) → ((w : Written) → a ≡ WritesDown w → 
 on a S none old w (inl q) = absurd (none w q)
 on a S none old w (inr o) = asked_on a S w (old w o)
 
-write : (v : ServerId) (x : Written) (S : List Doing) → ServerTokens v S (WritesDown x) → AllAsked S → AllAsked (WritesDown x ∷ S)
+write : (v : ServerId) (x : Written) (S : List Doing) → ServerTokens v S (WritesDown x) → AllAsked S
+    → AllAsked (WritesDown x ∷ S)
 write v x S may old w (inr o) = asked_on (WritesDown x) S w (old w o)
 write v x S may old w (inl q) =
     let k = may.writes w q in
@@ -118,7 +119,8 @@ asked_causes Lapse S old = old
 asked_causes Evict S old = old
 asked_causes End S old = old
 
-asked_decides : (v : ServerId) (xs : List Applied) (S : List Doing) → EachInTurn (ServerTokens v) (deciding xs) S → AllAsked S
+asked_decides : (v : ServerId) (xs : List Applied) (S : List Doing) → EachInTurn (ServerTokens v) (deciding xs) S
+    → AllAsked S
     → AllAsked (appended (deciding xs) S)
 asked_decides v [] S may old = old
 asked_decides v (IsWanted x ∷ xs) S may old =
@@ -224,7 +226,8 @@ module _ (script : Script) (start : Tree) (firsts : ServerId → ℕ) (real : (v
         go End q o = old o
 
     step_heard : (v : ServerId) (past : List Step) (s : Step) (S : List Doing) → CameToServer v past s
-        → (TookIt S h e n b → Said (steps_of_host h past) v e n b) → TookIt (after_step s S) h e n b → Said (steps_of_host h past) v e n b
+        → (TookIt S h e n b → Said (steps_of_host h past) v e n b) → TookIt (after_step s S) h e n b
+        → Said (steps_of_host h past) v e n b
     step_heard v past s S came old (inl t) = absurd (let z : Reserves s.reserved ≡ Took h e n b = t in cc)
     step_heard v past s S came old (inr o) =
         cause_heard v past s S came old
@@ -235,13 +238,16 @@ module _ (script : Script) (start : Tree) (firsts : ServerId → ℕ) (real : (v
 
     heard_step : (v : ServerId) (k : Node) (past : List Step) (s : Step) → StepMeets script start firsts k past s
         → (TookIt (doings_of (firsts v) v past) h e n b → Said (steps_of_host h past) v e n b)
-        → TookIt (acts_after v k s (doings_of (firsts v) v past)) h e n b → Said (own_after h k s (steps_of_host h past)) v e n b
+        → TookIt (acts_after v k s (doings_of (firsts v) v past)) h e n b
+        → Said (own_after h k s (steps_of_host h past)) v e n b
     heard_step v (Host k) past s m old took =
-        if_host (λ A. Said A v e n b) k h (s ∷ steps_of_host h past) (steps_of_host h past) (λ q. inr (old took)) (old took)
+        if_host (λ A. Said A v e n b) k h (s ∷ steps_of_host h past) (steps_of_host h past) (λ q. inr (old took))
+        (old took)
     heard_step v (Server k) past s m old took =
         if_server (λ S. TookIt S h e n b → Said (steps_of_host h past) v e n b) k v
         (after_step s (doings_of (firsts v) v past)) (doings_of (firsts v) v past)
-        (λ q. step_heard v past s (doings_of (firsts v) v past) (subst (λ (w : ServerId). CameToServer w past s) q m.1) old)
+        (λ q. step_heard v past s (doings_of (firsts v) v past)
+        (subst (λ (w : ServerId). CameToServer w past s) q m.1) old)
         old took
 
     pub heard : (past : List Step) → StepsMeet script start firsts past → (v : ServerId)
