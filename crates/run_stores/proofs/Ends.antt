@@ -1,5 +1,4 @@
 -- What a store keeps of the tree that an ended run leaves.
-use Rattle.std.proofs.Common.{ap, ◌≡◌}
 use Rattle.run_history.proofs.EndedLaw.{ended_runs_may_be_followed}
 use Rattle.run_history.proofs.Law.{servers_keep_the_tree}
 use Rattle.run_history.specs.Past.{ServersKeepTheTree}

@@ -9,5 +9,7 @@ pub mod Replies
 pub mod Stands
 pub mod Ends
 pub mod Starting
+pub mod Numbers
 pub mod Steps
 pub mod Elsewhere
+pub mod Wanting

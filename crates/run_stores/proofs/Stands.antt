@@ -125,7 +125,7 @@ first_stands start state kept unmoved keeps = record {
   keeps = first_is_kept.keeps start state kept.formed unmoved keeps;
 }
 
-same_booted : (state : StoreState) → (act_done state Boot).state.server ≡ state.server
+pub same_booted : (state : StoreState) → (act_done state Boot).state.server ≡ state.server
 unfolding act_done
 same_booted state = refl
 

@@ -1,10 +1,8 @@
 -- In which epochs servers start.
-use Rattle.std.proofs.Common.{List, None, Option, Some, ap, arith, map, refl, suc, sym, unwrap_or, zero, ℕ, ◌+◌, ◌-◌, ◌∙◌, ◌∷◌, ◌≡◌, []}
+use Rattle.std.proofs.Common.{List, Option, Some, ap, arith, map, refl, suc, unwrap_or, zero, ℕ, ◌+◌, ◌-◌, ◌∙◌, ◌∷◌, ◌≡◌, []}
 use Rattle.std.specs.Prelude.{max, slice_get}
-use Rattle.std.specs.Option.{option_map}
 use Rattle.base_types.specs.declared.ids.ServerId.{ServerId}
 use Rattle.store_acts.specs.Acts.{act_done}
-use Rattle.store_acts.specs.declared.act.Act.TheVariants.{Boot}
 use Rattle.store_state.specs.declared.state.StoreState.{StoreState}
 use Rattle.run_rules.specs.Runs.{firsts_of}
 use Rattle.run_rules.specs.declared.journal.Journal.{Journal}

@@ -1,9 +1,8 @@
 -- The acts of a step, each of which is done now.
-use Rattle.std.proofs.Common.{◌≡◌, ◌<◌, ℕ, ◌==◌, nat_lt, Bool, cond, true, false, List, [], ◌∷◌, Option, Some, None, refl, sym, ap, ◌∙◌, subst, arith}
+use Rattle.std.proofs.Common.{◌≡◌, ◌<◌, ℕ, ◌==◌, nat_lt, Bool, cond, true, false, List, [], ◌∷◌, Option, Some, None, refl, sym, ap, ◌∙◌, subst}
 use Rattle.std.specs.Prelude.{if◌then◌else◌}
 use Rattle.std.specs.List.{filter}
 use Rattle.std.specs.Option.{option_map_or}
-use Rattle.std.proofs.lemmas.Grind.{common_steps}
 use Rattle.base_types.specs.declared.ids.Fid.{Fid}
 use Rattle.base_types.specs.declared.ids.FilesetId.{FilesetId}
 use Rattle.base_types.specs.declared.ids.HostId.{HostId}
@@ -70,15 +69,14 @@ use Rattle.run_rules.specs.declared.step.Step.{Step}
 use Rattle.run_rules.specs.declared.applied.Written.{Written}
 use Rattle.run_stores.specs.Elsewhere.{named_at}
 use Rattle.run_stores.specs.Keeping.{IsOf, StandsFor}
-use Rattle.run_stores.specs.Steps.{Fits, PastFits, StepsAreKept, StoresEnd, StoresStand, acts_of, change_act, give_act, is_of_filesets, number_in, store_after}
+use Rattle.run_stores.specs.Steps.{BegunStoresEnd, begun, Fits, PastFits, StepsAreKept, StoresEnd, StoresStand, acts_of, change_act, give_act, is_of_filesets, number_in, store_after}
 use Rattle.run_stores.proofs.Elsewhere.{others_are_refused}
 use Rattle.run_stores.proofs.Ends.{stores_follow}
-use Rattle.run_stores.proofs.Stands.{acts_stand}
+use Rattle.run_stores.proofs.Numbers.{below_so}
+use Rattle.run_stores.proofs.Stands.{acts_stand, same_booted}
+use Rattle.store_laws.proofs.Boots.{boots_are_kept}
 
 -- an act that is done now has a number that is new
-below_so : (a b : ℕ) → nat_lt a b ≡ true → a < b
-below_so a b e = grind (arith, common_steps, e)
-
 change_new : (state : StoreState) (id : FilesetId) (host : HostId) (number : ℕ) (outcome : Outcome) →
     (decided_once state id host number outcome).done.fresh ≡ true → IsNewChange state id host number
 change_new state id host number outcome = by (records_of state id) refl
@@ -416,3 +414,16 @@ stores_end script journal run ended state given keeps fits =
     let same = server_stays run.start state past given first run.valid.unmoved keeps fits in
     stores_follow script journal run ended (store_after state given)
     (subst (λ v. KeepsOf (filesets_kept run.start v (steps_of_server v (past_of journal))) (store_after state given)) (sym same) stands.keeps)
+
+pub begun_stores_end : BegunStoresEnd
+begun_stores_end = record {
+  new = λ state id host number first.
+      (boots_are_kept.changes state id host number first, boots_are_kept.gives state id host number first);
+  stand = λ start state past given kept_is unmoved keeps fits.
+      subst (λ v. StandsFor (filesets_kept start v past) (store_after (begun state) given)) (same_booted state)
+      (stores_stand start (begun state) past given kept_is unmoved (boots_are_kept.boot start state keeps).keeps
+      (subst (λ v. PastFits start (begun state) past given) (same_booted state) fits));
+  end = λ script journal run ended state given keeps fits.
+      stores_end script journal run ended (begun state) given (boots_are_kept.boot run.start state keeps).keeps
+      (subst (λ v. PastFits run.start (begun state) (steps_of_server v (past_of journal)) given) (sym (same_booted state)) fits);
+}

@@ -7,3 +7,5 @@ pub mod Standing
 pub mod Starting
 pub mod Steps
 pub mod Elsewhere
+pub mod Wanting
+pub mod Numbers

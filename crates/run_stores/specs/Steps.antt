@@ -1,7 +1,8 @@
 -- Which acts of its store a server's step takes, and what they keep.
 use Rattle.std.specs.List.{filter}
-use Rattle.std.specs.Prelude.{Bool, List, Option, [], false, true, ℕ, ◌∷◌, ◌≡◌}
+use Rattle.std.specs.Prelude.{Bool, List, Option, [], false, true, ℕ, ◌∷◌, ◌≡◌, ◌≤◌}
 use Rattle.base_types.specs.declared.ids.Fid.{Fid}
+use Rattle.base_types.specs.declared.ids.FilesetId.{FilesetId}
 use Rattle.base_types.specs.declared.ids.HostId.{HostId}
 use Rattle.tree_calls.specs.declared.reply.Reply.{Reply}
 use Rattle.tree_calls.specs.declared.reply.Reply.TheVariants.{Refused}
@@ -10,11 +11,13 @@ use Rattle.tree_answers.specs.declared.tree.Tree.{Tree}
 use Rattle.message_types.specs.declared.message.Body.{Body}
 use Rattle.message_types.specs.declared.message.Body.TheVariants.{GiveBack}
 use Rattle.message_types.specs.Soundness.{Each, PiecesRise}
-use Rattle.store_acts.specs.Acts.{dones_of, state_after}
+use Rattle.store_acts.specs.Acts.{act_done, dones_of, state_after}
 use Rattle.store_acts.specs.Sound.{HasName, IsAct}
 use Rattle.store_acts.specs.declared.act.Act.{Act}
-use Rattle.store_acts.specs.declared.act.Act.TheVariants.{Do, Epoch, Give, Host, Refuse}
+use Rattle.store_acts.specs.declared.act.Act.TheVariants.{Boot, Do, Epoch, Give, Host, Refuse}
 use Rattle.store_state.specs.declared.state.StoreState.{StoreState}
+use Rattle.store_laws.specs.Calls.{IsNewChange}
+use Rattle.store_laws.specs.KeptGives.{IsNewGive}
 use Rattle.store_laws.specs.TreeKeeping.{KeepsOf}
 use Rattle.run_contents.specs.Gives.{IsKept}
 use Rattle.script_lines.specs.declared.script.Script.{Script}
@@ -121,3 +124,20 @@ StoresEnd =
     → (state : StoreState) (given : List (List Act)) → KeepsOf run.start state
     → PastFits run.start state (steps_of_server state.server (past_of journal)) given
     → KeepsOf (tree_at run.start (past_of journal)) (store_after state given)
+
+-- the store once a run has begun in it: what it kept of requests is forgotten
+abbrev pub begun : StoreState → StoreState
+begun state = (act_done state Boot).state
+
+-- What is said above holds of a store in which the run begins, whose steps begin with none of what it kept of requests:
+-- it stands for what its server keeps after all its steps, and at the end it keeps its part of the tree.
+pub record BegunStoresEnd : Type 0 where
+  pub new : (state : StoreState) (id : FilesetId) (host : HostId) (number : ℕ) → 1 ≤ number
+      → IsNewChange (begun state) id host number × IsNewGive (begun state) id host number
+  pub stand : (start : Tree) (state : StoreState) (past : List Step) (given : List (List Act)) → IsKept start
+      → start.away ≡ [] → KeepsOf start state → PastFits start (begun state) past given
+      → StandsFor (filesets_kept start state.server past) (store_after (begun state) given)
+  pub end : (script : Script) (journal : Journal) (run : IsRun script journal) → IsEnded script journal
+      → (state : StoreState) (given : List (List Act)) → KeepsOf run.start state
+      → PastFits run.start (begun state) (steps_of_server state.server (past_of journal)) given
+      → KeepsOf (tree_at run.start (past_of journal)) (store_after (begun state) given)

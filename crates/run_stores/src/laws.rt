@@ -3,11 +3,13 @@ ghost use Rattle.run_stores.specs.Changing.{ChangesAreKept, RepliesAreKept};
 ghost use Rattle.run_stores.specs.Elsewhere.{OthersAreRefused};
 ghost use Rattle.run_stores.specs.Ending.{LastIsKept, StoresFollow};
 ghost use Rattle.run_stores.specs.Keeping.{FirstIsKept, GivesAreKept, RefusalsAreKept};
+ghost use Rattle.run_stores.specs.Numbers.{NumbersAreTold};
 ghost use Rattle.run_stores.specs.Pieces.{GivesAreAlike, GivesFit, PiecesDiffer};
 ghost use Rattle.run_stores.specs.Standing.{ActsStand};
 ghost use Rattle.run_stores.specs.Starting.{ServersStartSo};
-ghost use Rattle.run_stores.specs.Steps.{StepsAreKept, StoresEnd, StoresStand};
+ghost use Rattle.run_stores.specs.Steps.{BegunStoresEnd, StepsAreKept, StoresEnd, StoresStand};
 ghost use Rattle.run_stores.specs.Telling.{GiftsAreTold, GrantsTellKept, TellsAreKept};
+ghost use Rattle.run_stores.specs.Wanting.{WantsAreTold};
 
 /// A Change that is refused leaves all that a store keeps of a tree.
 pub fn refusal_law()
@@ -67,9 +69,23 @@ pub fn piece_law()
 {}
 
 /// A store that does the acts of a step, each of them now, stands for what its server keeps after the step: so it does
-/// after all steps from the start tree on, and once the run is ended it keeps its part of the last tree.
+/// after all steps from the start tree on, and once the run is ended it keeps its part of the last tree. So it is with
+/// a store in which the run begins, where each number of a host is new from 1 on.
 pub fn step_law()
     ensures steps { StepsAreKept }
     ensures all { StoresStand }
     ensures end { StoresEnd }
+    ensures begun { BegunStoresEnd }
+{}
+
+/// What is wanted for a Change but a clone can be read from what the store tells: the needs are those of the objects to
+/// which the places of the call lead there.
+pub fn wants_law()
+    ensures { WantsAreTold }
+{}
+
+/// Which acts a store does now can be read from the last numbers that it tells of each host: those, and only those, of
+/// a higher number, under a fileset that is there.
+pub fn number_law()
+    ensures { NumbersAreTold }
 {}

@@ -9,3 +9,6 @@ returns-clause-all c = lemmas.stores_stand
 
 pub returns-clause-end : goal.returns-clause-end
 returns-clause-end c = lemmas.stores_end
+
+pub returns-clause-begun : goal.returns-clause-begun
+returns-clause-begun c = lemmas.begun_stores_end

@@ -1,0 +1,533 @@
+-- What is wanted for a Change, read from what a store tells.
+use Rattle.std.proofs.Common.{Bool, Err, List, nat_lt, ◌&&◌, None, Ok, Option, Result, Some, ap, false, inl, inr, length, refl, subst, suc, sym, take, true, ℕ, ◌++◌, ◌+◌, ◌-◌, ◌==◌, ◌∙◌, ◌∷◌, ◌≡◌, ◌⊎◌, []}
+use Rattle.std.specs.Option.{option_map_or}
+use Rattle.std.specs.Prelude.{if◌then◌else◌, slice_get}
+use Rattle.std.proofs.lemmas.Option.{slice_get_within, get_or_from_slice_get}
+use Rattle.std.proofs.Math.Seq.{take-suc}
+use Rattle.std.proofs.Common.{arith, take_all}
+use Rattle.base_types.specs.Outcomes.{and_then, either}
+use Rattle.base_types.specs.declared.ids.Fid.{Fid}
+use Rattle.base_types.specs.declared.ids.ServerId.{ServerId}
+use Rattle.base_types.specs.declared.limits.TheConstants.{FILE_BYTES_MAX}
+use Rattle.base_types.specs.declared.user.User.{User}
+use Rattle.tree_calls.specs.declared.call.Call.TheVariants.{
+  NewFileset,
+  Create,
+  MakeDir,
+  Remove,
+  Rename,
+  Truncate,
+  SetAcl,
+  CloneFileset,
+  Read,
+  Write,
+  List as ListNames,
+  Stat,
+  GetAcl,
+  Sync,
+  Lock,
+  Unlock,
+  OpenFile,
+  CloseFile,
+  MoveFileset,
+}
+use Rattle.tree_calls.specs.declared.part.DirEntry.{DirEntry}
+use Rattle.tree_calls.specs.declared.place.Place.{Place}
+use Rattle.tree_calls.specs.declared.reply.Refusal.{Refusal}
+use Rattle.tree_calls.specs.declared.reply.Refusal.TheVariants.{Exists, InUse, IsDir, Loop, NoFileset, NotEmpty, ReadOnly, TooBig}
+use Rattle.tree_objects.specs.declared.content.Anode.{Anode}
+use Rattle.tree_objects.specs.declared.content.Object.{Object}
+use Rattle.tree_objects.specs.Objects.{access_of, is_dir}
+use Rattle.tree_filesets.proofs.Targets.{ok_is, target_ok, then_ok, unless_ok}
+use Rattle.tree_filesets.specs.Changing.{set_access_target, write_target}
+use Rattle.tree_filesets.specs.Checks.{permission, split_at_last, split_path, unless}
+use Rattle.tree_filesets.specs.Creation.{vacancy}
+use Rattle.tree_filesets.specs.Removal.{has_entries, remove_target}
+use Rattle.tree_filesets.specs.Renaming.{rename_target}
+use Rattle.tree_filesets.specs.Uses.{lock_target, open_target, use_target}
+use Rattle.tree_filesets.specs.Walk.{entered_at, entry_or_none, entry_target, file_target, found_at, insert_target, object_at, parent_target, permitted_file, step, target, walk}
+use Rattle.tree_filesets.specs.declared.fileset.Fileset.{Fileset}
+use Rattle.tree_answers.specs.Finding.{fileset_named, found_or, same_fileset}
+use Rattle.tree_answers.specs.declared.tree.Tree.{Tree}
+use Rattle.tree_laws.specs.Fates.{creation}
+use Rattle.tree_laws.specs.Losses.{use_of}
+use Rattle.tree_laws.specs.Parts.{Nature}
+use Rattle.tree_filesets.proofs.Names.{names_equal}
+use Rattle.tree_filesets.specs.declared.renaming.Move.{Move}
+use Rattle.tree_objects.specs.Entries.{entry_named}
+use Rattle.tree_objects.specs.Spans.{span_between}
+use Rattle.base_types.specs.declared.access.AccessEntry.{AccessEntry}
+use Rattle.base_types.specs.declared.ids.OpenKind.{OpenKind}
+use Rattle.tree_calls.specs.declared.place.Which.{Which}
+use Rattle.token_types.specs.declared.token.Kind.TheVariants.{Lock as LockKind, Opening}
+use Rattle.store_state.specs.declared.state.Holding.{Holding}
+use Rattle.token_types.specs.declared.token.Need.{Need}
+use Rattle.need_server.specs.Wants.{all_of, every_use_of, want, want_for, want_in}
+use Rattle.store_memory.specs.Reading.{looked_up, walk_in}
+use Rattle.store_memory.specs.declared.told.Looked.{Looked}
+use Rattle.store_memory.specs.declared.told.Looked.TheVariants.{Found, Refused}
+use Rattle.store_state.specs.Rows.{fileset_here}
+use Rattle.store_state.specs.declared.state.StoreState.{StoreState}
+use Rattle.run_stores.proofs.Replies.{Sought, sought}
+use Rattle.run_stores.proofs.Replies.Sought.{Here, Nowhere}
+use Rattle.run_stores.specs.Keeping.{StandsFor}
+use Rattle.run_stores.specs.Wanting.{WantsAreTold, all_and_uses_of, directory_of, status_of, want_by, wanted_of}
+
+-- where a path leads
+target_from : (f : Fileset) (user : User) (path : List (List ℕ)) (n : ℕ) (o : Object) → walk f.anodes user 1 path ≡ Ok n →
+    object_at f.anodes n ≡ Some o → target f user path ≡ Ok (n, o)
+unfolding target
+target_from f user path n o way there =
+    ap (λ r. and_then r (λ anode. found_at anode (object_at f.anodes anode))) way ∙ ap (found_at n) there
+
+-- the names before the last, and the last
+front_is : (path : List (List ℕ)) (empty : Refusal) (parts : List ℕ × List (List ℕ)) → split_path path empty ≡ Ok parts →
+    (parts.1 ≡ take (length path - 1) path) × (slice_get path (length path - 1) ≡ Some parts.0)
+front_is path empty parts h = by (slice_get path (length path - 1)) h
+  where
+    by : (o : Option (List ℕ)) → split_at_last path empty o ≡ Ok parts →
+        (parts.1 ≡ take (length path - 1) path) × (o ≡ Some parts.0)
+    by None h = absurd (cc)
+    by (Some name) h =
+        let same : (name, take (length path - 1) path) ≡ parts = ok_is (name, take (length path - 1) path) parts h in
+        (sym (ap (λ p. p.1) same), ap (λ p. Some p.0) same)
+
+whole_path : (path : List (List ℕ)) (name : List ℕ) → slice_get path (length path - 1) ≡ Some name →
+    path ≡ take (length path - 1) path ++ name ∷ []
+whole_path path name e =
+    let inside = slice_get_within path (length path - 1) name e in
+    let long : suc (length path - 1) ≡ length path = omega (arith, inside) in
+    sym (take_all (length path) path (omega arith)) ∙ ap (λ n. take n path) (sym long)
+    ∙ take-suc path (length path - 1) name inside
+    ∙ ap (λ z. take (length path - 1) path ++ z ∷ []) (get_or_from_slice_get path (length path - 1) name name e)
+
+-- one more name
+walk_more : (anodes : List Anode) (user : User) (at mid to : ℕ) (front : List (List ℕ)) (name : List ℕ) →
+    walk anodes user at front ≡ Ok mid → step anodes user mid name ≡ Ok to →
+    walk anodes user at (front ++ name ∷ []) ≡ Ok to
+walk_more anodes user at mid to [] name h k =
+    let same : at ≡ mid = ok_is at mid h in
+    ap (λ n. and_then (step anodes user n name) (λ next. Ok next)) same
+    ∙ ap (λ r. and_then r (λ next. Ok next)) k
+walk_more anodes user at mid to (first ∷ front) name h k =
+    let (next, e, rest) = then_ok (step anodes user at first) (λ next. walk anodes user next front) mid h in
+    ap (λ r. and_then r (λ next. walk anodes user next (front ++ name ∷ []))) e
+    ∙ walk_more anodes user next mid to front name rest k
+
+-- what a user may do in a directory
+parent_walk : (f : Fileset) (user : User) (front : List (List ℕ)) (right : ℕ) (found : ℕ × Object × List DirEntry) →
+    parent_target f user front right ≡ Ok found →
+    (target f user front ≡ Ok (found.0, found.1)) × (entered_at (Some found.1) user ≡ Ok found.2)
+unfolding parent_target
+parent_walk f user front right found h =
+    let (at, e, k) = then_ok (target f user front) _ found h in
+    let (entries, searched, l) = then_ok (entered_at (Some at.1) user) _ found k in
+    let (allowed, p, same) = then_ok _ (λ _. Ok (at.0, at.1, entries)) found l in
+    let is : (at.0, at.1, entries) ≡ found = ok_is (at.0, at.1, entries) found same in (
+      e ∙ ap (λ x. Ok (x.0, x.1)) is,
+      subst (λ (x : ℕ × Object × List DirEntry). entered_at (Some x.1) user ≡ Ok x.2) is searched,
+    )
+
+insert_walk : (f : Fileset) (user : User) (front : List (List ℕ)) (name : List ℕ) (found : ℕ × Object) →
+    insert_target f user front name ≡ Ok found → target f user front ≡ Ok found
+unfolding insert_target
+insert_walk f user front name found h =
+    let (at, e, k) = then_ok (parent_target f user front _) _ found h in
+    let (fresh, same) = unless_ok _ Exists (Ok (at.0, at.1)) found k in
+    (parent_walk f user front _ at e).0 ∙ ap Ok (ok_is (at.0, at.1) found same)
+
+entry_walk : (f : Fileset) (user : User) (front : List (List ℕ)) (name : List ℕ) (found : ℕ × DirEntry) →
+    entry_target f user front name ≡ Ok found →
+    (object : Object) × (target f user front ≡ Ok (found.0, object)) × (step f.anodes user found.0 name ≡ Ok found.1.anode)
+unfolding entry_target step
+entry_walk f user front name found h =
+    let (at, e, k) = then_ok (parent_target f user front _) _ found h in
+    let (entry, g, same) = then_ok (entry_or_none _) (λ entry. Ok (at.0, entry)) found k in
+    let is : (at.0, entry) ≡ found = ok_is (at.0, entry) found same in
+    let walked = parent_walk f user front _ at e in
+    let there = (target_ok f user front (at.0, at.1) walked.0).there in
+    let steps : step f.anodes user at.0 name ≡ Ok entry.anode =
+    ap (λ o. and_then (entered_at o user) (λ entries. and_then (entry_or_none (entry_named entries name)) (λ entry. Ok entry.anode))) there
+    ∙ ap (λ r. and_then r (λ entries. and_then (entry_or_none (entry_named entries name)) (λ entry. Ok entry.anode))) walked.1
+    ∙ ap (λ r. and_then r (λ (entry : DirEntry). Ok entry.anode)) g in
+    subst (λ (x : ℕ × DirEntry). (object : Object) × (target f user front ≡ Ok (x.0, object))
+    × (step f.anodes user x.0 name ≡ Ok x.1.anode)) is (at.1, walked.0, steps)
+
+-- what a store says of a path that leads somewhere
+looks : (f : Fileset) (user : User) (place : Place) (found : ℕ × Object) → target f user place.path ≡ Ok found →
+    walk_in f user place ≡ Found (use_of f found.0)
+looks f user place found e =
+    ap (λ r. either (and_then r (λ (anode, object). Ok anode)) (λ anode. Found (use_of f anode))
+    (λ refusal. Refused refusal)) e
+
+abbrev Either : List Need → List Need → Type 0
+Either wanted told = (wanted ≡ []) ⊎ (wanted ≡ told)
+
+abbrev looked : Fileset → User → Place → Looked
+looked f user place = walk_in f user place
+
+-- Create, MakeDir
+creation_walk : (f : Fileset) (dir : Bool) (user : User) (path : List (List ℕ)) (made : ℕ × DirEntry × Nature) →
+    creation f dir user path ≡ Ok made →
+    (object : Object) × (target f user (take (length path - 1) path) ≡ Ok (made.0, object))
+creation_walk f dir user path made h =
+    let (writable, a) = unless_ok f.read_only ReadOnly _ made h in
+    let (parts, b, c) = then_ok (split_path path Exists) _ made a in
+    let (at, d, e) = then_ok (insert_target f user parts.1 parts.0) _ made c in
+    let (free, g, i) = then_ok (vacancy f) _ made e in
+    let (lists, j, same) = then_ok _ (λ lists. Ok (at.0, _, _)) made i in
+    let front = (front_is path Exists parts b).0 in
+    let walked = subst (λ p. target f user p ≡ Ok at) front (insert_walk f user parts.1 parts.0 at d) in
+    (at.1, walked ∙ ap (λ n. Ok (n, at.1)) (ap (λ m. m.0) (ok_is _ made same)))
+
+creation_told : (f : Fileset) (dir : Bool) (user : User) (place : Place) →
+    Either (want_for (creation f dir user place.path) (λ (parent, entry, nature). all_of true (use_of f parent)))
+    (wanted_of (looked f user (directory_of place)) (all_of true))
+creation_told f dir user place = by (creation f dir user place.path) refl
+  where
+    by : (r : Result (ℕ × DirEntry × Nature) Refusal) → creation f dir user place.path ≡ r →
+        Either (want_for r (λ (parent, entry, nature). all_of true (use_of f parent)))
+        (wanted_of (looked f user (directory_of place)) (all_of true))
+    by (Err refusal) e = inl refl
+    by (Ok made) e =
+        let (object, led) = creation_walk f dir user place.path made e in
+        inr (sym (ap (λ l. wanted_of l (all_of true)) (looks f user (directory_of place) (made.0, object) led)))
+
+-- Remove
+remove_walk : (f : Fileset) (user : User) (path : List (List ℕ)) (found : ℕ × List ℕ × ℕ) →
+    remove_target f (λ fid. false) user path ≡ Ok found →
+    ((parent : Object) × (target f user (take (length path - 1) path) ≡ Ok (found.0, parent)))
+    × ((object : Object) × (target f user path ≡ Ok (found.2, object)))
+unfolding remove_target
+remove_walk f user path found h =
+    let (writable, a) = unless_ok f.read_only ReadOnly _ found h in
+    let (parts, b, c) = then_ok (split_path path InUse) _ found a in
+    let (at, d, e) = then_ok (entry_target f user parts.1 parts.0) _ found c in
+    let (there, g, i) = then_ok (found_at at.1.anode (object_at f.anodes at.1.anode)) _ found e in
+    let (empty, j) = unless_ok (has_entries there.1.content) NotEmpty _ found i in
+    let (unused, same) = unless_ok false InUse (Ok (at.0, parts.0, there.0)) found j in
+    let is : (at.0, parts.0, there.0) ≡ found = ok_is (at.0, parts.0, there.0) found same in
+    let split = front_is path InUse parts b in
+    let (directory, led, steps) = entry_walk f user parts.1 parts.0 at d in
+    let (same_anode, object) = found_is at.1.anode (object_at f.anodes at.1.anode) there g in
+    let way = walk_more f.anodes user 1 at.0 at.1.anode parts.1 parts.0
+    (target_ok f user parts.1 (at.0, directory) led).way steps in
+    let path_is : parts.1 ++ parts.0 ∷ [] ≡ path =
+    ap (λ p. p ++ parts.0 ∷ []) split.0 ∙ sym (whole_path path parts.0 split.1) in
+    let whole : walk f.anodes user 1 path ≡ Ok at.1.anode = subst (λ p. walk f.anodes user 1 p ≡ Ok at.1.anode) path_is way in (
+      (directory, subst (λ p. target f user p ≡ Ok (at.0, directory)) split.0 led ∙ ap (λ n. Ok (n, directory)) (ap (λ x. x.0) is)),
+      (there.1, target_from f user path at.1.anode there.1 whole object ∙ ap (λ n. Ok (n, there.1)) (same_anode ∙ ap (λ x. x.2) is)),
+    )
+  where
+    found_is : (anode : ℕ) (o : Option Object) (found : ℕ × Object) → found_at anode o ≡ Ok found →
+        (anode ≡ found.0) × (o ≡ Some found.1)
+    found_is anode None found h = absurd (cc)
+    found_is anode (Some object) found h =
+        let same : (anode, object) ≡ found = ok_is (anode, object) found h in
+        (ap (λ x. x.0) same, ap (λ x. Some x.1) same)
+
+remove_told : (f : Fileset) (user : User) (place : Place) →
+    Either (want_in f user (Remove place)) (want_by (looked f user) (Remove place))
+unfolding want_in
+remove_told f user place = by (remove_target f (λ fid. false) user place.path) refl
+  where
+    wanted : ℕ × List ℕ × ℕ → List Need
+    wanted (parent, name, anode) =
+        all_of true (use_of f parent) ++ all_of true (use_of f anode) ++ every_use_of (use_of f anode)
+
+    by : (r : Result (ℕ × List ℕ × ℕ) Refusal) → remove_target f (λ fid. false) user place.path ≡ r →
+        Either (want_for r wanted) (want_by (looked f user) (Remove place))
+    by (Err refusal) e = inl refl
+    by (Ok found) e =
+        let ((parent, led), (object, there)) = remove_walk f user place.path found e in
+        inr (sym (ap (λ l. wanted_of l (all_of true) ++ wanted_of (looked f user place) all_and_uses_of)
+        (looks f user (directory_of place) (found.0, parent) led)
+        ∙ ap (λ l. all_of true (use_of f found.0) ++ wanted_of l all_and_uses_of)
+        (looks f user place (found.2, object) there)))
+
+-- Rename
+rename_walk : (f : Fileset) (user : User) (from to : List (List ℕ)) (move : Move) →
+    rename_target f user from to ≡ Ok move →
+    ((parent : Object) × (target f user (take (length from - 1) from) ≡ Ok (move.from, parent)))
+    × ((other : Object) × (target f user (take (length to - 1) to) ≡ Ok (move.to, other)))
+unfolding rename_target
+rename_walk f user from to move h =
+    let (writable, a) = unless_ok f.read_only ReadOnly _ move h in
+    let (old, b, c) = then_ok (split_path from Loop) _ move a in
+    let (new, d, e) = then_ok (split_path to Exists) _ move c in
+    let (at, g, i) = then_ok (entry_target f user old.1 old.0) _ move e in
+    let (into, j, k) = then_ok (insert_target f user new.1 new.0) _ move i in
+    let (away, same) = unless_ok _ Loop _ move k in
+    let is = ok_is _ move same in
+    let (directory, led, steps) = entry_walk f user old.1 old.0 at g in (
+      (
+        directory,
+        subst (λ p. target f user p ≡ Ok (at.0, directory)) (front_is from Loop old b).0 led
+            ∙ ap (λ n. Ok (n, directory)) (ap (λ (m : Move). m.from) is),
+      ),
+      (
+        into.1,
+        subst (λ p. target f user p ≡ Ok into) (front_is to Exists new d).0 (insert_walk f user new.1 new.0 into j)
+            ∙ ap (λ n. Ok (n, into.1)) (ap (λ (m : Move). m.to) is),
+      ),
+    )
+
+rename_told : (f : Fileset) (user : User) (from to : Place) →
+    Either (want_in f user (Rename from to)) (want_by (looked f user) (Rename from to))
+unfolding want_in
+rename_told f user from to = at (same_fileset from to)
+  where
+    wanted : Move → List Need
+    wanted move = all_of true (use_of f move.from) ++ all_of true (use_of f move.to)
+
+    by : (r : Result Move Refusal) → rename_target f user from.path to.path ≡ r →
+        Either (want_for r wanted) (want_by (looked f user) (Rename from to))
+    by (Err refusal) e = inl refl
+    by (Ok move) e =
+        let ((parent, led), (other, there)) = rename_walk f user from.path to.path move e in
+        inr (sym (ap (λ l. wanted_of l (all_of true) ++ wanted_of (looked f user (directory_of to)) (all_of true))
+        (looks f user (directory_of from) (move.from, parent) led)
+        ∙ ap (λ l. all_of true (use_of f move.from) ++ wanted_of l (all_of true))
+        (looks f user (directory_of to) (move.to, other) there)))
+
+    at : (b : Bool) → Either (if b then want_for (rename_target f user from.path to.path) wanted else [])
+        (want_by (looked f user) (Rename from to))
+    at true = by (rename_target f user from.path to.path) refl
+    at false = inl refl
+
+-- Truncate
+write_walk : (f : Fileset) (user : User) (path : List (List ℕ)) (len anode : ℕ) → write_target f user path len ≡ Ok anode →
+    (object : Object) × (target f user path ≡ Ok (anode, object))
+unfolding write_target permitted_file file_target
+write_walk f user path len anode h =
+    let (writable, a) = unless_ok f.read_only ReadOnly _ anode h in
+    let (at, b, c) = then_ok (permitted_file f user path _) _ anode a in
+    let (within, same) = unless_ok _ TooBig (Ok at.0) anode c in
+    let (file, d, e) = then_ok (file_target f user path) _ at b in
+    let (allowed, g, i) = then_ok _ (λ _. Ok (file.0, file.1)) at e in
+    let (found, j, k) = then_ok (target f user path) _ file d in
+    let (is_file, l) = unless_ok (is_dir found.1.content) IsDir (Ok (found.0, found.1)) file k in
+    (at.1, j ∙ l ∙ i ∙ ap (λ n. Ok (n, at.1)) (ok_is at.0 anode same))
+
+truncate_told : (f : Fileset) (user : User) (place : Place) (len : ℕ) →
+    Either (want_in f user (Truncate place len)) (want_by (looked f user) (Truncate place len))
+unfolding want_in
+truncate_told f user place len = by (write_target f user place.path len) refl
+  where
+    by : (r : Result ℕ Refusal) → write_target f user place.path len ≡ r →
+        Either (want_for r (λ anode. all_of true (use_of f anode))) (wanted_of (looked f user place) (all_of true))
+    by (Err refusal) e = inl refl
+    by (Ok anode) e =
+        let (object, led) = write_walk f user place.path len anode e in
+        inr (sym (ap (λ l. wanted_of l (all_of true)) (looks f user place (anode, object) led)))
+
+-- SetAcl
+access_walk : (f : Fileset) (user : User) (path : List (List ℕ)) (which : Which) (anode : ℕ) →
+    set_access_target f user path which ≡ Ok anode → (object : Object) × (target f user path ≡ Ok (anode, object))
+unfolding set_access_target
+access_walk f user path which anode h =
+    let (writable, a) = unless_ok f.read_only ReadOnly _ anode h in
+    let (at, b, c) = then_ok (target f user path) _ anode a in
+    let (list, d, e) = then_ok (access_of which at.1.content)
+    (λ list. and_then (permission at.1 user 8) (λ allowed. Ok at.0)) anode c in
+    let (allowed, g, same) = then_ok (permission at.1 user 8) (λ allowed. Ok at.0) anode e in
+    (at.1, b ∙ ap (λ n. Ok (n, at.1)) (ok_is at.0 anode same))
+
+access_told : (f : Fileset) (user : User) (place : Place) (which : Which) (list : List AccessEntry) →
+    Either (want_in f user (SetAcl place which list)) (want_by (looked f user) (SetAcl place which list))
+unfolding want_in
+access_told f user place which list = by (set_access_target f user place.path which) refl
+  where
+    by : (r : Result ℕ Refusal) → set_access_target f user place.path which ≡ r →
+        Either (want_for r (λ anode. status_of (use_of f anode))) (wanted_of (looked f user place) status_of)
+    by (Err refusal) e = inl refl
+    by (Ok anode) e =
+        let (object, led) = access_walk f user place.path which anode e in
+        inr (sym (ap (λ l. wanted_of l status_of) (looks f user place (anode, object) led)))
+
+-- Lock, OpenFile
+use_walk : (f : Fileset) (user : User) (path : List (List ℕ)) (changing : Bool) (right : ℕ) (fid : Fid) →
+    use_target f user path changing right ≡ Ok fid →
+    (found : ℕ × Object) × (target f user path ≡ Ok found) × (use_of f found.0 ≡ fid)
+unfolding use_target file_target
+use_walk f user path changing right fid h =
+    let (file, a, b) = then_ok (file_target f user path) _ fid h in
+    let (writable, c) = unless_ok (changing && f.read_only) ReadOnly _ fid b in
+    let (allowed, d, same) = then_ok _ (λ _. Ok (use_of f file.0)) fid c in
+    let (found, e, g) = then_ok (target f user path) _ file a in
+    let (is_file, i) = unless_ok (is_dir found.1.content) IsDir (Ok (found.0, found.1)) file g in
+    (file, e ∙ i, ok_is (use_of f file.0) fid same)
+
+lock_told : (f : Fileset) (user : User) (label : List ℕ) (place : Place) (writing : Bool) (from len : ℕ) →
+    Either (want_in f user (Lock label place writing from len)) (want_by (looked f user) (Lock label place writing from len))
+unfolding want_in
+lock_told f user label place writing from len =
+    by (and_then (lock_target f user place.path writing) (λ fid. unless (nat_lt FILE_BYTES_MAX (from + len)) TooBig (Ok fid))) refl
+  where
+    needs : Fid → List Need
+    needs fid = record { fid = fid; kind = LockKind writing (span_between from (from + len)) } ∷ []
+
+    by : (r : Result Fid Refusal) →
+        and_then (lock_target f user place.path writing) (λ fid. unless (nat_lt FILE_BYTES_MAX (from + len)) TooBig (Ok fid)) ≡ r →
+        Either (want_for r needs) (wanted_of (looked f user place) needs)
+    by (Err refusal) e = inl refl
+    by (Ok fid) e =
+        let (there, a, b) = then_ok (lock_target f user place.path writing) _ fid e in
+        let (within, same) = unless_ok (nat_lt FILE_BYTES_MAX (from + len)) TooBig (Ok there) fid b in
+        let (found, led, is) = use_walk f user place.path writing _ there a in
+        inr (sym (ap (λ l. wanted_of l needs) (looks f user place found led)
+        ∙ ap needs (is ∙ ok_is there fid same)))
+
+open_told : (f : Fileset) (user : User) (label : List ℕ) (place : Place) (kind : OpenKind) →
+    Either (want_in f user (OpenFile label place kind)) (want_by (looked f user) (OpenFile label place kind))
+unfolding want_in
+open_told f user label place kind = by (open_target f user place.path kind) refl
+  where
+    needs : Fid → List Need
+    needs fid = record { fid = fid; kind = Opening kind } ∷ []
+
+    by : (r : Result Fid Refusal) → open_target f user place.path kind ≡ r →
+        Either (want_for r needs) (wanted_of (looked f user place) needs)
+    by (Err refusal) e = inl refl
+    by (Ok fid) e =
+        let (found, led, is) = use_walk f user place.path _ _ fid e in
+        inr (sym (ap (λ l. wanted_of l needs) (looks f user place found led) ∙ ap needs is))
+
+-- a name, in a server's tree and in its store
+named_ok : (tree : Tree) (state : StoreState) (name : List ℕ) → Sought tree state name →
+    fileset_here state name ≡ fileset_named tree state.server name
+unfolding fileset_named
+named_ok tree state name (Here place fileset holding at there led own held same) =
+    ap (λ o. option_map_or (λ (h : Holding). Ok h.fileset) o (Err NoFileset)) held ∙ ap Ok same
+    ∙ sym (ap (λ o. found_or o NoFileset) led)
+named_ok tree state name (Nowhere at led held gone) =
+    ap (λ o. option_map_or (λ (h : Holding). Ok h.fileset) o (Err NoFileset)) held
+    ∙ sym (ap (λ o. found_or o NoFileset) led)
+
+-- A call whose places are all in one fileset: what is wanted there is what is told there.
+by_name : (tree : Tree) (state : StoreState) (user : User) (server : ServerId) (name : List ℕ) (wanted : Fileset → List Need)
+    (told : (Place → Looked) → List Need) → Sought tree state name → server ≡ state.server →
+    ((f : Fileset) → Either (wanted f) (told (walk_in f user))) →
+    ((f : Fileset) → fileset_here state name ≡ Ok f → told (looked_up state user) ≡ told (walk_in f user)) →
+    Either (want_for (fileset_named tree server name) wanted) (told (looked_up state user))
+by_name tree state user server name wanted told s its each same =
+    subst (λ v. Either (want_for (fileset_named tree v name) wanted) (told (looked_up state user))) (sym its)
+    (by (fileset_named tree state.server name) refl)
+  where
+    here : (f : Fileset) → fileset_here state name ≡ Ok f → Either (wanted f) (told (walk_in f user)) →
+        Either (wanted f) (told (looked_up state user))
+    here f e (inl none) = inl none
+    here f e (inr is) = inr (is ∙ sym (same f e))
+
+    by : (r : Result Fileset Refusal) → fileset_named tree state.server name ≡ r →
+        Either (want_for r wanted) (told (looked_up state user))
+    by (Err refusal) e = inl refl
+    by (Ok f) e = here f (named_ok tree state name s ∙ e) (each f)
+
+-- a place in the fileset
+look_here : (state : StoreState) (user : User) (place : Place) (f : Fileset) → fileset_here state place.fileset ≡ Ok f →
+    looked_up state user place ≡ walk_in f user place
+look_here state user place f e =
+    ap (λ r. either r (λ f. walk_in f user place) (λ refusal. Refused refusal)) e
+
+-- nothing is wanted in any fileset
+none_wanted : (r : Result Fileset Refusal) (wanted : Fileset → List Need) → ((f : Fileset) → wanted f ≡ []) →
+    want_for r wanted ≡ []
+none_wanted (Ok f) wanted none = none f
+none_wanted (Err refusal) wanted none = refl
+
+creation_in : (f : Fileset) (user : User) (place : Place) →
+    Either (want_in f user (Create place)) (want_by (looked f user) (Create place))
+unfolding want_in
+creation_in f user place = creation_told f false user place
+
+making_in : (f : Fileset) (user : User) (place : Place) →
+    Either (want_in f user (MakeDir place)) (want_by (looked f user) (MakeDir place))
+unfolding want_in
+making_in f user place = creation_told f true user place
+
+rename_none : (f : Fileset) (user : User) (from to : Place) → same_fileset from to ≡ false →
+    want_in f user (Rename from to) ≡ []
+unfolding want_in
+rename_none f user from to e =
+    ap (λ b. if b then want_for (rename_target f user from.path to.path) (λ (move : Move).
+    all_of true (use_of f move.from) ++ all_of true (use_of f move.to)) else []) e
+
+and_second : (a b : Bool) → (a && b) ≡ true → b ≡ true
+and_second true b h = h
+and_second false b h = absurd (cc)
+
+rename_at : (tree : Tree) (state : StoreState) (user : User) (from to : Place) → StandsFor tree state →
+    from.server ≡ state.server → (b : Bool) → same_fileset from to ≡ b →
+    Either (want tree user (Rename from to)) (want_by (looked_up state user) (Rename from to))
+unfolding want
+rename_at tree state user from to s its false e =
+    inl (none_wanted (fileset_named tree from.server from.fileset) (λ f. want_in f user (Rename from to))
+    (λ f. rename_none f user from to e))
+rename_at tree state user from to s its true e =
+    let names = names_equal from.fileset to.fileset (and_second (from.server.0 == to.server.0) _ e) in
+    by_name tree state user from.server from.fileset (λ f. want_in f user (Rename from to))
+    (λ look. want_by look (Rename from to)) (sought tree state from.fileset s) its (λ f. rename_told f user from to)
+    (λ f h. ap (λ l. wanted_of l (all_of true) ++ wanted_of (looked_up state user (directory_of to)) (all_of true))
+    (look_here state user (directory_of from) f h)
+    ∙ ap (λ l. wanted_of (walk_in f user (directory_of from)) (all_of true) ++ wanted_of l (all_of true))
+    (look_here state user (directory_of to) f (subst (λ n. fileset_here state n ≡ Ok f) names h)))
+
+pub wants_are_told : WantsAreTold
+unfolding want want_in
+wants_are_told tree state user (Create place) s its one =
+    by_name tree state user place.server place.fileset (λ f. want_in f user (Create place))
+    (λ look. want_by look (Create place)) (sought tree state place.fileset s) its
+    (λ f. creation_in f user place)
+    (λ f e. ap (λ l. wanted_of l (all_of true)) (look_here state user (directory_of place) f e))
+wants_are_told tree state user (MakeDir place) s its one =
+    by_name tree state user place.server place.fileset (λ f. want_in f user (MakeDir place))
+    (λ look. want_by look (MakeDir place)) (sought tree state place.fileset s) its
+    (λ f. making_in f user place)
+    (λ f e. ap (λ l. wanted_of l (all_of true)) (look_here state user (directory_of place) f e))
+wants_are_told tree state user (Remove place) s its one =
+    by_name tree state user place.server place.fileset (λ f. want_in f user (Remove place))
+    (λ look. want_by look (Remove place)) (sought tree state place.fileset s) its (λ f. remove_told f user place)
+    (λ f e. ap (λ l. wanted_of l (all_of true) ++ wanted_of (looked_up state user place) all_and_uses_of)
+    (look_here state user (directory_of place) f e)
+    ∙ ap (λ l. wanted_of (walk_in f user (directory_of place)) (all_of true) ++ wanted_of l all_and_uses_of)
+    (look_here state user place f e))
+wants_are_told tree state user (Rename from to) s its one = rename_at tree state user from to s its (same_fileset from to) refl
+wants_are_told tree state user (Truncate place len) s its one =
+    by_name tree state user place.server place.fileset (λ f. want_in f user (Truncate place len))
+    (λ look. want_by look (Truncate place len)) (sought tree state place.fileset s) its
+    (λ f. truncate_told f user place len)
+    (λ f e. ap (λ l. wanted_of l (all_of true)) (look_here state user place f e))
+wants_are_told tree state user (SetAcl place which list) s its one =
+    by_name tree state user place.server place.fileset (λ f. want_in f user (SetAcl place which list))
+    (λ look. want_by look (SetAcl place which list)) (sought tree state place.fileset s) its
+    (λ f. access_told f user place which list)
+    (λ f e. ap (λ l. wanted_of l status_of) (look_here state user place f e))
+wants_are_told tree state user (Lock label place writing from len) s its one =
+    by_name tree state user place.server place.fileset (λ f. want_in f user (Lock label place writing from len))
+    (λ look. want_by look (Lock label place writing from len)) (sought tree state place.fileset s) its
+    (λ f. lock_told f user label place writing from len)
+    (λ f e. ap (λ l. wanted_of l (λ fid. record { fid = fid; kind = LockKind writing (span_between from (from + len)) } ∷ []))
+    (look_here state user place f e))
+wants_are_told tree state user (OpenFile label place kind) s its one =
+    by_name tree state user place.server place.fileset (λ f. want_in f user (OpenFile label place kind))
+    (λ look. want_by look (OpenFile label place kind)) (sought tree state place.fileset s) its
+    (λ f. open_told f user label place kind)
+    (λ f e. ap (λ l. wanted_of l (λ fid. record { fid = fid; kind = Opening kind } ∷ [])) (look_here state user place f e))
+wants_are_told tree state user (NewFileset server name objects owner) s its one = inl refl
+wants_are_told tree state user (CloneFileset server source new) s its one = absurd (cc)
+wants_are_told tree state user (MoveFileset server name to) s its one = absurd its
+wants_are_told tree state user (Read place from len) s its one =
+    inl (none_wanted (fileset_named tree place.server place.fileset) (λ f. []) (λ f. refl))
+wants_are_told tree state user (Write place from bytes) s its one =
+    inl (none_wanted (fileset_named tree place.server place.fileset) (λ f. []) (λ f. refl))
+wants_are_told tree state user (ListNames place) s its one =
+    inl (none_wanted (fileset_named tree place.server place.fileset) (λ f. []) (λ f. refl))
+wants_are_told tree state user (Stat place) s its one =
+    inl (none_wanted (fileset_named tree place.server place.fileset) (λ f. []) (λ f. refl))
+wants_are_told tree state user (GetAcl place which) s its one =
+    inl (none_wanted (fileset_named tree place.server place.fileset) (λ f. []) (λ f. refl))
+wants_are_told tree state user (Sync place) s its one =
+    inl (none_wanted (fileset_named tree place.server place.fileset) (λ f. []) (λ f. refl))
+wants_are_told tree state user (Unlock label) s its one = inl refl
+wants_are_told tree state user (CloseFile label) s its one = inl refl

@@ -1,0 +1,44 @@
+-- Which acts a store does now, read from the last numbers that it tells.
+use Rattle.std.specs.Prelude.{List, Option, Some, ℕ, is_some, true, ◌<◌, ◌≡◌}
+use Rattle.base_types.specs.declared.ids.Fid.{Fid}
+use Rattle.base_types.specs.declared.ids.FilesetId.{FilesetId}
+use Rattle.base_types.specs.declared.ids.HostId.{HostId}
+use Rattle.tree_calls.specs.declared.call.Call.{Call}
+use Rattle.tree_calls.specs.declared.part.Piece.{Piece}
+use Rattle.tree_calls.specs.declared.reply.Refusal.{Refusal}
+use Rattle.tree_calls.specs.declared.ship.Record.{Record}
+use Rattle.store_acts.specs.Acts.{act_done}
+use Rattle.store_acts.specs.declared.act.Act.{Act}
+use Rattle.store_acts.specs.declared.act.Act.TheVariants.{Do, Give, Refuse}
+use Rattle.store_memory.specs.Reading.{last_of}
+use Rattle.store_state.specs.Rows.{numbered_id, numbered_name}
+use Rattle.store_state.specs.State.{records_of}
+use Rattle.store_state.specs.declared.state.StoreState.{StoreState}
+
+-- Under an id something is kept of requests, and a number is above the last of the host there.
+abbrev pub IsNext : StoreState → HostId → FilesetId → (Record → ℕ) → ℕ → Type 0
+IsNext state host id last number = (is_some (records_of state id) ≡ true) × (last_of state host id last < number)
+
+-- the store does the act now
+abbrev pub IsFresh : StoreState → Act → Type 0
+IsFresh state act = (act_done state act).done.fresh ≡ true
+
+-- A Change or a give-back is done now just where its number is the next: a Change under the fileset that the store
+-- finds by the name in its call, a give-back under the fileset of its file.
+pub record NumbersAreTold : Type 0 where
+  pub changes : (state : StoreState) (host : HostId) (number : ℕ) (call : Call) (id : FilesetId)
+      → numbered_id state (numbered_name call) ≡ Some id
+      → IsNext state host id (λ kept. kept.change) number → IsFresh state (Do host number call)
+  pub changed : (state : StoreState) (host : HostId) (number : ℕ) (call : Call) → IsFresh state (Do host number call)
+      → (id : FilesetId) × (numbered_id state (numbered_name call) ≡ Some id)
+      × IsNext state host id (λ kept. kept.change) number
+  pub refusals : (state : StoreState) (host : HostId) (number : ℕ) (id : FilesetId) (refusal : Refusal)
+      → IsNext state host id (λ kept. kept.change) number → IsFresh state (Refuse host id number refusal)
+  pub refused : (state : StoreState) (host : HostId) (number : ℕ) (id : FilesetId) (refusal : Refusal)
+      → IsFresh state (Refuse host id number refusal) → IsNext state host id (λ kept. kept.change) number
+  pub gives : (state : StoreState) (host : HostId) (number : ℕ) (fid : Fid) (pieces : List Piece) (given : Option ℕ)
+      → IsNext state host fid.fileset (λ kept. kept.give) number
+      → IsFresh state (Give host number fid pieces given)
+  pub given : (state : StoreState) (host : HostId) (number : ℕ) (fid : Fid) (pieces : List Piece) (given : Option ℕ)
+      → IsFresh state (Give host number fid pieces given)
+      → IsNext state host fid.fileset (λ kept. kept.give) number
