@@ -55,15 +55,15 @@ returns-clause-kept g c tells next fileset formed keep moves number =
     let request = c.args.request.now in
     let led : ◌≡◌ {A = Result Fileset Refusal} (Ok c.in-Ok.fileset.now) (Ok fileset) = sym c.in-Ok.ensures ∙ moves.led in
     let same : c.in-Ok.fileset.now ≡ fileset = cc in
-    move_kept g.S.Store.view tree c.args.stores.now c.move_over.new.stores c.move_over.result next request c.in-Ok.fileset.now fileset c.in_ok-mover.mover same c.in_ok-mover.ensures formed keep moves number
-    (mover_sound tree.roster request c.requires.host c.requires.call) (c.move_over.ensures.states tells)
+    move_kept g.S.Store.view tree c.args.stores.now c.move_over-moved.new.stores c.move_over-moved.result next request c.in-Ok.fileset.now fileset c.in_ok-mover.mover same c.in_ok-mover.ensures formed keep moves number
+    (mover_sound tree.roster request c.requires.host c.requires.call) (c.move_over-moved.ensures.states tells)
 
 pub returns-clause-same : goal.returns-clause-same
-returns-clause-same g c = goes_same g.S.Store.view (68 * batch_wear) c.move_over.result c.args.stores.now c.move_over.new.stores c.move_over.ensures.goes_on
+returns-clause-same g c = goes_same g.S.Store.view (68 * batch_wear) c.move_over-moved.result c.args.stores.now c.move_over-moved.new.stores c.move_over-moved.ensures.goes_on
 
 pub returns-clause-stores : goal.returns-clause-stores
 returns-clause-stores g c worn are =
-    goes_ok g.S.Store.view c.move_over.result (68 * batch_wear) 2048 worn c.args.tree.now.roster c.args.stores.now c.move_over.new.stores (omega arith) c.move_over.ensures.goes_on are
+    goes_ok g.S.Store.view c.move_over-moved.result (68 * batch_wear) 2048 worn c.args.tree.now.roster c.args.stores.now c.move_over-moved.new.stores (omega arith) c.move_over-moved.ensures.goes_on are
 
 pub returns-clause-stopped : goal.returns-clause-stopped
-returns-clause-stopped g c = goes_stopped g.S.Store.view g.S.Store.tells (68 * batch_wear) c.move_over.result c.args.stores.now c.move_over.new.stores c.move_over.ensures.goes_on
+returns-clause-stopped g c = goes_stopped g.S.Store.view g.S.Store.tells (68 * batch_wear) c.move_over-moved.result c.args.stores.now c.move_over-moved.new.stores c.move_over-moved.ensures.goes_on
