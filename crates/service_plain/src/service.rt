@@ -35,11 +35,7 @@ fn past_of(script: &Script, start: Tree, order: &Items<usize>) -> Result<Past, N
 }
 
 // What happens from a tree on, and the order in which the lines went.
-fn went_from(
-    alloc: Global,
-    script: &Script,
-    start: &Tree,
-) -> Result<(Past, Items<usize>), NoMemory>
+fn went_from(alloc: Global, script: &Script, start: &Tree) -> Result<(Past, Items<usize>), NoMemory>
     requires sound { IsSound script.now }
     requires goes { stuck_at script.now.lines ≡ None }
     requires start { IsStart script.now.roster start.now }

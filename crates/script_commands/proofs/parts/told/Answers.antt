@@ -1,4 +1,4 @@
-use Rattle.std.proofs.Common.{rules, ap, ap₂, ◌∙◌}
+use Rattle.std.proofs.Common.{rules, true, ap, ap₂, ◌∙◌}
 use Rattle.clap.specs.Simple.{app_of_fields, on_top, with_rule}
 use Rattle.script_commands.proofs.parts.told.Goals as goal
 
