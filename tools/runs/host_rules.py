@@ -61,6 +61,11 @@ def view_of(seen):
     return view
 
 
+def brings_uses(bring):
+    """[BringsUses]"""
+    return all(isinstance(t.kind, USE_KINDS) for t in bring.tokens)
+
+
 class HostPast:
     def __init__(self, host):
         self.host = host
@@ -257,7 +262,8 @@ class Look:
                 return b
         if done is not None:
             b = done.bring
-            if self.about(b.fid.fileset) and self.past.is_changing(place(b.fid.fileset)[0], done.fileset, b.number):
+            if self.about(b.fid.fileset) and self.past.is_changing(place(b.fid.fileset)[0], done.fileset, b.number) \
+                    and brings_uses(b):
                 return b
         return None
 

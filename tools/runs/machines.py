@@ -809,7 +809,8 @@ class Host:
             self.call = None
         elif isinstance(done.outcome, Known) and r[1].enter:
             self.entered[fileset_of(r[1].call)] = done.outcome.fileset
-        self.take(d, done.bring, None)
+        if all(is_use_kind(t.kind) for t in done.bring.tokens):
+            self.take(d, done.bring, None)
         self.go_on(d)
 
     def on_revoke(self, d, server, revoke):

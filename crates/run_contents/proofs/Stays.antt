@@ -142,7 +142,7 @@ module _ (script : Script) (host : HostId) (past : List Step) (s : Step) (run : 
     bringing : Bringing s
     bringing = elim uses [
       | inl (g, about, same, asking) ↦ record { by = about.0; cause = about.1; is = inl (g, about.5) }
-      | inr (d, about, same, changing) ↦ record { by = about.0; cause = about.1; is = inr (d, about.5) }
+      | inr (d, about, same, changing, lone) ↦ record { by = about.0; cause = about.1; is = inr (d, about.5) }
     ]
 
     no_line : (other : Cause) → s.cause ≡ other → (other ≡ Came bringing.by → ⊥) → ⊥
@@ -173,7 +173,7 @@ module _ (script : Script) (host : HostId) (past : List Step) (s : Step) (run : 
           let reads : ReadsOnly f.needs = subst (λ (z : Asked). Suits z.call f) one c.2 in
           reads (need_of t) p (needs t (subst (λ (y : Bring). In t y.tokens) (sym same) brings)) cov update
           )
-      | inr (d, about, same, changing) ↦ (
+      | inr (d, about, same, changing, lone) ↦ (
           let sent = subst (λ (b : Body). SentTo (S about.0.server) host about.0.epoch about.0.moves b) about.5
           (came about.0 about.1) in
           (sensible about.0.server).dones host _ _ d t p sent

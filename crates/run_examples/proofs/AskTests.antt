@@ -33,11 +33,10 @@ use Rattle.run_examples.proofs.FetchChecks.{next_is, next_tests, not_dir, not_tr
 use Rattle.run_examples.proofs.FetchWords.{need_is, one_number, one_number_of, same_need}
 use Rattle.run_examples.proofs.LabelWords.{is_local}
 use Rattle.run_examples.proofs.LapseChecks.{hello_body, is_hello}
-use Rattle.run_examples.proofs.ServerLists.{is_use_kind}
 use Rattle.run_examples.proofs.StanceChecks.{stance_of, stance_tests}
 use Rattle.run_examples.proofs.Tests.{all_true, at_all, bool_is, fid_is, fileset_is, filesets, is_none, is_not}
 use Rattle.run_examples.proofs.Tests.{list_is, none_in, passes, same_bool, same_fileset, same_list, same_server}
-use Rattle.run_examples.proofs.Tests.{server_is, servers, some_in}
+use Rattle.run_examples.proofs.Tests.{is_use_kind, server_is, servers, some_in, use_kind_yes}
 use Rattle.run_examples.proofs.TokenChecks.{asks, at_site}
 use Rattle.run_examples.proofs.Words.{asking, asking_in, at_said, at_sends, changing, held, in_asking, in_changing}
 use Rattle.run_examples.proofs.Words.{in_said, is_welcome, none_open, none_open_yes, numbered, said, told}
@@ -218,14 +217,9 @@ module _ (site : ServerId) (roster : Roster) (host : HostId) (user : User) (past
         | inr x ↦ (
             let r = lack_yes (held (s ∷ past)) needs both x in
             let p = and_parts (is_use_kind r.0.kind) (test (ChangeIn r.0.fid.fileset) r.0.fid) r.2 in
-            (ChangeIn r.0.fid.fileset, r.0.fid, inr (r.0, r.1, use_yes r.0.kind p.0, refl, refl), p.1)
+            (ChangeIn r.0.fid.fileset, r.0.fid, inr (r.0, r.1, use_kind_yes r.0.kind p.0, refl, refl), p.1)
             )
       ]
-    where
-      use_yes : (k : Kind) → is_use_kind k ≡ true → IsUseKind k
-      use_yes (LockToken writing span) e = tt
-      use_yes (Opening kind) e = tt
-      use_yes k e = absurd (cc)
 
   goes_yes : (call : Call) (v : ServerId) → goes_at site host user past s call v ≡ true
       → GoesTo roster host past s its call v

@@ -11,7 +11,8 @@ use Rattle.run_examples.specs.Steps.{file_bytes, frees_last, greets, grows, grow
 use Rattle.run_examples.specs.Steps.{asks_both, asks_second_block, asks_status, ends_again, ends_second, freed_first}
 use Rattle.run_examples.specs.Steps.{gives_first_block, gives_shown, gives_status, learns_first_block, learns_status}
 use Rattle.run_examples.specs.Steps.{locks_again, shown_gift, takes_second_block}
-use Rattle.run_examples.specs.Steps.{hears_moved, hears_unmade, needs, returns_all, returns_other, unlocks_last}
+use Rattle.run_examples.specs.Steps.{hears_bytes, hears_moved, hears_unmade, needs, returns_all, returns_other}
+use Rattle.run_examples.specs.Steps.{unlocks_last}
 use Rattle.run_examples.specs.Steps.{writes}
 use Rattle.need_host.specs.Calls.{sync_look}
 use Rattle.run_rules.specs.declared.step.Step.{Step}
@@ -153,6 +154,10 @@ unmade_lapse = host_does site_one writing client owner (hears_unmade ∷ grown) 
 pub moved_meets : Does writing client (enters writes ∷ greets writes ∷ []) hears_moved
 unfolding computed
 moved_meets = host_does site_one writing client owner (enters writes ∷ greets writes ∷ []) hears_moved refl refl
+
+pub bytes_meets : Does writing client (enters writes ∷ greets writes ∷ []) hears_bytes
+unfolding computed
+bytes_meets = host_does site_one writing client owner (enters writes ∷ greets writes ∷ []) hears_bytes refl refl
 
 pub other_meets : Does writing client grown returns_other
 unfolding computed

@@ -13,7 +13,7 @@ use Rattle.run_examples.proofs.ServerWords.{away_is_now, away_yes_now, begin_is,
 use Rattle.run_examples.proofs.ServerWords.{here_is, here_yes, live, live_is, live_yes}
 use Rattle.run_examples.proofs.Tests.{any_of, fileset_is, filesets, from_filter, host_is, hosts, id_is, ids, in_back}
 use Rattle.run_examples.proofs.Tests.{in_filter, in_front, in_split, is_not, not_is, same_fileset, same_host, same_is}
-use Rattle.run_examples.proofs.Tests.{same_token, some_in, token_is, tokens}
+use Rattle.run_examples.proofs.Tests.{is_use_kind, same_token, some_in, token_is, tokens, use_kind_is, use_kind_yes}
 use Rattle.run_examples.specs.Laws.{writing}
 use Rattle.std.proofs.Common.{Bool, List, [], false, inl, inr, refl, subst, sym, true, ℕ, ◌&&◌, ◌++◌, ◌==◌, ◌||◌, ◌∷◌}
 use Rattle.std.proofs.Common.{◌≡◌}
@@ -61,11 +61,6 @@ newly _ = []
 unfoldable pub granted : ServerId → List Doing → List Token
 granted server [] = []
 granted server (a ∷ past) = newly a ++ filter (λ t. not (ends_token server past a t)) (granted server past)
-
-unfoldable pub is_use_kind : Kind → Bool
-is_use_kind (LockToken writing span) = true
-is_use_kind (Opening kind) = true
-is_use_kind _ = false
 
 -- a Kept names a lock or open token
 unfoldable pub pins : ServerId → List Doing → Doing → Token → Bool
@@ -264,19 +259,6 @@ granted_yes server (a ∷ past) t m =
           inr (granted_yes server past t q.0, λ x. no_end (inl x), λ x. no_end (inr (inl x)), λ x. no_end (inr (inr x)))
           )
     ]
-
-use_kind_yes : (k : Kind) → is_use_kind k ≡ true → IsUseKind k
-unfolding list_words
-use_kind_yes (LockToken writing span) e = tt
-use_kind_yes (Opening kind) e = tt
-use_kind_yes k e = absurd (cc)
-
-pub use_kind_is : (k : Kind) → IsUseKind k → is_use_kind k ≡ true
-unfolding list_words
-use_kind_is (LockToken writing span) u = refl
-use_kind_is (Opening kind) u = refl
-use_kind_is (Bytes update span) u = elim u [ ]
-use_kind_is (Status update) u = elim u [ ]
 
 abbrev PinsNow : ServerId → List Doing → Doing → Token → Type 0
 PinsNow server past a t = (named : Named) × TakesOf server past a t.host named.fid.fileset (Kept named)

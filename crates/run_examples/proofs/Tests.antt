@@ -30,6 +30,7 @@ use Rattle.message_types.specs.declared.giving.AppliedGive.{AppliedGive}
 use Rattle.message_types.specs.declared.giving.Ends.{Ends}
 use Rattle.message_types.specs.declared.giving.Give.{Give}
 use Rattle.run_rules.specs.Past.{In}
+use Rattle.run_rules.specs.Tokens.{IsUseKind}
 
 -- a test that a condition has to pass only where another holds
 abbrev pub implies : Bool → Bool → Bool
@@ -475,3 +476,22 @@ none_in (y ∷ ys) x e m = cc
 pub none_is : {A : Type 0} (xs : List A) → is_none xs ≡ true → xs ≡ []
 none_is [] e = refl
 none_is (x ∷ xs) e = absurd (cc)
+
+-- a lock or an open token
+unfoldable pub is_use_kind : Kind → Bool
+is_use_kind (Lock writing span) = true
+is_use_kind (Opening kind) = true
+is_use_kind _ = false
+
+pub use_kind_yes : (k : Kind) → is_use_kind k ≡ true → IsUseKind k
+unfolding is_use_kind
+use_kind_yes (Lock writing span) e = tt
+use_kind_yes (Opening kind) e = tt
+use_kind_yes k e = absurd (cc)
+
+pub use_kind_is : (k : Kind) → IsUseKind k → is_use_kind k ≡ true
+unfolding is_use_kind
+use_kind_is (Lock writing span) u = refl
+use_kind_is (Opening kind) u = refl
+use_kind_is (Bytes update span) u = elim u [ ]
+use_kind_is (Status update) u = elim u [ ]

@@ -3,7 +3,7 @@ use Rattle.run_rules.specs.Messages.{About, Asking, Changing, Comes, ComesIn, Do
 use Rattle.run_rules.specs.Messages.{IsWelcome, KeepsToken, ReturnsToken, Said, Sends, epoch_at, stay_of}
 use Rattle.run_rules.specs.Past.{In}
 use Rattle.run_rules.specs.Tokens.{AboveFloor, AnswersRequest, AtHand, Drops, EverHeld, GiveOpen, Held, HoldsId}
-use Rattle.run_rules.specs.Tokens.{IsKnownNumber, IsOutstanding, Learns, LeavesHost, Made, Makes, Owns, Uses}
+use Rattle.run_rules.specs.Tokens.{IsKnownNumber, IsOutstanding, IsUseKind, Learns, LeavesHost, Made, Makes, Owns, Uses}
 use Rattle.run_rules.specs.Tokens.{WaitsBehind, number_of}
 use Rattle.std.proofs.Common.{Bool, List, [], ap, false, inl, inr, refl, subst, sym, true, if◌then◌else◌}
 use Rattle.std.proofs.Common.{ℕ, ◌&&◌, ◌++◌, ◌||◌, ◌==◌, ◌∙◌, ◌∷◌, ◌≡◌, ◌<◌, ◌⊎◌}
@@ -39,6 +39,7 @@ use Rattle.run_examples.proofs.Tests.{in_filter, from_filter, in_flat, from_flat
 use Rattle.run_examples.proofs.Tests.{same_fileset}
 use Rattle.run_examples.proofs.Tests.{server_is, servers, fileset_is, filesets, same_is, fid_is, fids, id_is, ids}
 use Rattle.run_examples.proofs.Tests.{same_token, token_is, tokens, same_number, number_is, numbers}
+use Rattle.run_examples.proofs.Tests.{is_use_kind, use_kind_is, use_kind_yes}
 
 -- messages
 abbrev pub by_message : {A : Type 0} → A → (Message → A) → Cause → A
@@ -1098,7 +1099,7 @@ above_yes (s ∷ past) fid stamp e =
         (stay_of past w.fid.fileset).server) (stay_of past w.fid.fileset).moves (Grant g) t c) (fids g.bring.fid fid
         (ap (λ (x : Bring). x.fid) is ∙ f)) in
         subst (λ (x : Bring). x.stamp < stamp) is (ltb-true g.bring.stamp stamp p)
-    brings t w (inr (d, c, is, a)) up free f =
+    brings t w (inr (d, c, is, a, lone)) up free f =
         let p = so (same_fid d.bring.fid fid) (nat_lt d.bring.stamp stamp) (at_comes
         (λ m. floor_by fid stamp m.body) s (stay_of past w.fid.fileset).server (epoch_at past
         (stay_of past w.fid.fileset).server) (stay_of past w.fid.fileset).moves (Done d) t c) (fids d.bring.fid fid
@@ -1162,7 +1163,7 @@ recalled_in past s r id c i =
 -- what a step uses of what comes
 unfoldable pub brought_by : Body → List Bring
 brought_by (Grant g) = g.bring ∷ []
-brought_by (Done d) = d.bring ∷ []
+brought_by (Done d) = if list_all (λ t. is_use_kind t.kind) d.bring.tokens then d.bring ∷ [] else []
 brought_by _ = []
 
 unfoldable pub uses_by : List Step → Message → Body → Bool
@@ -1174,7 +1175,8 @@ uses_by past m (Done d) =
     is_about past m d.bring.fid.fileset
     && (list_any (same_number (numbered d.fileset d.bring.number)) (changing
     (stay_of past d.bring.fid.fileset).server past)
-    && (is_above past d.bring.fid d.bring.stamp && none_open past d.bring.fid))
+    && (list_all (λ t. is_use_kind t.kind) d.bring.tokens
+    && (is_above past d.bring.fid d.bring.stamp && none_open past d.bring.fid)))
 uses_by past m _ = false
 
 asked_yes : (past : List Step) (n : AppliedGive) → list_any (same_number n) (asking past) ≡ true
@@ -1222,25 +1224,31 @@ uses_of past s m (Grant g) c is e w (inl q) =
       none_open_yes past g.bring.fid u.1,
     )
 uses_of past s m (Grant g) c is e w (inr q) = elim q [ ]
-uses_of past s m (Done d) c is e w (inl q) =
+uses_of past s m (Done d) c is e w q =
     let i = is_about past m d.bring.fid.fileset in
     let a = list_any (same_number (numbered d.fileset d.bring.number)) (changing
     (stay_of past d.bring.fid.fileset).server past) in
-    let p = and_parts i (a && (is_above past d.bring.fid d.bring.stamp && none_open past d.bring.fid)) e in
-    let r = and_parts a (is_above past d.bring.fid d.bring.stamp && none_open past d.bring.fid) p.1 in
-    let u = and_parts (is_above past d.bring.fid d.bring.stamp) (none_open past d.bring.fid) r.1 in
-    subst (λ x. Uses past s x) (sym q) (
-      inr (
-        d,
-        about past s m d.bring.fid.fileset (Done d) c is p.0,
-        refl,
-        changed_yes past
-            (stay_of past d.bring.fid.fileset).server (numbered d.fileset d.bring.number) r.0,
-      ),
-      above_yes past d.bring.fid d.bring.stamp u.0,
-      none_open_yes past d.bring.fid u.1,
-    )
-uses_of past s m (Done d) c is e w (inr q) = elim q [ ]
+    let l = list_all (λ t. is_use_kind t.kind) d.bring.tokens in
+    let f = is_above past d.bring.fid d.bring.stamp && none_open past d.bring.fid in
+    let p = and_parts i (a && (l && f)) e in
+    let r = and_parts a (l && f) p.1 in
+    let k = and_parts l f r.1 in
+    let u = and_parts (is_above past d.bring.fid d.bring.stamp) (none_open past d.bring.fid) k.1 in
+    elim (if_in l w (d.bring ∷ []) q).1 [
+      | inl same ↦ subst (λ x. Uses past s x) (sym same) (
+          inr (
+            d,
+            about past s m d.bring.fid.fileset (Done d) c is p.0,
+            refl,
+            changed_yes past
+                (stay_of past d.bring.fid.fileset).server (numbered d.fileset d.bring.number) r.0,
+            λ t n. use_kind_yes t.kind (at_all (λ t. is_use_kind t.kind) d.bring.tokens t k.0 n),
+          ),
+          above_yes past d.bring.fid d.bring.stamp u.0,
+          none_open_yes past d.bring.fid u.1,
+        )
+      | inr none ↦ elim none [ ]
+    ]
 uses_of past s m b c is e w q = absurd (cc)
 
 -- the test that a step may take a token
@@ -1285,6 +1293,13 @@ take_yes past s t e = take_of past s t s.cause refl e
 unfoldable pub brought : Cause → List Bring
 brought cause = by_message [] (λ m. brought_by m.body) cause
 
+all_uses : (tokens : List Token) → ((t : Token) → In t tokens → IsUseKind t.kind)
+    → list_all (λ t. is_use_kind t.kind) tokens ≡ true
+all_uses [] uses = refl
+all_uses (t ∷ tokens) uses =
+    and_from (is_use_kind t.kind) (list_all (λ t. is_use_kind t.kind) tokens) (use_kind_is t.kind (uses t (inl refl)))
+    (all_uses tokens (λ u n. uses u (inr n)))
+
 pub used_in : (past : List Step) (s : Step) (w : Bring) → AnswersRequest past s w → In w (brought s.cause)
 unfolding said is_about is_present learnt_by learnt known is_known drops_it held holds_id ever returned_by returned
     given gives_it leaves_it owned made none_open is_waited waits is_first fetched_by granted_by answered asking is_at
@@ -1292,5 +1307,7 @@ unfolding said is_about is_present learnt_by learnt known is_known drops_it held
     has_kept floor_by renews is_above recalled_by recalled brought_by uses_by takes_by may_take brought
 used_in past s w (inl (g, c, is, a)) =
     subst (λ x. In w (brought x)) (sym (about_cause past s w.fid.fileset (Grant g) c)) (inl (sym is))
-used_in past s w (inr (d, c, is, a)) =
-    subst (λ x. In w (brought x)) (sym (about_cause past s w.fid.fileset (Done d) c)) (inl (sym is))
+used_in past s w (inr (d, c, is, a, uses)) =
+    subst (λ x. In w (brought x)) (sym (about_cause past s w.fid.fileset (Done d) c))
+    (in_if (list_all (λ t. is_use_kind t.kind) d.bring.tokens) w (d.bring ∷ [])
+    (all_uses d.bring.tokens (λ t n. uses t (subst (λ (b : Bring). In t b.tokens) is n))) (inl (sym is)))

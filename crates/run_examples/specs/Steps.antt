@@ -636,7 +636,8 @@ stores_and_grants =
     (to_host (Gone (number_of gift)) ∷ to_other (Grant other_grant) ∷ [])
 
 -- Sound messages that no honest node sends. A Gone of a give-back that the host didn't make teaches it nothing; a Done
--- under fileset 0 with moves answers nothing; a token that a Revoke of another file names is returned under its own.
+-- under fileset 0 with moves answers nothing; a token that a Revoke of another file names is returned under its own; the
+-- bytes that a Done brings aren't taken, since it doesn't show them.
 abbrev pub hears_unmade : Step
 hears_unmade = hears (to_host (Gone (record { fileset = root.fileset; number = 7 }))) [] []
 
@@ -647,6 +648,14 @@ abbrev pub returns_other : Step
 returns_other =
     acts (Came (to_host (Revoke (record { fid = root; stamp = 3; ids = file_status.id ∷ [] })))) None [] [] None [] []
     (leaves Revoked file_status ∷ []) (to_server 1 (Returned (record { fid = file; ids = file_status.id ∷ [] })) ∷ [])
+
+abbrev pub hears_bytes : Step
+hears_bytes =
+    hears
+    (to_host (Done (record entered {
+      bring = record { number = 1; fid = file; stamp = 1; tokens = file_bytes ∷ [] };
+    }))) []
+    (asks_for 1 root (needs root (Status false) ∷ needs root (Bytes false whole) ∷ []) ∷ [])
 
 -- a lock that is numbered under another fileset than its file's makes no want
 abbrev pub hears_misplaced : Step

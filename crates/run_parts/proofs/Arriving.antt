@@ -29,7 +29,7 @@ module _ (h : HostId) (A : List Step) (S : ServerId → List Doing) (s : Step) (
       subst (λ (b : Bring). Brought (S (at w)) h (epoch_at A (at w)) b 0 t) e
       ((served (at w)).grants h (epoch_at A (at w)) 0 g t (came (at w) (epoch_at A (at w)) 0 (Grant g) c)
       (subst (λ (b : Bring). In t b.tokens) (sym e) i))
-  brought w t (inr (d, c, e, _)) i =
+  brought w t (inr (d, c, e, _, _)) i =
       subst (λ (b : Bring). Brought (S (at w)) h (epoch_at A (at w)) b 0 t) e
       ((served (at w)).dones h (epoch_at A (at w)) 0 d t (came (at w) (epoch_at A (at w)) 0 (Done d) c)
       (subst (λ (b : Bring). In t b.tokens) (sym e) i))

@@ -113,14 +113,25 @@ Owns past token = Still (λ before step. In token step.taken) (λ before step. L
 
 -- # Floors: which Grants and Dones a host uses
 
+-- a lock or an open token
+abbrev pub IsUseKind : Kind → Type 0
+IsUseKind (Lock writing span) = Unit {0}
+IsUseKind (Opening kind) = Unit {0}
+IsUseKind _ = ⊥
+
+-- all that it brings are lock and open tokens
+abbrev pub BringsUses : Bring → Type 0
+BringsUses bring = (token : Token) → In token bring.tokens → IsUseKind token.kind
+
 -- The step's cause is a Grant or a Done that brings this, of the present stay of its file's fileset, and it answers the
--- outstanding request of its number.
+-- outstanding request of its number. A Done shows nothing of its file, so it brings lock and open tokens alone; one
+-- that brings others answers nothing.
 abbrev pub AnswersRequest : List Step → Step → Bring → Type 0
 AnswersRequest past step bring =
     ((grant : GrantOf) × About past step bring.fid.fileset (Grant grant) × (grant.bring ≡ bring)
     × Asking past bring.fid.fileset bring.number)
     ⊎ ((done : DoneOf) × About past step bring.fid.fileset (Done done) × (done.bring ≡ bring)
-    × Changing past (stay_of past bring.fid.fileset).server done.fileset bring.number)
+    × Changing past (stay_of past bring.fid.fileset).server done.fileset bring.number × BringsUses bring)
 
 -- The stamp is above the floor of the file: above 0, and above that of each Revoke that came, and of each Grant and
 -- Done that was used, since the floors of its fileset began anew.
@@ -140,12 +151,6 @@ Uses past step bring =
     AnswersRequest past step bring × AboveFloor past bring.fid bring.stamp × (GiveOpen past bring.fid → ⊥)
 
 -- # Labels of locks and open files that are in use, and the tokens that are pinned for them
-
--- a lock or an open token
-abbrev pub IsUseKind : Kind → Type 0
-IsUseKind (Lock writing span) = Unit {0}
-IsUseKind (Opening kind) = Unit {0}
-IsUseKind _ = ⊥
 
 -- the call that ends the use of a label: CloseFile where its token is an open token, else Unlock
 abbrev pub end_call : Kind → List ℕ → Call

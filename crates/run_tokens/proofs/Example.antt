@@ -207,11 +207,11 @@ module _ (whole : Span) where
 
       no_answer_two : (w : Bring) → AnswersRequest one enters w → ⊥
       no_answer_two w (inl (g, c, _, _)) = (let p = its_body enters (to_host (Reclaimed welcome)) (home w.fid.fileset) (epoch_at one (home w.fid.fileset)) 0 (Grant g) refl c in cc)
-      no_answer_two w (inr (g, c, _, _)) = (let p = its_body enters (to_host (Reclaimed welcome)) (home w.fid.fileset) (epoch_at one (home w.fid.fileset)) 0 (Done g) refl c in cc)
+      no_answer_two w (inr (g, c, _, _, _)) = (let p = its_body enters (to_host (Reclaimed welcome)) (home w.fid.fileset) (epoch_at one (home w.fid.fileset)) 0 (Done g) refl c in cc)
 
       no_answer_three : (w : Bring) → AnswersRequest two (fetches whole) w → w.fid ≡ root → ⊥
       no_answer_three w (inl (g, c, _, _)) at = (let p = its_body (fetches whole) (to_host (Done entered)) (home w.fid.fileset) (epoch_at two (home w.fid.fileset)) 0 (Grant g) refl c in cc)
-      no_answer_three w (inr (g, c, is, _)) at =
+      no_answer_three w (inr (g, c, is, _, _)) at =
           let p : Done entered ≡ Done g = its_body (fetches whole) (to_host (Done entered)) (home w.fid.fileset) (epoch_at two (home w.fid.fileset)) 0 (Done g) refl c in
           let q : entered ≡ g = cc in
           let f : no_fid.anode ≡ root.anode = ap (λ (x : DoneOf). x.bring.fid.anode) q ∙ (ap (λ (x : Bring). x.fid.anode) is ∙ ap (λ (x : Fid). x.anode) at) in
