@@ -78,8 +78,8 @@ pub fn step_law()
     ensures begun { BegunStoresEnd }
 {}
 
-/// What is wanted for a Change but a clone can be read from what the store tells: the needs are those of the objects to
-/// which the places of the call lead there.
+/// What is wanted for a Change can be read from what the store tells: the needs are those of the objects to which the
+/// places of the call lead there; for a clone, those of all files of its source.
 pub fn wants_law()
     ensures { WantsAreTold }
 {}
