@@ -28,12 +28,13 @@ use Rattle.tree_objects.proofs.Observed.{and_left, and_right}
 use Rattle.tree_objects.proofs.Rising.{and_both}
 use Rattle.run_rules.specs.Runs.{history_of}
 use Rattle.tree_answers.specs.Histories.{after_history}
+use Rattle.tree_answers.proofs.Moves.{formed_history}
 use Rattle.run_dump.proofs.Bytes.{bytes_are_told}
 use Rattle.run_dump.proofs.Left.{runs_leave_well}
 use Rattle.run_dump.proofs.Counted.{all_seen, all_sights, counted, once}
 use Rattle.run_dump.proofs.Servers.{by_keys}
 use Rattle.run_dump.proofs.Sights.{lines_of}
-use Rattle.run_dump.specs.Shown.{ObjectsAreShown, RunsAreShown, Shows, ShowsObject, TreesAreShown}
+use Rattle.run_dump.specs.Shown.{HistoriesAreShown, ObjectsAreShown, RunsAreShown, Shows, ShowsObject, TreesAreShown}
 
 dir_there : (o : Option Object) → option_map_or (λ object. is_dir object.content) o false ≡ true →
     (object : Object) × (o ≡ Some object)
@@ -151,6 +152,11 @@ trees_are_shown script start history w = record {
   text = refl;
   summary = refl;
 }
+
+-- so is the tree that a legal history leaves
+pub histories_are_shown : HistoriesAreShown
+histories_are_shown script start history w legal limited =
+    trees_are_shown script start history (formed_history start history w legal limited)
 
 -- so is the tree that the history of a run makes
 pub runs_are_shown : RunsAreShown

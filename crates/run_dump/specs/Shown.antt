@@ -1,5 +1,5 @@
 -- What is printed of the filesets of a tree.
-use Rattle.std.specs.List.{count_by, flat_map, join_by}
+use Rattle.std.specs.List.{count_by, flat_map, join_by, list_all}
 use Rattle.std.specs.Prelude.{
   IsPermutation,
   List,
@@ -9,6 +9,7 @@ use Rattle.std.specs.Prelude.{
   if◌then◌else◌,
   is_some,
   length,
+  true,
   unwrap_or,
   ℕ,
   [],
@@ -20,8 +21,8 @@ use Rattle.std.specs.Prelude.{
 use Rattle.json.specs.Print.{quoted as json_string}
 use Rattle.base_types.specs.Image.{byte_at}
 use Rattle.base_types.specs.declared.access.AccessEntry.{AccessEntry}
-use Rattle.tree_answers.specs.Histories.{after_history}
-use Rattle.tree_answers.specs.WellFormed.{IsWellFormed}
+use Rattle.tree_answers.specs.Histories.{IsHistory, after_history}
+use Rattle.tree_answers.specs.WellFormed.{IsWellFormed, is_limited}
 use Rattle.tree_answers.specs.declared.tree.Tree.{Tree}
 use Rattle.tree_calls.specs.declared.entry.Entry.{Entry}
 use Rattle.tree_calls.specs.declared.part.Piece.{Piece}
@@ -116,6 +117,12 @@ abbrev pub TreesAreShown : Type 0
 TreesAreShown =
     (script : Script) (start : Tree) (history : List Entry) → IsWellFormed (after_history start history)
     → IsDumped script start history
+
+-- so is the tree that a legal history leaves of a well formed one
+abbrev pub HistoriesAreShown : Type 0
+HistoriesAreShown =
+    (script : Script) (start : Tree) (history : List Entry) → IsWellFormed start → IsHistory start history
+    → list_all is_limited history ≡ true → IsDumped script start history
 
 -- so is the tree that a run leaves
 abbrev pub RunsAreShown : Type 0

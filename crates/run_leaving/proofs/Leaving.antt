@@ -33,9 +33,9 @@ use Rattle.run_leaving.specs.Leaving.LeavesBy.{HostEnds, HostStops, IsAskedBack,
 so : (roster : Roster) (host : HostId) (past : List Step) (s : Step) (why : Why) (t : Token)
     → MayLeave roster host (limit_of roster host) past s why t → LeavesBy roster host past s t
 so roster host past s Revoked t may =
-    let (r, about, named) = may.0 in IsAskedBack about.0 r about.1 about.5 named may.1
-so roster host past s Evicted t may = IsEvicted may.1.1 may.2 may.3
-so roster host past s ForCall t (inl (k, place, stance, turn, finds, dirty)) = IsSynced k place turn dirty
+    let (r, about, named) = may.0 in IsAskedBack r about named may.1
+so roster host past s Evicted t may = IsEvicted may.0 may.1.1 may.2 may.3
+so roster host past s ForCall t (inl (k, place, stance, turn, finds, dirty)) = IsSynced k place stance turn finds dirty
 so roster host past s ForCall t (inr (k, u, turn, frees, same)) =
     IsReleased k u turn same frees.0 (subst (λ (t : Token). HasKeptToken past t.id) same frees.1)
 so roster host past s Ended t may = HostEnds may.0 may.1
@@ -101,7 +101,8 @@ unused roster host t (s ∷ later) earlier n lies last =
     not_used none free (inr (stance, a, need, there, asked, helps)) = subst (λ answers. In a answers) none there
 
 -- a token that is held was taken
-was_taken : (t : Token) (later earlier : List Step) → LieUnused later t → Held (later ++ earlier) t → IsTakenIn earlier t
+was_taken : (t : Token) (later earlier : List Step) → LieUnused later t → Held (later ++ earlier) t →
+    IsTakenIn earlier t
 was_taken t [] earlier lies held = taken earlier held
   where
     taken : (past : List Step) → Held past t → IsTakenIn past t

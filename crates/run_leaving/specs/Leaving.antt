@@ -5,7 +5,6 @@ use Rattle.base_types.specs.declared.ids.Node.TheVariants.{Host}
 use Rattle.base_types.specs.declared.ids.ServerId.{ServerId}
 use Rattle.base_types.specs.declared.limits.TheConstants.{CACHED_TOKENS_DEFAULT}
 use Rattle.message_types.specs.declared.message.Body.TheVariants.{Down, Revoke}
-use Rattle.message_types.specs.declared.message.Message.{Message}
 use Rattle.message_types.specs.declared.tokens.Revoke.{Revoke as RevokeOf}
 use Rattle.script_lines.specs.declared.script.Script.{Script}
 use Rattle.token_types.specs.declared.token.Token.{Token}
@@ -15,30 +14,30 @@ use Rattle.tree_calls.specs.declared.roster.HostLine.{HostLine}
 use Rattle.tree_calls.specs.declared.roster.Roster.{Roster}
 use Rattle.run_rules.specs.HostDue.{HostDue}
 use Rattle.run_rules.specs.HostTokens.{HasUnused, IsOldest, IsUnused}
-use Rattle.run_rules.specs.Messages.{HasKeptToken, Sends}
+use Rattle.run_rules.specs.Messages.{About, HasKeptToken, Sends}
 use Rattle.run_rules.specs.Past.{Always, In, Once}
 use Rattle.run_rules.specs.Runs.{IsRun, past_of}
 use Rattle.run_rules.specs.Steps.{limit_of, steps_of_host}
 use Rattle.run_rules.specs.Tokens.{Drops, HasCall, IsLastUse, NoneUsed, TokenInUse, end_of}
-use Rattle.run_rules.specs.Views.{IsDirtyUnder}
+use Rattle.run_rules.specs.Views.{FindsFile, IsDirtyUnder, Stance}
 use Rattle.run_rules.specs.declared.applied.Why.TheVariants.{Evicted}
 use Rattle.run_rules.specs.declared.applied.Leave.{Leave}
 use Rattle.run_rules.specs.declared.journal.Journal.{Journal}
-use Rattle.run_rules.specs.declared.step.Cause.TheVariants.{End, Evict, Message as Came}
+use Rattle.run_rules.specs.declared.step.Cause.TheVariants.{End, Evict}
 use Rattle.run_rules.specs.declared.step.Labelled.{Labelled}
 use Rattle.run_rules.specs.declared.step.Step.{Step}
 
 -- How a token leaves a host in a step. `past` are the host's own earlier steps.
 pub data LeavesBy (roster : Roster) (host : HostId) (past : List Step) (s : Step) (t : Token) : Type 0 where
-  -- a Revoke that comes names it, and it isn't in use
-  IsAskedBack : (m : Message) (r : RevokeOf) → s.cause ≡ Came m → m.body ≡ Revoke r → In t.id r.ids
-      → (TokenInUse past t.id → ⊥) → LeavesBy roster host past s t
+  -- a Revoke that comes, of the epoch and stay that the host knows, names it, and it isn't in use
+  IsAskedBack : (r : RevokeOf) → About past s r.fid.fileset (Revoke r) → In t.id r.ids → (TokenInUse past t.id → ⊥)
+      → LeavesBy roster host past s t
   -- more tokens are unused than the host caches, and none of those was used longer ago
-  IsEvicted : HasUnused past (suc (limit_of roster host)) → IsUnused past t → IsOldest roster host past t
-      → LeavesBy roster host past s t
-  -- a Sync gives back what is dirty under it
-  IsSynced : (k : ℕ) (place : Place) → HasCall past s k (Sync place) → IsDirtyUnder past s t
-      → LeavesBy roster host past s t
+  IsEvicted : s.cause ≡ Evict → HasUnused past (suc (limit_of roster host)) → IsUnused past t
+      → IsOldest roster host past t → LeavesBy roster host past s t
+  -- a Sync of its file gives back what is dirty under it
+  IsSynced : (k : ℕ) (place : Place) (stance : Stance roster host past s) → HasCall past s k (Sync place)
+      → FindsFile stance place t.fid → IsDirtyUnder past s t → LeavesBy roster host past s t
   -- its last use ends, and a Kept named it
   IsReleased : (k : ℕ) (u : Labelled) → HasCall past s k (end_of u) → u.token ≡ t → IsLastUse past u
       → HasKeptToken past t.id → LeavesBy roster host past s t

@@ -13,3 +13,4 @@ pub mod Numbers
 pub mod Steps
 pub mod Elsewhere
 pub mod Wanting
+pub mod Rising

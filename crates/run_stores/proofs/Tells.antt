@@ -66,7 +66,7 @@ not_of id b holding its apart = by (is_of id b) refl
     by true e = absurd (apart (same_id b.fileset.id id e ∙ sym its))
     by false e = refl
 
-kept_found : (tree : Tree) (state : StoreState) (id : FilesetId) → StandsFor tree state →
+pub kept_found : (tree : Tree) (state : StoreState) (id : FilesetId) → StandsFor tree state →
     fileset_of state id ≡ find (has_id id) tree.filesets
 kept_found tree state id s = by (find (has_id id) tree.filesets) refl
   where
@@ -114,20 +114,20 @@ same_object fileset fid w =
     ap (λ o. if unique_at fileset.anodes fid.anode == fid.unique then o else None)
     (told_at fileset.anodes fid.anode (tellable_if_formed fileset w))
 
-formed_found : (tree : Tree) (state : StoreState) (id : FilesetId) (fileset : Fileset) → StandsFor tree state →
+pub formed_found : (tree : Tree) (state : StoreState) (id : FilesetId) (fileset : Fileset) → StandsFor tree state →
     find (has_id id) tree.filesets ≡ Some fileset → IsWellFormedFileset fileset
 formed_found tree state id fileset s e =
     formed_get tree.filesets (prefix_len (λ x. not (has_id id x)) tree.filesets) fileset
     (sym e ∙ place_found (has_id id) tree.filesets) s.formed.filesets
 
 -- the status, and the object, of what is found
-abbrev status_in : Option Fileset → Fid → Option Status
+abbrev pub status_in : Option Fileset → Fid → Option Status
 status_in found fid = option_and_then (λ fileset. option_map (status_of fileset.read_only) (object_in fileset fid)) found
 
 abbrev object_of : Option Fileset → Fid → Option Object
 object_of found fid = option_and_then (λ fileset. object_in fileset fid) found
 
-status_is : (tree : Tree) (state : StoreState) (fid : Fid) → StandsFor tree state →
+pub status_is : (tree : Tree) (state : StoreState) (fid : Fid) → StandsFor tree state →
     status_told state fid ≡ status_in (find (has_id fid.fileset) tree.filesets) fid
 status_is tree state fid s =
     ap (option_and_then (λ fileset. option_map (status_of fileset.read_only) (store_object fileset fid)))

@@ -1,14 +1,16 @@
 -- What is wanted for a Change, read from what a store tells.
-use Rattle.std.proofs.Common.{Bool, Err, List, nat_lt, ◌&&◌, None, Ok, Option, Result, Some, ap, false, inl, inr, length, refl, subst, suc, sym, take, true, ℕ, ◌++◌, ◌+◌, ◌-◌, ◌==◌, ◌∙◌, ◌∷◌, ◌≡◌, ◌⊎◌, []}
-use Rattle.std.specs.Option.{option_map_or}
-use Rattle.std.specs.Prelude.{if◌then◌else◌, slice_get}
+use Rattle.need_laws.specs.Known.{IsAt}
+use Rattle.tree_calls.specs.declared.call.Call.{Call}
+use Rattle.std.proofs.Common.{Bool, Err, List, nat_lt, ◌&&◌, None, Ok, Option, Result, Some, ap, false, inl, inr, length, refl, subst, suc, sym, take, true, ℕ, ◌++◌, ◌+◌, ◌-◌, ◌==◌, ◌∙◌, ◌∷◌, ◌≡◌, ◌⊎◌, [], is_some, ◌≤◌, ◌≢◌, cond}
+use Rattle.std.specs.Option.{option_map_or, option_map}
+use Rattle.std.specs.Prelude.{if◌then◌else◌, slice_get, not, option_and_then}
 use Rattle.std.proofs.lemmas.Option.{slice_get_within, get_or_from_slice_get}
 use Rattle.std.proofs.Math.Seq.{take-suc}
 use Rattle.std.proofs.Common.{arith, take_all}
 use Rattle.base_types.specs.Outcomes.{and_then, either}
 use Rattle.base_types.specs.declared.ids.Fid.{Fid}
 use Rattle.base_types.specs.declared.ids.ServerId.{ServerId}
-use Rattle.base_types.specs.declared.limits.TheConstants.{FILE_BYTES_MAX}
+use Rattle.base_types.specs.declared.limits.TheConstants.{FILE_BYTES_MAX, OBJECTS_MAX}
 use Rattle.base_types.specs.declared.user.User.{User}
 use Rattle.tree_calls.specs.declared.call.Call.TheVariants.{
   NewFileset,
@@ -34,7 +36,7 @@ use Rattle.tree_calls.specs.declared.call.Call.TheVariants.{
 use Rattle.tree_calls.specs.declared.part.DirEntry.{DirEntry}
 use Rattle.tree_calls.specs.declared.place.Place.{Place}
 use Rattle.tree_calls.specs.declared.reply.Refusal.{Refusal}
-use Rattle.tree_calls.specs.declared.reply.Refusal.TheVariants.{Exists, InUse, IsDir, Loop, NoFileset, NotEmpty, ReadOnly, TooBig}
+use Rattle.tree_calls.specs.declared.reply.Refusal.TheVariants.{Exists, InUse, IsDir, Loop, NoFileset, NotEmpty, ReadOnly, TooBig, NotHome}
 use Rattle.tree_objects.specs.declared.content.Anode.{Anode}
 use Rattle.tree_objects.specs.declared.content.Object.{Object}
 use Rattle.tree_objects.specs.Objects.{access_of, is_dir}
@@ -45,9 +47,9 @@ use Rattle.tree_filesets.specs.Creation.{vacancy}
 use Rattle.tree_filesets.specs.Removal.{has_entries, remove_target}
 use Rattle.tree_filesets.specs.Renaming.{rename_target}
 use Rattle.tree_filesets.specs.Uses.{lock_target, open_target, use_target}
-use Rattle.tree_filesets.specs.Walk.{entered_at, entry_or_none, entry_target, file_target, found_at, insert_target, object_at, parent_target, permitted_file, step, target, walk}
+use Rattle.tree_filesets.specs.Walk.{entered_at, entry_or_none, entry_target, file_target, found_at, insert_target, object_at, parent_target, permitted_file, step, target, walk, unique_at}
 use Rattle.tree_filesets.specs.declared.fileset.Fileset.{Fileset}
-use Rattle.tree_answers.specs.Finding.{fileset_named, found_or, same_fileset}
+use Rattle.tree_answers.specs.Finding.{fileset_named, found_or, same_fileset, has_id, leads_to}
 use Rattle.tree_answers.specs.declared.tree.Tree.{Tree}
 use Rattle.tree_laws.specs.Fates.{creation}
 use Rattle.tree_laws.specs.Losses.{use_of}
@@ -62,16 +64,29 @@ use Rattle.tree_calls.specs.declared.place.Which.{Which}
 use Rattle.token_types.specs.declared.token.Kind.TheVariants.{Lock as LockKind, Opening}
 use Rattle.store_state.specs.declared.state.Holding.{Holding}
 use Rattle.token_types.specs.declared.token.Need.{Need}
-use Rattle.need_server.specs.Wants.{all_of, every_use_of, want, want_for, want_in}
-use Rattle.store_memory.specs.Reading.{looked_up, walk_in}
+use Rattle.need_server.specs.Wants.{all_of, every_use_of, want, want_for, want_in, files_of, objects_from}
+use Rattle.store_memory.specs.Reading.{looked_up, walk_in, fids_from}
 use Rattle.store_memory.specs.declared.told.Looked.{Looked}
 use Rattle.store_memory.specs.declared.told.Looked.TheVariants.{Found, Refused}
 use Rattle.store_state.specs.Rows.{fileset_here}
 use Rattle.store_state.specs.declared.state.StoreState.{StoreState}
+use Rattle.std.specs.List.{filter, find, flat_map}
+use Rattle.std.proofs.lemmas.Grind.{common_steps}
+use Rattle.base_types.specs.declared.ids.FilesetId.{FilesetId}
+use Rattle.tree_calls.specs.declared.part.Status.{Status}
+use Rattle.tree_filesets.specs.Founding.{control_check}
+use Rattle.tree_filesets.specs.WellFormed.{IsWellFormed as IsWellFormedFileset}
+use Rattle.tree_filesets.proofs.Observations.{object_from}
+use Rattle.tree_answers.specs.Founding.{clone_source}
+use Rattle.tree_answers.specs.WellFormed.{IsWellFormed}
+use Rattle.tree_answers.proofs.Places.{found_by_id}
+use Rattle.store_acts.specs.Parts.{status_of as status_made}
+use Rattle.run_stores.proofs.Tells.{formed_found, kept_found, status_in, status_is}
+use Rattle.run_stores.specs.Telling.{is_dir_told}
 use Rattle.run_stores.proofs.Replies.{Sought, sought}
 use Rattle.run_stores.proofs.Replies.Sought.{Here, Nowhere}
 use Rattle.run_stores.specs.Keeping.{StandsFor}
-use Rattle.run_stores.specs.Wanting.{WantsAreTold, all_and_uses_of, directory_of, status_of, want_by, wanted_of}
+use Rattle.run_stores.specs.Wanting.{is_clone, WantsAreTold, all_and_uses_of, directory_of, status_of, want_by, wanted_of, files_told, root_of}
 
 -- where a path leads
 target_from : (f : Fileset) (user : User) (path : List (List ℕ)) (n : ℕ) (o : Object) → walk f.anodes user 1 path ≡ Ok n →
@@ -473,61 +488,202 @@ rename_at tree state user from to s its true e =
     ∙ ap (λ l. wanted_of (walk_in f user (directory_of from)) (all_of true) ++ wanted_of l (all_of true))
     (look_here state user (directory_of to) f (subst (λ n. fileset_here state n ≡ Ok f) names h)))
 
-pub wants_are_told : WantsAreTold
+calls_told : (tree : Tree) (state : StoreState) (user : User) (call : Call) → StandsFor tree state →
+    IsAt state.server call → is_clone call ≡ false → Either (want tree user call) (want_by (looked_up state user) call)
 unfolding want want_in
-wants_are_told tree state user (Create place) s its one =
+calls_told tree state user (Create place) s its one =
     by_name tree state user place.server place.fileset (λ f. want_in f user (Create place))
     (λ look. want_by look (Create place)) (sought tree state place.fileset s) its
     (λ f. creation_in f user place)
     (λ f e. ap (λ l. wanted_of l (all_of true)) (look_here state user (directory_of place) f e))
-wants_are_told tree state user (MakeDir place) s its one =
+calls_told tree state user (MakeDir place) s its one =
     by_name tree state user place.server place.fileset (λ f. want_in f user (MakeDir place))
     (λ look. want_by look (MakeDir place)) (sought tree state place.fileset s) its
     (λ f. making_in f user place)
     (λ f e. ap (λ l. wanted_of l (all_of true)) (look_here state user (directory_of place) f e))
-wants_are_told tree state user (Remove place) s its one =
+calls_told tree state user (Remove place) s its one =
     by_name tree state user place.server place.fileset (λ f. want_in f user (Remove place))
     (λ look. want_by look (Remove place)) (sought tree state place.fileset s) its (λ f. remove_told f user place)
     (λ f e. ap (λ l. wanted_of l (all_of true) ++ wanted_of (looked_up state user place) all_and_uses_of)
     (look_here state user (directory_of place) f e)
     ∙ ap (λ l. wanted_of (walk_in f user (directory_of place)) (all_of true) ++ wanted_of l all_and_uses_of)
     (look_here state user place f e))
-wants_are_told tree state user (Rename from to) s its one = rename_at tree state user from to s its (same_fileset from to) refl
-wants_are_told tree state user (Truncate place len) s its one =
+calls_told tree state user (Rename from to) s its one = rename_at tree state user from to s its (same_fileset from to) refl
+calls_told tree state user (Truncate place len) s its one =
     by_name tree state user place.server place.fileset (λ f. want_in f user (Truncate place len))
     (λ look. want_by look (Truncate place len)) (sought tree state place.fileset s) its
     (λ f. truncate_told f user place len)
     (λ f e. ap (λ l. wanted_of l (all_of true)) (look_here state user place f e))
-wants_are_told tree state user (SetAcl place which list) s its one =
+calls_told tree state user (SetAcl place which list) s its one =
     by_name tree state user place.server place.fileset (λ f. want_in f user (SetAcl place which list))
     (λ look. want_by look (SetAcl place which list)) (sought tree state place.fileset s) its
     (λ f. access_told f user place which list)
     (λ f e. ap (λ l. wanted_of l status_of) (look_here state user place f e))
-wants_are_told tree state user (Lock label place writing from len) s its one =
+calls_told tree state user (Lock label place writing from len) s its one =
     by_name tree state user place.server place.fileset (λ f. want_in f user (Lock label place writing from len))
     (λ look. want_by look (Lock label place writing from len)) (sought tree state place.fileset s) its
     (λ f. lock_told f user label place writing from len)
     (λ f e. ap (λ l. wanted_of l (λ fid. record { fid = fid; kind = LockKind writing (span_between from (from + len)) } ∷ []))
     (look_here state user place f e))
-wants_are_told tree state user (OpenFile label place kind) s its one =
+calls_told tree state user (OpenFile label place kind) s its one =
     by_name tree state user place.server place.fileset (λ f. want_in f user (OpenFile label place kind))
     (λ look. want_by look (OpenFile label place kind)) (sought tree state place.fileset s) its
     (λ f. open_told f user label place kind)
     (λ f e. ap (λ l. wanted_of l (λ fid. record { fid = fid; kind = Opening kind } ∷ [])) (look_here state user place f e))
-wants_are_told tree state user (NewFileset server name objects owner) s its one = inl refl
-wants_are_told tree state user (CloneFileset server source new) s its one = absurd (cc)
-wants_are_told tree state user (MoveFileset server name to) s its one = absurd its
-wants_are_told tree state user (Read place from len) s its one =
+calls_told tree state user (NewFileset server name objects owner) s its one = inl refl
+calls_told tree state user (CloneFileset server source new) s its one = absurd (cc)
+calls_told tree state user (MoveFileset server name to) s its one = absurd its
+calls_told tree state user (Read place from len) s its one =
     inl (none_wanted (fileset_named tree place.server place.fileset) (λ f. []) (λ f. refl))
-wants_are_told tree state user (Write place from bytes) s its one =
+calls_told tree state user (Write place from bytes) s its one =
     inl (none_wanted (fileset_named tree place.server place.fileset) (λ f. []) (λ f. refl))
-wants_are_told tree state user (ListNames place) s its one =
+calls_told tree state user (ListNames place) s its one =
     inl (none_wanted (fileset_named tree place.server place.fileset) (λ f. []) (λ f. refl))
-wants_are_told tree state user (Stat place) s its one =
+calls_told tree state user (Stat place) s its one =
     inl (none_wanted (fileset_named tree place.server place.fileset) (λ f. []) (λ f. refl))
-wants_are_told tree state user (GetAcl place which) s its one =
+calls_told tree state user (GetAcl place which) s its one =
     inl (none_wanted (fileset_named tree place.server place.fileset) (λ f. []) (λ f. refl))
-wants_are_told tree state user (Sync place) s its one =
+calls_told tree state user (Sync place) s its one =
     inl (none_wanted (fileset_named tree place.server place.fileset) (λ f. []) (λ f. refl))
-wants_are_told tree state user (Unlock label) s its one = inl refl
-wants_are_told tree state user (CloseFile label) s its one = inl refl
+calls_told tree state user (Unlock label) s its one = inl refl
+calls_told tree state user (CloseFile label) s its one = inl refl
+
+-- Clones: the files of the source
+found_is_there : (found : Option Fileset) (refusal : Refusal) (f : Fileset) → found_or found refusal ≡ Ok f → found ≡ Some f
+found_is_there None refusal f e = absurd (cc)
+found_is_there (Some other) refusal f e = ap Some (ok_is other f e)
+
+source_named : (tree : Tree) (user : User) (server : ServerId) (source : List ℕ) (f : Fileset) →
+    clone_source tree user server source ≡ Ok f → fileset_named tree server source ≡ Ok f
+unfolding clone_source
+source_named tree user server source f h =
+    let (found, e, k) = then_ok (fileset_named tree server source) _ f h in
+    let (home, l) = unless_ok (not (found.server.0 == server.0)) NotHome _ f k in
+    let (allowed, g, same) = then_ok (control_check found user) (λ allowed. Ok found) f l in
+    e ∙ ap Ok (ok_is found f same)
+
+source_known : (tree : Tree) (server : ServerId) (source : List ℕ) (f : Fileset) → IsWellFormed tree →
+    fileset_named tree server source ≡ Ok f → find (has_id f.id) tree.filesets ≡ Some f
+unfolding fileset_named
+source_known tree server source f w e =
+    found_by_id (leads_to tree server source) tree.filesets f (found_is_there _ NoFileset f e) w.ordered
+
+same_fid : (id : FilesetId) (at a b : ℕ) → a ≡ b →
+    (let one : Fid = record { fileset = id; anode = at; unique = a } in one)
+    ≡ (let other : Fid = record { fileset = id; anode = at; unique = b } in other)
+same_fid id at a b e = ap (λ u. let fid : Fid = record { fileset = id; anode = at; unique = u } in fid) e
+
+itself : (n : ℕ) → (n == n) ≡ true
+itself n = grind (arith, common_steps)
+
+module _ (tree : Tree) (state : StoreState) (f : Fileset) (s : StandsFor tree state)
+    (known : find (has_id f.id) tree.filesets ≡ Some f) where
+  -- what stands at an anode is told
+  dir_told : (at : ℕ) (anode : Anode) (object : Object) → object_at f.anodes at ≡ anode.object →
+      unique_at f.anodes at ≡ anode.unique → anode.object ≡ Some object →
+      is_dir_told state (record { fileset = f.id; anode = at; unique = anode.unique }) ≡ is_dir object.content
+  dir_told at anode object there unique some =
+      ap (λ o. option_map_or (λ (status : Status). status.dir) o false)
+      (status_is tree state (record { fileset = f.id; anode = at; unique = anode.unique }) s
+      ∙ ap (λ found. status_in found (record { fileset = f.id; anode = at; unique = anode.unique })) known
+      ∙ ap (λ b. option_map (status_made f.read_only) (if b then object_at f.anodes at else None))
+      (ap (λ u. u == anode.unique) unique ∙ itself anode.unique)
+      ∙ ap (option_map (status_made f.read_only)) (there ∙ some))
+
+  abbrev Stands : ℕ → List Anode → Type 0
+  Stands at rest = (i : ℕ) (anode : Anode) → slice_get rest i ≡ Some anode
+      → (object_at f.anodes (at + i) ≡ anode.object) × (unique_at f.anodes (at + i) ≡ anode.unique)
+
+  abbrev is_file_told : Fid → Bool
+  is_file_told fid = not (is_dir_told state fid)
+
+  files_from : (at : ℕ) (rest : List Anode) → Stands at rest →
+      filter is_file_told (fids_from f.id at rest) ≡ objects_from (λ object. not (is_dir object.content)) f at rest
+  files_from at [] k = refl
+  files_from at (anode ∷ rest) k =
+      by anode.object refl (files_from (at + 1) rest (λ i a e.
+      (let same : (at + 1) + i ≡ at + suc i = omega arith in
+      subst (λ n. (object_at f.anodes n ≡ a.object) × (unique_at f.anodes n ≡ a.unique)) (sym same) (k (suc i) a e))))
+    where
+      here : (object_at f.anodes at ≡ anode.object) × (unique_at f.anodes at ≡ anode.unique)
+      here =
+          let same : at + 0 ≡ at = omega arith in
+          subst (λ n. (object_at f.anodes n ≡ anode.object) × (unique_at f.anodes n ≡ anode.unique)) same (k 0 anode refl)
+
+      more : List Fid
+      more = objects_from (λ object. not (is_dir object.content)) f (at + 1) rest
+
+      by : (o : Option Object) → anode.object ≡ o →
+          filter is_file_told (fids_from f.id (at + 1) rest) ≡ more →
+          filter is_file_told (if is_some o
+          then record { fileset = f.id; anode = at; unique = anode.unique } ∷ fids_from f.id (at + 1) rest
+          else fids_from f.id (at + 1) rest)
+          ≡ (if option_map_or (λ (object : Object). not (is_dir object.content)) o false then use_of f at ∷ more else more)
+      by None e rest_is = rest_is
+      by (Some object) e rest_is =
+          ap (λ b. cond (not b) (record { fileset = f.id; anode = at; unique = anode.unique }
+          ∷ filter is_file_told (fids_from f.id (at + 1) rest)) (filter is_file_told (fids_from f.id (at + 1) rest)))
+          (dir_told at anode object here.0 here.1 e)
+          ∙ ap (λ xs. cond (not (is_dir object.content)) (record { fileset = f.id; anode = at; unique = anode.unique } ∷ xs) xs)
+          rest_is
+          ∙ ap (λ fid. cond (not (is_dir object.content)) (fid ∷ more) more)
+          (same_fid f.id at anode.unique (unique_at f.anodes at) (sym here.1))
+
+  all_stand : Stands 1 f.anodes
+  all_stand i anode e =
+      let some : (1 + i) ≢ 0 = omega arith in
+      let place : (1 + i) - 1 ≡ i = omega arith in
+      let got : slice_get f.anodes ((1 + i) - 1) ≡ Some anode = ap (slice_get f.anodes) place ∙ e in (
+        object_from f.anodes (1 + i) some ∙ ap (option_and_then (λ (a : Anode). a.object)) got,
+        ap (λ o. option_map_or (λ (a : Anode). a.unique) o 0) got,
+      )
+
+  files_are : files_told state f.id ≡ files_of f
+  files_are =
+      let w = formed_found tree state f.id f s known in
+      let count = w.count in
+      let limit = w.limit in
+      let few : length f.anodes ≤ OBJECTS_MAX = omega (arith, count, limit) in
+      ap (λ found. filter is_file_told
+      (option_map_or (λ (fileset : Fileset). fids_from f.id 1 (take OBJECTS_MAX fileset.anodes)) found []))
+      (kept_found tree state f.id s ∙ known)
+      ∙ ap (λ anodes. filter is_file_told (fids_from f.id 1 anodes)) (take_all OBJECTS_MAX f.anodes few)
+      ∙ files_from 1 f.anodes all_stand
+
+-- the root of a fileset is there
+root_led : (f : Fileset) (user : User) → IsWellFormedFileset f → (root : Object) × (target f user [] ≡ Ok (1, root))
+unfolding target
+root_led f user w = by (object_at f.anodes 1) refl w.root
+  where
+    by : (o : Option Object) → object_at f.anodes 1 ≡ o → option_map_or (λ object. is_dir object.content) o false ≡ true →
+        (root : Object) × (found_at 1 (object_at f.anodes 1) ≡ Ok (1, root))
+    by None e h = absurd (cc)
+    by (Some root) e h = (root, ap (found_at 1) e)
+
+clones_told : (tree : Tree) (state : StoreState) (user : User) (server : ServerId) (source new : List ℕ) →
+    StandsFor tree state → server ≡ state.server →
+    Either (want tree user (CloneFileset server source new))
+    (wanted_of (looked_up state user (root_of server source)) (λ fid.
+    flat_map (all_of false) (files_told state fid.fileset)))
+unfolding want
+clones_told tree state user server source new s its = by (clone_source tree user server source) refl
+  where
+    told : Fid → List Need
+    told fid = flat_map (all_of false) (files_told state fid.fileset)
+
+    by : (r : Result Fileset Refusal) → clone_source tree user server source ≡ r →
+        Either (want_for r (λ fileset. flat_map (all_of false) (files_of fileset)))
+        (wanted_of (looked_up state user (root_of server source)) told)
+    by (Err refusal) e = inl refl
+    by (Ok f) e =
+        let named = source_named tree user server source f e in
+        let known = source_known tree server source f s.formed named in
+        let here : fileset_here state source ≡ Ok f =
+        named_ok tree state source (sought tree state source s) ∙ ap (λ v. fileset_named tree v source) (sym its) ∙ named in
+        let (root, led) = root_led f user (formed_found tree state f.id f s known) in
+        inr (ap (flat_map (all_of false)) (sym (files_are tree state f s known))
+        ∙ sym (ap (λ l. wanted_of l told) (look_here state user (root_of server source) f here
+        ∙ looks f user (root_of server source) (1, root) led)))
+
+pub wants_are_told : WantsAreTold
+wants_are_told = record { calls = calls_told; clones = clones_told }

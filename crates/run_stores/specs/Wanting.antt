@@ -1,6 +1,8 @@
 -- What is wanted for a Change, read from what a store tells.
-use Rattle.std.specs.Prelude.{Bool, List, [], length, take, true, false, ◌+◌, ◌++◌, ◌-◌, ◌∷◌, ◌≡◌, ◌⊎◌}
+use Rattle.std.specs.Prelude.{Bool, List, [], length, take, true, false, ◌+◌, ◌++◌, ◌-◌, ◌∷◌, ◌≡◌, ◌⊎◌, ℕ, filter, not, flat_map}
 use Rattle.base_types.specs.declared.ids.Fid.{Fid}
+use Rattle.base_types.specs.declared.ids.FilesetId.{FilesetId}
+use Rattle.base_types.specs.declared.ids.ServerId.{ServerId}
 use Rattle.base_types.specs.declared.user.User.{User}
 use Rattle.tree_calls.specs.declared.call.Call.{Call}
 use Rattle.tree_calls.specs.declared.call.Call.TheVariants.{
@@ -21,11 +23,12 @@ use Rattle.token_types.specs.declared.token.Kind.TheVariants.{Lock as LockKind, 
 use Rattle.token_types.specs.declared.token.Need.{Need}
 use Rattle.need_laws.specs.Known.{IsAt}
 use Rattle.need_server.specs.Wants.{all_of, every_use_of, want}
-use Rattle.store_memory.specs.Reading.{looked_up}
+use Rattle.store_memory.specs.Reading.{looked_up, files_of as objects_told}
 use Rattle.store_memory.specs.declared.told.Looked.{Looked}
 use Rattle.store_memory.specs.declared.told.Looked.TheVariants.{Found, Refused}
 use Rattle.store_state.specs.declared.state.StoreState.{StoreState}
 use Rattle.run_stores.specs.Keeping.{StandsFor}
+use Rattle.run_stores.specs.Telling.{is_dir_told}
 
 -- the place of the directory in which a place has its last name
 abbrev pub directory_of : Place → Place
@@ -64,9 +67,23 @@ abbrev pub is_clone : Call → Bool
 is_clone (CloneFileset server source new) = true
 is_clone call = false
 
--- Where anything is wanted for a call on the server's filesets, it is what the places of the call lead to in the store.
-abbrev pub WantsAreTold : Type 0
-WantsAreTold =
-    (tree : Tree) (state : StoreState) (user : User) (call : Call)
-    → StandsFor tree state → IsAt state.server call → is_clone call ≡ false
-    → (want tree user call ≡ []) ⊎ (want tree user call ≡ want_by (looked_up state user) call)
+-- the files of a fileset, as its objects are told
+abbrev pub files_told : StoreState → FilesetId → List Fid
+files_told state id = filter (λ fid. not (is_dir_told state fid)) (objects_told state id)
+
+-- the root of a fileset
+abbrev pub root_of : ServerId → List ℕ → Place
+root_of server name = record { server = server; fileset = name; path = [] }
+
+-- Where anything is wanted for a call on the server's filesets, it is what the places of the call lead to in the store;
+-- for a clone, all files of the fileset to whose root its source leads, for reading.
+pub record WantsAreTold : Type 0 where
+  pub calls : (tree : Tree) (state : StoreState) (user : User) (call : Call)
+      → StandsFor tree state → IsAt state.server call → is_clone call ≡ false
+      → (want tree user call ≡ []) ⊎ (want tree user call ≡ want_by (looked_up state user) call)
+  pub clones : (tree : Tree) (state : StoreState) (user : User) (server : ServerId) (source new : List ℕ)
+      → StandsFor tree state → server ≡ state.server
+      → (want tree user (CloneFileset server source new) ≡ [])
+      ⊎ (want tree user (CloneFileset server source new)
+      ≡ wanted_of (looked_up state user (root_of server source)) (λ fid.
+      flat_map (all_of false) (files_told state fid.fileset)))

@@ -3,7 +3,7 @@ ghost use Rattle.run_stores.specs.Changing.{ChangesAreKept, RepliesAreKept};
 ghost use Rattle.run_stores.specs.Elsewhere.{OthersAreRefused};
 ghost use Rattle.run_stores.specs.Ending.{LastIsKept, StoresFollow};
 ghost use Rattle.run_stores.specs.Keeping.{FirstIsKept, GivesAreKept, RefusalsAreKept};
-ghost use Rattle.run_stores.specs.Numbers.{NumbersAreTold};
+ghost use Rattle.run_stores.specs.Numbers.{NumbersAreTold, NumbersRise};
 ghost use Rattle.run_stores.specs.Pieces.{GivesAreAlike, GivesFit, PiecesDiffer};
 ghost use Rattle.run_stores.specs.Standing.{ActsStand};
 ghost use Rattle.run_stores.specs.Starting.{ServersStartSo};
@@ -78,14 +78,16 @@ pub fn step_law()
     ensures begun { BegunStoresEnd }
 {}
 
-/// What is wanted for a Change but a clone can be read from what the store tells: the needs are those of the objects to
-/// which the places of the call lead there.
+/// What is wanted for a Change can be read from what the store tells: the needs are those of the objects to which the
+/// places of the call lead there; for a clone, those of all files of its source.
 pub fn wants_law()
     ensures { WantsAreTold }
 {}
 
 /// Which acts a store does now can be read from the last numbers that it tells of each host: those, and only those, of
-/// a higher number, under a fileset that is there.
+/// a higher number, under a fileset that is there. In each run the numbers of a host's Changes of a fileset that a
+/// server writes down rise, over all epochs, and so do those of the give-backs that it applies.
 pub fn number_law()
-    ensures { NumbersAreTold }
+    ensures told { NumbersAreTold }
+    ensures rise { NumbersRise }
 {}
