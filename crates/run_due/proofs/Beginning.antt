@@ -42,10 +42,10 @@ too_many n le = let k : suc (suc n) ≤ 1 = le in omega (arith, k)
 same : (k l : ℕ) (c d : Call) → k ≡ l → c ≡ d → asked_as k c ≡ asked_as l d
 same k l c d p q = ap (λ z. asked_as z c) p ∙ ap (λ z. asked_as l z) q
 
-first_one : (x : Answer) → x.first ≡ true → first_in (x ∷ []) ≡ asked_as x.k x.call ∷ []
+pub first_one : (x : Answer) → x.first ≡ true → first_in (x ∷ []) ≡ asked_as x.k x.call ∷ []
 first_one x e = ap (λ (b : Bool). if b then asked_as x.k x.call ∷ [] else []) e
 
-first_none : (x : Answer) → x.first ≡ false → first_in (x ∷ []) ≡ []
+pub first_none : (x : Answer) → x.first ≡ false → first_in (x ∷ []) ≡ []
 first_none x e = ap (λ (b : Bool). if b then asked_as x.k x.call ∷ [] else []) e
 
 counted : (xs : List Answer) → length xs ≤ 1
@@ -70,7 +70,7 @@ calls_push [] l = append-nil (call_in l.deed)
 calls_push (x ∷ xs) l =
     ap (λ z. call_in x.deed ++ z) (calls_push xs l) ∙ sym (append_assoc (call_in x.deed) (calls_of xs) (call_in l.deed))
 
-take_next : (xs : List Line) (n : ℕ) (x : Line) → slice_get xs n ≡ Some x → take (suc n) xs ≡ take n xs ++ x ∷ []
+pub take_next : (xs : List Line) (n : ℕ) (x : Line) → slice_get xs n ≡ Some x → take (suc n) xs ≡ take n xs ++ x ∷ []
 take_next xs n x e =
     take-suc xs n x (slice_get_within xs n x e) ∙ ap (λ z. take n xs ++ z ∷ []) (get_or_from_slice_get xs n x x e)
 

@@ -1,0 +1,16 @@
+pub mod Endings
+pub mod Lines
+pub mod Printed
+pub mod Told
+pub mod State
+pub mod Entering
+pub mod HostStep
+pub mod Back
+pub mod World
+pub mod Arounds
+pub mod ServerStep
+pub mod Law
+pub mod Stopping
+pub mod Ended
+pub mod Byes
+pub mod Greeting
