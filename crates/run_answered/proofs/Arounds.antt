@@ -3,7 +3,7 @@ use Rattle.run_contents.proofs.Calls.{one_open}
 use Rattle.run_contents.proofs.Runs.{own_run}
 use Rattle.run_contents.specs.Steps.{HostRun}
 use Rattle.run_history.proofs.Open.{changing_on, zero_or}
-use Rattle.run_history.proofs.State.{whole}
+use Rattle.run_history.proofs.State.{firm_now, whole}
 use Rattle.run_history.proofs.Waiting.{said_at, zero_home, zero_silent}
 use Rattle.std.proofs.Common.{List, ap, arith, inl, inr, refl, subst, sym, ℕ, ◌<◌, ◌≤◌, ◌∙◌, ◌∷◌, ◌≡◌, ◌⊎◌}
 use Rattle.std.specs.Prelude.{[]}
@@ -25,7 +25,6 @@ use Rattle.run_answered.proofs.HostStep.{Around}
 use Rattle.run_answered.proofs.Told.{IsReply}
 use Rattle.run_answered.proofs.World.{AskedSo, Wrote, all_asked, all_told, heard}
 use Rattle.run_answered.proofs.World.{said_begun}
-use Rattle.run_answered.proofs.Cited.{Cited}
 use Rattle.run_rules.specs.Doings.{Doing, IsApplied, SentTo, doings_of}
 use Rattle.run_rules.specs.Messages.{Changing, ComesIn, DoneComes, Said, epoch_at, home}
 use Rattle.run_rules.specs.Past.{In}
@@ -54,7 +53,7 @@ has_written (a ∷ S) h d (inr o) =
     let k = has_written S h d o in (k.0, inr k.1, k.2, k.3, k.4)
 
 module _ (script : Script) (start : Tree) (firsts : ServerId → ℕ) (real : (v : ServerId) → 0 < firsts v)
-    (cited : Cited script start firsts) (past : List Step) (run : StepsMeet script start firsts past) (h : HostId) where
+    (past : List Step) (run : StepsMeet script start firsts past) (h : HostId) where
   abbrev A : List Step
   A = steps_of_host h past
 
@@ -173,7 +172,8 @@ module _ (script : Script) (start : Tree) (firsts : ServerId → ℕ) (real : (v
 
         is_open : IsOpen A (record { k = c.0.k; call = c.0.call })
         is_open =
-            (cited.firm_now past run h).is_open src.0 c.0 (src.0, c.1, c.2, c.3, λ z. refl) changing
+            ((firm_now script start firsts real past run h).asked src.0 c.0 (src.0, c.1, c.2, c.3, λ z. refl)
+            changing).is_open
 
         one : record { k = c.0.k; call = c.0.call } ≡ x
         one = one_open script h A ran

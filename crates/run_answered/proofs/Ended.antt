@@ -1,7 +1,8 @@
 -- In an ended run the calls of each host are answered.
+use Rattle.run_history.proofs.UseHostLaw.{from_one}
 use Rattle.run_contents.proofs.Runs.{own_run}
 use Rattle.run_contents.proofs.Words.{any_in}
-use Rattle.std.proofs.Common.{Bool, List, ap, append-nil, append_assoc, arith, inl, inr, length, map, max, refl, subst}
+use Rattle.std.proofs.Common.{Bool, List, ap, append-nil, append_assoc, arith, inl, inr, length, map, refl, subst}
 use Rattle.std.proofs.Common.{sym, take, take_all, true, ℕ, ◌++◌, ◌+◌, ◌<◌, ◌∙◌, ◌∷◌, ◌≡◌}
 use Rattle.std.proofs.Common.{leb-true, nat_le, ◌&&◌}
 use Rattle.std.proofs.lemmas.Bool.{and_parts, false≢true}
@@ -16,7 +17,6 @@ use Rattle.tree_calls.specs.declared.call.Call.{Call as CallOf}
 use Rattle.script_lines.specs.declared.script.Deed.{Deed}
 use Rattle.script_lines.specs.declared.script.Deed.TheVariants.{Await, Call, Raise, Restart, Stop}
 use Rattle.script_lines.specs.declared.script.Line.{Line}
-use Rattle.run_answered.proofs.Cited.{cited}
 use Rattle.run_answered.proofs.Greeting.{ended_runs_leave_none_open}
 use Rattle.run_answered.proofs.Arounds.{AppliedBy, WroteBy}
 use Rattle.run_answered.proofs.Stopping.{stop_gone}
@@ -67,9 +67,7 @@ history_on [] past = sym (append-nil (history past))
 history_on (x ∷ xs) past =
     history_on xs (x ∷ past) ∙ append_assoc (history past) (entries_of x) (history_of xs)
 
-above : (n : ℕ) → 0 < max 1 n
-above n = omega arith
-
+-- what is so of a run is so of its earlier part
 always_before : (P : List Step → Step → Type 0) (more past : List Step) → Always P (appended more past) → Always P past
 always_before P [] past all = all
 always_before P (x ∷ more) past all = (always_before P more (x ∷ past) all).0
@@ -81,8 +79,7 @@ calls_have_entries script journal run past more e host = go states
         (AppliedBy (firsts_of journal) past host)
         (entered host (history past))
     states =
-        all_states script run.start (firsts_of journal) (λ v. above _)
-        (cited script run.start (firsts_of journal) (λ v. above _)) host past
+        all_states script run.start (firsts_of journal) (λ v. from_one _) host past
         (always_before _ more past (subst (StepsMeet script run.start (firsts_of journal)) (sym e) run.steps))
 
     go : State (steps_of_host host past) host (WroteBy (firsts_of journal) past)
@@ -124,6 +121,5 @@ calls_are_answered script journal run ended host part = record {
     entries : entered host (history_of journal.steps) ≡ begun_by (steps_of_host host (past_of journal))
     entries =
         ap (entered host) (sym (history_on journal.steps []))
-        ∙ all_entered script run.start (firsts_of journal) (λ v. above _)
-        (cited script run.start (firsts_of journal) (λ v. above _)) host (past_of journal) run.steps
+        ∙ all_entered script run.start (firsts_of journal) (λ v. from_one _) host (past_of journal) run.steps
         (ended_runs_leave_none_open script journal run ended host part)

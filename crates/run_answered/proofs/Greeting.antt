@@ -1,7 +1,8 @@
 -- In an ended run no call is open.
 use Rattle.run_contents.proofs.Runs.{own_run}
+use Rattle.run_history.proofs.UseHostLaw.{from_one}
 use Rattle.run_history.proofs.State.{whole}
-use Rattle.std.proofs.Common.{List, arith, inl, inr, max, refl, subst, suc, sym, ℕ, ◌<◌, ◌∷◌, ◌≡◌, ◌⊎◌}
+use Rattle.std.proofs.Common.{List, arith, inl, inr, refl, subst, suc, sym, ℕ, ◌<◌, ◌∷◌, ◌≡◌, ◌⊎◌}
 use Rattle.std.specs.Prelude.{[]}
 use Rattle.base_types.specs.declared.ids.HostId.{HostId}
 use Rattle.base_types.specs.declared.ids.Node.{Node}
@@ -20,7 +21,7 @@ use Rattle.run_answered.proofs.Stopping.{stopped_none}
 use Rattle.run_answered.proofs.Byes.{HasEnded, SomeWelcome, asking_welcome, bye_step, changing_welcome}
 use Rattle.run_answered.proofs.ServerStep.{step_on}
 use Rattle.run_answered.proofs.World.{TookIt, heard}
-use Rattle.run_answered.proofs.Closed.{GivesName, gives_name}
+use Rattle.run_answered.proofs.Endings.{GivesName, gives_name}
 use Rattle.run_answered.specs.Answered.{EndedRunsLeaveNoneOpen}
 use Rattle.run_rules.specs.Doings.{Doing, HeardNow, IsApplied, SentNow, SentTo, after_admitting, after_cause}
 use Rattle.run_rules.specs.Doings.{after_deciding, after_step, deciding, doings_of, epoch, sending}
@@ -279,9 +280,6 @@ module _ (script : Script) (start : Tree) (firsts : ServerId → ℕ) (real : (v
       ]
     ]
 
-above : (n : ℕ) → 0 < max 1 n
-above n = omega arith
-
 pub ended_runs_leave_none_open : EndedRunsLeaveNoneOpen
 ended_runs_leave_none_open script journal run ended host part =
     elim (ended.hosts host part).1 [
@@ -307,12 +305,12 @@ ended_runs_leave_none_open script journal run ended host part =
         who : SomeWelcome script host (steps_of_host host (past_of journal))
             ⊎ ((v : ServerId) × HasGreeted (steps_of_host host (past_of journal)) v)
         who =
-            open_welcome script run.start (firsts_of journal) (λ v. above _) host
+            open_welcome script run.start (firsts_of journal) (λ v. from_one _) host
             (steps_of_host host (past_of journal)) ran
             (names host) x o (λ st. stopped_none script host (steps_of_host host (past_of journal)) ran st x o)
 
         greeted : (v : ServerId) → HasGreeted (steps_of_host host (past_of journal)) v → ⊥
         greeted v g =
-            (bye_ended script run.start (firsts_of journal) (λ v. above _) host (past_of journal) run.steps v
-            (bye_said script run.start (firsts_of journal) (λ v. above _) host (past_of journal) run.steps v
+            (bye_ended script run.start (firsts_of journal) (λ v. from_one _) host (past_of journal) run.steps v
+            (bye_said script run.start (firsts_of journal) (λ v. from_one _) host (past_of journal) run.steps v
             (byes v g))).0 x o

@@ -1,5 +1,5 @@
 -- A host's step and the entries of its calls.
-use Rattle.run_answered.proofs.Cited.{ends_label}
+use Rattle.run_answered.proofs.Endings.{ends_label}
 use Rattle.run_contents.proofs.Calls.{begins_free, begins_next, given_call, one_open}
 use Rattle.std.proofs.Common.{◌≡◌, ℕ, ◌≤◌, true, false, Option, Some, None, suc, List, [], ◌∷◌, ◌++◌}
 use Rattle.std.proofs.Common.{length, inl, inr, sym, ◌∙◌, ap, subst, refl, arith, append-nil}

@@ -25,7 +25,7 @@ use Rattle.run_answered.proofs.Entering.{entered_both, others_none}
 use Rattle.run_answered.proofs.State.{State}
 use Rattle.run_answered.proofs.State.State.{Waits, Whole}
 use Rattle.run_answered.proofs.World.{Wrote}
-use Rattle.run_answered.proofs.Cited.{Cited}
+use Rattle.run_answered.proofs.Endings.{no_ending}
 use Rattle.run_answered.specs.Entries.{entered}
 use Rattle.run_rules.specs.Doings.{Doing, IsApplied, TakesOf, after_deciding, after_step, doings_of}
 use Rattle.run_rules.specs.Doings.Doing.{Admits, Reserves, Sent, WritesDown}
@@ -42,7 +42,7 @@ use Rattle.run_rules.specs.declared.step.Asked.{Asked}
 use Rattle.run_rules.specs.declared.step.Step.{Step}
 
 module _ (script : Script) (start : Tree) (firsts : ServerId → ℕ) (real : (v : ServerId) → 0 < firsts v)
-    (cited : Cited script start firsts) (h : HostId) where
+    (h : HostId) where
   module _ (past : List Step) (s : Step) (run : StepsMeet script start firsts (s ∷ past)) (E : List Asked)
       (state : State (steps_of_host h past) h (WroteBy firsts past) (AppliedBy firsts past h) E) where
     -- the state after a step of a node
@@ -68,8 +68,8 @@ module _ (script : Script) (start : Tree) (firsts : ServerId → ℕ) (real : (v
             subst (State (s ∷ steps_of_host h past) h (WroteBy firsts past) (AppliedBy firsts past h)) (sym answers_all)
             (host_step script h (steps_of_host h past) s (own_run script start firsts past run.0 h, met_h.0)
             (WroteBy firsts past) (AppliedBy firsts past h)
-            (around script start firsts real cited past run.0 h s met_h
-            (λ a i u ending. cited.none_ends past s run h (e ∙ ap Host same) a i u ending)) E state)
+            (around script start firsts real past run.0 h s met_h
+            (λ a i u ending. no_ending script start firsts real past s run h (e ∙ ap Host same) a i u ending)) E state)
           where
             met_h : StepMeets script start firsts (Host h) past s
             met_h = subst (λ (g : HostId). StepMeets script start firsts (Host g) past s) same met
@@ -144,7 +144,7 @@ module _ (script : Script) (start : Tree) (firsts : ServerId → ℕ) (real : (v
           (λ before g ts q. absurd (admits_none before g ts n q))
           (λ before ts q. absurd (reserves_none before ts n q)) u i)
           (E ++ entered h (flat_map (entries_in v) s.applied))
-          (applied_state script start firsts real cited past run.0 h v s met E state))
+          (applied_state script start firsts real past run.0 h v s met E state))
         where
           sent_none : (before : List Doing) (g : HostId) (e k : ℕ) (b : Body) (n : AppliedGive)
               → PG n v before (Sent g e k b) → ⊥

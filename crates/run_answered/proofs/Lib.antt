@@ -1,5 +1,4 @@
-pub mod Cited
-pub mod Closed
+pub mod Endings
 pub mod Lines
 pub mod Printed
 pub mod Told

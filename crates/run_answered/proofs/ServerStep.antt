@@ -1,11 +1,11 @@
 -- A server's step and the entries of a host's calls.
-use Rattle.run_answered.proofs.Cited.{ends_label}
+use Rattle.run_answered.proofs.Endings.{ends_label, one_given}
 use Rattle.run_contents.proofs.Calls.{one_open}
 use Rattle.run_contents.proofs.Grants.{same_decisions}
 use Rattle.run_contents.proofs.Runs.{own_run}
 use Rattle.run_history.proofs.Causes.{cause_is, CauseIs}
-use Rattle.run_history.proofs.Open.{ends_is_end, one_changing, zero_or}
-use Rattle.run_history.proofs.State.{whole}
+use Rattle.run_history.proofs.Open.{Firm, ends_is_end, one_changing, zero_or}
+use Rattle.run_history.proofs.State.{firm_now, whole}
 use Rattle.run_history.proofs.Waiting.{still_changing, said_at}
 use Rattle.std.proofs.Common.{Bool, List, None, Option, Some, ap, append-nil, append_assoc, arith, false, if◌then◌else◌}
 use Rattle.std.proofs.Common.{inl, inr, refl, subst, suc, sym, true, ℕ, ◌++◌, ◌<◌, ◌≤◌, ◌∙◌, ◌∷◌, ◌≡◌, ◌⊎◌}
@@ -35,7 +35,6 @@ use Rattle.run_answered.proofs.State.State.{Waits, Whole}
 use Rattle.run_answered.proofs.Told.{Told, below_or, causes, wanted, written_down}
 use Rattle.run_answered.proofs.World.{TookIt, Wrote, all_told, cause_heard, heard}
 use Rattle.run_answered.proofs.World.{took_now}
-use Rattle.run_answered.proofs.Cited.{Cited, FirmAt}
 use Rattle.run_history.proofs.Open.{named}
 use Rattle.run_history.proofs.Causes.CauseIs.{AppliesNone, Downs, Gives}
 use Rattle.run_answered.specs.Entries.{entered, entry_as}
@@ -174,7 +173,7 @@ wrote_cause w Evict S o = o
 wrote_cause w End S o = o
 
 module _ (script : Script) (start : Tree) (firsts : ServerId → ℕ) (real : (v : ServerId) → 0 < firsts v)
-    (cited : Cited script start firsts) (past : List Step) (run : StepsMeet script start firsts past) (h : HostId)
+    (past : List Step) (run : StepsMeet script start firsts past) (h : HostId)
     (v : ServerId) (s : Step) (met : StepMeets script start firsts (Server v) past s) where
   abbrev A : List Step
   A = steps_of_host h past
@@ -192,8 +191,8 @@ module _ (script : Script) (start : Tree) (firsts : ServerId → ℕ) (real : (v
   ran : HostRun script h A
   ran = own_run script start firsts past run h
 
-  firm : FirmAt A
-  firm = cited.firm_now past run h
+  firm : Firm h A
+  firm = firm_now script start firsts real past run h
 
   -- what is so of its doings in the midst of the step
   record Mid (D : List Doing) : Type 0 where
@@ -349,17 +348,18 @@ module _ (script : Script) (start : Tree) (firsts : ServerId → ℕ) (real : (v
     no_reason : (x : Asked) → asked_as ends.k ends.call ≡ x
         → Reason A h (WroteBy firsts past) (AppliedBy firsts past h) x → ⊥
     no_reason x same (ByChange u w i hh k changing) =
-        let c = change_of script start firsts real cited past run h u w i hh in
+        let c = change_of script start firsts real past run h u w i hh in
         let has : HasChanged A u c.0 = (u, c.1, c.2, c.3, λ z. refl) in
         let out : Changing A u c.0.fileset c.0.number =
         subst (λ (y : FilesetId × ℕ). Changing A u y.0 y.1) (λ i. (sym c.4 i, sym c.5 i)) changing in
         let one = one_open script h A ran (asked_as c.0.k c.0.call) (asked_as ends.k ends.call)
-        (firm.is_open u c.0 has out) open_now in
+        (firm.asked u c.0 has out).is_open open_now in
         let l = ends_label script h A ran g ends made is in
-        firm.no_end u c.0 has out
+        (firm.asked u c.0 has out).no_end
         (subst IsEnd (sym (ap (λ (z : Asked). z.call) one ∙ l.2)) (ends_is_end l.0))
     no_reason x same (ByGive u other others made_it e k at not_known) =
-        let one = firm.one_given other g others ends made_it made e is not_known unknown in
+        let one = one_given script start firsts real past run h other g others ends made_it made e is not_known
+        unknown in
         let there : home g.fid.fileset ≡ u = (
         ap (λ (y : Give). home y.fid.fileset) (sym one)
         ∙ applied_at u (doings_of (firsts u) u past) h (number_of other) at
@@ -460,7 +460,7 @@ module _ (script : Script) (start : Tree) (firsts : ServerId → ℕ) (real : (v
         (mid.sent (epoch D) k (Done d) sent)) (f ∙ (taken_so.3 ∙ so.fileset)) (m ∙ (taken_so.4 ∙ so.number)))
 
     open_so : IsOpen A (asked_as c.k c.call)
-    open_so = firm.is_open v c has changing
+    open_so = (firm.asked v c has changing).is_open
 
     -- and nothing of the call was written down, nor ended by a give-back
     none_before : (z : Asked) → Reason A h (W D) (G D) z → ⊥
@@ -468,7 +468,7 @@ module _ (script : Script) (start : Tree) (firsts : ServerId → ℕ) (real : (v
         let one = one_open script h A ran (asked_as c.k c.call) (asked_as ends.k ends.call) open_so
         (firm.given_open g ends made is unknown) in
         let l = ends_label script h A ran g ends made is in
-        firm.no_end v c has changing
+        (firm.asked v c has changing).no_end
         (subst IsEnd (sym (ap (λ (y : Asked). y.call) one ∙ l.2)) (ends_is_end l.0))
     none_before z (ByChange u w i hw k out) =
         tokens.writes_once x refl (
@@ -484,9 +484,10 @@ module _ (script : Script) (start : Tree) (firsts : ServerId → ℕ) (real : (v
 
         same_server : WroteBy firsts past u w → u ≡ v
         same_server j = elim (zero_or c.fileset.0) [
-          | inl zero ↦ sym (firm.at u b.0 has_b out_b (ap (λ (f : FilesetId). f.0) (b.4 ∙ one.0) ∙ zero))
+          | inl zero ↦ sym ((firm.asked u b.0 has_b out_b).at (ap (λ (f : FilesetId). f.0) (b.4 ∙ one.0) ∙ zero))
               ∙ (ap (λ (y : Asked). named y.call) (one_open script h A ran (asked_as b.0.k b.0.call)
-              (asked_as c.k c.call) (firm.is_open u b.0 has_b out_b) open_so) ∙ firm.at v c has changing zero)
+              (asked_as c.k c.call) (firm.asked u b.0 has_b out_b).is_open open_so)
+              ∙ (firm.asked v c has changing).at zero)
           | inr some ↦ elim (said_at script start firsts real h A ran u b.1 b.2 b.0 b.3) [
             | inl zero ↦ absurd (some (sym (ap (λ (f : FilesetId). f.0) (b.4 ∙ one.0)) ∙ zero))
             | inr there ↦ elim (said_at script start firsts real h A ran v (epoch D) taken_so.1 c said_so) [
@@ -498,7 +499,7 @@ module _ (script : Script) (start : Tree) (firsts : ServerId → ℕ) (real : (v
           where
             b : (b : ChangeOf) × (e : ℕ) × (n : ℕ) × Said A u e n (Change b) × (b.fileset ≡ w.fileset)
                 × (b.number ≡ w.number) × (b.k ≡ w.answer.k) × (b.call ≡ w.answer.call)
-            b = change_of script start firsts real cited past run h u w j hw
+            b = change_of script start firsts real past run h u w j hw
 
             has_b : HasChanged A u b.0
             has_b = (u, b.1, b.2, b.3, λ z. refl)

@@ -317,7 +317,7 @@ module _ (v : ServerId) (tree : Tree) (s : Step) (S : List Doing) (h : HostId) (
     ];
     replied = replied;
     reasons = λ g f m d r sent is. elim sent [
-      | inl q ↦ inr (reason g f m d r is (may.dones g f m d q).2)
+      | inl q ↦ inr (reason g f m d r is (may.done_for g f m d q).2)
       | inr q ↦ inr (old.reasons g f m d r q is)
     ];
   }
@@ -356,7 +356,7 @@ module _ (v : ServerId) (tree : Tree) (s : Step) (S : List Doing) (h : HostId) (
       replied w e0 (inr o) f m d (inr q) fs num = old.replied w e0 o f m d q fs num
       replied w e0 (inr o) f m d (inl q) fs num =
           why w e0 o f m d (tokens.epochs w.answer.host f m (Done d) q) fs num
-          (may.dones w.answer.host f m d q).2
+          (may.done_for w.answer.host f m d q).2
 
 sents : (v : ServerId) (tree : Tree) (s : Step) (ms : List Message) (S : List Doing)
     → EachInTurn (MaySend v tree s) (sending ms) S → EachInTurn (ServerTokens v) (sending ms) S → Told S
