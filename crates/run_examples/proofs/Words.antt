@@ -1236,17 +1236,17 @@ uses_of past s m (Done d) c is e w q =
     let u = and_parts (is_above past d.bring.fid d.bring.stamp) (none_open past d.bring.fid) k.1 in
     elim (if_in l w (d.bring ∷ []) q).1 [
       | inl same ↦ subst (λ x. Uses past s x) (sym same) (
-          inr (
-            d,
-            about past s m d.bring.fid.fileset (Done d) c is p.0,
-            refl,
-            changed_yes past
-                (stay_of past d.bring.fid.fileset).server (numbered d.fileset d.bring.number) r.0,
-            λ t n. use_kind_yes t.kind (at_all (λ t. is_use_kind t.kind) d.bring.tokens t k.0 n),
-          ),
-          above_yes past d.bring.fid d.bring.stamp u.0,
-          none_open_yes past d.bring.fid u.1,
-        )
+        inr (
+          d,
+          about past s m d.bring.fid.fileset (Done d) c is p.0,
+          refl,
+          changed_yes past
+              (stay_of past d.bring.fid.fileset).server (numbered d.fileset d.bring.number) r.0,
+          λ t n. use_kind_yes t.kind (at_all (λ t. is_use_kind t.kind) d.bring.tokens t k.0 n),
+        ),
+        above_yes past d.bring.fid d.bring.stamp u.0,
+        none_open_yes past d.bring.fid u.1,
+      )
       | inr none ↦ elim none [ ]
     ]
 uses_of past s m b c is e w q = absurd (cc)
