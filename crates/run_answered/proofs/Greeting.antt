@@ -227,7 +227,7 @@ module _ (script : Script) (start : Tree) (firsts : ServerId → ℕ) (real : (v
     uses_welcome : (A : List Step) (s : Step) → HostRun script h A → (w : Bring) → Uses A s w → SomeWelcome script h A
     uses_welcome A s run w (inl (grant, about, is, asking), above, none) =
         asking_welcome script h A run w.fid.fileset w.number asking
-    uses_welcome A s run w (inr (done, about, is, changing), above, none) =
+    uses_welcome A s run w (inr (done, about, is, changing, lone), above, none) =
         changing_welcome script h A run (stay_of A w.fid.fileset).server done.fileset w.number changing
 
     held_welcome : (A : List Step) → HostRun script h A → (t : Token) → Held A t → SomeWelcome script h A
