@@ -103,14 +103,16 @@ use Rattle.run_stores.specs.Keeping.{StandsFor}
 use Rattle.run_stores.specs.Wanting.{is_clone, WantsAreTold, all_and_uses_of, directory_of, status_of, want_by, wanted_of, files_told, root_of}
 
 -- where a path leads
-target_from : (f : Fileset) (user : User) (path : List (List ℕ)) (n : ℕ) (o : Object) → walk f.anodes user 1 path ≡ Ok n →
+target_from : (f : Fileset) (user : User) (path : List (List ℕ)) (n : ℕ) (o : Object) → walk f.anodes user 1 path
+    ≡ Ok n →
     object_at f.anodes n ≡ Some o → target f user path ≡ Ok (n, o)
 unfolding target
 target_from f user path n o way there =
     ap (λ r. and_then r (λ anode. found_at anode (object_at f.anodes anode))) way ∙ ap (found_at n) there
 
 -- the names before the last, and the last
-front_is : (path : List (List ℕ)) (empty : Refusal) (parts : List ℕ × List (List ℕ)) → split_path path empty ≡ Ok parts →
+front_is : (path : List (List ℕ)) (empty : Refusal) (parts : List ℕ × List (List ℕ)) → split_path path empty
+    ≡ Ok parts →
     (parts.1 ≡ take (length path - 1) path) × (slice_get path (length path - 1) ≡ Some parts.0)
 front_is path empty parts h = by (slice_get path (length path - 1)) h
   where
@@ -167,7 +169,8 @@ insert_walk f user front name found h =
 
 entry_walk : (f : Fileset) (user : User) (front : List (List ℕ)) (name : List ℕ) (found : ℕ × DirEntry) →
     entry_target f user front name ≡ Ok found →
-    (object : Object) × (target f user front ≡ Ok (found.0, object)) × (step f.anodes user found.0 name ≡ Ok found.1.anode)
+    (object : Object) × (target f user front ≡ Ok (found.0, object))
+    × (step f.anodes user found.0 name ≡ Ok found.1.anode)
 unfolding entry_target step
 entry_walk f user front name found h =
     let (at, e, k) = then_ok (parent_target f user front _) _ found h in
@@ -176,8 +179,10 @@ entry_walk f user front name found h =
     let walked = parent_walk f user front _ at e in
     let there = (target_ok f user front (at.0, at.1) walked.0).there in
     let steps : step f.anodes user at.0 name ≡ Ok entry.anode =
-    ap (λ o. and_then (entered_at o user) (λ entries. and_then (entry_or_none (entry_named entries name)) (λ entry. Ok entry.anode))) there
-    ∙ ap (λ r. and_then r (λ entries. and_then (entry_or_none (entry_named entries name)) (λ entry. Ok entry.anode))) walked.1
+    ap (λ o. and_then (entered_at o user)
+    (λ entries. and_then (entry_or_none (entry_named entries name)) (λ entry. Ok entry.anode))) there
+    ∙ ap (λ r. and_then r (λ entries. and_then (entry_or_none (entry_named entries name))
+    (λ entry. Ok entry.anode))) walked.1
     ∙ ap (λ r. and_then r (λ (entry : DirEntry). Ok entry.anode)) g in
     subst (λ (x : ℕ × DirEntry). (object : Object) × (target f user front ≡ Ok (x.0, object))
     × (step f.anodes user x.0 name ≡ Ok x.1.anode)) is (at.1, walked.0, steps)
@@ -219,7 +224,8 @@ creation_walk f dir user path made h =
     (at.1, walked ∙ ap (λ n. Ok (n, at.1)) (ap (λ m. m.0) (ok_is _ made same)))
 
 creation_told : (f : Fileset) (dir : Bool) (user : User) (place : Place) →
-    Told (err (creation f dir user place.path)) (want_for (creation f dir user place.path) (λ (parent, entry, nature). all_of true (use_of f parent)))
+    Told (err (creation f dir user place.path))
+    (want_for (creation f dir user place.path) (λ (parent, entry, nature). all_of true (use_of f parent)))
     (wanted_of (looked f user (directory_of place)) (all_of true))
 creation_told f dir user place = by (creation f dir user place.path) refl
   where
@@ -252,9 +258,18 @@ remove_walk f user path found h =
     (target_ok f user parts.1 (at.0, directory) led).way steps in
     let path_is : parts.1 ++ parts.0 ∷ [] ≡ path =
     ap (λ p. p ++ parts.0 ∷ []) split.0 ∙ sym (whole_path path parts.0 split.1) in
-    let whole : walk f.anodes user 1 path ≡ Ok at.1.anode = subst (λ p. walk f.anodes user 1 p ≡ Ok at.1.anode) path_is way in (
-      (directory, subst (λ p. target f user p ≡ Ok (at.0, directory)) split.0 led ∙ ap (λ n. Ok (n, directory)) (ap (λ x. x.0) is)),
-      (there.1, target_from f user path at.1.anode there.1 whole object ∙ ap (λ n. Ok (n, there.1)) (same_anode ∙ ap (λ x. x.2) is)),
+    let whole : walk f.anodes user 1 path ≡ Ok at.1.anode =
+    subst (λ p. walk f.anodes user 1 p ≡ Ok at.1.anode) path_is way in (
+      (
+        directory,
+        subst (λ p. target f user p ≡ Ok (at.0, directory)) split.0 led
+            ∙ ap (λ n. Ok (n, directory)) (ap (λ x. x.0) is),
+      ),
+      (
+        there.1,
+        target_from f user path at.1.anode there.1 whole object
+            ∙ ap (λ n. Ok (n, there.1)) (same_anode ∙ ap (λ x. x.2) is),
+      ),
     )
   where
     found_is : (anode : ℕ) (o : Option Object) (found : ℕ × Object) → found_at anode o ≡ Ok found →
@@ -265,7 +280,8 @@ remove_walk f user path found h =
         (ap (λ x. x.0) same, ap (λ x. Some x.1) same)
 
 remove_told : (f : Fileset) (user : User) (place : Place) →
-    Told (err (remove_target f (λ fid. false) user place.path)) (want_in f user (Remove place)) (want_by (looked f user) (Remove place))
+    Told (err (remove_target f (λ fid. false) user place.path)) (want_in f user (Remove place))
+    (want_by (looked f user) (Remove place))
 unfolding want_in
 remove_told f user place = by (remove_target f (λ fid. false) user place.path) refl
   where
@@ -344,7 +360,8 @@ rename_told f user from to = at (same_fileset from to)
     at false = inl (refl, refl)
 
 -- Truncate
-write_walk : (f : Fileset) (user : User) (path : List (List ℕ)) (len anode : ℕ) → write_target f user path len ≡ Ok anode →
+write_walk : (f : Fileset) (user : User) (path : List (List ℕ)) (len anode : ℕ) → write_target f user path len
+    ≡ Ok anode →
     (object : Object) × (target f user path ≡ Ok (anode, object))
 unfolding write_target permitted_file file_target
 write_walk f user path len anode h =
@@ -358,12 +375,14 @@ write_walk f user path len anode h =
     (at.1, j ∙ l ∙ i ∙ ap (λ n. Ok (n, at.1)) (ok_is at.0 anode same))
 
 truncate_told : (f : Fileset) (user : User) (place : Place) (len : ℕ) →
-    Told (err (write_target f user place.path len)) (want_in f user (Truncate place len)) (want_by (looked f user) (Truncate place len))
+    Told (err (write_target f user place.path len)) (want_in f user (Truncate place len))
+    (want_by (looked f user) (Truncate place len))
 unfolding want_in
 truncate_told f user place len = by (write_target f user place.path len) refl
   where
     by : (r : Result ℕ Refusal) → write_target f user place.path len ≡ r →
-        Told (err r) (want_for r (λ anode. all_of true (use_of f anode))) (wanted_of (looked f user place) (all_of true))
+        Told (err r) (want_for r (λ anode. all_of true (use_of f anode)))
+        (wanted_of (looked f user place) (all_of true))
     by (Err refusal) e = inl (refl, refl)
     by (Ok anode) e =
         let (object, led) = write_walk f user place.path len anode e in
@@ -382,7 +401,8 @@ access_walk f user path which anode h =
     (at.1, b ∙ ap (λ n. Ok (n, at.1)) (ok_is at.0 anode same))
 
 access_told : (f : Fileset) (user : User) (place : Place) (which : Which) (list : List AccessEntry) →
-    Told (err (set_access_target f user place.path which)) (want_in f user (SetAcl place which list)) (want_by (looked f user) (SetAcl place which list))
+    Told (err (set_access_target f user place.path which)) (want_in f user (SetAcl place which list))
+    (want_by (looked f user) (SetAcl place which list))
 unfolding want_in
 access_told f user place which list = by (set_access_target f user place.path which) refl
   where
@@ -407,16 +427,21 @@ use_walk f user path changing right fid h =
     (file, e ∙ i, ok_is (use_of f file.0) fid same)
 
 lock_told : (f : Fileset) (user : User) (label : List ℕ) (place : Place) (writing : Bool) (from len : ℕ) →
-    Told (err (and_then (lock_target f user place.path writing) (λ fid. unless (nat_lt FILE_BYTES_MAX (from + len)) TooBig (Ok fid)))) (want_in f user (Lock label place writing from len)) (want_by (looked f user) (Lock label place writing from len))
+    Told (err (and_then (lock_target f user place.path writing)
+    (λ fid. unless (nat_lt FILE_BYTES_MAX (from + len)) TooBig (Ok fid))))
+    (want_in f user (Lock label place writing from len))
+    (want_by (looked f user) (Lock label place writing from len))
 unfolding want_in
 lock_told f user label place writing from len =
-    by (and_then (lock_target f user place.path writing) (λ fid. unless (nat_lt FILE_BYTES_MAX (from + len)) TooBig (Ok fid))) refl
+    by (and_then (lock_target f user place.path writing)
+    (λ fid. unless (nat_lt FILE_BYTES_MAX (from + len)) TooBig (Ok fid))) refl
   where
     needs : Fid → List Need
     needs fid = record { fid = fid; kind = LockKind writing (span_between from (from + len)) } ∷ []
 
     by : (r : Result Fid Refusal) →
-        and_then (lock_target f user place.path writing) (λ fid. unless (nat_lt FILE_BYTES_MAX (from + len)) TooBig (Ok fid)) ≡ r →
+        and_then (lock_target f user place.path writing)
+        (λ fid. unless (nat_lt FILE_BYTES_MAX (from + len)) TooBig (Ok fid)) ≡ r →
         Told (err r) (want_for r needs) (wanted_of (looked f user place) needs)
     by (Err refusal) e = inl (refl, refl)
     by (Ok fid) e =
@@ -430,7 +455,8 @@ lock_told f user label place writing from len =
         )
 
 open_told : (f : Fileset) (user : User) (label : List ℕ) (place : Place) (kind : OpenKind) →
-    Told (err (open_target f user place.path kind)) (want_in f user (OpenFile label place kind)) (want_by (looked f user) (OpenFile label place kind))
+    Told (err (open_target f user place.path kind)) (want_in f user (OpenFile label place kind))
+    (want_by (looked f user) (OpenFile label place kind))
 unfolding want_in
 open_told f user label place kind = by (open_target f user place.path kind) refl
   where
@@ -494,12 +520,14 @@ none_wanted (Ok f) wanted none = none f
 none_wanted (Err refusal) wanted none = refl
 
 creation_in : (f : Fileset) (user : User) (place : Place) →
-    Told (err (creation f false user place.path)) (want_in f user (Create place)) (want_by (looked f user) (Create place))
+    Told (err (creation f false user place.path)) (want_in f user (Create place))
+    (want_by (looked f user) (Create place))
 unfolding want_in
 creation_in f user place = creation_told f false user place
 
 making_in : (f : Fileset) (user : User) (place : Place) →
-    Told (err (creation f true user place.path)) (want_in f user (MakeDir place)) (want_by (looked f user) (MakeDir place))
+    Told (err (creation f true user place.path)) (want_in f user (MakeDir place))
+    (want_by (looked f user) (MakeDir place))
 unfolding want_in
 making_in f user place = creation_told f true user place
 
@@ -562,7 +590,8 @@ module _ (f : Fileset) (dir : Bool) (kind : NewObject) (user : User) where
 
   abbrev Alike : Type 0
   Alike = (content : Content) (name : List ℕ) (parent : ℕ) (vacancy : Vacancy) →
-      err (and_then (and_then (new_content kind content) (λ content. Ok (owned user content))) (made name parent vacancy))
+      err (and_then (and_then (new_content kind content) (λ content. Ok (owned user content)))
+      (made name parent vacancy))
       ≡ err (and_then (new_lists dir content) (fated name parent vacancy))
 
   create_err : Alike → (path : List (List ℕ)) → err (create_target f kind user path) ≡ err (creation f dir user path)
@@ -598,9 +627,11 @@ file_alike : (f : Fileset) (user : User) → Alike f false EmptyFile user
 file_alike f user content name parent vacancy = by (access_of Files content)
   where
     by : (r : Result (List AccessEntry) Refusal) →
-        err (and_then (and_then (and_then r (λ files. (let made : Result Content Refusal = Ok (File files [] [] None) in made)))
+        err (and_then (and_then (and_then r
+        (λ files. (let made : Result Content Refusal = Ok (File files [] [] None) in made)))
         (λ content. Ok (owned user content))) (made f false EmptyFile user name parent vacancy))
-        ≡ err (and_then (and_then r (λ files. (let lists : Result (List (List AccessEntry)) Refusal = Ok (files ∷ []) in lists)))
+        ≡ err (and_then (and_then r (λ files.
+        (let lists : Result (List (List AccessEntry)) Refusal = Ok (files ∷ []) in lists)))
         (fated f false EmptyFile user name parent vacancy))
     by (Ok files) = refl
     by (Err refusal) = refl
@@ -627,7 +658,8 @@ create_refuses : (f : Fileset) (host : HostId) (user : User) (place : Place) →
     refuses f host user (Create place) ≡ err (creation f false user place.path)
 unfolding fileset_answer create_answer
 create_refuses f host user place =
-    refused_is f (create_target f EmptyFile user place.path) _ ∙ create_err f false EmptyFile user (file_alike f user) place.path
+    refused_is f (create_target f EmptyFile user place.path) _
+    ∙ create_err f false EmptyFile user (file_alike f user) place.path
 
 making_refuses : (f : Fileset) (host : HostId) (user : User) (place : Place) →
     refuses f host user (MakeDir place) ≡ err (creation f true user place.path)
@@ -656,7 +688,8 @@ access_refuses : (f : Fileset) (host : HostId) (user : User) (place : Place) (wh
 unfolding fileset_answer set_access_answer
 access_refuses f host user place which list = refused_is f (set_access_target f user place.path which) _
 
-row_refuses : (state : StoreState) (host : HostId) (user : User) (call : Call) (name : List ℕ) (refused : Fileset → Bool) →
+row_refuses : (state : StoreState) (host : HostId) (user : User) (call : Call) (name : List ℕ)
+    (refused : Fileset → Bool) →
     ((f : Fileset) → refuses f host user call ≡ refused f) →
     is_refusal (named_row state name host user call).reply ≡ refused_by refused (fileset_here state name)
 unfolding named_row
@@ -682,7 +715,8 @@ rename_row_refuses state host user from to b e =
     done : Option Holding → Answer
     done o = record {
       reply = held_reply host user (Rename from to) o;
-      state = with_held state (slot_so (is_here_as from.fileset) state.slots) (held_answered host user (Rename from to));
+      state = with_held state (slot_so (is_here_as from.fileset) state.slots)
+          (held_answered host user (Rename from to));
     }
 
     by : (c : Bool) → same_fileset from to ≡ c → (o : Option Holding) →
@@ -738,20 +772,26 @@ exact_for : (tree : Tree) (state : StoreState) (host : HostId) (user : User) (ca
     ≡ (if is_refusal (store_answer_for state host call user).reply then [] else want_by (looked_up state user) call)
 unfolding want want_in store_answer_for
 exact_for tree state host user (Create place) s its one =
-    exact_of _ _ _ _ (row_refuses state host user (Create place) place.fileset (λ f. err (creation f false user place.path)) (λ f. create_refuses f host user place))
-    (by_name tree state user place.server place.fileset (λ f. err (creation f false user place.path)) (λ f. want_in f user (Create place))
+    exact_of _ _ _ _ (row_refuses state host user (Create place) place.fileset
+    (λ f. err (creation f false user place.path)) (λ f. create_refuses f host user place))
+    (by_name tree state user place.server place.fileset (λ f. err (creation f false user place.path))
+    (λ f. want_in f user (Create place))
     (λ look. want_by look (Create place)) (sought tree state place.fileset s) its
     (λ f. creation_in f user place)
     (λ f e. ap (λ l. wanted_of l (all_of true)) (look_here state user (directory_of place) f e)))
 exact_for tree state host user (MakeDir place) s its one =
-    exact_of _ _ _ _ (row_refuses state host user (MakeDir place) place.fileset (λ f. err (creation f true user place.path)) (λ f. making_refuses f host user place))
-    (by_name tree state user place.server place.fileset (λ f. err (creation f true user place.path)) (λ f. want_in f user (MakeDir place))
+    exact_of _ _ _ _ (row_refuses state host user (MakeDir place) place.fileset
+    (λ f. err (creation f true user place.path)) (λ f. making_refuses f host user place))
+    (by_name tree state user place.server place.fileset (λ f. err (creation f true user place.path))
+    (λ f. want_in f user (MakeDir place))
     (λ look. want_by look (MakeDir place)) (sought tree state place.fileset s) its
     (λ f. making_in f user place)
     (λ f e. ap (λ l. wanted_of l (all_of true)) (look_here state user (directory_of place) f e)))
 exact_for tree state host user (Remove place) s its one =
-    exact_of _ _ _ _ (row_refuses state host user (Remove place) place.fileset (λ f. err (remove_target f (λ fid. false) user place.path)) (λ f. remove_refuses f host user place))
-    (by_name tree state user place.server place.fileset (λ f. err (remove_target f (λ fid. false) user place.path)) (λ f. want_in f user (Remove place))
+    exact_of _ _ _ _ (row_refuses state host user (Remove place) place.fileset
+    (λ f. err (remove_target f (λ fid. false) user place.path)) (λ f. remove_refuses f host user place))
+    (by_name tree state user place.server place.fileset (λ f. err (remove_target f (λ fid. false) user place.path))
+    (λ f. want_in f user (Remove place))
     (λ look. want_by look (Remove place)) (sought tree state place.fileset s) its
     (λ f. remove_told f user place)
     (λ f e. ap (λ l. wanted_of l (all_of true) ++ wanted_of (looked_up state user place) all_and_uses_of)
@@ -762,14 +802,18 @@ exact_for tree state host user (Rename from to) s its one =
     exact_of _ _ _ _ (rename_row_refuses state host user from to (same_fileset from to) refl)
     (rename_at tree state user from to s its (same_fileset from to) refl)
 exact_for tree state host user (Truncate place len) s its one =
-    exact_of _ _ _ _ (row_refuses state host user (Truncate place len) place.fileset (λ f. err (write_target f user place.path len)) (λ f. truncate_refuses f host user place len))
-    (by_name tree state user place.server place.fileset (λ f. err (write_target f user place.path len)) (λ f. want_in f user (Truncate place len))
+    exact_of _ _ _ _ (row_refuses state host user (Truncate place len) place.fileset
+    (λ f. err (write_target f user place.path len)) (λ f. truncate_refuses f host user place len))
+    (by_name tree state user place.server place.fileset (λ f. err (write_target f user place.path len))
+    (λ f. want_in f user (Truncate place len))
     (λ look. want_by look (Truncate place len)) (sought tree state place.fileset s) its
     (λ f. truncate_told f user place len)
     (λ f e. ap (λ l. wanted_of l (all_of true)) (look_here state user place f e)))
 exact_for tree state host user (SetAcl place which list) s its one =
-    exact_of _ _ _ _ (row_refuses state host user (SetAcl place which list) place.fileset (λ f. err (set_access_target f user place.path which)) (λ f. access_refuses f host user place which list))
-    (by_name tree state user place.server place.fileset (λ f. err (set_access_target f user place.path which)) (λ f. want_in f user (SetAcl place which list))
+    exact_of _ _ _ _ (row_refuses state host user (SetAcl place which list) place.fileset
+    (λ f. err (set_access_target f user place.path which)) (λ f. access_refuses f host user place which list))
+    (by_name tree state user place.server place.fileset (λ f. err (set_access_target f user place.path which))
+    (λ f. want_in f user (SetAcl place which list))
     (λ look. want_by look (SetAcl place which list)) (sought tree state place.fileset s) its
     (λ f. access_told f user place which list)
     (λ f e. ap (λ l. wanted_of l status_of) (look_here state user place f e)))
@@ -821,7 +865,8 @@ calls_told tree state host user call s its one known =
     then [] else want_by (looked_up state user) call) (ap (λ r. user_of r host) s.keeps.roster ∙ known))
 
 -- Clones: the files of the source
-found_is_there : (found : Option Fileset) (refusal : Refusal) (f : Fileset) → found_or found refusal ≡ Ok f → found ≡ Some f
+found_is_there : (found : Option Fileset) (refusal : Refusal) (f : Fileset) → found_or found refusal ≡ Ok f → found
+    ≡ Some f
 found_is_there None refusal f e = absurd (cc)
 found_is_there (Some other) refusal f e = ap Some (ok_is other f e)
 
@@ -880,7 +925,8 @@ module _ (tree : Tree) (state : StoreState) (f : Fileset) (s : StandsFor tree st
       here : (object_at f.anodes at ≡ anode.object) × (unique_at f.anodes at ≡ anode.unique)
       here =
           let same : at + 0 ≡ at = omega arith in
-          subst (λ n. (object_at f.anodes n ≡ anode.object) × (unique_at f.anodes n ≡ anode.unique)) same (k 0 anode refl)
+          subst (λ n. (object_at f.anodes n ≡ anode.object) × (unique_at f.anodes n ≡ anode.unique)) same
+          (k 0 anode refl)
 
       more : List Fid
       more = objects_from (λ object. not (is_dir object.content)) f (at + 1) rest
@@ -890,13 +936,15 @@ module _ (tree : Tree) (state : StoreState) (f : Fileset) (s : StandsFor tree st
           filter is_file_told (if is_some o
           then record { fileset = f.id; anode = at; unique = anode.unique } ∷ fids_from f.id (at + 1) rest
           else fids_from f.id (at + 1) rest)
-          ≡ (if option_map_or (λ (object : Object). not (is_dir object.content)) o false then use_of f at ∷ more else more)
+          ≡ (if option_map_or (λ (object : Object). not
+          (is_dir object.content)) o false then use_of f at ∷ more else more)
       by None e rest_is = rest_is
       by (Some object) e rest_is =
           ap (λ b. cond (not b) (record { fileset = f.id; anode = at; unique = anode.unique }
           ∷ filter is_file_told (fids_from f.id (at + 1) rest)) (filter is_file_told (fids_from f.id (at + 1) rest)))
           (dir_told at anode object here.0 here.1 e)
-          ∙ ap (λ xs. cond (not (is_dir object.content)) (record { fileset = f.id; anode = at; unique = anode.unique } ∷ xs) xs)
+          ∙ ap (λ xs. cond (not (is_dir object.content))
+          (record { fileset = f.id; anode = at; unique = anode.unique } ∷ xs) xs)
           rest_is
           ∙ ap (λ fid. cond (not (is_dir object.content)) (fid ∷ more) more)
           (same_fid f.id at anode.unique (unique_at f.anodes at) (sym here.1))
@@ -927,7 +975,8 @@ root_led : (f : Fileset) (user : User) → IsWellFormedFileset f → (root : Obj
 unfolding target
 root_led f user w = by (object_at f.anodes 1) refl w.root
   where
-    by : (o : Option Object) → object_at f.anodes 1 ≡ o → option_map_or (λ object. is_dir object.content) o false ≡ true →
+    by : (o : Option Object) → object_at f.anodes 1 ≡ o → option_map_or (λ object. is_dir object.content) o false
+        ≡ true →
         (root : Object) × (found_at 1 (object_at f.anodes 1) ≡ Ok (1, root))
     by None e h = absurd (cc)
     by (Some root) e h = (root, ap (found_at 1) e)
@@ -951,7 +1000,8 @@ clones_told tree state user server source new s its = by (clone_source tree user
         let named = source_named tree user server source f e in
         let known = source_known tree server source f s.formed named in
         let here : fileset_here state source ≡ Ok f =
-        named_ok tree state source (sought tree state source s) ∙ ap (λ v. fileset_named tree v source) (sym its) ∙ named in
+        named_ok tree state source (sought tree state source s) ∙ ap (λ v. fileset_named tree v source) (sym its)
+        ∙ named in
         let (root, led) = root_led f user (formed_found tree state f.id f s known) in
         inr (ap (flat_map (all_of false)) (sym (files_are tree state f s known))
         ∙ sym (ap (λ l. wanted_of l told) (look_here state user (root_of server source) f here

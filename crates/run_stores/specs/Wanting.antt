@@ -80,8 +80,8 @@ abbrev pub root_of : ServerId → List ℕ → Place
 root_of server name = record { server = server; fileset = name; path = [] }
 
 -- What is wanted for a call on the server's filesets, of a user who is known, is what the places of the call lead to in
--- the store, and nothing where the store would refuse the call. Where anything is wanted for a clone, it is all files of
--- the fileset to whose root its source leads, for reading.
+-- the store, and nothing where the store would refuse the call. Where anything is wanted for a clone, it is all files
+-- of the fileset to whose root its source leads, for reading.
 pub record WantsAreTold : Type 0 where
   pub calls : (tree : Tree) (state : StoreState) (host : HostId) (user : User) (call : Call)
       → StandsFor tree state → IsAt state.server call → is_clone call ≡ false
