@@ -89,7 +89,8 @@ unfolding act_done do_outcome refuse_outcome give_outcome
 numbers_are_told = record {
   changes = λ state host number call id e next.
       ap (λ found. (done_by state host number call found).done.fresh) e
-      ∙ next_so change_of kept_so (λ r. refl) state host number (decided id host number (answer_to state host call)) refl
+      ∙ next_so change_of kept_so (λ r. refl) state host number
+      (decided id host number (answer_to state host call)) refl
       (records_of state id) next.0 next.1;
   changed = λ state host number call e.
       changed_so state host number call (numbered_id state (numbered_name call)) refl e;

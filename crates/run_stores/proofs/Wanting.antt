@@ -36,22 +36,22 @@ use Rattle.tree_calls.specs.declared.call.Call.TheVariants.{
 use Rattle.tree_calls.specs.declared.part.DirEntry.{DirEntry}
 use Rattle.tree_calls.specs.declared.place.Place.{Place}
 use Rattle.tree_calls.specs.declared.reply.Refusal.{Refusal}
-use Rattle.tree_calls.specs.declared.reply.Refusal.TheVariants.{Exists, InUse, IsDir, Loop, NoFileset, NotEmpty, ReadOnly, TooBig, NotHome}
+use Rattle.tree_calls.specs.declared.reply.Refusal.TheVariants.{Exists, InUse, IsDir, Loop, NoFileset, NotEmpty, ReadOnly, TooBig, NotHome, CrossFileset, Denied}
 use Rattle.tree_objects.specs.declared.content.Anode.{Anode}
 use Rattle.tree_objects.specs.declared.content.Object.{Object}
 use Rattle.tree_objects.specs.Objects.{access_of, is_dir}
 use Rattle.tree_filesets.proofs.Targets.{ok_is, target_ok, then_ok, unless_ok}
-use Rattle.tree_filesets.specs.Changing.{set_access_target, write_target}
+use Rattle.tree_filesets.specs.Changing.{set_access_target, write_target, set_access_answer, truncate_answer}
 use Rattle.tree_filesets.specs.Checks.{permission, split_at_last, split_path, unless}
-use Rattle.tree_filesets.specs.Creation.{vacancy}
-use Rattle.tree_filesets.specs.Removal.{has_entries, remove_target}
-use Rattle.tree_filesets.specs.Renaming.{rename_target}
+use Rattle.tree_filesets.specs.Creation.{vacancy, create_answer, create_target, new_content, new_entry, new_object, owned}
+use Rattle.tree_filesets.specs.Removal.{has_entries, remove_target, remove_answer}
+use Rattle.tree_filesets.specs.Renaming.{rename_target, rename_answer}
 use Rattle.tree_filesets.specs.Uses.{lock_target, open_target, use_target}
 use Rattle.tree_filesets.specs.Walk.{entered_at, entry_or_none, entry_target, file_target, found_at, insert_target, object_at, parent_target, permitted_file, step, target, walk, unique_at}
 use Rattle.tree_filesets.specs.declared.fileset.Fileset.{Fileset}
 use Rattle.tree_answers.specs.Finding.{fileset_named, found_or, same_fileset, has_id, leads_to}
 use Rattle.tree_answers.specs.declared.tree.Tree.{Tree}
-use Rattle.tree_laws.specs.Fates.{creation}
+use Rattle.tree_laws.specs.Fates.{creation, new_lists, new_nature}
 use Rattle.tree_laws.specs.Losses.{use_of}
 use Rattle.tree_laws.specs.Parts.{Nature}
 use Rattle.tree_filesets.proofs.Names.{names_equal}
@@ -68,7 +68,7 @@ use Rattle.need_server.specs.Wants.{all_of, every_use_of, want, want_for, want_i
 use Rattle.store_memory.specs.Reading.{looked_up, walk_in, fids_from}
 use Rattle.store_memory.specs.declared.told.Looked.{Looked}
 use Rattle.store_memory.specs.declared.told.Looked.TheVariants.{Found, Refused}
-use Rattle.store_state.specs.Rows.{fileset_here}
+use Rattle.store_state.specs.Rows.{fileset_here, answer_for as store_answer_for, answer_to as store_answer, held_answered, held_reply, lock_check, named_row, nothing_used, open_check, rename_row, use_of as reply_to_use}
 use Rattle.store_state.specs.declared.state.StoreState.{StoreState}
 use Rattle.std.specs.List.{filter, find, flat_map}
 use Rattle.std.proofs.lemmas.Grind.{common_steps}
@@ -83,20 +83,36 @@ use Rattle.tree_answers.proofs.Places.{found_by_id}
 use Rattle.store_acts.specs.Parts.{status_of as status_made}
 use Rattle.run_stores.proofs.Tells.{formed_found, kept_found, status_in, status_is}
 use Rattle.run_stores.specs.Telling.{is_dir_told}
+use Rattle.base_types.specs.declared.ids.HostId.{HostId}
+use Rattle.tree_calls.specs.Rosters.{user_of}
+use Rattle.tree_calls.specs.declared.place.Which.TheVariants.{Dirs, Files}
+use Rattle.tree_objects.specs.declared.content.Content.{Content}
+use Rattle.tree_objects.specs.declared.content.Content.TheVariants.{Dir, File}
+use Rattle.tree_filesets.specs.Answers.{answered}
+use Rattle.tree_filesets.specs.Rows.{fileset_answer}
+use Rattle.store_state.specs.Outcomes.{Answer, refuse}
+use Rattle.store_state.specs.State.{held_so, is_here_as, slot_so, with_held}
+use Rattle.run_rules.specs.Kept.{is_refusal}
+use Rattle.tree_filesets.specs.declared.creating.Creation.{Creation}
+use Rattle.tree_filesets.specs.declared.creating.NewObject.{NewObject}
+use Rattle.tree_filesets.specs.declared.creating.NewObject.TheVariants.{EmptyFile, EmptyDirectory}
+use Rattle.tree_filesets.specs.declared.creating.Vacancy.{Vacancy}
 use Rattle.run_stores.proofs.Replies.{Sought, sought}
 use Rattle.run_stores.proofs.Replies.Sought.{Here, Nowhere}
 use Rattle.run_stores.specs.Keeping.{StandsFor}
 use Rattle.run_stores.specs.Wanting.{is_clone, WantsAreTold, all_and_uses_of, directory_of, status_of, want_by, wanted_of, files_told, root_of}
 
 -- where a path leads
-target_from : (f : Fileset) (user : User) (path : List (List ℕ)) (n : ℕ) (o : Object) → walk f.anodes user 1 path ≡ Ok n →
+target_from : (f : Fileset) (user : User) (path : List (List ℕ)) (n : ℕ) (o : Object) → walk f.anodes user 1 path
+    ≡ Ok n →
     object_at f.anodes n ≡ Some o → target f user path ≡ Ok (n, o)
 unfolding target
 target_from f user path n o way there =
     ap (λ r. and_then r (λ anode. found_at anode (object_at f.anodes anode))) way ∙ ap (found_at n) there
 
 -- the names before the last, and the last
-front_is : (path : List (List ℕ)) (empty : Refusal) (parts : List ℕ × List (List ℕ)) → split_path path empty ≡ Ok parts →
+front_is : (path : List (List ℕ)) (empty : Refusal) (parts : List ℕ × List (List ℕ)) → split_path path empty
+    ≡ Ok parts →
     (parts.1 ≡ take (length path - 1) path) × (slice_get path (length path - 1) ≡ Some parts.0)
 front_is path empty parts h = by (slice_get path (length path - 1)) h
   where
@@ -153,7 +169,8 @@ insert_walk f user front name found h =
 
 entry_walk : (f : Fileset) (user : User) (front : List (List ℕ)) (name : List ℕ) (found : ℕ × DirEntry) →
     entry_target f user front name ≡ Ok found →
-    (object : Object) × (target f user front ≡ Ok (found.0, object)) × (step f.anodes user found.0 name ≡ Ok found.1.anode)
+    (object : Object) × (target f user front ≡ Ok (found.0, object))
+    × (step f.anodes user found.0 name ≡ Ok found.1.anode)
 unfolding entry_target step
 entry_walk f user front name found h =
     let (at, e, k) = then_ok (parent_target f user front _) _ found h in
@@ -162,8 +179,10 @@ entry_walk f user front name found h =
     let walked = parent_walk f user front _ at e in
     let there = (target_ok f user front (at.0, at.1) walked.0).there in
     let steps : step f.anodes user at.0 name ≡ Ok entry.anode =
-    ap (λ o. and_then (entered_at o user) (λ entries. and_then (entry_or_none (entry_named entries name)) (λ entry. Ok entry.anode))) there
-    ∙ ap (λ r. and_then r (λ entries. and_then (entry_or_none (entry_named entries name)) (λ entry. Ok entry.anode))) walked.1
+    ap (λ o. and_then (entered_at o user)
+    (λ entries. and_then (entry_or_none (entry_named entries name)) (λ entry. Ok entry.anode))) there
+    ∙ ap (λ r. and_then r (λ entries. and_then (entry_or_none (entry_named entries name))
+    (λ entry. Ok entry.anode))) walked.1
     ∙ ap (λ r. and_then r (λ (entry : DirEntry). Ok entry.anode)) g in
     subst (λ (x : ℕ × DirEntry). (object : Object) × (target f user front ≡ Ok (x.0, object))
     × (step f.anodes user x.0 name ≡ Ok x.1.anode)) is (at.1, walked.0, steps)
@@ -177,6 +196,15 @@ looks f user place found e =
 
 abbrev Either : List Need → List Need → Type 0
 Either wanted told = (wanted ≡ []) ⊎ (wanted ≡ told)
+
+-- whether checks refuse
+abbrev err : {A : Type 0} → Result A Refusal → Bool
+err (Ok value) = false
+err (Err refusal) = true
+
+-- where checks refuse nothing is wanted, and else what is told
+abbrev Told : Bool → List Need → List Need → Type 0
+Told refused wanted told = ((refused ≡ true) × (wanted ≡ [])) ⊎ ((refused ≡ false) × (wanted ≡ told))
 
 abbrev looked : Fileset → User → Place → Looked
 looked f user place = walk_in f user place
@@ -196,17 +224,18 @@ creation_walk f dir user path made h =
     (at.1, walked ∙ ap (λ n. Ok (n, at.1)) (ap (λ m. m.0) (ok_is _ made same)))
 
 creation_told : (f : Fileset) (dir : Bool) (user : User) (place : Place) →
-    Either (want_for (creation f dir user place.path) (λ (parent, entry, nature). all_of true (use_of f parent)))
+    Told (err (creation f dir user place.path))
+    (want_for (creation f dir user place.path) (λ (parent, entry, nature). all_of true (use_of f parent)))
     (wanted_of (looked f user (directory_of place)) (all_of true))
 creation_told f dir user place = by (creation f dir user place.path) refl
   where
     by : (r : Result (ℕ × DirEntry × Nature) Refusal) → creation f dir user place.path ≡ r →
-        Either (want_for r (λ (parent, entry, nature). all_of true (use_of f parent)))
+        Told (err r) (want_for r (λ (parent, entry, nature). all_of true (use_of f parent)))
         (wanted_of (looked f user (directory_of place)) (all_of true))
-    by (Err refusal) e = inl refl
+    by (Err refusal) e = inl (refl, refl)
     by (Ok made) e =
         let (object, led) = creation_walk f dir user place.path made e in
-        inr (sym (ap (λ l. wanted_of l (all_of true)) (looks f user (directory_of place) (made.0, object) led)))
+        inr (refl, sym (ap (λ l. wanted_of l (all_of true)) (looks f user (directory_of place) (made.0, object) led)))
 
 -- Remove
 remove_walk : (f : Fileset) (user : User) (path : List (List ℕ)) (found : ℕ × List ℕ × ℕ) →
@@ -229,9 +258,18 @@ remove_walk f user path found h =
     (target_ok f user parts.1 (at.0, directory) led).way steps in
     let path_is : parts.1 ++ parts.0 ∷ [] ≡ path =
     ap (λ p. p ++ parts.0 ∷ []) split.0 ∙ sym (whole_path path parts.0 split.1) in
-    let whole : walk f.anodes user 1 path ≡ Ok at.1.anode = subst (λ p. walk f.anodes user 1 p ≡ Ok at.1.anode) path_is way in (
-      (directory, subst (λ p. target f user p ≡ Ok (at.0, directory)) split.0 led ∙ ap (λ n. Ok (n, directory)) (ap (λ x. x.0) is)),
-      (there.1, target_from f user path at.1.anode there.1 whole object ∙ ap (λ n. Ok (n, there.1)) (same_anode ∙ ap (λ x. x.2) is)),
+    let whole : walk f.anodes user 1 path ≡ Ok at.1.anode =
+    subst (λ p. walk f.anodes user 1 p ≡ Ok at.1.anode) path_is way in (
+      (
+        directory,
+        subst (λ p. target f user p ≡ Ok (at.0, directory)) split.0 led
+            ∙ ap (λ n. Ok (n, directory)) (ap (λ x. x.0) is),
+      ),
+      (
+        there.1,
+        target_from f user path at.1.anode there.1 whole object
+            ∙ ap (λ n. Ok (n, there.1)) (same_anode ∙ ap (λ x. x.2) is),
+      ),
     )
   where
     found_is : (anode : ℕ) (o : Option Object) (found : ℕ × Object) → found_at anode o ≡ Ok found →
@@ -242,7 +280,8 @@ remove_walk f user path found h =
         (ap (λ x. x.0) same, ap (λ x. Some x.1) same)
 
 remove_told : (f : Fileset) (user : User) (place : Place) →
-    Either (want_in f user (Remove place)) (want_by (looked f user) (Remove place))
+    Told (err (remove_target f (λ fid. false) user place.path)) (want_in f user (Remove place))
+    (want_by (looked f user) (Remove place))
 unfolding want_in
 remove_told f user place = by (remove_target f (λ fid. false) user place.path) refl
   where
@@ -251,14 +290,17 @@ remove_told f user place = by (remove_target f (λ fid. false) user place.path) 
         all_of true (use_of f parent) ++ all_of true (use_of f anode) ++ every_use_of (use_of f anode)
 
     by : (r : Result (ℕ × List ℕ × ℕ) Refusal) → remove_target f (λ fid. false) user place.path ≡ r →
-        Either (want_for r wanted) (want_by (looked f user) (Remove place))
-    by (Err refusal) e = inl refl
+        Told (err r) (want_for r wanted) (want_by (looked f user) (Remove place))
+    by (Err refusal) e = inl (refl, refl)
     by (Ok found) e =
         let ((parent, led), (object, there)) = remove_walk f user place.path found e in
-        inr (sym (ap (λ l. wanted_of l (all_of true) ++ wanted_of (looked f user place) all_and_uses_of)
-        (looks f user (directory_of place) (found.0, parent) led)
-        ∙ ap (λ l. all_of true (use_of f found.0) ++ wanted_of l all_and_uses_of)
-        (looks f user place (found.2, object) there)))
+        inr (
+          refl,
+          sym (ap (λ l. wanted_of l (all_of true) ++ wanted_of (looked f user place) all_and_uses_of)
+              (looks f user (directory_of place) (found.0, parent) led)
+              ∙ ap (λ l. all_of true (use_of f found.0) ++ wanted_of l all_and_uses_of)
+              (looks f user place (found.2, object) there)),
+        )
 
 -- Rename
 rename_walk : (f : Fileset) (user : User) (from to : List (List ℕ)) (move : Move) →
@@ -287,8 +329,11 @@ rename_walk f user from to move h =
       ),
     )
 
+abbrev rename_refused : Fileset → User → Place → Place → Bool
+rename_refused f user from to = if same_fileset from to then err (rename_target f user from.path to.path) else true
+
 rename_told : (f : Fileset) (user : User) (from to : Place) →
-    Either (want_in f user (Rename from to)) (want_by (looked f user) (Rename from to))
+    Told (rename_refused f user from to) (want_in f user (Rename from to)) (want_by (looked f user) (Rename from to))
 unfolding want_in
 rename_told f user from to = at (same_fileset from to)
   where
@@ -296,22 +341,27 @@ rename_told f user from to = at (same_fileset from to)
     wanted move = all_of true (use_of f move.from) ++ all_of true (use_of f move.to)
 
     by : (r : Result Move Refusal) → rename_target f user from.path to.path ≡ r →
-        Either (want_for r wanted) (want_by (looked f user) (Rename from to))
-    by (Err refusal) e = inl refl
+        Told (err r) (want_for r wanted) (want_by (looked f user) (Rename from to))
+    by (Err refusal) e = inl (refl, refl)
     by (Ok move) e =
         let ((parent, led), (other, there)) = rename_walk f user from.path to.path move e in
-        inr (sym (ap (λ l. wanted_of l (all_of true) ++ wanted_of (looked f user (directory_of to)) (all_of true))
-        (looks f user (directory_of from) (move.from, parent) led)
-        ∙ ap (λ l. all_of true (use_of f move.from) ++ wanted_of l (all_of true))
-        (looks f user (directory_of to) (move.to, other) there)))
+        inr (
+          refl,
+          sym (ap (λ l. wanted_of l (all_of true) ++ wanted_of (looked f user (directory_of to)) (all_of true))
+              (looks f user (directory_of from) (move.from, parent) led)
+              ∙ ap (λ l. all_of true (use_of f move.from) ++ wanted_of l (all_of true))
+              (looks f user (directory_of to) (move.to, other) there)),
+        )
 
-    at : (b : Bool) → Either (if b then want_for (rename_target f user from.path to.path) wanted else [])
+    at : (b : Bool) → Told (if b then err (rename_target f user from.path to.path) else true)
+        (if b then want_for (rename_target f user from.path to.path) wanted else [])
         (want_by (looked f user) (Rename from to))
     at true = by (rename_target f user from.path to.path) refl
-    at false = inl refl
+    at false = inl (refl, refl)
 
 -- Truncate
-write_walk : (f : Fileset) (user : User) (path : List (List ℕ)) (len anode : ℕ) → write_target f user path len ≡ Ok anode →
+write_walk : (f : Fileset) (user : User) (path : List (List ℕ)) (len anode : ℕ) → write_target f user path len
+    ≡ Ok anode →
     (object : Object) × (target f user path ≡ Ok (anode, object))
 unfolding write_target permitted_file file_target
 write_walk f user path len anode h =
@@ -325,16 +375,18 @@ write_walk f user path len anode h =
     (at.1, j ∙ l ∙ i ∙ ap (λ n. Ok (n, at.1)) (ok_is at.0 anode same))
 
 truncate_told : (f : Fileset) (user : User) (place : Place) (len : ℕ) →
-    Either (want_in f user (Truncate place len)) (want_by (looked f user) (Truncate place len))
+    Told (err (write_target f user place.path len)) (want_in f user (Truncate place len))
+    (want_by (looked f user) (Truncate place len))
 unfolding want_in
 truncate_told f user place len = by (write_target f user place.path len) refl
   where
     by : (r : Result ℕ Refusal) → write_target f user place.path len ≡ r →
-        Either (want_for r (λ anode. all_of true (use_of f anode))) (wanted_of (looked f user place) (all_of true))
-    by (Err refusal) e = inl refl
+        Told (err r) (want_for r (λ anode. all_of true (use_of f anode)))
+        (wanted_of (looked f user place) (all_of true))
+    by (Err refusal) e = inl (refl, refl)
     by (Ok anode) e =
         let (object, led) = write_walk f user place.path len anode e in
-        inr (sym (ap (λ l. wanted_of l (all_of true)) (looks f user place (anode, object) led)))
+        inr (refl, sym (ap (λ l. wanted_of l (all_of true)) (looks f user place (anode, object) led)))
 
 -- SetAcl
 access_walk : (f : Fileset) (user : User) (path : List (List ℕ)) (which : Which) (anode : ℕ) →
@@ -349,16 +401,17 @@ access_walk f user path which anode h =
     (at.1, b ∙ ap (λ n. Ok (n, at.1)) (ok_is at.0 anode same))
 
 access_told : (f : Fileset) (user : User) (place : Place) (which : Which) (list : List AccessEntry) →
-    Either (want_in f user (SetAcl place which list)) (want_by (looked f user) (SetAcl place which list))
+    Told (err (set_access_target f user place.path which)) (want_in f user (SetAcl place which list))
+    (want_by (looked f user) (SetAcl place which list))
 unfolding want_in
 access_told f user place which list = by (set_access_target f user place.path which) refl
   where
     by : (r : Result ℕ Refusal) → set_access_target f user place.path which ≡ r →
-        Either (want_for r (λ anode. status_of (use_of f anode))) (wanted_of (looked f user place) status_of)
-    by (Err refusal) e = inl refl
+        Told (err r) (want_for r (λ anode. status_of (use_of f anode))) (wanted_of (looked f user place) status_of)
+    by (Err refusal) e = inl (refl, refl)
     by (Ok anode) e =
         let (object, led) = access_walk f user place.path which anode e in
-        inr (sym (ap (λ l. wanted_of l status_of) (looks f user place (anode, object) led)))
+        inr (refl, sym (ap (λ l. wanted_of l status_of) (looks f user place (anode, object) led)))
 
 -- Lock, OpenFile
 use_walk : (f : Fileset) (user : User) (path : List (List ℕ)) (changing : Bool) (right : ℕ) (fid : Fid) →
@@ -374,27 +427,36 @@ use_walk f user path changing right fid h =
     (file, e ∙ i, ok_is (use_of f file.0) fid same)
 
 lock_told : (f : Fileset) (user : User) (label : List ℕ) (place : Place) (writing : Bool) (from len : ℕ) →
-    Either (want_in f user (Lock label place writing from len)) (want_by (looked f user) (Lock label place writing from len))
+    Told (err (and_then (lock_target f user place.path writing)
+    (λ fid. unless (nat_lt FILE_BYTES_MAX (from + len)) TooBig (Ok fid))))
+    (want_in f user (Lock label place writing from len))
+    (want_by (looked f user) (Lock label place writing from len))
 unfolding want_in
 lock_told f user label place writing from len =
-    by (and_then (lock_target f user place.path writing) (λ fid. unless (nat_lt FILE_BYTES_MAX (from + len)) TooBig (Ok fid))) refl
+    by (and_then (lock_target f user place.path writing)
+    (λ fid. unless (nat_lt FILE_BYTES_MAX (from + len)) TooBig (Ok fid))) refl
   where
     needs : Fid → List Need
     needs fid = record { fid = fid; kind = LockKind writing (span_between from (from + len)) } ∷ []
 
     by : (r : Result Fid Refusal) →
-        and_then (lock_target f user place.path writing) (λ fid. unless (nat_lt FILE_BYTES_MAX (from + len)) TooBig (Ok fid)) ≡ r →
-        Either (want_for r needs) (wanted_of (looked f user place) needs)
-    by (Err refusal) e = inl refl
+        and_then (lock_target f user place.path writing)
+        (λ fid. unless (nat_lt FILE_BYTES_MAX (from + len)) TooBig (Ok fid)) ≡ r →
+        Told (err r) (want_for r needs) (wanted_of (looked f user place) needs)
+    by (Err refusal) e = inl (refl, refl)
     by (Ok fid) e =
         let (there, a, b) = then_ok (lock_target f user place.path writing) _ fid e in
         let (within, same) = unless_ok (nat_lt FILE_BYTES_MAX (from + len)) TooBig (Ok there) fid b in
         let (found, led, is) = use_walk f user place.path writing _ there a in
-        inr (sym (ap (λ l. wanted_of l needs) (looks f user place found led)
-        ∙ ap needs (is ∙ ok_is there fid same)))
+        inr (
+          refl,
+          sym (ap (λ l. wanted_of l needs) (looks f user place found led)
+              ∙ ap needs (is ∙ ok_is there fid same)),
+        )
 
 open_told : (f : Fileset) (user : User) (label : List ℕ) (place : Place) (kind : OpenKind) →
-    Either (want_in f user (OpenFile label place kind)) (want_by (looked f user) (OpenFile label place kind))
+    Told (err (open_target f user place.path kind)) (want_in f user (OpenFile label place kind))
+    (want_by (looked f user) (OpenFile label place kind))
 unfolding want_in
 open_told f user label place kind = by (open_target f user place.path kind) refl
   where
@@ -402,11 +464,11 @@ open_told f user label place kind = by (open_target f user place.path kind) refl
     needs fid = record { fid = fid; kind = Opening kind } ∷ []
 
     by : (r : Result Fid Refusal) → open_target f user place.path kind ≡ r →
-        Either (want_for r needs) (wanted_of (looked f user place) needs)
-    by (Err refusal) e = inl refl
+        Told (err r) (want_for r needs) (wanted_of (looked f user place) needs)
+    by (Err refusal) e = inl (refl, refl)
     by (Ok fid) e =
         let (found, led, is) = use_walk f user place.path _ _ fid e in
-        inr (sym (ap (λ l. wanted_of l needs) (looks f user place found led) ∙ ap needs is))
+        inr (refl, sym (ap (λ l. wanted_of l needs) (looks f user place found led) ∙ ap needs is))
 
 -- a name, in a server's tree and in its store
 named_ok : (tree : Tree) (state : StoreState) (name : List ℕ) → Sought tree state name →
@@ -419,24 +481,30 @@ named_ok tree state name (Nowhere at led held gone) =
     ap (λ o. option_map_or (λ (h : Holding). Ok h.fileset) o (Err NoFileset)) held
     ∙ sym (ap (λ o. found_or o NoFileset) led)
 
+-- whether the checks refuse in a fileset, if it is there
+abbrev refused_by : (Fileset → Bool) → Result Fileset Refusal → Bool
+refused_by refused found = either found refused (λ refusal. true)
+
 -- A call whose places are all in one fileset: what is wanted there is what is told there.
-by_name : (tree : Tree) (state : StoreState) (user : User) (server : ServerId) (name : List ℕ) (wanted : Fileset → List Need)
-    (told : (Place → Looked) → List Need) → Sought tree state name → server ≡ state.server →
-    ((f : Fileset) → Either (wanted f) (told (walk_in f user))) →
+by_name : (tree : Tree) (state : StoreState) (user : User) (server : ServerId) (name : List ℕ)
+    (refused : Fileset → Bool) (wanted : Fileset → List Need) (told : (Place → Looked) → List Need) →
+    Sought tree state name → server ≡ state.server →
+    ((f : Fileset) → Told (refused f) (wanted f) (told (walk_in f user))) →
     ((f : Fileset) → fileset_here state name ≡ Ok f → told (looked_up state user) ≡ told (walk_in f user)) →
-    Either (want_for (fileset_named tree server name) wanted) (told (looked_up state user))
-by_name tree state user server name wanted told s its each same =
-    subst (λ v. Either (want_for (fileset_named tree v name) wanted) (told (looked_up state user))) (sym its)
-    (by (fileset_named tree state.server name) refl)
+    Told (refused_by refused (fileset_here state name)) (want_for (fileset_named tree server name) wanted)
+    (told (looked_up state user))
+by_name tree state user server name refused wanted told s its each same =
+    subst (λ v. Told (refused_by refused (fileset_here state name)) (want_for (fileset_named tree v name) wanted)
+    (told (looked_up state user))) (sym its) (by (fileset_named tree state.server name) refl)
   where
-    here : (f : Fileset) → fileset_here state name ≡ Ok f → Either (wanted f) (told (walk_in f user)) →
-        Either (wanted f) (told (looked_up state user))
-    here f e (inl none) = inl none
-    here f e (inr is) = inr (is ∙ sym (same f e))
+    here : (f : Fileset) → fileset_here state name ≡ Ok f → Told (refused f) (wanted f) (told (walk_in f user)) →
+        Told (refused_by refused (fileset_here state name)) (wanted f) (told (looked_up state user))
+    here f e (inl (r, none)) = inl (ap (refused_by refused) e ∙ r, none)
+    here f e (inr (r, is)) = inr (ap (refused_by refused) e ∙ r, is ∙ sym (same f e))
 
     by : (r : Result Fileset Refusal) → fileset_named tree state.server name ≡ r →
-        Either (want_for r wanted) (told (looked_up state user))
-    by (Err refusal) e = inl refl
+        Told (refused_by refused (fileset_here state name)) (want_for r wanted) (told (looked_up state user))
+    by (Err refusal) e = inl (ap (refused_by refused) (named_ok tree state name s ∙ e), refl)
     by (Ok f) e = here f (named_ok tree state name s ∙ e) (each f)
 
 -- a place in the fileset
@@ -452,12 +520,14 @@ none_wanted (Ok f) wanted none = none f
 none_wanted (Err refusal) wanted none = refl
 
 creation_in : (f : Fileset) (user : User) (place : Place) →
-    Either (want_in f user (Create place)) (want_by (looked f user) (Create place))
+    Told (err (creation f false user place.path)) (want_in f user (Create place))
+    (want_by (looked f user) (Create place))
 unfolding want_in
 creation_in f user place = creation_told f false user place
 
 making_in : (f : Fileset) (user : User) (place : Place) →
-    Either (want_in f user (MakeDir place)) (want_by (looked f user) (MakeDir place))
+    Told (err (creation f true user place.path)) (want_in f user (MakeDir place))
+    (want_by (looked f user) (MakeDir place))
 unfolding want_in
 making_in f user place = creation_told f true user place
 
@@ -474,82 +544,329 @@ and_second false b h = absurd (cc)
 
 rename_at : (tree : Tree) (state : StoreState) (user : User) (from to : Place) → StandsFor tree state →
     from.server ≡ state.server → (b : Bool) → same_fileset from to ≡ b →
-    Either (want tree user (Rename from to)) (want_by (looked_up state user) (Rename from to))
+    Told (if b then refused_by (λ f. rename_refused f user from to) (fileset_here state from.fileset) else true)
+    (want tree user (Rename from to)) (want_by (looked_up state user) (Rename from to))
 unfolding want
 rename_at tree state user from to s its false e =
-    inl (none_wanted (fileset_named tree from.server from.fileset) (λ f. want_in f user (Rename from to))
-    (λ f. rename_none f user from to e))
+    inl (
+      refl,
+      none_wanted (fileset_named tree from.server from.fileset) (λ f. want_in f user (Rename from to))
+          (λ f. rename_none f user from to e),
+    )
 rename_at tree state user from to s its true e =
     let names = names_equal from.fileset to.fileset (and_second (from.server.0 == to.server.0) _ e) in
-    by_name tree state user from.server from.fileset (λ f. want_in f user (Rename from to))
+    by_name tree state user from.server from.fileset (λ f. rename_refused f user from to)
+    (λ f. want_in f user (Rename from to))
     (λ look. want_by look (Rename from to)) (sought tree state from.fileset s) its (λ f. rename_told f user from to)
     (λ f h. ap (λ l. wanted_of l (all_of true) ++ wanted_of (looked_up state user (directory_of to)) (all_of true))
     (look_here state user (directory_of from) f h)
     ∙ ap (λ l. wanted_of (walk_in f user (directory_of from)) (all_of true) ++ wanted_of l (all_of true))
     (look_here state user (directory_of to) f (subst (λ n. fileset_here state n ≡ Ok f) names h)))
 
-calls_told : (tree : Tree) (state : StoreState) (user : User) (call : Call) → StandsFor tree state →
-    IsAt state.server call → is_clone call ≡ false → Either (want tree user call) (want_by (looked_up state user) call)
-unfolding want want_in
-calls_told tree state user (Create place) s its one =
-    by_name tree state user place.server place.fileset (λ f. want_in f user (Create place))
+-- Whether a store refuses: just where the checks do.
+refused_is : {A : Type 0} (f : Fileset) (checked : Result A Refusal) (effect : A → Fileset) →
+    is_refusal (answered f checked effect).reply ≡ err checked
+refused_is f (Ok value) effect = refl
+refused_is f (Err refusal) effect = refl
+
+err_then : {A B C : Type 0} (r : Result A Refusal) (f : A → Result B Refusal) (g : A → Result C Refusal) →
+    ((a : A) → err (f a) ≡ err (g a)) → err (and_then r f) ≡ err (and_then r g)
+err_then (Ok a) f g same = same a
+err_then (Err refusal) f g same = refl
+
+err_unless : {A B : Type 0} (b : Bool) (refusal : Refusal) (x : Result A Refusal) (y : Result B Refusal) →
+    err x ≡ err y → err (unless b refusal x) ≡ err (unless b refusal y)
+err_unless true refusal x y same = refl
+err_unless false refusal x y same = same
+
+module _ (f : Fileset) (dir : Bool) (kind : NewObject) (user : User) where
+  abbrev made : List ℕ → ℕ → Vacancy → Object → Result Creation Refusal
+  made name parent vacancy object =
+      Ok (record { parent = parent; entry = new_entry name vacancy; object = object })
+
+  abbrev fated : List ℕ → ℕ → Vacancy → List (List AccessEntry) → Result (ℕ × DirEntry × Nature) Refusal
+  fated name parent vacancy lists =
+      Ok (parent, record { name = name; anode = vacancy.anode; unique = vacancy.unique }, new_nature dir user lists)
+
+  abbrev Alike : Type 0
+  Alike = (content : Content) (name : List ℕ) (parent : ℕ) (vacancy : Vacancy) →
+      err (and_then (and_then (new_content kind content) (λ content. Ok (owned user content)))
+      (made name parent vacancy))
+      ≡ err (and_then (new_lists dir content) (fated name parent vacancy))
+
+  create_err : Alike → (path : List (List ℕ)) → err (create_target f kind user path) ≡ err (creation f dir user path)
+  unfolding create_target
+  create_err alike path =
+      err_unless f.read_only ReadOnly
+      (and_then (split_path path Exists) (λ (parts : List ℕ × List (List ℕ)).
+      and_then (insert_target f user parts.1 parts.0) (λ (at : ℕ × Object).
+      and_then (vacancy f) (λ (room : Vacancy).
+      and_then (new_object kind user at.1) (made parts.0 at.0 room)))))
+      (and_then (split_path path Exists) (λ (parts : List ℕ × List (List ℕ)).
+      and_then (insert_target f user parts.1 parts.0) (λ (at : ℕ × Object).
+      and_then (vacancy f) (λ (room : Vacancy).
+      and_then (new_lists dir at.1.content) (fated parts.0 at.0 room)))))
+      (err_then (split_path path Exists)
+      (λ (parts : List ℕ × List (List ℕ)). and_then (insert_target f user parts.1 parts.0) (λ (at : ℕ × Object).
+      and_then (vacancy f) (λ (room : Vacancy).
+      and_then (new_object kind user at.1) (made parts.0 at.0 room))))
+      (λ (parts : List ℕ × List (List ℕ)). and_then (insert_target f user parts.1 parts.0) (λ (at : ℕ × Object).
+      and_then (vacancy f) (λ (room : Vacancy).
+      and_then (new_lists dir at.1.content) (fated parts.0 at.0 room))))
+      (λ parts. err_then (insert_target f user parts.1 parts.0)
+      (λ (at : ℕ × Object). and_then (vacancy f) (λ (room : Vacancy).
+      and_then (new_object kind user at.1) (made parts.0 at.0 room)))
+      (λ (at : ℕ × Object). and_then (vacancy f) (λ (room : Vacancy).
+      and_then (new_lists dir at.1.content) (fated parts.0 at.0 room)))
+      (λ at. err_then (vacancy f)
+      (λ (room : Vacancy). and_then (new_object kind user at.1) (made parts.0 at.0 room))
+      (λ (room : Vacancy). and_then (new_lists dir at.1.content) (fated parts.0 at.0 room))
+      (λ room. alike at.1.content parts.0 at.0 room))))
+
+file_alike : (f : Fileset) (user : User) → Alike f false EmptyFile user
+file_alike f user content name parent vacancy = by (access_of Files content)
+  where
+    by : (r : Result (List AccessEntry) Refusal) →
+        err (and_then (and_then (and_then r
+        (λ files. (let made : Result Content Refusal = Ok (File files [] [] None) in made)))
+        (λ content. Ok (owned user content))) (made f false EmptyFile user name parent vacancy))
+        ≡ err (and_then (and_then r (λ files.
+        (let lists : Result (List (List AccessEntry)) Refusal = Ok (files ∷ []) in lists)))
+        (fated f false EmptyFile user name parent vacancy))
+    by (Ok files) = refl
+    by (Err refusal) = refl
+
+dir_alike : (f : Fileset) (user : User) → Alike f true EmptyDirectory user
+dir_alike f user content name parent vacancy = by (access_of Files content) (access_of Dirs content)
+  where
+    by : (r s : Result (List AccessEntry) Refusal) →
+        err (and_then (and_then (and_then r (λ files. and_then s (λ dirs.
+        (let made : Result Content Refusal = Ok (Dir [] (dirs ∷ files ∷ dirs ∷ [])) in made))))
+        (λ content. Ok (owned user content))) (made f true EmptyDirectory user name parent vacancy))
+        ≡ err (and_then (and_then r (λ files. and_then s (λ dirs.
+        (let lists : Result (List (List AccessEntry)) Refusal = Ok (dirs ∷ files ∷ dirs ∷ []) in lists))))
+        (fated f true EmptyDirectory user name parent vacancy))
+    by (Ok files) (Ok dirs) = refl
+    by (Ok files) (Err refusal) = refl
+    by (Err refusal) s = refl
+
+-- each call that one fileset decides
+abbrev refuses : Fileset → HostId → User → Call → Bool
+refuses f host user call = is_refusal (fileset_answer f nothing_used host user call).reply
+
+create_refuses : (f : Fileset) (host : HostId) (user : User) (place : Place) →
+    refuses f host user (Create place) ≡ err (creation f false user place.path)
+unfolding fileset_answer create_answer
+create_refuses f host user place =
+    refused_is f (create_target f EmptyFile user place.path) _
+    ∙ create_err f false EmptyFile user (file_alike f user) place.path
+
+making_refuses : (f : Fileset) (host : HostId) (user : User) (place : Place) →
+    refuses f host user (MakeDir place) ≡ err (creation f true user place.path)
+unfolding fileset_answer create_answer
+making_refuses f host user place =
+    refused_is f (create_target f EmptyDirectory user place.path) _
+    ∙ create_err f true EmptyDirectory user (dir_alike f user) place.path
+
+remove_refuses : (f : Fileset) (host : HostId) (user : User) (place : Place) →
+    refuses f host user (Remove place) ≡ err (remove_target f (λ fid. false) user place.path)
+unfolding fileset_answer remove_answer
+remove_refuses f host user place = refused_is f (remove_target f (λ fid. false) user place.path) _
+
+rename_refuses : (f : Fileset) (host : HostId) (user : User) (from to : Place) →
+    refuses f host user (Rename from to) ≡ err (rename_target f user from.path to.path)
+unfolding fileset_answer rename_answer
+rename_refuses f host user from to = refused_is f (rename_target f user from.path to.path) _
+
+truncate_refuses : (f : Fileset) (host : HostId) (user : User) (place : Place) (len : ℕ) →
+    refuses f host user (Truncate place len) ≡ err (write_target f user place.path len)
+unfolding fileset_answer truncate_answer
+truncate_refuses f host user place len = refused_is f (write_target f user place.path len) _
+
+access_refuses : (f : Fileset) (host : HostId) (user : User) (place : Place) (which : Which) (list : List AccessEntry) →
+    refuses f host user (SetAcl place which list) ≡ err (set_access_target f user place.path which)
+unfolding fileset_answer set_access_answer
+access_refuses f host user place which list = refused_is f (set_access_target f user place.path which) _
+
+row_refuses : (state : StoreState) (host : HostId) (user : User) (call : Call) (name : List ℕ)
+    (refused : Fileset → Bool) →
+    ((f : Fileset) → refuses f host user call ≡ refused f) →
+    is_refusal (named_row state name host user call).reply ≡ refused_by refused (fileset_here state name)
+unfolding named_row
+row_refuses state host user call name refused each = by (held_so (is_here_as name) state.slots)
+  where
+    by : (o : Option Holding) → is_refusal (held_reply host user call o)
+        ≡ refused_by refused (option_map_or (λ (h : Holding). Ok h.fileset) o (Err NoFileset))
+    by None = refl
+    by (Some holding) = each holding.fileset
+
+abbrev in_one : Bool → Result (Unit {0}) Refusal
+in_one same = unless (not same) CrossFileset (Ok tt)
+
+rename_row_refuses : (state : StoreState) (host : HostId) (user : User) (from to : Place) (b : Bool) →
+    same_fileset from to ≡ b → is_refusal (rename_row state host user from to).reply
+    ≡ (if b then refused_by (λ f. rename_refused f user from to) (fileset_here state from.fileset) else true)
+unfolding rename_row named_row
+rename_row_refuses state host user from to b e =
+    ap (λ c. is_refusal (either (and_then (fileset_here state from.fileset) (λ f. in_one c))
+    (λ moved. done (held_so (is_here_as from.fileset) state.slots)) (refuse state)).reply) e
+    ∙ by b e (held_so (is_here_as from.fileset) state.slots)
+  where
+    done : Option Holding → Answer
+    done o = record {
+      reply = held_reply host user (Rename from to) o;
+      state = with_held state (slot_so (is_here_as from.fileset) state.slots)
+          (held_answered host user (Rename from to));
+    }
+
+    by : (c : Bool) → same_fileset from to ≡ c → (o : Option Holding) →
+        is_refusal (either (and_then (option_map_or (λ (h : Holding). Ok h.fileset) o (Err NoFileset))
+        (λ f. in_one c)) (λ moved. done o) (refuse state)).reply
+        ≡ (if c then refused_by (λ f. rename_refused f user from to)
+        (option_map_or (λ (h : Holding). Ok h.fileset) o (Err NoFileset)) else true)
+    by true e None = refl
+    by false e None = refl
+    by false e (Some holding) = refl
+    by true e (Some holding) =
+        rename_refuses holding.fileset host user from to
+        ∙ sym (ap (λ c. if c then err (rename_target holding.fileset user from.path to.path) else true) e)
+
+use_refuses : (found : Result Fileset Refusal) (check : Fileset → Result Fid Refusal) →
+    is_refusal (reply_to_use (and_then found check)) ≡ refused_by (λ f. err (check f)) found
+use_refuses (Err refusal) check = refl
+use_refuses (Ok f) check = by (check f)
+  where
+    by : (r : Result Fid Refusal) → is_refusal (reply_to_use r) ≡ err r
+    by (Ok fid) = refl
+    by (Err refusal) = refl
+
+lock_refuses : (state : StoreState) (user : User) (place : Place) (writing : Bool) (end : ℕ) →
+    is_refusal (reply_to_use (lock_check state user place writing end))
+    ≡ refused_by (λ f. err (and_then (lock_target f user place.path writing) (λ fid.
+    unless (nat_lt FILE_BYTES_MAX end) TooBig (Ok fid)))) (fileset_here state place.fileset)
+unfolding lock_check
+lock_refuses state user place writing end =
+    use_refuses (fileset_here state place.fileset) (λ f. and_then (lock_target f user place.path writing) (λ fid.
+    unless (nat_lt FILE_BYTES_MAX end) TooBig (Ok fid)))
+
+open_refuses : (state : StoreState) (user : User) (place : Place) (kind : OpenKind) →
+    is_refusal (reply_to_use (open_check state user place kind))
+    ≡ refused_by (λ f. err (open_target f user place.path kind)) (fileset_here state place.fileset)
+unfolding open_check
+open_refuses state user place kind =
+    use_refuses (fileset_here state place.fileset) (λ f. open_target f user place.path kind)
+
+-- what is wanted, by what the store would reply
+exact_of : (b refused : Bool) (wanted told : List Need) → b ≡ refused → Told refused wanted told →
+    wanted ≡ (if b then [] else told)
+exact_of b refused wanted told same (inl (r, none)) = none ∙ sym (ap (λ t. if t then [] else told) (same ∙ r))
+exact_of b refused wanted told same (inr (r, is)) = is ∙ sym (ap (λ t. if t then [] else told) (same ∙ r))
+
+no_need : (b : Bool) (wanted : List Need) → wanted ≡ [] → wanted ≡ (if b then [] else [])
+no_need true wanted none = none
+no_need false wanted none = none
+
+exact_for : (tree : Tree) (state : StoreState) (host : HostId) (user : User) (call : Call) → StandsFor tree state →
+    IsAt state.server call → is_clone call ≡ false →
+    want tree user call
+    ≡ (if is_refusal (store_answer_for state host call user).reply then [] else want_by (looked_up state user) call)
+unfolding want want_in store_answer_for
+exact_for tree state host user (Create place) s its one =
+    exact_of _ _ _ _ (row_refuses state host user (Create place) place.fileset
+    (λ f. err (creation f false user place.path)) (λ f. create_refuses f host user place))
+    (by_name tree state user place.server place.fileset (λ f. err (creation f false user place.path))
+    (λ f. want_in f user (Create place))
     (λ look. want_by look (Create place)) (sought tree state place.fileset s) its
     (λ f. creation_in f user place)
-    (λ f e. ap (λ l. wanted_of l (all_of true)) (look_here state user (directory_of place) f e))
-calls_told tree state user (MakeDir place) s its one =
-    by_name tree state user place.server place.fileset (λ f. want_in f user (MakeDir place))
+    (λ f e. ap (λ l. wanted_of l (all_of true)) (look_here state user (directory_of place) f e)))
+exact_for tree state host user (MakeDir place) s its one =
+    exact_of _ _ _ _ (row_refuses state host user (MakeDir place) place.fileset
+    (λ f. err (creation f true user place.path)) (λ f. making_refuses f host user place))
+    (by_name tree state user place.server place.fileset (λ f. err (creation f true user place.path))
+    (λ f. want_in f user (MakeDir place))
     (λ look. want_by look (MakeDir place)) (sought tree state place.fileset s) its
     (λ f. making_in f user place)
-    (λ f e. ap (λ l. wanted_of l (all_of true)) (look_here state user (directory_of place) f e))
-calls_told tree state user (Remove place) s its one =
-    by_name tree state user place.server place.fileset (λ f. want_in f user (Remove place))
-    (λ look. want_by look (Remove place)) (sought tree state place.fileset s) its (λ f. remove_told f user place)
+    (λ f e. ap (λ l. wanted_of l (all_of true)) (look_here state user (directory_of place) f e)))
+exact_for tree state host user (Remove place) s its one =
+    exact_of _ _ _ _ (row_refuses state host user (Remove place) place.fileset
+    (λ f. err (remove_target f (λ fid. false) user place.path)) (λ f. remove_refuses f host user place))
+    (by_name tree state user place.server place.fileset (λ f. err (remove_target f (λ fid. false) user place.path))
+    (λ f. want_in f user (Remove place))
+    (λ look. want_by look (Remove place)) (sought tree state place.fileset s) its
+    (λ f. remove_told f user place)
     (λ f e. ap (λ l. wanted_of l (all_of true) ++ wanted_of (looked_up state user place) all_and_uses_of)
     (look_here state user (directory_of place) f e)
     ∙ ap (λ l. wanted_of (walk_in f user (directory_of place)) (all_of true) ++ wanted_of l all_and_uses_of)
-    (look_here state user place f e))
-calls_told tree state user (Rename from to) s its one = rename_at tree state user from to s its (same_fileset from to) refl
-calls_told tree state user (Truncate place len) s its one =
-    by_name tree state user place.server place.fileset (λ f. want_in f user (Truncate place len))
+    (look_here state user place f e)))
+exact_for tree state host user (Rename from to) s its one =
+    exact_of _ _ _ _ (rename_row_refuses state host user from to (same_fileset from to) refl)
+    (rename_at tree state user from to s its (same_fileset from to) refl)
+exact_for tree state host user (Truncate place len) s its one =
+    exact_of _ _ _ _ (row_refuses state host user (Truncate place len) place.fileset
+    (λ f. err (write_target f user place.path len)) (λ f. truncate_refuses f host user place len))
+    (by_name tree state user place.server place.fileset (λ f. err (write_target f user place.path len))
+    (λ f. want_in f user (Truncate place len))
     (λ look. want_by look (Truncate place len)) (sought tree state place.fileset s) its
     (λ f. truncate_told f user place len)
-    (λ f e. ap (λ l. wanted_of l (all_of true)) (look_here state user place f e))
-calls_told tree state user (SetAcl place which list) s its one =
-    by_name tree state user place.server place.fileset (λ f. want_in f user (SetAcl place which list))
+    (λ f e. ap (λ l. wanted_of l (all_of true)) (look_here state user place f e)))
+exact_for tree state host user (SetAcl place which list) s its one =
+    exact_of _ _ _ _ (row_refuses state host user (SetAcl place which list) place.fileset
+    (λ f. err (set_access_target f user place.path which)) (λ f. access_refuses f host user place which list))
+    (by_name tree state user place.server place.fileset (λ f. err (set_access_target f user place.path which))
+    (λ f. want_in f user (SetAcl place which list))
     (λ look. want_by look (SetAcl place which list)) (sought tree state place.fileset s) its
     (λ f. access_told f user place which list)
-    (λ f e. ap (λ l. wanted_of l status_of) (look_here state user place f e))
-calls_told tree state user (Lock label place writing from len) s its one =
-    by_name tree state user place.server place.fileset (λ f. want_in f user (Lock label place writing from len))
+    (λ f e. ap (λ l. wanted_of l status_of) (look_here state user place f e)))
+exact_for tree state host user (Lock label place writing from len) s its one =
+    exact_of _ _ _ _ (lock_refuses state user place writing (from + len))
+    (by_name tree state user place.server place.fileset
+    (λ f. err (and_then (lock_target f user place.path writing) (λ fid.
+    unless (nat_lt FILE_BYTES_MAX (from + len)) TooBig (Ok fid))))
+    (λ f. want_in f user (Lock label place writing from len))
     (λ look. want_by look (Lock label place writing from len)) (sought tree state place.fileset s) its
     (λ f. lock_told f user label place writing from len)
-    (λ f e. ap (λ l. wanted_of l (λ fid. record { fid = fid; kind = LockKind writing (span_between from (from + len)) } ∷ []))
-    (look_here state user place f e))
-calls_told tree state user (OpenFile label place kind) s its one =
-    by_name tree state user place.server place.fileset (λ f. want_in f user (OpenFile label place kind))
+    (λ f e. ap (λ l. wanted_of l (λ fid.
+    record { fid = fid; kind = LockKind writing (span_between from (from + len)) } ∷ []))
+    (look_here state user place f e)))
+exact_for tree state host user (OpenFile label place kind) s its one =
+    exact_of _ _ _ _ (open_refuses state user place kind)
+    (by_name tree state user place.server place.fileset (λ f. err (open_target f user place.path kind))
+    (λ f. want_in f user (OpenFile label place kind))
     (λ look. want_by look (OpenFile label place kind)) (sought tree state place.fileset s) its
     (λ f. open_told f user label place kind)
-    (λ f e. ap (λ l. wanted_of l (λ fid. record { fid = fid; kind = Opening kind } ∷ [])) (look_here state user place f e))
-calls_told tree state user (NewFileset server name objects owner) s its one = inl refl
-calls_told tree state user (CloneFileset server source new) s its one = absurd (cc)
-calls_told tree state user (MoveFileset server name to) s its one = absurd its
-calls_told tree state user (Read place from len) s its one =
-    inl (none_wanted (fileset_named tree place.server place.fileset) (λ f. []) (λ f. refl))
-calls_told tree state user (Write place from bytes) s its one =
-    inl (none_wanted (fileset_named tree place.server place.fileset) (λ f. []) (λ f. refl))
-calls_told tree state user (ListNames place) s its one =
-    inl (none_wanted (fileset_named tree place.server place.fileset) (λ f. []) (λ f. refl))
-calls_told tree state user (Stat place) s its one =
-    inl (none_wanted (fileset_named tree place.server place.fileset) (λ f. []) (λ f. refl))
-calls_told tree state user (GetAcl place which) s its one =
-    inl (none_wanted (fileset_named tree place.server place.fileset) (λ f. []) (λ f. refl))
-calls_told tree state user (Sync place) s its one =
-    inl (none_wanted (fileset_named tree place.server place.fileset) (λ f. []) (λ f. refl))
-calls_told tree state user (Unlock label) s its one = inl refl
-calls_told tree state user (CloseFile label) s its one = inl refl
+    (λ f e. ap (λ l. wanted_of l (λ fid. record { fid = fid; kind = Opening kind } ∷ []))
+    (look_here state user place f e)))
+exact_for tree state host user (NewFileset server name objects owner) s its one = no_need _ _ refl
+exact_for tree state host user (CloneFileset server source new) s its one = absurd (cc)
+exact_for tree state host user (MoveFileset server name to) s its one = absurd its
+exact_for tree state host user (Read place from len) s its one =
+    no_need _ _ (none_wanted (fileset_named tree place.server place.fileset) (λ f. []) (λ f. refl))
+exact_for tree state host user (Write place from bytes) s its one =
+    no_need _ _ (none_wanted (fileset_named tree place.server place.fileset) (λ f. []) (λ f. refl))
+exact_for tree state host user (ListNames place) s its one =
+    no_need _ _ (none_wanted (fileset_named tree place.server place.fileset) (λ f. []) (λ f. refl))
+exact_for tree state host user (Stat place) s its one =
+    no_need _ _ (none_wanted (fileset_named tree place.server place.fileset) (λ f. []) (λ f. refl))
+exact_for tree state host user (GetAcl place which) s its one =
+    no_need _ _ (none_wanted (fileset_named tree place.server place.fileset) (λ f. []) (λ f. refl))
+exact_for tree state host user (Sync place) s its one =
+    no_need _ _ (none_wanted (fileset_named tree place.server place.fileset) (λ f. []) (λ f. refl))
+exact_for tree state host user (Unlock label) s its one = refl
+exact_for tree state host user (CloseFile label) s its one = refl
+
+calls_told : (tree : Tree) (state : StoreState) (host : HostId) (user : User) (call : Call) → StandsFor tree state →
+    IsAt state.server call → is_clone call ≡ false → user_of tree.roster host ≡ Some user →
+    want tree user call
+    ≡ (if is_refusal (store_answer state host call).reply then [] else want_by (looked_up state user) call)
+unfolding store_answer
+calls_told tree state host user call s its one known =
+    exact_for tree state host user call s its one
+    ∙ sym (ap (λ o. if is_refusal (option_map_or (store_answer_for state host call) o (refuse state (Denied 0))).reply
+    then [] else want_by (looked_up state user) call) (ap (λ r. user_of r host) s.keeps.roster ∙ known))
 
 -- Clones: the files of the source
-found_is_there : (found : Option Fileset) (refusal : Refusal) (f : Fileset) → found_or found refusal ≡ Ok f → found ≡ Some f
+found_is_there : (found : Option Fileset) (refusal : Refusal) (f : Fileset) → found_or found refusal ≡ Ok f → found
+    ≡ Some f
 found_is_there None refusal f e = absurd (cc)
 found_is_there (Some other) refusal f e = ap Some (ok_is other f e)
 
@@ -608,7 +925,8 @@ module _ (tree : Tree) (state : StoreState) (f : Fileset) (s : StandsFor tree st
       here : (object_at f.anodes at ≡ anode.object) × (unique_at f.anodes at ≡ anode.unique)
       here =
           let same : at + 0 ≡ at = omega arith in
-          subst (λ n. (object_at f.anodes n ≡ anode.object) × (unique_at f.anodes n ≡ anode.unique)) same (k 0 anode refl)
+          subst (λ n. (object_at f.anodes n ≡ anode.object) × (unique_at f.anodes n ≡ anode.unique)) same
+          (k 0 anode refl)
 
       more : List Fid
       more = objects_from (λ object. not (is_dir object.content)) f (at + 1) rest
@@ -618,13 +936,15 @@ module _ (tree : Tree) (state : StoreState) (f : Fileset) (s : StandsFor tree st
           filter is_file_told (if is_some o
           then record { fileset = f.id; anode = at; unique = anode.unique } ∷ fids_from f.id (at + 1) rest
           else fids_from f.id (at + 1) rest)
-          ≡ (if option_map_or (λ (object : Object). not (is_dir object.content)) o false then use_of f at ∷ more else more)
+          ≡ (if option_map_or (λ (object : Object). not
+          (is_dir object.content)) o false then use_of f at ∷ more else more)
       by None e rest_is = rest_is
       by (Some object) e rest_is =
           ap (λ b. cond (not b) (record { fileset = f.id; anode = at; unique = anode.unique }
           ∷ filter is_file_told (fids_from f.id (at + 1) rest)) (filter is_file_told (fids_from f.id (at + 1) rest)))
           (dir_told at anode object here.0 here.1 e)
-          ∙ ap (λ xs. cond (not (is_dir object.content)) (record { fileset = f.id; anode = at; unique = anode.unique } ∷ xs) xs)
+          ∙ ap (λ xs. cond (not (is_dir object.content))
+          (record { fileset = f.id; anode = at; unique = anode.unique } ∷ xs) xs)
           rest_is
           ∙ ap (λ fid. cond (not (is_dir object.content)) (fid ∷ more) more)
           (same_fid f.id at anode.unique (unique_at f.anodes at) (sym here.1))
@@ -655,7 +975,8 @@ root_led : (f : Fileset) (user : User) → IsWellFormedFileset f → (root : Obj
 unfolding target
 root_led f user w = by (object_at f.anodes 1) refl w.root
   where
-    by : (o : Option Object) → object_at f.anodes 1 ≡ o → option_map_or (λ object. is_dir object.content) o false ≡ true →
+    by : (o : Option Object) → object_at f.anodes 1 ≡ o → option_map_or (λ object. is_dir object.content) o false
+        ≡ true →
         (root : Object) × (found_at 1 (object_at f.anodes 1) ≡ Ok (1, root))
     by None e h = absurd (cc)
     by (Some root) e h = (root, ap (found_at 1) e)
@@ -679,7 +1000,8 @@ clones_told tree state user server source new s its = by (clone_source tree user
         let named = source_named tree user server source f e in
         let known = source_known tree server source f s.formed named in
         let here : fileset_here state source ≡ Ok f =
-        named_ok tree state source (sought tree state source s) ∙ ap (λ v. fileset_named tree v source) (sym its) ∙ named in
+        named_ok tree state source (sought tree state source s) ∙ ap (λ v. fileset_named tree v source) (sym its)
+        ∙ named in
         let (root, led) = root_led f user (formed_found tree state f.id f s known) in
         inr (ap (flat_map (all_of false)) (sym (files_are tree state f s known))
         ∙ sym (ap (λ l. wanted_of l told) (look_here state user (root_of server source) f here

@@ -1,5 +1,5 @@
 -- What is wanted for a Change, read from what a store tells.
-use Rattle.std.specs.Prelude.{Bool, List, [], length, take, true, false, ◌+◌, ◌++◌, ◌-◌, ◌∷◌, ◌≡◌, ◌⊎◌, ℕ, filter, not, flat_map}
+use Rattle.std.specs.Prelude.{Bool, List, [], length, take, true, false, ◌+◌, ◌++◌, ◌-◌, ◌∷◌, ◌≡◌, ◌⊎◌, ℕ, filter, not, flat_map, Some, if◌then◌else◌}
 use Rattle.base_types.specs.declared.ids.Fid.{Fid}
 use Rattle.base_types.specs.declared.ids.FilesetId.{FilesetId}
 use Rattle.base_types.specs.declared.ids.ServerId.{ServerId}
@@ -27,6 +27,10 @@ use Rattle.store_memory.specs.Reading.{looked_up, files_of as objects_told}
 use Rattle.store_memory.specs.declared.told.Looked.{Looked}
 use Rattle.store_memory.specs.declared.told.Looked.TheVariants.{Found, Refused}
 use Rattle.store_state.specs.declared.state.StoreState.{StoreState}
+use Rattle.base_types.specs.declared.ids.HostId.{HostId}
+use Rattle.tree_calls.specs.Rosters.{user_of}
+use Rattle.store_state.specs.Rows.{answer_to as store_answer}
+use Rattle.run_rules.specs.Kept.{is_refusal}
 use Rattle.run_stores.specs.Keeping.{StandsFor}
 use Rattle.run_stores.specs.Telling.{is_dir_told}
 
@@ -75,12 +79,15 @@ files_told state id = filter (λ fid. not (is_dir_told state fid)) (objects_told
 abbrev pub root_of : ServerId → List ℕ → Place
 root_of server name = record { server = server; fileset = name; path = [] }
 
--- Where anything is wanted for a call on the server's filesets, it is what the places of the call lead to in the store;
--- for a clone, all files of the fileset to whose root its source leads, for reading.
+-- What is wanted for a call on the server's filesets, of a user who is known, is what the places of the call lead to in
+-- the store, and nothing where the store would refuse the call. Where anything is wanted for a clone, it is all files
+-- of the fileset to whose root its source leads, for reading.
 pub record WantsAreTold : Type 0 where
-  pub calls : (tree : Tree) (state : StoreState) (user : User) (call : Call)
+  pub calls : (tree : Tree) (state : StoreState) (host : HostId) (user : User) (call : Call)
       → StandsFor tree state → IsAt state.server call → is_clone call ≡ false
-      → (want tree user call ≡ []) ⊎ (want tree user call ≡ want_by (looked_up state user) call)
+      → user_of tree.roster host ≡ Some user
+      → want tree user call
+      ≡ (if is_refusal (store_answer state host call).reply then [] else want_by (looked_up state user) call)
   pub clones : (tree : Tree) (state : StoreState) (user : User) (server : ServerId) (source new : List ℕ)
       → StandsFor tree state → server ≡ state.server
       → (want tree user (CloneFileset server source new) ≡ [])

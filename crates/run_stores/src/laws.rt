@@ -79,7 +79,8 @@ pub fn step_law()
 {}
 
 /// What is wanted for a Change can be read from what the store tells: the needs are those of the objects to which the
-/// places of the call lead there; for a clone, those of all files of its source.
+/// places of the call lead there, and there are none where the store would refuse the call; for a clone, if any, those
+/// of all files of its source.
 pub fn wants_law()
     ensures { WantsAreTold }
 {}
