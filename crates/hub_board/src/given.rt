@@ -54,11 +54,20 @@ pub enum Turned {
     Ended,
 }
 
+// How many steps turns have, for room.
+fn count_of(turns: &[Turn]) -> usize {
+    let mut count = 0usize;
+    for turn in turns {
+        count = count.saturating_add(turn.steps.len());
+    }
+    count
+}
+
 /// The steps of turns, in order: those of a journal. The only error is that memory ran out.
 pub fn steps_of(alloc: Global, turns: Items<Turn>) -> Result<Items<Step>, NoMemory>
     ensures { IfOk result (λ steps. steps ≡ steps_of turns) }
 {
-    let mut steps = Vec::new(alloc);
+    let mut steps = Vec::with_capacity(alloc, count_of(turns.as_slice()))?;
     for turn in turns.into_vec() {
         let mut own = turn.steps.into_vec();
         steps.append(&mut own)?;

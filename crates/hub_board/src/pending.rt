@@ -30,13 +30,14 @@ impl Pending {
         }
     }
 
-    /// Makes room for so many more steps at least. The only error is that memory ran out; then nothing changes.
+    /// Makes room for so many more steps, and for no more: all that is handed in stays to the end of the run. The only
+    /// error is that memory ran out; then nothing changes.
     pub fn reserve(&mut self, steps: usize) -> Result<(), NoMemory>
         ensures steps { self.new.steps ≡ self.old.steps }
         ensures room { OnOk result (steps ≤ self.new.spare) }
         ensures err { OnErr result (self.new ≡ self.old) }
     {
-        self.steps.reserve(steps)?;
+        self.steps.reserve_exact(steps)?;
         Ok(())
     }
 

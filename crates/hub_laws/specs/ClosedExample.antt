@@ -10,7 +10,7 @@ use Rattle.hub_laws.specs.Example.{journal, turns}
 use Rattle.hub_laws.specs.Closings.{IsClosed}
 
 abbrev pub hub : TableId → HubView
-hub id = record { id = id; nodes = 3; first = first_hub script [] }
+hub id = record { id = id; nodes = 3; first = first_hub script []; roster = script.roster }
 
 -- each pass has seen all turns, and its node's were made through it
 abbrev pub pass : TableId → Node → NodeView

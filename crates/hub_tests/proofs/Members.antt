@@ -1,11 +1,29 @@
 -- The passes of the nodes of the ring.
-use Rattle.std.proofs.Common.{◌≡◌, List, [], ◌∷◌, map, length, refl, sym, ap, ◌∙◌, subst}
+use Rattle.std.proofs.Common.{◌≡◌, ⊎_elim, List, [], ◌∷◌, map, length, refl, sym, ap, ◌∙◌, subst}
 use Rattle.std.specs.List.{All}
 use Rattle.std.proofs.lemmas.List.{length-map}
 use Rattle.std.proofs.lemmas.List.Elements.{All-cons, All-head, All-map, All-nil, All-tail}
 use Rattle.hub_turns.specs.Meetings.{AreAllPasses}
 use Rattle.hub_turns.specs.Views.{HubView, NodeView}
+use Rattle.tree_calls.specs.declared.roster.Roster.{Roster}
+use Rattle.message_types.specs.Soundness.{IsSound}
+use Rattle.message_types.specs.declared.message.Message.{Message}
+use Rattle.run_rules.specs.Past.{In}
+use Rattle.run_rules.specs.declared.step.Step.{Step}
+use Rattle.hub_tests.specs.Rings.{AreHeard, IsRing}
 use Rattle.hub_tests.specs.declared.member.Member.{Member}
+
+pub none_heard : (steps : List Step) → steps ≡ [] → AreHeard steps
+none_heard steps none = record {
+  sound = (λ roster ring s i. absurd (subst (In s) none i));
+}
+
+pub one_heard : (s : Step) (steps : List Step) → steps ≡ s ∷ []
+    → ((roster : Roster) → IsRing roster → (m : Message) → In m s.sent → IsSound roster m) → AreHeard steps
+one_heard s steps one h = record {
+  sound = (λ roster ring x i m j. h roster ring m
+      (subst (λ (y : Step). In m y.sent) (⊎_elim (λ (e : x ≡ s). e) (λ (none : In x []). absurd none) (subst (In x) one i)) j));
+}
 
 abbrev pass_of : Member → NodeView
 pass_of m = m.pass

@@ -4,9 +4,10 @@
 ghost use Rattle.std.specs.Prelude.{◌≡◌, IfOk, length, map};
 ghost use Rattle.std.specs.List.{All};
 ghost use Rattle.hub_turns.specs.Meetings.{AreAllPasses};
+ghost use Rattle.hub_tests.specs.Rings.{IsRing};
 
-use crate::member::{Member, Way, first_steps};
-use base_types::{Items, NoMemory};
+use crate::member::{Member, Way, first_answer};
+use base_types::{CAPACITY_DEFAULT, Items, NoMemory};
 use hub_turns::{Hub, NodePass, Turn};
 use script_lines::Script;
 use std::alloc::Global;
@@ -21,6 +22,7 @@ const ROUNDS_MAX: u32 = 1_000_000_000;
 
 // The setup host, another host and two servers.
 fn script_of(alloc: Global) -> Result<Script, NoMemory>
+    ensures ring { IfOk result (λ script. IsRing script.roster) }
     ensures hosts { IfOk result (λ script. length script.roster.hosts ≡ 1) }
     ensures servers { IfOk result (λ script. script.servers ≡ 2) }
 {
@@ -30,7 +32,7 @@ fn script_of(alloc: Global) -> Result<Script, NoMemory>
         roster: Roster {
             users: Items::new(alloc),
             hosts,
-            capacity: Items::new(alloc),
+            capacity: Items::from_slice(alloc, &[CAPACITY_DEFAULT; 2])?,
         },
         setup: Items::new(alloc),
         plan: Items::new(alloc),
@@ -39,14 +41,14 @@ fn script_of(alloc: Global) -> Result<Script, NoMemory>
     })
 }
 
-fn members_of(alloc: Global, passes: Vec<NodePass>, last: u64) -> Result<Vec<Member>, NoMemory>
+fn members_of(alloc: Global, passes: Vec<NodePass>) -> Result<Vec<Member>, NoMemory>
     ensures { IfOk result (λ members. map (λ m. m.pass) members.items ≡ passes.items) }
 {
     let mut members = Vec::new(alloc);
     for pass in passes {
-        let steps = first_steps(alloc, pass.node(), last)?;
+        let next = first_answer(pass.node());
         let given = Items::new(alloc);
-        members.push(Member { pass, steps, given })?;
+        members.push(Member { pass, next, given })?;
     }
     Ok(members)
 }
@@ -63,7 +65,8 @@ fn passes_of(alloc: Global, members: Vec<Member>) -> Result<Vec<NodePass>, NoMem
 }
 
 fn turned<R: Wait>(rt: &R, hub: &Hub, mut member: Member, way: &Way) -> Member
-    requires { member.pass.hub ≡ hub.now.id }
+    requires ring { IsRing hub.now.roster }
+    requires hub { member.pass.hub ≡ hub.now.id }
     ensures { result.pass.hub ≡ member.pass.hub }
 {
     member.try_turn(rt, hub, way);
@@ -71,7 +74,8 @@ fn turned<R: Wait>(rt: &R, hub: &Hub, mut member: Member, way: &Way) -> Member
 }
 
 fn worked<R: Wait>(rt: &R, hub: &Hub, mut member: Member, way: &Way) -> Member
-    requires { member.pass.hub ≡ hub.now.id }
+    requires ring { IsRing hub.now.roster }
+    requires hub { member.pass.hub ≡ hub.now.id }
     ensures { result.pass.hub ≡ member.pass.hub }
 {
     member.work(rt, hub, way);
@@ -85,7 +89,8 @@ fn round<R: Wait>(
     members: Vec<Member>,
     way: &Way,
 ) -> Result<Vec<Member>, NoMemory>
-    requires { All (λ m. m.pass.hub ≡ hub.now.id) members.items }
+    requires ring { IsRing hub.now.roster }
+    requires hub { All (λ m. m.pass.hub ≡ hub.now.id) members.items }
     ensures count { IfOk result (λ r. length r.items ≡ length members.items) }
     ensures each { IfOk result (λ r. All (λ m. m.pass.hub ≡ hub.now.id) r.items) }
 {
@@ -104,7 +109,8 @@ fn on_one<R: Wait>(
     members: Vec<Member>,
     way: &Way,
 ) -> Result<Vec<Member>, NoMemory>
-    requires { All (λ m. m.pass.hub ≡ hub.now.id) members.items }
+    requires ring { IsRing hub.now.roster }
+    requires hub { All (λ m. m.pass.hub ≡ hub.now.id) members.items }
     ensures count { IfOk result (λ r. length r.items ≡ length members.items) }
     ensures each { IfOk result (λ r. All (λ m. m.pass.hub ≡ hub.now.id) r.items) }
 {
@@ -125,7 +131,8 @@ fn on_four<R: Threads + Wait + Sync>(
     members: Vec<Member>,
     way: &Way,
 ) -> Result<Vec<Member>, NoMemory>
-    requires { All (λ m. m.pass.hub ≡ hub.now.id) members.items }
+    requires ring { IsRing hub.now.roster }
+    requires hub { All (λ m. m.pass.hub ≡ hub.now.id) members.items }
     ensures count { IfOk result (λ r. length r.items ≡ length members.items) }
     ensures each { IfOk result (λ r. All (λ m. m.pass.hub ≡ hub.now.id) r.items) }
 {
@@ -133,7 +140,8 @@ fn on_four<R: Threads + Wait + Sync>(
         rt,
         members,
         &|member: Member| -> Member
-            requires { member.pass.hub ≡ hub.now.id }
+            requires ring { IsRing hub.now.roster }
+            requires hub { member.pass.hub ≡ hub.now.id }
             ensures { result.pass.hub ≡ member.pass.hub }
         { worked(rt, hub, member, way) },
     )?)
@@ -146,7 +154,8 @@ fn all_work<R: Threads + Wait + Sync>(
     way: &Way,
     apart: bool,
 ) -> Result<Vec<Member>, NoMemory>
-    requires { All (λ m. m.pass.hub ≡ hub.now.id) members.items }
+    requires ring { IsRing hub.now.roster }
+    requires hub { All (λ m. m.pass.hub ≡ hub.now.id) members.items }
     ensures count { IfOk result (λ r. length r.items ≡ length members.items) }
     ensures each { IfOk result (λ r. All (λ m. m.pass.hub ≡ hub.now.id) r.items) }
 {
@@ -165,7 +174,8 @@ fn went_round<R: Threads + Wait + Sync>(
     apart: bool,
     last: u64,
 ) -> Result<Vec<NodePass>, NoMemory>
-    requires { AreAllPasses hub.now passes.items }
+    requires ring { IsRing hub.now.roster }
+    requires all { AreAllPasses hub.now passes.items }
     ensures { IfOk result (λ r. AreAllPasses hub.now r.items) }
 {
     let alloc = *passes.allocator();
@@ -173,7 +183,7 @@ fn went_round<R: Threads + Wait + Sync>(
         last,
         ended: AtomicU64::new(0),
     };
-    let members = members_of(alloc, passes, last)?;
+    let members = members_of(alloc, passes)?;
     let worked = all_work(rt, hub, members, &way, apart)?;
     let passes = passes_of(alloc, worked)?;
     Ok(passes)

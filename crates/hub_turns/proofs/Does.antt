@@ -5,19 +5,21 @@ use Rattle.std.specs.Option.{option_to_list}
 use Rattle.std.proofs.lemmas.List.{append-nil}
 use Rattle.std.proofs.Math.Seq.{drop-append_seam}
 use Rattle.base_types.specs.declared.ids.Node.{Node}
+use Rattle.tree_calls.specs.declared.roster.Roster.{Roster}
 use Rattle.base_types.specs.declared.ids.Node.TheVariants.{Host, Server}
 use Rattle.script_lines.specs.Sound.{same_node}
 use Rattle.hub_cell.specs.Lists.{GrowsByOne, entries}
 use Rattle.hub_cell.specs.Passes.{CellView, IsTurn, PassView}
 use Rattle.hub_cell.proofs.Uses.{turn_makes, turn_stays}
-use Rattle.hub_board.specs.Hubs.{AreGiven, Hubbed, after}
+use Rattle.hub_board.specs.Hubs.{AreGiven, Hubbed, after, with_steps}
 use Rattle.hub_board.specs.Turning.{HasTurned, IsOf, IsUntouched, Posted, entered}
 use Rattle.hub_board.specs.declared.given.Gift.{Gift}
 use Rattle.hub_board.specs.declared.given.Given.{Given}
 use Rattle.hub_board.specs.declared.given.Turn.{Turn}
 use Rattle.hub_board.proofs.Goings.{goes_on}
-use Rattle.hub_turns.specs.Meetings.{Does, HasPassed, IsRefused, IsUsed, Refused, Turned, first_of}
-use Rattle.hub_turns.specs.Views.{AreOf, HubView, NodeView}
+use Rattle.hub_turns.specs.Meetings.{AreSent, AreSound, Does, DoesIn, HasPassed, IsGivenSound, IsRefused, IsSame, IsUsed, Refused, Turned, first_of}
+use Rattle.hub_turns.specs.Views.{AreOf, HubView, Met, NodeView}
+use Rattle.hub_turns.proofs.Sounds.{gift_sound, steps_sound}
 use Rattle.hub_turns.specs.declared.meeting.HubTurn.{HubTurn}
 use Rattle.run_rules.specs.declared.step.Step.{Step}
 
@@ -56,6 +58,43 @@ pub does_stays : (first : Hubbed) (work work' : HubTurn) (before now : Posted) �
     → IsOf first before → IsOf first now
 does_stays first work work' before now d o = stays_by work'.refused first work work' before now d o
 
+-- what is on its way stays sound, and what is given is sound
+turned_sound : (roster : Roster) (before now : Posted) (node : Node) (steps : List Step) (given : Option Given)
+    → HasTurned before now node steps given → AreSound roster before.hub.net → AreSent roster steps
+    → AreSound roster now.hub.net × IsGivenSound roster given
+turned_sound roster before now node steps given t are h =
+    let hub = with_steps before.hub node steps in
+    let g = gift_sound roster hub node t.gift_is (steps_sound roster before.hub node steps are h) in (
+      subst (λ (b : Hubbed). AreSound roster b.net) (sym t.hub) g.0,
+      subst (IsGivenSound roster) (sym t.given_is) g.1,
+    )
+
+sound_by : (b : Bool) (roster : Roster) (work work' : HubTurn) (before now : Posted)
+    → MatchBool b (Refused before now work work') (Turned before now work work') → AreSound roster before.hub.net
+    → AreSent roster work.steps.steps → AreSound roster now.hub.net
+sound_by true roster work work' before now d are h =
+    subst (λ (b : Hubbed). AreSound roster b.net) (sym d.untouched.hub) are
+sound_by false roster work work' before now d are h =
+    (turned_sound roster before now work.node work.steps.steps (first_of work'.given.items) d.turned are h).0
+
+pub same_stays : (first before now : Met) (work work' : HubTurn) → DoesIn work before work' now
+    → AreSent before.roster work.steps.steps → IsSame first before → IsSame first now
+same_stays first before now work work' d h s = record {
+  board = does_stays first.board.hub work work' before.board now.board d.done s.board;
+  roster = d.roster ∙ s.roster;
+  sound = subst (λ r. AreSound r now.board.hub.net) (sym d.roster)
+      (sound_by work'.refused before.roster work work' before.board now.board d.done s.sound h);
+}
+
+-- so what a turn gave is sound
+pub given_sound : (first : Hubbed) (roster : Roster) (pass pass' : NodeView) (work work' : HubTurn)
+    → IsUsed first roster pass pass' work work' → work'.refused ≡ false → AreSent roster work.steps.steps
+    → (given : Option Given) → first_of work'.given.items ≡ given → IsGivenSound roster given
+given_sound first roster pass pass' work work' u went h given is =
+    let d = subst (λ b. MatchBool b (Refused u.before u.now work work') (Turned u.before u.now work work')) went u.done in
+    subst (IsGivenSound roster) is
+    (turned_sound roster u.before u.now work.node work.steps.steps (first_of work'.given.items) d.turned u.sound h).1
+
 -- what was made is the turn
 made_is : (before now : Posted) (es made : List Turn) → now.turns ≡ before.turns ++ es → now.turns ≡ before.turns ++ made
     → made ≡ es
@@ -64,11 +103,11 @@ made_is before now es made e m =
     ∙ drop-append_seam before.turns es
 
 -- a hub, by its cell
-abbrev pub hub_of : CellView Posted → HubView
-hub_of cell = record { id = cell.id; nodes = cell.seats; first = cell.first.hub }
+abbrev pub hub_of : CellView Met → HubView
+hub_of cell = record { id = cell.id; nodes = cell.seats; first = cell.first.board.hub; roster = cell.first.roster }
 
 -- a turn of a node at a hub
-pub passed : (hub : HubView) (pass pass' : NodeView) (work work' : HubTurn) (u : IsUsed hub.first pass pass' work work')
+pub passed : (hub : HubView) (pass pass' : NodeView) (work work' : HubTurn) (u : IsUsed hub.first hub.roster pass pass' work work')
     → work.node ≡ pass.node → work'.refused ≡ false → (steps : List Step) → work.steps.steps ≡ steps
     → (given : Option Given) → first_of work'.given.items ≡ given → HasPassed hub pass pass' steps given
 passed hub pass pass' work work' u node went steps same given is =
@@ -93,7 +132,7 @@ passed hub pass pass' work work' u node went steps same given is =
       }) made;
     }
 
-pub given_one : (hub : HubView) (pass pass' : NodeView) (work work' : HubTurn) → IsUsed hub.first pass pass' work work'
+pub given_one : (hub : HubView) (pass pass' : NodeView) (work work' : HubTurn) → IsUsed hub.first hub.roster pass pass' work work'
     → work'.refused ≡ false → length work'.given.items ≤ 1
 given_one hub pass pass' work work' u went =
     (subst (λ b. MatchBool b (Refused u.before u.now work work') (Turned u.before u.now work work')) went u.done).one
@@ -118,7 +157,7 @@ popped_is (x ∷ items) rest None old new e len rest_len both variant few =
     absurd (no_some (variant.1 more))
 
 -- a turn for which memory ran out
-pub refused : (hub : HubView) (pass pass' : NodeView) (work work' : HubTurn) → IsUsed hub.first pass pass' work work'
+pub refused : (hub : HubView) (pass pass' : NodeView) (work work' : HubTurn) → IsUsed hub.first hub.roster pass pass' work work'
     → work'.refused ≡ true → IsRefused pass pass'
 refused hub pass pass' work work' u failed =
     let d = subst (λ b. MatchBool b (Refused u.before u.now work work') (Turned u.before u.now work work')) failed u.done in
@@ -135,9 +174,10 @@ refused hub pass pass' work work' u failed =
     }
 
 -- the pass stays its node's and the hub's
-pub same_pass : (first : Hubbed) (pass pass' : NodeView) (work work' : HubTurn) → IsUsed first pass pass' work work'
+pub same_pass : (first : Hubbed) (roster : Roster) (pass pass' : NodeView) (work work' : HubTurn)
+    → IsUsed first roster pass pass' work work'
     → (pass'.node ≡ pass.node) × (pass'.hub ≡ pass.hub)
-same_pass first pass pass' work work' u =
+same_pass first roster pass pass' work work' u =
     (ap (λ (p : NodeView). p.node) u.pass_is, ap (λ (p : NodeView). p.hub) u.pass_is)
 
 -- the turns that a turn adds are its node's
@@ -162,34 +202,35 @@ made_own true node work work' before now made is grown d =
     subst (AreOf node) (sym m) tt
 
 -- the pass of a cell that a node's pass is, after a turn
-module _ (first : Hubbed) (node : Node) (pass pass' : PassView Turn) (work work' : HubTurn) (is : work.node ≡ node)
-    (t : IsTurn (λ (m : Posted). m.turns) (λ now. IsOf first now) Does pass pass' work work') where
+module _ (first : Met) (node : Node) (pass pass' : PassView Turn) (work work' : HubTurn) (is : work.node ≡ node)
+    (t : IsTurn (λ (m : Met). m.board.turns) (λ now. IsSame first now) DoesIn pass pass' work work') where
   abbrev view : PassView Turn → NodeView
   view p = record { node = node; hub = p.cell; seen = p.seen; made = entries p.made }
 
-  pub used : IsUsed first (view pass) (view pass') work work'
+  pub used : IsUsed first.board.hub first.roster (view pass) (view pass') work work'
   used = record {
-    before = t.before;
-    now = t.after;
+    before = t.before.board;
+    now = t.after.board;
+    sound = subst (λ r. AreSound r t.before.board.hub.net) t.fits.0.roster t.fits.0.sound;
     known = t.known;
-    was = t.fits.0;
-    is = t.fits.1;
-    done = t.done;
+    was = t.fits.0.board;
+    is = t.fits.1.board;
+    done = t.done.done;
     made = t.added;
     grown = t.grown;
     pass_is = λ i. record {
       node = node;
-      hub = (turn_stays (λ (m : Posted). m.turns) (λ now. IsOf first now) Does pass pass' work work' t).0 i;
+      hub = (turn_stays (λ (m : Met). m.board.turns) (λ now. IsSame first now) DoesIn pass pass' work work' t).0 i;
       seen = ap (λ (p : PassView Turn). p.seen) t.pass_is i;
-      made = turn_makes (λ (m : Posted). m.turns) (λ now. IsOf first now) Does pass pass' work work' t t.added t.grown i;
+      made = turn_makes (λ (m : Met). m.board.turns) (λ now. IsSame first now) DoesIn pass pass' work work' t t.added t.grown i;
     };
   }
 
   pub rests : (pass.spare ≡ 0) × AreOf node (entries pass.made) → (pass'.spare ≡ 0) × AreOf node (entries pass'.made)
   rests h = (
-    (turn_stays (λ (m : Posted). m.turns) (λ now. IsOf first now) Does pass pass' work work' t).1 ∙ h.0,
+    (turn_stays (λ (m : Met). m.board.turns) (λ now. IsSame first now) DoesIn pass pass' work work' t).1 ∙ h.0,
     subst (AreOf node)
-        (sym (turn_makes (λ (m : Posted). m.turns) (λ now. IsOf first now) Does pass pass' work work' t t.added t.grown))
+        (sym (turn_makes (λ (m : Met). m.board.turns) (λ now. IsSame first now) DoesIn pass pass' work work' t t.added t.grown))
         (own_more node (entries pass.made) t.added h.1
-        (made_own work'.refused node work work' t.before t.after t.added is t.grown t.done)),
+        (made_own work'.refused node work work' t.before.board t.after.board t.added is t.grown t.done.done)),
   )

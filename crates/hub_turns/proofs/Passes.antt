@@ -13,7 +13,7 @@ use Rattle.hub_cell.proofs.Shuffles.{FailsAll, PassesAll, filter_fails, filter_p
 use Rattle.hub_board.specs.Turning.{IsOf, Posted}
 use Rattle.hub_board.specs.declared.given.Turn.{Turn}
 use Rattle.hub_turns.specs.Meetings.{AreAllPasses, HasEnded, first_pass}
-use Rattle.hub_turns.specs.Views.{AreBare, AreOf, HubView, IsBare, NodeView}
+use Rattle.hub_turns.specs.Views.{AreBare, AreOf, HubView, IsBare, Met, NodeView}
 
 pub bare_more : (passes : List NodeView) (bare : List (PassView Turn)) (pass : NodeView) (one : PassView Turn)
     → AreBare passes bare → IsBare pass one → AreBare (passes ++ pass ∷ []) (bare ++ one ∷ [])
@@ -142,7 +142,7 @@ module _ (node : Node) where
       (filter_weaves is_mine all p.made w.0 w.1)))
 
 -- the passes of a hub are all passes of its cell
-pub all_seats : (cell : CellView Posted) (hub : HubView) (passes : List NodeView) (bare : List (PassView Turn))
+pub all_seats : (cell : CellView Met) (hub : HubView) (passes : List NodeView) (bare : List (PassView Turn))
     → cell.id ≡ hub.id → cell.seats ≡ hub.nodes → AreBare passes bare → AreAllPasses hub passes → AreSeats cell bare
 all_seats cell hub passes bare id seats are h = record {
   of_cell = subst (λ i. All (λ (p : PassView Turn). p.cell ≡ i) bare) (sym id) (of_cell hub.id passes bare are h.of_hub);

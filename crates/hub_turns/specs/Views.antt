@@ -1,17 +1,25 @@
 -- What contracts see of a hub and of a node's pass.
 use Rattle.std.specs.Prelude.{List, [], true, ℕ, ◌∷◌, ◌≡◌}
 use Rattle.base_types.specs.declared.ids.Node.{Node}
+use Rattle.tree_calls.specs.declared.roster.Roster.{Roster}
 use Rattle.script_lines.specs.Sound.{same_node}
 use Rattle.hub_cell.specs.Lists.{entries}
 use Rattle.hub_cell.specs.Passes.{PassView, TableId}
 use Rattle.hub_board.specs.Hubs.{Hubbed}
+use Rattle.hub_board.specs.Turning.{Posted}
 use Rattle.hub_board.specs.declared.given.Turn.{Turn}
 
--- a hub: which one it is, how many nodes take turns at it, and what lay in it at the start
+-- what lies in the cell of a hub: the board, and who takes part
+pub record Met : Type 0 where
+  pub board : Posted
+  pub roster : Roster
+
+-- a hub: which one it is, how many nodes take turns at it, what lay in it at the start, and who takes part
 pub record HubView : Type 0 where
   pub id : TableId
   pub nodes : ℕ
   pub first : Hubbed
+  pub roster : Roster
 
 -- a node's pass: whose it is, of which hub, the turns that it has seen, with which the list begins, and those that were
 -- made through it, in order

@@ -4,10 +4,11 @@ ghost use Rattle.base_types.specs.declared.limits.TheConstants.{HOSTS_MAX, SERVE
 ghost use Rattle.hub_board.specs.Hubs.{first_hub, nodes_of};
 ghost use Rattle.hub_turns.specs.Views.{AreBare};
 ghost use Rattle.hub_turns.specs.Meetings.{first_pass, HasPassed, IsRefused, AreAllPasses, HasEnded, IsBack};
+ghost use Rattle.hub_turns.specs.Meetings.{AreSent, IsGivenSound};
 
 use crate::meeting::{HubTurn, Meeting};
 use crate::pass::NodePass;
-use base_types::{CloseRefused, Items, NoMemory, Node, ServerId};
+use base_types::{CloseRefused, Items, NoMemory, Node, Plain, ServerId};
 use hub_board::{Board, Given, Pending, Turn, nodes_of};
 use hub_cell::{Pass, TurnCell};
 use script_lines::Script;
@@ -16,7 +17,8 @@ use std::marker::Model;
 use std::mem;
 use std::sync::Wait;
 
-/// The hub of a run. Contracts see which one it is, how many nodes take turns at it, and what lay in it at the start.
+/// The hub of a run. Contracts see which one it is, how many nodes take turns at it, what lay in it at the start, and
+/// who takes part.
 #[derive(Drop)]
 pub struct Hub {
     cell: TurnCell<Meeting>,
@@ -27,7 +29,12 @@ impl Model for Hub {
 
     ghost Value = { HubView };
 
-    ghost view = { λ h. record { id = h.cell.id; nodes = h.cell.seats; first = h.cell.first.hub } };
+    ghost view = { λ h. record {
+      id = h.cell.id;
+      nodes = h.cell.seats;
+      first = h.cell.first.board.hub;
+      roster = h.cell.first.roster;
+    } };
 }
 
 impl Hub {
@@ -37,19 +44,22 @@ impl Hub {
         requires hosts { length script.now.roster.hosts ≤ HOSTS_MAX }
         requires servers { script.now.servers ≤ SERVERS_MAX }
         ensures hub { IfOk result (λ r. r.0.first ≡ first_hub script.now rooms.now) }
+        ensures roster { IfOk result (λ r. r.0.roster ≡ script.now.roster) }
         ensures nodes { IfOk result (λ r. r.0.nodes ≡ length (nodes_of script.now)) }
         ensures passes { IfOk result (λ r. r.1.items ≡ map (first_pass r.0.id) (nodes_of script.now)) }
     {
         let alloc = script.lines.alloc();
         let nodes = nodes_of(script)?;
         let board = Board::new(script, rooms)?;
-        let (cell, first) = TurnCell::new(alloc, Meeting { board }, nodes.len() as u32)?;
+        let roster = script.roster.copy()?;
+        let (cell, first) = TurnCell::new(alloc, Meeting { board, roster }, nodes.len() as u32)?;
         let passes = passes_of(alloc, &cell, first, nodes.as_slice())?;
         Ok((Hub { cell }, passes))
     }
 
     /// Hands the node's steps in, and gives the first that there is for it (`Board::turn`). So what the turn gives is
-    /// a function of the script and of the turns in the list. After want of memory nothing was handed in or given, and
+    /// a function of the script and of the turns in the list. Where all nodes send sound messages, which is a condition
+    /// of each turn, a message that is given is sound. After want of memory nothing was handed in or given, and
     /// the steps stay. The pass stays its node's and the hub's. It may wait for the turns of other threads.
     pub fn turn<R: Wait>(
         &self,
@@ -57,7 +67,9 @@ impl Hub {
         pass: &mut NodePass,
         steps: &mut Pending,
     ) -> Result<Option<Given>, NoMemory>
-        requires { pass.old.hub ≡ self.now.id }
+        requires hub { pass.old.hub ≡ self.now.id }
+        requires sound { AreSent self.now.roster steps.old.steps }
+        ensures sound { IfOk result (λ given. IsGivenSound self.now.roster given) }
         ensures ok { IfOk result (λ given. HasPassed self.now pass.old pass.new steps.old.steps given) }
         ensures left { OnOk result (steps.new.steps ≡ []) }
         ensures err { OnErr result (IsRefused pass.old pass.new) }

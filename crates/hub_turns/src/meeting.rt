@@ -2,30 +2,32 @@ use base_types::{NoMemory, Node};
 use hub_board::{Board, Given, Pending, Turn};
 use hub_cell::{Counted, Work};
 use std::marker::Model;
+use tree_calls::Roster;
 
-/// The board, as it lies in a cell. Contracts see what they see of the board.
+/// The board, as it lies in a cell, and who takes part. Contracts see both.
 #[derive(Drop)]
 pub struct Meeting {
     pub board: Board,
+    pub roster: Roster,
 }
 
 impl Model for Meeting {
-    ghost use Rattle.hub_board.specs.Turning.{Posted};
+    ghost use Rattle.hub_turns.specs.Views.{Met};
 
-    ghost Value = { Posted };
+    ghost Value = { Met };
 
-    ghost view = { λ m. m.board };
+    ghost view = { λ m. record { board = m.board; roster = m.roster } };
 }
 
 impl Counted for Meeting {
     type Entry = Turn;
 
-    ghost use Rattle.hub_board.specs.Turning.{IsOf};
+    ghost use Rattle.hub_turns.specs.Meetings.{IsSame};
 
-    ghost list = { λ m. m.turns };
+    ghost list = { λ m. m.board.turns };
 
-    // It stays what its turns have made of the first board.
-    ghost stays = { λ first now. IsOf first.hub now };
+    // It stays what its turns have made of the first board, and all that is on its way is sound.
+    ghost stays = { λ first now. IsSame first now };
 
     fn count(&self) -> u64 {
         self.board.turns().len() as u64
@@ -44,11 +46,11 @@ pub struct HubTurn {
 }
 
 impl Work<Meeting> for HubTurn {
-    ghost use Rattle.hub_turns.specs.Meetings.{Does, IsReady};
+    ghost use Rattle.hub_turns.specs.Meetings.{AreSent, DoesIn, IsReady};
 
-    ghost may = { λ w m. IsReady w };
+    ghost may = { λ w m. IsReady w × AreSent m.roster w.steps.steps };
 
-    ghost does = { Does };
+    ghost does = { DoesIn };
 
     fn work(&mut self, value: &mut Meeting) {
         match value.board.turn(self.node, &mut self.steps) {

@@ -1,6 +1,6 @@
 ghost use Rattle.std.specs.Prelude.{◌≡◌};
 ghost use Rattle.hub_cell.specs.Lists.{entries};
-ghost use Rattle.hub_turns.specs.Meetings.{IsReady, IsUsed};
+ghost use Rattle.hub_turns.specs.Meetings.{AreSent, IsReady, IsUsed};
 ghost use Rattle.hub_turns.specs.Views.{AreOf, IsBare};
 
 use crate::meeting::{HubTurn, Meeting};
@@ -61,7 +61,8 @@ impl NodePass {
         requires cell { self.old.hub ≡ cell.now.id }
         requires node { turn.old.node ≡ self.old.node }
         requires ready { IsReady turn.old }
-        ensures { IsUsed cell.now.first.hub self.old self.new turn.old turn.new }
+        requires sound { AreSent cell.now.first.roster turn.old.steps.steps }
+        ensures { IsUsed cell.now.first.board.hub cell.now.first.roster self.old self.new turn.old turn.new }
     {
         cell.turn(rt, &mut self.pass, turn);
     }

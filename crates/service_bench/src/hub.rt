@@ -1,7 +1,7 @@
 //! The network and the hub: messages that are sent and taken, looks in vain, and the turns of a node for which there
 //! is nothing.
 
-ghost use Rattle.std.specs.Prelude.{◌≡◌, IfOk, OnOk, length};
+ghost use Rattle.std.specs.Prelude.{◌≡◌, [], IfOk, OnOk, length};
 ghost use Rattle.std.specs.List.{All};
 
 use crate::clock::nanos_each;
@@ -162,8 +162,10 @@ fn is_given<R: Wait>(
     pass: &mut NodePass,
     steps: &mut Pending,
 ) -> Result<bool, NoMemory>
-    requires { pass.old.hub ≡ hub.now.id }
-    ensures { pass.new.hub ≡ pass.old.hub }
+    requires hub { pass.old.hub ≡ hub.now.id }
+    requires none { steps.old.steps ≡ [] }
+    ensures hub { pass.new.hub ≡ pass.old.hub }
+    ensures none { OnOk result (steps.new.steps ≡ []) }
 {
     let given = hub.turn(rt, pass, steps)?;
     let came = given.is_some();
@@ -179,7 +181,8 @@ fn take_turns<R: Wait>(
     steps: &mut Pending,
     count: u32,
 ) -> Result<u32, NoMemory>
-    requires { pass.old.hub ≡ hub.now.id }
+    requires hub { pass.old.hub ≡ hub.now.id }
+    requires none { steps.old.steps ≡ [] }
 {
     let mut came = 0u32;
     for _ in 0..count {
@@ -197,7 +200,8 @@ fn time_turns<R: Clock + Wait>(
     steps: &mut Pending,
     count: u32,
 ) -> Result<Told>
-    requires { pass.old.hub ≡ hub.now.id }
+    requires hub { pass.old.hub ≡ hub.now.id }
+    requires none { steps.old.steps ≡ [] }
 {
     let start = Instant::now(rt)?;
     let came = take_turns(rt, hub, pass, steps, count)?;

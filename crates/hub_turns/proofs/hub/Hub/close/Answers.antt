@@ -1,6 +1,6 @@
 use Rattle.std.proofs.Common.{ap, subst, ◌∙◌}
-use Rattle.hub_board.specs.Turning.{IsOf, Posted}
-use Rattle.hub_turns.specs.Views.{HubView}
+use Rattle.hub_board.specs.Turning.{IsOf}
+use Rattle.hub_turns.specs.Views.{HubView, Met}
 use Rattle.hub_turns.proofs.Passes.{all_seats, ended}
 use Rattle.hub_turns.proofs.hub.Hub.close.Goals as goal
 
@@ -12,6 +12,6 @@ close-requires-after_bounds c κs =
 
 pub returns-clause-ok : goal.returns-clause-ok
 returns-clause-ok c =
-    ended c.args.self c.args.passes.items c.bare_of.result.items c.in-Ok.meeting c.into_turns.result c.bare_of.ensures
-    (subst (λ first. IsOf first c.in-Ok.meeting) (ap (λ (h : HubView). h.first) c.self.view_is) c.in-Ok.ensures.0)
-    c.in-Ok.ensures.1 (c.into_turns.ensures ∙ ap (λ (board : Posted). board.turns) c.meeting.view_is)
+    ended c.args.self c.args.passes.items c.bare_of.result.items c.in-Ok.meeting.board c.into_turns.result c.bare_of.ensures
+    (subst (λ first. IsOf first c.in-Ok.meeting.board) (ap (λ (h : HubView). h.first) c.self.view_is) c.in-Ok.ensures.0.board)
+    c.in-Ok.ensures.1 (c.into_turns.ensures ∙ ap (λ (m : Met). m.board.turns) c.meeting.view_is)

@@ -1,7 +1,9 @@
-use Rattle.std.proofs.Common.{ap, subst}
+use Rattle.std.proofs.Common.{ap, subst, sym}
 use Rattle.hub_board.specs.Pendings.{Waiting}
 use Rattle.hub_turns.specs.Meetings.{HasPassed}
-use Rattle.hub_turns.proofs.Does.{given_one, hub_of, passed, popped_is, refused, same_pass}
+use Rattle.hub_turns.specs.Views.{HubView}
+use Rattle.hub_turns.proofs.Does.{given_one, given_sound, hub_of, passed, popped_is, refused, same_pass}
+use Rattle.hub_turns.specs.Meetings.{AreSent, IsGivenSound}
 use Rattle.hub_turns.proofs.hub.Hub.turn.Goals as goal
 
 pub returns-then-refused-clause-err : goal.returns-then-refused-clause-err
@@ -20,8 +22,24 @@ returns-clause-ok g c =
 
 pub returns-clause-same : goal.returns-clause-same
 returns-clause-same g c =
-    same_pass _ _ _ _ _ c.take_turn.ensures
+    same_pass _ _ _ _ _ _ c.take_turn.ensures
 
 pub returns-then-refused-clause-same : goal.returns-then-refused-clause-same
 returns-then-refused-clause-same g c =
-    same_pass _ _ _ _ _ c.take_turn.ensures
+    same_pass _ _ _ _ _ _ c.take_turn.ensures
+
+pub take_turn-requires-clause-sound : goal.take_turn-requires-clause-sound
+take_turn-requires-clause-sound g c =
+    subst (λ ss. AreSent c.self.inside.cell.first.roster ss) (sym (ap (λ (w : Waiting). w.steps) c.replace.ensures.value))
+    (subst (λ r. AreSent r c.args.steps.now.steps) (sym (ap (λ (h : HubView). h.roster) c.self.view_is)) c.requires.sound)
+
+pub returns-clause-sound : goal.returns-clause-sound
+returns-clause-sound g c =
+    let hub = hub_of c.self.inside.cell in
+    let one = given_one hub _ _ _ _ c.take_turn.ensures c.if-refused.false in
+    let first = popped_is _ _ c.pop.result _ _ c.pop.ensures.items c.take_turn.new.turn.given.ok.0 c.pop.new.self.ok.0 c.pop.ensures.len c.pop.ensures.variant one in
+    let sent = subst (λ ss. AreSent c.self.inside.cell.first.roster ss)
+    (sym (ap (λ (w : Waiting). w.steps) c.replace.ensures.value))
+    (subst (λ r. AreSent r c.args.steps.now.steps) (sym (ap (λ (h : HubView). h.roster) c.self.view_is)) c.requires.sound) in
+    subst (λ r. IsGivenSound r c.pop.result) (ap (λ (h : HubView). h.roster) c.self.view_is)
+    (given_sound _ _ _ _ _ _ c.take_turn.ensures c.if-refused.false sent c.pop.result first)

@@ -1,0 +1,118 @@
+-- One turn of a node.
+use Rattle.std.proofs.Common.{◌≡◌, ℕ, Bool, true, false, ◌&&◌, List, [], ◌∷◌, Option, None, Some, refl, sym, ap, ◌∙◌, subst}
+use Rattle.std.proofs.lemmas.List.{append-nil}
+use Rattle.base_types.specs.declared.ids.Node.{Node}
+use Rattle.tree_calls.specs.declared.roster.Roster.{Roster}
+use Rattle.message_types.specs.Soundness.{IsSound}
+use Rattle.message_types.specs.declared.message.Message.{Message}
+use Rattle.script_lines.specs.Sound.{same_node}
+use Rattle.hub_board.specs.Hubs.{Hubbed, flag_of, given_of, with_steps}
+use Rattle.hub_board.specs.declared.given.Gift.{Gift}
+use Rattle.hub_board.specs.declared.given.Gift.TheVariants.{Message as Copied, Begun, Raised, Lapse}
+use Rattle.hub_board.specs.declared.given.Given.{Given}
+use Rattle.hub_board.specs.declared.given.Given.TheVariants.{Message as Came, Raised as WasRaised}
+use Rattle.std.specs.Prelude.{OnOk, Result, Ok, Err, option_map}
+use Rattle.hub_turns.specs.Meetings.{AreSent, HasPassed, IsGivenSound, IsRefused}
+use Rattle.hub_turns.specs.Views.{HubView, NodeView}
+use Rattle.run_rules.specs.Past.{Always}
+use Rattle.run_rules.specs.Plans.{receiver}
+use Rattle.run_rules.specs.declared.step.Step.{Step}
+use Rattle.hub_wire.specs.Networks.{next_copy}
+use Rattle.hub_wire.specs.Packets.{is_released, any_free}
+use Rattle.hub_wire.proofs.Takes.{takes_first}
+use Rattle.hub_laws.specs.Keeping.{Round, steps_in}
+use Rattle.hub_laws.specs.Closings.{HasMade, KeepsOn}
+use Rattle.hub_node.specs.Nodes.{HandsIn, IsDone, IsGivenTo, MayHandIn, Part}
+use Rattle.hub_drive.specs.Seats.{IsSeated, IsThrough}
+use Rattle.hub_drive.specs.declared.seat.Seat.{Seat}
+
+untouched : (pass : NodeView) → IsRefused pass pass
+untouched pass = record { known = ([], sym (append-nil pass.seen)); pass_is = refl }
+
+made_goes_on : (hub : HubView) (rounds : List Round) (old new : NodeView) (r : Round) → HasMade hub rounds old
+    → HasPassed hub old new r.steps r.given → HasMade hub (r ∷ rounds) new
+made_goes_on hub rounds old new r h passed = (old, new, h, passed, untouched new)
+
+-- what is given is for the node
+came_is : (o : Option Message) (m : Message) → option_map (λ (x : Message). Came x) o ≡ Some (Came m) → o ≡ Some m
+came_is None m e = absurd (cc)
+came_is (Some x) m e = cc
+
+raised_not : (o : Option (List ℕ)) (m : Message) → option_map (λ (flag : List ℕ). WasRaised flag) o ≡ Some (Came m) → ⊥
+raised_not None m e = absurd (cc)
+raised_not (Some x) m e = absurd (cc)
+
+both : (a b : Bool) → (a && b) ≡ true → a ≡ true
+both true b e = refl
+both false b e = absurd (cc)
+
+given_own : (hub : Hubbed) (node : Node) (gift : Option Gift) (m : Message) → given_of hub node gift ≡ Some (Came m)
+    → same_node (receiver m) node ≡ true
+given_own hub node None m e = absurd (cc)
+given_own hub node (Some Copied) m e =
+    let t = (takes_first hub.net node).0 m (came_is (next_copy hub.net node) m e) in
+    subst (λ (x : Message). same_node (receiver x) node ≡ true) t.own
+    (both (same_node (receiver t.packet.message) node) (is_released (any_free hub.net.packets) hub.net.steps t.packet) t.fits)
+given_own hub node (Some Begun) m e = absurd (cc)
+given_own hub node (Some Raised) m e = absurd (raised_not (flag_of hub node) m e)
+given_own hub node (Some Lapse) m e = absurd (cc)
+
+module _ {N : Type 0} (part : N → Part) (stands : N → List Round → List Step → Type 0)
+    (hands_in : (n : N) → HandsIn part stands n) (hub : HubView) (s : Seat N) (seated : IsSeated part stands hub s) where
+  abbrev may : MayHandIn (part s.node) seated.rounds s.steps.steps
+  may = hands_in s.node seated.rounds s.steps.steps seated.stood
+
+  -- what the node hands in is sound
+  pub sends_sound : AreSent hub.roster s.steps.steps
+  sends_sound x i m j =
+      subst (λ (r : Roster). IsSound r m) (sym seated.roster) (((may.keeps None).keeps.sends x i m j).1)
+
+  module _ (pass : NodeView) (given : Option Given) (passed : HasPassed hub s.pass pass s.steps.steps given)
+      (sound : IsGivenSound hub.roster given) where
+    pub given_to : IsGivenTo (part s.node) given
+    given_to = record {
+      own = (λ m e.
+          subst (λ n. same_node (receiver m) n ≡ true) seated.node
+          (given_own (with_steps passed.before.hub s.pass.node s.steps.steps) s.pass.node passed.turned.gift_is m
+          (sym passed.turned.given_is ∙ e)));
+      sound = (λ m e. subst (λ (r : Roster). IsSound r m) seated.roster (sound m e));
+    }
+
+    abbrev round : Round
+    round = record { steps = s.steps.steps; given = given }
+
+    -- the node has done its work
+    pub seated_on : (s' : Seat N) → s'.pass ≡ pass → part s'.node ≡ part s.node
+        → stands s'.node (round ∷ seated.rounds) s'.steps.steps → IsSeated part stands hub s'
+    seated_on s' is same stood = record {
+      hub_is = ap (λ (p : NodeView). p.hub) is ∙ ap (λ (p : NodeView). p.hub) passed.pass_is ∙ seated.hub_is;
+      roster = seated.roster ∙ ap (λ (p : Part). p.script.roster) (sym same);
+      node = ap (λ (p : NodeView). p.node) is ∙ ap (λ (p : NodeView). p.node) passed.pass_is ∙ seated.node
+          ∙ ap (λ (p : Part). p.node) (sym same);
+      rounds = round ∷ seated.rounds;
+      made = subst (HasMade hub (round ∷ seated.rounds)) (sym is)
+          (made_goes_on hub seated.rounds s.pass pass round seated.made passed);
+      keeps = subst (λ (p : Part). Always (KeepsOn p.script p.node) (round ∷ seated.rounds)) (sym same)
+          (seated.keeps, may.keeps given);
+      stood = stood;
+    }
+
+    pub through_on : (s' : Seat N) → s'.pass ≡ pass → (same : part s'.node ≡ part s.node)
+        → (stood : stands s'.node (round ∷ seated.rounds) s'.steps.steps) → s'.fault ≡ None → s'.steps.steps ≡ []
+        → IsDone (part s.node) (part s.node).node (steps_in (round ∷ seated.rounds)) → IsThrough part stands hub s'
+    unfolding seated_on
+    through_on s' is same stood well none done = record {
+      well = well;
+      seated = seated_on s' is same stood;
+      none = none;
+      done = subst (λ (p : Part). IsDone p p.node (steps_in (round ∷ seated.rounds))) (sym same) done;
+    }
+
+-- what holds where a result is Ok
+pub on_ok : {T E : Type 0} (r : Result T E) (P Q : Type 0) → (P → Q) → OnOk r P → OnOk r Q
+on_ok (Ok x) P Q f h = f h
+on_ok (Err e) P Q f h = tt
+
+pub at_ok : {T E : Type 0} (r : Result T E) (x : T) (P : Type 0) → r ≡ Ok x → OnOk r P → P
+at_ok (Ok y) x P e h = h
+at_ok (Err y) x P e h = absurd (cc)

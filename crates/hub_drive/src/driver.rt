@@ -1,0 +1,296 @@
+//! The driver.
+ghost use Rattle.std.specs.Prelude.{◌≡◌, ◌≤◌, [], None, Err, IfOk, IfErr, List, length, map, vec_capacity};
+ghost use Rattle.hub_board.specs.Hubs.{nodes_of};
+ghost use Rattle.hub_board.specs.declared.given.Turn.{Turn as TurnOf};
+ghost use Rattle.hub_turns.specs.Meetings.{HasEnded};
+ghost use Rattle.hub_drive.specs.Driving.{AreNodes, CanStart, HasDriven, HasStayed, IsFault, IsHubOf, IsJournalOf};
+ghost use Rattle.hub_drive.specs.Driving.{IsFree, part_of, ShowsFault};
+ghost use Rattle.hub_drive.specs.Seats.{EachAt, IsSeated, IsThrough, PairsAt};
+
+use crate::rounds::turn_until;
+use crate::seat::Seat;
+use base_types::{Items, NoMemory};
+use hub_node::{Node, NodeFault};
+use hub_turns::{Hub, NodePass, Pending, Turn, steps_of};
+use run_rules::Journal;
+use script_lines::Script;
+use std::alloc::Global;
+use std::sync::Wait;
+use std::thread::Threads;
+use tree_answers::Tree;
+
+/// Why a run came to no end.
+#[derive(Clone, Copy, Debug, PartialEq, Eq)]
+pub enum DriveFault {
+    /// The store of the node at this place failed twice.
+    Store(usize),
+    /// Memory ran out.
+    Memory,
+    /// Nothing more can happen, and not all are done: copies wait for flags that nobody raises.
+    Stuck,
+}
+
+/// The nodes, in their order, and the journal of their run.
+#[derive(Drop)]
+pub struct Driven<N> {
+    pub nodes: Vec<N>,
+    pub result: Result<Journal, DriveFault>,
+}
+
+// Nodes sit down, each with its pass. There is room for them.
+fn seat_all<N: Node>(
+    alloc: Global,
+    nodes: Vec<N>,
+    mut passes: Vec<NodePass>,
+    mut seats: Vec<Seat<N>>,
+) -> Vec<Seat<N>>
+    requires none { seats.items ≡ [] }
+    requires room { length nodes.items ≤ vec_capacity seats }
+    requires many { length passes.items ≡ length nodes.items }
+    ensures nodes { map (λ s. s.node) result.items ≡ nodes.items }
+    ensures passes { map (λ s. s.pass) result.items ≡ passes.items }
+    ensures fresh { EachAt (λ s. (s.steps.steps ≡ []) × (s.fault ≡ None)) result.items }
+{
+    for node in nodes {
+        let pass = passes.remove(0);
+        seats.push_reserved(Seat {
+            node,
+            pass,
+            steps: Pending::new(alloc),
+            fault: None,
+        });
+    }
+    seats
+}
+
+// Nodes stand up, and hand their passes back. There is room for them.
+fn unseat<N: Node>(seats: Vec<Seat<N>>, nodes: &mut Vec<N>, passes: &mut Vec<NodePass>)
+    requires none { (nodes.old.items ≡ []) × (passes.old.items ≡ []) }
+    requires nodes_room { length seats.items ≤ vec_capacity nodes.old }
+    requires passes_room { length seats.items ≤ vec_capacity passes.old }
+    ensures nodes { nodes.new.items ≡ map (λ s. s.node) seats.items }
+    ensures passes { passes.new.items ≡ map (λ s. s.pass) seats.items }
+{
+    for seat in seats {
+        let Seat {
+            node,
+            pass,
+            steps: _,
+            fault: _,
+        } = seat;
+        nodes.push_reserved(node);
+        passes.push_reserved(pass);
+    }
+}
+
+// Why the nodes aren't all done.
+fn fault_of<N: Node>(seats: &[Seat<N>]) -> DriveFault
+    ensures { ShowsFault seats.now result }
+{
+    let mut found = DriveFault::Stuck;
+    for (k, seat) in seats.iter().enumerate() {
+        match seat.fault {
+            Some(NodeFault::Store) => return DriveFault::Store(k),
+            Some(NodeFault::Memory) => found = DriveFault::Memory,
+            None => {}
+        }
+    }
+    found
+}
+
+// The journal of a hub that is closed.
+fn journal_of(
+    alloc: Global,
+    hub: Hub,
+    passes: Vec<NodePass>,
+    start: Tree,
+    epochs: Items<u64>,
+) -> Result<Journal, NoMemory>
+    requires { (length passes.items ≡ hub.nodes) × EachAt (λ p. p.hub ≡ hub.id) passes.items }
+    ensures { IfOk result (λ journal. (turns : List TurnOf) × HasEnded hub turns passes.items
+        × IsJournalOf start epochs turns journal) }
+{
+    let mut starts = Items::new(alloc);
+    starts.push(start)?;
+    let Ok(turns) = hub.close(passes) else {
+        return Err(NoMemory);
+    };
+    let steps = steps_of(alloc, turns)?;
+    Ok(Journal {
+        start: starts,
+        epochs,
+        steps,
+    })
+}
+
+// The same, where the driver says why not.
+fn close(
+    alloc: Global,
+    hub: Hub,
+    passes: Vec<NodePass>,
+    start: Tree,
+    epochs: Items<u64>,
+) -> Result<Journal, DriveFault>
+    requires { (length passes.items ≡ hub.nodes) × EachAt (λ p. p.hub ≡ hub.id) passes.items }
+    ensures ok { IfOk result (λ journal. (turns : List TurnOf) × HasEnded hub turns passes.items
+        × IsJournalOf start epochs turns journal) }
+    ensures err { IfErr result (λ fault. IsFree fault) }
+{
+    match journal_of(alloc, hub, passes, start, epochs) {
+        Ok(journal) => Ok(journal),
+        Err(NoMemory) => Err(DriveFault::Memory),
+    }
+}
+
+// The nodes stand up again, and nothing came of the run.
+fn stop<N: Node>(
+    seats: Vec<Seat<N>>,
+    mut nodes: Vec<N>,
+    mut passes: Vec<NodePass>,
+    fault: DriveFault,
+) -> Driven<N>
+    requires none { (nodes.items ≡ []) × (passes.items ≡ []) }
+    requires nodes_room { length seats.items ≤ vec_capacity nodes }
+    requires passes_room { length seats.items ≤ vec_capacity passes }
+    ensures nodes { result.nodes.items ≡ map (λ s. s.node) seats.items }
+    ensures result { result.result ≡ Err fault }
+{
+    unseat(seats, &mut nodes, &mut passes);
+    drop(passes);
+    Driven {
+        nodes,
+        result: Err(fault),
+    }
+}
+
+// The nodes stand up, and the hub is closed.
+fn finish<N: Node>(
+    alloc: Global,
+    script: &Script,
+    start: Tree,
+    epochs: Items<u64>,
+    hub: Hub,
+    seats: Vec<Seat<N>>,
+    mut nodes: Vec<N>,
+    mut passes: Vec<NodePass>,
+) -> Driven<N>
+    requires can { CanStart script.now start epochs }
+    requires hub { IsHubOf script.now hub }
+    requires parts { map (λ s. N.part s.node) seats.items
+        ≡ map (part_of script.now start epochs) (nodes_of script.now) }
+    requires through { EachAt (IsThrough N.part N.stands hub) seats.items }
+    requires none { (nodes.items ≡ []) × (passes.items ≡ []) }
+    requires nodes_room { length seats.items ≤ vec_capacity nodes }
+    requires passes_room { length seats.items ≤ vec_capacity passes }
+    ensures nodes { result.nodes.items ≡ map (λ s. s.node) seats.items }
+    ensures driven { IfOk result.result
+        (λ journal. HasDriven N.part N.stands script.now start epochs result.nodes.items journal) }
+    ensures failed { IfErr result.result (λ fault. IsFree fault) }
+{
+    let _script = script;
+    unseat(seats, &mut nodes, &mut passes);
+    let result = close(alloc, hub, passes, start, epochs);
+    Driven { nodes, result }
+}
+
+// Takes turns at a hub, and closes it.
+fn run_at<N: Node + Send, R: Threads + Wait + Sync>(
+    rt: &R,
+    alloc: Global,
+    script: &Script,
+    start: Tree,
+    epochs: Items<u64>,
+    hub: Hub,
+    mut seats: Vec<Seat<N>>,
+    nodes: Vec<N>,
+    passes: Vec<NodePass>,
+    workers: u32,
+) -> Driven<N>
+    requires can { CanStart script.now start epochs }
+    requires hub { IsHubOf script.now hub }
+    requires parts { map (λ s. N.part s.node) seats.items
+        ≡ map (part_of script.now start epochs) (nodes_of script.now) }
+    requires seated { EachAt (IsSeated N.part N.stands hub) seats.items }
+    requires well { EachAt (λ s. s.fault ≡ None) seats.items }
+    requires none { (nodes.items ≡ []) × (passes.items ≡ []) }
+    requires nodes_room { length seats.items ≤ vec_capacity nodes }
+    requires passes_room { length seats.items ≤ vec_capacity passes }
+    ensures stayed { PairsAt (HasStayed N.part N.stays) (map (λ s. s.node) seats.items) result.nodes.items }
+    ensures driven { IfOk result.result
+        (λ journal. HasDriven N.part N.stands script.now start epochs result.nodes.items journal) }
+    ensures failed { IfErr result.result
+        (λ fault. IsFault N.failed (map (λ s. s.node) seats.items) result.nodes.items fault) }
+{
+    if turn_until(rt, &hub, &mut seats, workers) {
+        return finish(alloc, script, start, epochs, hub, seats, nodes, passes);
+    }
+    let fault = fault_of(seats.as_slice());
+    stop(seats, nodes, passes, fault)
+}
+
+// Room for so many.
+fn rooms<N: Drop>(
+    alloc: Global,
+    count: usize,
+) -> Result<(Vec<Seat<N>>, Vec<N>, Vec<NodePass>), NoMemory>
+    ensures { IfOk result (λ r. (r.0.items ≡ []) × (r.1.items ≡ []) × (r.2.items ≡ [])
+        × (count ≤ vec_capacity r.0) × (count ≤ vec_capacity r.1) × (count ≤ vec_capacity r.2)) }
+{
+    let mut seats = Vec::new(alloc);
+    let mut nodes = Vec::new(alloc);
+    let mut passes = Vec::new(alloc);
+    seats.reserve(count)?;
+    nodes.reserve(count)?;
+    passes.reserve(count)?;
+    Ok((seats, nodes, passes))
+}
+
+/// Drives the nodes of a script, the setup host first, then the other hosts and the servers: they take turns at a hub,
+/// on so many workers, until all are done. Then the journal of the hub is a run of the script from the tree, in which
+/// what is due is done, keeps to its plan and is ended; and each node stands where its own steps in it have brought it.
+///
+/// `Store` comes only where the store of that node failed twice, `Memory` where memory runs out, and `Stuck` where
+/// nothing more could happen. The nodes come back in their order, whatever comes. It may wait for what never comes
+/// about.
+pub fn drive<N: Node + Send, R: Threads + Wait + Sync>(
+    rt: &R,
+    alloc: Global,
+    script: &Script,
+    start: Tree,
+    epochs: Items<u64>,
+    nodes: Vec<N>,
+    workers: u32,
+) -> Driven<N>
+    requires can { CanStart script.now start epochs }
+    requires nodes { AreNodes N.part N.stands script.now start epochs nodes.items }
+    ensures stayed { PairsAt (HasStayed N.part N.stays) nodes.items result.nodes.items }
+    ensures driven { IfOk result.result
+        (λ journal. HasDriven N.part N.stands script.now start epochs result.nodes.items journal) }
+    ensures failed { IfErr result.result (λ fault. IsFault N.failed nodes.items result.nodes.items fault) }
+{
+    let Ok((seats, back, passes_back)) = rooms(alloc, nodes.len()) else {
+        return Driven {
+            nodes,
+            result: Err(DriveFault::Memory),
+        };
+    };
+    let Ok((hub, passes)) = Hub::new(script, &[]) else {
+        return Driven {
+            nodes,
+            result: Err(DriveFault::Memory),
+        };
+    };
+    let seats = seat_all(alloc, nodes, passes, seats);
+    run_at(
+        rt,
+        alloc,
+        script,
+        start,
+        epochs,
+        hub,
+        seats,
+        back,
+        passes_back,
+        workers,
+    )
+}

@@ -1,0 +1,10 @@
+//! Drives the nodes of a run: each takes turns at the hub until all are done, and the journal of the hub is then an
+//! ended run of the script, which keeps to its plan.
+#![tactic(auto)]
+
+mod driver;
+mod rounds;
+mod seat;
+
+pub use driver::{DriveFault, Driven, drive};
+pub use seat::Seat;

@@ -1,0 +1,68 @@
+-- What a node keeps to, by its own steps alone. Lists of steps and rounds have the newest first.
+use Rattle.std.specs.Prelude.{List, Option, Some, length, true, ◌≡◌, ◌⊎◌, ℕ}
+use Rattle.base_types.specs.declared.ids.HostId.{HostId}
+use Rattle.base_types.specs.declared.ids.Node.{Node}
+use Rattle.base_types.specs.declared.ids.Node.TheVariants.{Host, Server}
+use Rattle.base_types.specs.declared.ids.ServerId.{ServerId}
+use Rattle.tree_answers.specs.declared.tree.Tree.{Tree}
+use Rattle.message_types.specs.Soundness.{IsSound}
+use Rattle.message_types.specs.declared.message.Message.{Message}
+use Rattle.script_lines.specs.Sound.{same_node}
+use Rattle.script_lines.specs.declared.script.Script.{Script}
+use Rattle.hub_board.specs.declared.given.Given.{Given}
+use Rattle.hub_board.specs.declared.given.Given.TheVariants.{Message as Came}
+use Rattle.run_rules.specs.Doings.{HasGoneAway, Listed, doings_of}
+use Rattle.run_rules.specs.HostDue.{HostDue}
+use Rattle.run_rules.specs.HostMay.{HostMay}
+use Rattle.run_rules.specs.Messages.{HasBye, HasGreeted, HasStopped}
+use Rattle.run_rules.specs.Past.{Always, appended}
+use Rattle.run_rules.specs.Plans.{receiver}
+use Rattle.run_rules.specs.ServerDue.{ServerDue}
+use Rattle.run_rules.specs.ServerMay.{ServerMay}
+use Rattle.run_rules.specs.Steps.{first_epoch, lines_gone, lines_of}
+use Rattle.run_rules.specs.declared.step.Step.{Step}
+use Rattle.hub_laws.specs.Keeping.{Round, steps_in}
+use Rattle.hub_laws.specs.Closings.{KeepsOn}
+
+-- a node's part in a run: which script, from which tree, in which epochs the servers start, and who it is
+pub record Part : Type 0 where
+  pub script : Script
+  pub start : Tree
+  pub epochs : List ℕ
+  pub node : Node
+
+-- the epoch in which a server starts
+abbrev pub first_at : Part → ServerId → ℕ
+first_at part server = first_epoch part.epochs server
+
+-- a step meets the rules of its node, behind the node's own earlier steps: it is one that the node may do, and what is
+-- due is done
+abbrev pub OwnMeets : Part → Node → List Step → Step → Type 0
+OwnMeets part (Host host) own s = HostMay part.script host own s × HostDue part.script host own s
+OwnMeets part (Server server) own s =
+    let past = doings_of (first_at part server) server own in
+    ServerMay part.script part.start server own past s × ServerDue part.script part.start server own past s
+
+-- a node is done by its own steps: its lines have gone; a host has stopped or has the Bye of each server that it
+-- greeted; of a server each host that it knows is away
+abbrev pub IsDone : Part → Node → List Step → Type 0
+IsDone part (Host host) own = (lines_gone own ≡ length (lines_of part.script (Host host)))
+    × (HasStopped own ⊎ ((server : ServerId) → HasGreeted own server → HasBye own server))
+IsDone part (Server server) own = (lines_gone own ≡ length (lines_of part.script (Server server)))
+    × ((host : HostId) → let past =
+    doings_of (first_at part server) server own in Listed past host → HasGoneAway past host)
+
+-- a message that is given is for the node, and sound
+pub record IsGivenTo (part : Part) (given : Option Given) : Type 0 where
+  pub own : (m : Message) → given ≡ Some (Came m) → same_node (receiver m) part.node ≡ true
+  pub sound : (m : Message) → given ≡ Some (Came m) → IsSound part.script.roster m
+
+-- Behind these rounds a node may hand in these steps, whatever it is then given: it keeps to what it was given, and all
+-- its steps meet its rules.
+pub record MayHandIn (part : Part) (past : List Round) (made : List Step) : Type 0 where
+  pub keeps : (given : Option Given) → KeepsOn part.script part.node past (record { steps = made; given = given })
+  pub meets : Always (OwnMeets part part.node) (appended made (steps_in past))
+
+-- a node that may hand in what it has, whatever rounds have brought it where it stands
+abbrev pub HandsIn : {N : Type 0} → (N → Part) → (N → List Round → List Step → Type 0) → N → Type 0
+HandsIn part stands n = (past : List Round) (made : List Step) → stands n past made → MayHandIn (part n) past made

@@ -1,0 +1,37 @@
+use crate::node::{Node, NodeFault};
+use hub_turns::{Given, Pending, Turned};
+
+/// A host or a server.
+#[derive(Drop)]
+pub enum AnyNode<H, S> {
+    Host(H),
+    Server(S),
+}
+
+impl<H: Node, S: Node> Node for AnyNode<H, S> {
+    ghost use Rattle.hub_node.specs.Either.{fails_after, hands_any, of_either, part_any, stands_any};
+    ghost use Rattle.hub_node.specs.Either.{stays_after, stays_here};
+
+    ghost part = { part_any H.part S.part };
+
+    ghost stands = { stands_any H.stands S.stands };
+
+    ghost stays = { of_either H.stays S.stays };
+
+    ghost failed = { of_either H.failed S.failed };
+
+    fn work(&mut self, given: Option<Given>, steps: &mut Pending) -> Result<Turned, NodeFault> {
+        match self {
+            AnyNode::Host(host) => host.work(given, steps),
+            AnyNode::Server(server) => server.work(given, steps),
+        }
+    }
+
+    ghost hands_in = { hands_any H.part S.part H.stands S.stands H.hands_in S.hands_in };
+
+    ghost stays_so = { stays_here H.stays S.stays H.stays_so S.stays_so };
+
+    ghost stays_on = { stays_after H.stays S.stays H.stays_on S.stays_on };
+
+    ghost fails_on = { fails_after H.stays S.stays H.failed S.failed H.fails_on S.fails_on };
+}

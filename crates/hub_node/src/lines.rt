@@ -1,0 +1,132 @@
+ghost use Rattle.std.specs.Prelude.{◌≡◌, ◌≤◌, ◌<◌, ◌+◌, ◌↔◌, None, Some, IsTrue, IfOk, filter, length, slice_get};
+ghost use Rattle.std.specs.Option.{option_copied, option_map};
+ghost use Rattle.run_rules.specs.Steps.{is_node, lines_of};
+ghost use Rattle.script_lines.specs.declared.script.Line.{Line as LineOf};
+ghost use Rattle.hub_node.specs.Lines.{may_go, next_of};
+
+use base_types::{HostId, Items, Name, NoMemory, Node, Plain};
+use script_lines::{Deed, Line, Script};
+use std::alloc::Global;
+use std::marker::Model;
+
+/// The lines of a node. Contracts see them in their order, how many have gone, and the flag of which the node was told
+/// last.
+#[derive(Drop)]
+pub struct OwnLines {
+    lines: Items<Line>,
+    gone: usize,
+    told: Option<Name>,
+}
+
+impl Model for OwnLines {
+    ghost use Rattle.hub_node.specs.Lines.{LinesView};
+
+    ghost Value = { LinesView };
+
+    ghost view = { λ o. record { lines = o.lines; gone = o.gone; told = o.told } };
+}
+
+fn is_node(a: Node, b: Node) -> bool
+    ensures { result ≡ is_node a b }
+{
+    match (a, b) {
+        (Node::Host(a), Node::Host(b)) => a.0 == b.0,
+        (Node::Server(a), Node::Server(b)) => a.0 == b.0,
+        _ => false,
+    }
+}
+
+// The lines of a node among these.
+fn lines_among(alloc: Global, all: &[Line], node: Node) -> Result<Items<Line>, NoMemory>
+    ensures { IfOk result (λ lines. lines ≡ filter (λ (line : LineOf). is_node node line.node) all.now) }
+{
+    let mut lines = Items::new(alloc);
+    for line in all {
+        if is_node(node, line.node) {
+            lines.push(line.copy()?)?;
+        }
+    }
+    Ok(lines)
+}
+
+// A node's lines, in order.
+fn lines_of(script: &Script, node: Node) -> Result<Items<Line>, NoMemory>
+    ensures { IfOk result (λ lines. lines ≡ lines_of script.now node) }
+{
+    if let Node::Host(host) = node {
+        if host == HostId::SETUP {
+            return script.setup.copy();
+        }
+    }
+    lines_among(script.lines.alloc(), script.lines.as_slice(), node)
+}
+
+// Whether a line can go, as far as its flag decides.
+fn may_go(told: &Option<Name>, deed: &Deed) -> bool
+    ensures { result ≡ may_go told.now deed.now }
+{
+    match (told, deed) {
+        (Some(flag), Deed::Await(name)) => *name == *flag,
+        (None, Deed::Await(_)) => false,
+        _ => true,
+    }
+}
+
+impl OwnLines {
+    /// The lines of a node of a script, of which none has gone. The only error is that memory ran out.
+    pub fn new(script: &Script, node: Node) -> Result<OwnLines, NoMemory>
+        ensures { IfOk result (λ own. own ≡ record { lines = lines_of script.now node; gone = 0; told = None }) }
+    {
+        Ok(OwnLines {
+            lines: lines_of(script, node)?,
+            gone: 0,
+            told: None,
+        })
+    }
+
+    /// Whether all have gone.
+    pub fn are_gone(&self) -> bool
+        ensures { IsTrue result ↔ length self.now.lines ≤ self.now.gone }
+    {
+        self.gone >= self.lines.len()
+    }
+
+    /// The node is told that a flag was raised.
+    pub fn tell(&mut self, flag: Name)
+        ensures { self.new ≡ record self.old { told = Some flag } }
+    {
+        self.told = Some(flag);
+    }
+
+    /// The next line, where it can go as far as flags decide: one that awaits a flag once the node was told of it.
+    pub fn next(&self) -> Option<&Line>
+        ensures { option_copied result ≡ next_of self.now }
+    {
+        let line = self.lines.at(self.gone)?;
+        if may_go(&self.told, &line.deed) {
+            Some(line)
+        } else {
+            None
+        }
+    }
+
+    /// The next line goes.
+    pub fn go(&mut self)
+        requires { self.old.gone < length self.old.lines }
+        ensures { self.new ≡ record self.old { gone = self.old.gone + 1 } }
+    {
+        if self.gone < self.lines.len() {
+            self.gone += 1;
+        }
+    }
+
+    /// The number of the next line, where one is left.
+    pub fn waiting(&self) -> Option<u32>
+        ensures { result ≡ option_map (λ (line : LineOf). line.number) (slice_get self.now.lines self.now.gone) }
+    {
+        match self.lines.at(self.gone) {
+            Some(line) => Some(line.number),
+            None => None,
+        }
+    }
+}
