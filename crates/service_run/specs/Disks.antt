@@ -102,12 +102,13 @@ pub record WentOn (roster : Roster) (server : ServerId) (old new : List ℕ) : T
 
 -- so it is of each disk
 abbrev pub AllWentOn : Roster → List (List ℕ) → List (List ℕ) → Type 0
-AllWentOn roster olds news = (k : ℕ) (old new : List ℕ) → slice_get olds k ≡ Some old → slice_get news k ≡ Some new
+AllWentOn roster olds news =
+    (k : ℕ) (old new : List ℕ) → slice_get olds k ≡ Some old → slice_get news k ≡ Some new
     → WentOn roster (server_of (k + 1)) old new
 
--- What a crash at any moment of a run may leave on a server's disk that held these bytes: on a blank one no log, refused
--- at place 0; on another one the record that it had, or none as it; or, of what are bytes, the record that some acts
--- made.
+-- What a crash at any moment of a run may leave on a server's disk that held these bytes: on a blank one no log,
+-- refused at place 0; on another one the record that it had, or none as it; or, of what are bytes, the record that
+-- some acts made.
 abbrev pub IsLeftOfRun : Roster → ServerId → List ℕ → List ℕ → Type 0
 IsLeftOfRun roster server old c =
     ((is_blank old ≡ true) × HasNoLog 0 c) ⊎ ((is_blank old ≡ false) × HasSameRecord roster server old c)
@@ -120,7 +121,8 @@ LeavesOfRun roster server old new = (is_blank old.image ≡ true → RoseBy 1 ol
 
 -- so it is of each disk
 abbrev pub AllLeave : {D : Type 0} → (D → View) → Roster → List D → List D → Type 0
-AllLeave {D = D} view roster olds news = (k : ℕ) (old new : D) → slice_get olds k ≡ Some old → slice_get news k ≡ Some new
+AllLeave {D = D} view roster olds news =
+    (k : ℕ) (old new : D) → slice_get olds k ≡ Some old → slice_get news k ≡ Some new
     → LeavesOfRun roster (server_of (k + 1)) (view old) (view new)
 
 -- the bytes of disks
@@ -152,11 +154,12 @@ pub record IsAggregateRefused {D writes : Type 0} (tells : Type 0) (view : D →
       ⊎ (tells → IsUnfit roster (images view old) number place × AreStill roster (images view old) (images view new))
   pub wrote : writes → Wrote (no_aggregate_line number place) before after
 
--- What became of disks that are handed back, the same ones in their order, where a script was to run over them; of what
--- they hold, where they tell it. A script that ran did so from the tree that they held, and they hold what it left, also
--- where a crash comes right after. Where one failed it did so twice, the second time at its last call; and one that is no
--- aggregate is the first. However it ended, some acts made the record that each has of the one that it had; or not all
--- could be opened, and each that wasn't blank has the one that it had. A crash at any moment left no more than that.
+-- What became of disks that are handed back, the same ones in their order, where a script was to run over them; of
+-- what they hold, where they tell it. A script that ran did so from the tree that they held, and they hold what it
+-- left, also where a crash comes right after. Where one failed it did so twice, the second time at its last call;
+-- and one that is no aggregate is the first. However it ended, some acts made the record that each has of the one
+-- that it had; or not all could be opened, and each that wasn't blank has the one that it had. A crash at any moment
+-- left no more than that.
 pub record RanOver {D writes : Type 0} (tells : Type 0) (view : D → View) (script : Script) (outcome : Outcome)
     (old new : List D) (before after : Shown writes) : Type 0 where
   pub back : AreBack view old new
