@@ -145,12 +145,34 @@ OTHER_STATUS = token(6, FILE, Status(False), 2)
 OTHER_GRANT = Grant(Bring(1, FILE, 4, (OTHER_STATUS,)), status_of(False, 2))
 STORES_AND_GRANTS = serves(Came(up(1, GiveBack(GIFT))), (STORED,), (),
                            (down(1, Gone(number_of(GIFT))), down(1, OTHER_GRANT, 2)))
+# a Change that waits in a grace period, which the last host's claim ends after the decisions of its step: it is decided
+# in the next step, and no line of the server goes before it
+FLAGGING = w.change(WRITING, lines=(Line(8, ("s", 1), Restart()), Line(12, ("s", 1), Raise(b"f"))))
+REMOVES = Remove(Place(SITE, b"home", (b"x",)))
+REMOVAL = Change(1, 65537, ROOT, False, 1, REMOVES)
+CLAIMS_NONE = Reclaim((), ())
+RESTARTED_BOTH = [serves(Came(up(0, Hello())), sent=(down(1, Reclaimed()),)),
+                  takes_request(up(1, enter_for(REMOVES)), (), down(1, ENTERED)),
+                  serves(Came(up(0, Hello(), 2)), sent=(down(1, Reclaimed(), 2),)),
+                  serves(RestartAt(8), sent=(down(2, Restarted()), down(2, Restarted(), 2))),
+                  serves(Came(up(2, CLAIMS_NONE)), (), (Admission(1, ()),), (down(2, Reclaimed()),))]
+WAITS = takes_request(up(2, REMOVAL), ())
+ENDS_GRACE = serves(Came(up(2, CLAIMS_NONE, 2)), (), (Admission(2, ()),), (down(2, Reclaimed(), 2),))
+RAISES = serves(LineOf(12))
+NO_ENTRY = refused("no-entry")
+DECIDES = serves(Flushed(), (Written(65537, 1, Answer(1, 1, REMOVES, NO_ENTRY, False)),), (),
+                 (down(2, Done(65537, HasReply(NO_ENTRY), Bring(1, NO_FID, 0, ()))),))
+READY = RESTARTED_BOTH + [WAITS, ENDS_GRACE]
 SERVER = [
     (WRITING, SERVED, STORES, ()), (WRITING, SERVED + [STORES], HEARS_RETURNED, ()), (WRITING, SERVED, HEARS_DOWN, ()),
     (WRITING, SERVED + [STORES, HEARS_RETURNED], ANSWERS_BYE, ()),
     (RESTARTING, SERVED, RESTARTS, (down(2, Restarted()),)), (RESTARTING, SERVED + [RESTARTS], ADMITS, ()),
     (WRITING, SHARED, CALLS_BACK, (recall(4),)), (WRITING, SHARED + [CALLS_BACK], STORES_AND_GRANTS, ()),
+    (FLAGGING, RESTARTED_BOTH, WAITS, (down(2, Restarted(), 2),)), (FLAGGING, READY, DECIDES, ()),
+    (FLAGGING, READY + [DECIDES], RAISES, ()),
 ]
+# (script, past, step that isn't admitted, the one rule that it breaks)
+SERVER_BAD = [(FLAGGING, READY, RAISES, "HasDecided.refused")]
 
 
 def main():
@@ -177,10 +199,20 @@ def main():
         past, tree, gone = ServerPast(1, 1), kept_first(start, 1), 0
         for x in before + [s]:
             broken, past, tree = Turn(script, 1, past, gone, tree, x).server_meets()
-            gone += isinstance(x.cause, RestartAt)
+            gone += isinstance(x.cause, (RestartAt, LineOf))
             say(n, "server, before" if x is not s else "server", broken)
         say(n, "server, lapse", Turn(script, 1, past, gone, tree, serves(Lapse(), sent=again)).server_meets()[0])
-    print("%d steps of hosts, %d of servers, each with a lapse after it: %d bad" % (len(HOST), len(SERVER), bad))
+    for n, (script, before, s, rule) in enumerate(SERVER_BAD):
+        script = w.change(script, roster=roster(2))
+        past, tree, gone = ServerPast(1, 1), kept_first(start, 1), 0
+        for x in before:
+            broken, past, tree = Turn(script, 1, past, gone, tree, x).server_meets()
+            gone += isinstance(x.cause, (RestartAt, LineOf))
+            say(n, "server, before", broken)
+        broken = Turn(script, 1, past, gone, tree, s).server_meets()[0]
+        say(n, "server, not refused so", [] if [b[0] for b in broken] == [rule] else (rule, broken))
+    print("%d steps of hosts, %d of servers, each with a lapse after it, %d steps that are refused: %d bad"
+          % (len(HOST), len(SERVER), len(SERVER_BAD), bad))
     return 1 if bad else 0
 
 

@@ -19,6 +19,7 @@ use Rattle.base_types.specs.declared.user.User.{User}
 use Rattle.tree_calls.specs.Rosters.{user_of}
 use Rattle.tree_calls.specs.declared.call.Call.{Call}
 use Rattle.tree_calls.specs.declared.call.Call.TheVariants.{Read, Write, Stat, Sync, Lock, Unlock, OpenFile, CloseFile}
+use Rattle.tree_calls.specs.declared.call.Call.TheVariants.{Remove}
 use Rattle.tree_calls.specs.declared.place.Place.{Place}
 use Rattle.tree_calls.specs.declared.reply.Reply.{Reply}
 use Rattle.tree_calls.specs.declared.reply.Reply.TheVariants.{Ok as Fine, Bytes as BytesReply}
@@ -91,6 +92,7 @@ place_same a b e =
 unfoldable pub same_call : Call → Call → Bool
 same_call (Stat a) (Stat b) = same_place a b
 same_call (Sync a) (Sync b) = same_place a b
+same_call (Remove a) (Remove b) = same_place a b
 same_call (Read a n k) (Read b m j) = same_place a b && ((n == m) && (k == j))
 same_call (Write a n x) (Write b m y) = same_place a b && ((n == m) && same_name x y)
 same_call (Lock l a w n k) (Lock m b v o j) = (same_name l m && same_place a b) && (same_bool w v && ((n == o) &&
@@ -103,6 +105,7 @@ pub call_is : (a b : Call) → same_call a b ≡ true → a ≡ b
 unfolding same_place same_call
 call_is (Stat a) (Stat b) e = let p = place_same a b e in λ i. Stat (p i)
 call_is (Sync a) (Sync b) e = let p = place_same a b e in λ i. Sync (p i)
+call_is (Remove a) (Remove b) e = let p = place_same a b e in λ i. Remove (p i)
 call_is (Read a n k) (Read b m j) e =
     let p = and_parts (same_place a b) ((n == m) && (k == j)) e in
     let q = and_parts (n == m) (k == j) p.1 in

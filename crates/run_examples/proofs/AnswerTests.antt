@@ -49,7 +49,7 @@ use Rattle.run_rules.specs.ServerDecides.{is_decision, stored_of}
 use Rattle.run_rules.specs.ServerDue.{ServerAnswers, empty_reclaimed}
 use Rattle.run_tokens.specs.ServerRest.{ServerMeets}
 use Rattle.run_rules.specs.ServerMay.{OnlyAnswers}
-use Rattle.run_rules.specs.Steps.{IsNextLine, lines_gone, lines_of}
+use Rattle.run_rules.specs.Steps.{IsBareStep, IsNextLine, lines_gone, lines_of}
 use Rattle.run_rules.specs.Tokens.{number_of}
 use Rattle.run_rules.specs.declared.applied.Applied.TheVariants.{IsDown as GoesDown}
 use Rattle.run_rules.specs.declared.applied.Admission.{Admission}
@@ -112,9 +112,15 @@ unfoldable pub is_restart_line : ℕ → Option Line → Bool
 is_restart_line n None = false
 is_restart_line n (Some line) = (line.number == n) && is_restart_deed line.deed
 
+unfoldable pub is_other_line : ℕ → Option Line → Bool
+is_other_line n None = false
+is_other_line n (Some line) = (line.number == n) && not (is_restart_deed line.deed)
+
 unfoldable pub lines_right : List Line → List Step → Cause → Bool
 lines_right lines steps (Came m) = true
 lines_right lines steps Lapse = true
+lines_right lines steps Flushed = true
+lines_right lines steps (LineOf n) = is_other_line n (slice_get lines (lines_gone steps))
 lines_right lines steps (Restart n) = is_restart_line n (slice_get lines (lines_gone steps))
 lines_right lines steps _ = false
 
@@ -144,7 +150,8 @@ step_tests server lines tree steps past s =
 unfoldable pub answer_words : ℕ
 unfolding send_words is_hello is_bye is_down is_restarted is_lapse is_to sends_to is_gone is_restart is_taken gives_gone
     gives_number gone_only bye_only restarted_only tells_restart tells_again no_asked is_empty is_claim_body admits_so answers_so
-    answer_list reclaimed_only reclaimed_by first_body is_restart_deed is_restart_line lines_right no_file step_tests
+    answer_list reclaimed_only reclaimed_by first_body is_restart_deed is_restart_line
+    is_other_line lines_right no_file step_tests
 answer_words = 0
 
 empty_body : (b : Body) → is_empty b ≡ true → b ≡ Reclaimed empty_reclaimed
@@ -354,7 +361,7 @@ module _ (server : ServerId) (past : List Doing) (s : Step) where
           )
       came_gift h n cause c x = absurd (cc)
 
--- what the cause makes kept
+-- what the cause makes kept; a line makes nothing
 abbrev pub AppliesBody : Tree → Step → HostId → Body → Type 0
 AppliesBody tree s h (GiveBack g) = by_cause s.applied ≡ stored_of tree h g ++ ended_by h g
 AppliesBody tree s h Down = by_cause s.applied ≡ GoesDown h ∷ []
@@ -362,6 +369,7 @@ AppliesBody tree s h _ = by_cause s.applied ≡ []
 
 abbrev pub AppliesCause : Tree → Step → Cause → Type 0
 AppliesCause tree s (Came m) = AppliesBody tree s m.host m.body
+AppliesCause tree s (LineOf n) = (by_cause s.applied ≡ []) × IsBareStep s
 AppliesCause tree s _ = by_cause s.applied ≡ []
 
 module _ (server : ServerId) (tree : Tree) (past : List Doing) (s : Step) where
@@ -415,6 +423,7 @@ module _ (server : ServerId) (tree : Tree) (past : List Doing) (s : Step) where
           → ((h : HostId) (g : Give) → FirstGiven server past s h g → ⊥)
           → ((h : HostId) → FirstDown past s h → ⊥) → by_cause s.applied ≡ []
       none (Came m) c x no_ up = by_body m m.body c refl x no_ up
+      none (LineOf n) c x no_ up = x.0
       none cause c x no_ up = x
 
 no_file_is : (o : Option Fid) → no_file o ≡ true → o ≡ None
@@ -434,6 +443,17 @@ restart_line lines steps n None is e = absurd (cc)
 restart_line lines steps n (Some line) is e =
     let p = and_parts (line.number == n) (is_restart_deed line.deed) e in
     (line, (is, eqb-true line.number n p.0), restart_deed line.deed p.1)
+
+other_line : (lines : List Line) (steps : List Step) (n : ℕ) (o : Option Line) → slice_get lines (lines_gone steps) ≡ o
+    → is_other_line n o ≡ true → (line : Line) × IsNextLine lines steps n line × (line.deed ≡ Restarts → ⊥)
+unfolding is_other_line is_restart_deed
+other_line lines steps n None is e = absurd (cc)
+other_line lines steps n (Some line) is e =
+    let p = and_parts (line.number == n) (not (is_restart_deed line.deed)) e in (
+      line,
+      (is, eqb-true line.number n p.0),
+      λ r. is_not (is_restart_deed line.deed) p.1 (subst (λ d. is_restart_deed d ≡ true) (sym r) refl),
+    )
 
 -- all rules of a step
 pub step_meets : (script : Script) (start : Tree) (server : ServerId) (steps : List Step) (past : List Doing) (s : Step)
@@ -483,7 +503,10 @@ step_meets script start server steps past s applies_ tells e =
       };
       due = record {
         lines = record {
-          bare = λ n c. absurd (not_line lines n (subst (λ c. lines_right lines steps c ≡ true) c u.0));
+          bare = λ n c. (
+            (subst (AppliesCause tree s) c applies_).1,
+            line_at lines n (subst (λ c. lines_right lines steps c ≡ true) c u.0),
+          );
           restarts = λ n c. restart_at lines n (subst (λ c. lines_right lines steps c ≡ true) c u.0);
         };
         answers = said.1;
@@ -495,8 +518,9 @@ step_meets script start server steps past s applies_ tells e =
     none_right : (ts : List Token) → is_none ts ≡ true → act_right server (after_sending s past) (Reserves ts) ≡ true
     none_right ts e = e
 
-    not_line : (lines : List Line) (n : ℕ) → lines_right lines steps (LineOf n) ≡ true → ⊥
-    not_line lines n e = cc
+    line_at : (lines : List Line) (n : ℕ) → lines_right lines steps (LineOf n) ≡ true
+        → (line : Line) × IsNextLine lines steps n line × (line.deed ≡ Restarts → ⊥)
+    line_at lines n e = other_line lines steps n (slice_get lines (lines_gone steps)) refl e
 
     not_evict : (lines : List Line) → lines_right lines steps Evict ≡ true → ⊥
     not_evict lines e = cc

@@ -28,6 +28,7 @@ pub mod ServerExamples
 pub mod Prefixes
 pub mod HostSteps
 pub mod ServerSteps
+pub mod LateSteps
 pub mod Sound
 pub mod RunWords
 pub mod Run

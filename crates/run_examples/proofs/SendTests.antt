@@ -6,7 +6,7 @@ use Rattle.base_types.specs.declared.ids.ServerId.{ServerId}
 use Rattle.tree_calls.specs.declared.call.Call.{Call}
 use Rattle.tree_calls.specs.declared.call.Call.TheVariants.{Lock}
 use Rattle.tree_calls.specs.declared.reply.Refusal.{Refusal}
-use Rattle.tree_calls.specs.declared.reply.Refusal.TheVariants.{Locked}
+use Rattle.tree_calls.specs.declared.reply.Refusal.TheVariants.{Locked, NoEntry}
 use Rattle.tree_calls.specs.declared.reply.Reply.{Reply}
 use Rattle.tree_calls.specs.declared.reply.Reply.TheVariants.{Refused}
 use Rattle.tree_filesets.specs.declared.fileset.Fileset.{Fileset}
@@ -33,7 +33,7 @@ use Rattle.run_examples.proofs.ServerChecks.{is_taken}
 use Rattle.run_examples.proofs.ServerLists.{asked_is, granted, granted_is, granted_yes, in_ids, pinned, pinned_is}
 use Rattle.run_examples.proofs.ServerLists.{pinned_yes, queue, queue_is, queue_yes, revoked, revoked_is, revoked_yes}
 use Rattle.run_examples.proofs.ServerLists.{same_asked, tokens_in}
-use Rattle.run_examples.proofs.ServerWords.{here, here_yes, live, live_yes}
+use Rattle.run_examples.proofs.ServerWords.{heard, here, here_yes, live, live_yes, reclaimed, reclaimed_is}
 use Rattle.run_examples.proofs.StanceChecks.{once_from}
 use Rattle.run_examples.proofs.Tests.{AllTrue, all_true, any_of, apart, at_all, bool_is, fid_is, fileset_is, filesets}
 use Rattle.run_examples.proofs.Tests.{host_is, hosts, id_is, implies, is_none, is_not, list_is, none_is, not_is}
@@ -53,23 +53,24 @@ use Rattle.token_types.specs.declared.token.Token.{Token}
 use Rattle.token_types.specs.declared.token.TokenId.{TokenId}
 use Rattle.tree_laws.specs.Parts.{cell_at}
 use Rattle.tree_laws.specs.Parts.Part.{Traits}
-use Rattle.run_rules.specs.Doings.{Doing, IsLive, Pinned, SentNow, SentTo, TakenNow, after_cause, decisions_of, epoch}
-use Rattle.run_rules.specs.Doings.{sending}
+use Rattle.run_rules.specs.Doings.{Doing, IsLive, NoGrace, Pinned, SentNow, SentTo, TakenNow, after_cause}
+use Rattle.run_rules.specs.Doings.{decisions_of, epoch, sending}
 use Rattle.run_rules.specs.Doings.Doing.{Sent, WritesDown}
 use Rattle.run_rules.specs.Kept.{filesets_after, is_refusal}
 use Rattle.run_rules.specs.Messages.{stay_of}
 use Rattle.run_rules.specs.Past.{EachInTurn, In, Once, appended}
 use Rattle.run_rules.specs.Plans.{kind_of}
 use Rattle.run_rules.specs.ServerDecides.{IsAskedHere, IsDecidedHere, IsNewRequest, IsOfRow, MayDecide, MayDecideAll}
-use Rattle.run_rules.specs.ServerDecides.{NotRefused, kept_reply, refusal_of}
-use Rattle.run_rules.specs.ServerDecides.DecidedSo.{MeetsPinned}
+use Rattle.run_rules.specs.ServerDecides.{DecidedSo, NotRefused, kept_reply, refusal_of}
+use Rattle.run_rules.specs.ServerDecides.DecidedSo.{IsRefusedByTable, MeetsPinned}
 use Rattle.run_rules.specs.ServerDue.{AnswersChange, HasDecided, HasSent, IsOfChange}
 use Rattle.run_rules.specs.ServerMay.{AreNeeds, DoneFor, GrantsSo, HasRevoked, HasWritten, IsAskedBack, IsLast, IsOwed}
 use Rattle.run_rules.specs.ServerMay.{MaySend, TellsKept}
 use Rattle.run_rules.specs.ServerMay.AnsweredSo.{IsEntered, TakesToken}
 use Rattle.run_rules.specs.ServerMay.DoneFor.{Answered, OfWritten}
 use Rattle.run_rules.specs.Wants.{CanDecide, CanGrant, CanRefuse, CannotBothWait, IsBehind, IsOld, IsQueued}
-use Rattle.run_rules.specs.Wants.{IsQueuedBefore, NoneQueued, asker, body_of, has_effect, is_use, needs_for, row_needs}
+use Rattle.run_rules.specs.Wants.{IsQueuedBefore, NoneQueued, asker, body_of, has_effect, is_use, moves_fileset}
+use Rattle.run_rules.specs.Wants.{needs_for, row_needs}
 use Rattle.run_rules.specs.declared.applied.Applied.TheVariants.{Done as IsDone, Wants as IsWanted}
 use Rattle.run_rules.specs.declared.applied.Request.TheVariants.{Change as Changes, Fetch as Asks}
 use Rattle.run_rules.specs.declared.applied.Applied.{Applied as AppliedOf}
@@ -115,6 +116,15 @@ refuse_tests server past w =
 unfoldable pub is_stuck : ServerId → List Doing → Wanted → Bool
 is_stuck server past w =
     list_any (in_way w) (granted server past) && list_all (λ t. not (in_way w t)) (pinned server past)
+
+-- a host of the list hasn't reclaimed yet, so that the grace period isn't over
+unfoldable pub awaits_claim : List Doing → Bool
+awaits_claim past = list_any (λ h. live past h && not (reclaimed past h)) (heard past)
+
+-- a Change that neither is a use nor enters
+unfoldable pub is_plain : Request → Bool
+is_plain (Changes c) = not (is_use c.call) && not c.enter
+is_plain (Asks f) = false
 
 unfoldable pub meets_needs : List Need → List Token → Bool
 meets_needs needs ts = same_list same_need (map need_of ts) needs
@@ -181,12 +191,31 @@ unfoldable pub is_lock_call : Call → Bool
 is_lock_call (Lock label place writing from len) = true
 is_lock_call _ = false
 
+unfoldable pub is_missing : Reply → Bool
+is_missing (Refused NoEntry) = true
+is_missing _ = false
+
+-- both are the same one of the two refusals
+unfoldable pub alike : Reply → Reply → Bool
+alike a b = (is_locked a && is_locked b) || (is_missing a && is_missing b)
+
+-- the call table finds no entry of the call's name
+unfoldable pub table_refuses : Tree → HostId → ChangeOf → Reply → Bool
+table_refuses tree h c reply =
+    (is_missing (kept_reply tree h c.call) && is_missing reply) && (not c.enter && not (moves_fileset c.call))
+
 -- a use that meets a pinned token is refused
+-- a use meets a pinned token
+unfoldable pub pinned_refuses : ServerId → Tree → List Doing → Wanted → ChangeOf → Reply → Bool
+pinned_refuses server tree past w c reply =
+    (accepted tree w.host c && of_row tree w c)
+    && (passes (refuse_tests server past w) && (is_locked reply && is_lock_call c.call))
+
+-- a Change that waits is written down, with a reason for its reply
 unfoldable pub writes_so : ServerId → Tree → List Doing → Written → Wanted → ChangeOf → Bool
 writes_so server tree past d w c =
     ((same_fileset d.fileset c.fileset && (d.number == c.number)) && ((d.answer.k == c.k) && same_call d.answer.call c.call))
-    && ((accepted tree w.host c && of_row tree w c)
-    && (passes (refuse_tests server past w) && (is_locked d.answer.reply && is_lock_call c.call)))
+    && (table_refuses tree w.host c d.answer.reply || pinned_refuses server tree past w c d.answer.reply)
 
 unfoldable pub decides_right : ServerId → Tree → List Doing → List Doing → Step → AppliedOf → Bool
 decides_right server tree before past s (IsWanted w) = needs_right tree w w.request && is_new server before past s w
@@ -236,7 +265,7 @@ left_open server tree past w c =
 unfoldable pub decided_tests : ServerId → Tree → List Doing → List Doing → Step → List Bool
 decided_tests server tree before past s =
     by_message true (wanted_now before s) s.cause
-    ∷ list_all (λ w. where_change w.request (left_open server tree past w)) (queue past)
+    ∷ (awaits_claim past || list_all (λ w. where_change w.request (left_open server tree past w)) (queue past))
     ∷ []
 
 -- what may be sent
@@ -260,7 +289,7 @@ is_not_above h d _ = true
 unfoldable pub wrote_so : HostId → DoneOf → Reply → Doing → Bool
 wrote_so h d reply (WritesDown w) =
     ((same_host w.answer.host h && same_fileset w.fileset d.fileset) && (w.number == d.bring.number))
-    && (is_locked reply && is_locked w.answer.reply)
+    && alike reply w.answer.reply
 wrote_so h d reply _ = false
 
 unfoldable pub found_right : FilesetId → Result Fileset Refusal → Bool
@@ -331,13 +360,13 @@ done_body _ fs n such = false
 unfoldable pub is_done_of : HostId → FilesetId → ℕ → (DoneIs → Bool) → Message → Bool
 is_done_of h fs n such m = same_host m.host h && done_body m.body fs n such
 
-unfoldable pub locked_reply : DoneIs → Bool
-locked_reply (HasReply reply) = is_locked reply
-locked_reply _ = false
+unfoldable pub says : Reply → DoneIs → Bool
+says its (HasReply reply) = alike reply its
+says its _ = false
 
 unfoldable pub answered_now : Step → AppliedOf → Bool
 answered_now s (IsDone w) =
-    is_locked w.answer.reply && list_any (is_done_of w.answer.host w.fileset w.number locked_reply) s.sent
+    list_any (is_done_of w.answer.host w.fileset w.number (says w.answer.reply)) s.sent
 answered_now s _ = true
 
 unfoldable pub first_asked : List Doing → Step → Message → Body → Bool
@@ -380,7 +409,7 @@ unfoldable pub sent_tests : ServerId → List Doing → List Doing → Step → 
 sent_tests server before past s =
     list_all (answered_now s) s.applied
     ∷ by_message true (λ m. first_asked before s m m.body) s.cause
-    ∷ list_all (is_stuck server past) (queue past)
+    ∷ list_all (λ w. is_plain w.request || is_stuck server past w) (queue past)
     ∷ list_all (λ t. implies (blocks_some server past t) (revoked past t)) (granted server past)
     ∷ implies (is_lapse s.cause)
     (list_all (λ t. implies (is_free server past t && revoked past t) (recalls_again s t)) (granted server past))
@@ -390,11 +419,12 @@ sent_tests server before past s =
 
 unfoldable pub send_words : ℕ
 unfolding may_words same_call same_place is_fetch accepted row_right of_row in_way is_ahead grant_tests refuse_tests
-    is_stuck meets_needs same_change is_body_of asks_such changes_such where_change is_here_now is_meant asked_here
+    is_stuck awaits_claim is_plain is_missing alike table_refuses pinned_refuses meets_needs same_change is_body_of
+    asks_such changes_such where_change is_here_now is_meant asked_here
     new_numbered comes_as is_new needs_right is_locked is_lock_call writes_so decides_right all_decided wants_it
     is_request is_meant_body holds_up waits_before wanted_now left_open decided_tests there_right grants_such
     grants_for is_not_above wrote_so found_right named_right enters_such uses_such settles_for outcome_right
-    blocks_some is_free asks_first asks_back send_right sends_right is_done_of done_body locked_reply answered_now
+    blocks_some is_free asks_first asks_back send_right sends_right is_done_of done_body says answered_now
     first_asked recalls_it recalls_again same_sort is_change_of asks_for_done brings_change waits_for done_due
     sent_tests
 send_words = 0
@@ -481,7 +511,7 @@ unfolding is_ahead
 none_ahead past w e (v, b, c) =
     is_not (is_ahead w v) (at_all (λ v. not (is_ahead w v)) (queue past) v e (queue_is past v (before_waits past v w b))) c
 
-can_yes : (server : ServerId) (past : List Doing) (w : Wanted) → passes (grant_tests server past w) ≡ true
+pub can_yes : (server : ServerId) (past : List Doing) (w : Wanted) → passes (grant_tests server past w) ≡ true
     → CanGrant server past w
 unfolding grant_tests in_way
 can_yes server past w e =
@@ -514,6 +544,28 @@ unfolding in_way
 none_pinned server past w e can =
     is_not (in_way w can.pinned.0) (at_all (λ t. not (in_way w t)) (pinned server past) can.pinned.0 e
     (pinned_is server past can.pinned.0 can.pinned.1)) can.pinned.2
+
+in_grace : (past : List Doing) → awaits_claim past ≡ true → NoGrace past → ⊥
+unfolding awaits_claim
+in_grace past e over_ =
+    let p = some_in (λ h. live past h && not (reclaimed past h)) (heard past) e in
+    let q = and_parts (live past p.0) (not (reclaimed past p.0)) p.2 in
+    is_not (reclaimed past p.0) q.1 (reclaimed_is past p.0 (over_ p.0 (live_yes past p.0 q.0)))
+
+ready_over : (server : ServerId) (past : List Doing) (w : Wanted) → CanDecide server past w → NoGrace past
+ready_over server past w (inl can) = can.over
+ready_over server past w (inr can) = can.over
+
+plain_fetch : (r : Request) (f : FetchOf) → r ≡ Asks f → is_plain r ≡ true → ⊥
+unfolding is_plain
+plain_fetch r f is e = let p : is_plain (Asks f) ≡ true = subst (λ x. is_plain x ≡ true) is e in cc
+
+plain_change : (r : Request) (c : ChangeOf) → r ≡ Changes c → is_plain r ≡ true
+    → (not (is_use c.call) ≡ true) × (not c.enter ≡ true)
+unfolding is_plain
+plain_change r c is e =
+    let p : is_plain (Changes c) ≡ true = subst (λ x. is_plain x ≡ true) is e in
+    and_parts (not (is_use c.call)) (not c.enter) p
 
 stuck_grant : (server : ServerId) (past : List Doing) (w : Wanted) → is_stuck server past w ≡ true
     → CanGrant server past w → ⊥
@@ -614,10 +666,58 @@ unfolding is_locked
 locked_is (Refused Locked) e = refl
 locked_is r e = absurd (cc)
 
+missing_is : (r : Reply) → is_missing r ≡ true → r ≡ Refused NoEntry
+unfolding is_missing
+missing_is (Refused NoEntry) e = refl
+missing_is r e = absurd (cc)
+
+alike_is : (a b : Reply) → alike a b ≡ true → a ≡ b
+unfolding alike
+alike_is a b e =
+    elim (or_cases (is_locked a && is_locked b) (is_missing a && is_missing b) e) [
+      | inl x ↦ (let p = and_parts (is_locked a) (is_locked b) x in locked_is a p.0 ∙ sym (locked_is b p.1))
+      | inr x ↦ (let p = and_parts (is_missing a) (is_missing b) x in missing_is a p.0 ∙ sym (missing_is b p.1))
+    ]
+
 lock_refusal : (c : Call) → is_lock_call c ≡ true → refusal_of c ≡ Locked
 unfolding is_lock_call
 lock_refusal (Lock label place writing from len) e = refl
 lock_refusal c e = absurd (cc)
+
+by_table : (server : ServerId) (tree : Tree) (past : List Doing) (w : Wanted) (c : ChangeOf) (reply : Reply)
+    → table_refuses tree w.host c reply ≡ true → DecidedSo server tree past w c reply
+unfolding table_refuses
+by_table server tree past w c reply e =
+    let its = kept_reply tree w.host c.call in
+    let p = and_parts (is_missing its && is_missing reply) (not c.enter && not (moves_fileset c.call)) e in
+    let q = and_parts (is_missing its) (is_missing reply) p.0 in
+    let r = and_parts (not c.enter) (not (moves_fileset c.call)) p.1 in
+    IsRefusedByTable NoEntry (
+      missing_is its q.0,
+      λ x. absurd (is_not c.enter r.0 x),
+      λ x. absurd (is_not (moves_fileset c.call) r.1 x),
+    ) (missing_is reply q.1)
+
+by_pinned : (server : ServerId) (tree : Tree) (past : List Doing) (w : Wanted) (c : ChangeOf) (reply : Reply)
+    → pinned_refuses server tree past w c reply ≡ true → DecidedSo server tree past w c reply
+unfolding pinned_refuses
+by_pinned server tree past w c reply e =
+    let y = passes (refuse_tests server past w) && (is_locked reply && is_lock_call c.call) in
+    let f = and_parts (accepted tree w.host c && of_row tree w c) y e in
+    let f1 = and_parts (accepted tree w.host c) (of_row tree w c) f.0 in
+    let g = and_parts (passes (refuse_tests server past w)) (is_locked reply && is_lock_call c.call) f.1 in
+    let g1 = and_parts (is_locked reply) (is_lock_call c.call) g.1 in
+    MeetsPinned (accepted_is tree w.host c f1.0) (of_row_is tree w c f1.1) (refuse_yes server past w g.0)
+    (locked_is reply g1.0 ∙ ap Refused (sym (lock_refusal c.call g1.1)))
+
+decided_so : (server : ServerId) (tree : Tree) (past : List Doing) (w : Wanted) (c : ChangeOf) (reply : Reply)
+    → (table_refuses tree w.host c reply || pinned_refuses server tree past w c reply) ≡ true
+    → DecidedSo server tree past w c reply
+decided_so server tree past w c reply e =
+    elim (or_cases (table_refuses tree w.host c reply) (pinned_refuses server tree past w c reply) e) [
+      | inl x ↦ by_table server tree past w c reply x
+      | inr x ↦ by_pinned server tree past w c reply x
+    ]
 
 one_right : (server : ServerId) (tree : Tree) (before past : List Doing) (s : Step) (x : AppliedOf)
     → decides_right server tree before past s x ≡ true → MayDecide server tree before past s x
@@ -638,16 +738,12 @@ one_right server tree before past s (IsDone d) e =
     let c = changes_yes w.request (writes_so server tree past d w) r.1 in
     let x = (same_fileset d.fileset c.0.fileset && (d.number == c.0.number)) && ((d.answer.k == c.0.k) &&
     same_call d.answer.call c.0.call) in
-    let y = passes (refuse_tests server past w) && (is_locked d.answer.reply && is_lock_call c.0.call) in
-    let a = and_parts x ((accepted tree w.host c.0 && of_row tree w c.0) && y) c.2 in
+    let y = table_refuses tree w.host c.0 d.answer.reply || pinned_refuses server tree past w c.0 d.answer.reply in
+    let a = and_parts x y c.2 in
     let b = and_parts (same_fileset d.fileset c.0.fileset && (d.number == c.0.number)) ((d.answer.k == c.0.k) &&
     same_call d.answer.call c.0.call) a.0 in
     let b1 = and_parts (same_fileset d.fileset c.0.fileset) (d.number == c.0.number) b.0 in
     let b2 = and_parts (d.answer.k == c.0.k) (same_call d.answer.call c.0.call) b.1 in
-    let f = and_parts (accepted tree w.host c.0 && of_row tree w c.0) y a.1 in
-    let f1 = and_parts (accepted tree w.host c.0) (of_row tree w c.0) f.0 in
-    let g = and_parts (passes (refuse_tests server past w)) (is_locked d.answer.reply && is_lock_call c.0.call) f.1 in
-    let g1 = and_parts (is_locked d.answer.reply) (is_lock_call c.0.call) g.1 in
     record {
       w = w;
       waits = queue_yes past w q.1;
@@ -659,8 +755,7 @@ one_right server tree before past s (IsDone d) e =
       k = eqb-true d.answer.k c.0.k b2.0;
       call = call_is d.answer.call c.0.call b2.1;
       later = not_first d.answer.first p.0;
-      so = MeetsPinned (accepted_is tree w.host c.0 f1.0) (of_row_is tree w c.0 f1.1) (refuse_yes server past w g.0)
-          (locked_is d.answer.reply g1.0 ∙ ap Refused (sym (lock_refusal c.0.call g1.1)));
+      so = decided_so server tree past w c.0 d.answer.reply a.1;
     }
   where
     not_first : (b : Bool) → not b ≡ true → b ≡ false
@@ -685,23 +780,32 @@ pub has_decided : (server : ServerId) (tree : Tree) (before past : List Doing) (
 unfolding send_words
 has_decided server tree before past s e = record {
   news = λ h n r x. news h n r x.taken x.here x.alone;
-  refused = λ w c refusal waits is so_ ready. accepted_is tree w.host c (parts w c waits is).0 refusal so_;
-  effects = λ w c waits is effect ok ready. is_not (has_effect c) (parts w c waits is).1 effect;
-  pinned = λ w c waits is row ok can. none_pinned server past w (parts w c waits is).2 can;
+  refused = λ w c refusal waits is so_ ready.
+      let r = parts w c waits is (elim ready [ inl x ↦ ready_over server past w x | inr x ↦ x.0 ]) in
+      accepted_is tree w.host c r.0 refusal so_;
+  effects = λ w c waits is effect ok ready.
+      let r = parts w c waits is (ready_over server past w ready) in is_not (has_effect c) r.1 effect;
+  pinned = λ w c waits is row ok can.
+      let r = parts w c waits is can.over in none_pinned server past w r.2 can;
 }
   where
     t : AllTrue (decided_tests server tree before past s)
     t = all_true (decided_tests server tree before past s) e
 
-    parts : (w : Wanted) (c : ChangeOf) → IsQueued past w → w.request ≡ Changes c
+    all_open : NoGrace past → list_all (λ w. where_change w.request (left_open server tree past w)) (queue past) ≡ true
+    all_open over_ =
+        let all_ = list_all (λ w. where_change w.request (left_open server tree past w)) (queue past) in
+        elim (or_cases (awaits_claim past) all_ t.1.0) [ inl x ↦ absurd (in_grace past x over_) | inr x ↦ x ]
+
+    parts : (w : Wanted) (c : ChangeOf) → IsQueued past w → w.request ≡ Changes c → NoGrace past
         → (accepted tree w.host c ≡ true) × (not (has_effect c) ≡ true)
         × (list_all (λ t. not (in_way w t)) (pinned server past) ≡ true)
-    parts w c waits is =
+    parts w c waits is over_ =
         let pins_ = list_all (λ t. not (in_way w t)) (pinned server past) in
         let p = and_parts (accepted tree w.host c && not (has_effect c)) pins_
         (change_where w.request (left_open server tree past w) c
-        (at_all (λ w. where_change w.request (left_open server tree past w)) (queue past) w t.1.0 (queue_is past w waits))
-        is) in
+        (at_all (λ w. where_change w.request (left_open server tree past w)) (queue past) w (all_open over_)
+        (queue_is past w waits)) is) in
         let q = and_parts (accepted tree w.host c) (not (has_effect c)) p.0 in
         (q.0, q.1, p.1)
 
@@ -832,17 +936,16 @@ module _ (server : ServerId) (tree : Tree) (past : List Doing) (h : HostId) (n :
           × (w.number ≡ d.bring.number) × (d.outcome ≡ HasReply w.answer.reply)
       now (WritesDown w) e =
           let x = (same_host w.answer.host h && same_fileset w.fileset d.fileset) && (w.number == d.bring.number) in
-          let p = and_parts x (is_locked reply && is_locked w.answer.reply) e in
+          let p = and_parts x (alike reply w.answer.reply) e in
           let q = and_parts (same_host w.answer.host h && same_fileset w.fileset d.fileset) (w.number == d.bring.number)
           p.0 in
-          let r = and_parts (same_host w.answer.host h) (same_fileset w.fileset d.fileset) q.0 in
-          let k = and_parts (is_locked reply) (is_locked w.answer.reply) p.1 in (
+          let r = and_parts (same_host w.answer.host h) (same_fileset w.fileset d.fileset) q.0 in (
             w,
             refl,
             host_is w.answer.host h r.0,
             fileset_is w.fileset d.fileset r.1,
             eqb-true w.number d.bring.number q.1,
-            is ∙ ap HasReply (locked_is reply k.0 ∙ sym (locked_is w.answer.reply k.1)),
+            is ∙ ap HasReply (alike_is reply w.answer.reply p.1),
           )
       now a e = absurd (cc)
 
@@ -1059,10 +1162,10 @@ done_sent s h fs n such e =
     let r = done_at such p.0 p.0.body fs n refl q.1 in
     (r.0, (p.0, p.1, host_is p.0.host h q.0, r.1), r.2, r.3, r.4)
 
-reply_locked : (o : DoneIs) → locked_reply o ≡ true → o ≡ HasReply (Refused Locked)
-unfolding locked_reply
-reply_locked (HasReply r) e = ap HasReply (locked_is r e)
-reply_locked o e = absurd (cc)
+says_is : (its : Reply) (o : DoneIs) → says its o ≡ true → o ≡ HasReply its
+unfolding says
+says_is its (HasReply r) e = ap HasReply (alike_is r its e)
+says_is its o e = absurd (cc)
 
 pub has_sent : (server : ServerId) (tree : Tree) (before past : List Doing) (s : Step)
     → passes (sent_tests server before past s) ≡ true → HasSent server tree before past s
@@ -1079,20 +1182,31 @@ has_sent server tree before past s e = record {
       t.1.1.1.1.1.1.0 i) in
       subst (λ y. IsDue y d) at (due k d p);
   written = λ w m.
-      let p = and_parts (is_locked w.answer.reply) (list_any (is_done_of w.answer.host w.fileset w.number locked_reply)
-      s.sent) (at_all (answered_now s) s.applied (IsDone w) t.0 m) in
-      let q = done_sent s w.answer.host w.fileset w.number locked_reply p.1 in (
+      let q = done_sent s w.answer.host w.fileset w.number (says w.answer.reply)
+      (at_all (answered_now s) s.applied (IsDone w) t.0 m) in (
         q.0,
         q.1,
-        reply_locked q.0.outcome q.4 ∙ ap HasReply (sym (locked_is w.answer.reply p.0)),
+        says_is w.answer.reply q.0.outcome q.4,
         q.2,
         q.3,
       );
   repeats = λ h n c d x here_ f k last was. repeats h n c d x f k was;
-  grants = λ w f waits is can. stuck_grant server past w (stuck w waits) can;
-  uses = λ w c waits is use_ ok can. stuck_grant server past w (stuck w waits) can;
-  others = λ w c waits is use_ ok row ready. stuck_ready server past w (stuck w waits) ready;
-  enters = λ w c waits is enter_ ok can. stuck_grant server past w (stuck w waits) can;
+  grants = λ w f waits is can. elim (stuck w waits) [
+    | inl x ↦ plain_fetch w.request f is x
+    | inr x ↦ stuck_grant server past w x can
+  ];
+  uses = λ w c waits is use_ ok can. elim (stuck w waits) [
+    | inl x ↦ is_not (is_use c.call) (plain_change w.request c is x).0 use_
+    | inr x ↦ stuck_grant server past w x can
+  ];
+  others = λ w c waits is use_ ok row ready. elim (stuck w waits) [
+    | inl x ↦ is_not (is_use c.call) (plain_change w.request c is x).0 use_
+    | inr x ↦ stuck_ready server past w x ready
+  ];
+  enters = λ w c waits is enter_ ok can. elim (stuck w waits) [
+    | inl x ↦ is_not c.enter (plain_change w.request c is x).1 enter_
+    | inr x ↦ stuck_grant server past w x can
+  ];
   revokes = λ u k. revoked_yes past u (back u k);
   revokes_again = λ u c k.
       let owed_ = λ (t : Token). is_free server past t && revoked past t in
@@ -1150,8 +1264,10 @@ has_sent server tree before past s e = record {
               )
         ]
 
-    stuck : (w : Wanted) → IsQueued past w → is_stuck server past w ≡ true
-    stuck w waits = at_all (is_stuck server past) (queue past) w t.1.1.0 (queue_is past w waits)
+    stuck : (w : Wanted) → IsQueued past w → (is_plain w.request ≡ true) ⊎ (is_stuck server past w ≡ true)
+    stuck w waits =
+        or_cases (is_plain w.request) (is_stuck server past w)
+        (at_all (λ w. is_plain w.request || is_stuck server past w) (queue past) w t.1.1.0 (queue_is past w waits))
 
     lapse : s.cause ≡ Lapse → is_lapse s.cause ≡ true
     lapse c = subst (λ x. is_lapse x ≡ true) (sym c) refl

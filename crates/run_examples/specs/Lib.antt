@@ -4,3 +4,4 @@ pub mod Journal
 pub mod WorkedLaws
 pub mod Refused
 pub mod Unanswered
+pub mod Late

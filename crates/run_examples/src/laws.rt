@@ -1,7 +1,9 @@
 ghost use Rattle.run_examples.specs.Laws.{WriteIsAskedFor, WriteIsAnswered, RevokeIsAnswered, RestartIsAnswered};
 ghost use Rattle.run_examples.specs.Laws.{StopIsAllowed, EndIsAllowed, LockIsKept, UseIsEnded, EvictionIsAllowed};
 ghost use Rattle.run_examples.specs.Laws.{BlockedFetchIsGranted, NamelessIsIgnored, OutOfTurnIsRefused};
-ghost use Rattle.run_examples.specs.Laws.{OddMessagesAreBorne, OwedIsAskedAgain, SecondChangeIsIgnored, ServerReacts, TakenIsUsed};
+ghost use Rattle.run_examples.specs.Laws.{OddMessagesAreBorne, OwedIsAskedAgain, SecondChangeIsIgnored};
+ghost use Rattle.run_examples.specs.Laws.{ServerReacts, TakenIsUsed};
+ghost use Rattle.run_examples.specs.Late.{LateChangeIsDecidedNext};
 ghost use Rattle.run_examples.specs.Laws.{FetchAsksForAll, GrantOverDirtyIsTaken, LabelsTakenTwiceEnd};
 
 /// A Write asks for the status of a file that its host doesn't know, and then to change the status and the block that
@@ -108,6 +110,12 @@ pub fn odd_messages_are_borne()
 /// waits is decided in its turn.
 pub fn a_second_change_is_ignored()
     ensures { SecondChangeIsIgnored }
+{}
+
+/// A Change that becomes ready after the decisions of a step, since the last claim of a grace period is admitted then,
+/// is decided in the next step; no line of the server goes before it.
+pub fn a_late_change_is_decided_next()
+    ensures { LateChangeIsDecidedNext }
 {}
 
 /// A token that a host's step takes counts as used by that step.
