@@ -1,6 +1,7 @@
 -- The passes of the nodes of the ring.
 use Rattle.std.proofs.Common.{◌≡◌, ⊎_elim, List, [], ◌∷◌, map, length, refl, sym, ap, ◌∙◌, subst}
 use Rattle.std.specs.List.{All}
+use Rattle.std.specs.Prelude.{IfOk, Result, Ok, Err}
 use Rattle.std.proofs.lemmas.List.{length-map}
 use Rattle.std.proofs.lemmas.List.Elements.{All-cons, All-head, All-map, All-nil, All-tail}
 use Rattle.hub_turns.specs.Meetings.{AreAllPasses}
@@ -24,6 +25,13 @@ one_heard s steps one h = record {
   sound = (λ roster ring x i m j. h roster ring m
       (subst (λ (y : Step). In m y.sent) (⊎_elim (λ (e : x ≡ s). e) (λ (none : In x []). absurd none) (subst (In x) one i)) j));
 }
+
+pub ok_heard : {A E : Type 0} (result : Result A E) (steps_in : A → List Step) (s : Step)
+    → IfOk result (λ p. steps_in p ≡ s ∷ [])
+    → ((roster : Roster) → IsRing roster → (m : Message) → In m s.sent → IsSound roster m)
+    → IfOk result (λ p. AreHeard (steps_in p))
+ok_heard (Ok p) steps_in s one h = one_heard s (steps_in p) one h
+ok_heard (Err e) steps_in s one h = one
 
 abbrev pass_of : Member → NodeView
 pass_of m = m.pass
