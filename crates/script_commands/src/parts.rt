@@ -1,11 +1,11 @@
-ghost use Rattle.std.specs.Prelude.{◌≡◌, map, true, IfOk};
+ghost use Rattle.std.specs.Prelude.{◌≡◌, map, true, false, IfOk};
 ghost use Rattle.std.specs.String.{string_bytes};
 ghost use Rattle.clap.specs.Matches.{found_of};
 ghost use Rattle.clap.specs.Simple.{app_of};
-ghost use Rattle.clap.specs.Walk.{rows_of};
+ghost use Rattle.clap.specs.Walk.{rows_of, rule_of};
 ghost use Rattle.script_commands.specs.Parts.{parts_of};
 ghost use Rattle.script_commands.specs.Plain.{are_plain};
-ghost use Rattle.script_commands.specs.Told.{told, values_at, parts_in};
+ghost use Rattle.script_commands.specs.Told.{json_rule, workers_rule, others_rule, told, values_at, parts_in};
 
 use base_types::{Items, NoMemory};
 use clap::error::ErrorKind;
@@ -24,23 +24,44 @@ pub(crate) struct Parts {
     pub(crate) others: Words,
 }
 
-// What `clap` is told of the words. A `--json` has no value, so each of them counts as its own text.
-fn told<'a>(alloc: Global) -> Result<Command<'a>, NoMemory>
-    ensures { IfOk result (λ command. app_of command ≡ told) }
+// A `--json` has no value, so each of them counts as its own text.
+fn json<'a>(alloc: Global) -> Arg<'a>
+    ensures rule { rule_of result ≡ json_rule }
+    ensures here { result.global ≡ false }
 {
-    let json = Arg::new(alloc, "json")
+    Arg::new(alloc, "json")
         .long("json")
         .action(ArgAction::Append)
         .num_args(0usize)
-        .default_missing_value("--json");
-    let workers = Arg::new(alloc, "workers")
+        .default_missing_value("--json")
+}
+
+fn workers<'a>(alloc: Global) -> Arg<'a>
+    ensures rule { rule_of result ≡ workers_rule }
+    ensures here { result.global ≡ false }
+{
+    Arg::new(alloc, "workers")
         .long("workers")
-        .action(ArgAction::Append);
-    let others = Arg::new(alloc, "others").action(ArgAction::Append);
+        .action(ArgAction::Append)
+}
+
+fn others<'a>(alloc: Global) -> Arg<'a>
+    ensures rule { rule_of result ≡ others_rule }
+    ensures here { result.global ≡ false }
+{
+    Arg::new(alloc, "others").action(ArgAction::Append)
+}
+
+// What `clap` is told of the words.
+fn told<'a>(alloc: Global) -> Result<Command<'a>, NoMemory>
+    ensures { IfOk result (λ command. app_of command ≡ told) }
+{
     let command = Command::new(alloc, "dfs_run")
         .no_binary_name(true)
         .disable_help_flag(true);
-    Ok(command.arg(json)?.arg(workers)?.arg(others)?)
+    let command = command.arg(json(alloc))?;
+    let command = command.arg(workers(alloc))?;
+    Ok(command.arg(others(alloc))?)
 }
 
 // The values of an argument, of all its uses.
