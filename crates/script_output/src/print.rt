@@ -1,5 +1,5 @@
-ghost use Rattle.std.specs.Prelude.{◌≡◌, ◌++◌, flat_map, IfOk, OnOk};
-ghost use Rattle.script_output.specs.Texts.{path_of};
+ghost use Rattle.std.specs.Prelude.{◌≡◌, ◌++◌, codes, decimal, flat_map, IfOk, OnOk};
+ghost use Rattle.script_output.specs.Texts.{word_text, path_of};
 ghost use Rattle.script_output.specs.Dump.{fileset_lines};
 ghost use Rattle.script_output.specs.Reports.{filesets_at, by_server};
 ghost use Rattle.script_output.specs.Printed.{answer_line, span_text, length_text, loss_line, text_of_report, printed};
@@ -9,7 +9,7 @@ use crate::dump::push_fileset;
 use crate::replies::push_reply;
 use crate::report::{Answer, Report, report_of};
 use crate::texts::{push_number, push_word};
-use base_types::{Items, Name, NoMemory, SERVERS_MAX, Span};
+use base_types::{HostId, Items, Name, NoMemory, SERVERS_MAX, ServerId, Span};
 use script_lines::Script;
 use std::alloc::Global;
 use tree_answers::Tree;
@@ -88,15 +88,31 @@ fn push_losses(out: &mut Items<u8>, losses: &Items<Loss>) -> Result<(), NoMemory
 fn push_loss(out: &mut Items<u8>, loss: &Loss) -> Result<(), NoMemory>
     ensures { OnOk result (out.new ≡ out.old ++ loss_line loss.now) }
 {
-    out.extend(b"lost c")?;
-    push_number(out, loss.host.0 as u64)?;
-    out.extend(b" s")?;
-    push_number(out, loss.server.0 as u64)?;
-    out.push(b' ')?;
-    push_word(out, path_of(&loss.path)?.as_slice())?;
+    push_nodes(out, loss.host, loss.server)?;
+    push_path(out, &loss.path)?;
     push_span(out, loss.span)?;
     push_length(out, loss.length)?;
     out.push(b'\n')
+}
+
+// Adds who lost something, and at which server.
+fn push_nodes(out: &mut Items<u8>, host: HostId, server: ServerId) -> Result<(), NoMemory>
+    ensures { OnOk result
+        (out.new ≡ out.old ++ codes "lost c" ++ decimal host.0 ++ codes " s" ++ decimal server.0 ++ codes " ") }
+{
+    out.extend(b"lost c")?;
+    push_number(out, host.0 as u64)?;
+    out.extend(b" s")?;
+    push_number(out, server.0 as u64)?;
+    out.push(b' ')
+}
+
+// Adds the path of these names.
+fn push_path(out: &mut Items<u8>, names: &Items<Name>) -> Result<(), NoMemory>
+    ensures { OnOk result (out.new ≡ out.old ++ word_text (path_of names.now)) }
+{
+    let path = path_of(names)?;
+    push_word(out, path.as_slice())
 }
 
 // The path of these names.
