@@ -32,7 +32,7 @@ use store_memory::MapStore;
 use tree_calls::Roster;
 
 /// Why the stores of a service weren't opened.
-#[derive(Clone, Copy, Debug)]
+#[derive(Clone, Copy)]
 pub enum StoresRefused {
     /// The disk of this number, from 1, wasn't opened, and why.
     Refused(u8, MountRefused),

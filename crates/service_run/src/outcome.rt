@@ -9,7 +9,7 @@ use tree_answers::Tree;
 use tree_calls::Roster;
 
 /// How a run ended.
-#[derive(Clone, Copy, Debug, PartialEq, Eq)]
+#[derive(Clone, Copy)]
 pub enum Status {
     /// The script ran, or the disks were checked and none has a fault; and the sink got the whole output.
     Done,

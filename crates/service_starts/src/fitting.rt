@@ -18,7 +18,7 @@ use store_memory::{Act, Slot, Stay};
 use thiserror::Error;
 
 /// Why the disks of servers can't be run together.
-#[derive(Clone, Copy, Debug, PartialEq, Error)]
+#[derive(Clone, Copy, Debug, Error)]
 pub enum FitRefused {
     /// A disk doesn't fit the others. It is the first such one, from 1, and its first slot that doesn't fit.
     #[error("disk {disk} doesn't fit: slot {slot}")]
@@ -39,7 +39,7 @@ impl From<NoMemory> for FitRefused {
 }
 
 /// A fileset of which a server has to settle an unfinished move.
-#[derive(Clone, Copy, Debug, PartialEq)]
+#[derive(Clone, Copy)]
 pub struct Settling {
     /// The server.
     pub server: ServerId,

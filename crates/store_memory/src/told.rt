@@ -1,4 +1,4 @@
-use base_types::{Fid, FilesetId, Items, Name, NoMemory, Plain};
+use base_types::{Fid, FilesetId, Items, Name};
 use store_state::Stay;
 use tree_calls::Refusal;
 use tree_filesets::Fileset;
@@ -38,17 +38,4 @@ pub struct Kept {
     pub next: u32,
     /// The filesets that are here or leaving, in the order of their slots, with nothing unsaved.
     pub filesets: Items<Fileset>,
-}
-
-impl Plain for Slot {
-    fn copy(&self) -> Result<Slot, NoMemory> {
-        Ok(Slot {
-            at: self.at,
-            fileset: self.fileset,
-            name: self.name.copy()?,
-            objects: self.objects,
-            moves: self.moves,
-            stay: self.stay,
-        })
-    }
 }

@@ -1,7 +1,6 @@
 ghost use Rattle.std.specs.Prelude.{◌≡◌};
 ghost use Rattle.store_state.specs.Outcomes.{now_done, not_fresh};
 
-use base_types::{NoMemory, Plain};
 use tree_calls::Reply;
 
 /// What became of an act.
@@ -29,14 +28,5 @@ impl Done {
             fresh: false,
             reply,
         }
-    }
-}
-
-impl Plain for Done {
-    fn copy(&self) -> Result<Done, NoMemory> {
-        Ok(Done {
-            fresh: self.fresh,
-            reply: self.reply.copy()?,
-        })
     }
 }

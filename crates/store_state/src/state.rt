@@ -2,7 +2,7 @@ ghost use Rattle.std.specs.Prelude.{◌≡◌};
 ghost use Rattle.store_state.specs.State.{is_here, is_writable, is_leaving, is_arriving, is_gone};
 ghost use Rattle.store_state.specs.Sought.{is_due};
 
-use base_types::{Items, NoMemory, Plain, ServerId};
+use base_types::{Items, ServerId};
 use tree_calls::{Record, Roster};
 use tree_filesets::Fileset;
 
@@ -89,12 +89,6 @@ pub struct StoreState {
     pub taken: Items<TakenShip>,
 }
 
-impl Plain for HostState {
-    fn copy(&self) -> Result<HostState, NoMemory> {
-        Ok(*self)
-    }
-}
-
 impl Stay {
     /// Whether the fileset is here: writable or a clone.
     pub fn is_here(self) -> bool
@@ -143,21 +137,5 @@ impl Stay {
             } => sender == from && taken == ship && parts == at,
             Stay::Writable | Stay::Clone | Stay::Leaving { .. } | Stay::Gone { .. } => false,
         }
-    }
-}
-
-impl Plain for TakenShip {
-    fn copy(&self) -> Result<TakenShip, NoMemory> {
-        Ok(*self)
-    }
-}
-
-impl Plain for Holding {
-    fn copy(&self) -> Result<Holding, NoMemory> {
-        Ok(Holding {
-            stay: self.stay,
-            fileset: self.fileset.copy()?,
-            records: self.records.copy()?,
-        })
     }
 }

@@ -17,7 +17,7 @@ use crate::want::{
     Asked, Ready, Want, Wanted, drop_want, drop_wants_in, drop_wants_of, first_ahead, wants_in,
 };
 use crate::wanted::wanted;
-use base_types::{Fid, FilesetId, HostId, Items, NEEDS_MAX, NoMemory, Plain, ServerId};
+use base_types::{Fid, FilesetId, HostId, Items, NEEDS_MAX, NoMemory, ServerId};
 use std::alloc::Global;
 use std::marker::Model;
 use token_types::{Token, TokenId};
@@ -308,19 +308,6 @@ impl TokenManager {
             self.queue = Items::new(alloc);
         }
         is_later
-    }
-}
-
-impl Plain for TokenManager {
-    fn copy(&self) -> Result<TokenManager, NoMemory> {
-        let grants = self.grants.copy()?;
-        let queue = self.queue.copy()?;
-        Ok(TokenManager {
-            grants,
-            queue,
-            asked: self.asked,
-            latest: self.latest,
-        })
     }
 }
 

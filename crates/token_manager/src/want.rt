@@ -64,27 +64,6 @@ impl Plain for Want {
     }
 }
 
-impl Plain for Asked {
-    fn copy(&self) -> Result<Asked, NoMemory> {
-        match self {
-            Asked::Granted(tokens) => Ok(Asked::Granted(tokens.copy()?)),
-            Asked::Waits { revoke, behind } => Ok(Asked::Waits {
-                revoke: revoke.copy()?,
-                behind: *behind,
-            }),
-        }
-    }
-}
-
-impl Plain for Ready {
-    fn copy(&self) -> Result<Ready, NoMemory> {
-        match self {
-            Ready::Granted(number, tokens) => Ok(Ready::Granted(*number, tokens.copy()?)),
-            Ready::Refused(number, token) => Ok(Ready::Refused(*number, *token)),
-        }
-    }
-}
-
 impl Want {
     /// Whether one of its needs is of a fileset.
     pub(crate) fn is_in(&self, fileset: FilesetId) -> bool

@@ -2,7 +2,7 @@ ghost use Rattle.std.specs.Prelude.{◌≡◌, ◌==◌, ◌<◌, ◌↔◌, IsT
 ghost use Rattle.std.specs.List.{list_any, filter};
 ghost use Rattle.token_reclaim.specs.Recoveries.{is_among, to_admit, without, GraceLasts};
 
-use base_types::{HostId, Items, NoMemory, Plain};
+use base_types::{HostId, Items, NoMemory};
 use std::alloc::Global;
 use std::marker::Model;
 use token_types::{Token, TokenId};
@@ -83,15 +83,6 @@ impl Recovery {
         ensures { result ≡ list_any (λ other. other.0 == host.0) self.now.awaited }
     {
         self.awaited.as_slice().iter().any(|other| *other == host)
-    }
-}
-
-impl Plain for Recovery {
-    fn copy(&self) -> Result<Recovery, NoMemory> {
-        Ok(Recovery {
-            epoch: self.epoch,
-            awaited: self.awaited.copy()?,
-        })
     }
 }
 

@@ -46,43 +46,6 @@ pub struct Loss {
     pub length: Option<u32>,
 }
 
-impl Plain for Entry {
-    fn copy(&self) -> Result<Entry, NoMemory> {
-        Ok(match self {
-            Entry::Call {
-                host,
-                k,
-                call,
-                reply,
-            } => Entry::Call {
-                host: *host,
-                k: *k,
-                reply: reply.copy()?,
-                call: call.copy()?,
-            },
-            Entry::Stored {
-                host,
-                fid,
-                spans,
-                length,
-            } => Entry::Stored {
-                host: *host,
-                fid: *fid,
-                spans: spans.copy()?,
-                length: *length,
-            },
-            Entry::Down { host, server } => Entry::Down {
-                host: *host,
-                server: *server,
-            },
-            Entry::Left { server, fileset } => Entry::Left {
-                server: *server,
-                fileset: *fileset,
-            },
-        })
-    }
-}
-
 impl Plain for Loss {
     fn copy(&self) -> Result<Loss, NoMemory> {
         Ok(Loss {
