@@ -11,4 +11,4 @@ mod parts;
 pub use act::Act;
 pub use acts::apply_act;
 pub use laws::part_law;
-pub use parts::{entries_in, free_part, part_of, status_of, told_object};
+pub use parts::{entries_in, free_part, names_rise, part_of, status_of, told_object};

@@ -34,8 +34,8 @@ fn is_first(name: &Name, entries: &[DirEntry]) -> bool
     entries.iter().all(|other| name.is_before(&other.name))
 }
 
-// Whether the names of entries rise.
-fn names_rise(entries: &[DirEntry]) -> bool
+/// Whether the names of entries rise.
+pub fn names_rise(entries: &[DirEntry]) -> bool
     ensures { result ≡ names_rise entries.now }
 {
     let mut rest = entries;

@@ -14,10 +14,8 @@ ghost use Rattle.std.specs.Prelude.{
   length,
   is_some,
 };
-ghost use Rattle.std.specs.List.{list_all, list_any};
+ghost use Rattle.std.specs.List.{list_any};
 ghost use Rattle.std.specs.Option.{option_map_or};
-ghost use Rattle.base_types.specs.Name.{is_before};
-ghost use Rattle.tree_objects.specs.Sound.{names_rise};
 ghost use Rattle.tree_filesets.specs.Walk.{object_at};
 ghost use Rattle.tree_filesets.specs.WellFormed.{is_at_rest, IsUsed, IsWellFormed};
 ghost use Rattle.store_records.specs.Tree.{
@@ -31,7 +29,8 @@ ghost use Rattle.store_records.specs.Tree.{
   LeadOn,
 };
 
-use base_types::{FILE_BYTES_MAX, Items, Name, NoMemory, OBJECTS_MAX};
+use base_types::{FILE_BYTES_MAX, Items, NoMemory, OBJECTS_MAX};
+use store_acts::names_rise;
 use store_state::unique_at;
 use tree_calls::DirEntry;
 use tree_filesets::{Fileset, object_at};
@@ -39,27 +38,6 @@ use tree_objects::{Anode, Content};
 
 // The anode of the root.
 const ROOT: u32 = 1;
-
-// Whether a name comes before those of these entries.
-fn is_first(name: &Name, entries: &[DirEntry]) -> bool
-    ensures { result ≡ list_all (λ other. is_before name.now other.name) entries.now }
-{
-    entries.iter().all(|other| name.is_before(&other.name))
-}
-
-// Whether the names of entries rise.
-fn names_rise(entries: &[DirEntry]) -> bool
-    ensures { result ≡ names_rise entries.now }
-{
-    let mut rest = entries;
-    while let Some((first, behind)) = rest.split_first() {
-        if !is_first(&first.name, behind) {
-            return false;
-        }
-        rest = behind;
-    }
-    true
-}
 
 // Whether the content of an object is well formed, where nothing of it is unsaved.
 fn is_kept_sound(content: &Content) -> bool
