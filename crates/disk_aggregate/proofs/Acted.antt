@@ -21,11 +21,11 @@ use Rattle.disk_aggregate.specs.declared.aggregate.Aggregate.{Aggregate}
 use Rattle.disk_aggregate.proofs.Seen.{shut_holds, shut_seen}
 
 -- acts leave a store's server and its roster
-record IsSame (old new : StoreState) : Type 0 where
-  server : new.server ≡ old.server
-  roster : new.roster ≡ old.roster
+pub record IsSame (old new : StoreState) : Type 0 where
+  pub server : new.server ≡ old.server
+  pub roster : new.roster ≡ old.roster
 
-first_same : (acts : List Act) (k : ℕ) (state : StoreState) → KeepsLimits state → Each (IsAct state.roster state.server) acts → IsSame state (first_of state acts k)
+pub first_same : (acts : List Act) (k : ℕ) (state : StoreState) → KeepsLimits state → Each (IsAct state.roster state.server) acts → IsSame state (first_of state acts k)
 first_same acts zero state limits each = record { server = refl; roster = refl }
 first_same [] (suc k) state limits each = record { server = refl; roster = refl }
 first_same (act ∷ acts) (suc k) state limits each =

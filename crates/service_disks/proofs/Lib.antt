@@ -4,3 +4,4 @@ pub mod Backing
 pub mod Limits
 pub mod Lists
 pub mod Seated
+pub mod Trails

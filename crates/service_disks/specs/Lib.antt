@@ -3,3 +3,4 @@ pub mod Opening
 pub mod Stores
 pub mod Steps
 pub mod Seats
+pub mod Trails

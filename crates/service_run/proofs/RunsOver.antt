@@ -2,6 +2,7 @@
 use Rattle.std.proofs.Common.{◌≡◌, ◌⊎◌, ℕ, List, length, inl, inr, Ok, Err, refl, sym, ap, subst, ◌∙◌}
 use Rattle.std.specs.Prelude.{Bool, true, false, slice_get}
 use Rattle.std.proofs.lemmas.Bool.{false≢true}
+use Rattle.std.proofs.Math.Logic.{∥∥₁_map}
 use Rattle.base_types.specs.View.{View as DiskView}
 use Rattle.disk_image.specs.Aggregate.{header_number}
 use Rattle.disk_layout.specs.Places.{page_start}
@@ -11,6 +12,7 @@ use Rattle.disk_report.specs.Text.{failed_line}
 use Rattle.service_plain.specs.declared.played.Played.{Played}
 use Rattle.script_lines.specs.declared.script.Script.{Script}
 use Rattle.service_disks.specs.Stores.{disks_of, AreOpen, AreBack as AreUnopened, IsFirstRefused, IsStopped as IsUnopened}
+use Rattle.service_disks.specs.Trails.{AllGo}
 use Rattle.service_disks.specs.View.{store_view}
 use Rattle.service_disks.specs.declared.disks.StoresRefused.{StoresRefused}
 use Rattle.service_disks.specs.declared.disks.StoresRefused.TheVariants as opening
@@ -22,8 +24,8 @@ use Rattle.service_moves.specs.declared.stopped.RunStopped.TheVariants as runnin
 use Rattle.service_stores.specs.Starting.{told_by}
 use Rattle.script_commands.specs.declared.command.Play.{Play}
 use Rattle.service_run.proofs.Lists.{get_middle}
-use Rattle.service_run.proofs.Opened.{are_found, have_records, are_kept, are_still, are_back, is_failing, unopened_back, open_count}
-use Rattle.service_run.specs.Disks.{images, AreBack, HaveRecords, RanOver, IsUnfit, IsStartOf, AreStill, AreKept}
+use Rattle.service_run.proofs.Opened.{are_found, went_on, all_leave, unopened_leave, are_kept, are_durable, are_still, are_back, is_failing, unopened_back, open_count}
+use Rattle.service_run.specs.Disks.{images, AreBack, AllLeave, AllWentOn, RanOver, IsUnfit, IsStartOf, AreStill, AreKept, AreDurable}
 use Rattle.service_run.specs.Lines.{no_aggregate_line}
 use Rattle.service_run.specs.Outcomes.{has_run, is_end_of_run, IsEmpty, RanSo, RefusedSo}
 use Rattle.service_run.specs.Steps.{AreAsPlaced, IsOpeningRefused, IsRunRefused, IsRunOf, IsRunOn, IsWithoutMemory}
@@ -126,48 +128,63 @@ told_no_aggregate status (inl p) q = (let bad : has_run NoAggregate ≡ true = a
 told_no_aggregate status (inr p) q = (let bad : NoMemory ≡ NoAggregate = sym p ∙ q in cc)
 
 module _ {D writes : Type 0} (tells : Type 0) (view : D → DiskView) (script : Script) (outcome : Outcome) (before after : Shown writes) where
+  -- what is on the disks, and what a crash left, however a run ended
+  abbrev Ended : List D → List D → Type 0
+  Ended olds news =
+      (∥ (tells → AllWentOn script.roster (images view olds) (images view news)) ∥₁ ⊎ AreUnopened tells view script.roster 1 olds news)
+      × ∥ (tells → AllLeave view script.roster olds news) ∥₁
+
+  unopened : (olds news : List D) → AreUnopened tells view script.roster 1 olds news → Ended olds news
+  unopened olds news are = (inr are, ∣ (λ t. unopened_leave tells view script.roster t olds news are) ∣₁)
+
   -- the ways in which nothing ran
   over_refused : (olds news : List D) (number place : ℕ) → AreBack view olds news
-      → ((tells → HaveRecords script.roster (images view news)) ⊎ AreUnopened tells view script.roster 1 olds news)
+      → Ended olds news
       → (IsFirstRefused tells view script.roster number (mount.NotAggregate place) olds news ⊎ (tells → IsUnfit script.roster (images view olds) number place × AreStill script.roster (images view olds) (images view news)))
       → RefusedSo NoAggregate (no_aggregate_line number place) outcome before after → RanOver tells view script outcome olds news before after
-  over_refused olds news number place back records cause r =
+  over_refused olds news number place back ended cause r =
       (let h = refused_is outcome.status NoAggregate refl r.ends in
       let idle = refusal_runs_not outcome.status h in
       record {
         back = back;
         start = λ t ran. never_ran outcome.status idle ran;
         kept = λ t ran. never_ran outcome.status idle ran;
+        durable = λ t ran. never_ran outcome.status idle ran;
         failed = λ e. absurd (not_disk outcome.status r.ends e);
         refused = λ e. record { number = number; place = place; cause = cause; wrote = λ t. r.wrote t e };
-        records = records;
+        records = ended.0;
+        crash = ended.1;
       })
 
-  over_failed : (olds news : List D) (number : ℕ) → AreBack view olds news → ((tells → HaveRecords script.roster (images view news)) ⊎ AreUnopened tells view script.roster 1 olds news)
+  over_failed : (olds news : List D) (number : ℕ) → AreBack view olds news → Ended olds news
       → IsFailing view olds news number → RefusedSo NoDisk (failed_line number) outcome before after → RanOver tells view script outcome olds news before after
-  over_failed olds news number back records failing r =
+  over_failed olds news number back ended failing r =
       (let h = refused_is outcome.status NoDisk refl r.ends in
       let idle = refusal_runs_not outcome.status h in
       record {
         back = back;
         start = λ t ran. never_ran outcome.status idle ran;
         kept = λ t ran. never_ran outcome.status idle ran;
+        durable = λ t ran. never_ran outcome.status idle ran;
         failed = λ e. record { number = number; failing = failing; wrote = λ t. r.wrote t e };
         refused = λ e. absurd (not_aggregate outcome.status r.ends e);
-        records = records;
+        records = ended.0;
+        crash = ended.1;
       })
 
-  over_starved : (olds news : List D) → AreBack view olds news → ((tells → HaveRecords script.roster (images view news)) ⊎ AreUnopened tells view script.roster 1 olds news)
+  over_starved : (olds news : List D) → AreBack view olds news → Ended olds news
       → IsWithoutMemory outcome before after → RanOver tells view script outcome olds news before after
-  over_starved olds news back records r =
+  over_starved olds news back ended r =
       (let idle : has_run outcome.status ≡ false = ap has_run r.ends in
       record {
         back = back;
         start = λ t ran. never_ran outcome.status idle ran;
         kept = λ t ran. never_ran outcome.status idle ran;
+        durable = λ t ran. never_ran outcome.status idle ran;
         failed = λ e. absurd (not_disk outcome.status (inr r.ends) e);
         refused = λ e. absurd (not_aggregate outcome.status (inr r.ends) e);
-        records = records;
+        records = ended.0;
+        crash = ended.1;
       })
 
   -- the disk that failed is where it was
@@ -189,26 +206,30 @@ module _ {D writes : Type 0} (tells : Type 0) (view : D → DiskView) (script : 
   -- where they weren't opened
   pub over_unopened : (olds news : List D) (refused : StoresRefused) → AreUnopened tells view script.roster 1 olds news → IsUnopened tells view script.roster refused olds news → IsOpeningRefused refused outcome before after
       → RanOver tells view script outcome olds news before after
-  over_unopened olds news (opening.Refused number (mount.NotAggregate place)) are is r = over_refused olds news number place (unopened_back tells view script.roster olds news are) (inr are) (inl is) r
-  over_unopened olds news (opening.Refused number mount.Failed) are is r = over_failed olds news number (unopened_back tells view script.roster olds news are) (inr are) (unopened_fails olds news number is) r
-  over_unopened olds news (opening.Refused number mount.Memory) are is r = over_starved olds news (unopened_back tells view script.roster olds news are) (inr are) r
-  over_unopened olds news opening.Memory are is r = over_starved olds news (unopened_back tells view script.roster olds news are) (inr are) r
+  over_unopened olds news (opening.Refused number (mount.NotAggregate place)) are is r = over_refused olds news number place (unopened_back tells view script.roster olds news are) (unopened olds news are) (inl is) r
+  over_unopened olds news (opening.Refused number mount.Failed) are is r = over_failed olds news number (unopened_back tells view script.roster olds news are) (unopened olds news are) (unopened_fails olds news number is) r
+  over_unopened olds news (opening.Refused number mount.Memory) are is r = over_starved olds news (unopened_back tells view script.roster olds news are) (unopened olds news are) r
+  over_unopened olds news opening.Memory are is r = over_starved olds news (unopened_back tells view script.roster olds news are) (unopened olds news are) r
 
   module _ (olds news : List D) (stores left : List (ServerStore D)) (are : AreOpen tells view script.roster 1 olds stores) (count : length stores ≡ length script.roster.capacity)
-      (closed : news ≡ disks_of left) (placed : AreAsPlaced stores left) (same : AreSame (store_view tells view) stores left) where
+      (closed : news ≡ disks_of left) (placed : AreAsPlaced stores left) (same : AreSame (store_view tells view) stores left) (goes : ∥ (tells → AllGo view stores left) ∥₁) where
     back_is : AreBack view olds news
     back_is = subst (λ (l : List D). AreBack view olds l) (sym closed) (are_back tells view script.roster olds stores left are placed same)
 
-    records_are : tells → HaveRecords script.roster (images view news)
-    records_are t = subst (λ (l : List D). HaveRecords script.roster (images view l)) (sym closed) (have_records tells view script.roster olds stores left are placed same t)
+    ended : Ended olds news
+    ended =
+        subst (λ (l : List D). Ended olds l) (sym closed) (
+          inl (∥∥₁_map goes (λ gone t. went_on tells view script.roster olds stores left are placed same (gone t) t)),
+          ∥∥₁_map goes (λ gone t. all_leave tells view script.roster olds stores left are placed same (gone t) t),
+        )
 
     over_halted : (stopped : RunStopped) → IsStopped tells (store_view tells view) (told_by (store_view tells view) (length olds) stores) stores left stopped → IsRunRefused stopped outcome before after
         → RanOver tells view script outcome olds news before after
     over_halted (running.Failed server) is r =
-        over_failed olds news server.0 back_is (inl records_are)
+        over_failed olds news server.0 back_is ended
         (subst (λ (l : List D). IsFailing view olds l server.0) (sym closed) (is_failing tells view script.roster olds stores left server.0 are placed is)) r
     over_halted (running.Unfit disk slot) is r =
-        over_refused olds news disk (page_start (header_number slot)) back_is (inl records_are)
+        over_refused olds news disk (page_start (header_number slot)) back_is ended
         (inr (λ t.
         (let unfit = (is t).0 in
         let at = unfit.0 in (
@@ -222,7 +243,7 @@ module _ {D writes : Type 0} (tells : Type 0) (view : D → DiskView) (script : 
           },
           subst (λ (l : List D). AreStill script.roster (images view olds) (images view l)) (sym closed) (are_still tells view script.roster olds stores left are placed same t (is t).1),
         )))) r
-    over_halted running.Memory is r = over_starved olds news back_is (inl records_are) r
+    over_halted running.Memory is r = over_starved olds news back_is ended r
 
     over_went : (play : Play) (run : Played) → IsRunOf tells (store_view tells view) script (length olds) (Ok run) stores left → (has_run outcome.status ≡ true → outcome.played ≡ run)
         → ((has_run outcome.status ≡ true) ⊎ (outcome.status ≡ NoMemory)) → RanSo play script outcome before after → RanOver tells view script outcome olds news before after
@@ -239,18 +260,23 @@ module _ {D writes : Type 0} (tells : Type 0) (view : D → DiskView) (script : 
       kept = λ t ran.
           subst (λ (p : Played). AreKept p.last (images view news)) (sym (own ran))
           (subst (λ (l : List D). AreKept run.last (images view l)) (sym closed) (are_kept tells view script.roster olds stores left are placed same t _ run.last (is.ran.kept t)));
+      durable = λ t ran.
+          subst (λ (p : Played). AreDurable view p.last news) (sym (own ran))
+          (subst (λ (l : List D). AreDurable view run.last l) (sym closed)
+          (are_durable tells view script.roster olds stores left are placed same is.ran.ready run.last (are_kept tells view script.roster olds stores left are placed same t _ run.last (is.ran.kept t))));
       failed = λ e. absurd (told_no_disk outcome.status ends e);
       refused = λ e. absurd (told_no_aggregate outcome.status ends e);
-      records = inl records_are;
+      records = ended.0;
+      crash = ended.1;
     }
 
   -- a run on them stopped
   pub over_stopped : (olds news : List D) (stores : List (ServerStore D)) (stopped : RunStopped) → AreOpen tells view script.roster 1 olds stores → length stores ≡ length script.roster.capacity
       → IsRunOn tells view script (length olds) (Err stopped) stores news → IsRunRefused stopped outcome before after → RanOver tells view script outcome olds news before after
-  over_stopped olds news stores stopped are count on r = over_halted olds news stores on.left are count on.closed on.placed on.over.same stopped on.over.stopped r
+  over_stopped olds news stores stopped are count on r = over_halted olds news stores on.left are count on.closed on.placed on.over.same on.goes stopped on.over.stopped r
 
   -- or went, and was told
   pub over_told : (olds news : List D) (stores : List (ServerStore D)) (play : Play) (run : Played) → AreOpen tells view script.roster 1 olds stores → length stores ≡ length script.roster.capacity
       → IsRunOn tells view script (length olds) (Ok run) stores news → (has_run outcome.status ≡ true → outcome.played ≡ run) → ((has_run outcome.status ≡ true) ⊎ (outcome.status ≡ NoMemory))
       → RanSo play script outcome before after → RanOver tells view script outcome olds news before after
-  over_told olds news stores play run are count on own ends so = over_went olds news stores on.left are count on.closed on.placed on.over.same play run on.over own ends so
+  over_told olds news stores play run are count on own ends so = over_went olds news stores on.left are count on.closed on.placed on.over.same on.goes play run on.over own ends so

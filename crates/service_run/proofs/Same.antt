@@ -18,7 +18,8 @@ use Rattle.service_moves.specs.Stores.{AreSame, AreStores, states_of}
 use Rattle.service_moves.specs.declared.stopped.RunStopped.{RunStopped}
 use Rattle.service_moves.specs.declared.stopped.RunStopped.TheVariants.{Failed, Unfit, Memory}
 use Rattle.service_stores.specs.Starting.{told_of, told_by, start_from}
-use Rattle.service_run.proofs.Lists.{get_map}
+use Rattle.service_stores.specs.Steps.{MayBeAsked}
+use Rattle.service_run.proofs.Lists.{get_map, mapped}
 use Rattle.service_run.specs.Engine.{HasPlayed}
 use Rattle.service_run.specs.Steps.{IsRunOf}
 
@@ -96,8 +97,8 @@ module _ {S : Type 0} (view : S → View) where
     pub run_done : (olds mids news : List S) (start : Tree) (run : Played) → AreSame view olds mids → AreSame view mids news → (tells → misfit (told_by view disks olds) ≡ None)
         → (tells → start ≡ start_from script.roster (told_by view disks olds)) → (tells → KeepAll (λ host. 1) start (states_of view mids)) → HasPlayed script start run
         → (tells → KeepAll (λ host. 1) run.start (states_of view mids) → KeepAll (λ host. number_after host 1 run.history) (after_history run.start run.history) (states_of view news))
-        → IsRunOf tells view script disks (Ok run) olds news
-    run_done olds mids news start run same later fit tree starts has keeps = record {
+        → MayBeAsked view news → IsRunOf tells view script disks (Ok run) olds news
+    run_done olds mids news start run same later fit tree starts has keeps ready = record {
       same = same_trans olds mids news same later;
       ran = record {
         played = has.played;
@@ -107,6 +108,7 @@ module _ {S : Type 0} (view : S → View) where
             (let next : HostId → ℕ = λ host. number_after host 1 run.history in
             subst (λ (t : Tree). KeepAll next t (states_of view news)) (sym has.played.last)
             (keeps told (subst (λ (t : Tree). KeepAll (λ host. 1) t (states_of view mids)) (sym has.start) (starts told))));
+        ready = ready;
       };
       stopped = tt;
     }
@@ -143,6 +145,11 @@ module _ {S T : Type 0} (f : S → T) (view : T → View) where
     last = failed.last;
   }
 
+  asked_in : (stores : List S) → MayBeAsked (λ s. view (f s)) stores → MayBeAsked view (map f stores)
+  asked_in stores asked = record {
+    each = λ k store is. (let m = mapped f stores k store is in subst (λ (t : T). (view t).ready) m.is (asked.each k m.from m.was));
+  }
+
   stopped_in : (tells : Type 0) (disks : ℕ) (olds news : List S) (why : RunStopped) → IsStopped tells (λ s. view (f s)) (told_by (λ s. view (f s)) disks olds) olds news why
       → IsStopped tells view (told_by view disks (map f olds)) (map f olds) (map f news) why
   stopped_in tells disks olds news (Failed server) is = failed_in olds news server.0 is
@@ -158,6 +165,7 @@ module _ {S T : Type 0} (f : S → T) (view : T → View) where
       fit = λ told. ap misfit (told_in disks olds) ∙ is.ran.fit told;
       start = λ told. is.ran.start told ∙ ap (λ l. start_from script.roster l) (sym (told_in disks olds));
       kept = λ told. rw (states_in news) (is.ran.kept told);
+      ready = asked_in news is.ran.ready;
     };
     stopped = tt;
   }

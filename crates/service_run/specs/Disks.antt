@@ -17,11 +17,17 @@ use Rattle.std.specs.Prelude.{
   Ok,
 }
 use Rattle.std.specs.Option.{option_map}
+use Rattle.base_types.specs.Faults.{RoseBy}
+use Rattle.base_types.specs.Image.{AreBytes}
 use Rattle.base_types.specs.View.{View}
+use Rattle.base_types.specs.declared.ids.ServerId.{ServerId}
+use Rattle.base_outside.specs.Runs.{LeavesOnly}
 use Rattle.tree_calls.specs.declared.roster.Roster.{Roster}
 use Rattle.tree_answers.specs.declared.tree.Tree.{Tree}
 use Rattle.disk_aggregate.specs.declared.refused.MountRefused.TheVariants.{NotAggregate}
-use Rattle.disk_image.specs.Aggregate.{header_number}
+use Rattle.disk_aggregate.specs.Records.{HasSameRecord}
+use Rattle.disk_image.specs.Aggregate.{header_number, is_blank}
+use Rattle.disk_layout.specs.Half.{HasNoLog}
 use Rattle.disk_layout.specs.Places.{page_start}
 use Rattle.disk_records.specs.Record.{record_in}
 use Rattle.service_starts.specs.Fitting.{misfit}
@@ -30,6 +36,7 @@ use Rattle.service_starts.specs.declared.told.Told.{Told}
 use Rattle.script_lines.specs.declared.script.Script.{Script}
 use Rattle.service_disks.specs.Opening.{new_store, store_on}
 use Rattle.service_disks.specs.Stores.{server_of, IsFirstRefused, AreBack as AreUnopened}
+use Rattle.service_disks.specs.Trails.{IsReached}
 use Rattle.service_stores.specs.Starting.{told_of, start_from}
 use Rattle.store_state.specs.declared.state.StoreState.{StoreState}
 use Rattle.store_laws.specs.TreeKeeping.{KeepsOf}
@@ -74,15 +81,49 @@ abbrev pub AreKept : Tree → List (List ℕ) → Type 0
 AreKept tree images =
     (k : ℕ) (image : List ℕ) → slice_get images k ≡ Some image → IsKept tree (k + 1) image
 
+-- so it is of whatever a crash right after leaves of each disk
+pub record AreDurable {D : Type 0} (view : D → View) (tree : Tree) (disks : List D) : Type 0 where
+  pub each : (k : ℕ) (disk : D) (c : List ℕ)
+      → slice_get disks k ≡ Some disk → (view disk).may_leave c → IsKept tree (k + 1) c
+
 -- each disk has the record of the store that was on it, or of a new one where it was blank
 abbrev pub AreStill : Roster → List (List ℕ) → List (List ℕ) → Type 0
 AreStill roster olds news = (k : ℕ) (old new : List ℕ) → slice_get olds k ≡ Some old → slice_get news k ≡ Some new
     → record_in roster (server_of (k + 1)) new ≡ store_on roster (server_of (k + 1)) old
 
--- each disk has a record of a store of its server
-abbrev pub HaveRecords : Roster → List (List ℕ) → Type 0
-HaveRecords roster images = (k : ℕ) (image : List ℕ) → slice_get images k ≡ Some image
-    → (state : StoreState) × (record_in roster (server_of (k + 1)) image ≡ Some state)
+-- the bytes of a server's disk have the record that some acts made of that of the store which was on it before, or of a
+-- new one where it was blank
+pub record WentOn (roster : Roster) (server : ServerId) (old new : List ℕ) : Type 0 where
+  pub from : StoreState
+  pub was : store_on roster server old ≡ Some from
+  pub state : StoreState
+  pub found : record_in roster server new ≡ Some state
+  pub reached : IsReached from state
+
+-- so it is of each disk
+abbrev pub AllWentOn : Roster → List (List ℕ) → List (List ℕ) → Type 0
+AllWentOn roster olds news =
+    (k : ℕ) (old new : List ℕ) → slice_get olds k ≡ Some old → slice_get news k ≡ Some new
+    → WentOn roster (server_of (k + 1)) old new
+
+-- What a crash at any moment of a run may leave on a server's disk that held these bytes: on a blank one no log,
+-- refused at place 0; on another one the record that it had, or none as it; or, of what are bytes, the record that
+-- some acts made.
+abbrev pub IsLeftOfRun : Roster → ServerId → List ℕ → List ℕ → Type 0
+IsLeftOfRun roster server old c =
+    ((is_blank old ≡ true) × HasNoLog 0 c) ⊎ ((is_blank old ≡ false) × HasSameRecord roster server old c)
+    ⊎ (AreBytes c → WentOn roster server old c)
+
+-- That, or what a crash before the run could leave. Of a blank disk that failed nothing is told.
+abbrev pub LeavesOfRun : Roster → ServerId → View → View → Type 0
+LeavesOfRun roster server old new = (is_blank old.image ≡ true → RoseBy 1 old.faults new.faults → ⊥)
+    → LeavesOnly (IsLeftOfRun roster server old.image) old new
+
+-- so it is of each disk
+abbrev pub AllLeave : {D : Type 0} → (D → View) → Roster → List D → List D → Type 0
+AllLeave {D = D} view roster olds news =
+    (k : ℕ) (old new : D) → slice_get olds k ≡ Some old → slice_get news k ≡ Some new
+    → LeavesOfRun roster (server_of (k + 1)) (view old) (view new)
 
 -- the bytes of disks
 abbrev pub images : {D : Type 0} → (D → View) → List D → List (List ℕ)
@@ -113,20 +154,24 @@ pub record IsAggregateRefused {D writes : Type 0} (tells : Type 0) (view : D →
       ⊎ (tells → IsUnfit roster (images view old) number place × AreStill roster (images view old) (images view new))
   pub wrote : writes → Wrote (no_aggregate_line number place) before after
 
--- What became of disks that are handed back, the same ones in their order, where a script was to run over them; of what
--- they hold, where they tell it. A script that ran did so from the tree that they held, and they hold what it left.
--- Where one failed it did so twice, the second time at its last call; and one that is no aggregate is the first. In any
--- case each has a record of its server's store; or not all could be opened, and each that wasn't blank has the one that
--- it had.
+-- What became of disks that are handed back, the same ones in their order, where a script was to run over them; of
+-- what they hold, where they tell it. A script that ran did so from the tree that they held, and they hold what it
+-- left, also where a crash comes right after. Where one failed it did so twice, the second time at its last call;
+-- and one that is no aggregate is the first. However it ended, some acts made the record that each has of the one
+-- that it had; or not all could be opened, and each that wasn't blank has the one that it had. A crash at any moment
+-- left no more than that.
 pub record RanOver {D writes : Type 0} (tells : Type 0) (view : D → View) (script : Script) (outcome : Outcome)
     (old new : List D) (before after : Shown writes) : Type 0 where
   pub back : AreBack view old new
   pub start : tells → has_run outcome.status ≡ true
       → IsStartOf outcome.lines.roster (images view old) outcome.played.start
   pub kept : tells → has_run outcome.status ≡ true → AreKept outcome.played.last (images view new)
+  pub durable : tells → has_run outcome.status ≡ true → AreDurable view outcome.played.last new
   pub failed : outcome.status ≡ NoDisk → IsDiskRefused view old new before after
   pub refused : outcome.status ≡ NoAggregate → IsAggregateRefused tells view script.roster old new before after
-  pub records : (tells → HaveRecords script.roster (images view new)) ⊎ AreUnopened tells view script.roster 1 old new
+  pub records : ∥ (tells → AllWentOn script.roster (images view old) (images view new)) ∥₁
+      ⊎ AreUnopened tells view script.roster 1 old new
+  pub crash : ∥ (tells → AllLeave view script.roster old new) ∥₁
 
 -- the script that was read, or generated, was to run over the disks
 pub record IsRunOver {D reads writes : Type 0} (tells : Type 0) (view : D → View) (play : Play) (outcome : Outcome)

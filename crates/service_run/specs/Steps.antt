@@ -14,6 +14,7 @@ use Rattle.service_plain.specs.Played.{IsPlayed}
 use Rattle.service_plain.specs.declared.played.Played.{Played}
 use Rattle.script_lines.specs.declared.script.Script.{Script}
 use Rattle.service_disks.specs.Stores.{disks_of}
+use Rattle.service_disks.specs.Trails.{AllGo}
 use Rattle.service_disks.specs.View.{store_view}
 use Rattle.service_disks.specs.declared.disks.StoresRefused.{StoresRefused}
 use Rattle.service_disks.specs.declared.disks.StoresRefused.TheVariants as opening
@@ -24,19 +25,22 @@ use Rattle.service_moves.specs.Stores.{AreSame, states_of}
 use Rattle.service_moves.specs.declared.stopped.RunStopped.{RunStopped}
 use Rattle.service_moves.specs.declared.stopped.RunStopped.TheVariants as running
 use Rattle.service_stores.specs.Starting.{told_by, start_from}
+use Rattle.service_stores.specs.Steps.{MayBeAsked}
 use Rattle.service_run.specs.Lines.{no_aggregate_line}
 use Rattle.service_run.specs.Outcomes.{IsEmpty, RefusedSo}
 use Rattle.service_run.specs.World.{Shown}
 use Rattle.service_run.specs.declared.outcome.Outcome.{Outcome}
 use Rattle.service_run.specs.declared.outcome.Status.TheVariants.{NoDisk, NoAggregate, NoMemory}
 
--- A script ran from the tree that stores kept, of which so many in front are on disks, and they keep what came of it.
+-- A script ran from the tree that stores kept, of which so many in front are on disks, and they keep what came of it,
+-- and may be asked.
 pub record HasRunOver {S : Type 0} (tells : Type 0) (view : S → View) (script : Script) (disks : ℕ) (old new : List S)
     (run : Played) : Type 0 where
   pub played : IsPlayed script run
   pub fit : tells → misfit (told_by view disks old) ≡ None
   pub start : tells → run.start ≡ start_from script.roster (told_by view disks old)
   pub kept : tells → KeepAll (λ host. number_after host 1 run.history) run.last (states_of view new)
+  pub ready : MayBeAsked view new
 
 -- A script ran over stores, or why it didn't; each is still that of its server.
 pub record IsRunOf {S : Type 0} (tells : Type 0) (view : S → View) (script : Script) (disks : ℕ)
@@ -58,6 +62,7 @@ pub record IsRunOn {D : Type 0} (tells : Type 0) (view : D → DiskView) (script
   pub left : List (ServerStore D)
   pub closed : disks ≡ disks_of left
   pub placed : AreAsPlaced stores left
+  pub goes : ∥ (tells → AllGo view stores left) ∥₁
   pub over : IsRunOf tells (store_view tells view) script count result stores left
 
 -- memory ran out before anything was written

@@ -31,9 +31,12 @@ use std::thread::Threads;
 /// order, and are handed back so.
 ///
 /// The first disk is that of server 1. A blank one is formatted; a server without a disk has its filesets in memory,
-/// and at first none. Moves that an earlier run left unfinished are settled first, and those that go on are ended. Then
-/// the script runs on the tree of what the servers keep, and what came of it is kept by them: where the status is
-/// `Done` or `NoOutput`, each disk holds its server's part of the last tree.
+/// and at first none. Moves that an earlier run left unfinished are settled first, and those that go on are ended.
+/// Then the script runs on the tree of what the servers keep, and what came of it is kept by them: where the status
+/// is `Done` or `NoOutput`, each disk holds its server's part of the last tree, also where a crash comes right after.
+/// At any other status, and where a crash comes at any moment, each disk has the record that it had, or one that some
+/// acts of its server made of it; a crash may also leave a blank disk without a log, refused at place 0. Of a blank
+/// disk that failed, what a crash leaves isn't told.
 ///
 /// The status is `NoCommand` exactly where the words aren't in the grammar, and then the usage line is written, and
 /// nothing is called; `NoInput` only where the source's count of faults rose, and then `refused: read fault` is

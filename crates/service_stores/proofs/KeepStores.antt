@@ -9,6 +9,7 @@ use Rattle.tree_calls.specs.declared.roster.Roster.{Roster}
 use Rattle.store_memory.specs.Views.{IsSameStore, View}
 use Rattle.service_moves.specs.Stopping.{IsStopped}
 use Rattle.service_moves.specs.Stores.{AreSame, AreStores, IsStore}
+use Rattle.service_stores.specs.Steps.{MayBeAsked}
 use Rattle.service_moves.specs.declared.stopped.RunStopped.{RunStopped}
 use Rattle.service_moves.specs.declared.stopped.RunStopped.TheVariants.{Failed, Unfit, Memory}
 
@@ -52,6 +53,16 @@ pub stores_more : {S : Type 0} (view : S → View) (roster : Roster) (worn more 
 stores_more view roster worn more number [] le h = tt
 stores_more view roster worn more number (store ∷ stores) le h =
     (worn_more roster worn more number (view store) le h.0, stores_more view roster worn more (number + 1) stores le h.1)
+
+-- such stores may be asked
+asked_at : {S : Type 0} (view : S → View) (roster : Roster) (worn number : ℕ) (stores : List S) → AreStores view roster worn number stores
+    → (k : ℕ) (store : S) → slice_get stores k ≡ Some store → (view store).ready
+asked_at view roster worn number [] are k store e = absurd (cc)
+asked_at view roster worn number (x ∷ stores) are zero store e = subst (λ s. (view s).ready) (same_Some x store e) are.0.ready
+asked_at view roster worn number (x ∷ stores) are (suc k) store e = asked_at view roster worn (number + 1) stores are.1 k store e
+
+pub stores_asked : {S : Type 0} (view : S → View) (roster : Roster) (worn number : ℕ) (stores : List S) → AreStores view roster worn number stores → MayBeAsked view stores
+stores_asked view roster worn number stores are = record { each = asked_at view roster worn number stores are }
 
 -- a store is that of the same server as before
 pub record StaysSame (old new : View) : Type 0 where

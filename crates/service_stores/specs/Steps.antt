@@ -18,6 +18,10 @@ pub record IsReady (worn : ℕ) (store : View) : Type 0 where
 pub record AreReady {S : Type 0} (view : S → View) (worn : ℕ) (stores : List S) : Type 0 where
   pub each : (k : ℕ) (store : S) → slice_get stores k ≡ Some store → IsReady worn (view store)
 
+-- each may be asked
+pub record MayBeAsked {S : Type 0} (view : S → View) (stores : List S) : Type 0 where
+  pub each : (k : ℕ) (store : S) → slice_get stores k ≡ Some store → (view store).ready
+
 -- a store is that of the same server as before, may be opened anew, and its disk's count of faults didn't fall
 pub record IsStill (old new : View) : Type 0 where
   pub same : IsSameStore old new

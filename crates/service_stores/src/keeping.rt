@@ -31,6 +31,7 @@ ghost use Rattle.store_laws.specs.MovedLaws.{move_entry, moves_one, numbers_afte
 ghost use Rattle.message_types.specs.Soundness.{Each};
 ghost use Rattle.store_acts.specs.Acts.{state_after};
 ghost use Rattle.service_moves.specs.Batches.{batch_wear};
+ghost use Rattle.service_stores.specs.Steps.{MayBeAsked};
 ghost use Rattle.service_stores.specs.Stopping.{IsStoppedAt};
 ghost use Rattle.service_moves.specs.Stopping.{IsStopped};
 ghost use Rattle.service_moves.specs.Stores.{AreSame, AreStores, IsStore, states_of};
@@ -51,7 +52,7 @@ const ENTRIES_MAX: usize = 4_294_967_296;
 /// The stores keep what a history made of the tree that they kept. The first is that of server 1. Each does its acts in
 /// the order of the history, in batches of up to `BATCH_ACTS_MAX`: a call that was done under its number, and what a
 /// host stored under that of its write. At a move the store that the fileset leaves and the one that it comes to have
-/// done all that came before.
+/// done all that came before. After `Ok` each may be asked, so that what it keeps is durable.
 ///
 /// `Failed` comes where the disk of a server failed twice, and `Memory` where memory runs out, or where the history has
 /// more than `ENTRIES_MAX` entries. How far the stores came then isn't told.
@@ -67,6 +68,7 @@ pub fn keep<S: Store>(
     ensures kept { S.tells → KeepAll (λ host. 1) start.now (states_of S.view stores.old)
         → OnOk result (KeepAll (λ host. number_after host 1 history.now) (after_history start.now history.now)
         (states_of S.view stores.new)) }
+    ensures ready { OnOk result (MayBeAsked S.view stores.new) }
     ensures same { AreSame S.view stores.old stores.new }
     ensures stopped { IfErr result (IsStopped S.tells S.view [] stores.old stores.new) }
 {
@@ -91,6 +93,7 @@ fn keep_all<S: Store>(
     ensures kept { S.tells → KeepAll (λ host. 1) tree.old (states_of S.view stores.old)
         → OnOk result (KeepAll (numbers_after (λ host. 1) history.now) (after_history tree.old history.now)
         (states_of S.view stores.new)) }
+    ensures ready { OnOk result (MayBeAsked S.view stores.new) }
     ensures same { AreSame S.view stores.old stores.new }
     ensures stopped { IfErr result (IsStopped S.tells S.view [] stores.old stores.new) }
 {

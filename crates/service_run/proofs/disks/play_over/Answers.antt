@@ -21,7 +21,8 @@ returns-in-Ok g c =
     run_done view g.S.Store.tells c.args.script.now c.args.disks c.args.stores.now c.start_on.new.stores c.keep.new.stores c.in_ok-start.start run c.in_ok-start.ensures.same c.in-Ok.ensures.same c.in_ok-start.ensures.fit
     c.in_ok-start.ensures.tree c.in_ok-start.ensures.kept c.in_ok-played.ensures
     (λ told held.
-    subst (λ (l : List Entry). KeepAll (λ host. number_after host 1 l) (after_history run.start l) (states_of view c.keep.new.stores)) c.as_slice.ensures (c.in-Ok.ensures.kept told held)))
+    subst (λ (l : List Entry). KeepAll (λ host. number_after host 1 l) (after_history run.start l) (states_of view c.keep.new.stores)) c.as_slice.ensures (c.in-Ok.ensures.kept told held))
+    c.in-Ok.ensures.ready)
 
 pub returns-in-Err : goal.returns-in-Err
 returns-in-Err g c =

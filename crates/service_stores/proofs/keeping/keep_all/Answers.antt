@@ -1,7 +1,7 @@
 use Rattle.std.proofs.Common.{◌≡◌, ◌≤◌, ◌+◌, ◌*◌, ◌^◌, ◌∙◌, OnOk, Some, None, [], length, take, drop, refl, ap, sym, subst, arith}
 use Rattle.std.specs.List.{position}
 use Rattle.std.proofs.lemmas.List.{take_rest}
-use Rattle.std.proofs.lemmas.Result.{IfErr-weaker, err_from_is_err_and}
+use Rattle.std.proofs.lemmas.Result.{IfErr-weaker, err_from_is_err_and, on_ok_weaker}
 use Rattle.tree_answers.specs.declared.tree.Tree.{Tree}
 use Rattle.tree_answers.specs.Histories.{after_history}
 use Rattle.store_laws.specs.HistoryLaws.{Happens}
@@ -12,7 +12,7 @@ use Rattle.service_moves.specs.Stopping.{IsStopped}
 use Rattle.service_moves.specs.Stores.{AreStores, states_of}
 use Rattle.service_stores.proofs.Goes.{goes_may, goes_tree, goes_within}
 use Rattle.service_stores.proofs.Histories.{after_all, moves_nothing, numbers_all, numbers_both, roster_after}
-use Rattle.service_stores.proofs.KeepStores.{same_count, same_stores, same_then, stopped_then, stores_more}
+use Rattle.service_stores.proofs.KeepStores.{same_count, same_stores, same_then, stopped_then, stores_asked, stores_more}
 use Rattle.service_stores.proofs.keeping.keep_all.Goals as goal
 
 pub loop-place-init : goal.loop-place-init
@@ -144,3 +144,13 @@ returns-clause-stopped g c =
     let new = c.keep_quiet.new.stores in
     IfErr-weaker c.keep_quiet.result (IsStopped tells view [] now new) (IsStopped tells view [] old new)
     (λ why stopped. stopped_then tells view old now new why c.loop-place.invariant.same stopped) c.keep_quiet.ensures.stopped
+
+pub returns-clause-ready : goal.returns-clause-ready
+returns-clause-ready g c =
+    let view = g.S.Store.view in
+    let inv = c.loop-place.invariant in
+    let from = c.loop-place.from in
+    let roster = ap (λ (t : Tree). t.roster) inv.tree ∙ roster_after (take from c.args.history.now) c.args.tree.now in
+    on_ok_weaker c.keep_quiet.result (λ are. stores_asked view _ _ 1 c.keep_quiet.new.stores are)
+    (c.keep_quiet.ensures.stores (2 ^ 40 + 2048 * from)
+    (subst (λ r. AreStores view r (2 ^ 40 + 2048 * from) 1 c.loop-place.stores) (sym roster) inv.stores))

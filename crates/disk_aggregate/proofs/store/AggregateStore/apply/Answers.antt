@@ -1,7 +1,9 @@
-use Rattle.std.proofs.Common.{◌∙◌, sym, subst, ap}
+use Rattle.std.proofs.Common.{◌∙◌, List, length, sym, subst, ap, arith}
+use Rattle.std.proofs.lemmas.List.{take_all}
 use Rattle.base_outside.specs.Runs.{LeavesOnly}
 use Rattle.store_acts.specs.Acts.{dones_of, state_after}
 use Rattle.store_acts.specs.Sound.{AreActs}
+use Rattle.store_acts.specs.declared.act.Act.{Act}
 use Rattle.store_state.specs.declared.state.StoreState.{StoreState}
 use Rattle.disk_aggregate.specs.Applying.{IsDurable, IsLeftOfBatch}
 use Rattle.disk_aggregate.specs.Stands.{disk_in, state_in}
@@ -42,6 +44,15 @@ returns-in-Ok-clause-durable g c = λ told.
     (settled_durable (state_in new) (view (disk_in new)) stands.1.settled
     (stands_store g.D.Disk.tells view (state_in new) new.wear new.log stands.1 told (g.met.D.Disk.has_bytes (disk_in new) told)).found))
 
+pub returns-in-Ok-clause-made : goal.returns-in-Ok-clause-made
+returns-in-Ok-clause-made g c = λ told. (
+  length c.args.batch.now,
+  omega arith,
+  seen_open g.D.Disk.view c.do_batch.new.self c.in-Ok.ensures.stands.0 ∙ c.in-Ok.ensures.state
+      ∙ ap (λ (s : StoreState). state_after s c.args.batch.now) (sym (seen_open g.D.Disk.view c.args.self.now c.requires.ready.0))
+      ∙ ap (λ (l : List Act). state_after (kept_state g.D.Disk.view c.args.self.now) l) (sym (take_all (length c.args.batch.now) c.args.batch.now (omega arith))),
+)
+
 pub returns-in-Ok-clause-crash : goal.returns-in-Ok-clause-crash
 returns-in-Ok-clause-crash g c = λ told.
     (let view = g.D.Disk.view in
@@ -49,11 +60,14 @@ returns-in-Ok-clause-crash g c = λ told.
     let new = c.do_batch.new.self in
     subst (λ (s : StoreState). LeavesOnly (IsLeftOfBatch new.wear s c.args.batch.now) (view (disk_in old)) (view (disk_in new))) (sym (seen_open view old c.requires.ready.0)) (c.in-Ok.ensures.crash told))
 
-pub returns-in-Err-clause-fault : goal.returns-in-Err-clause-fault
-returns-in-Err-clause-fault g c = λ told fits.
+pub returns-in-Err-clause-made : goal.returns-in-Err-clause-made
+returns-in-Err-clause-made g c = λ told.
     (let made = c.in-Err.ensures in
     left_seen g.D.Disk.view c.args.self.now c.do_batch.new.self made.server made.roster c.args.batch.now (c.requires.ready.1.record_held told).storable.limits (subst (λ (s : StoreState). AreActs s.roster s.server c.args.batch.now) (seen_open g.D.Disk.view c.args.self.now c.requires.ready.0) c.requires.acts).each
     made.shut (made.left told) (kept_state g.D.Disk.view c.args.self.now) (seen_open g.D.Disk.view c.args.self.now c.requires.ready.0))
+
+pub returns-in-Err-clause-fault : goal.returns-in-Err-clause-fault
+returns-in-Err-clause-fault g c = λ told fits. returns-in-Err-clause-made g c told
 
 pub returns-in-Err-clause-same : goal.returns-in-Err-clause-same
 returns-in-Err-clause-same g c = seen_same g.D.Disk.view c.args.self.now c.do_batch.new.self c.in-Err.ensures.server c.in-Err.ensures.roster g.D.Disk.tells
