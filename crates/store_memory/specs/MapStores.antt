@@ -1,5 +1,5 @@
 -- What is seen of a store in memory.
-use Rattle.std.specs.Prelude.{◌+◌, ⊤, false}
+use Rattle.std.specs.Prelude.{◌+◌, ⊤, false, None}
 use Rattle.store_memory.specs.declared.map_store.MapStore.{MapStore}
 use Rattle.store_state.specs.declared.state.StoreState.{StoreState}
 use Rattle.store_memory.specs.Views.{View}
@@ -17,4 +17,7 @@ map_view store = record {
   wear = store.state.epoch + store.state.ship;
   faults = 0;
   last_failed = false;
+  moment = 0;
+  left_since = λ t c. ⊥;
+  found_on = λ c. None;
 }

@@ -17,7 +17,7 @@ ghost use Rattle.store_memory.specs.Reading.{
 ghost use Rattle.store_state.specs.Rows.{answer_to, found_named};
 ghost use Rattle.store_memory.specs.Sound.{IsMover, IsLeavingOf, IsSlot};
 ghost use Rattle.store_acts.specs.Sound.{AreActs, AllFit, IsFor};
-ghost use Rattle.store_memory.specs.Views.{View, IsBlamed, IsSameStore, IsAsked};
+ghost use Rattle.store_memory.specs.Views.{View, IsBlamed, IsSameStore, IsAsked, Leaves, IsFirstOf};
 ghost use Rattle.store_memory.specs.declared.store.StoreFault.TheVariants.{Memory};
 
 use crate::told::{Kept, Looked, Slot};
@@ -51,7 +51,8 @@ impl From<NoMemory> for StoreFault {
 ///
 /// Of a fault: `Memory` of a call that only tells something leaves the store as it was. After another fault `reopen`
 /// has to succeed before anything else is asked. After a fault of `apply` the store holds what the first acts of the
-/// batch made, up to one of them. `Failed` comes only where the disk's count of faults rose and its last call failed.
+/// batch made, up to one of them, and that is what a crash at any moment of the call leaves, or what one could have left
+/// before. `Failed` comes only where the disk's count of faults rose and its last call failed.
 ///
 /// The acts and what they leave are this project's own; that a server keeps what it replies, and replies it again, is
 /// after Kazar et al., "DEcorum File System Architectural Overview", 1990.
@@ -74,6 +75,7 @@ pub trait Store {
             → OnOk result ((view self.new).state ≡ state_after (view self.old).state batch.now) }
         ensures fault { tells → AllFit (view self.old).state batch.now → OnErr result ((k : ℕ)
             × (k ≤ length batch.now) × ((view self.new).state ≡ state_after (view self.old).state (take k batch.now))) }
+        ensures leaves { tells → Leaves (IsFirstOf (view self.old).state batch.now) (view self.old) (view self.new) }
         ensures same { IsSameStore (view self.old) (view self.new) }
         ensures ready { OnOk result (view self.new).ready }
         ensures mendable { (view self.new).mendable }
@@ -85,6 +87,7 @@ pub trait Store {
         requires mendable { (view self.old).mendable }
         requires wear { (view self.old).wear < 2 ^ 47 }
         ensures state { tells → (view self.new).state ≡ (view self.old).state }
+        ensures leaves { tells → Leaves (IsFirstOf (view self.old).state []) (view self.old) (view self.new) }
         ensures same { IsSameStore (view self.old) (view self.new) }
         ensures ready { OnOk result (view self.new).ready }
         ensures mendable { (view self.new).mendable }
