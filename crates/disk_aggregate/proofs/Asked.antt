@@ -1,10 +1,11 @@
 -- What a store in memory tells is told by its aggregate.
-use Rattle.std.proofs.Common.{◌≡◌, ◌≤◌, refl, sym, subst, ap, ◌∙◌, arith}
+use Rattle.std.proofs.Common.{◌≡◌, ◌≤◌, refl, sym, subst, ap, ◌∙◌, inl, arith}
 use Rattle.std.specs.Prelude.{⊤, Result, Ok, Err}
 use Rattle.base_types.specs.Image.{AreBytes}
 use Rattle.base_types.specs.View.{View as DiskView}
 use Rattle.store_memory.specs.MapStores.{kept_in, map_view}
 use Rattle.store_memory.specs.Views.{IsAsked, IsBlamed}
+use Rattle.store_memory.proofs.Doing.{leaves_none}
 use Rattle.store_memory.specs.declared.map_store.MapStore.{MapStore}
 use Rattle.store_memory.specs.declared.store.StoreFault.{StoreFault}
 use Rattle.store_memory.specs.declared.store.StoreFault.TheVariants as stores
@@ -12,6 +13,7 @@ use Rattle.store_state.specs.declared.state.StoreState.{StoreState}
 use Rattle.disk_anode.specs.Faults.{IsNodeFault}
 use Rattle.disk_anode.specs.declared.fault.NodeFault.{NodeFault}
 use Rattle.disk_anode.specs.declared.fault.NodeFault.TheVariants as nodes
+use Rattle.disk_records.specs.Record.{record_in}
 use Rattle.disk_aggregate.specs.Refused.{store_fault}
 use Rattle.disk_aggregate.specs.Stands.{Stands, StandsOn, disk_in}
 use Rattle.disk_aggregate.specs.StoreView.{aggregate_view}
@@ -32,6 +34,7 @@ module _ {D : Type 0} (tells : Type 0) (view : D → DiskView) (old : Aggregate 
       record {
         same = seen_same view old new (ap (λ (s : StoreState). s.server) same) (ap (λ (s : StoreState). s.roster) same) tells;
         state = λ told. seen_open view new stands.0 ∙ same ∙ sym (seen_open view old stands.0);
+        leaves = λ told. record { later = omega arith; finds = λ c. ap (λ (s : StoreState). record_in s.roster s.server c) same; each = λ t c le left. inl left };
         wear = refl;
         ready = λ other. now;
         mendable = stands_mendable tells view new now bytes;
@@ -43,6 +46,7 @@ module _ {D : Type 0} (tells : Type 0) (view : D → DiskView) (old : Aggregate 
   asked_none = record {
     same = seen_same view old old refl refl tells;
     state = λ told. refl;
+    leaves = λ told. leaves_none _ (aggregate_view tells view old);
     wear = refl;
     ready = λ other. stands;
     mendable = stands_mendable tells view old stands bytes;

@@ -15,3 +15,4 @@ pub mod Seen
 pub mod Mending
 pub mod Asked
 pub mod Acted
+pub mod Records

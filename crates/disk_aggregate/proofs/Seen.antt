@@ -61,9 +61,9 @@ module _ (server : ℕ) (bytes : List ℕ) (image : Image) where
       by (inr is) = under_is (superblock_of bytes) (sym (cond-false off None there is) ∙ e)
 
 -- so a record that bytes have is of the server and the roster for which they have it
-record IsOwn (server : ServerId) (roster : Roster) (state : StoreState) : Type 0 where
-  server_is : state.server ≡ server
-  roster_is : state.roster ≡ roster
+pub record IsOwn (server : ServerId) (roster : Roster) (state : StoreState) : Type 0 where
+  pub server_is : state.server ≡ server
+  pub roster_is : state.roster ≡ roster
 
 record_own : (roster : Roster) (server : ServerId) (bytes : List ℕ) (state : StoreState) → record_in roster server bytes ≡ Some state → IsOwn server roster state
 record_own roster server bytes state e = by (image_of server.0 bytes) refl e
@@ -98,7 +98,7 @@ module _ {D : Type 0} (view : D → DiskView) (aggregate : Aggregate D) where
       by (Some state) is = record_own known.roster known.server bytes state is
 
   -- what is seen is of its server and roster
-  seen_own : IsOwn known.server known.roster (kept_state view aggregate)
+  pub seen_own : IsOwn known.server known.roster (kept_state view aggregate)
   seen_own = by (cases_Bool aggregate.is_open)
     where
       by : (aggregate.is_open ≡ true) ⊎ (aggregate.is_open ≡ false) → IsOwn known.server known.roster (kept_state view aggregate)

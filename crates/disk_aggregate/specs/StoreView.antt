@@ -1,5 +1,6 @@
 -- What is seen of an aggregate.
-use Rattle.std.specs.Prelude.{◌≡◌, if◌then◌else◌, unwrap_or}
+use Rattle.std.specs.Prelude.{◌≡◌, ℕ, List, Option, if◌then◌else◌, unwrap_or}
+use Rattle.base_types.specs.Image.{AreBytes}
 use Rattle.base_types.specs.View.{View as DiskView}
 use Rattle.store_memory.specs.Views.{View}
 use Rattle.store_state.specs.declared.state.StoreState.{StoreState}
@@ -18,6 +19,14 @@ disk_record view aggregate =
 abbrev pub kept_state : {D : Type 0} → (D → DiskView) → Aggregate D → StoreState
 kept_state view aggregate = if aggregate.is_open then state_in aggregate else disk_record view aggregate
 
+-- what a crash at some moment from one on might have left of its disk, which are bytes, and the record that they have of
+-- its server's store
+abbrev pub left_of : {D : Type 0} → (D → DiskView) → Aggregate D → ℕ → List ℕ → Type 0
+left_of view aggregate moment c = AreBytes c × (view (disk_in aggregate)).left_since moment c
+
+abbrev pub found_of : {D : Type 0} → Aggregate D → List ℕ → Option StoreState
+found_of aggregate c = record_in (state_in aggregate).roster (state_in aggregate).server c
+
 -- It may be asked while it stands, and opened again where its disk holds what it keeps.
 abbrev pub aggregate_view : {D : Type 0} → Type 0 → (D → DiskView) → Aggregate D → View
 aggregate_view tells view aggregate = record {
@@ -27,6 +36,9 @@ aggregate_view tells view aggregate = record {
   wear = aggregate.wear;
   faults = (view (disk_in aggregate)).faults;
   last_failed = (view (disk_in aggregate)).last_failed;
+  moment = (view (disk_in aggregate)).moment;
+  left_since = left_of view aggregate;
+  found_on = found_of aggregate;
 }
 
 -- An aggregate as it was just formatted or mounted: what it keeps is what it has in memory, it may be asked and opened

@@ -14,7 +14,7 @@ ghost use Rattle.store_memory.specs.Reading.{
   status_told,
 };
 ghost use Rattle.store_memory.specs.Sound.{IsLeavingOf, IsMover, IsSlot};
-ghost use Rattle.store_memory.specs.Views.{IsAsked, IsBlamed, IsSameStore};
+ghost use Rattle.store_memory.specs.Views.{IsAsked, IsBlamed, IsSameStore, Leaves, IsFirstOf};
 ghost use Rattle.store_state.specs.Rows.{answer_to, found_named};
 ghost use Rattle.store_acts.specs.Acts.{dones_of, state_after};
 ghost use Rattle.store_acts.specs.Sound.{AllFit, AreActs, IsFor};
@@ -54,6 +54,8 @@ impl<D: Disk> Store for Aggregate<D> {
         ensures fault { D.tells → AllFit (seen D.tells D.view self.old).state batch.now → OnErr result ((k : ℕ)
             × (k ≤ length batch.now) × ((seen D.tells D.view self.new).state
             ≡ state_after (seen D.tells D.view self.old).state (take k batch.now))) }
+        ensures leaves { D.tells → Leaves (IsFirstOf (seen D.tells D.view self.old).state batch.now)
+            (seen D.tells D.view self.old) (seen D.tells D.view self.new) }
         ensures same { IsSameStore (seen D.tells D.view self.old) (seen D.tells D.view self.new) }
         ensures ready { OnOk result (seen D.tells D.view self.new).ready }
         ensures mendable { (seen D.tells D.view self.new).mendable }
@@ -80,6 +82,8 @@ impl<D: Disk> Store for Aggregate<D> {
         requires mendable { (seen D.tells D.view self.old).mendable }
         requires wear { (seen D.tells D.view self.old).wear < 2 ^ 47 }
         ensures state { D.tells → (seen D.tells D.view self.new).state ≡ (seen D.tells D.view self.old).state }
+        ensures leaves { D.tells → Leaves (IsFirstOf (seen D.tells D.view self.old).state [])
+            (seen D.tells D.view self.old) (seen D.tells D.view self.new) }
         ensures same { IsSameStore (seen D.tells D.view self.old) (seen D.tells D.view self.new) }
         ensures ready { OnOk result (seen D.tells D.view self.new).ready }
         ensures mendable { (seen D.tells D.view self.new).mendable }

@@ -143,6 +143,7 @@ anodes_count state id holding to ship h held stay =
 
 -- what the store that a fileset is leaving tells of a part is what the other one takes next
 pub record TakesNext (state : StoreState) (holding : Holding) (ship : Ship) (mover : Mover) (at : ℕ) (act : Act) : Type 0 where
+  pub here : slice_get (all_parts holding ship.from ship.number mover) at ≡ Some act
   pub fits : Fits (state_after state (take at (all_parts holding ship.from ship.number mover))) act
   pub again : IsRepeatable (state_after state (take at (all_parts holding ship.from ship.number mover))) act
   pub more : state_after state (take (at + 1) (all_parts holding ship.from ship.number mover))
@@ -166,6 +167,7 @@ takes_next sender receiver holding ship mover at m low =
     let may = m.parts at (part_act ship at (shipped sender ship.fileset at mover)) is in
     let now = state_after receiver (take at parts) in
     record {
+      here = is;
       fits = may.fits;
       again = moves_repeat now (part_act ship at (shipped sender ship.fileset at mover)) (apart_of now may.storable) tt;
       more = state_more receiver parts at (part_act ship at (shipped sender ship.fileset at mover)) is;

@@ -1,6 +1,6 @@
 -- What moves that are finished leave.
-use Rattle.std.proofs.Common.{◌≡◌, ◌≢◌, ◌≤◌, ◌<◌, ◌⊎◌, ℕ, zero, ◌+◌, ◌-◌, List, length, set, inl, inr, refl, sym, subst, ◌∙◌, ap, arith}
-use Rattle.std.specs.Prelude.{Bool, true, false, slice_get, Some, None, Option, Result, OnOk, nat_le, nat_lt, ◌&&◌}
+use Rattle.std.proofs.Common.{◌≡◌, ◌≢◌, ◌≤◌, ◌<◌, ◌⊎◌, ℕ, zero, ◌+◌, ◌-◌, List, [], length, set, inl, inr, refl, sym, subst, ◌∙◌, ap, arith}
+use Rattle.std.specs.Prelude.{Bool, true, false, slice_get, Some, None, Option, Result, Ok, OnOk, nat_le, nat_lt, ◌&&◌}
 use Rattle.std.specs.List.{list_all}
 use Rattle.std.proofs.lemmas.Bool.{and_parts, false≢true, leb-true}
 use Rattle.base_types.specs.declared.ids.FilesetId.{FilesetId}
@@ -8,7 +8,7 @@ use Rattle.base_types.specs.declared.ids.ServerId.{ServerId}
 use Rattle.base_types.specs.declared.limits.TheConstants.{SERVERS_MAX, HOSTS_MAX, GROUPS_MAX, CAPACITY_MIN, CAPACITY_MAX, CACHED_TOKENS_MIN, CACHED_TOKENS_MAX}
 use Rattle.tree_calls.specs.declared.roster.Roster.{Roster}
 use Rattle.tree_calls.specs.Limits.{is_between, keeps_limits}
-use Rattle.store_memory.specs.Views.{View}
+use Rattle.store_memory.specs.Views.{View, Leaves, IsFirstOf}
 use Rattle.store_memory.specs.Sound.{IsLeavingOf, IsMover}
 use Rattle.store_memory.specs.declared.told.Slot.{Slot}
 use Rattle.tree_answers.specs.Moving.{left_tree}
@@ -35,6 +35,11 @@ use Rattle.service_moves.specs.declared.ships.Ship.{Ship}
 use Rattle.service_moves.specs.declared.stopped.RunStopped.{RunStopped}
 use Rattle.service_moves.proofs.Carried.{may_ask, of_same}
 use Rattle.service_moves.proofs.Goes.{set_same, two_replaced}
+use Rattle.service_moves.specs.Doing.{Step, DoSteps}
+use Rattle.service_moves.specs.Plans.{ship_steps, AreMoves}
+use Rattle.service_moves.proofs.Doing.{steps_one, steps_then}
+use Rattle.service_moves.proofs.MovedSteps.{ship_moves}
+use Rattle.service_moves.proofs.Twice.{done_none}
 use Rattle.service_moves.proofs.Stores.{either_place, is_there, map_before, map_set, map_there, on_ok_then, set_beside, set_there, there_within}
 
 -- the mover under which a ship goes again
@@ -257,3 +262,36 @@ one_goes_on view stores new result from tree s0 s1 ship keep was same next is le
     ∙ ap (λ s. two_set states place (act_done s (Left ship.fileset)).state (ship.to.0 - 1) (state_after (view b).state (all_parts may.holding ship.from ship.number (mover_again ship)))) same
     ∙ ap (λ s. two_set states place (act_done start (Left ship.fileset)).state (ship.to.0 - 1) (state_after s (all_parts may.holding ship.from ship.number (mover_again ship)))) at))
     (send s1 b may.holding apart first second sends)
+
+-- what finishing from one store makes of all
+pub one_does : {S T : Type 0} (view : S → View) (stores new : List S) (result : Result (Unit {0}) RunStopped) (from : ServerId) (tree : Tree) (s0 s1 : S) (ship : Ship) (value : T) → KeepUnderWay tree (states_of view stores)
+    → slice_get stores (from.0 - 1) ≡ Some s0 → (view s1).state ≡ (view s0).state → Leaves (IsFirstOf (view s0).state []) (view s0) (view s1) → IsNextShip from (view s1).state (ship_told (view s1).state) (Some ship)
+    → ship.from ≡ from → (view s0).state.server ≡ from → IsMover (view s0).state.roster (mover_again ship)
+    → ((a b : S) (held : Holding) → ship.from.0 ≢ ship.to.0 → slice_get (set stores (from.0 - 1) s1) (ship.from.0 - 1) ≡ Some a
+    → slice_get (set stores (from.0 - 1) s1) (ship.to.0 - 1) ≡ Some b → MaySend (view a).state (view b).state held ship (mover_again ship)
+    → DoSteps view result (ship_steps ship.from ship.to ship.fileset held ship.number (mover_again ship)) (set stores (from.0 - 1) s1) new)
+    → (steps : List Step) × AreMoves steps × DoSteps view result steps stores new
+one_does view stores new result from tree s0 s1 ship value keep was same left next is own mover send =
+    let states = states_of view stores in
+    let start = (view s0).state in
+    let place = from.0 - 1 in
+    let mid = set stores place s1 in
+    let there = map_there (λ store. (view store).state) stores place s0 was in
+    let here : IsNextShip from start (ship_told start) (Some ship) = subst (λ s. IsNextShip from s (ship_told s) (Some ship)) same next in
+    let told : Told ship.from start ship = told_next ship.from start ship (subst (λ x. IsNextShip x start (ship_told start) (Some ship)) (sym is) here) in
+    let mine : start.server ≡ ship.from = own ∙ sym is in
+    let may = may_finish tree states place start ship keep there mine mover told in
+    let (b, to, at) = map_before (λ store. (view store).state) stores (ship.to.0 - 1) may.goes.receiver may.goes.there in
+    let two : place ≢ ship.to.0 - 1 = may.goes.two in
+    let from_place : ship.from.0 - 1 ≡ place = ap (λ (s : ServerId). s.0 - 1) is in
+    let apart : ship.from.0 ≢ ship.to.0 = λ e. two (sym from_place ∙ ap (λ n. n - 1) e) in
+    let low = there_within stores place s0 was in
+    let first : slice_get mid (ship.from.0 - 1) ≡ Some s1 = ap (slice_get mid) from_place ∙ set_there stores place s1 low in
+    let second : slice_get mid (ship.to.0 - 1) ≡ Some b = set_beside stores place (ship.to.0 - 1) s1 (λ e. two (sym e)) ∙ to in
+    let sends : MaySend (view s1).state (view b).state may.holding ship (mover_again ship) =
+    subst (λ s. MaySend s (view b).state may.holding ship (mover_again ship)) (sym same) (subst (λ s. MaySend start s may.holding ship (mover_again ship)) (sym at) may.send) in
+    let steps = ship_steps ship.from ship.to ship.fileset may.holding ship.number (mover_again ship) in (
+      steps,
+      ship_moves ship.from ship.to ship.fileset may.holding ship.number (mover_again ship),
+      steps_then view value result [] steps stores mid new (steps_one view {E = RunStopped} (Ok value) [] stores place s0 s1 was (done_none (Ok value) (view s0) (view s1) same left)) (send s1 b may.holding apart first second sends),
+    )

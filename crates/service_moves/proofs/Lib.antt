@@ -4,9 +4,13 @@ pub mod Numbered
 pub mod Again
 pub mod Repeats
 pub mod Tries
+pub mod Twice
 pub mod Stores
+pub mod Doing
 pub mod Carried
 pub mod Between
+pub mod Sent
 pub mod Goes
 pub mod Moved
+pub mod MovedSteps
 pub mod Finished

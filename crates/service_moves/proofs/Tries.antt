@@ -1,6 +1,6 @@
 -- What a batch leaves that is tried twice, and what batches leave one after the other.
-use Rattle.std.proofs.Common.{◌≡◌, ◌≤◌, ◌⊎◌, ℕ, zero, suc, ◌+◌, ◌-◌, List, [], ◌∷◌, length, take, drop, max, min, inl, inr, refl, sym, subst, ◌∙◌, ap, arith}
-use Rattle.std.proofs.lemmas.List.{length-take, length-drop, take_min}
+use Rattle.std.proofs.Common.{◌≡◌, ◌≤◌, ◌⊎◌, ℕ, zero, suc, ◌+◌, ◌-◌, List, [], ◌∷◌, length, take, drop, ◌++◌, max, min, inl, inr, refl, sym, subst, ◌∙◌, ap, arith}
+use Rattle.std.proofs.lemmas.List.{length-take, length-drop, take_min, take-append-drop}
 use Rattle.message_types.specs.Soundness.{Each}
 use Rattle.store_acts.specs.Acts.{act_done, booted, state_after}
 use Rattle.store_acts.specs.Sound.{AllFit, Fits}
@@ -81,13 +81,6 @@ once_again state act f same = record { fits = fits; whole = whole; part = part }
         ap (λ acts. state_after (state_after state (take (suc k) (act ∷ []))) acts) (one j)
         ∙ again k ∙ sym (done (max k j)) ∙ ap (λ n. state_after state (take n (act ∷ []))) (sym most)
 
--- what the first of one act leave
-pub once_failed : (start now : StoreState) (act : Act) → (k : ℕ) × (k ≤ length (act ∷ [])) × (now ≡ state_after start (take k (act ∷ [])))
-    → (now ≡ start) ⊎ (now ≡ (act_done start act).state)
-once_failed start now act (zero, low, e) = inl e
-once_failed start now act (suc zero, low, e) = inr e
-once_failed start now act (suc (suc k), low, e) = absurd (omega (arith, low))
-
 -- acts fit again
 pub again_fits : (start after opened : StoreState) (batch : List Act) (k : ℕ) → IsAgain start batch → after ≡ state_after start (take k batch) → opened ≡ after → AllFit opened batch
 again_fits start after opened batch k h first same = subst (λ s. AllFit s batch) (sym (same ∙ first)) (h.fits k)
@@ -128,13 +121,6 @@ pub has_begun : (start opened : StoreState) → (opened.epoch ≡ start.epoch �
 has_begun start opened h (inl same) = absurd (h (ap (λ (s : StoreState). s.epoch) same))
 has_begun start opened h (inr made) = made
 
--- one batch more
-after_more : (n m : ℕ) (acts : List Act) (s : StoreState) → state_after (state_after s (take n acts)) (take m (drop n acts)) ≡ state_after s (take (n + m) acts)
-after_more zero m acts s = let e : zero + m ≡ m = omega arith in rw e refl
-after_more (suc n) zero [] s = let e : suc n + zero ≡ suc n = omega arith in rw e refl
-after_more (suc n) (suc m) [] s = let e : suc n + suc m ≡ suc (suc (n + m)) = omega arith in rw e refl
-after_more (suc n) m (act ∷ acts) s = let e : suc n + m ≡ suc (n + m) = omega arith in rw e (after_more n m acts (act_done s act).state)
-
 -- a batch of many acts
 abbrev pub batch_in : List Act → ℕ → ℕ → List Act
 batch_in acts from to = take (to - from) (drop from acts)
@@ -153,26 +139,6 @@ pub batch_again : (start now : StoreState) (acts : List Act) (from to : ℕ) →
     → IsAgain now (batch_in acts from to)
 batch_again start now acts from to e f h = new_again (batch_in acts from to) now (batch_fits start now acts from to e f) (batch_new start now acts from to e h)
 
--- what it leaves
-pub batch_after : (start now next : StoreState) (acts : List Act) (from to : ℕ) → from ≤ to → now ≡ state_after start (take from acts) → next ≡ state_after now (batch_in acts from to)
-    → next ≡ state_after start (take to acts)
-batch_after start now next acts from to low e s =
-    let sum : from + (to - from) ≡ to = omega (arith, low) in
-    s ∙ ap (λ x. state_after x (batch_in acts from to)) e ∙ after_more from (to - from) acts start ∙ ap (λ n. state_after start (take n acts)) sum
-
--- and where it fails
-pub batch_failed : (start now next : StoreState) (acts : List Act) (from to j : ℕ) → from ≤ length acts → now ≡ state_after start (take from acts)
-    → j ≤ length (batch_in acts from to) → next ≡ state_after now (take j (batch_in acts from to))
-    → (k : ℕ) × (k ≤ length acts) × (next ≡ state_after start (take k acts))
-batch_failed start now next acts from to j low e short s =
-    let size = length-take (to - from) (drop from acts) in
-    let left = length-drop from acts in
-    let part : take j (batch_in acts from to) ≡ take j (drop from acts) = take_within j (to - from) (drop from acts) (omega (arith, size, short)) in (
-      from + j,
-      omega (arith, size, left, low, short),
-      s ∙ ap (state_after now) part ∙ ap (λ x. state_after x (take j (drop from acts))) e ∙ after_more from j acts start,
-    )
-
 -- all of them
 pub take_all : (n : ℕ) (acts : List Act) → length acts ≤ n → take n acts ≡ acts
 take_all zero [] h = refl
@@ -185,3 +151,19 @@ pub take_to : (acts : List Act) (to end : ℕ) → to ≡ min (length acts) end 
 take_to acts to end e =
     let swapped : to ≡ min end (length acts) = omega (arith, e) in
     ap (λ n. take n acts) swapped ∙ take_min end acts
+
+-- the acts so far and a batch are the acts up to its end
+take_more : (n m : ℕ) (acts : List Act) → take n acts ++ take m (drop n acts) ≡ take (n + m) acts
+take_more zero m acts = let e : zero + m ≡ m = omega arith in rw e refl
+take_more (suc n) zero [] = let e : suc n + zero ≡ suc n = omega arith in rw e refl
+take_more (suc n) (suc m) [] = let e : suc n + suc m ≡ suc (suc (n + m)) = omega arith in rw e refl
+take_more (suc n) m (act ∷ acts) = let e : suc n + m ≡ suc (n + m) = omega arith in rw e (ap (λ xs. act ∷ xs) (take_more n m acts))
+
+pub take_batch : (acts : List Act) (from to : ℕ) → from ≤ to → take from acts ++ batch_in acts from to ≡ take to acts
+take_batch acts from to low =
+    let sum : from + (to - from) ≡ to = omega (arith, low) in
+    take_more from (to - from) acts ∙ ap (λ n. take n acts) sum
+
+-- and with what is left they are all
+pub take_rest : (acts : List Act) (from to : ℕ) → from ≤ to → (take from acts ++ batch_in acts from to) ++ drop to acts ≡ acts
+take_rest acts from to low = ap (λ l. l ++ drop to acts) (take_batch acts from to low) ∙ take-append-drop to acts

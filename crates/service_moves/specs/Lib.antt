@@ -6,3 +6,5 @@ pub mod Causes
 pub mod Steps
 pub mod Ships
 pub mod Finishing
+pub mod Doing
+pub mod Plans

@@ -1,6 +1,6 @@
 -- Filesets that are on their way from the store of one server to that of another.
-use Rattle.std.specs.Prelude.{◌≡◌, ◌≢◌, ◌≤◌, ◌⊎◌, ℕ, ◌+◌, ◌*◌, ◌==◌, false, Bool, List}
-use Rattle.std.specs.Prelude.{length, slice_set, Option, Some, None, Result, OnOk, IfErr}
+use Rattle.std.specs.Prelude.{◌≡◌, ◌≢◌, ◌≤◌, ◌⊎◌, ℕ, ◌+◌, ◌*◌, ◌==◌, false, Bool, List, [], ◌∷◌}
+use Rattle.std.specs.Prelude.{length, slice_set, Option, Some, None, Result, Ok, OnOk, IfErr}
 use Rattle.base_types.specs.declared.ids.FilesetId.{FilesetId}
 use Rattle.base_types.specs.declared.ids.ServerId.{ServerId}
 use Rattle.base_types.specs.declared.limits.TheConstants.{OBJECTS_MAX}
@@ -9,7 +9,7 @@ use Rattle.tree_calls.specs.declared.roster.Roster.{Roster}
 use Rattle.tree_calls.specs.declared.ship.Mover.{Mover}
 use Rattle.tree_calls.specs.declared.ship.ShipPart.{ShipPart}
 use Rattle.store_memory.specs.Sound.{IsMover}
-use Rattle.store_memory.specs.Views.{View}
+use Rattle.store_memory.specs.Views.{View, DoesActs}
 use Rattle.store_memory.specs.declared.told.Slot.{Slot}
 use Rattle.store_laws.specs.MovedLaws.{MayDo, MayDoAll}
 use Rattle.store_records.specs.Stored.{IsStorable}
@@ -98,6 +98,13 @@ pub record MaySend (sender receiver : StoreState) (holding : Holding) (ship : Sh
   pub carries : Carries ship.from holding ship
   pub parts : MayDoAll receiver (all_parts holding ship.from ship.number mover)
 
+-- Two stores did acts, one behind the other: the second one the first of these, and the first one nothing; or the second
+-- one all of them, and then the first one this act, or not.
+abbrev pub HaveSent : {T E : Type 0} → Result T E → List Act → Act → View → View → View → View → Type 0
+HaveSent {E = E} result parts left sender receiver sent taken =
+    (OnOk result ⊥ × DoesActs result parts receiver taken × DoesActs result [] sender sent)
+    ⊎ (DoesActs {T = Unit {0}} {E = E} (Ok tt) parts receiver taken × DoesActs result (left ∷ []) sender sent)
+
 -- A ship was sent: all its parts came, and the store that the fileset was leaving learnt that it has left.
 pub record IsSent {S : Type 0} (tells : Type 0) (view : S → View) (result : Result (Unit {0}) RunStopped) (ship : Ship)
     (mover : Mover) (sender receiver sent taken : S) : Type 0 where
@@ -105,6 +112,9 @@ pub record IsSent {S : Type 0} (tells : Type 0) (view : S → View) (result : Re
       → OnOk result (((view sent).state ≡ (act_done (view sender).state (Left ship.fileset)).state)
       × ((view taken).state
       ≡ state_after (view receiver).state (all_parts holding ship.from ship.number mover)))
+  pub does : tells → (holding : Holding) → MaySend (view sender).state (view receiver).state holding ship mover
+      → HaveSent result (all_parts holding ship.from ship.number mover) (Left ship.fileset) (view sender)
+      (view receiver) (view sent) (view taken)
   pub first : GoesOn (66 * batch_wear) result (view sender) (view sent)
   pub second : GoesOn (66 * batch_wear) result (view receiver) (view taken)
   pub stopped : IfErr result (λ stopped.

@@ -1,9 +1,9 @@
 //! What the store of a server is asked, once more where its disk fails.
-ghost use Rattle.std.specs.Prelude.{◌≡◌, ◌≤◌, ◌+◌, ◌^◌, IfOk, OnOk};
+ghost use Rattle.std.specs.Prelude.{◌≡◌, ◌≤◌, ◌+◌, ◌^◌, [], IfOk, OnOk};
 ghost use Rattle.base_types.specs.declared.limits.TheConstants.{OBJECTS_MAX};
 ghost use Rattle.store_memory.specs.Reading.{kept_of, shipped, slots_from};
 ghost use Rattle.store_memory.specs.Sound.{IsLeavingOf, IsMover, IsSlot};
-ghost use Rattle.store_memory.specs.Views.{IsSameStore};
+ghost use Rattle.store_memory.specs.Views.{IsFirstOf, IsSameStore, Leaves};
 ghost use Rattle.message_types.specs.Soundness.{Each, IsPart};
 ghost use Rattle.service_moves.specs.Batches.{batch_wear, IsBlamedTwice};
 
@@ -20,6 +20,7 @@ pub fn kept_by<S: Store>(store: &mut S) -> Result<Kept, StoreFault>
     requires wear { (S.view store.old).wear + batch_wear ≤ 2 ^ 47 }
     ensures kept { S.tells → IfOk result (λ kept. kept ≡ kept_of (S.view store.old).state) }
     ensures state { S.tells → (S.view store.new).state ≡ (S.view store.old).state }
+    ensures leaves { S.tells → Leaves (IsFirstOf (S.view store.old).state []) (S.view store.old) (S.view store.new) }
     ensures same { IsSameStore (S.view store.old) (S.view store.new) }
     ensures ready { OnOk result (S.view store.new).ready }
     ensures mendable { (S.view store.new).mendable }
@@ -45,6 +46,7 @@ pub fn slots_by<S: Store>(store: &mut S) -> Result<Items<Slot>, StoreFault>
     ensures slots { S.tells → IfOk result (λ slots. slots ≡ slots_from 0 (S.view store.old).state.slots) }
     ensures sound { IfOk result (λ slots. Each (IsSlot (S.view store.old).state.roster) slots) }
     ensures state { S.tells → (S.view store.new).state ≡ (S.view store.old).state }
+    ensures leaves { S.tells → Leaves (IsFirstOf (S.view store.old).state []) (S.view store.old) (S.view store.new) }
     ensures same { IsSameStore (S.view store.old) (S.view store.new) }
     ensures ready { OnOk result (S.view store.new).ready }
     ensures mendable { (S.view store.new).mendable }
@@ -75,6 +77,7 @@ pub(crate) fn part_by<S: Store>(
     ensures part { S.tells → IfOk result (λ part. part ≡ shipped (S.view store.old).state fileset at mover.now) }
     ensures sound { IfOk result (λ part. IsPart (S.view store.old).state.roster at part) }
     ensures state { S.tells → (S.view store.new).state ≡ (S.view store.old).state }
+    ensures leaves { S.tells → Leaves (IsFirstOf (S.view store.old).state []) (S.view store.old) (S.view store.new) }
     ensures same { IsSameStore (S.view store.old) (S.view store.new) }
     ensures ready { OnOk result (S.view store.new).ready }
     ensures mendable { (S.view store.new).mendable }

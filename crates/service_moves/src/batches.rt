@@ -1,9 +1,8 @@
 //! Batches of acts.
-ghost use Rattle.std.specs.Prelude.{◌≡◌, ◌≤◌, ◌+◌, ◌*◌, ◌^◌, ℕ, length, take, OnOk, OnErr};
+ghost use Rattle.std.specs.Prelude.{◌≤◌, ◌+◌, ◌*◌, ◌^◌, OnOk};
 ghost use Rattle.message_types.specs.Soundness.{Each};
-ghost use Rattle.store_acts.specs.Acts.{state_after};
 ghost use Rattle.store_acts.specs.Sound.{AllFit, AreActs, IsAct};
-ghost use Rattle.store_memory.specs.Views.{IsSameStore};
+ghost use Rattle.store_memory.specs.Views.{DoesActs, IsSameStore};
 ghost use Rattle.service_moves.specs.Again.{AreNew, IsAgain};
 ghost use Rattle.service_moves.specs.Batches.{batch_count, batch_wear, IsBlamedTwice};
 
@@ -15,11 +14,8 @@ pub(crate) fn apply_batch<S: Store>(store: &mut S, batch: &[Act]) -> Result<(), 
     requires acts { AreActs (S.view store.old).state.roster (S.view store.old).state.server batch.now }
     requires ready { (S.view store.old).ready }
     requires wear { (S.view store.old).wear + batch_wear ≤ 2 ^ 47 }
-    ensures state { S.tells → IsAgain (S.view store.old).state batch.now
-        → OnOk result ((S.view store.new).state ≡ state_after (S.view store.old).state batch.now) }
-    ensures fault { S.tells → IsAgain (S.view store.old).state batch.now
-        → OnErr result ((k : ℕ) × (k ≤ length batch.now)
-        × ((S.view store.new).state ≡ state_after (S.view store.old).state (take k batch.now))) }
+    ensures does { S.tells → IsAgain (S.view store.old).state batch.now
+        → DoesActs result batch.now (S.view store.old) (S.view store.new) }
     ensures same { IsSameStore (S.view store.old) (S.view store.new) }
     ensures ready { OnOk result (S.view store.new).ready }
     ensures mendable { (S.view store.new).mendable }
@@ -41,18 +37,16 @@ pub(crate) fn apply_batch<S: Store>(store: &mut S, batch: &[Act]) -> Result<(), 
 /// of a host on a fileset.
 ///
 /// `Failed` comes where a batch failed again, or the opening did. `Memory` comes where memory runs out. After either
-/// the store holds what the first acts made, up to one of them, and `reopen` has to succeed before anything is asked.
+/// the store holds what the first acts made, up to one of them, and `reopen` has to succeed before anything is asked. A
+/// crash at any moment leaves what the first acts made, or what one before could leave.
 /// Each batch that was begun wears the store by `batch_wear` at most.
 pub fn apply_all<S: Store>(store: &mut S, acts: &[Act]) -> Result<(), StoreFault>
     requires acts { Each (IsAct (S.view store.old).state.roster (S.view store.old).state.server) acts.now }
     requires ready { (S.view store.old).ready }
     requires mendable { (S.view store.old).mendable }
     requires wear { (S.view store.old).wear + batch_wear * batch_count acts.now ≤ 2 ^ 47 }
-    ensures state { S.tells → AllFit (S.view store.old).state acts.now → AreNew (S.view store.old).state acts.now
-        → OnOk result ((S.view store.new).state ≡ state_after (S.view store.old).state acts.now) }
-    ensures fault { S.tells → AllFit (S.view store.old).state acts.now → AreNew (S.view store.old).state acts.now
-        → OnErr result ((k : ℕ) × (k ≤ length acts.now)
-        × ((S.view store.new).state ≡ state_after (S.view store.old).state (take k acts.now))) }
+    ensures does { S.tells → AllFit (S.view store.old).state acts.now → AreNew (S.view store.old).state acts.now
+        → DoesActs result acts.now (S.view store.old) (S.view store.new) }
     ensures same { IsSameStore (S.view store.old) (S.view store.new) }
     ensures ready { OnOk result (S.view store.new).ready }
     ensures mendable { (S.view store.new).mendable }

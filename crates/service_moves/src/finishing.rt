@@ -1,5 +1,5 @@
 //! Moves that an earlier run left unfinished.
-ghost use Rattle.std.specs.Prelude.{◌≡◌, ◌≢◌, ◌≤◌, ◌+◌, ◌-◌, ◌*◌, ◌^◌, ℕ, true, [], length, slice_get, Some};
+ghost use Rattle.std.specs.Prelude.{◌≡◌, ◌≢◌, ◌≤◌, ◌+◌, ◌-◌, ◌*◌, ◌^◌, ℕ, true, List, [], length, slice_get, Some};
 ghost use Rattle.std.specs.Prelude.{IfErr, IfOk, OnOk};
 ghost use Rattle.base_types.specs.declared.limits.TheConstants.{OBJECTS_MAX, SERVERS_MAX};
 ghost use Rattle.tree_calls.specs.Limits.{keeps_limits};
@@ -13,6 +13,8 @@ ghost use Rattle.store_state.specs.declared.state.Holding.{Holding};
 ghost use Rattle.store_state.specs.declared.state.StoreState.{StoreState};
 ghost use Rattle.service_moves.specs.Ships.{two_set, MayMove, MaySend};
 ghost use Rattle.service_moves.specs.Batches.{batch_wear};
+ghost use Rattle.service_moves.specs.Doing.{Step, DoSteps};
+ghost use Rattle.service_moves.specs.Plans.{ship_steps, AreMoves};
 ghost use Rattle.service_moves.specs.Finishing.{mover_again, HasFinished, HaveServer};
 ghost use Rattle.service_moves.specs.Steps.{AllGoOn};
 ghost use Rattle.service_moves.specs.Stopping.{IsStopped};
@@ -56,6 +58,13 @@ fn send_again<S: Store>(stores: &mut [S], ship: &Ship) -> Result<(), RunStopped>
         (ship.now.from.0 - 1) (act_done (S.view sender).state (Left ship.now.fileset)).state
         (ship.now.to.0 - 1) (state_after (S.view receiver).state
         (all_parts holding ship.now.from ship.now.number (mover_again ship.now)))) }
+    ensures does { S.tells → (sender receiver : S) (holding : Holding) → ship.now.from.0 ≢ ship.now.to.0
+        → slice_get stores.old (ship.now.from.0 - 1) ≡ Some sender
+        → slice_get stores.old (ship.now.to.0 - 1) ≡ Some receiver
+        → MaySend (S.view sender).state (S.view receiver).state holding ship.now (mover_again ship.now)
+        → DoSteps S.view result
+        (ship_steps ship.now.from ship.now.to ship.now.fileset holding ship.now.number (mover_again ship.now))
+        stores.old stores.new }
     ensures goes_on { AllGoOn S.view (66 * batch_wear) result stores.old stores.new }
 {
     match mover_again(ship) {
@@ -73,6 +82,8 @@ fn finish_from<S: Store>(stores: &mut [S], from: ServerId) -> Result<(), RunStop
     requires have { HaveServer S.view (2 ^ 46 + 2 ^ 13) stores.old from }
     ensures finished { S.tells → (tree : Tree) → KeepUnderWay tree (states_of S.view stores.old)
         → OnOk result (HasFinished tree (from.0 - 1) (states_of S.view stores.old) (states_of S.view stores.new)) }
+    ensures does { S.tells → (tree : Tree) → KeepUnderWay tree (states_of S.view stores.old)
+        → (steps : List Step) × AreMoves steps × DoSteps S.view result steps stores.old stores.new }
     ensures goes_on { AllGoOn S.view (67 * batch_wear) result stores.old stores.new }
 {
     let place = from.0 as usize - 1;
@@ -100,6 +111,8 @@ pub fn finish_moves<S: Store>(stores: &mut [S], roster: &Roster) -> Result<(), R
     ensures kept { S.tells → (tree : Tree) → KeepUnderWay tree (states_of S.view stores.old)
         → OnOk result ((k : ℕ) (state : StoreState) → slice_get (states_of S.view stores.new) k ≡ Some state
         → KeepsOf (freed tree) state) }
+    ensures does { S.tells → (tree : Tree) → KeepUnderWay tree (states_of S.view stores.old)
+        → (steps : List Step) × AreMoves steps × DoSteps S.view result steps stores.old stores.new }
     ensures same { AreSame S.view stores.old stores.new }
     ensures stores { (worn : ℕ) → AreStores S.view roster.now worn 1 stores.old
         → OnOk result (AreStores S.view roster.now (worn + 2048 * SERVERS_MAX) 1 stores.new) }

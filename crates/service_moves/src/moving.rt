@@ -1,5 +1,5 @@
 //! The stores of servers follow a move.
-ghost use Rattle.std.specs.Prelude.{◌≡◌, ◌≤◌, ◌+◌, ◌-◌, ◌*◌, ◌^◌, ℕ, [], length, slice_get, Some};
+ghost use Rattle.std.specs.Prelude.{◌≡◌, ◌≤◌, ◌+◌, ◌-◌, ◌*◌, ◌^◌, ℕ, List, [], ◌∷◌, length, slice_get, Some};
 ghost use Rattle.std.specs.Prelude.{IfErr, IfOk, IfSome, OnOk};
 ghost use Rattle.base_types.specs.declared.ids.HostId.{HostId as HostNumber};
 ghost use Rattle.tree_calls.specs.Limits.{is_between};
@@ -14,11 +14,14 @@ ghost use Rattle.message_types.specs.Soundness.{IsCall, IsHost, IsServer};
 ghost use Rattle.store_acts.specs.Acts.{act_done, state_after};
 ghost use Rattle.store_acts.specs.Sound.{Fits};
 ghost use Rattle.store_acts.specs.declared.act.Act.TheVariants.{Leave, Left};
+ghost use Rattle.store_memory.specs.Views.{DoesActs};
 ghost use Rattle.store_laws.specs.Moves.{all_parts};
 ghost use Rattle.store_state.specs.State.{held_so, is_of};
 ghost use Rattle.store_state.specs.declared.state.Holding.{Holding};
 ghost use Rattle.service_moves.specs.Again.{IsRepeatable};
 ghost use Rattle.service_moves.specs.Batches.{batch_wear};
+ghost use Rattle.service_moves.specs.Doing.{Step, DoSteps};
+ghost use Rattle.service_moves.specs.Plans.{move_steps, AreMoves};
 ghost use Rattle.service_moves.specs.Ships.{two_set, mover_of, CarriesOf, IsSoundShip, MayGo, MayMove};
 ghost use Rattle.service_moves.specs.Steps.{AllGoOn, GoesOn, StopsAt};
 ghost use Rattle.service_moves.specs.Stopping.{IsStopped};
@@ -82,9 +85,9 @@ fn leave<S: Store>(
     requires to { IsServer (S.view store.old).state.roster to }
     requires ready { (S.view store.old).ready }
     requires wear { (S.view store.old).wear + 2 * batch_wear ≤ 2 ^ 47 }
-    ensures state { S.tells → Fits (S.view store.old).state (Leave fileset to)
+    ensures does { S.tells → Fits (S.view store.old).state (Leave fileset to)
         → IsRepeatable (S.view store.old).state (Leave fileset to)
-        → OnOk result ((S.view store.new).state ≡ (act_done (S.view store.old).state (Leave fileset to)).state) }
+        → DoesActs result (Leave fileset to ∷ []) (S.view store.old) (S.view store.new) }
     ensures ship { S.tells → IfOk result (CarriesOf from (held_so (is_of fileset) (S.view store.new).state.slots)) }
     ensures sound { IfOk result (λ ship. IfSome ship (IsSoundShip (S.view store.old).state.roster from)) }
     ensures goes_on { GoesOn (2 * batch_wear) result (S.view store.old) (S.view store.new) }
@@ -110,6 +113,11 @@ fn move_over<S: Store>(
         (from.0 - 1) (act_done (act_done (S.view sender).state (Leave fileset to)).state (Left fileset)).state
         (to.0 - 1) (state_after (S.view receiver).state
         (all_parts holding from ((S.view sender).state.ship + 1) mover.now))) }
+    ensures does { S.tells → (sender receiver : S) (holding : Holding)
+        → slice_get stores.old (from.0 - 1) ≡ Some sender → slice_get stores.old (to.0 - 1) ≡ Some receiver
+        → MayGo (S.view sender).state (S.view receiver).state from to fileset mover.now holding
+        → DoSteps S.view result (move_steps from to fileset holding ((S.view sender).state.ship + 1) mover.now)
+        stores.old stores.new }
     ensures goes_on { AllGoOn S.view (68 * batch_wear) result stores.old stores.new }
 {
     let place = from.0 as usize - 1;
@@ -146,6 +154,11 @@ pub fn keep_move<S: Store>(
         (MoveFileset request.now.server request.now.name request.now.to) Accepted))
         (after_move tree.now request.now.host request.now.server request.now.name request.now.to fileset)
         (states_of S.view stores.new)) }
+    ensures does { S.tells → (next : HostNumber → ℕ) (fileset : Fileset) → IsWellFormed tree.now
+        → KeepAll next tree.now (states_of S.view stores.old)
+        → Moves tree.now request.now.host request.now.server request.now.name request.now.to fileset
+        → next request.now.host ≡ request.now.k
+        → (steps : List Step) × AreMoves steps × DoSteps S.view result steps stores.old stores.new }
     ensures same { AreSame S.view stores.old stores.new }
     ensures stores { (worn : ℕ) → AreStores S.view tree.now.roster worn 1 stores.old
         → OnOk result (AreStores S.view tree.now.roster (worn + 2048) 1 stores.new) }

@@ -1,8 +1,10 @@
 //! A fileset that is leaving a store arrives at another one, whole, and has left.
-ghost use Rattle.std.specs.Prelude.{◌≡◌, ◌≢◌, ◌≤◌, ◌⊎◌, ◌+◌, ◌-◌, ◌*◌, ◌^◌, ℕ, slice_get, Some, IfErr, OnOk};
+ghost use Rattle.std.specs.Prelude.{◌≡◌, ◌≢◌, ◌≤◌, ◌⊎◌, ◌+◌, ◌-◌, ◌*◌, ◌^◌, ℕ, [], ◌∷◌, slice_get, Some};
+ghost use Rattle.std.specs.Prelude.{IfErr, OnOk};
 ghost use Rattle.base_types.specs.declared.limits.TheConstants.{OBJECTS_MAX};
 ghost use Rattle.store_memory.specs.Reading.{shipped};
 ghost use Rattle.store_memory.specs.Sound.{IsLeavingOf};
+ghost use Rattle.store_memory.specs.Views.{DoesActs};
 ghost use Rattle.store_acts.specs.Acts.{act_done, state_after};
 ghost use Rattle.store_acts.specs.Sound.{Fits};
 ghost use Rattle.store_acts.specs.declared.act.Act.TheVariants.{Left};
@@ -10,6 +12,8 @@ ghost use Rattle.store_laws.specs.Moves.{all_parts};
 ghost use Rattle.store_state.specs.declared.state.Holding.{Holding};
 ghost use Rattle.service_moves.specs.Again.{IsRepeatable};
 ghost use Rattle.service_moves.specs.Batches.{batch_wear};
+ghost use Rattle.service_moves.specs.Doing.{DoSteps};
+ghost use Rattle.service_moves.specs.Plans.{ship_steps};
 ghost use Rattle.service_moves.specs.Ships.{part_act, two_set, IsSent, MayMove, MaySend, MayTake};
 ghost use Rattle.service_moves.specs.Steps.{AllGoOn, GoesOn, StopsAt};
 ghost use Rattle.service_moves.specs.Stores.{states_of};
@@ -32,13 +36,14 @@ fn send_part<S: Store>(
     requires may { MayTake (S.view sender.old) (S.view receiver.old) (2 ^ 46 + 2 ^ 15) ship.now mover.now }
     requires leaving { S.tells → IsLeavingOf (S.view sender.old).state ship.now.fileset at }
     requires limit { at ≤ OBJECTS_MAX }
-    ensures sender { S.tells → (S.view sender.new).state ≡ (S.view sender.old).state }
+    ensures sender { S.tells → DoesActs result [] (S.view sender.old) (S.view sender.new) }
     ensures receiver { S.tells → Fits (S.view receiver.old).state
         (part_act ship.now at (shipped (S.view sender.old).state ship.now.fileset at mover.now))
         → IsRepeatable (S.view receiver.old).state
         (part_act ship.now at (shipped (S.view sender.old).state ship.now.fileset at mover.now))
-        → OnOk result ((S.view receiver.new).state ≡ (act_done (S.view receiver.old).state
-        (part_act ship.now at (shipped (S.view sender.old).state ship.now.fileset at mover.now))).state) }
+        → DoesActs result
+        (part_act ship.now at (shipped (S.view sender.old).state ship.now.fileset at mover.now) ∷ [])
+        (S.view receiver.old) (S.view receiver.new) }
     ensures first { GoesOn batch_wear result (S.view sender.old) (S.view sender.new) }
     ensures second { GoesOn batch_wear result (S.view receiver.old) (S.view receiver.new) }
     ensures stopped { IfErr result (λ stopped.
@@ -106,6 +111,13 @@ pub(crate) fn send_between<S: Store>(
         (ship.now.from.0 - 1) (act_done (S.view sender).state (Left ship.now.fileset)).state
         (ship.now.to.0 - 1) (state_after (S.view receiver).state
         (all_parts holding ship.now.from ship.now.number mover.now))) }
+    ensures does { S.tells → (sender receiver : S) (holding : Holding) → ship.now.from.0 ≢ ship.now.to.0
+        → slice_get stores.old (ship.now.from.0 - 1) ≡ Some sender
+        → slice_get stores.old (ship.now.to.0 - 1) ≡ Some receiver
+        → MaySend (S.view sender).state (S.view receiver).state holding ship.now mover.now
+        → DoSteps S.view result
+        (ship_steps ship.now.from ship.now.to ship.now.fileset holding ship.now.number mover.now)
+        stores.old stores.new }
     ensures goes_on { AllGoOn S.view (66 * batch_wear) result stores.old stores.new }
 {
     let from = ship.from.0 as usize - 1;

@@ -1,9 +1,10 @@
 //! Filesets that are leaving the stores of servers.
-ghost use Rattle.std.specs.Prelude.{◌≡◌, ◌≤◌, ◌+◌, ◌^◌, None, IfOk, IfErr, IfSome, OnOk, option_copied};
+ghost use Rattle.std.specs.Prelude.{◌≡◌, ◌≤◌, ◌+◌, ◌^◌, [], None, IfOk, IfErr, IfSome, OnOk, option_copied};
 ghost use Rattle.std.specs.List.{find};
 ghost use Rattle.std.specs.Option.{option_map};
 ghost use Rattle.store_memory.specs.Reading.{slots_from};
 ghost use Rattle.store_memory.specs.Sound.{IsSlot};
+ghost use Rattle.store_memory.specs.Views.{IsFirstOf, Leaves};
 ghost use Rattle.message_types.specs.Soundness.{Each, IsServer};
 ghost use Rattle.store_state.specs.State.{held_so, is_leaving, is_of};
 ghost use Rattle.service_moves.specs.Batches.{batch_wear};
@@ -83,6 +84,7 @@ pub(crate) fn ship_of<S: Store>(
     ensures ship { S.tells → IfOk result (CarriesOf from (held_so (is_of fileset) (S.view store.new).state.slots)) }
     ensures sound { IfOk result (λ ship. IfSome ship (IsSoundShip (S.view store.old).state.roster from)) }
     ensures state { S.tells → (S.view store.new).state ≡ (S.view store.old).state }
+    ensures leaves { S.tells → Leaves (IsFirstOf (S.view store.old).state []) (S.view store.old) (S.view store.new) }
     ensures goes_on { GoesOn batch_wear result (S.view store.old) (S.view store.new) }
     ensures stopped { IfErr result (StopsAt from (S.view store.old) (S.view store.new)) }
 {
@@ -100,6 +102,7 @@ pub(crate) fn next_ship<S: Store>(store: &mut S, from: ServerId) -> Result<Optio
         (slots_from 0 (S.view store.new).state.slots))) }
     ensures sound { IfOk result (λ ship. IfSome ship (IsSoundShip (S.view store.old).state.roster from)) }
     ensures state { S.tells → (S.view store.new).state ≡ (S.view store.old).state }
+    ensures leaves { S.tells → Leaves (IsFirstOf (S.view store.old).state []) (S.view store.old) (S.view store.new) }
     ensures goes_on { GoesOn batch_wear result (S.view store.old) (S.view store.new) }
     ensures stopped { IfErr result (StopsAt from (S.view store.old) (S.view store.new)) }
 {

@@ -1,8 +1,8 @@
 //! Single acts.
-ghost use Rattle.std.specs.Prelude.{◌≡◌, ◌≤◌, ◌⊎◌, ◌+◌, ◌^◌, OnOk, OnErr};
-ghost use Rattle.store_acts.specs.Acts.{act_done, booted};
+ghost use Rattle.std.specs.Prelude.{◌≤◌, ◌+◌, ◌^◌, [], ◌∷◌, OnOk};
 ghost use Rattle.store_acts.specs.Sound.{Fits, IsAct};
-ghost use Rattle.store_memory.specs.Views.{IsSameStore};
+ghost use Rattle.store_acts.specs.declared.act.Act.TheVariants.{Boot};
+ghost use Rattle.store_memory.specs.Views.{DoesActs, IsSameStore};
 ghost use Rattle.service_moves.specs.Again.{IsRepeatable};
 ghost use Rattle.service_moves.specs.Batches.{batch_wear, IsBlamedTwice};
 
@@ -18,11 +18,8 @@ pub fn apply_once<S: Store>(store: &mut S, act: Act) -> Result<(), StoreFault>
     requires act { IsAct (S.view store.old).state.roster (S.view store.old).state.server act }
     requires ready { (S.view store.old).ready }
     requires wear { (S.view store.old).wear + batch_wear ≤ 2 ^ 47 }
-    ensures state { S.tells → Fits (S.view store.old).state act → IsRepeatable (S.view store.old).state act
-        → OnOk result ((S.view store.new).state ≡ (act_done (S.view store.old).state act).state) }
-    ensures fault { S.tells → Fits (S.view store.old).state act → IsRepeatable (S.view store.old).state act
-        → OnErr result (((S.view store.new).state ≡ (S.view store.old).state)
-        ⊎ ((S.view store.new).state ≡ (act_done (S.view store.old).state act).state)) }
+    ensures does { S.tells → Fits (S.view store.old).state act → IsRepeatable (S.view store.old).state act
+        → DoesActs result (act ∷ []) (S.view store.old) (S.view store.new) }
     ensures same { IsSameStore (S.view store.old) (S.view store.new) }
     ensures ready { OnOk result (S.view store.new).ready }
     ensures mendable { (S.view store.new).mendable }
@@ -40,9 +37,7 @@ pub fn apply_once<S: Store>(store: &mut S, act: Act) -> Result<(), StoreFault>
 pub fn boot<S: Store>(store: &mut S) -> Result<(), StoreFault>
     requires ready { (S.view store.old).ready }
     requires wear { (S.view store.old).wear + batch_wear ≤ 2 ^ 47 }
-    ensures state { S.tells → OnOk result ((S.view store.new).state ≡ booted (S.view store.old).state) }
-    ensures fault { S.tells → OnErr result (((S.view store.new).state ≡ (S.view store.old).state)
-        ⊎ ((S.view store.new).state ≡ booted (S.view store.old).state)) }
+    ensures does { S.tells → DoesActs result (Boot ∷ []) (S.view store.old) (S.view store.new) }
     ensures same { IsSameStore (S.view store.old) (S.view store.new) }
     ensures ready { OnOk result (S.view store.new).ready }
     ensures mendable { (S.view store.new).mendable }

@@ -1,7 +1,7 @@
 //! Acts of the store of a server, as steps of a run.
-ghost use Rattle.std.specs.Prelude.{◌≡◌, ◌≤◌, ◌+◌, ◌^◌, OnOk, IfErr};
-ghost use Rattle.store_acts.specs.Acts.{act_done};
+ghost use Rattle.std.specs.Prelude.{◌≤◌, ◌+◌, ◌^◌, [], ◌∷◌, IfErr};
 ghost use Rattle.store_acts.specs.Sound.{Fits, IsAct};
+ghost use Rattle.store_memory.specs.Views.{DoesActs};
 ghost use Rattle.service_moves.specs.Again.{IsRepeatable};
 ghost use Rattle.service_moves.specs.Batches.{batch_wear};
 ghost use Rattle.service_moves.specs.Steps.{GoesOn, StopsAt};
@@ -16,8 +16,8 @@ pub(crate) fn do_act<S: Store>(store: &mut S, server: ServerId, act: Act) -> Res
     requires act { IsAct (S.view store.old).state.roster (S.view store.old).state.server act }
     requires ready { (S.view store.old).ready }
     requires wear { (S.view store.old).wear + batch_wear ≤ 2 ^ 47 }
-    ensures state { S.tells → Fits (S.view store.old).state act → IsRepeatable (S.view store.old).state act
-        → OnOk result ((S.view store.new).state ≡ (act_done (S.view store.old).state act).state) }
+    ensures does { S.tells → Fits (S.view store.old).state act → IsRepeatable (S.view store.old).state act
+        → DoesActs result (act ∷ []) (S.view store.old) (S.view store.new) }
     ensures goes_on { GoesOn batch_wear result (S.view store.old) (S.view store.new) }
     ensures stopped { IfErr result (StopsAt server (S.view store.old) (S.view store.new)) }
 {

@@ -8,8 +8,11 @@ use Rattle.std.specs.Prelude.{
   true,
   false,
   List,
+  [],
+  ◌++◌,
   length,
   map,
+  take,
   slice_get,
   Option,
   Some,
@@ -21,6 +24,7 @@ use Rattle.base_types.specs.Faults.{RoseBy}
 use Rattle.base_types.specs.Image.{AreBytes}
 use Rattle.base_types.specs.View.{View}
 use Rattle.base_types.specs.declared.ids.ServerId.{ServerId}
+use Rattle.base_types.specs.declared.limits.TheConstants.{BATCH_ACTS_MAX}
 use Rattle.base_outside.specs.Runs.{LeavesOnly}
 use Rattle.tree_calls.specs.declared.roster.Roster.{Roster}
 use Rattle.tree_answers.specs.declared.tree.Tree.{Tree}
@@ -30,6 +34,9 @@ use Rattle.disk_image.specs.Aggregate.{header_number, is_blank}
 use Rattle.disk_layout.specs.Half.{HasNoLog}
 use Rattle.disk_layout.specs.Places.{page_start}
 use Rattle.disk_records.specs.Record.{record_in}
+use Rattle.service_moves.specs.Doing.{Step, acts_at}
+use Rattle.service_plain.specs.Played.{IsPlayed}
+use Rattle.service_plain.specs.declared.played.Played.{Played}
 use Rattle.service_starts.specs.Fitting.{misfit}
 use Rattle.service_starts.specs.Told.{Placed}
 use Rattle.service_starts.specs.declared.told.Told.{Told}
@@ -37,7 +44,11 @@ use Rattle.script_lines.specs.declared.script.Script.{Script}
 use Rattle.service_disks.specs.Opening.{new_store, store_on}
 use Rattle.service_disks.specs.Stores.{server_of, IsFirstRefused, AreBack as AreUnopened}
 use Rattle.service_disks.specs.Trails.{IsReached}
+use Rattle.service_stores.specs.Plans.{AreBeginning, AreOfHistory}
 use Rattle.service_stores.specs.Starting.{told_of, start_from}
+use Rattle.store_acts.specs.Acts.{state_after}
+use Rattle.store_acts.specs.declared.act.Act.{Act}
+use Rattle.store_memory.specs.Views.{IsFirstOf}
 use Rattle.store_state.specs.declared.state.StoreState.{StoreState}
 use Rattle.store_laws.specs.TreeKeeping.{KeepsOf}
 use Rattle.script_commands.specs.declared.command.Play.{Play}
@@ -124,6 +135,55 @@ abbrev pub AllLeave : {D : Type 0} → (D → View) → Roster → List D → Li
 AllLeave {D = D} view roster olds news =
     (k : ℕ) (old new : D) → slice_get olds k ≡ Some old → slice_get news k ≡ Some new
     → LeavesOfRun roster (server_of (k + 1)) (view old) (view new)
+
+-- the acts of a run of the script from the tree that the servers told, or of the first part of its history
+pub record IsKeptHistory (script : Script) (all : List Told) (steps : List Step) : Type 0 where
+  pub played : Played
+  pub start : played.start ≡ start_from script.roster all
+  pub goes : IsPlayed script played
+  pub count : ℕ
+  pub keeps : AreOfHistory played.start (take count played.history) steps
+
+-- The steps of a run over disks, in the order in which the stores of its servers do them: first what an earlier run left
+-- of moves is settled and finished, and each server begins the run; and then, where the script ran, the acts of its
+-- history, one that may happen from the tree that the disks held.
+pub record ArePlanned (script : Script) (all : List Told) (steps : List Step) : Type 0 where
+  pub begins : List Step
+  pub keeps : List Step
+  pub are : steps ≡ begins ++ keeps
+  pub beginning : AreBeginning begins
+  pub keeping : (keeps ≡ []) ⊎ IsKeptHistory script all keeps
+
+-- What a crash at any moment of a run may leave on a server's disk that held these bytes: on a blank one no log,
+-- refused at place 0; on another one the record that it had, or none as it; or, of what are bytes, the record that the
+-- first of its server's acts made.
+abbrev pub IsLeftBySteps : Roster → ServerId → List Act → List ℕ → List ℕ → Type 0
+IsLeftBySteps roster server acts old c =
+    ((is_blank old ≡ true) × HasNoLog 0 c) ⊎ ((is_blank old ≡ false) × HasSameRecord roster server old c)
+    ⊎ (AreBytes c → (from : StoreState) × (store_on roster server old ≡ Some from)
+    × IsFirstOf from acts (record_in roster server c))
+
+-- What became of disks in the steps of a run. Each has the record that its server's acts among the first steps made, up
+-- to one and the same step for all: the whole of the steps, where the script ran. A crash at any moment leaves of each
+-- the record that the first of its acts made, or what is said above; and none of these acts lies more than a batch behind
+-- that step, so that what was durable once is there in the end. Of a blank disk that failed no crash is told.
+pub record GoBySteps {D : Type 0} (view : D → View) (script : Script) (outcome : Outcome) (olds news : List D) :
+    Type 0 where
+  pub all : List Told
+  pub found : AreFound script.roster (map (λ disk. (view disk).image) olds) all
+  pub steps : List Step
+  pub planned : ArePlanned script all steps
+  pub cut : ℕ
+  pub within : cut ≤ length steps
+  pub whole : has_run outcome.status ≡ true → cut ≡ length steps
+  pub kept : (k : ℕ) (old new : D) → slice_get olds k ≡ Some old → slice_get news k ≡ Some new
+      → (from : StoreState) × (store_on script.roster (server_of (k + 1)) (view old).image ≡ Some from)
+      × (record_in script.roster (server_of (k + 1)) (view new).image
+      ≡ Some (state_after from (acts_at k (take cut steps))))
+  pub leaves : (k : ℕ) (old new : D) → slice_get olds k ≡ Some old → slice_get news k ≡ Some new
+      → (is_blank (view old).image ≡ true → RoseBy 1 (view old).faults (view new).faults → ⊥)
+      → LeavesOnly (IsLeftBySteps script.roster (server_of (k + 1)) (acts_at k (take (cut + BATCH_ACTS_MAX) steps))
+      (view old).image) (view old) (view new)
 
 -- the bytes of disks
 abbrev pub images : {D : Type 0} → (D → View) → List D → List (List ℕ)

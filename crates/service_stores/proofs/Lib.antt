@@ -8,6 +8,8 @@ pub mod Generated
 pub mod Lists
 pub mod Stores
 pub mod Settles
+pub mod Doing
+pub mod Planned
 pub mod Telling
 pub mod Begins
 pub mod Starts
@@ -21,3 +23,4 @@ pub mod Parts
 pub mod Walk
 pub mod Worn
 pub mod Goes
+pub mod Keeping

@@ -59,11 +59,11 @@ acts_other server settling ne = elim (eqb_tells settling.server.0 server) as (λ
 ]
 
 -- what they settle leaves records that a disk can have
-settles_storable : (settlings : List Settling) (state : StoreState) → IsStorable state → IsStorable (state_after state (map (λ (one : Settling). Settle one.fileset) settlings))
+pub settles_storable : (settlings : List Settling) (state : StoreState) → IsStorable state → IsStorable (state_after state (map (λ (one : Settling). Settle one.fileset) settlings))
 settles_storable [] state h = h
 settles_storable (one ∷ settlings) state h = settles_storable settlings (act_done state (Settle one.fileset)).state (acts_keep_storable state (Settle one.fileset) h tt tt)
 
-repeatable : (state : StoreState) (settling : Settling) → IsStorable state → IsRepeatable state (Settle settling.fileset)
+pub repeatable : (state : StoreState) (settling : Settling) → IsStorable state → IsRepeatable state (Settle settling.fileset)
 repeatable state settling h = moves_repeat state (Settle settling.fileset) (λ s t a b n x y. (h.apart s t a b n x y).ids) tt
 
 -- a store settles one
@@ -115,7 +115,7 @@ settled_ready {S = S} view tells settlings i old new h le = record { each = each
         let worn = ready.wear in
         record { ready = ready.ready; mendable = ready.mendable; wear = omega (arith, worn, le) }
 
-stored_at : {S : Type 0} (view : S → View) (stores : List S) (j : ℕ) (a : S) → Each IsStorable (states_of view stores) → slice_get stores j ≡ Some a → IsStorable (view a).state
+pub stored_at : {S : Type 0} (view : S → View) (stores : List S) (j : ℕ) (a : S) → Each IsStorable (states_of view stores) → slice_get stores j ≡ Some a → IsStorable (view a).state
 stored_at view [] j a h is = cc
 stored_at {S = S} view (one ∷ stores) zero a h is = let same : one ≡ a = cc in subst (λ (s : S). IsStorable (view s).state) same h.0
 stored_at view (one ∷ stores) (suc j) a h is = stored_at view stores j a h.1 is

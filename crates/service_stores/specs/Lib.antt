@@ -3,3 +3,4 @@ pub mod Starting
 pub mod Steps
 pub mod Reading
 pub mod Stopping
+pub mod Plans

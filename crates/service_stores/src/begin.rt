@@ -1,5 +1,5 @@
 // How stores begin a run.
-ghost use Rattle.std.specs.Prelude.{◌≡◌, ◌≤◌, ◌*◌, ◌^◌, ℕ, true, [], length, map, IfErr, OnOk};
+ghost use Rattle.std.specs.Prelude.{◌≡◌, ◌≤◌, ◌*◌, ◌^◌, true, List, [], length, map, IfErr, OnOk};
 ghost use Rattle.base_types.specs.declared.limits.TheConstants.{SERVERS_MAX};
 ghost use Rattle.tree_calls.specs.Limits.{keeps_limits};
 ghost use Rattle.tree_answers.specs.declared.tree.Tree.{Tree};
@@ -10,8 +10,10 @@ ghost use Rattle.store_records.specs.Stored.{IsStorable};
 ghost use Rattle.message_types.specs.Soundness.{Each};
 ghost use Rattle.store_acts.specs.Acts.{booted};
 ghost use Rattle.service_moves.specs.Batches.{batch_wear};
+ghost use Rattle.service_moves.specs.Doing.{Step, DoSteps};
 ghost use Rattle.service_moves.specs.Stores.{states_of, AreStores, AreSame};
 ghost use Rattle.service_moves.specs.Stopping.{IsStopped};
+ghost use Rattle.service_stores.specs.Plans.{AreBeginning};
 ghost use Rattle.service_stores.specs.Steps.{AreReady, IsOneOf};
 ghost use Rattle.service_stores.specs.declared.tree.TheConstants.{SETTLINGS_MAX};
 
@@ -29,6 +31,8 @@ fn settle_all<S: Store>(stores: &mut [S], settlings: &[Settling]) -> Result<(), 
     requires ready { AreReady S.view (2 * batch_wear) stores.old }
     ensures settled { S.tells → Each IsStorable (states_of S.view stores.old)
         → OnOk result (states_of S.view stores.new ≡ settled_stores 1 settlings.now (states_of S.view stores.old)) }
+    ensures does { S.tells → Each IsStorable (states_of S.view stores.old)
+        → (steps : List Step) × AreBeginning steps × DoSteps S.view result steps stores.old stores.new }
     ensures same { AreSame S.view stores.old stores.new }
     ensures ready { OnOk result (AreReady S.view (2 ^ 16) stores.new) }
     ensures stopped { IfErr result (IsStopped S.tells S.view [] stores.old stores.new) }
@@ -47,6 +51,8 @@ fn boot_all<S: Store>(stores: &mut [S]) -> Result<(), RunStopped>
     requires few { length stores.old ≤ SERVERS_MAX }
     requires ready { AreReady S.view (2 ^ 32) stores.old }
     ensures booted { S.tells → OnOk result (states_of S.view stores.new ≡ map booted (states_of S.view stores.old)) }
+    ensures does { S.tells
+        → (steps : List Step) × AreBeginning steps × DoSteps S.view result steps stores.old stores.new }
     ensures same { AreSame S.view stores.old stores.new }
     ensures ready { OnOk result (AreReady S.view (2 ^ 40) stores.new) }
     ensures stopped { IfErr result (IsStopped S.tells S.view [] stores.old stores.new) }
@@ -74,6 +80,9 @@ pub(crate) fn begin<S: Store>(
     ensures kept { S.tells → Each IsStorable (states_of S.view stores.old) → (tree : Tree)
         → KeepUnderWay tree (settled_stores 1 settlings.now (states_of S.view stores.old))
         → OnOk result (KeepAll (λ host. 1) (freed tree) (states_of S.view stores.new)) }
+    ensures does { S.tells → Each IsStorable (states_of S.view stores.old) → (tree : Tree)
+        → KeepUnderWay tree (settled_stores 1 settlings.now (states_of S.view stores.old))
+        → (steps : List Step) × AreBeginning steps × DoSteps S.view result steps stores.old stores.new }
     ensures stores { OnOk result (AreStores S.view roster.now (2 ^ 40) 1 stores.new) }
     ensures same { AreSame S.view stores.old stores.new }
     ensures stopped { IfErr result (IsStopped S.tells S.view [] stores.old stores.new) }

@@ -19,7 +19,7 @@ ghost use Rattle.std.specs.List.{position};
 ghost use Rattle.base_types.specs.declared.ids.HostId.{HostId as HostNumber};
 ghost use Rattle.base_types.specs.declared.ids.ServerId.{ServerId as ServerNumber};
 ghost use Rattle.tree_filesets.specs.declared.fileset.Fileset.{Fileset};
-ghost use Rattle.store_memory.specs.Views.{IsSameStore};
+ghost use Rattle.store_memory.specs.Views.{DoesActs, IsSameStore};
 ghost use Rattle.tree_answers.specs.Histories.{IsHistory, after_history};
 ghost use Rattle.tree_answers.specs.WellFormed.{IsWellFormed};
 ghost use Rattle.store_laws.specs.Acts.{acts_of};
@@ -29,8 +29,10 @@ ghost use Rattle.store_laws.specs.Happening.{MayHappen};
 ghost use Rattle.store_laws.specs.MoveKeeping.{KeepAll};
 ghost use Rattle.store_laws.specs.MovedLaws.{move_entry, moves_one, numbers_after};
 ghost use Rattle.message_types.specs.Soundness.{Each};
-ghost use Rattle.store_acts.specs.Acts.{state_after};
 ghost use Rattle.service_moves.specs.Batches.{batch_wear};
+ghost use Rattle.service_moves.specs.Doing.{Step, DoSteps};
+ghost use Rattle.service_moves.specs.Plans.{AreMoves};
+ghost use Rattle.service_stores.specs.Plans.{KeepsHistory};
 ghost use Rattle.service_stores.specs.Steps.{MayBeAsked};
 ghost use Rattle.service_stores.specs.Stopping.{IsStoppedAt};
 ghost use Rattle.service_moves.specs.Stopping.{IsStopped};
@@ -55,7 +57,7 @@ const ENTRIES_MAX: usize = 4_294_967_296;
 /// done all that came before. After `Ok` each may be asked, so that what it keeps is durable.
 ///
 /// `Failed` comes where the disk of a server failed twice, and `Memory` where memory runs out, or where the history has
-/// more than `ENTRIES_MAX` entries. How far the stores came then isn't told.
+/// more than `ENTRIES_MAX` entries. Each store has done the first of its acts then, up to one and the same step for all.
 pub fn keep<S: Store>(
     alloc: Global,
     stores: &mut [S],
@@ -68,6 +70,8 @@ pub fn keep<S: Store>(
     ensures kept { S.tells → KeepAll (λ host. 1) start.now (states_of S.view stores.old)
         → OnOk result (KeepAll (λ host. number_after host 1 history.now) (after_history start.now history.now)
         (states_of S.view stores.new)) }
+    ensures does { S.tells → KeepAll (λ host. 1) start.now (states_of S.view stores.old)
+        → KeepsHistory S.view result start.now history.now stores.old stores.new }
     ensures ready { OnOk result (MayBeAsked S.view stores.new) }
     ensures same { AreSame S.view stores.old stores.new }
     ensures stopped { IfErr result (IsStopped S.tells S.view [] stores.old stores.new) }
@@ -93,6 +97,8 @@ fn keep_all<S: Store>(
     ensures kept { S.tells → KeepAll (λ host. 1) tree.old (states_of S.view stores.old)
         → OnOk result (KeepAll (numbers_after (λ host. 1) history.now) (after_history tree.old history.now)
         (states_of S.view stores.new)) }
+    ensures does { S.tells → KeepAll (λ host. 1) tree.old (states_of S.view stores.old)
+        → KeepsHistory S.view result tree.old history.now stores.old stores.new }
     ensures ready { OnOk result (MayBeAsked S.view stores.new) }
     ensures same { AreSame S.view stores.old stores.new }
     ensures stopped { IfErr result (IsStopped S.tells S.view [] stores.old stores.new) }
@@ -144,6 +150,9 @@ fn keep_to<S: Store>(
         → KeepAll next tree.old (states_of S.view stores.old)
         → OnOk result (KeepAll (numbers_after next (take (place + 2) history.now)) tree.new
         (states_of S.view stores.new)) }
+    ensures does { S.tells → (next : HostNumber → ℕ) → MayHappen next tree.old history.now
+        → KeepAll next tree.old (states_of S.view stores.old)
+        → KeepsHistory S.view result tree.old (take (place + 2) history.now) stores.old stores.new }
     ensures tree { OnOk result (tree.new ≡ after_history tree.old (take (place + 2) history.now)) }
     ensures same { AreSame S.view stores.old stores.new }
     ensures stores { (worn : ℕ) → AreStores S.view tree.old.roster worn 1 stores.old
@@ -178,6 +187,11 @@ fn keep_moved<S: Store>(stores: &mut [S], tree: &Tree, entry: &Entry) -> Result<
         → Moves tree.now host server name to fileset → k ≡ next host
         → OnOk result (KeepAll (numbers_after next (entry.now ∷ []))
         (after_move tree.now host server name to fileset) (states_of S.view stores.new)) }
+    ensures does { S.tells → (next : HostNumber → ℕ) (host : HostNumber) (k : ℕ) (server : ServerNumber)
+        (name : List ℕ) (to : ServerNumber) (fileset : Fileset) → entry.now ≡ move_entry host k server name to
+        → IsWellFormed tree.now → KeepAll next tree.now (states_of S.view stores.old)
+        → Moves tree.now host server name to fileset → k ≡ next host
+        → (steps : List Step) × AreMoves steps × DoSteps S.view result steps stores.old stores.new }
     ensures same { AreSame S.view stores.old stores.new }
     ensures stores { (worn : ℕ) → AreStores S.view tree.now.roster worn 1 stores.old
         → OnOk result (AreStores S.view tree.now.roster (worn + 2048) 1 stores.new) }
@@ -227,6 +241,9 @@ fn keep_quiet<S: Store>(
         → KeepAll next tree.now (states_of S.view stores.old)
         → OnOk result (KeepAll (numbers_after next history.now) (after_history tree.now history.now)
         (states_of S.view stores.new)) }
+    ensures does { S.tells → (next : HostNumber → ℕ) → Happens next tree.now history.now
+        → KeepAll next tree.now (states_of S.view stores.old)
+        → KeepsHistory S.view result tree.now history.now stores.old stores.new }
     ensures same { AreSame S.view stores.old stores.new }
     ensures stores { (worn : ℕ) → AreStores S.view tree.now.roster worn 1 stores.old
         → OnOk result (AreStores S.view tree.now.roster (worn + 2048 * length history.now) 1 stores.new) }
@@ -251,10 +268,9 @@ fn keep_part<S: Store>(
     requires legal { IsHistory tree.now history.now }
     requires given { Each (IsGiven tree.now.roster) history.now }
     requires few { length history.now ≤ ENTRIES_MAX }
-    ensures state { S.tells → (next : HostNumber → ℕ) → Happens next tree.now history.now
+    ensures does { S.tells → (next : HostNumber → ℕ) → Happens next tree.now history.now
         → KeepsOf tree.now (S.view store.old).state → IsBehind next (S.view store.old).state
-        → OnOk result ((S.view store.new).state
-        ≡ state_after (S.view store.old).state (acts_of server tree.now None history.now)) }
+        → DoesActs result (acts_of server tree.now None history.now) (S.view store.old) (S.view store.new) }
     ensures same { IsSameStore (S.view store.old) (S.view store.new) }
     ensures ready { OnOk result (S.view store.new).ready }
     ensures mendable { (S.view store.new).mendable }

@@ -1,5 +1,5 @@
 // How a run starts.
-ghost use Rattle.std.specs.Prelude.{◌≡◌, ◌*◌, ◌^◌, ℕ, true, None, length, IfOk, IfErr, OnOk};
+ghost use Rattle.std.specs.Prelude.{◌≡◌, ◌*◌, ◌^◌, ℕ, true, List, None, length, IfOk, IfErr, OnOk};
 ghost use Rattle.tree_calls.specs.Limits.{keeps_limits};
 ghost use Rattle.service_starts.specs.Fitting.{misfit};
 ghost use Rattle.store_laws.specs.MoveKeeping.{KeepAll};
@@ -7,8 +7,10 @@ ghost use Rattle.service_plain.specs.Played.{IsStart};
 ghost use Rattle.store_records.specs.Stored.{IsStorable};
 ghost use Rattle.message_types.specs.Soundness.{Each};
 ghost use Rattle.service_moves.specs.Batches.{batch_wear};
+ghost use Rattle.service_moves.specs.Doing.{Step, DoSteps};
 ghost use Rattle.service_moves.specs.Stores.{states_of, AreStores, AreSame};
 ghost use Rattle.service_moves.specs.Stopping.{IsStopped};
+ghost use Rattle.service_stores.specs.Plans.{AreBeginning};
 ghost use Rattle.service_stores.specs.Starting.{told_by, start_from};
 
 use crate::begin::begin;
@@ -38,6 +40,9 @@ fn start_told<S: Store>(
     ensures kept { S.tells → (disks : ℕ) → all.now ≡ told_by S.view disks stores.old
         → Each IsStorable (states_of S.view stores.old)
         → IfOk result (λ tree. KeepAll (λ host. 1) tree (states_of S.view stores.new)) }
+    ensures does { S.tells → (disks : ℕ) → all.now ≡ told_by S.view disks stores.old
+        → Each IsStorable (states_of S.view stores.old)
+        → (steps : List Step) × AreBeginning steps × DoSteps S.view result steps stores.old stores.new }
     ensures stores { OnOk result (AreStores S.view roster.now (2 ^ 40) 1 stores.new) }
     ensures same { AreSame S.view stores.old stores.new }
     ensures stopped { IfErr result (IsStopped S.tells S.view all.now stores.old stores.new) }
@@ -71,6 +76,8 @@ pub fn start_on<S: Store>(
         → IfOk result (λ tree. tree ≡ start_from roster.now (told_by S.view disks stores.old)) }
     ensures start { IfOk result (IsStart roster.now) }
     ensures kept { S.tells → IfOk result (λ tree. KeepAll (λ host. 1) tree (states_of S.view stores.new)) }
+    ensures does { S.tells
+        → (steps : List Step) × AreBeginning steps × DoSteps S.view result steps stores.old stores.new }
     ensures stores { OnOk result (AreStores S.view roster.now (2 ^ 40) 1 stores.new) }
     ensures same { AreSame S.view stores.old stores.new }
     ensures stopped { IfErr result

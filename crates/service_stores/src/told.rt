@@ -1,7 +1,9 @@
 // What the stores of servers tell.
 ghost use Rattle.std.specs.Prelude.{◌≡◌, ◌≤◌, ◌+◌, ◌*◌, ◌^◌, [], length, IfOk, IfErr, OnOk};
 ghost use Rattle.base_types.specs.declared.limits.TheConstants.{SERVERS_MAX};
+ghost use Rattle.store_memory.specs.Views.{IsFirstOf, Leaves};
 ghost use Rattle.service_moves.specs.Batches.{batch_wear, IsBlamedTwice};
+ghost use Rattle.service_moves.specs.Doing.{DoSteps};
 ghost use Rattle.service_moves.specs.Stores.{states_of, AreSame};
 ghost use Rattle.service_moves.specs.Stopping.{IsStopped};
 ghost use Rattle.service_stores.specs.Starting.{told_of, told_by};
@@ -19,6 +21,7 @@ fn told_by<S: Store>(store: &mut S, on_disk: bool) -> Result<Told, StoreFault>
     requires wear { (S.view store.old).wear ≤ 2 ^ 40 }
     ensures told { S.tells → IfOk result (λ told. told ≡ told_of on_disk (S.view store.old).state) }
     ensures state { S.tells → (S.view store.new).state ≡ (S.view store.old).state }
+    ensures leaves { S.tells → Leaves (IsFirstOf (S.view store.old).state []) (S.view store.old) (S.view store.new) }
     ensures still { IsStill (S.view store.old) (S.view store.new) }
     ensures ready { OnOk result (S.view store.new).ready }
     ensures wear { (S.view store.new).wear ≤ (S.view store.old).wear + 2 * batch_wear }
@@ -44,6 +47,7 @@ pub(crate) fn all_told<S: Store>(
     ensures told { S.tells → IfOk result (λ all. all ≡ told_by S.view disks stores.old) }
     ensures count { IfOk result (λ all. length all ≡ length stores.old) }
     ensures states { S.tells → states_of S.view stores.new ≡ states_of S.view stores.old }
+    ensures does { S.tells → DoSteps S.view result [] stores.old stores.new }
     ensures same { AreSame S.view stores.old stores.new }
     ensures ready { OnOk result (AreReady S.view (2 * batch_wear) stores.new) }
     ensures stopped { IfErr result (IsStopped S.tells S.view [] stores.old stores.new) }

@@ -1,22 +1,36 @@
-use Rattle.std.proofs.Common.{◌+◌, ◌*◌, ◌∙◌, ap, arith}
-use Rattle.store_memory.proofs.Batches.{on_err}
-use Rattle.store_acts.specs.Acts.{state_after}
-use Rattle.service_moves.proofs.Tries.{batch_again, batch_after, batch_failed, take_to}
+use Rattle.std.proofs.Common.{◌≡◌, ◌+◌, ◌*◌, ◌∙◌, length, take, sym, subst, ap, arith}
+use Rattle.std.specs.Prelude.{Result, Ok, Err}
+use Rattle.std.proofs.lemmas.Result.{err_from_is_err_and}
+use Rattle.base_types.specs.declared.limits.TheConstants.{BATCH_ACTS_MAX}
+use Rattle.store_memory.specs.Views.{DoesActs}
+use Rattle.store_memory.specs.declared.store.StoreFault.{StoreFault}
+use Rattle.store_memory.proofs.Doing.{does_none, does_then, does_stop}
+use Rattle.service_moves.proofs.Tries.{batch_again, batch_in, take_all, take_batch, take_to, take_rest}
+use Rattle.service_moves.proofs.Twice.{does_err, does_ok, made_of}
 use Rattle.service_moves.proofs.batches.apply_all.Goals as goal
 
-pub returns-in_err-apply_batch-clause-fault : goal.returns-in_err-apply_batch-clause-fault
-returns-in_err-apply_batch-clause-fault g c tells fits new =
-    let start = (g.S.Store.view c.args.store.now).state in
-    let now = (g.S.Store.view c.loop-at.store).state in
-    let next = (g.S.Store.view c.apply_batch.new.store).state in
+pub loop-at-init-clause-does : goal.loop-at-init-clause-does
+loop-at-init-clause-does g c tells fits new = does_none _ (g.S.Store.view c.args.store.now)
+
+pub returns-in_err-apply_batch-clause-does : goal.returns-in_err-apply_batch-clause-does
+returns-in_err-apply_batch-clause-does g c tells fits new =
+    let start = g.S.Store.view c.args.store.now in
+    let now = g.S.Store.view c.loop-at.store in
+    let next = g.S.Store.view c.apply_batch.new.store in
+    let acts = c.args.acts.now in
     let from = c.loop-at.at * 8 in
     let to = c.min-to.result in
-    let so_far = c.loop-at.invariant.state tells fits new in
-    let failed = c.in_err-apply_batch.ensures.fault tells (batch_again start now c.args.acts.now from to so_far fits new) in
+    let so_far = c.loop-at.invariant.does tells fits new in
     let low = c.loop-at-test.true in
     let count = c.div_ceil-at-end.ensures in
-    on_err c.from_residual.result _
-    (batch_failed start now next c.args.acts.now from to failed.0 (omega (arith, low, count)) so_far failed.1 failed.2)
+    let end = c.min-to.ensures in
+    let failed = c.in_err-apply_batch.ensures.does tells (batch_again start.state now.state acts from to (made_of _ (take from acts) start now so_far) fits new) in
+    let both = does_then _ _ (take from acts) (batch_in acts from to) start now next so_far failed in
+    let all : DoesActs (Err c.in_err-apply_batch.field-0.0) acts start next =
+    subst (λ l. DoesActs (Err c.in_err-apply_batch.field-0.0) l start next) (take_rest acts from to (omega (arith, low, count, end)))
+    (does_stop _ c.in_err-apply_batch.field-0.0 _ _ start next both) in
+    let p = err_from_is_err_and c.from_residual.result c.from_residual.ensures.1 in
+    rw (p.1) (does_err _ p.0 acts start next all)
 
 pub loop-at-preserved : goal.loop-at-preserved
 loop-at-preserved g c =
@@ -24,18 +38,19 @@ loop-at-preserved g c =
     let done = c.in_ok-apply_batch.ensures in
     let to = c.min-to.result in
     record {
-      state = λ tells fits new.
-          (let start = (g.S.Store.view c.args.store.now).state in
-          let now = (g.S.Store.view c.loop-at.store).state in
-          let next = (g.S.Store.view c.apply_batch.new.store).state in
+      does = λ tells fits new.
+          (let start = g.S.Store.view c.args.store.now in
+          let now = g.S.Store.view c.loop-at.store in
+          let next = g.S.Store.view c.apply_batch.new.store in
+          let acts = c.args.acts.now in
           let from = c.loop-at.at * 8 in
-          let so_far = inv.state tells fits new in
-          let made = c.in_ok-apply_batch.ensures.state tells (batch_again start now c.args.acts.now from to so_far fits new) in
+          let so_far = inv.does tells fits new in
           let low = c.loop-at-test.true in
           let count = c.div_ceil-at-end.ensures in
           let end = c.min-to.ensures in
-          batch_after start now next c.args.acts.now from to (omega (arith, low, count, end)) so_far made
-          ∙ ap (state_after start) (take_to c.args.acts.now to ((c.loop-at.at + 1) * 8) (omega (arith, end))));
+          let made = done.does tells (batch_again start.state now.state acts from to (made_of _ (take from acts) start now so_far) fits new) in
+          subst (λ l. DoesActs {E = StoreFault} (Ok tt) l start next) (take_batch acts from to (omega (arith, low, count, end)) ∙ take_to acts to ((c.loop-at.at + 1) * 8) (omega (arith, end)))
+          (does_then _ _ (take from acts) (batch_in acts from to) start now next so_far made));
       same = record {
         server = c.in_ok-apply_batch.ensures.same.server ∙ inv.same.server;
         roster = c.in_ok-apply_batch.ensures.same.roster ∙ inv.same.roster;
@@ -45,3 +60,10 @@ loop-at-preserved g c =
       wear = (let a = c.in_ok-apply_batch.ensures.wear in let b = inv.wear in omega (arith, a, b));
       counted = (let a = c.in_ok-apply_batch.ensures.blame.counted in let b = inv.counted in omega (arith, a, b));
     }
+
+pub returns-clause-does : goal.returns-clause-does
+returns-clause-does g c tells fits new =
+    let acts = c.args.acts.now in
+    let past = c.loop-at-test.false in
+    let count = c.div_ceil-at-end.ensures in
+    subst (λ l. DoesActs _ l (g.S.Store.view c.args.store.now) (g.S.Store.view c.loop-at.store)) (take_all (c.loop-at.at * 8) acts (omega (arith, past, count))) (c.loop-at.invariant.does tells fits new)

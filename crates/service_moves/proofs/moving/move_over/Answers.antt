@@ -1,13 +1,16 @@
-use Rattle.std.proofs.Common.{◌≡◌, ◌+◌, ◌-◌, ◌*◌, ◌^◌, get_or, set, refl, sym, subst, ◌∙◌, ap, arith}
+use Rattle.std.proofs.Common.{◌≡◌, ◌+◌, ◌-◌, ◌*◌, ◌^◌, [], ◌∷◌, get_or, set, refl, sym, subst, ◌∙◌, ap, arith}
 use Rattle.std.specs.Prelude.{Ok, Err, Some, IfSome, slice_get}
 use Rattle.store_memory.specs.Sound.{IsLeavingOf}
 use Rattle.message_types.specs.Soundness.{IsServer}
 use Rattle.service_moves.specs.Batches.{batch_wear}
+use Rattle.store_acts.specs.declared.act.Act.TheVariants.{Leave}
 use Rattle.store_state.specs.State.{held_so, is_of}
 use Rattle.service_moves.specs.Ships.{CarriesOf, IsSoundShip}
 use Rattle.service_moves.proofs.Between.{server_store}
 use Rattle.service_moves.proofs.Carried.{may_ask}
 use Rattle.service_moves.proofs.Moved.{may_later, moved, not_moved, step_goes, there_at}
+use Rattle.service_moves.proofs.MovedSteps.{left_does, moved_does}
+use Rattle.service_moves.proofs.Twice.{made_of}
 use Rattle.service_moves.proofs.Stores.{all_failed, all_more, all_ok, all_then, set_there, there_within}
 use Rattle.service_moves.proofs.moving.move_over.Goals as goal
 
@@ -81,7 +84,7 @@ returns-in-Some-clause-states g c tells sender receiver holding one two may =
     let s1 = c.leave.new.store in
     let carried = subst (λ o. CarriesOf c.args.from (held_so (is_of c.args.fileset) (g.S.Store.view s1).state.slots) o) c.in-Some.is (c.in-Ok.ensures.ship tells) in
     moved g.S.Store.view stores c.send_between.new.stores c.send_between.result c.args.from c.args.to c.args.fileset c.args.mover.now (get_or stores (c.args.from.0 - 1) d) s1 sender receiver holding
-    c.in-Some.ship (there_at m.roster stores c.args.from m.count m.is_from d) one two may (c.in-Ok.ensures.state tells) carried m.is_from.first m.is_to.first (c.send_between.ensures.states tells)
+    c.in-Some.ship (there_at m.roster stores c.args.from m.count m.is_from d) one two may (λ fits again. made_of _ (Leave c.args.fileset c.args.to ∷ []) (g.S.Store.view (get_or stores (c.args.from.0 - 1) d)) (g.S.Store.view s1) (c.in-Ok.ensures.does tells fits again)) carried m.is_from.first m.is_to.first (c.send_between.ensures.states tells)
 
 pub returns-in-Some-clause-goes_on : goal.returns-in-Some-clause-goes_on
 returns-in-Some-clause-goes_on g c =
@@ -101,7 +104,7 @@ returns-in-None-clause-states g c tells sender receiver holding one two may =
     let s1 = c.leave.new.store in
     let carried = subst (λ o. CarriesOf c.args.from (held_so (is_of c.args.fileset) (g.S.Store.view s1).state.slots) o) c.in-None.is (c.in-Ok.ensures.ship tells) in
     absurd (not_moved g.S.Store.view stores c.args.from c.args.to c.args.fileset c.args.mover.now (get_or stores (c.args.from.0 - 1) d) s1 sender receiver holding
-    (there_at m.roster stores c.args.from m.count m.is_from d) one may (c.in-Ok.ensures.state tells) carried)
+    (there_at m.roster stores c.args.from m.count m.is_from d) one may (λ fits again. made_of _ (Leave c.args.fileset c.args.to ∷ []) (g.S.Store.view (get_or stores (c.args.from.0 - 1) d)) (g.S.Store.view s1) (c.in-Ok.ensures.does tells fits again)) carried)
 
 pub returns-in-None-clause-goes_on : goal.returns-in-None-clause-goes_on
 returns-in-None-clause-goes_on g c =
@@ -111,3 +114,31 @@ returns-in-None-clause-goes_on g c =
     let first = step_goes g.S.Store.view (2 * batch_wear) (Ok c.in-Ok.found) stores m.roster (2 ^ 46) c.args.from (get_or stores (c.args.from.0 - 1) d) c.leave.new.store m.are m.is_from.first
     (there_at m.roster stores c.args.from m.count m.is_from d) c.in-Ok.ensures.goes_on tt in
     all_ok g.S.Store.view (2 * batch_wear) (68 * batch_wear) c.in-Ok.found tt stores (set stores (c.args.from.0 - 1) c.leave.new.store) (omega arith) first
+
+pub returns-in-Err-clause-does : goal.returns-in-Err-clause-does
+returns-in-Err-clause-does g c tells sender receiver holding one two may =
+    let m = c.requires.may in
+    let d = c.index-stores-place.result in
+    let stores = c.args.stores.now in
+    left_does g.S.Store.view stores c.args.from c.args.to c.args.fileset c.args.mover.now (get_or stores (c.args.from.0 - 1) d) c.leave.new.store sender receiver holding _ c.in-Err.stopped
+    (there_at m.roster stores c.args.from m.count m.is_from d) one may (c.in-Err.ensures.does tells)
+
+pub returns-in-Some-clause-does : goal.returns-in-Some-clause-does
+returns-in-Some-clause-does g c tells sender receiver holding one two may =
+    let m = c.requires.may in
+    let d = c.index-stores-place.result in
+    let stores = c.args.stores.now in
+    let s1 = c.leave.new.store in
+    let carried = subst (λ o. CarriesOf c.args.from (held_so (is_of c.args.fileset) (g.S.Store.view s1).state.slots) o) c.in-Some.is (c.in-Ok.ensures.ship tells) in
+    moved_does g.S.Store.view stores c.send_between.new.stores c.send_between.result c.args.from c.args.to c.args.fileset c.args.mover.now (get_or stores (c.args.from.0 - 1) d) s1 sender receiver holding
+    c.in-Some.ship c.in-Ok.found (there_at m.roster stores c.args.from m.count m.is_from d) one two may (c.in-Ok.ensures.does tells) carried m.is_from.first m.is_to.first (c.send_between.ensures.does tells)
+
+pub returns-in-None-clause-does : goal.returns-in-None-clause-does
+returns-in-None-clause-does g c tells sender receiver holding one two may =
+    let m = c.requires.may in
+    let d = c.index-stores-place.result in
+    let stores = c.args.stores.now in
+    let s1 = c.leave.new.store in
+    let carried = subst (λ o. CarriesOf c.args.from (held_so (is_of c.args.fileset) (g.S.Store.view s1).state.slots) o) c.in-None.is (c.in-Ok.ensures.ship tells) in
+    absurd (not_moved g.S.Store.view stores c.args.from c.args.to c.args.fileset c.args.mover.now (get_or stores (c.args.from.0 - 1) d) s1 sender receiver holding
+    (there_at m.roster stores c.args.from m.count m.is_from d) one may (λ fits again. made_of _ (Leave c.args.fileset c.args.to ∷ []) (g.S.Store.view (get_or stores (c.args.from.0 - 1) d)) (g.S.Store.view s1) (c.in-Ok.ensures.does tells fits again)) carried)

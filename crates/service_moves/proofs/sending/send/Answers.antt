@@ -1,18 +1,24 @@
-use Rattle.std.proofs.Common.{◌≡◌, ◌≤◌, ◌+◌, ◌*◌, inl, refl, sym, subst, ◌∙◌, ap, arith}
-use Rattle.store_acts.specs.Acts.{act_done, state_after}
+use Rattle.std.proofs.Common.{◌≡◌, ◌≤◌, ◌+◌, ◌*◌, [], ◌∷◌, take, inl, sym, subst, arith}
+use Rattle.std.specs.Prelude.{Err}
 use Rattle.store_acts.specs.declared.act.Act.TheVariants.{Left}
 use Rattle.service_moves.specs.Again.{IsRepeatable}
 use Rattle.service_moves.specs.Batches.{batch_wear}
 use Rattle.service_moves.specs.Steps.{StopsAt}
-use Rattle.service_moves.proofs.Between.{part_taken}
+use Rattle.store_laws.specs.Moves.{all_parts}
+use Rattle.store_memory.specs.Views.{DoesActs}
+use Rattle.store_memory.proofs.Doing.{does_none, does_then}
+use Rattle.store_state.specs.declared.state.Holding.{Holding}
+use Rattle.service_moves.specs.Ships.{MaySend}
 use Rattle.service_moves.proofs.Carried.{all_taken, left_again}
+use Rattle.service_moves.proofs.Sent.{all_sent, has_sent, part_done, parts_failed}
+use Rattle.service_moves.proofs.Twice.{made_of}
 use Rattle.service_moves.proofs.Stores.{if_err_then, lasts_more, lasts_none, lasts_then, on_ok, on_ok_then, stops_then}
 use Rattle.service_moves.proofs.sending.send.Goals as goal
 
 pub loop-at-init : goal.loop-at-init
 loop-at-init g c = record {
-  sender = λ t. refl;
-  receiver = λ t holding m. refl;
+  still = λ t. does_none _ (g.S.Store.view c.args.sender.now);
+  does = λ t holding m. does_none _ (g.S.Store.view c.args.receiver.now);
   sends = c.requires.may.sends;
   takes = c.requires.may.takes;
   first = lasts_none (g.S.Store.view c.args.sender.now) c.requires.may.first_mends;
@@ -27,10 +33,11 @@ loop-at-preserved g c =
     let low : at ≤ c.args.ship.now.objects = (let t = c.loop-at-test.true in omega (arith, t)) in
     let more : batch_wear * at + batch_wear ≤ batch_wear * (at + 1) = omega arith in
     record {
-      sender = λ t. done.sender t ∙ inv.sender t;
-      receiver = λ t holding m.
-          part_taken (g.S.Store.view c.args.sender.now).state (g.S.Store.view c.args.receiver.now).state (g.S.Store.view c.loop-at.sender).state (g.S.Store.view c.loop-at.receiver).state
-          (g.S.Store.view c.send_part.new.receiver).state holding c.args.ship.now c.args.mover.now at m low (inv.sender t) (inv.receiver t holding m) (done.receiver t);
+      still = λ t. does_then _ _ [] [] (g.S.Store.view c.args.sender.now) (g.S.Store.view c.loop-at.sender) (g.S.Store.view c.send_part.new.sender) (inv.still t) (done.sender t);
+      does = λ t holding m.
+          part_done _ (g.S.Store.view c.args.sender.now).state (g.S.Store.view c.loop-at.sender).state (g.S.Store.view c.args.receiver.now) (g.S.Store.view c.loop-at.receiver)
+          (g.S.Store.view c.send_part.new.receiver) holding c.args.ship.now c.args.mover.now at m low (made_of tt [] (g.S.Store.view c.args.sender.now) (g.S.Store.view c.loop-at.sender) (inv.still t)) (inv.does t holding m)
+          (done.receiver t);
       sends = done.first.ready inv.sends;
       takes = done.second.ready inv.takes;
       first = lasts_more (batch_wear * at + batch_wear) (batch_wear * (at + 1)) (g.S.Store.view c.args.sender.now) (g.S.Store.view c.send_part.new.sender) more
@@ -51,11 +58,17 @@ returns g c =
     let start = g.S.Store.view c.args.sender.now in
     let now = g.S.Store.view c.loop-at.sender in
     let end = g.S.Store.view c.do_act.new.store in
+    let sent = λ (t : g.S.Store.tells) (holding : Holding) (m : MaySend start.state (g.S.Store.view c.args.receiver.now).state holding ship c.args.mover.now).
+        (let parts = all_parts holding ship.from ship.number c.args.mover.now in
+        let so_far = inv.still t in
+        let same : now.state ≡ start.state = made_of tt [] start now so_far in
+        let left : DoesActs c.do_act.result (Left ship.fileset ∷ []) now end =
+            done.does t tt (subst (λ s. IsRepeatable s (Left ship.fileset)) (sym same) (left_again start.state ship.fileset m.storable)) in
+        all_sent c.do_act.result parts (take at parts) (Left ship.fileset) start now end (g.S.Store.view c.args.receiver.now) (g.S.Store.view c.loop-at.receiver)
+        (all_taken start.state (g.S.Store.view c.args.receiver.now).state holding ship c.args.mover.now at m count) (inv.does t holding m) so_far left) in
     record {
-      states = λ t holding m. on_ok_then c.do_act.result _ _ (λ e. (
-        e ∙ ap (λ s. (act_done s (Left ship.fileset)).state) (inv.sender t),
-        inv.receiver t holding m ∙ ap (state_after (g.S.Store.view c.args.receiver.now).state) (all_taken start.state (g.S.Store.view c.args.receiver.now).state holding ship c.args.mover.now at m count),
-      )) (done.state t tt (subst (λ s. IsRepeatable s (Left ship.fileset)) (sym (inv.sender t)) (left_again start.state ship.fileset m.storable)));
+      states = λ t holding m. has_sent c.do_act.result (all_parts holding ship.from ship.number c.args.mover.now) (Left ship.fileset) start (g.S.Store.view c.args.receiver.now) end (g.S.Store.view c.loop-at.receiver) (sent t holding m);
+      does = λ t holding m. sent t holding m;
       first = record {
         lasts = lasts_more (batch_wear * at + batch_wear) (66 * batch_wear) start end few (lasts_then (batch_wear * at) batch_wear start now end inv.first done.goes_on.lasts);
         ready = on_ok_then c.do_act.result (now.ready → end.ready) (start.ready → end.ready) (λ f r. f inv.sends) done.goes_on.ready;

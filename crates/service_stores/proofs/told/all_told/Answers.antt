@@ -2,7 +2,10 @@ use Rattle.std.proofs.Common.{◌≡◌, ◌<◌, ◌≤◌, ◌+◌, ◌*◌, [
 use Rattle.std.proofs.lemmas.Grind.{common_steps}
 use Rattle.std.proofs.lemmas.Option.{slice_get-get_or}
 use Rattle.service_moves.specs.Batches.{batch_wear}
+use Rattle.std.specs.Prelude.{Ok}
+use Rattle.service_moves.proofs.Doing.{steps_ok}
 use Rattle.service_starts.proofs.CheckFormed.{get_some}
+use Rattle.service_stores.proofs.Doing.{one_asked}
 use Rattle.service_stores.proofs.Stores.{past_here, past_next, past_still, past_ready, past_states, same_of, states_same, states_put, still_put, stopped_put}
 use Rattle.service_stores.proofs.Telling.{told_next, told_whole}
 use Rattle.service_stores.proofs.told.all_told.Goals as goal
@@ -52,6 +55,7 @@ loop-k-preserved g c =
       told = λ t. told_next g.S.Store.view c.args.disks c.loop-k.k c.args.stores.now before.0 _ c.loop-k.all c.push.new.self c.in-Ok.told before.1 (c.loop-k.invariant.told t) (here.1 t before.0 before.1)
           (c.in-Ok.ensures.told t) (search rules);
       count = grind (arith, common_steps);
+      does = λ t. one_asked g.S.Store.view (Ok tt) c.args.stores.now c.loop-k.stores c.loop-k.k (get_or c.loop-k.stores c.loop-k.k c.index-stores-k.result) c.told_by.new.store at (c.told_by.ensures.state t) (c.told_by.ensures.leaves t) (c.loop-k.invariant.does t);
     }
 
 pub returns-clause-told : goal.returns-clause-told
@@ -85,3 +89,21 @@ returns-in-Err-clause-states g c t =
     let lt : c.loop-k.k < length c.loop-k.stores = grind arith in
     let at : slice_get c.loop-k.stores c.loop-k.k ≡ Some (get_or c.loop-k.stores c.loop-k.k c.index-stores-k.result) = slice_get-get_or c.loop-k.stores c.loop-k.k c.index-stores-k.result lt in
     states_put g.S.Store.view g.S.Store.tells 0 (2 * batch_wear) c.loop-k.k c.args.stores.now c.loop-k.stores _ c.told_by.new.store c.loop-k.invariant.past lt at t (c.told_by.ensures.state t)
+
+-- one more was asked
+pub returns-in_err-push-in-Ok-clause-does : goal.returns-in_err-push-in-Ok-clause-does
+returns-in_err-push-in-Ok-clause-does g c t =
+    let lt : c.loop-k.k < length c.loop-k.stores = grind arith in
+    let store = get_or c.loop-k.stores c.loop-k.k c.index-stores-k.result in
+    let at : slice_get c.loop-k.stores c.loop-k.k ≡ Some store = slice_get-get_or c.loop-k.stores c.loop-k.k c.index-stores-k.result lt in
+    one_asked g.S.Store.view _ c.args.stores.now c.loop-k.stores c.loop-k.k store c.told_by.new.store at (c.told_by.ensures.state t) (c.told_by.ensures.leaves t) (c.loop-k.invariant.does t)
+
+pub returns-in-Err-clause-does : goal.returns-in-Err-clause-does
+returns-in-Err-clause-does g c t =
+    let lt : c.loop-k.k < length c.loop-k.stores = grind arith in
+    let store = get_or c.loop-k.stores c.loop-k.k c.index-stores-k.result in
+    let at : slice_get c.loop-k.stores c.loop-k.k ≡ Some store = slice_get-get_or c.loop-k.stores c.loop-k.k c.index-stores-k.result lt in
+    one_asked g.S.Store.view _ c.args.stores.now c.loop-k.stores c.loop-k.k store c.told_by.new.store at (c.told_by.ensures.state t) (c.told_by.ensures.leaves t) (c.loop-k.invariant.does t)
+
+pub returns-clause-does : goal.returns-clause-does
+returns-clause-does g c t = steps_ok g.S.Store.view _ _ [] c.args.stores.now c.loop-k.stores (c.loop-k.invariant.does t)

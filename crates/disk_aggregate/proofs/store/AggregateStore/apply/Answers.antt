@@ -11,6 +11,7 @@ use Rattle.disk_aggregate.specs.StoreView.{kept_state}
 use Rattle.disk_aggregate.proofs.Acted.{left_mendable, left_seen, settled_durable}
 use Rattle.disk_aggregate.proofs.Asked.{blamed, blamed_ok}
 use Rattle.disk_aggregate.proofs.Mending.{stands_mendable, stands_store}
+use Rattle.disk_aggregate.proofs.Records.{batch_leaves}
 use Rattle.disk_aggregate.proofs.Seen.{seen_same, seen_open}
 use Rattle.disk_aggregate.proofs.store.AggregateStore.apply.Goals as goal
 
@@ -89,3 +90,19 @@ returns-in-Err-clause-crash g c = λ told.
     let old = c.args.self.now in
     let new = c.do_batch.new.self in
     subst (λ (s : StoreState). LeavesOnly (IsLeftOfBatch new.wear s c.args.batch.now) (view (disk_in old)) (view (disk_in new))) (sym (seen_open view old c.requires.ready.0)) (c.in-Err.ensures.crash told))
+
+pub returns-in-Ok-clause-leaves : goal.returns-in-Ok-clause-leaves
+returns-in-Ok-clause-leaves g c = λ told.
+    (let old = c.args.self.now in
+    let made = c.in-Ok.ensures in
+    let acts = subst (λ (s : StoreState). AreActs s.roster s.server c.args.batch.now) (seen_open g.D.Disk.view old c.requires.ready.0) c.requires.acts in
+    batch_leaves g.D.Disk.tells g.D.Disk.view old c.do_batch.new.self made.server made.roster c.do_batch.new.self.wear c.args.batch.now c.requires.ready.0
+    (c.requires.ready.1.record_held told).storable.limits acts.each (made.crash told))
+
+pub returns-in-Err-clause-leaves : goal.returns-in-Err-clause-leaves
+returns-in-Err-clause-leaves g c = λ told.
+    (let old = c.args.self.now in
+    let made = c.in-Err.ensures in
+    let acts = subst (λ (s : StoreState). AreActs s.roster s.server c.args.batch.now) (seen_open g.D.Disk.view old c.requires.ready.0) c.requires.acts in
+    batch_leaves g.D.Disk.tells g.D.Disk.view old c.do_batch.new.self made.server made.roster c.do_batch.new.self.wear c.args.batch.now c.requires.ready.0
+    (c.requires.ready.1.record_held told).storable.limits acts.each (made.crash told))

@@ -3,6 +3,7 @@ use Rattle.store_state.specs.declared.state.StoreState.{StoreState}
 use Rattle.disk_aggregate.specs.Opening.{HoldsStore}
 use Rattle.disk_aggregate.specs.StoreView.{kept_state}
 use Rattle.disk_aggregate.proofs.Asked.{blamed, blamed_ok}
+use Rattle.disk_aggregate.proofs.Records.{reopened_leaves}
 use Rattle.disk_aggregate.proofs.Seen.{holds_left, open_holds, seen_same, seen_open, shut_holds, shut_seen}
 use Rattle.disk_aggregate.proofs.store.AggregateStore.reopen.Goals as goal
 
@@ -60,3 +61,13 @@ returns-in-Ok-clause-crash g c = λ told. c.in-Ok.ensures.crash told (kept_state
 
 pub returns-in-Err-clause-crash : goal.returns-in-Err-clause-crash
 returns-in-Err-clause-crash g c = λ told. c.in-Err.ensures.crash told (kept_state g.D.Disk.view c.args.self.now) (c.requires.mendable told)
+
+pub returns-in-Ok-clause-leaves : goal.returns-in-Ok-clause-leaves
+returns-in-Ok-clause-leaves g c = λ told.
+    (let made = c.in-Ok.ensures in
+    reopened_leaves g.D.Disk.tells g.D.Disk.view c.args.self.now c.open_again.new.self made.server made.roster (made.crash told (kept_state g.D.Disk.view c.args.self.now) (c.requires.mendable told)))
+
+pub returns-in-Err-clause-leaves : goal.returns-in-Err-clause-leaves
+returns-in-Err-clause-leaves g c = λ told.
+    (let made = c.in-Err.ensures in
+    reopened_leaves g.D.Disk.tells g.D.Disk.view c.args.self.now c.open_again.new.self made.server made.roster (made.crash told (kept_state g.D.Disk.view c.args.self.now) (c.requires.mendable told)))
