@@ -30,11 +30,8 @@ pub fn manager_text(
 // `next`
 fn next(alloc: Global, manager: &mut TokenManager) -> Result<String> {
     let ready = manager.next_ready()?;
-    let copy = ready.copy();
+    let text = ready_text(alloc, &ready);
     drop(ready);
-    let copy = copy?;
-    let text = ready_text(alloc, &copy);
-    drop(copy);
     text
 }
 
@@ -78,16 +75,11 @@ fn lose(
             wants_text(alloc, dropped.as_slice())
         }
         "forget" => forget(alloc, manager, words),
-        _ => {
-            let copy = manager.copy()?;
-            let said = look(alloc, &copy, word, words);
-            drop(copy);
-            said
-        }
+        _ => look(alloc, manager, word, words),
     }
 }
 
-// Looks at the manager, which is a copy: so the copy is seen to be the same.
+// Looks at the manager.
 fn look(alloc: Global, manager: &TokenManager, word: &str, words: &mut Words) -> Result<String> {
     match word {
         "first" => number_or_none(alloc, manager.first_ready()),
@@ -145,11 +137,8 @@ fn ask(
     let copy = want.copy();
     drop(want);
     let asked = manager.ask(copy?)?;
-    let copy = asked.copy();
+    let text = asked_text(alloc, &asked);
     drop(asked);
-    let copy = copy?;
-    let text = asked_text(alloc, &copy);
-    drop(copy);
     text
 }
 
