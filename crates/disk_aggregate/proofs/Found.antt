@@ -3,26 +3,19 @@ use Rattle.std.proofs.Common.{◌≡◌, ◌≤◌, ℕ, List, [], ◌∷◌, le
 use Rattle.std.specs.Prelude.{true, false, ◌||◌, ◌==◌, not, Option, Some, None}
 use Rattle.std.specs.Option.{option_map}
 use Rattle.std.proofs.lemmas.Bool.{cond-true, cond-false, or_from, not_from_true, eq-eqb}
-use Rattle.base_types.specs.Image.{byte_at}
 use Rattle.base_types.specs.declared.ids.ServerId.{ServerId}
 use Rattle.tree_calls.specs.declared.roster.Roster.{Roster}
 use Rattle.disk_layout.specs.Half.{HasLog, used_half}
 use Rattle.disk_layout.specs.Places.{pages_of}
-use Rattle.disk_layout.specs.Superblock.{IsBlank}
 use Rattle.disk_layout.specs.declared.half.Half.{Half}
 use Rattle.disk_layout.specs.declared.superblock.Superblock.{Superblock}
+use Rattle.disk_layout.proofs.Words.{not_blank}
 use Rattle.disk_image.specs.Aggregate.{aggregate_of, is_blank, superblock_of}
 use Rattle.disk_image.specs.Faults.{faults_of, faults_in, faults_under, faults_behind}
 use Rattle.disk_image.specs.Image.{image_of, image_under, image_behind, image_in}
 use Rattle.disk_image.specs.declared.fault.Fault.{Fault}
 use Rattle.disk_image.proofs.Front.{unblank_fails, superblock_some}
 use Rattle.disk_records.specs.Record.{record_of, record_in}
-
-not_blank : (bytes : List ℕ) → byte_at bytes 0 ≡ 1 → IsBlank bytes → ⊥
-not_blank [] gate blank = omega (arith, gate)
-not_blank (x ∷ bytes) gate (inl none) = omega (arith, none)
-not_blank (x ∷ bytes) gate (inr (inl zeros)) = let e = zeros 0 (omega arith) in omega (arith, gate, e)
-not_blank (x ∷ bytes) gate (inr (inr closed)) = closed.0 gate
 
 module _ (superblock : Superblock) (half : Half) (bytes : List ℕ) (log : HasLog superblock half bytes) (first : 1 ≤ superblock.server) (last : superblock.server ≤ 4) (least : 1092 ≤ superblock.blocks)
     (clean : faults_in (aggregate_of superblock half bytes) ≡ []) where

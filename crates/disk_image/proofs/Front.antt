@@ -4,7 +4,7 @@ use Rattle.std.specs.Prelude.{Bool, true, false, ◌&&◌, ◌||◌, ◌==◌, n
 use Rattle.std.proofs.lemmas.Bool.{and_parts, and_from, and_left, or_left, or_right, or_parts, or_cases, eq-eqb, eqb-true, eqb-false, ne_eqb, le-leb, leb-true, leb-false, lt-leb, not_from_false, not-true, cases_Bool, false_from_ne_true, cond-true, cond-false, false≢true}
 use Rattle.base_types.specs.Image.{byte_at, bytes_from}
 use Rattle.disk_layout.specs.Numbers.{number_at}
-use Rattle.disk_layout.specs.Superblock.{layout_name, IsUnnamed, IsNamed, IsSuperblock, IsBlankPage, IsBlank}
+use Rattle.disk_layout.specs.Superblock.{format_end, layout_name, IsUnnamed, IsNamed, IsSuperblock, IsBlank}
 use Rattle.disk_layout.specs.declared.superblock.Superblock.{Superblock}
 use Rattle.disk_pages.specs.Words.{are_zero}
 use Rattle.disk_image.specs.Aggregate.{has_layout_name, is_blank, is_front, superblock_of}
@@ -22,26 +22,20 @@ module _ (image : List ℕ) where
 
   pub blank_passes : IsBlank image → is_blank image ≡ true
   unfolding is_blank
-  blank_passes (inl none) = or_left ((length image == 0) || are_zero 0 512 image) shut (or_left (length image == 0) (are_zero 0 512 image) (eq-eqb (length image) 0 none))
-  blank_passes (inr (inl zeros)) =
-      or_left ((length image == 0) || are_zero 0 512 image) shut (or_right (length image == 0) (are_zero 0 512 image) (zeros_pass image 0 512 (λ k from below. zeros k below)))
-  blank_passes (inr (inr named)) =
-      or_right ((length image == 0) || are_zero 0 512 image) shut
-      (and_from (not (byte_at image 0 == 1)) (has_layout_name image) (not_from_false (byte_at image 0 == 1) (ne_eqb (byte_at image 0) 1 named.0)) (same_pass (bytes_from image 1 8) layout_name named.1))
+  blank_passes (inl zeros) = or_left (are_zero 0 format_end image) shut (zeros_pass image 0 format_end (λ k from below. zeros k below))
+  blank_passes (inr marked) =
+      or_right (are_zero 0 format_end image) shut
+      (and_from (not (byte_at image 0 == 1)) (has_layout_name image) (not_from_false (byte_at image 0 == 1) (ne_eqb (byte_at image 0) 1 marked.0)) (same_pass (bytes_from image 1 8) layout_name marked.1))
 
   pub blank_is : is_blank image ≡ true → IsBlank image
   unfolding is_blank
-  blank_is passes = first (or_cases ((length image == 0) || are_zero 0 512 image) shut passes)
+  blank_is passes = by (or_cases (are_zero 0 format_end image) shut passes)
     where
-      second : ((length image == 0) ≡ true) ⊎ (are_zero 0 512 image ≡ true) → IsBlank image
-      second (inl none) = inl (eqb-true (length image) 0 none)
-      second (inr zeros) = inr (inl (λ k lt. zeros_are image 0 512 zeros k (omega arith) lt))
-
-      first : (((length image == 0) || are_zero 0 512 image) ≡ true) ⊎ (shut ≡ true) → IsBlank image
-      first (inl rest) = second (or_cases (length image == 0) (are_zero 0 512 image) rest)
-      first (inr closed) =
+      by : (are_zero 0 format_end image ≡ true) ⊎ (shut ≡ true) → IsBlank image
+      by (inl zeros) = inl (λ k lt. zeros_are image 0 format_end zeros k (omega arith) lt)
+      by (inr closed) =
           let parts = and_parts (not (byte_at image 0 == 1)) (has_layout_name image) closed in
-          inr (inr (eqb-false (byte_at image 0) 1 (not-true (byte_at image 0 == 1) parts.0), pass_same (bytes_from image 1 8) layout_name parts.1))
+          inr (eqb-false (byte_at image 0) 1 (not-true (byte_at image 0 == 1) parts.0), pass_same (bytes_from image 1 8) layout_name parts.1)
 
   pub unblank_fails : (IsBlank image → ⊥) → is_blank image ≡ false
   unblank_fails not_so = false_from_ne_true (is_blank image) (λ passes. not_so (blank_is passes))

@@ -13,7 +13,6 @@ use Rattle.std.specs.Prelude.{
   Bool,
   List,
   [],
-  length,
   Option,
   Some,
   None,
@@ -25,7 +24,7 @@ use Rattle.base_types.specs.Image.{byte_at, bytes_from}
 use Rattle.disk_layout.specs.Numbers.{number_at}
 use Rattle.disk_layout.specs.Places.{block_start, pages_of}
 use Rattle.disk_layout.specs.Pages.{pages_in}
-use Rattle.disk_layout.specs.Superblock.{layout_name}
+use Rattle.disk_layout.specs.Superblock.{format_end, layout_name}
 use Rattle.disk_layout.specs.declared.half.Half.{Half}
 use Rattle.disk_layout.specs.declared.superblock.Superblock.{Superblock}
 use Rattle.disk_anode.specs.Node.{is_pointer, map_under, node_of}
@@ -37,9 +36,10 @@ use Rattle.disk_image.specs.Joined.{listed}
 abbrev pub has_layout_name : List ℕ → Bool
 has_layout_name image = pointwise nat_eq (bytes_from image 1 8) layout_name
 
--- whether nobody formatted the disk, or its format was stopped
+-- whether nobody wrote to the disk, or its format was stopped: all is zero that a format may write, or there is the mark
+-- that it writes before all else
 unfoldable pub is_blank : List ℕ → Bool
-is_blank image = (length image == 0) || are_zero 0 512 image || (not (byte_at image 0 == 1) && has_layout_name image)
+is_blank image = are_zero 0 format_end image || (not (byte_at image 0 == 1) && has_layout_name image)
 
 -- whether the first page is a superblock: its gate, the layout's name, format 1, and nothing unnamed
 abbrev pub is_front : List ℕ → Bool

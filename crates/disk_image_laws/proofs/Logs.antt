@@ -1,14 +1,13 @@
 -- Bytes that are the same log, with the same blocks.
 use Rattle.std.proofs.Common.{◌≡◌, ◌<◌, ◌≤◌, ℕ, List, [], ◌∷◌, length, inl, inr, refl, sym, subst, ◌∙◌, ap, arith}
 use Rattle.std.specs.Prelude.{false, ◌==◌, ◌||◌, not, if◌then◌else◌, Option, Some, None}
-use Rattle.base_types.specs.Image.{byte_at}
 use Rattle.disk_layout.specs.Half.{HasLog, used_half}
 use Rattle.disk_layout.specs.Pages.{pages_in, HasPages}
 use Rattle.disk_layout.specs.Places.{pages_of}
-use Rattle.disk_layout.specs.Superblock.{IsBlank}
 use Rattle.disk_layout.specs.declared.half.Half.{Half}
 use Rattle.disk_layout.specs.declared.superblock.Superblock.{Superblock}
 use Rattle.disk_layout.proofs.Unique.{superblock_unique}
+use Rattle.disk_layout.proofs.Words.{not_blank}
 use Rattle.disk_image.specs.Joined.{listed}
 use Rattle.disk_image.specs.Aggregate.{Aggregate, aggregate_of, is_blank, superblock_of}
 use Rattle.disk_image.specs.Faults.{faults_of, faults_in, faults_under, faults_behind}
@@ -27,12 +26,6 @@ blocks_have_same_image disk c same =
 
 listed_same : (f g : ℕ → List ℕ) (n : ℕ) → ((k : ℕ) → k < n → f k ≡ g k) → listed f n ≡ listed g n
 listed_same f g n each = joined_same (λ k. f k ∷ []) (λ k. g k ∷ []) n (λ k lt. (let e = each k lt in λ j. e j ∷ []))
-
-not_blank : (bytes : List ℕ) → byte_at bytes 0 ≡ 1 → IsBlank bytes → ⊥
-not_blank [] gate blank = omega (arith, gate)
-not_blank (x ∷ bytes) gate (inl none) = omega (arith, none)
-not_blank (x ∷ bytes) gate (inr (inl zeros)) = let e = zeros 0 (omega arith) in omega (arith, gate, e)
-not_blank (x ∷ bytes) gate (inr (inr closed)) = closed.0 gate
 
 module _ (superblock : Superblock) (half : Half) (old c : List ℕ) (log : HasLog superblock half old) (has : HasPages superblock half.generation (pages_in half old) old c) where
   shown : (bytes : List ℕ) (there : Half) → HasLog superblock there bytes → is_blank bytes ≡ false

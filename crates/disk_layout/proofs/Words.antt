@@ -13,7 +13,7 @@ use Rattle.disk_layout.specs.Numbers.{number_at}
 use Rattle.disk_layout.specs.Places.{SameFront}
 use Rattle.disk_layout.specs.declared.half.Header.{Header}
 use Rattle.disk_layout.specs.Half.{header_from}
-use Rattle.disk_layout.specs.Superblock.{layout_name, IsSuperblock, IsBlankPage}
+use Rattle.disk_layout.specs.Superblock.{layout_name, IsSuperblock, IsMarked, IsBlank}
 use Rattle.disk_layout.specs.Entry.{entry_of, Spells, Fits, kind_of, page_named, transaction_of, old_of, new_of}
 use Rattle.disk_layout.proofs.Bytes.{number-same}
 
@@ -192,14 +192,18 @@ header_read header image start opened generation =
     let number = number_in 8 8 start 16 image (omega arith) in
     λ j. record { is_open = (opened ∙ (λ i. gate i == 1)) j; generation = (generation ∙ number) j }
 
--- a blank page as it is read, and where it stands
-blank_same : (old new : List ℕ) → SameFront old new → IsBlankPage old → IsBlankPage new
-blank_same old new same (inl zeros) = inl (λ k lt. same k lt ∙ zeros k lt)
-blank_same old new same (inr named) =
-    inr (λ is. named.0 (sym (same 0 (omega arith)) ∙ is), bytes_from-same new old 1 8 (λ k from below. same k (omega arith)) ∙ named.1)
+-- a disk whose gate is open isn't blank
+pub not_blank : (image : List ℕ) → byte_at image 0 ≡ 1 → IsBlank image → ⊥
+not_blank image gate (inl zeros) = let e = zeros 0 (omega arith) in omega (arith, gate, e)
+not_blank image gate (inr marked) = marked.0 gate
 
-pub blank_read : (image : List ℕ) → IsBlankPage (bytes_from image 0 512) → IsBlankPage image
-blank_read image is = blank_same (bytes_from image 0 512) image (λ k lt. let e : 0 + k ≡ k = omega arith in ap (byte_at image) (sym e) ∙ sym (get_or-bytes_from image 0 512 k lt)) is
+-- a mark as it is read, and where it stands
+pub marked_same : (old new : List ℕ) → SameFront old new → IsMarked old → IsMarked new
+marked_same old new same marked =
+    (λ is. marked.0 (sym (same 0 (omega arith)) ∙ is), bytes_from-same new old 1 8 (λ k from below. same k (omega arith)) ∙ marked.1)
 
-pub blank_reads : (image : List ℕ) → IsBlankPage image → IsBlankPage (bytes_from image 0 512)
-blank_reads image is = blank_same image (bytes_from image 0 512) (λ k lt. let e : 0 + k ≡ k = omega arith in get_or-bytes_from image 0 512 k lt ∙ ap (byte_at image) e) is
+pub marked_read : (image : List ℕ) → IsMarked (bytes_from image 0 512) → IsMarked image
+marked_read image is = marked_same (bytes_from image 0 512) image (λ k lt. let e : 0 + k ≡ k = omega arith in ap (byte_at image) (sym e) ∙ sym (get_or-bytes_from image 0 512 k lt)) is
+
+pub marked_reads : (image : List ℕ) → IsMarked image → IsMarked (bytes_from image 0 512)
+marked_reads image is = marked_same image (bytes_from image 0 512) (λ k lt. let e : 0 + k ≡ k = omega arith in get_or-bytes_from image 0 512 k lt ∙ ap (byte_at image) e) is

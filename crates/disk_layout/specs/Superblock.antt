@@ -1,5 +1,5 @@
 -- The superblock of a log, and blank disks.
-use Rattle.std.specs.Prelude.{◌≡◌, ◌≢◌, ◌≤◌, ◌<◌, ◌⊎◌, ℕ, List, [], ◌∷◌, length}
+use Rattle.std.specs.Prelude.{◌≡◌, ◌≢◌, ◌≤◌, ◌<◌, ◌⊎◌, ℕ, List, [], ◌∷◌}
 use Rattle.base_types.specs.Image.{byte_at, bytes_from}
 use Rattle.disk_layout.specs.Numbers.{number_at}
 use Rattle.disk_layout.specs.declared.superblock.Superblock.{Superblock}
@@ -27,11 +27,18 @@ pub record IsSuperblock (superblock : Superblock) (image : List ℕ) : Type 0 wh
   pub server : byte_at image 20 ≡ superblock.server
   pub unnamed : (k : ℕ) → IsUnnamed k → byte_at image k ≡ 0
 
--- the first page of such a disk with bytes: it is zero, or the gate before the layout's name is closed
-abbrev pub IsBlankPage : List ℕ → Type 0
-IsBlankPage image =
-    ((k : ℕ) → k < 512 → byte_at image k ≡ 0) ⊎ ((byte_at image 0 ≢ 1) × (bytes_from image 1 8 ≡ layout_name))
+-- where the blocks of the greatest log begin, behind its 1,318 metadata pages: what a format writes lies before it
+abbrev pub format_end : ℕ
+format_end = 6967808
 
--- a disk that nobody formatted, or whose format was stopped
+-- all of that is zero, as where there are no bytes
+abbrev pub IsUntouched : List ℕ → Type 0
+IsUntouched image = (k : ℕ) → k < format_end → byte_at image k ≡ 0
+
+-- what a format writes before all else: the layout's name, behind a gate that is closed
+abbrev pub IsMarked : List ℕ → Type 0
+IsMarked image = (byte_at image 0 ≢ 1) × (bytes_from image 1 8 ≡ layout_name)
+
+-- a disk that nobody wrote to, or whose format was stopped
 abbrev pub IsBlank : List ℕ → Type 0
-IsBlank image = (length image ≡ 0) ⊎ IsBlankPage image
+IsBlank image = IsUntouched image ⊎ IsMarked image

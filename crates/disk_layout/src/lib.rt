@@ -16,4 +16,4 @@ pub use half::{Half, Header, read_header, used_half};
 pub use numbers::{put_bytes, put_u16, put_u32, put_u64, u16_at, u32_at, u64_at};
 pub use places::{CLOSED, HALF_STARTS, OPEN, PAGE, PAGES_START, pages_of};
 pub use server::new_server_page;
-pub use superblock::{BLOCKS_MAX, Superblock, is_blank_page, read_superblock, superblock_bytes};
+pub use superblock::{BLOCKS_MAX, Superblock, is_marked, read_superblock, superblock_bytes};

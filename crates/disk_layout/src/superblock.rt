@@ -1,6 +1,6 @@
 ghost use Rattle.std.specs.Prelude.{◌≡◌, ◌+◌, ◌≤◌, ◌<◌, ◌↔◌, ℕ, IsTrue, IfSome, IfNone, length};
 ghost use Rattle.base_types.specs.Image.{byte_at, bytes_from};
-ghost use Rattle.disk_layout.specs.Superblock.{IsNamed, IsSuperblock, IsBlankPage};
+ghost use Rattle.disk_layout.specs.Superblock.{IsNamed, IsSuperblock, IsMarked};
 ghost use Rattle.disk_layout.specs.declared.superblock.Superblock.{Superblock as TheSuperblock};
 
 use crate::numbers::{put_bytes, put_u32, u32_at};
@@ -60,14 +60,11 @@ pub fn read_superblock(page: &[u8; PAGE]) -> Option<Superblock>
     })
 }
 
-/// Whether the first page of a disk is that of a blank one: it is zero, or the gate before the layout's name is
-/// closed, as where a format was stopped.
-pub fn is_blank_page(page: &[u8; PAGE]) -> bool
-    ensures { IsTrue result ↔ IsBlankPage page.now }
+/// Whether the first page of a disk has the mark that a format writes before all else: the layout's name, behind a
+/// gate that is closed.
+pub fn is_marked(page: &[u8; PAGE]) -> bool
+    ensures { IsTrue result ↔ IsMarked page.now }
 {
-    if are_zero(page, 0, PAGE) {
-        return true;
-    }
     page[0] != OPEN && has_piece(page, 1, NAME)
 }
 

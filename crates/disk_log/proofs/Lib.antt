@@ -5,6 +5,7 @@ pub mod Pieces
 pub mod Putting
 pub mod Settled
 pub mod Under
+pub mod Zeros
 pub mod Reading
 pub mod Room
 pub mod Entering

@@ -5,14 +5,14 @@ use Rattle.disk_layout.specs.declared.half.Half.{Half}
 use Rattle.disk_layout.specs.declared.superblock.Superblock.{Superblock}
 use Rattle.disk_layout.specs.Places.{half_start, in_place, pages_of}
 use Rattle.disk_layout.specs.Server.{IsNewServer}
-use Rattle.disk_layout.specs.Superblock.{IsSuperblock}
+use Rattle.disk_layout.specs.Superblock.{IsSuperblock, IsMarked}
 use Rattle.disk_layout.specs.Half.{header_from, half_of, IsLog, HasNoLog}
 use Rattle.disk_log.specs.Recovered.{blank_page}
 use Rattle.disk_log.specs.Switch.{ClosesGates}
 
--- the gate of the superblock is as before
-abbrev pub KeepsGate : List ℕ → List ℕ → Type 0
-KeepsGate old new = byte_at new 0 ≡ byte_at old 0
+-- images that are the same in the first page, and from a place on
+abbrev pub SameAround : ℕ → List ℕ → List ℕ → Type 0
+SameAround end old new = (at : ℕ) → (at < 512) ⊎ (end ≤ at) → byte_at new at ≡ byte_at old at
 
 -- half 0 is open with generation 1, and half 1 is closed
 pub record HasHeaders (image : List ℕ) : Type 0 where
@@ -69,3 +69,8 @@ IsStaged superblock image = (c : List ℕ) → Torn 0 1 image c → byte_at c 0 
 -- a crash in a format left no log, refused at place 0, or the formatted one
 abbrev pub IsLeftOfFormat : Superblock → List ℕ → Type 0
 IsLeftOfFormat superblock c = HasNoLog 0 c ⊎ IsFormatted superblock c
+
+-- It left the disk as it was but for the first page, in which the mark may be torn; or one that has the mark, and
+-- can be formatted again; or the formatted one.
+abbrev pub IsMarkedFirst : Superblock → List ℕ → List ℕ → Type 0
+IsMarkedFirst superblock image c = SameButFront image c ⊎ IsMarked c ⊎ IsFormatted superblock c

@@ -3,7 +3,7 @@ ghost use Rattle.std.specs.Prelude.{◌≡◌, ◌≢◌, ◌+◌, ◌*◌, ◌<
 ghost use Rattle.std.specs.Prelude.{OnErr, IfOk, IfErr};
 ghost use Rattle.base_types.specs.Image.{byte_at, Torn, Holds};
 ghost use Rattle.base_outside.specs.Runs.{LeavesOnly};
-ghost use Rattle.disk_layout.specs.Places.{block_start, SameBlocks};
+ghost use Rattle.disk_layout.specs.Places.{block_start, pages_end, pages_of, SameBlocks};
 ghost use Rattle.base_types.specs.Crash.{IsSettled, IsQuiet, ChangesBy};
 ghost use Rattle.disk_log.specs.declared.fault.LogFault.TheVariants.{Failed as DiskFailed, Memory as NoMemory};
 
@@ -36,7 +36,7 @@ impl<D: Disk> Log<D> {
     ghost use Rattle.disk_log.specs.Begin.{IsBegun};
     ghost use Rattle.disk_log.specs.Contents.{contents_of, over, page_in, last_stage, stage_in, settled_in, block_in};
     ghost use Rattle.disk_log.specs.Contents.{Reads, Keeps, AppendsStage, KeepsLast, IsLeft};
-    ghost use Rattle.disk_log.specs.Format.{IsFormatted, IsLeftOfFormat, first_half, superblock_of};
+    ghost use Rattle.disk_log.specs.Format.{IsFormatted, IsLeftOfFormat, IsMarkedFirst, first_half, superblock_of};
     ghost use Rattle.disk_log.specs.Mount.{IsMounted, IsMountFault, IsSameLog, IsQuietOr};
     ghost use Rattle.disk_log.specs.State.{IsOpen, HasNoOpen, MayPut, HasRoom, free_in, put_of, with_put, closed};
     ghost use Rattle.disk_log.specs.State.{ended, forced_all, fresh_state, emptied};
@@ -46,7 +46,9 @@ impl<D: Disk> Log<D> {
     /// leaves the bytes of the disk as they were; either hands the disk back. Where the disk's first byte isn't 1, as
     /// on a blank disk, a crash at any moment of the call leaves what a crash before could leave, a disk without a
     /// log, refused at place 0, or the formatted one; after an error the disk is as it was, or holds no log or the
-    /// formatted one. On any other disk nothing is promised of a crash.
+    /// formatted one. The mark of a format is durable before anything else is written: what a crash leaves differs from
+    /// the disk in its first page alone, or is blank by the mark, or is the formatted one. On any other disk nothing is
+    /// promised of a crash.
     pub fn format(alloc: Global, disk: D, server: u8, blocks: u32) -> Result<Log<D>, (D, LogFault)>
         requires some_blocks { 1 ≤ blocks }
         requires few_blocks { blocks ≤ 66560 }
@@ -62,6 +64,12 @@ impl<D: Disk> Log<D> {
             → IfErr result (λ e. LeavesOnly (IsLeftOfFormat (superblock_of server blocks)) (D.view disk) (D.view e.0)) }
         ensures left_err { D.tells → byte_at (D.view disk).image 0 ≢ 1
             → IfErr result (λ e. IsQuietOr (IsLeftOfFormat (superblock_of server blocks)) (D.view disk) (D.view e.0)) }
+        ensures marked { D.tells → byte_at (D.view disk).image 0 ≢ 1 → IfOk result (λ log. LeavesOnly
+            (IsMarkedFirst (superblock_of server blocks) (D.view disk).image) (D.view disk) (D.view (disk_of log))) }
+        ensures marked_err { D.tells → byte_at (D.view disk).image 0 ≢ 1 → IfErr result (λ e. LeavesOnly
+            (IsMarkedFirst (superblock_of server blocks) (D.view disk).image) (D.view disk) (D.view e.0)) }
+        ensures within { D.tells → IfOk result (λ log. (at : ℕ) → pages_end (pages_of blocks) ≤ at
+            → byte_at (D.view (disk_of log)).image at ≡ byte_at (D.view disk).image at) }
         ensures counted { IfOk result (λ log. (D.view disk).faults ≤ (D.view (disk_of log)).faults) }
         ensures counted_err { IfErr result (λ e. (D.view disk).faults ≤ (D.view e.0).faults) }
         ensures only { IfErr result (λ e. IsDiskOrMemory e.1 (D.view disk) (D.view e.0)) }

@@ -1,8 +1,11 @@
 // Reads of a log's words that change nothing.
-ghost use Rattle.std.specs.Prelude.{◌≡◌, ◌≤◌, ◌<◌, ◌↔◌, IsTrue, IfOk, IfErr, IfSome, MatchOption, length};
+ghost use Rattle.std.specs.Prelude.{◌≡◌, ◌≤◌, ◌<◌, ◌+◌, ◌↔◌, ℕ, IsTrue, IfOk, IfErr, IfSome, MatchOption, length};
+ghost use Rattle.std.specs.Prelude.{EachIndex, slice_index};
 ghost use Rattle.base_types.specs.Crash.{IsQuiet};
+ghost use Rattle.base_types.specs.Image.{byte_at};
+ghost use Rattle.base_types.specs.declared.limits.TheConstants.{DISK_END};
 ghost use Rattle.base_types.specs.View.{IsCounted};
-ghost use Rattle.disk_layout.specs.Superblock.{IsSuperblock, IsBlank};
+ghost use Rattle.disk_layout.specs.Superblock.{IsSuperblock, IsUntouched, IsBlank};
 ghost use Rattle.disk_layout.specs.Half.{used_half as used_in, header_from, IsPlaced};
 ghost use Rattle.disk_layout.specs.Entry.{entry_at, entries, Fits};
 ghost use Rattle.disk_layout.specs.declared.superblock.Superblock.{Superblock as TheSuperblock};
@@ -10,26 +13,72 @@ ghost use Rattle.disk_log.specs.Append.{AllFit};
 ghost use Rattle.disk_log.specs.Blame.{IsBlamed, IsDiskOrMemory};
 
 use crate::fault::LogFault;
-use base_types::{Disk, Failed};
+use base_types::{DISK_END, Disk, Failed};
 use disk_layout::{
-    ENTRIES, ENTRY, Entry, HALF_STARTS, Half, Header, PAGE, Superblock, is_blank_page, read_entry,
+    ENTRIES, ENTRY, Entry, HALF_STARTS, Half, Header, PAGE, Superblock, is_marked, read_entry,
     read_header, read_superblock, used_half,
 };
 use std::alloc::Global;
 
-/// Whether a disk is blank: it has no bytes, its first page is zero, or the gate before the layout's name is closed,
-/// as where a format was stopped. The only error is the disk's.
+// Bytes that are looked at at once: 31 pages.
+const LOOK: usize = 15_872;
+
+// How many such looks there are at what a format may write.
+const LOOKS: u64 = 439;
+
+fn are_zero(bytes: &[u8]) -> bool
+    ensures { IsTrue result ↔ EachIndex bytes.now (λ k. slice_index bytes.now k ≡ 0) }
+{
+    bytes.iter().all(|byte| *byte == 0)
+}
+
+// Whether the bytes from a place on are zero, as many as are read into these.
+fn is_zero_at<D: Disk>(disk: &mut D, at: u64, bytes: &mut [u8]) -> Result<bool, Failed>
+    requires { at + length bytes.old ≤ DISK_END }
+    ensures zero { D.tells → IfOk result (λ zero. IsTrue zero
+        ↔ ((k : ℕ) → k < length bytes.old → byte_at (D.view disk.old).image (at + k) ≡ 0)) }
+    ensures quiet { IsQuiet (D.view disk.old) (D.view disk.new) }
+    ensures faults { IsCounted result (D.view disk.old) (D.view disk.new) }
+{
+    disk.read(at, bytes)?;
+    Ok(are_zero(bytes))
+}
+
+// Whether all is zero that a format may write.
+fn is_untouched<D: Disk>(disk: &mut D) -> Result<bool, Failed>
+    ensures untouched { D.tells
+        → IfOk result (λ untouched. IsTrue untouched ↔ IsUntouched (D.view disk.old).image) }
+    ensures quiet { IsQuiet (D.view disk.old) (D.view disk.new) }
+    ensures blamed { IsBlamed result (D.view disk.old) (D.view disk.new) }
+{
+    let length = disk.length()?;
+    let mut bytes = [0; LOOK];
+    for look in 0..LOOKS {
+        let behind = length <= 15_872 * look;
+        if behind {
+            return Ok(true);
+        }
+        let zero = is_zero_at(disk, 15_872 * look, &mut bytes)?;
+        if !zero {
+            return Ok(false);
+        }
+    }
+    Ok(true)
+}
+
+/// Whether a disk is blank: all is zero that a format may write, as on one without bytes, or it has the mark of a
+/// format that was stopped. Any other disk without a log may be somebody's. The only error is the disk's.
 pub fn is_blank<D: Disk>(disk: &mut D) -> Result<bool, Failed>
     ensures blank { D.tells → IfOk result (λ blank. IsTrue blank ↔ IsBlank (D.view disk.old).image) }
     ensures quiet { IsQuiet (D.view disk.old) (D.view disk.new) }
     ensures blamed { IsBlamed result (D.view disk.old) (D.view disk.new) }
 {
-    if disk.length()? == 0 {
-        return Ok(true);
-    }
     let mut page = [0; PAGE];
     disk.read(0, &mut page)?;
-    Ok(is_blank_page(&page))
+    if is_marked(&page) {
+        return Ok(true);
+    }
+    is_untouched(disk)
 }
 
 /// The superblock of a disk as it is found, where there is one: whose aggregate it is, and how many blocks it has.

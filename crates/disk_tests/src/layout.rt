@@ -2,7 +2,7 @@
 use crate::words::{first, hex, large, number, small};
 use anyhow::{Result, bail};
 use disk_layout::{
-    ENTRY, Entry, Half, PAGE, Superblock, entry_bytes, is_blank_page, new_server_page, pages_of,
+    ENTRY, Entry, Half, PAGE, Superblock, entry_bytes, is_marked, new_server_page, pages_of,
     put_bytes, put_u16, put_u32, put_u64, read_entry, read_header, read_superblock,
     superblock_bytes, u16_at, u32_at, u64_at, used_half,
 };
@@ -36,13 +36,13 @@ fn superblock_said(alloc: Global, words: &str) -> Result<String> {
     if let Some(byte) = page.get_mut(at.parse::<usize>().unwrap_or(PAGE)) {
         *byte = byte.wrapping_add(1);
     }
-    let blank = is_blank_page(&page);
+    let marked = is_marked(&page);
     match read_superblock(&page) {
         Some(found) => {
             let (server, blocks) = (found.server, found.blocks);
-            Ok(format!(in alloc; "{said} {server} {blocks} {blank}")?)
+            Ok(format!(in alloc; "{said} {server} {blocks} {marked}")?)
         }
-        None => Ok(format!(in alloc; "none {blank}")?),
+        None => Ok(format!(in alloc; "none {marked}")?),
     }
 }
 

@@ -1,15 +1,21 @@
 use Rattle.std.proofs.Common.{◌≡◌, length, arith}
 use Rattle.std.proofs.lemmas.Result.{on_ok_weaker}
 use Rattle.base_outside.proofs.Runs.{then_changes, wider_changes}
-use Rattle.disk_log.proofs.Formatting.{headers_written, headers_beside, then_gate, both_ok}
+use Rattle.disk_log.proofs.Formatting.{headers_written, headers_beside, then_around, torn_around, both_ok}
 use Rattle.disk_log.proofs.format.write_headers.Goals as goal
 
 pub returns-in_err-write_at-clause-crash : goal.returns-in_err-write_at-clause-crash
-returns-in_err-write_at-clause-crash g c = then_changes _ then_gate c.set_gate.ensures.crash (wider_changes c.write_at.ensures.crash (λ a b torn. torn.before 0 (omega arith)))
+returns-in_err-write_at-clause-crash g c =
+    let size : length c.put_u64.new.bytes ≡ 8 = omega arith in
+    then_changes _ (then_around 6292992) c.set_gate.ensures.crash
+    (wider_changes c.write_at.ensures.crash (λ a b torn. torn_around _ _ 6292992 a b torn (omega arith) (omega (arith, size))))
 
 pub returns-clause-crash : goal.returns-clause-crash
 returns-clause-crash g c =
-    then_changes _ then_gate (then_changes _ then_gate c.set_gate.ensures.crash (wider_changes c.write_at.ensures.crash (λ a b torn. torn.before 0 (omega arith)))) c.set_gate-2.ensures.crash
+    let size : length c.put_u64.new.bytes ≡ 8 = omega arith in
+    then_changes _ (then_around 6292992)
+    (then_changes _ (then_around 6292992) c.set_gate.ensures.crash
+    (wider_changes c.write_at.ensures.crash (λ a b torn. torn_around _ _ 6292992 a b torn (omega arith) (omega (arith, size))))) c.set_gate-2.ensures.crash
 
 pub returns-clause-same : goal.returns-clause-same
 returns-clause-same g c = λ told.

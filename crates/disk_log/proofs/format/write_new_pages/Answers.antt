@@ -1,7 +1,7 @@
-use Rattle.std.proofs.Common.{◌∙◌}
+use Rattle.std.proofs.Common.{◌∙◌, arith}
 use Rattle.std.proofs.lemmas.Result.{on_ok_weaker}
-use Rattle.base_outside.proofs.Runs.{then_changes}
-use Rattle.disk_log.proofs.Formatting.{then_gate, new_pages}
+use Rattle.base_outside.proofs.Runs.{then_changes, wider_changes}
+use Rattle.disk_log.proofs.Formatting.{then_around, around_wider, new_pages}
 use Rattle.disk_log.proofs.format.write_new_pages.Goals as goal
 
 pub returns-clause-written : goal.returns-clause-written
@@ -12,4 +12,5 @@ pub returns-clause-same : goal.returns-clause-same
 returns-clause-same g c = λ told at lt. c.write_server.ensures.same told at lt ∙ c.write_zeros.ensures.same told at lt
 
 pub returns-clause-crash : goal.returns-clause-crash
-returns-clause-crash g c = then_changes _ then_gate c.write_zeros.ensures.crash c.write_server.ensures.crash
+returns-clause-crash g c =
+    then_changes _ (then_around _) c.write_zeros.ensures.crash (wider_changes c.write_server.ensures.crash (λ a b same. around_wider _ _ a b (omega (arith, c.requires.some)) same))

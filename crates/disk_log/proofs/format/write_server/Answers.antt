@@ -2,7 +2,7 @@ use Rattle.std.proofs.Common.{arith}
 use Rattle.std.proofs.lemmas.Result.{on_ok_weaker}
 use Rattle.base_outside.proofs.Image.{bytes_from-behind}
 use Rattle.base_outside.proofs.Runs.{wider_changes}
-use Rattle.disk_log.proofs.Formatting.{server_written}
+use Rattle.disk_log.proofs.Formatting.{server_written, torn_around}
 use Rattle.disk_log.proofs.format.write_server.Goals as goal
 
 pub returns-clause-written : goal.returns-clause-written
@@ -15,4 +15,4 @@ pub returns-clause-same : goal.returns-clause-same
 returns-clause-same g c = λ told at lt. (c.write_at.ensures.torn told).before at lt
 
 pub returns-clause-crash : goal.returns-clause-crash
-returns-clause-crash g c = wider_changes c.write_at.ensures.crash (λ a b torn. torn.before 0 (omega arith))
+returns-clause-crash g c = wider_changes c.write_at.ensures.crash (λ a b torn. torn_around _ _ _ a b torn (omega arith) (omega arith))

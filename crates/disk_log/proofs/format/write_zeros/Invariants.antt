@@ -1,7 +1,7 @@
 use Rattle.std.proofs.Common.{◌≡◌, ◌≤◌, ◌<◌, ℕ}
 use Rattle.base_types.specs.Crash.{ChangesBy}
-use Rattle.disk_layout.specs.Places.{in_place}
-use Rattle.disk_log.specs.Format.{KeepsGate, SameLog}
+use Rattle.disk_layout.specs.Places.{in_place, pages_end}
+use Rattle.disk_log.specs.Format.{SameAround, SameLog}
 use Rattle.disk_log.specs.Recovered.{blank_page}
 use Rattle.disk_log.proofs.format.write_zeros.Given as goal
 
@@ -12,6 +12,6 @@ invariant-loop-page g l =
     record {
       done : g.D.Disk.tells → (p : ℕ) → p < l.page → in_place now.image p ≡ blank_page;
       same : g.D.Disk.tells → SameLog start.image now.image;
-      changes : ChangesBy KeepsGate start now;
+      changes : ChangesBy (SameAround (pages_end l.pages)) start now;
       counted : start.faults ≤ now.faults;
     }
