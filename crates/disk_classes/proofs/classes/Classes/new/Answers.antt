@@ -1,0 +1,9 @@
+use Rattle.std.proofs.Common.{ap, ℕ, List, None, get_or}
+use Rattle.disk_classes.specs.Notes.{notes_in, needed_in, bytes_in}
+use Rattle.disk_classes.specs.declared.member.Noted.{Noted as Kept}
+use Rattle.disk_classes.specs.declared.members.Value.{Value}
+use Rattle.disk_classes.proofs.Sound.{sound_new}
+use Rattle.disk_classes.proofs.classes.Classes.new.Goals as goal
+
+pub returns-clause-sound : goal.returns-clause-sound
+returns-clause-sound g c = sound_new _ _ c.args.log c.new.result c.requires c.new.ensures.noted c.new.ensures.values
