@@ -20,8 +20,8 @@ whole_law notes values least pages before after first shows l is = by (contains_
 
 -- a class that is shown has ended
 pub absent_law : OpenClassesAreAbsent
-absent_law notes values least pages before after first shows l m one open k p lt two has =
-    shows.rest p lt (λ (j, (other, there, three), had). open ((first.each other there m
+absent_law notes values least pages before after first shows l m one running k p lt two has =
+    shows.rest p lt (λ (j, (other, there, three), had). running ((first.each other there m
     (together_trans notes other j m three (together_trans notes j k m (together_share notes j k p had has)
     (together_trans notes k l m (together_sym notes l k two) one)))).1))
 

@@ -37,7 +37,7 @@ some_within values p value is = by (cases_lt p (length values))
     by (inr le) = absurd (let e : None ≡ Some value = sym (get_or_past values p None le) ∙ is in cc)
 
 -- the blame for a fault, after calls that changed no byte
-rose_then : (a b c : ℕ) → a ≤ b → RoseBy 1 b c → RoseBy 1 a c
+pub rose_then : (a b c : ℕ) → a ≤ b → RoseBy 1 b c → RoseBy 1 a c
 rose_then a b c le rose = omega (arith, le, rose)
 
 pub fault_then : (fault : LogFault) (old mid new : View) → IsQuiet old mid → old.faults ≤ mid.faults → IsDiskOrMemory fault mid new → IsDiskOrMemory fault old new

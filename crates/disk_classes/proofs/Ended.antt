@@ -1,7 +1,7 @@
 -- Whether all members of a class have ended.
 use Rattle.std.proofs.Common.{◌≡◌, ◌≢◌, ◌<◌, ◌≤◌, ◌⊎◌, ◌∙◌, ℕ, ◌+◌, List, [], ◌∷◌, ◌++◌, length, take, get_or, refl, sym, ap, subst, inl, inr, arith}
 use Rattle.std.specs.Prelude.{Bool, true, false, Contains, IsTrue, ◌↔◌}
-use Rattle.std.proofs.lemmas.List.{get_or_read, take_more, take_all}
+use Rattle.std.proofs.lemmas.List.{get_or_read, get_or_default, take_more, take_all}
 use Rattle.std.proofs.lemmas.List.Elements.{Contains-get_or, Contains-push_cases}
 use Rattle.disk_classes.specs.Notes.{vacant, noted_at, class_of, joined_at, AreEndedAll, ArePartition}
 use Rattle.disk_classes.specs.declared.member.Noted.{Noted as Kept}
@@ -12,8 +12,8 @@ use Rattle.disk_classes.proofs.Noted.{live_within, ended_live}
 pub read_at : (ms : List Kept) (i : ℕ) (x : Kept) → i < length ms → x ≡ get_or ms i x → x ≡ noted_at ms i
 read_at ms i x lt is = get_or_read ms i x lt is (vacant i)
 
-pub list_is : (ms : List Kept) (class : ℕ) (x : Kept) (xs : List ℕ) → class < length ms → x ≡ get_or ms class x → xs ≡ x.joined → xs ≡ joined_at ms class
-list_is ms class x xs lt is same = same ∙ ap (λ (n : Kept). n.joined) (read_at ms class x lt is)
+pub list_is : (ms : List Kept) (class : ℕ) (x : Kept) (xs : List ℕ) → class < length ms → xs ≡ (get_or ms class x).joined → xs ≡ joined_at ms class
+list_is ms class x xs lt same = same ∙ ap (λ (n : Kept). n.joined) (get_or_default ms class x (vacant class) lt)
 
 there : (ms : List Kept) (class : ℕ) (xs : List ℕ) (i : ℕ) → xs ≡ joined_at ms class → i < length xs → Contains (joined_at ms class) (get_or xs i 0)
 there ms class xs i is lt = subst (λ (l : List ℕ). Contains l (get_or xs i 0)) is (Contains-get_or xs i 0 lt)
@@ -59,3 +59,7 @@ module _ (ms : List Kept) (part : ArePartition ms) (i : ℕ) (x : Kept) (lt : i 
 
   pub joined_within : (m : ℕ) → Contains (joined_at ms x.class) m → m < length ms
   joined_within m there = live_within ms m (part.inside x.class m there).1
+
+-- members that a call names
+pub within_said : (ms : List Kept) (class : ℕ) (x : Kept) (xs : List ℕ) → class < length ms → x ≡ get_or ms class x → xs ≡ x.joined → ((m : ℕ) → Contains (joined_at ms class) m → m < length ms) → (m : ℕ) → Contains xs m → m < length ms
+within_said ms class x xs lt x_is is within m h = within m (subst (λ (l : List ℕ). Contains l m) (is ∙ ap (λ (n : Kept). n.joined) (read_at ms class x lt x_is)) h)

@@ -16,8 +16,10 @@ use Rattle.disk_classes.specs.Commit.{CommitsClass, KeepsStages}
 use Rattle.disk_classes.specs.Classes.{log_of, notes_of, value_of, IsSoundClasses, Commits, CommitsFirst, IsStageBy, Goes}
 use Rattle.disk_classes.specs.declared.classes.Classes.{Classes}
 use Rattle.disk_classes.specs.declared.member.Noted.{Noted as Kept}
+use Rattle.disk_classes.specs.declared.members.Members.{Members}
 use Rattle.disk_classes.specs.declared.members.Value.{Value}
 use Rattle.disk_classes.specs.declared.member.Standing.TheVariants.{Vacant, Open, Ended}
+use Rattle.disk_classes.proofs.Committing.{contents_same}
 use Rattle.disk_classes.proofs.Least.{together_sym, together_trans, together_share, of_push, of_more, of_last, of_along, of_or_not, of_none, least_one, first_none, first_push}
 use Rattle.std.proofs.lemmas.List.Elements.{Contains-push_cases}
 use Rattle.disk_classes.proofs.Lists.{contains_nil}
@@ -391,7 +393,29 @@ committed_more {D} tells view old sound x least now below class is ended =
     (sym is) (λ all new. below_more tells view old sound x least now below ended all new)
 
 -- a number that is passed, under that name too
-pub passed_more : {D : Type 0} (tells : Type 0) (view : D → View) (old : Classes D) (sound : IsSoundClasses tells view old) (x : ℕ) (least : List ℕ) (now : Classes D) (below : Below tells view old x least now)
+pub number_passed : {D : Type 0} (tells : Type 0) (view : D → View) (old : Classes D) (sound : IsSoundClasses tells view old) (x : ℕ) (least : List ℕ) (now : Classes D) (below : Below tells view old x least now)
     (class : ℕ) → class ≡ class_of now.members.noted x → ((noted_at now.members.noted x).standing ≡ Ended → AreEndedAll now.members.noted (joined_at now.members.noted class) → ⊥) → Below tells view old (x + 1) least now
-passed_more tells view old sound x least now below class is absent =
+number_passed tells view old sound x least now below class is absent =
     below_passed tells view old sound x least now below (subst (λ (k : ℕ). (noted_at now.members.noted x).standing ≡ Ended → AreEndedAll now.members.noted (joined_at now.members.noted k) → ⊥) is absent)
+
+-- the same members over a log in the same state
+pub goes_same : {D : Type 0} (tells : Type 0) (view : D → View) (old now new : Classes D) (least : List ℕ) → Goes tells view least old now → state_of (log_of new) ≡ state_of (log_of now) → new.members ≡ now.members
+    → IsQuiet (view (disk_of (log_of now))) (view (disk_of (log_of new))) → Goes tells view least old new
+goes_same tells view old now new least goes state members still =
+    let same : contents_of view (log_of new) ≡ contents_of view (log_of now) = contents_same view (log_of now) (log_of new) state still in
+    record {
+      commits = record {
+        first = goes.commits.first;
+        commits = record {
+          gone = λ m of. ap (λ (ms : Members). notes_in ms.noted m) members ∙ goes.commits.commits.gone m of;
+          stayed = λ m out. ap (λ (ms : Members). notes_in ms.noted m) members ∙ goes.commits.commits.stayed m out;
+          put = λ p by. ap (λ (ms : Members). bytes_in (get_or ms.values p None)) members ∙ goes.commits.commits.put p by;
+          kept = λ p out. ap (λ (ms : Members). bytes_in (get_or ms.values p None)) members ∙ goes.commits.commits.kept p out;
+        };
+        pages = λ told. subst (λ (c : Contents). ShowsPuts (notes_of old) (value_of old) least (state_of (log_of old)).half.pages (page_in (contents_of view (log_of old))) (page_in c)) (sym same) (goes.commits.pages told);
+      };
+      superblock = ap (λ (s : State). s.superblock) state ∙ goes.superblock;
+      half = ap (λ (s : State). s.half) state ∙ goes.half;
+      later = subst (λ (c : Contents). last_stage (contents_of view (log_of old)) ≤ last_stage c) (sym same) goes.later;
+      stages = λ told. subst (λ (c : Contents). (k : ℕ) → k ≤ last_stage c → IsStageBy view old k (stage_in c k)) (sym same) (goes.stages told);
+    }

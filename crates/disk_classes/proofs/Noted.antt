@@ -1,6 +1,7 @@
 -- What is kept under a number, after changes.
 use Rattle.std.proofs.Common.{◌≡◌, ◌≢◌, ◌<◌, ◌≤◌, ◌⊎◌, ℕ, zero, suc, ◌+◌, List, [], ◌∷◌, ◌++◌, length, refl, sym, ◌∙◌, ap, subst, inl, inr, arith, get_or, set, length-set, Option, Some, None}
-use Rattle.std.specs.Prelude.{Bool, true, false, ◌==◌, if◌then◌else◌, Contains}
+use Rattle.std.specs.Prelude.{Bool, true, false, ◌==◌, if◌then◌else◌, Contains, slice_get}
+use Rattle.std.proofs.lemmas.Option.{slice_get_cases}
 use Rattle.std.proofs.lemmas.Bool.{cases_eq, cases_lt}
 use Rattle.std.proofs.lemmas.List.{get_or_past, get_or-set_same, get_or-set_other, set_past, get_or_read, get_or_default, same_lists}
 use Rattle.disk_classes.specs.Joined.{Note}
@@ -19,6 +20,22 @@ noted_other ms x v m ne = get_or-set_other ms x m v (vacant m) ne
 
 pub noted_past : (ms : List Kept) (m : ℕ) → length ms ≤ m → noted_at ms m ≡ vacant m
 noted_past ms m le = get_or_past ms m (vacant m) le
+
+none_some : {X : Type 0} (x : X) → None ≡ Some x → ⊥
+none_some x e = absurd (cc)
+
+pub none_past : {X : Type 0} (xs : List X) (i : ℕ) → None ≡ slice_get xs i → length xs ≤ i
+none_past {X} xs i none = by ((slice_get_cases xs i).1)
+  where
+    by : ((x : X) × (i < length xs) × (slice_get xs i ≡ Some x) × (get_or xs i x ≡ x)) ⊎ ((length xs ≤ i) × (slice_get xs i ≡ None)) → length xs ≤ i
+    by (inl (x, lt, is, same)) = absurd (none_some x (none ∙ is))
+    by (inr (le, is)) = le
+
+pub past_vacant : (ms : List Kept) (m : ℕ) → None ≡ slice_get ms m → noted_at ms m ≡ vacant m
+past_vacant ms m none = noted_past ms m (none_past ms m none)
+
+pub past_closed : (ms : List Kept) (m : ℕ) → None ≡ slice_get ms m → (noted_at ms m).standing ≡ Open → ⊥
+past_closed ms m none is = absurd (let e : Vacant ≡ Open = sym (ap (λ (n : Kept). n.standing) (past_vacant ms m none)) ∙ is in cc)
 
 -- a part that is the same in what is kept anew
 pub updated : {B : Type 0} (F : Kept → B) (ms : List Kept) (x : ℕ) (v : Kept) → F v ≡ F (noted_at ms x) → (m : ℕ) → F (noted_at (set ms x v) m) ≡ F (noted_at ms m)

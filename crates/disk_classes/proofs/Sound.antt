@@ -65,6 +65,13 @@ lowest_vacant ms number le is = by (cases_lt number (length ms))
     by (inl lt) = is lt
     by (inr past) = ap (λ (n : Kept). n.standing) (noted_past ms number past)
 
+-- as the call says it of an equal list
+pub lowest_said : (ms other : List Kept) (number : ℕ) → other ≡ ms → number ≤ length other → (number < length other → (noted_at other number).standing ≡ Vacant) → (noted_at ms number).standing ≡ Vacant
+lowest_said ms other number same le is = subst (λ (l : List Kept). (noted_at l number).standing ≡ Vacant) same (lowest_vacant other number le is)
+
+pub below_said : (ms other : List Kept) (number : ℕ) → other ≡ ms → ((m : ℕ) → m < number → (noted_at other m).standing ≢ Vacant) → (m : ℕ) → m < number → (noted_at ms m).standing ≢ Vacant
+below_said ms other number same all = subst (λ (l : List Kept). (m : ℕ) → m < number → (noted_at l m).standing ≢ Vacant) same all
+
 -- each member needs an entry
 live_many : (ms : List Kept) → ((k : ℕ) (d : Kept) → k < length ms → (get_or ms k d).standing ≢ Vacant) → length ms ≤ needed_in ms
 live_many [] each = omega arith

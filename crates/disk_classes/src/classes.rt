@@ -95,11 +95,11 @@ impl<D: Disk> Classes<D> {
         ensures bytes { D.tells → OnOk result (out.new ≡ shown D.view self.old page) }
         ensures only { IfErr result (λ fault. fault ≡ DiskFailed) }
     {
-        if let Some(Some(value)) = self.members.values.at(page as usize) {
-            out.copy_from_slice(&value.bytes);
+        let Some(value) = self.members.value_of(page) else {
+            self.log.page(page, out)?;
             return Ok(());
-        }
-        self.log.page(page, out)?;
+        };
+        out.copy_from_slice(&value.bytes);
         Ok(())
     }
 

@@ -194,6 +194,16 @@ impl Members {
         }
     }
 
+    // The last put of a page, and the member that put it.
+    pub fn value_of(&self, page: u32) -> Option<Value>
+        ensures { result ≡ get_or self.now.values page None }
+    {
+        match self.values.at(page as usize) {
+            Some(value) => *value,
+            None => None,
+        }
+    }
+
     // Joins the class of a member and that of a page.
     fn join_page(&mut self, member: usize, page: u32) -> Result<(), NoMemory>
         requires member { member < length self.old.noted }

@@ -1,4 +1,5 @@
 use Rattle.std.proofs.Common.{◌≡◌, ◌∙◌, ◌≤◌, refl, sym, ap, subst, arith}
+use Rattle.std.proofs.lemmas.Result.{err_from_is_err_and}
 use Rattle.disk_log.specs.Log.{state_of, slot_of}
 use Rattle.disk_log.specs.State.{IsOpen, closed, ended}
 use Rattle.disk_log.specs.declared.kept.Tx.{Tx}
@@ -7,7 +8,8 @@ use Rattle.disk_classes.proofs.commit.commit.Goals as goal
 
 pub returns-in_err-tx-clause-err : goal.returns-in_err-tx-clause-err
 returns-in_err-tx-clause-err g c =
-    begin_same _ _ c.args.class c.args.noted.now c.args.values.now c.args.log.now c.requires.idle c.begin.new.self _ c.count_pages.ensures c.begin.ensures.keeps c.begin.ensures.disk _ c.in_err-tx.ensures.begun
+    let p = err_from_is_err_and c.from_residual.result c.from_residual.ensures.1 in
+    rw p.1 (begin_same _ _ c.args.class c.args.noted.now c.args.values.now c.args.log.now c.requires.idle c.begin.new.self _ c.count_pages.ensures c.begin.ensures.keeps c.begin.ensures.disk _ c.in_err-tx.ensures.begun)
 
 pub returns-in_err-tx-clause-idle : goal.returns-in_err-tx-clause-idle
 returns-in_err-tx-clause-idle g c =
@@ -19,7 +21,8 @@ returns-in_err-tx-clause-quiet g c =
 
 pub returns-in_err-tx-clause-only : goal.returns-in_err-tx-clause-only
 returns-in_err-tx-clause-only g c =
-    begin_fault _ _ c.args.class c.args.noted.now c.args.values.now c.args.log.now c.requires.idle c.begin.new.self _ c.count_pages.ensures c.begin.ensures.keeps c.begin.ensures.disk _ c.requires.room c.in_err-tx.ensures.begun
+    let p = err_from_is_err_and c.from_residual.result c.from_residual.ensures.1 in
+    rw (p.1, p.2) (begin_fault _ _ c.args.class c.args.noted.now c.args.values.now c.args.log.now c.requires.idle c.begin.new.self _ c.count_pages.ensures c.begin.ensures.keeps c.begin.ensures.disk _ c.requires.room c.in_err-tx.ensures.begun)
 
 pub put_class-requires-clause-only : goal.put_class-requires-clause-only
 put_class-requires-clause-only g c =

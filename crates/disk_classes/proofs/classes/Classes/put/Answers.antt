@@ -1,4 +1,5 @@
 use Rattle.std.proofs.Common.{◌≡◌, ◌∙◌, ◌≤◌, refl, sym, ap, subst, arith, get_or, length, ℕ, List, Option, Some, None}
+use Rattle.std.proofs.lemmas.Result.{err_from_is_err_and}
 use Rattle.disk_classes.specs.Notes.{notes_in, noted_at, needed_in, bytes_in}
 use Rattle.disk_classes.specs.declared.member.Noted.{Noted as Kept}
 use Rattle.disk_classes.proofs.Noted.{open_live}
@@ -20,11 +21,13 @@ returns-in_err-put-clause-sound g c = record {
 }
 
 pub returns-in_err-put-clause-err : goal.returns-in_err-put-clause-err
-returns-in_err-put-clause-err g c = record {
-  notes = λ m. ap (λ (l : List Kept). notes_in l m) c.in_err-put.ensures.err;
-  values = λ p. ap bytes_in (c.in_err-put.ensures.err_values p);
-  needed = c.put.ensures.needed;
-}
+returns-in_err-put-clause-err g c =
+    let p = err_from_is_err_and c.from_residual.result c.from_residual.ensures.1 in
+    rw p.1 (record {
+      notes = λ m. ap (λ (l : List Kept). notes_in l m) c.in_err-put.ensures.err;
+      values = λ q. ap bytes_in (c.in_err-put.ensures.err_values q);
+      needed = c.put.ensures.needed;
+    })
 
 pub returns-clause-sound : goal.returns-clause-sound
 returns-clause-sound g c = record {

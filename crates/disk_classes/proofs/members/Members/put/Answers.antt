@@ -1,4 +1,5 @@
 use Rattle.std.proofs.Common.{◌≡◌, ◌<◌, ◌∙◌, ℕ, List, length, get_or, set, refl, sym, ap, subst, arith, Option, Some, None}
+use Rattle.std.proofs.lemmas.Result.{err_from_is_err_and}
 use Rattle.disk_classes.specs.Joined.{PutsPage}
 use Rattle.disk_classes.specs.Notes.{bytes_in, notes_in, noted_at, needed_in, ArePartition, AreValues, AreWithin}
 use Rattle.disk_classes.specs.declared.member.Noted.{Noted as Kept}
@@ -31,7 +32,9 @@ pub returns-in_err-note-clause-needed : goal.returns-in_err-note-clause-needed
 returns-in_err-note-clause-needed c = ap needed_in c.in_err-note.ensures.err
 
 pub returns-in_err-note-clause-err_values : goal.returns-in_err-note-clause-err_values
-returns-in_err-note-clause-err_values c = λ p. ap (λ (l : List (Option Value)). get_or l p None) c.note.ensures.values ∙ c.grow.ensures.same p
+returns-in_err-note-clause-err_values c =
+    let p = err_from_is_err_and c.from_residual-in_err-note.result c.from_residual-in_err-note.ensures.1 in
+    rw p.1 (λ q. ap (λ (l : List (Option Value)). get_or l q None) c.note.ensures.values ∙ c.grow.ensures.same q)
 
 pub returns-clause-partition : goal.returns-clause-partition
 returns-clause-partition c =
@@ -40,15 +43,17 @@ returns-clause-partition c =
 
 pub returns-clause-values : goal.returns-clause-values
 returns-clause-values c =
-    subst (λ (l : List (Option Value)). AreValues c.note.new.self.noted (set l c.args.page (Some (record { member = c.args.member; bytes = c.args.bytes })))) (sym c.note.ensures.values)
+    subst (AreValues c.note.new.self.noted) (sym c.set.ensures)
+    (subst (λ (l : List (Option Value)). AreValues c.note.new.self.noted (set l c.args.page (Some (record { member = c.args.member; bytes = c.args.bytes })))) (sym c.note.ensures.values)
     (put_done c.args.member c.args.page c.args.self.now.noted c.note.new.self.noted c.args.self.now.values c.grow.new.values (record { member = c.args.member; bytes = c.args.bytes })
-    c.requires.partition c.requires.values c.requires.live c.in_ok-grow.ensures.room c.grow.ensures.same c.in_ok-note.ensures.ok refl).values_now
+    c.requires.partition c.requires.values c.requires.live c.in_ok-grow.ensures.room c.grow.ensures.same c.in_ok-note.ensures.ok refl).values_now)
 
 pub returns-clause-within : goal.returns-clause-within
 returns-clause-within c = λ pages lt old.
-    subst (λ (l : List (Option Value)). AreWithin pages (set l c.args.page (Some (record { member = c.args.member; bytes = c.args.bytes })))) (sym c.note.ensures.values)
+    subst (AreWithin pages) (sym c.set.ensures)
+    (subst (λ (l : List (Option Value)). AreWithin pages (set l c.args.page (Some (record { member = c.args.member; bytes = c.args.bytes })))) (sym c.note.ensures.values)
     ((put_done c.args.member c.args.page c.args.self.now.noted c.note.new.self.noted c.args.self.now.values c.grow.new.values (record { member = c.args.member; bytes = c.args.bytes })
-    c.requires.partition c.requires.values c.requires.live c.in_ok-grow.ensures.room c.grow.ensures.same c.in_ok-note.ensures.ok refl).within pages lt old)
+    c.requires.partition c.requires.values c.requires.live c.in_ok-grow.ensures.room c.grow.ensures.same c.in_ok-note.ensures.ok refl).within pages lt old))
 
 pub returns-clause-put : goal.returns-clause-put
 returns-clause-put c =
@@ -57,7 +62,8 @@ returns-clause-put c =
 
 pub returns-clause-value : goal.returns-clause-value
 returns-clause-value c = λ p.
-    ap (λ (l : List (Option Value)). bytes_in (get_or (set l c.args.page (Some (record { member = c.args.member; bytes = c.args.bytes }))) p None)) c.note.ensures.values
+    ap (λ (l : List (Option Value)). bytes_in (get_or l p None)) c.set.ensures
+    ∙ ap (λ (l : List (Option Value)). bytes_in (get_or (set l c.args.page (Some (record { member = c.args.member; bytes = c.args.bytes }))) p None)) c.note.ensures.values
     ∙ value_after c.args.page c.args.self.now.values c.grow.new.values (record { member = c.args.member; bytes = c.args.bytes }) c.in_ok-grow.ensures.room c.grow.ensures.same p
 
 pub returns-clause-needed : goal.returns-clause-needed
