@@ -386,10 +386,10 @@ pub committed_more : {D : Type 0} (tells : Type 0) (view : D → View) (old : Cl
     → IsQuiet (view (disk_of (log_of now))) (view (disk_of (log_of new))) → Below tells view old (x + 1) (least ++ x ∷ []) new
 committed_more {D} tells view old sound x least now below class is ended =
     subst (λ (k : ℕ). AreEndedAll now.members.noted (joined_at now.members.noted k) → (new : Classes D) → IsSoundClasses tells view new
-        → CommitsClass tells view k now.members.noted now.members.values (log_of now) (log_of new) → new.members.noted ≡ vacated k 0 now.members.noted
-        → ((p : ℕ) → IsPutIn k now.members.noted p → get_or new.members.values p None ≡ None)
-        → ((p : ℕ) → (IsPutIn k now.members.noted p → ⊥) → get_or new.members.values p None ≡ get_or now.members.values p None)
-        → IsQuiet (view (disk_of (log_of now))) (view (disk_of (log_of new))) → Below tells view old (x + 1) (least ++ x ∷ []) new)
+    → CommitsClass tells view k now.members.noted now.members.values (log_of now) (log_of new) → new.members.noted ≡ vacated k 0 now.members.noted
+    → ((p : ℕ) → IsPutIn k now.members.noted p → get_or new.members.values p None ≡ None)
+    → ((p : ℕ) → (IsPutIn k now.members.noted p → ⊥) → get_or new.members.values p None ≡ get_or now.members.values p None)
+    → IsQuiet (view (disk_of (log_of now))) (view (disk_of (log_of new))) → Below tells view old (x + 1) (least ++ x ∷ []) new)
     (sym is) (λ all new. below_more tells view old sound x least now below ended all new)
 
 -- a number that is passed, under that name too

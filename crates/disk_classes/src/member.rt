@@ -56,7 +56,8 @@ impl Noted {
     pub fn may_put(&self, page: u32) -> bool
         ensures { IsTrue result ↔ MayPut (note_of self.now) page }
     {
-        self.is_open() && (self.pages.as_slice().contains(&page) || self.pages.len() < self.limit as usize)
+        self.is_open()
+            && (self.pages.as_slice().contains(&page) || self.pages.len() < self.limit as usize)
     }
 
     // Whether its member has ended.

@@ -16,6 +16,7 @@ use anyhow::{Result, bail};
 use many::{puts_said, syncs_said};
 use mounted::new_log;
 use random::random_said;
+use std::alloc::Global;
 use stops::stops_said;
 
 // What a row is answered.

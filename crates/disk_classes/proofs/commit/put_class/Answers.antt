@@ -50,7 +50,7 @@ returns-in_err-put_pages-clause-puts g c =
 
 pub loop-one-preserved : goal.loop-one-preserved
 loop-one-preserved g c = elim c.if-one-class.branch [
-  then-one-class+in_ok-put_pages w ↦ record {
+  | then-one-class+in_ok-put_pages w ↦ record {
     tx = w.tx-is ∙ w.put_pages.ensures.tx ∙ c.loop-one.invariant.tx;
     put = rw w.log-is (members_more _ _ _ c.args.class c.args.noted.now c.args.values.now c.args.log.now c.loop-one.one-index c.loop-one.log c.loop-one.invariant.put c.loop-one-test.true
         (sym (ap (λ (n : Kept). n.class) (read_at c.args.noted.now c.loop-one.one-index c.one-item.result c.loop-one-test.true c.one-item.is)) ∙ w.if-one-class.true)

@@ -34,12 +34,15 @@ commit_class-requires-clause-named g c = class_named c.loop-number.self.members.
 pub returns-in_err-commit_class-clause-err : goal.returns-in_err-commit_class-clause-err
 returns-in_err-commit_class-clause-err g c =
     let p = err_from_is_err_and c.from_residual.result c.from_residual.ensures.1 in
-    rw p.1 (c.loop-number.invariant.0, goes_same _ _ c.args.self.now c.loop-number.self c.commit_class.new.self c.loop-number.invariant.0 (goes_below _ _ c.args.self.now c.requires.sound c.loop-number.number c.loop-number.invariant.0 c.loop-number.self c.loop-number.invariant.1)
-    c.in_err-commit_class.ensures.err c.in_err-commit_class.ensures.members c.commit_class.ensures.quiet)
+    rw p.1 (
+      c.loop-number.invariant.0,
+      goes_same _ _ c.args.self.now c.loop-number.self c.commit_class.new.self c.loop-number.invariant.0 (goes_below _ _ c.args.self.now c.requires.sound c.loop-number.number c.loop-number.invariant.0 c.loop-number.self c.loop-number.invariant.1)
+          c.in_err-commit_class.ensures.err c.in_err-commit_class.ensures.members c.commit_class.ensures.quiet,
+    )
 
 pub loop-number-preserved : goal.loop-number-preserved
 loop-number-preserved g c = elim c.if-is_ended.branch [
-  then-is_ended+then-has_ended+in_ok-commit_class w ↦ (
+  | then-is_ended+then-has_ended+in_ok-commit_class w ↦ (
     c.loop-number.invariant.0 ++ c.loop-number.number ∷ [],
     rw w.self-is (committed_more _ _ c.args.self.now c.requires.sound c.loop-number.number c.loop-number.invariant.0 c.loop-number.self c.loop-number.invariant.1
         c.get-one.result.now.class (class_at c.loop-number.self.members.noted c.loop-number.invariant.1.sound.partition c.loop-number.number c.get-one.result.now (let a = c.loop-number-test.true in let b = c.len-number-end.ensures in let d = c.loop-number.invariant.1.size in omega (arith, a, b, d)) c.get-one.ensures (c.is_ended.ensures.0 w.if-is_ended.true))
@@ -52,7 +55,7 @@ loop-number-preserved g c = elim c.if-is_ended.branch [
   | else-is_ended w ↦ (
     c.loop-number.invariant.0,
     rw w.self-is (elim w.else-is_ended.branch [
-      else-is_ended-via-then-is_ended+else-has_ended v ↦ number_passed _ _ c.args.self.now c.requires.sound c.loop-number.number c.loop-number.invariant.0 c.loop-number.self c.loop-number.invariant.1
+      | else-is_ended-via-then-is_ended+else-has_ended v ↦ number_passed _ _ c.args.self.now c.requires.sound c.loop-number.number c.loop-number.invariant.0 c.loop-number.self c.loop-number.invariant.1
           c.get-one.result.now.class (class_at c.loop-number.self.members.noted c.loop-number.invariant.1.sound.partition c.loop-number.number c.get-one.result.now (let a = c.loop-number-test.true in let b = c.len-number-end.ensures in let d = c.loop-number.invariant.1.size in omega (arith, a, b, d)) c.get-one.ensures (c.is_ended.ensures.0 v.if-is_ended.true))
           (λ ended all. absurd (let t : v.has_ended.result ≡ true = v.has_ended.ensures.1 (subst (λ (l : List Kept). AreEndedAll l (joined_at l c.get-one.result.now.class)) (sym v.as_slice.ensures) all) in
           let f : v.has_ended.result ≡ false = v.if-has_ended.false in let e : true ≡ false = sym t ∙ f in cc))
