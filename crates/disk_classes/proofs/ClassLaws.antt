@@ -1,8 +1,8 @@
 -- The laws of classes.
-use Rattle.std.proofs.Common.{◌≡◌, ◌≢◌, ◌<◌, ◌≤◌, ◌⊎◌, ℕ, zero, suc, List, [], ◌∷◌, refl, sym, ◌∙◌, ap, subst, inl, inr, arith, Option, Some}
+use Rattle.std.proofs.Common.{◌≡◌, ◌≢◌, ◌⊎◌, ℕ, [], ◌∷◌, refl, sym, ◌∙◌, ap, subst, inl, inr, arith}
 use Rattle.std.specs.Prelude.{Bool, true, false, ◌==◌, if◌then◌else◌, Contains}
 use Rattle.std.proofs.lemmas.Bool.{cases_eq}
-use Rattle.disk_classes.specs.Joined.{Note, IsJoining, AreTogether, IsLeast, AreFirst, ShowsPuts, no_note}
+use Rattle.disk_classes.specs.Joined.{Note, no_note}
 use Rattle.disk_classes.specs.Laws.{IsWhole, IsAbsent, ClassesAreWhole, OpenClassesAreAbsent, LoneMembersCommit, LoneMembersStayApart, SidesStayApart, OnePageJoins, ClassesPart, PagesTellClasses, NotAllAreTogether, NotAllAreApart}
 use Rattle.disk_classes.specs.declared.member.Standing.TheVariants.{Ended}
 use Rattle.disk_classes.proofs.Lists.{test_same, test_other, contains_or_not, contains_nil, contains_head}

@@ -1,8 +1,8 @@
 -- A class that is committed, call by call.
-use Rattle.std.proofs.Common.{◌≡◌, ◌≢◌, ◌<◌, ◌≤◌, ◌⊎◌, ◌∙◌, ℕ, zero, suc, ◌+◌, ◌*◌, List, [], ◌∷◌, length, get_or, take, refl, sym, ap, subst, inl, inr, arith, Option, Some, None, Result, Ok, Err}
-use Rattle.std.specs.Prelude.{Contains, IfErr, ◌==◌, if◌then◌else◌, min}
-use Rattle.std.proofs.lemmas.Bool.{cases_eq, cases_lt}
-use Rattle.std.proofs.lemmas.List.{take_all, get_or_past, length-take}
+use Rattle.std.proofs.Common.{◌≡◌, ◌≢◌, ◌<◌, ◌≤◌, ◌⊎◌, ◌∙◌, ℕ, ◌+◌, ◌*◌, List, [], length, get_or, take, refl, sym, ap, subst, inl, inr, arith, Option, Some, None, Ok, Err}
+use Rattle.std.specs.Prelude.{Contains, ◌==◌, if◌then◌else◌}
+use Rattle.std.proofs.lemmas.Bool.{cases_lt}
+use Rattle.std.proofs.lemmas.List.{get_or_past}
 use Rattle.std.proofs.lemmas.List.Sums.{sum_by-take-le}
 use Rattle.base_types.specs.Faults.{RoseBy}
 use Rattle.base_types.specs.View.{View}
@@ -11,23 +11,23 @@ use Rattle.base_outside.proofs.Runs.{quiet_then}
 use Rattle.disk_layout.specs.declared.half.Half.{Half}
 use Rattle.disk_log.specs.Begin.{IsBegun}
 use Rattle.disk_log.specs.Blame.{IsDiskOrMemory}
-use Rattle.disk_log.specs.Contents.{Contents, contents_of, over, page_in, Keeps}
+use Rattle.disk_log.specs.Contents.{contents_of, over, page_in, Keeps}
 use Rattle.disk_log.specs.Log.{disk_of, state_of, IsIdle, IsSoundLog}
 use Rattle.disk_log.specs.Puts.{page_of}
-use Rattle.disk_log.specs.State.{State, IsOpen, HasNoOpen, MayPut, begun, closed, ended, with_put, free_in}
+use Rattle.disk_log.specs.State.{State, IsOpen, HasNoOpen, closed, ended, with_put, free_in}
 use Rattle.disk_log.specs.declared.fault.LogFault.{LogFault}
 use Rattle.disk_log.specs.declared.fault.LogFault.TheVariants.{Failed, Full, NotALog, Memory}
 use Rattle.disk_log.specs.declared.kept.Tx.{Tx}
 use Rattle.disk_log.specs.declared.log.Log.{Log}
 use Rattle.disk_log.specs.declared.put.Put.{Put}
 use Rattle.disk_classes.specs.Commit.{IsOnlyTx, PutsIn, KeepsStages, CommitsClass}
-use Rattle.disk_classes.specs.Notes.{vacant, noted_at, class_of, pages_by, pages_in_class, AreValues, AreWithin, IsPutIn}
+use Rattle.disk_classes.specs.Notes.{noted_at, class_of, pages_by, pages_in_class, AreValues, AreWithin, IsPutIn}
 use Rattle.disk_classes.specs.declared.member.Noted.{Noted as Kept}
 use Rattle.disk_classes.specs.declared.members.Value.{Value}
-use Rattle.disk_classes.proofs.Committing.{keeps_none, keeps_of, keeps_then, put_more, kept_more, put_cases, put_later, put_here, put_whole, first_put, pages_here, pages_other}
+use Rattle.disk_classes.proofs.Committing.{keeps_none, keeps_of, keeps_then, put_more, kept_more, put_cases, put_later, put_here, pages_here, pages_other}
 use Rattle.disk_classes.proofs.Forcing.{quiet_self}
 use Rattle.disk_classes.proofs.Lists.{contains_nil, contains_or_not}
-use Rattle.disk_classes.proofs.Only.{may_put, puts_none, puts_more, puts_then, only_left, only_fewer, only_begun, opened, undone_back, none_after, free_after}
+use Rattle.disk_classes.proofs.Only.{puts_none, puts_more, puts_then, only_left, only_fewer, only_begun, opened, undone_back, none_after, free_after}
 
 pub some_within : (values : List (Option Value)) (p : ℕ) (value : Value) → get_or values p None ≡ Some value → p < length values
 some_within values p value is = by (cases_lt p (length values))

@@ -1,5 +1,5 @@
 -- The pages of a class that come into a log.
-use Rattle.std.proofs.Common.{◌≡◌, ◌≢◌, ◌<◌, ◌≤◌, ◌⊎◌, ◌∙◌, ℕ, zero, suc, ◌+◌, ◌*◌, List, [], ◌∷◌, ◌++◌, length, get_or, take, refl, sym, ap, subst, inl, inr, arith, Option, Some, None}
+use Rattle.std.proofs.Common.{◌≡◌, ◌≢◌, ◌<◌, ◌≤◌, ◌⊎◌, ◌∙◌, ℕ, ◌+◌, List, [], ◌∷◌, ◌++◌, length, get_or, take, refl, sym, ap, subst, inl, inr, arith, Option, Some, None}
 use Rattle.std.specs.Prelude.{Bool, true, false, ◌==◌, if◌then◌else◌, Contains}
 use Rattle.std.proofs.lemmas.Bool.{cases_eq, cases_lt}
 use Rattle.std.proofs.lemmas.List.{take_more, take_all, get_or-take, get_or_past, length-take}
@@ -8,9 +8,8 @@ use Rattle.std.proofs.lemmas.List.Sums.{sum_by_more}
 use Rattle.base_types.specs.View.{View}
 use Rattle.base_types.specs.Crash.{IsQuiet}
 use Rattle.disk_layout.specs.declared.half.Half.{Half}
-use Rattle.disk_log.specs.Contents.{Contents, contents_of, over, page_in, stage_in, last_stage, Keeps}
+use Rattle.disk_log.specs.Contents.{contents_of, Keeps}
 use Rattle.disk_log.specs.Log.{disk_of, state_of}
-use Rattle.disk_log.specs.State.{State}
 use Rattle.disk_log.specs.declared.log.Log.{Log}
 use Rattle.disk_classes.specs.Commit.{KeepsStages}
 use Rattle.disk_classes.specs.Notes.{vacant, noted_at, class_of, pages_by, pages_in_class, IsPutIn}

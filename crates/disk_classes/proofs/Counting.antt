@@ -1,15 +1,13 @@
 -- The entries that members need, and the pages that they put.
-use Rattle.std.proofs.Common.{◌≡◌, ◌≢◌, ◌<◌, ◌≤◌, ◌⊎◌, ℕ, zero, suc, ◌+◌, ◌*◌, List, [], ◌∷◌, ◌++◌, length, refl, sym, ◌∙◌, ap, subst, inl, inr, arith, get_or, set, length-set}
+use Rattle.std.proofs.Common.{◌≡◌, ◌≢◌, ◌<◌, ◌≤◌, ℕ, zero, suc, ◌+◌, ◌*◌, List, [], ◌∷◌, length, refl, sym, ◌∙◌, ap, arith, get_or}
 use Rattle.std.specs.Prelude.{Bool, true, false, ◌==◌, if◌then◌else◌, sum, sum_by, map}
-use Rattle.std.proofs.lemmas.Bool.Decides.{nat_tests}
-use Rattle.std.proofs.lemmas.List.{same_lists, get_or-map, length-map, get_or_default}
-use Rattle.std.proofs.lemmas.List.Sums.{sum_by-cons, sum-map, sum_by-set}
-use Rattle.disk_classes.specs.Joined.{Note}
-use Rattle.disk_classes.specs.Notes.{vacant, noted_at, notes_in, note_of, class_of, entries_of, needed_by, needed_in, pages_by, pages_in_class, vacated}
+use Rattle.std.proofs.lemmas.List.{same_lists, get_or-map, length-map}
+use Rattle.std.proofs.lemmas.List.Sums.{sum_by-cons, sum-map}
+use Rattle.disk_classes.specs.Notes.{vacant, noted_at, entries_of, needed_by, needed_in, pages_by, pages_in_class, vacated}
 use Rattle.disk_classes.specs.declared.member.Noted.{Noted as Kept}
 use Rattle.disk_classes.specs.declared.member.Standing.{Standing}
 use Rattle.disk_classes.specs.declared.member.Standing.TheVariants.{Vacant, Open, Ended}
-use Rattle.disk_classes.proofs.Lists.{test_same, test_other}
+use Rattle.disk_classes.proofs.Lists.{test_other}
 
 -- members that need the same each need the same in all
 pub needed_same : (old new : List Kept) → length new ≡ length old → ((m : ℕ) → needed_by (noted_at new m) ≡ needed_by (noted_at old m)) → needed_in new ≡ needed_in old

@@ -1,11 +1,11 @@
 -- Whether all members of a class have ended.
-use Rattle.std.proofs.Common.{◌≡◌, ◌≢◌, ◌<◌, ◌≤◌, ◌⊎◌, ◌∙◌, ℕ, ◌+◌, List, [], ◌∷◌, ◌++◌, length, take, get_or, refl, sym, ap, subst, inl, inr, arith}
-use Rattle.std.specs.Prelude.{Bool, true, false, Contains, IsTrue, ◌↔◌}
+use Rattle.std.proofs.Common.{◌≡◌, ◌≢◌, ◌<◌, ◌≤◌, ◌⊎◌, ◌∙◌, ℕ, ◌+◌, List, length, take, get_or, refl, sym, ap, subst, inl, inr}
+use Rattle.std.specs.Prelude.{true, false, Contains, IsTrue, ◌↔◌}
 use Rattle.std.proofs.lemmas.List.{get_or_read, get_or_default, take_more, take_all}
 use Rattle.std.proofs.lemmas.List.Elements.{Contains-get_or, Contains-push_cases}
 use Rattle.disk_classes.specs.Notes.{vacant, noted_at, class_of, joined_at, AreEndedAll, ArePartition}
 use Rattle.disk_classes.specs.declared.member.Noted.{Noted as Kept}
-use Rattle.disk_classes.specs.declared.member.Standing.TheVariants.{Vacant, Open, Ended}
+use Rattle.disk_classes.specs.declared.member.Standing.TheVariants.{Vacant, Ended}
 use Rattle.disk_classes.proofs.Noted.{live_within, ended_live}
 
 -- what a read gives is what is kept

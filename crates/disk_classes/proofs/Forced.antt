@@ -1,16 +1,15 @@
 -- Classes that are committed and forced.
-use Rattle.std.proofs.Common.{◌≡◌, ◌<◌, ◌≤◌, ◌∙◌, ℕ, ◌+◌, List, length, refl, sym, ap, subst, arith, Result, Ok, Err}
-use Rattle.std.specs.Prelude.{Contains, IfErr}
+use Rattle.std.proofs.Common.{◌≡◌, ◌<◌, ◌≤◌, ◌∙◌, ℕ, List, sym, ap, subst, arith}
 use Rattle.base_types.specs.View.{View}
 use Rattle.base_types.specs.Crash.{IsQuiet}
 use Rattle.base_outside.specs.Runs.{LeavesOnly}
-use Rattle.base_outside.proofs.Runs.{quiet, then, weaker, quiet_then}
+use Rattle.base_outside.proofs.Runs.{quiet, then, weaker}
 use Rattle.disk_layout.specs.declared.half.Half.{Half}
 use Rattle.disk_layout.specs.declared.superblock.Superblock.{Superblock}
 use Rattle.disk_layout.specs.Places.{pages_of, SameBlocks}
 use Rattle.disk_layout.specs.Pages.{HasPages}
 use Rattle.disk_log.specs.Blame.{IsDiskOrMemory}
-use Rattle.disk_log.specs.Contents.{contents_of, page_in, stage_in, last_stage, IsLeft, KeepsLast}
+use Rattle.disk_log.specs.Contents.{contents_of, page_in, stage_in, IsLeft, KeepsLast}
 use Rattle.disk_log.specs.Log.{disk_of, state_of, IsIdle}
 use Rattle.disk_log.specs.declared.fault.LogFault.{LogFault}
 use Rattle.disk_log.specs.declared.fault.LogFault.TheVariants.{Failed, Full, NotALog, Memory}

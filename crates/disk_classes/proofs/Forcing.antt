@@ -1,6 +1,6 @@
 -- Classes that are committed one after the other.
-use Rattle.std.proofs.Common.{◌≡◌, ◌≢◌, ◌<◌, ◌≤◌, ◌⊎◌, ℕ, zero, suc, ◌+◌, List, [], ◌∷◌, ◌++◌, length, refl, sym, ◌∙◌, ap, subst, inl, inr, arith, get_or, Option, Some, None}
-use Rattle.std.specs.Prelude.{Contains, IsTrue, ◌↔◌, unwrap_or}
+use Rattle.std.proofs.Common.{◌≡◌, ◌≢◌, ◌<◌, ◌≤◌, ◌⊎◌, ℕ, ◌+◌, List, [], ◌∷◌, ◌++◌, length, refl, sym, ◌∙◌, ap, subst, inl, inr, arith, get_or, Option, Some, None}
+use Rattle.std.specs.Prelude.{Contains}
 use Rattle.std.proofs.lemmas.Bool.{cases_eq, cases_lt}
 use Rattle.base_types.specs.View.{View}
 use Rattle.base_types.specs.Crash.{IsQuiet}
@@ -11,19 +11,19 @@ use Rattle.disk_log.specs.Log.{disk_of, state_of, IsIdle}
 use Rattle.disk_log.specs.State.{State}
 use Rattle.disk_log.specs.declared.log.Log.{Log}
 use Rattle.disk_classes.specs.Joined.{Note, AreTogether, IsLeast, AreFirst, IsOf, IsPutBy, ShowsPuts}
-use Rattle.disk_classes.specs.Notes.{vacant, noted_at, notes_in, note_of, class_of, joined_at, vacated, bytes_in, ArePartition, AreEndedAll, IsPutIn}
-use Rattle.disk_classes.specs.Commit.{CommitsClass, KeepsStages}
-use Rattle.disk_classes.specs.Classes.{log_of, notes_of, value_of, IsSoundClasses, Commits, CommitsFirst, IsStageBy, Goes}
+use Rattle.disk_classes.specs.Notes.{vacant, noted_at, notes_in, note_of, class_of, joined_at, vacated, bytes_in, AreEndedAll, IsPutIn}
+use Rattle.disk_classes.specs.Commit.{CommitsClass}
+use Rattle.disk_classes.specs.Classes.{log_of, notes_of, value_of, IsSoundClasses, IsStageBy, Goes}
 use Rattle.disk_classes.specs.declared.classes.Classes.{Classes}
 use Rattle.disk_classes.specs.declared.member.Noted.{Noted as Kept}
 use Rattle.disk_classes.specs.declared.members.Members.{Members}
 use Rattle.disk_classes.specs.declared.members.Value.{Value}
-use Rattle.disk_classes.specs.declared.member.Standing.TheVariants.{Vacant, Open, Ended}
+use Rattle.disk_classes.specs.declared.member.Standing.TheVariants.{Vacant, Ended}
 use Rattle.disk_classes.proofs.Committing.{contents_same}
 use Rattle.disk_classes.proofs.Least.{together_sym, together_trans, together_share, of_push, of_more, of_last, of_along, of_or_not, of_none, least_one, first_none, first_push}
 use Rattle.std.proofs.lemmas.List.Elements.{Contains-push_cases}
 use Rattle.disk_classes.proofs.Lists.{contains_nil}
-use Rattle.disk_classes.proofs.Noted.{vacated_in, vacated_out, length_vacated, ended_live, vacant_or_not, noted_past}
+use Rattle.disk_classes.proofs.Noted.{vacated_in, vacated_out, length_vacated, ended_live, noted_past}
 use Rattle.disk_classes.proofs.Only.{last_page}
 
 -- a log without an open transaction, whose last stage is what its pages are

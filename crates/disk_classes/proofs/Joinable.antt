@@ -1,8 +1,7 @@
 -- Whether the class of a member can be joined with that of a page.
-use Rattle.std.proofs.Common.{◌≡◌, ◌≢◌, ◌<◌, ◌≤◌, ◌⊎◌, ◌∙◌, ℕ, List, [], ◌∷◌, ◌++◌, length, length-set, get_or, set, take, refl, sym, ap, subst, inl, inr, arith, Option, Some, None}
+use Rattle.std.proofs.Common.{◌≡◌, ◌≢◌, ◌<◌, ◌⊎◌, ◌∙◌, ℕ, List, length, length-set, get_or, set, take, refl, sym, ap, subst, inl, inr, arith, Option, Some, None}
 use Rattle.std.specs.Prelude.{Contains, IfSome}
-use Rattle.disk_classes.specs.Joined.{IsWithPage}
-use Rattle.disk_classes.specs.Notes.{vacant, noted_at, class_of, joined_at, IsNoted, JoinsPage, NotesPage, ArePartition, AreValues}
+use Rattle.disk_classes.specs.Notes.{noted_at, class_of, joined_at, IsNoted, JoinsPage, NotesPage, ArePartition, AreValues}
 use Rattle.disk_classes.specs.declared.member.Noted.{Noted as Kept}
 use Rattle.disk_classes.specs.declared.members.Value.{Value}
 use Rattle.disk_classes.specs.declared.member.Standing.TheVariants.{Vacant}

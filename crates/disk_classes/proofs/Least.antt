@@ -1,12 +1,11 @@
 -- The least members of classes, one after the other.
-use Rattle.std.proofs.Common.{◌≡◌, ◌≢◌, ◌<◌, ◌≤◌, ◌⊎◌, ℕ, zero, suc, ◌+◌, List, [], ◌∷◌, ◌++◌, length, refl, sym, ◌∙◌, ap, subst, inl, inr, arith, get_or}
+use Rattle.std.proofs.Common.{◌≡◌, ◌<◌, ◌≤◌, ◌⊎◌, ℕ, ◌+◌, List, [], ◌∷◌, ◌++◌, length, refl, sym, ◌∙◌, ap, subst, inl, inr, arith, get_or}
 use Rattle.std.specs.Prelude.{Contains}
 use Rattle.std.specs.List.Sorted.{IsStrictlyIncreasing}
 use Rattle.std.proofs.lemmas.Bool.{cases_eq, cases_lt}
-use Rattle.std.proofs.lemmas.List.{get_or_append_left, get_or_push, length_push, get_or_default}
+use Rattle.std.proofs.lemmas.List.{get_or_append_left, get_or_push, length_push}
 use Rattle.std.proofs.lemmas.List.Elements.{Contains-append_left, Contains-push, Contains-push_cases, Contains-get_or}
-use Rattle.disk_classes.specs.Joined.{Note, IsJoining, AreTogether, IsLeast, AreFirst, IsOf, IsPutBy}
-use Rattle.disk_classes.specs.declared.member.Standing.TheVariants.{Vacant, Open, Ended}
+use Rattle.disk_classes.specs.Joined.{Note, IsJoining, AreTogether, IsLeast, AreFirst, IsOf}
 use Rattle.disk_classes.proofs.Lists.{contains_nil, contains_cons, contains_tail, contains_head}
 
 pub together_refl : (notes : ℕ → Note) (m : ℕ) → AreTogether notes m m

@@ -4,8 +4,7 @@ use Rattle.std.specs.Prelude.{Bool, true, false, ◌==◌, if◌then◌else◌, 
 use Rattle.std.proofs.lemmas.Option.{slice_get_cases}
 use Rattle.std.proofs.lemmas.Bool.{cases_eq, cases_lt}
 use Rattle.std.proofs.lemmas.List.{get_or_past, get_or-set_same, get_or-set_other, set_past, get_or_read, get_or_default, same_lists}
-use Rattle.disk_classes.specs.Joined.{Note}
-use Rattle.disk_classes.specs.Notes.{vacant, noted_at, notes_in, note_of, class_of, joined_at, renumbered, vacated, cleared, Joins}
+use Rattle.disk_classes.specs.Notes.{vacant, noted_at, note_of, class_of, joined_at, renumbered, vacated, cleared, Joins}
 use Rattle.disk_classes.specs.declared.member.Noted.{Noted as Kept}
 use Rattle.disk_classes.specs.declared.members.Value.{Value}
 use Rattle.disk_classes.specs.declared.member.Standing.{Standing}

@@ -1,19 +1,17 @@
 -- A transaction that is the only one that puts pages, over the states of a log.
-use Rattle.std.proofs.Common.{◌≡◌, ◌≢◌, ◌<◌, ◌≤◌, ◌⊎◌, ℕ, zero, suc, ◌+◌, ◌*◌, ◌-◌, List, [], ◌∷◌, ◌++◌, length, take, drop, refl, sym, ◌∙◌, ap, subst, inl, inr, arith, get_or, set, length-set, length-append}
+use Rattle.std.proofs.Common.{◌≡◌, ◌<◌, ◌≤◌, ℕ, ◌+◌, ◌*◌, ◌-◌, List, [], ◌∷◌, ◌++◌, length, take, drop, refl, sym, ◌∙◌, ap, inr, arith, get_or, set, length-append}
 use Rattle.std.specs.Prelude.{Bool, true, false, ◌==◌, if◌then◌else◌}
-use Rattle.std.proofs.lemmas.Bool.{cases_eq, cases_lt}
 use Rattle.std.proofs.lemmas.Bool.Decides.{nat_tests}
-use Rattle.std.proofs.lemmas.List.{take-append-drop, get_or-set_same, get_or-set_other, set-set, set-get_or, get_or_past, append_assoc}
-use Rattle.base_types.specs.View.{View}
+use Rattle.std.proofs.lemmas.List.{take-append-drop, get_or-set_same, set-set, set-get_or}
 use Rattle.disk_layout.specs.declared.entry.Entry.{Entry}
 use Rattle.disk_layout.specs.Places.{in_place}
-use Rattle.disk_layout.specs.Pages.{ends_in, redone, HasWhole}
+use Rattle.disk_layout.specs.Pages.{redone, HasWhole}
 use Rattle.disk_layout.proofs.Pages.{firsts_all, redone-append}
 use Rattle.disk_log.specs.Contents.{Contents, page_in, stage_in, last_stage}
 use Rattle.disk_log.specs.Puts.{page_of, overlaid, without, without_page, count_of, IsOwn, run_of}
-use Rattle.disk_log.specs.State.{State, IsOpen, HasNoOpen, HasRoom, MayPut, IsSound, begun, closed, ended, with_put, free_in}
+use Rattle.disk_log.specs.State.{State, IsOpen, HasNoOpen, HasRoom, MayPut, begun, closed, ended, with_put, free_in}
 use Rattle.disk_log.specs.declared.put.Put.{Put}
-use Rattle.disk_log.proofs.Emptying.{no_puts, none_reserved}
+use Rattle.disk_log.proofs.Emptying.{no_puts}
 use Rattle.disk_log.proofs.Room.{length_run}
 use Rattle.disk_classes.specs.Commit.{IsOnlyTx, PutsIn}
 

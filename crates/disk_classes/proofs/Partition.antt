@@ -1,16 +1,16 @@
 -- The partition of members into classes, call by call.
-use Rattle.std.proofs.Common.{◌≡◌, ◌≢◌, ◌<◌, ◌≤◌, ◌⊎◌, ℕ, zero, suc, ◌+◌, List, [], ◌∷◌, ◌++◌, length, refl, sym, ◌∙◌, ap, subst, inl, inr, arith, get_or, set}
+use Rattle.std.proofs.Common.{◌≡◌, ◌≢◌, ◌⊎◌, ℕ, List, [], ◌++◌, refl, sym, ◌∙◌, ap, subst, inl, inr, arith, set}
 use Rattle.std.specs.Prelude.{Contains}
 use Rattle.std.proofs.lemmas.Bool.{cases_eq}
 use Rattle.std.proofs.lemmas.List.Elements.{Contains-append_left, Contains-append_right, Contains-append_cases}
-use Rattle.disk_classes.specs.Joined.{Note, IsJoining, AreTogether, IsWithPage}
-use Rattle.disk_classes.specs.Notes.{vacant, fresh, noted_at, notes_in, note_of, class_of, joined_at, vacated, Joins, ArePartition}
+use Rattle.disk_classes.specs.Joined.{Note, IsJoining, AreTogether}
+use Rattle.disk_classes.specs.Notes.{vacant, noted_at, notes_in, class_of, joined_at, vacated, Joins, ArePartition}
 use Rattle.disk_classes.specs.declared.member.Noted.{Noted as Kept}
 use Rattle.disk_classes.specs.declared.member.Standing.{Standing}
 use Rattle.disk_classes.specs.declared.member.Standing.TheVariants.{Vacant, Open, Ended}
-use Rattle.disk_classes.proofs.Lists.{contains_nil, contains_one, contains_head}
+use Rattle.disk_classes.proofs.Lists.{contains_nil}
 use Rattle.disk_classes.proofs.Noted.{updated, noted_other, vacant_or_not, vacated_in, vacated_out}
-use Rattle.disk_classes.proofs.Numbering.{Grown, joining_grown, finest_grown, together_same, joining_same, together_left}
+use Rattle.disk_classes.proofs.Numbering.{together_left}
 
 -- What a partition says of lists and numbers alone. It stays where these do.
 pub record AreListed (members : List Kept) : Type 0 where

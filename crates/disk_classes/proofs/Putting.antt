@@ -1,16 +1,16 @@
 -- A put, and the classes after it.
-use Rattle.std.proofs.Common.{◌≡◌, ◌≢◌, ◌<◌, ◌≤◌, ◌⊎◌, ℕ, zero, suc, ◌+◌, List, [], ◌∷◌, ◌++◌, length, refl, sym, ◌∙◌, ap, subst, inl, inr, arith, get_or, set, take, Option, Some, None, length-set}
+use Rattle.std.proofs.Common.{◌≡◌, ◌≢◌, ◌<◌, ◌⊎◌, ℕ, List, [], ◌∷◌, length, refl, sym, ◌∙◌, ap, subst, inl, inr, arith, get_or, set, take, Option, Some, None, length-set}
 use Rattle.std.specs.Prelude.{Bool, true, false, ◌==◌, if◌then◌else◌, Contains, MatchOption, MatchBool}
-use Rattle.std.proofs.lemmas.Bool.{cases_eq, cases_lt}
+use Rattle.std.proofs.lemmas.Bool.{cases_eq}
 use Rattle.std.proofs.lemmas.List.{take_all, take_at, set-set, set-get_or, get_or-set_same, get_or-set_other}
-use Rattle.disk_classes.specs.Joined.{Note, IsJoining, AreTogether, IsWithPage, PutsPage}
-use Rattle.disk_classes.specs.Notes.{vacant, bytes_in, noted_at, notes_in, note_of, class_of, joined_at, entries_of, needed_by, needed_in, Joins, JoinsPage, NotesPage, ArePartition, AreValues, AreWithin}
+use Rattle.disk_classes.specs.Joined.{Note, IsWithPage, PutsPage}
+use Rattle.disk_classes.specs.Notes.{vacant, bytes_in, noted_at, notes_in, note_of, class_of, entries_of, needed_by, needed_in, Joins, JoinsPage, NotesPage, ArePartition, AreValues, AreWithin}
 use Rattle.disk_classes.specs.declared.member.Noted.{Noted as Kept}
 use Rattle.disk_classes.specs.declared.members.Value.{Value}
 use Rattle.disk_classes.specs.declared.member.Standing.TheVariants.{Vacant}
 use Rattle.disk_classes.proofs.Counting.{needed_same}
 use Rattle.disk_classes.proofs.Lists.{test_same, test_other, contains_nil}
-use Rattle.disk_classes.proofs.Noted.{updated, noted_set, noted_other, live_within, vacant_or_not}
+use Rattle.disk_classes.proofs.Noted.{updated, noted_set, noted_other, live_within}
 use Rattle.disk_classes.proofs.Numbering.{Grown, grown, joining_grown, finest_grown}
 use Rattle.disk_classes.proofs.Partition.{AreListed, listed_of, partition_of, next_class, next_listed, next_live, moved_class, kept_class, joined_listed, joined_same, joined_were}
 

@@ -1,19 +1,19 @@
 -- A member that begins, and one that ends.
-use Rattle.std.proofs.Common.{◌≡◌, ◌≢◌, ◌<◌, ◌≤◌, ◌⊎◌, ◌∙◌, ℕ, zero, suc, ◌+◌, ◌*◌, List, [], ◌∷◌, ◌++◌, length, length-set, get_or, set, refl, sym, ap, subst, inl, inr, arith, Option, Some, None}
+use Rattle.std.proofs.Common.{◌≡◌, ◌≢◌, ◌<◌, ◌≤◌, ◌⊎◌, ◌∙◌, ℕ, ◌+◌, ◌*◌, List, [], ◌∷◌, ◌++◌, length, set, refl, sym, ap, subst, inl, inr, arith, Option}
 use Rattle.std.specs.Prelude.{Contains, ◌==◌, if◌then◌else◌, Bool, true, false}
 use Rattle.std.proofs.lemmas.Bool.{cases_eq, cases_lt}
 use Rattle.std.proofs.lemmas.List.{get_or_append_left, get_or_push, get_or_past, length_push}
 use Rattle.std.proofs.lemmas.List.Sums.{sum_by-set, sum_by_push}
-use Rattle.disk_classes.specs.Joined.{Note, IsJoining, AreTogether, new_note}
+use Rattle.disk_classes.specs.Joined.{new_note}
 use Rattle.disk_classes.specs.Notes.{vacant, fresh, noted_at, notes_in, note_of, class_of, joined_at, entries_of, needed_by, needed_in, IsPlaced, ArePartition, AreValues}
 use Rattle.disk_classes.specs.declared.member.Noted.{Noted as Kept}
 use Rattle.disk_classes.specs.declared.members.Value.{Value}
 use Rattle.disk_classes.specs.declared.member.Standing.{Standing}
 use Rattle.disk_classes.specs.declared.member.Standing.TheVariants.{Vacant, Open, Ended}
-use Rattle.disk_classes.proofs.Lists.{test_same, test_other, contains_nil, contains_one, contains_head}
-use Rattle.disk_classes.proofs.Noted.{updated, noted_set, noted_other, noted_past, live_within, ended_live}
+use Rattle.disk_classes.proofs.Lists.{test_same, test_other, contains_one, contains_head}
+use Rattle.disk_classes.proofs.Noted.{updated, noted_set, noted_other, noted_past, ended_live}
 use Rattle.disk_classes.proofs.Numbering.{together_same, joining_same}
-use Rattle.disk_classes.proofs.Partition.{AreListed, listed_of, partition_of, next_listed, next_class}
+use Rattle.disk_classes.proofs.Partition.{listed_of, partition_of, next_listed, next_class}
 
 -- a member ends
 module _ (ms : List Kept) (member : ℕ) (part : ArePartition ms) (live : (noted_at ms member).standing ≢ Vacant) where

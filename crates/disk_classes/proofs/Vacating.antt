@@ -1,11 +1,11 @@
 -- The numbers of a class become vacant, one after the other.
-use Rattle.std.proofs.Common.{◌≡◌, ◌≢◌, ◌<◌, ◌≤◌, ◌⊎◌, ◌∙◌, ℕ, zero, suc, ◌+◌, List, [], ◌∷◌, length, get_or, set, length-set, refl, sym, ap, subst, inl, inr, arith, Option, Some, None}
+use Rattle.std.proofs.Common.{◌≡◌, ◌≢◌, ◌<◌, ◌≤◌, ◌⊎◌, ◌∙◌, ℕ, ◌+◌, List, length, get_or, set, length-set, sym, ap, subst, inl, inr, arith, Option, None}
 use Rattle.std.specs.Prelude.{Contains}
 use Rattle.std.proofs.lemmas.Bool.{cases_eq, cases_lt}
 use Rattle.disk_classes.specs.Notes.{vacant, noted_at, class_of, vacated, cleared, IsPutIn}
 use Rattle.disk_classes.specs.declared.member.Noted.{Noted as Kept}
 use Rattle.disk_classes.specs.declared.members.Value.{Value}
-use Rattle.disk_classes.proofs.Lists.{contains_nil, contains_or_not}
+use Rattle.disk_classes.proofs.Lists.{contains_nil}
 use Rattle.disk_classes.proofs.Noted.{noted_set, noted_other, noted_past, vacated_in, vacated_out, length_vacated, cleared_in, cleared_none, cleared_out, noted_ext}
 
 -- the numbers below x are vacant, if they are of the class

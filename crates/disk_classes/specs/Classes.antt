@@ -1,5 +1,6 @@
 -- What contracts see of members over a log.
-use Rattle.std.specs.Prelude.{◌≡◌, ◌≢◌, ◌⊎◌, ◌≤◌, ◌<◌, ℕ, ◌+◌, ◌*◌, List, Option, Some, None, Result, Ok, Err, length, IsTrue, ◌==◌, if◌then◌else◌, unwrap_or}
+use Rattle.std.specs.Prelude.{◌≡◌, ◌≢◌, ◌⊎◌, ◌≤◌, ◌<◌, ℕ, ◌+◌, ◌*◌, List, Option, None, Result, Ok}
+use Rattle.std.specs.Prelude.{Err, length, IsTrue, ◌==◌, if◌then◌else◌, unwrap_or}
 use Rattle.std.proofs.Common.{get_or}
 use Rattle.base_types.specs.Faults.{RoseBy}
 use Rattle.base_types.specs.View.{View}
@@ -10,7 +11,7 @@ use Rattle.disk_log.specs.Contents.{contents_of, page_in, last_stage, stage_in}
 use Rattle.disk_log.specs.Log.{disk_of, state_of, IsIdle}
 use Rattle.disk_log.specs.State.{free_in}
 use Rattle.disk_log.specs.declared.log.Log.{Log}
-use Rattle.disk_classes.specs.Joined.{Note, AreFirst, IsLeast, IsOf, IsPutBy, ShowsPuts, no_note, new_note}
+use Rattle.disk_classes.specs.Joined.{Note, AreFirst, IsOf, IsPutBy, ShowsPuts, no_note, new_note}
 use Rattle.disk_classes.specs.Notes.{bytes_in, needed_in, notes_in, ArePartition, AreValues, AreWithin}
 use Rattle.disk_classes.specs.declared.classes.Classes.{Classes}
 use Rattle.disk_classes.specs.declared.fault.ClassFault.{ClassFault}

@@ -1,5 +1,5 @@
 -- What a class leaves of a log as it is committed.
-use Rattle.std.specs.Prelude.{◌≡◌, ◌≢◌, ◌≤◌, ◌<◌, ℕ, ◌+◌, ◌*◌, List, [], Option, Some, None, Contains}
+use Rattle.std.specs.Prelude.{◌≡◌, ◌≤◌, ◌<◌, ℕ, ◌+◌, ◌*◌, List, [], Option, Some, None}
 use Rattle.std.proofs.Common.{get_or}
 use Rattle.base_types.specs.View.{View}
 use Rattle.disk_log.specs.Contents.{contents_of, page_in, last_stage, stage_in}

@@ -1,5 +1,6 @@
 -- What is kept of members, by their numbers.
-use Rattle.std.specs.Prelude.{◌≡◌, ◌≢◌, ◌⊎◌, ◌<◌, ℕ, ◌+◌, ◌*◌, List, [], ◌∷◌, ◌++◌, length, set, sum_by, Option, Some, None, Contains, ◌==◌, if◌then◌else◌, MatchOption, MatchBool}
+use Rattle.std.specs.Prelude.{◌≡◌, ◌≢◌, ◌⊎◌, ◌<◌, ℕ, ◌+◌, ◌*◌, List, [], ◌∷◌, ◌++◌, length, set, sum_by, Option, Some}
+use Rattle.std.specs.Prelude.{None, Contains, ◌==◌, if◌then◌else◌, MatchOption, MatchBool}
 use Rattle.std.proofs.Common.{get_or}
 use Rattle.disk_classes.specs.Joined.{Note, IsJoining, AreTogether, IsWithPage}
 use Rattle.disk_classes.specs.declared.member.Noted.{Noted}

@@ -83,8 +83,8 @@ impl<D: Disk> Classes<D> {
         Ok(Member { number })
     }
 
-    /// Fills `out`, of 512 bytes, with a metadata page as the last put of any member left it, or else as the log has it.
-    /// The only error is `Failed`, after which `out` may hold anything.
+    /// Fills `out`, of 512 bytes, with a metadata page as the last put of any member left it, or else as the log has
+    /// it. The only error is `Failed`, after which `out` may hold anything.
     pub fn page(&mut self, page: u32, out: &mut [u8]) -> Result<(), ClassFault>
         requires sound { IsSoundClasses D.tells D.view self.old }
         requires page { page < (state_of (log_of self.old)).half.pages }

@@ -4,8 +4,9 @@ ghost use Rattle.std.specs.Prelude.{OnOk, OnErr, IfOk, IfSome, Contains, IsTrue,
 ghost use Rattle.std.specs.Prelude.{if◌then◌else◌};
 ghost use Rattle.std.proofs.Common.{get_or, set};
 ghost use Rattle.disk_classes.specs.Joined.{PutsPage};
-ghost use Rattle.disk_classes.specs.Notes.{vacant, bytes_in, notes_in, noted_at, needed_by, needed_in, class_of, joined_at};
-ghost use Rattle.disk_classes.specs.Notes.{pages_in_class, vacated, renumbered, cleared, AreEndedAll, Joins, JoinsPage, NotesPage};
+ghost use Rattle.disk_classes.specs.Notes.{vacant, bytes_in, notes_in, noted_at, needed_by, needed_in, class_of};
+ghost use Rattle.disk_classes.specs.Notes.{joined_at, pages_in_class, vacated, renumbered, cleared, AreEndedAll};
+ghost use Rattle.disk_classes.specs.Notes.{Joins, JoinsPage, NotesPage};
 ghost use Rattle.disk_classes.specs.Notes.{ArePartition, AreValues, AreWithin, IsNoted, IsPlaced, IsPutIn};
 ghost use Rattle.disk_classes.specs.declared.member.Standing.TheVariants.{Vacant as IsVacant, Ended as HasEnded};
 
@@ -254,7 +255,8 @@ impl Members {
         requires live { (noted_at self.old.noted member).standing ≢ IsVacant }
         ensures partition { ArePartition self.new.noted }
         ensures values { AreValues self.new.noted self.new.values }
-        ensures within { (pages : ℕ) → page < pages → AreWithin pages self.old.values → AreWithin pages self.new.values }
+        ensures within { (pages : ℕ) → page < pages
+            → AreWithin pages self.old.values → AreWithin pages self.new.values }
         ensures put { OnOk result (PutsPage member page (notes_in self.old.noted) (notes_in self.new.noted)) }
         ensures value { OnOk result ((p : ℕ) → bytes_in (get_or self.new.values p None)
             ≡ (if p == page then Some bytes else bytes_in (get_or self.old.values p None))) }

@@ -108,7 +108,7 @@ fn end_all<D: Disk>(classes: &mut Classes<D>, members: &mut Vec<Member>)
     requires { IsReady D.tells D.view classes.old }
     ensures { IsReady D.tells D.view classes.new }
 {
-    for _ in 0..members.len() {
+    'all: for _ in 0..members.len() {
         if let Some(member) = members.pop() {
             end_one(classes, member);
         }

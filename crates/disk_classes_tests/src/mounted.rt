@@ -48,10 +48,11 @@ pub fn filled<D: Disk>(classes: &mut Classes<D>, page: usize) -> Result<u8, Clas
     requires { IsReady D.tells D.view classes.old }
     ensures { IsReady D.tells D.view classes.new }
 {
-    let mut out = [0; 512];
-    if page < PAGES {
-        classes.page(1 + page as u32, &mut out)?;
+    if PAGES <= page {
+        return Ok(0);
     }
+    let mut out = [0; 512];
+    classes.page(1 + page as u32, &mut out)?;
     Ok(fill_of(&out))
 }
 

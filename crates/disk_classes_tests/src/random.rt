@@ -157,7 +157,7 @@ fn all_done<D: Disk>(
     requires { IsReady D.tells D.view classes.old }
 {
     let mut members = Vec::new(alloc);
-    for _ in 0..ACTS {
+    'acts: for _ in 0..ACTS {
         match act_one(classes, &mut members, plain, random) {
             Ok(true) => {}
             Ok(false) => return false,

@@ -1,13 +1,11 @@
-use Rattle.std.proofs.Common.{◌≡◌, ◌∙◌, ◌<◌, ◌≤◌, ◌+◌, refl, sym, ap, subst, arith, length, ℕ, List}
-use Rattle.std.proofs.lemmas.Result.{err_from_is_err_and}
+use Rattle.std.proofs.Common.{◌≡◌, ◌∙◌, refl, sym, ap, subst, arith, length, List}
 use Rattle.std.proofs.lemmas.List.{take_all}
-use Rattle.disk_log.specs.Log.{state_of, slot_of, disk_of}
-use Rattle.disk_log.specs.Blame.{IsDiskOrMemory}
+use Rattle.disk_log.specs.Log.{state_of, slot_of}
 use Rattle.disk_log.specs.declared.kept.Tx.{Tx}
 use Rattle.disk_classes.specs.Commit.{IsOnlyTx, PutsIn}
-use Rattle.disk_classes.specs.Notes.{class_of, pages_in_class, IsPutIn}
+use Rattle.disk_classes.specs.Notes.{pages_in_class, IsPutIn}
 use Rattle.disk_classes.specs.declared.member.Noted.{Noted as Kept}
-use Rattle.disk_classes.proofs.Committed.{MembersPut, members_none, members_other, members_only, members_values, members_keeps, members_puts, members_quiet, members_fault, members_more}
+use Rattle.disk_classes.proofs.Committed.{members_none, members_other, members_only, members_values, members_keeps, members_puts, members_more}
 use Rattle.disk_classes.proofs.Committing.{put_whole}
 use Rattle.disk_classes.proofs.Ended.{read_at}
 use Rattle.disk_classes.proofs.commit.put_class.Goals as goal

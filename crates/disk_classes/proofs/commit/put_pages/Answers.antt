@@ -1,4 +1,4 @@
-use Rattle.std.proofs.Common.{◌≡◌, ◌∙◌, ◌<◌, ◌≤◌, refl, sym, ap, subst, arith, rules, length, get_or, ℕ, List, Some, None}
+use Rattle.std.proofs.Common.{◌∙◌, refl, sym, ap, subst, arith, rules, length, get_or, ℕ, List}
 use Rattle.std.specs.Prelude.{Contains}
 use Rattle.std.proofs.lemmas.List.{take_all}
 use Rattle.std.proofs.lemmas.List.Elements.{Contains-get_or}
@@ -6,7 +6,7 @@ use Rattle.disk_layout.specs.declared.half.Half.{Half}
 use Rattle.disk_log.specs.Log.{state_of, slot_of}
 use Rattle.disk_log.specs.State.{MayPut, put_of}
 use Rattle.disk_log.specs.declared.kept.Tx.{Tx}
-use Rattle.disk_classes.proofs.Committed.{some_within, pages_none, pages_more, pages_keeps, pages_puts, pages_fault}
+use Rattle.disk_classes.proofs.Committed.{some_within, pages_none, pages_more, pages_keeps, pages_puts}
 use Rattle.disk_classes.proofs.Only.{may_put}
 use Rattle.disk_classes.proofs.commit.put_pages.Goals as goal
 

@@ -1,4 +1,4 @@
-use Rattle.std.proofs.Common.{◌≡◌, ◌≢◌, ◌<◌, ℕ}
+use Rattle.std.proofs.Common.{◌≢◌, ◌<◌, ℕ}
 use Rattle.disk_classes.specs.Notes.{noted_at}
 use Rattle.disk_classes.specs.declared.member.Standing.TheVariants.{Vacant}
 use Rattle.disk_classes.proofs.members.first_vacant.Given as goal

@@ -1,5 +1,4 @@
-use Rattle.std.proofs.Common.{◌≡◌, ◌<◌, ◌∙◌, ℕ, length, get_or, sym, ap, subst, true, false, rules, refl}
-use Rattle.disk_classes.specs.Notes.{vacant, noted_at}
+use Rattle.std.proofs.Common.{◌≡◌, ◌<◌, ◌∙◌, length, get_or, sym, ap, true, false, rules}
 use Rattle.disk_classes.specs.declared.member.Noted.{Noted as Kept}
 use Rattle.disk_classes.proofs.Ended.{list_is, inside_list, ended_more, ended_not, ended_whole, at_number}
 use Rattle.disk_classes.proofs.members.has_ended.Goals as goal

@@ -1,6 +1,5 @@
-use Rattle.std.proofs.Common.{◌≡◌, ◌∙◌, ◌∷◌, ◌++◌, [], ℕ, List, length, length-set, get_or, set, ap, arith}
+use Rattle.std.proofs.Common.{◌≡◌, ◌∙◌, ◌++◌, length-set, get_or, set, arith}
 use Rattle.disk_classes.specs.Notes.{renumbered}
-use Rattle.disk_classes.specs.declared.member.Noted.{Noted as Kept}
 use Rattle.disk_classes.proofs.Ended.{within_said}
 use Rattle.disk_classes.proofs.Noted.{joins_said}
 use Rattle.disk_classes.proofs.members.join.Goals as goal

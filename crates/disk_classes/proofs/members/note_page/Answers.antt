@@ -1,5 +1,4 @@
-use Rattle.std.proofs.Common.{◌≡◌, ◌∙◌, ◌∷◌, ◌++◌, [], length, set, refl, sym, ap, subst, true, false, rules}
-use Rattle.disk_classes.specs.Notes.{vacant, noted_at}
+use Rattle.std.proofs.Common.{◌≡◌, ◌∙◌, length, ap, true, false, rules}
 use Rattle.disk_classes.specs.declared.member.Noted.{Noted as Kept}
 use Rattle.disk_classes.proofs.Ended.{read_at}
 use Rattle.disk_classes.proofs.Noting.{noted_anew, noted_before}

@@ -1,7 +1,5 @@
-use Rattle.std.proofs.Common.{◌≡◌, ◌∙◌, ◌≤◌, ◌+◌, ◌*◌, refl, sym, ap, subst, arith, ℕ, List, length}
-use Rattle.disk_log.specs.Log.{state_of}
-use Rattle.disk_log.specs.State.{free_in}
-use Rattle.disk_classes.specs.Notes.{fresh, needed_in, noted_at, IsPlaced}
+use Rattle.std.proofs.Common.{ap, subst, arith}
+use Rattle.disk_classes.specs.Notes.{needed_in, IsPlaced}
 use Rattle.disk_classes.specs.declared.member.Noted.{Noted as Kept}
 use Rattle.disk_classes.proofs.Standing.{partition_begun, needed_begun, notes_begun, begun_pages, values_kept}
 use Rattle.disk_classes.proofs.Sound.{limits_begun, lowest_said, below_said, few_begun}

@@ -2,7 +2,6 @@ use Rattle.std.proofs.Common.{◌+◌, ◌*◌, ◌≤◌, List, Option, refl, s
 use Rattle.std.proofs.lemmas.Result.{err_from_is_err_and}
 use Rattle.disk_log.specs.Log.{state_of}
 use Rattle.disk_log.specs.State.{free_in}
-use Rattle.disk_classes.specs.Classes.{log_of}
 use Rattle.disk_classes.specs.Commit.{CommitsClass}
 use Rattle.disk_classes.specs.Notes.{pages_in_class}
 use Rattle.disk_classes.specs.declared.member.Noted.{Noted as Kept}

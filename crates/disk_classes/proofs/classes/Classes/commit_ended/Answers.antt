@@ -1,14 +1,11 @@
-use Rattle.std.proofs.Common.{◌≡◌, ◌∙◌, ◌≤◌, ◌<◌, ◌+◌, refl, sym, ap, subst, arith, length, List, ℕ, [], ◌∷◌, ◌++◌, true, false}
+use Rattle.std.proofs.Common.{◌≡◌, ◌∙◌, ◌<◌, refl, sym, ap, subst, arith, length, List, ℕ, [], ◌∷◌, ◌++◌, true, false}
 use Rattle.std.proofs.lemmas.List.{length_push}
 use Rattle.std.proofs.lemmas.Result.{err_from_is_err_and}
 use Rattle.std.specs.Prelude.{Contains}
-use Rattle.base_outside.proofs.Runs.{quiet_then}
 use Rattle.disk_classes.specs.Notes.{class_of, joined_at, AreEndedAll}
 use Rattle.disk_classes.specs.declared.member.Noted.{Noted as Kept}
-use Rattle.disk_classes.specs.declared.member.Standing.TheVariants.{Ended}
 use Rattle.disk_classes.proofs.Ended.{read_at, class_at, ended_at, class_live, class_named, class_within, joined_within}
-use Rattle.disk_classes.proofs.Forcing.{Below, below_none, committed_more, number_passed, goes_below, goes_same, all_there}
-use Rattle.disk_classes.proofs.Forced.{force_fault_then}
+use Rattle.disk_classes.proofs.Forcing.{below_none, committed_more, number_passed, goes_below, goes_same, all_there}
 use Rattle.disk_classes.proofs.classes.Classes.commit_ended.Goals as goal
 use Rattle.disk_classes.proofs.classes.Classes.commit_ended.Goals.{then-is_ended+then-has_ended+in_ok-commit_class, else-is_ended, else-is_ended-via-then-is_ended+else-has_ended, else-is_ended-via-else-is_ended}
 

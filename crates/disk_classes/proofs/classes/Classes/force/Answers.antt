@@ -1,10 +1,8 @@
-use Rattle.std.proofs.Common.{◌≡◌, ◌∙◌, ◌≤◌, refl, sym, ap, subst, arith, ℕ}
 use Rattle.std.proofs.lemmas.Result.{err_from_is_err_and}
 use Rattle.base_outside.proofs.Runs.{quiet}
-use Rattle.disk_log.specs.Log.{state_of, disk_of}
-use Rattle.disk_classes.specs.Classes.{log_of, IsLeftBy}
+use Rattle.disk_log.specs.Log.{state_of}
 use Rattle.disk_classes.proofs.Committed.{rose_then}
-use Rattle.disk_classes.proofs.Forced.{class_blamed, force_fault_then, crash_forced, forced_first, forced_stage}
+use Rattle.disk_classes.proofs.Forced.{crash_forced, forced_first, forced_stage}
 use Rattle.disk_classes.proofs.Sound.{sound_forced, none_last}
 use Rattle.disk_classes.proofs.classes.Classes.force.Goals as goal
 

@@ -1,7 +1,3 @@
-use Rattle.std.proofs.Common.{ap, ℕ, List, None, get_or}
-use Rattle.disk_classes.specs.Notes.{notes_in, needed_in, bytes_in}
-use Rattle.disk_classes.specs.declared.member.Noted.{Noted as Kept}
-use Rattle.disk_classes.specs.declared.members.Value.{Value}
 use Rattle.disk_classes.proofs.Sound.{sound_new}
 use Rattle.disk_classes.proofs.classes.Classes.new.Goals as goal
 

@@ -1,6 +1,6 @@
-use Rattle.std.proofs.Common.{◌≡◌, ◌∙◌, ◌≤◌, refl, sym, ap, subst, arith, get_or, length, ℕ, List, Option, Some, None}
+use Rattle.std.proofs.Common.{◌≤◌, sym, ap, subst, arith, length, List}
 use Rattle.std.proofs.lemmas.Result.{err_from_is_err_and}
-use Rattle.disk_classes.specs.Notes.{notes_in, noted_at, needed_in, bytes_in}
+use Rattle.disk_classes.specs.Notes.{notes_in, bytes_in}
 use Rattle.disk_classes.specs.declared.member.Noted.{Noted as Kept}
 use Rattle.disk_classes.proofs.Noted.{open_live}
 use Rattle.disk_classes.proofs.Sound.{limits_put}

@@ -1,4 +1,4 @@
-use Rattle.std.proofs.Common.{◌≡◌, ◌∙◌, List, length, get_or, set, ap}
+use Rattle.std.proofs.Common.{◌∙◌, List, get_or, set, ap}
 use Rattle.disk_classes.specs.declared.member.Noted.{Noted as Kept}
 use Rattle.disk_classes.proofs.Ended.{read_at}
 use Rattle.disk_classes.proofs.Joinable.{joinable, notes_page, noted_back}

@@ -1,7 +1,6 @@
-use Rattle.std.proofs.Common.{◌≡◌, ◌<◌, ◌∙◌, ℕ, List, length, get_or, set, refl, sym, ap, subst, arith, Option, Some, None}
+use Rattle.std.proofs.Common.{◌∙◌, List, length, get_or, set, refl, sym, ap, subst, Option, Some, None}
 use Rattle.std.proofs.lemmas.Result.{err_from_is_err_and}
-use Rattle.disk_classes.specs.Joined.{PutsPage}
-use Rattle.disk_classes.specs.Notes.{bytes_in, notes_in, noted_at, needed_in, ArePartition, AreValues, AreWithin}
+use Rattle.disk_classes.specs.Notes.{bytes_in, needed_in, ArePartition, AreValues, AreWithin}
 use Rattle.disk_classes.specs.declared.member.Noted.{Noted as Kept}
 use Rattle.disk_classes.specs.declared.members.Value.{Value}
 use Rattle.disk_classes.proofs.Putting.{values_as, put_done, value_after}

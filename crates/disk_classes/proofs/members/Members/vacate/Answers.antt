@@ -1,5 +1,4 @@
-use Rattle.std.proofs.Common.{◌∙◌, sym, arith, length}
-use Rattle.disk_classes.specs.Notes.{vacated}
+use Rattle.std.proofs.Common.{arith}
 use Rattle.disk_classes.proofs.Vacating.{vacate_more, vacated_all, vacated_put, vacated_kept}
 use Rattle.disk_classes.proofs.members.Members.vacate.Goals as goal
 
