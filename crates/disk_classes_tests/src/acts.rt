@@ -42,7 +42,11 @@ fn number(word: Option<&str>) -> u32 {
 pub fn act_of(words: &str) -> Option<Act> {
     let mut words = words.split(' ');
     let kind = words.next().unwrap_or("");
-    let (a, b, c) = (number(words.next()), number(words.next()), number(words.next()));
+    let (a, b, c) = (
+        number(words.next()),
+        number(words.next()),
+        number(words.next()),
+    );
     Some(match kind {
         "begin" => Act::Begin(a, b),
         "put" => Act::Put(a, b.saturating_sub(1) as usize, c.min(254) as u8),

@@ -116,7 +116,12 @@ fn end_all<D: Disk>(classes: &mut Classes<D>, members: &mut Vec<Member>)
 }
 
 // Many members put a page each, end, and are forced. Answers how many classes that were.
-fn forced_at_once<D: Disk>(alloc: Global, classes: &mut Classes<D>, many: u32, apart: bool) -> Result<u32, ClassFault>
+fn forced_at_once<D: Disk>(
+    alloc: Global,
+    classes: &mut Classes<D>,
+    many: u32,
+    apart: bool,
+) -> Result<u32, ClassFault>
     requires { IsReady D.tells D.view classes.old }
 {
     let mut members = Vec::new(alloc);

@@ -40,7 +40,11 @@ pub fn opened<D: Disk + Drop>(alloc: Global, disk: D) -> Result<Classes<D>, Clas
 
 fn fill_of(bytes: &[u8]) -> u8 {
     let first = bytes.first().copied().unwrap_or(0);
-    if bytes.iter().all(|byte| *byte == first) { first } else { 255 }
+    if bytes.iter().all(|byte| *byte == first) {
+        first
+    } else {
+        255
+    }
 }
 
 // What a page is filled with.

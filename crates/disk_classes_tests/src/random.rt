@@ -3,7 +3,9 @@ ghost use Rattle.std.specs.Prelude.{◌≡◌, ◌<◌, OnOk};
 ghost use Rattle.disk_classes_tests.specs.Ready.{IsReady};
 
 use crate::mounted::{PAGES, all_filled, filled, opened, pages_left};
-use crate::plain::{Plain, SLOTS, Slot, Standing, commit_ended, lowest, may_leave, may_put, new_plain, put, settle};
+use crate::plain::{
+    Plain, SLOTS, Slot, Standing, commit_ended, lowest, may_leave, may_put, new_plain, put, settle,
+};
 use crate::tried::{Named, begun, end_by, put_by};
 use crate::watch::{Seen, Watched, torn, watching, write_from};
 use anyhow::{Result, bail};
