@@ -1,9 +1,10 @@
 -- The entries that members need, and the pages that they put.
-use Rattle.std.proofs.Common.{◌≡◌, ◌≢◌, ◌<◌, ◌≤◌, ℕ, zero, suc, ◌+◌, ◌*◌, List, [], ◌∷◌, length, refl, sym, ◌∙◌, ap, arith, get_or}
+use Rattle.std.proofs.Common.{◌≡◌, ◌≢◌, ◌<◌, ◌≤◌, ℕ, zero, suc, ◌+◌, ◌*◌, List, [], ◌∷◌, length, refl, sym, ◌∙◌, ap, arith, get_or, ◌⊎◌, inl, inr, take, add-one}
 use Rattle.std.specs.Prelude.{Bool, true, false, ◌==◌, if◌then◌else◌, sum, sum_by, map}
-use Rattle.std.proofs.lemmas.List.{same_lists, get_or-map, length-map}
-use Rattle.std.proofs.lemmas.List.Sums.{sum_by-cons, sum-map}
-use Rattle.disk_classes.specs.Notes.{vacant, noted_at, entries_of, needed_by, needed_in, pages_by, pages_in_class, vacated}
+use Rattle.std.proofs.lemmas.List.{same_lists, get_or-map, length-map, take_all, get_or_past}
+use Rattle.std.proofs.lemmas.Bool.{cases_lt}
+use Rattle.std.proofs.lemmas.List.Sums.{sum_by-cons, sum-map, sum_by_more}
+use Rattle.disk_classes.specs.Notes.{vacant, noted_at, entries_of, needed_by, needed_in, pages_by, pages_in_class, vacated, needs_below, notes_in}
 use Rattle.disk_classes.specs.declared.member.Noted.{Noted as Kept}
 use Rattle.disk_classes.specs.declared.member.Standing.{Standing}
 use Rattle.disk_classes.specs.declared.member.Standing.TheVariants.{Vacant, Open, Ended}
@@ -96,3 +97,23 @@ pages_live class (n ∷ ms) (suc i) d each lt is live =
     let a = sum_by-cons (pages_by class) n ms in
     let b = sum_by-cons (cost_by class) n ms in
     omega (arith, rest, one, a, b)
+
+-- the notes tell what all need
+needs_take : (ms : List Kept) (n : ℕ) → needed_in (take n ms) ≡ needs_below n (notes_in ms)
+unfolding needs_below
+needs_take ms zero = refl
+needs_take ms (suc n) = by (cases_lt n (length ms)) (needs_take ms n)
+  where
+    by : (n < length ms) ⊎ (length ms ≤ n) → needed_in (take n ms) ≡ needs_below n (notes_in ms) → needed_in (take (suc n) ms) ≡ needs_below n (notes_in ms) + needed_by (noted_at ms n)
+    by (inl lt) so_far =
+        let e : needed_in (take (n + 1) ms) ≡ needed_in (take n ms) + needed_by (noted_at ms n) = sum_by_more needed_by ms n (vacant n) lt in
+        let f : needed_in (take (n + 1) ms) ≡ needed_in (take (suc n) ms) = ap (λ (k : ℕ). needed_in (take k ms)) (add-one n) in
+        omega (arith, e, f, so_far)
+    by (inr le) so_far =
+        let e : needed_in (take (suc n) ms) ≡ needed_in ms = ap needed_in (take_all (suc n) ms (omega (arith, le))) in
+        let f : needed_in (take n ms) ≡ needed_in ms = ap needed_in (take_all n ms le) in
+        let g : needed_by (noted_at ms n) ≡ 0 = ap needed_by (get_or_past ms n (vacant n) le) in
+        omega (arith, e, f, g, so_far)
+
+pub needs_all : (ms : List Kept) → length ms ≤ 2048 → needed_in ms ≡ needs_below 2048 (notes_in ms)
+needs_all ms le = ap needed_in (sym (take_all 2048 ms le)) ∙ needs_take ms 2048

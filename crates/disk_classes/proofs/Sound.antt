@@ -20,7 +20,7 @@ use Rattle.disk_classes.specs.declared.member.Noted.{Noted as Kept}
 use Rattle.disk_classes.specs.declared.members.Value.{Value}
 use Rattle.disk_classes.specs.declared.member.Standing.{Standing}
 use Rattle.disk_classes.specs.declared.member.Standing.TheVariants.{Vacant, Open, Ended}
-use Rattle.disk_classes.proofs.Counting.{IsWithin, cost_of, cost_vacated, pages_live, needed_same}
+use Rattle.disk_classes.proofs.Counting.{IsWithin, cost_of, cost_vacated, pages_live, needed_same, needs_all}
 use Rattle.disk_classes.proofs.Lists.{test_same, test_other, contains_nil}
 use Rattle.disk_classes.proofs.Noted.{updated, noted_set, noted_other, noted_past, live_within, open_live, vacated_in, vacated_out, length_vacated}
 use Rattle.disk_classes.proofs.Partition.{partition_left}
@@ -220,6 +220,7 @@ sound_new tells view log members idle noted values = record {
   within = subst (AreWithin (state_of log).half.pages) (sym values) (within_none (state_of log).half.pages);
   room = (let e : needed_in members.noted ≡ 0 = ap needed_in noted in omega (arith, e));
   few = (let e : length members.noted ≡ 0 = ap length noted in omega (arith, e));
+  needs = needs_all members.noted (let e : length members.noted ≡ 0 = ap length noted in omega (arith, e));
 }
 
 -- the same members over a log that was read, or left as it was
@@ -233,6 +234,7 @@ sound_over tells view old log members sound same idle state = record {
   within = subst (λ (ms : Members). AreWithin (state_of log).half.pages ms.values) (sym same) (subst (λ (s : State). AreWithin s.half.pages old.members.values) (sym state) sound.within);
   room = (let e : needed_in members.noted ≡ needed_of old = ap (λ (ms : Members). needed_in ms.noted) same in let f : free_in (state_of log) ≡ free_in (state_of (log_of old)) = ap free_in state in let g = sound.room in omega (arith, e, f, g));
   few = (let e : length members.noted ≡ length old.members.noted = ap (λ (ms : Members). length ms.noted) same in let f = sound.few in omega (arith, e, f));
+  needs = needs_all members.noted (let e : length members.noted ≡ length old.members.noted = ap (λ (ms : Members). length ms.noted) same in let f = sound.few in omega (arith, e, f));
 }
 
 pub idle_over : {D : Type 0} (tells : Type 0) (view : D → View) (old log : Log D) → IsIdle tells view old → IsSoundLog tells view log → state_of log ≡ state_of old → IsIdle tells view log
@@ -256,6 +258,7 @@ sound_forced tells view mid log sound logged state = record {
   within = subst (λ (s : State). AreWithin s.half.pages mid.members.values) (sym state) sound.within;
   room = (let f = free_forced (state_of (log_of mid)) (state_of log) state in let g = sound.room in omega (arith, f, g));
   few = sound.few;
+  needs = needs_all mid.members.noted (sound.few);
 }
 
 -- a class is committed
@@ -280,6 +283,7 @@ sound_left tells view class old log members sound live named idle commits noted 
           let f = room_after class ms values members.values sound.partition sound.limits sound.values live named (free_in (state_of (log_of old))) (free_in (state_of log)) sound.room commits.room in
           omega (arith, e, f));
       few = (let e = ap length noted in let f = length_vacated class 0 ms in let g = sound.few in omega (arith, e, f, g));
+      needs = needs_all members.noted (let e = ap length noted in let f = length_vacated class 0 ms in let g = sound.few in omega (arith, e, f, g));
     }
 
 -- a member ends
@@ -303,4 +307,5 @@ module _ {D : Type 0} (old : Classes D) (members : Members) (member : ℕ) (is :
     within = subst (AreWithin (state_of (log_of old)).half.pages) (sym values) sound.within;
     room = (let e = needed_said in let f = sound.room in omega (arith, e, f));
     few = (let e = ap length noted in let f = length-set old.members.noted member (record (noted_at old.members.noted member) { standing = Ended }) in let h = sound.few in omega (arith, e, f, h));
+    needs = needs_all members.noted (let e = ap length noted in let f = length-set old.members.noted member (record (noted_at old.members.noted member) { standing = Ended }) in let h = sound.few in omega (arith, e, f, h));
   }

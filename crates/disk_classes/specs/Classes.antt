@@ -12,7 +12,7 @@ use Rattle.disk_log.specs.Log.{disk_of, state_of, IsIdle}
 use Rattle.disk_log.specs.State.{free_in}
 use Rattle.disk_log.specs.declared.log.Log.{Log}
 use Rattle.disk_classes.specs.Joined.{Note, AreFirst, IsOf, IsPutBy, ShowsPuts, no_note, new_note}
-use Rattle.disk_classes.specs.Notes.{bytes_in, needed_in, notes_in, ArePartition, AreValues, AreWithin}
+use Rattle.disk_classes.specs.Notes.{bytes_in, needed_in, needs_below, notes_in, ArePartition, AreValues, AreWithin}
 use Rattle.disk_classes.specs.declared.classes.Classes.{Classes}
 use Rattle.disk_classes.specs.declared.fault.ClassFault.{ClassFault}
 use Rattle.disk_classes.specs.declared.fault.ClassFault.TheVariants.{Failed, Full, Memory}
@@ -42,7 +42,7 @@ abbrev pub shown : {D : Type 0} → (D → View) → Classes D → ℕ → List 
 shown view classes p = unwrap_or (value_of classes p) (page_in (contents_of view (log_of classes)) p)
 
 -- Classes that have not failed: no transaction is open in the log, and it has room for all members. As a member gets
--- the lowest number that is free, there are no more numbers than entries.
+-- the lowest number that is free, there are no more numbers than entries, and their notes tell what all need.
 pub record IsSoundClasses {D : Type 0} (tells : Type 0) (view : D → View) (classes : Classes D) : Type 0 where
   pub idle : IsIdle tells view (log_of classes)
   pub partition : ArePartition classes.members.noted
@@ -51,6 +51,7 @@ pub record IsSoundClasses {D : Type 0} (tells : Type 0) (view : D → View) (cla
   pub within : AreWithin (state_of (log_of classes)).half.pages classes.members.values
   pub room : needed_of classes ≤ free_in (state_of (log_of classes))
   pub few : length classes.members.noted ≤ 2048
+  pub needs : needed_of classes ≡ needs_below 2048 (notes_of classes)
 
 -- the same members with the same puts
 pub record SameMembers {D : Type 0} (old new : Classes D) : Type 0 where

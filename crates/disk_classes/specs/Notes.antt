@@ -1,6 +1,6 @@
 -- What is kept of members, by their numbers.
-use Rattle.std.specs.Prelude.{◌≡◌, ◌≢◌, ◌⊎◌, ◌<◌, ℕ, ◌+◌, ◌*◌, List, [], ◌∷◌, ◌++◌, length, set, sum_by, Option, Some}
-use Rattle.std.specs.Prelude.{None, Contains, ◌==◌, if◌then◌else◌, MatchOption, MatchBool}
+use Rattle.std.specs.Prelude.{◌≡◌, ◌≢◌, ◌⊎◌, ◌<◌, ℕ, zero, suc, ◌+◌, ◌*◌, List, [], ◌∷◌, ◌++◌, length, set, sum_by}
+use Rattle.std.specs.Prelude.{Option, Some, None, Contains, ◌==◌, if◌then◌else◌, MatchOption, MatchBool}
 use Rattle.std.proofs.Common.{get_or}
 use Rattle.disk_classes.specs.Joined.{Note, IsJoining, AreTogether, IsWithPage}
 use Rattle.disk_classes.specs.declared.member.Noted.{Noted}
@@ -37,6 +37,11 @@ abbrev pub entries_of : Standing → ℕ → ℕ
 entries_of Vacant limit = 0
 entries_of Open limit = 2 * limit + 1
 entries_of Ended limit = 2 * limit + 1
+
+-- and those that all members need with numbers below one
+unfoldable pub needs_below : ℕ → (ℕ → Note) → ℕ
+needs_below zero notes = 0
+needs_below (suc n) notes = needs_below n notes + entries_of (notes n).standing (notes n).limit
 
 abbrev pub needed_by : Noted → ℕ
 needed_by noted = entries_of noted.standing noted.limit

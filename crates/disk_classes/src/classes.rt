@@ -226,13 +226,16 @@ impl<D: Disk> Classes<D> {
         ensures sound { OnOk result (IsSoundClasses D.tells D.view self.new) }
         ensures ok { IfOk result (λ count. (least : List ℕ) × CommitsFirst D.tells D.view least self.old self.new
             × ((l : ℕ) → IsLeast (notes_of self.old) l → Contains least l) × (count ≡ length least)) }
+        ensures superblock { OnOk result
+            ((state_of (log_of self.new)).superblock ≡ (state_of (log_of self.old)).superblock) }
+        ensures half { OnOk result ((state_of (log_of self.new)).half ≡ (state_of (log_of self.old)).half) }
         ensures durable { OnOk result (IsSettled (D.view (disk_of (log_of self.new)))) }
         ensures none { OnOk result (last_stage (contents_of D.view (log_of self.new)) ≡ 0) }
         ensures stage { D.tells → OnOk result ((p : ℕ) → p < (state_of (log_of self.old)).half.pages
             → stage_in (contents_of D.view (log_of self.new)) 0 p
             ≡ page_in (contents_of D.view (log_of self.new)) p) }
         ensures memory { IfErr result (λ fault. fault ≡ NoRoom → IsSoundClasses D.tells D.view self.new
-            × ((least : List ℕ) × CommitsFirst D.tells D.view least self.old self.new)) }
+            × ((least : List ℕ) × Goes D.tells D.view least self.old self.new)) }
         ensures crash { D.tells → LeavesOnly (IsLeftBy D.view self.old)
             (D.view (disk_of (log_of self.old))) (D.view (disk_of (log_of self.new))) }
         ensures counted { (D.view (disk_of (log_of self.old))).faults ≤ (D.view (disk_of (log_of self.new))).faults }

@@ -1,3 +1,4 @@
+use Rattle.disk_classes.proofs.Counting.{needs_all}
 use Rattle.std.proofs.Common.{ap, subst, arith}
 use Rattle.disk_classes.specs.Notes.{needed_in, IsPlaced}
 use Rattle.disk_classes.specs.declared.member.Noted.{Noted as Kept}
@@ -22,6 +23,7 @@ returns-clause-sound g c =
       within = c.requires.sound.within;
       room = (let e = needed_begun ms now number c.args.pages part none placed in let f = ap needed_in c.as_slice.ensures in let free = c.free-free.ensures in omega (arith, e, f, free));
       few = few_begun ms now number c.args.pages lowest placed c.requires.sound.few (let f = ap needed_in c.as_slice.ensures in let free = c.free-free.ensures in omega (arith, f, free));
+      needs = needs_all now (few_begun ms now number c.args.pages lowest placed c.requires.sound.few (let f = ap needed_in c.as_slice.ensures in let free = c.free-free.ensures in omega (arith, f, free)));
     }
 
 pub returns-clause-begun : goal.returns-clause-begun

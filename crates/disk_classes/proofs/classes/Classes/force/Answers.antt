@@ -1,3 +1,5 @@
+use Rattle.std.proofs.Common.{◌∙◌, ap}
+use Rattle.disk_log.specs.State.{State}
 use Rattle.std.proofs.lemmas.Result.{err_from_is_err_and}
 use Rattle.base_outside.proofs.Runs.{quiet}
 use Rattle.disk_log.specs.Log.{state_of}
@@ -9,7 +11,7 @@ use Rattle.disk_classes.proofs.classes.Classes.force.Goals as goal
 pub returns-in_err-count-clause-memory : goal.returns-in_err-count-clause-memory
 returns-in_err-count-clause-memory g c =
     let p = err_from_is_err_and c.from_residual.result c.from_residual.ensures.1 in
-    rw p.1 (λ is. (c.commit_ended.ensures.sound, (c.in_err-count.ensures.err.0, c.in_err-count.ensures.err.1.commits)))
+    rw p.1 (λ is. (c.commit_ended.ensures.sound, c.in_err-count.ensures.err))
 
 pub returns-in_err-count-clause-crash : goal.returns-in_err-count-clause-crash
 returns-in_err-count-clause-crash g c = λ told. quiet _ c.commit_ended.ensures.quiet
@@ -51,3 +53,9 @@ returns-clause-stage g c = λ told.
 pub returns-clause-crash : goal.returns-clause-crash
 returns-clause-crash g c = λ told.
     crash_forced _ _ c.args.self.now c.commit_ended.new.self c.in_ok-count.ensures.ok.0 c.in_ok-count.ensures.ok.1 c.commit_ended.ensures.quiet _ told (c.force.ensures.crash told)
+
+pub returns-clause-superblock : goal.returns-clause-superblock
+returns-clause-superblock g c = ap (λ (s : State). s.superblock) c.in_ok-force.ensures.state ∙ c.in_ok-count.ensures.ok.1.superblock
+
+pub returns-clause-half : goal.returns-clause-half
+returns-clause-half g c = ap (λ (s : State). s.half) c.in_ok-force.ensures.state ∙ c.in_ok-count.ensures.ok.1.half

@@ -1,3 +1,4 @@
+use Rattle.disk_classes.proofs.Counting.{needs_all}
 use Rattle.std.proofs.Common.{◌≤◌, sym, ap, subst, arith, length, List}
 use Rattle.std.proofs.lemmas.Result.{err_from_is_err_and}
 use Rattle.disk_classes.specs.Notes.{notes_in, bytes_in}
@@ -18,6 +19,7 @@ returns-in_err-put-clause-sound g c = record {
   within = c.put.ensures.within _ c.requires.page c.requires.sound.within;
   room = (let e = c.put.ensures.needed in let f = c.requires.sound.room in omega (arith, e, f));
   few = (let e = c.put.ensures.size in let f = c.requires.sound.few in omega (arith, e, f));
+  needs = needs_all c.put.new.self.noted (let e = c.put.ensures.size in let f = c.requires.sound.few in omega (arith, e, f));
 }
 
 pub returns-in_err-put-clause-err : goal.returns-in_err-put-clause-err
@@ -38,4 +40,5 @@ returns-clause-sound g c = record {
   within = c.put.ensures.within _ c.requires.page c.requires.sound.within;
   room = (let e = c.put.ensures.needed in let f = c.requires.sound.room in omega (arith, e, f));
   few = (let e = c.put.ensures.size in let f = c.requires.sound.few in omega (arith, e, f));
+  needs = needs_all c.put.new.self.noted (let e = c.put.ensures.size in let f = c.requires.sound.few in omega (arith, e, f));
 }
