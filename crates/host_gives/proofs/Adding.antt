@@ -1,5 +1,6 @@
 -- The laws of give-backs.
-use Rattle.std.proofs.Common.{◌≡◌, ◌≤◌, ℕ, ◌+◌, Bool, true, false, ◌==◌, ◌&&◌, ◌||◌, not, cond, List, [], ◌∷◌, ◌++◌, take, drop, map, Option, None, Some, refl, sym, ap, subst, ◌∙◌, arith, rules}
+use Rattle.std.proofs.Common.{◌≡◌, ◌≤◌, ℕ, ◌+◌, Bool, true, false, ◌==◌, ◌&&◌, ◌||◌, not, cond, List, [], ◌∷◌, ◌++◌}
+use Rattle.std.proofs.Common.{take, drop, map, Option, None, Some, refl, sym, ap, subst, ◌∙◌, arith, rules}
 use Rattle.std.specs.List.{list_any, find, before_first, after_first}
 use Rattle.std.specs.Option.{option_map_or}
 use Rattle.std.specs.List.{filter}
@@ -60,7 +61,8 @@ module _ {X : Type 0} (p r : X → Bool) where
   first_same (x ∷ xs) h = by_test (λ g. first_same xs g) (p x) refl
     where
       by_test : (option_map_or r (find p xs) false ≡ true →
-          (find both xs ≡ find p xs) × (place both xs ≡ place p xs)) → (b : Bool) → p x ≡ b → (find both (x ∷ xs) ≡ find p (x ∷ xs)) × (place both (x ∷ xs) ≡ place p (x ∷ xs))
+          (find both xs ≡ find p xs) × (place both xs ≡ place p xs)) → (b : Bool) → p x ≡ b →
+          (find both (x ∷ xs) ≡ find p (x ∷ xs)) × (place both (x ∷ xs) ≡ place p (x ∷ xs))
       by_test again true e =
           let passes : r x ≡ true =
           subst (λ t. option_map_or r (cond t (Some x) (find p xs)) false ≡ true) e h in
@@ -176,7 +178,8 @@ takes_any giving fileset number =
             ∙ sym (ap (λ t. record giving { gives = cond t (without_first fileset giving.gives) giving.gives }) h),
       );
       is_open = λ sound other n. by_test sound other n (fileset.0 == other.0) refl (number == n) refl;
-      others = λ other apart. others_left (is_numbered fileset number) (is_of other) (of_others other apart) giving.gives;
+      others = λ other apart.
+          others_left (is_numbered fileset number) (is_of other) (of_others other apart) giving.gives;
       last = refl;
     }
   where

@@ -111,7 +111,8 @@ module _ (script : Script) (m : Tables) (past : List Step) (s : Step) (learnt : 
       where
         of_file : (need : Need) → IsLack m c.call need → IsOfFile (held_of m) (content m.cache) need
         of_file need l =
-            let same : so.need ≡ need = (lacks_are_first (held_of m) (needs_from m c.call)).one so.need need so.lack l in
+            let same : so.need ≡ need = (lacks_are_first (held_of m) (needs_from m c.call)).one so.need need
+            so.lack l in
             let at : f.fid ≡ need.fid = sym so.file ∙ ap (λ (x : Need). x.fid) same in (
               subst (λ (x : Fid). Covers (held_of m) (record { fid = x; kind = Status false })) at covers,
               λ d. plain d.0 (ap (λ (x : Fid). content m.cache x Traits) at ∙ d.1) d.2,

@@ -75,7 +75,8 @@ module _ (script : Script) (m : Tables) (past : List Step) (stands : Stands scri
       quiet = learning_of.teaches_nothing past s tt
 
       learnt : Stands script m (half s ∷ past)
-      learnt = learning_of.unmoved m.host (LineOf line) past (learning_of.teaches_nothing past (half s) tt) script m refl
+      learnt = learning_of.unmoved m.host (LineOf line) past (learning_of.teaches_nothing past (half s) tt)
+          script m refl
           stands
 
       none_open : NoneOpen past

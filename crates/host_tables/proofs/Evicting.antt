@@ -171,7 +171,8 @@ module _ (script : Script) (m : Tables) (past : List Step) (h : Held) (cache : K
           r.2,
           r.1,
           λ u i.
-              let x = in_map (λ (x : Held). x.token) idle u (r.3 u i) in let f = in_filter is_idle m.cache.held x.0 x.1 in
+              let x = in_map (λ (x : Held). x.token) idle u (r.3 u i) in let f =
+              in_filter is_idle m.cache.held x.0 x.1 in
               subst (IsUnused past) (sym x.2) (idle_of x.0 f.0 f.1),
         ),
       )
@@ -464,6 +465,7 @@ module _ (script : Script) (m : Tables) (past : List Step) (h : Held) (cache : K
       ends = learnt.leaving.ends;
       ended = learnt.leaving.ended;
       one = learnt.leaving.one;
+      uses = learnt.leaving.uses;
     };
     floors = refl;
     site_epoch = λ v. refl;

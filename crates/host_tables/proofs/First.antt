@@ -119,6 +119,7 @@ module _ (script : Script) (host : HostId) (user : User) (limit : ℕ) (cache : 
       ends = λ u e. absurd (cc);
       ended = λ u g b. elim b [ ];
       one = λ g k a b x. elim x [ ];
+      uses = λ g a x. elim x [ ];
     };
     floors = record { above = λ fid x a. a; floor = λ fid x a. a };
     sites = λ v. subst (λ (site : Site). SiteStands site v []) (sym (unknown v)) (record {

@@ -409,7 +409,8 @@ module _ (script : Script) (m : Tables) (past : List Step) (server : ServerId) (
         z.0,
         z.2,
         of_file z.0
-            (subst (λ (c : Body). option_map_or (λ (give : Give). same_fid give.fid d.bring.fid) (given_in c) false ≡ true)
+            (subst (λ (c : Body). option_map_or (λ (give : Give). same_fid give.fid d.bring.fid)
+            (given_in c) false ≡ true)
             z.1 t),
         z.3,
       )))

@@ -394,6 +394,7 @@ module _ (script : Script) (m new : Tables) (past : List Step) (server : ServerI
     );
     ends = λ u e. let r = stands.leaving.ends u e in (r.0, (r.1.0, inr r.1.1, λ k. r.1.2 (known_before r.1.0 k)));
     ended = λ u x h unknown. stands.leaving.ended u x (ended_before x u h) (λ q. unknown (inr q));
+    uses = λ x a y p u. let r = stands.leaving.uses x a (made_before x y) p (λ i. u (inr i)) in (r.0, inr r.1);
     one = λ x k a b y z p q u w. stands.leaving.one x k a b (made_before x y) (made_before k z) p q
         (λ i. u (inr i)) (λ i. w (inr i));
   }

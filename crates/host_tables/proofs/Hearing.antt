@@ -275,7 +275,8 @@ module _ (script : Script) (m : Tables) (past : List Step) (cause : Cause) (numb
                 r.1.0,
                 inr r.1.1,
                 λ q. elim q [
-                  | inl l ↦ (let h = ended_gives past r.1.0 u r.1.1 in k.1 r.1.0 h.1.0 (is_learnt r.1.0 h.0 r.1.2 l) h.1.1)
+                  | inl l ↦ (let h = ended_gives past r.1.0 u r.1.1 in
+                      k.1 r.1.0 h.1.0 (is_learnt r.1.0 h.0 r.1.2 l) h.1.1)
                   | inr q ↦ r.1.2 q
                 ],
               ),
@@ -295,6 +296,7 @@ module _ (script : Script) (m : Tables) (past : List Step) (cause : Cause) (numb
                 unknown (inl (subst (λ (y : Give). Learns past t (number_of y)) same l.2))
                 )
           ];
+      uses = λ g a mg p ug. let r = stands.leaving.uses g a (made_before g mg) p (λ z. ug (inr z)) in (r.0, inr r.1);
       one = λ g k a b mg mk p q ug uk. stands.leaving.one g k a b (made_before g mg) (made_before k mk) p q
           (λ z. ug (inr z)) (λ z. uk (inr z));
     }

@@ -290,6 +290,7 @@ module _ (host : HostId) (cause : Cause) (past : List Step) where
       );
       ends = λ u e. let r = stands.ends u e in (r.0, (r.1.0, inr r.1.1, λ k. r.1.2 (known_before r.1.0 k)));
       ended = λ u g h unknown. stands.ended u g (ended_before g u h) (λ k. unknown (inr k));
+      uses = λ g a x p u. let r = stands.uses g a (made_before g x) p (λ z. u (inr z)) in (r.0, inr r.1);
       one = λ g k a b x y p q u w. stands.one g k a b (made_before g x) (made_before k y) p q
           (λ z. u (inr z)) (λ z. w (inr z));
     }

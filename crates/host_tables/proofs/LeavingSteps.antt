@@ -36,7 +36,7 @@ use Rattle.run_rules.specs.declared.applied.Answer.{Answer as AnswerOf}
 use Rattle.run_rules.specs.declared.step.Labelled.{Labelled}
 use Rattle.run_rules.specs.declared.step.Step.{Step}
 use Rattle.script_lines.specs.declared.script.Script.{Script}
-use Rattle.std.proofs.Common.{Bool, List, Option, Some, [], ap, arith, false, if◌then◌else◌, inl, inr, not, refl}
+use Rattle.std.proofs.Common.{None, Bool, List, Option, Some, [], ap, arith, false, if◌then◌else◌, inl, inr, not, refl}
 use Rattle.std.proofs.Common.{subst, sym, true, ℕ, ◌&&◌, ◌++◌, ◌||◌, ◌∙◌, ◌∷◌, ◌≡◌, ◌≤◌, ◌⊎◌}
 use Rattle.std.specs.List.{list_any}
 use Rattle.std.specs.Option.{option_map_or}
@@ -221,8 +221,15 @@ module _ (script : Script) (m : Tables) (l : Left) (x : Moved) (past : List Step
   ended_half : (g : Give) (u : Labelled) → HasEndedUse past g u → HasEndedUse (half s ∷ past) g u
   ended_half g u h = inr h
 
+  -- none that ends a call is on its way, where no label is being ended
+  none_before : m.ending ≡ None → (k : Give) (a : Ends) → Made past k → k.ends ≡ Some a
+      → (IsKnown (half s ∷ past) k → ⊥) → ⊥
+  none_before idle k a made p fresh =
+      let r = learnt.leaving.uses k a (inr made) p fresh in
+      let q = sym idle ∙ learnt.leaving.ended r.0 k r.1 fresh in absurd (cc)
+
   leaving : LeavingStands l.leaving l.ending (s ∷ past)
-  leaving = record { tokens = tokens; from = from; ends = ends; ended = ended; one = one }
+  leaving = record { tokens = tokens; from = from; ends = ends; ended = ended; one = one; uses = uses }
     where
       tokens : (g : Give) (i : TokenId) → Made (s ∷ past) g → In i g.ids → (IsKnown (s ∷ past) g → ⊥)
           → (y : Leaving) × In y l.leaving × (y.token.id ≡ i) × (y.fileset ≡ g.fid.fileset) × (y.number ≡ g.number)
@@ -260,7 +267,7 @@ module _ (script : Script) (m : Tables) (l : Left) (x : Moved) (past : List Step
             let r = learnt.leaving.ends u (sym same ∙ e) in
             (r.0, (r.1.0, elim r.1.1 [ inl z ↦ elim z.0 [ ] | inr z ↦ inr z ], r.1.2))
             )
-        | EndsOne g w made only used gives_it its known idle now ↦ (
+        | EndsOne g w made only used gives_it its idle now ↦ (
             let p : Some w ≡ Some u = sym now ∙ e in
             let q : w ≡ u = cc in
             subst (λ (z : Labelled). IsUseKind z.token.kind × ((k : Give) × HasEndedUse (s ∷ past) k z
@@ -274,14 +281,24 @@ module _ (script : Script) (m : Tables) (l : Left) (x : Moved) (past : List Step
       ended : (u : Labelled) (g : Give) → HasEndedUse (s ∷ past) g u → (IsKnown (s ∷ past) g → ⊥) → l.ending ≡ Some u
       ended u g (inl z) fresh = elim right.ends [
         | EndsNone none same ↦ absurd (none g z.2.0 z.0 z.2.1)
-        | EndsOne k w made only used gives_it its known idle now ↦
+        | EndsOne k w made only used gives_it its idle now ↦
             now ∙ ap Some (sym (its u z.1 (subst (λ (y : Give). GivesUse y u) (sym (only g z.0)) z.2)))
       ]
       ended u g (inr z) fresh = elim right.ends [
         | EndsNone none same ↦ same ∙ learnt.leaving.ended u g (inr z) fresh
-        | EndsOne k w made only used gives_it its known idle now ↦
-            absurd (let r = hearing_of.ended_gives past g u z in fresh (known g r.1.0 r.0 r.1.1))
+        | EndsOne k w made only used gives_it its idle now ↦
+            absurd (let r = hearing_of.ended_gives past g u z in none_before idle g r.1.0 r.0 r.1.1 fresh)
       ]
+
+      uses : (g : Give) (a : Ends) → Made (s ∷ past) g → g.ends ≡ Some a → (IsKnown (s ∷ past) g → ⊥)
+          → (u : Labelled) × HasEndedUse (s ∷ past) g u
+      uses g a (inl i) p fresh = elim right.ends [
+        | EndsNone none same ↦ absurd (none g a i p)
+        | EndsOne k w made only used gives_it its idle now ↦
+            (w, inl (i, used, subst (λ (y : Give). GivesUse y w) (only g i) gives_it))
+      ]
+      uses g a (inr i) p fresh = let r = learnt.leaving.uses g a (inr i) p fresh in
+          (r.0, elim r.1 [ inl z ↦ elim z.0 [ ] | inr z ↦ inr z ])
 
       one : (g k : Give) (a b : Ends) → Made (s ∷ past) g → Made (s ∷ past) k → g.ends ≡ Some a → k.ends ≡ Some b
           → (IsKnown (s ∷ past) g → ⊥) → (IsKnown (s ∷ past) k → ⊥) → g ≡ k
@@ -294,9 +311,9 @@ module _ (script : Script) (m : Tables) (l : Left) (x : Moved) (past : List Step
                 (inr j) p q ug uk
           ]
         ]
-        | EndsOne y w made only used gives_it its known idle now ↦ elim mg [
-          | inl i ↦ elim mk [ inl j ↦ sym (only g i) ∙ only k j | inr j ↦ absurd (uk (known k b j q)) ]
-          | inr i ↦ absurd (ug (known g a i p))
+        | EndsOne y w made only used gives_it its idle now ↦ elim mg [
+          | inl i ↦ elim mk [ inl j ↦ sym (only g i) ∙ only k j | inr j ↦ absurd (none_before idle k b j q uk) ]
+          | inr i ↦ absurd (none_before idle g a i p ug)
         ]
       ]
 

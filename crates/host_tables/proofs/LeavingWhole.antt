@@ -92,7 +92,7 @@ module _ (script : Script) (m : Tables) (l : Left) (past : List Step) (s : Step)
     (learnt : Stands script m (half s ∷ past))
     (right : LeavesRight m l past s) (gives : GivesBack m past s (tokens_of l.cache.held)) where
   -- what is made now isn't known
-  unknown : (g : Give) → In g s.made → IsKnown (s ∷ past) g → ⊥
+  pub unknown : (g : Give) → In g s.made → IsKnown (s ∷ past) g → ⊥
   unknown g i k =
       let r : (y : Give) × Made past y × (number_of y ≡ number_of g) =
       elim k [ inl e ↦ e.0 | inr e ↦ leaving_of.known_made past (number_of g) e ] in

@@ -13,7 +13,6 @@ pub mod Giving
 pub mod Letting
 pub mod Plain
 pub mod Fetching
-pub mod Updating
 pub mod AtOnce
 pub mod Ending
 pub mod Passing
@@ -25,9 +24,6 @@ pub mod Replied
 pub mod AsksByLine
 pub mod Evicting
 pub mod GrantSteps
-pub mod Lapse
-pub mod Revoked
-pub mod Synced
 pub mod Hearing
 pub mod HearingParts
 pub mod Heeding
@@ -40,3 +36,10 @@ pub mod AskingNew
 pub mod WholeSteps
 pub mod LeavingSteps
 pub mod LeavingWhole
+pub mod Closing
+pub mod CallGives
+pub mod AnswerSteps
+pub mod RevokeSteps
+pub mod Updating
+pub mod Tidy
+pub mod Resting

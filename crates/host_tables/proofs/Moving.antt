@@ -422,7 +422,8 @@ module _ (script : Script) (m : Tables) (past : List Step) (s : Step) (learnt : 
           (λ i. (sym from.own i, sym from.user i)) (sym (answered.verdict_is script m past s learnt c.call covered)
           ∙ verdict),
       subst (λ (q : List Token × Own × User). IsCovered q.0 (sees past s) (call_look q.1 m.host q.2 c.call))
-          (λ i. (sym from.kept i, sym from.own i, sym from.user i)) (answered.covered_there script m past s learnt c.call
+          (λ i. (sym from.kept i, sym from.own i, sym from.user i))
+          (answered.covered_there script m past s learnt c.call
           covered),
       fid,
     )
@@ -430,7 +431,8 @@ module _ (script : Script) (m : Tables) (past : List Step) (s : Step) (learnt : 
       need,
       subst (λ (q : List Token × Own × User). IsFirstLack q.0 (needs_of (sees past s) (call_look q.1 m.host q.2 c.call))
           need)
-          (λ i. (sym from.kept i, sym from.own i, sym from.user i)) (answered.lack_there script m past s learnt c.call need
+          (λ i. (sym from.kept i, sym from.own i, sym from.user i))
+          (answered.lack_there script m past s learnt c.call need
           lack),
       kind,
       fid,

@@ -133,6 +133,7 @@ module _ (script : Script) (m : Tables) (x : Moved) (past : List Step) (s : Step
         (r.0, (r.1.0, half_made r.1.0 r.1.1, r.1.2, r.1.3, r.1.4, r.1.5, r.1.6));
     ends = λ u e. let r = learnt.leaving.ends u e in (r.0, (r.1.0, half_ended r.1.0 u r.1.1, r.1.2));
     ended = λ u g h. learnt.leaving.ended u g (ended_half g u h);
+    uses = λ g a y p u. let r = learnt.leaving.uses g a (made_half g y) p u in (r.0, half_ended g r.0 r.1);
     one = λ g k a b x y. learnt.leaving.one g k a b (made_half g x) (made_half k y);
   }
 

@@ -209,6 +209,7 @@ module _ (script : Script) (m : Tables) (past : List Step) (line : ℕ) (call : 
       ends = learnt.leaving.ends;
       ended = learnt.leaving.ended;
       one = learnt.leaving.one;
+      uses = learnt.leaving.uses;
     };
     floors = refl;
     site_epoch = λ v. refl;

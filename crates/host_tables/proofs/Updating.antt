@@ -1,5 +1,7 @@
 -- Tables that change: at the place of an entry, or at the end; and what is read of them afterwards.
-use Rattle.std.proofs.Common.{◌≡◌, ◌≤◌, ◌<◌, ℕ, zero, suc, ◌+◌, ◌/◌, ◌%◌, Bool, true, false, ◌==◌, ◌&&◌, ◌||◌, not, cond, List, [], ◌∷◌, ◌++◌, length, map, Option, Some, None, unwrap_or, refl, sym, ap, subst, ◌∙◌, arith, rules}
+use Rattle.std.proofs.Common.{◌≡◌, ◌≤◌, ◌<◌, ℕ, zero, suc, ◌+◌, ◌/◌, ◌%◌, Bool, true, false, ◌==◌, ◌&&◌, ◌||◌, not}
+use Rattle.std.proofs.Common.{cond, List, [], ◌∷◌, ◌++◌, length, map, Option, Some, None, unwrap_or, refl, sym, ap}
+use Rattle.std.proofs.Common.{subst, ◌∙◌, arith, rules}
 use Rattle.std.specs.Prelude.{slice_set}
 use Rattle.std.specs.List.{find, list_any, position}
 use Rattle.std.specs.Option.{option_map, option_map_or}
@@ -88,7 +90,8 @@ module _ {A : Type 0} (p q : A → Bool) (new : A) (same : (x : A) → p x ≡ t
   find_put [] = refl
   find_put (x ∷ xs) = by_test (find_put xs) (p x) refl (q new) refl
     where
-      by_test : find q (put_by p new xs) ≡ cond (q new) (Some new) (find q xs) → (b : Bool) → p x ≡ b → (t : Bool) → q new ≡ t →
+      by_test : find q (put_by p new xs) ≡ cond (q new) (Some new) (find q xs) →
+          (b : Bool) → p x ≡ b → (t : Bool) → q new ≡ t →
           find q (cond b (new ∷ xs) (x ∷ put_by p new xs)) ≡ cond t (Some new) (find q (x ∷ xs))
       by_test rest true e true k = ap (λ t. cond t (Some new) (find q xs)) k
       by_test rest true e false k =
@@ -109,7 +112,8 @@ module _ {A : Type 0} (p q : A → Bool) (new : A) (same : (x : A) → p x ≡ t
       no_more false = refl
   find_set (x ∷ xs) = by_test (find_set xs) (p x) refl (q new) refl
     where
-      by_test : find q (set_by p new xs) ≡ cond (q new && list_any p xs) (Some new) (find q xs) → (b : Bool) → p x ≡ b → (t : Bool) → q new ≡ t →
+      by_test : find q (set_by p new xs) ≡ cond (q new && list_any p xs) (Some new) (find q xs) →
+          (b : Bool) → p x ≡ b → (t : Bool) → q new ≡ t →
           find q (cond b (new ∷ xs) (x ∷ set_by p new xs))
           ≡ cond (t && (b || list_any p xs)) (Some new) (find q (x ∷ xs))
       by_test rest true e true k = ap (λ t. cond t (Some new) (find q xs)) k

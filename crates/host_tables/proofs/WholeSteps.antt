@@ -9,20 +9,21 @@ use Rattle.host_tables.proofs.Saying.{again_may}
 use Rattle.host_tables.specs.AsksByLine.{begun_call}
 use Rattle.host_tables.specs.AtOnce.{IsFree, IsNextCall}
 use Rattle.host_tables.specs.Causes.{CauseMay}
-use Rattle.host_tables.specs.Half.{half}
+use Rattle.host_tables.specs.Half.{half, learning}
 use Rattle.host_tables.specs.Lapsing.{lapses}
 use Rattle.host_tables.specs.Learning.{TeachesNothing}
 use Rattle.host_tables.specs.Machine.{Rests, StepRight}
 use Rattle.host_tables.specs.Moving.{IsNoRequest}
 use Rattle.host_tables.specs.Quiet.{IsQuiet, Moved, MovesRight, with_moved}
-use Rattle.host_tables.specs.Saying.{SaysAgain}
+use Rattle.host_tables.specs.Saying.{IsFirst, SaysAgain}
 use Rattle.host_tables.specs.Saying.SaysAgain.{OfBye, OfChange, OfClaim, OfFetch, OfGive, OfHello}
 use Rattle.host_tables.specs.Stands.{GivesStand, IsAtRest, IsDirtyFrom, IsWaiting, LostStands, NumbersStand}
 use Rattle.host_tables.specs.Stands.{PartedStands, RequestStands, Stands}
 use Rattle.host_tables.specs.Stands.IsWaiting.{ForDone, ForFile, ForGone, ForGrant, ForNeed, ForQuestion}
 use Rattle.host_tables.specs.Tables.{held_of, site_at}
-use Rattle.host_tables.specs.WholeSteps.{BeginsOpen, ByMessage, LapseRight, LineBeginsRight, MessageRight}
-use Rattle.host_tables.specs.WholeSteps.{RepeatsFrom, RestStays, SentMay, SitesMove, begins_line, moved_of}
+use Rattle.host_tables.specs.WholeSteps.{BeginsOpen, ByMessage, HeardRight, LapseRight, LineBeginsRight, MessageRight}
+use Rattle.host_tables.specs.WholeSteps.{RepeatsFrom, RestStays, SentMay, SitesMove, TakesRight, begins_line}
+use Rattle.host_tables.specs.WholeSteps.{hears_says, moved_of}
 use Rattle.host_tables.specs.declared.calls.Request.TheVariants.{Change as AChange, Fetch as AFetch}
 use Rattle.host_tables.specs.declared.tables.Tables.{Tables}
 use Rattle.message_types.specs.declared.asking.Change.{Change as ChangeOf}
@@ -37,7 +38,8 @@ use Rattle.need_host.specs.Questions.{Question}
 use Rattle.need_host.specs.Questions.Question.{ChangeAt, ChangeIn, EnterAt}
 use Rattle.run_rules.specs.HostAsks.{HasLost}
 use Rattle.run_rules.specs.HostMay.{ClaimsAt, DoesLine, LearnsRestart}
-use Rattle.run_rules.specs.Messages.{HasGreeted, HasKeptToken, HasSaid, IsWelcome, ReturnsToken, Sends, home}
+use Rattle.run_rules.specs.Messages.{HasGreeted, HasKeptToken, HasSaid, IsWelcome, ReturnsToken, Sends, SendsTo, home}
+use Rattle.run_rules.specs.Messages.{stay_of}
 use Rattle.run_rules.specs.Past.{In}
 use Rattle.run_rules.specs.Steps.{servers_of}
 use Rattle.run_rules.specs.Tokens.{BeginsCall, FreesPinned, IsKnown, IsOutstanding, LabelInUse, Made, NoneOpen, Owns}
@@ -387,7 +389,8 @@ module _ (script : Script) (m : Tables) (past : List Step) (sent : List Message)
       (λ e. inl e),
       λ z. elim z [
         | inl e ↦ e
-        | inr p ↦ subst (λ (w : ServerId). (site_at m.sites w).greeted ≡ true) p.2.2 ((repeats p.2.0 p.2.1).greeted p.2.5)
+        | inr p ↦ subst (λ (w : ServerId). (site_at m.sites w).greeted ≡ true) p.2.2
+            ((repeats p.2.0 p.2.1).greeted p.2.5)
       ],
     );
     said_bye = λ v. (
@@ -452,6 +455,99 @@ module _ (script : Script) (m : Tables) (past : List Step) (sent : List Message)
 
 pub lapse_right : LapseRight
 lapse_right script m past sent rests repeats = lapsed script m past sent rests repeats
+
+-- # By a message, after which only what is outstanding is said again
+
+module _ (script : Script) (old m : Tables) (past : List Step) (message : Message) (taken : List Token)
+    (sent : List Message) (before : Stands script old past) (same : old.host ≡ m.host)
+    (learnt : Stands script m (learning m.host (Came message) taken ∷ past))
+    (takes : TakesRight past (hears_says m.host message taken sent))
+    (repeats : (y : Message) → In y sent → RepeatsFrom m past (hears_says m.host message taken sent) y)
+    (none_claimed : (y : Message) → In y sent → (c : ReclaimOf) → y.body ≡ Reclaim c → ⊥) where
+  abbrev hs : Step
+  hs = hears_says m.host message taken sent
+
+  abbrev x_h : Moved
+  x_h = moved_of m
+
+  why_h : (v : ServerId) (e n : ℕ) (b : Body) → Sends hs v e n b → SaysAgain m x_h past hs v b
+  why_h v e n b p = subst (λ (q : ServerId × Body). SaysAgain m x_h past hs q.0 q.1) (λ i. (p.2 i, p.5 i))
+      (repeats p.0 p.1).why
+
+  again_h : (v : ServerId) (e n : ℕ) (b : Body) → Sends hs v e n b → IsAgain b
+  again_h v e n b p = again_body m x_h past hs v b (why_h v e n b p)
+
+  quiet_h : IsQuiet hs
+  quiet_h = record {
+    answers = refl;
+    wrote = refl;
+    begun = refl;
+    made = refl;
+    dropped = refl;
+    keeps = λ i k. again_h k.0 k.1 k.2 (KeptBody k.3) k.4;
+    no_stop = λ k. again_h k.0 k.1 k.2 Down k.3;
+  }
+
+  no_claim_h : (v : ServerId) → ClaimsAt hs v → ⊥
+  no_claim_h v c = none_claimed c.3.0 c.3.1 c.2 c.3.5
+
+  sites_h : SitesMove m x_h past hs
+  sites_h = record {
+    epoch = λ v. refl;
+    welcome = λ v. refl;
+    has_bye = λ v. refl;
+    greeted = λ v. (
+      (λ e. inl e),
+      λ z. elim z [
+        | inl e ↦ e
+        | inr p ↦ subst (λ (w : ServerId). (site_at m.sites w).greeted ≡ true) p.2.2
+            ((repeats p.2.0 p.2.1).greeted p.2.5)
+      ],
+    );
+    said_bye = λ v. (
+      (λ e. inl e),
+      λ z. elim z [
+        | inl e ↦ e
+        | inr p ↦ again_bye m x_h past hs v Bye (why_h v p.0 p.1 Bye p.2) refl
+      ],
+    );
+    claimed = λ v. ((λ e. inl e), λ z. elim z [ inl e ↦ e | inr p ↦ absurd (no_claim_h v p) ]);
+    claims_apart = λ v a p c. absurd (no_claim_h v p);
+    bye_again = λ v p. again_bye m x_h past hs v Bye (why_h v p.0 p.1 Bye p.2) refl;
+    bye_idle = λ v e. (learnt.parted v ((learnt.sites v).said_bye.0 e)).none_asked;
+  }
+
+  requests_h : RequestStands m.request (hs ∷ past) × NumbersStand m.fetched m.changed (hs ∷ past)
+  requests_h = request_moves_right script m past hs learnt
+      (record { only = λ y i. again_new m x_h past hs y.server y.body (repeats y i).why })
+
+  moves_h : MovesRight m x_h past hs
+  moves_h = moves_stay script m x_h past hs learnt quiet_h sites_h requests_h.0 requests_h.1 refl refl refl refl
+
+  module _ (due : (g : Give) → IsFirst m.gives g → (IsFirst old.gives g → ⊥)
+      → SendsTo hs (stay_of (hs ∷ past) g.fid.fileset) (GiveBack g)) where
+    by_h : ByMessage old m x_h past hs message
+    by_h = record {
+      cause = refl;
+      asked = refl;
+      applies_none = (refl, refl, refl);
+      call = refl;
+      begun = refl;
+      lost = refl;
+      takes = takes.takes;
+      takes_all = takes.takes_all;
+      due = due;
+    }
+
+    pub heard : IsAtRest m (hs ∷ past) → StepRight script old m past hs
+    heard rest = message_right script old m x_h past hs message before same learnt quiet_h by_h sites_h requests_h.0
+        requests_h.1 (λ t i r. again_h r.0 r.1 r.2 (Returned r.3) r.4)
+        (λ stance from y i. let r = repeats y i in
+        again_may script m x_h past hs learnt quiet_h moves_h stance from y r.epoch r.no_moves r.why) rest
+
+pub heard_right : HeardRight
+heard_right script old m past message taken sent before same learnt takes repeats none_claimed due rest =
+    heard script old m past message taken sent before same learnt takes repeats none_claimed due rest
 
 -- # A line begins a call
 

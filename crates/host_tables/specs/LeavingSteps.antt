@@ -29,7 +29,7 @@ use Rattle.run_rules.specs.HostMay.{HostMay}
 use Rattle.run_rules.specs.HostTokens.{OwnsUpdate}
 use Rattle.run_rules.specs.Messages.{KeepsToken, Stops}
 use Rattle.run_rules.specs.Past.{In}
-use Rattle.run_rules.specs.Tokens.{GivesUse, IsKnown, LabelInUse, Made}
+use Rattle.run_rules.specs.Tokens.{GivesUse, LabelInUse}
 use Rattle.run_rules.specs.Views.{HasLength, gives_at, is_dirty}
 use Rattle.run_rules.specs.declared.step.Labelled.{Labelled}
 use Rattle.run_rules.specs.declared.step.Step.{Step}
@@ -76,7 +76,6 @@ pub data EndsBy (m : Tables) (l : Left) (past : List Step) (s : Step) : Type 0 w
   EndsOne : (g : Give) (u : Labelled) → In g s.made → ((k : Give) → In k s.made → g ≡ k) → LabelInUse past u
       → GivesUse g u
       → ((w : Labelled) → LabelInUse past w → GivesUse g w → w ≡ u)
-      → ((k : Give) (ends : Ends) → Made past k → k.ends ≡ Some ends → IsKnown (half s ∷ past) k)
       → m.ending ≡ None → l.ending ≡ Some u → EndsBy m l past s
 
 -- that is what the step makes of them

@@ -14,9 +14,6 @@ pub mod Giving
 pub mod Letting
 pub mod Plain
 pub mod Asking
-pub mod Updates
-pub mod Drafts
-pub mod UpdateLaws
 pub mod AtOnce
 pub mod Writing
 pub mod Dropping
@@ -28,7 +25,6 @@ pub mod Evicting
 pub mod GrantSteps
 pub mod Lapsing
 pub mod Revoking
-pub mod Syncing
 pub mod Hearing
 pub mod Heeding
 pub mod HeardDone
@@ -39,3 +35,12 @@ pub mod Moving
 pub mod WholeSteps
 pub mod LeavingSteps
 pub mod LeavingWhole
+pub mod Closing
+pub mod CallGives
+pub mod AnswerSteps
+pub mod RevokeSteps
+pub mod Drafts
+pub mod Updates
+pub mod UpdateLaws
+pub mod Tidy
+pub mod Resting

@@ -159,6 +159,9 @@ pub record LeavingStands (leaving : List Leaving) (ending : Option Labelled) (pa
   -- one of them alone ends a call
   pub one : (g k : Give) (a b : Ends) → Made past g → Made past k → g.ends ≡ Some a → k.ends ≡ Some b
       → (IsKnown past g → ⊥) → (IsKnown past k → ⊥) → g ≡ k
+  -- and it ended the use of a label
+  pub uses : (g : Give) (a : Ends) → Made past g → g.ends ≡ Some a → (IsKnown past g → ⊥)
+      → (u : Labelled) × HasEndedUse past g u
 
 pub record FloorsStand (floors : List Floor) (past : List Step) : Type 0 where
   pub above : (fid : Fid) (stamp : ℕ) → floor_of floors fid < stamp → AboveFloor past fid stamp

@@ -1,4 +1,5 @@
 -- Whole steps in which all tokens stay: by a message, at a lapse, and by a line that begins a call.
+use Rattle.base_types.specs.declared.ids.HostId.{HostId}
 use Rattle.base_types.specs.declared.ids.ServerId.{ServerId}
 use Rattle.host_tables.specs.AsksByLine.{begun_call}
 use Rattle.host_tables.specs.AtOnce.{IsFree, IsNextCall}
@@ -14,8 +15,9 @@ use Rattle.host_tables.specs.Stands.{IsAtRest, NumbersStand, RequestStands, Stan
 use Rattle.host_tables.specs.Tables.{held_of, site_at}
 use Rattle.host_tables.specs.declared.tables.Tables.{Tables}
 use Rattle.message_types.specs.declared.giving.Give.{Give}
+use Rattle.message_types.specs.declared.giving.Reclaim.{Reclaim as ReclaimOf}
 use Rattle.message_types.specs.declared.giving.Reclaimed.{Reclaimed as ReclaimedOf}
-use Rattle.message_types.specs.declared.message.Body.TheVariants.{Bye, GiveBack, Hello, Reclaimed}
+use Rattle.message_types.specs.declared.message.Body.TheVariants.{Bye, GiveBack, Hello, Reclaim, Reclaimed}
 use Rattle.message_types.specs.declared.message.Message.{Message}
 use Rattle.message_types.specs.declared.telling.Bring.{Bring}
 use Rattle.run_rules.specs.HostMay.{ClaimsAt}
@@ -98,6 +100,29 @@ abbrev pub LapseRight : Type 0
 LapseRight = (script : Script) (m : Tables) (past : List Step) (sent : List Message) → Rests script m past
     → ((y : Message) → In y sent → RepeatsFrom m past (lapses m.host sent) y)
     → StepRight script m m past (lapses m.host sent)
+
+-- By a message, after which the host only says again what is outstanding, and claims nothing: whatever it learns and
+-- takes by the message.
+abbrev pub hears_says : HostId → Message → List Token → List Message → Step
+hears_says host message taken sent = record (learning host (Came message) taken) { sent = sent }
+
+pub record TakesRight (past : List Step) (s : Step) : Type 0 where
+  pub takes : (t : Token) → In t s.taken
+      → (w : Bring) × Uses past s w × In t w.tokens × (t.fid ≡ w.fid) × (HoldsId past t.id → ⊥)
+  pub takes_all : HostTakes past s
+
+abbrev pub HeardRight : Type 0
+HeardRight = (script : Script) (old m : Tables) (past : List Step) (message : Message) (taken : List Token)
+    (sent : List Message) → Stands script old past → old.host ≡ m.host
+    → Stands script m (learning m.host (Came message) taken ∷ past)
+    → TakesRight past (hears_says m.host message taken sent)
+    → ((y : Message) → In y sent → RepeatsFrom m past (hears_says m.host message taken sent) y)
+    → ((y : Message) → In y sent → (c : ReclaimOf) → y.body ≡ Reclaim c → ⊥)
+    → ((g : Give) → IsFirst m.gives g → (IsFirst old.gives g → ⊥)
+    → SendsTo (hears_says m.host message taken sent)
+    (stay_of (hears_says m.host message taken sent ∷ past) g.fid.fileset) (GiveBack g))
+    → IsAtRest m (hears_says m.host message taken sent ∷ past)
+    → StepRight script old m past (hears_says m.host message taken sent)
 
 -- a line begins a call, which is left open
 abbrev pub begins_line : Tables → ℕ → Call → List Message → Step

@@ -8,8 +8,8 @@ ghost use Rattle.host_tables.specs.Settling.{SettlesRight};
 ghost use Rattle.host_tables.specs.UpdateLaws.{ReadsAfter};
 
 /// What a host's tables say is enough for each of these kinds of steps to do what it may: any, from what each of its
-/// messages and tokens owes; one that answers a call, that asks for tokens, in which tokens leave; and after a step that
-/// does what it may the tables that were changed by it stand, and so after one that is quiet.
+/// messages and tokens owes; one that answers a call, that asks for tokens, in which tokens leave; and after a step
+/// that does what it may the tables that were changed by it stand, and so after one that is quiet.
 pub fn tables_laws()
     ensures may { MayAssembled }
     ensures replies { RepliesMay }

@@ -250,7 +250,8 @@ fn span_of(from: u64, count: usize) -> Option<Span>
     })
 }
 
-fn tokens_text(alloc: Global, cache: &Cache) -> Result<String> {
+/// The numbers of the held tokens, the most recently used first.
+pub fn tokens_text(alloc: Global, cache: &Cache) -> Result<String> {
     let tokens = cache.tokens()?;
     seqs_text(alloc, tokens.as_slice())
 }

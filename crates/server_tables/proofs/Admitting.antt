@@ -1,17 +1,13 @@
 -- A claim is granted: its host has reclaimed from then on, and has the tokens again.
-use Rattle.std.proofs.Common.{◌≡◌, ◌⊎◌, ℕ, ◌≤◌, ◌<◌, Bool, true, false, is_some, Option, None, Some, List, [], ◌∷◌, ◌++◌, map, inl, inr, refl, sym, ◌∙◌, ap, subst, arith}
+use Rattle.std.proofs.Common.{◌≡◌, ◌⊎◌, ℕ, ◌≤◌, ◌<◌, true, false, is_some, List, [], ◌∷◌, ◌++◌, inl, inr, refl, sym}
+use Rattle.std.proofs.Common.{◌∙◌, ap, subst, arith}
 use Rattle.std.specs.Option.{option_map_or}
 use Rattle.std.proofs.lemmas.Bool.{false≢true}
-use Rattle.base_types.specs.declared.ids.Fid.{Fid}
 use Rattle.base_types.specs.declared.ids.FilesetId.{FilesetId}
 use Rattle.base_types.specs.declared.ids.HostId.{HostId}
 use Rattle.base_types.specs.declared.ids.ServerId.{ServerId}
-use Rattle.message_types.specs.declared.asking.Change.{Change as ChangeOf}
-use Rattle.message_types.specs.declared.giving.AppliedGive.{AppliedGive}
-use Rattle.message_types.specs.declared.giving.Give.{Give}
 use Rattle.message_types.specs.declared.giving.Reclaim.{Reclaim as ReclaimOf}
-use Rattle.message_types.specs.declared.message.Body.{Body}
-use Rattle.message_types.specs.declared.message.Body.TheVariants.{Done, GiveBack, Reclaim}
+use Rattle.message_types.specs.declared.message.Body.TheVariants.{Done, Reclaim}
 use Rattle.message_types.specs.declared.telling.Done.{Done as DoneOf}
 use Rattle.token_manager.specs.declared.grants.Grants.{Grants}
 use Rattle.token_manager.specs.declared.want.Want.{Want as WantOf}
@@ -19,13 +15,14 @@ use Rattle.token_table.specs.declared.notes.Note.{Note}
 use Rattle.token_table.specs.Marks.{is_pinned, is_revoked, note_at}
 use Rattle.token_types.specs.declared.token.Token.{Token}
 use Rattle.token_types.specs.declared.token.TokenId.{TokenId}
-use Rattle.run_rules.specs.Doings.{Doing, GivesUp, GivenUp, GoesAway, Granted, HasGoneAway, HasReclaimed, HasUsedStamp, IsDurable, IsLive}
-use Rattle.run_rules.specs.Doings.{IsNewEpoch, IsNewlyGranted, Issues, Listed, NoGrace, Pinned, SentTo, StayStamp, TookNow, TookOf, epoch}
+use Rattle.run_rules.specs.Doings.{Doing, GivesUp, GoesAway, Granted, HasGoneAway, HasReclaimed, IsDurable, IsLive}
+use Rattle.run_rules.specs.Doings.{IsNewEpoch, IsNewlyGranted, Issues, Listed, NoGrace, Pinned, SentTo, StayStamp}
+use Rattle.run_rules.specs.Doings.{TookNow, epoch}
 use Rattle.run_rules.specs.Doings.Doing.{Admits}
 use Rattle.run_rules.specs.Past.{In}
 use Rattle.run_rules.specs.ServerMay.{HasRevoked}
 use Rattle.run_rules.specs.Tokens.{number_of}
-use Rattle.run_rules.specs.Wants.{Decides, IsQueued, IsQueuedBefore, Unwants}
+use Rattle.run_rules.specs.Wants.{Decides, IsQueued, Unwants}
 use Rattle.run_rules.specs.declared.applied.Request.TheVariants.{Change as Changes, Fetch as Asks}
 use Rattle.run_rules.specs.declared.applied.Request.{Request}
 use Rattle.run_rules.specs.declared.applied.Wanted.{Wanted}
@@ -38,7 +35,8 @@ use Rattle.server_tables.specs.declared.recovering.Recovering.{Recovering}
 use Rattle.server_tables.specs.declared.tables.LastChange.{LastChange}
 use Rattle.server_tables.specs.declared.tables.LastGive.{LastGive}
 use Rattle.server_tables.specs.declared.tables.Tables.{Tables}
-use Rattle.server_tables.specs.Standing.{ChangesStand, GivesStand, HostsStand, IsLastChange, QueueStands, RecoveryStands, Stands}
+use Rattle.server_tables.specs.Standing.{ChangesStand, GivesStand, HostsStand, IsLastChange, QueueStands}
+use Rattle.server_tables.specs.Standing.{RecoveryStands, Stands}
 use Rattle.server_tables.specs.Standing.{StampsStand, TokensStand, WantsStand, WroteThis, tokens_of}
 use Rattle.server_tables.proofs.Greeting.{in_end, in_front, in_parts}
 use Rattle.server_tables.proofs.Queueing.{one_is}
@@ -55,7 +53,8 @@ pub record IsAdmitted (grants admitted : Grants) (tokens : List Token) : Type 0 
   pub known : (t : Token) → In t tokens → is_some (note_at admitted.notes t.id) ≡ true
   pub unpinned : (t : Token) → In t tokens → is_pinned admitted.notes t.id ≡ false
   pub unmarked : (t : Token) → In t tokens → is_revoked admitted.notes t.id ≡ false
-  pub noted : (i : TokenId) → is_some (note_at admitted.notes i) ≡ true → (t : Token) × In t (tokens_of admitted) × (t.id ≡ i)
+  pub noted : (i : TokenId) → is_some (note_at admitted.notes i) ≡ true → (t : Token) × In t (tokens_of admitted) ×
+      (t.id ≡ i)
 
 -- the lists by which claims are judged, without those of a host
 pub record IsForgotten (old new : Recovering) (h : HostId) : Type 0 where
@@ -67,7 +66,8 @@ pub record IsForgotten (old new : Recovering) (h : HostId) : Type 0 where
   pub up_all : (l : GaveUp) → In l old.given_up → (l.host ≡ h → ⊥) → In l new.given_up
 
 -- The claim is of a live host that hasn't reclaimed; its tokens are the host's, of earlier epochs.
-module _ (past : List Doing) (server : ServerId) (h : HostId) (tokens : List Token) (first : HasReclaimed past h → ⊥) (live : IsLive past h)
+module _ (past : List Doing) (server : ServerId) (h : HostId) (tokens : List Token) (first : HasReclaimed past h → ⊥)
+    (live : IsLive past h)
     (own : (t : Token) → In t tokens → t.host ≡ h) (earlier : (t : Token) → In t tokens → t.id.epoch < epoch past) where
   abbrev a : Doing
   a = Admits h tokens
@@ -103,7 +103,10 @@ module _ (past : List Doing) (server : ServerId) (h : HostId) (tokens : List Tok
   pub was_grace : NoGrace past → ⊥
   was_grace g = first (g h live)
 
-  pub hosts_admitted : (x : Hosts) → HostsStand past x → HostsStand (a ∷ past) (record x { reclaimed = x.reclaimed ++ h ∷ [] })
+  pub hosts_admitted : (x : Hosts) → HostsStand past x → HostsStand (a ∷ past) (record x {
+    reclaimed =
+        x.reclaimed ++ h ∷ [];
+  })
   hosts_admitted x s = record {
     epoch_is = s.epoch_is;
     sent_up_to = λ k f m b w. elim w [ inl p ↦ absurd (cc) | inr p ↦ s.sent_up_to k f m b p ];
@@ -115,8 +118,16 @@ module _ (past : List Doing) (server : ServerId) (h : HostId) (tokens : List Tok
     away_all = λ k w. elim w [ inl p ↦ absurd (goes k p) | inr p ↦ s.away_all k p ];
     now = λ k m. inr (s.now k m, begin);
     now_all = λ k w. elim w [ inl p ↦ absurd (p.1 (listed_back k p.0)) | inr p ↦ s.now_all k p.0 ];
-    reclaimed = λ k m. elim (in_parts k x.reclaimed (h ∷ []) m) [ inl p ↦ inr (s.reclaimed k p, begin) | inr p ↦ subst (HasReclaimed (a ∷ past)) (sym (one_is k h p)) reclaimed_now ];
-    reclaimed_all = λ k w. elim (reclaimed_back k w) [ inl e ↦ subst (λ (y : HostId). In y (x.reclaimed ++ h ∷ [])) (sym e) (in_end h x.reclaimed) | inr r ↦ in_front k x.reclaimed (h ∷ []) (s.reclaimed_all k r) ];
+    reclaimed = λ k m. elim (in_parts k x.reclaimed (h ∷ []) m) [
+      | inl p ↦ inr (s.reclaimed k p, begin)
+      | inr p ↦
+          subst (HasReclaimed (a ∷ past)) (sym (one_is k h p)) reclaimed_now
+    ];
+    reclaimed_all = λ k w. elim (reclaimed_back k w) [
+      | inl e ↦ subst (λ (y : HostId). In y (x.reclaimed ++ h ∷ []))
+          (sym e) (in_end h x.reclaimed)
+      | inr r ↦ in_front k x.reclaimed (h ∷ []) (s.reclaimed_all k r)
+    ];
   }
 
   newly : (t : Token) → IsNewlyGranted a t → In t tokens
@@ -165,9 +176,20 @@ module _ (past : List Doing) (server : ServerId) (h : HostId) (tokens : List Tok
         | inl p ↦ goes t.host p
         | inr p ↦ elim g [ inl q ↦ live.1 (subst (HasGoneAway past) (own t (newly t q)) p) | inr q ↦ s.here t q.0 p ]
       ];
-      live = λ t g. live_on t.host (elim g [ inl q ↦ subst (IsLive past) (sym (own t (newly t q))) live | inr q ↦ s.live t q.0 ]);
-      known = λ t m. elim (w.were t m) [ inl k ↦ ap is_some (w.same t.id (s.known t k)) ∙ s.known t k | inr k ↦ w.known t k ];
-      issued = λ t k i e. subst (λ (z : ℕ). t.id.seq ≤ z) (sym w.last) (elim i [ inl p ↦ absurd (not_issued t k p) | inr p ↦ s.issued t k p e ]);
+      live = λ t g. live_on t.host (elim g [
+        | inl q ↦ subst (IsLive past) (sym (own t (newly t q))) live
+        | inr q ↦
+            s.live t q.0
+      ]);
+      known = λ t m. elim (w.were t m) [
+        | inl k ↦ ap is_some (w.same t.id (s.known t k)) ∙ s.known t k
+        | inr k ↦
+            w.known t k
+      ];
+      issued = λ t k i e. subst (λ (z : ℕ). t.id.seq ≤ z) (sym w.last) (elim i [
+        | inl p ↦ absurd (not_issued t k p)
+        | inr p ↦ s.issued t k p e
+      ]);
       issued_up_to = λ t k i. elim i [ inl p ↦ absurd (not_issued t k p) | inr p ↦ s.issued_up_to t k p ];
       noted = w.noted;
       old = λ t m e. elim (w.were t m) [
@@ -183,7 +205,17 @@ module _ (past : List Doing) (server : ServerId) (h : HostId) (tokens : List Tok
 
     pub stamps_admitted : {stamp : ℕ} → StampsStand past grants stamp → StampsStand (a ∷ past) admitted stamp
     stamps_admitted z = record {
-      told = λ f x t. elim t [ inl q ↦ absurd (elim q [ inl p ↦ elim p.4 [ inl r ↦ (let u = r.1 in cc) | inr r ↦ (let u = r.1 in cc) ] | inr p ↦ (let u = p.4 in cc) ]) | inr q ↦ z.told f x q.0 ];
+      told = λ f x t. elim t [
+        | inl q ↦ absurd (elim q [
+          | inl p ↦ elim p.4 [
+            | inl r ↦ (let u = r.1 in cc)
+            | inr r ↦
+                (let u = r.1 in cc)
+          ]
+          | inr p ↦ (let u = p.4 in cc)
+        ])
+        | inr q ↦ z.told f x q.0
+      ];
       revoked = λ t m p. elim (w.were t m) [
         | inl k ↦ inr (z.revoked t k (sym (mark_same t k) ∙ p), begin)
         | inr k ↦ absurd (false≢true (sym (w.unmarked t k) ∙ p))
@@ -214,11 +246,16 @@ module _ (past : List Doing) (server : ServerId) (h : HostId) (tokens : List Tok
   waits_back w (inl p) = absurd (cc)
   waits_back w (inr p) = p.0
 
-  pub wants_admitted : {next : ℕ} {ps : List Pending} → WantsStand past server next ps → WantsStand (a ∷ past) server next ps
+  pub wants_admitted : {next : ℕ} {ps : List Pending} → WantsStand past server next ps → WantsStand
+      (a ∷ past) server next ps
   wants_admitted s = record {
     pending = λ p m. waits_on p.wanted (s.pending p m);
     pending_all = λ w u. s.pending_all w (waits_back w u);
-    order = λ p q m n l. (inr (s.order p q m n l), waits_on p.wanted (s.pending p m), waits_on q.wanted (s.pending q n));
+    order = λ p q m n l. (
+      inr (s.order p q m n l),
+      waits_on p.wanted (s.pending p m),
+      waits_on q.wanted (s.pending q n),
+    );
     order_all = λ p q m n t. s.order_all p q m n (elim t.0 [ inl x ↦ absurd (let y = x.1 in cc) | inr x ↦ x ]);
     live = λ w u. live_on w.host (s.live w (waits_back w u));
     took = λ w u. inr (s.took w (waits_back w u), begin);
@@ -255,6 +292,8 @@ module _ (past : List Doing) (server : ServerId) (h : HostId) (tokens : List Tok
     newest = λ n d t of. s.newest n d (sent_back l.host (epoch past) n d t) of;
     wrote = λ v is. let p = s.wrote v is in (inr p.0, p.1, p.2);
     wrote_all = λ v t. s.wrote_all v (wrote_back v t);
+    reply = s.reply;
+    home = s.home;
   }
 
   pub changes_admitted : {cs : List LastChange} → ChangesStand past cs → ChangesStand (a ∷ past) cs
@@ -269,23 +308,41 @@ module _ (past : List Doing) (server : ServerId) (h : HostId) (tokens : List Tok
   not_now : (k : HostId) → (HasReclaimed (a ∷ past) k → ⊥) → (k ≡ h → ⊥)
   not_now k never e = never (subst (HasReclaimed (a ∷ past)) (sym e) reclaimed_now)
 
-  pub recovery_admitted : (old new : Recovering) → IsForgotten old new h → RecoveryStands past server old.claims old.taken old.given_up
+  pub recovery_admitted : (old new : Recovering) → IsForgotten old new h
+      → RecoveryStands past server old.claims old.taken old.given_up
       → RecoveryStands (a ∷ past) server new.claims new.taken new.given_up
   recovery_admitted old new f s = record {
-    claim = λ k n d took never l. f.claim_all (record { host = k; claim = d }) (s.claim k n d (took_back k n d took) (λ r. never (inr (r, begin))) (live_back k l)) (not_now k never);
+    claim = λ k n d took never l. f.claim_all (record { host = k; claim = d }) (s.claim k n d (took_back k n d took)
+        (λ r. never (inr (r, begin))) (live_back k l)) (not_now k never);
     claimed = λ l m. let p = s.claimed l (f.claim_of l m) in (p.0, inr (p.1, begin));
-    taken = λ k g took never here. elim took [ inl p ↦ absurd (let q = p.2.0 in cc) | inr p ↦ f.taken_all (record { host = k; give = number_of g }) (s.taken k g p.0 (λ r. never (inr (r, begin))) (λ o. here (inr o))) (not_now k never) ];
+    taken = λ k g took never here. elim took [
+      | inl p ↦ absurd (let q = p.2.0 in cc)
+      | inr p ↦ f.taken_all (record {
+        host =
+            k;
+        give = number_of g;
+      }) (s.taken k g p.0 (λ r. never (inr (r, begin))) (λ o. here (inr o))) (not_now k never)
+    ];
     taken_only = λ l m. let p = s.taken_only l (f.taken_of l m) in (p.0, inr (p.1, begin), p.2);
-    given_up = λ k i up never here. elim up [ inl p ↦ absurd (names k i p) | inr p ↦ f.up_all (record { host = k; id = i }) (s.given_up k i p.0 (λ r. never (inr (r, begin))) (λ o. here (inr o))) (not_now k never) ];
+    given_up = λ k i up never here. elim up [
+      | inl p ↦ absurd (names k i p)
+      | inr p ↦ f.up_all (record {
+        host = k;
+        id =
+            i;
+      }) (s.given_up k i p.0 (λ r. never (inr (r, begin))) (λ o. here (inr o))) (not_now k never)
+    ];
     given_up_only = λ l m. inr (s.given_up_only l (f.up_of l m), begin);
   }
     where
-      took_back : (k : HostId) (n : ℕ) (d : ReclaimOf) → TookNow (a ∷ past) k n (Reclaim d) → TookNow past k n (Reclaim d)
+      took_back : (k : HostId) (n : ℕ) (d : ReclaimOf) → TookNow (a ∷ past) k n (Reclaim d) → TookNow past k n
+          (Reclaim d)
       took_back k n d (inl p) = absurd (let q = p.0 in cc)
       took_back k n d (inr p) = p.0
 
 -- all tables, once a claim is granted; `queue` is the manager's then
-pub stands_admitted : (past : List Doing) (x : Tables) (h : HostId) (tokens : List Token) → (HasReclaimed past h → ⊥) → IsLive past h
+pub stands_admitted : (past : List Doing) (x : Tables) (h : HostId) (tokens : List Token) → (HasReclaimed past h → ⊥)
+    → IsLive past h
     → ((t : Token) → In t tokens → t.host ≡ h) → ((t : Token) → In t tokens → t.id.epoch < epoch past)
     → (admitted : Grants) → IsAdmitted x.tokens.grants admitted tokens
     → (queue : List WantOf) → QueueStands (Admits h tokens ∷ past) queue x.pending

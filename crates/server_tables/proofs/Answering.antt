@@ -20,7 +20,7 @@ use Rattle.message_types.specs.declared.message.Body.TheVariants.{Change, Done}
 use Rattle.message_types.specs.declared.telling.Bring.{Bring}
 use Rattle.message_types.specs.declared.telling.Done.{Done as DoneOf}
 use Rattle.run_rules.specs.Doings.{BringsTokens, Doing, GivesUp, Granted, Here, IsDurable, IsLive, NoGrace, SentTo}
-use Rattle.run_rules.specs.Doings.{TookNow}
+use Rattle.run_rules.specs.Doings.{TookNow, WasWritten}
 use Rattle.run_rules.specs.Doings.{UsesStamp, epoch}
 use Rattle.run_rules.specs.Doings.Doing.{Sent}
 use Rattle.run_rules.specs.Past.{In}
@@ -44,13 +44,19 @@ use Rattle.server_tables.proofs.Queueing.{told_back, told_hosts, told_out, wants
 use Rattle.server_tables.proofs.Serving.{IsLess}
 use Rattle.server_tables.proofs.Settling.{both, in_any}
 use Rattle.server_tables.proofs.Still.{ClaimsStill, HostsStill, TokensStill, gives_still, hosts_still, over_still}
-use Rattle.server_tables.proofs.Still.{recovery_still, stamps_still, tokens_still}
+use Rattle.server_tables.proofs.Still.{decided_home, recovery_still, stamps_still, tokens_still}
 
 same_host : (a b : HostId) → (a.0 == b.0) ≡ true → a ≡ b
 same_host a b e = let q : a.0 ≡ b.0 = eqb-true a.0 b.0 e in λ i. record { 0 = q i }
 
 pub same_fileset : (a b : FilesetId) → (a.0 == b.0) ≡ true → a ≡ b
 same_fileset a b e = let q : a.0 ≡ b.0 = eqb-true a.0 b.0 e in λ i. record { 0 = q i }
+
+was_written : (acts : List Doing) (o : Written) → WroteThis acts o → (h : HostId) (f : FilesetId) → o.answer.host ≡ h
+    → o.fileset ≡ f → WasWritten acts h f o.number
+was_written [] o t h f p q = elim t [ ]
+was_written (a ∷ acts) o (inl e) h f p q = inl (o, e, p, q, refl)
+was_written (a ∷ acts) o (inr t) h f p q = inr (was_written acts o t h f p q)
 
 -- what was written down last stays so in the renewed answer
 pub record StaysWritten (changes : List LastChange) (h : HostId) (f : FilesetId)
@@ -155,6 +161,12 @@ module _ (past : List Doing) (x : Tables) (z : Stands past x) (w : Wanted) (wait
           (let l = z.changes.answered o (wrote_were o t) in
           let q = (z.changes.last l.0 l.1).wrote_all o (wrote_were o t) (sym l.2) (sym l.3) in
           (q.0, sym (stays.all l.0 l.1 (l.2 ∙ h) (l.3 ∙ f)) ∙ q.1, q.2));
+      home = decided_home x.server past c.fileset w.moves
+          (subst (IsAskedHere x.server past w.moves) is (z.wants.here w waits)).0;
+      reply = λ o e m.
+          (let l = stays.some o e in let q = (z.changes.last l.0 l.1).wrote o l.4 in
+          let was = was_written past o q.0 w.host c.fileset (q.1 ∙ l.2) (q.2 ∙ l.3) in
+          absurd (z.changes.fresh w c waits is (o.number, (let k = number_is in omega (arith, m, k)), was)));
     }
 
     is_last_other : (l : LastChange) → IsLastChange past l → (l.host ≡ w.host → l.fileset ≡ c.fileset → ⊥)
@@ -173,6 +185,8 @@ module _ (past : List Doing) (x : Tables) (z : Stands past x) (w : Wanted) (wait
       ];
       wrote = λ o p. (let q = k.wrote o p in (inr q.0, q.1, q.2));
       wrote_all = λ o t h f. k.wrote_all o (wrote_were o t) h f;
+      reply = k.reply;
+      home = k.home;
     }
 
     found : (l : LastChange) → In l x.changes → (h : HostId) (f : FilesetId) → l.host ≡ h → l.fileset ≡ f

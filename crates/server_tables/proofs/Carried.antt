@@ -126,6 +126,8 @@ module _ (server : ServerId) (p q : List Doing) (s : SameWords server p q) where
         (subst (λ m. SentTo q last.host m k (Done d)) (sym s.heard.epoch_is) t)) f ∙ s.heard.epoch_is;
     wrote = λ w e. (let x = z.wrote w e in ((s.wrote w).0 x.0, x.1, x.2));
     wrote_all = λ w o h f. z.wrote_all w ((s.wrote w).1 o) h f;
+    reply = z.reply;
+    home = z.home;
   }
 
   changes_carried : {changes : List LastChange} → ChangesStand p changes → ChangesStand q changes

@@ -48,7 +48,7 @@ use Rattle.server_tables.specs.Standing.{TokensStand, WantsStand, WroteThis}
 use Rattle.server_tables.specs.Steps.{to_host}
 use Rattle.server_tables.proofs.Still.{ClaimsStill, claims_of, HostsStill, IsStill, TokensStill, gives_still}
 use Rattle.server_tables.proofs.Still.{hosts_still, live_still, over_still, recovery_still, stamps_still, still}
-use Rattle.server_tables.proofs.Still.{tokens_still, waits_back}
+use Rattle.server_tables.proofs.Still.{decided_home, tokens_still, waits_back}
 use Rattle.server_tables.proofs.Idle.{no_words, up_to, idle, reserves_nothing}
 use Rattle.server_tables.proofs.Resting.{NoneClaims, claims_still, still_settled, waiting_both}
 use Rattle.server_tables.proofs.Settling.{both}
@@ -460,6 +460,9 @@ module _ (past : List Doing) (x : Tables) (m : Message) (c : ChangeOf) (needs : 
               not_above o p h f
         ],
       );
+      home = decided_home x.server past c.fileset m.moves k.here;
+      reply = λ o p n.
+          (let q : v ≡ o = (let r = p in cc) in (ap (λ (z : Written). HasReply z.answer.reply) q, refl));
     }
 
     -- another answer stays what it was
@@ -485,6 +488,8 @@ module _ (past : List Doing) (x : Tables) (m : Message) (c : ChangeOf) (needs : 
             absurd (apart (sym h ∙ ap (λ (q : Written). q.answer.host) p) (sym f ∙ ap (λ (q : Written). q.fileset) p))
         | inr p ↦ z.wrote_all o p h f
       ];
+      reply = z.reply;
+      home = z.home;
     }
 
     changes_told : ChangesStand told new

@@ -138,6 +138,8 @@ module _ (past : List Doing) (x : Tables) (s : Stands past x) (h : HostId) (e n 
     newest = λ m d w g. t.newest m d (sent_back c.host (epoch past) m _ w) g;
     wrote = λ w q. let p = t.wrote w q in (inr p.0, p.1, p.2);
     wrote_all = λ w o p q. t.wrote_all w (wrote_back w o) p q;
+    reply = t.reply;
+    home = t.home;
   }
 
   waits_back : (w : Wanted) → IsQueued after w → IsQueued past w

@@ -44,6 +44,10 @@ pub mod Departing
 pub mod Reclaiming
 pub mod Judged
 pub mod Freeing
+pub mod Claiming
+pub mod Wanting
+pub mod Recalling
+pub mod Unqueued
 pub mod Counted
 pub mod Found
 pub mod Updated

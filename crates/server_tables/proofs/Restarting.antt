@@ -77,6 +77,8 @@ module _ (past : List Doing) (x : Tables) (s : Stands past x) where
     newest = λ n d w f. absurd (none_sent l.host n (Done d) w);
     wrote = λ w p. let q = z.wrote w p in (inr q.0, q.1, q.2);
     wrote_all = λ w t. z.wrote_all w (elim t [ inl p ↦ absurd (cc) | inr p ↦ p ]);
+    reply = z.reply;
+    home = z.home;
   }
 
   pub stands_begun : Stands (a ∷ past) y

@@ -1,14 +1,14 @@
 -- A doing that changes none of the words of a server leaves all tables standing.
-use Rattle.std.proofs.Common.{◌≡◌, ◌⊎◌, ℕ, ◌≤◌, ◌<◌, List, [], ◌∷◌, inl, inr, refl, sym, ◌∙◌, subst}
+use Rattle.std.proofs.Common.{◌≡◌, ℕ, ◌≤◌, List, [], ◌∷◌, inl, inr, refl, sym, ◌∙◌, ap, subst}
 use Rattle.base_types.specs.declared.ids.FilesetId.{FilesetId}
 use Rattle.base_types.specs.declared.ids.Fid.{Fid}
 use Rattle.base_types.specs.declared.ids.HostId.{HostId}
 use Rattle.base_types.specs.declared.ids.ServerId.{ServerId}
-use Rattle.message_types.specs.declared.asking.Change.{Change as ChangeOf}
 use Rattle.message_types.specs.declared.giving.Give.{Give}
 use Rattle.message_types.specs.declared.giving.Reclaim.{Reclaim as ReclaimOf}
 use Rattle.message_types.specs.declared.message.Body.{Body}
-use Rattle.message_types.specs.declared.message.Body.TheVariants.{Hello, Kept, Revoke, Down, GiveBack, Done, Reclaim, Reclaimed}
+use Rattle.message_types.specs.declared.message.Body.TheVariants.{Hello, Kept, Revoke, Down, GiveBack, Done, Reclaim}
+use Rattle.message_types.specs.declared.message.Body.TheVariants.{Reclaimed}
 use Rattle.message_types.specs.declared.telling.Done.{Done as DoneOf}
 use Rattle.message_types.specs.declared.tokens.Named.{Named}
 use Rattle.message_types.specs.declared.tokens.Revoke.{Revoke as RevokeOf}
@@ -17,14 +17,15 @@ use Rattle.token_manager.specs.declared.want.Want.{Want as WantOf}
 use Rattle.token_types.specs.declared.token.Token.{Token}
 use Rattle.token_types.specs.declared.token.TokenId.{TokenId}
 use Rattle.run_rules.specs.Doings.{Doing, Enlists, GivesUp, GoesAway, Granted, HasGoneAway, HasGoneDown, HasReclaimed}
-use Rattle.run_rules.specs.Doings.{HasUsedStamp, Hears, IsApplied, IsDurable, IsLive, IsNewEpoch, IsNewlyGranted}
-use Rattle.run_rules.specs.Doings.{Issued, Issues, Listed, ListedNow, NoGrace, Pinned, Reserved, SentTo, StayStamp}
-use Rattle.run_rules.specs.Doings.{TakesFrom, TakesOf, TookNow, TookOf, UsesStamp, WasWritten, epoch, epoch_after}
+use Rattle.run_rules.specs.Doings.{Hears, IsDurable, IsLive, IsNewEpoch, IsNewlyGranted}
+use Rattle.run_rules.specs.Doings.{Issues, Listed, NoGrace, Pinned, SentTo, StayStamp}
+use Rattle.run_rules.specs.Doings.{TakesFrom, TakesOf, TookNow, UsesStamp, epoch, epoch_after}
 use Rattle.run_rules.specs.Doings.Doing.{Admits, BeginsEpoch, Flushes, MakesWant, Reserves, Sent, Took, WritesDown}
-use Rattle.run_rules.specs.Past.{In, Once, Since}
+use Rattle.run_rules.specs.Messages.{Stay}
+use Rattle.run_rules.specs.Past.{In}
 use Rattle.run_rules.specs.ServerMay.{HasRevoked}
-use Rattle.run_rules.specs.Wants.{IsQueued, IsQueuedBefore, Unwants, body_of}
-use Rattle.run_rules.specs.declared.applied.Request.TheVariants.{Change as Changes}
+use Rattle.run_rules.specs.ServerDecides.{IsDecidedHere}
+use Rattle.run_rules.specs.Wants.{IsQueued, IsQueuedBefore, Unwants}
 use Rattle.run_rules.specs.declared.applied.Wanted.{Wanted}
 use Rattle.run_rules.specs.declared.applied.Written.{Written}
 use Rattle.server_tables.specs.declared.tables.Tables.{Tables}
@@ -35,7 +36,8 @@ use Rattle.server_tables.specs.declared.pending.Pending.{Pending}
 use Rattle.server_tables.specs.declared.recovering.Claimed.{Claimed}
 use Rattle.server_tables.specs.declared.recovering.GaveUp.{GaveUp}
 use Rattle.server_tables.specs.declared.recovering.Answered.{Answered}
-use Rattle.server_tables.specs.Standing.{AnsweredStand, ChangesStand, GivesStand, HostsStand, IsLastChange, QueueStands, RecoveryStands, Stands}
+use Rattle.server_tables.specs.Standing.{AnsweredStand, ChangesStand, GivesStand, HostsStand, IsLastChange}
+use Rattle.server_tables.specs.Standing.{QueueStands, RecoveryStands, Stands}
 use Rattle.server_tables.specs.Standing.{StampsStand, TokensStand, WantsStand, WroteThis}
 
 pub same_epoch : (a : Doing) (n : ℕ) → (IsNewEpoch a → ⊥) → epoch_after a n ≡ n
@@ -91,6 +93,11 @@ pub record AnswersStill (server : ServerId) (past : List Doing) (a : Doing) : Ty
   pub dones : (h : HostId) (e n : ℕ) (d : DoneOf) → a ≡ Sent h e n (Done d) → ⊥
   pub writes : (w : Written) → a ≡ WritesDown w → ⊥
 
+-- what is decided here is of the first stay
+pub decided_home : (server : ServerId) (past : List Doing) (f : FilesetId) (n : ℕ) → IsDecidedHere server past f n → n ≡ 0
+decided_home server past f n (inl p) = p.1
+decided_home server past f n (inr p) = sym (ap (λ (y : Stay). y.moves) p)
+
 pub took_listed : (past : List Doing) (h : HostId) (n : ℕ) (b : Body) → TookNow past h n b → Listed past h
 took_listed [] h n b w = elim w [ ]
 took_listed (a ∷ past) h n b (inl p) = inr p.1.0
@@ -128,7 +135,8 @@ module _ (past : List Doing) (a : Doing) (c : HostsCalm past a) where
   pub now_is : epoch (a ∷ past) ≡ epoch past
   now_is = same_epoch a (epoch past) c.begin
 
-  pub queue_still : {queue : List WantOf} {ps : List Pending} → QueueStands past queue ps → QueueStands (a ∷ past) queue ps
+  pub queue_still : {queue : List WantOf} {ps : List Pending} → QueueStands past queue ps → QueueStands
+      (a ∷ past) queue ps
   queue_still q = record { calm = λ g. q.calm (over_back g); grace = λ g. q.grace (λ o. g (over_still o)) }
 
   module _ (server : ServerId) (k : TokensStill server past a) where
@@ -159,7 +167,11 @@ module _ (past : List Doing) (a : Doing) (c : HostsCalm past a) where
       live = λ t g. live_still t.host (s.live t (granted_back t g));
       known = s.known;
       issued = λ t n i e. elim i [ inl q ↦ absurd (k.issues t n q) | inr q ↦ s.issued t n q (e ∙ now_is) ];
-      issued_up_to = λ t n i. elim i [ inl q ↦ absurd (k.issues t n q) | inr q ↦ subst (λ (z : ℕ). t.id.epoch ≤ z) (sym now_is) (s.issued_up_to t n q) ];
+      issued_up_to = λ t n i. elim i [
+        | inl q ↦ absurd (k.issues t n q)
+        | inr q ↦ subst (λ (z : ℕ). t.id.epoch ≤ z)
+            (sym now_is) (s.issued_up_to t n q)
+      ];
       noted = s.noted;
       old = λ t m e. s.old t m (e ∙ now_is);
       none_reserved = λ t r. elim r [ inl q ↦ k.reserves t q.0 q.1 q.2 | inr q ↦ s.none_reserved t q.0 ];
@@ -187,13 +199,15 @@ module _ (past : List Doing) (a : Doing) (c : HostsCalm past a) where
     waits_back w (inl p) = absurd (k.wants w p)
     waits_back w (inr p) = p.0
 
-    pub before_still : (w v : Wanted) → IsQueued past w → IsQueued past v → IsQueuedBefore past w v → IsQueuedBefore (a ∷ past) w v
+    pub before_still : (w v : Wanted) → IsQueued past w → IsQueued past v → IsQueuedBefore past w v → IsQueuedBefore
+        (a ∷ past) w v
     before_still w v p q b = (inr b, waits_still w p, waits_still v q)
 
     pub before_back : (w v : Wanted) → IsQueuedBefore (a ∷ past) w v → IsQueuedBefore past w v
     before_back w v b = elim b.0 [ inl p ↦ absurd (k.wants v p.1) | inr p ↦ p ]
 
-    pub wants_still : {next : ℕ} {ps : List Pending} → WantsStand past server next ps → WantsStand (a ∷ past) server next ps
+    pub wants_still : {next : ℕ} {ps : List Pending} → WantsStand past server next ps → WantsStand
+        (a ∷ past) server next ps
     wants_still s = record {
       pending = λ p m. waits_still p.wanted (s.pending p m);
       pending_all = λ w u. s.pending_all w (waits_back w u);
@@ -215,18 +229,28 @@ module _ (past : List Doing) (a : Doing) (c : HostsCalm past a) where
     }
 
     pub recovery_still : {cs : List Claimed} {ts : List LastGive} {us : List GaveUp}
-        → ((h : HostId) (i : TokenId) → GivesUp server past a h i → ⊥) → RecoveryStands past server cs ts us → RecoveryStands (a ∷ past) server cs ts us
+        → ((h : HostId) (i : TokenId) → GivesUp server past a h i → ⊥) → RecoveryStands past server cs ts us
+        → RecoveryStands (a ∷ past) server cs ts us
     recovery_still names s = record {
       claim = λ h n d w no l. let was = took_back h n d w in
           s.claim h n d was (λ r. no (reclaimed_still h r)) (live_was h (took_listed past h n (Reclaim d) was) l);
       claimed = λ l m. let p = s.claimed l m in (p.0, inr (p.1, c.begin));
-      taken = λ h g w no here. elim w [ inl p ↦ absurd (k.gives h g.fid.fileset g p) | inr p ↦ s.taken h g p.0 (λ r. no (reclaimed_still h r)) (λ o. here (inr o)) ];
+      taken = λ h g w no here. elim w [
+        | inl p ↦ absurd (k.gives h g.fid.fileset g p)
+        | inr p ↦
+            s.taken h g p.0 (λ r. no (reclaimed_still h r)) (λ o. here (inr o))
+      ];
       taken_only = λ l m. let p = s.taken_only l m in (p.0, inr (p.1, c.begin), p.2);
-      given_up = λ h i w no here. elim w [ inl p ↦ absurd (names h i p) | inr p ↦ s.given_up h i p.0 (λ r. no (reclaimed_still h r)) (λ o. here (inr o)) ];
+      given_up = λ h i w no here. elim w [
+        | inl p ↦ absurd (names h i p)
+        | inr p ↦ s.given_up h i p.0 (λ r. no
+            (reclaimed_still h r)) (λ o. here (inr o))
+      ];
       given_up_only = λ l m. inr (s.given_up_only l m, c.begin);
     }
       where
-        took_back : (h : HostId) (n : ℕ) (d : ReclaimOf) → TookNow (a ∷ past) h n (Reclaim d) → TookNow past h n (Reclaim d)
+        took_back : (h : HostId) (n : ℕ) (d : ReclaimOf) → TookNow (a ∷ past) h n (Reclaim d) → TookNow past h n
+            (Reclaim d)
         took_back h n d (inl p) = absurd (k.claims h n d p)
         took_back h n d (inr p) = p.0
 
@@ -252,13 +276,18 @@ module _ (past : List Doing) (a : Doing) (c : HostsCalm past a) (k : DonesStill 
     newest = newest;
     wrote = λ w is. let p = s.wrote w is in (inr p.0, p.1, p.2);
     wrote_all = λ w t. s.wrote_all w (wrote_back w t);
+    reply = s.reply;
+    home = s.home;
   }
     where
-      newest : (n : ℕ) (d : DoneOf) → SentTo (a ∷ past) last.host (epoch (a ∷ past)) n (Done d) → d.fileset ≡ last.fileset
+      newest : (n : ℕ) (d : DoneOf) → SentTo (a ∷ past) last.host (epoch (a ∷ past)) n (Done d) → d.fileset
+          ≡ last.fileset
           → last.epoch ≡ epoch (a ∷ past)
-      newest n d w of = s.newest n d (subst (λ (e : ℕ). SentTo past last.host e n (Done d)) (now_is past a c) (sent_back last.host (epoch (a ∷ past)) n d w)) of ∙ sym (now_is past a c)
+      newest n d w of = s.newest n d (subst (λ (e : ℕ). SentTo past last.host e n (Done d)) (now_is past a c)
+          (sent_back last.host (epoch (a ∷ past)) n d w)) of ∙ sym (now_is past a c)
 
-  pub changes_still : {cs : List LastChange} → ((w : Wanted) → IsQueued (a ∷ past) w → IsQueued past w) → ChangesStand past cs
+  pub changes_still : {cs : List LastChange} → ((w : Wanted) → IsQueued (a ∷ past) w → IsQueued past w)
+      → ChangesStand past cs
       → ChangesStand (a ∷ past) cs
   changes_still back s = record {
     last = λ l m. last_still (s.last l m);
@@ -268,7 +297,8 @@ module _ (past : List Doing) (a : Doing) (c : HostsCalm past a) (k : DonesStill 
     above = λ v d e n o u is t. s.above v d e n o (back v u) is (sent_back v.host e n o t);
   }
 
-pub claims_of : (server : ServerId) (past : List Doing) (a : Doing) → AnswersStill server past a → ClaimsStill server past a
+pub claims_of : (server : ServerId) (past : List Doing) (a : Doing) → AnswersStill server past a
+    → ClaimsStill server past a
 claims_of server past a k = record { gives = k.gives; claims = k.claims }
 
 pub dones_of : (server : ServerId) (past : List Doing) (a : Doing) → AnswersStill server past a → DonesStill a
@@ -286,7 +316,8 @@ module _ (past : List Doing) (a : Doing) (c : HostsStill past a) where
   reclaimed_back h (inl p) = elim p [ inl q ↦ absurd (c.calm.admits h q.0 q.1) | inr q ↦ absurd (not_enlists h q) ]
   reclaimed_back h (inr p) = p.0
 
-  pub sent_still : {x : Hosts} → HostsStand past x → (h : HostId) (e n : ℕ) (b : Body) → SentTo (a ∷ past) h e n b → e ≤ epoch (a ∷ past)
+  pub sent_still : {x : Hosts} → HostsStand past x → (h : HostId) (e n : ℕ) (b : Body) → SentTo (a ∷ past) h e n b
+      → e ≤ epoch (a ∷ past)
   sent_still s h e n b (inl p) = c.sends h e n b p
   sent_still s h e n b (inr p) = subst (λ (z : ℕ). e ≤ z) (sym (now_is past a c.calm)) (s.sent_up_to h e n b p)
 
@@ -309,7 +340,8 @@ module _ (past : List Doing) (a : Doing) (c : HostsStill past a) where
   pub answered_still : {answers : List Answered} → AnsweredStand past answers → AnsweredStand (a ∷ past) answers
   answered_still s = record {
     answers_all = λ h r. s.answers_all h (reclaimed_back h r);
-    answered = λ l m. let p = s.answered l m in (p.0, inr (subst (λ (e : ℕ). SentTo past l.host e p.0 (Reclaimed l.answer)) (sym (now_is past a c.calm)) p.1));
+    answered = λ l m. let p = s.answered l m in
+        (p.0, inr (subst (λ (e : ℕ). SentTo past l.host e p.0 (Reclaimed l.answer)) (sym (now_is past a c.calm)) p.1));
   }
 
 -- none of its words changes
@@ -320,7 +352,8 @@ pub record IsStill (server : ServerId) (stamp : ℕ) (past : List Doing) (a : Do
   pub wants : WantsStill past a
   pub answers : AnswersStill server past a
 
-pub still : (past : List Doing) (a : Doing) (x : Tables) → IsStill x.server x.stamp past a → Stands past x → Stands (a ∷ past) x
+pub still : (past : List Doing) (a : Doing) (x : Tables) → IsStill x.server x.stamp past a → Stands past x → Stands
+    (a ∷ past) x
 still past a x c s = record {
   hosts = hosts_still past a c.hosts s.hosts;
   tokens = tokens_still past a c.hosts.calm x.server c.tokens s.tokens;
@@ -328,6 +361,8 @@ still past a x c s = record {
   wants = wants_still past a c.hosts.calm x.server c.wants s.wants;
   queue = queue_still past a c.hosts.calm s.queue;
   gives = gives_still past a c.hosts.calm x.server (claims_of x.server past a c.answers) s.gives;
-  changes = changes_still past a c.hosts.calm (dones_of x.server past a c.answers) (waits_back past a c.hosts.calm x.server c.wants) s.changes;
-  recovery = recovery_still past a c.hosts.calm x.server (claims_of x.server past a c.answers) c.tokens.names s.recovery;
+  changes = changes_still past a c.hosts.calm (dones_of x.server past a c.answers)
+      (waits_back past a c.hosts.calm x.server c.wants) s.changes;
+  recovery = recovery_still past a c.hosts.calm x.server (claims_of x.server past a c.answers) c.tokens.names
+      s.recovery;
 }

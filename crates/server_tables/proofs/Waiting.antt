@@ -91,7 +91,7 @@ module _ (past : List Doing) (x : Tables) (s : Stands past x) (r : Asking)
   hosts_a = asks_hosts x.server past x.tokens.grants (marking x.tokens.grants r.2.ids) x.stamp r.0 x.hosts.epoch r.1
       r.2 s.hosts.epoch_is may (is_marked x.tokens.grants r.2.ids) s.tokens
 
-  wants_a : WantsStill past a
+  pub wants_a : WantsStill past a
   wants_a = record { wants = λ w p. cc; unwants = λ w p u. unwanted w u }
     where
       unmade : (k : HostId) (q : Request) → Decides a k q → ⊥

@@ -17,6 +17,7 @@ use Rattle.message_types.specs.declared.telling.DoneIs.TheVariants.{Reply as Has
 use Rattle.run_rules.specs.Doings.{Doing, IsDurable, IsLive, NoGrace, SentTo, UsesStamp, WasWritten, epoch}
 use Rattle.run_rules.specs.Doings.Doing.{Sent, WritesDown}
 use Rattle.run_rules.specs.Past.{In}
+use Rattle.run_rules.specs.ServerDecides.{IsAskedHere}
 use Rattle.run_rules.specs.Wants.{CannotBothWait, Decides, IsQueued, IsQueuedBefore, Unwants}
 use Rattle.run_rules.specs.declared.applied.Request.{Request}
 use Rattle.run_rules.specs.declared.applied.Request.TheVariants.{Change as Changes, Fetch as Asks}
@@ -31,7 +32,7 @@ use Rattle.server_tables.proofs.Idle.{up_to}
 use Rattle.server_tables.proofs.Queueing.{same_sym}
 use Rattle.server_tables.proofs.Settling.{both}
 use Rattle.server_tables.proofs.Still.{ClaimsStill, HostsStill, TokensStill, gives_still, hosts_still, live_still}
-use Rattle.server_tables.proofs.Still.{over_still}
+use Rattle.server_tables.proofs.Still.{decided_home, over_still}
 use Rattle.server_tables.proofs.Still.{recovery_still, stamps_still, tokens_still}
 
 same_host : (a b : HostId) → (a.0 == b.0) ≡ true → a ≡ b
@@ -311,6 +312,10 @@ module _ (past : List Doing) (x : Tables) (z : Stands past x) (w : Wanted) (wait
             | inr p ↦ not_above o p h f
           ],
         );
+        home = decided_home x.server past c.fileset w.moves
+            (subst (IsAskedHere x.server past w.moves) is (z.wants.here w waits)).0;
+        reply = λ o p n.
+            (let q : v ≡ o = (let r = p in cc) in (ap (λ (y : Written). HasReply y.answer.reply) q, refl));
       }
 
       -- another answer stays what it was
@@ -334,6 +339,8 @@ module _ (past : List Doing) (x : Tables) (z : Stands past x) (w : Wanted) (wait
               (sym f ∙ ap (λ (q : Written). q.fileset) p))
           | inr p ↦ k.wrote_all o p h f
         ];
+        reply = k.reply;
+        home = k.home;
       }
 
       -- the entry of a host and a fileset

@@ -11,6 +11,7 @@ use Rattle.message_types.specs.declared.giving.Reclaim.{Reclaim as ReclaimOf}
 use Rattle.message_types.specs.declared.message.Body.{Body}
 use Rattle.message_types.specs.declared.message.Body.TheVariants.{Done, GiveBack, Reclaim, Reclaimed}
 use Rattle.message_types.specs.declared.telling.Done.{Done as DoneOf}
+use Rattle.message_types.specs.declared.telling.DoneIs.TheVariants.{Reply as HasReply}
 use Rattle.token_manager.specs.declared.grants.Grants.{Grants}
 use Rattle.token_manager.specs.declared.want.Want.{Want as WantOf}
 use Rattle.token_manager.specs.Managers.{can_decide}
@@ -127,6 +128,7 @@ WroteThis past written = Once (λ before a. a ≡ WritesDown written) past
 pub record IsLastChange (past : List Doing) (last : LastChange) : Type 0 where
   pub n : ℕ
   pub sent : SentTo past last.host last.epoch n (Done last.done)
+  pub home : n ≡ 0
   pub of : last.done.fileset ≡ last.fileset
   pub top : (e k : ℕ) (d : DoneOf) → SentTo past last.host e k (Done d) → d.fileset ≡ last.fileset
       → d.bring.number ≤ last.done.bring.number
@@ -136,6 +138,9 @@ pub record IsLastChange (past : List Doing) (last : LastChange) : Type 0 where
       → WroteThis past w × (w.answer.host ≡ last.host) × (w.fileset ≡ last.fileset)
   pub wrote_all : (w : Written) → WroteThis past w → w.answer.host ≡ last.host → w.fileset ≡ last.fileset
       → (v : Written) × (last.written ≡ Some v) × (w.number ≤ v.number)
+  -- one that was written down was answered with its reply
+  pub reply : (w : Written) → last.written ≡ Some w → w.number ≡ last.done.bring.number
+      → (last.done.outcome ≡ HasReply w.answer.reply) × (last.done.bring.tokens ≡ [])
 
 -- The Changes that were answered. A Change that waits is above the last one that was written down, and not below the
 -- last one that was answered: E14.

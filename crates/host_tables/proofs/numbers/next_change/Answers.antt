@@ -32,5 +32,6 @@ pub returns-clause-after : goal.returns-clause-after
 returns-clause-after c =
     let test = is_counter c.args.server c.args.fileset in
     let place = ap (position test) (sym c.as_slice.ensures) ∙ sym c.change_place.ensures ∙ c.in-Some.is in
-    c.put.ensures ∙ put_at test (record { server = c.args.server; fileset = c.args.fileset; number = c.in_ok-number.number })
+    c.put.ensures
+    ∙ put_at test (record { server = c.args.server; fileset = c.args.fileset; number = c.in_ok-number.number })
     c.args.changed.now c.in-Some.place place
