@@ -994,8 +994,11 @@ class Last:
 
 
 def is_meant_so(change):
-    """It can be answered: one that enters a fileset names one; a lock or open is numbered under its file's fileset."""
+    """It can be answered: one that enters a fileset names one; a lock or open is numbered under its file's fileset, and a
+    lock is of one byte at least."""
     if change.enter and fileset_of(change.call) is None:
+        return False
+    if isinstance(change.call, w.Lock) and not change.call.len:
         return False
     return not isinstance(change.call, (w.Lock, w.OpenFile)) or change.fid.fileset == change.fileset
 

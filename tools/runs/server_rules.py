@@ -71,6 +71,10 @@ def is_use(call):
     return isinstance(call, (Lock, OpenFile))
 
 
+def locks_nothing(call):
+    return isinstance(call, Lock) and not call.len
+
+
 def is_move(call):
     return isinstance(call, MoveFileset)
 
@@ -86,7 +90,9 @@ def asker(w):
 
 def is_meant_so(c):
     """[ServerDecides.IsMeantSo]"""
-    return (not c.enter or fileset_of(c.call) is not None) and (not is_use(c.call) or c.fid.fileset == c.fileset)
+    if c.enter and fileset_of(c.call) is None or locks_nothing(c.call):
+        return False
+    return not is_use(c.call) or c.fid.fileset == c.fileset
 
 
 def same_number(a, b):

@@ -112,6 +112,23 @@ impl Cache {
         Some(held.token)
     }
 
+    /// The token with this number, and whether it is in use; None where it isn't held. It takes no memory.
+    pub fn find(&self, id: TokenId) -> Option<Held>
+        ensures { result ≡ find (is_id id) self.now.held }
+    {
+        self.order.find(id)
+    }
+
+    /// The held tokens of a file, the most recently used first. It takes no memory.
+    pub fn tokens_at(&self, fid: Fid) -> &[Token]
+        ensures { result.now ≡ tokens_of (of_key (file_key fid) self.now.held) }
+    {
+        match self.files.get(&file_key(fid)) {
+            Some(file) => file.tokens(),
+            None => &[],
+        }
+    }
+
     /// Whether the held tokens cover a need. It takes no memory.
     pub fn covers(&self, need: &Need) -> bool
         ensures { IsTrue result ↔ Covers (tokens_of self.now.held) need.now }
@@ -232,16 +249,6 @@ impl Cache {
 }
 
 impl Cache {
-    // The held tokens of a file, the most recently used first.
-    fn tokens_at(&self, fid: Fid) -> &[Token]
-        ensures { result.now ≡ tokens_of (of_key (file_key fid) self.now.held) }
-    {
-        match self.files.get(&file_key(fid)) {
-            Some(file) => file.tokens(),
-            None => &[],
-        }
-    }
-
     // Whether one of these tokens is held and came with a status.
     fn is_told(&self, tokens: &[Token]) -> bool
         ensures { result ≡ list_any (λ token. tells_at self.now.held token.id) tokens.now }

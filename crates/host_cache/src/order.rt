@@ -59,6 +59,14 @@ impl Order {
         self.entries.contains(&id_key(id))
     }
 
+    /// The token with this number, where it is held.
+    pub(crate) fn find(&self, id: TokenId) -> Option<Held>
+        ensures { result ≡ find (is_id id) self.now }
+    {
+        let _count = self.entries.len();
+        self.entries.peek(&id_key(id)).copied()
+    }
+
     /// Puts a token first. On an error nothing changes.
     pub(crate) fn push(&mut self, held: Held) -> Result<(), NoMemory>
         requires { has_id self.old held.token.id ≡ false }

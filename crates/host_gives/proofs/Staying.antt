@@ -1,8 +1,11 @@
 -- Give-backs stay sound.
-use Rattle.std.proofs.Common.{◌≡◌, ℕ, suc, ◌+◌, Bool, true, false, ◌==◌, not, cond, IsTrue, List, [], ◌∷◌, ◌++◌, length, map, take, drop, All, Option, Some, None, is_some, append-nil, refl, sym, ap, subst, ◌∙◌, arith, rules}
+use Rattle.std.proofs.Common.{◌≡◌, ◌≤◌, ℕ, suc, ◌+◌, Bool, true, false, ◌==◌, not, cond, IsTrue, List, [], ◌∷◌, ◌++◌}
+use Rattle.std.proofs.Common.{length, map, take, drop, All, Option, Some, None, is_some, append-nil, refl, sym, ap}
+use Rattle.std.proofs.Common.{subst, ◌∙◌, arith, rules}
 use Rattle.std.specs.List.{filter, before_first, after_first}
 use Rattle.std.specs.Option.{option_map_or}
 use Rattle.std.proofs.lemmas.Bool.{eqb-true}
+use Rattle.std.proofs.lemmas.List.{take_all, drop_all}
 use Rattle.std.proofs.lemmas.List.Elements.{All-push, All-append, All-take, All-drop, filter-append}
 use Rattle.std.proofs.lemmas.Grind.{common_steps}
 use Rattle.base_types.specs.declared.ids.FilesetId.{FilesetId}
@@ -10,7 +13,7 @@ use Rattle.message_types.specs.declared.giving.Give.{Give}
 use Rattle.message_types.specs.declared.message.Message.{Message}
 use Rattle.host_gives.specs.Counters.{last_of, with_last}
 use Rattle.host_gives.specs.Giving.{Giving, give_of, number_of, is_of, is_next, counted, after_add}
-use Rattle.host_gives.specs.Giving.{without_first, of_fileset, GoOnTo, IsSound}
+use Rattle.host_gives.specs.Giving.{without, of_fileset, Rise, IsSound}
 use Rattle.host_gives.proofs.Places.{place}
 use Rattle.host_gives.proofs.Counting.{last_with}
 
@@ -47,20 +50,69 @@ others_left p q apart (x ∷ xs) =
           ∙ ap (λ ys. cond (q x) (x ∷ ys) ys) (others_left p q apart xs)
     ] refl
 
--- numbers that go on to the last: with the next one, and without the first
-more_numbers : (last : ℕ) (numbers : List ℕ) → GoOnTo last numbers → GoOnTo (last + 1) (numbers ++ (last + 1) ∷ [])
-more_numbers last [] h = (omega arith, tt)
-more_numbers last (n ∷ ns) h =
-    let longer : length (ns ++ (last + 1) ∷ []) ≡ length ns + 1 = grind (arith, common_steps) in
-    (omega (arith, longer, h.0), more_numbers last ns h.1)
+module _ {X : Type 0} (p : X → Bool) (x : X) (xs : List X) where
+  -- without the first that passes: where it stands first, and where it stands behind
+  pub first_here : p x ≡ true → before_first p (x ∷ xs) ++ after_first p (x ∷ xs) ≡ xs
+  first_here e =
+      ap (λ t. take (cond (not t) (1 + place p xs) 0) (x ∷ xs) ++ drop (cond (not t) (1 + place p xs) 0 + 1) (x ∷ xs)) e
 
-fewer_numbers : (last : ℕ) (numbers : List ℕ) → GoOnTo last numbers → GoOnTo last (drop 1 numbers)
-fewer_numbers last [] h = h
-fewer_numbers last (n ∷ ns) h = h.1
+  pub first_behind : p x ≡ false →
+      before_first p (x ∷ xs) ++ after_first p (x ∷ xs) ≡ x ∷ (before_first p xs ++ after_first p xs)
+  first_behind e =
+      let one : 1 + place p xs ≡ suc (place p xs) = omega arith in
+      let two : 1 + place p xs + 1 ≡ suc (place p xs + 1) = omega arith in
+      ap (λ t. take (cond (not t) (1 + place p xs) 0) (x ∷ xs) ++ drop (cond (not t) (1 + place p xs) 0 + 1) (x ∷ xs)) e
+      ∙ ap (λ n. take n (x ∷ xs) ++ drop (1 + place p xs + 1) (x ∷ xs)) one
+      ∙ ap (λ n. take (suc (place p xs)) (x ∷ xs) ++ drop n (x ∷ xs)) two
 
-map_drop : {X Y : Type 0} (f : X → Y) (xs : List X) → map f (drop 1 xs) ≡ drop 1 (map f xs)
-map_drop f [] = refl
-map_drop f (x ∷ xs) = refl
+-- none passes
+pub none_left : {X : Type 0} (p : X → Bool) (xs : List X) → length xs ≤ place p xs →
+    before_first p xs ++ after_first p xs ≡ xs
+none_left p xs h =
+    ap (λ ys. ys ++ after_first p xs) (take_all (place p xs) xs h)
+    ∙ ap (λ ys. xs ++ ys) (drop_all (place p xs + 1) xs (omega (arith, h))) ∙ append-nil xs
+
+-- numbers that rise: from further down, with a higher one, and without some
+rise_from : (lower low last : ℕ) (numbers : List ℕ) → lower ≤ low → Rise low last numbers → Rise lower last numbers
+rise_from lower low last [] le h = omega (arith, le, h)
+rise_from lower low last (n ∷ ns) le h = (omega (arith, le, h.0), h.1)
+
+more_numbers : (low last : ℕ) (numbers : List ℕ) → Rise low last numbers →
+    Rise low (last + 1) (numbers ++ (last + 1) ∷ [])
+more_numbers low last [] h = (omega (arith, h), omega arith)
+more_numbers low last (n ∷ ns) h = (h.0, more_numbers n last ns h.1)
+
+fewer_numbers : {X : Type 0} (p q : X → Bool) (f : X → ℕ) (xs : List X) (low last : ℕ) →
+    Rise low last (map f (filter q xs)) →
+    Rise low last (map f (filter q (before_first p xs ++ after_first p xs)))
+fewer_numbers p q f [] low last h = h
+fewer_numbers {X} p q f (x ∷ xs) low last h =
+    by_test (λ lower g. fewer_numbers p q f xs lower last g) (p x) refl (q x) refl
+  where
+    later : (t : Bool) → q x ≡ t → Rise low last (map f (cond t (x ∷ filter q xs) (filter q xs)))
+    later t k = subst (λ s. Rise low last (map f (cond s (x ∷ filter q xs) (filter q xs)))) k h
+
+    by_test : ((lower : ℕ) → Rise lower last (map f (filter q xs)) →
+        Rise lower last (map f (filter q (before_first p xs ++ after_first p xs)))) →
+        (b : Bool) → p x ≡ b → (t : Bool) → q x ≡ t →
+        Rise low last (map f (filter q (before_first p (x ∷ xs) ++ after_first p (x ∷ xs))))
+    by_test again true e true k =
+        let g = later true k in
+        subst (λ ys. Rise low last (map f (filter q ys))) (sym (first_here p x xs e))
+        (rise_from low (f x) last (map f (filter q xs)) (omega (arith, g.0)) g.1)
+    by_test again true e false k =
+        subst (λ ys. Rise low last (map f (filter q ys))) (sym (first_here p x xs e)) (later false k)
+    by_test again false e true k =
+        let g = later true k in
+        subst (λ ys. Rise low last (map f (filter q ys))) (sym (first_behind p x xs e))
+        (subst (λ s. Rise low last (map f (cond s (x ∷ filter q (before_first p xs ++ after_first p xs))
+        (filter q (before_first p xs ++ after_first p xs))))) (sym k)
+        (g.0, again (f x) g.1))
+    by_test again false e false k =
+        subst (λ ys. Rise low last (map f (filter q ys))) (sym (first_behind p x xs e))
+        (subst (λ s. Rise low last (map f (cond s (x ∷ filter q (before_first p xs ++ after_first p xs))
+        (filter q (before_first p xs ++ after_first p xs))))) (sym k)
+        (again low (later false k)))
 
 map_append : {X Y : Type 0} (f : X → Y) (xs ys : List X) → map f (xs ++ ys) ≡ map f xs ++ map f ys
 map_append f [] ys = refl
@@ -83,32 +135,15 @@ all_parts P p xs all =
     All-append P (before_first p xs) (after_first p xs) (All-take P (place p xs) xs all)
     (All-drop P (place p xs + 1) xs all)
 
--- without the outstanding one
-pub sound_without : (giving : Giving) (fileset : FilesetId) → IsSound giving →
-    IsSound (record giving { gives = without_first fileset giving.gives })
-sound_without giving fileset sound =
+-- without the first one that passes a test
+pub sound_without : (giving : Giving) (test : Message → Bool) → IsSound giving →
+    IsSound (record giving { gives = without test giving.gives })
+sound_without giving test sound =
     record {
-      give_back =
-          all_parts (λ message. IsTrue (is_some (give_of message))) (is_of fileset) giving.gives sound.give_back;
-      go_on = λ other. by_test other (fileset.0 == other.0) refl;
+      give_back = all_parts (λ message. IsTrue (is_some (give_of message))) test giving.gives sound.give_back;
+      rise = λ fileset. fewer_numbers test (is_of fileset) number_of giving.gives 0 (last_of giving.counters fileset)
+          (sound.rise fileset);
     }
-  where
-    by_test : (other : FilesetId) (b : Bool) → (fileset.0 == other.0) ≡ b →
-        GoOnTo (last_of giving.counters other) (map number_of (of_fileset other (without_first fileset giving.gives)))
-    by_test other true e =
-        let same : fileset ≡ other = (let n = eqb-true fileset.0 other.0 e in λ i. record { 0 = n i }) in
-        let numbers : map number_of (of_fileset fileset (without_first fileset giving.gives))
-        ≡ drop 1 (map number_of (of_fileset fileset giving.gives)) =
-        ap (map number_of) (first_left (is_of fileset) giving.gives)
-        ∙ map_drop number_of (of_fileset fileset giving.gives) in
-        let left = without_first fileset giving.gives in
-        subst (λ f. GoOnTo (last_of giving.counters f) (map number_of (of_fileset f left))) same
-        (subst (GoOnTo (last_of giving.counters fileset)) (sym numbers)
-        (fewer_numbers (last_of giving.counters fileset) (map number_of (of_fileset fileset giving.gives))
-        (sound.go_on fileset)))
-    by_test other false e =
-        let left = others_left (is_of fileset) (is_of other) (apart_of fileset other e) giving.gives in
-        subst (λ ms. GoOnTo (last_of giving.counters other) (map number_of ms)) (sym left) (sound.go_on other)
 
 same_fileset : (a b : FilesetId) → (a.0 == b.0) ≡ true → a ≡ b
 same_fileset a b h = let n = eqb-true a.0 b.0 h in λ i. record { 0 = n i }
@@ -117,7 +152,7 @@ same_fileset a b h = let n = eqb-true a.0 b.0 h in λ i. record { 0 = n i }
 numbers_added : (giving : Giving) (message : Message) (give : Give) → give_of message ≡ Some give →
     give.number ≡ last_of giving.counters give.fid.fileset + 1 → IsSound giving → (other : FilesetId) (b : Bool) →
     (give.fid.fileset.0 == other.0) ≡ b →
-    GoOnTo (last_of (with_last giving.counters give.fid.fileset give.number) other)
+    Rise 0 (last_of (with_last giving.counters give.fid.fileset give.number) other)
     (map number_of (of_fileset other (giving.gives ++ message ∷ [])))
 numbers_added giving message give e next sound other true h =
     let before = of_fileset other giving.gives in
@@ -135,8 +170,8 @@ numbers_added giving message give e next sound other true h =
     ∙ ap (λ n. map number_of before ++ n ∷ []) numbered in
     let now : last_of (with_last giving.counters give.fid.fileset give.number) other ≡ last + 1 =
     last_with giving.counters give.fid.fileset give.number other ∙ ap (λ t. cond t give.number last) h ∙ following in
-    subst (λ n. GoOnTo n (map number_of (of_fileset other (giving.gives ++ message ∷ [])))) (sym now)
-    (subst (GoOnTo (last + 1)) (sym numbers) (more_numbers last (map number_of before) (sound.go_on other)))
+    subst (λ n. Rise 0 n (map number_of (of_fileset other (giving.gives ++ message ∷ [])))) (sym now)
+    (subst (Rise 0 (last + 1)) (sym numbers) (more_numbers 0 last (map number_of before) (sound.rise other)))
 numbers_added giving message give e next sound other false h =
     let before = of_fileset other giving.gives in
     let last = last_of giving.counters other in
@@ -147,8 +182,8 @@ numbers_added giving message give e next sound other false h =
     ∙ ap (λ t. before ++ cond t (message ∷ []) []) fails ∙ append-nil before in
     let now : last_of (with_last giving.counters give.fid.fileset give.number) other ≡ last =
     last_with giving.counters give.fid.fileset give.number other ∙ ap (λ t. cond t give.number last) h in
-    subst (λ n. GoOnTo n (map number_of (of_fileset other (giving.gives ++ message ∷ [])))) (sym now)
-    (subst (λ ms. GoOnTo last (map number_of ms)) (sym kept) (sound.go_on other))
+    subst (λ n. Rise 0 n (map number_of (of_fileset other (giving.gives ++ message ∷ [])))) (sym now)
+    (subst (λ ms. Rise 0 last (map number_of ms)) (sym kept) (sound.rise other))
 
 -- with the next one
 pub sound_added : (giving : Giving) (message : Message) → IsTrue (is_next giving message) → IsSound giving →
@@ -164,5 +199,5 @@ sound_added giving message next sound = by_give (give_of message) refl next
         record {
           give_back = All-push (λ m. IsTrue (is_some (give_of m))) giving.gives message sound.give_back
               (subst (λ o. IsTrue (is_some o)) (sym e) (search rules));
-          go_on = λ other. numbers_added giving message give e next sound other (give.fid.fileset.0 == other.0) refl;
+          rise = λ other. numbers_added giving message give e next sound other (give.fid.fileset.0 == other.0) refl;
         }

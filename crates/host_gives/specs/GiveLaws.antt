@@ -1,5 +1,5 @@
 -- Laws that only the right definitions of give-backs meet.
-use Rattle.std.specs.Prelude.{◌≡◌, ℕ, true, false, ◌==◌, ◌||◌, if◌then◌else◌, [], ◌∷◌, ◌++◌, drop}
+use Rattle.std.specs.Prelude.{◌≡◌, ℕ, true, false, ◌==◌, ◌&&◌, ◌||◌, not, if◌then◌else◌, [], ◌∷◌, ◌++◌, drop}
 use Rattle.std.specs.List.{list_any}
 use Rattle.base_types.specs.Ids.{same_fid}
 use Rattle.base_types.specs.declared.ids.Fid.{Fid}
@@ -10,7 +10,8 @@ use Rattle.message_types.specs.declared.giving.Give.{Give}
 use Rattle.message_types.specs.declared.message.Body.TheVariants.{GiveBack}
 use Rattle.message_types.specs.declared.message.Message.{Message}
 use Rattle.host_gives.specs.Counters.{last_of}
-use Rattle.host_gives.specs.Giving.{Giving, is_of_file, names, of_fileset, is_outstanding, after_add, after_gone}
+use Rattle.host_gives.specs.Giving.{Giving, IsSound, is_of_file, names, of_fileset, is_numbered, is_outstanding}
+use Rattle.host_gives.specs.Giving.{after_add, gone, after_gone, taken_out, after_take_out}
 
 -- a message that gives back
 abbrev message_of : Message → Give → Message
@@ -48,3 +49,19 @@ pub record TakesOutAt (giving : Giving) (fileset : FilesetId) (number : ℕ) : T
 
 abbrev pub TakesOut : Type 0
 TakesOut = (giving : Giving) (fileset : FilesetId) (number : ℕ) → TakesOutAt giving fileset number
+
+-- A number that is outstanding goes alike by both calls. Where a number is known as applied, outstanding or not, the
+-- give-back with it isn't there any more, and all other numbers and filesets have theirs; the last numbers stay.
+pub record TakesAnyAt (giving : Giving) (fileset : FilesetId) (number : ℕ) : Type 0 where
+  pub outstanding : is_outstanding giving fileset number ≡ true →
+      (taken_out giving fileset number ≡ gone giving fileset number)
+      × (after_take_out giving fileset number ≡ after_gone giving fileset number)
+  pub is_open : IsSound giving → (other : FilesetId) (n : ℕ) →
+      list_any (is_numbered other n) (after_take_out giving fileset number).gives
+      ≡ (list_any (is_numbered other n) giving.gives && not ((fileset.0 == other.0) && (number == n)))
+  pub others : (other : FilesetId) → (fileset.0 == other.0) ≡ false →
+      of_fileset other (after_take_out giving fileset number).gives ≡ of_fileset other giving.gives
+  pub last : (after_take_out giving fileset number).counters ≡ giving.counters
+
+abbrev pub TakesAny : Type 0
+TakesAny = (giving : Giving) (fileset : FilesetId) (number : ℕ) → TakesAnyAt giving fileset number

@@ -1,5 +1,6 @@
 -- The give-backs that a host has made and doesn't know as applied.
-use Rattle.std.specs.Prelude.{◌≡◌, ℕ, ◌+◌, Bool, false, IsTrue, ◌==◌, if◌then◌else◌, List, [], ◌∷◌, ◌++◌, length, map}
+use Rattle.std.specs.Prelude.{ℕ, ◌+◌, ◌<◌, ◌≤◌, Bool, false, IsTrue, ◌==◌, ◌&&◌, if◌then◌else◌, List, [], ◌∷◌, ◌++◌}
+use Rattle.std.specs.Prelude.{map}
 use Rattle.std.specs.Prelude.{Option, Some, None, is_some, All, filter}
 use Rattle.std.specs.List.{find, list_any, before_first, after_first}
 use Rattle.std.specs.Option.{option_map_or}
@@ -69,9 +70,13 @@ is_outstanding giving fileset number =
 abbrev pub gone : Giving → FilesetId → ℕ → Option Message
 gone giving fileset number = if is_outstanding giving fileset number then outstanding giving fileset else None
 
+-- the messages without the first one that passes a test
+abbrev pub without : (Message → Bool) → List Message → List Message
+without test gives = before_first test gives ++ after_first test gives
+
 -- the messages without the first one of a fileset
 abbrev pub without_first : FilesetId → List Message → List Message
-without_first fileset gives = before_first (is_of fileset) gives ++ after_first (is_of fileset) gives
+without_first fileset gives = without (is_of fileset) gives
 
 abbrev pub after_gone : Giving → FilesetId → ℕ → Giving
 after_gone giving fileset number =
@@ -79,17 +84,29 @@ after_gone giving fileset number =
       gives = if is_outstanding giving fileset number then without_first fileset giving.gives else giving.gives;
     }
 
+-- whether a message is the give-back of a fileset with this number
+abbrev pub is_numbered : FilesetId → ℕ → Message → Bool
+is_numbered fileset number message = is_of fileset message && (number_of message == number)
+
+-- the give-back with this number is known as applied, outstanding or not
+abbrev pub taken_out : Giving → FilesetId → ℕ → Option Message
+taken_out giving fileset number = find (is_numbered fileset number) giving.gives
+
+abbrev pub after_take_out : Giving → FilesetId → ℕ → Giving
+after_take_out giving fileset number =
+    record giving { gives = without (is_numbered fileset number) giving.gives }
+
 -- the give-backs of one fileset
 abbrev pub of_fileset : FilesetId → List Message → List Message
 of_fileset fileset gives = filter (is_of fileset) gives
 
--- numbers go on by one up to the last
-abbrev pub GoOnTo : ℕ → List ℕ → Type 0
-GoOnTo last [] = Unit {0}
-GoOnTo last (number ∷ numbers) = (number + length numbers ≡ last) × GoOnTo last numbers
+-- numbers rise: each is above the one before it, the first above `low`, and none is above `last`
+abbrev pub Rise : ℕ → ℕ → List ℕ → Type 0
+Rise low last [] = low ≤ last
+Rise low last (number ∷ numbers) = (low < number) × Rise number last numbers
 
--- all messages give back, and the numbers of those of one fileset go on by one up to the last one that was made
+-- all messages give back, and the numbers of those of one fileset rise; none is above the last one that was made
 pub record IsSound (giving : Giving) : Type 0 where
   pub give_back : All (λ message. IsTrue (is_some (give_of message))) giving.gives
-  pub go_on : (fileset : FilesetId) →
-      GoOnTo (last_of giving.counters fileset) (map number_of (of_fileset fileset giving.gives))
+  pub rise : (fileset : FilesetId) →
+      Rise 0 (last_of giving.counters fileset) (map number_of (of_fileset fileset giving.gives))

@@ -4,6 +4,7 @@ ghost use Rattle.token_types.specs.Conflicts.{same_id};
 ghost use Rattle.host_gives.specs.Counters.{last_of};
 ghost use Rattle.host_gives.specs.Giving.{give_of, number_of, is_of, names, is_of_file, outstanding, is_next};
 ghost use Rattle.host_gives.specs.Giving.{after_add, gone, after_gone, IsSound};
+ghost use Rattle.host_gives.specs.Giving.{is_numbered, taken_out, after_take_out};
 
 use crate::counters::{Counter, last_of, set_last};
 use base_types::{Fid, FilesetId, Items, NoMemory, Plain};
@@ -41,8 +42,8 @@ impl Gives {
         }
     }
 
-    /// What holds of all give-backs: all messages give back, and the numbers of those of one fileset go on by one up to
-    /// the last one that was made. It does nothing.
+    /// What holds of all give-backs: all messages give back, and the numbers of those of one fileset rise, up to the
+    /// last one that was made at most. It does nothing.
     pub fn laws(&self)
         ensures { IsSound self.now }
     {
@@ -93,6 +94,28 @@ impl Gives {
         Some(self.gives.remove(place))
     }
 
+    /// Takes out the give-back of a fileset with this number, outstanding or not: it is known as applied. It answers
+    /// None where there is none; then nothing changes. It takes no memory.
+    pub fn take_out(&mut self, fileset: FilesetId, number: u64) -> Option<Message>
+        ensures taken { result ≡ taken_out self.old fileset number }
+        ensures after { self.new ≡ after_take_out self.old fileset number }
+    {
+        let Some(place) = place_numbered(self.gives.as_slice(), fileset, number) else {
+            return None;
+        };
+        Some(self.gives.remove(place))
+    }
+
+    /// Whether the give-back of a fileset with this number was made and isn't known as applied. It takes no memory.
+    pub fn is_open(&self, fileset: FilesetId, number: u64) -> bool
+        ensures { result ≡ list_any (is_numbered fileset number) self.now.gives }
+    {
+        self.gives
+            .as_slice()
+            .iter()
+            .any(|give| is_numbered(give, fileset, number))
+    }
+
     /// Whether one of the give-backs names a token. It takes no memory.
     pub fn names(&self, id: TokenId) -> bool
         ensures { result ≡ list_any (names id) self.now.gives }
@@ -139,6 +162,14 @@ fn place_of(gives: &[Message], fileset: FilesetId) -> Option<usize>
     gives.iter().position(|give| is_of(give, fileset))
 }
 
+fn place_numbered(gives: &[Message], fileset: FilesetId, number: u64) -> Option<usize>
+    ensures { result ≡ position (is_numbered fileset number) gives.now }
+{
+    gives
+        .iter()
+        .position(|give| is_numbered(give, fileset, number))
+}
+
 fn give_of(message: &Message) -> Option<&Give>
     ensures { option_copied result ≡ give_of message.now }
 {
@@ -158,6 +189,12 @@ fn is_of(message: &Message, fileset: FilesetId) -> bool
     ensures { result ≡ is_of fileset message.now }
 {
     give_of(message).map_or(false, |give| give.fid.fileset == fileset)
+}
+
+fn is_numbered(message: &Message, fileset: FilesetId, number: u64) -> bool
+    ensures { result ≡ is_numbered fileset number message.now }
+{
+    is_of(message, fileset) && number_of(message) == number
 }
 
 fn is_of_file(message: &Message, fid: Fid) -> bool

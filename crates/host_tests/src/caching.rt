@@ -68,6 +68,11 @@ fn others_told(alloc: Global, cache: &mut Cache, word: &str, words: &mut Words) 
             let entries = cache.entries(words.file()?);
             number_or_none(alloc, entries.first().map(|entry| u64::from(entry.anode)))
         }
+        "find" => {
+            let held = cache.find(words.id()?);
+            use_text(alloc, held.map(|held| held.in_use))
+        }
+        "at" => seqs_text(alloc, cache.tokens_at(words.file()?)),
         word => bail!("no step of a cache: {word}"),
     }
 }
@@ -245,12 +250,27 @@ fn span_of(from: u64, count: usize) -> Option<Span>
     })
 }
 
-fn tokens_text(alloc: Global, cache: &Cache) -> Result<String> {
-    let mut text = String::new(alloc);
+/// The numbers of the held tokens, the most recently used first.
+pub fn tokens_text(alloc: Global, cache: &Cache) -> Result<String> {
     let tokens = cache.tokens()?;
-    for token in tokens.as_slice() {
+    seqs_text(alloc, tokens.as_slice())
+}
+
+fn seqs_text(alloc: Global, tokens: &[Token]) -> Result<String> {
+    let mut text = String::new(alloc);
+    for token in tokens {
         let seq = token.id.seq;
         text.push_str(format!(in alloc; "{seq} ")?.as_str())?;
     }
     Ok(text)
+}
+
+// Whether a token that was found is in use.
+fn use_text(alloc: Global, in_use: Option<bool>) -> Result<String> {
+    let text = match in_use {
+        Some(true) => "in use",
+        Some(false) => "idle",
+        None => "none",
+    };
+    Ok(String::from_str(alloc, text)?)
 }

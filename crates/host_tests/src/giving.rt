@@ -27,6 +27,16 @@ pub fn told(alloc: Global, gives: &mut Gives, words: &mut Words) -> Result<Strin
             let number = words.number()?;
             gone_text(alloc, gives, fileset, number)
         }
+        "take" => {
+            let fileset = words.fileset();
+            let number = words.number()?;
+            let taken = taken_number(gives, fileset, number);
+            number_or_none(alloc, taken)
+        }
+        "open" => {
+            let fileset = words.fileset();
+            yes_or_no(alloc, gives.is_open(fileset, words.number()?))
+        }
         "outstanding" => {
             let outstanding = gives.outstanding(words.fileset());
             number_or_none(alloc, outstanding.map(number_of))
@@ -49,6 +59,14 @@ fn gone_number(gives: &mut Gives, fileset: FilesetId, number: u64) -> Option<u64
     let gone = gives.gone(fileset, number);
     let number = gone.as_ref().map(number_of);
     drop(gone);
+    number
+}
+
+// The same, outstanding or not.
+fn taken_number(gives: &mut Gives, fileset: FilesetId, number: u64) -> Option<u64> {
+    let taken = gives.take_out(fileset, number);
+    let number = taken.as_ref().map(number_of);
+    drop(taken);
     number
 }
 

@@ -7,6 +7,8 @@ mod dirtying;
 mod giving;
 mod labelling;
 mod reading;
+mod tabling;
+mod walking;
 
 use anyhow::{Result, bail};
 use host_cache::Cache;
@@ -15,6 +17,8 @@ use host_gives::Gives;
 use host_labels::Uses;
 use reading::Words;
 use std::alloc::Global;
+use tabling::Tables;
+use walking::Walker;
 
 // What the steps are made on.
 #[derive(Drop)]
@@ -24,17 +28,23 @@ struct Parts {
     dirty: Dirty,
     gives: Gives,
     cache: Cache,
+    tables: Tables,
+    walker: Walker,
 }
 
 impl Parts {
     fn new(alloc: Global) -> Result<Parts> {
         let cache = Cache::new(alloc)?;
+        let tables = Tables::new(alloc)?;
+        let walker = Walker::new(alloc)?;
         Ok(Parts {
             alloc,
             uses: Uses::new(alloc),
             dirty: Dirty::new(alloc),
             gives: Gives::new(alloc),
             cache,
+            tables,
+            walker,
         })
     }
 
@@ -46,6 +56,9 @@ impl Parts {
             "dirty" => dirtying::told(self.alloc, &mut self.dirty, &mut words),
             "cache" => caching::told(self.alloc, &mut self.cache, &mut words),
             "give" => giving::told(self.alloc, &mut self.gives, &mut words),
+            "table" => self.tables.told(self.alloc, &mut words),
+            "walk" => self.walker.told(self.alloc, &mut words),
+            "mark" => self.walker.marked(self.alloc, &mut words),
             word => bail!("no step: {word}"),
         }
     }
@@ -84,6 +97,9 @@ fn main(rt: HostRuntime) -> Result<()> {
     host_labels::uses_law();
     host_gives::gives_law();
     host_cache::cache_law();
+    host_tables::tables_laws();
+    host_tables::updates_law();
+    host_walk::walk_law();
     let mut parts = Parts::new(rt.alloc())?;
     let judged = judge_all(&rt, &mut parts);
     drop(parts);

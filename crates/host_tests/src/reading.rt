@@ -30,6 +30,11 @@ impl<'a> Words<'a> {
         self.next().parse::<u64>().context("a number")
     }
 
+    /// A number of 32 bits.
+    pub fn small(&mut self) -> Result<u32> {
+        self.next().parse::<u32>().context("a number")
+    }
+
     /// `7`, or `none`.
     pub fn length(&mut self) -> Result<Option<u32>> {
         match self.next() {

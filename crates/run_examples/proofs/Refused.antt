@@ -1,19 +1,27 @@
 -- Why the odd steps are refused.
-use Rattle.std.proofs.Common.{[], ◌∷◌, ℕ, inl, inr, refl, sym, ◌≡◌, ◌∙◌}
+use Rattle.std.proofs.Common.{[], ◌∷◌, ◌<◌, ℕ, Bool, List, false, inl, inr, refl, suc, sym, zero, true, ◌≡◌, ◌∙◌}
+use Rattle.std.proofs.Math.Dec.{eqb-suc-zero}
+use Rattle.base_types.specs.declared.ids.HostId.{HostId}
 use Rattle.base_types.specs.declared.ids.ServerId.{ServerId}
+use Rattle.tree_calls.specs.declared.call.Call.TheVariants.{Lock}
+use Rattle.message_types.specs.declared.asking.Change.{Change as ChangeOf}
 use Rattle.message_types.specs.declared.message.Body.TheVariants.{Hello, Change}
 use Rattle.message_types.specs.declared.message.Message.{Message}
-use Rattle.run_rules.specs.Doings.{doings_of}
+use Rattle.run_rules.specs.Doings.{Doing, doings_of}
 use Rattle.run_rules.specs.HostDue.{HostDue}
 use Rattle.run_rules.specs.HostMay.{HostMay}
 use Rattle.run_rules.specs.Messages.{HasGreeted, IsWelcome}
+use Rattle.run_rules.specs.ServerDecides.{IsMeantSo, IsNewRequest}
 use Rattle.run_rules.specs.ServerMay.{ServerMay}
+use Rattle.run_rules.specs.Wants.{locks_nothing}
+use Rattle.run_rules.specs.declared.applied.Request.TheVariants.{Change as Changes}
 use Rattle.run_rules.specs.declared.step.Cause.TheVariants.{Message as Came, Lapse}
+use Rattle.run_rules.specs.declared.step.Step.{Step}
 use Rattle.run_tokens.specs.Worked.{client, enter, site_one, to_host, to_server, welcome}
 use Rattle.message_types.specs.declared.message.Body.TheVariants.{Reclaimed}
 use Rattle.run_examples.specs.Laws.{Does, writing}
-use Rattle.run_examples.specs.Refused.{OddSteps, asks_ungreeted, gives_length, greets_twice, looking, no_tokens}
-use Rattle.run_examples.specs.Refused.{tells_unasked, unasked}
+use Rattle.run_examples.specs.Refused.{LocksBytes, OddSteps, asks_ungreeted, gives_length, greets_twice, looking}
+use Rattle.run_examples.specs.Refused.{no_tokens, tells_unasked, unasked}
 use Rattle.run_examples.specs.Steps.{file_tree, grown}
 use Rattle.run_examples.proofs.Examples.{computed}
 use Rattle.run_examples.proofs.HostChecks.{host_does}
@@ -52,6 +60,19 @@ not_twice due = due.once.0 (inl refl)
 not_given : HostMay writing client grown gives_length → ⊥
 not_given may = may.gives.names no_tokens (inl refl) refl
 
+not_locked : (server : ServerId) (before past : List Doing) (s : Step) (host : HostId) (moves : ℕ)
+    (change : ChangeOf) → LocksBytes change 0 → IsNewRequest server before past s host moves (Changes change) → ⊥
+not_locked server before past s host moves change (label, place, writing, from, is) new =
+    let so : locks_nothing change.call ≡ false = new.here.1.2 in
+    let nothing : locks_nothing (Lock label place writing from 0) ≡ true = refl in cc
+
+is_meant : (change : ChangeOf) (len : ℕ) → LocksBytes change len → 0 < len → change.enter ≡ false
+    → change.fid.fileset ≡ change.fileset → IsMeantSo change
+is_meant change zero locks more out named = elim more [ ]
+is_meant change (suc len) (label, place, writing, from, is) more out named =
+    let some : locks_nothing (Lock label place writing from (suc len)) ≡ false = eqb-suc-zero len in
+    ((λ enters. absurd (cc)), (λ so. named), cc)
+
 pub odd_steps : OddSteps
 odd_steps = record {
   told = not_told;
@@ -59,4 +80,6 @@ odd_steps = record {
   asks = not_asked;
   greets = not_twice;
   gives = not_given;
+  nothing = not_locked;
+  something = is_meant;
 }

@@ -69,7 +69,8 @@ use Rattle.run_rules.specs.ServerMay.{MaySend, TellsKept}
 use Rattle.run_rules.specs.ServerMay.AnsweredSo.{IsEntered, TakesToken}
 use Rattle.run_rules.specs.ServerMay.DoneFor.{Answered, OfWritten}
 use Rattle.run_rules.specs.Wants.{CanDecide, CanGrant, CanRefuse, CannotBothWait, IsBehind, IsOld, IsQueued}
-use Rattle.run_rules.specs.Wants.{IsQueuedBefore, NoneQueued, asker, body_of, has_effect, is_use, moves_fileset}
+use Rattle.run_rules.specs.Wants.{IsQueuedBefore, NoneQueued, asker, body_of, has_effect, is_use, locks_nothing}
+use Rattle.run_rules.specs.Wants.{moves_fileset}
 use Rattle.run_rules.specs.Wants.{needs_for, row_needs}
 use Rattle.run_rules.specs.declared.applied.Applied.TheVariants.{Done as IsDone, Wants as IsWanted}
 use Rattle.run_rules.specs.declared.applied.Request.TheVariants.{Change as Changes, Fetch as Asks}
@@ -159,7 +160,8 @@ is_here_now server fs n = ((fs.0 == 0) && (n == 0)) || here server fs n
 
 unfoldable pub is_meant : ChangeOf → Bool
 is_meant c =
-    implies c.enter (is_some (fileset_of c.call)) && implies (is_use c.call) (same_fileset c.fid.fileset c.fileset)
+    implies c.enter (is_some (fileset_of c.call))
+    && (implies (is_use c.call) (same_fileset c.fid.fileset c.fileset) && not (locks_nothing c.call))
 
 unfoldable pub asked_here : ServerId → ℕ → Request → Bool
 asked_here server n (Asks f) = here server f.fid.fileset n
@@ -643,15 +645,24 @@ new_yes server before past s w e =
           (asked_is v.request w.request same));
     }
   where
+    is_off : (b : Bool) → not b ≡ true → b ≡ false
+    is_off true h = cc
+    is_off false h = refl
+
     here_it : (r : Request) → asked_here server w.moves r ≡ true → IsAskedHere server before w.moves r
     here_it (Asks f) t = here_yes server before f.fid.fileset w.moves t
     here_it (Changes c) t =
         let p = and_parts (is_here_now server c.fileset w.moves) (is_meant c) t in
         let named = is_some (fileset_of c.call) in
         let at_home = same_fileset c.fid.fileset c.fileset in
-        let q = and_parts (implies c.enter named) (implies (is_use c.call) at_home) p.1 in (
+        let q = and_parts (implies c.enter named) (implies (is_use c.call) at_home && not (locks_nothing c.call)) p.1 in
+        let r = and_parts (implies (is_use c.call) at_home) (not (locks_nothing c.call)) q.1 in (
           here_either server before c.fileset w.moves p.0,
-          (λ e. so c.enter named q.0 e, λ e. fileset_is c.fid.fileset c.fileset (so (is_use c.call) at_home q.1 e)),
+          (
+            (λ e. so c.enter named q.0 e),
+            (λ e. fileset_is c.fid.fileset c.fileset (so (is_use c.call) at_home r.0 e)),
+            is_off (locks_nothing c.call) r.1,
+          ),
         )
 
     fresh_it : (r : Request) → new_numbered past w.host r ≡ true → IsOld past w.host r → ⊥
@@ -837,8 +848,10 @@ has_decided server tree before past s e = record {
     meant n (Changes c) x =
         let named = is_some (fileset_of c.call) in
         let at_home = same_fileset c.fid.fileset c.fileset in
-        and_from (implies c.enter named) (implies (is_use c.call) at_home) (implied c.enter named x.1.0) (implied
-        (is_use c.call) at_home (λ e. filesets c.fid.fileset c.fileset (x.1.1 e)))
+        let some = not (locks_nothing c.call) in
+        and_from (implies c.enter named) (implies (is_use c.call) at_home && some) (implied c.enter named x.1.0)
+        (and_from (implies (is_use c.call) at_home) some (implied (is_use c.call) at_home
+        (λ e. filesets c.fid.fileset c.fileset (x.1.1 e))) (ap not x.1.2))
 
     news : (h : HostId) (n : ℕ) (r : Request) → TakenNow before s h n (body_of r)
         → IsAskedHere server before n r → NoneQueued (after_cause s.cause before) h r

@@ -12,7 +12,7 @@ use Rattle.run_examples.proofs.ServerWords.{heard, heard_from, here, listed, liv
 use Rattle.run_examples.proofs.ServerWords.{takes_give, takes_hello}
 use Rattle.run_examples.specs.Laws.{restarting, writing}
 use Rattle.run_examples.specs.Steps.{admits, answers_bye, calls_again, calls_back, file, file_tree, hears_down}
-use Rattle.run_examples.specs.Steps.{hears, hears_misplaced, hears_nameless, hears_returned, other_grant, other_status, other_stops}
+use Rattle.run_examples.specs.Steps.{hears, hears_empty, hears_misplaced, hears_nameless, hears_returned, other_grant, other_status, other_stops}
 use Rattle.run_examples.specs.Steps.{restarts, served, server_lapses}
 use Rattle.run_examples.specs.Steps.{shared, stores, stores_and_grants}
 use Rattle.script_lines.specs.declared.script.Script.{Script}
@@ -195,3 +195,14 @@ misplaced = hears_misplaced ∷ served
 pub misplaced_lapse : Meets writing misplaced (server_lapses [])
 unfolding served_words
 misplaced_lapse = step_meets writing file_tree site_one misplaced (past_of misplaced) (server_lapses []) refl tt refl
+
+pub empty_meets : Meets writing served hears_empty
+unfolding served_words
+empty_meets = step_meets writing file_tree site_one served (past_of served) hears_empty refl tt refl
+
+abbrev emptied : List Step
+emptied = hears_empty ∷ served
+
+pub empty_lapse : Meets writing emptied (server_lapses [])
+unfolding served_words
+empty_lapse = step_meets writing file_tree site_one emptied (past_of emptied) (server_lapses []) refl tt refl

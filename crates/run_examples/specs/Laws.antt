@@ -23,7 +23,8 @@ use Rattle.run_rules.specs.declared.step.Step.{Step}
 use Rattle.run_examples.specs.Steps.{asks_lock, asks_update, begin, claims_all, claims_gift, ends, frees, gift, gives}
 use Rattle.run_examples.specs.Steps.{asks_file, asks_for, asks_root, enters, evicted, evicts, file, frees_last, greets}
 use Rattle.run_examples.specs.Journal.{script, second_change, start, step_34, waiting}
-use Rattle.run_examples.specs.Steps.{hears, hears_bytes, hears_misplaced, hears_moved, hears_nameless, hears_unmade}
+use Rattle.run_examples.specs.Steps.{hears, hears_bytes, hears_empty, hears_misplaced}
+use Rattle.run_examples.specs.Steps.{hears_moved, hears_nameless, hears_unmade}
 use Rattle.run_examples.specs.Steps.{other_stops}
 use Rattle.run_examples.specs.Steps.{returns_other}
 use Rattle.run_examples.specs.Steps.{calls_back, grown, needs, recall, returns_all, shared, stores_and_grants}
@@ -202,13 +203,15 @@ NamelessIsIgnored = Serves writing served hears_nameless []
 
 -- Sound messages that only a wrong peer sends admit a step, too: a Gone of a give-back that wasn't made; a Done under
 -- fileset 0 with moves, while the Change that it names is outstanding; a Done that brings bytes, and shows none; a
--- Revoke that names a token of another file; a Change of a lock that is numbered under another fileset than its file's.
+-- Revoke that names a token of another file; a Change of a lock that is numbered under another fileset than its file's,
+-- or is of no bytes.
 pub record OddMessagesAreBorne : Type 0 where
   pub unmade : Meets writing grown hears_unmade []
   pub moved : Does writing client (enters writes ∷ greets writes ∷ []) hears_moved
   pub bytes : Does writing client (enters writes ∷ greets writes ∷ []) hears_bytes
   pub other_file : Meets writing grown returns_other []
   pub misplaced : Serves writing served hears_misplaced []
+  pub empty : Serves writing served hears_empty []
 
 -- A Change that comes while another of its host and fileset waits makes no want; the one that waits is decided.
 abbrev pub Reacts : List Step → Step → Type 0

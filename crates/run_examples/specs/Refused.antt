@@ -1,13 +1,21 @@
 -- Steps that the rules refuse, each for one reason, and one that they admit.
-use Rattle.std.specs.Prelude.{◌≡◌, ℕ, List, [], ◌∷◌, Some, None}
+use Rattle.std.specs.Prelude.{◌≡◌, ◌<◌, ℕ, Bool, List, [], ◌∷◌, Some, None, false}
+use Rattle.base_types.specs.declared.ids.HostId.{HostId}
+use Rattle.base_types.specs.declared.ids.ServerId.{ServerId}
+use Rattle.base_types.specs.declared.name.Name.{Name}
+use Rattle.tree_calls.specs.declared.call.Call.TheVariants.{Lock}
+use Rattle.tree_calls.specs.declared.place.Place.{Place}
+use Rattle.message_types.specs.declared.asking.Change.{Change as ChangeOf}
 use Rattle.message_types.specs.declared.giving.Give.{Give}
 use Rattle.message_types.specs.declared.message.Body.TheVariants.{Hello, Change, Done, GiveBack, Reclaimed}
 use Rattle.script_lines.specs.declared.script.Deed.TheVariants.{Call as MakesCall}
 use Rattle.script_lines.specs.declared.script.Script.{Script}
-use Rattle.run_rules.specs.Doings.{doings_of as acts_of}
+use Rattle.run_rules.specs.Doings.{Doing, doings_of as acts_of}
 use Rattle.run_rules.specs.HostDue.{HostDue}
 use Rattle.run_rules.specs.HostMay.{HostMay}
+use Rattle.run_rules.specs.ServerDecides.{IsMeantSo, IsNewRequest}
 use Rattle.run_rules.specs.ServerMay.{ServerMay}
+use Rattle.run_rules.specs.declared.applied.Request.TheVariants.{Change as Changes}
 use Rattle.run_rules.specs.declared.step.Cause.TheVariants.{Line as LineOf, Message as Came, Lapse}
 use Rattle.run_rules.specs.declared.step.Step.{Step}
 use Rattle.run_tokens.specs.Worked.{client, site_one, serves, to_host, to_server, welcome, stat, enter, entered}
@@ -44,11 +52,21 @@ gives_length = acts (Came (to_host (Done entered))) None [] [] None [] (no_token
 abbrev pub tells_unasked : Step
 tells_unasked = serves Lapse [] [] (to_host (Reclaimed welcome) ∷ [])
 
+-- a lock of so many bytes is asked for
+abbrev pub LocksBytes : ChangeOf → ℕ → Type 0
+LocksBytes change len =
+    (label : Name) × (place : Place) × (writing : Bool) × (from : ℕ) × (change.call ≡ Lock label place writing from len)
+
 -- A server says Reclaimed only where it was asked. A host bears one all the same, and doesn't count as welcome by it,
--- since it has greeted nobody; so it asks nothing. Nothing is said twice in a step, and a give-back names a token.
+-- since it has greeted nobody; so it asks nothing. Nothing is said twice in a step, and a give-back names a token. A
+-- lock of no bytes makes no want, whoever asks for it; one of any other length may.
 pub record OddSteps : Type 0 where
   pub told : ServerMay looking file_tree site_one [] (acts_of 1 site_one []) tells_unasked → ⊥
   pub heard : Does looking client [] unasked
   pub asks : HostMay looking client (unasked ∷ []) asks_ungreeted → ⊥
   pub greets : HostDue looking client [] greets_twice → ⊥
   pub gives : HostMay writing client grown gives_length → ⊥
+  pub nothing : (server : ServerId) (before past : List Doing) (s : Step) (host : HostId) (moves : ℕ)
+      (change : ChangeOf) → LocksBytes change 0 → IsNewRequest server before past s host moves (Changes change) → ⊥
+  pub something : (change : ChangeOf) (len : ℕ) → LocksBytes change len → 0 < len → change.enter ≡ false
+      → change.fid.fileset ≡ change.fileset → IsMeantSo change

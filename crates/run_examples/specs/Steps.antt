@@ -668,3 +668,15 @@ hears_misplaced =
       k = 2;
       call = locks;
     })))) [] [] []
+
+-- a lock of no bytes makes no want
+abbrev pub hears_empty : Step
+hears_empty =
+    serves (Came (to_server 1 (Change (record {
+      number = 2;
+      fileset = file.fileset;
+      fid = file;
+      enter = false;
+      k = 2;
+      call = Lock (codes "l") at_file true 0 0;
+    })))) [] [] []

@@ -32,7 +32,7 @@ use Rattle.run_rules.specs.Kept.{filesets_after, takes_gifts}
 use Rattle.run_rules.specs.Past.{In, appended}
 use Rattle.run_rules.specs.Tokens.{number_of}
 use Rattle.run_rules.specs.Wants.{CanDecide, CanGrant, CanRefuse, Decides, IsOld, IsQueued, NoneQueued, body_of}
-use Rattle.run_rules.specs.Wants.{exporter, has_effect, is_use, moves_fileset, needs_for, row_needs}
+use Rattle.run_rules.specs.Wants.{exporter, has_effect, is_use, locks_nothing, moves_fileset, needs_for, row_needs}
 use Rattle.run_rules.specs.declared.applied.Applied.{Applied}
 use Rattle.run_rules.specs.declared.applied.Applied.TheVariants.{Done, IsDown as GoesDown, Replied as EndsCall, Stored}
 use Rattle.run_rules.specs.declared.applied.Applied.TheVariants.{Wants}
@@ -113,11 +113,12 @@ pub record ServerApplies (server : ServerId) (tree : Tree) (past : List Doing) (
 abbrev pub IsDecidedHere : ServerId → List Doing → FilesetId → ℕ → Type 0
 IsDecidedHere server past fileset moves = ((fileset.0 ≡ 0) × (moves ≡ 0)) ⊎ Here server past fileset moves
 
--- A Change is meant so that it can be answered: one that enters a fileset names one, and a lock or an open is numbered
--- under its file's fileset.
+-- A Change is meant so that it can be answered: one that enters a fileset names one, a lock or an open is numbered
+-- under its file's fileset, and a lock is of one byte at least, since no token is of none.
 abbrev pub IsMeantSo : ChangeOf → Type 0
 IsMeantSo change = (change.enter ≡ true → is_some (fileset_of change.call) ≡ true)
     × (is_use change.call ≡ true → change.fid.fileset ≡ change.fileset)
+    × (locks_nothing change.call ≡ false)
 
 abbrev pub IsAskedHere : ServerId → List Doing → ℕ → Request → Type 0
 IsAskedHere server past moves (Asks fetch) = Here server past fetch.fid.fileset moves

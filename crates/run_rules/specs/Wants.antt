@@ -1,6 +1,7 @@
 -- The wants of requests: which one waits, what for, and in what order. `past` is the server's earlier doings.
 use Rattle.std.specs.Option.{option_map_or}
-use Rattle.std.specs.Prelude.{Bool, IsTrue, List, [], false, if◌then◌else◌, not, true, ℕ, ◌&&◌, ◌<◌, ◌∷◌, ◌≡◌, ◌⊎◌}
+use Rattle.std.specs.Prelude.{Bool, IsTrue, List, [], false, if◌then◌else◌, nat_eq, not, true, ℕ, ◌&&◌, ◌<◌, ◌∷◌}
+use Rattle.std.specs.Prelude.{◌≡◌, ◌⊎◌}
 use Rattle.base_types.specs.declared.ids.HostId.{HostId}
 use Rattle.base_types.specs.declared.ids.ServerId.{ServerId}
 use Rattle.tree_answers.specs.declared.tree.Tree.{Tree}
@@ -34,6 +35,11 @@ abbrev pub is_use : Call → Bool
 is_use (Lock label place writing from len) = true
 is_use (OpenFile label place kind) = true
 is_use _ = false
+
+-- a lock of no bytes
+abbrev pub locks_nothing : Call → Bool
+locks_nothing (Lock label place writing from len) = nat_eq len 0
+locks_nothing _ = false
 
 -- whether it moves a fileset; so far none moves: where nothing refuses such a Change it waits for good, and each later
 -- want that conflicts with it stands behind it

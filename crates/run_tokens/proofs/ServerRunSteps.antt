@@ -362,7 +362,7 @@ meets_welcomes = record {
 new_request : IsNewRequest site_one welcomed entering tells client 0 (Changes enter)
 new_request = record {
   taken = ((to_server 1 (Change enter), refl, refl, refl, refl, refl), live welcomed (welcomed_new whole));
-  here = (inl (refl, refl), (λ e. refl, λ e. absurd (cc)));
+  here = (inl (refl, refl), (λ e. refl, (λ e. absurd (cc)), refl));
   fresh = λ old. elim old [ inl d ↦ none_written_entering _ _ _ d.2 | inr d ↦ none_done client d.0 d.1 d.2 d.3 ];
   alone = λ w waits. absurd (none_waits_entering w waits);
 }

@@ -19,6 +19,8 @@ use Rattle.token_table.specs.Marks.{NoteMap, note_at, is_pinned, is_revoked, wit
 use Rattle.token_table.specs.Marks.{with_each, without_notes_of}
 use Rattle.token_manager.specs.declared.grants.Grants.{Grants}
 use Rattle.token_manager.specs.declared.want.Want.{Want}
+use Rattle.token_manager.specs.declared.want.Outlook.{Outlook}
+use Rattle.token_manager.specs.declared.want.Outlook.TheVariants.{Granted, Refused}
 use Rattle.token_manager.specs.declared.want.Wanted.{Wanted}
 
 -- whether a granted token of another host conflicts with a want
@@ -82,6 +84,11 @@ holds grants host id = option_map_or (λ token. token.host.0 == host.0) (token_a
 abbrev pub can_keep : Grants → HostId → TokenId → Bool
 can_keep grants host id =
     option_map_or (λ token. (token.host.0 == host.0) && is_lock_or_open token.kind) (token_at grants id) false
+
+-- what becomes of a want that can be decided: it is refused for a pinned token in its way, and else granted
+abbrev pub outlook_with : Option Token → Outlook
+outlook_with (Some token) = Refused token
+outlook_with None = Granted
 
 -- the granted tokens of a server in an epoch that has granted none
 abbrev pub no_grants : ServerId → ℕ → Grants

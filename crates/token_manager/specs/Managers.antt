@@ -1,5 +1,5 @@
 -- What a token manager is seen as, its answers, and what they leave.
-use Rattle.std.specs.Prelude.{ℕ, ◌+◌, Bool, ◌&&◌, ◌||◌, not, is_some}
+use Rattle.std.specs.Prelude.{ℕ, ◌+◌, ◌==◌, Bool, ◌&&◌, ◌||◌, not, is_some}
 use Rattle.std.specs.Prelude.{is_none, if◌then◌else◌, nat_lt, List, [], ◌∷◌, ◌++◌}
 use Rattle.std.specs.Prelude.{Option, Some, None}
 use Rattle.std.specs.List.{find}
@@ -14,11 +14,13 @@ use Rattle.token_manager.specs.declared.grants.Grants.{Grants}
 use Rattle.token_manager.specs.declared.want.Want.{Want}
 use Rattle.token_manager.specs.declared.want.Asked.{Asked}
 use Rattle.token_manager.specs.declared.want.Asked.TheVariants.{Granted, Waits}
+use Rattle.token_manager.specs.declared.want.Outlook.{Outlook}
+use Rattle.token_manager.specs.declared.want.Outlook.TheVariants.{Waits as HasToWait}
 use Rattle.token_manager.specs.declared.want.Ready.{Ready}
 use Rattle.token_manager.specs.declared.want.Ready.TheVariants.{Granted as GrantedLater, Refused}
 use Rattle.token_manager.specs.declared.want.Wanted.{Wanted}
 use Rattle.token_manager.specs.Grants.{is_blocked, pinned_in_the_way, to_revoke, with_grant, with_claims, holds, can_keep}
-use Rattle.token_manager.specs.Grants.{no_grants, pinned_grants, revoked_grants, without_token, without_host, wanted_from}
+use Rattle.token_manager.specs.Grants.{no_grants, outlook_with, pinned_grants, revoked_grants, without_token, without_host, wanted_from}
 use Rattle.token_manager.specs.Wants.{first_ahead, without_want, not_wants_of, not_wants_in}
 
 pub record Manager : Type 0 where
@@ -123,6 +125,41 @@ queue_ready manager = queue_after manager.queue (first_ready manager)
 
 abbrev pub after_ready : Manager → Manager
 after_ready manager = record manager { grants = grants_ready manager; queue = queue_ready manager }
+
+-- the queued want with a number, if it can be decided
+abbrev pub is_ready_at : Grants → List Want → ℕ → Want → Bool
+is_ready_at grants queue number want = (want.number == number) && can_decide grants queue want
+
+abbrev pub ready_at : Manager → ℕ → Option Want
+ready_at manager number = find (is_ready_at manager.grants manager.queue number) manager.queue
+
+-- what can become of it; one that can't be decided waits
+abbrev pub outlook_of : Grants → Option Want → Outlook
+outlook_of grants None = HasToWait
+outlook_of grants (Some want) = outlook_with (pinned_in_the_way grants want)
+
+unfoldable pub decide_answer : Manager → ℕ → Option Ready
+decide_answer manager number = ready_of manager.grants (ready_at manager number)
+
+unfoldable pub grants_decided : Manager → ℕ → Grants
+grants_decided manager number = grants_after manager.grants (ready_at manager number)
+
+unfoldable pub queue_decided : Manager → ℕ → List Want
+queue_decided manager number = queue_after manager.queue (ready_at manager number)
+
+abbrev pub after_decide : Manager → ℕ → Manager
+after_decide manager number =
+    record manager { grants = grants_decided manager number; queue = queue_decided manager number }
+
+-- a want stands behind all that are queued
+abbrev pub after_enqueue : Manager → Want → Manager
+after_enqueue manager want =
+    record {
+      grants = manager.grants;
+      queue = manager.queue ++ want ∷ [];
+      asked = manager.asked + 1;
+      latest = Some want.number;
+    }
 
 unfoldable pub grants_returned : Grants → HostId → TokenId → Grants
 grants_returned grants host id = if holds grants host id then without_token grants id else grants

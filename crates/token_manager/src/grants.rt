@@ -6,11 +6,11 @@ ghost use Rattle.token_table.specs.Tables.{next_tokens, has_id};
 ghost use Rattle.token_table.specs.Marks.{is_pinned};
 ghost use Rattle.token_manager.specs.Grants.{is_pinned_ahead, holds, can_keep, is_lock_or_open, note_of};
 ghost use Rattle.token_manager.specs.Grants.{pinned_in_the_way, is_blocked, to_revoke, with_grant, with_claimed};
-ghost use Rattle.token_manager.specs.Grants.{with_claims};
+ghost use Rattle.token_manager.specs.Grants.{outlook_with, with_claims};
 ghost use Rattle.token_manager.specs.Grants.{CanClaim, can_claim, NoneIsNoted};
 ghost use Rattle.token_manager.specs.Grants.{pinned_grants, revoked_grants, without_token, without_host, no_grants};
 
-use crate::want::Want;
+use crate::want::{Outlook, Want};
 use base_types::{HostId, Items, NoMemory, Plain, ServerId};
 use std::alloc::Global;
 use token_table::{Note, Notes, TokenTable, names_file};
@@ -56,6 +56,16 @@ impl Grants {
             }
         }
         None
+    }
+
+    /// What becomes of a want that can be decided.
+    pub fn outlook(&self, want: &Want) -> Outlook
+        ensures { result ≡ outlook_with (pinned_in_the_way self.now want.now) }
+    {
+        match self.pinned_in_the_way(want) {
+            Some(token) => Outlook::Refused(*token),
+            None => Outlook::Granted,
+        }
     }
 
     /// The tokens of other hosts that conflict with a want, but for those that are pinned.

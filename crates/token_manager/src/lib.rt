@@ -11,4 +11,4 @@ mod wanted;
 
 pub use laws::{admit_law, peace_law, ready_law, revoke_law, wait_law, wanted_law};
 pub use manager::TokenManager;
-pub use want::{Asked, Ready, Want, Wanted};
+pub use want::{Asked, Outlook, Ready, Want, Wanted};

@@ -10,11 +10,13 @@ ghost use Rattle.token_manager.specs.Managers.{Manager, new_manager, ask_answer,
 ghost use Rattle.token_manager.specs.Managers.{after_ready, after_returned, after_kept, after_down, after_given_up};
 ghost use Rattle.token_manager.specs.Managers.{first_ready, wanted, after_revoked, after_admit};
 ghost use Rattle.token_manager.specs.Managers.{after_drop_fileset, is_later, after_forget};
+ghost use Rattle.token_manager.specs.Managers.{after_decide, after_enqueue, decide_answer, is_ready_at, outlook_of, ready_at};
 ghost use Rattle.token_manager.specs.Laws.{KeepsLaws};
 
 use crate::grants::Grants;
 use crate::want::{
-    Asked, Ready, Want, Wanted, drop_want, drop_wants_in, drop_wants_of, first_ahead, wants_in,
+    Asked, Outlook, Ready, Want, Wanted, drop_want, drop_wants_in, drop_wants_of, first_ahead,
+    wants_in,
 };
 use crate::wanted::wanted;
 use base_types::{Fid, FilesetId, HostId, Items, NEEDS_MAX, NoMemory, ServerId};
@@ -123,6 +125,13 @@ impl TokenManager {
         self.grants.holds(host, id)
     }
 
+    /// Whether a token with this number is granted. It takes no memory.
+    pub fn is_granted(&self, id: TokenId) -> bool
+        ensures { result ≡ has_id self.now.grants.table.tokens id }
+    {
+        self.grants.is_granted(id)
+    }
+
     /// Whether the token with this number is granted and pinned. It takes no memory.
     pub fn is_pinned(&self, id: TokenId) -> bool
         ensures { result ≡ is_pinned self.now.grants.notes id }
@@ -143,6 +152,17 @@ impl TokenManager {
         ensures { result ≡ option_map (λ want. want.number) (first_ready self.now) }
     {
         first_ready(&self.grants, self.queue.as_slice()).map(|want| want.number)
+    }
+
+    /// What can become of the queued want with this number as things are. A want that isn't queued waits. It takes no
+    /// memory.
+    pub fn outlook(&self, number: u64) -> Outlook
+        ensures { result ≡ outlook_of self.now.grants (ready_at self.now number) }
+    {
+        match ready_at(&self.grants, self.queue.as_slice(), number) {
+            Some(want) => self.grants.outlook(want),
+            None => Outlook::Waits,
+        }
     }
 
     /// The granted tokens that queued wants ask back: those that are in the way of a queued want, but for those that
@@ -178,6 +198,42 @@ impl TokenManager {
         self.asked += 1;
         self.latest = Some(number);
         Ok(asked)
+    }
+
+    /// Puts a want behind all that are queued, whatever is in its way: it is decided by `decide`, or by `next_ready`. On
+    /// an error nothing changes.
+    pub fn enqueue(&mut self, want: Want) -> Result<(), NoMemory>
+        requires count { self.old.asked < 2 ^ 44 }
+        requires rising { IfSome self.old.latest (λ latest. latest < want.number) }
+        requires needs { length want.needs ≤ NEEDS_MAX }
+        ensures after { OnOk result (self.new ≡ after_enqueue self.old want) }
+        ensures err { OnErr result (self.new ≡ self.old) }
+    {
+        let number = want.number;
+        self.queue.push(want)?;
+        self.asked += 1;
+        self.latest = Some(number);
+        Ok(())
+    }
+
+    /// Decides the queued want with this number, if that can be decided: it is refused where a pinned token is in its
+    /// way, and else granted. It answers None where it has to wait, or isn't queued. On an error nothing changes.
+    #[tactic(auto, unfolding(crate::specs::Managers::decide_answer, crate::specs::Managers::grants_decided, crate::specs::Managers::queue_decided))]
+    pub fn decide(&mut self, number: u64) -> Result<Option<Ready>, NoMemory>
+        ensures answer { IfOk result (λ ready. ready ≡ decide_answer self.old number) }
+        ensures after { OnOk result (self.new ≡ after_decide self.old number) }
+        ensures err { OnErr result (self.new ≡ self.old) }
+    {
+        let Some(want) = ready_at(&self.grants, self.queue.as_slice(), number) else {
+            return Ok(None);
+        };
+        let number = want.number;
+        let ready = match self.grants.pinned_in_the_way(want).copied() {
+            Some(token) => Ready::Refused(number, token),
+            None => Ready::Granted(number, self.grants.grant(want)?),
+        };
+        drop_want(&mut self.queue, number);
+        Ok(Some(ready))
     }
 
     /// Decides the first queued want that can be decided: one with which no earlier one conflicts, and with which no
@@ -309,6 +365,13 @@ impl TokenManager {
         }
         is_later
     }
+}
+
+/// The queued want with a number, if it can be decided.
+fn ready_at<'a>(grants: &Grants, queue: &'a [Want], number: u64) -> Option<&'a Want>
+    ensures { option_copied result ≡ find (is_ready_at grants.now queue.now number) queue.now }
+{
+    queue.iter().find(|want| want.number == number && can_decide(grants, queue, want))
 }
 
 /// The first of the queued wants that can be decided.

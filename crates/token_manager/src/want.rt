@@ -40,6 +40,17 @@ pub enum Ready {
     Refused(u64, Token),
 }
 
+/// What can become of a queued want as things are.
+#[derive(Clone, Copy, Debug, PartialEq)]
+pub enum Outlook {
+    /// It has to wait.
+    Waits,
+    /// It can be granted: no granted token of another host and no earlier queued want conflicts with it.
+    Granted,
+    /// It can be refused: no earlier queued want conflicts with it, and this pinned token does.
+    Refused(Token),
+}
+
 /// A granted token that queued wants ask back.
 #[derive(Clone, Copy, Debug, PartialEq)]
 pub struct Wanted {

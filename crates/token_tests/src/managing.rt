@@ -3,7 +3,8 @@ ghost use Rattle.std.specs.Prelude.{◌<◌, ◌^◌, IsTrue, IfSome};
 
 use crate::reading::Words;
 use crate::telling::{
-    asked_text, ids_text, number_or_none, ready_text, wanted_text, wants_text, yes_or_no,
+    asked_text, ids_text, number_or_none, outlook_text, ready_text, wanted_text, wants_text,
+    yes_or_no,
 };
 use anyhow::{Result, bail};
 use base_types::{NEEDS_MAX, Plain};
@@ -20,7 +21,9 @@ pub fn manager_text(
 ) -> Result<String> {
     match word {
         "ask" => ask(alloc, manager, number, words),
+        "enqueue" => enqueue(alloc, manager, number, words),
         "next" => next(alloc, manager),
+        "decide" => decide(alloc, manager, words),
         "returned" | "kept" | "revoked" => token_gone(alloc, manager, word, words),
         "admit" => admit(alloc, manager, words),
         _ => lose(alloc, manager, word, words),
@@ -30,11 +33,16 @@ pub fn manager_text(
 // `next`
 fn next(alloc: Global, manager: &mut TokenManager) -> Result<String> {
     let ready = manager.next_ready()?;
-    let copy = ready.copy();
+    let text = ready_text(alloc, &ready);
     drop(ready);
-    let copy = copy?;
-    let text = ready_text(alloc, &copy);
-    drop(copy);
+    text
+}
+
+// `decide NUMBER`
+fn decide(alloc: Global, manager: &mut TokenManager, words: &mut Words) -> Result<String> {
+    let ready = manager.decide(words.number()?)?;
+    let text = ready_text(alloc, &ready);
+    drop(ready);
     text
 }
 
@@ -78,18 +86,14 @@ fn lose(
             wants_text(alloc, dropped.as_slice())
         }
         "forget" => forget(alloc, manager, words),
-        _ => {
-            let copy = manager.copy()?;
-            let said = look(alloc, &copy, word, words);
-            drop(copy);
-            said
-        }
+        _ => look(alloc, manager, word, words),
     }
 }
 
-// Looks at the manager, which is a copy: so the copy is seen to be the same.
+// Looks at the manager.
 fn look(alloc: Global, manager: &TokenManager, word: &str, words: &mut Words) -> Result<String> {
     match word {
+        "outlook" => outlook_text(alloc, manager.outlook(words.number()?)),
         "first" => number_or_none(alloc, manager.first_ready()),
         "wanted" => wanted_text(alloc, manager.wanted()?.as_slice()),
         "queue" => wants_text(alloc, manager.queue()),
@@ -101,6 +105,7 @@ fn look(alloc: Global, manager: &TokenManager, word: &str, words: &mut Words) ->
             let host = words.host()?;
             yes_or_no(alloc, manager.holds(host, words.id()?))
         }
+        "granted" => yes_or_no(alloc, manager.is_granted(words.id()?)),
         "pinned" => yes_or_no(alloc, manager.is_pinned(words.id()?)),
         "asked-back" => yes_or_no(alloc, manager.is_revoked(words.id()?)),
         _ => bail!("no step: {word}"),
@@ -145,12 +150,29 @@ fn ask(
     let copy = want.copy();
     drop(want);
     let asked = manager.ask(copy?)?;
-    let copy = asked.copy();
+    let text = asked_text(alloc, &asked);
     drop(asked);
-    let copy = copy?;
-    let text = asked_text(alloc, &copy);
-    drop(copy);
     text
+}
+
+// `enqueue HOST NEEDS`: the numbers of the wants that wait then.
+fn enqueue(
+    alloc: Global,
+    manager: &mut TokenManager,
+    number: u64,
+    words: &mut Words,
+) -> Result<String> {
+    let host = words.host()?;
+    let needs = words.needs()?;
+    if needs.len() > NEEDS_MAX || !may_ask(manager, number) {
+        bail!("no want to be asked");
+    }
+    manager.enqueue(Want {
+        number,
+        host,
+        needs,
+    })?;
+    wants_text(alloc, manager.queue())
 }
 
 // `admit TOKENS`: yes where they may be admitted.

@@ -3,7 +3,7 @@
 use anyhow::Result;
 use base_types::{Fid, Items, OpenKind, Span};
 use std::alloc::Global;
-use token_manager::{Asked, Ready, Want, Wanted};
+use token_manager::{Asked, Outlook, Ready, Want, Wanted};
 use token_types::{Kind, Token, TokenId};
 
 /// yes or no.
@@ -86,6 +86,19 @@ pub fn ready_text(alloc: Global, ready: &Option<Ready>) -> Result<String> {
         Some(Ready::Granted(number, tokens)) => later_text(alloc, *number, tokens),
         Some(Ready::Refused(number, token)) => refused_text(alloc, *number, token),
         None => Ok(String::from_str(alloc, "none")?),
+    }
+}
+
+/// What can become of a queued want.
+pub fn outlook_text(alloc: Global, outlook: Outlook) -> Result<String> {
+    match outlook {
+        Outlook::Waits => Ok(String::from_str(alloc, "waits")?),
+        Outlook::Granted => Ok(String::from_str(alloc, "granted")?),
+        Outlook::Refused(token) => {
+            let mut text = String::from_str(alloc, "refused ")?;
+            push_id(&mut text, alloc, token.id)?;
+            Ok(text)
+        }
     }
 }
 

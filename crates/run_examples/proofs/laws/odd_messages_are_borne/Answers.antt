@@ -1,5 +1,5 @@
 use Rattle.run_examples.proofs.MoreExamples.{bytes_meets, moved_meets, other_lapse, other_meets, unmade_lapse, unmade_meets}
-use Rattle.run_examples.proofs.ServerExamples.{misplaced_lapse, misplaced_meets}
+use Rattle.run_examples.proofs.ServerExamples.{empty_lapse, empty_meets, misplaced_lapse, misplaced_meets}
 use Rattle.run_examples.proofs.laws.odd_messages_are_borne.Goals as goal
 
 pub returns : goal.returns
@@ -9,4 +9,5 @@ returns c = record {
   bytes = bytes_meets;
   other_file = (other_meets, other_lapse);
   misplaced = (misplaced_meets, misplaced_lapse);
+  empty = (empty_meets, empty_lapse);
 }

@@ -63,7 +63,7 @@ pub invariant_of-self : goal.invariant_of-self
 invariant_of-self c =
     let giving : Giving = record { gives = c.self.inside.gives; counters = c.self.inside.counters } in
     subst (λ gives. IsSound (record { gives = gives; counters = c.self.inside.counters })) (sym (here c).2)
-    (sound_without giving c.args.fileset c.self.invariant)
+    (sound_without giving (is_of c.args.fileset) c.self.invariant)
 
 pub returns-clause-gone : goal.returns-clause-gone
 returns-clause-gone c = (here c).0 ∙ ap (λ s. gone s c.args.fileset c.args.number) c.self.view_is

@@ -1,0 +1,9 @@
+pub mod Trying
+pub mod Blocks
+pub mod Steps
+pub mod Reading
+pub mod Writing
+pub mod Marking
+pub mod Judging
+pub mod MarkedNeeds
+pub mod Facts

@@ -1,0 +1,5 @@
+pub mod Keeping
+pub mod Asking
+pub mod Granting
+pub mod Acting
+pub mod Repeating

@@ -1,0 +1,14 @@
+pub mod Standing
+pub mod Steps
+pub mod Greetings
+pub mod Restarts
+pub mod Starts
+pub mod Listing
+pub mod Judging
+pub mod Places
+pub mod Queue
+pub mod Counting
+pub mod Updates
+pub mod Answers
+pub mod Gives
+pub mod Claims
