@@ -36,9 +36,9 @@ use Rattle.service_moves.specs.declared.stopped.RunStopped.{RunStopped}
 use Rattle.service_moves.proofs.Carried.{may_ask, of_same}
 use Rattle.service_moves.proofs.Goes.{set_same, two_replaced}
 use Rattle.service_moves.specs.Doing.{Step, DoSteps}
-use Rattle.service_moves.specs.Plans.{ship_steps, AreMoves}
+use Rattle.service_moves.specs.Plans.{ship_steps, states_at, AreMoves}
 use Rattle.service_moves.proofs.Doing.{steps_one, steps_then}
-use Rattle.service_moves.proofs.MovedSteps.{ship_moves}
+use Rattle.service_moves.proofs.Whole.{moves_whole}
 use Rattle.service_moves.proofs.Twice.{done_none}
 use Rattle.service_moves.proofs.Stores.{either_place, is_there, map_before, map_set, map_there, on_ok_then, set_beside, set_there, there_within}
 
@@ -270,7 +270,7 @@ pub one_does : {S T : Type 0} (view : S → View) (stores new : List S) (result 
     → ((a b : S) (held : Holding) → ship.from.0 ≢ ship.to.0 → slice_get (set stores (from.0 - 1) s1) (ship.from.0 - 1) ≡ Some a
     → slice_get (set stores (from.0 - 1) s1) (ship.to.0 - 1) ≡ Some b → MaySend (view a).state (view b).state held ship (mover_again ship)
     → DoSteps view result (ship_steps ship.from ship.to ship.fileset held ship.number (mover_again ship)) (set stores (from.0 - 1) s1) new)
-    → (steps : List Step) × AreMoves steps × DoSteps view result steps stores new
+    → (steps : List Step) × AreMoves (λ act. ⊥) (states_at view stores) steps × DoSteps view result steps stores new
 one_does view stores new result from tree s0 s1 ship value keep was same left next is own mover send =
     let states = states_of view stores in
     let start = (view s0).state in
@@ -292,6 +292,19 @@ one_does view stores new result from tree s0 s1 ship value keep was same left ne
     subst (λ s. MaySend s (view b).state may.holding ship (mover_again ship)) (sym same) (subst (λ s. MaySend start s may.holding ship (mover_again ship)) (sym at) may.send) in
     let steps = ship_steps ship.from ship.to ship.fileset may.holding ship.number (mover_again ship) in (
       steps,
-      ship_moves ship.from ship.to ship.fileset may.holding ship.number (mover_again ship),
+      moves_whole (λ act. ⊥) (states_at view stores) steps
+      (record {
+        from = ship.from;
+        to = ship.to;
+        fileset = ship.fileset;
+        ship = ship.number;
+        mover = mover_again ship;
+        sender = start;
+        holding = may.holding;
+        there = ap (states_at view stores) from_place ∙ there;
+        held = may.send.held;
+        stay = may.send.carries.stay;
+        are = refl;
+      }),
       steps_then view value result [] steps stores mid new (steps_one view {E = RunStopped} (Ok value) [] stores place s0 s1 was (done_none (Ok value) (view s0) (view s1) same left)) (send s1 b may.holding apart first second sends),
     )

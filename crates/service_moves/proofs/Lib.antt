@@ -7,6 +7,7 @@ pub mod Tries
 pub mod Twice
 pub mod Stores
 pub mod Doing
+pub mod Whole
 pub mod Carried
 pub mod Between
 pub mod Sent

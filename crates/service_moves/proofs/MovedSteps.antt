@@ -1,5 +1,5 @@
 -- The steps in which a fileset goes over.
-use Rattle.std.proofs.Common.{◌≡◌, ◌≢◌, ◌≤◌, ℕ, ◌+◌, ◌-◌, List, [], ◌∷◌, ◌++◌, set, refl, sym, subst, ◌∙◌, ap}
+use Rattle.std.proofs.Common.{◌≡◌, ◌≢◌, ◌≤◌, ℕ, ◌+◌, ◌-◌, List, [], ◌∷◌, set, refl, sym, subst, ◌∙◌, ap}
 use Rattle.std.specs.Prelude.{slice_get, Some, Result, Ok, Err}
 use Rattle.base_types.specs.declared.ids.FilesetId.{FilesetId}
 use Rattle.base_types.specs.declared.ids.HostId.{HostId}
@@ -8,24 +8,21 @@ use Rattle.tree_calls.specs.declared.ship.Mover.{Mover}
 use Rattle.tree_filesets.specs.declared.fileset.Fileset.{Fileset}
 use Rattle.tree_answers.specs.WellFormed.{IsWellFormed}
 use Rattle.tree_answers.specs.declared.tree.Tree.{Tree}
-use Rattle.message_types.specs.Soundness.{Each}
 use Rattle.store_acts.specs.Acts.{act_done}
 use Rattle.store_acts.specs.Sound.{Fits}
 use Rattle.store_acts.specs.declared.act.Act.{Act}
 use Rattle.store_acts.specs.declared.act.Act.TheVariants.{Leave, Left}
 use Rattle.store_laws.specs.MoveKeeping.{KeepAll}
 use Rattle.store_laws.specs.KeptMoves.{Moves}
-use Rattle.store_laws.specs.Moves.{all_parts, parts_from}
 use Rattle.store_laws.proofs.Goes.{moves_go_over}
 use Rattle.store_memory.specs.Sound.{IsMover}
 use Rattle.store_memory.specs.Views.{View, DoesActs}
 use Rattle.store_state.specs.State.{held_so, is_of}
 use Rattle.store_state.specs.declared.state.Holding.{Holding}
 use Rattle.store_state.specs.declared.state.StoreState.{StoreState}
-use Rattle.tree_objects.specs.declared.content.Anode.{Anode}
-use Rattle.service_moves.specs.Again.{IsOfMove, IsRepeatable}
+use Rattle.service_moves.specs.Again.{IsRepeatable}
 use Rattle.service_moves.specs.Doing.{Step, steps_of, DoSteps}
-use Rattle.service_moves.specs.Plans.{move_steps, ship_steps, AreMoves}
+use Rattle.service_moves.specs.Plans.{move_steps, ship_steps, states_at, AreMoves}
 use Rattle.service_moves.specs.Ships.{CarriesOf, MayGo, MaySend, mover_of}
 use Rattle.service_moves.specs.Stores.{states_of}
 use Rattle.service_moves.specs.declared.moving.MoveRequest.{MoveRequest}
@@ -36,25 +33,9 @@ use Rattle.service_moves.proofs.Carried.{apart_of}
 use Rattle.service_moves.proofs.Doing.{steps_one, steps_stop, steps_then}
 use Rattle.service_moves.proofs.Goes.{is_going, may_go}
 use Rattle.service_moves.proofs.Repeats.{moves_repeat}
-use Rattle.service_moves.proofs.Stores.{map_before, set_beside, set_there, there_within}
-use Rattle.service_moves.proofs.Twice.{does_err, made_of}
-
--- these steps are of moves alone
-
-pub moves_append : (front behind : List Step) → AreMoves front → AreMoves behind → AreMoves (front ++ behind)
-moves_append [] behind first second = second
-moves_append (step ∷ front) behind first second = (first.0, moves_append front behind first.1 second)
-
-parts_are_moves : (place : ℕ) (holding : Holding) (from : ServerId) (ship : ℕ) (mover : Mover) (at : ℕ) (anodes : List Anode) → AreMoves (steps_of place (parts_from holding from ship mover at anodes))
-parts_are_moves place holding from ship mover at [] = tt
-parts_are_moves place holding from ship mover at (anode ∷ anodes) = (tt, parts_are_moves place holding from ship mover (at + 1) anodes)
-
-pub ship_moves : (from to : ServerId) (fileset : FilesetId) (holding : Holding) (ship : ℕ) (mover : Mover) → AreMoves (ship_steps from to fileset holding ship mover)
-ship_moves from to fileset holding ship mover =
-    moves_append (steps_of (to.0 - 1) (all_parts holding from ship mover)) (steps_of (from.0 - 1) (Left fileset ∷ [])) (tt, parts_are_moves (to.0 - 1) holding from ship mover 1 holding.fileset.anodes) (tt, tt)
-
-pub move_moves : (from to : ServerId) (fileset : FilesetId) (holding : Holding) (ship : ℕ) (mover : Mover) → AreMoves (move_steps from to fileset holding ship mover)
-move_moves from to fileset holding ship mover = (tt, ship_moves from to fileset holding ship mover)
+use Rattle.service_moves.proofs.Stores.{map_before, map_there, set_beside, set_there, there_within}
+use Rattle.service_moves.proofs.Twice.{made_of}
+use Rattle.service_moves.proofs.Whole.{move_whole}
 
 -- the first store does `Leave`, and a ship goes
 pub moved_does : {S T : Type 0} (view : S → View) (stores new : List S) (result : Result (Unit {0}) RunStopped) (from to : ServerId) (fileset : FilesetId) (mover : Mover) (s0 s1 sender receiver : S)
@@ -116,7 +97,7 @@ pub kept_does : {S : Type 0} (view : S → View) (tree : Tree) (stores new : Lis
     → ((sender receiver : S) (holding : Holding) → slice_get stores (found.server.0 - 1) ≡ Some sender → slice_get stores (request.to.0 - 1) ≡ Some receiver
     → MayGo (view sender).state (view receiver).state found.server request.to found.id mover holding
     → DoSteps view result (move_steps found.server request.to found.id holding ((view sender).state.ship + 1) mover) stores new)
-    → (steps : List Step) × AreMoves steps × DoSteps view result steps stores new
+    → (steps : List Step) × AreMoves (λ act. act ≡ Leave fileset.id request.to) (states_at view stores) steps × DoSteps view result steps stores new
 kept_does view tree stores new result next request found fileset mover same is formed keep moves number sound send =
     let states = states_of view stores in
     let go = moves_go_over next tree states request.host request.server request.name request.to fileset (mover_of request) formed keep moves sound refl (sym number) in
@@ -129,6 +110,8 @@ kept_does view tree stores new result next request found fileset mover same is f
     (subst (λ v. MayGo (view s).state (view r).state fileset.server request.to fileset.id v go.holding) (sym is) may) in
     let first : slice_get stores (found.server.0 - 1) ≡ Some s = subst (λ (f : Fileset). slice_get stores (f.server.0 - 1) ≡ Some s) (sym same) at in (
       move_steps found.server request.to found.id go.holding ((view s).state.ship + 1) mover,
-      move_moves found.server request.to found.id go.holding ((view s).state.ship + 1) mover,
+      subst (λ (f : Fileset). AreMoves (λ act. act ≡ Leave fileset.id request.to) (states_at view stores) (move_steps f.server request.to f.id go.holding ((view s).state.ship + 1) mover)) (sym same)
+      (move_whole (λ act. act ≡ Leave fileset.id request.to) (states_at view stores) fileset.server request.to fileset.id mover (view s).state go.holding ((view s).state.ship + 1) refl
+      (map_there (λ store. (view store).state) stores (fileset.server.0 - 1) s at) may.held may.stay),
       send s r go.holding first to might,
     )

@@ -14,7 +14,7 @@ ghost use Rattle.store_state.specs.declared.state.StoreState.{StoreState};
 ghost use Rattle.service_moves.specs.Ships.{two_set, MayMove, MaySend};
 ghost use Rattle.service_moves.specs.Batches.{batch_wear};
 ghost use Rattle.service_moves.specs.Doing.{Step, DoSteps};
-ghost use Rattle.service_moves.specs.Plans.{ship_steps, AreMoves};
+ghost use Rattle.service_moves.specs.Plans.{ship_steps, states_at, AreMoves};
 ghost use Rattle.service_moves.specs.Finishing.{mover_again, HasFinished, HaveServer};
 ghost use Rattle.service_moves.specs.Steps.{AllGoOn};
 ghost use Rattle.service_moves.specs.Stopping.{IsStopped};
@@ -83,7 +83,8 @@ fn finish_from<S: Store>(stores: &mut [S], from: ServerId) -> Result<(), RunStop
     ensures finished { S.tells → (tree : Tree) → KeepUnderWay tree (states_of S.view stores.old)
         → OnOk result (HasFinished tree (from.0 - 1) (states_of S.view stores.old) (states_of S.view stores.new)) }
     ensures does { S.tells → (tree : Tree) → KeepUnderWay tree (states_of S.view stores.old)
-        → (steps : List Step) × AreMoves steps × DoSteps S.view result steps stores.old stores.new }
+        → (steps : List Step) × AreMoves (λ act. ⊥) (states_at S.view stores.old) steps
+        × DoSteps S.view result steps stores.old stores.new }
     ensures goes_on { AllGoOn S.view (67 * batch_wear) result stores.old stores.new }
 {
     let place = from.0 as usize - 1;
@@ -112,7 +113,8 @@ pub fn finish_moves<S: Store>(stores: &mut [S], roster: &Roster) -> Result<(), R
         → OnOk result ((k : ℕ) (state : StoreState) → slice_get (states_of S.view stores.new) k ≡ Some state
         → KeepsOf (freed tree) state) }
     ensures does { S.tells → (tree : Tree) → KeepUnderWay tree (states_of S.view stores.old)
-        → (steps : List Step) × AreMoves steps × DoSteps S.view result steps stores.old stores.new }
+        → (steps : List Step) × AreMoves (λ act. ⊥) (states_at S.view stores.old) steps
+        × DoSteps S.view result steps stores.old stores.new }
     ensures same { AreSame S.view stores.old stores.new }
     ensures stores { (worn : ℕ) → AreStores S.view roster.now worn 1 stores.old
         → OnOk result (AreStores S.view roster.now (worn + 2048 * SERVERS_MAX) 1 stores.new) }

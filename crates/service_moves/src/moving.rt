@@ -21,7 +21,7 @@ ghost use Rattle.store_state.specs.declared.state.Holding.{Holding};
 ghost use Rattle.service_moves.specs.Again.{IsRepeatable};
 ghost use Rattle.service_moves.specs.Batches.{batch_wear};
 ghost use Rattle.service_moves.specs.Doing.{Step, DoSteps};
-ghost use Rattle.service_moves.specs.Plans.{move_steps, AreMoves};
+ghost use Rattle.service_moves.specs.Plans.{move_steps, states_at, AreMoves};
 ghost use Rattle.service_moves.specs.Ships.{two_set, mover_of, CarriesOf, IsSoundShip, MayGo, MayMove};
 ghost use Rattle.service_moves.specs.Steps.{AllGoOn, GoesOn, StopsAt};
 ghost use Rattle.service_moves.specs.Stopping.{IsStopped};
@@ -158,7 +158,9 @@ pub fn keep_move<S: Store>(
         → KeepAll next tree.now (states_of S.view stores.old)
         → Moves tree.now request.now.host request.now.server request.now.name request.now.to fileset
         → next request.now.host ≡ request.now.k
-        → (steps : List Step) × AreMoves steps × DoSteps S.view result steps stores.old stores.new }
+        → (steps : List Step)
+        × AreMoves (λ act. act ≡ Leave fileset.id request.now.to) (states_at S.view stores.old) steps
+        × DoSteps S.view result steps stores.old stores.new }
     ensures same { AreSame S.view stores.old stores.new }
     ensures stores { (worn : ℕ) → AreStores S.view tree.now.roster worn 1 stores.old
         → OnOk result (AreStores S.view tree.now.roster (worn + 2048) 1 stores.new) }

@@ -5,12 +5,14 @@ use Rattle.service_starts.specs.FinishLaws.{ship_told}
 use Rattle.message_types.specs.Soundness.{IsServer}
 use Rattle.service_moves.specs.Batches.{batch_wear}
 use Rattle.service_moves.specs.Finishing.{mover_again}
+use Rattle.service_moves.specs.Plans.{states_at}
 use Rattle.service_moves.specs.Ships.{IsNextShip, IsSoundShip}
 use Rattle.service_moves.proofs.Between.{server_store}
 use Rattle.service_moves.proofs.Doing.{steps_one}
 use Rattle.service_moves.proofs.Finished.{again_moves, may_ask_next, nothing_goes, one_does, one_goes_on}
 use Rattle.service_moves.proofs.Moved.{may_later, step_goes, there_at}
 use Rattle.service_moves.proofs.Twice.{done_none}
+use Rattle.service_moves.proofs.Whole.{moves_none}
 use Rattle.service_moves.proofs.Stores.{all_failed, all_more, all_ok, all_then, set_there, there_within}
 use Rattle.service_moves.proofs.finishing.finish_from.Goals as goal
 
@@ -121,7 +123,7 @@ returns-in-Err-clause-does g c tells tree keep =
     let d = c.index-stores-place.result in
     let stores = c.args.stores.now in
     let s0 = get_or stores (c.args.from.0 - 1) d in
-    let s1 = c.next_ship.new.store in ([], tt,
+    let s1 = c.next_ship.new.store in ([], moves_none (λ act. ⊥) (states_at g.S.Store.view c.args.stores.now),
     steps_one g.S.Store.view (Err c.in-Err.stopped) [] stores (c.args.from.0 - 1) s0 s1 (there_at m.roster stores c.args.from m.count m.is_from d)
     (done_none (Err c.in-Err.stopped) (g.S.Store.view s0) (g.S.Store.view s1) (c.in-Err.ensures.state tells) (c.in-Err.ensures.leaves tells)))
 
@@ -131,7 +133,7 @@ returns-in-None-clause-does g c tells tree keep =
     let d = c.index-stores-place.result in
     let stores = c.args.stores.now in
     let s0 = get_or stores (c.args.from.0 - 1) d in
-    let s1 = c.next_ship.new.store in ([], tt,
+    let s1 = c.next_ship.new.store in ([], moves_none (λ act. ⊥) (states_at g.S.Store.view c.args.stores.now),
     steps_one g.S.Store.view (Ok tt) [] stores (c.args.from.0 - 1) s0 s1 (there_at m.roster stores c.args.from m.count m.is_from d)
     (done_none (Ok tt) (g.S.Store.view s0) (g.S.Store.view s1) (c.in-Ok.ensures.state tells) (c.in-Ok.ensures.leaves tells)))
 

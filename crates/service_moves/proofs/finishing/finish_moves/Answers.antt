@@ -2,10 +2,11 @@ use Rattle.std.proofs.Common.{◌+◌, ◌-◌, ◌*◌, ◌^◌, ◌++◌, [], 
 use Rattle.std.specs.Prelude.{Result, Ok, Err}
 use Rattle.base_types.specs.declared.limits.TheConstants.{SERVERS_MAX}
 use Rattle.service_moves.specs.Batches.{batch_wear}
+use Rattle.service_moves.specs.Plans.{states_at}
 use Rattle.service_moves.specs.Stores.{states_of}
 use Rattle.service_moves.specs.declared.stopped.RunStopped.{RunStopped}
 use Rattle.service_moves.proofs.Doing.{steps_none, steps_then}
-use Rattle.service_moves.proofs.MovedSteps.{moves_append}
+use Rattle.service_moves.proofs.Whole.{moves_behind, moves_none}
 use Rattle.service_moves.proofs.Finished.{all_finished, few_servers, finished_more, finished_none}
 use Rattle.service_moves.proofs.Stores.{all_mendable, all_more, all_then, goes_same, goes_stopped, goes_stores, map_length, none_goes}
 use Rattle.service_moves.proofs.finishing.finish_moves.Goals as goal
@@ -14,7 +15,7 @@ pub loop-k-init : goal.loop-k-init
 loop-k-init g c = record {
   goes = none_goes g.S.Store.view 0 tt c.args.stores.now (all_mendable g.S.Store.view c.args.roster.now (2 ^ 46) c.args.stores.now c.requires.stores);
   finished = λ t tree keep. finished_none tree (states_of g.S.Store.view c.args.stores.now) keep;
-  does = λ t tree keep. ([], tt, steps_none g.S.Store.view (Ok tt) c.args.stores.now);
+  does = λ t tree keep. ([], moves_none (λ act. ⊥) (states_at g.S.Store.view c.args.stores.now), steps_none g.S.Store.view (Ok tt) c.args.stores.now);
 }
 
 pub finish_from-requires : goal.finish_from-requires
@@ -51,7 +52,7 @@ loop-k-preserved g c =
       does = λ t tree keep.
           (let so_far = inv.does t tree keep in
           let more = done.does t (inv.finished t tree keep).after (inv.finished t tree keep).keep in
-          (so_far.0 ++ more.0, moves_append so_far.0 more.0 so_far.1 more.1, steps_then g.S.Store.view tt (Ok tt) so_far.0 more.0 start old new so_far.2 more.2));
+          (so_far.0 ++ more.0, moves_behind (λ act. ⊥) g.S.Store.view tt so_far.0 more.0 start old so_far.1 so_far.2 more.1, steps_then g.S.Store.view tt (Ok tt) so_far.0 more.0 start old new so_far.2 more.2));
     }
 
 pub returns-in-Err-clause-same : goal.returns-in-Err-clause-same
@@ -92,4 +93,4 @@ returns-in-Err-clause-does g c tells tree keep =
     let inv = c.loop-k.invariant in
     let so_far = inv.does tells tree keep in
     let more = c.in-Err.ensures.does tells (inv.finished tells tree keep).after (inv.finished tells tree keep).keep in
-    (so_far.0 ++ more.0, moves_append so_far.0 more.0 so_far.1 more.1, steps_then g.S.Store.view tt (Err c.in-Err.stopped) so_far.0 more.0 c.args.stores.now c.loop-k.stores c.finish_from.new.stores so_far.2 more.2)
+    (so_far.0 ++ more.0, moves_behind (λ act. ⊥) g.S.Store.view tt so_far.0 more.0 c.args.stores.now c.loop-k.stores so_far.1 so_far.2 more.1, steps_then g.S.Store.view tt (Err c.in-Err.stopped) so_far.0 more.0 c.args.stores.now c.loop-k.stores c.finish_from.new.stores so_far.2 more.2)

@@ -4,13 +4,16 @@ use Rattle.std.proofs.lemmas.Bool.{false≢true}
 use Rattle.tree_calls.specs.Limits.{is_between}
 use Rattle.tree_filesets.specs.declared.fileset.Fileset.{Fileset}
 use Rattle.tree_calls.specs.declared.reply.Refusal.{Refusal}
+use Rattle.store_acts.specs.declared.act.Act.TheVariants.{Leave}
 use Rattle.store_laws.proofs.Goes.{moves_go_over}
 use Rattle.service_moves.specs.Batches.{batch_wear}
+use Rattle.service_moves.specs.Plans.{states_at}
 use Rattle.service_moves.specs.Ships.{mover_of}
 use Rattle.service_moves.specs.Stores.{states_of}
 use Rattle.service_moves.proofs.Moved.{in_range, move_kept, mover_sound}
 use Rattle.service_moves.proofs.Doing.{steps_none}
 use Rattle.service_moves.proofs.MovedSteps.{kept_does}
+use Rattle.service_moves.proofs.Whole.{moves_none}
 use Rattle.service_moves.proofs.Stores.{all_mendable, goes_ok, goes_same, goes_stopped, goes_stores, none_goes}
 use Rattle.service_moves.proofs.moving.keep_move.Goals as goal
 
@@ -83,10 +86,10 @@ returns-then-not-is_server-clause-does g c tells next fileset formed keep moves 
     absurd (false≢true (sym not ∙ ap (λ (f : Fileset). is_between 1 (length tree.roster.capacity) f.server.0) same ∙ inside))
 
 pub returns-in_default-clause-does : goal.returns-in_default-clause-does
-returns-in_default-clause-does g c tells next fileset formed keep moves number = ([], tt, steps_none g.S.Store.view _ c.args.stores.now)
+returns-in_default-clause-does g c tells next fileset formed keep moves number = ([], moves_none (λ act. act ≡ Leave fileset.id c.args.request.now.to) (states_at g.S.Store.view c.args.stores.now), steps_none g.S.Store.view _ c.args.stores.now)
 
 pub returns-in_err-mover-clause-does : goal.returns-in_err-mover-clause-does
-returns-in_err-mover-clause-does g c tells next fileset formed keep moves number = ([], tt, steps_none g.S.Store.view _ c.args.stores.now)
+returns-in_err-mover-clause-does g c tells next fileset formed keep moves number = ([], moves_none (λ act. act ≡ Leave fileset.id c.args.request.now.to) (states_at g.S.Store.view c.args.stores.now), steps_none g.S.Store.view _ c.args.stores.now)
 
 pub returns-clause-does : goal.returns-clause-does
 returns-clause-does g c tells next fileset formed keep moves number =
