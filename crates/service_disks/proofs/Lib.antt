@@ -4,4 +4,3 @@ pub mod Backing
 pub mod Limits
 pub mod Lists
 pub mod Seated
-pub mod Trails

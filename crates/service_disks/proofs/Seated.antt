@@ -4,7 +4,6 @@ use Rattle.std.proofs.lemmas.List.{append_assoc}
 use Rattle.base_types.specs.View.{View as DiskView}
 use Rattle.service_disks.specs.Seats.{store_in, stores_in, IsSeated, AreSeated}
 use Rattle.service_disks.specs.Stores.{disks_of}
-use Rattle.service_disks.specs.Trails.{Seen}
 use Rattle.service_disks.specs.View.{disk_under}
 use Rattle.service_disks.specs.declared.seats.Seat.{Seat}
 use Rattle.service_disks.specs.declared.seats.Seat.TheVariants as seats
@@ -29,12 +28,12 @@ no_more (x ∷ xs) = ap (λ l. x ∷ l) (no_more xs)
 pub all_closing : {D C : Type 0} {g : _} {h : _} (all : List (Seat D C g h)) (disks : List D) → Unseating all all disks disks
 all_closing all disks = record { tail = []; was = no_more all; closed = refl }
 
-module _ {D : Type 0} (tells : Type 0) (view : D → DiskView) (count : ℕ) (first : ℕ → Seen) where
-  pub seated_last : (stores : List (ServerStore D)) (store : ServerStore D) → AreSeated tells view count first (stores ++ store ∷ []) → IsSeated tells view count first store
+module _ {D : Type 0} (tells : Type 0) (view : D → DiskView) (count : ℕ) where
+  pub seated_last : (stores : List (ServerStore D)) (store : ServerStore D) → AreSeated tells view count (stores ++ store ∷ []) → IsSeated tells view count store
   seated_last [] store are = are.0
   seated_last (x ∷ stores) store are = seated_last stores store are.1
 
-  pub seated_front : (stores : List (ServerStore D)) (store : ServerStore D) → AreSeated tells view count first (stores ++ store ∷ []) → AreSeated tells view count first stores
+  pub seated_front : (stores : List (ServerStore D)) (store : ServerStore D) → AreSeated tells view count (stores ++ store ∷ []) → AreSeated tells view count stores
   seated_front [] store are = tt
   seated_front (x ∷ stores) store are = (are.0, seated_front stores store are.1)
 

@@ -3,4 +3,3 @@ pub mod Opening
 pub mod Stores
 pub mod Steps
 pub mod Seats
-pub mod Trails

@@ -4,7 +4,6 @@ use Rattle.base_types.specs.View.{View as DiskView}
 use Rattle.store_memory.specs.MapStores.{kept_in}
 use Rattle.store_memory.specs.Views.{View}
 use Rattle.disk_aggregate.specs.StoreView.{aggregate_view}
-use Rattle.service_disks.specs.Trails.{seen_of, Seen, IsSeenSo}
 use Rattle.service_disks.specs.View.{store_view}
 use Rattle.service_disks.specs.declared.seats.Seat.{Seat}
 use Rattle.service_disks.specs.declared.seats.Seat.TheVariants as seats
@@ -23,15 +22,11 @@ stores_in all = map store_in all
 abbrev pub seat_view : {D C : Type 0} {g : _} {h : _} → Type 0 → (D → DiskView) → Seat D C g h → View
 seat_view tells view seat = store_view tells view (store_in seat)
 
--- where so many servers have a disk, those in front, the store of a server is on one exactly where its server has one;
--- and this was seen of it first
-abbrev pub IsSeated : {D : Type 0} → Type 0 → (D → DiskView) → ℕ → (ℕ → Seen) → ServerStore D → Type 0
-IsSeated tells view count first (Disk store) =
-    ((aggregate_view tells view store).state.server.0 ≤ count)
-    × IsSeenSo (first (aggregate_view tells view store).state.server.0) (seen_of view store)
-IsSeated tells view count first (Memory store) = count < (kept_in store).server.0
+-- where so many servers have a disk, those in front, the store of a server is on one exactly where its server has one
+abbrev pub IsSeated : {D : Type 0} → Type 0 → (D → DiskView) → ℕ → ServerStore D → Type 0
+IsSeated tells view count (Disk store) = (aggregate_view tells view store).state.server.0 ≤ count
+IsSeated tells view count (Memory store) = count < (kept_in store).server.0
 
-abbrev pub AreSeated : {D : Type 0} → Type 0 → (D → DiskView) → ℕ → (ℕ → Seen) → List (ServerStore D) → Type 0
-AreSeated tells view count first [] = ⊤
-AreSeated tells view count first (store ∷ stores) =
-    IsSeated tells view count first store × AreSeated tells view count first stores
+abbrev pub AreSeated : {D : Type 0} → Type 0 → (D → DiskView) → ℕ → List (ServerStore D) → Type 0
+AreSeated tells view count [] = ⊤
+AreSeated tells view count (store ∷ stores) = IsSeated tells view count store × AreSeated tells view count stores

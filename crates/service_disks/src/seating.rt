@@ -12,7 +12,7 @@ use std::marker::PhantomData;
 
 // Gives a store its seat.
 fn seat<D: Disk, C: Count>(store: ServerStore<D>) -> Seat<D, C>
-    requires seated { IsSeated D.tells D.view C.disks C.first store }
+    requires seated { IsSeated D.tells D.view C.disks store }
     ensures { store_in result ≡ store }
 {
     match store {
@@ -32,7 +32,7 @@ pub fn seat_stores<D: Disk + Drop, C: Count>(
     alloc: Global,
     stores: Vec<ServerStore<D>>,
 ) -> Result<Vec<Seat<D, C>>, Vec<ServerStore<D>>>
-    requires seated { AreSeated D.tells D.view C.disks C.first stores.items }
+    requires seated { AreSeated D.tells D.view C.disks stores.items }
     ensures seated { IfOk result (λ seats. stores_in seats.items ≡ stores.items) }
     ensures back { IfErr result (λ back. back.items ≡ stores.items) }
 {

@@ -1,7 +1,6 @@
 ghost use Rattle.std.specs.Prelude.{◌≤◌, ◌<◌, ℕ};
 ghost use Rattle.store_memory.specs.MapStores.{kept_in};
 ghost use Rattle.disk_aggregate.specs.StoreView.{aggregate_view};
-ghost use Rattle.service_disks.specs.Trails.{unseen, seen_of, Seen, GoesFrom};
 
 use base_types::{Disk, Fid, FilesetId, HostId, Items, Name, Span, User};
 use disk_aggregate::Aggregate;
@@ -11,29 +10,21 @@ use store_memory::{Kept, Looked, MapStore, Slot, Store, StoreFault, tells_part};
 use store_state::{Done, HostState};
 use tree_calls::{Call, DirEntry, Mover, Place, Reply, ShipPart, Status};
 
-/// How many servers have a disk, those in front, and what was seen of the store of each when it got its seat, by the
-/// server's number. It is known to proofs alone: who seats stores picks it.
+/// How many servers have a disk, those in front. It is known to proofs alone: who seats stores picks it.
 pub trait Count {
     ghost disks: { ℕ };
-
-    ghost first: { ℕ → Seen };
 }
 
 impl Count for Brand {
     ghost disks = { 0 };
-
-    ghost first = { λ _. unseen };
 }
 
-/// The store of a server on its disk, which the server has by its number. Whatever was done to it, it keeps what some
-/// acts made of what it kept at first, and a crash left no more than that.
+/// The store of a server on its disk, which the server has by its number.
 #[derive(Drop)]
 pub struct DiskSeat<D: Disk, C: Count> {
     pub(crate) store: Aggregate<D>,
     pub(crate) count: PhantomData<C>,
     ghost within: { (aggregate_view D.tells D.view store).state.server.0 ≤ C.disks },
-    ghost trail: { ∥ (D.tells
-        → GoesFrom (C.first (aggregate_view D.tells D.view store).state.server.0) (seen_of D.view store)) ∥₁ },
 }
 
 /// The store of a server in memory, which has no disk by its number.

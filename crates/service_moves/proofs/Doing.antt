@@ -37,10 +37,10 @@ acts_other place other (act ∷ acts) apart =
 pub take_steps : (n place : ℕ) (acts : List Act) → take n (steps_of place acts) ≡ steps_of place (take n acts)
 take_steps zero place acts = refl
 take_steps (suc n) place [] = refl
-take_steps (suc n) place (act ∷ acts) = ap (λ (l : List Step). record { place = place; act = act } ∷ l) (take_steps n place acts)
+take_steps (suc n) place (act ∷ acts) = (let here : Step = record { place = place; act = act } in ap (λ (l : List Step). here ∷ l) (take_steps n place acts))
 
 pub steps_length : (place : ℕ) (acts : List Act) → length (steps_of place acts) ≡ length acts
-steps_length place acts = map_length (λ act. record { place = place; act = act }) acts
+steps_length place acts = map_length {A = Act} {B = Step} (λ act. record { place = place; act = act }) acts
 
 take_front : (n : ℕ) (front behind : List Step) → (rest : List Step) × (take n (front ++ behind) ≡ take n front ++ rest)
 take_front zero front behind = ([], refl)

@@ -23,7 +23,7 @@ use Rattle.service_moves.proofs.Between.{set_swap}
 use Rattle.service_moves.proofs.Carried.{takes_next}
 use Rattle.service_moves.proofs.Doing.{steps_one, steps_stop, steps_then}
 use Rattle.service_moves.proofs.Stores.{set_beside}
-use Rattle.service_moves.proofs.Twice.{made_of}
+use Rattle.service_moves.proofs.Twice.{does_failed, made_of}
 
 take_here : {A : Type 0} (xs : List A) (k : ℕ) (x : A) → slice_get xs k ≡ Some x → take k xs ++ x ∷ [] ≡ take (k + 1) xs
 take_here [] k x e = absurd (cc)
@@ -50,9 +50,16 @@ part_done result sender now start so_far next holding ship mover at m low e so s
     (does_then tt result (take at parts) (act ∷ []) start so_far next so (subst (λ a. DoesActs result (a ∷ []) so_far next) same (step fits again)))
 
 -- and it was the last, since it failed
-pub parts_failed : {T U E F : Type 0} (result : Result T E) (error : F) (start next : View) (parts : List Act) (at : ℕ) → DoesActs result (take (at + 1) parts) start next → DoesActs {T = U} (Err error) parts start next
-parts_failed result error start next parts at does =
-    subst (λ l. DoesActs (Err error) l start next) (take-append-drop (at + 1) parts) (does_stop result error (take (at + 1) parts) (drop (at + 1) parts) start next does)
+pub parts_failed : {T U E F : Type 0} (first : Result T E) (result : Result U F) (start next : View) (parts : List Act) (at : ℕ) → OnOk result ⊥ → DoesActs first (take (at + 1) parts) start next → DoesActs result parts start next
+parts_failed first (Ok value) start next parts at failed does = absurd failed
+parts_failed {U = U} first (Err error) start next parts at failed does =
+    subst (λ l. DoesActs {T = U} (Err error) l start next) (take-append-drop (at + 1) parts) (does_stop first error (take (at + 1) parts) (drop (at + 1) parts) start next does)
+
+-- so a part failed, and nothing was done of the act behind the parts
+pub failed_sent : {T U E F : Type 0} (first : Result T E) (result : Result U F) (parts : List Act) (at : ℕ) (left : Act) (start now end receiver taken : View) → OnOk result ⊥
+    → DoesActs first (take (at + 1) parts) receiver taken → DoesActs {T = Unit {0}} {E = E} (Ok tt) [] start now → DoesActs first [] now end → HaveSent result parts left start receiver end taken
+failed_sent first result parts at left start now end receiver taken failed came still gone =
+    inl (failed, parts_failed first result receiver taken parts at failed came, does_failed first result [] start end failed (does_then tt first [] [] start now end still gone))
 
 -- nothing is nothing, whatever the answer
 pub does_nothing : {T U E F : Type 0} (result : Result T E) (value : U) (old new : View) → DoesActs result [] old new → DoesActs {E = F} (Ok value) [] old new

@@ -1,5 +1,5 @@
 -- What a store does that is given a batch, opened anew where that failed, and given the batch once more.
-use Rattle.std.proofs.Common.{◌≡◌, ◌≤◌, ◌+◌, ◌∙◌, ℕ, zero, suc, List, [], ◌∷◌, length, take, max, refl, sym, subst, ap, arith}
+use Rattle.std.proofs.Common.{◌≡◌, ◌≤◌, ◌+◌, ◌++◌, ◌∙◌, ℕ, zero, suc, List, [], ◌∷◌, length, take, max, refl, sym, subst, ap, arith}
 use Rattle.std.specs.Prelude.{Option, Some, Result, Ok, Err, OnOk, IsErrAnd}
 use Rattle.std.proofs.Math.Seq.{take-length}
 use Rattle.base_types.specs.declared.limits.TheConstants.{BATCH_ACTS_MAX}
@@ -7,7 +7,7 @@ use Rattle.store_acts.specs.Acts.{state_after}
 use Rattle.store_acts.specs.declared.act.Act.{Act}
 use Rattle.store_state.specs.declared.state.StoreState.{StoreState}
 use Rattle.store_memory.specs.Views.{View, Leaves, IsFirstOf, DoesActs}
-use Rattle.store_memory.proofs.Doing.{leaves_then, leaves_weaker}
+use Rattle.store_memory.proofs.Doing.{does_stop, leaves_then, leaves_weaker}
 use Rattle.service_moves.specs.Again.{IsAgain}
 use Rattle.service_moves.proofs.Tries.{take_all}
 
@@ -76,6 +76,15 @@ does_ok value other acts old new does = record { done = does.done; within = does
 
 pub does_err : {T U E F : Type 0} (result : Result T E) (error : F) (acts : List Act) (old new : View) → DoesActs result acts old new → DoesActs {T = U} (Err error) acts old new
 does_err result error acts old new does = record { done = does.done; within = does.within; all = tt; state = does.state; leaves = does.leaves }
+
+-- a failure that is passed on
+pub does_failed : {T U E F : Type 0} (first : Result T E) (result : Result U F) (acts : List Act) (old new : View) → OnOk result ⊥ → DoesActs first acts old new → DoesActs result acts old new
+does_failed first (Ok value) acts old new failed does = absurd failed
+does_failed first (Err error) acts old new failed does = does_err first error acts old new does
+
+pub stops_failed : {T U E F : Type 0} (first : Result T E) (result : Result U F) (acts more : List Act) (old new : View) → OnOk result ⊥ → DoesActs first acts old new → DoesActs result (acts ++ more) old new
+stops_failed first (Ok value) acts more old new failed does = absurd failed
+stops_failed first (Err error) acts more old new failed does = does_stop first error acts more old new does
 
 -- what a store did of one act, and what it holds then
 pub made_of : {T E : Type 0} (value : T) (acts : List Act) (old new : View) → DoesActs {E = E} (Ok value) acts old new → new.state ≡ state_after old.state acts

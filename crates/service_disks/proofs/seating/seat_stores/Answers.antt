@@ -9,16 +9,14 @@ seat-requires g c =
     (let tells = g.D.Disk.tells in
     let view = g.D.Disk.view in
     let count = g.C.Count.disks in
-    let first = g.C.Count.first in
-    let rest = subst (λ (l : List (ServerStore g.row.D.Denot)). AreSeated tells view count first l) c.in-Some.ensures.items c.loop-store.invariant.rest in
-    record { seated = seated_last tells view count first c.pop.new.self.items c.in-Some.store rest })
+    let rest = subst (λ (l : List (ServerStore g.row.D.Denot)). AreSeated tells view count l) c.in-Some.ensures.items c.loop-store.invariant.rest in
+    record { seated = seated_last tells view count c.pop.new.self.items c.in-Some.store rest })
 
 pub loop-store-preserved : goal.loop-store-preserved
 loop-store-preserved g c =
     (let tells = g.D.Disk.tells in
     let view = g.D.Disk.view in
     let count = g.C.Count.disks in
-    let first = g.C.Count.first in
     let put = c.put_first.ensures.items in
     let fewer = c.in-Some.ensures.len in
     let room = c.loop-store.invariant.room in
@@ -26,7 +24,7 @@ loop-store-preserved g c =
     record {
       seating = one_seated c.args.stores.items c.loop-store.stores.items c.pop.new.self.items c.loop-store.seats.items c.put_first.new.items.items c.in-Some.store c.seat.result c.loop-store.invariant.seating c.in-Some.ensures.items c.seat.ensures put;
       rest =
-          seated_front tells view count first c.pop.new.self.items c.in-Some.store
-          (subst (λ (l : List (ServerStore g.row.D.Denot)). AreSeated tells view count first l) c.in-Some.ensures.items c.loop-store.invariant.rest);
+          seated_front tells view count c.pop.new.self.items c.in-Some.store
+          (subst (λ (l : List (ServerStore g.row.D.Denot)). AreSeated tells view count l) c.in-Some.ensures.items c.loop-store.invariant.rest);
       room = (let e = ap length put in omega (arith, e, fewer, room, more));
     })

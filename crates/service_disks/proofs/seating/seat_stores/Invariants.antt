@@ -7,7 +7,7 @@ use Rattle.service_disks.proofs.seating.seat_stores.Given as goal
 abbrev pub invariant-loop-store : goal.invariant-loop-store
 invariant-loop-store g l = record {
   seating : Seating l.initial.stores.items l.stores.items l.seats.items;
-  rest : AreSeated g.D.Disk.tells g.D.Disk.view g.C.Count.disks g.C.Count.first l.stores.items;
+  rest : AreSeated g.D.Disk.tells g.D.Disk.view g.C.Count.disks l.stores.items;
   room : length l.seats.items + length l.stores.items ≤ vec_capacity l.seats;
 }
 

@@ -1,12 +1,11 @@
-use Rattle.std.proofs.Common.{◌≡◌, ◌+◌, ◌*◌, ◌∙◌, length, take, sym, subst, ap, arith}
-use Rattle.std.specs.Prelude.{Result, Ok, Err}
-use Rattle.std.proofs.lemmas.Result.{err_from_is_err_and}
+use Rattle.std.proofs.Common.{◌≡◌, ◌+◌, ◌*◌, ◌++◌, ◌∙◌, length, take, drop, sym, subst, ap, arith}
+use Rattle.std.specs.Prelude.{Ok}
 use Rattle.base_types.specs.declared.limits.TheConstants.{BATCH_ACTS_MAX}
 use Rattle.store_memory.specs.Views.{DoesActs}
 use Rattle.store_memory.specs.declared.store.StoreFault.{StoreFault}
-use Rattle.store_memory.proofs.Doing.{does_none, does_then, does_stop}
+use Rattle.store_memory.proofs.Doing.{does_none, does_then}
 use Rattle.service_moves.proofs.Tries.{batch_again, batch_in, take_all, take_batch, take_to, take_rest}
-use Rattle.service_moves.proofs.Twice.{does_err, does_ok, made_of}
+use Rattle.service_moves.proofs.Twice.{made_of, never_ok, stops_failed}
 use Rattle.service_moves.proofs.batches.apply_all.Goals as goal
 
 pub loop-at-init-clause-does : goal.loop-at-init-clause-does
@@ -26,11 +25,8 @@ returns-in_err-apply_batch-clause-does g c tells fits new =
     let end = c.min-to.ensures in
     let failed = c.in_err-apply_batch.ensures.does tells (batch_again start.state now.state acts from to (made_of _ (take from acts) start now so_far) fits new) in
     let both = does_then _ _ (take from acts) (batch_in acts from to) start now next so_far failed in
-    let all : DoesActs (Err c.in_err-apply_batch.field-0.0) acts start next =
-    subst (λ l. DoesActs (Err c.in_err-apply_batch.field-0.0) l start next) (take_rest acts from to (omega (arith, low, count, end)))
-    (does_stop _ c.in_err-apply_batch.field-0.0 _ _ start next both) in
-    let p = err_from_is_err_and c.from_residual.result c.from_residual.ensures.1 in
-    rw (p.1) (does_err _ p.0 acts start next all)
+    subst (λ l. DoesActs c.from_residual.result l start next) (take_rest acts from to (omega (arith, low, count, end)))
+    (stops_failed _ c.from_residual.result (take from acts ++ batch_in acts from to) (drop to acts) start next (never_ok c.from_residual.result c.from_residual.ensures.1) both)
 
 pub loop-at-preserved : goal.loop-at-preserved
 loop-at-preserved g c =

@@ -1,4 +1,4 @@
-use Rattle.std.proofs.Common.{◌≡◌, ◌≤◌, ◌+◌, ◌*◌, [], ◌∷◌, take, inl, sym, subst, arith}
+use Rattle.std.proofs.Common.{◌≡◌, ◌≤◌, ◌+◌, ◌*◌, [], ◌∷◌, take, inl, sym, subst, arith, rules}
 use Rattle.std.specs.Prelude.{Err}
 use Rattle.store_acts.specs.declared.act.Act.TheVariants.{Left}
 use Rattle.service_moves.specs.Again.{IsRepeatable}
@@ -10,8 +10,8 @@ use Rattle.store_memory.proofs.Doing.{does_none, does_then}
 use Rattle.store_state.specs.declared.state.Holding.{Holding}
 use Rattle.service_moves.specs.Ships.{MaySend}
 use Rattle.service_moves.proofs.Carried.{all_taken, left_again}
-use Rattle.service_moves.proofs.Sent.{all_sent, has_sent, part_done, parts_failed}
-use Rattle.service_moves.proofs.Twice.{made_of}
+use Rattle.service_moves.proofs.Sent.{all_sent, failed_sent, has_sent, part_done}
+use Rattle.service_moves.proofs.Twice.{made_of, never_ok}
 use Rattle.service_moves.proofs.Stores.{if_err_then, lasts_more, lasts_none, lasts_then, on_ok, on_ok_then, stops_then}
 use Rattle.service_moves.proofs.sending.send.Goals as goal
 
@@ -44,6 +44,29 @@ loop-at-preserved g c =
           (lasts_then (batch_wear * at) batch_wear (g.S.Store.view c.args.sender.now) (g.S.Store.view c.loop-at.sender) (g.S.Store.view c.send_part.new.sender) inv.first done.first.lasts);
       second = lasts_more (batch_wear * at + batch_wear) (batch_wear * (at + 1)) (g.S.Store.view c.args.receiver.now) (g.S.Store.view c.send_part.new.receiver) more
           (lasts_then (batch_wear * at) batch_wear (g.S.Store.view c.args.receiver.now) (g.S.Store.view c.loop-at.receiver) (g.S.Store.view c.send_part.new.receiver) inv.second done.second.lasts);
+    }
+
+pub returns-in_err-send_part : goal.returns-in_err-send_part
+returns-in_err-send_part g c =
+    let inv = c.loop-at.invariant in
+    let done = c.in_err-send_part.ensures in
+    let ship = c.args.ship.now in
+    let at = c.loop-at.at in
+    let low : at ≤ ship.objects = (let t = c.loop-at-test.true in omega (arith, t)) in
+    let failed = never_ok c.from_residual.result c.from_residual.ensures.1 in
+    let start = g.S.Store.view c.args.sender.now in
+    let now = g.S.Store.view c.loop-at.sender in
+    let end = g.S.Store.view c.send_part.new.sender in
+    record {
+      states = search rules;
+      does = λ t holding m.
+          failed_sent _ c.from_residual.result (all_parts holding ship.from ship.number c.args.mover.now) at (Left ship.fileset) start now end (g.S.Store.view c.args.receiver.now) (g.S.Store.view c.send_part.new.receiver) failed
+          (part_done _ start.state now.state (g.S.Store.view c.args.receiver.now) (g.S.Store.view c.loop-at.receiver) (g.S.Store.view c.send_part.new.receiver) holding ship c.args.mover.now at m low
+          (made_of tt [] start now (inv.still t)) (inv.does t holding m) (done.receiver t))
+          (inv.still t) (done.sender t);
+      first = search rules;
+      second = search rules;
+      stopped = search rules;
     }
 
 pub returns : goal.returns

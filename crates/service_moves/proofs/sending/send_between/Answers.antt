@@ -179,3 +179,12 @@ returns-then-to-from-clause-goes_on g c =
 pub returns-clause-goes_on : goal.returns-clause-goes_on
 returns-clause-goes_on g c =
     none_goes g.S.Store.view (66 * batch_wear) tt c.args.stores.now (all_mendable g.S.Store.view c.requires.may.roster (2 ^ 46 + 2 ^ 14) c.args.stores.now c.requires.may.are)
+
+pub returns-clause-does : goal.returns-clause-does
+returns-clause-does g c tells sender receiver holding apart one two may =
+    let a = c.if-from-to.false in
+    let b = c.if-to-from.false in
+    let m = c.requires.may in
+    let from = m.is_from.first in
+    let to = m.is_to.first in
+    absurd (apart (omega (arith, a, b, from, to)))
