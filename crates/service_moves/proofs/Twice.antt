@@ -51,6 +51,9 @@ done_none (Err error) old new same left = record { done = 0; within = omega arit
 pub still_leaves : (old mid new : View) → mid.state ≡ old.state → Leaves (IsFirstOf old.state []) old mid → Leaves (IsFirstOf mid.state []) mid new → Leaves (IsFirstOf old.state []) old new
 still_leaves old mid new same first second = leaves_then first (leaves_weaker second (λ found is. subst (λ (s : StoreState). IsFirstOf s [] found) same is))
 
+pub asked_again : (old mid opened new : View) → mid.state ≡ old.state → opened.state ≡ mid.state → Leaves (IsFirstOf old.state []) old mid → Leaves (IsFirstOf mid.state []) mid opened → Leaves (IsFirstOf opened.state []) opened new → Leaves (IsFirstOf old.state []) old new
+asked_again old mid opened new same again first second third = still_leaves old opened new (again ∙ same) (still_leaves old mid opened same first second) third
+
 -- opened anew after a first try
 pub opened_leaves : (old mid opened : View) (batch : List Act) (k : ℕ) → k ≤ length batch → mid.state ≡ state_after old.state (take k batch) → Leaves (IsFirstOf old.state batch) old mid
     → Leaves (IsFirstOf mid.state []) mid opened → Leaves (IsFirstOf old.state batch) old opened
