@@ -41,7 +41,7 @@ mapped : (f : StoreState → StoreState) (o : Option StoreState) (last : StoreSt
 mapped f None last e = absurd (cc)
 mapped f (Some first) last e = (first, refl, (let p : Some (f first) ≡ Some last = e in cc))
 
-behind_in : (few more : ℕ → Option StoreState) (steps : List Step) → AreIn few more → AreIn (behind few steps) (behind more steps)
+pub behind_in : (few more : ℕ → Option StoreState) (steps : List Step) → AreIn few more → AreIn (behind few steps) (behind more steps)
 behind_in few more steps are =
     in_so (behind few steps) (behind more steps)
     (λ place state e.

@@ -35,6 +35,7 @@ use Rattle.disk_layout.specs.Half.{HasNoLog}
 use Rattle.disk_layout.specs.Places.{page_start}
 use Rattle.disk_records.specs.Record.{record_in}
 use Rattle.service_moves.specs.Doing.{Step, acts_at}
+use Rattle.service_moves.specs.Plans.{behind}
 use Rattle.service_plain.specs.Played.{IsPlayed}
 use Rattle.service_plain.specs.declared.played.Played.{Played}
 use Rattle.service_starts.specs.Fitting.{misfit}
@@ -60,11 +61,20 @@ use Rattle.service_run.specs.World.{Shown, World}
 use Rattle.service_run.specs.declared.outcome.Outcome.{Outcome}
 use Rattle.service_run.specs.declared.outcome.Status.TheVariants.{NoDisk, NoAggregate}
 
--- What the server of a number tells: of the store on its disk, a new one where that is blank; of a new one in memory,
--- where it has no disk. Nothing where the disk has no record of it.
+-- What the store of the server of a number keeps: the one on its disk, a new one where that is blank; a new one in
+-- memory, where it has no disk. Nothing where the disk has no record of it.
+abbrev pub kept_at : Roster → ℕ → Option (List ℕ) → Option StoreState
+kept_at roster number (Some image) = store_on roster (server_of number) image
+kept_at roster number None = Some (new_store roster (server_of number))
+
+-- and what it tells
 abbrev pub told_at : Roster → ℕ → Option (List ℕ) → Option Told
 told_at roster number (Some image) = option_map (told_of true) (store_on roster (server_of number) image)
 told_at roster number None = Some (told_of false (new_store roster (server_of number)))
+
+-- what all stores keep, by their places, where these are the bytes of the disks in front
+abbrev pub found_at : Roster → List (List ℕ) → ℕ → Option StoreState
+found_at roster images place = kept_at roster (place + 1) (slice_get images place)
 
 -- this is what all servers of a roster tell where these are the bytes of the disks in front
 pub record AreFound (roster : Roster) (images : List (List ℕ)) (all : List Told) : Type 0 where
@@ -105,23 +115,26 @@ abbrev pub AreStill : Roster → List (List ℕ) → List (List ℕ) → Type 0
 AreStill roster olds news = (k : ℕ) (old new : List ℕ) → slice_get olds k ≡ Some old → slice_get news k ≡ Some new
     → record_in roster (server_of (k + 1)) new ≡ store_on roster (server_of (k + 1)) old
 
--- the steps of a run of the script from the tree that the servers told, or of the first part of its history
-pub record IsKeptHistory (script : Script) (all : List Told) (steps : List Step) : Type 0 where
+-- the steps in which stores that keep this keep a run of the script from the tree that the servers told, or the first
+-- part of its history
+pub record IsKeptHistory (script : Script) (all : List Told) (states : ℕ → Option StoreState) (steps : List Step) :
+    Type 0 where
   pub played : Played
   pub start : played.start ≡ start_from script.roster all
   pub goes : IsPlayed script played
   pub count : ℕ
-  pub keeps : AreOfHistory played.start (take count played.history) steps
+  pub keeps : AreOfHistory played.start (take count played.history) states steps
 
--- The steps of a run over disks, in the order in which the stores of its servers do them: first what an earlier run left
--- of moves is settled and finished, and each server begins the run; and then, where the script ran, the acts of its
--- history, one that may happen from the tree that the disks held.
-pub record ArePlanned (script : Script) (all : List Told) (steps : List Step) : Type 0 where
+-- The steps of a run over stores that keep this and tell that, in the order in which they are done: first what an
+-- earlier run left of moves is settled and finished, and each server begins the run; and then, where the script ran, the
+-- acts of its history, one that may happen from the tree that was told.
+pub record ArePlanned (script : Script) (all : List Told) (states : ℕ → Option StoreState) (steps : List Step) :
+    Type 0 where
   pub begins : List Step
   pub keeps : List Step
   pub are : steps ≡ begins ++ keeps
-  pub beginning : AreBeginning begins
-  pub keeping : (keeps ≡ []) ⊎ IsKeptHistory script all keeps
+  pub beginning : AreBeginning states begins
+  pub keeping : (keeps ≡ []) ⊎ IsKeptHistory script all (behind states begins) keeps
 
 -- What a crash at any moment of a run may leave on a server's disk that held these bytes: on a blank one no log,
 -- refused at place 0; on another one the record that it had, or none as it; or, of what are bytes, the record that the
@@ -148,11 +161,12 @@ pub record GoBySteps {D : Type 0} (view : D → View) (script : Script) (outcome
   pub all : List Told
   pub found : AreFound script.roster (images view olds) all
   pub steps : List Step
-  pub planned : ArePlanned script all steps
+  pub planned : ArePlanned script all (found_at script.roster (images view olds)) steps
   pub cut : ℕ
   pub within : cut ≤ length steps
   pub whole : has_run outcome.status ≡ true
-      → (cut ≡ length steps) × AreOfHistory outcome.played.start outcome.played.history planned.keeps
+      → (cut ≡ length steps) × AreOfHistory outcome.played.start outcome.played.history
+      (behind (found_at script.roster (images view olds)) planned.begins) planned.keeps
   pub kept : (k : ℕ) (old new : D) → slice_get olds k ≡ Some old → slice_get news k ≡ Some new
       → HasDone script.roster (server_of (k + 1)) (acts_at k (take cut steps)) (view old).image (view new).image
   pub leaves : (k : ℕ) (old new : D) → slice_get olds k ≡ Some old → slice_get news k ≡ Some new

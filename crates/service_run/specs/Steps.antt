@@ -20,6 +20,7 @@ use Rattle.service_disks.specs.declared.disks.StoresRefused.TheVariants as openi
 use Rattle.service_disks.specs.declared.stores.ServerStore.{ServerStore}
 use Rattle.service_disks.specs.declared.stores.ServerStore.TheVariants.{Disk, Memory}
 use Rattle.service_moves.specs.Doing.{Step, DoSteps}
+use Rattle.service_moves.specs.Plans.{behind, states_at}
 use Rattle.service_moves.specs.Stopping.{IsStopped}
 use Rattle.service_moves.specs.Stores.{AreSame, states_of}
 use Rattle.service_moves.specs.declared.stopped.RunStopped.{RunStopped}
@@ -49,9 +50,10 @@ pub record HasRunOver {S : Type 0} (tells : Type 0) (view : S → View) (script 
 pub record HaveGone {S : Type 0} (view : S → View) (script : Script) (disks : ℕ) (result : Result Played RunStopped)
     (old new : List S) : Type 0 where
   pub steps : List Step
-  pub planned : ArePlanned script (told_by view disks old) steps
+  pub planned : ArePlanned script (told_by view disks old) (states_at view old) steps
   pub does : DoSteps view result steps old new
-  pub ran : IfOk result (λ run. AreOfHistory run.start run.history planned.keeps)
+  pub ran : IfOk result
+      (λ run. AreOfHistory run.start run.history (behind (states_at view old) planned.begins) planned.keeps)
 
 -- A script ran over stores, or why it didn't; each is still that of its server.
 pub record IsRunOf {S : Type 0} (tells : Type 0) (view : S → View) (script : Script) (disks : ℕ)
