@@ -88,8 +88,8 @@ module _ {S : Type 0} (view : S → View) (script : Script) (disks : ℕ) where
   -- one that began, and then kept its history, or a first part of it
   module _ {T E : Type 0} (value : T) (old mid new : List S) (run : Played) (goes : IsPlayed script run) (start : run.start ≡ start_from script.roster (told_by view disks old))
       (began : (steps : List Step) × AreBeginning (states_at view old) steps × DoSteps {E = E} view (Ok value) steps old mid) where
-    planned : {U F : Type 0} (result : Result U F) → (d : KeepsHistory view result run.start run.history mid new) → ArePlanned script (told_by view disks old) (states_at view old) (began.0 ++ d.steps)
-    planned result d = record {
+    abbrev plan : {U F : Type 0} (result : Result U F) → (d : KeepsHistory view result run.start run.history mid new) → ArePlanned script (told_by view disks old) (states_at view old) (began.0 ++ d.steps)
+    plan result d = record {
       begins = began.0;
       keeps = d.steps;
       are = refl;
@@ -106,7 +106,7 @@ module _ {S : Type 0} (view : S → View) (script : Script) (disks : ℕ) where
     pub gone_done : {U F : Type 0} (done : U) → KeepsHistory {E = F} view (Ok done) run.start run.history mid new → HaveGone view script disks (Ok run) old new
     gone_done {F = F} done d = record {
       steps = began.0 ++ d.steps;
-      planned = planned {F = F} (Ok done) d;
+      planned = plan {F = F} (Ok done) d;
       does = steps_then view value (Ok run) began.0 d.steps old mid new (steps_ok view value value began.0 old mid began.2) (steps_ok view done run d.steps mid new d.does);
       ran =
           subst (λ (l : List Entry). AreOfHistory run.start l (behind (states_at view old) began.0) d.steps) (ap (λ n. take n run.history) d.all ∙ take-length run.history)
@@ -116,7 +116,7 @@ module _ {S : Type 0} (view : S → View) (script : Script) (disks : ℕ) where
     pub gone_stopped : {U F : Type 0} (result : Result U F) (stopped : RunStopped) → KeepsHistory view result run.start run.history mid new → HaveGone view script disks (Err stopped) old new
     gone_stopped result stopped d = record {
       steps = began.0 ++ d.steps;
-      planned = planned result d;
+      planned = plan result d;
       does = steps_then view value (Err stopped) began.0 d.steps old mid new (steps_ok view value value began.0 old mid began.2) (steps_err view result stopped d.steps mid new d.does);
       ran = tt;
     }
@@ -133,7 +133,7 @@ module _ {S T : Type 0} (f : S → T) (view : T → View) where
         (let m = mapped f olds k before was in
         let n = mapped f news k after is in
         let made = does.states k m.from n.from m.was n.was in
-        ap (λ (t : T). (view t).state) (sym n.is) ∙ made ∙ (λ i. state_after (view (m.is i)).state (acts_at k (take does.cut steps))));
+        ap (λ (t : T). (view t).state) (sym n.is) ∙ made ∙ ap (λ (t : T). state_after (view t).state (acts_at k (take does.cut steps))) m.is);
     leaves = λ k before after was is.
         (let m = mapped f olds k before was in
         let n = mapped f news k after is in

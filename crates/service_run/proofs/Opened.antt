@@ -273,7 +273,7 @@ module _ {D : Type 0} (tells : Type 0) (view : D → DiskView) (roster : Roster)
       disk : here.old ≡ old
       disk = (let p = here.was in cc)
 
-      from : StoreState
+      abbrev from : StoreState
       from = kept_state view here.store
 
       from_was : store_on roster (server_of (k + 1)) (view old).image ≡ Some from

@@ -126,8 +126,8 @@ pub record IsKeptHistory (script : Script) (all : List Told) (states : ℕ → O
   pub keeps : AreOfHistory played.start (take count played.history) states steps
 
 -- The steps of a run over stores that keep this and tell that, in the order in which they are done: first what an
--- earlier run left of moves is settled and finished, and each server begins the run; and then, where the script ran, the
--- acts of its history, one that may happen from the tree that was told.
+-- earlier run left of moves is settled and finished, and each server begins the run; and then, where the script ran,
+-- the acts of its history, one that may happen from the tree that was told.
 pub record ArePlanned (script : Script) (all : List Told) (states : ℕ → Option StoreState) (steps : List Step) :
     Type 0 where
   pub begins : List Step

@@ -58,7 +58,7 @@ const ENTRIES_MAX: usize = 4_294_967_296;
 /// done all that came before. After `Ok` each may be asked, so that what it keeps is durable.
 ///
 /// `Failed` comes where the disk of a server failed twice, and `Memory` where memory runs out, or where the history has
-/// more than `ENTRIES_MAX` entries. Each store has done the first of its acts then, up to one and the same step for all.
+/// more than `ENTRIES_MAX` entries. Each store has done the first of its acts then, up to one and the same step.
 pub fn keep<S: Store>(
     alloc: Global,
     stores: &mut [S],
