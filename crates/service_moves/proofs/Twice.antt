@@ -12,9 +12,9 @@ use Rattle.service_moves.specs.Again.{IsAgain}
 use Rattle.service_moves.proofs.Tries.{take_all}
 
 -- a failure that is passed on
-pub never_ok : {T E : Type 0} {Q : E → Type 0} (result : Result T E) → IsErrAnd result Q → OnOk result ⊥
-never_ok (Ok value) failed = failed
-never_ok (Err error) failed = tt
+pub never_ok : {T E : Type 0} (result : Result T E) (Q : E → Type 0) → IsErrAnd result Q → OnOk result ⊥
+never_ok (Ok value) Q failed = failed
+never_ok (Err error) Q failed = tt
 
 -- all of some acts
 pub done_all : {T E : Type 0} (value : T) (acts : List Act) (old new : View) → new.state ≡ state_after old.state acts → Leaves (IsFirstOf old.state acts) old new → DoesActs {E = E} (Ok value) acts old new

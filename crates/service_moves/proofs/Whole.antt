@@ -176,7 +176,7 @@ pub done_behind : {S T E : Type 0} (view : S → View) (value : T) (steps : List
 done_behind view value steps old new does =
     in_so (states_at view new) (behind (states_at view old) steps)
     (λ place state e.
-    (let state_of = λ store. (view store).state in
+    (let state_of = λ (store : S). (view store).state in
     let after = map_before state_of new place state e in
     let low = there_within new place after.0 after.1 in
     let count = does.count in

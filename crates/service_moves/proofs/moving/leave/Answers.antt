@@ -7,7 +7,7 @@ use Rattle.service_moves.proofs.moving.leave.Goals as goal
 pub returns-in_err-do_act-clause-does : goal.returns-in_err-do_act-clause-does
 returns-in_err-do_act-clause-does g c tells fits again =
     does_failed _ c.from_residual.result (Leave c.args.fileset c.args.to ∷ []) (g.S.Store.view c.args.store.now) (g.S.Store.view c.do_act.new.store)
-    (never_ok c.from_residual.result c.from_residual.ensures.1) (c.in_err-do_act.ensures.does tells fits again)
+    (never_ok c.from_residual.result _ c.from_residual.ensures.1) (c.in_err-do_act.ensures.does tells fits again)
 
 pub returns-clause-does : goal.returns-clause-does
 returns-clause-does g c tells fits again =

@@ -53,7 +53,7 @@ returns-in_err-send_part g c =
     let ship = c.args.ship.now in
     let at = c.loop-at.at in
     let low : at ≤ ship.objects = (let t = c.loop-at-test.true in omega (arith, t)) in
-    let failed = never_ok c.from_residual.result c.from_residual.ensures.1 in
+    let failed = never_ok c.from_residual.result _ c.from_residual.ensures.1 in
     let start = g.S.Store.view c.args.sender.now in
     let now = g.S.Store.view c.loop-at.sender in
     let end = g.S.Store.view c.send_part.new.sender in

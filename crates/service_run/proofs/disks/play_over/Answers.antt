@@ -19,14 +19,14 @@ use Rattle.service_run.proofs.disks.play_over.Goals as goal
 pub returns-in_err-start : goal.returns-in_err-start
 returns-in_err-start g c =
     (let view = g.S.Store.view in
-    let failed = never_ok c.from_residual.result c.from_residual.ensures.1 in
+    let failed = never_ok c.from_residual.result _ c.from_residual.ensures.1 in
     run_stopped view g.S.Store.tells c.args.script.now c.args.disks c.args.stores.now c.start_on.new.stores c.from_residual.result failed c.start_on.ensures.same (search rules)
     (λ told. gone_begun view c.args.script.now c.args.disks _ c.from_residual.result c.args.stores.now c.start_on.new.stores failed (c.in_err-start.ensures.does told)))
 
 pub returns-in_err-played : goal.returns-in_err-played
 returns-in_err-played g c =
     (let view = g.S.Store.view in
-    let failed = never_ok c.from_residual-in_err-played.result c.from_residual-in_err-played.ensures.1 in
+    let failed = never_ok c.from_residual-in_err-played.result _ c.from_residual-in_err-played.ensures.1 in
     run_starved view g.S.Store.tells c.args.script.now c.args.disks c.args.stores.now c.start_on.new.stores c.from_residual-in_err-played.result failed c.start_on.ensures.same (search rules)
     (λ told. gone_begun view c.args.script.now c.args.disks _ c.from_residual-in_err-played.result c.args.stores.now c.start_on.new.stores failed (c.in_ok-start.ensures.does told)))
 

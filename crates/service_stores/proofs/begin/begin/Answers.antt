@@ -65,14 +65,14 @@ returns-clause-stopped g c =
 
 pub returns-in_err-settle_all-clause-does : goal.returns-in_err-settle_all-clause-does
 returns-in_err-settle_all-clause-does g c t storable tree under =
-    begin_failed g.S.Store.view _ c.from_residual.result c.args.stores.now c.settle_all.new.stores (never_ok c.from_residual.result c.from_residual.ensures.1) (c.in_err-settle_all.ensures.does t storable)
+    begin_failed g.S.Store.view _ c.from_residual.result c.args.stores.now c.settle_all.new.stores (never_ok c.from_residual.result _ c.from_residual.ensures.1) (c.in_err-settle_all.ensures.does t storable)
 
 pub returns-in_err-finish_moves-clause-does : goal.returns-in_err-finish_moves-clause-does
 returns-in_err-finish_moves-clause-does g c t storable tree under =
     let view = g.S.Store.view in
     let first = c.in_ok-settle_all.ensures.does t storable in
     let second = c.in_err-finish_moves.ensures.does t tree (subst (KeepUnderWay tree) (sym (c.in_ok-settle_all.ensures.settled t storable)) under) in
-    begin_failed view _ c.from_residual-in_err-finish_moves.result c.args.stores.now c.finish_moves.new.stores (never_ok c.from_residual-in_err-finish_moves.result c.from_residual-in_err-finish_moves.ensures.1)
+    begin_failed view _ c.from_residual-in_err-finish_moves.result c.args.stores.now c.finish_moves.new.stores (never_ok c.from_residual-in_err-finish_moves.result _ c.from_residual-in_err-finish_moves.ensures.1)
     (begin_then view _ _ c.args.stores.now c.settle_all.new.stores c.finish_moves.new.stores first (second.0, moves_begin (states_at view c.settle_all.new.stores) second.0 second.1, second.2))
 
 pub returns-clause-does : goal.returns-clause-does

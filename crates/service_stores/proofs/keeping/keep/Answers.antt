@@ -31,7 +31,7 @@ returns-then-history-gt-ENTRIES_MAX-clause-does g c told keep = none_kept g.S.St
 
 pub returns-in_err-tree-clause-does : goal.returns-in_err-tree-clause-does
 returns-in_err-tree-clause-does g c told keep =
-    none_kept g.S.Store.view c.from_residual.result c.args.start.now c.args.history.now c.args.stores.now (never_ok c.from_residual.result c.from_residual.ensures.1)
+    none_kept g.S.Store.view c.from_residual.result c.args.start.now c.args.history.now c.args.stores.now (never_ok c.from_residual.result _ c.from_residual.ensures.1)
 
 pub returns-clause-does : goal.returns-clause-does
 returns-clause-does g c told keep =

@@ -202,7 +202,7 @@ returns-in_err-keep_to-clause-does g c told keep =
     let behind = length-drop from history in
     let within = inv.within in
     let few = d.within in
-    let failed = never_ok c.from_residual.result c.from_residual.ensures.1 in
+    let failed = never_ok c.from_residual.result _ c.from_residual.ensures.1 in
     record {
       count = from + d.count;
       within = omega (arith, few, size, behind, within);

@@ -28,7 +28,7 @@ returns-in_err-acts-clause-does g c = λ told next happens keeps behind.
     (let store = g.S.Store.view c.args.store.now in
     let acts = acts_of c.args.server c.args.tree.now None c.args.history.now in
     let result = c.from_residual.result in
-    stops_failed result result [] acts store store (never_ok result c.from_residual.ensures.1) (does_none result store))
+    stops_failed result result [] acts store store (never_ok result _ c.from_residual.ensures.1) (does_none result store))
 
 pub returns-in-Ok-clause-does : goal.returns-in-Ok-clause-does
 returns-in-Ok-clause-does g c = λ told next happens keeps behind.

@@ -97,7 +97,7 @@ returns-in_err-keep_part-clause-does g c told next happens keep =
     let store = get_or stores c.loop-k.k c.index-stores-k.result in
     let at : slice_get stores c.loop-k.k ≡ Some store = slice_get-get_or stores c.loop-k.k c.index-stores-k.result lt in
     let low : c.loop-k.k + 1 ≤ length c.args.stores.now = grind arith in
-    part_stops g.S.Store.view _ c.from_residual.result c.args.tree.now c.args.history.now c.loop-k.k (length c.args.stores.now) c.args.stores.now _ (never_ok c.from_residual.result c.from_residual.ensures.1) low c.requires.count
+    part_stops g.S.Store.view _ c.from_residual.result c.args.tree.now c.args.history.now c.loop-k.k (length c.args.stores.now) c.args.stores.now _ (never_ok c.from_residual.result _ c.from_residual.ensures.1) low c.requires.count
     (part_more g.S.Store.view _ (did g.S.Store.tells g.S.Store.view c.args.tree.now c.args.history.now) next c.args.tree.now c.args.history.now c.loop-k.k c.args.stores.now stores store c.keep_part.new.store keep
     c.loop-k.invariant.passed at (c.loop-k.invariant.does told next happens keep) (c.in_err-keep_part.ensures.does told next happens))
 

@@ -141,7 +141,7 @@ returns-in_err-keep_quiet-clause-does g c told next may keep =
     let history = c.args.history.now in
     let place = c.args.place in
     let m = moves_at next tree history place may c.requires.first in
-    less_kept g.S.Store.view _ c.from_residual.result tree history place (place + 2) c.args.stores.now c.keep_quiet.new.stores (never_ok c.from_residual.result c.from_residual.ensures.1) (omega arith)
+    less_kept g.S.Store.view _ c.from_residual.result tree history place (place + 2) c.args.stores.now c.keep_quiet.new.stores (never_ok c.from_residual.result _ c.from_residual.ensures.1) (omega arith)
     (c.in_err-keep_quiet.ensures.does told next m.splits.happens keep)
 
 pub returns-in_err-follow_all-clause-does : goal.returns-in_err-follow_all-clause-does
@@ -151,7 +151,7 @@ returns-in_err-follow_all-clause-does g c told next may keep =
     let place = c.args.place in
     let m = moves_at next tree history place may c.requires.first in
     less_kept g.S.Store.view _ c.from_residual-in_err-follow_all.result tree history place (place + 2) c.args.stores.now c.keep_quiet.new.stores
-    (never_ok c.from_residual-in_err-follow_all.result c.from_residual-in_err-follow_all.ensures.1) (omega arith) (c.in_ok-keep_quiet.ensures.does told next m.splits.happens keep)
+    (never_ok c.from_residual-in_err-follow_all.result _ c.from_residual-in_err-follow_all.ensures.1) (omega arith) (c.in_ok-keep_quiet.ensures.does told next m.splits.happens keep)
 
 pub returns-in_err-keep_moved-clause-does : goal.returns-in_err-keep_moved-clause-does
 returns-in_err-keep_moved-clause-does g c told next may keep =
@@ -164,7 +164,7 @@ returns-in_err-keep_moved-clause-does g c told next may keep =
     let lt : place < length history = omega (arith, two) in
     let there : slice_get history place ≡ Some entry = slice_get_read history (length history) place entry refl lt c.index-history-place.is in
     less_kept view _ c.from_residual-in_err-keep_moved.result tree history (place + 2) (place + 2) c.args.stores.now c.keep_moved.new.stores
-    (never_ok c.from_residual-in_err-keep_moved.result c.from_residual-in_err-keep_moved.ensures.1) (omega arith)
+    (never_ok c.from_residual-in_err-keep_moved.result _ c.from_residual-in_err-keep_moved.ensures.1) (omega arith)
     (to_does view _ (Err c.in_err-keep_moved.field-0.0) next tree c.follow_all.new.tree history place entry c.args.stores.now c.keep_quiet.new.stores c.keep_moved.new.stores may c.requires.first there
     c.in_ok-follow_all.ensures (λ happens kept. c.in_ok-keep_quiet.ensures.kept told next happens kept)
     (λ host k server name to fileset e formed kept moves number. c.in_err-keep_moved.ensures.does told (numbers_after next (take place history)) host k server name to fileset e formed kept moves number)
@@ -181,7 +181,7 @@ returns-in_err-follow_all-2-clause-does g c told next may keep =
     let lt : place < length history = omega (arith, two) in
     let there : slice_get history place ≡ Some entry = slice_get_read history (length history) place entry refl lt c.index-history-place.is in
     less_kept view _ c.from_residual-in_err-follow_all-2.result tree history (place + 2) (place + 2) c.args.stores.now c.keep_moved.new.stores
-    (never_ok c.from_residual-in_err-follow_all-2.result c.from_residual-in_err-follow_all-2.ensures.1) (omega arith)
+    (never_ok c.from_residual-in_err-follow_all-2.result _ c.from_residual-in_err-follow_all-2.ensures.1) (omega arith)
     (to_does view _ (Ok c.in_ok-keep_moved.field-0) next tree c.follow_all.new.tree history place entry c.args.stores.now c.keep_quiet.new.stores c.keep_moved.new.stores may c.requires.first there
     c.in_ok-follow_all.ensures (λ happens kept. c.in_ok-keep_quiet.ensures.kept told next happens kept)
     (λ host k server name to fileset e formed kept moves number. c.in_ok-keep_moved.ensures.does told (numbers_after next (take place history)) host k server name to fileset e formed kept moves number)

@@ -68,7 +68,7 @@ returns-in_err-begin-clause-does g c t disks told storable =
     under_way g.S.Store.view c.args.roster.now (2 * batch_wear) disks c.args.all.now c.args.stores.now c.requires.stores storable c.requires.told told c.in_ok-settlings.ensures.fits in
     let d = c.in_err-begin.ensures.does t storable (start_of c.args.roster.now c.args.all.now)
     (subst (λ those. KeepUnderWay (start_of c.args.roster.now c.args.all.now) (settled_stores 1 those (states_of g.S.Store.view c.args.stores.now))) (sym are) under) in
-    begin_failed g.S.Store.view _ c.from_residual-in_err-begin.result c.args.stores.now c.begin.new.stores (never_ok c.from_residual-in_err-begin.result c.from_residual-in_err-begin.ensures.1) d
+    begin_failed g.S.Store.view _ c.from_residual-in_err-begin.result c.args.stores.now c.begin.new.stores (never_ok c.from_residual-in_err-begin.result _ c.from_residual-in_err-begin.ensures.1) d
 
 pub returns-clause-does : goal.returns-clause-does
 returns-clause-does g c t disks told storable =
