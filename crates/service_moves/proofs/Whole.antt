@@ -173,7 +173,7 @@ module _ (kind more : Act → Type 0) (so : (act : Act) → kind act → more ac
 
 -- what stores keep that did steps
 pub done_behind : {S T E : Type 0} (view : S → View) (value : T) (steps : List Step) (old new : List S) → DoSteps {E = E} view (Ok value) steps old new → AreIn (states_at view new) (behind (states_at view old) steps)
-done_behind view value steps old new does =
+done_behind {S = S} view value steps old new does =
     in_so (states_at view new) (behind (states_at view old) steps)
     (λ place state e.
     (let state_of = λ (store : S). (view store).state in

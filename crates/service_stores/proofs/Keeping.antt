@@ -103,7 +103,8 @@ part_stops view result answer tree history k n olds news failed low size so_far 
 
       stopped : {U F : Type 0} (answer : Result U F) → OnOk answer ⊥ → DoSteps view answer (each_steps (piece_acts tree history) n) olds news
       stopped (Ok value) failed = absurd failed
-      stopped (Err error) failed = subst (λ (l : List Step). DoSteps view (Err error) l olds news) (sym parts.1) (steps_stop view result error (each_steps (piece_acts tree history) (k + 1)) parts.0 olds news so_far)
+      stopped {U = U} (Err error) failed =
+          subst (λ (l : List Step). DoSteps {T = U} view (Err error) l olds news) (sym parts.1) (steps_stop view {U = U} result error (each_steps (piece_acts tree history) (k + 1)) parts.0 olds news so_far)
 
 -- all of them
 pub parts_done : {S : Type 0} (view : S → View) (tree : Tree) (history : List Entry) (n : ℕ) (olds news : List S) → n ≡ length tree.roster.capacity
