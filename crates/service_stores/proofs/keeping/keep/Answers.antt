@@ -6,7 +6,7 @@ use Rattle.store_laws.specs.MoveKeeping.{KeepAll}
 use Rattle.service_moves.specs.Stores.{states_of}
 use Rattle.service_moves.proofs.Twice.{never_ok}
 use Rattle.service_stores.specs.Plans.{KeepsHistory}
-use Rattle.service_stores.proofs.Keeping.{none_kept}
+use Rattle.service_stores.proofs.KeptSteps.{none_kept}
 use Rattle.service_stores.proofs.KeepStores.{same_stores}
 use Rattle.service_stores.proofs.keeping.keep.Goals as goal
 

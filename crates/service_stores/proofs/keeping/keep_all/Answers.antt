@@ -20,7 +20,7 @@ use Rattle.service_moves.proofs.Doing.{steps_none, steps_ok}
 use Rattle.service_moves.proofs.Twice.{never_ok}
 use Rattle.service_stores.proofs.Doing.{steps_failed}
 use Rattle.service_stores.specs.Plans.{AreOfHistory, KeepsHistory}
-use Rattle.service_stores.proofs.Keeping.{kept_more, none_behind, take_both}
+use Rattle.service_stores.proofs.KeptSteps.{kept_more, none_behind, take_both}
 use Rattle.service_stores.proofs.Planned.{last_number, no_history, number_both, number_none}
 use Rattle.service_stores.proofs.KeepStores.{same_count, same_stores, same_then, stopped_then, stores_asked, stores_more}
 use Rattle.service_stores.proofs.keeping.keep_all.Goals as goal

@@ -7,7 +7,7 @@ use Rattle.store_laws.specs.Acts.{acts_of}
 use Rattle.service_moves.specs.Doing.{DoSteps}
 use Rattle.service_moves.proofs.Doing.{steps_none}
 use Rattle.service_moves.proofs.Twice.{made_of, never_ok}
-use Rattle.service_stores.proofs.Keeping.{part_more, part_stops, parts_done}
+use Rattle.service_stores.proofs.KeptSteps.{part_more, part_stops, parts_done}
 use Rattle.service_stores.proofs.Planned.{each_none, piece_acts}
 use Rattle.service_stores.proofs.KeepStores.{one_passed}
 use Rattle.service_stores.proofs.keeping.keep_quiet.Goals as goal

@@ -11,7 +11,7 @@ use Rattle.service_moves.specs.Stores.{AreStores, states_of}
 use Rattle.service_stores.proofs.Goes.{kept_to, legal_take, tree_to, two_there}
 use Rattle.service_stores.proofs.Histories.{moves_at, roster_after}
 use Rattle.service_moves.proofs.Twice.{never_ok}
-use Rattle.service_stores.proofs.Keeping.{less_kept, to_does}
+use Rattle.service_stores.proofs.KeptSteps.{less_kept, to_does}
 use Rattle.service_stores.proofs.KeepStores.{same_count, same_then, stopped_then, stores_more}
 use Rattle.service_stores.proofs.Walk.{given_at}
 use Rattle.service_stores.proofs.keeping.keep_to.Goals as goal
