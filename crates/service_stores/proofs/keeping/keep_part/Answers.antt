@@ -5,6 +5,7 @@ use Rattle.store_memory.specs.Views.{DoesActs}
 use Rattle.store_memory.proofs.Doing.{does_none}
 use Rattle.store_acts.specs.Sound.{AllFit}
 use Rattle.service_moves.specs.Again.{AreNew}
+use Rattle.service_moves.specs.declared.stopped.RunStopped.{RunStopped}
 use Rattle.service_moves.proofs.Twice.{does_err, does_ok, never_ok, stops_failed}
 use Rattle.service_stores.proofs.New.{may_do_all}
 use Rattle.service_stores.proofs.Sound.{acts_few}
@@ -38,7 +39,7 @@ returns-in-Ok-clause-does g c = λ told next happens keeps behind.
     let acts = c.as_slice.result.now in
     let same : acts ≡ acts_of c.args.server c.args.tree.now None history = first_of (search rules, cc) in
     let may = may_do_all next c.args.server c.args.tree.now history old.state c.requires.store.server happens keeps behind in
-    subst (λ l. DoesActs (Ok tt) l old new) same
+    subst (λ l. DoesActs {T = Unit {0}} {E = RunStopped} (Ok tt) l old new) same
     (does_ok _ tt acts old new (c.in-Ok.ensures.does told (subst (AllFit old.state) (sym same) may.fit) (subst (AreNew old.state) (sym same) may.new))))
 
 pub returns-clause-does : goal.returns-clause-does
@@ -49,7 +50,7 @@ returns-clause-does g c = λ told next happens keeps behind.
     let acts = c.as_slice.result.now in
     let same : acts ≡ acts_of c.args.server c.args.tree.now None history = first_of (search rules, cc) in
     let may = may_do_all next c.args.server c.args.tree.now history old.state c.requires.store.server happens keeps behind in
-    subst (λ l. DoesActs (Err c.stopped_at.result) l old new) same
+    subst (λ l. DoesActs {T = Unit {0}} (Err c.stopped_at.result) l old new) same
     (does_err _ c.stopped_at.result acts old new (c.in-Err.ensures.does told (subst (AllFit old.state) (sym same) may.fit) (subst (AreNew old.state) (sym same) may.new))))
 
 pub returns-in-Ok-clause-wear : goal.returns-in-Ok-clause-wear

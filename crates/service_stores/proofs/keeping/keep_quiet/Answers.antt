@@ -1,15 +1,16 @@
-use Rattle.std.proofs.Common.{◌≡◌, ◌<◌, ◌≤◌, ◌+◌, ◌^◌, length, get_or, slice_get, Some, None, sym, subst, arith}
+use Rattle.std.proofs.Common.{◌≡◌, ◌<◌, ◌≤◌, ◌+◌, ◌^◌, length, get_or, set, slice_get, Some, None, sym, subst, arith}
 use Rattle.std.specs.Prelude.{Ok}
 use Rattle.std.proofs.lemmas.Option.{slice_get-get_or}
 use Rattle.std.proofs.lemmas.Result.{err_from_is_err_and}
 use Rattle.service_stores.proofs.Parts.{did, next_store, parts_kept, parts_same, parts_stores, stopped_at_one, stopped_same}
 use Rattle.store_laws.specs.Acts.{acts_of}
 use Rattle.service_moves.specs.Doing.{DoSteps}
+use Rattle.service_moves.specs.declared.stopped.RunStopped.{RunStopped}
 use Rattle.service_moves.proofs.Doing.{steps_none}
 use Rattle.service_moves.proofs.Twice.{made_of, never_ok}
 use Rattle.service_stores.proofs.KeptSteps.{part_more, part_stops, parts_done}
 use Rattle.service_stores.proofs.Planned.{each_none, piece_acts}
-use Rattle.service_stores.proofs.KeepStores.{one_passed}
+use Rattle.service_stores.proofs.KeepStores.{none_passed, one_passed}
 use Rattle.service_stores.proofs.keeping.keep_quiet.Goals as goal
 
 pub keep_part-requires-clause-store : goal.keep_part-requires-clause-store
@@ -97,13 +98,16 @@ returns-in_err-keep_part-clause-does g c told next happens keep =
     let store = get_or stores c.loop-k.k c.index-stores-k.result in
     let at : slice_get stores c.loop-k.k ≡ Some store = slice_get-get_or stores c.loop-k.k c.index-stores-k.result lt in
     let low : c.loop-k.k + 1 ≤ length c.args.stores.now = grind arith in
-    part_stops g.S.Store.view _ c.from_residual.result c.args.tree.now c.args.history.now c.loop-k.k (length c.args.stores.now) c.args.stores.now _ (never_ok c.from_residual.result _ c.from_residual.ensures.1) low c.requires.count
+    part_stops g.S.Store.view _ c.from_residual.result c.args.tree.now c.args.history.now c.loop-k.k (length c.args.stores.now) c.args.stores.now (set stores c.loop-k.k c.keep_part.new.store) (never_ok c.from_residual.result _ c.from_residual.ensures.1) low c.requires.count
     (part_more g.S.Store.view _ (did g.S.Store.tells g.S.Store.view c.args.tree.now c.args.history.now) next c.args.tree.now c.args.history.now c.loop-k.k c.args.stores.now stores store c.keep_part.new.store keep
     c.loop-k.invariant.passed at (c.loop-k.invariant.does told next happens keep) (c.in_err-keep_part.ensures.does told next happens))
 
-pub loop-k-init-clause-does : goal.loop-k-init-clause-does
-loop-k-init-clause-does g c told next happens keep =
-    subst (λ l. DoSteps g.S.Store.view (Ok tt) l c.args.stores.now c.args.stores.now) (sym (each_none (piece_acts c.args.tree.now c.args.history.now))) (steps_none g.S.Store.view (Ok tt) c.args.stores.now)
+pub loop-k-init : goal.loop-k-init
+loop-k-init g c = record {
+  passed = none_passed (did g.S.Store.tells g.S.Store.view c.args.tree.now c.args.history.now) c.args.stores.now;
+  does = λ told next happens keep.
+      subst (λ l. DoSteps {T = Unit {0}} {E = RunStopped} g.S.Store.view (Ok tt) l c.args.stores.now c.args.stores.now) (sym (each_none (piece_acts c.args.tree.now c.args.history.now))) (steps_none g.S.Store.view (Ok tt) c.args.stores.now);
+}
 
 pub returns-clause-does : goal.returns-clause-does
 returns-clause-does g c told next happens keep =
