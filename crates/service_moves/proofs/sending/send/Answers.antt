@@ -1,5 +1,6 @@
 use Rattle.std.proofs.Common.{◌≡◌, ◌≤◌, ◌+◌, ◌*◌, [], ◌∷◌, take, inl, sym, subst, arith, rules}
 use Rattle.std.specs.Prelude.{Err}
+use Rattle.std.proofs.lemmas.Result.{err_from_is_err_and}
 use Rattle.store_acts.specs.declared.act.Act.TheVariants.{Left}
 use Rattle.service_moves.specs.Again.{IsRepeatable}
 use Rattle.service_moves.specs.Batches.{batch_wear}
@@ -53,7 +54,8 @@ returns-in_err-send_part g c =
     let ship = c.args.ship.now in
     let at = c.loop-at.at in
     let low : at ≤ ship.objects = (let t = c.loop-at-test.true in omega (arith, t)) in
-    let failed = never_ok c.from_residual.result c.from_residual.ensures.1 in
+    let p = err_from_is_err_and c.from_residual.result c.from_residual.ensures.1 in
+    let failed = never_ok c.from_residual.result p.0 p.1 in
     let start = g.S.Store.view c.args.sender.now in
     let now = g.S.Store.view c.loop-at.sender in
     let end = g.S.Store.view c.send_part.new.sender in
