@@ -75,7 +75,7 @@ module _ {S : Type 0} (view : S → View) where
         subst (λ (s : S). Leaves (IsFirstOf (view before).state []) (view before) (view s)) same (leaves_none _ (view before)));
   }
     where
-      by : {T E : Type 0} (result : Result T E) → OnOk result (0 ≡ 0)
+      by : {T E : Type 0} (result : Result T E) → OnOk result (◌≡◌ {A = ℕ} 0 0)
       by (Ok value) = refl
       by (Err error) = tt
 

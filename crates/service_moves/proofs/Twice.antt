@@ -1,6 +1,6 @@
 -- What a store does that is given a batch, opened anew where that failed, and given the batch once more.
 use Rattle.std.proofs.Common.{◌≡◌, ◌≤◌, ◌+◌, ◌++◌, ◌∙◌, ℕ, zero, suc, List, [], ◌∷◌, length, take, max, refl, sym, subst, ap, arith}
-use Rattle.std.specs.Prelude.{Option, Some, Result, Ok, Err, OnOk}
+use Rattle.std.specs.Prelude.{Option, Some, Result, Ok, Err, OnOk, IsErrAnd}
 use Rattle.std.proofs.Math.Seq.{take-length}
 use Rattle.base_types.specs.declared.limits.TheConstants.{BATCH_ACTS_MAX}
 use Rattle.store_acts.specs.Acts.{state_after}
@@ -12,8 +12,9 @@ use Rattle.service_moves.specs.Again.{IsAgain}
 use Rattle.service_moves.proofs.Tries.{take_all}
 
 -- a failure that is passed on
-pub never_ok : {T E : Type 0} (result : Result T E) (error : E) → result ≡ Err error → OnOk result ⊥
-never_ok result error is = subst (λ r. OnOk r ⊥) (sym is) tt
+pub never_ok : {T E : Type 0} (result : Result T E) (Q : E → Type 0) → IsErrAnd result Q → OnOk result ⊥
+never_ok (Ok value) Q failed = failed
+never_ok (Err error) Q failed = tt
 
 -- all of some acts
 pub done_all : {T E : Type 0} (value : T) (acts : List Act) (old new : View) → new.state ≡ state_after old.state acts → Leaves (IsFirstOf old.state acts) old new → DoesActs {E = E} (Ok value) acts old new

@@ -8,6 +8,7 @@ use Rattle.std.proofs.Math.Seq.{take-length}
 use Rattle.base_types.specs.declared.ids.FilesetId.{FilesetId}
 use Rattle.base_types.specs.declared.ids.ServerId.{ServerId}
 use Rattle.tree_calls.specs.declared.ship.Mover.{Mover}
+use Rattle.tree_calls.specs.declared.ship.ShipPart.{ShipPart}
 use Rattle.tree_objects.specs.declared.content.Anode.{Anode}
 use Rattle.message_types.specs.Soundness.{Each}
 use Rattle.store_acts.specs.Acts.{act_done, state_after}
@@ -41,7 +42,7 @@ mapped : (f : StoreState → StoreState) (o : Option StoreState) (last : StoreSt
 mapped f None last e = absurd (cc)
 mapped f (Some first) last e = (first, refl, (let p : Some (f first) ≡ Some last = e in cc))
 
-behind_in : (few more : ℕ → Option StoreState) (steps : List Step) → AreIn few more → AreIn (behind few steps) (behind more steps)
+pub behind_in : (few more : ℕ → Option StoreState) (steps : List Step) → AreIn few more → AreIn (behind few steps) (behind more steps)
 behind_in few more steps are =
     in_so (behind few steps) (behind more steps)
     (λ place state e.
@@ -59,7 +60,7 @@ both_behind states front more =
     in_so (behind states (front ++ more)) (behind (behind states front) more)
     (λ place state e.
     (let m = mapped (λ (s : StoreState). state_after s (acts_at place (front ++ more))) (states place) state e in
-    ap (λ o. option_map (λ (s : StoreState). state_after s (acts_at place more)) (option_map (λ (s : StoreState). state_after s (acts_at place front)) o)) m.1
+    ap (λ (o : Option StoreState). option_map (λ (s : StoreState). state_after s (acts_at place more)) (option_map (λ (s : StoreState). state_after s (acts_at place front)) o)) m.1
     ∙ ap (λ (s : StoreState). Some s)
     (sym (after_append (acts_at place front) (acts_at place more) m.0) ∙ ap (state_after m.0) (sym (acts_append place front more)) ∙ m.2)))
 
@@ -107,7 +108,8 @@ module _ (kind : Act → Type 0) where
   pub moves_then : (states : ℕ → Option StoreState) (front more : List Step) → AreMoves kind states front → AreMoves kind (behind states front) more → AreMoves kind states (front ++ more)
   moves_then states front more first second = record {
     pieces = first.pieces ++ second.pieces;
-    joined = (λ i. first.joined i ++ second.joined i) ∙ sym (joined_append first.pieces second.pieces);
+    joined =
+        ap (λ (l : List Step). l ++ more) first.joined ∙ ap (λ (l : List Step). flat_map (λ piece. piece) first.pieces ++ l) second.joined ∙ sym (joined_append first.pieces second.pieces);
     each = pieces_then states first.pieces second.pieces first.each (subst (λ (l : List Step). ArePieces kind (behind states l) second.pieces) first.joined second.each);
   }
 
@@ -125,7 +127,7 @@ module _ (kind : Act → Type 0) where
   -- what holds of the acts of the kind, of parts and of `Left` holds of all
   pub record Has (P : Act → Type 0) : Type 0 where
     pub of_kind : (act : Act) → kind act → P act
-    pub of_part : (from : ServerId) (ship : ℕ) (id : FilesetId) (moves at : ℕ) → (part : _) → P (Part from ship id moves at part)
+    pub of_part : (from : ServerId) (ship : ℕ) (id : FilesetId) (moves at : ℕ) (part : ShipPart) → P (Part from ship id moves at part)
     pub of_left : (id : FilesetId) → P (Left id)
 
   each_append : (P : Step → Type 0) (front more : List Step) → Each P front → Each P more → Each P (front ++ more)
@@ -171,10 +173,10 @@ module _ (kind more : Act → Type 0) (so : (act : Act) → kind act → more ac
 
 -- what stores keep that did steps
 pub done_behind : {S T E : Type 0} (view : S → View) (value : T) (steps : List Step) (old new : List S) → DoSteps {E = E} view (Ok value) steps old new → AreIn (states_at view new) (behind (states_at view old) steps)
-done_behind view value steps old new does =
+done_behind {S = S} view value steps old new does =
     in_so (states_at view new) (behind (states_at view old) steps)
     (λ place state e.
-    (let state_of = λ store. (view store).state in
+    (let state_of = λ (store : S). (view store).state in
     let after = map_before state_of new place state e in
     let low = there_within new place after.0 after.1 in
     let count = does.count in

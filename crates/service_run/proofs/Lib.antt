@@ -3,6 +3,7 @@ pub mod Told
 pub mod Ran
 pub mod Checked
 pub mod Lists
+pub mod Gone
 pub mod Same
 pub mod Opened
 pub mod RunsOver

@@ -1,23 +1,25 @@
 -- The disks of servers whose stores were opened, and closed behind a run.
-use Rattle.std.proofs.Common.{◌≡◌, ◌≤◌, ◌<◌, ◌+◌, ◌-◌, ℕ, zero, suc, List, [], ◌∷◌, length, Some, inl, inr, refl, sym, ap, subst, ◌∙◌, arith}
-use Rattle.std.specs.Prelude.{slice_get, nat_lt, true, false, IsTrue, Option}
+use Rattle.std.proofs.Common.{◌≡◌, ◌≤◌, ◌<◌, ◌⊎◌, ◌+◌, ◌-◌, ℕ, zero, suc, List, [], ◌∷◌, length, take, Some, inl, inr, ⊎_elim, refl, sym, ap, subst, ◌∙◌, arith}
+use Rattle.std.specs.Prelude.{slice_get, nat_lt, true, false, IsTrue, Option, Result}
 use Rattle.std.specs.Option.{option_map}
-use Rattle.std.proofs.lemmas.Bool.{cond-true}
+use Rattle.std.proofs.lemmas.Bool.{cases_lt, cond-true}
 use Rattle.std.proofs.lemmas.Grind.{common_steps}
 use Rattle.base_types.specs.Faults.{RoseBy}
 use Rattle.base_types.specs.Crash.{IsSettled}
 use Rattle.base_types.specs.View.{View as DiskView}
 use Rattle.base_types.specs.declared.ids.HostId.{HostId}
 use Rattle.base_types.specs.declared.ids.ServerId.{ServerId}
-use Rattle.base_types.specs.declared.limits.TheConstants.{SERVERS_MAX}
+use Rattle.base_types.specs.Image.{AreBytes}
+use Rattle.base_types.specs.declared.limits.TheConstants.{BATCH_ACTS_MAX, SERVERS_MAX}
 use Rattle.base_outside.specs.Runs.{LeavesOnly}
 use Rattle.base_outside.proofs.Runs.{then, weaker}
 use Rattle.tree_calls.specs.declared.roster.Roster.{Roster}
 use Rattle.store_memory.specs.MapStores.{kept_in}
-use Rattle.store_memory.specs.Views.{IsSameStore}
+use Rattle.store_acts.specs.declared.act.Act.{Act}
+use Rattle.store_memory.specs.Views.{IsFirstOf, IsSameStore, Leaves}
 use Rattle.tree_answers.specs.declared.tree.Tree.{Tree}
 use Rattle.disk_aggregate.specs.Stands.{disk_in, state_in}
-use Rattle.disk_aggregate.specs.StoreView.{aggregate_view, kept_state}
+use Rattle.disk_aggregate.specs.StoreView.{aggregate_view, found_of, kept_state}
 use Rattle.disk_aggregate.specs.declared.aggregate.Aggregate.{Aggregate}
 use Rattle.disk_image.specs.Aggregate.{is_blank}
 use Rattle.disk_records.specs.Record.{record_in}
@@ -30,11 +32,12 @@ use Rattle.message_types.specs.Soundness.{Each}
 use Rattle.service_disks.specs.Opening.{new_store, store_on, IsLeftOfOpening, LeavesOpened}
 use Rattle.service_disks.specs.Seats.{AreSeated}
 use Rattle.service_disks.specs.Stores.{server_of, disks_of, AreOpen, IsOpenOn, AreBack as AreUnopened}
-use Rattle.service_disks.specs.Trails.{seen_of, unseen, Seen, AllGo, GoesFrom, HasReached, IsSeenSo}
-use Rattle.service_disks.proofs.Trails.{goes_self, reached_same}
 use Rattle.service_disks.specs.View.{store_view}
 use Rattle.service_disks.specs.declared.stores.ServerStore.{ServerStore}
 use Rattle.service_disks.specs.declared.stores.ServerStore.TheVariants.{Disk, Memory}
+use Rattle.service_moves.specs.Doing.{Step, DoSteps, acts_at}
+use Rattle.service_moves.specs.Plans.{states_at}
+use Rattle.service_moves.proofs.Whole.{AreIn, in_so}
 use Rattle.service_moves.specs.Stopping.{HasFailed}
 use Rattle.service_moves.specs.Stores.{AreSame, AreStores, states_of}
 use Rattle.service_stores.specs.Starting.{told_of, told_by}
@@ -43,15 +46,8 @@ use Rattle.store_state.specs.Capacity.{capacity_of}
 use Rattle.store_state.specs.declared.state.StoreState.{StoreState}
 use Rattle.store_laws.specs.TreeKeeping.{KeepsOf}
 use Rattle.service_run.proofs.Lists.{get_map, mapped}
-use Rattle.service_run.specs.Disks.{told_at, images, AreBack, AreFound, IsKept, AreKept, AllLeave, AllWentOn, AreDurable, AreStill, IsLeftOfRun, LeavesOfRun}
+use Rattle.service_run.specs.Disks.{kept_at, found_at, told_at, images, AreBack, AreFound, HasDone, IsKept, AreKept, AreDurable, AreStill, IsLeftBySteps}
 use Rattle.service_run.specs.Steps.{AreAsPlaced}
-
--- what is seen of the store at a place, if it is on a disk
-abbrev pub seen_at : {D : Type 0} → (D → DiskView) → List (ServerStore D) → ℕ → Seen
-seen_at view [] k = unseen
-seen_at view (Disk store ∷ stores) zero = seen_of view store
-seen_at view (Memory store ∷ stores) zero = unseen
-seen_at view (store ∷ stores) (suc k) = seen_at view stores k
 
 some_lt : (count n : ℕ) → count ≡ n + 1 → nat_lt 0 count ≡ true
 some_lt count n e = grind (arith, common_steps, e)
@@ -62,56 +58,28 @@ none_lt count e = grind (arith, common_steps, e)
 rose_later : (a b c : ℕ) → b ≤ c → RoseBy 1 a b → RoseBy 1 a c
 rose_later a b c less rose = omega (arith, less, rose)
 
--- what a crash in the opening of a disk left
-opening_left : (roster : Roster) (server : ServerId) (old c : List ℕ) → IsLeftOfOpening roster server old c → IsLeftOfRun roster server old c
-opening_left roster server old c (inl (blank, inl none)) = inl (blank, none)
-opening_left roster server old c (inl (blank, inr has)) = inr (inr (λ bytes. record {
-  from = new_store roster server;
-  was = cond-true (is_blank old) (Some (new_store roster server)) (record_in roster server old) blank;
-  state = new_store roster server;
-  found = has;
-  reached = reached_same (new_store roster server) (new_store roster server) refl;
-}))
-opening_left roster server old c (inr (other, same)) = inr (inl (other, same))
-
--- and in all that came behind it
-run_leaves : (roster : Roster) (server : ServerId) (from : StoreState) (old mid new : DiskView) → store_on roster server old.image ≡ Some from → from.roster ≡ roster → from.server ≡ server → LeavesOpened roster server old mid
-    → LeavesOnly (HasReached from) mid new → mid.faults ≤ new.faults → LeavesOfRun roster server old new
-run_leaves roster server from old mid new had roster_is server_is opening going counted unfailed =
-    then (weaker (opening (λ blank rose. unfailed blank (rose_later old.faults mid.faults new.faults counted rose))) (λ c left. opening_left roster server old.image c left)) (weaker going behind)
+-- whether all are bytes
+bytes_or : (c : List ℕ) → AreBytes c ⊎ (AreBytes c → ⊥)
+bytes_or [] = inl (λ k. omega arith)
+bytes_or (x ∷ xs) = by (cases_lt x 256) (bytes_or xs)
   where
-    behind : (c : List ℕ) → HasReached from c → IsLeftOfRun roster server old.image c
-    behind c has = inr (inr (λ bytes.
-        (let s = has bytes in
-        let its : s.0.roster ≡ roster = s.1.roster ∙ roster_is in
-        let own : s.0.server ≡ server = s.1.server ∙ server_is in
-        record {
-          from = from;
-          was = had;
-          state = s.0;
-          found = subst (λ (r : Roster). record_in r server c ≡ Some s.0) its (subst (λ (i : ServerId). record_in s.0.roster i c ≡ Some s.0) own s.2);
-          reached = s.1;
-        })))
+    here : x < 256 → AreBytes xs → AreBytes (x ∷ xs)
+    here low rest zero = low
+    here low rest (suc k) = rest k
+
+    by : (x < 256) ⊎ (256 ≤ x) → AreBytes xs ⊎ (AreBytes xs → ⊥) → AreBytes (x ∷ xs) ⊎ (AreBytes (x ∷ xs) → ⊥)
+    by (inl low) (inl rest) = inl (here low rest)
+    by (inl low) (inr none) = inr (λ all. none (λ k. all (suc k)))
+    by (inr high) rest = inr (λ all. (let first = all zero in omega (arith, high, first)))
+
+-- what a crash in the opening of a disk left
+opening_left : (roster : Roster) (server : ServerId) (acts : List Act) (old c : List ℕ) → IsLeftOfOpening roster server old c → IsLeftBySteps roster server acts old c
+opening_left roster server acts old c (inl (blank, inl none)) = inl (blank, none)
+opening_left roster server acts old c (inl (blank, inr has)) =
+    inr (inr (λ bytes. (new_store roster server, cond-true (is_blank old) (Some (new_store roster server)) (record_in roster server old) blank, (0, omega arith, has))))
+opening_left roster server acts old c (inr (other, same)) = inr (inl (other, same))
 
 module _ {D : Type 0} (tells : Type 0) (view : D → DiskView) (roster : Roster) where
-  -- where they weren't all opened
-  unopened_from : tells → (n k m : ℕ) (olds news : List D) (old new : D) → AreUnopened tells view roster n olds news → m ≡ n + k → slice_get olds k ≡ Some old → slice_get news k ≡ Some new
-      → LeavesOfRun roster (server_of m) (view old) (view new)
-  unopened_from t n k m [] [] old new are e was is = absurd (cc)
-  unopened_from t n k m [] (y ∷ news) old new are e was is = absurd are
-  unopened_from t n k m (x ∷ olds) [] old new are e was is = absurd are
-  unopened_from t n zero m (x ∷ olds) (y ∷ news) old new are e was is =
-      (let number : n ≡ m = omega (arith, e) in
-      let first : x ≡ old = cc in
-      let last : y ≡ new = cc in
-      let run : LeavesOfRun roster (server_of n) (view x) (view y) = λ unfailed. weaker (are.0.crash t unfailed) (λ c left. opening_left roster (server_of n) (view x).image c left) in
-      subst (λ (i : ℕ). LeavesOfRun roster (server_of i) (view old) (view new)) number
-      (subst (λ (d : D). LeavesOfRun roster (server_of n) (view old) (view d)) last (subst (λ (d : D). LeavesOfRun roster (server_of n) (view d) (view y)) first run)))
-  unopened_from t n (suc k) m (x ∷ olds) (y ∷ news) old new are e was is = unopened_from t (n + 1) k m olds news old new are.1 (omega (arith, e)) was is
-
-  pub unopened_leave : tells → (olds news : List D) → AreUnopened tells view roster 1 olds news → AllLeave view roster olds news
-  unopened_leave t olds news are k old new was is = unopened_from t 1 k (k + 1) olds news old new are (omega arith) was is
-
   pub are_stores : (n : ℕ) (disks : List D) (stores : List (ServerStore D)) → AreOpen tells view roster n disks stores → AreStores (store_view tells view) roster 0 n stores
   are_stores n [] [] are = tt
   are_stores n [] (Disk store ∷ stores) are = absurd are
@@ -151,64 +119,62 @@ module _ {D : Type 0} (tells : Type 0) (view : D → DiskView) (roster : Roster)
   are_storable told n (disk ∷ disks) (Disk store ∷ stores) low high few are =
       ((are.0.opened.mendable told).store.storable, are_storable told (n + 1) disks stores (omega arith) (omega (arith, high)) few are.1)
 
-  memory_seated : (count : ℕ) (first : ℕ → Seen) (n : ℕ) (stores : List (ServerStore D)) → count < n → AreOpen tells view roster n [] stores → AreSeated tells view count first stores
-  memory_seated count first n [] less are = tt
-  memory_seated count first n (Disk store ∷ stores) less are = absurd are
-  memory_seated count first n (Memory store ∷ stores) less are =
-      (let e : (kept_in store).server.0 ≡ n = ap (λ (s : StoreState). s.server.0) are.0 in (omega (arith, e, less), memory_seated count first (n + 1) stores (omega (arith, less)) are.1))
+  memory_seated : (count n : ℕ) (stores : List (ServerStore D)) → count < n → AreOpen tells view roster n [] stores → AreSeated tells view count stores
+  memory_seated count n [] less are = tt
+  memory_seated count n (Disk store ∷ stores) less are = absurd are
+  memory_seated count n (Memory store ∷ stores) less are =
+      (let e : (kept_in store).server.0 ≡ n = ap (λ (s : StoreState). s.server.0) are.0 in (omega (arith, e, less), memory_seated count (n + 1) stores (omega (arith, less)) are.1))
 
-  -- of each store this is what was seen first, by its server's number
-  abbrev SeenFirst : (ℕ → Seen) → ℕ → List (ServerStore D) → Type 0
-  SeenFirst first n stores = (k m : ℕ) (store : Aggregate D) → slice_get stores k ≡ Some (Disk store) → m ≡ n + k → IsSeenSo (first m) (seen_of view store)
+  pub are_seated : (count n : ℕ) (disks : List D) (stores : List (ServerStore D)) → n + length disks ≡ count + 1 → AreOpen tells view roster n disks stores → AreSeated tells view count stores
+  are_seated count n [] stores is are = memory_seated count n stores (omega (arith, is)) are
+  are_seated count n (disk ∷ disks) [] is are = absurd are
+  are_seated count n (disk ∷ disks) (Memory store ∷ stores) is are = absurd are
+  are_seated count n (disk ∷ disks) (Disk store ∷ stores) is are =
+      (let e : (kept_state view store).server.0 ≡ n = ap (λ (s : StoreState). s.server.0) are.0.opened.state ∙ ap (λ (s : ServerId). s.0) are.0.server_is in
+      (omega (arith, e, is), are_seated count (n + 1) disks stores (omega (arith, is)) are.1))
 
-  seated_from : (count : ℕ) (first : ℕ → Seen) (n : ℕ) (disks : List D) (stores : List (ServerStore D)) → n + length disks ≡ count + 1 → AreOpen tells view roster n disks stores → SeenFirst first n stores
-      → AreSeated tells view count first stores
-  seated_from count first n [] stores is are seen = memory_seated count first n stores (omega (arith, is)) are
-  seated_from count first n (disk ∷ disks) [] is are seen = absurd are
-  seated_from count first n (disk ∷ disks) (Memory store ∷ stores) is are seen = absurd are
-  seated_from count first n (disk ∷ disks) (Disk store ∷ stores) is are seen =
-      (let e : (kept_state view store).server.0 ≡ n = ap (λ (s : StoreState). s.server.0) are.0.opened.state ∙ ap (λ (s : ServerId). s.0) are.0.server_is in (
-        (omega (arith, e, is), seen 0 (kept_state view store).server.0 store refl (omega (arith, e))),
-        seated_from count first (n + 1) disks stores (omega (arith, is)) are.1 (λ k m other at place. seen (suc k) m other at (omega (arith, place))),
-      ))
+  -- what their stores keep
+  kept_there : tells → (n k m : ℕ) (disks : List D) (stores : List (ServerStore D)) (state : StoreState) → AreOpen tells view roster n disks stores → m ≡ n + k
+      → slice_get (states_of (store_view tells view) stores) k ≡ Some state → kept_at roster m (slice_get (images view disks) k) ≡ Some state
+  kept_there t n k m [] [] state are e is = absurd (cc)
+  kept_there t n k m [] (Disk store ∷ stores) state are e is = absurd are
+  kept_there t n zero m [] (Memory store ∷ stores) state are e is =
+      (let same : m ≡ n = omega (arith, e) in
+      let state_is : kept_in store ≡ state = cc in
+      ap (λ i. Some (new_store roster (server_of i))) same ∙ ap (λ (s : StoreState). Some s) (sym are.0 ∙ state_is))
+  kept_there t n (suc k) m [] (Memory store ∷ stores) state are e is = kept_there t (n + 1) k m [] stores state are.1 (omega (arith, e)) is
+  kept_there t n k m (disk ∷ disks) [] state are e is = absurd are
+  kept_there t n k m (disk ∷ disks) (Memory store ∷ stores) state are e is = absurd are
+  kept_there t n zero m (disk ∷ disks) (Disk store ∷ stores) state are e is =
+      (let same : m ≡ n = omega (arith, e) in
+      let state_is : kept_state view store ≡ state = cc in
+      ap (λ i. store_on roster (server_of i) (view disk).image) same ∙ are.0.kept t ∙ ap (λ (s : StoreState). Some s) (sym are.0.opened.state ∙ state_is))
+  kept_there t n (suc k) m (disk ∷ disks) (Disk store ∷ stores) state are e is = kept_there t (n + 1) k m disks stores state are.1 (omega (arith, e)) is
 
-  seen_there : (stores : List (ServerStore D)) (k : ℕ) (store : Aggregate D) → slice_get stores k ≡ Some (Disk store) → IsSeenSo (seen_at view stores k) (seen_of view store)
-  seen_there [] k store e = absurd (cc)
-  seen_there (Memory x ∷ stores) zero store e = absurd (cc)
-  seen_there (Disk x ∷ stores) zero store e =
-      (let is : x ≡ store = cc in
-      subst (λ (s : Aggregate D). IsSeenSo (seen_of view x) (seen_of view s)) is (goes_self (seen_of view x), goes_self (seen_of view x)))
-  seen_there (Memory x ∷ stores) (suc k) store e = seen_there stores k store e
-  seen_there (Disk x ∷ stores) (suc k) store e = seen_there stores k store e
-
-  pub are_seated : (count : ℕ) (disks : List D) (stores : List (ServerStore D)) → length disks ≡ count → AreOpen tells view roster 1 disks stores
-      → AreSeated tells view count (λ number. seen_at view stores (number - 1)) stores
-  are_seated count disks stores is are =
-      seated_from count (λ number. seen_at view stores (number - 1)) 1 disks stores (omega (arith, is)) are
-      (λ k m store at place.
-      (let back : k ≡ m - 1 = omega (arith, place) in
-      subst (λ (i : ℕ). IsSeenSo (seen_at view stores i) (seen_of view store)) back (seen_there stores k store at)))
+  pub states_in : tells → (disks : List D) (stores : List (ServerStore D)) → AreOpen tells view roster 1 disks stores → AreIn (states_at (store_view tells view) stores) (found_at roster (images view disks))
+  states_in t disks stores are =
+      in_so (states_at (store_view tells view) stores) (found_at roster (images view disks)) (λ place state is. kept_there t 1 place (place + 1) disks stores state are (omega arith) is)
 
   -- what the servers tell
-  found_at : tells → (n k m count : ℕ) (disks : List D) (stores : List (ServerStore D)) (told : Told) → AreOpen tells view roster n disks stores → count ≡ length disks → m ≡ n + k
+  told_there : tells → (n k m count : ℕ) (disks : List D) (stores : List (ServerStore D)) (told : Told) → AreOpen tells view roster n disks stores → count ≡ length disks → m ≡ n + k
       → slice_get (told_by (store_view tells view) count stores) k ≡ Some told → told_at roster m (slice_get (images view disks) k) ≡ Some told
-  found_at t n k m count [] [] told are c e is = absurd (cc)
-  found_at t n k m count [] (Disk store ∷ stores) told are c e is = absurd are
-  found_at t n zero m count [] (Memory store ∷ stores) told are c e is =
+  told_there t n k m count [] [] told are c e is = absurd (cc)
+  told_there t n k m count [] (Disk store ∷ stores) told are c e is = absurd are
+  told_there t n zero m count [] (Memory store ∷ stores) told are c e is =
       (let same : m ≡ n = omega (arith, e) in
       let told_is : told_of (nat_lt 0 count) (kept_in store) ≡ told = cc in
       ap (λ i. Some (told_of false (new_store roster (server_of i)))) same ∙ ap (λ (s : StoreState). Some (told_of false s)) (sym are.0)
       ∙ ap (λ b. Some (told_of b (kept_in store))) (sym (none_lt count c)) ∙ ap (λ (x : Told). Some x) told_is)
-  found_at t n (suc k) m count [] (Memory store ∷ stores) told are c e is = found_at t (n + 1) k m (count - 1) [] stores told are.1 (omega (arith, c)) (omega (arith, e)) is
-  found_at t n k m count (disk ∷ disks) [] told are c e is = absurd are
-  found_at t n k m count (disk ∷ disks) (Memory store ∷ stores) told are c e is = absurd are
-  found_at t n zero m count (disk ∷ disks) (Disk store ∷ stores) told are c e is =
+  told_there t n (suc k) m count [] (Memory store ∷ stores) told are c e is = told_there t (n + 1) k m (count - 1) [] stores told are.1 (omega (arith, c)) (omega (arith, e)) is
+  told_there t n k m count (disk ∷ disks) [] told are c e is = absurd are
+  told_there t n k m count (disk ∷ disks) (Memory store ∷ stores) told are c e is = absurd are
+  told_there t n zero m count (disk ∷ disks) (Disk store ∷ stores) told are c e is =
       (let same : m ≡ n = omega (arith, e) in
       let told_is : told_of (nat_lt 0 count) (kept_state view store) ≡ told = cc in
       ap (λ i. option_map (told_of true) (store_on roster (server_of i) (view disk).image)) same
       ∙ ap (λ (o : Option StoreState). option_map (told_of true) o) (are.0.kept t) ∙ ap (λ (s : StoreState). Some (told_of true s)) (sym are.0.opened.state)
       ∙ ap (λ b. Some (told_of b (kept_state view store))) (sym (some_lt count (length disks) (omega (arith, c)))) ∙ ap (λ (x : Told). Some x) told_is)
-  found_at t n (suc k) m count (disk ∷ disks) (Disk store ∷ stores) told are c e is = found_at t (n + 1) k m (count - 1) disks stores told are.1 (omega (arith, c)) (omega (arith, e)) is
+  told_there t n (suc k) m count (disk ∷ disks) (Disk store ∷ stores) told are c e is = told_there t (n + 1) k m (count - 1) disks stores told are.1 (omega (arith, c)) (omega (arith, e)) is
 
   told_count : (count : ℕ) (stores : List (ServerStore D)) → length (told_by (store_view tells view) count stores) ≡ length stores
   told_count count [] = refl
@@ -218,7 +184,7 @@ module _ {D : Type 0} (tells : Type 0) (view : D → DiskView) (roster : Roster)
       → AreFound roster (images view disks) (told_by (store_view tells view) (length disks) stores)
   are_found t disks stores are count = record {
     count = told_count (length disks) stores ∙ count;
-    each = λ k told is. found_at t 1 k (k + 1) (length disks) disks stores told are refl (omega arith) is;
+    each = λ k told is. told_there t 1 k (k + 1) (length disks) disks stores told are refl (omega arith) is;
   }
 
   -- the disk at a place behind a run
@@ -234,7 +200,6 @@ module _ {D : Type 0} (tells : Type 0) (view : D → DiskView) (roster : Roster)
     pub counted : (view (disk_in store)).faults ≤ (view (disk_in after)).faults
     pub in_stores : slice_get stores k ≡ Some (Disk store)
     pub in_left : slice_get left k ≡ Some (Disk after)
-    pub goes : AllGo view stores left → GoesFrom (seen_of view store) (seen_of view after)
 
   none_left : (n : ℕ) (stores left : List (ServerStore D)) → AreOpen tells view roster n [] stores → AreAsPlaced stores left → disks_of left ≡ []
   none_left n [] [] are placed = refl
@@ -264,11 +229,10 @@ module _ {D : Type 0} (tells : Type 0) (view : D → DiskView) (roster : Roster)
     counted = same.2;
     in_stores = refl;
     in_left = refl;
-    goes = λ all. all.0;
   }
   at_disk n (suc k) m (x ∷ olds) (Disk store ∷ stores) (Disk after ∷ left) new are placed same e is =
       (let a = at_disk (n + 1) k m olds stores left new are.1 placed same.3 (omega (arith, e)) is in
-      record { old = a.old; store = a.store; after = a.after; was = a.was; is = a.is; opened = a.opened; same = a.same; mendable = a.mendable; counted = a.counted; in_stores = a.in_stores; in_left = a.in_left; goes = λ all. a.goes all.1 })
+      record { old = a.old; store = a.store; after = a.after; was = a.was; is = a.is; opened = a.opened; same = a.same; mendable = a.mendable; counted = a.counted; in_stores = a.in_stores; in_left = a.in_left })
 
   left_count : (n : ℕ) (olds : List D) (stores left : List (ServerStore D)) → AreOpen tells view roster n olds stores → AreAsPlaced stores left → length (disks_of left) ≡ length olds
   left_count n [] stores left are placed = ap length (none_left n stores left are placed)
@@ -300,33 +264,58 @@ module _ {D : Type 0} (tells : Type 0) (view : D → DiskView) (roster : Roster)
     at : (k : ℕ) (new : D) → slice_get (disks_of left) k ≡ Some new → At (k + 1) k olds stores left new
     at k new is = at_disk 1 k (k + 1) olds stores left new are placed same (omega arith) is
 
-    -- some acts made the record of each disk of that of the store which was on it
-    pub went_on : AllGo view stores left → tells → AllWentOn roster (images view olds) (images view (disks_of left))
-    went_on goes t k old new was is =
-        (let image = λ (disk : D). (view disk).image in
-        let o = mapped image olds k old was in
-        let m = mapped image (disks_of left) k new is in
-        let a = at k m.from m.was in
-        let disk : a.old ≡ o.from = (let p = a.was in let q = o.was in cc) in
-        record {
-          from = kept_state view a.store;
-          was = subst (λ (l : List ℕ). store_on roster (server_of (k + 1)) l ≡ Some (kept_state view a.store)) (ap image disk ∙ o.is) (had t (k + 1) k olds stores left m.from a);
-          state = kept_state view a.after;
-          found = subst (λ (l : List ℕ). record_in roster (server_of (k + 1)) l ≡ Some (kept_state view a.after)) m.is (has_found t (k + 1) k olds stores left m.from a);
-          reached = (a.goes goes).reached;
-        })
+    -- the disks went by the steps of their stores
+    module _ {T E : Type 0} (result : Result T E) (steps : List Step) (does : DoSteps (store_view tells view) result steps stores left) (t : tells) (k : ℕ) (old new : D) (was : slice_get olds k ≡ Some old)
+        (is : slice_get (disks_of left) k ≡ Some new) where
+      here : At (k + 1) k olds stores left new
+      here = at k new is
 
-    -- and what a crash left meanwhile
-    pub all_leave : AllGo view stores left → tells → AllLeave view roster olds (disks_of left)
-    all_leave goes t k old new was is unfailed =
-        (let a = at k new is in
-        let disk : a.old ≡ old = (let p = a.was in cc) in
-        let went = a.goes goes in
-        let roster_is : (kept_state view a.store).roster ≡ roster = ap (λ (s : StoreState). s.roster) a.opened.opened.state ∙ a.opened.roster_is in
-        let server_is : (kept_state view a.store).server ≡ server_of (k + 1) = ap (λ (s : StoreState). s.server) a.opened.opened.state ∙ a.opened.server_is in
-        let run : LeavesOfRun roster (server_of (k + 1)) (view a.old) (view (disk_in a.after)) =
-        run_leaves roster (server_of (k + 1)) (kept_state view a.store) (view a.old) (view (disk_in a.store)) (view (disk_in a.after)) (had t (k + 1) k olds stores left new a) roster_is server_is (a.opened.crash t) went.crash a.counted in
-        subst (λ (d : D). LeavesOfRun roster (server_of (k + 1)) (view old) (view d)) a.is (subst (λ (d : D). LeavesOfRun roster (server_of (k + 1)) (view d) (view (disk_in a.after))) disk run) unfailed)
+      disk : here.old ≡ old
+      disk = (let p = here.was in cc)
+
+      abbrev from : StoreState
+      from = kept_state view here.store
+
+      from_was : store_on roster (server_of (k + 1)) (view old).image ≡ Some from
+      from_was = subst (λ (d : D). store_on roster (server_of (k + 1)) (view d).image ≡ Some from) disk (had t (k + 1) k olds stores left new here)
+
+      pub has_done : HasDone roster (server_of (k + 1)) (acts_at k (take does.cut steps)) (view old).image (view new).image
+      has_done = record {
+        from = from;
+        was = from_was;
+        now = has_found t (k + 1) k olds stores left new here ∙ ap (λ (s : StoreState). Some s) (does.states k (Disk here.store) (Disk here.after) here.in_stores here.in_left);
+      }
+
+      -- of bytes that a crash left the record is found by what the store was made for
+      found_is : (c : List ℕ) → found_of here.store c ≡ record_in roster (server_of (k + 1)) c
+      found_is c = λ i. record_in (here.opened.roster_is i) (here.opened.server_is i) c
+
+      abbrev few : List Act
+      few = acts_at k (take (does.cut + BATCH_ACTS_MAX) steps)
+
+      run_left : LeavesOnly (IsLeftBySteps roster (server_of (k + 1)) few (view old).image) (view (disk_in here.store)) (view (disk_in here.after))
+      run_left = record { later = run.later; each = λ moment c le left. by moment c le left (bytes_or c) }
+        where
+          run : Leaves (IsFirstOf from few) (aggregate_view tells view here.store) (aggregate_view tells view here.after)
+          run = does.leaves k (Disk here.store) (Disk here.after) here.in_stores here.in_left
+
+          by : (moment : ℕ) (c : List ℕ) → moment ≤ (view (disk_in here.store)).moment → (view (disk_in here.after)).left_since moment c → AreBytes c ⊎ (AreBytes c → ⊥)
+              → (view (disk_in here.store)).left_since moment c ⊎ IsLeftBySteps roster (server_of (k + 1)) few (view old).image c
+          by moment c le left (inl bytes) =
+              ⊎_elim (λ earlier. inl earlier.1)
+              (λ first. inr (inr (inr (λ _. (from, from_was, subst (λ o. IsFirstOf from few o) (found_is c) first))))) (run.each moment c le (bytes, left))
+          by moment c le left (inr none) = inr (inr (inr (λ bytes. absurd (none bytes))))
+
+      pub has_left : (is_blank (view old).image ≡ true → RoseBy 1 (view old).faults (view new).faults → ⊥)
+          → LeavesOnly (IsLeftBySteps roster (server_of (k + 1)) few (view old).image) (view old) (view new)
+      has_left unfailed =
+          subst (λ (d : D). LeavesOnly (IsLeftBySteps roster (server_of (k + 1)) few (view old).image) (view old) (view d)) here.is
+          (then
+          (weaker (opened (λ blank rose. unfailed blank (subst (λ (d : D). RoseBy 1 (view old).faults (view d).faults) here.is (rose_later (view old).faults (view (disk_in here.store)).faults (view (disk_in here.after)).faults here.counted rose))))
+          (λ c left. opening_left roster (server_of (k + 1)) few (view old).image c left)) run_left)
+        where
+          opened : LeavesOpened roster (server_of (k + 1)) (view old) (view (disk_in here.store))
+          opened = subst (λ (d : D). LeavesOpened roster (server_of (k + 1)) (view d) (view (disk_in here.store))) disk (here.opened.crash t)
 
     pub are_kept : tells → (next : HostId → ℕ) (tree : Tree) → KeepAll next tree (states_of (store_view tells view) left) → AreKept tree (images view (disks_of left))
     are_kept t next tree keep k image is =

@@ -1,8 +1,7 @@
 -- What became of the disks of a run.
 use Rattle.std.proofs.Common.{◌≡◌, ◌⊎◌, ℕ, List, length, inl, inr, Ok, Err, refl, sym, ap, subst, ◌∙◌}
-use Rattle.std.specs.Prelude.{Bool, true, false, slice_get}
+use Rattle.std.specs.Prelude.{Bool, true, false, slice_get, Option, Result, IfOk, OnOk, OnErr}
 use Rattle.std.proofs.lemmas.Bool.{false≢true}
-use Rattle.std.proofs.Math.Logic.{∥∥₁_map}
 use Rattle.base_types.specs.View.{View as DiskView}
 use Rattle.disk_image.specs.Aggregate.{header_number}
 use Rattle.disk_layout.specs.Places.{page_start}
@@ -12,23 +11,27 @@ use Rattle.disk_report.specs.Text.{failed_line}
 use Rattle.service_plain.specs.declared.played.Played.{Played}
 use Rattle.script_lines.specs.declared.script.Script.{Script}
 use Rattle.service_disks.specs.Stores.{disks_of, AreOpen, AreBack as AreUnopened, IsFirstRefused, IsStopped as IsUnopened}
-use Rattle.service_disks.specs.Trails.{AllGo}
 use Rattle.service_disks.specs.View.{store_view}
 use Rattle.service_disks.specs.declared.disks.StoresRefused.{StoresRefused}
 use Rattle.service_disks.specs.declared.disks.StoresRefused.TheVariants as opening
 use Rattle.service_disks.specs.declared.stores.ServerStore.{ServerStore}
+use Rattle.service_moves.specs.Plans.{behind, states_at}
 use Rattle.service_moves.specs.Stopping.{IsStopped}
 use Rattle.service_moves.specs.Stores.{AreSame}
 use Rattle.service_moves.specs.declared.stopped.RunStopped.{RunStopped}
 use Rattle.service_moves.specs.declared.stopped.RunStopped.TheVariants as running
+use Rattle.service_moves.proofs.Whole.{AreIn, behind_in}
+use Rattle.service_stores.specs.Plans.{AreOfHistory}
 use Rattle.service_stores.specs.Starting.{told_by}
+use Rattle.store_state.specs.declared.state.StoreState.{StoreState}
 use Rattle.script_commands.specs.declared.command.Play.{Play}
 use Rattle.service_run.proofs.Lists.{get_middle}
-use Rattle.service_run.proofs.Opened.{are_found, went_on, all_leave, unopened_leave, are_kept, are_durable, are_still, are_back, is_failing, unopened_back, open_count}
-use Rattle.service_run.specs.Disks.{images, AreBack, AllLeave, AllWentOn, RanOver, IsUnfit, IsStartOf, AreStill, AreKept, AreDurable}
+use Rattle.service_run.proofs.Gone.{history_in, planned_in}
+use Rattle.service_run.proofs.Opened.{are_found, has_done, has_left, states_in, are_kept, are_durable, are_still, are_back, is_failing, unopened_back, open_count}
+use Rattle.service_run.specs.Disks.{found_at, images, AreBack, GoBySteps, RanOver, IsUnfit, IsStartOf, AreStill, AreKept, AreDurable}
 use Rattle.service_run.specs.Lines.{no_aggregate_line}
 use Rattle.service_run.specs.Outcomes.{has_run, is_end_of_run, IsEmpty, RanSo, RefusedSo}
-use Rattle.service_run.specs.Steps.{AreAsPlaced, IsOpeningRefused, IsRunRefused, IsRunOf, IsRunOn, IsWithoutMemory}
+use Rattle.service_run.specs.Steps.{AreAsPlaced, HaveGone, IsOpeningRefused, IsRunRefused, IsRunOf, IsRunOn, IsWithoutMemory}
 use Rattle.service_run.specs.World.{Shown}
 use Rattle.service_run.specs.declared.outcome.Outcome.{Outcome}
 use Rattle.service_run.specs.declared.outcome.Status.{Status}
@@ -128,14 +131,9 @@ told_no_aggregate status (inl p) q = (let bad : has_run NoAggregate ≡ true = a
 told_no_aggregate status (inr p) q = (let bad : NoMemory ≡ NoAggregate = sym p ∙ q in cc)
 
 module _ {D writes : Type 0} (tells : Type 0) (view : D → DiskView) (script : Script) (outcome : Outcome) (before after : Shown writes) where
-  -- what is on the disks, and what a crash left, however a run ended
+  -- what became of the disks, however a run ended
   abbrev Ended : List D → List D → Type 0
-  Ended olds news =
-      (∥ (tells → AllWentOn script.roster (images view olds) (images view news)) ∥₁ ⊎ AreUnopened tells view script.roster 1 olds news)
-      × ∥ (tells → AllLeave view script.roster olds news) ∥₁
-
-  unopened : (olds news : List D) → AreUnopened tells view script.roster 1 olds news → Ended olds news
-  unopened olds news are = (inr are, ∣ (λ t. unopened_leave tells view script.roster t olds news are) ∣₁)
+  Ended olds news = (tells → GoBySteps view script outcome olds news) ⊎ ((has_run outcome.status ≡ false) × AreUnopened tells view script.roster 1 olds news)
 
   -- the ways in which nothing ran
   over_refused : (olds news : List D) (number place : ℕ) → AreBack view olds news
@@ -152,8 +150,7 @@ module _ {D writes : Type 0} (tells : Type 0) (view : D → DiskView) (script : 
         durable = λ t ran. never_ran outcome.status idle ran;
         failed = λ e. absurd (not_disk outcome.status r.ends e);
         refused = λ e. record { number = number; place = place; cause = cause; wrote = λ t. r.wrote t e };
-        records = ended.0;
-        crash = ended.1;
+        goes = ended;
       })
 
   over_failed : (olds news : List D) (number : ℕ) → AreBack view olds news → Ended olds news
@@ -168,8 +165,7 @@ module _ {D writes : Type 0} (tells : Type 0) (view : D → DiskView) (script : 
         durable = λ t ran. never_ran outcome.status idle ran;
         failed = λ e. record { number = number; failing = failing; wrote = λ t. r.wrote t e };
         refused = λ e. absurd (not_aggregate outcome.status r.ends e);
-        records = ended.0;
-        crash = ended.1;
+        goes = ended;
       })
 
   over_starved : (olds news : List D) → AreBack view olds news → Ended olds news
@@ -183,8 +179,7 @@ module _ {D writes : Type 0} (tells : Type 0) (view : D → DiskView) (script : 
         durable = λ t ran. never_ran outcome.status idle ran;
         failed = λ e. absurd (not_disk outcome.status (inr r.ends) e);
         refused = λ e. absurd (not_aggregate outcome.status (inr r.ends) e);
-        records = ended.0;
-        crash = ended.1;
+        goes = ended;
       })
 
   -- the disk that failed is where it was
@@ -206,30 +201,74 @@ module _ {D writes : Type 0} (tells : Type 0) (view : D → DiskView) (script : 
   -- where they weren't opened
   pub over_unopened : (olds news : List D) (refused : StoresRefused) → AreUnopened tells view script.roster 1 olds news → IsUnopened tells view script.roster refused olds news → IsOpeningRefused refused outcome before after
       → RanOver tells view script outcome olds news before after
-  over_unopened olds news (opening.Refused number (mount.NotAggregate place)) are is r = over_refused olds news number place (unopened_back tells view script.roster olds news are) (unopened olds news are) (inl is) r
-  over_unopened olds news (opening.Refused number mount.Failed) are is r = over_failed olds news number (unopened_back tells view script.roster olds news are) (unopened olds news are) (unopened_fails olds news number is) r
-  over_unopened olds news (opening.Refused number mount.Memory) are is r = over_starved olds news (unopened_back tells view script.roster olds news are) (unopened olds news are) r
-  over_unopened olds news opening.Memory are is r = over_starved olds news (unopened_back tells view script.roster olds news are) (unopened olds news are) r
+  over_unopened olds news refused are is r = by refused is r
+    where
+      back : AreBack view olds news
+      back = unopened_back tells view script.roster olds news are
+
+      idle : (wanted : Status) → is_refusal wanted ≡ true → ((outcome.status ≡ wanted) ⊎ (outcome.status ≡ NoMemory)) → Ended olds news
+      idle wanted h ends = inr (refusal_runs_not outcome.status (refused_is outcome.status wanted h ends), are)
+
+      by : (refused : StoresRefused) → IsUnopened tells view script.roster refused olds news → IsOpeningRefused refused outcome before after → RanOver tells view script outcome olds news before after
+      by (opening.Refused number (mount.NotAggregate place)) is r = over_refused olds news number place back (idle NoAggregate refl r.ends) (inl is) r
+      by (opening.Refused number mount.Failed) is r = over_failed olds news number back (idle NoDisk refl r.ends) (unopened_fails olds news number is) r
+      by (opening.Refused number mount.Memory) is r = over_starved olds news back (idle NoMemory refl (inr r.ends)) r
+      by opening.Memory is r = over_starved olds news back (idle NoMemory refl (inr r.ends)) r
 
   module _ (olds news : List D) (stores left : List (ServerStore D)) (are : AreOpen tells view script.roster 1 olds stores) (count : length stores ≡ length script.roster.capacity)
-      (closed : news ≡ disks_of left) (placed : AreAsPlaced stores left) (same : AreSame (store_view tells view) stores left) (goes : ∥ (tells → AllGo view stores left) ∥₁) where
+      (closed : news ≡ disks_of left) (placed : AreAsPlaced stores left) (same : AreSame (store_view tells view) stores left) where
     back_is : AreBack view olds news
     back_is = subst (λ (l : List D). AreBack view olds l) (sym closed) (are_back tells view script.roster olds stores left are placed same)
 
-    ended : Ended olds news
-    ended =
-        subst (λ (l : List D). Ended olds l) (sym closed) (
-          inl (∥∥₁_map goes (λ gone t. went_on tells view script.roster olds stores left are placed same (gone t) t)),
-          ∥∥₁_map goes (λ gone t. all_leave tells view script.roster olds stores left are placed same (gone t) t),
-        )
+    -- by the steps of their stores
+    goes : (result : Result Played RunStopped) → tells → HaveGone (store_view tells view) script (length olds) result stores left → (has_run outcome.status ≡ true → IfOk result (λ run. outcome.played ≡ run) × (OnErr result ⊥))
+        → GoBySteps view script outcome olds news
+    goes result t gone own = record {
+      all = told_by (store_view tells view) (length olds) stores;
+      found = are_found tells view script.roster t olds stores are count;
+      steps = gone.steps;
+      planned = planned_in script (told_by (store_view tells view) (length olds) stores) few more gone.steps are_in gone.planned;
+      cut = gone.does.cut;
+      within = gone.does.within;
+      whole = λ ran. by result gone.does.all gone.ran (own ran);
+      kept = λ k old new was is.
+          has_done tells view script.roster olds stores left are placed same result gone.steps gone.does t k old new was (ap (λ (l : List D). slice_get l k) (sym closed) ∙ is);
+      leaves = λ k old new was is unfailed.
+          has_left tells view script.roster olds stores left are placed same result gone.steps gone.does t k old new was (ap (λ (l : List D). slice_get l k) (sym closed) ∙ is) unfailed;
+    }
+      where
+        few : ℕ → Option StoreState
+        few = states_at (store_view tells view) stores
 
-    over_halted : (stopped : RunStopped) → IsStopped tells (store_view tells view) (told_by (store_view tells view) (length olds) stores) stores left stopped → IsRunRefused stopped outcome before after
-        → RanOver tells view script outcome olds news before after
-    over_halted (running.Failed server) is r =
-        over_failed olds news server.0 back_is ended
+        more : ℕ → Option StoreState
+        more = found_at script.roster (images view olds)
+
+        are_in : AreIn few more
+        are_in = states_in tells view script.roster t olds stores are
+
+        by : (result : Result Played RunStopped) → OnOk result (gone.does.cut ≡ length gone.steps) → IfOk result (λ run. AreOfHistory run.start run.history (behind few gone.planned.begins) gone.planned.keeps)
+            → IfOk result (λ run. outcome.played ≡ run) × (OnErr result ⊥)
+            → (gone.does.cut ≡ length gone.steps) × AreOfHistory outcome.played.start outcome.played.history (behind more gone.planned.begins) gone.planned.keeps
+        by (Ok run) all are own = (
+          all,
+          subst (λ (p : Played). AreOfHistory p.start p.history (behind more gone.planned.begins) gone.planned.keeps) (sym own.0)
+          (history_in (behind few gone.planned.begins) (behind more gone.planned.begins) run.start run.history gone.planned.keeps (behind_in few more gone.planned.begins are_in) are),
+        )
+        by (Err why) all are own = absurd own.1
+
+    -- where it stopped
+    ended : (stopped : RunStopped) (wanted : Status) → is_refusal wanted ≡ true → ((outcome.status ≡ wanted) ⊎ (outcome.status ≡ NoMemory)) → (tells → HaveGone (store_view tells view) script (length olds) (Err stopped) stores left)
+        → Ended olds news
+    ended stopped wanted h ends gone =
+        inl (λ t. goes (Err stopped) t (gone t) (λ ran. never_ran outcome.status (refusal_runs_not outcome.status (refused_is outcome.status wanted h ends)) ran))
+
+    over_halted : (stopped : RunStopped) → IsStopped tells (store_view tells view) (told_by (store_view tells view) (length olds) stores) stores left stopped
+        → (tells → HaveGone (store_view tells view) script (length olds) (Err stopped) stores left) → IsRunRefused stopped outcome before after → RanOver tells view script outcome olds news before after
+    over_halted (running.Failed server) is gone r =
+        over_failed olds news server.0 back_is (ended (running.Failed server) NoDisk refl r.ends gone)
         (subst (λ (l : List D). IsFailing view olds l server.0) (sym closed) (is_failing tells view script.roster olds stores left server.0 are placed is)) r
-    over_halted (running.Unfit disk slot) is r =
-        over_refused olds news disk (page_start (header_number slot)) back_is ended
+    over_halted (running.Unfit disk slot) is gone r =
+        over_refused olds news disk (page_start (header_number slot)) back_is (ended (running.Unfit disk slot) NoAggregate refl r.ends gone)
         (inr (λ t.
         (let unfit = (is t).0 in
         let at = unfit.0 in (
@@ -243,7 +282,7 @@ module _ {D writes : Type 0} (tells : Type 0) (view : D → DiskView) (script : 
           },
           subst (λ (l : List D). AreStill script.roster (images view olds) (images view l)) (sym closed) (are_still tells view script.roster olds stores left are placed same t (is t).1),
         )))) r
-    over_halted running.Memory is r = over_starved olds news back_is ended r
+    over_halted running.Memory is gone r = over_starved olds news back_is (ended running.Memory NoMemory refl (inr r.ends) gone) r
 
     over_went : (play : Play) (run : Played) → IsRunOf tells (store_view tells view) script (length olds) (Ok run) stores left → (has_run outcome.status ≡ true → outcome.played ≡ run)
         → ((has_run outcome.status ≡ true) ⊎ (outcome.status ≡ NoMemory)) → RanSo play script outcome before after → RanOver tells view script outcome olds news before after
@@ -266,17 +305,16 @@ module _ {D writes : Type 0} (tells : Type 0) (view : D → DiskView) (script : 
           (are_durable tells view script.roster olds stores left are placed same is.ran.ready run.last (are_kept tells view script.roster olds stores left are placed same t _ run.last (is.ran.kept t))));
       failed = λ e. absurd (told_no_disk outcome.status ends e);
       refused = λ e. absurd (told_no_aggregate outcome.status ends e);
-      records = ended.0;
-      crash = ended.1;
+      goes = inl (λ t. goes (Ok run) t (is.goes t) (λ ran. (own ran, tt)));
     }
 
   -- a run on them stopped
   pub over_stopped : (olds news : List D) (stores : List (ServerStore D)) (stopped : RunStopped) → AreOpen tells view script.roster 1 olds stores → length stores ≡ length script.roster.capacity
       → IsRunOn tells view script (length olds) (Err stopped) stores news → IsRunRefused stopped outcome before after → RanOver tells view script outcome olds news before after
-  over_stopped olds news stores stopped are count on r = over_halted olds news stores on.left are count on.closed on.placed on.over.same on.goes stopped on.over.stopped r
+  over_stopped olds news stores stopped are count on r = over_halted olds news stores on.left are count on.closed on.placed on.over.same stopped on.over.stopped on.over.goes r
 
   -- or went, and was told
   pub over_told : (olds news : List D) (stores : List (ServerStore D)) (play : Play) (run : Played) → AreOpen tells view script.roster 1 olds stores → length stores ≡ length script.roster.capacity
       → IsRunOn tells view script (length olds) (Ok run) stores news → (has_run outcome.status ≡ true → outcome.played ≡ run) → ((has_run outcome.status ≡ true) ⊎ (outcome.status ≡ NoMemory))
       → RanSo play script outcome before after → RanOver tells view script outcome olds news before after
-  over_told olds news stores play run are count on own ends so = over_went olds news stores on.left are count on.closed on.placed on.over.same on.goes play run on.over own ends so
+  over_told olds news stores play run are count on own ends so = over_went olds news stores on.left are count on.closed on.placed on.over.same play run on.over own ends so

@@ -1,6 +1,6 @@
 -- Stores that are the same servers'.
 use Rattle.std.proofs.Common.{◌≡◌, ◌≤◌, ◌+◌, ℕ, zero, suc, List, [], ◌∷◌, length, map, Some, None, Ok, Err, refl, sym, ap, subst, ◌∙◌, arith}
-use Rattle.std.specs.Prelude.{slice_get, nat_lt, ◌-◌, Result}
+use Rattle.std.specs.Prelude.{slice_get, nat_lt, ◌-◌, Result, IfErr, OnOk}
 use Rattle.base_types.specs.Faults.{RoseBy}
 use Rattle.base_types.specs.declared.ids.HostId.{HostId}
 use Rattle.tree_calls.specs.declared.roster.Roster.{Roster}
@@ -19,9 +19,10 @@ use Rattle.service_moves.specs.declared.stopped.RunStopped.{RunStopped}
 use Rattle.service_moves.specs.declared.stopped.RunStopped.TheVariants.{Failed, Unfit, Memory}
 use Rattle.service_stores.specs.Starting.{told_of, told_by, start_from}
 use Rattle.service_stores.specs.Steps.{MayBeAsked}
+use Rattle.service_run.proofs.Gone.{gone_in, never_so}
 use Rattle.service_run.proofs.Lists.{get_map, mapped}
 use Rattle.service_run.specs.Engine.{HasPlayed}
-use Rattle.service_run.specs.Steps.{IsRunOf}
+use Rattle.service_run.specs.Steps.{HaveGone, IsRunOf}
 
 rose_before : (a b c : ℕ) → a ≤ b → RoseBy 2 b c → RoseBy 2 a c
 rose_before a b c less rose = omega (arith, less, rose)
@@ -84,21 +85,25 @@ module _ {S : Type 0} (view : S → View) where
   stopped_later tells all olds mids news Memory same is = tt
 
   module _ (tells : Type 0) (script : Script) (disks : ℕ) where
-    pub run_stopped : (olds news : List S) (why : RunStopped) → AreSame view olds news → IsStopped tells view (told_by view disks olds) olds news why → IsRunOf tells view script disks (Err why) olds news
-    run_stopped olds news why same is = record { same = same; ran = tt; stopped = is }
+    pub run_stopped : (olds news : List S) (answer : Result Played RunStopped) → OnOk answer ⊥ → AreSame view olds news → IfErr answer (IsStopped tells view (told_by view disks olds) olds news) → (tells → HaveGone view script disks answer olds news)
+        → IsRunOf tells view script disks answer olds news
+    run_stopped olds news answer failed same is goes = record { same = same; ran = never_so answer failed; stopped = is; goes = goes }
 
-    pub run_starved : (olds news : List S) (why : RunStopped) → AreSame view olds news → why ≡ Memory → IsRunOf tells view script disks (Err why) olds news
-    run_starved olds news why same is = record { same = same; ran = tt; stopped = rw is tt }
+    pub run_starved : (olds news : List S) (answer : Result Played RunStopped) → OnOk answer ⊥ → AreSame view olds news → IfErr answer (λ why. why ≡ Memory) → (tells → HaveGone view script disks answer olds news)
+        → IsRunOf tells view script disks answer olds news
+    run_starved olds news (Ok run) failed same is goes = absurd failed
+    run_starved olds news (Err why) failed same is goes = record { same = same; ran = tt; stopped = rw is tt; goes = goes }
 
-    pub run_unkept : (olds mids news : List S) (why : RunStopped) → AreSame view olds mids → AreSame view mids news → IsStopped tells view [] mids news why → IsRunOf tells view script disks (Err why) olds news
-    run_unkept olds mids news why same later is =
-        record { same = same_trans olds mids news same later; ran = tt; stopped = stopped_later tells (told_by view disks olds) olds mids news why same is }
+    pub run_unkept : (olds mids news : List S) (why : RunStopped) → AreSame view olds mids → AreSame view mids news → IsStopped tells view [] mids news why → (tells → HaveGone view script disks (Err why) olds news)
+        → IsRunOf tells view script disks (Err why) olds news
+    run_unkept olds mids news why same later is goes =
+        record { same = same_trans olds mids news same later; ran = tt; stopped = stopped_later tells (told_by view disks olds) olds mids news why same is; goes = goes }
 
     pub run_done : (olds mids news : List S) (start : Tree) (run : Played) → AreSame view olds mids → AreSame view mids news → (tells → misfit (told_by view disks olds) ≡ None)
         → (tells → start ≡ start_from script.roster (told_by view disks olds)) → (tells → KeepAll (λ host. 1) start (states_of view mids)) → HasPlayed script start run
         → (tells → KeepAll (λ host. 1) run.start (states_of view mids) → KeepAll (λ host. number_after host 1 run.history) (after_history run.start run.history) (states_of view news))
-        → MayBeAsked view news → IsRunOf tells view script disks (Ok run) olds news
-    run_done olds mids news start run same later fit tree starts has keeps ready = record {
+        → MayBeAsked view news → (tells → HaveGone view script disks (Ok run) olds news) → IsRunOf tells view script disks (Ok run) olds news
+    run_done olds mids news start run same later fit tree starts has keeps ready goes = record {
       same = same_trans olds mids news same later;
       ran = record {
         played = has.played;
@@ -111,6 +116,7 @@ module _ {S : Type 0} (view : S → View) where
         ready = ready;
       };
       stopped = tt;
+      goes = goes;
     }
 
 -- stores in what holds them
@@ -168,5 +174,11 @@ module _ {S T : Type 0} (f : S → T) (view : T → View) where
       ready = asked_in news is.ran.ready;
     };
     stopped = tt;
+    goes = λ told. gone_in f view script disks (Ok run) olds news (told_in disks olds) (states_in olds) (is.goes told);
   }
-  run_in tells script disks (Err why) olds news is = record { same = same_in olds news is.same; ran = tt; stopped = stopped_in tells disks olds news why is.stopped }
+  run_in tells script disks (Err why) olds news is = record {
+    same = same_in olds news is.same;
+    ran = tt;
+    stopped = stopped_in tells disks olds news why is.stopped;
+    goes = λ told. gone_in f view script disks (Err why) olds news (told_in disks olds) (states_in olds) (is.goes told);
+  }

@@ -2,18 +2,14 @@
 use Rattle.std.proofs.Common.{◌≡◌, ◌++◌, ℕ, List, [], ◌∷◌, Err, sym, ap, subst, ◌∙◌, arith}
 use Rattle.std.specs.Prelude.{Result}
 use Rattle.std.proofs.lemmas.List.{append-nil}
-use Rattle.std.proofs.Math.Logic.{∥∥₁_elim, ∥∥₁_map, ∥∥₁_prop}
 use Rattle.base_types.specs.View.{View as DiskView}
-use Rattle.base_types.specs.declared.ids.ServerId.{ServerId}
 use Rattle.tree_calls.specs.declared.roster.Roster.{Roster}
 use Rattle.service_plain.specs.declared.played.Played.{Played}
 use Rattle.store_records.specs.Stored.{IsStorable}
 use Rattle.message_types.specs.Soundness.{Each}
 use Rattle.script_lines.specs.declared.script.Script.{Script}
-use Rattle.service_disks.specs.Seats.{store_in, stores_in, seat_view, AreSeated}
+use Rattle.service_disks.specs.Seats.{store_in, stores_in, seat_view}
 use Rattle.service_disks.specs.Stores.{disks_of}
-use Rattle.service_disks.specs.Trails.{seen_of, Seen, AllGo, GoesFrom}
-use Rattle.service_disks.proofs.Trails.{goes_self, goes_then}
 use Rattle.service_disks.specs.View.{store_view}
 use Rattle.service_disks.specs.declared.seats.Seat.{Seat}
 use Rattle.service_disks.specs.declared.seats.Seat.TheVariants as seats
@@ -23,6 +19,7 @@ use Rattle.service_moves.specs.Stores.{AreSame, AreStores, states_of}
 use Rattle.service_moves.specs.declared.stopped.RunStopped.{RunStopped}
 use Rattle.service_moves.specs.declared.stopped.RunStopped.TheVariants as running
 use Rattle.store_state.specs.declared.state.StoreState.{StoreState}
+use Rattle.service_run.proofs.Gone.{gone_none}
 use Rattle.service_run.proofs.Same.{run_in, same_self, states_in, stores_in_are}
 use Rattle.service_run.specs.Steps.{AreAsPlaced, IsRunOf, IsRunOn}
 
@@ -37,31 +34,6 @@ seated_so (seats.Memory x ∷ olds) (seats.Memory y ∷ news) same = seated_so o
 seated_so (seats.Disk x ∷ olds) (seats.Memory y ∷ news) same = absurd (let e = ap (λ s. s.0) same.0.server in let p = x.within in let q = y.beyond in omega (arith, e, p, q))
 seated_so (seats.Memory x ∷ olds) (seats.Disk y ∷ news) same = absurd (let e = ap (λ s. s.0) same.0.server in let p = x.beyond in let q = y.within in omega (arith, e, p, q))
 
--- what became of each since it got its seat
-seats_go : {D C : Type 0} {g : _} {h : _} (olds news : List (Seat D C g h)) → AreSame (seat_view g.tells g.view) olds news → AreSeated g.tells g.view h.disks h.first (stores_in olds)
-    → ∥ (g.tells → AllGo g.view (stores_in olds) (stores_in news)) ∥₁
-seats_go [] [] same seated = ∣ (λ told. tt) ∣₁
-seats_go [] (y ∷ news) same seated = absurd same
-seats_go (seats.Disk x ∷ olds) [] same seated = absurd same
-seats_go (seats.Memory x ∷ olds) [] same seated = absurd same
-seats_go {g = g} {h = h} (seats.Disk x ∷ olds) (seats.Disk y ∷ news) same seated =
-    (let old : Seen = seen_of g.view x.store in
-    let new : Seen = seen_of g.view y.store in
-    ∥∥₁_elim y.trail ∥∥₁_prop
-    (λ trail. ∥∥₁_map (seats_go olds news same.3 seated.1)
-    (λ rest told.
-    (let gone : GoesFrom (h.first old.state.server.0) new = subst (λ (n : ℕ). GoesFrom (h.first n) new) (ap (λ (s : ServerId). s.0) same.0.server) (trail told) in
-    (goes_then old (h.first old.state.server.0) new seated.0.1.1 gone, rest told)))))
-seats_go (seats.Memory x ∷ olds) (seats.Memory y ∷ news) same seated = seats_go olds news same.3 seated.1
-seats_go (seats.Disk x ∷ olds) (seats.Memory y ∷ news) same seated = absurd (let e = ap (λ s. s.0) same.0.server in let p = x.within in let q = y.beyond in omega (arith, e, p, q))
-seats_go (seats.Memory x ∷ olds) (seats.Disk y ∷ news) same seated = absurd (let e = ap (λ s. s.0) same.0.server in let p = x.beyond in let q = y.within in omega (arith, e, p, q))
-
--- and of stores that had none
-go_self : {D : Type 0} (view : D → DiskView) (stores : List (ServerStore D)) → AllGo view stores stores
-go_self view [] = tt
-go_self view (Disk x ∷ stores) = (goes_self (seen_of view x), go_self view stores)
-go_self view (Memory x ∷ stores) = go_self view stores
-
 -- what holds of stores holds of them in their seats
 pub seats_stores : {D C : Type 0} {g : _} {h : _} (roster : Roster) (all : List (Seat D C g h)) (stores : List (ServerStore D)) → stores_in all ≡ stores → AreStores (store_view g.tells g.view) roster 0 1 stores
     → AreStores (seat_view g.tells g.view) roster 0 1 all
@@ -74,16 +46,13 @@ seats_storable {g = g} all stores is each =
 
 -- where a run went over them
 pub run_seated : {D C : Type 0} {g : _} {h : _} (script : Script) (count : ℕ) (result : Result Played RunStopped) (stores : List (ServerStore D)) (olds news : List (Seat D C g h)) (empty disks : List D) → stores_in olds ≡ stores → empty ≡ []
-    → AreSeated g.tells g.view h.disks h.first stores → IsRunOf g.tells (seat_view g.tells g.view) script count result olds news → disks ≡ disks_of (stores_in news) ++ empty → IsRunOn g.tells g.view script count result stores disks
-run_seated {g = g} {h = h} script count result stores olds news empty disks is none seated ran closed =
+    → IsRunOf g.tells (seat_view g.tells g.view) script count result olds news → disks ≡ disks_of (stores_in news) ++ empty → IsRunOn g.tells g.view script count result stores disks
+run_seated {g = g} script count result stores olds news empty disks is none ran closed =
     (let view = store_view g.tells g.view in
     record {
       left = stores_in news;
       closed = closed ∙ ap (λ l. disks_of (stores_in news) ++ l) none ∙ append-nil (disks_of (stores_in news));
       placed = subst (λ (l : List (ServerStore _)). AreAsPlaced l (stores_in news)) is (seated_so olds news ran.same);
-      goes =
-          subst (λ (l : List (ServerStore _)). ∥ (g.tells → AllGo g.view l (stores_in news)) ∥₁) is
-          (seats_go olds news ran.same (subst (λ (l : List (ServerStore _)). AreSeated g.tells g.view h.disks h.first l) (sym is) seated));
       over = subst (λ (l : List (ServerStore _)). IsRunOf g.tells view script count result l (stores_in news)) is (run_in store_in view g.tells script count result olds news ran);
     })
 
@@ -99,6 +68,10 @@ run_unseated tells view script count stores back empty disks is none are closed 
   left = stores;
   closed = closed ∙ ap (λ l. disks_of back ++ l) none ∙ append-nil (disks_of back) ∙ ap (λ l. disks_of l) is;
   placed = placed_self stores;
-  goes = ∣ (λ told. go_self view stores) ∣₁;
-  over = record { same = same_self (store_view tells view) script.roster 0 1 stores are; ran = tt; stopped = tt };
+  over = record {
+    same = same_self (store_view tells view) script.roster 0 1 stores are;
+    ran = tt;
+    stopped = tt;
+    goes = λ told. gone_none (store_view tells view) script count (Err running.Memory) stores tt;
+  };
 }

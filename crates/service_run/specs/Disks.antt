@@ -35,6 +35,7 @@ use Rattle.disk_layout.specs.Half.{HasNoLog}
 use Rattle.disk_layout.specs.Places.{page_start}
 use Rattle.disk_records.specs.Record.{record_in}
 use Rattle.service_moves.specs.Doing.{Step, acts_at}
+use Rattle.service_moves.specs.Plans.{behind}
 use Rattle.service_plain.specs.Played.{IsPlayed}
 use Rattle.service_plain.specs.declared.played.Played.{Played}
 use Rattle.service_starts.specs.Fitting.{misfit}
@@ -43,7 +44,6 @@ use Rattle.service_starts.specs.declared.told.Told.{Told}
 use Rattle.script_lines.specs.declared.script.Script.{Script}
 use Rattle.service_disks.specs.Opening.{new_store, store_on}
 use Rattle.service_disks.specs.Stores.{server_of, IsFirstRefused, AreBack as AreUnopened}
-use Rattle.service_disks.specs.Trails.{IsReached}
 use Rattle.service_stores.specs.Plans.{AreBeginning, AreOfHistory}
 use Rattle.service_stores.specs.Starting.{told_of, start_from}
 use Rattle.store_acts.specs.Acts.{state_after}
@@ -61,17 +61,30 @@ use Rattle.service_run.specs.World.{Shown, World}
 use Rattle.service_run.specs.declared.outcome.Outcome.{Outcome}
 use Rattle.service_run.specs.declared.outcome.Status.TheVariants.{NoDisk, NoAggregate}
 
--- What the server of a number tells: of the store on its disk, a new one where that is blank; of a new one in memory,
--- where it has no disk. Nothing where the disk has no record of it.
+-- What the store of the server of a number keeps: the one on its disk, a new one where that is blank; a new one in
+-- memory, where it has no disk. Nothing where the disk has no record of it.
+abbrev pub kept_at : Roster → ℕ → Option (List ℕ) → Option StoreState
+kept_at roster number (Some image) = store_on roster (server_of number) image
+kept_at roster number None = Some (new_store roster (server_of number))
+
+-- and what it tells
 abbrev pub told_at : Roster → ℕ → Option (List ℕ) → Option Told
 told_at roster number (Some image) = option_map (told_of true) (store_on roster (server_of number) image)
 told_at roster number None = Some (told_of false (new_store roster (server_of number)))
+
+-- what all stores keep, by their places, where these are the bytes of the disks in front
+abbrev pub found_at : Roster → List (List ℕ) → ℕ → Option StoreState
+found_at roster images place = kept_at roster (place + 1) (slice_get images place)
 
 -- this is what all servers of a roster tell where these are the bytes of the disks in front
 pub record AreFound (roster : Roster) (images : List (List ℕ)) (all : List Told) : Type 0 where
   pub count : length all ≡ length roster.capacity
   pub each : (k : ℕ) (told : Told)
       → slice_get all k ≡ Some told → told_at roster (k + 1) (slice_get images k) ≡ Some told
+
+-- the bytes of disks
+abbrev pub images : {D : Type 0} → (D → View) → List D → List (List ℕ)
+images view disks = map (λ disk. (view disk).image) disks
 
 -- the tree of disks with these bytes, which fit one another: that of what the servers tell, once the moves that an
 -- earlier run left unfinished are settled, and those that go on have ended
@@ -102,92 +115,64 @@ abbrev pub AreStill : Roster → List (List ℕ) → List (List ℕ) → Type 0
 AreStill roster olds news = (k : ℕ) (old new : List ℕ) → slice_get olds k ≡ Some old → slice_get news k ≡ Some new
     → record_in roster (server_of (k + 1)) new ≡ store_on roster (server_of (k + 1)) old
 
--- the bytes of a server's disk have the record that some acts made of that of the store which was on it before, or of a
--- new one where it was blank
-pub record WentOn (roster : Roster) (server : ServerId) (old new : List ℕ) : Type 0 where
-  pub from : StoreState
-  pub was : store_on roster server old ≡ Some from
-  pub state : StoreState
-  pub found : record_in roster server new ≡ Some state
-  pub reached : IsReached from state
-
--- so it is of each disk
-abbrev pub AllWentOn : Roster → List (List ℕ) → List (List ℕ) → Type 0
-AllWentOn roster olds news =
-    (k : ℕ) (old new : List ℕ) → slice_get olds k ≡ Some old → slice_get news k ≡ Some new
-    → WentOn roster (server_of (k + 1)) old new
-
--- What a crash at any moment of a run may leave on a server's disk that held these bytes: on a blank one no log,
--- refused at place 0; on another one the record that it had, or none as it; or, of what are bytes, the record that
--- some acts made.
-abbrev pub IsLeftOfRun : Roster → ServerId → List ℕ → List ℕ → Type 0
-IsLeftOfRun roster server old c =
-    ((is_blank old ≡ true) × HasNoLog 0 c) ⊎ ((is_blank old ≡ false) × HasSameRecord roster server old c)
-    ⊎ (AreBytes c → WentOn roster server old c)
-
--- That, or what a crash before the run could leave. Of a blank disk that failed nothing is told.
-abbrev pub LeavesOfRun : Roster → ServerId → View → View → Type 0
-LeavesOfRun roster server old new = (is_blank old.image ≡ true → RoseBy 1 old.faults new.faults → ⊥)
-    → LeavesOnly (IsLeftOfRun roster server old.image) old new
-
--- so it is of each disk
-abbrev pub AllLeave : {D : Type 0} → (D → View) → Roster → List D → List D → Type 0
-AllLeave {D = D} view roster olds news =
-    (k : ℕ) (old new : D) → slice_get olds k ≡ Some old → slice_get news k ≡ Some new
-    → LeavesOfRun roster (server_of (k + 1)) (view old) (view new)
-
--- the acts of a run of the script from the tree that the servers told, or of the first part of its history
-pub record IsKeptHistory (script : Script) (all : List Told) (steps : List Step) : Type 0 where
+-- the steps in which stores that keep this keep a run of the script from the tree that the servers told, or the first
+-- part of its history
+pub record IsKeptHistory (script : Script) (all : List Told) (states : ℕ → Option StoreState) (steps : List Step) :
+    Type 0 where
   pub played : Played
   pub start : played.start ≡ start_from script.roster all
   pub goes : IsPlayed script played
   pub count : ℕ
-  pub keeps : AreOfHistory played.start (take count played.history) steps
+  pub keeps : AreOfHistory played.start (take count played.history) states steps
 
--- The steps of a run over disks, in the order in which the stores of its servers do them: first what an earlier run left
--- of moves is settled and finished, and each server begins the run; and then, where the script ran, the acts of its
--- history, one that may happen from the tree that the disks held.
-pub record ArePlanned (script : Script) (all : List Told) (steps : List Step) : Type 0 where
+-- The steps of a run over stores that keep this and tell that, in the order in which they are done: first what an
+-- earlier run left of moves is settled and finished, and each server begins the run; and then, where the script ran,
+-- the acts of its history, one that may happen from the tree that was told.
+pub record ArePlanned (script : Script) (all : List Told) (states : ℕ → Option StoreState) (steps : List Step) :
+    Type 0 where
   pub begins : List Step
   pub keeps : List Step
   pub are : steps ≡ begins ++ keeps
-  pub beginning : AreBeginning begins
-  pub keeping : (keeps ≡ []) ⊎ IsKeptHistory script all keeps
+  pub beginning : AreBeginning states begins
+  pub keeping : (keeps ≡ []) ⊎ IsKeptHistory script all (behind states begins) keeps
 
 -- What a crash at any moment of a run may leave on a server's disk that held these bytes: on a blank one no log,
 -- refused at place 0; on another one the record that it had, or none as it; or, of what are bytes, the record that the
--- first of its server's acts made.
+-- first of its server's acts made of the one that it had, or of a new one where it was blank.
 abbrev pub IsLeftBySteps : Roster → ServerId → List Act → List ℕ → List ℕ → Type 0
 IsLeftBySteps roster server acts old c =
     ((is_blank old ≡ true) × HasNoLog 0 c) ⊎ ((is_blank old ≡ false) × HasSameRecord roster server old c)
     ⊎ (AreBytes c → (from : StoreState) × (store_on roster server old ≡ Some from)
     × IsFirstOf from acts (record_in roster server c))
 
+-- A server's disk has the record that some acts made of the one that it had, or of a new one where it was blank.
+pub record HasDone (roster : Roster) (server : ServerId) (acts : List Act) (old new : List ℕ) : Type 0 where
+  pub from : StoreState
+  pub was : store_on roster server old ≡ Some from
+  pub now : record_in roster server new ≡ Some (state_after from acts)
+
 -- What became of disks in the steps of a run. Each has the record that its server's acts among the first steps made, up
--- to one and the same step for all: the whole of the steps, where the script ran. A crash at any moment leaves of each
--- the record that the first of its acts made, or what is said above; and none of these acts lies more than a batch behind
--- that step, so that what was durable once is there in the end. Of a blank disk that failed no crash is told.
+-- to one and the same step for all: where the script ran, all steps, and they are those of its history. A crash at any
+-- moment leaves of each the record that the first of its acts made, or what is said above; and none of these acts lies
+-- more than a batch behind that step, so that what was durable once is there in the end. Of a blank disk that failed no
+-- crash is told.
 pub record GoBySteps {D : Type 0} (view : D → View) (script : Script) (outcome : Outcome) (olds news : List D) :
     Type 0 where
   pub all : List Told
-  pub found : AreFound script.roster (map (λ disk. (view disk).image) olds) all
+  pub found : AreFound script.roster (images view olds) all
   pub steps : List Step
-  pub planned : ArePlanned script all steps
+  pub planned : ArePlanned script all (found_at script.roster (images view olds)) steps
   pub cut : ℕ
   pub within : cut ≤ length steps
-  pub whole : has_run outcome.status ≡ true → cut ≡ length steps
+  pub whole : has_run outcome.status ≡ true
+      → (cut ≡ length steps) × AreOfHistory outcome.played.start outcome.played.history
+      (behind (found_at script.roster (images view olds)) planned.begins) planned.keeps
   pub kept : (k : ℕ) (old new : D) → slice_get olds k ≡ Some old → slice_get news k ≡ Some new
-      → (from : StoreState) × (store_on script.roster (server_of (k + 1)) (view old).image ≡ Some from)
-      × (record_in script.roster (server_of (k + 1)) (view new).image
-      ≡ Some (state_after from (acts_at k (take cut steps))))
+      → HasDone script.roster (server_of (k + 1)) (acts_at k (take cut steps)) (view old).image (view new).image
   pub leaves : (k : ℕ) (old new : D) → slice_get olds k ≡ Some old → slice_get news k ≡ Some new
       → (is_blank (view old).image ≡ true → RoseBy 1 (view old).faults (view new).faults → ⊥)
       → LeavesOnly (IsLeftBySteps script.roster (server_of (k + 1)) (acts_at k (take (cut + BATCH_ACTS_MAX) steps))
       (view old).image) (view old) (view new)
-
--- the bytes of disks
-abbrev pub images : {D : Type 0} → (D → View) → List D → List (List ℕ)
-images view disks = map (λ disk. (view disk).image) disks
 
 -- there are as many disks as before, and the count of faults of none fell
 pub record AreBack {D : Type 0} (view : D → View) (old new : List D) : Type 0 where
@@ -217,9 +202,8 @@ pub record IsAggregateRefused {D writes : Type 0} (tells : Type 0) (view : D →
 -- What became of disks that are handed back, the same ones in their order, where a script was to run over them; of
 -- what they hold, where they tell it. A script that ran did so from the tree that they held, and they hold what it
 -- left, also where a crash comes right after. Where one failed it did so twice, the second time at its last call;
--- and one that is no aggregate is the first. However it ended, some acts made the record that each has of the one
--- that it had; or not all could be opened, and each that wasn't blank has the one that it had. A crash at any moment
--- left no more than that.
+-- and one that is no aggregate is the first. However it ended, they went by the steps of the run; or nothing ran, since
+-- not all could be opened, and each that wasn't blank has the record that it had.
 pub record RanOver {D writes : Type 0} (tells : Type 0) (view : D → View) (script : Script) (outcome : Outcome)
     (old new : List D) (before after : Shown writes) : Type 0 where
   pub back : AreBack view old new
@@ -229,9 +213,8 @@ pub record RanOver {D writes : Type 0} (tells : Type 0) (view : D → View) (scr
   pub durable : tells → has_run outcome.status ≡ true → AreDurable view outcome.played.last new
   pub failed : outcome.status ≡ NoDisk → IsDiskRefused view old new before after
   pub refused : outcome.status ≡ NoAggregate → IsAggregateRefused tells view script.roster old new before after
-  pub records : ∥ (tells → AllWentOn script.roster (images view old) (images view new)) ∥₁
-      ⊎ AreUnopened tells view script.roster 1 old new
-  pub crash : ∥ (tells → AllLeave view script.roster old new) ∥₁
+  pub goes : (tells → GoBySteps view script outcome old new)
+      ⊎ ((has_run outcome.status ≡ false) × AreUnopened tells view script.roster 1 old new)
 
 -- the script that was read, or generated, was to run over the disks
 pub record IsRunOver {D reads writes : Type 0} (tells : Type 0) (view : D → View) (play : Play) (outcome : Outcome)

@@ -14,18 +14,21 @@ use Rattle.service_plain.specs.Played.{IsPlayed}
 use Rattle.service_plain.specs.declared.played.Played.{Played}
 use Rattle.script_lines.specs.declared.script.Script.{Script}
 use Rattle.service_disks.specs.Stores.{disks_of}
-use Rattle.service_disks.specs.Trails.{AllGo}
 use Rattle.service_disks.specs.View.{store_view}
 use Rattle.service_disks.specs.declared.disks.StoresRefused.{StoresRefused}
 use Rattle.service_disks.specs.declared.disks.StoresRefused.TheVariants as opening
 use Rattle.service_disks.specs.declared.stores.ServerStore.{ServerStore}
 use Rattle.service_disks.specs.declared.stores.ServerStore.TheVariants.{Disk, Memory}
+use Rattle.service_moves.specs.Doing.{Step, DoSteps}
+use Rattle.service_moves.specs.Plans.{behind, states_at}
 use Rattle.service_moves.specs.Stopping.{IsStopped}
 use Rattle.service_moves.specs.Stores.{AreSame, states_of}
 use Rattle.service_moves.specs.declared.stopped.RunStopped.{RunStopped}
 use Rattle.service_moves.specs.declared.stopped.RunStopped.TheVariants as running
+use Rattle.service_stores.specs.Plans.{AreOfHistory}
 use Rattle.service_stores.specs.Starting.{told_by, start_from}
 use Rattle.service_stores.specs.Steps.{MayBeAsked}
+use Rattle.service_run.specs.Disks.{ArePlanned}
 use Rattle.service_run.specs.Lines.{no_aggregate_line}
 use Rattle.service_run.specs.Outcomes.{IsEmpty, RefusedSo}
 use Rattle.service_run.specs.World.{Shown}
@@ -42,12 +45,23 @@ pub record HasRunOver {S : Type 0} (tells : Type 0) (view : S → View) (script 
   pub kept : tells → KeepAll (λ host. number_after host 1 run.history) run.last (states_of view new)
   pub ready : MayBeAsked view new
 
+-- Stores did the first steps of a run of the script, up to one and the same for all: where it ran, all steps, and they
+-- are those of its history.
+pub record HaveGone {S : Type 0} (view : S → View) (script : Script) (disks : ℕ) (result : Result Played RunStopped)
+    (old new : List S) : Type 0 where
+  pub steps : List Step
+  pub planned : ArePlanned script (told_by view disks old) (states_at view old) steps
+  pub does : DoSteps view result steps old new
+  pub ran : IfOk result
+      (λ run. AreOfHistory run.start run.history (behind (states_at view old) planned.begins) planned.keeps)
+
 -- A script ran over stores, or why it didn't; each is still that of its server.
 pub record IsRunOf {S : Type 0} (tells : Type 0) (view : S → View) (script : Script) (disks : ℕ)
     (result : Result Played RunStopped) (old new : List S) : Type 0 where
   pub same : AreSame view old new
   pub ran : IfOk result (HasRunOver tells view script disks old new)
   pub stopped : IfErr result (IsStopped tells view (told_by view disks old) old new)
+  pub goes : tells → HaveGone view script disks result old new
 
 -- each of these stores is on a disk where the other is
 abbrev pub AreAsPlaced : {D : Type 0} → List (ServerStore D) → List (ServerStore D) → Type 0
@@ -62,7 +76,6 @@ pub record IsRunOn {D : Type 0} (tells : Type 0) (view : D → DiskView) (script
   pub left : List (ServerStore D)
   pub closed : disks ≡ disks_of left
   pub placed : AreAsPlaced stores left
-  pub goes : ∥ (tells → AllGo view stores left) ∥₁
   pub over : IsRunOf tells (store_view tells view) script count result stores left
 
 -- memory ran out before anything was written

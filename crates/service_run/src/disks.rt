@@ -115,7 +115,7 @@ fn play_on<D: Disk + Drop, C: Count>(
     requires count { length stores.items ≡ length script.now.roster.capacity }
     requires stores { AreStores (store_view D.tells D.view) script.now.roster 0 1 stores.items }
     requires storable { D.tells → Each IsStorable (states_of (store_view D.tells D.view) stores.items) }
-    requires seated { AreSeated D.tells D.view C.disks C.first stores.items }
+    requires seated { AreSeated D.tells D.view C.disks stores.items }
     requires none { disks.old.items ≡ [] }
     requires room { length stores.items ≤ vec_capacity disks.old }
     ensures { IsRunOn D.tells D.view script.now count result stores.items disks.new.items }

@@ -34,9 +34,11 @@ use std::thread::Threads;
 /// and at first none. Moves that an earlier run left unfinished are settled first, and those that go on are ended.
 /// Then the script runs on the tree of what the servers keep, and what came of it is kept by them: where the status
 /// is `Done` or `NoOutput`, each disk holds its server's part of the last tree, also where a crash comes right after.
-/// At any other status, and where a crash comes at any moment, each disk has the record that it had, or one that some
-/// acts of its server made of it; a crash may also leave a blank disk without a log, refused at place 0. Of a blank
-/// disk that failed, what a crash leaves isn't told.
+/// At any other status the disks have what the first steps of the run made of what they had, up to one and the same
+/// step for all: what was left of moves is settled and finished, each server begins the run, and then come the acts of
+/// the history; where they weren't all opened, each that isn't blank has the record that it had. A crash at any moment
+/// leaves of each disk what the first of its acts made, none more than a batch behind that step; or a blank disk
+/// without a log, refused at place 0. Of a blank disk that failed, what a crash leaves isn't told.
 ///
 /// The status is `NoCommand` exactly where the words aren't in the grammar, and then the usage line is written, and
 /// nothing is called; `NoInput` only where the source's count of faults rose, and then `refused: read fault` is

@@ -23,4 +23,4 @@ pub mod Parts
 pub mod Walk
 pub mod Worn
 pub mod Goes
-pub mod Keeping
+pub mod KeptSteps

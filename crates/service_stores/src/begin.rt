@@ -11,6 +11,7 @@ ghost use Rattle.message_types.specs.Soundness.{Each};
 ghost use Rattle.store_acts.specs.Acts.{booted};
 ghost use Rattle.service_moves.specs.Batches.{batch_wear};
 ghost use Rattle.service_moves.specs.Doing.{Step, DoSteps};
+ghost use Rattle.service_moves.specs.Plans.{states_at};
 ghost use Rattle.service_moves.specs.Stores.{states_of, AreStores, AreSame};
 ghost use Rattle.service_moves.specs.Stopping.{IsStopped};
 ghost use Rattle.service_stores.specs.Plans.{AreBeginning};
@@ -32,7 +33,8 @@ fn settle_all<S: Store>(stores: &mut [S], settlings: &[Settling]) -> Result<(), 
     ensures settled { S.tells → Each IsStorable (states_of S.view stores.old)
         → OnOk result (states_of S.view stores.new ≡ settled_stores 1 settlings.now (states_of S.view stores.old)) }
     ensures does { S.tells → Each IsStorable (states_of S.view stores.old)
-        → (steps : List Step) × AreBeginning steps × DoSteps S.view result steps stores.old stores.new }
+        → (steps : List Step) × AreBeginning (states_at S.view stores.old) steps
+        × DoSteps S.view result steps stores.old stores.new }
     ensures same { AreSame S.view stores.old stores.new }
     ensures ready { OnOk result (AreReady S.view (2 ^ 16) stores.new) }
     ensures stopped { IfErr result (IsStopped S.tells S.view [] stores.old stores.new) }
@@ -52,7 +54,8 @@ fn boot_all<S: Store>(stores: &mut [S]) -> Result<(), RunStopped>
     requires ready { AreReady S.view (2 ^ 32) stores.old }
     ensures booted { S.tells → OnOk result (states_of S.view stores.new ≡ map booted (states_of S.view stores.old)) }
     ensures does { S.tells
-        → (steps : List Step) × AreBeginning steps × DoSteps S.view result steps stores.old stores.new }
+        → (steps : List Step) × AreBeginning (states_at S.view stores.old) steps
+        × DoSteps S.view result steps stores.old stores.new }
     ensures same { AreSame S.view stores.old stores.new }
     ensures ready { OnOk result (AreReady S.view (2 ^ 40) stores.new) }
     ensures stopped { IfErr result (IsStopped S.tells S.view [] stores.old stores.new) }
@@ -82,7 +85,8 @@ pub(crate) fn begin<S: Store>(
         → OnOk result (KeepAll (λ host. 1) (freed tree) (states_of S.view stores.new)) }
     ensures does { S.tells → Each IsStorable (states_of S.view stores.old) → (tree : Tree)
         → KeepUnderWay tree (settled_stores 1 settlings.now (states_of S.view stores.old))
-        → (steps : List Step) × AreBeginning steps × DoSteps S.view result steps stores.old stores.new }
+        → (steps : List Step) × AreBeginning (states_at S.view stores.old) steps
+        × DoSteps S.view result steps stores.old stores.new }
     ensures stores { OnOk result (AreStores S.view roster.now (2 ^ 40) 1 stores.new) }
     ensures same { AreSame S.view stores.old stores.new }
     ensures stopped { IfErr result (IsStopped S.tells S.view [] stores.old stores.new) }

@@ -19,6 +19,7 @@ ghost use Rattle.std.specs.List.{position};
 ghost use Rattle.base_types.specs.declared.ids.HostId.{HostId as HostNumber};
 ghost use Rattle.base_types.specs.declared.ids.ServerId.{ServerId as ServerNumber};
 ghost use Rattle.tree_filesets.specs.declared.fileset.Fileset.{Fileset};
+ghost use Rattle.store_acts.specs.declared.act.Act.TheVariants.{Leave};
 ghost use Rattle.store_memory.specs.Views.{DoesActs, IsSameStore};
 ghost use Rattle.tree_answers.specs.Histories.{IsHistory, after_history};
 ghost use Rattle.tree_answers.specs.WellFormed.{IsWellFormed};
@@ -31,7 +32,7 @@ ghost use Rattle.store_laws.specs.MovedLaws.{move_entry, moves_one, numbers_afte
 ghost use Rattle.message_types.specs.Soundness.{Each};
 ghost use Rattle.service_moves.specs.Batches.{batch_wear};
 ghost use Rattle.service_moves.specs.Doing.{Step, DoSteps};
-ghost use Rattle.service_moves.specs.Plans.{AreMoves};
+ghost use Rattle.service_moves.specs.Plans.{states_at, AreMoves};
 ghost use Rattle.service_stores.specs.Plans.{KeepsHistory};
 ghost use Rattle.service_stores.specs.Steps.{MayBeAsked};
 ghost use Rattle.service_stores.specs.Stopping.{IsStoppedAt};
@@ -57,7 +58,7 @@ const ENTRIES_MAX: usize = 4_294_967_296;
 /// done all that came before. After `Ok` each may be asked, so that what it keeps is durable.
 ///
 /// `Failed` comes where the disk of a server failed twice, and `Memory` where memory runs out, or where the history has
-/// more than `ENTRIES_MAX` entries. Each store has done the first of its acts then, up to one and the same step for all.
+/// more than `ENTRIES_MAX` entries. Each store has done the first of its acts then, up to one and the same step.
 pub fn keep<S: Store>(
     alloc: Global,
     stores: &mut [S],
@@ -191,7 +192,8 @@ fn keep_moved<S: Store>(stores: &mut [S], tree: &Tree, entry: &Entry) -> Result<
         (name : List ℕ) (to : ServerNumber) (fileset : Fileset) → entry.now ≡ move_entry host k server name to
         → IsWellFormed tree.now → KeepAll next tree.now (states_of S.view stores.old)
         → Moves tree.now host server name to fileset → k ≡ next host
-        → (steps : List Step) × AreMoves steps × DoSteps S.view result steps stores.old stores.new }
+        → (steps : List Step) × AreMoves (λ act. act ≡ Leave fileset.id to) (states_at S.view stores.old) steps
+        × DoSteps S.view result steps stores.old stores.new }
     ensures same { AreSame S.view stores.old stores.new }
     ensures stores { (worn : ℕ) → AreStores S.view tree.now.roster worn 1 stores.old
         → OnOk result (AreStores S.view tree.now.roster (worn + 2048) 1 stores.new) }

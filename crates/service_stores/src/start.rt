@@ -8,6 +8,7 @@ ghost use Rattle.store_records.specs.Stored.{IsStorable};
 ghost use Rattle.message_types.specs.Soundness.{Each};
 ghost use Rattle.service_moves.specs.Batches.{batch_wear};
 ghost use Rattle.service_moves.specs.Doing.{Step, DoSteps};
+ghost use Rattle.service_moves.specs.Plans.{states_at};
 ghost use Rattle.service_moves.specs.Stores.{states_of, AreStores, AreSame};
 ghost use Rattle.service_moves.specs.Stopping.{IsStopped};
 ghost use Rattle.service_stores.specs.Plans.{AreBeginning};
@@ -42,7 +43,8 @@ fn start_told<S: Store>(
         → IfOk result (λ tree. KeepAll (λ host. 1) tree (states_of S.view stores.new)) }
     ensures does { S.tells → (disks : ℕ) → all.now ≡ told_by S.view disks stores.old
         → Each IsStorable (states_of S.view stores.old)
-        → (steps : List Step) × AreBeginning steps × DoSteps S.view result steps stores.old stores.new }
+        → (steps : List Step) × AreBeginning (states_at S.view stores.old) steps
+        × DoSteps S.view result steps stores.old stores.new }
     ensures stores { OnOk result (AreStores S.view roster.now (2 ^ 40) 1 stores.new) }
     ensures same { AreSame S.view stores.old stores.new }
     ensures stopped { IfErr result (IsStopped S.tells S.view all.now stores.old stores.new) }
@@ -77,7 +79,8 @@ pub fn start_on<S: Store>(
     ensures start { IfOk result (IsStart roster.now) }
     ensures kept { S.tells → IfOk result (λ tree. KeepAll (λ host. 1) tree (states_of S.view stores.new)) }
     ensures does { S.tells
-        → (steps : List Step) × AreBeginning steps × DoSteps S.view result steps stores.old stores.new }
+        → (steps : List Step) × AreBeginning (states_at S.view stores.old) steps
+        × DoSteps S.view result steps stores.old stores.new }
     ensures stores { OnOk result (AreStores S.view roster.now (2 ^ 40) 1 stores.new) }
     ensures same { AreSame S.view stores.old stores.new }
     ensures stopped { IfErr result

@@ -1,6 +1,5 @@
 use Rattle.std.proofs.Common.{◌≡◌, ◌+◌, ◌*◌, ◌++◌, ◌∙◌, length, take, drop, refl, sym, subst, ap, arith}
 use Rattle.std.specs.Prelude.{Ok}
-use Rattle.std.proofs.lemmas.Result.{err_from_is_err_and}
 use Rattle.base_types.specs.declared.limits.TheConstants.{BATCH_ACTS_MAX}
 use Rattle.store_memory.specs.Views.{DoesActs}
 use Rattle.store_memory.specs.declared.store.StoreFault.{StoreFault}
@@ -34,7 +33,7 @@ returns-in_err-apply_batch-clause-does g c tells fits new =
     let failed = c.in_err-apply_batch.ensures.does tells (batch_again start.state now.state acts from to (made_of _ (take from acts) start now so_far) fits new) in
     let both = does_then tt _ (take from acts) (batch_in acts from to) start now next so_far failed in
     subst (λ l. DoesActs c.from_residual.result l start next) (take_rest acts from to (omega (arith, low, count, end)))
-    (stops_failed _ c.from_residual.result (take from acts ++ batch_in acts from to) (drop to acts) start next (let p = err_from_is_err_and c.from_residual.result c.from_residual.ensures.1 in never_ok c.from_residual.result p.0 p.1) both)
+    (stops_failed _ c.from_residual.result (take from acts ++ batch_in acts from to) (drop to acts) start next (never_ok c.from_residual.result _ c.from_residual.ensures.1) both)
 
 pub loop-at-preserved : goal.loop-at-preserved
 loop-at-preserved g c =

@@ -1,5 +1,4 @@
 use Rattle.std.proofs.Common.{◌∙◌}
-use Rattle.std.proofs.lemmas.Result.{err_from_is_err_and}
 use Rattle.service_moves.proofs.Again.{sound_next}
 use Rattle.service_moves.proofs.Tries.{again_fits, tried_twice, failed_twice}
 use Rattle.service_moves.proofs.Twice.{done_all, done_some, never_ok, opened_leaves, twice_leaves}
@@ -29,7 +28,7 @@ returns-in_err-apply-clause-does g c tells again =
     let first = c.in-Err-Failed.ensures.fault tells (again.fits 0) in
     let same = c.in_ok-reopen.ensures.state tells in
     let second = c.in_err-apply.ensures.fault tells (again_fits start.state after.state opened.state batch first.0 again first.2 same) in
-    done_some c.from_residual-in_err-apply.result batch start end (let p = err_from_is_err_and c.from_residual-in_err-apply.result c.from_residual-in_err-apply.ensures.1 in never_ok c.from_residual-in_err-apply.result p.0 p.1) c.requires.acts.few
+    done_some c.from_residual-in_err-apply.result batch start end (never_ok c.from_residual-in_err-apply.result _ c.from_residual-in_err-apply.ensures.1) c.requires.acts.few
     (failed_twice start.state after.state opened.state end.state batch first.0 second.0 again first.1 second.1 first.2 same second.2)
     (twice_leaves start after opened end batch first.0 again first.1 first.2 same (c.in-Err-Failed.ensures.leaves tells) (c.in_ok-reopen.ensures.leaves tells) (c.in_err-apply.ensures.leaves tells))
 
@@ -48,7 +47,7 @@ returns-in_err-reopen-clause-does g c tells again =
     let opened = g.S.Store.view c.reopen.new.self in
     let batch = c.args.batch.now in
     let first = c.in-Err-Failed.ensures.fault tells (again.fits 0) in
-    done_some c.from_residual.result batch start opened (let p = err_from_is_err_and c.from_residual.result c.from_residual.ensures.1 in never_ok c.from_residual.result p.0 p.1) c.requires.acts.few (first.0, first.1, c.in_err-reopen.ensures.state tells ∙ first.2)
+    done_some c.from_residual.result batch start opened (never_ok c.from_residual.result _ c.from_residual.ensures.1) c.requires.acts.few (first.0, first.1, c.in_err-reopen.ensures.state tells ∙ first.2)
     (opened_leaves start after opened batch first.0 first.1 first.2 (c.in-Err-Failed.ensures.leaves tells) (c.in_err-reopen.ensures.leaves tells))
 
 pub apply-requires-2-clause-acts : goal.apply-requires-2-clause-acts

@@ -1,5 +1,4 @@
 use Rattle.std.proofs.Common.{[], ◌∷◌}
-use Rattle.std.proofs.lemmas.Result.{err_from_is_err_and}
 use Rattle.store_acts.specs.declared.act.Act.TheVariants.{Leave}
 use Rattle.store_memory.proofs.Doing.{does_then}
 use Rattle.service_moves.proofs.Twice.{does_failed, done_none, never_ok}
@@ -8,7 +7,7 @@ use Rattle.service_moves.proofs.moving.leave.Goals as goal
 pub returns-in_err-do_act-clause-does : goal.returns-in_err-do_act-clause-does
 returns-in_err-do_act-clause-does g c tells fits again =
     does_failed _ c.from_residual.result (Leave c.args.fileset c.args.to ∷ []) (g.S.Store.view c.args.store.now) (g.S.Store.view c.do_act.new.store)
-    (let p = err_from_is_err_and c.from_residual.result c.from_residual.ensures.1 in never_ok c.from_residual.result p.0 p.1) (c.in_err-do_act.ensures.does tells fits again)
+    (never_ok c.from_residual.result _ c.from_residual.ensures.1) (c.in_err-do_act.ensures.does tells fits again)
 
 pub returns-clause-does : goal.returns-clause-does
 returns-clause-does g c tells fits again =

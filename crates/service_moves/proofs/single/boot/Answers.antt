@@ -1,6 +1,5 @@
 use Rattle.std.proofs.Common.{◌≡◌, ◌≤◌, [], ◌∷◌, length, take, ℕ, ap, sym, subst, ◌∙◌, arith}
 use Rattle.std.specs.Prelude.{Some}
-use Rattle.std.proofs.lemmas.Result.{err_from_is_err_and}
 use Rattle.store_acts.specs.Acts.{state_after}
 use Rattle.store_acts.specs.declared.act.Act.TheVariants.{Boot}
 use Rattle.store_memory.specs.Views.{Leaves, IsFirstOf}
@@ -24,7 +23,7 @@ returns-in_err-reopen-clause-does g c tells =
     let after = g.S.Store.view c.apply.new.self in
     let opened = g.S.Store.view c.reopen.new.self in
     let first = c.in-Err-Failed.ensures.fault tells (tt, tt) in
-    done_some c.from_residual.result (Boot ∷ []) start opened (let p = err_from_is_err_and c.from_residual.result c.from_residual.ensures.1 in never_ok c.from_residual.result p.0 p.1) (omega arith) (first.0, first.1, c.in_err-reopen.ensures.state tells ∙ first.2)
+    done_some c.from_residual.result (Boot ∷ []) start opened (never_ok c.from_residual.result _ c.from_residual.ensures.1) (omega arith) (first.0, first.1, c.in_err-reopen.ensures.state tells ∙ first.2)
     (opened_leaves start after opened (Boot ∷ []) first.0 first.1 first.2 (c.in-Err-Failed.ensures.leaves tells) (c.in_err-reopen.ensures.leaves tells))
 
 pub returns-in_err-apply-clause-does : goal.returns-in_err-apply-clause-does
@@ -38,7 +37,7 @@ returns-in_err-apply-clause-does g c tells =
     let same : opened.state.epoch ≡ start.state.epoch = (let a = c.epoch.ensures tells in let b = c.epoch-epoch.ensures tells in let t = c.if-epoch.true in omega (arith, a, b, t)) in
     let is : opened.state ≡ start.state = not_begun start.state opened.state same so_far in
     let second = c.in_err-apply.ensures.fault tells (tt, tt) in
-    done_some c.from_residual-in_err-apply.result (Boot ∷ []) start end (let p = err_from_is_err_and c.from_residual-in_err-apply.result c.from_residual-in_err-apply.ensures.1 in never_ok c.from_residual-in_err-apply.result p.0 p.1) (omega arith)
+    done_some c.from_residual-in_err-apply.result (Boot ∷ []) start end (never_ok c.from_residual-in_err-apply.result _ c.from_residual-in_err-apply.ensures.1) (omega arith)
     (second.0, second.1, second.2 ∙ ap (λ (s : StoreState). state_after s (take second.0 (Boot ∷ []))) is)
     (leaves_then (opened_leaves start after opened (Boot ∷ []) first.0 first.1 first.2 (c.in-Err-Failed.ensures.leaves tells) (c.in_ok-reopen.ensures.leaves tells))
     (subst (λ (s : StoreState). Leaves (IsFirstOf s (Boot ∷ [])) opened end) is (c.in_err-apply.ensures.leaves tells)))

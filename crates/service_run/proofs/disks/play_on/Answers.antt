@@ -30,4 +30,4 @@ returns g c =
     let len = c.as_mut_slice.ensures.len in
     let back = written_back c.in-Ok.seats.len seats news (same ∙ was) (omega (arith, len, was)) in
     run_seated c.args.script.now c.args.count c.play_over-result.result c.args.stores.items lent news c.args.disks.now.items c.close_seats.new.disks.items (ap (λ l. stores_in l) c.as_mut_slice.ensures.value ∙ c.in-Ok.ensures.seated)
-    c.requires.none c.requires.seated c.play_over-result.ensures (c.close_seats.ensures.back ∙ ap (λ l. disks_of (stores_in l) ++ c.args.disks.now.items) back))
+    c.requires.none c.play_over-result.ensures (c.close_seats.ensures.back ∙ ap (λ l. disks_of (stores_in l) ++ c.args.disks.now.items) back))

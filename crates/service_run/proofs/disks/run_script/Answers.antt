@@ -25,7 +25,7 @@ play_on-requires-clause-storable g c = λ told.
 pub play_on-requires-clause-seated : goal.play_on-requires-clause-seated
 play_on-requires-clause-seated g c =
     (let counted = c.len-count.ensures in
-    are_seated g.D.Disk.tells g.D.Disk.view c.args.script.roster c.len-count.result c.args.disks.now.items c.in-Ok.stores.items (omega (arith, counted)) c.in-Ok.ensures.opened)
+    are_seated g.D.Disk.tells g.D.Disk.view c.args.script.roster c.len-count.result 1 c.args.disks.now.items c.in-Ok.stores.items (omega (arith, counted)) c.in-Ok.ensures.opened)
 
 pub returns-in-Ok-play_on-clause-over : goal.returns-in-Ok-play_on-clause-over
 returns-in-Ok-play_on-clause-over g c =

@@ -1,13 +1,13 @@
-use Rattle.std.proofs.Common.{◌+◌, ◌*◌, ◌^◌, ◌++◌, [], sym, subst, arith, rules}
+use Rattle.std.proofs.Common.{◌+◌, ◌*◌, ◌^◌, [], sym, subst, arith, rules}
 use Rattle.service_starts.specs.UnderWay.{KeepUnderWay, freed}
 use Rattle.store_laws.specs.MoveKeeping.{KeepAll}
 use Rattle.service_moves.specs.Batches.{batch_wear}
 use Rattle.service_moves.specs.Stores.{states_of, AreStores}
 use Rattle.service_moves.specs.Stopping.{IsStopped}
-use Rattle.std.proofs.lemmas.Result.{err_from_is_err_and}
-use Rattle.service_moves.proofs.Doing.{steps_err, steps_then}
+use Rattle.service_moves.specs.Plans.{states_at}
+use Rattle.service_moves.proofs.Twice.{never_ok}
 use Rattle.service_stores.proofs.Begins.{begins, count_under}
-use Rattle.service_stores.proofs.Doing.{begin_append, moves_begin}
+use Rattle.service_stores.proofs.Doing.{begin_failed, begin_then, moves_begin}
 use Rattle.service_stores.proofs.Lists.{ok_map, err_map}
 use Rattle.service_stores.proofs.Stores.{ready_of, ready_more, same_then, stores_then, stopped_later}
 use Rattle.service_stores.proofs.begin.begin.Goals as goal
@@ -65,32 +65,20 @@ returns-clause-stopped g c =
 
 pub returns-in_err-settle_all-clause-does : goal.returns-in_err-settle_all-clause-does
 returns-in_err-settle_all-clause-does g c t storable tree under =
-    let p = err_from_is_err_and c.from_residual.result c.from_residual.ensures.1 in
-    let d = c.in_err-settle_all.ensures.does t storable in
-    rw (p.1) (d.0, d.1, steps_err g.S.Store.view _ p.0 d.0 c.args.stores.now c.settle_all.new.stores d.2)
+    begin_failed g.S.Store.view _ c.from_residual.result c.args.stores.now c.settle_all.new.stores (never_ok c.from_residual.result _ c.from_residual.ensures.1) (c.in_err-settle_all.ensures.does t storable)
 
 pub returns-in_err-finish_moves-clause-does : goal.returns-in_err-finish_moves-clause-does
 returns-in_err-finish_moves-clause-does g c t storable tree under =
     let view = g.S.Store.view in
-    let p = err_from_is_err_and c.from_residual-in_err-finish_moves.result c.from_residual-in_err-finish_moves.ensures.1 in
     let first = c.in_ok-settle_all.ensures.does t storable in
     let second = c.in_err-finish_moves.ensures.does t tree (subst (KeepUnderWay tree) (sym (c.in_ok-settle_all.ensures.settled t storable)) under) in
-    rw (p.1) (
-      first.0 ++ second.0,
-      begin_append first.0 second.0 first.1 (moves_begin second.0 second.1),
-      steps_err view _ p.0 (first.0 ++ second.0) c.args.stores.now c.finish_moves.new.stores
-          (steps_then view _ _ first.0 second.0 c.args.stores.now c.settle_all.new.stores c.finish_moves.new.stores first.2 second.2),
-    )
+    begin_failed view _ c.from_residual-in_err-finish_moves.result c.args.stores.now c.finish_moves.new.stores (never_ok c.from_residual-in_err-finish_moves.result _ c.from_residual-in_err-finish_moves.ensures.1)
+    (begin_then view _ _ c.args.stores.now c.settle_all.new.stores c.finish_moves.new.stores first (second.0, moves_begin (states_at view c.settle_all.new.stores) second.0 second.1, second.2))
 
 pub returns-clause-does : goal.returns-clause-does
 returns-clause-does g c t storable tree under =
     let view = g.S.Store.view in
     let first = c.in_ok-settle_all.ensures.does t storable in
     let second = c.in_ok-finish_moves.ensures.does t tree (subst (KeepUnderWay tree) (sym (c.in_ok-settle_all.ensures.settled t storable)) under) in
-    let third = c.boot_all.ensures.does t in
-    let start = begin_append first.0 second.0 first.1 (moves_begin second.0 second.1) in (
-      (first.0 ++ second.0) ++ third.0,
-      begin_append (first.0 ++ second.0) third.0 start third.1,
-      steps_then view _ _ (first.0 ++ second.0) third.0 c.args.stores.now c.finish_moves.new.stores c.boot_all.new.stores
-          (steps_then view _ _ first.0 second.0 c.args.stores.now c.settle_all.new.stores c.finish_moves.new.stores first.2 second.2) third.2,
-    )
+    begin_then view _ _ c.args.stores.now c.finish_moves.new.stores c.boot_all.new.stores
+    (begin_then view _ _ c.args.stores.now c.settle_all.new.stores c.finish_moves.new.stores first (second.0, moves_begin (states_at view c.settle_all.new.stores) second.0 second.1, second.2)) (c.boot_all.ensures.does t)

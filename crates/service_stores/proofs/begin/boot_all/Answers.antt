@@ -1,19 +1,18 @@
-use Rattle.std.proofs.Common.{◌≡◌, ◌<◌, ◌≤◌, ◌+◌, ◌^◌, ◌∙◌, [], ◌∷◌, inr, length, get_or, slice_get, Some, refl, arith}
+use Rattle.std.proofs.Common.{◌≡◌, ◌<◌, ◌≤◌, ◌+◌, ◌^◌, ◌∙◌, [], ◌∷◌, length, get_or, slice_get, Some, refl, arith}
 use Rattle.std.specs.Prelude.{Ok}
 use Rattle.std.proofs.lemmas.Option.{slice_get-get_or}
 use Rattle.store_acts.specs.Acts.{booted}
 use Rattle.store_acts.specs.declared.act.Act.TheVariants.{Boot}
-use Rattle.service_moves.proofs.Doing.{steps_none}
 use Rattle.service_moves.proofs.Tries.{begins}
 use Rattle.service_moves.proofs.Twice.{made_of}
-use Rattle.service_stores.proofs.Doing.{one_fails, one_more}
+use Rattle.service_stores.proofs.Doing.{begin_none, one_fails, one_more}
 use Rattle.service_stores.proofs.Stores.{past_here, past_next, past_start, past_still, past_ready, past_states, same_of, states_map, still_of, still_put, stopped_put}
 use Rattle.service_stores.proofs.begin.boot_all.Goals as goal
 
 pub loop-k-init : goal.loop-k-init
 loop-k-init g c = record {
   past = past_start g.S.Store.view g.S.Store.tells (2 ^ 32) (2 ^ 40) booted c.args.stores.now c.requires.ready;
-  does = λ t. ([], tt, steps_none g.S.Store.view (Ok tt) c.args.stores.now);
+  does = λ t. begin_none g.S.Store.view (Ok tt) c.args.stores.now;
 }
 
 pub boot-requires : goal.boot-requires
@@ -53,7 +52,7 @@ loop-k-preserved g c =
           (still_of c.boot.result _ _ c.boot.ensures.same c.boot.ensures.mendable c.boot.ensures.blame)
           (record { ready = c.in_default.ensures.ready; mendable = c.boot.ensures.mendable; wear = omega (arith, was, wore) })
           (λ t. made_of _ (Boot ∷ []) (g.S.Store.view store) (g.S.Store.view c.boot.new.store) (c.in_default.ensures.does t) ∙ begins (g.S.Store.view store).state);
-      does = λ t. one_more g.S.Store.view _ c.args.stores.now c.loop-k.stores c.loop-k.k store c.boot.new.store Boot (inr refl) at (c.in_default.ensures.does t) (c.loop-k.invariant.does t);
+      does = λ t. one_more g.S.Store.view _ c.args.stores.now c.loop-k.stores c.loop-k.k store c.boot.new.store Boot tt at (c.in_default.ensures.does t) (c.loop-k.invariant.does t);
     }
 
 pub returns-clause-booted : goal.returns-clause-booted
@@ -74,4 +73,4 @@ pub returns-in-Err-clause-does : goal.returns-in-Err-clause-does
 returns-in-Err-clause-does g c t =
     let lt : c.loop-k.k < length c.loop-k.stores = grind arith in
     let at : slice_get c.loop-k.stores c.loop-k.k ≡ Some (get_or c.loop-k.stores c.loop-k.k c.index-stores-k.result) = slice_get-get_or c.loop-k.stores c.loop-k.k c.index-stores-k.result lt in
-    one_fails g.S.Store.view _ c.stopped_at.result c.args.stores.now c.loop-k.stores c.loop-k.k (get_or c.loop-k.stores c.loop-k.k c.index-stores-k.result) c.boot.new.store Boot (inr refl) at (c.in-Err.ensures.does t) (c.loop-k.invariant.does t)
+    one_fails g.S.Store.view _ c.stopped_at.result c.args.stores.now c.loop-k.stores c.loop-k.k (get_or c.loop-k.stores c.loop-k.k c.index-stores-k.result) c.boot.new.store Boot tt at (c.in-Err.ensures.does t) (c.loop-k.invariant.does t)

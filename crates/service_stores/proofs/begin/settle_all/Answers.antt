@@ -1,11 +1,10 @@
-use Rattle.std.proofs.Common.{◌≡◌, ◌-◌, ◌<◌, [], ◌∷◌, inl, length, get_or, slice_get, Some, arith}
+use Rattle.std.proofs.Common.{◌≡◌, ◌-◌, ◌<◌, [], ◌∷◌, length, get_or, slice_get, Some, arith}
 use Rattle.std.specs.Prelude.{Ok}
 use Rattle.std.proofs.lemmas.Option.{slice_get-get_or}
 use Rattle.service_starts.specs.declared.fitting.Settling.{Settling}
 use Rattle.store_acts.specs.declared.act.Act.TheVariants.{Settle}
-use Rattle.service_moves.proofs.Doing.{steps_none}
 use Rattle.service_moves.proofs.Twice.{made_of}
-use Rattle.service_stores.proofs.Doing.{one_fails, one_more, settle_does, settled_again}
+use Rattle.service_stores.proofs.Doing.{begin_none, one_fails, one_more, settle_does, settled_again}
 use Rattle.service_stores.proofs.Settles.{place_of, settled_here, settled_next, settled_start, settled_still, settled_ready, settled_states, settles_of}
 use Rattle.service_stores.proofs.Stores.{same_of, still_of, still_put, stopped_put}
 use Rattle.service_stores.proofs.begin.settle_all.Goals as goal
@@ -16,7 +15,7 @@ nothing = record { server = record { 0 = 0 }; fileset = record { 0 = 0 } }
 pub loop-settling-init : goal.loop-settling-init
 loop-settling-init g c = record {
   all = settled_start g.S.Store.view g.S.Store.tells c.args.settlings.now c.args.stores.now c.requires.ready;
-  does = λ t storable. ([], tt, steps_none g.S.Store.view (Ok tt) c.args.stores.now);
+  does = λ t storable. begin_none g.S.Store.view (Ok tt) c.args.stores.now;
 }
 
 pub apply_once-requires-clause-ready : goal.apply_once-requires-clause-ready
@@ -80,7 +79,7 @@ loop-settling-preserved g c =
           (settles_of (g.S.Store.view now) (g.S.Store.view c.apply_once.new.store) settling g.S.Store.tells c.act.result c.act.ensures
           (λ t fits again. made_of _ (c.act.result ∷ []) (g.S.Store.view now) (g.S.Store.view c.apply_once.new.store) (c.in_default.ensures.does t fits again)));
       does = λ t storable.
-          one_more g.S.Store.view _ c.args.stores.now c.loop-settling.stores (settling.server.0 - 1) now c.apply_once.new.store (Settle settling.fileset) (inl tt) at
+          one_more g.S.Store.view _ c.args.stores.now c.loop-settling.stores (settling.server.0 - 1) now c.apply_once.new.store (Settle settling.fileset) tt at
           (settle_does _ (g.S.Store.view now) (g.S.Store.view c.apply_once.new.store) settling c.act.result c.act.ensures
           (settled_again g.S.Store.view g.S.Store.tells c.args.settlings.now i (settling.server.0 - 1) settling c.args.stores.now c.loop-settling.stores now c.loop-settling.invariant.all place.there at t storable)
           (c.in_default.ensures.does t))
@@ -111,7 +110,7 @@ returns-in-Err-clause-does g c t storable =
     let place = place_of (length c.args.stores.now) (length c.loop-settling.stores) c.args.settlings.now i settling found c.requires.there c.loop-settling.auto.stores in
     let at = slice_get-get_or c.loop-settling.stores (settling.server.0 - 1) c.index-stores-server.result place.there in
     let now = get_or c.loop-settling.stores (settling.server.0 - 1) c.index-stores-server.result in
-    one_fails g.S.Store.view _ c.stopped_at.result c.args.stores.now c.loop-settling.stores (settling.server.0 - 1) now c.apply_once.new.store (Settle settling.fileset) (inl tt) at
+    one_fails g.S.Store.view _ c.stopped_at.result c.args.stores.now c.loop-settling.stores (settling.server.0 - 1) now c.apply_once.new.store (Settle settling.fileset) tt at
     (settle_does _ (g.S.Store.view now) (g.S.Store.view c.apply_once.new.store) settling c.act.result c.act.ensures
     (settled_again g.S.Store.view g.S.Store.tells c.args.settlings.now i (settling.server.0 - 1) settling c.args.stores.now c.loop-settling.stores now c.loop-settling.invariant.all place.there at t storable)
     (c.in-Err.ensures.does t))

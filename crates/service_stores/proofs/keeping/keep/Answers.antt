@@ -4,10 +4,9 @@ use Rattle.tree_answers.specs.Histories.{after_history}
 use Rattle.store_laws.specs.Shape.{number_after}
 use Rattle.store_laws.specs.MoveKeeping.{KeepAll}
 use Rattle.service_moves.specs.Stores.{states_of}
-use Rattle.std.proofs.lemmas.Result.{err_from_is_err_and}
-use Rattle.service_moves.specs.declared.stopped.RunStopped.TheVariants.{Memory}
+use Rattle.service_moves.proofs.Twice.{never_ok}
 use Rattle.service_stores.specs.Plans.{KeepsHistory}
-use Rattle.service_stores.proofs.Keeping.{none_kept}
+use Rattle.service_stores.proofs.KeptSteps.{none_kept}
 use Rattle.service_stores.proofs.KeepStores.{same_stores}
 use Rattle.service_stores.proofs.keeping.keep.Goals as goal
 
@@ -28,12 +27,11 @@ returns-clause-kept g c told keep =
     c.in_ok-tree.ensures (c.keep_all.ensures.kept told) keep
 
 pub returns-then-history-gt-ENTRIES_MAX-clause-does : goal.returns-then-history-gt-ENTRIES_MAX-clause-does
-returns-then-history-gt-ENTRIES_MAX-clause-does g c told keep = none_kept g.S.Store.view Memory c.args.start.now c.args.history.now c.args.stores.now
+returns-then-history-gt-ENTRIES_MAX-clause-does g c told keep = none_kept g.S.Store.view _ c.args.start.now c.args.history.now c.args.stores.now tt
 
 pub returns-in_err-tree-clause-does : goal.returns-in_err-tree-clause-does
 returns-in_err-tree-clause-does g c told keep =
-    let p = err_from_is_err_and c.from_residual.result c.from_residual.ensures.1 in
-    rw (p.1) (none_kept g.S.Store.view p.0 c.args.start.now c.args.history.now c.args.stores.now)
+    none_kept g.S.Store.view c.from_residual.result c.args.start.now c.args.history.now c.args.stores.now (never_ok c.from_residual.result _ c.from_residual.ensures.1)
 
 pub returns-clause-does : goal.returns-clause-does
 returns-clause-does g c told keep =

@@ -15,9 +15,12 @@ use Rattle.service_moves.specs.Stores.{AreStores, states_of}
 use Rattle.service_stores.proofs.Goes.{goes_may, goes_tree, goes_within}
 use Rattle.service_stores.proofs.Histories.{after_all, moves_nothing, numbers_all, numbers_both, roster_after}
 use Rattle.service_moves.specs.declared.stopped.RunStopped.{RunStopped}
-use Rattle.service_moves.proofs.Doing.{steps_err, steps_none, steps_ok}
+use Rattle.service_moves.specs.Plans.{states_at}
+use Rattle.service_moves.proofs.Doing.{steps_none, steps_ok}
+use Rattle.service_moves.proofs.Twice.{never_ok}
+use Rattle.service_stores.proofs.Doing.{steps_failed}
 use Rattle.service_stores.specs.Plans.{AreOfHistory, KeepsHistory}
-use Rattle.service_stores.proofs.Keeping.{kept_more, none_behind, take_both}
+use Rattle.service_stores.proofs.KeptSteps.{kept_more, none_behind, take_both}
 use Rattle.service_stores.proofs.Planned.{last_number, no_history, number_both, number_none}
 use Rattle.service_stores.proofs.KeepStores.{same_count, same_stores, same_then, stopped_then, stores_asked, stores_more}
 use Rattle.service_stores.proofs.keeping.keep_all.Goals as goal
@@ -29,7 +32,7 @@ loop-place-init g c = record {
   may = c.requires.happens;
   kept = λ told keep. keep;
   cut = number_none;
-  does = λ told keep. ([], no_history c.args.tree.now, steps_none g.S.Store.view (Ok tt) c.args.stores.now);
+  does = λ told keep. ([], no_history c.args.tree.now (states_at g.S.Store.view c.args.stores.now), steps_none g.S.Store.view (Ok tt) c.args.stores.now);
   same = same_stores g.S.Store.view c.args.tree.now.roster (2 ^ 40) 1 c.args.stores.now c.requires.stores;
   stores = c.requires.stores;
 }
@@ -103,7 +106,7 @@ loop-place-preserved g c =
           let within = goes_within numbers tree history from place inv.within inv.may at in
           let count : d.count ≡ place + 2 = (let e = d.all in omega (arith, e, size, behind, within)) in (
             so_far.0 ++ d.steps,
-            subst (λ n. AreOfHistory start (take (from + n) history) (so_far.0 ++ d.steps)) count more.0,
+            subst (λ n. AreOfHistory start (take (from + n) history) (states_at view c.args.stores.now) (so_far.0 ++ d.steps)) count more.0,
             steps_ok view c.in_ok-keep_to.field-0 tt (so_far.0 ++ d.steps) c.args.stores.now c.keep_to.new.stores more.1,
           ));
       same = same_then view c.args.stores.now c.loop-place.stores c.keep_to.new.stores inv.same c.keep_to.ensures.same;
@@ -199,15 +202,15 @@ returns-in_err-keep_to-clause-does g c told keep =
     let behind = length-drop from history in
     let within = inv.within in
     let few = d.within in
-    let p = err_from_is_err_and c.from_residual.result c.from_residual.ensures.1 in
-    rw (p.1) (record {
+    let failed = never_ok c.from_residual.result _ c.from_residual.ensures.1 in
+    record {
       count = from + d.count;
       within = omega (arith, few, size, behind, within);
-      all = tt;
+      all = on_ok_weaker c.from_residual.result (λ (never : ⊥). absurd never) failed;
       steps = so_far.0 ++ d.steps;
       are = more.0;
-      does = steps_err view (Err why) p.0 (so_far.0 ++ d.steps) c.args.stores.now c.keep_to.new.stores more.1;
-    })
+      does = steps_failed view (Err why) c.from_residual.result (so_far.0 ++ d.steps) c.args.stores.now c.keep_to.new.stores failed more.1;
+    }
 
 pub returns-clause-does : goal.returns-clause-does
 returns-clause-does g c told keep =

@@ -4,13 +4,15 @@ use Rattle.base_types.specs.declared.ids.ServerId.{ServerId}
 use Rattle.tree_calls.specs.declared.call.Call.TheVariants.{MoveFileset}
 use Rattle.tree_calls.specs.declared.entry.Entry.TheVariants.{Call as Called}
 use Rattle.tree_calls.specs.declared.reply.Reply.TheVariants.{Ok as Accepted}
+use Rattle.store_acts.specs.declared.act.Act.TheVariants.{Leave}
 use Rattle.store_laws.specs.Shape.{next_number}
 use Rattle.store_laws.specs.MoveKeeping.{KeepAll}
 use Rattle.store_laws.specs.MovedLaws.{numbers_after}
 use Rattle.service_moves.specs.Doing.{Step, DoSteps}
-use Rattle.service_moves.specs.Plans.{AreMoves}
+use Rattle.service_moves.specs.Plans.{states_at, AreMoves}
 use Rattle.service_moves.specs.Stores.{states_of}
 use Rattle.service_moves.proofs.Doing.{steps_none}
+use Rattle.service_moves.proofs.Whole.{moves_none}
 use Rattle.store_laws.specs.KeptMoves.{Moves, after_move}
 use Rattle.service_stores.proofs.Histories.{along, same_call, same_move}
 use Rattle.service_stores.proofs.KeepStores.{same_stores, stores_more}
@@ -61,7 +63,7 @@ returns-clause-kept g c told next host k server name to fileset e formed keep mo
     (after_move tree host server name to fileset) states)) (sym e) (all moves (sym number))
 
 pub returns-in_err-copy-clause-does : goal.returns-in_err-copy-clause-does
-returns-in_err-copy-clause-does g c told next host k server name to fileset e formed keep moves number = ([], tt, steps_none g.S.Store.view _ c.args.stores.now)
+returns-in_err-copy-clause-does g c told next host k server name to fileset e formed keep moves number = ([], moves_none (λ act. act ≡ Leave fileset.id to) (states_at g.S.Store.view c.args.stores.now), steps_none g.S.Store.view _ c.args.stores.now)
 
 pub returns-clause-does : goal.returns-clause-does
 returns-clause-does g c told next host k server name to fileset e formed keep moves number =
@@ -70,7 +72,7 @@ returns-clause-does g c told next host k server name to fileset e formed keep mo
     let names = same_call c.in-MoveFileset.server server c.in-MoveFileset.fileset name c.in-MoveFileset.to to
     (sym c.in-MoveFileset.is ∙ parts.2) in
     let P : HostId → ℕ → ServerId → List ℕ → ServerId → Type 0 =
-    λ h n s m t. Moves tree h s m t fileset → next h ≡ n → (steps : List Step) × AreMoves steps × DoSteps g.S.Store.view c.keep_move.result steps c.args.stores.now c.keep_move.new.stores in
+    λ h n s m t. Moves tree h s m t fileset → next h ≡ n → (steps : List Step) × AreMoves (λ act. act ≡ Leave fileset.id t) (states_at g.S.Store.view c.args.stores.now) steps × DoSteps g.S.Store.view c.keep_move.result steps c.args.stores.now c.keep_move.new.stores in
     along P c.in-Call.host host c.in-Call.k k c.in-MoveFileset.server server c.in_ok-copy.field-0 name
     c.in-MoveFileset.to to parts.0 parts.1 names.0 (c.in_ok-copy.ensures ∙ names.1) names.2
     (c.keep_move.ensures.does told next fileset formed keep) moves (sym number)

@@ -1,12 +1,11 @@
 use Rattle.std.proofs.Common.{rules, ◌≡◌, ◌≤◌, [], None, sym, subst, length, arith}
 use Rattle.std.specs.Prelude.{Ok, Err}
-use Rattle.std.proofs.lemmas.Result.{err_from_is_err_and}
 use Rattle.store_laws.specs.Acts.{acts_of}
 use Rattle.store_memory.specs.Views.{DoesActs}
-use Rattle.store_memory.proofs.Doing.{does_none, does_stop}
+use Rattle.store_memory.proofs.Doing.{does_none}
 use Rattle.store_acts.specs.Sound.{AllFit}
 use Rattle.service_moves.specs.Again.{AreNew}
-use Rattle.service_moves.proofs.Twice.{does_err, does_ok}
+use Rattle.service_moves.proofs.Twice.{does_err, does_ok, never_ok, stops_failed}
 use Rattle.service_stores.proofs.New.{may_do_all}
 use Rattle.service_stores.proofs.Sound.{acts_few}
 use Rattle.service_stores.proofs.Worn.{batches_few}
@@ -28,8 +27,8 @@ pub returns-in_err-acts-clause-does : goal.returns-in_err-acts-clause-does
 returns-in_err-acts-clause-does g c = λ told next happens keeps behind.
     (let store = g.S.Store.view c.args.store.now in
     let acts = acts_of c.args.server c.args.tree.now None c.args.history.now in
-    let p = err_from_is_err_and c.from_residual.result c.from_residual.ensures.1 in
-    rw (p.1) (does_stop {T = Unit {0}} (Err p.0) p.0 [] acts store store (does_none (Err p.0) store)))
+    let result = c.from_residual.result in
+    stops_failed result result [] acts store store (never_ok result _ c.from_residual.ensures.1) (does_none result store))
 
 pub returns-in-Ok-clause-does : goal.returns-in-Ok-clause-does
 returns-in-Ok-clause-does g c = λ told next happens keeps behind.

@@ -6,8 +6,8 @@ use Rattle.service_stores.proofs.Parts.{did, next_store, parts_kept, parts_same,
 use Rattle.store_laws.specs.Acts.{acts_of}
 use Rattle.service_moves.specs.Doing.{DoSteps}
 use Rattle.service_moves.proofs.Doing.{steps_none}
-use Rattle.service_moves.proofs.Twice.{made_of}
-use Rattle.service_stores.proofs.Keeping.{part_more, part_stops, parts_done}
+use Rattle.service_moves.proofs.Twice.{made_of, never_ok}
+use Rattle.service_stores.proofs.KeptSteps.{part_more, part_stops, parts_done}
 use Rattle.service_stores.proofs.Planned.{each_none, piece_acts}
 use Rattle.service_stores.proofs.KeepStores.{one_passed}
 use Rattle.service_stores.proofs.keeping.keep_quiet.Goals as goal
@@ -69,7 +69,7 @@ loop-k-preserved g c =
                 (c.in_ok-keep_part.ensures.does told next happens keeps behind);
           });
       does = λ told next happens keep.
-          part_more g.S.Store.view _ (Ok tt) (did g.S.Store.tells g.S.Store.view c.args.tree.now c.args.history.now) next c.args.tree.now c.args.history.now c.loop-k.k c.args.stores.now stores store c.keep_part.new.store keep
+          part_more g.S.Store.view (Ok tt) (did g.S.Store.tells g.S.Store.view c.args.tree.now c.args.history.now) next c.args.tree.now c.args.history.now c.loop-k.k c.args.stores.now stores store c.keep_part.new.store keep
           c.loop-k.invariant.passed at (c.loop-k.invariant.does told next happens keep) (c.in_ok-keep_part.ensures.does told next happens);
     }
 
@@ -96,12 +96,10 @@ returns-in_err-keep_part-clause-does g c told next happens keep =
     let lt : c.loop-k.k < length stores = grind arith in
     let store = get_or stores c.loop-k.k c.index-stores-k.result in
     let at : slice_get stores c.loop-k.k ≡ Some store = slice_get-get_or stores c.loop-k.k c.index-stores-k.result lt in
-    let p = err_from_is_err_and c.from_residual.result c.from_residual.ensures.1 in
     let low : c.loop-k.k + 1 ≤ length c.args.stores.now = grind arith in
-    rw (p.1)
-    (part_stops g.S.Store.view p.0 c.args.tree.now c.args.history.now c.loop-k.k (length c.args.stores.now) c.args.stores.now _ low c.requires.count
-    (part_more g.S.Store.view _ _ (did g.S.Store.tells g.S.Store.view c.args.tree.now c.args.history.now) next c.args.tree.now c.args.history.now c.loop-k.k c.args.stores.now stores store c.keep_part.new.store keep
-    c.loop-k.invariant.passed at (c.loop-k.invariant.does told next happens keep) (c.in_err-keep_part.ensures.does told next happens)))
+    part_stops g.S.Store.view _ c.from_residual.result c.args.tree.now c.args.history.now c.loop-k.k (length c.args.stores.now) c.args.stores.now _ (never_ok c.from_residual.result _ c.from_residual.ensures.1) low c.requires.count
+    (part_more g.S.Store.view _ (did g.S.Store.tells g.S.Store.view c.args.tree.now c.args.history.now) next c.args.tree.now c.args.history.now c.loop-k.k c.args.stores.now stores store c.keep_part.new.store keep
+    c.loop-k.invariant.passed at (c.loop-k.invariant.does told next happens keep) (c.in_err-keep_part.ensures.does told next happens))
 
 pub loop-k-init-clause-does : goal.loop-k-init-clause-does
 loop-k-init-clause-does g c told next happens keep =

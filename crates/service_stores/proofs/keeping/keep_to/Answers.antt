@@ -10,7 +10,8 @@ use Rattle.store_laws.specs.MovedLaws.{numbers_after}
 use Rattle.service_moves.specs.Stores.{AreStores, states_of}
 use Rattle.service_stores.proofs.Goes.{kept_to, legal_take, tree_to, two_there}
 use Rattle.service_stores.proofs.Histories.{moves_at, roster_after}
-use Rattle.service_stores.proofs.Keeping.{less_kept, to_does}
+use Rattle.service_moves.proofs.Twice.{never_ok}
+use Rattle.service_stores.proofs.KeptSteps.{less_kept, to_does}
 use Rattle.service_stores.proofs.KeepStores.{same_count, same_then, stopped_then, stores_more}
 use Rattle.service_stores.proofs.Walk.{given_at}
 use Rattle.service_stores.proofs.keeping.keep_to.Goals as goal
@@ -140,8 +141,8 @@ returns-in_err-keep_quiet-clause-does g c told next may keep =
     let history = c.args.history.now in
     let place = c.args.place in
     let m = moves_at next tree history place may c.requires.first in
-    let p = err_from_is_err_and c.from_residual.result c.from_residual.ensures.1 in
-    rw (p.1) (less_kept g.S.Store.view _ p.0 tree history place (place + 2) c.args.stores.now c.keep_quiet.new.stores (omega arith) (c.in_err-keep_quiet.ensures.does told next m.splits.happens keep))
+    less_kept g.S.Store.view _ c.from_residual.result tree history place (place + 2) c.args.stores.now c.keep_quiet.new.stores (never_ok c.from_residual.result _ c.from_residual.ensures.1) (omega arith)
+    (c.in_err-keep_quiet.ensures.does told next m.splits.happens keep)
 
 pub returns-in_err-follow_all-clause-does : goal.returns-in_err-follow_all-clause-does
 returns-in_err-follow_all-clause-does g c told next may keep =
@@ -149,8 +150,8 @@ returns-in_err-follow_all-clause-does g c told next may keep =
     let history = c.args.history.now in
     let place = c.args.place in
     let m = moves_at next tree history place may c.requires.first in
-    let p = err_from_is_err_and c.from_residual-in_err-follow_all.result c.from_residual-in_err-follow_all.ensures.1 in
-    rw (p.1) (less_kept g.S.Store.view _ p.0 tree history place (place + 2) c.args.stores.now c.keep_quiet.new.stores (omega arith) (c.in_ok-keep_quiet.ensures.does told next m.splits.happens keep))
+    less_kept g.S.Store.view _ c.from_residual-in_err-follow_all.result tree history place (place + 2) c.args.stores.now c.keep_quiet.new.stores
+    (never_ok c.from_residual-in_err-follow_all.result _ c.from_residual-in_err-follow_all.ensures.1) (omega arith) (c.in_ok-keep_quiet.ensures.does told next m.splits.happens keep)
 
 pub returns-in_err-keep_moved-clause-does : goal.returns-in_err-keep_moved-clause-does
 returns-in_err-keep_moved-clause-does g c told next may keep =
@@ -162,12 +163,12 @@ returns-in_err-keep_moved-clause-does g c told next may keep =
     let two = two_there next tree history place may c.requires.first in
     let lt : place < length history = omega (arith, two) in
     let there : slice_get history place ≡ Some entry = slice_get_read history (length history) place entry refl lt c.index-history-place.is in
-    let p = err_from_is_err_and c.from_residual-in_err-keep_moved.result c.from_residual-in_err-keep_moved.ensures.1 in
-    let d = to_does view _ (Err c.in_err-keep_moved.field-0.0) next tree c.follow_all.new.tree history place entry c.args.stores.now c.keep_quiet.new.stores c.keep_moved.new.stores may c.requires.first there
+    less_kept view _ c.from_residual-in_err-keep_moved.result tree history (place + 2) (place + 2) c.args.stores.now c.keep_moved.new.stores
+    (never_ok c.from_residual-in_err-keep_moved.result _ c.from_residual-in_err-keep_moved.ensures.1) (omega arith)
+    (to_does view _ (Err c.in_err-keep_moved.field-0.0) next tree c.follow_all.new.tree history place entry c.args.stores.now c.keep_quiet.new.stores c.keep_moved.new.stores may c.requires.first there
     c.in_ok-follow_all.ensures (λ happens kept. c.in_ok-keep_quiet.ensures.kept told next happens kept)
     (λ host k server name to fileset e formed kept moves number. c.in_err-keep_moved.ensures.does told (numbers_after next (take place history)) host k server name to fileset e formed kept moves number)
-    (λ happens. c.in_ok-keep_quiet.ensures.does told next happens keep) keep in
-    rw (p.1) (less_kept view _ p.0 tree history (place + 2) (place + 2) c.args.stores.now c.keep_moved.new.stores (omega arith) d)
+    (λ happens. c.in_ok-keep_quiet.ensures.does told next happens keep) keep)
 
 pub returns-in_err-follow_all-2-clause-does : goal.returns-in_err-follow_all-2-clause-does
 returns-in_err-follow_all-2-clause-does g c told next may keep =
@@ -179,12 +180,12 @@ returns-in_err-follow_all-2-clause-does g c told next may keep =
     let two = two_there next tree history place may c.requires.first in
     let lt : place < length history = omega (arith, two) in
     let there : slice_get history place ≡ Some entry = slice_get_read history (length history) place entry refl lt c.index-history-place.is in
-    let p = err_from_is_err_and c.from_residual-in_err-follow_all-2.result c.from_residual-in_err-follow_all-2.ensures.1 in
-    let d = to_does view _ (Ok c.in_ok-keep_moved.field-0) next tree c.follow_all.new.tree history place entry c.args.stores.now c.keep_quiet.new.stores c.keep_moved.new.stores may c.requires.first there
+    less_kept view _ c.from_residual-in_err-follow_all-2.result tree history (place + 2) (place + 2) c.args.stores.now c.keep_moved.new.stores
+    (never_ok c.from_residual-in_err-follow_all-2.result _ c.from_residual-in_err-follow_all-2.ensures.1) (omega arith)
+    (to_does view _ (Ok c.in_ok-keep_moved.field-0) next tree c.follow_all.new.tree history place entry c.args.stores.now c.keep_quiet.new.stores c.keep_moved.new.stores may c.requires.first there
     c.in_ok-follow_all.ensures (λ happens kept. c.in_ok-keep_quiet.ensures.kept told next happens kept)
     (λ host k server name to fileset e formed kept moves number. c.in_ok-keep_moved.ensures.does told (numbers_after next (take place history)) host k server name to fileset e formed kept moves number)
-    (λ happens. c.in_ok-keep_quiet.ensures.does told next happens keep) keep in
-    rw (p.1) (less_kept view _ p.0 tree history (place + 2) (place + 2) c.args.stores.now c.keep_moved.new.stores (omega arith) d)
+    (λ happens. c.in_ok-keep_quiet.ensures.does told next happens keep) keep)
 
 pub returns-clause-does : goal.returns-clause-does
 returns-clause-does g c told next may keep =

@@ -4,7 +4,11 @@ use Rattle.store_records.specs.Stored.{IsStorable}
 use Rattle.message_types.specs.Soundness.{Each}
 use Rattle.service_moves.specs.Batches.{batch_wear}
 use Rattle.service_moves.specs.Stopping.{IsStopped}
-use Rattle.service_moves.proofs.Doing.{steps_nothing, steps_then}
+use Rattle.service_moves.specs.Plans.{states_at}
+use Rattle.service_moves.proofs.Doing.{steps_nothing}
+use Rattle.service_moves.proofs.Whole.{moves_none}
+use Rattle.service_stores.specs.Plans.{IsBeginning}
+use Rattle.service_stores.proofs.Doing.{begin_then}
 use Rattle.service_stores.proofs.Lists.{err_map}
 use Rattle.service_stores.proofs.Starts.{stopped_told}
 use Rattle.service_stores.proofs.Stores.{ready_of, same_self, same_then, stores_then, stopped_later}
@@ -56,11 +60,12 @@ returns-clause-stopped g c =
 
 pub returns-in_err-all-clause-does : goal.returns-in_err-all-clause-does
 returns-in_err-all-clause-does g c t =
-    ([], tt, steps_nothing g.S.Store.view _ _ c.args.stores.now c.all_told.new.stores (c.in_err-all.ensures.does t))
+    ([], moves_none IsBeginning (states_at g.S.Store.view c.args.stores.now), steps_nothing g.S.Store.view _ _ c.args.stores.now c.all_told.new.stores (c.in_err-all.ensures.does t))
 
 pub returns-clause-does : goal.returns-clause-does
 returns-clause-does g c t =
     let same : c.as_slice.result.now ≡ told_by g.S.Store.view c.args.disks c.args.stores.now = c.as_slice.ensures ∙ c.in_ok-all.ensures.told t in
     let states = c.all_told.ensures.states t in
-    let d = c.start_told.ensures.does t c.args.disks (same ∙ sym (told_same g.S.Store.view c.args.disks c.args.stores.now c.all_told.new.stores states)) (subst (Each IsStorable) (sym states) (c.requires.storable t)) in
-    (d.0, d.1, steps_then g.S.Store.view _ _ [] d.0 c.args.stores.now c.all_told.new.stores c.start_told.new.stores (c.in_ok-all.ensures.does t) d.2)
+    begin_then g.S.Store.view _ _ c.args.stores.now c.all_told.new.stores c.start_told.new.stores
+    ([], moves_none IsBeginning (states_at g.S.Store.view c.args.stores.now), c.in_ok-all.ensures.does t)
+    (c.start_told.ensures.does t c.args.disks (same ∙ sym (told_same g.S.Store.view c.args.disks c.args.stores.now c.all_told.new.stores states)) (subst (Each IsStorable) (sym states) (c.requires.storable t)))

@@ -9,8 +9,9 @@ use Rattle.service_moves.specs.Batches.{batch_wear}
 use Rattle.service_moves.specs.Stores.{states_of}
 use Rattle.service_moves.specs.Stopping.{IsStopped}
 use Rattle.service_moves.specs.declared.stopped.RunStopped.TheVariants.{Memory}
-use Rattle.std.proofs.lemmas.Result.{err_from_is_err_and}
-use Rattle.service_moves.proofs.Doing.{steps_err, steps_none, steps_ok}
+use Rattle.service_moves.proofs.Doing.{steps_ok}
+use Rattle.service_moves.proofs.Twice.{never_ok}
+use Rattle.service_stores.proofs.Doing.{begin_failed, begin_none}
 use Rattle.service_stores.proofs.Lists.{err_map}
 use Rattle.service_stores.proofs.Starts.{they_are_there, under_way, unfit_stops, memory_stops}
 use Rattle.service_stores.proofs.Stores.{ready_of, same_self, stopped_later}
@@ -55,10 +56,10 @@ returns-clause-kept g c t disks told storable =
     subst (λ tree. KeepAll (λ host. 1) tree (states_of g.S.Store.view c.begin.new.stores)) (sym c.in_ok-tree.ensures.tree) kept
 
 pub returns-in_err-settlings-clause-does : goal.returns-in_err-settlings-clause-does
-returns-in_err-settlings-clause-does g c t disks told storable = ([], tt, steps_none g.S.Store.view _ c.args.stores.now)
+returns-in_err-settlings-clause-does g c t disks told storable = begin_none g.S.Store.view _ c.args.stores.now
 
 pub returns-in_err-tree-clause-does : goal.returns-in_err-tree-clause-does
-returns-in_err-tree-clause-does g c t disks told storable = ([], tt, steps_none g.S.Store.view _ c.args.stores.now)
+returns-in_err-tree-clause-does g c t disks told storable = begin_none g.S.Store.view _ c.args.stores.now
 
 pub returns-in_err-begin-clause-does : goal.returns-in_err-begin-clause-does
 returns-in_err-begin-clause-does g c t disks told storable =
@@ -67,8 +68,7 @@ returns-in_err-begin-clause-does g c t disks told storable =
     under_way g.S.Store.view c.args.roster.now (2 * batch_wear) disks c.args.all.now c.args.stores.now c.requires.stores storable c.requires.told told c.in_ok-settlings.ensures.fits in
     let d = c.in_err-begin.ensures.does t storable (start_of c.args.roster.now c.args.all.now)
     (subst (λ those. KeepUnderWay (start_of c.args.roster.now c.args.all.now) (settled_stores 1 those (states_of g.S.Store.view c.args.stores.now))) (sym are) under) in
-    let p = err_from_is_err_and c.from_residual-in_err-begin.result c.from_residual-in_err-begin.ensures.1 in
-    rw (p.1) (d.0, d.1, steps_err g.S.Store.view _ p.0 d.0 c.args.stores.now c.begin.new.stores d.2)
+    begin_failed g.S.Store.view _ c.from_residual-in_err-begin.result c.args.stores.now c.begin.new.stores (never_ok c.from_residual-in_err-begin.result _ c.from_residual-in_err-begin.ensures.1) d
 
 pub returns-clause-does : goal.returns-clause-does
 returns-clause-does g c t disks told storable =
