@@ -1,10 +1,11 @@
 use Rattle.std.proofs.Common.{◌≡◌, ◌≤◌, ◌+◌, ◌*◌, [], ◌∷◌, take, inl, sym, subst, arith, rules}
-use Rattle.std.specs.Prelude.{Err}
+use Rattle.std.specs.Prelude.{Ok}
 use Rattle.store_acts.specs.declared.act.Act.TheVariants.{Left}
 use Rattle.service_moves.specs.Again.{IsRepeatable}
 use Rattle.service_moves.specs.Batches.{batch_wear}
 use Rattle.service_moves.specs.Steps.{StopsAt}
 use Rattle.store_laws.specs.Moves.{all_parts}
+use Rattle.store_memory.specs.Sound.{IsLeavingOf}
 use Rattle.store_memory.specs.Views.{DoesActs}
 use Rattle.store_memory.proofs.Doing.{does_none, does_then}
 use Rattle.store_state.specs.declared.state.Holding.{Holding}
@@ -25,6 +26,14 @@ loop-at-init g c = record {
   second = lasts_none (g.S.Store.view c.args.receiver.now) c.requires.may.second_mends;
 }
 
+pub send_part-requires-clause-leaving : goal.send_part-requires-clause-leaving
+send_part-requires-clause-leaving g c tells =
+    let start = g.S.Store.view c.args.sender.now in
+    let now = g.S.Store.view c.loop-at.sender in
+    let same : now.state ≡ start.state = made_of tt [] start now (c.loop-at.invariant.still tells) in
+    let low : c.loop-at.at ≤ c.args.ship.now.objects = (let t = c.loop-at-test.true in omega (arith, t)) in
+    subst (λ s. IsLeavingOf s c.args.ship.now.fileset c.loop-at.at) (sym same) (c.requires.leaving tells c.loop-at.at low)
+
 pub loop-at-preserved : goal.loop-at-preserved
 loop-at-preserved g c =
     let inv = c.loop-at.invariant in
@@ -33,7 +42,7 @@ loop-at-preserved g c =
     let low : at ≤ c.args.ship.now.objects = (let t = c.loop-at-test.true in omega (arith, t)) in
     let more : batch_wear * at + batch_wear ≤ batch_wear * (at + 1) = omega arith in
     record {
-      still = λ t. does_then _ _ [] [] (g.S.Store.view c.args.sender.now) (g.S.Store.view c.loop-at.sender) (g.S.Store.view c.send_part.new.sender) (inv.still t) (done.sender t);
+      still = λ t. does_then tt (Ok tt) [] [] (g.S.Store.view c.args.sender.now) (g.S.Store.view c.loop-at.sender) (g.S.Store.view c.send_part.new.sender) (inv.still t) (done.sender t);
       does = λ t holding m.
           part_done _ (g.S.Store.view c.args.sender.now).state (g.S.Store.view c.loop-at.sender).state (g.S.Store.view c.args.receiver.now) (g.S.Store.view c.loop-at.receiver)
           (g.S.Store.view c.send_part.new.receiver) holding c.args.ship.now c.args.mover.now at m low (made_of tt [] (g.S.Store.view c.args.sender.now) (g.S.Store.view c.loop-at.sender) (inv.still t)) (inv.does t holding m)
