@@ -252,7 +252,7 @@ module _ {D writes : Type 0} (tells : Type 0) (view : D → DiskView) (script : 
         by (Ok run) all are own = (
           all,
           subst (λ (p : Played). AreOfHistory p.start p.history (behind more gone.planned.begins) gone.planned.keeps) (sym own.0)
-          (history_in (behind few gone.planned.begins) (behind more gone.planned.begins) run.start run.history gone.planned.keeps (behind_in few more gone.planned.begins are_in) are),
+              (history_in (behind few gone.planned.begins) (behind more gone.planned.begins) run.start run.history gone.planned.keeps (behind_in few more gone.planned.begins are_in) are),
         )
         by (Err why) all are own = absurd own.1
 

@@ -63,7 +63,7 @@ part_more view result Goes next tree history k olds now store after keep p at so
     let acts = acts_of (record { 0 = k + 1 }) tree None history in
     let one = does (keep.keeps k (view store).state there) (keep.behind k (view store).state there) in
     let step : DoSteps view result (steps_of k (piece_acts tree history k)) now (set now k after) =
-        subst (λ (l : List Act). DoSteps view result (steps_of k l) now (set now k after)) (sym (piece_is tree history k)) (steps_one view result acts now k store after at one) in
+    subst (λ (l : List Act). DoSteps view result (steps_of k l) now (set now k after)) (sym (piece_is tree history k)) (steps_one view result acts now k store after at one) in
     subst (λ (l : List Step). DoSteps view result l olds (set now k after)) (sym (each_more (piece_acts tree history) k))
     (steps_then view tt result (each_steps (piece_acts tree history) k) (steps_of k (piece_acts tree history k)) olds now (set now k after) so_far step))
 
@@ -97,14 +97,14 @@ part_stops view result answer tree history k n olds news failed low size so_far 
       are = subst (λ (l : List Entry). AreOfHistory tree l (states_at view olds) (each_steps (piece_acts tree history) n)) (sym (take-length history)) (quiet_steps (states_at view olds) tree history n size);
       does = stopped answer failed;
     }
-    where
-      parts : (rest : List Step) × (each_steps (piece_acts tree history) n ≡ each_steps (piece_acts tree history) (k + 1) ++ rest)
-      parts = each_parts (piece_acts tree history) (k + 1) n low
+  where
+    parts : (rest : List Step) × (each_steps (piece_acts tree history) n ≡ each_steps (piece_acts tree history) (k + 1) ++ rest)
+    parts = each_parts (piece_acts tree history) (k + 1) n low
 
-      stopped : {U F : Type 0} (answer : Result U F) → OnOk answer ⊥ → DoSteps view answer (each_steps (piece_acts tree history) n) olds news
-      stopped (Ok value) failed = absurd failed
-      stopped {U = U} (Err error) failed =
-          subst (λ (l : List Step). DoSteps {T = U} view (Err error) l olds news) (sym parts.1) (steps_stop view {U = U} result error (each_steps (piece_acts tree history) (k + 1)) parts.0 olds news so_far)
+    stopped : {U F : Type 0} (answer : Result U F) → OnOk answer ⊥ → DoSteps view answer (each_steps (piece_acts tree history) n) olds news
+    stopped (Ok value) failed = absurd failed
+    stopped {U = U} (Err error) failed =
+        subst (λ (l : List Step). DoSteps {T = U} view (Err error) l olds news) (sym parts.1) (steps_stop view {U = U} result error (each_steps (piece_acts tree history) (k + 1)) parts.0 olds news so_far)
 
 -- all of them
 pub parts_done : {S : Type 0} (view : S → View) (tree : Tree) (history : List Entry) (n : ℕ) (olds news : List S) → n ≡ length tree.roster.capacity
@@ -205,7 +205,7 @@ kept_more view result start tree history from most olds now news steps is none a
     let part : take d.count (take most (drop from history)) ≡ take d.count (drop from history) = take_less d.count most (drop from history) (omega (arith, few, size)) in
     let more : AreOfHistory tree (take d.count (drop from history)) (states_at view now) d.steps = subst (λ (l : List Entry). AreOfHistory tree l (states_at view now) d.steps) part d.are in (
       subst (λ (l : List Entry). AreOfHistory start l (states_at view olds) (steps ++ d.steps)) (take_both from d.count history)
-      (history_then view tt olds now start (take from history) (take d.count (drop from history)) steps d.steps does tree is roster none are more),
+          (history_then view tt olds now start (take from history) (take d.count (drop from history)) steps d.steps does tree is roster none are more),
       steps_then view tt result steps d.steps olds now news does d.does,
     )
 
