@@ -1,6 +1,6 @@
 -- What a crash leaves of a disk, as it is seen of the store on it.
-use Rattle.std.proofs.Common.{◌≡◌, ℕ, List, [], inl, inr, ⊎_elim, sym, subst, ◌∙◌, ap, arith}
-use Rattle.std.specs.Prelude.{Option, Some, true}
+use Rattle.std.proofs.Common.{◌≡◌, ℕ, List, [], inl, inr, ⊎_elim, sym, subst, ◌∙◌, arith}
+use Rattle.std.specs.Prelude.{Option, true}
 use Rattle.base_types.specs.Image.{AreBytes}
 use Rattle.base_types.specs.View.{View as DiskView}
 use Rattle.base_outside.specs.Runs.{LeavesOnly}
@@ -33,8 +33,8 @@ module _ {D : Type 0} (tells : Type 0) (view : D → DiskView) (old new : Aggreg
   -- a batch
   pub batch_leaves : (wear : ℕ) (batch : List Act) → old.is_open ≡ true → KeepsLimits (state_in old) → Each (IsAct (state_in old).roster (state_in old).server) batch
       → LeavesOnly (IsLeftOfBatch wear (state_in old) batch) (view (disk_in old)) (view (disk_in new)) → Leaves (IsFirstOf (kept_state view old) batch) (aggregate_view tells view old) (aggregate_view tells view new)
-  batch_leaves wear batch open limits each run =
-      subst (λ (s : StoreState). Leaves (IsFirstOf s batch) (aggregate_view tells view old) (aggregate_view tells view new)) (sym (seen_open view old open))
+  batch_leaves wear batch opened limits each run =
+      subst (λ (s : StoreState). Leaves (IsFirstOf s batch) (aggregate_view tells view old) (aggregate_view tells view new)) (sym (seen_open view old opened))
       (seen_leaves (IsLeftOfBatch wear (state_in old) batch) (IsFirstOf (state_in old) batch) run
       (λ c bytes has.
       (let first = has bytes in

@@ -1,5 +1,5 @@
 -- Steps of stores, one after the other.
-use Rattle.std.proofs.Common.{◌≡◌, ◌≢◌, ◌≤◌, ◌<◌, ◌⊎◌, ◌+◌, ◌++◌, ◌∙◌, ℕ, zero, suc, List, [], ◌∷◌, length, map, take, set, inl, inr, refl, sym, subst, ap, arith, length-append}
+use Rattle.std.proofs.Common.{◌≡◌, ◌≢◌, ◌⊎◌, ◌+◌, ◌++◌, ◌∙◌, ℕ, zero, suc, List, [], ◌∷◌, length, take, set, inl, inr, refl, sym, subst, ap, arith, length-append}
 use Rattle.std.specs.Prelude.{Option, Bool, true, false, ◌==◌, if◌then◌else◌, slice_get, Some, Result, Ok, Err, OnOk}
 use Rattle.std.proofs.lemmas.Bool.{cond-true, cond-false, eq-eqb, ne_eqb}
 use Rattle.std.proofs.lemmas.List.{take-append-le}
@@ -10,7 +10,7 @@ use Rattle.store_acts.specs.declared.act.Act.{Act}
 use Rattle.store_memory.specs.Views.{View, Leaves, IsFirstOf, DoesActs}
 use Rattle.store_memory.proofs.Doing.{after_append, first_more, first_then, leaves_none, leaves_then, leaves_weaker}
 use Rattle.store_state.specs.declared.state.StoreState.{StoreState}
-use Rattle.service_moves.specs.Doing.{Step, acts_at, steps_of, AreAfter, DoSteps}
+use Rattle.service_moves.specs.Doing.{Step, acts_at, steps_of, DoSteps}
 use Rattle.service_moves.proofs.Stores.{either_place, is_there, map_length, on_ok_then, set_beside, set_length, set_there, there_within}
 
 -- the acts of a store among steps

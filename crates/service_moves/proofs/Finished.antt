@@ -293,18 +293,18 @@ one_does view stores new result from tree s0 s1 ship value keep was same left ne
     let steps = ship_steps ship.from ship.to ship.fileset may.holding ship.number (mover_again ship) in (
       steps,
       moves_whole (λ act. ⊥) (states_at view stores) steps
-      (record {
-        from = ship.from;
-        to = ship.to;
-        fileset = ship.fileset;
-        ship = ship.number;
-        mover = mover_again ship;
-        sender = start;
-        holding = may.holding;
-        there = ap (states_at view stores) from_place ∙ there;
-        held = may.send.held;
-        stay = may.send.carries.stay;
-        are = refl;
-      }),
+          (record {
+            from = ship.from;
+            to = ship.to;
+            fileset = ship.fileset;
+            ship = ship.number;
+            mover = mover_again ship;
+            sender = start;
+            holding = may.holding;
+            there = ap (states_at view stores) from_place ∙ there;
+            held = may.send.held;
+            stay = may.send.carries.stay;
+            are = refl;
+          }),
       steps_then view value result [] steps stores mid new (steps_one view {E = RunStopped} (Ok value) [] stores place s0 s1 was (done_none (Ok value) (view s0) (view s1) same left)) (send s1 b may.holding apart first second sends),
     )

@@ -10,8 +10,7 @@ use Rattle.tree_answers.specs.WellFormed.{IsWellFormed}
 use Rattle.tree_answers.specs.declared.tree.Tree.{Tree}
 use Rattle.store_acts.specs.Acts.{act_done}
 use Rattle.store_acts.specs.Sound.{Fits}
-use Rattle.store_acts.specs.declared.act.Act.{Act}
-use Rattle.store_acts.specs.declared.act.Act.TheVariants.{Leave, Left}
+use Rattle.store_acts.specs.declared.act.Act.TheVariants.{Leave}
 use Rattle.store_laws.specs.MoveKeeping.{KeepAll}
 use Rattle.store_laws.specs.KeptMoves.{Moves}
 use Rattle.store_laws.proofs.Goes.{moves_go_over}
@@ -111,7 +110,7 @@ kept_does view tree stores new result next request found fileset mover same is f
     let first : slice_get stores (found.server.0 - 1) ≡ Some s = subst (λ (f : Fileset). slice_get stores (f.server.0 - 1) ≡ Some s) (sym same) at in (
       move_steps found.server request.to found.id go.holding ((view s).state.ship + 1) mover,
       subst (λ (f : Fileset). AreMoves (λ act. act ≡ Leave fileset.id request.to) (states_at view stores) (move_steps f.server request.to f.id go.holding ((view s).state.ship + 1) mover)) (sym same)
-      (move_whole (λ act. act ≡ Leave fileset.id request.to) (states_at view stores) fileset.server request.to fileset.id mover (view s).state go.holding ((view s).state.ship + 1) refl
-      (map_there (λ store. (view store).state) stores (fileset.server.0 - 1) s at) may.held may.stay),
+          (move_whole (λ act. act ≡ Leave fileset.id request.to) (states_at view stores) fileset.server request.to fileset.id mover (view s).state go.holding ((view s).state.ship + 1) refl
+          (map_there (λ store. (view store).state) stores (fileset.server.0 - 1) s at) may.held may.stay),
       send s r go.holding first to might,
     )

@@ -1,5 +1,5 @@
 -- What two stores do between which a ship goes.
-use Rattle.std.proofs.Common.{◌≡◌, ◌≢◌, ◌≤◌, ◌+◌, ◌-◌, ◌++◌, ◌∙◌, ℕ, zero, suc, List, [], ◌∷◌, length, take, drop, set, inl, inr, refl, sym, subst, ap, arith}
+use Rattle.std.proofs.Common.{◌≡◌, ◌≢◌, ◌≤◌, ◌+◌, ◌-◌, ◌++◌, ◌∙◌, ℕ, zero, suc, List, [], ◌∷◌, take, drop, set, inl, inr, sym, subst, ap, arith}
 use Rattle.std.specs.Prelude.{slice_get, Some, Result, Ok, Err, OnOk}
 use Rattle.std.proofs.lemmas.List.{take-append-drop}
 use Rattle.tree_calls.specs.declared.ship.Mover.{Mover}
@@ -14,7 +14,7 @@ use Rattle.store_memory.proofs.Doing.{does_then, does_stop}
 use Rattle.store_state.specs.declared.state.Holding.{Holding}
 use Rattle.store_state.specs.declared.state.StoreState.{StoreState}
 use Rattle.service_moves.specs.Again.{IsRepeatable}
-use Rattle.service_moves.specs.Doing.{Step, steps_of, DoSteps}
+use Rattle.service_moves.specs.Doing.{steps_of, DoSteps}
 use Rattle.service_moves.specs.Plans.{ship_steps}
 use Rattle.service_moves.specs.Ships.{part_act, two_set, HaveSent, IsSent, MaySend}
 use Rattle.service_moves.specs.declared.ships.Ship.{Ship}

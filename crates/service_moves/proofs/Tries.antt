@@ -1,6 +1,6 @@
 -- What a batch leaves that is tried twice, and what batches leave one after the other.
 use Rattle.std.proofs.Common.{◌≡◌, ◌≤◌, ◌⊎◌, ℕ, zero, suc, ◌+◌, ◌-◌, List, [], ◌∷◌, length, take, drop, ◌++◌, max, min, inl, inr, refl, sym, subst, ◌∙◌, ap, arith}
-use Rattle.std.proofs.lemmas.List.{length-take, length-drop, take_min, take-append-drop}
+use Rattle.std.proofs.lemmas.List.{take_min, take-append-drop}
 use Rattle.message_types.specs.Soundness.{Each}
 use Rattle.store_acts.specs.Acts.{act_done, booted, state_after}
 use Rattle.store_acts.specs.Sound.{AllFit, Fits}
@@ -9,7 +9,7 @@ use Rattle.store_acts.specs.declared.act.Act.TheVariants.{Boot, Epoch, Host, Do,
 use Rattle.store_state.specs.declared.state.StoreState.{StoreState}
 use Rattle.service_moves.specs.Again.{IsNumbered, AreNew, IsAgain, IsRepeatable}
 use Rattle.service_moves.proofs.Repeats.{fits_again}
-use Rattle.service_moves.proofs.Again.{again_changes_nothing, again_adds_nothing, new_take, new_drop, take_within}
+use Rattle.service_moves.proofs.Again.{again_changes_nothing, again_adds_nothing, new_take, new_drop}
 
 -- whether an act under a number fits hangs on no record
 fits_anywhere : (act : Act) (s t : StoreState) → IsNumbered act → Fits s act → Fits t act

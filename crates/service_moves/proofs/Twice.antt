@@ -1,5 +1,5 @@
 -- What a store does that is given a batch, opened anew where that failed, and given the batch once more.
-use Rattle.std.proofs.Common.{◌≡◌, ◌≤◌, ◌+◌, ◌++◌, ◌∙◌, ℕ, zero, suc, List, [], ◌∷◌, length, take, max, refl, sym, subst, ap, arith}
+use Rattle.std.proofs.Common.{◌≡◌, ◌≤◌, ◌+◌, ◌++◌, ◌∙◌, ℕ, zero, suc, List, [], length, take, max, refl, sym, subst, ap, arith}
 use Rattle.std.specs.Prelude.{Option, Some, Result, Ok, Err, OnOk, IsErrAnd}
 use Rattle.std.proofs.Math.Seq.{take-length}
 use Rattle.base_types.specs.declared.limits.TheConstants.{BATCH_ACTS_MAX}

@@ -1,6 +1,6 @@
 -- Steps in which filesets go over whole.
-use Rattle.std.proofs.Common.{◌≡◌, ◌⊎◌, ◌<◌, ◌+◌, ◌-◌, ◌++◌, ◌∙◌, ℕ, List, [], ◌∷◌, length, take, inl, inr, ⊎_elim, refl, sym, subst, ap, append_assoc, arith}
-use Rattle.std.specs.Prelude.{slice_get, Option, Some, None, Result, Ok}
+use Rattle.std.proofs.Common.{◌≡◌, ◌+◌, ◌-◌, ◌++◌, ◌∙◌, ℕ, List, [], ◌∷◌, take, inl, inr, ⊎_elim, refl, sym, subst, ap, append_assoc, arith}
+use Rattle.std.specs.Prelude.{Option, Some, None, Ok}
 use Rattle.std.specs.List.{flat_map}
 use Rattle.std.specs.Option.{option_map}
 use Rattle.std.proofs.lemmas.List.{append-nil}
@@ -96,7 +96,7 @@ module _ (kind : Act → Type 0) where
   pieces_then states (piece ∷ front) more first second = (
     first.0,
     pieces_then (behind states piece) front more first.1
-    (pieces_in (behind states (piece ++ flat_map (λ p. p) front)) (behind (behind states piece) (flat_map (λ p. p) front)) more (both_behind states piece (flat_map (λ p. p) front)) second),
+        (pieces_in (behind states (piece ++ flat_map (λ p. p) front)) (behind (behind states piece) (flat_map (λ p. p) front)) more (both_behind states piece (flat_map (λ p. p) front)) second),
   )
 
   joined_append : (front more : List (List Step)) → flat_map (λ piece. piece) (front ++ more) ≡ flat_map (λ piece. piece) front ++ flat_map (λ piece. piece) more
@@ -147,7 +147,7 @@ module _ (kind : Act → Type 0) where
     ship_has from to fileset holding ship mover = (
       has.of_part from ship holding.fileset.id (holding.fileset.moves + 1) 0 _,
       each_append (λ (step : Step). P step.act) (steps_of (to.0 - 1) (parts_from holding from ship mover 1 holding.fileset.anodes)) (steps_of (from.0 - 1) (Left fileset ∷ []))
-      (parts_have (to.0 - 1) holding from ship mover 1 holding.fileset.anodes) (has.of_left fileset, tt),
+          (parts_have (to.0 - 1) holding from ship mover 1 holding.fileset.anodes) (has.of_left fileset, tt),
     )
 
     pieces_have : (states : ℕ → Option StoreState) (pieces : List (List Step)) → ArePieces kind states pieces → Each (λ (step : Step). P step.act) (flat_map (λ piece. piece) pieces)

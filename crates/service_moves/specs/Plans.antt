@@ -1,19 +1,5 @@
 -- Steps of stores in which filesets move.
-use Rattle.std.specs.Prelude.{
-  ◌≡◌,
-  ◌⊎◌,
-  ⊤,
-  ◌+◌,
-  ◌-◌,
-  ℕ,
-  List,
-  [],
-  ◌∷◌,
-  ◌++◌,
-  slice_get,
-  Option,
-  Some,
-}
+use Rattle.std.specs.Prelude.{◌≡◌, ◌⊎◌, ⊤, ◌-◌, ℕ, List, [], ◌∷◌, ◌++◌, slice_get, Option, Some}
 use Rattle.std.specs.List.{flat_map}
 use Rattle.std.specs.Option.{option_map}
 use Rattle.base_types.specs.declared.ids.FilesetId.{FilesetId}

@@ -1,6 +1,5 @@
-use Rattle.std.proofs.Common.{◌≡◌, ◌+◌, ◌*◌, ◌++◌, ◌∙◌, length, take, drop, refl, sym, subst, ap, arith}
+use Rattle.std.proofs.Common.{◌+◌, ◌*◌, ◌++◌, ◌∙◌, take, drop, refl, subst, arith}
 use Rattle.std.specs.Prelude.{Ok}
-use Rattle.base_types.specs.declared.limits.TheConstants.{BATCH_ACTS_MAX}
 use Rattle.store_memory.specs.Views.{DoesActs}
 use Rattle.store_memory.specs.declared.store.StoreFault.{StoreFault}
 use Rattle.store_memory.proofs.Doing.{does_none, does_then}

@@ -123,9 +123,12 @@ returns-in-Err-clause-does g c tells tree keep =
     let d = c.index-stores-place.result in
     let stores = c.args.stores.now in
     let s0 = get_or stores (c.args.from.0 - 1) d in
-    let s1 = c.next_ship.new.store in ([], moves_none (λ act. ⊥) (states_at g.S.Store.view c.args.stores.now),
-    steps_one g.S.Store.view (Err c.in-Err.stopped) [] stores (c.args.from.0 - 1) s0 s1 (there_at m.roster stores c.args.from m.count m.is_from d)
-    (done_none (Err c.in-Err.stopped) (g.S.Store.view s0) (g.S.Store.view s1) (c.in-Err.ensures.state tells) (c.in-Err.ensures.leaves tells)))
+    let s1 = c.next_ship.new.store in (
+      [],
+      moves_none (λ act. ⊥) (states_at g.S.Store.view c.args.stores.now),
+      steps_one g.S.Store.view (Err c.in-Err.stopped) [] stores (c.args.from.0 - 1) s0 s1 (there_at m.roster stores c.args.from m.count m.is_from d)
+          (done_none (Err c.in-Err.stopped) (g.S.Store.view s0) (g.S.Store.view s1) (c.in-Err.ensures.state tells) (c.in-Err.ensures.leaves tells)),
+    )
 
 pub returns-in-None-clause-does : goal.returns-in-None-clause-does
 returns-in-None-clause-does g c tells tree keep =
@@ -133,9 +136,12 @@ returns-in-None-clause-does g c tells tree keep =
     let d = c.index-stores-place.result in
     let stores = c.args.stores.now in
     let s0 = get_or stores (c.args.from.0 - 1) d in
-    let s1 = c.next_ship.new.store in ([], moves_none (λ act. ⊥) (states_at g.S.Store.view c.args.stores.now),
-    steps_one g.S.Store.view (Ok tt) [] stores (c.args.from.0 - 1) s0 s1 (there_at m.roster stores c.args.from m.count m.is_from d)
-    (done_none (Ok tt) (g.S.Store.view s0) (g.S.Store.view s1) (c.in-Ok.ensures.state tells) (c.in-Ok.ensures.leaves tells)))
+    let s1 = c.next_ship.new.store in (
+      [],
+      moves_none (λ act. ⊥) (states_at g.S.Store.view c.args.stores.now),
+      steps_one g.S.Store.view (Ok tt) [] stores (c.args.from.0 - 1) s0 s1 (there_at m.roster stores c.args.from m.count m.is_from d)
+          (done_none (Ok tt) (g.S.Store.view s0) (g.S.Store.view s1) (c.in-Ok.ensures.state tells) (c.in-Ok.ensures.leaves tells)),
+    )
 
 pub returns-in-Some-clause-does : goal.returns-in-Some-clause-does
 returns-in-Some-clause-does g c tells tree keep =

@@ -91,13 +91,13 @@ returns g c =
     let now = g.S.Store.view c.loop-at.sender in
     let end = g.S.Store.view c.do_act.new.store in
     let sent = λ (t : g.S.Store.tells) (holding : Holding) (m : MaySend start.state (g.S.Store.view c.args.receiver.now).state holding ship c.args.mover.now).
-        (let parts = all_parts holding ship.from ship.number c.args.mover.now in
-        let so_far = inv.still t in
-        let same : now.state ≡ start.state = made_of tt [] start now so_far in
-        let left : DoesActs c.do_act.result (Left ship.fileset ∷ []) now end =
-            done.does t tt (subst (λ s. IsRepeatable s (Left ship.fileset)) (sym same) (left_again start.state ship.fileset m.storable)) in
-        all_sent c.do_act.result parts (take at parts) (Left ship.fileset) start now end (g.S.Store.view c.args.receiver.now) (g.S.Store.view c.loop-at.receiver)
-        (all_taken start.state (g.S.Store.view c.args.receiver.now).state holding ship c.args.mover.now at m count) (inv.does t holding m) so_far left) in
+    (let parts = all_parts holding ship.from ship.number c.args.mover.now in
+    let so_far = inv.still t in
+    let same : now.state ≡ start.state = made_of tt [] start now so_far in
+    let left : DoesActs c.do_act.result (Left ship.fileset ∷ []) now end =
+    done.does t tt (subst (λ s. IsRepeatable s (Left ship.fileset)) (sym same) (left_again start.state ship.fileset m.storable)) in
+    all_sent c.do_act.result parts (take at parts) (Left ship.fileset) start now end (g.S.Store.view c.args.receiver.now) (g.S.Store.view c.loop-at.receiver)
+    (all_taken start.state (g.S.Store.view c.args.receiver.now).state holding ship c.args.mover.now at m count) (inv.does t holding m) so_far left) in
     record {
       states = λ t holding m. has_sent c.do_act.result (all_parts holding ship.from ship.number c.args.mover.now) (Left ship.fileset) start (g.S.Store.view c.args.receiver.now) end (g.S.Store.view c.loop-at.receiver) (sent t holding m);
       does = λ t holding m. sent t holding m;

@@ -1,5 +1,4 @@
-use Rattle.std.proofs.Common.{◌≡◌, ◌≤◌, [], ◌∷◌, length, take, ℕ, ap, sym, subst, ◌∙◌, arith}
-use Rattle.std.specs.Prelude.{Some}
+use Rattle.std.proofs.Common.{◌≡◌, [], ◌∷◌, take, ap, sym, subst, ◌∙◌, arith}
 use Rattle.store_acts.specs.Acts.{state_after}
 use Rattle.store_acts.specs.declared.act.Act.TheVariants.{Boot}
 use Rattle.store_memory.specs.Views.{Leaves, IsFirstOf}
