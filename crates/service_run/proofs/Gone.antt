@@ -66,9 +66,9 @@ ran_in : (few more : ℕ → Option StoreState) (steps : List Step) (result : Re
 ran_in few more steps (Ok run) are so = history_in few more run.start run.history steps are so
 ran_in few more steps (Err why) are so = tt
 
-pub never_so : {T E : Type 0} {P : T → Type 0} (result : Result T E) → OnOk result ⊥ → IfOk result P
-never_so (Ok value) failed = absurd failed
-never_so (Err error) failed = tt
+pub never_so : {T E : Type 0} (P : T → Type 0) (result : Result T E) → OnOk result ⊥ → IfOk result P
+never_so P (Ok value) failed = absurd failed
+never_so P (Err error) failed = tt
 
 module _ {S : Type 0} (view : S → View) (script : Script) (disks : ℕ) where
   -- a run that stopped while it began
@@ -78,7 +78,7 @@ module _ {S : Type 0} (view : S → View) (script : Script) (disks : ℕ) where
     steps = d.0;
     planned = record { begins = d.0; keeps = []; are = sym (append-nil d.0); beginning = d.1; keeping = inl refl };
     does = steps_failed view result answer d.0 old new failed d.2;
-    ran = never_so answer failed;
+    ran = never_so _ answer failed;
   }
 
   -- or before

@@ -87,7 +87,7 @@ module _ {S : Type 0} (view : S → View) where
   module _ (tells : Type 0) (script : Script) (disks : ℕ) where
     pub run_stopped : (olds news : List S) (answer : Result Played RunStopped) → OnOk answer ⊥ → AreSame view olds news → IfErr answer (IsStopped tells view (told_by view disks olds) olds news) → (tells → HaveGone view script disks answer olds news)
         → IsRunOf tells view script disks answer olds news
-    run_stopped olds news answer failed same is goes = record { same = same; ran = never_so answer failed; stopped = is; goes = goes }
+    run_stopped olds news answer failed same is goes = record { same = same; ran = never_so _ answer failed; stopped = is; goes = goes }
 
     pub run_starved : (olds news : List S) (answer : Result Played RunStopped) → OnOk answer ⊥ → AreSame view olds news → IfErr answer (λ why. why ≡ Memory) → (tells → HaveGone view script disks answer olds news)
         → IsRunOf tells view script disks answer olds news
