@@ -197,6 +197,14 @@ module _ (past : List Doing) (server : ServerId) (h : HostId) (tokens : List Tok
         | inr k ↦ absurd (let l = earlier t k in let q : t.id.epoch ≡ epoch past = e in omega (arith, l, q))
       ];
       none_reserved = λ t r. elim r [ inl k ↦ (let q = k.1 in cc) | inr k ↦ s.none_reserved t k.0 ];
+      one = λ t u k i e g q. elim i [
+        | inl p ↦ absurd (not_issued t k p)
+        | inr p ↦ elim g [
+          | inl n ↦ absurd (let l = earlier u (newly u n) in let r : t.id.epoch ≡ epoch past = e in
+              let o : u.id.epoch ≡ t.id.epoch = ap (λ (i : TokenId). i.epoch) q in omega (arith, l, r, o))
+          | inr o ↦ s.one t u k p e o.0 q
+        ]
+      ];
     }
 
     was_revoked : (t : Token) → HasRevoked (a ∷ past) t → HasRevoked past t
@@ -293,6 +301,7 @@ module _ (past : List Doing) (server : ServerId) (h : HostId) (tokens : List Tok
     wrote = λ v is. let p = s.wrote v is in (inr p.0, p.1, p.2);
     wrote_all = λ v t. s.wrote_all v (wrote_back v t);
     reply = s.reply;
+    brings = s.brings;
     home = s.home;
   }
 

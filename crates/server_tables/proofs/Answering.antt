@@ -1,7 +1,7 @@
 -- A Change that waits is answered without being written down: its lock or open is granted, it begins anew, or the
 -- fileset that it enters is told.
 use Rattle.std.proofs.Common.{List, Option, Some, [], ap, arith, eq-eqb, inl, inr, map, not, refl, subst}
-use Rattle.std.proofs.Common.{sym, true, ℕ, ◌&&◌, ◌+◌, ◌==◌, ◌∙◌, ◌∷◌, ◌≡◌, ◌≤◌, ◌⊎◌}
+use Rattle.std.proofs.Common.{suc, sym, true, zero, ℕ, ◌<◌, ◌&&◌, ◌+◌, ◌==◌, ◌∙◌, ◌∷◌, ◌≡◌, ◌≤◌, ◌⊎◌}
 use Rattle.std.proofs.lemmas.Bool.{and_from, cases_Bool, eqb-true, false≢true}
 use Rattle.base_types.specs.declared.ids.Fid.{Fid}
 use Rattle.base_types.specs.declared.ids.FilesetId.{FilesetId}
@@ -20,6 +20,7 @@ use Rattle.message_types.specs.declared.message.Body.TheVariants.{Change, Done}
 use Rattle.message_types.specs.declared.telling.Bring.{Bring}
 use Rattle.message_types.specs.declared.telling.Done.{Done as DoneOf}
 use Rattle.run_rules.specs.Doings.{BringsTokens, Doing, GivesUp, Granted, Here, IsDurable, IsLive, NoGrace, SentTo}
+use Rattle.message_types.specs.declared.telling.DoneIs.TheVariants.{Granted as IsGranted}
 use Rattle.run_rules.specs.Doings.{TookNow, WasWritten}
 use Rattle.run_rules.specs.Doings.{UsesStamp, epoch}
 use Rattle.run_rules.specs.Doings.Doing.{Sent}
@@ -51,6 +52,12 @@ same_host a b e = let q : a.0 ≡ b.0 = eqb-true a.0 b.0 e in λ i. record { 0 =
 
 pub same_fileset : (a b : FilesetId) → (a.0 == b.0) ≡ true → a ≡ b
 same_fileset a b e = let q : a.0 ≡ b.0 = eqb-true a.0 b.0 e in λ i. record { 0 = q i }
+
+below_or : (a b : ℕ) → (a < b) ⊎ (b ≤ a)
+below_or zero zero = inr (omega arith)
+below_or zero (suc b) = inl (omega arith)
+below_or (suc a) zero = inr (omega arith)
+below_or (suc a) (suc b) = elim (below_or a b) [ inl l ↦ inl (omega (arith, l)) | inr l ↦ inr (omega (arith, l)) ]
 
 was_written : (acts : List Doing) (o : Written) → WroteThis acts o → (h : HostId) (f : FilesetId) → o.answer.host ≡ h
     → o.fileset ≡ f → WasWritten acts h f o.number
@@ -126,7 +133,10 @@ module _ (past : List Doing) (x : Tables) (z : Stands past x) (w : Wanted) (wait
         epoch = x.hosts.epoch;
         done = d;
         written = written;
-      })) where
+      }))
+      -- where it brings a token it says that a use is granted, and brings no other
+      (brings : (t : Token) → In t d.bring.tokens → (d.outcome ≡ IsGranted) × (t.id.epoch ≡ x.hosts.epoch)
+      × ((u : Token) → In u d.bring.tokens → u ≡ t)) where
     abbrev entry : LastChange
     entry = record { host = w.host; fileset = c.fileset; epoch = x.hosts.epoch; done = d; written = written }
 
@@ -153,7 +163,7 @@ module _ (past : List Doing) (x : Tables) (z : Stands past x) (w : Wanted) (wait
             (arith, q))
         | inr p ↦ (let l = z.changes.above w c e n o waits is p f in omega (arith, l, number_is))
       ];
-      newest = λ n o t f. z.hosts.epoch_is;
+      newest = λ n o t f. inl z.hosts.epoch_is;
       wrote = λ o e.
           (let l = stays.some o e in let q = (z.changes.last l.0 l.1).wrote o l.4 in
           (inr q.0, q.1 ∙ l.2, q.2 ∙ l.3));
@@ -163,10 +173,14 @@ module _ (past : List Doing) (x : Tables) (z : Stands past x) (w : Wanted) (wait
           (q.0, sym (stays.all l.0 l.1 (l.2 ∙ h) (l.3 ∙ f)) ∙ q.1, q.2));
       home = decided_home x.server past c.fileset w.moves
           (subst (IsAskedHere x.server past w.moves) is (z.wants.here w waits)).0;
-      reply = λ o e m.
-          (let l = stays.some o e in let q = (z.changes.last l.0 l.1).wrote o l.4 in
-          let was = was_written past o q.0 w.host c.fileset (q.1 ∙ l.2) (q.2 ∙ l.3) in
-          absurd (z.changes.fresh w c waits is (o.number, (let k = number_is in omega (arith, m, k)), was)));
+      reply = λ o e. elim (below_or o.number c.number) [
+        | inl k ↦ inl (omega (arith, k, number_is))
+        | inr k ↦
+            (let l = stays.some o e in let q = (z.changes.last l.0 l.1).wrote o l.4 in
+            let was = was_written past o q.0 w.host c.fileset (q.1 ∙ l.2) (q.2 ∙ l.3) in
+            absurd (z.changes.fresh w c waits is (o.number, k, was)))
+      ];
+      brings = brings;
     }
 
     is_last_other : (l : LastChange) → IsLastChange past l → (l.host ≡ w.host → l.fileset ≡ c.fileset → ⊥)
@@ -186,6 +200,7 @@ module _ (past : List Doing) (x : Tables) (z : Stands past x) (w : Wanted) (wait
       wrote = λ o p. (let q = k.wrote o p in (inr q.0, q.1, q.2));
       wrote_all = λ o t h f. k.wrote_all o (wrote_were o t) h f;
       reply = k.reply;
+      brings = k.brings;
       home = k.home;
     }
 

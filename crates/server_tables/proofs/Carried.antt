@@ -73,6 +73,7 @@ module _ (server : ServerId) (p q : List Doing) (s : SameWords server p q) where
     noted = z.noted;
     old = λ t i e. z.old t i (e ∙ sym s.heard.epoch_is);
     none_reserved = λ t r. z.none_reserved t ((s.heard.reserved t).1 r);
+    one = λ t u k i e g q. z.one t u k ((s.issued t k).1 i) (e ∙ sym s.heard.epoch_is) ((s.granted u).1 g) q;
   }
 
   stamps_carried : {grants : Grants} {stamp : ℕ} → StampsStand p grants stamp → StampsStand q grants stamp
@@ -122,11 +123,15 @@ module _ (server : ServerId) (p q : List Doing) (s : SameWords server p q) where
     sent = (s.sent last.host last.epoch z.n (Done last.done)).0 z.sent;
     of = z.of;
     top = λ e k d t f. z.top e k d ((s.sent last.host e k (Done d)).1 t) f;
-    newest = λ k d t f. z.newest k d ((s.sent last.host (epoch p) k (Done d)).1
-        (subst (λ m. SentTo q last.host m k (Done d)) (sym s.heard.epoch_is) t)) f ∙ s.heard.epoch_is;
+    newest = λ k d t f. elim (z.newest k d ((s.sent last.host (epoch p) k (Done d)).1
+        (subst (λ m. SentTo q last.host m k (Done d)) (sym s.heard.epoch_is) t)) f) [
+          | inl e ↦ inl (e ∙ s.heard.epoch_is)
+          | inr w ↦ inr w
+        ];
     wrote = λ w e. (let x = z.wrote w e in ((s.wrote w).0 x.0, x.1, x.2));
     wrote_all = λ w o h f. z.wrote_all w ((s.wrote w).1 o) h f;
     reply = z.reply;
+    brings = z.brings;
     home = z.home;
   }
 

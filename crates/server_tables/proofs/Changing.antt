@@ -442,7 +442,7 @@ module _ (past : List Doing) (x : Tables) (m : Message) (c : ChangeOf) (needs : 
         | inr p ↦
             top e n o p f
       ];
-      newest = λ n o t f. k.stands.hosts.epoch_is;
+      newest = λ n o t f. inl k.stands.hosts.epoch_is;
       wrote = λ o p. (
         inr (inl (let q : v ≡ o = (let r = p in cc) in ap WritesDown q)),
         (let q : v ≡ o =
@@ -461,8 +461,9 @@ module _ (past : List Doing) (x : Tables) (m : Message) (c : ChangeOf) (needs : 
         ],
       );
       home = decided_home x.server past c.fileset m.moves k.here;
-      reply = λ o p n.
-          (let q : v ≡ o = (let r = p in cc) in (ap (λ (z : Written). HasReply z.answer.reply) q, refl));
+      reply = λ o p. (let q : v ≡ o = (let r = p in cc) in
+          inr (ap (λ (z : Written). z.number) (sym q), ap (λ (z : Written). HasReply z.answer.reply) q, refl, refl));
+      brings = λ t i. elim i [ ];
     }
 
     -- another answer stays what it was
@@ -489,6 +490,7 @@ module _ (past : List Doing) (x : Tables) (m : Message) (c : ChangeOf) (needs : 
         | inr p ↦ z.wrote_all o p h f
       ];
       reply = z.reply;
+      brings = z.brings;
       home = z.home;
     }
 

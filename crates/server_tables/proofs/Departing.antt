@@ -139,6 +139,7 @@ module _ (past : List Doing) (x : Tables) (s : Stands past x) (h : HostId) (e n 
     wrote = λ w q. let p = t.wrote w q in (inr p.0, p.1, p.2);
     wrote_all = λ w o p q. t.wrote_all w (wrote_back w o) p q;
     reply = t.reply;
+    brings = t.brings;
     home = t.home;
   }
 

@@ -30,7 +30,7 @@ use Rattle.server_tables.specs.declared.recovering.Recovering.{Recovering}
 use Rattle.server_tables.specs.declared.tables.LastGive.{LastGive}
 use Rattle.server_tables.specs.declared.tables.Tables.{Tables}
 use Rattle.server_tables.specs.Claims.{one_up, taking_one, ups_of}
-use Rattle.server_tables.specs.Gives.{given, is_for_give, last_give}
+use Rattle.server_tables.specs.Gives.{AreLast, given, is_for_give, last_give}
 use Rattle.server_tables.specs.Judging.{gave_up, has_taken}
 use Rattle.server_tables.specs.Listing.{has_host}
 use Rattle.server_tables.specs.Standing.{GivesStand, QueueStands, RecoveryStands, StampsStand, Stands, TokensStand}
@@ -309,10 +309,6 @@ module _ (past : List Doing) (x : Tables) (s : Stands past x) (h : HostId) (n : 
           noted_back (ups_of x.recovering.given_up h g.ids) (λ never. u.all) u.of u.stay
 
 -- # Give-backs
-
--- of a host and a fileset one is the last that was taken
-abbrev pub AreLast : List LastGive → Type 0
-AreLast gives = (l m : LastGive) → In l gives → In m gives → l.host ≡ m.host → l.give.fileset ≡ m.give.fileset → l ≡ m
 
 is_it : (h : HostId) (f : FilesetId) (l : LastGive) → l.host ≡ h → l.give.fileset ≡ f → is_for_give h f l ≡ true
 is_it h f l p q = and_from (l.host.0 == h.0) (l.give.fileset.0 == f.0)

@@ -158,6 +158,10 @@ module _ (past : List Doing) (server : ServerId) (h : HostId) (n : ℕ) (b : Bod
       noted = w.noted;
       old = λ t m e. subst (λ (z : ℕ). t.id.seq ≤ z) (sym w.last) (s.old t (w.were t m) e);
       none_reserved = λ t r. elim r [ inl k ↦ (let q = k.1 in cc) | inr k ↦ s.none_reserved t k.0 ];
+      one = λ t u k i e g q. elim i [
+        | inl p ↦ absurd (newly t (inl (k, p)))
+        | inr p ↦ elim g [ inl n ↦ absurd (newly u n) | inr o ↦ s.one t u k p e o.0 q ]
+      ];
     }
 
     pub stamps_up : {stamp : ℕ} → StampsStand past grants stamp → StampsStand (a ∷ past) left stamp

@@ -254,6 +254,18 @@ module _ (past : List Doing) (server : ServerId) (grants : Grants) (want : WantO
         | inr k ↦ (of t k).below
       ];
       none_reserved = λ t r. elim r [ inl k ↦ (let q = k.1 in cc) | inr k ↦ s.none_reserved t k.0 ];
+      one = λ t u k i e g q. let o : u.id.seq ≡ t.id.seq = ap (λ (i : TokenId). i.seq) q in elim i [
+        | inl j ↦ elim (granted_were u g) [
+          | inl m ↦ one_number grants.table.server grants.table.epoch grants.table.last want.host want.needs u t m
+              (issued_new t k j) q
+          | inr m ↦ absurd (let a = (of t (issued_new t k j)).above in
+              let l = s.old u (s.granted_all u m) (ap (λ (i : TokenId). i.epoch) q ∙ e) in omega (arith, a, l, o))
+        ]
+        | inr j ↦ elim (granted_were u g) [
+          | inl m ↦ absurd (let a = (of u m).above in let l = s.issued t k j e in omega (arith, a, l, o))
+          | inr m ↦ s.one t u k j e m q
+        ]
+      ];
     }
       where
         on : (h : HostId) → IsLive past h → IsLive (sent ∷ past) h

@@ -315,6 +315,10 @@ module _ (past : List Doing) (server : ServerId) (h : HostId) (n : ℕ) (named :
       noted = λ i p. let u = s.noted i (sym (w.notes i) ∙ p) in (u.0, outs u.0 u.1, u.2);
       old = λ t i e. subst (λ (z : ℕ). t.id.seq ≤ z) last_is (s.old t (ins t i) e);
       none_reserved = λ t r. elim r [ inl k ↦ (let q = k.1 in cc) | inr k ↦ s.none_reserved t k.0 ];
+      one = λ t u k i e g q. elim i [
+        | inl p ↦ absurd (newly t (inl (k, p)))
+        | inr p ↦ s.one t u k p e (back u g) q
+      ];
     }
 
     was_revoked : (t : Token) → HasRevoked (a ∷ past) t → HasRevoked past t

@@ -78,6 +78,7 @@ module _ (past : List Doing) (x : Tables) (s : Stands past x) where
     wrote = λ w p. let q = z.wrote w p in (inr q.0, q.1, q.2);
     wrote_all = λ w t. z.wrote_all w (elim t [ inl p ↦ absurd (cc) | inr p ↦ p ]);
     reply = z.reply;
+    brings = z.brings;
     home = z.home;
   }
 
@@ -130,6 +131,7 @@ module _ (past : List Doing) (x : Tables) (s : Stands past x) where
       noted = λ i p. absurd (none_noted i p);
       old = λ t m. elim m [ ];
       none_reserved = λ t r. elim r [ inl p ↦ (let q = p.1 in cc) | inr p ↦ s.tokens.none_reserved t p.0 ];
+      one = λ t u k i e g q. absurd (granted u g);
     };
     stamps = record {
       told = λ f z t. elim t [

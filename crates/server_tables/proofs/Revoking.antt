@@ -237,6 +237,10 @@ module _ (server : ServerId) (past : List Doing) (grants marked : Grants) (stamp
     noted = λ i p. let u = s.noted i (sym (m.notes i) ∙ p) in (u.0, outs u.0 u.1, u.2);
     old = λ t i e. subst (λ (z : ℕ). t.id.seq ≤ z) last_is (s.old t (ins t i) e);
     none_reserved = λ t w. elim w [ inl k ↦ (let q = k.1 in cc) | inr k ↦ s.none_reserved t k.0 ];
+    one = λ t u k i e g q. elim i [
+      | inl p ↦ absurd (newly t (inl (k, p)))
+      | inr p ↦ s.one t u k p e (back u g) q
+    ];
   }
 
   its_revoke : (k : HostId) (e j : ℕ) (q : RevokeOf) → a ≡ Sent k e j (Revoke q) → (h ≡ k) × (r ≡ q)

@@ -94,6 +94,7 @@ module _ (server : ServerId) (e : ℕ) (roster : Roster) where
       noted = λ i p. absurd (none_noted i p);
       old = λ t m. elim m [ ];
       none_reserved = λ t r. elim r [ inl p ↦ (let q = p.1 in cc) | inr p ↦ p.0 ];
+      one = λ t u k i e g q. absurd (issued t k i);
     };
     stamps = record {
       told = λ f z t. absurd (elim t [

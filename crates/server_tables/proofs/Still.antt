@@ -1,5 +1,5 @@
 -- A doing that changes none of the words of a server leaves all tables standing.
-use Rattle.std.proofs.Common.{◌≡◌, ℕ, ◌≤◌, List, [], ◌∷◌, inl, inr, refl, sym, ◌∙◌, ap, subst}
+use Rattle.std.proofs.Common.{◌≡◌, ◌⊎◌, ℕ, ◌≤◌, List, Some, [], ◌∷◌, inl, inr, refl, sym, ◌∙◌, ap, subst}
 use Rattle.base_types.specs.declared.ids.FilesetId.{FilesetId}
 use Rattle.base_types.specs.declared.ids.Fid.{Fid}
 use Rattle.base_types.specs.declared.ids.HostId.{HostId}
@@ -94,7 +94,8 @@ pub record AnswersStill (server : ServerId) (past : List Doing) (a : Doing) : Ty
   pub writes : (w : Written) → a ≡ WritesDown w → ⊥
 
 -- what is decided here is of the first stay
-pub decided_home : (server : ServerId) (past : List Doing) (f : FilesetId) (n : ℕ) → IsDecidedHere server past f n → n ≡ 0
+pub decided_home : (server : ServerId) (past : List Doing) (f : FilesetId) (n : ℕ) → IsDecidedHere server past f n
+    → n ≡ 0
 decided_home server past f n (inl p) = p.1
 decided_home server past f n (inr p) = sym (ap (λ (y : Stay). y.moves) p)
 
@@ -175,6 +176,10 @@ module _ (past : List Doing) (a : Doing) (c : HostsCalm past a) where
       noted = s.noted;
       old = λ t m e. s.old t m (e ∙ now_is);
       none_reserved = λ t r. elim r [ inl q ↦ k.reserves t q.0 q.1 q.2 | inr q ↦ s.none_reserved t q.0 ];
+      one = λ t u n i e g q. elim i [
+        | inl w ↦ absurd (k.issues t n w)
+        | inr w ↦ s.one t u n w (e ∙ now_is) (granted_back u g) q
+      ];
     }
 
     revoked_back : (t : Token) → HasRevoked (a ∷ past) t → HasRevoked past t
@@ -277,14 +282,19 @@ module _ (past : List Doing) (a : Doing) (c : HostsCalm past a) (k : DonesStill 
     wrote = λ w is. let p = s.wrote w is in (inr p.0, p.1, p.2);
     wrote_all = λ w t. s.wrote_all w (wrote_back w t);
     reply = s.reply;
+    brings = s.brings;
     home = s.home;
   }
     where
       newest : (n : ℕ) (d : DoneOf) → SentTo (a ∷ past) last.host (epoch (a ∷ past)) n (Done d) → d.fileset
           ≡ last.fileset
-          → last.epoch ≡ epoch (a ∷ past)
-      newest n d w of = s.newest n d (subst (λ (e : ℕ). SentTo past last.host e n (Done d)) (now_is past a c)
-          (sent_back last.host (epoch (a ∷ past)) n d w)) of ∙ sym (now_is past a c)
+          → (last.epoch ≡ epoch (a ∷ past))
+          ⊎ ((v : Written) × (last.written ≡ Some v) × (last.done.bring.number ≤ v.number))
+      newest n d w of = elim (s.newest n d (subst (λ (e : ℕ). SentTo past last.host e n (Done d)) (now_is past a c)
+          (sent_back last.host (epoch (a ∷ past)) n d w)) of) [
+            | inl q ↦ inl (q ∙ sym (now_is past a c))
+            | inr q ↦ inr q
+          ]
 
   pub changes_still : {cs : List LastChange} → ((w : Wanted) → IsQueued (a ∷ past) w → IsQueued past w)
       → ChangesStand past cs

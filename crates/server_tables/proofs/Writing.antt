@@ -298,7 +298,7 @@ module _ (past : List Doing) (x : Tables) (z : Stands past x) (w : Wanted) (wait
           | inl p ↦ (let q : o.bring.number ≡ c.number = ap (λ (y : DoneOf). y.bring.number) p.1 in omega (arith, q))
           | inr p ↦ top e n o p f
         ];
-        newest = λ n o t f. z.hosts.epoch_is;
+        newest = λ n o t f. inl z.hosts.epoch_is;
         wrote = λ o p. (
           inr (inl (let q : v ≡ o = (let r = p in cc) in ap WritesDown q)),
           (let q : v ≡ o = (let r = p in cc) in ap (λ (y : Written). y.answer.host) (sym q)),
@@ -314,8 +314,9 @@ module _ (past : List Doing) (x : Tables) (z : Stands past x) (w : Wanted) (wait
         );
         home = decided_home x.server past c.fileset w.moves
             (subst (IsAskedHere x.server past w.moves) is (z.wants.here w waits)).0;
-        reply = λ o p n.
-            (let q : v ≡ o = (let r = p in cc) in (ap (λ (y : Written). HasReply y.answer.reply) q, refl));
+        reply = λ o p. (let q : v ≡ o = (let r = p in cc) in
+            inr (ap (λ (y : Written). y.number) (sym q), ap (λ (y : Written). HasReply y.answer.reply) q, refl, refl));
+        brings = λ t i. elim i [ ];
       }
 
       -- another answer stays what it was
@@ -340,6 +341,7 @@ module _ (past : List Doing) (x : Tables) (z : Stands past x) (w : Wanted) (wait
           | inr p ↦ k.wrote_all o p h f
         ];
         reply = k.reply;
+        brings = k.brings;
         home = k.home;
       }
 

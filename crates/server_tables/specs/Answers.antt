@@ -1,6 +1,6 @@
 -- What was answered to Changes, and what is answered to one that comes again.
 use Rattle.std.specs.Prelude.{ℕ, ◌==◌, Bool, false, ◌&&◌, ◌||◌, not, nat_lt, nat_le, if◌then◌else◌, List, [], ◌∷◌, ◌++◌}
-use Rattle.std.specs.Prelude.{Option, Some, None}
+use Rattle.std.specs.Prelude.{Option, Some, None, ◌≡◌}
 use Rattle.std.specs.List.{filter, find, list_any}
 use Rattle.std.specs.Option.{option_and_then, option_map_or, option_or}
 use Rattle.base_types.specs.declared.ids.FilesetId.{FilesetId}
@@ -13,6 +13,7 @@ use Rattle.message_types.specs.declared.telling.DoneIs.{DoneIs}
 use Rattle.message_types.specs.declared.telling.DoneIs.TheVariants.{Again}
 use Rattle.token_manager.specs.declared.grants.Grants.{Grants}
 use Rattle.token_manager.specs.Grants.{holds}
+use Rattle.run_rules.specs.Past.{In}
 use Rattle.run_rules.specs.declared.applied.Written.{Written}
 use Rattle.server_tables.specs.declared.tables.LastChange.{LastChange}
 use Rattle.server_tables.specs.declared.tables.Tables.{Tables}
@@ -81,3 +82,8 @@ renewed x host done written = filter (not_for_change host done.fileset) x.change
   done = done;
   written = option_or written (last_written x.changes host done.fileset);
 } ∷ []
+
+-- of a host and a fileset one is what was answered last
+abbrev pub AreLastChanges : List LastChange → Type 0
+AreLastChanges changes =
+    (l m : LastChange) → In l changes → In m changes → l.host ≡ m.host → l.fileset ≡ m.fileset → l ≡ m

@@ -1,5 +1,5 @@
 -- How the tables of a server's machine stand for what the server did. `past` are its doings.
-use Rattle.std.specs.Prelude.{◌≡◌, ℕ, ◌≤◌, ◌<◌, true, false, List, [], Some, is_some, map, length}
+use Rattle.std.specs.Prelude.{◌≡◌, ◌⊎◌, ℕ, ◌≤◌, ◌<◌, true, false, List, [], Some, is_some, map, length}
 use Rattle.base_types.specs.declared.ids.Fid.{Fid}
 use Rattle.base_types.specs.declared.ids.HostId.{HostId}
 use Rattle.base_types.specs.declared.ids.ServerId.{ServerId}
@@ -11,7 +11,7 @@ use Rattle.message_types.specs.declared.giving.Reclaim.{Reclaim as ReclaimOf}
 use Rattle.message_types.specs.declared.message.Body.{Body}
 use Rattle.message_types.specs.declared.message.Body.TheVariants.{Done, GiveBack, Reclaim, Reclaimed}
 use Rattle.message_types.specs.declared.telling.Done.{Done as DoneOf}
-use Rattle.message_types.specs.declared.telling.DoneIs.TheVariants.{Reply as HasReply}
+use Rattle.message_types.specs.declared.telling.DoneIs.TheVariants.{Granted as IsGranted, Reply as HasReply}
 use Rattle.token_manager.specs.declared.grants.Grants.{Grants}
 use Rattle.token_manager.specs.declared.want.Want.{Want as WantOf}
 use Rattle.token_manager.specs.Managers.{can_decide}
@@ -78,6 +78,9 @@ pub record TokensStand (past : List Doing) (server : ServerId) (grants : Grants)
       → (t : Token) × In t (tokens_of grants) × (t.id ≡ i)
   pub old : (t : Token) → In t (tokens_of grants) → t.id.epoch ≡ epoch past → t.id.seq ≤ grants.table.last
   pub none_reserved : (t : Token) → Reserved past t → ⊥
+  -- a number that was issued in this epoch is of that token alone
+  pub one : (t u : Token) (k : StayStamp) → Issued past t k → t.id.epoch ≡ epoch past → Granted server past u
+      → u.id ≡ t.id → u ≡ t
 
 -- what was told and asked back
 pub record StampsStand (past : List Doing) (grants : Grants) (stamp : ℕ) : Type 0 where
@@ -132,15 +135,22 @@ pub record IsLastChange (past : List Doing) (last : LastChange) : Type 0 where
   pub of : last.done.fileset ≡ last.fileset
   pub top : (e k : ℕ) (d : DoneOf) → SentTo past last.host e k (Done d) → d.fileset ≡ last.fileset
       → d.bring.number ≤ last.done.bring.number
+  -- where one was answered in this epoch, it was answered in it too, or was written down
   pub newest : (k : ℕ) (d : DoneOf) → SentTo past last.host (epoch past) k (Done d) → d.fileset ≡ last.fileset
-      → last.epoch ≡ epoch past
+      → (last.epoch ≡ epoch past)
+      ⊎ ((w : Written) × (last.written ≡ Some w) × (last.done.bring.number ≤ w.number))
   pub wrote : (w : Written) → last.written ≡ Some w
       → WroteThis past w × (w.answer.host ≡ last.host) × (w.fileset ≡ last.fileset)
   pub wrote_all : (w : Written) → WroteThis past w → w.answer.host ≡ last.host → w.fileset ≡ last.fileset
       → (v : Written) × (last.written ≡ Some v) × (w.number ≤ v.number)
-  -- one that was written down was answered with its reply
-  pub reply : (w : Written) → last.written ≡ Some w → w.number ≡ last.done.bring.number
-      → (last.done.outcome ≡ HasReply w.answer.reply) × (last.done.bring.tokens ≡ [])
+  -- one that was written down was answered with its reply, where no later one was answered
+  pub reply : (w : Written) → last.written ≡ Some w → (w.number < last.done.bring.number)
+      ⊎ ((w.number ≡ last.done.bring.number) × (last.done.outcome ≡ HasReply w.answer.reply)
+      × (last.done.bring.tokens ≡ []) × (last.done.bring.stamp ≡ 0))
+  -- one that brings a token says that a use is granted, and brings no other
+  pub brings : (t : Token) → In t last.done.bring.tokens → (last.done.outcome ≡ IsGranted)
+      × (t.id.epoch ≡ last.epoch)
+      × ((u : Token) → In u last.done.bring.tokens → u ≡ t)
 
 -- The Changes that were answered. A Change that waits is above the last one that was written down, and not below the
 -- last one that was answered: E14.

@@ -14,5 +14,5 @@ pub use answered::without_token;
 pub use hosts::Hosts;
 pub use pending::{Pending, is_effect, is_meant_so, is_use};
 pub use recovering::{Answered, Claimed, GaveUp, Recovering};
-pub use same::is_same_answer;
+pub use same::{are_same_needs, is_same_answer};
 pub use tables::{LastChange, LastGive, NO_FID, Tables};

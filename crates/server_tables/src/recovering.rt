@@ -1,4 +1,4 @@
-ghost use Rattle.std.specs.Prelude.{◌≡◌, ◌↔◌, ◌==◌, ◌++◌, [], ◌∷◌, not, filter, IsTrue, IfOk, OnOk};
+ghost use Rattle.std.specs.Prelude.{◌≡◌, ◌⊎◌, ◌↔◌, ◌==◌, ◌++◌, [], ◌∷◌, not, filter, IsTrue, IfOk, OnOk};
 ghost use Rattle.std.specs.Option.{option_copied};
 ghost use Rattle.run_rules.specs.Past.{In};
 ghost use Rattle.server_tables.specs.Claims.{answer_to, answered_so, applied_of, left_out_of, names, one_up};
@@ -149,6 +149,11 @@ impl Recovering {
             (self.new ≡ record self.old {
               claims = self.old.claims ++ record { host = host; claim = claim.now } ∷ [];
             }) }
+        ensures either { OnOk result
+            ((In (record { host = host; claim = claim.now }) self.old.claims × (self.new ≡ self.old))
+            ⊎ (self.new ≡ record self.old {
+              claims = self.old.claims ++ record { host = host; claim = claim.now } ∷ [];
+            })) }
     {
         if self.is_claimed(host, claim) {
             return Ok(());

@@ -1,9 +1,9 @@
-//! Whether two claims, or two answers to claims, are equal.
+//! Whether two claims, two answers to claims, or what two requests need are equal.
 ghost use Rattle.std.specs.Prelude.{◌≡◌, ◌↔◌, IsTrue};
 
 use base_types::{OpenKind, Span};
 use message_types::{AppliedGive, Outstanding, Reclaim, Reclaimed};
-use token_types::{Kind, Token, TokenId};
+use token_types::{Kind, Need, Token, TokenId};
 
 pub(crate) fn is_same_claim(one: &Reclaim, other: &Reclaim) -> bool
     ensures { IsTrue result ↔ (one.now ≡ other.now) }
@@ -18,6 +18,21 @@ pub fn is_same_answer(one: &Reclaimed, other: &Reclaimed) -> bool
 {
     are_same_gives(one.applied.as_slice(), other.applied.as_slice())
         && are_same_ids(one.left_out.as_slice(), other.left_out.as_slice())
+}
+
+/// Whether two requests need the same, in the same order.
+pub fn are_same_needs(ones: &[Need], others: &[Need]) -> bool
+    ensures { IsTrue result ↔ (ones.now ≡ others.now) }
+{
+    if ones.len() != others.len() {
+        return false;
+    }
+    for (index, one) in ones.iter().enumerate() {
+        if !is_same_need(one, &others[index]) {
+            return false;
+        }
+    }
+    true
 }
 
 fn are_same_tokens(ones: &[Token], others: &[Token]) -> bool
@@ -101,6 +116,12 @@ fn is_same_token(one: &Token, other: &Token) -> bool
         && one.host == other.host
         && one.fid == other.fid
         && is_same_kind(&one.kind, &other.kind)
+}
+
+fn is_same_need(one: &Need, other: &Need) -> bool
+    ensures { IsTrue result ↔ (one.now ≡ other.now) }
+{
+    one.fid == other.fid && is_same_kind(&one.kind, &other.kind)
 }
 
 fn is_same_kind(one: &Kind, other: &Kind) -> bool

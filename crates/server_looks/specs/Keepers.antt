@@ -1,0 +1,73 @@
+-- How a server's machine asks its store, and gives it acts.
+use Rattle.std.specs.Prelude.{◌≡◌, ◌≤◌, ℕ, ◌+◌, ◌*◌, ◌^◌, IsTrue, Result, Ok, Err, OnOk}
+use Rattle.base_types.specs.Faults.{RoseBy}
+use Rattle.base_types.specs.declared.limits.TheConstants.{BATCH_ACTS_MAX}
+use Rattle.store_memory.specs.Views.{IsSameStore, View}
+use Rattle.store_memory.specs.declared.store.StoreFault.{StoreFault}
+use Rattle.store_memory.specs.declared.store.StoreFault.TheVariants.{Failed, Memory as NoRoom}
+use Rattle.server_looks.specs.declared.fault.ExporterFault.{ExporterFault}
+use Rattle.server_looks.specs.declared.fault.ExporterFault.TheVariants.{Memory, Store}
+
+-- the fault of a machine whose store has one
+abbrev pub fault_from : StoreFault → ExporterFault
+fault_from Failed = Store
+fault_from NoRoom = Memory
+
+-- what a machine is answered that asks its store
+abbrev pub answer_of : {T : Type 0} → Result T StoreFault → Result T ExporterFault
+answer_of (Ok value) = Ok value
+answer_of (Err error) = Err (fault_from error)
+
+-- a store isn't worn out by as many writes and openings as are left
+abbrev pub IsWorn : View → ℕ → Type 0
+IsWorn view left = view.wear + (BATCH_ACTS_MAX + 1) * left ≤ 2 ^ 47
+
+-- a store may be asked, written, and opened anew
+pub record IsFit (view : View) (left : ℕ) : Type 0 where
+  pub ready : view.ready
+  pub mendable : view.mendable
+  pub wear : IsWorn view left
+
+-- its disk failed twice, and the second time in its last call
+pub record FailedTwice (old new : View) : Type 0 where
+  pub rose : RoseBy 2 old.faults new.faults
+  pub last : IsTrue new.last_failed
+
+-- Whatever becomes of a call: the store is for the same server, the disk's count of faults doesn't fall, the store may
+-- be opened anew, and a call answers `Store` only where the disk failed twice.
+pub record HasTried {T : Type 0} (result : Result T ExporterFault) (old new : View) (left : ℕ) : Type 0 where
+  pub same : IsSameStore old new
+  pub wear : IsWorn new left
+  pub ready : OnOk result new.ready
+  pub mendable : new.mendable
+  pub counted : old.faults ≤ new.faults
+  pub blame : result ≡ Err Store → FailedTwice old new
+
+-- A store that was asked some things, each of which was answered.
+pub record HasStayed (tells : Type 0) (old new : View) : Type 0 where
+  pub same : IsSameStore old new
+  pub state : tells → new.state ≡ old.state
+  pub counted : old.faults ≤ new.faults
+
+-- and a store that was only asked keeps what it kept
+pub record HasAsked {T : Type 0} (tells : Type 0) (result : Result T ExporterFault) (old new : View) (left : ℕ)
+    : Type 0
+  where
+    pub tried : HasTried result old new left
+    pub state : tells → new.state ≡ old.state
+
+-- A batch was given once: `Store` comes where the disk failed now.
+pub record HasGiven {T : Type 0} (result : Result T ExporterFault) (old new : View) (left : ℕ) : Type 0 where
+  pub same : IsSameStore old new
+  pub wear : IsWorn new left
+  pub ready : OnOk result new.ready
+  pub mendable : new.mendable
+  pub counted : old.faults ≤ new.faults
+  pub blame : result ≡ Err Store → RoseBy 1 old.faults new.faults × IsTrue new.last_failed
+
+-- it was opened anew, and keeps what it kept
+pub record HasMended {T : Type 0} (tells : Type 0) (result : Result T ExporterFault) (old new : View) (left : ℕ)
+    : Type 0
+  where
+    pub given : HasGiven result old new left
+    pub state : tells → new.state ≡ old.state

@@ -1,0 +1,28 @@
+use Rattle.std.proofs.Common.{◌≡◌, ◌∙◌, ap, true, false}
+use Rattle.store_memory.specs.Reading.{status_told}
+use Rattle.server_takes.proofs.Parts.{applied_again, applied_first, state_again, state_first}
+use Rattle.server_takes.specs.Taking.{ending}
+use Rattle.server_takes.specs.declared.draft.Draft.{Draft}
+use Rattle.server_takes.proofs.giving.apply_first.Goals as goal
+
+pub returns-then-not-is_first-clause-draft : goal.returns-then-not-is_first-clause-draft
+returns-then-not-is_first-clause-draft g c tells =
+    applied_again c.args.tables.now c.args.draft.now c.args.host c.args.give.now
+    (status_told (g.S.Store.view c.args.keeper.now.store).state c.args.give.now.fid) (cc)
+
+pub returns-then-not-is_first-clause-state : goal.returns-then-not-is_first-clause-state
+returns-then-not-is_first-clause-state g c tells again =
+    state_again c.args.tables.now c.args.host c.args.give.now (g.S.Store.view c.args.keeper.now.store).state (cc)
+
+pub returns-clause-draft : goal.returns-clause-draft
+returns-clause-draft g c tells =
+    let host = c.args.host in
+    let give = c.args.give.now in
+    c.in_ok-end_call.ensures ∙ ap (λ (d : Draft). ending d host give) (c.in_ok-store.ensures.draft tells)
+    ∙ applied_first c.args.tables.now c.args.draft.now host give
+    (status_told (g.S.Store.view c.args.keeper.now.store).state give.fid) (cc)
+
+pub returns-clause-state : goal.returns-clause-state
+returns-clause-state g c tells again =
+    c.in_ok-store.ensures.state tells again ∙ state_first c.args.tables.now c.args.host c.args.give.now
+    (g.S.Store.view c.args.keeper.now.store).state (cc)

@@ -1,0 +1,40 @@
+use Rattle.std.proofs.Common.{◌≡◌, ◌∙◌, ap, true, false}
+use Rattle.message_types.specs.declared.giving.AppliedGive.{AppliedGive}
+use Rattle.message_types.specs.declared.message.Body.TheVariants.{Gone}
+use Rattle.store_memory.specs.Reading.{status_told}
+use Rattle.server_takes.proofs.Parts.{draft_elsewhere, draft_here, given_elsewhere, given_here, state_elsewhere}
+use Rattle.server_takes.proofs.Parts.{state_here}
+use Rattle.server_takes.specs.Drafts.{saying, word}
+use Rattle.server_takes.proofs.giving.take_give_back.Goals as goal
+
+pub returns-then-not-is_here-clause-tables : goal.returns-then-not-is_here-clause-tables
+returns-then-not-is_here-clause-tables g c = given_elsewhere c.args.tables.now c.args.host c.args.give.now (cc)
+
+pub returns-then-not-is_here-clause-draft : goal.returns-then-not-is_here-clause-draft
+returns-then-not-is_here-clause-draft g c tells =
+    draft_elsewhere c.args.tables.now c.args.draft.now c.args.host c.args.give.now
+    (status_told (g.S.Store.view c.args.keeper.now.store).state c.args.give.now.fid) (cc)
+
+pub returns-then-not-is_here-clause-state : goal.returns-then-not-is_here-clause-state
+returns-then-not-is_here-clause-state g c tells again =
+    state_elsewhere c.args.tables.now c.args.host c.args.give.now (g.S.Store.view c.args.keeper.now.store).state (cc)
+
+pub returns-clause-tables : goal.returns-clause-tables
+returns-clause-tables g c = c.in_ok-note_given.ensures.tables ∙ given_here c.args.tables.now c.args.host c.args.give.now
+    (cc)
+
+pub returns-clause-draft : goal.returns-clause-draft
+returns-clause-draft g c tells =
+    let x = c.args.tables.now in
+    let d = c.args.draft.now in
+    let host = c.args.host in
+    let give = c.args.give.now in
+    let mid = c.apply_first.new.draft in
+    c.in_ok-say.ensures ∙ ap (λ (n : AppliedGive). saying mid (word x host (Gone n))) c.number_of.ensures
+    ∙ draft_here x d host give (status_told (g.S.Store.view c.args.keeper.now.store).state give.fid) mid (cc)
+    (c.in_ok-apply_first.ensures.draft tells)
+
+pub returns-clause-state : goal.returns-clause-state
+returns-clause-state g c tells again =
+    c.in_ok-apply_first.ensures.state tells again ∙ state_here c.args.tables.now c.args.host c.args.give.now
+    (g.S.Store.view c.args.keeper.now.store).state (cc)

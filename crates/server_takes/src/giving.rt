@@ -1,0 +1,305 @@
+ghost use Rattle.std.specs.Prelude.{◌≡◌, ◌≤◌, ◌+◌, ◌&&◌, true, length, map, if◌then◌else◌, IfOk, OnOk};
+ghost use Rattle.base_types.specs.declared.limits.TheConstants.{FILE_BYTES_MAX};
+ghost use Rattle.message_types.specs.Soundness.{Each};
+ghost use Rattle.run_rules.specs.ServerDecides.{span_of};
+ghost use Rattle.run_rules.specs.Tokens.{number_of};
+ghost use Rattle.server_looks.specs.Acts.{IsRepeatable, giving};
+ghost use Rattle.server_looks.specs.Keepers.{HasAsked, HasTried, IsFit};
+ghost use Rattle.server_tables.specs.Counting.{IsCounted};
+ghost use Rattle.server_tables.specs.Gives.{given};
+ghost use Rattle.server_takes.specs.Taking.{all_kept, all_returned, answer_by, ending, freed, give_applied, give_draft};
+ghost use Rattle.server_takes.specs.Taking.{give_state, give_tables, has_some, is_first, keeping, kept_tables, noted};
+ghost use Rattle.server_takes.specs.Taking.{returned_tables, store_given, takes_gifts};
+ghost use Rattle.store_acts.specs.Sound.{IsAct};
+ghost use Rattle.store_memory.specs.Reading.{status_told};
+ghost use Rattle.tree_calls.specs.declared.part.Piece.{Piece};
+
+use crate::draft::Draft;
+use base_types::{HostId, Items, NoMemory, Plain, Span};
+use message_types::{AppliedGive, Body, Ends, Give, Named};
+use run_rules::{Answer, Applied};
+use server_looks::{ExporterFault, Keeper};
+use server_tables::Tables;
+use store_memory::Store;
+use token_manager::TokenManager;
+use token_types::TokenId;
+use tree_calls::{Piece, Reply, Status};
+use tree_objects::span_between;
+
+/// Tokens come back that have nothing to save.
+pub(crate) fn take_returned(
+    tables: &mut Tables,
+    host: HostId,
+    named: &Named,
+) -> Result<(), NoMemory>
+    requires counted { IsCounted tables.old }
+    ensures tables { OnOk result (tables.new ≡ returned_tables tables.old host named.now) }
+    ensures counted { OnOk result (IsCounted tables.new) }
+{
+    if !tables.is_here(named.fid.fileset) {
+        return Ok(());
+    }
+    free(tables, host, named.ids.as_slice())
+}
+
+/// A host keeps tokens, as they are in use: they are pinned.
+pub(crate) fn take_kept(tables: &mut Tables, host: HostId, named: &Named)
+    requires counted { IsCounted tables.old }
+    ensures tables { tables.new ≡ kept_tables tables.old host named.now }
+    ensures counted { IsCounted tables.new }
+{
+    keep_all(&mut tables.tokens, host, named.ids.as_slice());
+}
+
+fn keep_all(tokens: &mut TokenManager, host: HostId, ids: &[TokenId])
+    ensures { tokens.new ≡ all_kept tokens.old host ids.now }
+{
+    for id in ids {
+        let _kept = tokens.kept(host, *id);
+    }
+}
+
+/// A host gives back what it has to save of a file. It is stored where it is the first of its number, and the file is
+/// one that may be changed; and whatever it is, the host learns that it is known.
+pub(crate) fn take_give_back<S: Store>(
+    tables: &mut Tables,
+    keeper: &mut Keeper<S>,
+    draft: &mut Draft,
+    host: HostId,
+    give: &Give,
+) -> Result<(), ExporterFault>
+    requires counted { IsCounted tables.old }
+    requires act { IsAct (S.view keeper.old.store).state.roster (S.view keeper.old.store).state.server
+        (giving host give.now) }
+    requires fit { IsFit (S.view keeper.old.store) keeper.old.left }
+    ensures tables { OnOk result (tables.new ≡ give_tables tables.old host give.now) }
+    ensures draft { S.tells → OnOk result (draft.new ≡ give_draft tables.old draft.old host give.now
+        (status_told (S.view keeper.old.store).state give.now.fid)) }
+    ensures state { S.tells → IsRepeatable (S.view keeper.old.store).state (giving host give.now)
+        → OnOk result ((S.view keeper.new.store).state
+        ≡ give_state tables.old host give.now (S.view keeper.old.store).state) }
+    ensures counted { OnOk result (IsCounted tables.new) }
+    ensures tried { HasTried result (S.view keeper.old.store) (S.view keeper.new.store) keeper.new.left }
+{
+    if !tables.is_here(give.fid.fileset) {
+        return Ok(());
+    }
+    apply_first(tables, keeper, draft, host, give)?;
+    draft.say(tables, host, Body::Gone(number_of(give)))?;
+    note_given(tables, host, give)?;
+    Ok(())
+}
+
+/// A give-back that is the first of its number is stored, and ends its call.
+fn apply_first<S: Store>(
+    tables: &Tables,
+    keeper: &mut Keeper<S>,
+    draft: &mut Draft,
+    host: HostId,
+    give: &Give,
+) -> Result<(), ExporterFault>
+    requires act { IsAct (S.view keeper.old.store).state.roster (S.view keeper.old.store).state.server
+        (giving host give.now) }
+    requires fit { IsFit (S.view keeper.old.store) keeper.old.left }
+    ensures draft { S.tells → OnOk result (draft.new ≡ give_applied tables.now draft.old host give.now
+        (status_told (S.view keeper.old.store).state give.now.fid)) }
+    ensures state { S.tells → IsRepeatable (S.view keeper.old.store).state (giving host give.now)
+        → OnOk result ((S.view keeper.new.store).state
+        ≡ (if is_first tables.now host give.now then store_given host give.now (S.view keeper.old.store).state
+        else (S.view keeper.old.store).state)) }
+    ensures tried { HasTried result (S.view keeper.old.store) (S.view keeper.new.store) keeper.new.left }
+{
+    if !is_first(tables, host, give) {
+        return Ok(());
+    }
+    store(keeper, draft, host, give)?;
+    end_call(draft, host, give)?;
+    Ok(())
+}
+
+/// Whether a give-back is the first of its number.
+fn is_first(tables: &Tables, host: HostId, give: &Give) -> bool
+    ensures { result ≡ is_first tables.now host give.now }
+{
+    tables.last_give(host, give.fid.fileset) < give.number
+}
+
+/// The number of a give-back is noted, and its tokens leave the host.
+fn note_given(tables: &mut Tables, host: HostId, give: &Give) -> Result<(), NoMemory>
+    requires counted { IsCounted tables.old }
+    ensures tables { OnOk result (tables.new ≡ freed (noted tables.old host give.now) host give.now.ids) }
+    ensures counted { OnOk result (IsCounted tables.new) }
+{
+    note_number(tables, host, give)?;
+    free(tables, host, give.ids.as_slice())
+}
+
+fn number_of(give: &Give) -> AppliedGive
+    ensures { result ≡ number_of give.now }
+{
+    AppliedGive {
+        fileset: give.fid.fileset,
+        number: give.number,
+    }
+}
+
+/// The number of a give-back is noted, where it is the first of it; and that it was taken, of a host that hasn't
+/// reclaimed.
+fn note_number(tables: &mut Tables, host: HostId, give: &Give) -> Result<(), NoMemory>
+    requires counted { IsCounted tables.old }
+    ensures tables { OnOk result (tables.new ≡ noted tables.old host give.now) }
+    ensures counted { OnOk result (IsCounted tables.new) }
+{
+    note_first(tables, host, give)?;
+    if tables.hosts.has_reclaimed(host) {
+        return Ok(());
+    }
+    tables.recovering.note_taken(host, number_of(give))
+}
+
+fn note_first(tables: &mut Tables, host: HostId, give: &Give) -> Result<(), NoMemory>
+    ensures { OnOk result (tables.new ≡ record tables.old {
+      gives = if is_first tables.old host give.now then given tables.old.gives host (number_of give.now)
+          else tables.old.gives;
+    }) }
+{
+    if !is_first(tables, host, give) {
+        return Ok(());
+    }
+    tables.note_give(host, number_of(give))
+}
+
+/// Tokens leave a host.
+fn free(tables: &mut Tables, host: HostId, ids: &[TokenId]) -> Result<(), NoMemory>
+    requires counted { IsCounted tables.old }
+    ensures tables { OnOk result (tables.new ≡ freed tables.old host ids.now) }
+    ensures counted { OnOk result (IsCounted tables.new) }
+{
+    return_all(&mut tables.tokens, host, ids);
+    if tables.hosts.has_reclaimed(host) {
+        return Ok(());
+    }
+    tables.recovering.note_given_up(host, ids)
+}
+
+fn return_all(tokens: &mut TokenManager, host: HostId, ids: &[TokenId])
+    ensures { tokens.new ≡ all_returned tokens.old host ids.now }
+{
+    for id in ids {
+        let _held = tokens.returned(host, *id);
+    }
+}
+
+/// Stores what is given back of a file that is there and may be changed.
+fn store<S: Store>(
+    keeper: &mut Keeper<S>,
+    draft: &mut Draft,
+    host: HostId,
+    give: &Give,
+) -> Result<(), ExporterFault>
+    requires act { IsAct (S.view keeper.old.store).state.roster (S.view keeper.old.store).state.server
+        (giving host give.now) }
+    requires fit { IsFit (S.view keeper.old.store) keeper.old.left }
+    ensures draft { S.tells → OnOk result (draft.new ≡ keeping draft.old host give.now
+        (has_some give.now && takes_gifts (status_told (S.view keeper.old.store).state give.now.fid))) }
+    ensures state { S.tells → IsRepeatable (S.view keeper.old.store).state (giving host give.now)
+        → OnOk result ((S.view keeper.new.store).state
+        ≡ store_given host give.now (S.view keeper.old.store).state) }
+    ensures tried { HasTried result (S.view keeper.old.store) (S.view keeper.new.store) keeper.new.left }
+{
+    if !may_store(keeper, give)? {
+        return Ok(());
+    }
+    server_looks::give(keeper, host, give)?;
+    note_stored(draft, host, give)?;
+    Ok(())
+}
+
+/// Whether a give-back has something to store, of a file that may be changed.
+fn may_store<S: Store>(keeper: &mut Keeper<S>, give: &Give) -> Result<bool, ExporterFault>
+    requires fit { IsFit (S.view keeper.old.store) keeper.old.left }
+    ensures told { S.tells → IfOk result (λ may. may ≡ (has_some give.now
+        && takes_gifts (status_told (S.view keeper.old.store).state give.now.fid))) }
+    ensures asked { HasAsked S.tells result (S.view keeper.old.store) (S.view keeper.new.store) keeper.new.left }
+{
+    if !has_some(give) {
+        return Ok(false);
+    }
+    let status = keeper.status(give.fid)?;
+    Ok(takes_gifts(&status))
+}
+
+/// Whether a give-back has something to store.
+fn has_some(give: &Give) -> bool
+    ensures { result ≡ has_some give.now }
+{
+    !(give.pieces.len() == 0 && give.length.is_none())
+}
+
+/// Whether an object is a file that may be changed.
+fn takes_gifts(status: &Option<Status>) -> bool
+    ensures { result ≡ takes_gifts status.now }
+{
+    match status {
+        Some(status) => !status.dir && !status.read_only,
+        None => false,
+    }
+}
+
+fn note_stored(draft: &mut Draft, host: HostId, give: &Give) -> Result<(), NoMemory>
+    requires { Each (λ (piece : Piece). piece.from + length piece.bytes ≤ FILE_BYTES_MAX) give.now.pieces }
+    ensures { OnOk result (draft.new ≡ keeping draft.old host give.now true) }
+{
+    let spans = spans_of(&give.pieces)?;
+    draft.applied.push(Applied::Stored {
+        host,
+        fid: give.fid,
+        spans,
+        length: give.length,
+    })
+}
+
+fn spans_of(pieces: &Items<Piece>) -> Result<Items<Span>, NoMemory>
+    requires { Each (λ (piece : Piece). piece.from + length piece.bytes ≤ FILE_BYTES_MAX) pieces.now }
+    ensures { IfOk result (λ spans. spans ≡ map span_of pieces.now) }
+{
+    let mut spans = Items::new(pieces.alloc());
+    for piece in pieces.as_slice() {
+        spans.push(span_of(piece))?;
+    }
+    Ok(spans)
+}
+
+fn span_of(piece: &Piece) -> Span
+    requires { piece.now.from + length piece.now.bytes ≤ FILE_BYTES_MAX }
+    ensures { result ≡ span_of piece.now }
+{
+    let from = u64::from(piece.from);
+    span_between(from, from + piece.bytes.len() as u64)
+}
+
+/// A give-back that ends a lock or an open answers the call of it.
+fn end_call(draft: &mut Draft, host: HostId, give: &Give) -> Result<(), NoMemory>
+    ensures { OnOk result (draft.new ≡ ending draft.old host give.now) }
+{
+    match &give.ends {
+        Some(ends) => {
+            let answer = ended_by(host, ends)?;
+            draft.applied.push(Applied::Replied(answer))
+        }
+        None => Ok(()),
+    }
+}
+
+fn ended_by(host: HostId, ends: &Ends) -> Result<Answer, NoMemory>
+    ensures { IfOk result (λ answer. answer ≡ answer_by host ends.now) }
+{
+    let call = ends.call.copy()?;
+    Ok(Answer {
+        host,
+        k: ends.k,
+        call,
+        reply: Reply::Ok,
+        first: false,
+    })
+}
