@@ -51,4 +51,3 @@ pub mod Unqueued
 pub mod Counted
 pub mod Found
 pub mod Updated
-pub mod Again
