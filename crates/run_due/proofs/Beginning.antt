@@ -7,10 +7,7 @@ use Rattle.std.proofs.lemmas.Option.{slice_get_within, get_or_from_slice_get}
 use Rattle.std.proofs.Math.Seq.{take-suc}
 use Rattle.std.specs.Prelude.{cond, count_by, is_some, slice_get}
 use Rattle.base_types.specs.declared.ids.HostId.{HostId}
-use Rattle.base_types.specs.declared.ids.ServerId.{ServerId}
-use Rattle.base_types.specs.declared.ids.Node.{Node}
-use Rattle.base_types.specs.declared.ids.Node.TheVariants.{Host, Server}
-use Rattle.tree_answers.specs.declared.tree.Tree.{Tree}
+use Rattle.base_types.specs.declared.ids.Node.TheVariants.{Host}
 use Rattle.token_types.specs.declared.token.Kind.{Kind}
 use Rattle.token_types.specs.declared.token.Kind.TheVariants.{Bytes, Status, Lock as LockToken, Opening}
 use Rattle.tree_calls.specs.declared.call.Call.{Call}
@@ -27,15 +24,13 @@ use Rattle.run_rules.specs.declared.step.Step.{Step}
 use Rattle.run_rules.specs.HostMay.{DoesLine, HostMay}
 use Rattle.run_rules.specs.Messages.{HasStopped}
 use Rattle.run_rules.specs.Past.{In}
-use Rattle.run_rules.specs.Runs.{StepMeets, StepsMeet, firsts_of, past_of}
+use Rattle.run_rules.specs.Runs.{firsts_of, past_of}
 use Rattle.run_rules.specs.Steps.{IsNextLine, goes_with, lines_gone, lines_of, servers_of, steps_of_host}
 use Rattle.run_rules.specs.Tokens.{BeginsCall, calls_begun, end_call, end_of}
 use Rattle.run_due.specs.Begun.{asked_as, first_in, begun_as, begun_by, call_in, calls_of, NumberedFrom, BegunByLines}
-use Rattle.run_contents.specs.Steps.{HostRun}
 use Rattle.run_contents.proofs.Runs.{own_run}
 use Rattle.run_due.specs.Begun.{CallsAreOfLines, EndedRunsBeginAll}
 use Rattle.run_rules.specs.declared.step.Labelled.{Labelled}
-use Rattle.run_tokens.proofs.Words.{own_after, if_host}
 use Rattle.message_types.specs.Soundness.{Each, IsEnd}
 
 too_many : (n : ℕ) → suc (suc n) ≤ 1 → ⊥
