@@ -7,10 +7,7 @@ use Rattle.std.proofs.lemmas.Option.{slice_get_within, get_or_from_slice_get}
 use Rattle.std.proofs.Math.Seq.{take-suc}
 use Rattle.std.specs.Prelude.{cond, count_by, is_some, slice_get}
 use Rattle.base_types.specs.declared.ids.HostId.{HostId}
-use Rattle.base_types.specs.declared.ids.ServerId.{ServerId}
-use Rattle.base_types.specs.declared.ids.Node.{Node}
-use Rattle.base_types.specs.declared.ids.Node.TheVariants.{Host, Server}
-use Rattle.tree_answers.specs.declared.tree.Tree.{Tree}
+use Rattle.base_types.specs.declared.ids.Node.TheVariants.{Host}
 use Rattle.token_types.specs.declared.token.Kind.{Kind}
 use Rattle.token_types.specs.declared.token.Kind.TheVariants.{Bytes, Status, Lock as LockToken, Opening}
 use Rattle.tree_calls.specs.declared.call.Call.{Call}
@@ -27,13 +24,13 @@ use Rattle.run_rules.specs.declared.step.Step.{Step}
 use Rattle.run_rules.specs.HostMay.{DoesLine, HostMay}
 use Rattle.run_rules.specs.Messages.{HasStopped}
 use Rattle.run_rules.specs.Past.{In}
-use Rattle.run_rules.specs.Runs.{StepMeets, StepsMeet, firsts_of, past_of}
+use Rattle.run_rules.specs.Runs.{firsts_of, past_of}
 use Rattle.run_rules.specs.Steps.{IsNextLine, goes_with, lines_gone, lines_of, servers_of, steps_of_host}
 use Rattle.run_rules.specs.Tokens.{BeginsCall, calls_begun, end_call, end_of}
-use Rattle.run_due.specs.Begun.{HostRun, asked_as, first_in, begun_as, begun_by, call_in, calls_of, NumberedFrom, BegunByLines}
+use Rattle.run_due.specs.Begun.{asked_as, first_in, begun_as, begun_by, call_in, calls_of, NumberedFrom, BegunByLines}
+use Rattle.run_contents.proofs.Runs.{own_run}
 use Rattle.run_due.specs.Begun.{CallsAreOfLines, EndedRunsBeginAll}
 use Rattle.run_rules.specs.declared.step.Labelled.{Labelled}
-use Rattle.run_tokens.proofs.Words.{own_after, if_host}
 use Rattle.message_types.specs.Soundness.{Each, IsEnd}
 
 too_many : (n : ℕ) → suc (suc n) ≤ 1 → ⊥
@@ -324,18 +321,6 @@ calls_are_of_lines script host [] run = record {
   stopped = λ st. refl;
 }
 calls_are_of_lines script host (s ∷ past) run = next_step script host past s run.1 (calls_are_of_lines script host past run.0)
-
-module _ (script : Script) (start : Tree) (firsts : ServerId → ℕ) where
-  own_step : (n : Node) (past : List Step) (s : Step) (h : HostId) → HostRun script h (steps_of_host h past)
-      → StepMeets script start firsts n past s → HostRun script h (own_after h n s (steps_of_host h past))
-  own_step (Host k) past s h run m =
-      if_host (HostRun script h) k h (s ∷ steps_of_host h past) (steps_of_host h past)
-      (λ e. (run, subst (λ (j : HostId). HostMay script j (steps_of_host j past) s) e m.0)) run
-  own_step (Server k) past s h run m = run
-
-  own_run : (past : List Step) → StepsMeet script start firsts past → (h : HostId) → HostRun script h (steps_of_host h past)
-  own_run [] run h = tt
-  own_run (s ∷ past) run h = own_step s.node past s h (own_run past run.0 h) run.1.0
 
 pub ended_runs : EndedRunsBeginAll
 ended_runs script journal host run ended part =

@@ -26,18 +26,13 @@ use Rattle.script_lines.specs.declared.script.Script.{Script}
 use Rattle.run_rules.specs.declared.applied.Answer.{Answer}
 use Rattle.run_rules.specs.declared.step.Asked.{Asked}
 use Rattle.run_rules.specs.declared.step.Step.{Step}
-use Rattle.run_rules.specs.HostMay.{HostMay}
 use Rattle.run_rules.specs.Messages.{HasStopped}
 use Rattle.run_rules.specs.Runs.{IsEnded, IsRun, TakesPart, past_of}
 use Rattle.run_rules.specs.Steps.{lines_gone, lines_of, steps_of_host}
 use Rattle.run_rules.specs.Tokens.{calls_begun}
 use Rattle.message_types.specs.Soundness.{Each, IsEnd}
 use Rattle.run_rules.specs.declared.journal.Journal.{Journal}
-
--- all steps of a host meet its rules
-abbrev pub HostRun : Script → HostId → List Step → Type 0
-HostRun script host [] = Unit {0}
-HostRun script host (s ∷ past) = HostRun script host past × HostMay script host past s
+use Rattle.run_contents.specs.Steps.{HostRun}
 
 abbrev pub asked_as : ℕ → Call → Asked
 asked_as k call = record { k = k; call = call }
