@@ -1,4 +1,5 @@
-ghost use Rattle.std.specs.Prelude.{◌≡◌, ◌+◌, ◌≤◌, ◌<◌, ◌^◌, ◌↔◌, length, Some, is_some, IsTrue, IsErr, is_ok, IfOk, OnOk, OnErr};
+ghost use Rattle.std.specs.Prelude.{◌≡◌, ◌+◌, ◌≤◌, ◌<◌, ◌^◌, ◌↔◌, length, Some, is_some, IsTrue};
+ghost use Rattle.std.specs.Prelude.{IsErr, is_ok, IfOk, OnOk, OnErr};
 ghost use Rattle.base_types.specs.Crash.{IsSettled, IsQuiet, ChangesBy};
 ghost use Rattle.base_types.specs.Faults.{RoseBy};
 ghost use Rattle.base_types.specs.Image.{bytes_from, Torn, Holds};

@@ -36,8 +36,8 @@ use Rattle.disk_image.specs.Joined.{listed}
 abbrev pub has_layout_name : List ℕ → Bool
 has_layout_name image = pointwise nat_eq (bytes_from image 1 8) layout_name
 
--- whether nobody wrote to the disk, or its format was stopped: all is zero that a format may write, or there is the mark
--- that it writes before all else
+-- whether nobody wrote to the disk, or its format was stopped: all is zero that a format may write, or there is the
+-- mark that it writes before all else
 unfoldable pub is_blank : List ℕ → Bool
 is_blank image = are_zero 0 format_end image || (not (byte_at image 0 == 1) && has_layout_name image)
 

@@ -2,8 +2,8 @@
 //! record. A law says what mounting begins with: a disk without faults has a record that a disk can have.
 //!
 //! The record is read back from the log of an aggregate: facts, call numbers, headers of slots and the anodes of
-//! filesets; no byte is written. A mount begins with it, and all that is then told comes of memory. A log of format 1 is
-//! brought to format 2 before.
+//! filesets; no byte is written. A mount begins with it, and all that is then told comes of memory. A log of format 1
+//! is brought to format 2 before.
 #![tactic(auto)]
 
 mod laws;

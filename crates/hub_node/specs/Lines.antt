@@ -21,4 +21,5 @@ may_go told deed = true
 -- the next line, where it can go
 abbrev pub next_of : LinesView → Option Line
 next_of own =
-    option_and_then (λ (line : Line). if may_go own.told line.deed then Some line else None) (slice_get own.lines own.gone)
+    option_and_then (λ (line : Line). if may_go own.told line.deed then Some line else None)
+    (slice_get own.lines own.gone)

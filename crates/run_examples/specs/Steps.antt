@@ -636,8 +636,8 @@ stores_and_grants =
     (to_host (Gone (number_of gift)) ∷ to_other (Grant other_grant) ∷ [])
 
 -- Sound messages that no honest node sends. A Gone of a give-back that the host didn't make teaches it nothing; a Done
--- under fileset 0 with moves answers nothing; a token that a Revoke of another file names is returned under its own; the
--- bytes that a Done brings aren't taken, since it doesn't show them.
+-- under fileset 0 with moves answers nothing; a token that a Revoke of another file names is returned under its own;
+-- the bytes that a Done brings aren't taken, since it doesn't show them.
 abbrev pub hears_unmade : Step
 hears_unmade = hears (to_host (Gone (record { fileset = root.fileset; number = 7 }))) [] []
 

@@ -26,8 +26,8 @@ pub fn lost(alloc: Global, journal: &Journal) -> Result<Items<Loss>, NoMemory>
     }
 }
 
-/// The output of a run as text: each reply, loss and fileset, as `script_output::text_of` says of its history. A journal in
-/// which no run began gives nothing. `NoMemory` comes where memory runs out.
+/// The output of a run as text: each reply, loss and fileset, as `script_output::text_of` says of its history. A
+/// journal in which no run began gives nothing. `NoMemory` comes where memory runs out.
 pub fn print_text(alloc: Global, script: &Script, journal: &Journal) -> Result<Items<u8>, NoMemory>
     ensures begun { (start : TreeOf) → journal.now.start ≡ start ∷ []
         → IfOk result (λ text. text ≡ printed script.now start (history_of journal.now.steps)) }

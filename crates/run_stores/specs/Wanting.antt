@@ -1,5 +1,6 @@
 -- What is wanted for a Change, read from what a store tells.
-use Rattle.std.specs.Prelude.{Bool, List, [], length, take, true, false, ◌+◌, ◌++◌, ◌-◌, ◌∷◌, ◌≡◌, ◌⊎◌, ℕ, filter, not, flat_map, Some, if◌then◌else◌}
+use Rattle.std.specs.Prelude.{Bool, List, [], length, take, true, false, ◌+◌, ◌++◌, ◌-◌, ◌∷◌, ◌≡◌}
+use Rattle.std.specs.Prelude.{◌⊎◌, ℕ, filter, not, flat_map, Some, if◌then◌else◌}
 use Rattle.base_types.specs.declared.ids.Fid.{Fid}
 use Rattle.base_types.specs.declared.ids.FilesetId.{FilesetId}
 use Rattle.base_types.specs.declared.ids.ServerId.{ServerId}

@@ -1,6 +1,6 @@
-//! The tables of a server's machine by example. Standard input is a table: each row is a step or a look, and behind ` = `
-//! the answer that is wanted from the steps so far. Every row that gets another one is printed, and at the end the number
-//! of rows.
+//! The tables of a server's machine by example. Standard input is a table: each row is a step or a look, and behind
+//! ` = ` the answer that is wanted from the steps so far. Every row that gets another one is printed, and at the end
+//! the number of rows.
 #![tactic(auto)]
 
 ghost use Rattle.std.specs.Prelude.{IfOk, OnOk};

@@ -7,8 +7,8 @@ use Rattle.tree_answers.specs.Founding.{count_at, promised}
 use Rattle.tree_answers.specs.declared.tree.ServerRoom.{ServerRoom}
 use Rattle.tree_answers.specs.declared.tree.Tree.{Tree}
 
--- A server with this room has not too many filesets and records, and has promised to its filesets no more blocks than it
--- offers; the number of its next fileset is in range.
+-- A server with this room has not too many filesets and records, and has promised to its filesets no more blocks than
+-- it offers; the number of its next fileset is in range.
 pub record IsWithin (tree : Tree) (server : ServerId) (room : ServerRoom) : Type 0 where
   pub few : count_at tree server ≤ FILESETS_MAX
   pub blocks : promised server tree.filesets ≤ room.capacity

@@ -1,7 +1,7 @@
 //! What a run starts from: which disks fit one another, what their stores keep of moves that an earlier run left
-//! unfinished, which of these are settled and which finished, and the file tree that is made of what all stores keep. Of
-//! a disk whose bytes aren't told nothing is known of what is read, so a tree that is made of it is looked at before a
-//! script runs on it. Laws: each store keeps its part of that tree.
+//! unfinished, which of these are settled and which finished, and the file tree that is made of what all stores keep.
+//! Of a disk whose bytes aren't told nothing is known of what is read, so a tree that is made of it is looked at before
+//! a script runs on it. Laws: each store keeps its part of that tree.
 #![tactic(auto)]
 
 mod filesets;

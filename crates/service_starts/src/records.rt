@@ -4,7 +4,8 @@ ghost use Rattle.std.specs.List.{find, list_all, list_any};
 ghost use Rattle.std.specs.Option.{option_copied};
 ghost use Rattle.tree_answers.specs.Finding.{has_id, is_named};
 ghost use Rattle.tree_answers.specs.Away.{away_before, is_away_named};
-ghost use Rattle.tree_answers.specs.WellFormed.{is_declared, records_rise, record_names_differ, is_elsewhere, AreRecords};
+ghost use Rattle.tree_answers.specs.WellFormed.{is_declared, records_rise, record_names_differ};
+ghost use Rattle.tree_answers.specs.WellFormed.{is_elsewhere, AreRecords};
 
 use crate::filesets::has_named;
 use crate::rooms::is_declared;

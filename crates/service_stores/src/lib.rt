@@ -1,6 +1,6 @@
 //! How a run starts on the stores of servers, and that they keep what it made of the tree. What an earlier run left
-//! unfinished is settled or finished, each store begins the run, and the file tree is made of what they keep; behind the
-//! run each store is given its acts of the history. Laws tie a run of the plain engine to the stores of servers.
+//! unfinished is settled or finished, each store begins the run, and the file tree is made of what they keep; behind
+//! the run each store is given its acts of the history. Laws tie a run of the plain engine to the stores of servers.
 #![tactic(auto)]
 
 mod acts;

@@ -59,10 +59,10 @@ fn start_told<S: Store>(
 /// Where these fit one another, each store settles its unfinished moves, those that go on are finished, and each store
 /// begins the run. The tree is what they keep then.
 ///
-/// `Unfit` comes exactly where a disk doesn't fit, and then they keep what they kept. `Failed` comes where the disk of a
-/// server failed twice, and `Memory` where memory runs out; how far the stores came then isn't told. Of a disk that
-/// doesn't tell its bytes nothing is known of what it gave, so the tree is looked at before any store acts, and `Memory`
-/// comes where no run can start from it.
+/// `Unfit` comes exactly where a disk doesn't fit, and then they keep what they kept. `Failed` comes where the disk of
+/// a server failed twice, and `Memory` where memory runs out; how far the stores came then isn't told. Of a disk that
+/// doesn't tell its bytes nothing is known of what it gave, so the tree is looked at before any store acts, and
+/// `Memory` comes where no run can start from it.
 pub fn start_on<S: Store>(
     alloc: Global,
     stores: &mut [S],

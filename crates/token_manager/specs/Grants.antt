@@ -15,7 +15,8 @@ use Rattle.token_types.specs.Conflicts.{same_id, blocks}
 use Rattle.token_table.specs.Tables.{Table, near, next_tokens, granted, has_id, with_tokens, without_id, not_of_host}
 use Rattle.token_table.specs.Shelves.{with_token}
 use Rattle.token_table.specs.declared.notes.Note.{Note}
-use Rattle.token_table.specs.Marks.{NoteMap, note_at, is_pinned, is_revoked, with_note, without_note, with_pin, with_mark}
+use Rattle.token_table.specs.Marks.{NoteMap, note_at, is_pinned, is_revoked, with_note}
+use Rattle.token_table.specs.Marks.{without_note, with_pin, with_mark}
 use Rattle.token_table.specs.Marks.{with_each, without_notes_of}
 use Rattle.token_manager.specs.declared.grants.Grants.{Grants}
 use Rattle.token_manager.specs.declared.want.Want.{Want}

@@ -19,8 +19,10 @@ use Rattle.token_manager.specs.declared.want.Outlook.TheVariants.{Waits as HasTo
 use Rattle.token_manager.specs.declared.want.Ready.{Ready}
 use Rattle.token_manager.specs.declared.want.Ready.TheVariants.{Granted as GrantedLater, Refused}
 use Rattle.token_manager.specs.declared.want.Wanted.{Wanted}
-use Rattle.token_manager.specs.Grants.{is_blocked, pinned_in_the_way, to_revoke, with_grant, with_claims, holds, can_keep}
-use Rattle.token_manager.specs.Grants.{no_grants, outlook_with, pinned_grants, revoked_grants, without_token, without_host, wanted_from}
+use Rattle.token_manager.specs.Grants.{is_blocked, pinned_in_the_way, to_revoke, with_grant}
+use Rattle.token_manager.specs.Grants.{with_claims, holds, can_keep}
+use Rattle.token_manager.specs.Grants.{no_grants, outlook_with, pinned_grants, revoked_grants}
+use Rattle.token_manager.specs.Grants.{without_token, without_host, wanted_from}
 use Rattle.token_manager.specs.Wants.{first_ahead, without_want, not_wants_of, not_wants_in}
 
 pub record Manager : Type 0 where

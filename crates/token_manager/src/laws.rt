@@ -1,7 +1,8 @@
 //! What makes the definitions of this crate believable: each function does nothing, and what it ensures is a law.
 ghost use Rattle.token_manager.specs.RevokeLaws.{RevokesJustThose, WaitsJustWhere, GrantsInPeace};
 ghost use Rattle.token_manager.specs.WantedLaws.{AreJustWanted, AreMarked};
-ghost use Rattle.token_manager.specs.PeaceLaws.{PeaceThroughAsk, PeaceThroughReady, PeaceThroughAdmit, PeaceThroughLoss};
+ghost use Rattle.token_manager.specs.PeaceLaws.{PeaceThroughAsk, PeaceThroughReady};
+ghost use Rattle.token_manager.specs.PeaceLaws.{PeaceThroughAdmit, PeaceThroughLoss};
 ghost use Rattle.token_manager.specs.ReadyLaws.{AskMakesNoneReady, AskMakesNoneWanted, GrantMakesNoneReady};
 ghost use Rattle.token_manager.specs.AdmitLaws.{AdmitsEachOnce, AdmitsUnpinned};
 

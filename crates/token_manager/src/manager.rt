@@ -10,7 +10,8 @@ ghost use Rattle.token_manager.specs.Managers.{Manager, new_manager, ask_answer,
 ghost use Rattle.token_manager.specs.Managers.{after_ready, after_returned, after_kept, after_down, after_given_up};
 ghost use Rattle.token_manager.specs.Managers.{first_ready, wanted, after_revoked, after_admit};
 ghost use Rattle.token_manager.specs.Managers.{after_drop_fileset, is_later, after_forget};
-ghost use Rattle.token_manager.specs.Managers.{after_decide, after_enqueue, decide_answer, is_ready_at, outlook_of, ready_at};
+ghost use Rattle.token_manager.specs.Managers.{after_decide, after_enqueue, decide_answer};
+ghost use Rattle.token_manager.specs.Managers.{is_ready_at, outlook_of, ready_at};
 ghost use Rattle.token_manager.specs.Laws.{KeepsLaws};
 
 use crate::grants::Grants;
@@ -200,8 +201,8 @@ impl TokenManager {
         Ok(asked)
     }
 
-    /// Puts a want behind all that are queued, whatever is in its way: it is decided by `decide`, or by `next_ready`. On
-    /// an error nothing changes.
+    /// Puts a want behind all that are queued, whatever is in its way: it is decided by `decide`, or by `next_ready`.
+    /// On an error nothing changes.
     pub fn enqueue(&mut self, want: Want) -> Result<(), NoMemory>
         requires count { self.old.asked < 2 ^ 44 }
         requires rising { IfSome self.old.latest (λ latest. latest < want.number) }

@@ -3,7 +3,8 @@ ghost use Rattle.std.specs.Prelude.{◌≡◌, ◌<◌, ◌≤◌, length, nat_l
 ghost use Rattle.std.specs.List.{find, list_any, position};
 ghost use Rattle.std.specs.Option.{option_copied};
 ghost use Rattle.tree_answers.specs.Away.{is_away_named, away_id};
-ghost use Rattle.tree_answers.specs.Finding.{is_named, has_id, is_here, leads_to, fileset_place, fileset_named, is_taken};
+ghost use Rattle.tree_answers.specs.Finding.{is_named, has_id, is_here, leads_to, fileset_place};
+ghost use Rattle.tree_answers.specs.Finding.{fileset_named, is_taken};
 ghost use Rattle.tree_answers.specs.Finding.{move_place, id_place};
 
 use crate::tree::{Away, Tree};
