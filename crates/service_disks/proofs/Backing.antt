@@ -61,7 +61,7 @@ module _ {D : Type 0} (tells : Type 0) (view : D → DiskView) (roster : Roster)
   still_back server disk = record {
     counted = omega arith;
     same_record = λ told unblank. refl;
-    crash = λ told unfailed. record { later = omega arith; each = λ t c le left. inl left };
+    crash = λ told. record { later = omega arith; each = λ t c le left. inl left };
   }
 
   pub all_still : (n : ℕ) (disks : List D) → AreBack tells view roster n disks disks

@@ -24,9 +24,6 @@ use Rattle.service_disks.specs.Opening.{IsNotFormatted, IsNotMounted, LeavesForm
 pub rose_twice : (a b c : ℕ) → RoseBy 1 a b → RoseBy 1 b c → RoseBy 2 a c
 rose_twice a b c first second = omega (arith, first, second)
 
-pub rose_before : (a b c : ℕ) → a ≤ b → RoseBy 1 b c → RoseBy 1 a c
-rose_before a b c less rose = omega (arith, less, rose)
-
 pub rose_since : (a b c : ℕ) → RoseBy 1 a b → b ≤ c → RoseBy 1 a c
 rose_since a b c rose less = omega (arith, rose, less)
 
@@ -77,20 +74,10 @@ unformatted_again Failed old mid new rose is = (rose_twice old.faults mid.faults
 unformatted_again Memory old mid new rose is = tt
 unformatted_again (NotAggregate place) old mid new rose is = is
 
--- of a format that was tried once more nothing is told
-pub failed_ok : {D E : Type 0} (view : D → View) (roster : Roster) (server : ServerId) (old mid : View) (result : Result (Aggregate D) E) → RoseBy 1 old.faults mid.faults → IfOk result (λ store. mid.faults ≤ (view (disk_in store)).faults)
-    → IfOk result (λ store. LeavesFormatted roster server old (view (disk_in store)))
-failed_ok view roster server old mid result rose = ok_so result (λ store less unfailed. absurd (unfailed (rose_since old.faults mid.faults (view (disk_in store)).faults rose less)))
-
-pub failed_err : {D T E : Type 0} (view : D → View) (disk : E → D) (roster : Roster) (server : ServerId) (old mid : View) (result : Result T E) → RoseBy 1 old.faults mid.faults → IfErr result (λ e. mid.faults ≤ (view (disk e)).faults)
-    → IfErr result (λ e. LeavesFormatted roster server old (view (disk e)))
-failed_err view disk roster server old mid result rose = err_so result (λ e less unfailed. absurd (unfailed (rose_since old.faults mid.faults (view (disk e)).faults rose less)))
-
 -- behind a look at the disk
-pub opened_blank : (roster : Roster) (server : ServerId) (old mid new : View) → IsQuiet old mid → old.faults ≤ mid.faults → is_blank old.image ≡ true → LeavesFormatted roster server mid new → LeavesOpened roster server old new
-opened_blank roster server old mid new still less blank made = λ unfailed.
-    then (quiet _ still) (weaker (made (λ rose. unfailed blank (rose_before old.faults mid.faults new.faults less rose))) (λ c has. inl (blank, has)))
+pub opened_blank : (roster : Roster) (server : ServerId) (old mid new : View) → IsQuiet old mid → is_blank old.image ≡ true → LeavesFormatted roster server mid new → LeavesOpened roster server old new
+opened_blank roster server old mid new still blank made = then (quiet _ still) (weaker made (λ c has. inl (blank, has)))
 
 pub opened_other : (roster : Roster) (server : ServerId) (old mid new : View) → IsQuiet old mid → is_blank old.image ≡ false → LeavesOnly (HasSameRecord roster server mid.image) mid new → LeavesOpened roster server old new
-opened_other roster server old mid new still unblank made = λ unfailed.
+opened_other roster server old mid new still unblank made =
     then (quiet _ still) (weaker made (λ c has. inr (unblank, has ∙ ap (λ (l : List ℕ). record_in roster server l) still.image)))

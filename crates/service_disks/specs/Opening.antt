@@ -73,13 +73,10 @@ IsLeftOfOpening roster server image c =
     ((is_blank image ≡ true) × IsLeftOfFormat (new_store roster server) c)
     ⊎ ((is_blank image ≡ false) × HasSameRecord roster server image c)
 
--- A crash in the format of a disk that didn't fail leaves what could be left before, no log, or the new store.
+-- A crash in the format of a disk leaves what could be left before, no log, or the new store.
 abbrev pub LeavesFormatted : Roster → ServerId → View → View → Type 0
-LeavesFormatted roster server old new =
-    (RoseBy 1 old.faults new.faults → ⊥) → LeavesOnly (IsLeftOfFormat (new_store roster server)) old new
+LeavesFormatted roster server old new = LeavesOnly (IsLeftOfFormat (new_store roster server)) old new
 
--- So it is where a disk is opened. Of a blank one that failed nothing is told.
+-- a crash in the opening of a disk leaves what could be left before, or that
 abbrev pub LeavesOpened : Roster → ServerId → View → View → Type 0
-LeavesOpened roster server old new =
-    (is_blank old.image ≡ true → RoseBy 1 old.faults new.faults → ⊥)
-    → LeavesOnly (IsLeftOfOpening roster server old.image) old new
+LeavesOpened roster server old new = LeavesOnly (IsLeftOfOpening roster server old.image) old new

@@ -3,6 +3,7 @@
 #![tactic(auto)]
 
 mod disks;
+mod formatting;
 mod opening;
 mod seating;
 mod seats;

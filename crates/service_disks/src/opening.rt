@@ -1,5 +1,5 @@
 // A server's disk is opened as it is found. What fails is tried once more.
-ghost use Rattle.std.specs.Prelude.{◌≡◌, ◌≤◌, true, false, Some, length, IfOk, IfErr, OnErr, IsTrue};
+ghost use Rattle.std.specs.Prelude.{◌≡◌, ◌≤◌, false, Some, length, IfOk, IfErr, OnErr, IsTrue};
 ghost use Rattle.base_types.specs.Crash.{IsQuiet};
 ghost use Rattle.base_types.specs.Faults.{RoseBy};
 ghost use Rattle.base_types.specs.declared.limits.TheConstants.{SERVERS_MAX, CAPACITY_MIN, CAPACITY_MAX};
@@ -11,16 +11,14 @@ ghost use Rattle.disk_aggregate.specs.Records.{HasRecord, HasSameRecord};
 ghost use Rattle.disk_aggregate.specs.Stands.{disk_in, state_in};
 ghost use Rattle.disk_aggregate.specs.StoreView.{IsOpened};
 ghost use Rattle.service_disks.specs.Opening.{
-  new_store,
   store_on,
-  IsNotFormatted,
   IsNotMounted,
   IsNotOpened,
   IsTaken,
-  LeavesFormatted,
   LeavesOpened,
 };
 
+use crate::formatting::format_disk;
 use base_types::{Disk, Failed, ServerId};
 use disk_aggregate::{Aggregate, MountRefused};
 use disk_log::is_blank;
@@ -38,38 +36,6 @@ fn is_new<D: Disk>(disk: &mut D) -> Result<bool, Failed>
     match is_blank(disk) {
         Ok(blank) => Ok(blank),
         Err(Failed) => is_blank(disk),
-    }
-}
-
-// Formats a blank disk.
-fn format_disk<D: Disk>(
-    alloc: Global,
-    disk: D,
-    server: ServerId,
-    roster: &Roster,
-) -> Result<Aggregate<D>, (D, MountRefused)>
-    requires declared { IsServer roster.now server }
-    requires servers { length roster.now.capacity ≤ SERVERS_MAX }
-    requires least { CAPACITY_MIN ≤ capacity_of roster.now server }
-    requires most { capacity_of roster.now server ≤ CAPACITY_MAX }
-    ensures new { IfOk result (λ aggregate. state_in aggregate ≡ new_store roster.now server) }
-    ensures opened { IfOk result (λ aggregate. IsOpened D.tells D.view aggregate) }
-    ensures record { D.tells
-        → IfOk result (λ aggregate. HasRecord (state_in aggregate) (D.view (disk_in aggregate)).image) }
-    ensures crash { D.tells → is_blank (D.view disk).image ≡ true → IfOk result
-        (λ aggregate. LeavesFormatted roster.now server (D.view disk) (D.view (disk_in aggregate))) }
-    ensures crash_err { D.tells → is_blank (D.view disk).image ≡ true → IfErr result
-        (λ e. LeavesFormatted roster.now server (D.view disk) (D.view e.0)) }
-    ensures counted { IfOk result (λ aggregate. (D.view disk).faults ≤ (D.view (disk_in aggregate)).faults) }
-    ensures counted_err { IfErr result (λ e. (D.view disk).faults ≤ (D.view e.0).faults) }
-    ensures only { IfErr result (λ e. IsNotFormatted e.1 (D.view disk) (D.view e.0)) }
-{
-    match Aggregate::format(alloc, disk, server, roster) {
-        Ok(store) => Ok(store),
-        Err((disk, refused)) => match refused {
-            MountRefused::Failed => Aggregate::format(alloc, disk, server, roster),
-            MountRefused::NotAggregate(_) | MountRefused::Memory => Err((disk, refused)),
-        },
     }
 }
 
@@ -116,8 +82,8 @@ fn mount_disk<D: Disk>(
 /// those with which it was handed in, or those that a first mount left that failed; not a byte is written then.
 /// `Failed` comes only where the disk failed twice, the second time at its last call, and `Memory` where memory ran
 /// out. Each error hands the disk back; one that isn't blank has the same record. A crash at any moment of the call
-/// leaves what a crash before could leave, or that record again. So it is of a blank disk that doesn't fail, but that
-/// no log may be left, refused at place 0, or the new store.
+/// leaves what a crash before could leave, or that record again; of a blank disk, whatever failed, no log, refused at
+/// place 0, or the new store.
 pub fn open_disk<D: Disk>(
     alloc: Global,
     disk: D,

@@ -55,9 +55,6 @@ some_lt count n e = grind (arith, common_steps, e)
 none_lt : (count : ℕ) → count ≡ 0 → nat_lt 0 count ≡ false
 none_lt count e = grind (arith, common_steps, e)
 
-rose_later : (a b c : ℕ) → b ≤ c → RoseBy 1 a b → RoseBy 1 a c
-rose_later a b c less rose = omega (arith, less, rose)
-
 -- whether all are bytes
 bytes_or : (c : List ℕ) → AreBytes c ⊎ (AreBytes c → ⊥)
 bytes_or [] = inl (λ k. omega arith)
@@ -306,13 +303,10 @@ module _ {D : Type 0} (tells : Type 0) (view : D → DiskView) (roster : Roster)
               (λ first. inr (inr (inr (λ _. (from, from_was, subst (λ o. IsFirstOf from few o) (found_is c) first))))) (run.each moment c le (bytes, left))
           by moment c le left (inr none) = inr (inr (inr (λ bytes. absurd (none bytes))))
 
-      pub has_left : (is_blank (view old).image ≡ true → RoseBy 1 (view old).faults (view new).faults → ⊥)
-          → LeavesOnly (IsLeftBySteps roster (server_of (k + 1)) few (view old).image) (view old) (view new)
-      has_left unfailed =
+      pub has_left : LeavesOnly (IsLeftBySteps roster (server_of (k + 1)) few (view old).image) (view old) (view new)
+      has_left =
           subst (λ (d : D). LeavesOnly (IsLeftBySteps roster (server_of (k + 1)) few (view old).image) (view old) (view d)) here.is
-          (then
-          (weaker (opened (λ blank rose. unfailed blank (subst (λ (d : D). RoseBy 1 (view old).faults (view d).faults) here.is (rose_later (view old).faults (view (disk_in here.store)).faults (view (disk_in here.after)).faults here.counted rose))))
-          (λ c left. opening_left roster (server_of (k + 1)) few (view old).image c left)) run_left)
+          (then (weaker opened (λ c left. opening_left roster (server_of (k + 1)) few (view old).image c left)) run_left)
         where
           opened : LeavesOpened roster (server_of (k + 1)) (view old) (view (disk_in here.store))
           opened = subst (λ (d : D). LeavesOpened roster (server_of (k + 1)) (view d) (view (disk_in here.store))) disk (here.opened.crash t)

@@ -233,8 +233,8 @@ module _ {D writes : Type 0} (tells : Type 0) (view : D → DiskView) (script : 
       whole = λ ran. by result gone.does.all gone.ran (own ran);
       kept = λ k old new was is.
           has_done tells view script.roster olds stores left are placed same result gone.steps gone.does t k old new was (ap (λ (l : List D). slice_get l k) (sym closed) ∙ is);
-      leaves = λ k old new was is unfailed.
-          has_left tells view script.roster olds stores left are placed same result gone.steps gone.does t k old new was (ap (λ (l : List D). slice_get l k) (sym closed) ∙ is) unfailed;
+      leaves = λ k old new was is.
+          has_left tells view script.roster olds stores left are placed same result gone.steps gone.does t k old new was (ap (λ (l : List D). slice_get l k) (sym closed) ∙ is);
     }
       where
         few : ℕ → Option StoreState

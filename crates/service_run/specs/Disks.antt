@@ -20,7 +20,6 @@ use Rattle.std.specs.Prelude.{
   Ok,
 }
 use Rattle.std.specs.Option.{option_map}
-use Rattle.base_types.specs.Faults.{RoseBy}
 use Rattle.base_types.specs.Image.{AreBytes}
 use Rattle.base_types.specs.View.{View}
 use Rattle.base_types.specs.declared.ids.ServerId.{ServerId}
@@ -154,8 +153,7 @@ pub record HasDone (roster : Roster) (server : ServerId) (acts : List Act) (old 
 -- What became of disks in the steps of a run. Each has the record that its server's acts among the first steps made, up
 -- to one and the same step for all: where the script ran, all steps, and they are those of its history. A crash at any
 -- moment leaves of each the record that the first of its acts made, or what is said above; and none of these acts lies
--- more than a batch behind that step, so that what was durable once is there in the end. Of a blank disk that failed no
--- crash is told.
+-- more than a batch behind that step, so that what was durable once is there in the end.
 pub record GoBySteps {D : Type 0} (view : D → View) (script : Script) (outcome : Outcome) (olds news : List D) :
     Type 0 where
   pub all : List Told
@@ -170,7 +168,6 @@ pub record GoBySteps {D : Type 0} (view : D → View) (script : Script) (outcome
   pub kept : (k : ℕ) (old new : D) → slice_get olds k ≡ Some old → slice_get news k ≡ Some new
       → HasDone script.roster (server_of (k + 1)) (acts_at k (take cut steps)) (view old).image (view new).image
   pub leaves : (k : ℕ) (old new : D) → slice_get olds k ≡ Some old → slice_get news k ≡ Some new
-      → (is_blank (view old).image ≡ true → RoseBy 1 (view old).faults (view new).faults → ⊥)
       → LeavesOnly (IsLeftBySteps script.roster (server_of (k + 1)) (acts_at k (take (cut + BATCH_ACTS_MAX) steps))
       (view old).image) (view old) (view new)
 

@@ -38,7 +38,7 @@ use std::thread::Threads;
 /// step for all: what was left of moves is settled and finished, each server begins the run, and then come the acts of
 /// the history; where they weren't all opened, each that isn't blank has the record that it had. A crash at any moment
 /// leaves of each disk what the first of its acts made, none more than a batch behind that step; or a blank disk
-/// without a log, refused at place 0. Of a blank disk that failed, what a crash leaves isn't told.
+/// without a log, refused at place 0.
 ///
 /// The status is `NoCommand` exactly where the words aren't in the grammar, and then the usage line is written, and
 /// nothing is called; `NoInput` only where the source's count of faults rose, and then `refused: read fault` is

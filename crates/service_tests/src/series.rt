@@ -17,6 +17,8 @@ enum Fault {
     Once,
     // At a call and from then on.
     Always,
+    // At this call, and at one behind it.
+    Twice(u64),
 }
 
 /// A script and what it is to give, over disks of which one fails, and then a script and what it is to give over what
@@ -41,7 +43,7 @@ pub struct Series {
 }
 
 /// Reads a series: `NAME | WORDS | FAULT DISK FIRST LAST STEP | SCRIPT | OUTPUT | NEXT | END`. FAULT is `fails`, at one
-/// call alone, or `stops`, from one on.
+/// call alone, `stops`, from one on, or `again:CALL`, at that one and at one more.
 pub fn series_of(alloc: Global, line: &str) -> Result<Series> {
     let mut cells = line.split('|');
     let name = cells.next().context("a name")?.trim();
@@ -66,7 +68,8 @@ fn fault_of(word: Option<&str>) -> Result<Fault> {
     match word {
         Some("fails") => Ok(Fault::Once),
         Some("stops") => Ok(Fault::Always),
-        _ => bail!("how a disk fails"),
+        Some(word) => Ok(Fault::Twice(number_of(word.strip_prefix("again:"))?)),
+        None => bail!("how a disk fails"),
     }
 }
 
@@ -98,6 +101,10 @@ impl Series {
                 match self.fault {
                     Fault::Once => disk.failing.push(call)?,
                     Fault::Always => disk.fuse = Some(call.saturating_sub(1)),
+                    Fault::Twice(earlier) => {
+                        disk.failing.push(earlier)?;
+                        disk.failing.push(call)?;
+                    }
                 }
             }
             made.push(disk)?;
@@ -112,7 +119,7 @@ impl Series {
         }
         let refusal = format!(in alloc; "refused: disk {} failed\n", self.disk)?;
         Ok(
-            matches!(self.fault, Fault::Always)
+            !matches!(self.fault, Fault::Once)
                 && ran.status == 5
                 && ran.output.as_slice() == refusal.as_bytes(),
         )
@@ -183,12 +190,23 @@ fn judge_at(
     if !series.is_first(alloc, &first)? {
         tell(rt, series, call, "first", &first)?;
     }
+    check_left(rt, series, call, &first)?;
     let next = ran_on(rt, first.left.as_slice(), words, series.next.as_slice())?;
     if !series.is_next(&next) {
         tell(rt, series, call, "next", &next)?;
     }
-    let words = check_words(alloc, words)?;
-    let check = ran_on(rt, next.left.as_slice(), words.as_slice(), &[])?;
+    check_left(rt, series, call, &next)
+}
+
+// Checks the disks that a run left: each is blank, or has no fault.
+fn check_left(
+    rt: &(impl Print + AllocGlobal + Threads + Sync),
+    series: &Series,
+    call: u64,
+    ran: &Ran,
+) -> Result<()> {
+    let words = check_words(rt.alloc(), series.words.as_slice())?;
+    let check = ran_on(rt, ran.left.as_slice(), words.as_slice(), &[])?;
     if check.status != 0 {
         tell(rt, series, call, "check", &check)?;
     }
