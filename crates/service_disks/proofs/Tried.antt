@@ -13,8 +13,6 @@ use Rattle.disk_image.specs.Refused.{refused_at}
 use Rattle.disk_records.specs.Record.{record_in}
 use Rattle.disk_aggregate.specs.Records.{HasRecord, HasSameRecord}
 use Rattle.disk_aggregate.specs.Refused.{IsRefused, IsOpenFault}
-use Rattle.disk_aggregate.specs.Stands.{disk_in}
-use Rattle.disk_aggregate.specs.declared.aggregate.Aggregate.{Aggregate}
 use Rattle.disk_aggregate.specs.declared.refused.MountRefused.{MountRefused}
 use Rattle.disk_aggregate.specs.declared.refused.MountRefused.TheVariants.{NotAggregate, Failed, Memory}
 use Rattle.store_state.specs.declared.state.StoreState.{StoreState}
