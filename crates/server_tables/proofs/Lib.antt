@@ -51,3 +51,4 @@ pub mod Unqueued
 pub mod Counted
 pub mod Found
 pub mod Updated
+pub mod Again

@@ -1,0 +1,7 @@
+pub mod Admits
+pub mod Asked
+pub mod Chains
+pub mod Hailed
+pub mod Picks
+pub mod StepsMade
+pub mod Told

@@ -1,0 +1,6 @@
+pub mod Claiming
+pub mod Hailing
+pub mod Laws
+pub mod Revoking
+pub mod Running
+pub mod Writing
