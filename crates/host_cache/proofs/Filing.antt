@@ -1,5 +1,8 @@
 -- What is kept of each file, where one changes.
-use Rattle.std.proofs.Common.{◌≡◌, ◌≤◌, ◌<◌, ℕ, zero, suc, Bool, true, false, not, cond, ◌&&◌, ◌==◌, List, [], length, Option, Some, None, refl, sym, ap, ◌∙◌, subst, arith, if◌then◌else◌, unwrap_or, is_some, ne_eqb, All, IsSome, Result, Ok, Err, OnErr, OnOk}
+use Rattle.std.proofs.Common.{◌≡◌, ◌≤◌, ◌<◌, ℕ, zero, suc, Bool, true, false}
+use Rattle.std.proofs.Common.{not, cond, ◌&&◌, ◌==◌, List, [], length, Option, Some}
+use Rattle.std.proofs.Common.{None, refl, sym, ap, ◌∙◌, subst, arith, if◌then◌else◌, unwrap_or}
+use Rattle.std.proofs.Common.{is_some, ne_eqb, All, IsSome, Result, Ok, Err, OnErr, OnOk}
 use Rattle.std.specs.List.{filter}
 use Rattle.std.specs.Map.{lookup}
 use Rattle.std.proofs.lemmas.Bool.{eqb-true, and_parts, cond-false}
@@ -15,7 +18,8 @@ use Rattle.token_types.specs.declared.token.Need.{Need}
 use Rattle.token_types.specs.declared.token.Token.{Token}
 use Rattle.token_types.specs.declared.token.TokenId.{TokenId}
 use Rattle.host_cache.specs.Holding.{helps_cover, helpers_first}
-use Rattle.host_cache.specs.Files.{FileKey, same_key, nothing, parts_at, Puts, left, HasRoom, Grows, Learns, Writes, without_token, IsRoomy}
+use Rattle.host_cache.specs.Files.{FileKey, same_key, nothing, parts_at, Puts, left}
+use Rattle.host_cache.specs.Files.{HasRoom, Grows, Learns, Writes, without_token, IsRoomy}
 use Rattle.host_cache.specs.Parts.{Parts}
 
 -- how a table compares keys

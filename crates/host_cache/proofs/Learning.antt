@@ -1,5 +1,6 @@
 -- What is kept of a file after a token was put first.
-use Rattle.std.proofs.Common.{◌≡◌, ℕ, Bool, true, false, List, ◌∷◌, length, Option, Some, None, refl, sym, ap, ◌∙◌, if◌then◌else◌, is_some, true≢false}
+use Rattle.std.proofs.Common.{◌≡◌, ℕ, Bool, true, false, List, ◌∷◌, length, Option}
+use Rattle.std.proofs.Common.{Some, None, refl, sym, ap, ◌∙◌, if◌then◌else◌, is_some, true≢false}
 use Rattle.base_types.specs.Image.{byte_at}
 use Rattle.base_types.specs.Spans.{has_byte}
 use Rattle.base_types.specs.declared.span.Span.{Span}

@@ -1,5 +1,7 @@
 -- The held tokens, as entries under their numbers.
-use Rattle.std.proofs.Common.{◌≡◌, ◌≤◌, ◌<◌, ℕ, ◌-◌, ◌^◌, Bool, true, false, not, cond, ◌&&◌, ◌==◌, List, [], ◌∷◌, ◌++◌, map, length, take, Option, Some, None, refl, sym, ap, ◌∙◌, subst, arith, append-nil, option_map, if◌then◌else◌, take_all}
+use Rattle.std.proofs.Common.{◌≡◌, ◌≤◌, ◌<◌, ℕ, ◌-◌, ◌^◌, Bool, true, false, not, cond, ◌&&◌, ◌==◌, List, [], ◌∷◌, ◌++◌}
+use Rattle.std.proofs.Common.{map, length, suc, take, Option, Some, None, refl}
+use Rattle.std.proofs.Common.{sym, ap, ◌∙◌, subst, arith, append-nil, option_map, if◌then◌else◌, take_all}
 use Rattle.std.specs.List.{find, filter, IsDistinct, AllByRecursion}
 use Rattle.std.specs.Option.{option_map_or}
 use Rattle.std.specs.Map.{lookup, lookup_entry, remove_entry, set_value, values_of, keys_of}
@@ -231,3 +233,8 @@ module _ (es rest : List (IdKey × Held)) (k : IdKey) (h : Held) (is : es ≡ re
   last_used e =
       ap last_of (idle_push ∙ ap (λ b. filter is_idle (values_of rest) ++ cond (not b) (h ∷ []) []) e
       ∙ append-nil (filter is_idle (values_of rest)))
+
+-- there are as many values as entries
+pub length_values : (es : List (IdKey × Held)) → length es ≡ length (values_of es)
+length_values [] = refl
+length_values (e ∷ es) = ap suc (length_values es)

@@ -1,5 +1,8 @@
 -- What a cache shows, where the held tokens or what is kept of a file change.
-use Rattle.std.proofs.Common.{◌≡◌, ◌≤◌, ◌<◌, ℕ, ◌+◌, ◌-◌, Bool, true, false, ◌&&◌, ◌||◌, List, [], ◌∷◌, map, length, Option, Some, None, refl, sym, ap, ◌∙◌, subst, arith, if◌then◌else◌, All, option_map, inl, inr, take, drop, slice_get, length-drop}
+use Rattle.std.proofs.Common.{◌≡◌, ◌≤◌, ◌<◌, ℕ, ◌+◌, ◌-◌, Bool, true}
+use Rattle.std.proofs.Common.{false, ◌&&◌, ◌||◌, List, [], ◌∷◌, map, length, Option}
+use Rattle.std.proofs.Common.{Some, None, refl, sym, ap, ◌∙◌, subst, arith}
+use Rattle.std.proofs.Common.{if◌then◌else◌, All, option_map, inl, inr, take, drop, slice_get, length-drop}
 use Rattle.std.specs.Bool.{IsTrue}
 use Rattle.std.specs.List.{filter, list_any}
 use Rattle.std.proofs.lemmas.Bool.{and_parts, or_cases, or_left, or_right, cases_lt, cond-false, and_right}
@@ -13,7 +16,8 @@ use Rattle.base_types.specs.Ids.{same_fid}
 use Rattle.base_types.specs.Spans.{has_byte}
 use Rattle.base_types.specs.declared.ids.Fid.{Fid}
 use Rattle.tree_calls.specs.declared.part.Status.{Status as StatusOf}
-use Rattle.token_types.specs.Covers.{does_for, kind_covers_byte, covers_byte, covers_alone, kind_covers, CoversBetween, CoversKind}
+use Rattle.token_types.specs.Covers.{does_for, kind_covers_byte, covers_byte}
+use Rattle.token_types.specs.Covers.{covers_alone, kind_covers, CoversBetween, CoversKind}
 use Rattle.token_types.specs.declared.token.Kind.{Kind}
 use Rattle.token_types.specs.declared.token.Kind.TheVariants.{Bytes, Status, Lock, Opening}
 use Rattle.token_types.specs.declared.token.Token.{Token}
@@ -21,9 +25,11 @@ use Rattle.token_types.specs.declared.token.TokenId.{TokenId}
 use Rattle.host_cache.specs.declared.held.Held.{Held}
 use Rattle.host_cache.specs.Bytes.{is_within}
 use Rattle.host_cache.specs.Holding.{is_id, tokens_of, with_use, kind_has_byte, shows_byte, tells_of}
-use Rattle.host_cache.specs.Files.{FileKey, file_key, same_key, nothing, parts_at, Puts, HasRoom, Grows, Writes, with_length, IsRoomy}
+use Rattle.host_cache.specs.Files.{FileKey, file_key, same_key, nothing, parts_at}
+use Rattle.host_cache.specs.Files.{Puts, HasRoom, Grows, Writes, with_length, IsRoomy}
 use Rattle.host_cache.specs.Parts.{Parts}
-use Rattle.host_cache.specs.Seen.{Kept, Seen, seen, tells, shows, after_write, after_length, after_set_use, of_key, IsKept}
+use Rattle.host_cache.specs.Seen.{Kept, Seen, seen, tells, shows}
+use Rattle.host_cache.specs.Seen.{after_write, after_length, after_set_use, of_key, IsKept}
 use Rattle.host_cache.proofs.Writing.{not_within_low, not_within_high}
 use Rattle.host_cache.proofs.Filing.{puts_same, key_same, put_here, put_elsewhere, each_key, grows_roomy, writes_roomy}
 use Rattle.host_cache.proofs.Lists.{any_kept, any_filter, any-map, filter-map}

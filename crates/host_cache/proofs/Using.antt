@@ -1,5 +1,7 @@
 -- Tokens that are used, and tokens that are dropped.
-use Rattle.std.proofs.Common.{◌≡◌, ◌≤◌, ◌<◌, ℕ, suc, ◌+◌, Bool, true, false, not, cond, ◌&&◌, ◌==◌, List, [], ◌∷◌, ◌++◌, length, refl, sym, ap, ◌∙◌, subst, arith, if◌then◌else◌, append_assoc, length-append, drop, get_or}
+use Rattle.std.proofs.Common.{◌≡◌, ◌≤◌, ◌<◌, ℕ, suc, ◌+◌, Bool, true, false, not, cond, ◌&&◌, ◌==◌, List}
+use Rattle.std.proofs.Common.{[], ◌∷◌, ◌++◌, length, refl, sym, ap}
+use Rattle.std.proofs.Common.{◌∙◌, subst, arith, if◌then◌else◌, append_assoc, length-append, drop, get_or}
 use Rattle.std.specs.List.{filter}
 use Rattle.std.proofs.lemmas.Bool.{and_parts}
 use Rattle.std.proofs.lemmas.Bool.Decides.{nat_tests}
@@ -9,7 +11,8 @@ use Rattle.token_types.specs.declared.token.Need.{Need}
 use Rattle.token_types.specs.declared.token.Token.{Token}
 use Rattle.token_types.specs.declared.token.TokenId.{TokenId}
 use Rattle.host_cache.specs.declared.held.Held.{Held}
-use Rattle.host_cache.specs.Holding.{is_id, brought, tokens_of, shows_byte, tells_of, helps, helps_cover, helpers_first, first_by, used, IsOnce, promoted}
+use Rattle.host_cache.specs.Holding.{is_id, brought, tokens_of, shows_byte, tells_of, helps}
+use Rattle.host_cache.specs.Holding.{helps_cover, helpers_first, first_by, used, IsOnce, promoted}
 use Rattle.host_cache.specs.Files.{FileKey, file_key, same_key, nothing, parts_at, Puts, IsRoomy}
 use Rattle.host_cache.specs.Parts.{Parts}
 use Rattle.host_cache.specs.Seen.{seen, after_used, of_key, IsKept}

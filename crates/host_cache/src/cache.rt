@@ -225,6 +225,13 @@ impl Cache {
         file.bring_helpers(need);
     }
 
+    /// How many tokens are held. It takes no memory.
+    pub fn len(&self) -> usize
+        ensures { result ≡ length self.now.held }
+    {
+        self.order.len()
+    }
+
     /// How many of the held tokens aren't in use. It takes no memory.
     pub fn idle(&self) -> usize
         ensures { result ≡ length (filter is_idle self.now.held) }

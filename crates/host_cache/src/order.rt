@@ -116,6 +116,13 @@ impl Order {
         }
     }
 
+    /// How many tokens are held.
+    pub(crate) fn len(&self) -> usize
+        ensures { result ≡ length self.now }
+    {
+        self.entries.len()
+    }
+
     /// How many tokens aren't in use.
     pub(crate) fn idle(&self) -> usize
         ensures { result ≡ length (filter is_idle self.now) }

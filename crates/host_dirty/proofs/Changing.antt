@@ -1,9 +1,14 @@
 -- How what is dirty changes.
-use Rattle.std.proofs.Common.{◌≡◌, ℕ, Bool, true, false, ◌==◌, ◌&&◌, ◌||◌, not, cond, List, [], ◌∷◌, length, Option, Some, None, is_none, unwrap_or, refl, sym, ap, ◌∙◌, arith, rules}
+use Rattle.std.proofs.Common.{◌≡◌, ℕ, Bool, true, false, ◌==◌, ◌&&◌, ◌||◌, not, cond, List, [], ◌∷◌, length, Option}
+use Rattle.std.proofs.Common.{Some}
+use Rattle.std.proofs.Common.{None, is_none, IsSome, Result, Ok, Err, OnErr, unwrap_or, refl, sym, ap, subst, ◌∙◌}
+use Rattle.std.proofs.Common.{arith}
+use Rattle.std.proofs.Common.{rules}
 use Rattle.std.specs.Ordering.{nat_cmp, is_eq, ordering_then}
 use Rattle.std.specs.declared.cmp.Ordering.{Ordering}
 use Rattle.std.specs.declared.cmp.Ordering.TheVariants.{Less, Equal, Greater}
 use Rattle.std.specs.BTreeMap.{get, is_at}
+use Rattle.std.specs.Map.{lookup}
 use Rattle.std.proofs.lemmas.Bool.Decides.{nat_tests}
 use Rattle.base_types.specs.Ids.{same_fid}
 use Rattle.base_types.specs.Spans.{has_byte, in_spans}
@@ -11,7 +16,7 @@ use Rattle.base_types.specs.declared.ids.Fid.{Fid}
 use Rattle.base_types.specs.declared.span.Span.{Span}
 use Rattle.token_ranges.specs.Positions.{Joins, Leaves}
 use Rattle.host_dirty.specs.Files.{FileKey, key_of, key_cmp, clean, is_clean}
-use Rattle.host_dirty.specs.Dirtiness.{file_at, length_of, is_dirty, Puts, Adds, Cuts, SetsLength}
+use Rattle.host_dirty.specs.Dirtiness.{file_at, length_of, is_dirty, Puts, Adds, Cuts, IsSame, SetsLength}
 use Rattle.host_dirty.specs.declared.dirty.Dirty.{Dirty}
 use Rattle.host_dirty.specs.declared.file.DirtyFile.{DirtyFile}
 
@@ -160,3 +165,48 @@ module _ (old new : Dirty) (fid : Fid) (file was : DirtyFile)
           (cond t file (file_at old other)).length ≡ cond t length (length_of old other)
       lengths other true = given
       lengths other false = refl
+
+-- where the map is the same, the same is dirty
+pub same_map : (old new : Dirty) → new.files.entries ≡ old.files.entries → IsSame old new
+same_map old new same fid = ap (λ es. unwrap_or (lookup (is_at (key_cmp (key_of fid))) es) clean) same
+
+-- a file that was found is what is dirty of it
+pub found_is : (old : Dirty) (fid : Fid) (k : FileKey) (was : DirtyFile) → k ≡ key_of fid
+    → Some was ≡ get key_cmp old.files k → was ≡ file_at old fid
+found_is old fid k was is there =
+    ap (λ o. unwrap_or o clean) (there ∙ ap (λ q. get key_cmp old.files q) is)
+
+some_there : (was : DirtyFile) (o : Option DirtyFile) → Some was ≡ o → IsSome o
+some_there was o e = subst (λ p. IsSome p) e refl
+
+-- it was changed in its place
+pub put_at : (old new : Dirty) (fid : Fid) (k : FileKey) (was file : DirtyFile) → k ≡ key_of fid
+    → Some was ≡ get key_cmp old.files k
+    → (IsSome (get key_cmp old.files k) → (q : FileKey) →
+    get key_cmp new.files q ≡ cond (is_at (key_cmp k) q) (Some file) (get key_cmp old.files q))
+    → Puts old fid file new
+put_at old new fid k was file is there updates =
+    put_in old new fid file (λ q. updates (some_there was (get key_cmp old.files k) there) q
+    ∙ ap (λ p. cond (is_at (key_cmp p) q) (Some file) (get key_cmp old.files q)) is)
+
+-- it was changed in its place, and then taken out
+out_after : (t : Bool) (w x : Option DirtyFile) → cond t None (cond t w x) ≡ cond t None x
+out_after true w x = refl
+out_after false w x = refl
+
+pub put_out : (old between new : Dirty) (fid : Fid) (k : FileKey) (was file : DirtyFile) → k ≡ key_of fid
+    → Some was ≡ get key_cmp old.files k → file ≡ clean
+    → (IsSome (get key_cmp old.files k) → (q : FileKey) →
+    get key_cmp between.files q ≡ cond (is_at (key_cmp k) q) (Some file) (get key_cmp old.files q))
+    → ((q : FileKey) → get key_cmp new.files q ≡ cond (is_at (key_cmp k) q) None (get key_cmp between.files q))
+    → Puts old fid file new
+put_out old between new fid k was file is there none updates gone =
+    taken_out old new fid file none (λ q. gone q
+    ∙ ap (λ o. cond (is_at (key_cmp k) q) None o) (updates (some_there was (get key_cmp old.files k) there) q)
+    ∙ out_after (is_at (key_cmp k) q) (Some file) (get key_cmp old.files q)
+    ∙ ap (λ p. cond (is_at (key_cmp p) q) None (get key_cmp old.files q)) is)
+
+-- what holds anyway, holds on an error
+pub on_err : {A E P : Type 0} (r : Result A E) → P → OnErr r P
+on_err (Ok a) p = tt
+on_err (Err e) p = p

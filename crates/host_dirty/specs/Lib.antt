@@ -1,3 +1,4 @@
 pub mod Files
+pub mod Filing
 pub mod Dirtiness
 pub mod FileLaws

@@ -33,8 +33,13 @@ impl Dirty {
         ensures after { OnOk result (Adds self.old fid span self.new) }
         ensures err { OnErr result (IsSame self.old self.new) }
     {
-        let mut file = self.file(fid)?;
-        file.spans.add(span)?;
+        let key = key_of(fid);
+        if let Some(file) = self.files.get_mut(&key) {
+            file.add(span)?;
+            return Ok(());
+        }
+        let mut file = DirtyFile::clean(self.alloc);
+        file.add(span)?;
         self.put(fid, file)?;
         Ok(())
     }
@@ -44,9 +49,14 @@ impl Dirty {
         ensures after { OnOk result (Cuts self.old fid span self.new) }
         ensures err { OnErr result (IsSame self.old self.new) }
     {
-        let mut file = self.file(fid)?;
-        file.spans.cut(span)?;
-        self.put(fid, file)?;
+        let key = key_of(fid);
+        let Some(file) = self.files.get_mut(&key) else {
+            return Ok(());
+        };
+        file.cut(span)?;
+        if file.is_clean() {
+            self.files.remove(&key);
+        }
         Ok(())
     }
 
@@ -62,17 +72,15 @@ impl Dirty {
         Ok(())
     }
 
-    /// The dirty positions of a file, as spans that are as long as can be, in order. The only error is that memory ran
-    /// out.
-    pub fn spans(&self, fid: Fid) -> Result<Items<Span>, NoMemory>
-        ensures spans { IfOk result (λ spans. spans ≡ spans_of self.now fid) }
-        ensures apart { IfOk result IsApart }
+    /// The dirty positions of a file, as spans that are as long as can be, in order. It takes no memory.
+    pub fn spans(&self, fid: Fid) -> &[Span]
+        ensures spans { result.now ≡ spans_of self.now fid }
+        ensures apart { IsApart result.now }
     {
-        let Some(file) = self.find(fid) else {
-            return Ok(Items::new(self.alloc));
-        };
-        let spans = Items::from_slice(self.alloc, file.spans.spans())?;
-        Ok(spans)
+        match self.find(fid) {
+            Some(file) => file.spans.spans(),
+            None => &[],
+        }
     }
 
     /// The dirty length of a file, in bytes; None where its length is clean. It takes no memory.

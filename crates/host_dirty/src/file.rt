@@ -1,7 +1,7 @@
-ghost use Rattle.std.specs.Prelude.{◌≡◌};
+ghost use Rattle.std.specs.Prelude.{◌≡◌, OnOk, OnErr};
 ghost use Rattle.host_dirty.specs.Files.{key_of, fid_of, clean, is_clean};
 
-use base_types::{Fid, FilesetId, NoMemory, Plain};
+use base_types::{Fid, FilesetId, NoMemory, Plain, Span};
 use std::alloc::Global;
 use token_ranges::SpanSet;
 
@@ -16,6 +16,8 @@ pub(crate) struct DirtyFile {
 }
 
 impl DirtyFile {
+    ghost use Rattle.host_dirty.specs.Filing.{AddsTo, CutsFrom};
+
     /// Nothing is dirty. It takes no memory.
     pub(crate) fn clean(alloc: Global) -> DirtyFile
         ensures { result ≡ clean }
@@ -31,6 +33,22 @@ impl DirtyFile {
         ensures { result ≡ is_clean self.now }
     {
         self.spans.spans().len() == 0 && self.length.is_none()
+    }
+
+    /// Makes the positions of a span dirty. On an error nothing changes.
+    pub(crate) fn add(&mut self, span: Span) -> Result<(), NoMemory>
+        ensures ok { OnOk result (AddsTo self.old span self.new) }
+        ensures err { OnErr result (self.new ≡ self.old) }
+    {
+        self.spans.add(span)
+    }
+
+    /// Makes the positions of a span clean. On an error nothing changes.
+    pub(crate) fn cut(&mut self, span: Span) -> Result<(), NoMemory>
+        ensures ok { OnOk result (CutsFrom self.old span self.new) }
+        ensures err { OnErr result (self.new ≡ self.old) }
+    {
+        self.spans.cut(span)
     }
 }
 

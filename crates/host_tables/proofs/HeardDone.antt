@@ -138,7 +138,7 @@ module _ (script : Script) (m : Tables) (past : List Step) (server : ServerId) (
           | inr z ↦ inr z
         ]) (sym y.3) (sym y.4)
 
-    none_used : (w : Bring) → AnswersRequest past s w → ⊥
+    pub none_used : (w : Bring) → AnswersRequest past s w → ⊥
     none_used w u =
         let r = brings_is w u in
         let y = stands.request.changing (home w.fid.fileset) d.fileset w.number r.3 in

@@ -8,7 +8,8 @@ use Rattle.host_tables.proofs.Lists.{by_test, in_any, same_fid_is}
 use Rattle.host_tables.specs.Half.{learning}
 use Rattle.host_tables.specs.Hearing.{ChangesSite, ClosesCall, ForgetsGives, RenewsFloors, heard_of, hears, saying}
 use Rattle.host_tables.specs.Hearing.{with_heard}
-use Rattle.host_tables.specs.Heeding.{AnswersNoFetch, AnswersUnused, ByeStands, FirstReclaimedStands, GoneStands}
+use Rattle.host_tables.specs.Heeding.{IsIgnored, AnswersNoFetch, AnswersUnused}
+use Rattle.host_tables.specs.Heeding.{ByeStands, FirstReclaimedStands, GoneStands}
 use Rattle.host_tables.specs.Heeding.{IgnoredStands, IsForOthers, OthersStands, ReclaimedStands, RestartedStands}
 use Rattle.host_tables.specs.Heeding.{UnaskedGrantStands, UnusedGrantStands, hearing}
 use Rattle.host_tables.specs.Heeding.IsIgnored.{OfOld, OfOther, OfOthers}
@@ -272,6 +273,17 @@ module _ (script : Script) (m : Tables) (past : List Step) (server : ServerId) (
     byes = λ v w. elim w [ inl x ↦ absurd (let p = answer_is v x.0 x.1 Bye x.2 in cc) | inr x ↦ x ];
   }
 
+pub ignored_teaches : (script : Script) (m : Tables) (past : List Step) (server : ServerId) (epoch moves : ℕ)
+    (body : Body)
+    → Stands script m past → IsIgnored m server epoch moves body
+    → TeachesNothing past (hears m.host server epoch moves body)
+ignored_teaches script m past server epoch moves body stands (OfOther _ other no_bye no_restart no_answer) =
+    other_teaches script m past server epoch moves body stands other no_bye no_restart no_answer
+ignored_teaches script m past server epoch moves body stands (OfOld old) =
+    old_teaches script m past server epoch moves stands old
+ignored_teaches script m past server epoch moves body stands (OfOthers a known other) =
+    others_teaches script m past server epoch moves a stands known other
+
 pub ignored_stands : IgnoredStands
 ignored_stands script m past server epoch moves body stands (OfOther _ other no_bye no_restart no_answer) =
     quiet_stands script m past server epoch moves body stands
@@ -284,7 +296,8 @@ ignored_stands script m past server epoch moves body stands (OfOthers a known ot
     (others_teaches script m past server epoch moves a stands known other)
 
 -- what no host is told
-others_teach : (m : Tables) (past : List Step) (server : ServerId) (epoch moves : ℕ) (body : Body) → IsForOthers body
+pub others_teach : (m : Tables) (past : List Step) (server : ServerId) (epoch moves : ℕ) (body : Body)
+    → IsForOthers body
     → TeachesNothing past (hears m.host server epoch moves body)
 others_teach m past server epoch moves body for_others = record {
   epochs = λ v. plain_epoch body (server.0 == v.0) epoch (epoch_at past v)
@@ -335,7 +348,7 @@ module _ (script : Script) (m : Tables) (past : List Step) (server : ServerId) (
   none_done_g v d (inl x) = let p = grant_is _ _ _ (Done d) x.1 in absurd (cc)
   none_done_g v d (inr x) = let p = grant_is _ _ _ (Done d) x in absurd (cc)
 
-  none_learnt_g : (n : AppliedGive) → Learns past b n → ⊥
+  pub none_learnt_g : (n : AppliedGive) → Learns past b n → ⊥
   none_learnt_g n l = elim l.1 [
     | inl x ↦ (let p = grant_is _ _ _ (Gone n) x in absurd (cc))
     | inr x ↦ (let p = grant_is _ _ _ (Reclaimed x.1) x.2 in absurd (cc))
@@ -369,7 +382,7 @@ module _ (script : Script) (m : Tables) (past : List Step) (server : ServerId) (
   call_g = parts.call_same m.host cause_g past m.call m.begun (λ c e. goes_on_g c) stands.call
 
   module _ (unasked : AnswersNoFetch m g) where
-    none_used_g : (w : Bring) → AnswersRequest past b w → ⊥
+    pub none_used_g : (w : Bring) → AnswersRequest past b w → ⊥
     none_used_g w u =
         let r = brings_g w u in
         let f = stands.request.asking w.fid.fileset w.number r.1 in

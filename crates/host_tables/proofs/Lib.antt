@@ -43,3 +43,6 @@ pub mod RevokeSteps
 pub mod Updating
 pub mod Tidy
 pub mod Resting
+pub mod Outstanding
+pub mod Declared
+pub mod RestingOn

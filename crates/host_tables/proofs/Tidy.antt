@@ -15,7 +15,7 @@ use Rattle.host_tables.specs.RevokeSteps.SaysRevoked.{BackGiven, BackKept, BackR
 use Rattle.host_tables.specs.Saying.{ClaimFrom, SaysAgain}
 use Rattle.host_tables.specs.Saying.SaysAgain.{OfBye, OfChange, OfClaim, OfFetch, OfGive, OfHello}
 use Rattle.host_tables.specs.Tables.{held_of}
-use Rattle.host_tables.specs.Tidy.{AgainSound, ChangeSound, DoneTidy, FetchSound, GrantTidy, IsKnownServer}
+use Rattle.host_tables.specs.Tidy.{AgainSound, ChangeSound, DoneTidy, FetchSound, GrantTidy}
 use Rattle.host_tables.specs.Tidy.{IsOutgoing, IsTidy, IsTidyChange, IsTidyFetch, IsTidyGive, IsTidyToken, LeftSound}
 use Rattle.host_tables.specs.Tidy.{RevokedSound, TidyFirst, TidyStays}
 use Rattle.host_tables.specs.declared.tables.Tables.{Tables}
@@ -54,7 +54,7 @@ of_each P (y ∷ ys) all x (inl e) = subst P (sym e) all.0
 of_each P (y ∷ ys) all x (inr i) = of_each P ys all.1 x i
 
 -- the home of a fileset, by its number
-home_number : (fs : FilesetId) → fs.0 / 65536 ≡ (home fs).0
+pub home_number : (fs : FilesetId) → fs.0 / 65536 ≡ (home fs).0
 unfolding home
 home_number fs = refl
 
@@ -80,9 +80,6 @@ module _ (roster : Roster) (m : Tables) (y : Message) (tidy : IsTidy roster m) (
     moves = subst (HasMoves y.body) (sym out.no_moves) moves;
     body = body;
   }
-
-  known_server : IsKnownServer m y.server → IsServer roster y.server
-  known_server k = subst (IsServer roster) k.2 (tidy.sites k.0 k.1)
 
   give_body : (g : Give) → IsTidyGive roster g → home g.fid.fileset ≡ y.server → IsGiveBack roster y g
   give_body g t at = record {
@@ -146,57 +143,57 @@ module _ (roster : Roster) (m : Tables) (y : Message) (tidy : IsTidy roster m) (
   with_body b e declared goes moves body = sound_by declared (subst (λ (z : Body). Goes z ToServer) (sym e) goes)
       (subst (λ (z : Body). HasMoves z 0) (sym e) moves) (subst (IsBody roster y) (sym e) body)
 
-  again : (x : Moved) (past : List Step) (s : Step) → IsKnownServer m y.server → (b : Body) → y.body ≡ b
+  again : (x : Moved) (past : List Step) (s : Step) → IsServer roster y.server → (b : Body) → y.body ≡ b
       → SaysAgain m x past s y.server b → IsSound roster y
-  again x past s known b e OfHello = with_body Hello e (known_server known) refl refl tt
+  again x past s known b e OfHello = with_body Hello e known refl refl tt
   again x past s known b e (OfGive g first at) =
-      with_body (GiveBack g) e (known_server known) refl tt
+      with_body (GiveBack g) e known refl tt
       (give_body g (tidy.gives first.message g first.within first.body) at)
-  again x past s known b e (OfFetch f r at) = with_body (Fetch f) e (known_server known) refl tt
+  again x past s known b e (OfFetch f r at) = with_body (Fetch f) e known refl tt
       (fetch_body f (tidy.fetch f r) at)
   again x past s known b e (OfChange c r) =
-      with_body (Change c) e (known_server known) refl tt (change_body c (tidy.change y.server c r))
+      with_body (Change c) e known refl tt (change_body c (tidy.change y.server c r))
   again x past s known b e (OfClaim claim from same why) =
-      with_body (Reclaim claim) e (known_server known) refl refl (claim_body claim from)
-  again x past s known b e (OfBye r) = with_body Bye e (known_server known) (inl refl) refl tt
+      with_body (Reclaim claim) e known refl refl (claim_body claim from)
+  again x past s known b e (OfBye r) = with_body Bye e known (inl refl) refl tt
 
   held_issued : (v : ServerId) (t : Token) (fid : Fid) → In t (held_of m) → t.fid ≡ fid → home fid.fileset ≡ v
       → t.id.server ≡ v
   held_issued v t fid i same at = (tidy.held t i).issued ∙ (ap (λ (f : Fid). home f.fileset) same ∙ at)
 
-  left : (l : Left) (s : Step) → IsTidy roster (with_left m l) → IsKnownServer m y.server → (b : Body) → y.body ≡ b
+  left : (l : Left) (s : Step) → IsTidy roster (with_left m l) → IsServer roster y.server → (b : Body) → y.body ≡ b
       → SaysLeft m l s y.server b → IsSound roster y
-  left l s after known b e (OfReturned w at ids file) = with_body (Returned w) e (known_server known) refl tt
+  left l s after known b e (OfReturned w at ids file) = with_body (Returned w) e known refl tt
       (named_body w at (λ i j.
       let r = (ids i j).0 in
       let t : Token = r.0.token in
       let h = map_in (λ (h : Held). h.token) m.cache.held r.0 r.1 in
       sym (ap (λ (k : TokenId). k.server) r.2)
       ∙ held_issued y.server t w.fid h (file t h (subst (λ (k : TokenId). In k w.ids) (sym r.2) j)) at))
-  left l s after known b e (OfGiven g first at) = with_body (GiveBack g) e (known_server known) refl tt
+  left l s after known b e (OfGiven g first at) = with_body (GiveBack g) e known refl tt
       (give_body g (after.gives first.message g first.within first.body) at)
 
-  revoked : (l : Left) (r : RevokeOf) (made : List Give) → IsTidy roster (with_left m l) → IsKnownServer m y.server
+  revoked : (l : Left) (r : RevokeOf) (made : List Give) → IsTidy roster (with_left m l) → IsServer roster y.server
       → ((i : TokenId) → In i r.ids → i.server ≡ home r.fid.fileset) → (b : Body) → y.body ≡ b
       → ((w : Named) (i : TokenId) → b ≡ Returned w → In i w.ids
       → ((t : Token) × In t (held_of m) × (t.id ≡ i)) ⊎ (w.fid ≡ r.fid))
       → SaysRevoked m l r made y.server b → IsSound roster y
   revoked l r made after known named b e of (BackReturned w at ok file) =
-      with_body (Returned w) e (known_server known) refl tt
+      with_body (Returned w) e known refl tt
       (named_body w at (λ i j. elim (of w i refl j) [
         | inl t ↦ sym (ap (λ (z : TokenId). z.server) t.2)
             ∙ held_issued y.server t.0 w.fid t.1 (file t.0 t.1 (subst (λ (z : TokenId). In z w.ids) (sym t.2) j)) at
         | inr same ↦ named i (ok i j).0 ∙ (ap (λ (f : Fid). home f.fileset) (sym same) ∙ at)
       ]))
   revoked l r made after known named b e of (BackKept w at ok file) =
-      with_body (KeptBody w) e (known_server known) refl tt
+      with_body (KeptBody w) e known refl tt
       (named_body w at (λ i j.
       let h = (ok i j).1 in
       let k = map_in (λ (h : Held). h.token) m.cache.held h.0 h.1 in
       sym (ap (λ (z : TokenId). z.server) h.2)
       ∙ held_issued y.server h.0.token w.fid k (file h.0.token k (subst (λ (z : TokenId). In z w.ids) (sym h.2) j)) at))
   revoked l r made after known named b e of (BackGiven g first at) =
-      with_body (GiveBack g) e (known_server known) refl tt
+      with_body (GiveBack g) e known refl tt
       (give_body g (after.gives first.message g first.within first.body) at)
 
 -- a server by its number
@@ -229,7 +226,9 @@ revoked_sound roster m l message r made y tidy after sound is no_moves out known
 pub tidy_stays : TidyStays
 tidy_stays roster m new tidy after = record {
   host = subst (IsHost roster) (sym after.host_is) tidy.host;
-  sites = λ site i. let r = after.sites site i in subst (IsServer roster) (sym r.2) (tidy.sites r.0 r.1);
+  some = tidy.some;
+  few = tidy.few;
+  servers = after.servers ∙ tidy.servers;
   held = λ t i. subst (λ (h : HostId). IsTidyToken roster h t) (sym after.host_is)
       (elim (after.held t i) [ inl j ↦ tidy.held t j | inr k ↦ k ]);
   leaving = λ y i. subst (λ (h : HostId). IsTidyToken roster h y.token) (sym after.host_is)
@@ -238,6 +237,8 @@ tidy_stays roster m new tidy after = record {
   fetch = λ f e. elim (after.fetch f e) [ inl j ↦ tidy.fetch f j | inr k ↦ k ];
   change = λ v c e. elim (after.change v c e) [ inl j ↦ tidy.change v c j | inr k ↦ k ];
   call = λ c e. elim (after.call c e) [ inl j ↦ tidy.call c j | inr k ↦ k ];
+  homes = λ h i. elim (after.homes h i) [ inl j ↦ tidy.homes h j | inr k ↦ k ];
+  floors = λ f i. elim (after.floors f i) [ inl j ↦ tidy.floors f j | inr k ↦ k ];
 }
 
 -- what an answer brings
@@ -270,13 +271,18 @@ done_tidy roster message d sound is no_moves t i =
     brought roster message d.bring sound.server body.brings no_moves t i
 
 pub tidy_first : TidyFirst
-tidy_first roster m host sites none_held none_leaving none_given idle none_open = record {
-  host = host;
-  sites = sites;
-  held = λ t i. absurd (none_in (tokens_of m.cache.held) (ap tokens_of none_held) t i);
-  leaving = λ y i. absurd (none_in m.leaving none_leaving y i);
-  gives = λ y g i e. absurd (none_in m.gives.gives none_given y i);
-  fetch = λ f e. absurd (let p = sym idle ∙ e in cc);
-  change = λ v c e. absurd (let p = sym idle ∙ e in cc);
-  call = λ c e. absurd (let p = sym none_open ∙ e in cc);
-}
+tidy_first roster m host some few servers none_held none_leaving none_given idle none_open none_entered none_raised =
+    record {
+      host = host;
+      some = some;
+      few = few;
+      servers = servers;
+      held = λ t i. absurd (none_in (tokens_of m.cache.held) (ap tokens_of none_held) t i);
+      leaving = λ y i. absurd (none_in m.leaving none_leaving y i);
+      gives = λ y g i e. absurd (none_in m.gives.gives none_given y i);
+      fetch = λ f e. absurd (let p = sym idle ∙ e in cc);
+      change = λ v c e. absurd (let p = sym idle ∙ e in cc);
+      call = λ c e. absurd (let p = sym none_open ∙ e in cc);
+      homes = λ h i. absurd (none_in m.homes none_entered h i);
+      floors = λ f i. absurd (none_in m.floors none_raised f i);
+    }

@@ -38,6 +38,8 @@ use Rattle.need_host.specs.Questions.{Question}
 use Rattle.need_host.specs.Questions.Question.{ChangeAt, ChangeIn, EnterAt}
 use Rattle.run_rules.specs.HostAsks.{HasLost}
 use Rattle.run_rules.specs.HostMay.{ClaimsAt, DoesLine, LearnsRestart}
+use Rattle.message_types.specs.declared.giving.AppliedGive.{AppliedGive}
+use Rattle.run_rules.specs.Tokens.{Learns}
 use Rattle.run_rules.specs.Messages.{HasGreeted, HasKeptToken, HasSaid, IsWelcome, ReturnsToken, Sends, SendsTo, home}
 use Rattle.run_rules.specs.Messages.{stay_of}
 use Rattle.run_rules.specs.Past.{In}
@@ -221,7 +223,8 @@ dirty_same wrote answers made fid at b e f =
 
 module _ (script : Script) (m : Tables) (past : List Step) (s : Step) (stands : Stands script m past)
     (rest : IsAtRest m past)
-    (quiet : IsQuiet s) (none : s.asked ≡ None) (teaches : TeachesNothing past s) where
+    (quiet : IsQuiet s) (none : s.asked ≡ None) (none_learnt : (n : AppliedGive) → Learns past s n → ⊥)
+    (welcomes : (v : ServerId) → IsWelcome (s ∷ past) v → IsWelcome past v) where
   used_back : (u : Labelled) → LabelInUse (s ∷ past) u → LabelInUse past u
   used_back u (inl i) = absurd (none_in s.begun quiet.begun u i)
   used_back u (inr i) = i.0
@@ -240,7 +243,7 @@ module _ (script : Script) (m : Tables) (past : List Step) (s : Step) (stands : 
   made_on g i = inr i
 
   known_back : (g : Give) → IsKnown (s ∷ past) g → IsKnown past g
-  known_back g (inl l) = absurd (teaches.none_learnt (number_of g) l)
+  known_back g (inl l) = absurd (none_learnt (number_of g) l)
   known_back g (inr k) = k
 
   dirty_back : (t : Token) → IsDirtyFrom m (s ∷ past) t → IsDirtyFrom m past t
@@ -260,9 +263,9 @@ module _ (script : Script) (m : Tables) (past : List Step) (s : Step) (stands : 
       → ⊥)
       → HasGreeted (s ∷ past) (stay_asked (s ∷ past) q).server × (IsWelcome (s ∷ past) (stay_asked (s ∷ past) q).server
       → ⊥)
-  by_question (EnterAt server) g = (greeted_on server g.0, λ w. g.1 (teaches.welcomes server w))
-  by_question (ChangeIn fileset) g = (greeted_on (home fileset) g.0, λ w. g.1 (teaches.welcomes (home fileset) w))
-  by_question (ChangeAt server) g = (greeted_on server g.0, λ w. g.1 (teaches.welcomes server w))
+  by_question (EnterAt server) g = (greeted_on server g.0, λ w. g.1 (welcomes server w))
+  by_question (ChangeIn fileset) g = (greeted_on (home fileset) g.0, λ w. g.1 (welcomes (home fileset) w))
+  by_question (ChangeAt server) g = (greeted_on server g.0, λ w. g.1 (welcomes server w))
 
   waits_on : (call : Call) → IsWaiting m past call → IsWaiting m (s ∷ past) call
   waits_on call (ForGrant f r) = ForGrant f r
@@ -271,7 +274,7 @@ module _ (script : Script) (m : Tables) (past : List Step) (s : Step) (stands : 
   waits_on call (ForGone g covered verdict made unknown) =
       ForGone g covered verdict (made_on g made) (λ k. unknown (known_back g k))
   waits_on call (ForNeed need lack greeted unwelcome) = ForNeed need lack
-      (greeted_on (home need.fid.fileset) greeted) (λ w. unwelcome (teaches.welcomes (home need.fid.fileset) w))
+      (greeted_on (home need.fid.fileset) greeted) (λ w. unwelcome (welcomes (home need.fid.fileset) w))
   waits_on call (ForQuestion question fid asks greeted unwelcome) =
       let g = by_question question (greeted, unwelcome) in ForQuestion question fid asks g.0 g.1
 
@@ -285,7 +288,8 @@ module _ (script : Script) (m : Tables) (past : List Step) (s : Step) (stands : 
   }
 
 pub rest_stays : RestStays
-rest_stays script m past s stands rest quiet none teaches = rest_on script m past s stands rest quiet none teaches
+rest_stays script m past s stands rest quiet none teaches =
+    rest_on script m past s stands rest quiet none teaches.none_learnt teaches.welcomes
 
 -- # At a lapse
 
@@ -328,7 +332,8 @@ again_claim m x past s v b (OfChange k r) c e = absurd (cc)
 again_claim m x past s v b (OfClaim claim from same why) c e = why
 again_claim m x past s v b (OfBye r) c e = absurd (cc)
 
-again_new : (m : Tables) (x : Moved) (past : List Step) (s : Step) (v : ServerId) (b : Body) → SaysAgain m x past s v b
+pub again_new : (m : Tables) (x : Moved) (past : List Step) (s : Step) (v : ServerId) (b : Body)
+    → SaysAgain m x past s v b
     → IsNoRequest b ⊎ (((f : FetchOf) × (m.request ≡ Some (AFetch f)) × (b ≡ Fetch f))
     ⊎ ((c : ChangeOf) × (m.request ≡ Some (AChange v c)) × (b ≡ Change c)))
 again_new m x past s v b OfHello = inl tt

@@ -44,3 +44,4 @@ pub mod Updates
 pub mod UpdateLaws
 pub mod Tidy
 pub mod Resting
+pub mod Running

@@ -8,8 +8,10 @@ use Rattle.host_tables.specs.Quiet.{Moved}
 use Rattle.host_tables.specs.RevokeSteps.{SaysRevoked}
 use Rattle.host_tables.specs.Saying.{SaysAgain}
 use Rattle.host_tables.specs.Tables.{held_of, site_at}
+use Rattle.host_tables.specs.declared.calls.Home.{Home}
 use Rattle.host_tables.specs.declared.calls.Leaving.{Leaving}
 use Rattle.host_tables.specs.declared.calls.Request.TheVariants.{Change as AChange, Fetch as AFetch}
+use Rattle.host_tables.specs.declared.files.Floor.{Floor}
 use Rattle.host_tables.specs.declared.sites.Site.{Site}
 use Rattle.host_tables.specs.declared.tables.Tables.{Tables}
 use Rattle.message_types.specs.Soundness.{AreFileBytes, HasRoom, IsCall, IsDecided, IsEnd, IsFetched, IsHost}
@@ -28,9 +30,10 @@ use Rattle.message_types.specs.declared.tokens.Named.{Named}
 use Rattle.message_types.specs.declared.tokens.Revoke.{Revoke as RevokeOf}
 use Rattle.run_rules.specs.Messages.{home}
 use Rattle.run_rules.specs.Past.{In}
+use Rattle.run_rules.specs.Steps.{servers_of}
 use Rattle.run_rules.specs.declared.step.Asked.{Asked}
 use Rattle.run_rules.specs.declared.step.Step.{Step}
-use Rattle.std.specs.Prelude.{IfSome, IsTrue, List, None, Some, [], ◌≡◌, ◌≤◌, ◌⊎◌}
+use Rattle.std.specs.Prelude.{IfSome, IsTrue, List, None, Some, [], length, map, ◌≡◌, ◌≤◌, ◌⊎◌}
 use Rattle.token_types.specs.declared.token.Need.{Need}
 use Rattle.token_types.specs.declared.token.Token.{Token}
 use Rattle.token_types.specs.declared.token.TokenId.{TokenId}
@@ -64,15 +67,24 @@ pub record IsTidyChange (roster : Roster) (v : ServerId) (c : ChangeOf) : Type 0
   pub call : IsCall roster c.call
   pub decided : IsTrue c.enter ⊎ IsDecided v c.call
 
+-- the servers of which something is known
+abbrev pub servers_in : List Site → List ServerId
+servers_in sites = map (λ (site : Site). site.server) sites
+
 pub record IsTidy (roster : Roster) (m : Tables) : Type 0 where
   pub host : IsHost roster m.host
-  pub sites : (site : Site) → In site m.sites → IsServer roster site.server
+  -- the sites are those of the declared servers, from the first on
+  pub some : 1 ≤ length roster.capacity
+  pub few : length roster.capacity ≤ 255
+  pub servers : servers_in m.sites ≡ servers_of roster
   pub held : (t : Token) → In t (held_of m) → IsTidyToken roster m.host t
   pub leaving : (y : Leaving) → In y m.leaving → IsTidyToken roster m.host y.token
   pub gives : (y : Message) (g : Give) → In y m.gives.gives → y.body ≡ GiveBack g → IsTidyGive roster g
   pub fetch : (f : FetchOf) → m.request ≡ Some (AFetch f) → IsTidyFetch roster f
   pub change : (v : ServerId) (c : ChangeOf) → m.request ≡ Some (AChange v c) → IsTidyChange roster v c
   pub call : (c : Asked) → m.call ≡ Some c → IsCall roster c.call
+  pub homes : (h : Home) → In h m.homes → IsServer roster (home h.id)
+  pub floors : (f : Floor) → In f m.floors → IsServer roster (home f.fid.fileset)
 
 -- a message of the host to a server, in the present epoch of that
 pub record IsOutgoing (m : Tables) (y : Message) : Type 0 where
@@ -81,19 +93,15 @@ pub record IsOutgoing (m : Tables) (y : Message) : Type 0 where
   pub no_moves : y.moves ≡ 0
   pub epoch_is : y.epoch ≡ (site_at m.sites y.server).epoch
 
--- the server is declared
-abbrev pub IsKnownServer : Tables → ServerId → Type 0
-IsKnownServer m v = (site : Site) × In site m.sites × (site.server ≡ v)
-
 -- what is said again is sound
 abbrev pub AgainSound : Type 0
 AgainSound = (roster : Roster) (m : Tables) (x : Moved) (past : List Step) (s : Step) (y : Message) → IsTidy roster m
-    → IsOutgoing m y → IsKnownServer m y.server → SaysAgain m x past s y.server y.body → IsSound roster y
+    → IsOutgoing m y → IsServer roster y.server → SaysAgain m x past s y.server y.body → IsSound roster y
 
 -- and what is said of tokens that leave, where the give-backs that are kept then are tidy
 abbrev pub LeftSound : Type 0
 LeftSound = (roster : Roster) (m : Tables) (l : Left) (s : Step) (y : Message) → IsTidy roster m
-    → IsTidy roster (with_left m l) → IsOutgoing m y → IsKnownServer m y.server → SaysLeft m l s y.server y.body
+    → IsTidy roster (with_left m l) → IsOutgoing m y → IsServer roster y.server → SaysLeft m l s y.server y.body
     → IsSound roster y
 
 -- and the answers to a sound Revoke: what isn't held is returned under its file
@@ -102,7 +110,7 @@ RevokedSound = (roster : Roster) (m : Tables) (l : Left) (message : Message) (r 
     (y : Message)
     → IsTidy roster m → IsTidy roster (with_left m l) → IsSound roster message → message.body ≡ Revoke r
     → message.moves ≡ 0
-    → IsOutgoing m y → IsKnownServer m y.server
+    → IsOutgoing m y → IsServer roster y.server
     → ((w : Named) (i : TokenId) → y.body ≡ Returned w → In i w.ids
     → ((t : Token) × In t (held_of m) × (t.id ≡ i)) ⊎ (w.fid ≡ r.fid))
     → SaysRevoked m l r made y.server y.body → IsSound roster y
@@ -121,7 +129,7 @@ ChangeSound = (roster : Roster) (m : Tables) (y : Message) (c : ChangeOf) → Is
 -- where what is heard or moves changes of the tables only what is told here
 pub record IsTidyAfter (roster : Roster) (m new : Tables) : Type 0 where
   pub host_is : new.host ≡ m.host
-  pub sites : (site : Site) → In site new.sites → (old : Site) × In old m.sites × (site.server ≡ old.server)
+  pub servers : servers_in new.sites ≡ servers_in m.sites
   pub held : (t : Token) → In t (held_of new) → In t (held_of m) ⊎ IsTidyToken roster m.host t
   pub leaving : (y : Leaving) → In y new.leaving → In y m.leaving ⊎ In y.token (held_of m)
   pub gives : (y : Message) (g : Give) → In y new.gives.gives → y.body ≡ GiveBack g → In y m.gives.gives
@@ -130,6 +138,8 @@ pub record IsTidyAfter (roster : Roster) (m new : Tables) : Type 0 where
   pub change : (v : ServerId) (c : ChangeOf) → new.request ≡ Some (AChange v c)
       → (m.request ≡ Some (AChange v c)) ⊎ IsTidyChange roster v c
   pub call : (c : Asked) → new.call ≡ Some c → (m.call ≡ Some c) ⊎ IsCall roster c.call
+  pub homes : (h : Home) → In h new.homes → In h m.homes ⊎ IsServer roster (home h.id)
+  pub floors : (f : Floor) → In f new.floors → In f m.floors ⊎ IsServer roster (home f.fid.fileset)
 
 abbrev pub TidyStays : Type 0
 TidyStays = (roster : Roster) (m new : Tables) → IsTidy roster m → IsTidyAfter roster m new → IsTidy roster new
@@ -145,6 +155,8 @@ DoneTidy = (roster : Roster) (message : Message) (d : DoneOf) → IsSound roster
 
 -- before the first step nothing is untidy
 abbrev pub TidyFirst : Type 0
-TidyFirst = (roster : Roster) (m : Tables) → IsHost roster m.host → ((site : Site) → In site m.sites
-    → IsServer roster site.server)
-    → m.cache.held ≡ [] → m.leaving ≡ [] → m.gives.gives ≡ [] → m.request ≡ None → m.call ≡ None → IsTidy roster m
+TidyFirst = (roster : Roster) (m : Tables) → IsHost roster m.host → 1 ≤ length roster.capacity
+    → length roster.capacity ≤ 255
+    → servers_in m.sites ≡ servers_of roster
+    → m.cache.held ≡ [] → m.leaving ≡ [] → m.gives.gives ≡ [] → m.request ≡ None → m.call ≡ None → m.homes ≡ []
+    → m.floors ≡ [] → IsTidy roster m

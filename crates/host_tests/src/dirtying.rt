@@ -12,19 +12,19 @@ pub fn told(alloc: Global, dirty: &mut Dirty, words: &mut Words) -> Result<Strin
         "add" => {
             let fid = words.file()?;
             dirty.add(fid, words.span()?)?;
-            spans_text(alloc, dirty.spans(fid)?.as_slice())
+            spans_text(alloc, dirty.spans(fid))
         }
         "cut" => {
             let fid = words.file()?;
             dirty.cut(fid, words.span()?)?;
-            spans_text(alloc, dirty.spans(fid)?.as_slice())
+            spans_text(alloc, dirty.spans(fid))
         }
         "set" => {
             let fid = words.file()?;
             dirty.set_length(fid, words.length()?)?;
             number_or_none(alloc, dirty.length(fid).map(u64::from))
         }
-        "spans" => spans_text(alloc, dirty.spans(words.file()?)?.as_slice()),
+        "spans" => spans_text(alloc, dirty.spans(words.file()?)),
         "length" => number_or_none(alloc, dirty.length(words.file()?).map(u64::from)),
         "files" => files_text(alloc, dirty.files()?.as_slice()),
         word => bail!("no step of what is dirty: {word}"),

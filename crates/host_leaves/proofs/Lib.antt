@@ -1,0 +1,11 @@
+pub mod Steps
+pub mod Spans
+pub mod Pieces
+pub mod DirtyTokens
+pub mod Held
+pub mod Once
+pub mod Sorting
+pub mod Leaving
+pub mod Making
+pub mod Due
+pub mod Labels

@@ -1,0 +1,5 @@
+pub mod Owning
+pub mod Sending
+pub mod Dirtying
+pub mod Giving
+pub mod Revoking

@@ -1,0 +1,72 @@
+-- What the calls of a host's machine owe, over the steps that its tables stand for.
+use Rattle.base_types.specs.declared.ids.Node.TheVariants.{Host}
+use Rattle.base_types.specs.declared.ids.ServerId.{ServerId}
+use Rattle.host_tables.specs.Machine.{Rests}
+use Rattle.host_tables.specs.Tables.{site_at}
+use Rattle.host_tables.specs.Tidy.{IsTidy}
+use Rattle.host_tables.specs.declared.tables.Tables.{Tables}
+use Rattle.message_types.specs.Soundness.{IsCall, IsSound}
+use Rattle.message_types.specs.declared.message.Direction.TheVariants.{ToHost}
+use Rattle.message_types.specs.declared.message.Message.{Message}
+use Rattle.run_rules.specs.HostMay.{HostMay}
+use Rattle.run_rules.specs.Past.{In}
+use Rattle.run_rules.specs.Steps.{IsNextLine, lines_gone, lines_of}
+use Rattle.run_rules.specs.declared.step.Cause.{Cause}
+use Rattle.run_rules.specs.declared.step.Cause.TheVariants.{End, Line as LineOf, Message as Came}
+use Rattle.run_rules.specs.declared.step.Step.{Step}
+use Rattle.script_lines.specs.declared.script.Deed.{Deed}
+use Rattle.script_lines.specs.declared.script.Deed.TheVariants.{Call as MakesCall, Stop}
+use Rattle.script_lines.specs.declared.script.Line.{Line}
+use Rattle.script_lines.specs.declared.script.Script.{Script}
+use Rattle.std.specs.Prelude.{List, length, true, ℕ, ◌∷◌, ◌≡◌}
+use Rattle.tree_calls.specs.declared.roster.Roster.{Roster}
+
+-- The machine runs: its tables stand for the steps, the host is at rest, and what the tables hold may be said. Once it
+-- has said Bye all its lines have gone.
+pub record IsRunning (script : Script) (m : Tables) (past : List Step) : Type 0 where
+  pub rests : Rests script m past
+  pub tidy : IsTidy script.roster m
+  pub gone : (v : ServerId) → (site_at m.sites v).said_bye ≡ true
+      → lines_gone past ≡ length (lines_of script (Host m.host))
+
+-- it runs on by a step, which does what it may and says only what is sound
+pub record RunsOn (script : Script) (old new : Tables) (past : List Step) (s : Step) : Type 0 where
+  pub may : HostMay script old.host past s
+  pub sound : (y : Message) → In y s.sent → IsSound script.roster y
+  pub host : new.host ≡ old.host
+  pub runs : IsRunning script new (s ∷ past)
+
+-- a line's call is at declared servers, and within the limits, as those of each sound script are
+abbrev pub IsAskable : Roster → Deed → Type 0
+IsAskable roster (MakesCall call) = IsCall roster call
+IsAskable roster _ = Unit {0}
+
+-- by a line of the host
+abbrev pub LineRight : Tables → Tables → ℕ → Deed → Step → Type 0
+LineRight old new number deed s = (script : Script) (past : List Step) → IsRunning script old past
+    → (line : Line) → IsNextLine (lines_of script (Host old.host)) past number line → line.deed ≡ deed
+    → IsAskable script.roster deed
+    → RunsOn script old new past s × (s.cause ≡ LineOf number)
+
+-- by a message
+abbrev pub TakeRight : Tables → Tables → Message → Step → Type 0
+TakeRight old new message s = (script : Script) (past : List Step) → IsRunning script old past
+    → IsSound script.roster message → message.host ≡ old.host → message.direction ≡ ToHost
+    → RunsOn script old new past s × (s.cause ≡ Came message)
+
+-- at a lapse, to evict, and at the end, when all lines have gone
+abbrev pub OwnRight : Cause → Tables → Tables → Step → Type 0
+OwnRight cause old new s = (script : Script) (past : List Step) → IsRunning script old past
+    → RunsOn script old new past s × (s.cause ≡ cause)
+
+abbrev pub EndRight : Tables → Tables → Step → Type 0
+EndRight old new s = (script : Script) (past : List Step) → IsRunning script old past
+    → lines_gone past ≡ length (lines_of script (Host old.host))
+    → RunsOn script old new past s × (s.cause ≡ End)
+
+-- the last step: what comes after it isn't said
+abbrev pub StopRight : Tables → ℕ → Step → Type 0
+StopRight old number s = (script : Script) (past : List Step) → IsRunning script old past
+    → (line : Line) → IsNextLine (lines_of script (Host old.host)) past number line → line.deed ≡ Stop
+    → HostMay script old.host past s × ((y : Message) → In y s.sent → IsSound script.roster y)
+    × (s.cause ≡ LineOf number)
