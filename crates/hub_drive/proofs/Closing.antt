@@ -1,6 +1,7 @@
 -- A hub that was closed with the passes of nodes that are through.
-use Rattle.std.proofs.Common.{◌≡◌, inl, inr, ℕ, List, [], ◌∷◌, map, refl, sym, ap, ◌∙◌, subst, arith}
+use Rattle.std.proofs.Common.{◌≡◌, ℕ, ◌<◌, List, [], ◌∷◌, map, length, get_or, refl, sym, ap, ◌∙◌, subst, arith}
 use Rattle.base_types.specs.declared.ids.Node.{Node}
+use Rattle.base_types.specs.declared.ids.Node.TheVariants.{Host, Server}
 use Rattle.tree_answers.specs.declared.tree.Tree.{Tree}
 use Rattle.script_lines.specs.declared.script.Script.{Script}
 use Rattle.hub_board.specs.Hubs.{nodes_of}
@@ -13,79 +14,51 @@ use Rattle.hub_turns.specs.Views.{HubView, NodeView}
 use Rattle.run_rules.specs.declared.journal.Journal.{Journal}
 use Rattle.run_rules.specs.declared.step.Step.{Step}
 use Rattle.hub_laws.specs.Keeping.{Round, steps_in}
-use Rattle.hub_laws.specs.Closings.{AreApart, HasHeld, HasKept, IsClosed, KeepsOn}
+use Rattle.hub_laws.specs.Closings.{AreApart, HasHeld, HasKept, IsClosed}
 use Rattle.hub_laws.proofs.Apart.{nodes_are_apart}
 use Rattle.hub_laws.proofs.Closing.{closed_has_held}
-use Rattle.hub_drive.specs.Driving.{CanStart, HasDriven, IsHubOf, StandsAfter, part_of}
-use Rattle.hub_node.specs.Nodes.{HandsIn, IsDone, MayHandIn, OwnMeets, Part}
+use Rattle.hub_drive.specs.Driving.{CanStart, HasDriven, IsHubOf, StandsAfter, beginning}
+use Rattle.hub_node.specs.Nodes.{Beginning, HandsIn, IsDone, Knows, MayHandIn, OwnMeets, Part, part_of}
 use Rattle.hub_drive.specs.Seats.{EachAt, IsThrough}
 use Rattle.hub_drive.specs.declared.seat.Seat.{Seat}
 use Rattle.hub_drive.proofs.Filtered.{always_before, mine}
-use Rattle.hub_drive.proofs.Lists.{each_in, in_each}
-use Rattle.hub_drive.proofs.Meeting.{Knows, is_dutiful, is_ended, is_run}
+use Rattle.hub_drive.proofs.Lists.{each_in, in_each, map_here, map_size}
+use Rattle.hub_drive.proofs.Meeting.{IsKnown, is_dutiful, is_ended, is_run}
 use Rattle.hub_drive.proofs.Members.{in_map, map_in}
 
 map_map : {A B C : Type 0} (f : B → C) (g : A → B) (xs : List A) → map f (map g xs) ≡ map (λ x. f (g x)) xs
 map_map f g [] = refl
 map_map f g (x ∷ xs) = ap (λ l. f (g x) ∷ l) (map_map f g xs)
 
-map_same : {A B : Type 0} (f g : A → B) (xs : List A) → ((x : A) → In x xs → f x ≡ g x) → map f xs ≡ map g xs
-map_same f g [] h = refl
-map_same f g (x ∷ xs) h = λ i. h x (inl refl) i ∷ map_same f g xs (λ y k. h y (inr k)) i
-
-module _ {N : Type 0} (part : N → Part) (stands : N → List Round → List Step → Type 0)
-    (hands_in : (n : N) → HandsIn part stands n)
+module _ {N : Type 0} (tells : Type 0) (stands : Part → N → List Round → List Step → Type 0)
+    (hands_in : (n : N) → HandsIn tells stands n)
     (script : Script) (start : Tree) (epochs : List ℕ) (can : CanStart script start epochs)
     (hub : HubView) (hub_is : IsHubOf script hub) (seats : List (Seat N))
-    (parts : map (λ (s : Seat N). part s.node) seats ≡ map (part_of script start epochs) (nodes_of script))
-    (through : EachAt (IsThrough part stands hub) seats) (turns : List Turn) (journal : Journal)
+    (are : map (λ (s : Seat N). s.pass.node) seats ≡ nodes_of script)
+    (through : EachAt (IsThrough stands (beginning script start epochs) hub tells) seats) (turns : List Turn)
+    (journal : Journal)
     (starts : journal.start ≡ start ∷ []) (epochs_are : journal.epochs ≡ epochs)
     (steps : journal.steps ≡ steps_of turns) where
+  abbrev run : Beginning
+  run = beginning script start epochs
+
   abbrev pass_of : Seat N → NodeView
   pass_of s = s.pass
 
   abbrev passes : List NodeView
   passes = map pass_of seats
 
-  abbrev node_of : Part → Node
-  node_of p = p.node
-
-  is_through : (s : Seat N) → In s seats → IsThrough part stands hub s
-  is_through s i = each_in (IsThrough part stands hub) seats s through i
-
-  -- a seat's part is that of its node
-  part_is : (s : Seat N) → In s seats → part s.node ≡ part_of script start epochs s.pass.node
-  part_is s i =
-      let j = in_map (part_of script start epochs) (part s.node) (nodes_of script)
-      (subst (In (part s.node)) parts (map_in (λ (x : Seat N). part x.node) s seats i)) in
-      let named : s.pass.node ≡ j.0 = (is_through s i).seated.node ∙ ap node_of j.2 in
-      j.2 ∙ ap (part_of script start epochs) (sym named)
+  is_through : (s : Seat N) → In s seats → IsThrough stands run hub tells s
+  is_through s i = each_in (IsThrough stands run hub tells) seats s through i
 
   nodes_are : map (λ (p : NodeView). p.node) passes ≡ nodes_of script
-  nodes_are =
-      map_map (λ (p : NodeView). p.node) pass_of seats
-      ∙ map_same (λ (s : Seat N). s.pass.node) (λ (s : Seat N). (part s.node).node) seats
-      (λ s i. (is_through s i).seated.node)
-      ∙ sym (map_map node_of (λ (s : Seat N). part s.node) seats)
-      ∙ ap (map node_of) parts
-      ∙ map_map node_of (part_of script start epochs) (nodes_of script)
-      ∙ same (nodes_of script)
-    where
-      same : (ns : List Node) → map (λ (n : Node). n) ns ≡ ns
-      same [] = refl
-      same (n ∷ ns) = ap (λ l. n ∷ l) (same ns)
+  nodes_are = map_map (λ (p : NodeView). p.node) pass_of seats ∙ are
 
   kept : (p : NodeView) → In p passes → HasKept script hub p
   kept p i =
       let j = in_map pass_of p seats i in
-      let s = j.0 in
-      let seated = (is_through s j.1).seated in
-      let is = part_is s j.1 in
-      subst (HasKept script hub) (sym j.2) (
-        seated.rounds,
-        seated.made,
-        subst (λ (x : Part). Always (KeepsOn x.script x.node) seated.rounds) is seated.keeps,
-      )
+      let seated = (is_through j.0 j.1).seated in
+      subst (HasKept script hub) (sym j.2) (seated.rounds, seated.made, seated.keeps)
 
   module _ (ended : HasEnded hub turns passes) where
     closed : IsClosed script [] hub turns passes journal
@@ -96,68 +69,117 @@ module _ {N : Type 0} (part : N → Part) (stands : N → List Round → List St
       kept = kept;
       steps = steps;
       due = (λ node. omega arith);
-      few = (let are = can.servers in let few = can.servers_few in omega arith);
+      few = (let servers = can.servers in let few = can.servers_few in omega arith);
     }
 
     held : HasHeld script hub passes journal
     held = closed_has_held script [] hub turns passes journal closed
 
     -- the steps of a node in the journal are those of its rounds
-    own_steps : (s : Seat N) (i : In s seats) → mine s.pass.node (past_of journal) ≡ steps_in (is_through s i).seated.rounds
-    own_steps s i =
+    own_is : (s : Seat N) (i : In s seats) → mine s.pass.node (past_of journal) ≡ steps_in (is_through s i).seated.rounds
+    own_is s i =
         let seated = (is_through s i).seated in
         (held.whole s.pass (map_in pass_of s seats i)).past seated.rounds seated.made
 
-    knows_seat : (s : Seat N) → In s seats → Knows script start epochs (past_of journal) s.pass
-    knows_seat s i =
-        let t = is_through s i in
-        let seated = t.seated in
-        let is = part_is s i in
-        let may : MayHandIn (part s.node) seated.rounds s.steps.steps =
-        hands_in s.node seated.rounds s.steps.steps seated.stood in
-        let meets : Always (OwnMeets (part s.node) (part s.node).node) (steps_in seated.rounds) =
-        always_before (OwnMeets (part s.node) (part s.node).node) s.steps.steps (steps_in seated.rounds) may.meets in
-        record {
-          among = subst (In s.pass.node) nodes_are
-              (map_in (λ (p : NodeView). p.node) s.pass passes (map_in pass_of s seats i));
-          meets = subst (λ l. Always (OwnMeets (part_of script start epochs s.pass.node) s.pass.node) l)
-              (sym (own_steps s i))
-              (subst (λ (x : Part). Always (OwnMeets x x.node) (steps_in seated.rounds)) is meets);
-          done = subst (IsDone (part_of script start epochs s.pass.node) s.pass.node) (sym (own_steps s i))
-              (subst (λ (x : Part). IsDone x x.node (steps_in seated.rounds)) is t.done);
-        }
+    seat_meets : (s : Seat N) → In s seats → Knows tells s.pass.node
+        → Always (OwnMeets run s.pass.node) (mine s.pass.node (past_of journal))
+    seat_meets s i knows =
+        let seated = (is_through s i).seated in
+        let part : Part = part_of run s.pass.node in
+        let may : MayHandIn tells part seated.rounds s.steps.steps =
+        hands_in s.node part seated.rounds s.steps.steps seated.stood in
+        subst (λ l. Always (OwnMeets run s.pass.node) l) (sym (own_is s i))
+        (always_before (OwnMeets run s.pass.node) s.steps.steps (steps_in seated.rounds) (may.meets knows))
 
-    knows : (p : NodeView) → In p passes → Knows script start epochs (past_of journal) p
-    knows p i =
+    seat_done : (s : Seat N) → In s seats → Knows tells s.pass.node
+        → IsDone run s.pass.node (mine s.pass.node (past_of journal))
+    seat_done s i knows = subst (IsDone run s.pass.node) (sym (own_is s i)) ((is_through s i).done knows)
+
+    all_known : tells → (node : Node) → Knows tells node
+    all_known told (Host host) = tt
+    all_known told (Server server) = told
+
+    knows_seat : tells → (s : Seat N) → In s seats → IsKnown script start epochs (past_of journal) s.pass
+    knows_seat told s i = record {
+      among = subst (In s.pass.node) nodes_are
+          (map_in (λ (p : NodeView). p.node) s.pass passes (map_in pass_of s seats i));
+      meets = seat_meets s i (all_known told s.pass.node);
+      done = seat_done s i (all_known told s.pass.node);
+    }
+
+    knows : tells → (p : NodeView) → In p passes → IsKnown script start epochs (past_of journal) p
+    knows told p i =
         let j = in_map pass_of p seats i in
-        subst (Knows script start epochs (past_of journal)) (sym j.2) (knows_seat j.0 j.1)
+        subst (IsKnown script start epochs (past_of journal)) (sym j.2) (knows_seat told j.0 j.1)
+
+    -- the seat of a node
+    seat_of : (node : Node) → In node (nodes_of script) → (s : Seat N) × In s seats × (node ≡ s.pass.node)
+    seat_of node i = in_map (λ (s : Seat N). s.pass.node) node seats (subst (In node) (sym are) i)
+
+    rules : (node : Node) → In node (nodes_of script) → Knows tells node
+        → Always (OwnMeets run node) (mine node (past_of journal))
+    rules node i knows =
+        let j = seat_of node i in
+        subst (λ (n : Node). Always (OwnMeets run n) (mine n (past_of journal))) (sym j.2)
+        (seat_meets j.0 j.1 (subst (Knows tells) j.2 knows))
+
+    done : (node : Node) → In node (nodes_of script) → Knows tells node → IsDone run node (mine node (past_of journal))
+    done node i knows =
+        let j = seat_of node i in
+        subst (λ (n : Node). IsDone run n (mine n (past_of journal))) (sym j.2)
+        (seat_done j.0 j.1 (subst (Knows tells) j.2 knows))
 
     all : (n : Node) → In n (nodes_of script) → (p : NodeView) × In p passes × (p.node ≡ n)
     all n i =
         let j = in_map (λ (p : NodeView). p.node) n passes (subst (In n) (sym nodes_are) i) in (j.0, j.1, sym j.2)
 
-    stand : (s : Seat N) → In s seats → StandsAfter part stands journal s.node
+    stand : (s : Seat N) → In s seats → StandsAfter stands run journal s.pass.node s.node
     stand s i =
         let t = is_through s i in record {
           rounds = t.seated.rounds;
-          stood = subst (stands s.node t.seated.rounds) t.none t.seated.stood;
-          own = subst (λ n. mine n (past_of journal) ≡ steps_in t.seated.rounds) t.seated.node (own_steps s i);
+          stood = subst (stands (part_of run s.pass.node) s.node t.seated.rounds) t.none t.seated.stood;
+          own = own_is s i;
         }
 
-    stand_in : (n : N) → In n (map (λ (s : Seat N). s.node) seats) → StandsAfter part stands journal n
-    stand_in n i =
-        let j = in_map (λ (s : Seat N). s.node) n seats i in
-        subst (StandsAfter part stands journal) (sym j.2) (stand j.0 j.1)
+    stand_each : EachAt (λ (s : Seat N). StandsAfter stands run journal s.pass.node s.node) seats
+    stand_each = in_each (λ (s : Seat N). StandsAfter stands run journal s.pass.node s.node) seats stand
 
-    pub driven : (nodes : List N) → nodes ≡ map (λ (s : Seat N). s.node) seats
-        → HasDriven part stands script start epochs nodes journal
-    driven nodes are = record {
-      starts = starts;
-      epochs_are = epochs_are;
-      run = is_run script start epochs can journal starts epochs_are hub passes held knows all;
-      dutiful = is_dutiful script start epochs can journal starts epochs_are hub passes held knows all;
-      planned = held.planned;
-      ended = is_ended script start epochs can journal starts epochs_are hub passes held knows all;
-      stand = in_each (StandsAfter part stands journal) nodes
-          (λ n i. stand_in n (subst (In n) are i));
-    }
+    many : length seats ≡ length (nodes_of script)
+    many = sym (map_size (λ (s : Seat N). s.pass.node) seats) ∙ ap (λ (l : List Node). length l) are
+
+    module _ (nodes : List N) (sit : nodes ≡ map (λ (s : Seat N). s.node) seats) where
+      size : length nodes ≡ length seats
+      size = ap (λ (l : List N). length l) sit ∙ map_size (λ (s : Seat N). s.node) seats
+
+      first_seat : (l : List (Seat N)) (i : ℕ) → i < length l → Seat N
+      first_seat [] i lt = absurd (omega (arith, lt))
+      first_seat (s ∷ l) i lt = s
+
+      -- a node of the list stands where its steps have brought it
+      stand_at : (i : ℕ) (n : N) (node : Node) → i < length nodes
+          → StandsAfter stands run journal (get_or (nodes_of script) i node) (get_or nodes i n)
+      stand_at i n node lt =
+          let same = size in
+          let here : i < length seats = omega (arith, lt, same) in
+          let d = first_seat seats i here in
+          let s : Seat N = get_or seats i d in
+          let node_is : get_or (nodes_of script) i node ≡ s.pass.node =
+          ap (λ l. get_or l i node) (sym are) ∙ map_here (λ (x : Seat N). x.pass.node) seats i d node here in
+          let n_is : get_or nodes i n ≡ s.node =
+          ap (λ l. get_or l i n) sit ∙ map_here (λ (x : Seat N). x.node) seats i d n here in
+          subst (λ (k : Node). StandsAfter stands run journal k (get_or nodes i n)) (sym node_is)
+          (subst (StandsAfter stands run journal s.pass.node) (sym n_is) (stand_each i d here))
+
+      pub driven : HasDriven tells stands script start epochs nodes journal
+      driven = record {
+        starts = starts;
+        epochs_are = epochs_are;
+        planned = held.planned;
+        rules = rules;
+        done = done;
+        run = (λ told. is_run script start epochs can journal starts epochs_are hub passes held (knows told) all);
+        dutiful = (λ told. is_dutiful script start epochs can journal starts epochs_are hub passes held (knows told) all);
+        ended = (λ told. is_ended script start epochs can journal starts epochs_are hub passes held (knows told) all);
+        count = size ∙ many;
+        stand = stand_at;
+      }

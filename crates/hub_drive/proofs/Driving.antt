@@ -1,20 +1,20 @@
 -- The seats at the start of a run and at its end.
-use Rattle.std.proofs.Common.{◌≡◌, ℕ, ◌<◌, List, [], ◌∷◌, None, map, length, get_or, refl, sym, ap, ◌∙◌, subst, arith}
+use Rattle.std.proofs.Common.{◌≡◌, ℕ, zero, suc, ◌+◌, ◌<◌, List, [], ◌∷◌, ◌++◌, Option, None, map, length, get_or, refl, sym, ap, ◌∙◌, subst, arith}
 use Rattle.std.specs.Prelude.{IfErr, IfOk, Result, Ok, Err}
 use Rattle.base_types.specs.declared.ids.Node.{Node}
 use Rattle.base_types.specs.declared.ids.Node.TheVariants.{Host}
 use Rattle.tree_answers.specs.declared.tree.Tree.{Tree}
 use Rattle.script_lines.specs.declared.script.Script.{Script}
-use Rattle.hub_board.specs.Hubs.{nodes_of}
+use Rattle.hub_board.specs.Hubs.{hosts_up_to, nodes_of, servers_up_to}
 use Rattle.hub_board.specs.declared.given.Turn.{Turn}
 use Rattle.hub_turns.specs.Meetings.{HasEnded, first_pass}
 use Rattle.hub_turns.specs.Views.{HubView, NodeView}
 use Rattle.run_rules.specs.declared.journal.Journal.{Journal}
 use Rattle.run_rules.specs.declared.step.Step.{Step}
 use Rattle.hub_laws.specs.Keeping.{Round}
-use Rattle.hub_drive.specs.Driving.{CanStart, HasDriven, HasStayed, IsFault, IsFree, IsHubOf, IsJournalOf, ShowsFault, part_of}
-use Rattle.hub_node.specs.Nodes.{HandsIn, Part}
-use Rattle.hub_drive.specs.Seats.{EachAt, HasGone, IsSeated, IsThrough, PairsAt}
+use Rattle.hub_drive.specs.Driving.{AreNodes, CanStart, HasDriven, IsFault, IsFree, IsHubOf, IsJournalOf, ShowsFault, beginning}
+use Rattle.hub_node.specs.Nodes.{Beginning, HandsIn, Part, part_of}
+use Rattle.hub_drive.specs.Seats.{EachAt, HasGone, IsHere, IsIn, IsSeated, IsThrough, PairsAt}
 use Rattle.hub_drive.specs.declared.driver.DriveFault.{DriveFault}
 use Rattle.hub_drive.specs.declared.driver.DriveFault.TheVariants.{Store, Memory, Stuck}
 use Rattle.hub_drive.specs.declared.seat.Seat.{Seat}
@@ -38,9 +38,10 @@ module _ {N : Type 0} where
   node_of s = s.node
 
   -- what has become of seats has become of their nodes
-  module _ (part : N → Part) (stays failed : N → N → Type 0) where
-    two : (olds news : List (Seat N)) → PairsAt (HasGone part stays failed) olds news → (i : ℕ) (d : N)
-        → i < length olds → HasStayed part stays (get_or (map node_of olds) i d) (get_or (map node_of news) i d)
+  module _ (stands : Part → N → List Round → List Step → Type 0) (stays failed : N → N → Type 0)
+      (next : N → Option ℕ) (hub : HubView) where
+    two : (olds news : List (Seat N)) → PairsAt (HasGone stands stays failed hub) olds news → (i : ℕ) (d : N)
+        → i < length olds → stays (get_or (map node_of olds) i d) (get_or (map node_of news) i d)
     two [] news h i d lt = absurd (omega (arith, lt))
     two (o ∷ olds) news h i d lt =
         let n = h.count in
@@ -48,13 +49,11 @@ module _ {N : Type 0} where
         let g = h.each i o lt in
         let old = map_here node_of (o ∷ olds) i o d lt in
         let new = map_here node_of news i o d there in
-        record {
-          part_is = ap part new ∙ g.part_is ∙ sym (ap part old);
-          stayed = subst (stays (get_or (map node_of (o ∷ olds)) i d)) (sym new) (subst (λ x. stays x (get_or news i o).node) (sym old) g.stayed);
-        }
+        subst (stays (get_or (map node_of (o ∷ olds)) i d)) (sym new)
+        (subst (λ x. stays x (get_or news i o).node) (sym old) g.stayed)
 
-    pub stayed_of : (olds news : List (Seat N)) → PairsAt (HasGone part stays failed) olds news
-        → PairsAt (HasStayed part stays) (map node_of olds) (map node_of news)
+    pub stayed_of : (olds news : List (Seat N)) → PairsAt (HasGone stands stays failed hub) olds news
+        → PairsAt stays (map node_of olds) (map node_of news)
     stayed_of olds news h =
         let a = map_size node_of olds in let b = map_size node_of news in let n = h.count in
         record {
@@ -62,14 +61,14 @@ module _ {N : Type 0} where
           each = λ i d lt. two olds news h i d (omega (arith, lt, a));
         }
 
-    pub parts_on : (olds news : List (Seat N)) → PairsAt (HasGone part stays failed) olds news
-        → map (λ (s : Seat N). part s.node) news ≡ map (λ (s : Seat N). part s.node) olds
-    parts_on olds news h =
-        maps_same (λ (s : Seat N). part s.node) olds news h.count (λ i d lt. (h.each i d lt).part_is)
+    pub nodes_on : (olds news : List (Seat N)) → PairsAt (HasGone stands stays failed hub) olds news
+        → map (λ (s : Seat N). s.pass.node) news ≡ map (λ (s : Seat N). s.pass.node) olds
+    nodes_on olds news h =
+        maps_same (λ (s : Seat N). s.pass.node) olds news h.count (λ i d lt. (h.each i d lt).node_is)
 
-    pub failed_of : (olds news : List (Seat N)) (fault : DriveFault) → PairsAt (HasGone part stays failed) olds news
-        → EachAt (λ (s : Seat N). s.fault ≡ None) olds → ShowsFault news fault
-        → IsFault failed (map node_of olds) (map node_of news) fault
+    pub failed_of : (olds news : List (Seat N)) (fault : DriveFault) → PairsAt (HasGone stands stays failed hub) olds news
+        → EachAt (λ (s : Seat N). s.fault ≡ None) olds → ShowsFault next news fault
+        → IsFault failed next (map node_of olds) (map node_of news) fault
     failed_of [] news (Store k) h well shows =
         let n = h.count in let lt = shows.0 in absurd (omega arith)
     failed_of (o ∷ olds) news (Store k) h well shows =
@@ -83,67 +82,86 @@ module _ {N : Type 0} where
               (g.fails (well k o here) (shows.1 o)))),
         )
     failed_of olds news Memory h well shows = tt
-    failed_of olds news Stuck h well shows = tt
+    failed_of olds news (Stuck w) h well shows = shows
 
-    pub free_of : (olds news : List N) (fault : DriveFault) → IsFree fault → IsFault failed olds news fault
+    pub free_of : (olds news : List N) (fault : DriveFault) → IsFree fault → IsFault failed next olds news fault
     free_of olds news (Store k) h = absurd h
     free_of olds news Memory h = tt
-    free_of olds news Stuck h = tt
+    free_of olds news (Stuck w) h = absurd h
+
+  -- seats that were in a run are in it still
+  pub all_in : (stands : Part → N → List Round → List Step → Type 0) (stays failed : N → N → Type 0) (hub : HubView)
+      (run : Beginning) (olds news : List (Seat N)) → PairsAt (HasGone stands stays failed hub) olds news
+      → EachAt (IsIn stands run hub) olds → EachAt (IsIn stands run hub) news
+  all_in stands stays failed hub run olds news h at i d lt =
+      let n = h.count in
+      let here : i < length olds = omega (arith, lt, n) in
+      (h.each i d here).kept run (at i d here)
+
+  -- those that sit in a run sit somewhere
+  pub all_here : (stands : Part → N → List Round → List Step → Type 0) (hub : HubView) (run : Beginning)
+      (seats : List (Seat N)) → EachAt (IsSeated stands run hub) seats → EachAt (IsHere stands hub) seats
+  all_here stands hub run seats at i d lt = record { run = run; is_in = λ well. at i d lt }
 
   -- nodes that have just sat down
-  module _ (part : N → Part) (stands : N → List Round → List Step → Type 0) (script : Script) (start : Tree)
-      (epochs : List ℕ) (hub : HubView) (hub_is : IsHubOf script hub) (seats : List (Seat N)) (nodes : List N)
-      (passes : List NodeView) (are : map part nodes ≡ map (part_of script start epochs) (nodes_of script))
-      (fresh : EachAt (λ n. stands n [] []) nodes) (sit : map node_of seats ≡ nodes)
+  module _ (stands : Part → N → List Round → List Step → Type 0) (run : Beginning) (hub : HubView)
+      (hub_is : IsHubOf run.script hub) (seats : List (Seat N)) (nodes : List N) (passes : List NodeView)
+      (are : AreNodes stands run nodes) (sit : map node_of seats ≡ nodes)
       (have : map (λ (s : Seat N). s.pass) seats ≡ passes)
-      (first : passes ≡ map (first_pass hub.id) (nodes_of script))
+      (first : passes ≡ map (first_pass hub.id) (nodes_of run.script))
       (empty : EachAt (λ (s : Seat N). (s.steps.steps ≡ []) × (s.fault ≡ None)) seats) where
     map_map : {A B C : Type 0} (f : B → C) (g : A → B) (xs : List A) → map f (map g xs) ≡ map (λ x. f (g x)) xs
     map_map f g [] = refl
     map_map f g (x ∷ xs) = ap (λ l. f (g x) ∷ l) (map_map f g xs)
 
-    pub parts : map (λ (s : Seat N). part s.node) seats ≡ map (part_of script start epochs) (nodes_of script)
-    parts = sym (map_map part node_of seats) ∙ ap (map part) sit ∙ are
+    same : (ns : List Node) → map (λ (n : Node). n) ns ≡ ns
+    same [] = refl
+    same (n ∷ ns) = ap (λ l. n ∷ l) (same ns)
 
-    pub many : length seats ≡ length (nodes_of script)
-    many = sym (map_size (λ (s : Seat N). part s.node) seats) ∙ ap (λ (l : List Part). length l) parts
-        ∙ map_size (part_of script start epochs) (nodes_of script)
+    pub nodes_are : map (λ (s : Seat N). s.pass.node) seats ≡ nodes_of run.script
+    nodes_are = sym (map_map (λ (p : NodeView). p.node) (λ (s : Seat N). s.pass) seats)
+        ∙ ap (map (λ (p : NodeView). p.node)) (have ∙ first)
+        ∙ map_map (λ (p : NodeView). p.node) (first_pass hub.id) (nodes_of run.script)
+        ∙ same (nodes_of run.script)
 
-    pub all_seated : EachAt (IsSeated part stands hub) seats
+    sizes : length nodes ≡ length seats
+    sizes = ap (λ (l : List N). length l) (sym sit) ∙ map_size node_of seats
+
+    pub all_seated : EachAt (IsSeated stands run hub) seats
     all_seated i d lt =
         let n0 : Node = Host (record { 0 = 0 }) in
         let s : Seat N = get_or seats i d in
-        let n = get_or (nodes_of script) i n0 in
-        let size = many in
-        let there : i < length (nodes_of script) = omega (arith, lt, size) in
-        let part_is : part s.node ≡ part_of script start epochs n =
-        same_at (λ (x : Seat N). part x.node) (part_of script start epochs) seats (nodes_of script) i d n0 parts lt there in
+        let n = get_or (nodes_of run.script) i n0 in
+        let size = sizes in
+        let count = are.count in
+        let there : i < length (nodes_of run.script) = omega (arith, lt, size, count) in
         let pass_is : s.pass ≡ first_pass hub.id n =
-        same_at (λ (x : Seat N). x.pass) (first_pass hub.id) seats (nodes_of script) i d n0 (have ∙ first) lt there in
+        same_at (λ (x : Seat N). x.pass) (first_pass hub.id) seats (nodes_of run.script) i d n0 (have ∙ first) lt there in
         let node_is : get_or nodes i s.node ≡ s.node =
         ap (λ l. get_or l i s.node) (sym sit) ∙ map_here node_of seats i d s.node lt in
-        let sizes : length nodes ≡ length seats = ap (λ (l : List N). length l) (sym sit) ∙ map_size node_of seats in
-        let stood : stands s.node [] [] = subst (λ x. stands x [] []) node_is (fresh i s.node (omega (arith, lt, sizes))) in
+        let fresh : stands (part_of run n) s.node [] [] =
+        subst (λ x. stands (part_of run n) x [] []) node_is (are.fresh i s.node n0 (omega (arith, lt, size))) in
+        let own : stands (part_of run s.pass.node) s.node [] [] =
+        subst (λ (k : Node). stands (part_of run k) s.node [] []) (sym (ap (λ (p : NodeView). p.node) pass_is)) fresh in
         record {
           hub_is = ap (λ (p : NodeView). p.hub) pass_is;
-          roster = hub_is.roster ∙ ap (λ (p : Part). p.script.roster) (sym part_is);
-          node = ap (λ (p : NodeView). p.node) pass_is ∙ ap (λ (p : Part). p.node) (sym part_is);
+          roster = hub_is.roster;
           rounds = [];
           made = ap (λ (p : NodeView). p.made) pass_is;
           keeps = tt;
-          stood = subst (stands s.node []) (sym (empty i d lt).0) stood;
+          stood = subst (stands (part_of run s.pass.node) s.node []) (sym (empty i d lt).0) own;
         }
 
 -- passes of nodes that are through are ready for the hub to be closed
-pub close_ready : {N : Type 0} (part : N → Part) (stands : N → List Round → List Step → Type 0) (hub : HubView)
-    (seats : List (Seat N)) (passes : List NodeView) → EachAt (IsThrough part stands hub) seats
+pub close_ready : {N : Type 0} (tells : Type 0) (stands : Part → N → List Round → List Step → Type 0) (run : Beginning)
+    (hub : HubView) (seats : List (Seat N)) (passes : List NodeView) → EachAt (IsThrough stands run hub tells) seats
     → passes ≡ map (λ (s : Seat N). s.pass) seats → length seats ≡ hub.nodes
     → (length passes ≡ hub.nodes) × EachAt (λ (p : NodeView). p.hub ≡ hub.id) passes
-close_ready part stands hub [] passes h are count = (
+close_ready tells stands run hub [] passes h are count = (
   ap (λ (l : List NodeView). length l) are ∙ count,
   λ i d lt. absurd (let e = ap (λ (l : List NodeView). length l) are in omega arith),
 )
-close_ready {N} part stands hub (s ∷ seats) passes h are count =
+close_ready {N} tells stands run hub (s ∷ seats) passes h are count =
     let size = map_size (λ (x : Seat N). x.pass) (s ∷ seats) in
     let sizes = ap (λ (l : List NodeView). length l) are in (
       sizes ∙ size ∙ count,
@@ -154,21 +172,33 @@ close_ready {N} part stands hub (s ∷ seats) passes h are count =
     )
 
 -- the run of nodes that are through, by the turns of the hub that was closed
-pub driven_by : {N : Type 0} (part : N → Part) (stands : N → List Round → List Step → Type 0)
-    (hands_in : (n : N) → HandsIn part stands n) (script : Script) (start : Tree) (epochs : List ℕ)
+pub driven_by : {N : Type 0} (tells : Type 0) (stands : Part → N → List Round → List Step → Type 0)
+    (hands_in : (n : N) → HandsIn tells stands n) (script : Script) (start : Tree) (epochs : List ℕ)
     (can : CanStart script start epochs) (hub : HubView) (hub_is : IsHubOf script hub) (seats : List (Seat N))
-    (parts : map (λ (s : Seat N). part s.node) seats ≡ map (part_of script start epochs) (nodes_of script))
-    (through : EachAt (IsThrough part stands hub) seats) (nodes : List N) (passes : List NodeView)
+    (are : map (λ (s : Seat N). s.pass.node) seats ≡ nodes_of script)
+    (through : EachAt (IsThrough stands (beginning script start epochs) hub tells) seats) (nodes : List N)
+    (passes : List NodeView)
     → nodes ≡ map node_of seats → passes ≡ map (λ (s : Seat N). s.pass) seats → (journal : Journal)
     → ((turns : List Turn) × HasEnded hub turns passes × IsJournalOf start epochs turns journal)
-    → HasDriven part stands script start epochs nodes journal
-driven_by part stands hands_in script start epochs can hub hub_is seats parts through nodes passes are have journal h =
-    driven part stands hands_in script start epochs can hub hub_is seats parts through h.0 journal
-    h.2.starts h.2.epochs_are h.2.steps (subst (HasEnded hub h.0) have h.1) nodes are
+    → HasDriven tells stands script start epochs nodes journal
+driven_by tells stands hands_in script start epochs can hub hub_is seats are through nodes passes sit have journal h =
+    driven tells stands hands_in script start epochs can hub hub_is seats are through h.0 journal
+    h.2.starts h.2.epochs_are h.2.steps (subst (HasEnded hub h.0) have h.1) nodes sit
 
-pub seats_count : {N : Type 0} (part : N → Part) (script : Script) (start : Tree) (epochs : List ℕ) (seats : List (Seat N))
-    → map (λ (s : Seat N). part s.node) seats ≡ map (part_of script start epochs) (nodes_of script)
-    → length seats ≡ length (nodes_of script)
-seats_count {N} part script start epochs seats parts =
-    sym (map_size (λ (s : Seat N). part s.node) seats) ∙ ap (λ (l : List Part). length l) parts
-    ∙ map_size (part_of script start epochs) (nodes_of script)
+pub seats_count : {N : Type 0} (script : Script) (seats : List (Seat N))
+    → map (λ (s : Seat N). s.pass.node) seats ≡ nodes_of script → length seats ≡ length (nodes_of script)
+seats_count {N} script seats are =
+    sym (map_size (λ (s : Seat N). s.pass.node) seats) ∙ ap (λ (l : List Node). length l) are
+
+-- there is a node
+pub some_node : (script : Script) → 0 < length (nodes_of script)
+some_node script = longer (hosts_up_to (length script.roster.hosts)) (servers_up_to script.servers)
+    (some_host (length script.roster.hosts))
+  where
+    longer : (xs ys : List Node) → 0 < length xs → 0 < length (xs ++ ys)
+    longer [] ys lt = absurd (omega (arith, lt))
+    longer (x ∷ xs) ys lt = omega arith
+
+    some_host : (n : ℕ) → 0 < length (hosts_up_to n)
+    some_host zero = omega arith
+    some_host (suc n) = longer (hosts_up_to n) (Host (record { 0 = suc n }) ∷ []) (some_host n)

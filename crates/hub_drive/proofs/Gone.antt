@@ -1,37 +1,48 @@
 -- What becomes of a seat, over several turns.
-use Rattle.std.proofs.Common.{◌≡◌, Option, None, Some, refl, sym, ◌∙◌, subst}
+use Rattle.std.proofs.Common.{◌≡◌, List, Option, None, Some, refl, sym, ◌∙◌, subst}
+use Rattle.hub_turns.specs.Views.{HubView}
+use Rattle.run_rules.specs.declared.step.Step.{Step}
+use Rattle.hub_laws.specs.Keeping.{Round}
 use Rattle.hub_node.specs.Nodes.{Part}
-use Rattle.hub_drive.specs.Seats.{HasGone}
+use Rattle.hub_drive.specs.Seats.{HasGone, IsHere}
 use Rattle.hub_node.specs.declared.node.NodeFault.{NodeFault}
 use Rattle.hub_node.specs.declared.node.NodeFault.TheVariants.{Store}
 use Rattle.hub_drive.specs.declared.seat.Seat.{Seat}
 
-module _ {N : Type 0} (part : N → Part) (stays failed : N → N → Type 0) (so : (a : N) → stays a a)
+module _ {N : Type 0} (stands : Part → N → List Round → List Step → Type 0) (stays failed : N → N → Type 0)
+    (hub : HubView) (so : (a : N) → stays a a)
     (on : (a b c : N) → stays a b → stays b c → stays a c)
     (fails_on : (a b c : N) → stays a b → failed b c → failed a c) where
-  pub gone_so : (s : Seat N) → HasGone part stays failed s s
+  pub gone_so : (s : Seat N) → HasGone stands stays failed hub s s
   gone_so s = record {
-    part_is = refl;
+    node_is = refl;
+    kept = (λ run h. h);
     stayed = so s.node;
     fails = (λ well e. let clash = sym well ∙ e in absurd (cc));
     frozen = (λ ill. (refl, refl));
   }
 
-  fails_by : (a b c : Seat N) (fault : Option NodeFault) → b.fault ≡ fault → HasGone part stays failed a b
-      → HasGone part stays failed b c → a.fault ≡ None → c.fault ≡ Some Store → failed a.node c.node
+  fails_by : (a b c : Seat N) (fault : Option NodeFault) → b.fault ≡ fault → HasGone stands stays failed hub a b
+      → HasGone stands stays failed hub b c → a.fault ≡ None → c.fault ≡ Some Store → failed a.node c.node
   fails_by a b c None e h k well f = fails_on a.node b.node c.node h.stayed (k.fails e f)
   fails_by a b c (Some fault) e h k well f =
       let ill : b.fault ≡ None → ⊥ = λ x. (let clash = sym x ∙ e in absurd (cc)) in
       let same = k.frozen ill in
       subst (failed a.node) (sym same.0) (h.fails well (sym same.1 ∙ f))
 
-  pub gone_on : (a b c : Seat N) → HasGone part stays failed a b → HasGone part stays failed b c
-      → HasGone part stays failed a c
+  pub gone_on : (a b c : Seat N) → HasGone stands stays failed hub a b → HasGone stands stays failed hub b c
+      → HasGone stands stays failed hub a c
   gone_on a b c h k = record {
-    part_is = k.part_is ∙ h.part_is;
+    node_is = k.node_is ∙ h.node_is;
+    kept = (λ run at. k.kept run (h.kept run at));
     stayed = on a.node b.node c.node h.stayed k.stayed;
     fails = fails_by a b c b.fault refl h k;
     frozen = (λ ill.
         let first = h.frozen ill in
         let second = k.frozen (λ e. ill (sym first.1 ∙ e)) in (second.0 ∙ first.0, second.1 ∙ first.1));
   }
+
+-- a seat that was somewhere is there still
+pub here_on : {N : Type 0} (stands : Part → N → List Round → List Step → Type 0) (stays failed : N → N → Type 0)
+    (hub : HubView) (a b : Seat N) → IsHere stands hub a → HasGone stands stays failed hub a b → IsHere stands hub b
+here_on stands stays failed hub a b h k = record { run = h.run; is_in = k.kept h.run h.is_in }

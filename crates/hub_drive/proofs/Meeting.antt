@@ -20,7 +20,7 @@ use Rattle.run_rules.specs.declared.journal.Journal.{Journal}
 use Rattle.run_rules.specs.declared.step.Step.{Step}
 use Rattle.hub_laws.specs.Laws.{CauseSent}
 use Rattle.hub_laws.specs.Closings.{HasHeld, IsMade}
-use Rattle.hub_drive.specs.Driving.{CanStart, part_of}
+use Rattle.hub_drive.specs.Driving.{CanStart, beginning}
 use Rattle.hub_node.specs.Nodes.{IsDone, OwnMeets}
 use Rattle.hub_drive.proofs.Filtered.{acts_own, mine, own_always}
 use Rattle.hub_drive.proofs.Members.{is_host, is_server, takes_part}
@@ -30,17 +30,17 @@ node_self (Host h) = eq-eqb h.0 h.0 refl
 node_self (Server v) = eq-eqb v.0 v.0 refl
 
 -- what is known of a pass of a closed hub: its node is one of the script, its own steps meet its rules, and it is done
-pub record Knows (script : Script) (start : Tree) (epochs : List ℕ) (past : List Step) (pass : NodeView) : Type 0 where
+pub record IsKnown (script : Script) (start : Tree) (epochs : List ℕ) (past : List Step) (pass : NodeView) : Type 0 where
   pub among : In pass.node (nodes_of script)
-  pub meets : Always (OwnMeets (part_of script start epochs pass.node) pass.node) (mine pass.node past)
-  pub done : IsDone (part_of script start epochs pass.node) pass.node (mine pass.node past)
+  pub meets : Always (OwnMeets (beginning script start epochs) pass.node) (mine pass.node past)
+  pub done : IsDone (beginning script start epochs) pass.node (mine pass.node past)
 
 module _ (script : Script) (start : Tree) (epochs : List ℕ) where
   abbrev firsts : ServerId → ℕ
   firsts server = first_epoch epochs server
 
   abbrev P : Node → List Step → Step → Type 0
-  P n = OwnMeets (part_of script start epochs n) n
+  P n = OwnMeets (beginning script start epochs) n
 
   -- what a step meets by its node's own steps it meets by all
   step_meets : (n : Node) (before : List Step) (s : Step) → P n (mine n before) s → CauseSent firsts n before s
@@ -107,7 +107,7 @@ in_steps s steps i = ⊎_elim (λ (a : In s steps). a) (λ (none : In s []). abs
 module _ (script : Script) (start : Tree) (epochs : List ℕ) (can : CanStart script start epochs) (journal : Journal)
     (starts : journal.start ≡ start ∷ []) (epochs_are : journal.epochs ≡ epochs) (hub : HubView)
     (passes : List NodeView) (held : HasHeld script hub passes journal)
-    (knows : (p : NodeView) → In p passes → Knows script start epochs (past_of journal) p)
+    (knows : (p : NodeView) → In p passes → IsKnown script start epochs (past_of journal) p)
     (all : (n : Node) → In n (nodes_of script) → (p : NodeView) × In p passes × (p.node ≡ n)) where
   abbrev past : List Step
   past = past_of journal
@@ -143,10 +143,10 @@ module _ (script : Script) (start : Tree) (epochs : List ℕ) (can : CanStart sc
         (λ p i. own_always (P script start epochs p.node) p.node past (knows p i).meets));
   }
 
-  done_at : (n : Node) → In n (nodes_of script) → IsDone (part_of script start epochs n) n (mine n past)
+  done_at : (n : Node) → In n (nodes_of script) → IsDone (beginning script start epochs) n (mine n past)
   done_at n i =
       let p = all n i in
-      subst (λ m. IsDone (part_of script start epochs m) m (mine m past)) p.2 (knows p.0 p.1).done
+      subst (λ (m : Node). IsDone (beginning script start epochs) m (mine m past)) p.2 (knows p.0 p.1).done
 
   abbrev Goes : ServerId → HostId → List Doing → Type 0
   Goes server host acts_of = Listed acts_of host → HasGoneAway acts_of host

@@ -22,7 +22,7 @@ use Rattle.hub_wire.specs.Packets.{is_released, any_free}
 use Rattle.hub_wire.proofs.Takes.{takes_first}
 use Rattle.hub_laws.specs.Keeping.{Round, steps_in}
 use Rattle.hub_laws.specs.Closings.{HasMade, KeepsOn}
-use Rattle.hub_node.specs.Nodes.{HandsIn, IsDone, IsGivenTo, MayHandIn, Part}
+use Rattle.hub_node.specs.Nodes.{Beginning, HandsIn, IsDone, IsGivenTo, Knows, MayHandIn, Part, part_of}
 use Rattle.hub_drive.specs.Seats.{IsSeated, IsThrough}
 use Rattle.hub_drive.specs.declared.seat.Seat.{Seat}
 
@@ -57,10 +57,14 @@ given_own hub node (Some Begun) m e = absurd (cc)
 given_own hub node (Some Raised) m e = absurd (raised_not (flag_of hub node) m e)
 given_own hub node (Some Lapse) m e = absurd (cc)
 
-module _ {N : Type 0} (part : N → Part) (stands : N → List Round → List Step → Type 0)
-    (hands_in : (n : N) → HandsIn part stands n) (hub : HubView) (s : Seat N) (seated : IsSeated part stands hub s) where
-  abbrev may : MayHandIn (part s.node) seated.rounds s.steps.steps
-  may = hands_in s.node seated.rounds s.steps.steps seated.stood
+module _ {N : Type 0} (tells : Type 0) (stands : Part → N → List Round → List Step → Type 0)
+    (hands_in : (n : N) → HandsIn tells stands n) (hub : HubView) (s : Seat N) (run : Beginning)
+    (seated : IsSeated stands run hub s) where
+  abbrev part : Part
+  part = part_of run s.pass.node
+
+  abbrev may : MayHandIn tells part seated.rounds s.steps.steps
+  may = hands_in s.node part seated.rounds s.steps.steps seated.stood
 
   -- what the node hands in is sound
   pub sends_sound : AreSent hub.roster s.steps.steps
@@ -69,44 +73,65 @@ module _ {N : Type 0} (part : N → Part) (stands : N → List Round → List St
 
   module _ (pass : NodeView) (given : Option Given) (passed : HasPassed hub s.pass pass s.steps.steps given)
       (sound : IsGivenSound hub.roster given) where
-    pub given_to : IsGivenTo (part s.node) given
+    pub given_to : IsGivenTo part given
     given_to = record {
-      own = (λ m e.
-          subst (λ n. same_node (receiver m) n ≡ true) seated.node
-          (given_own (with_steps passed.before.hub s.pass.node s.steps.steps) s.pass.node passed.turned.gift_is m
-          (sym passed.turned.given_is ∙ e)));
+      own = (λ m e. given_own (with_steps passed.before.hub s.pass.node s.steps.steps) s.pass.node passed.turned.gift_is m
+          (sym passed.turned.given_is ∙ e));
       sound = (λ m e. subst (λ (r : Roster). IsSound r m) seated.roster (sound m e));
     }
 
     abbrev round : Round
     round = record { steps = s.steps.steps; given = given }
 
+    -- the pass is its node's still
+    pub node_on : (s' : Seat N) → s'.pass ≡ pass → s'.pass.node ≡ s.pass.node
+    node_on s' is = ap (λ (p : NodeView). p.node) is ∙ ap (λ (p : NodeView). p.node) passed.pass_is
+
     -- the node has done its work
-    pub seated_on : (s' : Seat N) → s'.pass ≡ pass → part s'.node ≡ part s.node
-        → stands s'.node (round ∷ seated.rounds) s'.steps.steps → IsSeated part stands hub s'
-    seated_on s' is same stood = record {
+    pub seated_on : (s' : Seat N) → s'.pass ≡ pass
+        → stands part s'.node (round ∷ seated.rounds) s'.steps.steps → IsSeated stands run hub s'
+    seated_on s' is stood = record {
       hub_is = ap (λ (p : NodeView). p.hub) is ∙ ap (λ (p : NodeView). p.hub) passed.pass_is ∙ seated.hub_is;
-      roster = seated.roster ∙ ap (λ (p : Part). p.script.roster) (sym same);
-      node = ap (λ (p : NodeView). p.node) is ∙ ap (λ (p : NodeView). p.node) passed.pass_is ∙ seated.node
-          ∙ ap (λ (p : Part). p.node) (sym same);
+      roster = seated.roster;
       rounds = round ∷ seated.rounds;
       made = subst (HasMade hub (round ∷ seated.rounds)) (sym is)
           (made_goes_on hub seated.rounds s.pass pass round seated.made passed);
-      keeps = subst (λ (p : Part). Always (KeepsOn p.script p.node) (round ∷ seated.rounds)) (sym same)
+      keeps = subst (λ (n : Node). Always (KeepsOn run.script n) (round ∷ seated.rounds)) (sym (node_on s' is))
           (seated.keeps, may.keeps given);
-      stood = stood;
+      stood = subst (λ (n : Node). stands (part_of run n) s'.node (round ∷ seated.rounds) s'.steps.steps)
+          (sym (node_on s' is)) stood;
     }
 
-    pub through_on : (s' : Seat N) → s'.pass ≡ pass → (same : part s'.node ≡ part s.node)
-        → (stood : stands s'.node (round ∷ seated.rounds) s'.steps.steps) → s'.fault ≡ None → s'.steps.steps ≡ []
-        → IsDone (part s.node) (part s.node).node (steps_in (round ∷ seated.rounds)) → IsThrough part stands hub s'
+    pub through_on : (s' : Seat N) → (is : s'.pass ≡ pass)
+        → (stood : stands part s'.node (round ∷ seated.rounds) s'.steps.steps) → s'.fault ≡ None → s'.steps.steps ≡ []
+        → (Knows tells s.pass.node → IsDone run s.pass.node (steps_in (round ∷ seated.rounds)))
+        → IsThrough stands run hub tells s'
     unfolding seated_on
-    through_on s' is same stood well none done = record {
+    through_on s' is stood well none done = record {
       well = well;
-      seated = seated_on s' is same stood;
+      seated = seated_on s' is stood;
       none = none;
-      done = subst (λ (p : Part). IsDone p p.node (steps_in (round ∷ seated.rounds))) (sym same) done;
+      done = (λ knows. subst (λ (n : Node). IsDone run n (steps_in (round ∷ seated.rounds))) (sym (node_on s' is))
+          (done (subst (Knows tells) (node_on s' is) knows)));
     }
+
+-- a seat notes whether its node was done, and nothing else
+pub through_so : {N : Type 0} (tells : Type 0) (stands : Part → N → List Round → List Step → Type 0) (hub : HubView)
+    (run : Beginning) (s : Seat N) (ended : Bool) → IsThrough stands run hub tells s
+    → IsThrough stands run hub tells (record s { ended = ended })
+through_so tells stands hub run s ended h = record {
+  well = h.well;
+  seated = record {
+    hub_is = h.seated.hub_is;
+    roster = h.seated.roster;
+    rounds = h.seated.rounds;
+    made = h.seated.made;
+    keeps = h.seated.keeps;
+    stood = h.seated.stood;
+  };
+  none = h.none;
+  done = h.done;
+}
 
 -- what holds where a result is Ok
 pub on_ok : {T E : Type 0} (r : Result T E) (P Q : Type 0) → (P → Q) → OnOk r P → OnOk r Q

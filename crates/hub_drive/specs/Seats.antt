@@ -5,38 +5,44 @@ use Rattle.run_rules.specs.Past.{Always}
 use Rattle.run_rules.specs.declared.step.Step.{Step}
 use Rattle.hub_laws.specs.Keeping.{Round, steps_in}
 use Rattle.hub_laws.specs.Closings.{HasMade, KeepsOn}
-use Rattle.hub_node.specs.Nodes.{IsDone, Part}
+use Rattle.hub_node.specs.Nodes.{Beginning, IsDone, Knows, Part, part_of}
 use Rattle.hub_node.specs.declared.node.NodeFault.TheVariants.{Store}
 use Rattle.hub_drive.specs.declared.seat.Seat.{Seat}
 
-module _ {N : Type 0} (part : N → Part) (stands : N → List Round → List Step → Type 0) (hub : HubView) where
-  -- A node sits at a hub: its pass is the hub's and its own, these rounds have made the pass and the node what they
+module _ {N : Type 0} (stands : Part → N → List Round → List Step → Type 0) (run : Beginning) (hub : HubView) where
+  -- A node sits at the hub of a run: its pass is the hub's, these rounds have made the pass and the node what they
   -- are, and it has kept on in each.
   pub record IsSeated (s : Seat N) : Type 0 where
     pub hub_is : s.pass.hub ≡ hub.id
-    pub roster : hub.roster ≡ (part s.node).script.roster
-    pub node : s.pass.node ≡ (part s.node).node
+    pub roster : hub.roster ≡ run.script.roster
     pub rounds : List Round
     pub made : HasMade hub rounds s.pass
-    pub keeps : Always (KeepsOn (part s.node).script (part s.node).node) rounds
-    pub stood : stands s.node rounds s.steps.steps
+    pub keeps : Always (KeepsOn run.script s.pass.node) rounds
+    pub stood : stands (part_of run s.pass.node) s.node rounds s.steps.steps
 
   -- so it is as long as nothing failed there
   abbrev pub IsIn : Seat N → Type 0
   IsIn s = s.fault ≡ None → IsSeated s
 
   -- and it is done, with nothing to hand in
-  pub record IsThrough (s : Seat N) : Type 0 where
+  pub record IsThrough (tells : Type 0) (s : Seat N) : Type 0 where
     pub well : s.fault ≡ None
     pub seated : IsSeated s
     pub none : s.steps.steps ≡ []
-    pub done : IsDone (part s.node) (part s.node).node (steps_in seated.rounds)
+    pub done : Knows tells s.pass.node → IsDone run s.pass.node (steps_in seated.rounds)
 
--- What has become of a seat: the node has its part still, and what stays of it; where its store failed, that is so
--- since
--- then; and where something failed before nothing was done.
-pub record HasGone {N : Type 0} (part : N → Part) (stays failed : N → N → Type 0) (old new : Seat N) : Type 0 where
-  pub part_is : part new.node ≡ part old.node
+-- it sits there in some run
+pub record IsHere {N : Type 0} (stands : Part → N → List Round → List Step → Type 0) (hub : HubView) (s : Seat N)
+    : Type 0 where
+  pub run : Beginning
+  pub is_in : IsIn stands run hub s
+
+-- What has become of a seat: it is its node's, and that sits there still, in whatever run it did, with what stays of
+-- it; where its store failed, that is so since then; and where something failed before nothing was done.
+pub record HasGone {N : Type 0} (stands : Part → N → List Round → List Step → Type 0) (stays failed : N → N → Type 0)
+    (hub : HubView) (old new : Seat N) : Type 0 where
+  pub node_is : new.pass.node ≡ old.pass.node
+  pub kept : (run : Beginning) → IsIn stands run hub old → IsIn stands run hub new
   pub stayed : stays old.node new.node
   pub fails : old.fault ≡ None → new.fault ≡ Some Store → failed old.node new.node
   pub frozen : (old.fault ≡ None → ⊥) → (new.node ≡ old.node) × (new.fault ≡ old.fault)

@@ -1,10 +1,10 @@
 //! The driver.
-ghost use Rattle.std.specs.Prelude.{◌≡◌, ◌≤◌, [], None, Err, IfOk, IfErr, List, length, map, vec_capacity};
+ghost use Rattle.std.specs.Prelude.{◌≡◌, ◌≤◌, ◌<◌, [], None, Err, IfOk, IfErr, List, length, map, vec_capacity};
 ghost use Rattle.hub_board.specs.Hubs.{nodes_of};
 ghost use Rattle.hub_board.specs.declared.given.Turn.{Turn as TurnOf};
 ghost use Rattle.hub_turns.specs.Meetings.{HasEnded};
-ghost use Rattle.hub_drive.specs.Driving.{AreNodes, CanStart, HasDriven, HasStayed, IsFault, IsHubOf, IsJournalOf};
-ghost use Rattle.hub_drive.specs.Driving.{IsFree, part_of, ShowsFault};
+ghost use Rattle.hub_drive.specs.Driving.{AreNodes, CanStart, HasDriven, IsFault, IsFree, IsHubOf, IsJournalOf};
+ghost use Rattle.hub_drive.specs.Driving.{IsWaitingAt, ShowsFault, beginning};
 ghost use Rattle.hub_drive.specs.Seats.{EachAt, IsSeated, IsThrough, PairsAt};
 
 use crate::rounds::turn_until;
@@ -26,8 +26,18 @@ pub enum DriveFault {
     Store(usize),
     /// Memory ran out.
     Memory,
-    /// Nothing more can happen, and not all are done: copies wait for flags that nobody raises.
-    Stuck,
+    /// Nothing more can happen, and not all are done: a node waits for a flag that nobody raises, or a copy does that
+    /// it waits for.
+    Stuck(Waiting),
+}
+
+/// A node that waits.
+#[derive(Clone, Copy, Debug, PartialEq, Eq)]
+pub struct Waiting {
+    /// Its place among the nodes.
+    pub node: usize,
+    /// The number of its next line, where one is left.
+    pub line: Option<u32>,
 }
 
 /// The nodes, in their order, and the journal of their run.
@@ -58,6 +68,7 @@ fn seat_all<N: Node>(
             pass,
             steps: Pending::new(alloc),
             fault: None,
+            ended: false,
         });
     }
     seats
@@ -77,17 +88,38 @@ fn unseat<N: Node>(seats: Vec<Seat<N>>, nodes: &mut Vec<N>, passes: &mut Vec<Nod
             pass,
             steps: _,
             fault: _,
+            ended: _,
         } = seat;
         nodes.push_reserved(node);
         passes.push_reserved(pass);
     }
 }
 
+// The first node that wasn't done at its last turn.
+fn stuck_at<N: Node>(seats: &[Seat<N>]) -> Waiting
+    requires { 0 < length seats.now }
+    ensures { IsWaitingAt N.next (map (λ s. s.node) seats.now) result }
+{
+    for (k, seat) in seats.iter().enumerate() {
+        if !seat.ended {
+            return Waiting {
+                node: k,
+                line: seat.node.waiting(),
+            };
+        }
+    }
+    Waiting {
+        node: 0,
+        line: seats[0].node.waiting(),
+    }
+}
+
 // Why the nodes aren't all done.
 fn fault_of<N: Node>(seats: &[Seat<N>]) -> DriveFault
-    ensures { ShowsFault seats.now result }
+    requires { 0 < length seats.now }
+    ensures { ShowsFault N.next seats.now result }
 {
-    let mut found = DriveFault::Stuck;
+    let mut found = DriveFault::Stuck(stuck_at(seats));
     for (k, seat) in seats.iter().enumerate() {
         match seat.fault {
             Some(NodeFault::Store) => return DriveFault::Store(k),
@@ -176,15 +208,14 @@ fn finish<N: Node>(
 ) -> Driven<N>
     requires can { CanStart script.now start epochs }
     requires hub { IsHubOf script.now hub }
-    requires parts { map (λ s. N.part s.node) seats.items
-        ≡ map (part_of script.now start epochs) (nodes_of script.now) }
-    requires through { EachAt (IsThrough N.part N.stands hub) seats.items }
+    requires are { map (λ s. s.pass.node) seats.items ≡ nodes_of script.now }
+    requires through { EachAt (IsThrough N.stands (beginning script.now start epochs) hub N.tells) seats.items }
     requires none { (nodes.items ≡ []) × (passes.items ≡ []) }
     requires nodes_room { length seats.items ≤ vec_capacity nodes }
     requires passes_room { length seats.items ≤ vec_capacity passes }
     ensures nodes { result.nodes.items ≡ map (λ s. s.node) seats.items }
     ensures driven { IfOk result.result
-        (λ journal. HasDriven N.part N.stands script.now start epochs result.nodes.items journal) }
+        (λ journal. HasDriven N.tells N.stands script.now start epochs result.nodes.items journal) }
     ensures failed { IfErr result.result (λ fault. IsFree fault) }
 {
     let _script = script;
@@ -208,18 +239,17 @@ fn run_at<N: Node + Send, R: Threads + Wait + Sync>(
 ) -> Driven<N>
     requires can { CanStart script.now start epochs }
     requires hub { IsHubOf script.now hub }
-    requires parts { map (λ s. N.part s.node) seats.items
-        ≡ map (part_of script.now start epochs) (nodes_of script.now) }
-    requires seated { EachAt (IsSeated N.part N.stands hub) seats.items }
+    requires are { map (λ s. s.pass.node) seats.items ≡ nodes_of script.now }
+    requires seated { EachAt (IsSeated N.stands (beginning script.now start epochs) hub) seats.items }
     requires well { EachAt (λ s. s.fault ≡ None) seats.items }
     requires none { (nodes.items ≡ []) × (passes.items ≡ []) }
     requires nodes_room { length seats.items ≤ vec_capacity nodes }
     requires passes_room { length seats.items ≤ vec_capacity passes }
-    ensures stayed { PairsAt (HasStayed N.part N.stays) (map (λ s. s.node) seats.items) result.nodes.items }
+    ensures stayed { PairsAt N.stays (map (λ s. s.node) seats.items) result.nodes.items }
     ensures driven { IfOk result.result
-        (λ journal. HasDriven N.part N.stands script.now start epochs result.nodes.items journal) }
+        (λ journal. HasDriven N.tells N.stands script.now start epochs result.nodes.items journal) }
     ensures failed { IfErr result.result
-        (λ fault. IsFault N.failed (map (λ s. s.node) seats.items) result.nodes.items fault) }
+        (λ fault. IsFault N.failed N.next (map (λ s. s.node) seats.items) result.nodes.items fault) }
 {
     if turn_until(rt, &hub, &mut seats, workers) {
         return finish(alloc, script, start, epochs, hub, seats, nodes, passes);
@@ -246,12 +276,13 @@ fn rooms<N: Drop>(
 }
 
 /// Drives the nodes of a script, the setup host first, then the other hosts and the servers: they take turns at a hub,
-/// on so many workers, until all are done. Then the journal of the hub is a run of the script from the tree, in which
-/// what is due is done, keeps to its plan and is ended; and each node stands where its own steps in it have brought it.
+/// on so many workers, until all are done. Then the journal of the hub keeps to the plan of the script; where it is known
+/// what the nodes' stores keep it is a run of the script from the tree, in which what is due is done, and is ended; and
+/// each node stands where its own steps in it have brought it.
 ///
 /// `Store` comes only where the store of that node failed twice, `Memory` where memory runs out, and `Stuck` where
-/// nothing more could happen. The nodes come back in their order, whatever comes. It may wait for what never comes
-/// about.
+/// nothing more could happen, with the first node that isn't done. The nodes come back in their order, whatever comes.
+/// It may wait for what never comes about.
 pub fn drive<N: Node + Send, R: Threads + Wait + Sync>(
     rt: &R,
     alloc: Global,
@@ -262,11 +293,11 @@ pub fn drive<N: Node + Send, R: Threads + Wait + Sync>(
     workers: u32,
 ) -> Driven<N>
     requires can { CanStart script.now start epochs }
-    requires nodes { AreNodes N.part N.stands script.now start epochs nodes.items }
-    ensures stayed { PairsAt (HasStayed N.part N.stays) nodes.items result.nodes.items }
+    requires nodes { AreNodes N.stands (beginning script.now start epochs) nodes.items }
+    ensures stayed { PairsAt N.stays nodes.items result.nodes.items }
     ensures driven { IfOk result.result
-        (λ journal. HasDriven N.part N.stands script.now start epochs result.nodes.items journal) }
-    ensures failed { IfErr result.result (λ fault. IsFault N.failed nodes.items result.nodes.items fault) }
+        (λ journal. HasDriven N.tells N.stands script.now start epochs result.nodes.items journal) }
+    ensures failed { IfErr result.result (λ fault. IsFault N.failed N.next nodes.items result.nodes.items fault) }
 {
     let Ok((seats, back, passes_back)) = rooms(alloc, nodes.len()) else {
         return Driven {

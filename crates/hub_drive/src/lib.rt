@@ -6,5 +6,5 @@ mod driver;
 mod rounds;
 mod seat;
 
-pub use driver::{DriveFault, Driven, drive};
+pub use driver::{DriveFault, Driven, Waiting, drive};
 pub use seat::Seat;

@@ -1,6 +1,7 @@
 //! Turns of many nodes.
 ghost use Rattle.std.specs.Prelude.{◌≡◌, ◌<◌, true};
-ghost use Rattle.hub_drive.specs.Seats.{EachAt, HasGone, IsIn, IsThrough, PairsAt};
+ghost use Rattle.hub_drive.specs.Seats.{EachAt, HasGone, IsHere, IsIn, IsThrough, PairsAt};
+ghost use Rattle.hub_node.specs.Nodes.{Beginning};
 
 use crate::seat::{Seat, turn};
 use hub_node::Node;
@@ -23,10 +24,11 @@ pub(crate) struct Went {
 
 /// Each node takes a turn, one after the other.
 pub(crate) fn turn_all<N: Node, R: Wait>(rt: &R, hub: &Hub, seats: &mut [Seat<N>]) -> Went
-    requires { EachAt (IsIn N.part N.stands hub.now) seats.old }
-    ensures kept { EachAt (IsIn N.part N.stands hub.now) seats.new }
-    ensures through { result.through ≡ true → EachAt (IsThrough N.part N.stands hub.now) seats.new }
-    ensures gone { PairsAt (HasGone N.part N.stays N.failed) seats.old seats.new }
+    requires { EachAt (IsHere N.stands hub.now) seats.old }
+    ensures kept { EachAt (IsHere N.stands hub.now) seats.new }
+    ensures through { (run : Beginning) → EachAt (IsIn N.stands run hub.now) seats.old → result.through ≡ true
+        → EachAt (IsThrough N.stands run hub.now N.tells) seats.new }
+    ensures gone { PairsAt (HasGone N.stands N.stays N.failed hub.now) seats.old seats.new }
 {
     let mut went = Went {
         through: true,
@@ -99,9 +101,9 @@ impl Words {
 
 // What one worker does: its nodes take turns as long as any worker has something to do, and nothing failed.
 fn work<N: Node, R: Wait>(rt: &R, hub: &Hub, words: &Words, seats: &mut [Seat<N>])
-    requires { EachAt (IsIn N.part N.stands hub.now) seats.old }
-    ensures kept { EachAt (IsIn N.part N.stands hub.now) seats.new }
-    ensures gone { PairsAt (HasGone N.part N.stays N.failed) seats.old seats.new }
+    requires { EachAt (IsHere N.stands hub.now) seats.old }
+    ensures kept { EachAt (IsHere N.stands hub.now) seats.new }
+    ensures gone { PairsAt (HasGone N.stands N.stays N.failed hub.now) seats.old seats.new }
 {
     words.busy.fetch_add(1, Ordering::SeqCst);
     for _ in rt.forever() {
@@ -129,9 +131,9 @@ fn turn_in_bundles<N: Node + Send, R: Threads + Wait + Sync>(
     workers: u32,
 )
     requires some { 0 < workers }
-    requires kept { EachAt (IsIn N.part N.stands hub.now) seats.old }
-    ensures kept { EachAt (IsIn N.part N.stands hub.now) seats.new }
-    ensures gone { PairsAt (HasGone N.part N.stays N.failed) seats.old seats.new }
+    requires kept { EachAt (IsHere N.stands hub.now) seats.old }
+    ensures kept { EachAt (IsHere N.stands hub.now) seats.new }
+    ensures gone { PairsAt (HasGone N.stands N.stays N.failed hub.now) seats.old seats.new }
 {
     let size = seats.len().div_ceil(workers as usize).max(1);
     let words = Words::new();
@@ -141,9 +143,9 @@ fn turn_in_bundles<N: Node + Send, R: Threads + Wait + Sync>(
         seats,
         size,
         &|_start: usize, bundle: &mut [Seat<N>]|
-            requires { EachAt (IsIn N.part N.stands hub.now) bundle.now }
-            ensures kept { EachAt (IsIn N.part N.stands hub.entry.now) bundle.exit.now }
-            ensures gone { PairsAt (HasGone N.part N.stays N.failed) bundle.entry.now bundle.exit.now }
+            requires { EachAt (IsHere N.stands hub.now) bundle.now }
+            ensures kept { EachAt (IsHere N.stands hub.entry.now) bundle.exit.now }
+            ensures gone { PairsAt (HasGone N.stands N.stays N.failed hub.entry.now) bundle.entry.now bundle.exit.now }
         { work(rt, hub, told, bundle) },
     );
 }
@@ -155,10 +157,11 @@ fn turn_once<N: Node + Send, R: Threads + Wait + Sync>(
     seats: &mut [Seat<N>],
     workers: u32,
 ) -> Went
-    requires { EachAt (IsIn N.part N.stands hub.now) seats.old }
-    ensures kept { EachAt (IsIn N.part N.stands hub.now) seats.new }
-    ensures through { result.through ≡ true → EachAt (IsThrough N.part N.stands hub.now) seats.new }
-    ensures gone { PairsAt (HasGone N.part N.stays N.failed) seats.old seats.new }
+    requires { EachAt (IsHere N.stands hub.now) seats.old }
+    ensures kept { EachAt (IsHere N.stands hub.now) seats.new }
+    ensures through { (run : Beginning) → EachAt (IsIn N.stands run hub.now) seats.old → result.through ≡ true
+        → EachAt (IsThrough N.stands run hub.now N.tells) seats.new }
+    ensures gone { PairsAt (HasGone N.stands N.stays N.failed hub.now) seats.old seats.new }
 {
     if workers <= 1 {
         return turn_all(rt, hub, seats);
@@ -175,9 +178,10 @@ fn turn_slice<N: Node + Send, R: Threads + Wait + Sync>(
     seats: &mut [Seat<N>],
     workers: u32,
 ) -> bool
-    requires { EachAt (IsIn N.part N.stands hub.now) seats.old }
-    ensures through { result ≡ true → EachAt (IsThrough N.part N.stands hub.now) seats.new }
-    ensures gone { PairsAt (HasGone N.part N.stays N.failed) seats.old seats.new }
+    requires { EachAt (IsHere N.stands hub.now) seats.old }
+    ensures through { (run : Beginning) → EachAt (IsIn N.stands run hub.now) seats.old → result ≡ true
+        → EachAt (IsThrough N.stands run hub.now N.tells) seats.new }
+    ensures gone { PairsAt (HasGone N.stands N.stays N.failed hub.now) seats.old seats.new }
 {
     for _ in rt.forever() {
         let went = turn_once(rt, hub, seats, workers);
@@ -201,9 +205,10 @@ pub(crate) fn turn_until<N: Node + Send, R: Threads + Wait + Sync>(
     seats: &mut Vec<Seat<N>>,
     workers: u32,
 ) -> bool
-    requires { EachAt (IsIn N.part N.stands hub.now) seats.old.items }
-    ensures through { result ≡ true → EachAt (IsThrough N.part N.stands hub.now) seats.new.items }
-    ensures gone { PairsAt (HasGone N.part N.stays N.failed) seats.old.items seats.new.items }
+    requires here { EachAt (IsHere N.stands hub.now) seats.old.items }
+    ensures through { (run : Beginning) → EachAt (IsIn N.stands run hub.now) seats.old.items → result ≡ true
+        → EachAt (IsThrough N.stands run hub.now N.tells) seats.new.items }
+    ensures gone { PairsAt (HasGone N.stands N.stays N.failed hub.now) seats.old.items seats.new.items }
 {
     turn_slice(rt, hub, seats.as_mut_slice(), workers)
 }

@@ -1,20 +1,30 @@
 -- What is said of a node of either kind.
-use Rattle.std.specs.Prelude.{List}
+use Rattle.std.specs.Prelude.{List, Option, ℕ}
+use Rattle.base_types.specs.declared.ids.Node.{Node}
+use Rattle.base_types.specs.declared.ids.Node.TheVariants.{Host as OfHost, Server as OfServer}
 use Rattle.run_rules.specs.declared.step.Step.{Step}
 use Rattle.hub_laws.specs.Keeping.{Round}
-use Rattle.hub_node.specs.Nodes.{HandsIn, Part}
+use Rattle.hub_node.specs.Nodes.{HandsIn, Knows, Part}
 use Rattle.hub_node.specs.declared.either.AnyNode.{AnyNode}
 use Rattle.hub_node.specs.declared.either.AnyNode.TheVariants.{Host, Server}
 
-module _ {H S : Type 0} where
-  abbrev pub part_any : (H → Part) → (S → Part) → AnyNode H S → Part
-  part_any hp sp (Host h) = hp h
-  part_any hp sp (Server s) = sp s
+knows_left : (ht st : Type 0) (node : Node) → Knows (ht × st) node → Knows ht node
+knows_left ht st (OfHost host) knows = tt
+knows_left ht st (OfServer server) knows = knows.0
 
-  abbrev pub stands_any : (H → List Round → List Step → Type 0) → (S → List Round → List Step → Type 0)
-      → AnyNode H S → List Round → List Step → Type 0
-  stands_any hs ss (Host h) past made = hs h past made
-  stands_any hs ss (Server s) past made = ss s past made
+knows_right : (ht st : Type 0) (node : Node) → Knows (ht × st) node → Knows st node
+knows_right ht st (OfHost host) knows = tt
+knows_right ht st (OfServer server) knows = knows.1
+
+module _ {H S : Type 0} where
+  abbrev pub stands_any : (Part → H → List Round → List Step → Type 0) → (Part → S → List Round → List Step → Type 0)
+      → Part → AnyNode H S → List Round → List Step → Type 0
+  stands_any hs ss part (Host h) past made = hs part h past made
+  stands_any hs ss part (Server s) past made = ss part s past made
+
+  abbrev pub next_any : (H → Option ℕ) → (S → Option ℕ) → AnyNode H S → Option ℕ
+  next_any hn sn (Host h) = hn h
+  next_any hn sn (Server s) = sn s
 
   -- of two nodes of one kind
   abbrev pub of_either : (H → H → Type 0) → (S → S → Type 0) → AnyNode H S → AnyNode H S → Type 0
@@ -22,11 +32,17 @@ module _ {H S : Type 0} where
   of_either hr sr (Server a) (Server b) = sr a b
   of_either hr sr _ _ = ⊥
 
-  pub hands_any : (hp : H → Part) (sp : S → Part) (hs : H → List Round → List Step → Type 0)
-      (ss : S → List Round → List Step → Type 0) → ((h : H) → HandsIn hp hs h) → ((s : S) → HandsIn sp ss s)
-      → (n : AnyNode H S) → HandsIn (part_any hp sp) (stands_any hs ss) n
-  hands_any hp sp hs ss f g (Host h) past made st = f h past made st
-  hands_any hp sp hs ss f g (Server s) past made st = g s past made st
+  pub hands_any : (ht st : Type 0) (hs : Part → H → List Round → List Step → Type 0)
+      (ss : Part → S → List Round → List Step → Type 0) → ((h : H) → HandsIn ht hs h)
+      → ((s : S) → HandsIn st ss s) → (n : AnyNode H S) → HandsIn (ht × st) (stands_any hs ss) n
+  hands_any ht st hs ss f g (Host h) part past made stood = let may = f h part past made stood in record {
+    keeps = may.keeps;
+    meets = λ knows. may.meets (knows_left ht st part.node knows);
+  }
+  hands_any ht st hs ss f g (Server s) part past made stood = let may = g s part past made stood in record {
+    keeps = may.keeps;
+    meets = λ knows. may.meets (knows_right ht st part.node knows);
+  }
 
   pub stays_here : (hr : H → H → Type 0) (sr : S → S → Type 0) → ((a : H) → hr a a) → ((a : S) → sr a a)
       → (n : AnyNode H S) → of_either hr sr n n

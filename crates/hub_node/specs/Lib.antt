@@ -1,3 +1,4 @@
 pub mod Nodes
 pub mod Either
 pub mod Lines
+pub mod Keeping

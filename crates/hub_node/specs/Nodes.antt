@@ -24,45 +24,59 @@ use Rattle.run_rules.specs.declared.step.Step.{Step}
 use Rattle.hub_laws.specs.Keeping.{Round, steps_in}
 use Rattle.hub_laws.specs.Closings.{KeepsOn}
 
--- a node's part in a run: which script, from which tree, in which epochs the servers start, and who it is
-pub record Part : Type 0 where
+-- how a run begins: of which script, from which tree, and in which epochs the servers start
+pub record Beginning : Type 0 where
   pub script : Script
   pub start : Tree
   pub epochs : List ℕ
+
+-- a node's part in a run: how that begins, and who the node is
+pub record Part : Type 0 where
+  pub run : Beginning
   pub node : Node
 
+abbrev pub part_of : Beginning → Node → Part
+part_of run node = record { run = run; node = node }
+
 -- the epoch in which a server starts
-abbrev pub first_at : Part → ServerId → ℕ
-first_at part server = first_epoch part.epochs server
+abbrev pub first_at : Beginning → ServerId → ℕ
+first_at run server = first_epoch run.epochs server
 
 -- a step meets the rules of its node, behind the node's own earlier steps: it is one that the node may do, and what is
 -- due is done
-abbrev pub OwnMeets : Part → Node → List Step → Step → Type 0
-OwnMeets part (Host host) own s = HostMay part.script host own s × HostDue part.script host own s
-OwnMeets part (Server server) own s =
-    let past = doings_of (first_at part server) server own in
-    ServerMay part.script part.start server own past s × ServerDue part.script part.start server own past s
+abbrev pub OwnMeets : Beginning → Node → List Step → Step → Type 0
+OwnMeets run (Host host) own s = HostMay run.script host own s × HostDue run.script host own s
+OwnMeets run (Server server) own s =
+    let past = doings_of (first_at run server) server own in
+    ServerMay run.script run.start server own past s × ServerDue run.script run.start server own past s
 
 -- a node is done by its own steps: its lines have gone; a host has stopped or has the Bye of each server that it
 -- greeted; of a server each host that it knows is away
-abbrev pub IsDone : Part → Node → List Step → Type 0
-IsDone part (Host host) own = (lines_gone own ≡ length (lines_of part.script (Host host)))
+abbrev pub IsDone : Beginning → Node → List Step → Type 0
+IsDone run (Host host) own = (lines_gone own ≡ length (lines_of run.script (Host host)))
     × (HasStopped own ⊎ ((server : ServerId) → HasGreeted own server → HasBye own server))
-IsDone part (Server server) own = (lines_gone own ≡ length (lines_of part.script (Server server)))
-    × ((host : HostId) → let past =
-    doings_of (first_at part server) server own in Listed past host → HasGoneAway past host)
+IsDone run (Server server) own = (lines_gone own ≡ length (lines_of run.script (Server server)))
+    × ((host : HostId) → let past = doings_of (first_at run server) server own in
+    Listed past host → HasGoneAway past host)
 
 -- a message that is given is for the node, and sound
 pub record IsGivenTo (part : Part) (given : Option Given) : Type 0 where
   pub own : (m : Message) → given ≡ Some (Came m) → same_node (receiver m) part.node ≡ true
-  pub sound : (m : Message) → given ≡ Some (Came m) → IsSound part.script.roster m
+  pub sound : (m : Message) → given ≡ Some (Came m) → IsSound part.run.script.roster m
 
--- Behind these rounds a node may hand in these steps, whatever it is then given: it keeps to what it was given, and all
--- its steps meet its rules.
-pub record MayHandIn (part : Part) (past : List Round) (made : List Step) : Type 0 where
-  pub keeps : (given : Option Given) → KeepsOn part.script part.node past (record { steps = made; given = given })
-  pub meets : Always (OwnMeets part part.node) (appended made (steps_in past))
+-- what has to be known of stores for a node's rules: of a host's nothing
+abbrev pub Knows : Type 0 → Node → Type 0
+Knows tells (Host host) = Unit {0}
+Knows tells (Server server) = tells
 
--- a node that may hand in what it has, whatever rounds have brought it where it stands
-abbrev pub HandsIn : {N : Type 0} → (N → Part) → (N → List Round → List Step → Type 0) → N → Type 0
-HandsIn part stands n = (past : List Round) (made : List Step) → stands n past made → MayHandIn (part n) past made
+-- Behind these rounds a node may hand in these steps, whatever it is then given: it keeps to what it was given; and
+-- all its steps meet its rules, those of a server where it is known what its store keeps.
+pub record MayHandIn (tells : Type 0) (part : Part) (past : List Round) (made : List Step) : Type 0 where
+  pub keeps : (given : Option Given)
+      → KeepsOn part.run.script part.node past (record { steps = made; given = given })
+  pub meets : Knows tells part.node → Always (OwnMeets part.run part.node) (appended made (steps_in past))
+
+-- a node that may hand in what it has, whatever its part is, and whatever rounds have brought it where it stands
+abbrev pub HandsIn : {N : Type 0} → Type 0 → (Part → N → List Round → List Step → Type 0) → N → Type 0
+HandsIn tells stands n = (part : Part) (past : List Round) (made : List Step) → stands part n past made
+    → MayHandIn tells part past made

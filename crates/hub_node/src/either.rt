@@ -9,16 +9,25 @@ pub enum AnyNode<H, S> {
 }
 
 impl<H: Node, S: Node> Node for AnyNode<H, S> {
-    ghost use Rattle.hub_node.specs.Either.{fails_after, hands_any, of_either, part_any, stands_any};
-    ghost use Rattle.hub_node.specs.Either.{stays_after, stays_here};
+    ghost use Rattle.hub_node.specs.Either.{fails_after, hands_any, next_any, of_either, stands_any, stays_after};
+    ghost use Rattle.hub_node.specs.Either.{stays_here};
 
-    ghost part = { part_any H.part S.part };
+    ghost tells = { H.tells × S.tells };
 
     ghost stands = { stands_any H.stands S.stands };
 
     ghost stays = { of_either H.stays S.stays };
 
     ghost failed = { of_either H.failed S.failed };
+
+    ghost next = { next_any H.next S.next };
+
+    fn waiting(&self) -> Option<u32> {
+        match self {
+            AnyNode::Host(host) => host.waiting(),
+            AnyNode::Server(server) => server.waiting(),
+        }
+    }
 
     fn work(&mut self, given: Option<Given>, steps: &mut Pending) -> Result<Turned, NodeFault> {
         match self {
@@ -27,7 +36,7 @@ impl<H: Node, S: Node> Node for AnyNode<H, S> {
         }
     }
 
-    ghost hands_in = { hands_any H.part S.part H.stands S.stands H.hands_in S.hands_in };
+    ghost hands_in = { hands_any H.tells S.tells H.stands S.stands H.hands_in S.hands_in };
 
     ghost stays_so = { stays_here H.stays S.stays H.stays_so S.stays_so };
 

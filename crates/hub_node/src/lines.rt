@@ -1,8 +1,8 @@
-ghost use Rattle.std.specs.Prelude.{◌≡◌, ◌≤◌, ◌<◌, ◌+◌, ◌↔◌, None, Some, IsTrue, IfOk, filter, length, slice_get};
-ghost use Rattle.std.specs.Option.{option_copied, option_map};
+ghost use Rattle.std.specs.Prelude.{◌≡◌, ◌≤◌, ◌<◌, ◌+◌, ◌↔◌, None, Some, IsTrue, IfOk, filter, length};
+ghost use Rattle.std.specs.Option.{option_copied};
 ghost use Rattle.run_rules.specs.Steps.{is_node, lines_of};
 ghost use Rattle.script_lines.specs.declared.script.Line.{Line as LineOf};
-ghost use Rattle.hub_node.specs.Lines.{may_go, next_of};
+ghost use Rattle.hub_node.specs.Lines.{may_go, next_number, next_of};
 
 use base_types::{HostId, Items, Name, NoMemory, Node, Plain};
 use script_lines::{Deed, Line, Script};
@@ -122,7 +122,7 @@ impl OwnLines {
 
     /// The number of the next line, where one is left.
     pub fn waiting(&self) -> Option<u32>
-        ensures { result ≡ option_map (λ (line : LineOf). line.number) (slice_get self.now.lines self.now.gone) }
+        ensures { result ≡ next_number self.now }
     {
         match self.lines.at(self.gone) {
             Some(line) => Some(line.number),

@@ -2,9 +2,8 @@ use Rattle.std.proofs.Common.{◌∙◌, List, sym, length, ap}
 use Rattle.hub_board.specs.Hubs.{nodes_of}
 use Rattle.hub_turns.specs.Meetings.{first_pass}
 use Rattle.hub_turns.specs.Views.{NodeView}
-use Rattle.hub_drive.specs.Driving.{IsHubOf, part_of}
-use Rattle.hub_node.specs.Nodes.{Part}
-use Rattle.hub_drive.proofs.Driving.{all_seated, parts}
+use Rattle.hub_drive.specs.Driving.{IsHubOf, beginning}
+use Rattle.hub_drive.proofs.Driving.{all_seated, nodes_are}
 use Rattle.hub_drive.proofs.Lists.{map_size}
 use Rattle.hub_drive.proofs.driver.drive.Goals as goal
 
@@ -13,19 +12,17 @@ seat_all-seats-requires-clause-many g c =
     let ns = nodes_of c.args.script.now in
     ap (λ (l : List NodeView). length l) c.in-Ok-new.ensures.passes
     ∙ map_size (first_pass c.in-Ok-new.hub.id) ns
-    ∙ sym (map_size (part_of c.args.script.now c.args.start c.args.epochs) ns)
-    ∙ sym (ap (λ (l : List Part). length l) c.requires.nodes.are)
-    ∙ map_size g.N.Node.part c.args.nodes.items
+    ∙ sym c.requires.nodes.count
 
-pub run_at-requires-clause-parts : goal.run_at-requires-clause-parts
-run_at-requires-clause-parts g c κs w =
+pub run_at-requires-clause-are : goal.run_at-requires-clause-are
+run_at-requires-clause-are g c κs w =
     let hub_is : IsHubOf c.args.script.now c.in-Ok-new.hub = record {
       first = c.in-Ok-new.ensures.hub;
       nodes = c.in-Ok-new.ensures.nodes;
       roster = c.in-Ok-new.ensures.roster;
     } in
-    parts g.N.Node.part g.N.Node.stands c.args.script.now c.args.start c.args.epochs c.in-Ok-new.hub hub_is
-    c.seat_all-seats.result.items c.args.nodes.items c.in-Ok-new.passes.items c.requires.nodes.are c.requires.nodes.fresh
+    nodes_are g.N.Node.stands (beginning c.args.script.now c.args.start c.args.epochs) c.in-Ok-new.hub hub_is
+    c.seat_all-seats.result.items c.args.nodes.items c.in-Ok-new.passes.items c.requires.nodes
     c.seat_all-seats.ensures.nodes c.seat_all-seats.ensures.passes c.in-Ok-new.ensures.passes c.seat_all-seats.ensures.fresh
 
 pub run_at-requires-clause-seated : goal.run_at-requires-clause-seated
@@ -35,8 +32,8 @@ run_at-requires-clause-seated g c κs w =
       nodes = c.in-Ok-new.ensures.nodes;
       roster = c.in-Ok-new.ensures.roster;
     } in
-    all_seated g.N.Node.part g.N.Node.stands c.args.script.now c.args.start c.args.epochs c.in-Ok-new.hub hub_is
-    c.seat_all-seats.result.items c.args.nodes.items c.in-Ok-new.passes.items c.requires.nodes.are c.requires.nodes.fresh
+    all_seated g.N.Node.stands (beginning c.args.script.now c.args.start c.args.epochs) c.in-Ok-new.hub hub_is
+    c.seat_all-seats.result.items c.args.nodes.items c.in-Ok-new.passes.items c.requires.nodes
     c.seat_all-seats.ensures.nodes c.seat_all-seats.ensures.passes c.in-Ok-new.ensures.passes c.seat_all-seats.ensures.fresh
 
 pub run_at-requires-clause-well : goal.run_at-requires-clause-well

@@ -1,18 +1,18 @@
 use Rattle.std.proofs.Common.{◌∙◌, sym}
+use Rattle.hub_drive.specs.Driving.{beginning}
 use Rattle.hub_drive.proofs.Driving.{close_ready, driven_by, if_ok, seats_count}
 use Rattle.hub_drive.proofs.driver.finish.Goals as goal
 
 pub close-result-requires : goal.close-result-requires
 close-result-requires g c =
-    close_ready g.N.Node.part g.N.Node.stands c.args.hub c.args.seats.items c.unseat.new.passes.items c.requires.through
-    c.unseat.ensures.passes
-    (seats_count g.N.Node.part c.args.script.now c.args.start c.args.epochs c.args.seats.items c.requires.parts
-    ∙ sym c.requires.hub.nodes)
+    close_ready g.N.Node.tells g.N.Node.stands (beginning c.args.script.now c.args.start c.args.epochs) c.args.hub
+    c.args.seats.items c.unseat.new.passes.items c.requires.through c.unseat.ensures.passes
+    (seats_count c.args.script.now c.args.seats.items c.requires.are ∙ sym c.requires.hub.nodes)
 
 pub returns-clause-driven : goal.returns-clause-driven
 returns-clause-driven g c =
     if_ok c.close-result.result _ _
-    (driven_by g.N.Node.part g.N.Node.stands g.met.N.Node.hands_in c.args.script.now c.args.start
-    c.args.epochs c.requires.can c.args.hub c.requires.hub c.args.seats.items c.requires.parts c.requires.through
+    (driven_by g.N.Node.tells g.N.Node.stands g.met.N.Node.hands_in c.args.script.now c.args.start
+    c.args.epochs c.requires.can c.args.hub c.requires.hub c.args.seats.items c.requires.are c.requires.through
     c.unseat.new.nodes.items c.unseat.new.passes.items c.unseat.ensures.nodes c.unseat.ensures.passes)
     c.close-result.ensures.ok

@@ -1,4 +1,4 @@
-use Rattle.std.proofs.Common.{◌≡◌, ◌<◌, ◌++◌, ◌∷◌, ◌∙◌, List, [], None, length, map, ap, refl, sym, subst, append_assoc, arith}
+use Rattle.std.proofs.Common.{◌≡◌, ◌<◌, false, ◌++◌, ◌∷◌, ◌∙◌, List, [], None, length, map, ap, refl, sym, subst, append_assoc, arith}
 use Rattle.std.proofs.lemmas.List.{length_push}
 use Rattle.hub_board.specs.Pendings.{Waiting}
 use Rattle.hub_drive.specs.Seats.{EachAt}
@@ -9,7 +9,7 @@ use Rattle.hub_drive.proofs.driver.seat_all.Goals as goal
 pub loop-node-preserved : goal.loop-node-preserved
 loop-node-preserved g c =
     let i = c.loop-node.invariant in
-    let seat : Seat g.row.N.Denot = record { node = c.in-Some.node; pass = c.remove-pass.result; steps = c.new.result; fault = None } in
+    let seat : Seat g.row.N.Denot = record { node = c.in-Some.node; pass = c.remove-pass.result; steps = c.new.result; fault = None; ended = false } in
     let items = c.push_reserved.ensures.items in
     let some : 0 < length c.loop-node.passes.items = grind arith in
     let head = head_taken c.loop-node.passes.items c.remove-pass.result c.remove-pass.new.self.items some

@@ -1,30 +1,38 @@
-use Rattle.std.proofs.Common.{◌≤◌, length, arith}
+use Rattle.std.proofs.Common.{◌≤◌, get_or, length, arith}
 use Rattle.std.proofs.Math.ListN.{set}
-use Rattle.hub_drive.specs.Seats.{HasGone, IsIn, IsThrough}
-use Rattle.hub_drive.proofs.Gone.{gone_on, gone_so}
+use Rattle.hub_drive.specs.Seats.{HasGone, IsHere, IsThrough}
+use Rattle.hub_drive.proofs.Driving.{all_in}
+use Rattle.hub_drive.proofs.Gone.{gone_on, gone_so, here_on}
 use Rattle.hub_drive.proofs.Lists.{each_set, first_more, pairs_set, pairs_then}
 use Rattle.hub_drive.proofs.rounds.turn_all.Goals as goal
 
 pub loop-k-preserved : goal.loop-k-preserved
 loop-k-preserved g c =
-    let part = g.N.Node.part in
     let stands = g.N.Node.stands in
-    let gone = HasGone {N = g.row.N.Denot} part g.N.Node.stays g.N.Node.failed in
-    let so = gone_so part g.N.Node.stays g.N.Node.failed g.met.N.Node.stays_so g.met.N.Node.stays_on g.met.N.Node.fails_on in
-    let on = gone_on part g.N.Node.stays g.N.Node.failed g.met.N.Node.stays_so g.met.N.Node.stays_on g.met.N.Node.fails_on in
+    let stays = g.N.Node.stays in
+    let failed = g.N.Node.failed in
+    let hub = c.args.hub.now in
+    let gone = HasGone {N = g.row.N.Denot} stands stays failed hub in
+    let so = gone_so stands stays failed hub g.met.N.Node.stays_so g.met.N.Node.stays_on g.met.N.Node.fails_on in
+    let on = gone_on stands stays failed hub g.met.N.Node.stays_so g.met.N.Node.stays_on g.met.N.Node.fails_on in
     let seats = c.loop-k.seats in
     let new = c.turn-turned.new.seat in
+    let went = c.turn-turned.ensures.gone in
     record {
-      kept = each_set (IsIn part stands c.args.hub.now) seats c.loop-k.k new c.loop-k.invariant.kept c.turn-turned.ensures.kept;
-      through = (λ e.
+      kept = each_set (IsHere stands hub) seats c.loop-k.k new c.loop-k.invariant.kept
+          (here_on stands stays failed hub (get_or seats c.loop-k.k c.index-seats-k.result) new
+          (c.loop-k.invariant.kept c.loop-k.k c.index-seats-k.result (grind arith)) went);
+      through = (λ run at e.
           let both = c.went_on-went.ensures e in
-          first_more (IsThrough part stands c.args.hub.now) seats c.loop-k.k new
-          (c.loop-k.invariant.through both.0) (c.turn-turned.ensures.through both.1));
+          let now = all_in stands stays failed hub run c.args.seats.now seats c.loop-k.invariant.gone at in
+          first_more (IsThrough stands run hub g.N.Node.tells) seats c.loop-k.k new
+          (c.loop-k.invariant.through run at both.0)
+          (c.turn-turned.ensures.through run (now c.loop-k.k c.index-seats-k.result (grind arith)) both.1));
       gone = pairs_then gone on c.args.seats.now seats (set seats c.loop-k.k new) c.loop-k.invariant.gone
-          (pairs_set gone so seats c.loop-k.k new c.index-seats-k.result c.turn-turned.ensures.gone);
+          (pairs_set gone so seats c.loop-k.k new c.index-seats-k.result went);
     }
 
 pub returns-clause-through : goal.returns-clause-through
-returns-clause-through g c = λ e i d lt.
+returns-clause-through g c = λ run at e i d lt.
     let all : length c.loop-k.seats ≤ c.loop-k.k = grind arith in
-    c.loop-k.invariant.through e i d (omega (arith, lt, all)) lt
+    c.loop-k.invariant.through run at e i d (omega (arith, lt, all)) lt

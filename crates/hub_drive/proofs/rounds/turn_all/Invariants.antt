@@ -1,11 +1,13 @@
 use Rattle.std.proofs.Common.{◌≡◌, true}
-use Rattle.hub_drive.specs.Seats.{EachAt, HasGone, IsIn, IsThrough, PairsAt}
+use Rattle.hub_node.specs.Nodes.{Beginning}
+use Rattle.hub_drive.specs.Seats.{EachAt, HasGone, IsHere, IsIn, IsThrough, PairsAt}
 use Rattle.hub_drive.proofs.Lists.{FirstAt}
 use Rattle.hub_drive.proofs.rounds.turn_all.Given as goal
 
 abbrev pub invariant-loop-k : goal.invariant-loop-k
 invariant-loop-k g l = record {
-  kept : EachAt (IsIn g.N.Node.part g.N.Node.stands l.hub) l.seats;
-  through : l.went.through ≡ true → FirstAt (IsThrough g.N.Node.part g.N.Node.stands l.hub) l.k l.seats;
-  gone : PairsAt (HasGone g.N.Node.part g.N.Node.stays g.N.Node.failed) l.initial.seats l.seats;
+  kept : EachAt (IsHere g.N.Node.stands l.hub) l.seats;
+  through : (run : Beginning) → EachAt (IsIn g.N.Node.stands run l.hub) l.initial.seats → l.went.through ≡ true
+      → FirstAt (IsThrough g.N.Node.stands run l.hub g.N.Node.tells) l.k l.seats;
+  gone : PairsAt (HasGone g.N.Node.stands g.N.Node.stays g.N.Node.failed l.hub) l.initial.seats l.seats;
 }

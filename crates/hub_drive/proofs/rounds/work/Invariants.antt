@@ -1,8 +1,8 @@
-use Rattle.hub_drive.specs.Seats.{EachAt, HasGone, IsIn, PairsAt}
+use Rattle.hub_drive.specs.Seats.{EachAt, HasGone, IsHere, PairsAt}
 use Rattle.hub_drive.proofs.rounds.work.Given as goal
 
 abbrev pub invariant-loop : goal.invariant-loop
 invariant-loop g l = record {
-  kept : EachAt (IsIn g.N.Node.part g.N.Node.stands l.hub) l.seats;
-  gone : PairsAt (HasGone g.N.Node.part g.N.Node.stays g.N.Node.failed) l.initial.seats l.seats;
+  kept : EachAt (IsHere g.N.Node.stands l.hub) l.seats;
+  gone : PairsAt (HasGone g.N.Node.stands g.N.Node.stays g.N.Node.failed l.hub) l.initial.seats l.seats;
 }

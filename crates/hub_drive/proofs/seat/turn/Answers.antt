@@ -1,8 +1,10 @@
 use Rattle.std.proofs.Common.{◌≡◌, ◌∙◌, Ok, None, ap, rules, arith}
 use Rattle.std.proofs.lemmas.Grind.{common_steps}
+use Rattle.hub_drive.proofs.Turning.{through_so}
 use Rattle.hub_drive.proofs.seat.turn.Goals as goal
 
-pub returns-in-Ok-2-clause-through : goal.returns-in-Ok-2-clause-through
-returns-in-Ok-2-clause-through g c = λ e.
+pub returns-else-handed-clause-through : goal.returns-else-handed-clause-through
+returns-else-handed-clause-through g c = λ run at e.
     let was : c.args.seat.now.fault ≡ None = first_of (search rules, grind (arith, common_steps)) in
-    c.take_turn.ensures.through (c.in-Ok.is ∙ ap (λ x. Ok x) e) (c.take_turn.ensures.fault ∙ was)
+    through_so g.N.Node.tells g.N.Node.stands c.args.hub.now run c.take_turn.new.seat _
+    (c.take_turn.ensures.through run (at was) (c.in-Ok.is ∙ ap (λ x. Ok x) e) (c.take_turn.ensures.fault ∙ was))
