@@ -301,8 +301,9 @@ fn refuse_want<S: Store>(
     ensures served { OnOk result (IsServed tables.new (S.view keeper.new.store).state) }
     ensures tried { HasTried result (S.view keeper.old.store) (S.view keeper.new.store) keeper.new.left }
 {
-    let wanted = pending.wanted;
-    refuse(tables, keeper, draft, &wanted, refusal)
+    let refused = refuse(tables, keeper, draft, &pending.wanted, refusal);
+    drop(pending);
+    refused
 }
 
 /// What was asked has its effect.
@@ -321,8 +322,9 @@ fn do_want<S: Store>(
     ensures served { OnOk result (IsServed tables.new (S.view keeper.new.store).state) }
     ensures tried { HasTried result (S.view keeper.old.store) (S.view keeper.new.store) keeper.new.left }
 {
-    let wanted = pending.wanted;
-    do_now(tables, keeper, draft, &wanted)
+    let done = do_now(tables, keeper, draft, &pending.wanted);
+    drop(pending);
+    done
 }
 
 /// A request is refused; so is a Change alone.
