@@ -1,10 +1,11 @@
 -- The end of a step: what stays of the tables where claims are granted and tokens asked back, and all that was made.
-use Rattle.std.proofs.Common.{◌≡◌, ℕ, Bool, true, false, List, [], ◌∷◌, Option, None, Some, refl, sym, ◌∙◌, ap, subst}
-use Rattle.std.specs.Prelude.{is_none}
+use Rattle.std.proofs.Common.{◌≡◌, ℕ, Bool, true, false, not, List, [], ◌∷◌, Option, None, Some, refl, sym, ◌∙◌, ap}
+use Rattle.std.proofs.Common.{subst}
+use Rattle.std.specs.Prelude.{is_none, is_some}
 use Rattle.store_memory.specs.Views.{IsSameStore, View}
 use Rattle.store_state.specs.declared.state.StoreState.{StoreState}
 use Rattle.token_manager.specs.Laws.{KeepsLaws}
-use Rattle.token_manager.specs.Managers.{Manager, wanted}
+use Rattle.token_manager.specs.Managers.{Manager, after_revoked, wanted}
 use Rattle.token_types.specs.declared.token.Token.{Token}
 use Rattle.token_types.specs.declared.token.TokenId.{TokenId}
 use Rattle.server_tables.specs.Counting.{IsCounted}
@@ -13,7 +14,7 @@ use Rattle.server_tables.specs.declared.tables.Tables.{Tables}
 use Rattle.server_takes.specs.Taking.{Made, made}
 use Rattle.server_takes.specs.declared.draft.Draft.{Draft}
 use Rattle.server_says.specs.Claiming.{AdmitsOne}
-use Rattle.server_says.specs.Revoking.{Asking, all_revoked, asked_all, asking_back, askings, not_asked}
+use Rattle.server_says.specs.Revoking.{Asking, all_revoked, asked, asked_all, asking_back, askings, not_asked}
 use Rattle.server_says.specs.Running.{GoesTo}
 use Rattle.server_says.proofs.Chains.{goes_keeps}
 use Rattle.server_decides.specs.Deciding.{Decides, IsNextDue, NoneDue}
@@ -53,16 +54,16 @@ admits_served x y d e view goes counted s =
 
 revoked_asked : (m : Manager) (ids : List TokenId) → (all_revoked m ids).asked ≡ m.asked
 revoked_asked m [] = refl
-revoked_asked m (id ∷ ids) = revoked_asked _ ids
+revoked_asked m (id ∷ ids) = revoked_asked (after_revoked m id) ids
 
 revoked_latest : (m : Manager) (ids : List TokenId) → (all_revoked m ids).latest ≡ m.latest
 revoked_latest m [] = refl
-revoked_latest m (id ∷ ids) = revoked_latest _ ids
+revoked_latest m (id ∷ ids) = revoked_latest (after_revoked m id) ids
 
 module _ (view : View) where
   asked_served : (x : Tables) (rs : List Asking) → IsServed x view.state → IsServed (asked_all x rs) view.state
   asked_served x [] s = s
-  asked_served x (r ∷ rs) s = asked_served _ rs (record {
+  asked_served x (r ∷ rs) s = asked_served (asked x r.revoke) rs (record {
     store = record { server = s.store.server; roster = s.store.roster };
     users = s.users;
     counted = record {
@@ -84,6 +85,13 @@ module _ (view : View) where
       subst (λ (z : Tables). IsServed z view.state) (sym e) (asked_served x (askings x.stamp ts) s)
 
 -- # The end
+
+-- whether there is none, by the test of whether there is one
+pub none_by : {A : Type 0} (o : Option A) (none : Bool) → is_some o ≡ not none → none ≡ is_none o
+none_by None true e = refl
+none_by None false e = absurd (cc)
+none_by (Some x) true e = absurd (cc)
+none_by (Some x) false e = refl
 
 none_is : (due : Option Due) → is_none due ≡ true → due ≡ None
 none_is None e = refl

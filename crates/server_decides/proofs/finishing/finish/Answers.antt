@@ -1,5 +1,7 @@
 use Rattle.std.proofs.Common.{◌≡◌}
-use Rattle.server_decides.proofs.Finished.{admits_served, back_served, finished_so}
+use Rattle.token_manager.specs.Managers.{wanted}
+use Rattle.server_says.specs.Revoking.{not_asked}
+use Rattle.server_decides.proofs.Finished.{admits_served, back_served, finished_so, none_by}
 use Rattle.server_decides.proofs.Steps.{served_asked}
 use Rattle.server_decides.proofs.finishing.finish.Goals as goal
 
@@ -12,7 +14,8 @@ send_all-requires-clause-served g c =
 pub next_due-requires-clause-served : goal.next_due-requires-clause-served
 next_due-requires-clause-served g c =
     back_served (g.S.Store.view c.send_all.new.keeper.store) c.send_all.new.tables c.revoke_all.new.tables
-    c.send_all.new.draft _ c.in_ok-revoke_all.ensures.tables c.in_ok-send_all.ensures.served
+    c.send_all.new.draft (not_asked (wanted c.send_all.new.tables.tokens)) c.in_ok-revoke_all.ensures.tables
+    c.in_ok-send_all.ensures.served
 
 pub returns-clause-finished : goal.returns-clause-finished
 returns-clause-finished g c tells =
@@ -28,12 +31,13 @@ returns-clause-finished g c tells =
     c.in_ok-decide_all.ensures.served) (c.in_ok-send_all.ensures.sent tells)
     (c.in_ok-send_all.ensures.asked.state tells) c.laws.ensures c.in_ok-revoke_all.ensures.tables
     c.in_ok-revoke_all.ensures.draft (c.in_ok-next_due.ensures.asked.state tells)
-    (c.in_ok-next_due.ensures.due tells) c.is_none.ensures
+    (c.in_ok-next_due.ensures.due tells) (none_by c.in_ok-next_due.field-0 c.is_none.result c.is_none.ensures)
 
 pub returns-clause-served : goal.returns-clause-served
 returns-clause-served g c =
     served_asked c.revoke_all.new.tables (g.S.Store.view c.send_all.new.keeper.store)
     (g.S.Store.view c.next_due.new.keeper.store)
     (back_served (g.S.Store.view c.send_all.new.keeper.store) c.send_all.new.tables c.revoke_all.new.tables
-    c.send_all.new.draft _ c.in_ok-revoke_all.ensures.tables c.in_ok-send_all.ensures.served)
+    c.send_all.new.draft (not_asked (wanted c.send_all.new.tables.tokens)) c.in_ok-revoke_all.ensures.tables
+    c.in_ok-send_all.ensures.served)
     c.in_ok-next_due.ensures.asked.tried.same
