@@ -1,8 +1,8 @@
 -- The end of a step: what stays of the tables where claims are granted and tokens asked back, and all that was made.
-use Rattle.std.proofs.Common.{◌≡◌, ℕ, Bool, true, false, not, List, [], ◌∷◌, Option, None, Some, refl, sym, ◌∙◌, ap}
+use Rattle.std.proofs.Common.{◌≡◌, Bool, true, false, not, List, [], ◌∷◌, Option, None, Some, refl, sym, ◌∙◌, ap}
 use Rattle.std.proofs.Common.{subst}
 use Rattle.std.specs.Prelude.{is_none, is_some}
-use Rattle.store_memory.specs.Views.{IsSameStore, View}
+use Rattle.store_memory.specs.Views.{View}
 use Rattle.store_state.specs.declared.state.StoreState.{StoreState}
 use Rattle.token_manager.specs.Laws.{KeepsLaws}
 use Rattle.token_manager.specs.Managers.{Manager, after_revoked, wanted}

@@ -1,5 +1,5 @@
 -- What is made of the tables where one want is answered, part by part.
-use Rattle.std.proofs.Common.{◌≡◌, ◌+◌, ◌<◌, ℕ, true, false, List, [], ◌∷◌, Option, None, Some, length}
+use Rattle.std.proofs.Common.{◌≡◌, ◌+◌, ◌<◌, ℕ, true, false, List, Option, None, Some, length}
 use Rattle.std.proofs.Common.{refl, sym, ◌∙◌, ap, subst}
 use Rattle.std.specs.Prelude.{remove, slice_index_or, if◌then◌else◌, Bool}
 use Rattle.base_types.specs.declared.ids.FilesetId.{FilesetId}
@@ -21,11 +21,9 @@ use Rattle.store_memory.specs.Reading.{status_told}
 use Rattle.store_state.specs.declared.state.StoreState.{StoreState}
 use Rattle.token_types.specs.declared.token.Need.{Need}
 use Rattle.token_types.specs.declared.token.Token.{Token}
-use Rattle.token_manager.specs.declared.want.Outlook.{Outlook}
 use Rattle.server_keeps.specs.Asking.{change_needs, change_refused}
 use Rattle.server_keeps.specs.Granting.{entries_for, pieces_for}
 use Rattle.server_looks.specs.declared.looking.Found.{Found}
-use Rattle.server_tables.specs.Answers.{renewed}
 use Rattle.server_tables.specs.Counting.{IsCounted}
 use Rattle.server_tables.specs.Updates.{stamped, unqueued}
 use Rattle.server_tables.specs.declared.pending.Pending.{Pending}

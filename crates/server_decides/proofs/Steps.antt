@@ -5,7 +5,6 @@ use Rattle.std.proofs.Common.{drop, get_or}
 use Rattle.std.proofs.lemmas.List.{drop_all, drop_more}
 use Rattle.std.proofs.Common.{refl, sym, ◌∙◌, ap, subst, arith}
 use Rattle.std.specs.Prelude.{◌-◌, Ok, remove}
-use Rattle.run_rules.specs.Past.{In}
 use Rattle.store_memory.specs.Views.{IsSameStore, View}
 use Rattle.store_state.specs.declared.state.StoreState.{StoreState}
 use Rattle.server_looks.specs.Keepers.{HasAsked, HasStayed, HasTried, IsFit}
@@ -21,10 +20,10 @@ use Rattle.server_decides.specs.Deciding.{is_fresh}
 use Rattle.server_decides.specs.declared.deciding.Decision.{Decision}
 use Rattle.server_decides.specs.Serving.{IsServed}
 use Rattle.server_decides.specs.Running.{Making, making}
-use Rattle.server_decides.specs.Sending.{HasSentAll, IsLeftAt, IsSending, Looking, Sends, looking, sent_made}
+use Rattle.server_decides.specs.Sending.{HasSentAll, IsSending, Looking, Sends, looking, sent_made}
 use Rattle.server_decides.specs.declared.deciding.Due.{Due}
 use Rattle.server_decides.specs.declared.sending.Sending.{Sending}
-use Rattle.server_decides.proofs.Served.{placed_one, served_less, served_on}
+use Rattle.server_decides.proofs.Served.{placed_one, served_on}
 
 -- # A store that was tried some times, and each time answered
 

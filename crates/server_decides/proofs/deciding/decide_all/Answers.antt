@@ -1,4 +1,4 @@
-use Rattle.std.proofs.Common.{◌≡◌, ◌∙◌, sym, subst}
+use Rattle.std.proofs.Common.{sym, subst}
 use Rattle.std.specs.Prelude.{IfSome}
 use Rattle.store_state.specs.declared.state.StoreState.{StoreState}
 use Rattle.server_says.proofs.Chains.{goes_none}

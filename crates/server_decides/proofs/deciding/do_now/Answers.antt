@@ -1,4 +1,3 @@
-use Rattle.std.proofs.Common.{◌≡◌}
 use Rattle.server_decides.proofs.Parts.{done_none, done_now, store_call, store_host, store_may, written_served}
 use Rattle.server_decides.proofs.deciding.do_now.Goals as goal
 

@@ -1,4 +1,4 @@
-use Rattle.std.proofs.Common.{◌≡◌, refl, sym, subst}
+use Rattle.std.proofs.Common.{refl, sym, subst}
 use Rattle.std.proofs.lemmas.Result.{on_ok_weaker}
 use Rattle.server_decides.specs.Deciding.{HasEffect, IsMadeBy, MayBeDone}
 use Rattle.server_decides.specs.declared.deciding.Decision.{Decision}

@@ -1,4 +1,4 @@
-use Rattle.std.proofs.Common.{◌≡◌, ◌≤◌, length, arith, subst}
+use Rattle.std.proofs.Common.{arith, subst}
 use Rattle.std.specs.Prelude.{None}
 use Rattle.server_decides.specs.Deciding.{NoneDue}
 use Rattle.server_decides.proofs.Steps.{due_so, fit_tried, next_none, none_left, none_when, stayed_asked}

@@ -1,4 +1,3 @@
-use Rattle.std.proofs.Common.{◌≡◌}
 use Rattle.server_decides.proofs.Parts.{refused_none, refused_now, store_host, written_served}
 use Rattle.server_decides.proofs.deciding.refuse.Goals as goal
 

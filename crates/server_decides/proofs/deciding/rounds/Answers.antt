@@ -1,4 +1,4 @@
-use Rattle.std.proofs.Common.{◌≤◌, ◌*◌, min, arith}
+use Rattle.std.proofs.Common.{◌≤◌, ◌*◌, arith}
 use Rattle.std.proofs.lemmas.Nat.{mul-le}
 use Rattle.server_decides.proofs.deciding.rounds.Goals as goal
 

@@ -1,4 +1,3 @@
-use Rattle.std.proofs.Common.{◌≡◌}
 use Rattle.token_manager.specs.Managers.{wanted}
 use Rattle.server_says.specs.Revoking.{not_asked}
 use Rattle.server_decides.proofs.Finished.{admits_served, back_served, finished_so, none_by}

@@ -1,4 +1,3 @@
-use Rattle.std.proofs.Common.{◌≡◌}
 use Rattle.std.proofs.lemmas.Result.{IfOk-weaker}
 use Rattle.server_decides.specs.Finishing.{IsFinished, IsTakenAndFinished}
 use Rattle.server_decides.specs.Running.{making}

@@ -1,5 +1,4 @@
-use Rattle.std.proofs.Common.{◌≡◌, ◌∙◌, Option, ap, true, false}
-use Rattle.base_types.specs.declared.ids.FilesetId.{FilesetId}
+use Rattle.std.proofs.Common.{◌∙◌, ap}
 use Rattle.server_decides.specs.Sending.{entering_by}
 use Rattle.server_decides.proofs.Parts.{if_not, if_so}
 use Rattle.server_decides.proofs.sending.entered.Goals as goal

@@ -1,5 +1,5 @@
-use Rattle.std.proofs.Common.{◌≡◌, ◌∙◌, ap}
-use Rattle.token_manager.specs.Managers.{Manager, after_decide, decide_answer}
+use Rattle.std.proofs.Common.{◌∙◌, ap}
+use Rattle.token_manager.specs.Managers.{Manager, after_decide}
 use Rattle.server_tables.specs.declared.pending.Pending.{Pending}
 use Rattle.server_decides.specs.Sending.{granted_tokens, tokens_of}
 use Rattle.server_decides.proofs.Parts.{at_place_is}

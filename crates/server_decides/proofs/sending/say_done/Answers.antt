@@ -1,4 +1,3 @@
-use Rattle.std.proofs.Common.{◌≡◌}
 use Rattle.std.proofs.lemmas.Result.{on_ok_weaker}
 use Rattle.server_tables.specs.Answers.{done_without}
 use Rattle.server_tables.specs.Updates.{unqueued}

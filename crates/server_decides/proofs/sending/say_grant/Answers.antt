@@ -1,7 +1,7 @@
-use Rattle.std.proofs.Common.{◌≡◌, ◌∙◌, ◌+◌, List, ap, refl, sym, subst}
+use Rattle.std.proofs.Common.{refl, sym, subst}
 use Rattle.std.proofs.lemmas.Result.{on_ok_weaker}
 use Rattle.server_tables.specs.Counting.{IsCounted}
-use Rattle.server_decides.specs.Sending.{grant_with, granted_made, granted_out, granted_tokens}
+use Rattle.server_decides.specs.Sending.{grant_with, granted_made, granted_out}
 use Rattle.server_decides.proofs.Parts.{brought_so, grant_so, granted_is, left_granted, made_same, placed_so, stamp_is}
 use Rattle.server_decides.proofs.Steps.{placed_some}
 use Rattle.server_decides.proofs.sending.say_grant.Goals as goal

@@ -1,8 +1,6 @@
-use Rattle.std.proofs.Common.{◌≡◌, ◌∙◌, ◌<◌, subst, arith}
-use Rattle.std.specs.Prelude.{None, Option, Some}
+use Rattle.std.proofs.Common.{◌∙◌, ◌<◌, subst, arith}
 use Rattle.server_says.proofs.Chains.{goes_none}
 use Rattle.server_decides.specs.Sending.{IsSending, Sends, looking}
-use Rattle.server_decides.specs.declared.sending.Sending.{Sending}
 use Rattle.server_decides.proofs.Served.{served_less}
 use Rattle.server_decides.proofs.Steps.{fit_tried, sends_more, sends_passed, sent_all, served_asked, stayed_asked}
 use Rattle.server_decides.proofs.Steps.{stayed_none}

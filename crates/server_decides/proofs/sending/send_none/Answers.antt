@@ -1,7 +1,7 @@
-use Rattle.std.proofs.Common.{◌≡◌, ◌∙◌, ◌+◌, ap, refl, sym, subst}
+use Rattle.std.proofs.Common.{◌∙◌, ◌+◌, ap, refl, sym, subst}
 use Rattle.std.proofs.lemmas.Result.{on_ok_weaker}
 use Rattle.server_tables.specs.Counting.{IsCounted}
-use Rattle.server_tables.specs.Updates.{stamped, unqueued}
+use Rattle.server_tables.specs.Updates.{stamped}
 use Rattle.server_tables.specs.declared.tables.Tables.{Tables}
 use Rattle.server_decides.specs.Sending.{empty_made, empty_of, empty_with, left_out}
 use Rattle.server_decides.proofs.Parts.{grant_so, left_beside, made_same}

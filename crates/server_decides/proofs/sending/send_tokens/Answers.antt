@@ -1,7 +1,6 @@
-use Rattle.std.proofs.Common.{◌≡◌, ◌∙◌, ap}
+use Rattle.std.proofs.Common.{◌∙◌, ap}
 use Rattle.store_state.specs.declared.state.StoreState.{StoreState}
 use Rattle.server_keeps.specs.Granting.{entries_for}
-use Rattle.server_decides.specs.Sending.{grant_with, granted_made}
 use Rattle.server_decides.proofs.Parts.{made_same, shown_so}
 use Rattle.server_decides.proofs.sending.send_tokens.Goals as goal
 

@@ -1,4 +1,4 @@
-use Rattle.std.proofs.Common.{◌≡◌, ◌∙◌, ◌+◌, sym, subst}
+use Rattle.std.proofs.Common.{◌∙◌, ◌+◌, sym, subst}
 use Rattle.std.proofs.lemmas.Result.{on_ok_weaker}
 use Rattle.server_tables.specs.Counting.{IsCounted}
 use Rattle.server_decides.specs.Sending.{done_made, granted_out, granted_tokens, use_made, use_of}

@@ -1,4 +1,4 @@
-use Rattle.std.proofs.Common.{◌≡◌, sym, subst}
+use Rattle.std.proofs.Common.{sym, subst}
 use Rattle.std.specs.Prelude.{IfOk}
 use Rattle.server_tables.specs.declared.pending.Pending.{Pending}
 use Rattle.server_decides.specs.Sending.{IsSending}

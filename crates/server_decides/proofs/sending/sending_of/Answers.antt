@@ -1,5 +1,4 @@
-use Rattle.std.proofs.Common.{◌≡◌, ◌∙◌, true, false, sym, ap, subst}
-use Rattle.std.specs.Prelude.{IfOk}
+use Rattle.std.proofs.Common.{◌≡◌, ◌∙◌, true, false, subst}
 use Rattle.std.proofs.lemmas.Result.{IfOk-weaker}
 use Rattle.run_rules.specs.declared.applied.Request.TheVariants.{Change as Changes, Fetch as Asks}
 use Rattle.server_decides.specs.Deciding.{is_waiting, outlook_at}

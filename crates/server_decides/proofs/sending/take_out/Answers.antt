@@ -1,4 +1,4 @@
-use Rattle.std.proofs.Common.{◌≡◌, ◌∙◌, ap}
+use Rattle.std.proofs.Common.{◌∙◌, ap}
 use Rattle.server_tables.specs.Updates.{unqueued}
 use Rattle.server_tables.specs.declared.pending.Pending.{Pending}
 use Rattle.server_decides.proofs.Parts.{at_place_is, left_out_so}
