@@ -33,7 +33,8 @@ returns-in-Refuse-clause-decided g c tells =
     let x = c.args.tables.now in
     let st = (g.S.Store.view c.args.keeper.now.store).state in
     on_ok_weaker c.refuse_want.result (λ h. subst (IsMadeBy x c.args.draft.now st c.args.pending
-    c.refuse_want.new.tables c.refuse_want.new.draft (g.S.Store.view c.refuse_want.new.keeper.store).state) (sym c.in-Refuse.is) h)
+    c.refuse_want.new.tables c.refuse_want.new.draft (g.S.Store.view c.refuse_want.new.keeper.store).state)
+    (sym c.in-Refuse.is) h)
     (c.refuse_want.ensures.refused tells)
 
 pub returns-in-Do-clause-decided : goal.returns-in-Do-clause-decided
