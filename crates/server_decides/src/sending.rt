@@ -273,7 +273,10 @@ fn take_out(tables: &mut Tables, at: usize) -> HostId
     ensures left { IsLeftAt tables.old at tables.new }
     ensures counted { IsCounted tables.new }
 {
-    tables.unqueue(at).wanted.host
+    let pending = tables.unqueue(at);
+    let host = pending.wanted.host;
+    drop(pending);
+    host
 }
 
 /// A lock or an open is granted.

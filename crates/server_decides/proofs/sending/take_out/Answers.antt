@@ -6,13 +6,14 @@ use Rattle.server_decides.proofs.sending.take_out.Goals as goal
 
 pub returns-clause-host : goal.returns-clause-host
 returns-clause-host c p place = ap (λ (q : Pending). q.wanted.host)
-    (at_place_is c.args.tables.now.pending c.args.at c.unqueue.result p c.unqueue.ensures.value place)
+    (at_place_is c.args.tables.now.pending c.args.at c.unqueue-pending.result p c.unqueue-pending.ensures.value place)
 
 pub returns-clause-tables : goal.returns-clause-tables
 returns-clause-tables c p place =
-    c.unqueue.ensures.after ∙ ap (λ (q : Pending). unqueued c.args.tables.now c.args.at q.number)
-    (at_place_is c.args.tables.now.pending c.args.at c.unqueue.result p c.unqueue.ensures.value place)
+    c.unqueue-pending.ensures.after ∙ ap (λ (q : Pending). unqueued c.args.tables.now c.args.at q.number)
+    (at_place_is c.args.tables.now.pending c.args.at c.unqueue-pending.result p c.unqueue-pending.ensures.value place)
 
 pub returns-clause-left : goal.returns-clause-left
-returns-clause-left c = left_out_so c.args.tables.now c.unqueue.new.self c.args.at c.unqueue.result.number
-    c.unqueue.ensures.after
+returns-clause-left c = left_out_so c.args.tables.now c.unqueue-pending.new.self c.args.at
+    c.unqueue-pending.result.number
+    c.unqueue-pending.ensures.after
