@@ -1,0 +1,14 @@
+pub mod Served
+pub mod Steps
+pub mod Parts
+pub mod Heard
+pub mod Finished
+pub use Rattle.server_keeps.proofs.Acting
+pub use Rattle.server_keeps.proofs.Asking
+pub use Rattle.server_keeps.proofs.Granting
+pub use Rattle.server_keeps.proofs.Numbers
+pub use Rattle.server_keeps.proofs.Repeating
+pub use Rattle.server_says.proofs.Admits
+pub use Rattle.server_says.proofs.Chains
+pub use Rattle.server_says.proofs.Picks
+pub use Rattle.server_says.proofs.StepsMade

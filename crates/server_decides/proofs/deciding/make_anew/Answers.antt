@@ -1,0 +1,9 @@
+use Rattle.std.proofs.Common.{◌∙◌, ap}
+use Rattle.server_takes.specs.declared.draft.Draft.{Draft}
+use Rattle.server_decides.specs.Deciding.{still_fresh}
+use Rattle.server_decides.proofs.deciding.make_anew.Goals as goal
+
+pub returns-clause-draft : goal.returns-clause-draft
+returns-clause-draft c =
+    c.keep_fresh.ensures ∙ ap (λ (d : Draft). still_fresh c.args.draft.now.fresh c.args.pending.number d)
+    c.in_ok-enqueue.ensures.draft

@@ -1,0 +1,35 @@
+use Rattle.std.proofs.lemmas.Result.{IfOk-weaker}
+use Rattle.server_decides.specs.Finishing.{IsFinished, IsTakenAndFinished}
+use Rattle.server_decides.specs.Running.{making}
+use Rattle.server_decides.proofs.Heard.{heard_served}
+use Rattle.server_decides.proofs.finishing.take_and_finish.Goals as goal
+
+pub finish-requires-clause-served : goal.finish-requires-clause-served
+finish-requires-clause-served g c =
+    heard_served c.args.tables.now c.take_message.new.tables c.args.draft.now c.args.message.now
+    (g.S.Store.view c.args.keeper.now.store) (g.S.Store.view c.take_message.new.keeper.store) c.requires.served
+    c.requires.given c.in_ok-take_message.ensures.heard c.in_ok-take_message.ensures.counted
+    c.in_ok-take_message.ensures.tried.same
+
+pub returns-clause-taken : goal.returns-clause-taken
+returns-clause-taken g c tells =
+    let x = c.args.tables.now in
+    let st = (g.S.Store.view c.args.keeper.now.store).state in
+    let t = c.take_message.new.tables in
+    let a = c.take_message.new.draft in
+    let mid = (g.S.Store.view c.take_message.new.keeper.store).state in
+    let y = c.finish.new.tables in
+    let e = c.finish.new.draft in
+    let next = (g.S.Store.view c.finish.new.keeper.store).state in
+    IfOk-weaker c.finish.result (IsFinished t a mid y e next)
+    (IsTakenAndFinished x c.args.draft.now c.args.message.now st y e next) (λ rested f. record {
+      laws = c.laws.ensures;
+      between = making t a mid;
+      taken = λ user known. c.in_ok-take_message.ensures.taken tells user known;
+      stored = c.in_ok-take_message.ensures.state tells;
+      served = heard_served x t c.args.draft.now c.args.message.now (g.S.Store.view c.args.keeper.now.store)
+          (g.S.Store.view c.take_message.new.keeper.store) c.requires.served c.requires.given
+          c.in_ok-take_message.ensures.heard c.in_ok-take_message.ensures.counted
+          c.in_ok-take_message.ensures.tried.same;
+      finished = f;
+    }) (c.finish.ensures.finished tells)

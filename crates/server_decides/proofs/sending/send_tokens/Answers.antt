@@ -1,0 +1,18 @@
+use Rattle.std.proofs.Common.{◌∙◌, ap}
+use Rattle.store_state.specs.declared.state.StoreState.{StoreState}
+use Rattle.server_keeps.specs.Granting.{entries_for}
+use Rattle.server_decides.proofs.Parts.{made_same, shown_so}
+use Rattle.server_decides.proofs.sending.send_tokens.Goals as goal
+
+pub returns-clause-made : goal.returns-clause-made
+returns-clause-made g c tells p place =
+    let x = c.args.tables.now in
+    let d = c.args.draft.now in
+    let st = (g.S.Store.view c.args.keeper.now.store).state in
+    let fetch = c.args.fetch.now in
+    let status = c.args.status in
+    made_same x d x d c.say_grant.new.tables c.say_grant.new.draft _ _
+    (shown_so x d st c.args.at p fetch status c.in_ok-pieces.pieces c.in_ok-entries.entries
+    (c.in_ok-pieces.ensures.pieces tells)
+    (c.in_ok-entries.ensures.entries tells ∙ ap (λ (s : StoreState). entries_for s fetch.fid status.dir fetch.needs)
+    (c.in_ok-pieces.ensures.asked.state tells))) (c.in_ok-say_grant.ensures.made p place)

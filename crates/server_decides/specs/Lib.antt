@@ -1,0 +1,21 @@
+pub mod Deciding
+pub mod Finishing
+pub mod Running
+pub mod Sending
+pub mod Serving
+pub use Rattle.server_keeps.specs.Acting
+pub use Rattle.server_keeps.specs.Asking
+pub use Rattle.server_looks.specs.Acts
+pub use Rattle.server_looks.specs.Keepers
+pub use Rattle.server_looks.specs.declared.fault.ExporterFault
+pub use Rattle.server_looks.specs.declared.keeper.Keeper
+pub use Rattle.server_looks.specs.declared.looking.Found
+pub use Rattle.server_says.specs.Claiming
+pub use Rattle.server_says.specs.Hailing
+pub use Rattle.server_says.specs.Revoking
+pub use Rattle.server_says.specs.Running as Going
+pub use Rattle.server_says.specs.Writing
+pub use Rattle.server_takes.specs.Drafts
+pub use Rattle.server_takes.specs.Messages
+pub use Rattle.server_takes.specs.Taking
+pub use Rattle.server_takes.specs.declared.draft.Draft
