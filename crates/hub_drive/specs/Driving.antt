@@ -86,11 +86,11 @@ pub record IsJournalOf (start : Tree) (epochs : List ℕ) (turns : List Turn) (j
   pub epochs_are : journal.epochs ≡ epochs
   pub steps : journal.steps ≡ steps_of turns
 
--- one of these nodes waits, with its next line
+-- it is one of these nodes, with its next line: that it waits is not said
 abbrev pub IsWaitingAt : {N : Type 0} → (N → Option ℕ) → List N → Waiting → Type 0
 IsWaitingAt next nodes w = (w.node < length nodes) × ((d : _) → w.line ≡ next (slice_index_or nodes w.node d))
 
--- why a run came to no end: the store of the node at a place failed, or a node waits
+-- why a run came to no end: the store of the node at a place failed, or a node is named with its next line
 abbrev pub IsFault : {N : Type 0} → (N → N → Type 0) → (N → Option ℕ) → List N → List N → DriveFault → Type 0
 IsFault failed next olds news (Store k) =
     (k < length olds) × ((d : _) → failed (slice_index_or olds k d) (slice_index_or news k d))

@@ -26,12 +26,12 @@ pub enum DriveFault {
     Store(usize),
     /// Memory ran out.
     Memory,
-    /// Nothing more can happen, and not all are done: a node waits for a flag that nobody raises, or a copy does that
-    /// it waits for.
+    /// In a round no node did anything, and not all were done, as where a node waits for a flag that nobody raises, or a
+    /// copy does that it waits for. No clause says so: a node is named, with its next line.
     Stuck(Waiting),
 }
 
-/// A node that waits.
+/// A node, and its next line. That it waits no clause says.
 #[derive(Clone, Copy, Debug, PartialEq, Eq)]
 pub struct Waiting {
     /// Its place among the nodes.
@@ -280,9 +280,10 @@ fn rooms<N: Drop>(
 /// what the nodes' stores keep it is a run of the script from the tree, in which what is due is done, and is ended; and
 /// each node stands where its own steps in it have brought it.
 ///
-/// `Store` comes only where the store of that node failed twice, `Memory` where memory runs out, and `Stuck` where
-/// nothing more could happen, with the first node that isn't done. The nodes come back in their order, whatever comes.
-/// It may wait for what never comes about.
+/// `Store` comes only where the store of that node failed twice. `Memory` and `Stuck` may come at any time, as far as
+/// clauses say: `Memory` is meant where memory runs out, and `Stuck` where in a round no node did anything and not all
+/// were done; it names a node by its place, with its next line. The nodes come back in their order, whatever comes. It
+/// may wait for what never comes about.
 pub fn drive<N: Node + Send, R: Threads + Wait + Sync>(
     rt: &R,
     alloc: Global,
