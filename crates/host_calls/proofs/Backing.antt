@@ -1,22 +1,24 @@
 -- What a call along a path rests on.
-use Rattle.std.proofs.Common.{◌≡◌, ◌+◌, ◌∙◌, Bool, Err, IfOk, List, None, Ok, Option, Result, Some, ap, false, length}
+use Rattle.std.proofs.Common.{◌≡◌, ◌+◌, ◌∙◌, Bool, Err, IfOk, List, None, Ok, Result, Some, ap, length}
 use Rattle.std.proofs.Common.{refl}
-use Rattle.std.proofs.Common.{subst, sym, true, ℕ, ◌≤◌}
+use Rattle.std.proofs.Common.{subst, sym, ℕ, ◌≤◌}
 use Rattle.base_types.specs.declared.ids.Fid.{Fid}
 use Rattle.base_types.specs.declared.ids.OpenKind.{OpenKind}
+use Rattle.base_types.specs.declared.user.User.{User}
+use Rattle.host_cache.specs.Seen.{Kept}
 use Rattle.host_calls.specs.Looking.{CanReadOn, CoversUse, CoversWrite, IsBacked, IsFresh, IsTold, path_look}
-use Rattle.host_calls.specs.Looking.{taken_label}
+use Rattle.host_calls.specs.Looking.{LeadsNowhere, LeadsOn, taken_label}
 use Rattle.host_calls.specs.declared.looking.Verdict.{Verdict}
 use Rattle.host_calls.specs.declared.looking.Verdict.TheVariants.{Asks, Does, Frees, Gives, Lists, Reads, Shows, Syncs}
 use Rattle.host_calls.specs.declared.looking.Verdict.TheVariants.{Tells, Uses, Writes}
-use Rattle.host_labels.specs.Labels.{is_lock, use_of}
+use Rattle.host_labels.specs.Labels.{use_of}
 use Rattle.host_tables.specs.declared.tables.Tables.{Tables}
 use Rattle.host_walk.specs.declared.sight.Stop.{Stop}
 use Rattle.need_host.specs.Calls.{change_look}
 use Rattle.tree_calls.specs.declared.call.Call.{Call}
-use Rattle.tree_calls.specs.declared.call.Call.TheVariants.{CloneFileset, CloseFile, Create, GetAcl, Lock, MakeDir}
-use Rattle.tree_calls.specs.declared.call.Call.TheVariants.{List as ListNames, MoveFileset, NewFileset, OpenFile, Read}
-use Rattle.tree_calls.specs.declared.call.Call.TheVariants.{Remove, Rename, SetAcl, Stat, Sync, Truncate, Unlock, Write}
+use Rattle.tree_calls.specs.declared.call.Call.TheVariants.{GetAcl, Lock}
+use Rattle.tree_calls.specs.declared.call.Call.TheVariants.{List as ListNames, OpenFile, Read}
+use Rattle.tree_calls.specs.declared.call.Call.TheVariants.{Stat, Sync, Write}
 use Rattle.tree_calls.specs.declared.place.Place.{Place}
 use Rattle.tree_calls.specs.declared.place.Which.{Which}
 
@@ -109,3 +111,45 @@ other_look m root path (Sync p) r w n s g y k o = absurd (y p refl)
 other_look m root path (Lock label p writing f l) r w n s g y k o = absurd (k label p writing f l refl)
 other_look m root path (OpenFile label p kind) r w n s g y k o = absurd (o label p kind refl)
 other_look m root path call r w n s g y k o = refl
+
+-- what reads, lists, syncs, writes, uses and frees nothing leads wherever it does
+module _ (kept : Kept) (user : User) (call : Call) (root : Fid) (path : List (List ℕ)) where
+  nowhere_leads : (verdict : Verdict) → LeadsNowhere verdict → LeadsOn kept user call root path verdict
+  nowhere_leads (Reads fid span) n = elim n [ ]
+  nowhere_leads (Lists fid) n = elim n [ ]
+  nowhere_leads (Syncs fid) n = elim n [ ]
+  nowhere_leads (Writes fid from to) n = elim n [ ]
+  nowhere_leads (Uses fid kind) n = elim n [ ]
+  nowhere_leads Does n = tt
+  nowhere_leads (Tells fid) n = tt
+  nowhere_leads (Shows fid which) n = tt
+  nowhere_leads Frees n = elim n [ ]
+  nowhere_leads Gives n = tt
+  nowhere_leads (Asks question) n = tt
+
+  pub leads_ok : (result : Result Verdict Stop) → IfOk result LeadsNowhere →
+      IfOk result (λ verdict. LeadsOn kept user call root path verdict)
+  leads_ok (Ok verdict) n = nowhere_leads verdict n
+  leads_ok (Err stop) n = tt
+
+  write_leads_so : (place : Place) (from : ℕ) (bytes : List ℕ) → call ≡ Write place from bytes → (verdict : Verdict) →
+      CoversWrite kept from bytes verdict → LeadsOn kept user call root path verdict
+  write_leads_so place from bytes is (Writes fid at to) c =
+      subst (λ (k : Call). LeadsOn kept user k root path (Writes fid at to)) (sym is)
+      (sym c.0, c.1)
+  write_leads_so place from bytes is Does c = tt
+  write_leads_so place from bytes is (Reads fid span) c = elim c [ ]
+  write_leads_so place from bytes is (Lists fid) c = elim c [ ]
+  write_leads_so place from bytes is (Syncs fid) c = elim c [ ]
+  write_leads_so place from bytes is (Tells fid) c = elim c [ ]
+  write_leads_so place from bytes is (Shows fid which) c = elim c [ ]
+  write_leads_so place from bytes is (Uses fid kind) c = elim c [ ]
+  write_leads_so place from bytes is Frees c = elim c [ ]
+  write_leads_so place from bytes is Gives c = elim c [ ]
+  write_leads_so place from bytes is (Asks question) c = elim c [ ]
+
+  pub write_leads : (place : Place) (from : ℕ) (bytes : List ℕ) → call ≡ Write place from bytes →
+      (result : Result Verdict Stop) → IfOk result (CoversWrite kept from bytes) →
+      IfOk result (λ verdict. LeadsOn kept user call root path verdict)
+  write_leads place from bytes is (Ok verdict) c = write_leads_so place from bytes is verdict c
+  write_leads place from bytes is (Err stop) c = tt

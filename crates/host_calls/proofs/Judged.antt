@@ -1,7 +1,7 @@
 -- What a host makes of a call along a path, where the look was tried.
 use Rattle.std.proofs.Common.{◌≡◌, ◌<◌, ◌≤◌, ◌+◌, ◌-◌, ◌++◌, ◌∙◌, ◌∷◌, Bool, Err, List, None, Ok, Option, Result, Some}
 use Rattle.std.proofs.Common.{[]}
-use Rattle.std.proofs.Common.{ap, arith, false, inl, inr, length, min, nat_lt, not, refl, subst, suc, sym, true, zero}
+use Rattle.std.proofs.Common.{ap, arith, false, length, min, nat_lt, not, refl, subst, suc, sym, true, zero}
 use Rattle.std.proofs.Common.{ℕ}
 use Rattle.std.proofs.Common.{if◌then◌else◌}
 use Rattle.std.proofs.lemmas.Bool.{false_from_ne_true, lt-ltb, ltb-false, ltb-true}
@@ -21,10 +21,10 @@ use Rattle.host_calls.specs.Looking.{AreSized, JudgesOn, StopsOn, access_of, fac
 use Rattle.host_calls.specs.declared.looking.Verdict.{Verdict}
 use Rattle.host_calls.specs.declared.looking.Verdict.TheVariants.{Does, Lists, Reads, Shows, Syncs, Tells, Uses}
 use Rattle.host_leaves.specs.Owning.{is_own_locked}
-use Rattle.host_tables.specs.Tables.{content, held_of, own_of}
+use Rattle.host_tables.specs.Tables.{content, own_of}
 use Rattle.host_tables.specs.declared.tables.Tables.{Tables}
 use Rattle.host_walk.proofs.Judging.{judges_by}
-use Rattle.host_walk.proofs.Trying.{GoesOn, checked_on, lacks_need, passes_on, refused_by, stops_on, takes_on}
+use Rattle.host_walk.proofs.Trying.{GoesOn, checked_on, lacks_need, passes_on, refused_by, stops_on}
 use Rattle.host_walk.specs.Bytes.{bytes_read, bytes_seen, read_count, write_meant}
 use Rattle.host_walk.specs.Trying.{Finds, IsStopped, status_need}
 use Rattle.host_walk.specs.Views.{held_by, nature_told, view_of}

@@ -1,6 +1,6 @@
 -- The labels of a host, as the call table sees them.
 use Rattle.std.proofs.Common.{◌≡◌, ◌+◌, ◌&&◌, ◌||◌, ◌==◌, ◌++◌, ◌∷◌, ◌∙◌, Bool, List, None, Option, Some, [], ap, arith}
-use Rattle.std.proofs.Common.{cond, inl, inr, false, filter, flat_map, length, map, refl, subst, sym, true, ℕ}
+use Rattle.std.proofs.Common.{cond, inl, inr, false, filter, flat_map, length, map, refl, true, ℕ}
 use Rattle.std.proofs.lemmas.Bool.{eq-eqb}
 use Rattle.std.proofs.lemmas.List.Folds.{list_any-append}
 use Rattle.std.proofs.lemmas.List.Sums.{sum_by-append}
@@ -10,14 +10,13 @@ use Rattle.base_types.specs.Ids.{same_fid}
 use Rattle.base_types.specs.Name.{same_name}
 use Rattle.base_types.specs.Spans.{overlap}
 use Rattle.base_types.specs.declared.ids.Fid.{Fid}
-use Rattle.base_types.specs.declared.ids.HostId.{HostId}
 use Rattle.base_types.specs.declared.span.Span.{Span}
 use Rattle.host_calls.specs.Looking.{AreUses}
 use Rattle.host_labels.specs.Labels.{is_labelled, is_lock}
 use Rattle.host_labels.specs.declared.uses.Labelled.{Labelled as UseOf}
 use Rattle.host_leaves.specs.Owning.{ending_count, ending_locks, has_label, is_own_locked, label_count, locks}
 use Rattle.host_leaves.specs.Owning.{locks_under}
-use Rattle.host_tables.specs.Tables.{ends_label, labelled, labels_of, locks_under as lock_uses, ones, opens_under}
+use Rattle.host_tables.specs.Tables.{ends_label, labelled, locks_under as lock_uses, ones, opens_under}
 use Rattle.host_tables.specs.Tables.{own_of}
 use Rattle.host_tables.specs.declared.tables.Tables.{Tables}
 use Rattle.run_rules.specs.Past.{In}

@@ -1,7 +1,7 @@
 -- What is marked as used stays held.
-use Rattle.std.proofs.Common.{◌≡◌, ◌&&◌, ◌∙◌, Bool, Err, IsTrue, List, None, Ok, Option, Result, Some, [], ◌∷◌, ap}
+use Rattle.std.proofs.Common.{◌≡◌, ◌∙◌, Bool, Err, IsTrue, List, None, Ok, Result, [], ◌∷◌, ap}
 use Rattle.std.proofs.Common.{refl}
-use Rattle.std.proofs.Common.{cond, false, map, subst, sym, true, ℕ, if◌then◌else◌}
+use Rattle.std.proofs.Common.{false, subst, sym, true, ℕ}
 use Rattle.std.specs.List.{list_any}
 use Rattle.base_types.specs.declared.ids.Fid.{Fid}
 use Rattle.host_cache.proofs.Lists.{any-map, any_first}

@@ -1,8 +1,8 @@
 -- What an answered call changes of the host's own.
 use Rattle.std.specs.Coded.{le_prop}
-use Rattle.std.proofs.Common.{◌≡◌, ◌≤◌, ◌==◌, ◌+◌, ◌&&◌, ◌||◌, ◌++◌, ◌∙◌, Bool, Err, IsTrue, List, None, Ok, Option}
-use Rattle.std.proofs.Common.{Result, Some, []}
-use Rattle.std.proofs.Common.{All, ap, arith, cond, eqb-true, false, filter, inl, inr, length, map, not, refl, subst}
+use Rattle.std.proofs.Common.{◌≡◌, ◌≤◌, ◌==◌, ◌&&◌, ◌||◌, ◌∙◌, Bool, IsTrue, List, None}
+use Rattle.std.proofs.Common.{Some, []}
+use Rattle.std.proofs.Common.{All, ap, cond, eqb-true, false, filter, inl, inr, not, refl, subst}
 use Rattle.std.proofs.Common.{sym}
 use Rattle.std.proofs.Common.{true, ℕ, ◌∷◌}
 use Rattle.std.proofs.lemmas.Bool.{and_from, and_parts, eq-eqb}
@@ -18,10 +18,8 @@ use Rattle.base_types.specs.declared.limits.TheConstants.{FILE_BYTES_MAX}
 use Rattle.base_types.specs.declared.span.Span.{Span}
 use Rattle.host_cache.specs.Files.{file_key, same_key}
 use Rattle.host_cache.specs.Holding.{tokens_of}
-use Rattle.host_cache.specs.Seen.{of_key}
 use Rattle.host_cache.specs.declared.held.Held.{Held}
 use Rattle.host_calls.specs.Answering.{same_use}
-use Rattle.host_calls.specs.Looking.{CanRead, is_settled, meant}
 use Rattle.host_labels.specs.Labels.{InUse, IsSound, after_drop, has_id, is_labelled, use_of, without_label}
 use Rattle.host_labels.specs.declared.uses.Labelled.{Labelled as UseOf}
 use Rattle.host_leaves.specs.Dirtying.{tokens_at}

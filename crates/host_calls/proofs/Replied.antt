@@ -1,7 +1,7 @@
 -- What is replied is what the verdict means.
-use Rattle.std.proofs.Common.{◌≡◌, ◌+◌, ◌-◌, ◌∙◌, Err, List, None, Ok, Option, Result, Some, ap, arith, refl, subst}
+use Rattle.std.proofs.Common.{◌≡◌, ◌∙◌, Err, List, None, Ok, Option, Result, Some, ap, arith, refl, subst}
 use Rattle.std.proofs.Common.{suc, sym, zero, ℕ}
-use Rattle.std.proofs.Common.{Bool, [], false, min, nat_lt, true, ◌<◌, ◌≤◌, ◌∷◌, if◌then◌else◌}
+use Rattle.std.proofs.Common.{Bool, [], min, nat_lt, true, ◌<◌, ◌≤◌, ◌∷◌, if◌then◌else◌}
 use Rattle.std.proofs.lemmas.Bool.{false_from_ne_true, lt-ltb, ltb-true}
 use Rattle.std.specs.Option.{option_map, option_map_or}
 use Rattle.base_types.specs.declared.user.User.{User}
@@ -12,14 +12,13 @@ use Rattle.tree_calls.specs.declared.part.Status.{Status as StatusOf}
 use Rattle.tree_calls.specs.declared.reply.Refusal.TheVariants.{NoEntry}
 use Rattle.tree_laws.specs.Parts.{Nature}
 use Rattle.base_types.specs.declared.ids.Fid.{Fid}
-use Rattle.base_types.specs.declared.span.Span.{Span}
 use Rattle.host_calls.specs.Answering.{ChangesOwn, changes_nothing}
 use Rattle.host_calls.specs.Answering.ChangesOwn.{FreesIt, KeepsAll, UsesIt, WritesIt}
-use Rattle.host_calls.specs.Looking.{CanRead, IsBacked, facts_of, is_settled, meant, of_seen}
+use Rattle.host_calls.specs.Looking.{CanRead, IsBacked, facts_of, meant, of_seen}
 use Rattle.host_calls.specs.declared.looking.Verdict.{Verdict}
 use Rattle.host_calls.specs.declared.looking.Verdict.TheVariants.{Asks, Does, Frees, Gives, Lists, Reads, Shows, Syncs}
 use Rattle.host_calls.specs.declared.looking.Verdict.TheVariants.{Tells, Uses, Writes}
-use Rattle.host_leaves.specs.Giving.{bytes_from, bytes_seen}
+use Rattle.host_leaves.specs.Giving.{bytes_from}
 use Rattle.host_tables.specs.Tables.{content}
 use Rattle.host_tables.specs.declared.draft.Draft.{Draft}
 use Rattle.host_tables.specs.declared.tables.Tables.{Tables}
@@ -29,7 +28,6 @@ use Rattle.token_types.specs.declared.token.Kind.{Kind}
 use Rattle.token_types.specs.declared.token.Kind.TheVariants.{Bytes, Lock, Opening, Status}
 use Rattle.tree_calls.specs.declared.call.Call.{Call}
 use Rattle.tree_calls.specs.declared.reply.Refusal.{Refusal}
-use Rattle.tree_calls.specs.declared.reply.Reply.{Reply}
 use Rattle.tree_calls.specs.declared.reply.Reply.TheVariants.{Facts, Ok as Done, Refused as IsRefused}
 use Rattle.tree_laws.specs.Parts.Part.{ByteAt, Size}
 

@@ -1,9 +1,8 @@
 -- Where the look of a call begins.
-use Rattle.std.proofs.Common.{◌≡◌, ◌<◌, ◌≤◌, ◌&&◌, ◌||◌, ◌∙◌, Bool, Err, List, None, Ok, Option, Result, Some, [], ap}
+use Rattle.std.proofs.Common.{◌≡◌, ◌<◌, ◌&&◌, ◌||◌, ◌∙◌, Bool, Err, List, None, Ok, Option, Result, Some, [], ap}
 use Rattle.std.proofs.Common.{arith}
-use Rattle.std.proofs.Common.{◌∷◌, cond, false, inl, inr, nat_le, not, refl, subst, sym, true, ℕ, if◌then◌else◌}
+use Rattle.std.proofs.Common.{◌∷◌, cond, false, nat_le, not, refl, subst, sym, true, ℕ, if◌then◌else◌}
 use Rattle.std.proofs.lemmas.Bool.{false_from_ne_true, le-leb, leb-true, or_parts}
-use Rattle.std.specs.Bool.{beq}
 use Rattle.std.specs.List.{find, list_any}
 use Rattle.base_types.specs.declared.ids.Fid.{Fid}
 use Rattle.base_types.specs.declared.ids.ServerId.{ServerId}
@@ -13,9 +12,9 @@ use Rattle.base_types.specs.declared.user.User.{User}
 use Rattle.host_calls.proofs.Labels.{has_lock_is, has_open_is, lock_count_is, open_count_is}
 use Rattle.host_calls.specs.Looking.{AreUses, EndsSo, EndsUnsynced, IsBacked, IsFresh, LabelStarts, NoSync, StartsAt}
 use Rattle.host_calls.specs.Looking.{StartsBacked, StartsSo}
-use Rattle.host_calls.specs.Looking.{ending_of, freed_by, meant, path_look, refused, taken_label, taken_refusal}
+use Rattle.host_calls.specs.Looking.{ending_of, freed_by, meant, path_look, taken_label, taken_refusal}
 use Rattle.host_calls.specs.Looking.LabelStarts.{HasAll, HasIt, MayTake}
-use Rattle.host_calls.specs.declared.looking.Question.TheVariants.{At, Enter}
+use Rattle.host_calls.specs.declared.looking.Question.TheVariants.{At}
 use Rattle.host_calls.specs.declared.looking.Start.{Start}
 use Rattle.host_calls.specs.declared.looking.Start.TheVariants.{Ends as EndsAt, Walks}
 use Rattle.host_calls.specs.declared.looking.Verdict.{Verdict}
@@ -31,7 +30,6 @@ use Rattle.need_host.specs.Calls.{access_look, list_look, read_look, refuse, sta
 use Rattle.need_host.specs.Calls.Verdict.{Frees as FreesIt, Gives as GivesIt}
 use Rattle.need_host.specs.Looks.{Look}
 use Rattle.need_host.specs.Looks.Look.{Ends}
-use Rattle.need_host.specs.Walks.{root_of}
 use Rattle.tree_answers.specs.Locks.{has_lock, lock_count}
 use Rattle.tree_answers.specs.Opens.{has_open, open_count}
 use Rattle.tree_calls.specs.declared.call.Call.{Call}

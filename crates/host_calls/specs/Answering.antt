@@ -4,7 +4,6 @@ use Rattle.std.specs.Prelude.{◌&&◌, true}
 use Rattle.std.specs.Bool.{beq}
 use Rattle.std.specs.Prelude.{◌++◌, ◌∷◌, ◌≡◌}
 use Rattle.base_types.specs.declared.ids.Fid.{Fid}
-use Rattle.base_types.specs.declared.span.Span.{Span}
 use Rattle.host_calls.specs.declared.answering.Last.{Last}
 use Rattle.host_calls.specs.declared.answering.Last.TheVariants.{Nothing, One, Two}
 use Rattle.host_cache.specs.Seen.{after_length, after_set_use, after_write, seen}
@@ -22,15 +21,12 @@ use Rattle.host_walk.specs.Marks.{marks_of, used_all}
 use Rattle.host_walk.specs.Trying.{whole_need}
 use Rattle.need_host.specs.Calls.{reply_now}
 use Rattle.need_host.specs.Looks.{rounded}
-use Rattle.run_rules.specs.HostMay.{IsExact}
 use Rattle.run_rules.specs.Past.{In}
-use Rattle.run_rules.specs.declared.applied.Answer.{Answer}
 use Rattle.run_rules.specs.declared.step.Labelled.{Labelled}
 use Rattle.token_types.specs.Covers.{same_opening, same_span}
 use Rattle.token_types.specs.declared.token.Kind.{Kind}
 use Rattle.token_types.specs.declared.token.Kind.TheVariants.{Bytes, Lock, Opening}
 use Rattle.token_types.specs.declared.token.Need.{Need}
-use Rattle.token_types.specs.declared.token.Token.{Token}
 use Rattle.tree_calls.specs.declared.call.Call.{Call}
 use Rattle.tree_calls.specs.declared.call.Call.TheVariants.{Write}
 use Rattle.tree_calls.specs.declared.reply.Refusal.{Refusal}

@@ -7,6 +7,7 @@ use Rattle.base_types.specs.declared.ids.Fid.{Fid}
 use Rattle.base_types.specs.declared.ids.FilesetId.{FilesetId}
 use Rattle.base_types.specs.declared.ids.ServerId.{ServerId}
 use Rattle.base_types.specs.declared.limits.TheConstants.{FILE_BYTES_MAX, LABELS_MAX}
+use Rattle.base_types.specs.declared.span.Span.{Span}
 use Rattle.base_types.specs.declared.user.User.{User}
 use Rattle.host_calls.specs.declared.looking.Question.{Question}
 use Rattle.host_calls.specs.declared.looking.Question.TheVariants.{At, Enter, In as Within}
@@ -23,7 +24,7 @@ use Rattle.host_tables.specs.Stands.{look_from}
 use Rattle.host_leaves.specs.Owning.{has_label, label_count}
 use Rattle.host_tables.specs.Tables.{content, gives_label, held_of, home_of, own_of}
 use Rattle.host_tables.specs.declared.tables.Tables.{Tables}
-use Rattle.host_walk.specs.Bytes.{bytes_seen}
+use Rattle.host_walk.specs.Bytes.{bytes_seen, read_count}
 use Rattle.host_walk.specs.declared.sight.Stop.{Stop}
 use Rattle.host_walk.specs.declared.sight.Stop.TheVariants.{Lacks, Refused}
 use Rattle.need_host.specs.Calls.{Verdict as Meant, access_look, change_look, list_in, list_look, lock_look, open_look}
@@ -34,7 +35,7 @@ use Rattle.need_host.specs.Looks.{IsCovered, IsFirstLack, Look, View, needs_of, 
 use Rattle.need_host.specs.Looks.Look.{Ends}
 use Rattle.need_host.specs.Questions.{Question as Asked}
 use Rattle.need_host.specs.Questions.Question.{ChangeAt, ChangeIn, EnterAt}
-use Rattle.need_host.specs.Walks.{rights_on, root_of}
+use Rattle.need_host.specs.Walks.{rights_on, root_of, walk_look}
 use Rattle.run_rules.specs.Past.{In}
 use Rattle.run_rules.specs.Tokens.{IsUseKind}
 use Rattle.run_rules.specs.declared.step.Labelled.{Labelled}
@@ -55,6 +56,7 @@ use Rattle.tree_calls.specs.declared.reply.Reply.TheVariants.{Refused as IsRefus
 use Rattle.tree_laws.specs.Parts.{Nature}
 use Rattle.tree_laws.specs.Parts.Part.{Entries, Size, Traits}
 use Rattle.tree_objects.specs.Entries.{names_of}
+use Rattle.tree_objects.specs.Spans.{span_between}
 
 abbrev pub asked_by : Question → Asked
 asked_by (Enter server) = EnterAt server
@@ -236,9 +238,23 @@ abbrev pub StartsBacked : Tables → Call → Start → Type 0
 StartsBacked m call (EndsAt verdict) = IsBacked m call verdict
 StartsBacked m call (Walks root path) = IsFresh m call
 
--- a Sync goes along a path: none ends before
+-- a verdict by which nothing is read, listed, synced, written, used or freed
+abbrev pub LeadsNowhere : Verdict → Type 0
+LeadsNowhere (Reads fid span) = ⊥
+LeadsNowhere (Lists fid) = ⊥
+LeadsNowhere (Syncs fid) = ⊥
+LeadsNowhere (Writes fid from to) = ⊥
+LeadsNowhere (Uses fid kind) = ⊥
+LeadsNowhere Frees = ⊥
+LeadsNowhere _ = Unit {0}
+
+-- only what goes along a path reads, lists, syncs, writes or uses anything
 abbrev pub NoSync : Result Verdict Refusal → Type 0
+NoSync (Ok (Reads fid span)) = ⊥
+NoSync (Ok (Lists fid)) = ⊥
 NoSync (Ok (Syncs fid)) = ⊥
+NoSync (Ok (Writes fid from to)) = ⊥
+NoSync (Ok (Uses fid kind)) = ⊥
 NoSync _ = Unit {0}
 
 abbrev pub EndsUnsynced : Start → Type 0
@@ -263,6 +279,47 @@ IsTold (Tells fid) = Unit {0}
 IsTold (Shows fid which) = Unit {0}
 IsTold (Syncs fid) = Unit {0}
 IsTold _ = ⊥
+
+-- where a path leads
+abbrev pub LeadsTo : Kept → User → Fid → List (List ℕ) → Fid → Type 0
+LeadsTo kept user root path fid = outcome (content kept) (walk_look user root path) ≡ Ok fid
+
+-- the bytes that a Read reads of a file
+abbrev pub ReadsSpan : Kept → Call → Fid → Span → Type 0
+ReadsSpan kept (Read place from len) fid span =
+    span ≡ span_between from (from + read_count from len (content kept fid Size))
+ReadsSpan kept _ fid span = ⊥
+
+abbrev pub IsList : Call → Type 0
+IsList (ListNames place) = Unit {0}
+IsList _ = ⊥
+
+abbrev pub IsSync : Call → Type 0
+IsSync (Sync place) = Unit {0}
+IsSync _ = ⊥
+
+-- where a Write begins and ends, and for which token a Lock or an OpenFile is
+abbrev pub WritesTo : Call → ℕ → ℕ → Type 0
+WritesTo (Write place at bytes) from to = (at ≡ from) × (to ≡ at + length bytes)
+WritesTo _ from to = ⊥
+
+abbrev pub UsesKind : Call → Kind → Type 0
+UsesKind (Lock label place writing from len) kind = kind ≡ LockToken writing (span_between from (from + len))
+UsesKind (OpenFile label place opening) kind = kind ≡ Opening opening
+UsesKind _ kind = ⊥
+
+-- what is read, listed or synced is where the path leads; what is written and used is the call's
+abbrev pub LeadsOn : Kept → User → Call → Fid → List (List ℕ) → Verdict → Type 0
+LeadsOn kept user call root path (Reads fid span) = LeadsTo kept user root path fid × ReadsSpan kept call fid span
+LeadsOn kept user call root path (Lists fid) = LeadsTo kept user root path fid × IsList call
+LeadsOn kept user call root path (Syncs fid) = LeadsTo kept user root path fid × IsSync call
+LeadsOn kept user call root path (Writes fid from to) = WritesTo call from to
+LeadsOn kept user call root path (Uses fid kind) = UsesKind call kind
+LeadsOn kept user call root path Frees = ⊥
+LeadsOn kept user call root path _ = Unit {0}
+
+abbrev pub LeadsSo : Tables → Call → Fid → List (List ℕ) → Verdict → Type 0
+LeadsSo m call root path verdict = LeadsOn m.cache m.user call root path verdict
 
 -- what is made of a Write, of a Lock and of an OpenFile
 abbrev pub CoversWrite : Kept → ℕ → List ℕ → Verdict → Type 0

@@ -1,5 +1,5 @@
 //! What a host makes of a call.
-ghost use Rattle.std.specs.Prelude.{◌≡◌, ◌+◌, IfOk, Ok, false, if◌then◌else◌, true};
+ghost use Rattle.std.specs.Prelude.{◌≡◌, ◌+◌, IfOk, List, Ok, false, if◌then◌else◌, true, ℕ};
 ghost use Rattle.need_host.specs.Walks.{root_of};
 ghost use Rattle.need_host.specs.Calls.{access_look, list_look, lock_for, lock_look, open_look, read_look, stat_look};
 ghost use Rattle.need_host.specs.Calls.{sync_look, write_look};
@@ -10,7 +10,11 @@ ghost use Rattle.token_types.specs.Covers.{Covers};
 ghost use Rattle.token_types.specs.declared.token.Kind.TheVariants.{Lock};
 ghost use Rattle.tree_objects.specs.Spans.{span_between};
 ghost use Rattle.tree_calls.specs.declared.call.Call.{Call as CallOf};
+ghost use Rattle.tree_calls.specs.declared.call.Call.TheVariants.{List as ListNames, Lock as LockCall, OpenFile, Read};
+ghost use Rattle.tree_calls.specs.declared.call.Call.TheVariants.{Sync};
+ghost use Rattle.tree_calls.specs.declared.place.Place.{Place as PlaceOf};
 ghost use Rattle.host_calls.specs.Looking.{CanReadOn, CoversUse, CoversWrite, IsBacked, IsFresh, IsTold};
+ghost use Rattle.host_calls.specs.Looking.{LeadsNowhere, LeadsOn, LeadsSo};
 ghost use Rattle.host_calls.specs.Looking.{EndsUnsynced, JudgesOn, LabelStarts, StartsAt, StartsBacked};
 ghost use Rattle.host_calls.specs.Looking.{StartsSo, Walked, bytes_of, freed_by, taken_refusal};
 ghost use Rattle.tree_filesets.specs.Uses.{is_changing, right_to_open};
@@ -177,6 +181,7 @@ fn taken_refusal(lock: bool) -> Refusal
 pub fn walked(tables: &Tables, call: &Call, root: Fid, path: &[Name]) -> Result<Verdict, Stop>
     ensures walked { Walked tables.now call.now root path.now result }
     ensures backed { IfOk result (λ verdict. IsFresh tables.now call.now → IsBacked tables.now call.now (Ok verdict)) }
+    ensures leads { IfOk result (λ verdict. LeadsSo tables.now call.now root path.now verdict) }
 {
     let sight = Sight {
         cache: &tables.cache,
@@ -205,6 +210,8 @@ fn read(sight: Sight, root: Fid, path: &[Name], from: u32, len: u32) -> Result<V
         (read_look sight.entry.user.now root path.now from len) result }
     ensures read { IfOk result (CanReadOn sight.entry.cache.now) }
     ensures tells { IfOk result (λ verdict. IsTold verdict) }
+    ensures leads { (place : PlaceOf) → IfOk result (λ verdict. LeadsOn sight.entry.cache.now sight.entry.user.now
+        (Read place from len) root path.now verdict) }
 {
     match sight.read(root, path, from, len) {
         Ok((fid, span)) => Ok(Verdict::Reads(fid, span)),
@@ -217,6 +224,8 @@ fn listed(sight: Sight, root: Fid, path: &[Name]) -> Result<Verdict, Stop>
         (list_look sight.entry.user.now root path.now) result }
     ensures read { IfOk result (CanReadOn sight.entry.cache.now) }
     ensures tells { IfOk result (λ verdict. IsTold verdict) }
+    ensures leads { (place : PlaceOf) → IfOk result (λ verdict. LeadsOn sight.entry.cache.now sight.entry.user.now
+        (ListNames place) root path.now verdict) }
 {
     let (fid, _entries) = sight.list(root, path)?;
     Ok(Verdict::Lists(fid))
@@ -227,6 +236,7 @@ fn told(sight: Sight, root: Fid, path: &[Name]) -> Result<Verdict, Stop>
         (stat_look sight.entry.user.now root path.now) result }
     ensures read { IfOk result (CanReadOn sight.entry.cache.now) }
     ensures tells { IfOk result (λ verdict. IsTold verdict) }
+    ensures leads { IfOk result LeadsNowhere }
 {
     let (fid, _status) = sight.target(root, path)?;
     Ok(Verdict::Tells(fid))
@@ -237,6 +247,7 @@ fn shown(sight: Sight, root: Fid, path: &[Name], which: Which) -> Result<Verdict
         (access_look sight.entry.user.now root path.now which) result }
     ensures read { IfOk result (CanReadOn sight.entry.cache.now) }
     ensures tells { IfOk result (λ verdict. IsTold verdict) }
+    ensures leads { IfOk result LeadsNowhere }
 {
     let (fid, _list) = sight.access(root, path, which)?;
     Ok(Verdict::Shows(fid, which))
@@ -248,6 +259,8 @@ fn synced(tables: &Tables, sight: Sight, root: Fid, path: &[Name]) -> Result<Ver
         (sync_look (own_of tables.now) sight.entry.user.now root path.now) result }
     ensures read { IfOk result (CanReadOn sight.entry.cache.now) }
     ensures tells { IfOk result (λ verdict. IsTold verdict) }
+    ensures leads { (place : PlaceOf) → IfOk result (λ verdict. LeadsOn sight.entry.cache.now sight.entry.user.now
+        (Sync place) root path.now verdict) }
 {
     let (fid, _status) = sight.file(root, path)?;
     if is_clean(tables, fid) {
@@ -281,6 +294,8 @@ fn locked(
     ensures judged { (call : CallOf) → JudgesOn sight.entry.cache.now sight.entry.user.now call
         (lock_look (own_of tables.now) tables.now.host sight.entry.user.now root path.now writing from len) result }
     ensures covers { IfOk result (CoversUse sight.entry.cache.now true) }
+    ensures leads { (label : List ℕ) (place : PlaceOf) → IfOk result (λ verdict. LeadsOn sight.entry.cache.now
+        sight.entry.user.now (LockCall label place writing from len) root path.now verdict) }
 {
     let fid = match sight.usable(root, path, writing, lock_right(writing)) {
         Ok(fid) => fid,
@@ -324,6 +339,8 @@ fn opened(sight: Sight, root: Fid, path: &[Name], kind: OpenKind) -> Result<Verd
     ensures judged { (call : CallOf) → JudgesOn sight.entry.cache.now sight.entry.user.now call
         (open_look sight.entry.user.now root path.now kind) result }
     ensures covers { IfOk result (CoversUse sight.entry.cache.now false) }
+    ensures leads { (label : List ℕ) (place : PlaceOf) → IfOk result (λ verdict. LeadsOn sight.entry.cache.now
+        sight.entry.user.now (OpenFile label place kind) root path.now verdict) }
 {
     let fid = match sight.usable(root, path, is_changing(kind), open_right(kind)) {
         Ok(fid) => fid,

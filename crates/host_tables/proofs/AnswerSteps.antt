@@ -8,8 +8,8 @@ use Rattle.host_cache.specs.declared.held.Held.{Held}
 use Rattle.host_dirty.specs.Dirtiness.{is_dirty as is_dirty_in}
 use Rattle.host_labels.specs.Labels.{is_pinned}
 use Rattle.host_labels.specs.declared.uses.Labelled.{Labelled as UseOf}
-use Rattle.host_tables.proofs.Lists.{filter_in, in_either, in_filter, in_left, in_map, in_right, map_in, none_in}
-use Rattle.host_tables.proofs.Lists.{true_false}
+use Rattle.host_tables.proofs.Lists.{filter_in, in_either, in_filter, in_left, in_map, in_parts, in_right, map_in}
+use Rattle.host_tables.proofs.Lists.{none_in, true_false}
 use Rattle.host_tables.proofs.Settling.{settles_right}
 use Rattle.host_tables.specs.AnswerSteps.{AnswerRight, AnswerSettles, AnswerStepRight, AnsweredBy, SaysMove}
 use Rattle.host_tables.specs.AnswerSteps.{with_answered}
@@ -180,9 +180,23 @@ module _ (script : Script) (m : Tables) (w : AnsweredBy) (x : Moved) (past : Lis
         right.pins u.token.id ∙ learnt.uses.kept u (standing.used_after script m past s learnt u i.0)
         (kept_half u.token.id k)
 
-    label_order : (before behind : List UseOf) (first later : UseOf) → w.uses.labels ≡ before ++ first ∷ behind
+    -- one that is taken wasn't in use
+    label_anew : (first : UseOf) → In first w.uses.labels → TakenBefore (s ∷ past) (labelled first) (labelled first) → ⊥
+    label_anew first i t = elim t [
+      | inl b ↦ right.fresh first b.0 (learnt.uses.labels (labelled first)
+          (inr (b.1, (λ z. elim z.1 [ ]), λ g z. elim z [ ])))
+      | inr b ↦ elim (in_either (filter right.keeps_label m.uses.labels) right.taken_label first
+          (subst (In first) right.labels_are i)) [
+            | inl j ↦
+                let p = in_parts m.uses.labels first (in_filter right.keeps_label m.uses.labels first j).0 in
+                learnt.uses.order p.0 p.1 first first p.2 (inl refl) (inr (b.0, λ z. elim z [ ]))
+            | inr k ↦ b.1 (right.is_taken first k)
+          ]
+    ]
+
+    label_later : (before behind : List UseOf) (first later : UseOf) → w.uses.labels ≡ before ++ first ∷ behind
         → In later behind → TakenBefore (s ∷ past) (labelled later) (labelled first) → ⊥
-    label_order before behind first later e i t =
+    label_later before behind first later e i t =
         elim (before_both (filter right.keeps_label m.uses.labels) right.taken_label first later
         (subst (λ (xs : List UseOf). using.IsBefore xs first later) (sym e ∙ right.labels_are)
         (using.parts_before before behind first later i))) [
@@ -191,7 +205,7 @@ module _ (script : Script) (m : Tables) (w : AnsweredBy) (x : Moved) (past : Lis
               let p = using.before_parts m.uses.labels first later q in
               elim t [
                 | inl b ↦ right.fresh first b.0 (first_in p.0 p.1 p.2)
-                | inr b ↦ learnt.uses.order p.0 p.1 first later p.2 p.3 (inr (b.0, λ z. elim z [ ]))
+                | inr b ↦ learnt.uses.order p.0 p.1 first later p.2 (inr p.3) (inr (b.0, λ z. elim z [ ]))
               ]
               )
           | inr z ↦ elim z [
@@ -208,6 +222,13 @@ module _ (script : Script) (m : Tables) (w : AnsweredBy) (x : Moved) (past : Lis
       where
         first_in : (us vs : List UseOf) → m.uses.labels ≡ us ++ first ∷ vs → In first m.uses.labels
         first_in us vs e = subst (In first) (sym e) (in_right us (first ∷ vs) first (inl refl))
+
+    label_order : (before behind : List UseOf) (first later : UseOf) → w.uses.labels ≡ before ++ first ∷ behind
+        → In later (first ∷ behind) → TakenBefore (s ∷ past) (labelled later) (labelled first) → ⊥
+    label_order before behind first later e (inr i) t = label_later before behind first later e i t
+    label_order before behind first later e (inl q) t =
+        label_anew first (subst (In first) (sym e) (in_right before (first ∷ behind) first (inl refl)))
+        (subst (λ (u : UseOf). TakenBefore (s ∷ past) (labelled u) (labelled first)) q t)
 
     -- the rest is as before
     leaving : LeavingStands m.leaving m.ending (s ∷ past)

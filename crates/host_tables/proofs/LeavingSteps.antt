@@ -8,7 +8,7 @@ use Rattle.host_dirty.specs.Dirtiness.{is_dirty as is_dirty_in}
 use Rattle.host_gives.specs.Counters.{last_of}
 use Rattle.host_labels.specs.declared.uses.Labelled.{Labelled as UseOf}
 use Rattle.host_tables.proofs.Answered.{its}
-use Rattle.host_tables.proofs.Lists.{filter_in, in_filter, map_in, none_in, true_false}
+use Rattle.host_tables.proofs.Lists.{filter_in, in_filter, in_parts, in_right, map_in, none_in, true_false}
 use Rattle.host_tables.specs.Evicting.{returned}
 use Rattle.host_tables.specs.Giving.{GivesBack}
 use Rattle.host_tables.specs.Half.{half}
@@ -203,19 +203,37 @@ module _ (script : Script) (m : Tables) (l : Left) (x : Moved) (past : List Step
   is_label u (inr i) = subst (In u) (sym right.labels_are)
       (filter_in right.keeps_label m.uses.labels u i.0 (right.label_kept u i.0 i.2))
 
-  label_order : (before behind : List UseOf) (first later : UseOf) → l.uses.labels ≡ before ++ first ∷ behind
+  label_there : (u : Labelled) → LabelInUse (s ∷ past) u
+      → In (record { label = u.label; token = u.token }) l.uses.labels
+  label_there u (inl i) = absurd (none_begun u i)
+  label_there u (inr i) = is_label (record { label = u.label; token = u.token })
+      (inr (learnt.uses.labels u (standing.used_after script m past s learnt u i.0), i.1, i.2))
+
+  label_later : (before behind : List UseOf) (first later : UseOf) → l.uses.labels ≡ before ++ first ∷ behind
       → In later behind → TakenBefore (s ∷ past) (labelled later) (labelled first) → ⊥
-  label_order before behind first later e i t =
+  label_later before behind first later e i t =
       let p = using.before_parts m.uses.labels first later (using.filter_before right.keeps_label m.uses.labels first
       later
       (subst (λ (xs : List UseOf). using.IsBefore xs first later) (sym e ∙ right.labels_are)
       (using.parts_before before behind first later i))) in
-      learnt.uses.order p.0 p.1 first later p.2 p.3 (taken_half t)
+      learnt.uses.order p.0 p.1 first later p.2 (inr p.3) (taken_half t)
     where
       taken_half : TakenBefore (s ∷ past) (labelled later) (labelled first)
           → TakenBefore (half s ∷ past) (labelled later) (labelled first)
       taken_half (inl b) = absurd (none_begun (labelled first) b.0)
       taken_half (inr b) = inr (b.0, λ z. elim z [ ])
+
+  label_order : (before behind : List UseOf) (first later : UseOf) → l.uses.labels ≡ before ++ first ∷ behind
+      → In later (first ∷ behind) → TakenBefore (s ∷ past) (labelled later) (labelled first) → ⊥
+  label_order before behind first later e (inr i) t = label_later before behind first later e i t
+  label_order before behind first later e (inl q) t =
+      let here = subst (In first) right.labels_are
+      (subst (In first) (sym e) (in_right before (first ∷ behind) first (inl refl))) in
+      let p = in_parts m.uses.labels first (in_filter right.keeps_label m.uses.labels first here).0 in
+      elim (subst (λ (u : UseOf). TakenBefore (s ∷ past) (labelled u) (labelled first)) q t) [
+        | inl b ↦ absurd (none_begun (labelled first) b.0)
+        | inr b ↦ learnt.uses.order p.0 p.1 first first p.2 (inl refl) (inr (b.0, λ z. elim z [ ]))
+      ]
 
   -- the tokens of give-backs, and the label that one ends
   ended_half : (g : Give) (u : Labelled) → HasEndedUse past g u → HasEndedUse (half s ∷ past) g u
@@ -346,7 +364,7 @@ module _ (script : Script) (m : Tables) (l : Left) (x : Moved) (past : List Step
       | inl p ↦ kept_there u.token.id (learnt.uses.pinned u (used_back u y) p)
       | inr k ↦ inl k
     ];
-    kept = λ u y k. right.pins u.token.id (elim k [
+    kept = λ u y k. right.pins (record { label = u.label; token = u.token }) (label_there u y) (elim k [
       | inl now ↦ inr now
       | inr old ↦ inl (learnt.uses.kept u (used_back u y) (inr old))
     ]);

@@ -219,3 +219,10 @@ any_false test xs e x m t = true_false (list_any test xs) (any_in test xs x m t)
 pub false_any : {A : Type 0} (test : A → Bool) (xs : List A) → ((x : A) → In x xs → test x ≡ true → ⊥)
     → list_any test xs ≡ false
 false_any test xs none = not_false (list_any test xs) (any_no test xs none)
+
+-- an element of a list stands at a place
+pub in_parts : {A : Type 0} (xs : List A) (x : A) → In x xs → (us : List A) × (vs : List A) × (xs ≡ us ++ x ∷ vs)
+in_parts [] x i = elim i [ ]
+in_parts (y ∷ ys) x (inl e) = ([], ys, λ i. (sym e) i ∷ ys)
+in_parts {A = A} (y ∷ ys) x (inr i) =
+    let r = in_parts ys x i in (y ∷ r.0, r.1, ap (λ (zs : List A). y ∷ zs) r.2)

@@ -4,6 +4,7 @@ use Rattle.base_types.specs.declared.ids.FilesetId.{FilesetId}
 use Rattle.base_types.specs.declared.ids.HostId.{HostId}
 use Rattle.base_types.specs.declared.ids.ServerId.{ServerId}
 use Rattle.host_cache.specs.Holding.{tokens_of}
+use Rattle.host_cache.specs.Seen.{file_at, tells}
 use Rattle.host_cache.specs.declared.held.Held.{Held}
 use Rattle.host_tables.proofs.Lists.{map_in, none_in}
 use Rattle.host_tables.specs.LeavingSteps.{Left, with_left}
@@ -14,7 +15,7 @@ use Rattle.host_tables.specs.RevokeSteps.{SaysRevoked}
 use Rattle.host_tables.specs.RevokeSteps.SaysRevoked.{BackGiven, BackKept, BackReturned}
 use Rattle.host_tables.specs.Saying.{ClaimFrom, SaysAgain}
 use Rattle.host_tables.specs.Saying.SaysAgain.{OfBye, OfChange, OfClaim, OfFetch, OfGive, OfHello}
-use Rattle.host_tables.specs.Tables.{held_of}
+use Rattle.host_tables.specs.Tables.{content, held_of}
 use Rattle.host_tables.specs.Tidy.{AgainSound, ChangeSound, DoneTidy, FetchSound, GrantTidy}
 use Rattle.host_tables.specs.Tidy.{IsOutgoing, IsTidy, IsTidyChange, IsTidyFetch, IsTidyGive, IsTidyToken, LeftSound}
 use Rattle.host_tables.specs.Tidy.{RevokedSound, TidyFirst, TidyStays}
@@ -38,11 +39,15 @@ use Rattle.message_types.specs.declared.tokens.Revoke.{Revoke as RevokeOf}
 use Rattle.run_rules.specs.Messages.{home}
 use Rattle.run_rules.specs.Past.{In}
 use Rattle.run_rules.specs.declared.step.Step.{Step}
-use Rattle.std.proofs.Common.{List, [], ap, arith, inl, inr, refl, subst, sym, ◌/◌, ◌<◌, ◌∙◌, ◌∷◌, ◌≡◌, ◌⊎◌}
+use Rattle.std.proofs.Common.{List, None, [], ap, arith, if◌then◌else◌, inl, inr, refl, subst, sym, ℕ, ◌/◌, ◌<◌, ◌∙◌}
+use Rattle.std.proofs.Common.{◌∷◌, ◌≡◌, ◌≤◌, ◌⊎◌}
+use Rattle.std.specs.Option.{option_map_or}
 use Rattle.token_types.specs.declared.token.Need.{Need}
 use Rattle.token_types.specs.declared.token.Token.{Token}
 use Rattle.token_types.specs.declared.token.TokenId.{TokenId}
+use Rattle.tree_calls.specs.declared.part.Status.{Status as StatusOf}
 use Rattle.tree_calls.specs.declared.roster.Roster.{Roster}
+use Rattle.tree_laws.specs.Parts.Part.{Size}
 
 each_of : {A : Type 0} (P : A → Type 0) (xs : List A) → ((x : A) → In x xs → P x) → Each P xs
 each_of P [] all = tt
@@ -223,6 +228,9 @@ revoked_sound roster m l message r made y tidy after sound is no_moves out known
     (λ i j. of_each (λ (k : TokenId). k.server ≡ message.server) r.ids body.named.issued i j ∙ sym at) y.body
     refl of why
 
+le_by : {a b c : ℕ} → a ≤ c → b ≡ a → b ≤ c
+le_by l e = omega (arith, l, e)
+
 pub tidy_stays : TidyStays
 tidy_stays roster m new tidy after = record {
   host = subst (IsHost roster) (sym after.host_is) tidy.host;
@@ -231,6 +239,7 @@ tidy_stays roster m new tidy after = record {
   servers = after.servers ∙ tidy.servers;
   held = λ t i. subst (λ (h : HostId). IsTidyToken roster h t) (sym after.host_is)
       (elim (after.held t i) [ inl j ↦ tidy.held t j | inr k ↦ k ]);
+  sizes = λ fid. elim (after.sizes fid) [ inl e ↦ le_by (tidy.sizes fid) e | inr l ↦ l ];
   leaving = λ y i. subst (λ (h : HostId). IsTidyToken roster h y.token) (sym after.host_is)
       (elim (after.leaving y i) [ inl j ↦ tidy.leaving y j | inr k ↦ tidy.held y.token k ]);
   gives = λ y g i e. elim (after.gives y g i e) [ inl j ↦ tidy.gives y g j e | inr k ↦ k ];
@@ -278,6 +287,11 @@ tidy_first roster m host some few servers none_held none_leaving none_given idle
       few = few;
       servers = servers;
       held = λ t i. absurd (none_in (tokens_of m.cache.held) (ap tokens_of none_held) t i);
+      sizes = λ fid.
+          let e : content m.cache fid Size ≡ 0 =
+          ap (λ (held : List Held). option_map_or (λ (status : StatusOf). status.length)
+          (if tells held fid then (file_at m.cache fid).status else None) 0) none_held in
+          omega (arith, e);
       leaving = λ y i. absurd (none_in m.leaving none_leaving y i);
       gives = λ y g i e. absurd (none_in m.gives.gives none_given y i);
       fetch = λ f e. absurd (let p = sym idle ∙ e in cc);

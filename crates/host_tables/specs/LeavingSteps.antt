@@ -100,7 +100,8 @@ pub record LeavesRight (m : Tables) (l : Left) (past : List Step) (s : Step) : T
       → keeps_label u ≡ true
   pub label_gone : (u : UseOf) → keeps_label u ≡ true → (g : Give) → In g s.made → GivesUse g (labelled u) → ⊥
   pub pinned : (i : TokenId) → is_pinned l.uses i ≡ true → (is_pinned m.uses i ≡ true) ⊎ KeepsToken s i
-  pub pins : (i : TokenId) → (is_pinned m.uses i ≡ true) ⊎ KeepsToken s i → is_pinned l.uses i ≡ true
+  pub pins : (u : UseOf) → In u l.uses.labels → (is_pinned m.uses u.token.id ≡ true) ⊎ KeepsToken s u.token.id
+      → is_pinned l.uses u.token.id ≡ true
   -- give-backs
   pub gives_from : (y : Message) → In y l.gives.gives → In y m.gives.gives ⊎ ((g : Give) × (y.body ≡ GiveBack g)
       × In g s.made)

@@ -1,10 +1,9 @@
 -- A step of a host's machine, over the steps that its tables stand for.
-use Rattle.base_types.specs.declared.ids.ServerId.{ServerId}
 use Rattle.host_tables.specs.Stands.{IsAtRest, Stands}
-use Rattle.host_tables.specs.Tables.{site_at}
 use Rattle.host_tables.specs.declared.sites.Site.{Site}
 use Rattle.host_tables.specs.declared.tables.Tables.{Tables}
 use Rattle.run_rules.specs.HostMay.{HostMay}
+use Rattle.run_rules.specs.Past.{In}
 use Rattle.run_rules.specs.declared.step.Step.{Step}
 use Rattle.script_lines.specs.declared.script.Script.{Script}
 use Rattle.std.specs.Prelude.{List, true, ◌∷◌, ◌≡◌}
@@ -21,4 +20,4 @@ pub record StepRight (script : Script) (old new : Tables) (past : List Step) (s 
 
 -- the host is done: it has said Bye to each server that it greeted, and has theirs
 abbrev pub IsParted : List Site → Type 0
-IsParted sites = (v : ServerId) → (site_at sites v).greeted ≡ true → (site_at sites v).has_bye ≡ true
+IsParted sites = (site : Site) → In site sites → site.greeted ≡ true → site.has_bye ≡ true

@@ -11,21 +11,30 @@ use Rattle.message_types.specs.declared.message.Message.{Message}
 use Rattle.run_rules.specs.HostMay.{HostMay}
 use Rattle.run_rules.specs.Past.{In}
 use Rattle.run_rules.specs.Steps.{IsNextLine, lines_gone, lines_of}
+use Rattle.run_rules.specs.Tokens.{end_of}
+use Rattle.run_rules.specs.declared.step.Asked.{Asked}
 use Rattle.run_rules.specs.declared.step.Cause.{Cause}
 use Rattle.run_rules.specs.declared.step.Cause.TheVariants.{End, Line as LineOf, Message as Came}
+use Rattle.run_rules.specs.declared.step.Labelled.{Labelled}
 use Rattle.run_rules.specs.declared.step.Step.{Step}
 use Rattle.script_lines.specs.declared.script.Deed.{Deed}
 use Rattle.script_lines.specs.declared.script.Deed.TheVariants.{Call as MakesCall, Stop}
 use Rattle.script_lines.specs.declared.script.Line.{Line}
 use Rattle.script_lines.specs.declared.script.Script.{Script}
-use Rattle.std.specs.Prelude.{List, length, true, ℕ, ◌∷◌, ◌≡◌}
+use Rattle.std.specs.Prelude.{List, None, Some, length, true, ℕ, ◌∷◌, ◌≡◌}
 use Rattle.tree_calls.specs.declared.roster.Roster.{Roster}
+
+-- while the use of a label is being ended the call that ends it is open, and nothing is asked
+abbrev pub EndsOpen : Tables → Type 0
+EndsOpen m = (u : Labelled) → m.ending ≡ Some u
+    → (c : Asked) × (m.call ≡ Some c) × (c.call ≡ end_of u) × (m.request ≡ None)
 
 -- The machine runs: its tables stand for the steps, the host is at rest, and what the tables hold may be said. Once it
 -- has said Bye all its lines have gone.
 pub record IsRunning (script : Script) (m : Tables) (past : List Step) : Type 0 where
   pub rests : Rests script m past
   pub tidy : IsTidy script.roster m
+  pub ending : EndsOpen m
   pub gone : (v : ServerId) → (site_at m.sites v).said_bye ≡ true
       → lines_gone past ≡ length (lines_of script (Host m.host))
 

@@ -84,7 +84,7 @@ pub record Settled (script : Script) (m new : Tables) (past : List Step) (s : St
       → is_pinned new.uses u.token.id ≡ true
   pub kept_used : (i : TokenId) → HasKeptToken (s ∷ past) i → HoldsId (s ∷ past) i → TokenInUse (s ∷ past) i
   pub label_order : (before behind : List UseOf) (first later : UseOf) → new.uses.labels ≡ before ++ first ∷ behind
-      → In later behind → TakenBefore (s ∷ past) (labelled later) (labelled first) → ⊥
+      → In later (first ∷ behind) → TakenBefore (s ∷ past) (labelled later) (labelled first) → ⊥
   pub labels : LabelsStand (own_of new)
   -- give-backs
   pub gives_from : (x : Message) → In x new.gives.gives → In x m.gives.gives ⊎ ((g : Give) × (x.body ≡ GiveBack g)

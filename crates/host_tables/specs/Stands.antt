@@ -132,9 +132,9 @@ pub record UsesStand (uses : InUseOf) (past : List Step) : Type 0 where
   pub kept_used : (id : TokenId) → HasKeptToken past id → HoldsId past id → TokenInUse past id
   pub anew : TakenAnew past
   pub kept_ever : (id : TokenId) → HasKeptToken past id → (u : Token) × EverHeld past u × (u.id ≡ id)
-  -- in the order in which they were taken
+  -- in the order in which they were taken, each while it wasn't in use
   pub order : (before behind : List UseOf) (first later : UseOf) → uses.labels ≡ before ++ first ∷ behind
-      → In later behind → TakenBefore past (labelled later) (labelled first) → ⊥
+      → In later (first ∷ behind) → TakenBefore past (labelled later) (labelled first) → ⊥
 
 -- the give-backs that aren't known as applied, and the last number of each fileset
 pub record GivesStand (gives : Giving) (past : List Step) : Type 0 where

@@ -1,4 +1,5 @@
 -- What the tables of a host keep to, whatever its past is: so that each message that it sends is sound.
+use Rattle.base_types.specs.declared.ids.Fid.{Fid}
 use Rattle.base_types.specs.declared.ids.HostId.{HostId}
 use Rattle.base_types.specs.declared.ids.ServerId.{ServerId}
 use Rattle.base_types.specs.declared.limits.TheConstants.{FILE_BYTES_MAX}
@@ -7,7 +8,7 @@ use Rattle.host_tables.specs.LeavingWhole.{SaysLeft}
 use Rattle.host_tables.specs.Quiet.{Moved}
 use Rattle.host_tables.specs.RevokeSteps.{SaysRevoked}
 use Rattle.host_tables.specs.Saying.{SaysAgain}
-use Rattle.host_tables.specs.Tables.{held_of, site_at}
+use Rattle.host_tables.specs.Tables.{content, held_of, site_at}
 use Rattle.host_tables.specs.declared.calls.Home.{Home}
 use Rattle.host_tables.specs.declared.calls.Leaving.{Leaving}
 use Rattle.host_tables.specs.declared.calls.Request.TheVariants.{Change as AChange, Fetch as AFetch}
@@ -38,6 +39,7 @@ use Rattle.token_types.specs.declared.token.Need.{Need}
 use Rattle.token_types.specs.declared.token.Token.{Token}
 use Rattle.token_types.specs.declared.token.TokenId.{TokenId}
 use Rattle.tree_calls.specs.declared.roster.Roster.{Roster}
+use Rattle.tree_laws.specs.Parts.Part.{Size}
 
 -- a token of the host, issued by the server of its file, which is declared
 pub record IsTidyToken (roster : Roster) (host : HostId) (t : Token) : Type 0 where
@@ -78,6 +80,8 @@ pub record IsTidy (roster : Roster) (m : Tables) : Type 0 where
   pub few : length roster.capacity ≤ 255
   pub servers : servers_in m.sites ≡ servers_of roster
   pub held : (t : Token) → In t (held_of m) → IsTidyToken roster m.host t
+  -- no file is seen longer than one can be
+  pub sizes : (fid : Fid) → content m.cache fid Size ≤ FILE_BYTES_MAX
   pub leaving : (y : Leaving) → In y m.leaving → IsTidyToken roster m.host y.token
   pub gives : (y : Message) (g : Give) → In y m.gives.gives → y.body ≡ GiveBack g → IsTidyGive roster g
   pub fetch : (f : FetchOf) → m.request ≡ Some (AFetch f) → IsTidyFetch roster f
@@ -131,6 +135,8 @@ pub record IsTidyAfter (roster : Roster) (m new : Tables) : Type 0 where
   pub host_is : new.host ≡ m.host
   pub servers : servers_in new.sites ≡ servers_in m.sites
   pub held : (t : Token) → In t (held_of new) → In t (held_of m) ⊎ IsTidyToken roster m.host t
+  pub sizes : (fid : Fid) → (content new.cache fid Size ≡ content m.cache fid Size)
+      ⊎ (content new.cache fid Size ≤ FILE_BYTES_MAX)
   pub leaving : (y : Leaving) → In y new.leaving → In y m.leaving ⊎ In y.token (held_of m)
   pub gives : (y : Message) (g : Give) → In y new.gives.gives → y.body ≡ GiveBack g → In y m.gives.gives
       ⊎ IsTidyGive roster g

@@ -1,4 +1,4 @@
-use Rattle.std.proofs.Common.{List, None, Some, ap, refl, subst, sym, ◌≡◌}
+use Rattle.std.proofs.Common.{List, None, ap, subst, sym, ◌≡◌}
 use Rattle.std.proofs.lemmas.Result.{on_ok_weaker}
 use Rattle.host_calls.proofs.Owned.{exact_is, exact_there}
 use Rattle.host_labels.specs.Labels.{InUse, is_lock, use_of}

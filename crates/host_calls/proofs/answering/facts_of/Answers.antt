@@ -1,4 +1,3 @@
-use Rattle.std.proofs.Common.{arith}
 use Rattle.host_calls.proofs.Replied.{facts_so}
 use Rattle.host_calls.proofs.answering.facts_of.Goals as goal
 

@@ -16,3 +16,6 @@ returns-clause-judged c =
     let user = c.args.sight.user.now in
     λ call. list_finds kept user c.args.root c.args.path.now call c.in_ok-fid.fid c.in_ok-fid._entries.now
     c.in_ok-fid.ensures.found c.in_ok-fid.ensures.tried
+
+pub returns-clause-leads : goal.returns-clause-leads
+returns-clause-leads c = λ place. (c.in_ok-fid.ensures.found, tt)

@@ -1,7 +1,7 @@
-use Rattle.std.proofs.Common.{ap, arith, refl, subst, sym, ◌+◌, ◌∙◌, ◌≡◌, ◌≤◌}
+use Rattle.std.proofs.Common.{ap, arith, subst, sym, ◌+◌, ◌∙◌, ◌≡◌, ◌≤◌}
 use Rattle.std.proofs.lemmas.Result.{err_from_is_err_and}
 use Rattle.base_types.specs.declared.span.Span.{Span}
-use Rattle.host_calls.proofs.Judged.{lock_big, lock_found, lock_lacks, lock_own}
+use Rattle.host_calls.proofs.Judged.{lock_found, lock_lacks, lock_own}
 use Rattle.host_leaves.specs.Owning.{is_own_locked}
 use Rattle.host_walk.specs.Views.{held_by}
 use Rattle.host_walk.specs.declared.sight.Stop.TheVariants.{Lacks}

@@ -28,3 +28,6 @@ returns-in-Err-lock_kind-clause-judged c =
     let h = rw c.lock_right.ensures at c.in-Ok.ensures in
     λ call. lock_fails kept user c.args.root c.args.path.now call (own_of m) m.host c.args.writing c.args.from
     c.args.len c.in-Ok.fid c.in-Err-lock_kind.stop h c.in-Err-lock_kind.ensures.tried
+
+pub returns-in-Ok-lock_kind-clause-leads : goal.returns-in-Ok-lock_kind-clause-leads
+returns-in-Ok-lock_kind-clause-leads c = λ label place. c.in-Ok-lock_kind.ensures.kind

@@ -1,3 +1,4 @@
+use Rattle.std.proofs.Common.{refl}
 use Rattle.host_calls.proofs.Judged.{open_fails, open_finds, open_stops}
 use Rattle.host_calls.proofs.looking.opened.Goals as goal
 
@@ -22,3 +23,6 @@ returns-in-Err-covered-clause-judged c =
     let h = rw (c.is_changing.ensures, c.open_right.ensures) at c.in-Ok.ensures in
     λ call. open_fails kept user c.args.root c.args.path.now call c.args.kind c.in-Ok.fid c.in-Err-covered.stop h
     c.in-Err-covered.ensures
+
+pub returns-in-Ok-covered-clause-leads : goal.returns-in-Ok-covered-clause-leads
+returns-in-Ok-covered-clause-leads c = λ label place. refl

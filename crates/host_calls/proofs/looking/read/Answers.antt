@@ -14,3 +14,6 @@ returns-in-Err-clause-judged c =
     let user = c.args.sight.user.now in
     λ call. read_stops kept user c.args.root c.args.path.now call c.args.from c.args.len c.in-Err.stop
     c.in-Err.ensures.tried
+
+pub returns-in-Ok-clause-leads : goal.returns-in-Ok-clause-leads
+returns-in-Ok-clause-leads c = λ place. (c.in-Ok.ensures.found, c.in-Ok.ensures.span)

@@ -1,4 +1,4 @@
-use Rattle.std.proofs.Common.{Some, [], ap, false, inl, inr, refl, subst, sym, true, ◌≡◌}
+use Rattle.std.proofs.Common.{Some, [], ap, false, inl, inr, subst, sym, true, ◌≡◌}
 use Rattle.host_calls.proofs.Starting.{at_unsynced, freed_backed, freed_unsynced, label_backed, label_unsynced}
 use Rattle.host_calls.proofs.Starting.{starts_clone, starts_close, starts_in, starts_lock}
 use Rattle.host_calls.proofs.Starting.{place_of, starts_move, starts_new, starts_open, starts_unlock}

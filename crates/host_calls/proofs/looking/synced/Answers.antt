@@ -29,3 +29,6 @@ returns-clause-judged c =
     λ call. sync_finds kept user c.args.root c.args.path.now call (own_of c.args.tables.now) c.in_ok-fid.fid
     (nature_told c.in_ok-fid._status.now) false c.in_ok-fid.ensures.tried
     (sym c.is_clean.ensures ∙ c.if-is_clean.false)
+
+pub returns-clause-leads : goal.returns-clause-leads
+returns-clause-leads c = λ place. (c.in_ok-fid.ensures.walked, tt)

@@ -1,10 +1,11 @@
-use Rattle.std.proofs.Common.{Ok, ap, false, refl, subst, sym, true, ◌∙◌}
-use Rattle.host_calls.proofs.Backing.{other_look, told_ok, use_ok, write_ok}
-use Rattle.host_calls.specs.Looking.{JudgesOn, bytes_of, path_look, taken_label}
+use Rattle.std.proofs.Common.{IfOk, Ok, ap, false, refl, subst, sym, true, ◌∙◌}
+use Rattle.host_calls.proofs.Backing.{leads_ok, other_look, told_ok, use_ok, write_leads, write_ok}
+use Rattle.host_calls.specs.Looking.{JudgesOn, LeadsOn, bytes_of, path_look, taken_label}
 use Rattle.host_calls.specs.declared.looking.Question.TheVariants.{In as Within}
 use Rattle.host_calls.specs.declared.looking.Verdict.TheVariants.{Asks}
 use Rattle.need_host.specs.Calls.{Verdict as Meant, write_look}
 use Rattle.need_host.specs.Looks.{Look}
+use Rattle.tree_calls.specs.declared.call.Call.{Call}
 use Rattle.tree_calls.specs.declared.call.Call.TheVariants.{Write}
 use Rattle.host_calls.proofs.looking.walked.Goals as goal
 
@@ -102,3 +103,51 @@ returns-in_default-clause-walked c =
     subst (λ (l : Look Meant). JudgesOn m.cache m.user c.args.call.now l (Ok (Asks (Within c.args.root.fileset))))
     (sym (other_look m c.args.root c.args.path.now c.args.call.now d.not-Read d.not-Write d.not-List d.not-Stat
     d.not-GetAcl d.not-Sync d.not-Lock d.not-OpenFile)) (tt, λ sized. refl)
+
+pub returns-in-Read-clause-leads : goal.returns-in-Read-clause-leads
+returns-in-Read-clause-leads c =
+    let m = c.args.tables.now in
+    subst (λ (k : Call). IfOk c.read.result (λ verdict. LeadsOn m.cache m.user k c.args.root c.args.path.now verdict))
+    (sym c.in-Read.is) (c.read.ensures.leads c.in-Read.place)
+
+pub returns-in-List-clause-leads : goal.returns-in-List-clause-leads
+returns-in-List-clause-leads c =
+    let m = c.args.tables.now in
+    subst (λ (k : Call). IfOk c.listed.result (λ verdict. LeadsOn m.cache m.user k c.args.root c.args.path.now verdict))
+    (sym c.in-List.is) (c.listed.ensures.leads c.in-List.place)
+
+pub returns-in-Sync-clause-leads : goal.returns-in-Sync-clause-leads
+returns-in-Sync-clause-leads c =
+    let m = c.args.tables.now in
+    subst (λ (k : Call). IfOk c.synced.result (λ verdict. LeadsOn m.cache m.user k c.args.root c.args.path.now verdict))
+    (sym c.in-Sync.is) (c.synced.ensures.leads c.in-Sync.place)
+
+pub returns-in-Stat-clause-leads : goal.returns-in-Stat-clause-leads
+returns-in-Stat-clause-leads c =
+    let m = c.args.tables.now in
+    leads_ok m.cache m.user c.args.call.now c.args.root c.args.path.now c.told.result c.told.ensures.leads
+
+pub returns-in-GetAcl-clause-leads : goal.returns-in-GetAcl-clause-leads
+returns-in-GetAcl-clause-leads c =
+    let m = c.args.tables.now in
+    leads_ok m.cache m.user c.args.call.now c.args.root c.args.path.now c.shown.result c.shown.ensures.leads
+
+pub returns-in-Lock-clause-leads : goal.returns-in-Lock-clause-leads
+returns-in-Lock-clause-leads c =
+    let m = c.args.tables.now in
+    subst (λ (k : Call). IfOk c.locked.result (λ verdict. LeadsOn m.cache m.user k c.args.root c.args.path.now verdict))
+    (sym c.in-Lock.is) (c.locked.ensures.leads c.in-Lock.label c.in-Lock.place)
+
+pub returns-in-OpenFile-clause-leads : goal.returns-in-OpenFile-clause-leads
+returns-in-OpenFile-clause-leads c =
+    let m = c.args.tables.now in
+    subst (λ (k : Call). IfOk c.opened.result (λ verdict. LeadsOn m.cache m.user k c.args.root c.args.path.now verdict))
+    (sym c.in-OpenFile.is) (c.opened.ensures.leads c.in-OpenFile.label c.in-OpenFile.place)
+
+pub returns-in-Write-clause-leads : goal.returns-in-Write-clause-leads
+returns-in-Write-clause-leads c =
+    let m = c.args.tables.now in
+    write_leads m.cache m.user c.args.call.now c.args.root c.args.path.now c.in-Write.place c.in-Write.from
+    c.as_slice.result.now
+    (c.in-Write.is ∙ ap (Write c.in-Write.place c.in-Write.from) (sym c.as_slice.ensures)) c.written.result
+    c.written.ensures.covers
