@@ -1,0 +1,5 @@
+pub mod Machines
+pub use Rattle.server_decides.specs.ExporterFault
+pub use Rattle.server_decides.specs.Keeper
+pub use Rattle.server_decides.specs.Keepers
+pub use Rattle.server_decides.specs.Serving
