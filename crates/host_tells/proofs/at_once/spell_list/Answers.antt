@@ -1,0 +1,17 @@
+use Rattle.std.proofs.Common.{Some, subst}
+use Rattle.host_tells.specs.Spoken.{Spells}
+use Rattle.tree_calls.specs.declared.reply.Reply.{Reply}
+use Rattle.host_tells.proofs.Spelled.{list_seen, unseen}
+use Rattle.host_calls.specs.Looking.{access_of}
+use Rattle.host_tells.proofs.at_once.spell_list.Goals as goal
+
+pub returns-in-Some : goal.returns-in-Some
+returns-in-Some c =
+    subst (λ (r : Reply). Spells (Some r) c.args.out.now c.spell_shown.new.out c.spell_shown.result)
+    (list_seen c.args.tables.now.cache c.args.fid c.args.which c.in-Some.status.now c.in-Some.ensures)
+    c.spell_shown.ensures
+
+pub returns-in-None : goal.returns-in-None
+returns-in-None c =
+    subst (λ (r : Reply). Spells (Some r) c.args.out.now c.spell_refused.new.out c.spell_refused.result)
+    (unseen c.args.tables.now.cache c.args.fid (access_of c.args.which) c.in-None.ensures) c.spell_refused.ensures

@@ -1,0 +1,9 @@
+//! How a host answers a call at once from what it sees, without memory (Kazar et al., "DEcorum File System
+//! Architectural Overview", 1990; the spelling is this project's own).
+#![tactic(auto)]
+
+mod at_once;
+mod putting;
+mod spelling;
+
+pub use at_once::answer_into;
