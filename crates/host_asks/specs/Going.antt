@@ -4,7 +4,7 @@ use Rattle.std.specs.Prelude.{◌∷◌, ◌⊎◌}
 use Rattle.base_types.specs.declared.ids.Fid.{Fid}
 use Rattle.host_asks.specs.Asking.{AsksFor, Doing, asking_question, doing}
 use Rattle.host_calls.specs.Answering.{Answered, MarksUsed, EndsUse}
-use Rattle.host_calls.specs.Looking.{EndsSo, LeadsSo, NoSync, Walked, WalksSo, ending_of, is_settled}
+use Rattle.host_calls.specs.Looking.{EndsSo, IsPathless, LeadsSo, Walked, WalksSo, ending_of, is_settled}
 use Rattle.host_calls.specs.declared.looking.Question.{Question}
 use Rattle.host_calls.specs.declared.looking.Verdict.{Verdict}
 use Rattle.host_calls.specs.declared.looking.Verdict.TheVariants.{Asks, Gives, Syncs}
@@ -76,7 +76,7 @@ pub data Goes (k : ℕ) (call : Call) (first : Bool) (old new : Doing) : Bool �
   -- a request is outstanding
   Waits : (old.tables.request ≡ None → ⊥) → new ≡ old → Goes k call first old new false
   Ends : old.tables.request ≡ None → (verdict : Result Verdict Refusal) → EndsSo old.tables call verdict
-      → NoSync verdict → (answered : Bool)
+      → IsPathless verdict → (answered : Bool)
       → Settles k call first old new verdict answered → Goes k call first old new answered
   LacksIt : old.tables.request ≡ None → (root : Fid) (path : List (List ℕ)) → WalksSo old.tables call root path
       → (need : Need) → Walked old.tables call root path (Err (Lacks need)) → AsksFor need k call old new

@@ -10,7 +10,8 @@ use Rattle.base_types.specs.declared.ids.OpenKind.{OpenKind}
 use Rattle.base_types.specs.declared.limits.TheConstants.{LABELS_MAX}
 use Rattle.base_types.specs.declared.user.User.{User}
 use Rattle.host_calls.proofs.Labels.{has_lock_is, has_open_is, lock_count_is, open_count_is}
-use Rattle.host_calls.specs.Looking.{AreUses, EndsSo, EndsUnsynced, IsBacked, IsFresh, LabelStarts, NoSync, StartsAt}
+use Rattle.host_calls.specs.Looking.{AreUses, EndsPathless, EndsSo, IsBacked, IsFresh, IsPathless, LabelStarts}
+use Rattle.host_calls.specs.Looking.{StartsAt}
 use Rattle.host_calls.specs.Looking.{StartsBacked, StartsSo}
 use Rattle.host_calls.specs.Looking.{ending_of, freed_by, meant, path_look, taken_label, taken_refusal}
 use Rattle.host_calls.specs.Looking.LabelStarts.{HasAll, HasIt, MayTake}
@@ -308,22 +309,22 @@ module _ (m : Tables) where
           subst (λ (q : Option (Bool × List ℕ)). unused_in q) e (label_unused lock label h)
 
 -- ---- no Sync ends before its path
-pub at_unsynced : (m : Tables) (server : ServerId) (name : List ℕ) (path : List (List ℕ)) (start : Start) →
-    StartsAt m server name path start → EndsUnsynced start
-at_unsynced m server name path (EndsAt verdict) (none, is) = subst NoSync (sym is) tt
-at_unsynced m server name path (Walks root way) h = tt
+pub at_pathless : (m : Tables) (server : ServerId) (name : List ℕ) (path : List (List ℕ)) (start : Start) →
+    StartsAt m server name path start → EndsPathless start
+at_pathless m server name path (EndsAt verdict) (none, is) = subst IsPathless (sym is) tt
+at_pathless m server name path (Walks root way) h = tt
 
-pub label_unsynced : (m : Tables) (lock : Bool) (label : List ℕ) (place : Place) (start : Start) →
-    LabelStarts m lock label place start → EndsUnsynced start
-label_unsynced m lock label place start (HasIt has is) = subst EndsUnsynced (sym is) tt
-label_unsynced m lock label place start (HasAll has many is) = subst EndsUnsynced (sym is) tt
-label_unsynced m lock label place start (MayTake has few h) =
-    at_unsynced m place.server place.fileset place.path start h
+pub label_pathless : (m : Tables) (lock : Bool) (label : List ℕ) (place : Place) (start : Start) →
+    LabelStarts m lock label place start → EndsPathless start
+label_pathless m lock label place start (HasIt has is) = subst EndsPathless (sym is) tt
+label_pathless m lock label place start (HasAll has many is) = subst EndsPathless (sym is) tt
+label_pathless m lock label place start (MayTake has few h) =
+    at_pathless m place.server place.fileset place.path start h
 
-pub freed_unsynced : (m : Tables) (lock : Bool) (label : List ℕ) → NoSync (freed_by m lock label)
-freed_unsynced m lock label = by_test (has_label m lock label) (gives_label m lock label)
+pub freed_pathless : (m : Tables) (lock : Bool) (label : List ℕ) → IsPathless (freed_by m lock label)
+freed_pathless m lock label = by_test (has_label m lock label) (gives_label m lock label)
   where
-    by_test : (a b : Bool) → NoSync (if not a then Err (if lock then NotLocked else NotOpened)
+    by_test : (a b : Bool) → IsPathless (if not a then Err (if lock then NotLocked else NotOpened)
         else Ok (if b then Gives else Frees))
     by_test true true = tt
     by_test true false = tt

@@ -248,18 +248,18 @@ LeadsNowhere (Uses fid kind) = ⊥
 LeadsNowhere Frees = ⊥
 LeadsNowhere _ = Unit {0}
 
--- only what goes along a path reads, lists, syncs, writes or uses anything
-abbrev pub NoSync : Result Verdict Refusal → Type 0
-NoSync (Ok (Reads fid span)) = ⊥
-NoSync (Ok (Lists fid)) = ⊥
-NoSync (Ok (Syncs fid)) = ⊥
-NoSync (Ok (Writes fid from to)) = ⊥
-NoSync (Ok (Uses fid kind)) = ⊥
-NoSync _ = Unit {0}
+-- a verdict by which nothing is read, listed, synced, written or used: all of that is found along a path
+abbrev pub IsPathless : Result Verdict Refusal → Type 0
+IsPathless (Ok (Reads fid span)) = ⊥
+IsPathless (Ok (Lists fid)) = ⊥
+IsPathless (Ok (Syncs fid)) = ⊥
+IsPathless (Ok (Writes fid from to)) = ⊥
+IsPathless (Ok (Uses fid kind)) = ⊥
+IsPathless _ = Unit {0}
 
-abbrev pub EndsUnsynced : Start → Type 0
-EndsUnsynced (EndsAt verdict) = NoSync verdict
-EndsUnsynced (Walks root path) = Unit {0}
+abbrev pub EndsPathless : Start → Type 0
+EndsPathless (EndsAt verdict) = IsPathless verdict
+EndsPathless (Walks root path) = Unit {0}
 
 -- the bytes that are read are covered
 abbrev pub CanReadOn : Kept → Verdict → Type 0

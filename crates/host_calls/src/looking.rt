@@ -15,7 +15,7 @@ ghost use Rattle.tree_calls.specs.declared.call.Call.TheVariants.{Sync};
 ghost use Rattle.tree_calls.specs.declared.place.Place.{Place as PlaceOf};
 ghost use Rattle.host_calls.specs.Looking.{CanReadOn, CoversUse, CoversWrite, IsBacked, IsFresh, IsTold};
 ghost use Rattle.host_calls.specs.Looking.{LeadsNowhere, LeadsOn, LeadsSo};
-ghost use Rattle.host_calls.specs.Looking.{EndsUnsynced, JudgesOn, LabelStarts, StartsAt, StartsBacked};
+ghost use Rattle.host_calls.specs.Looking.{EndsPathless, JudgesOn, LabelStarts, StartsAt, StartsBacked};
 ghost use Rattle.host_calls.specs.Looking.{StartsSo, Walked, bytes_of, freed_by, taken_refusal};
 ghost use Rattle.tree_filesets.specs.Uses.{is_changing, right_to_open};
 ghost use Rattle.tree_filesets.specs.Rights.{read_right, write_right};
@@ -80,7 +80,7 @@ pub enum Start<'a> {
 pub fn start_of<'a>(tables: &Tables, call: &'a Call) -> Start<'a>
     ensures starts { StartsSo tables.now call.now result }
     ensures backed { StartsBacked tables.now call.now result }
-    ensures unsynced { EndsUnsynced result }
+    ensures pathless { EndsPathless result }
 {
     match call {
         Call::NewFileset { server, .. } | Call::CloneFileset { server, .. } => {

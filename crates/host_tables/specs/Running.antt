@@ -2,12 +2,15 @@
 use Rattle.base_types.specs.declared.ids.Node.TheVariants.{Host}
 use Rattle.base_types.specs.declared.ids.ServerId.{ServerId}
 use Rattle.host_tables.specs.Machine.{Rests}
+use Rattle.host_tables.specs.Stands.{IsCoveredFrom, IsLack, verdict_from}
 use Rattle.host_tables.specs.Tables.{site_at}
 use Rattle.host_tables.specs.Tidy.{IsTidy}
 use Rattle.host_tables.specs.declared.tables.Tables.{Tables}
 use Rattle.message_types.specs.Soundness.{IsCall, IsSound}
 use Rattle.message_types.specs.declared.message.Direction.TheVariants.{ToHost}
 use Rattle.message_types.specs.declared.message.Message.{Message}
+use Rattle.need_host.specs.Calls.Verdict.{Asks}
+use Rattle.need_host.specs.Questions.{Question}
 use Rattle.run_rules.specs.HostMay.{HostMay}
 use Rattle.run_rules.specs.Past.{In}
 use Rattle.run_rules.specs.Steps.{IsNextLine, lines_gone, lines_of}
@@ -21,7 +24,8 @@ use Rattle.script_lines.specs.declared.script.Deed.{Deed}
 use Rattle.script_lines.specs.declared.script.Deed.TheVariants.{Call as MakesCall, Stop}
 use Rattle.script_lines.specs.declared.script.Line.{Line}
 use Rattle.script_lines.specs.declared.script.Script.{Script}
-use Rattle.std.specs.Prelude.{List, None, Some, length, true, ℕ, ◌∷◌, ◌≡◌}
+use Rattle.std.specs.Prelude.{List, None, Some, length, true, ℕ, ◌∷◌, ◌≡◌, ◌⊎◌}
+use Rattle.token_types.specs.declared.token.Need.{Need}
 use Rattle.tree_calls.specs.declared.roster.Roster.{Roster}
 
 -- while the use of a label is being ended the call that ends it is open, and nothing is asked
@@ -29,12 +33,20 @@ abbrev pub EndsOpen : Tables → Type 0
 EndsOpen m = (u : Labelled) → m.ending ≡ Some u
     → (c : Asked) × (m.call ≡ Some c) × (c.call ≡ end_of u) × (m.request ≡ None)
 
+-- what is asked is asked for the open call: while a request is outstanding the call lacks a token, or it asks a server
+-- and lacks nothing that the question takes
+abbrev pub AsksForCall : Tables → Type 0
+AsksForCall m = (c : Asked) → m.call ≡ Some c → (m.request ≡ None → ⊥)
+    → ((need : Need) × IsLack m c.call need)
+    ⊎ ((question : Question) × (verdict_from m c.call ≡ Asks question) × IsCoveredFrom m c.call)
+
 -- The machine runs: its tables stand for the steps, the host is at rest, and what the tables hold may be said. Once it
 -- has said Bye all its lines have gone.
 pub record IsRunning (script : Script) (m : Tables) (past : List Step) : Type 0 where
   pub rests : Rests script m past
   pub tidy : IsTidy script.roster m
   pub ending : EndsOpen m
+  pub asking : AsksForCall m
   pub gone : (v : ServerId) → (site_at m.sites v).said_bye ≡ true
       → lines_gone past ≡ length (lines_of script (Host m.host))
 

@@ -23,7 +23,7 @@ returns-in-Ends c =
     answered)
     (λ answered. Goes c.args.current.k c.args.current.call.now c.args.current.first old new answered)
     (λ answered s. Ends (none_is c.args.tables.now.request (sym c.is_some.ensures ∙ c.if-is_some.false))
-    c.in-Ends.verdict c.in-Ends.ensures.starts c.in-Ends.ensures.unsynced answered s) c.settle.ensures
+    c.in-Ends.verdict c.in-Ends.ensures.starts c.in-Ends.ensures.pathless answered s) c.settle.ensures
 
 pub walk-requires-clause-idle : goal.walk-requires-clause-idle
 walk-requires-clause-idle c =

@@ -1,8 +1,8 @@
 use Rattle.std.proofs.Common.{Some, [], ap, false, inl, inr, subst, sym, true, ◌≡◌}
-use Rattle.host_calls.proofs.Starting.{at_unsynced, freed_backed, freed_unsynced, label_backed, label_unsynced}
+use Rattle.host_calls.proofs.Starting.{at_pathless, freed_backed, freed_pathless, label_backed, label_pathless}
 use Rattle.host_calls.proofs.Starting.{starts_clone, starts_close, starts_in, starts_lock}
 use Rattle.host_calls.proofs.Starting.{place_of, starts_move, starts_new, starts_open, starts_unlock}
-use Rattle.host_calls.specs.Looking.{NoSync, taken_label}
+use Rattle.host_calls.specs.Looking.{IsPathless, taken_label}
 use Rattle.host_calls.proofs.looking.start_of.Goals as goal
 
 pub returns-in-MoveFileset-clause-starts : goal.returns-in-MoveFileset-clause-starts
@@ -100,29 +100,29 @@ returns-in-NewFileset-clause-starts c =
       | inr e ↦ starts_clone m call server e.0 e.1 e.2
     ]
 
-pub returns-in-MoveFileset-clause-unsynced : goal.returns-in-MoveFileset-clause-unsynced
-returns-in-MoveFileset-clause-unsynced c =
-    at_unsynced c.args.tables.now c.in-MoveFileset.server c.in-MoveFileset.fileset [] c.from_root.result
+pub returns-in-MoveFileset-clause-pathless : goal.returns-in-MoveFileset-clause-pathless
+returns-in-MoveFileset-clause-pathless c =
+    at_pathless c.args.tables.now c.in-MoveFileset.server c.in-MoveFileset.fileset [] c.from_root.result
     c.from_root.ensures
 
-pub returns-in-Unlock-clause-unsynced : goal.returns-in-Unlock-clause-unsynced
-returns-in-Unlock-clause-unsynced c =
-    subst NoSync (sym c.freed.ensures) (freed_unsynced c.args.tables.now true c.in-Unlock.label)
+pub returns-in-Unlock-clause-pathless : goal.returns-in-Unlock-clause-pathless
+returns-in-Unlock-clause-pathless c =
+    subst IsPathless (sym c.freed.ensures) (freed_pathless c.args.tables.now true c.in-Unlock.label)
 
-pub returns-in-CloseFile-clause-unsynced : goal.returns-in-CloseFile-clause-unsynced
-returns-in-CloseFile-clause-unsynced c =
-    subst NoSync (sym c.freed-in-CloseFile.ensures) (freed_unsynced c.args.tables.now false c.in-CloseFile.label)
+pub returns-in-CloseFile-clause-pathless : goal.returns-in-CloseFile-clause-pathless
+returns-in-CloseFile-clause-pathless c =
+    subst IsPathless (sym c.freed-in-CloseFile.ensures) (freed_pathless c.args.tables.now false c.in-CloseFile.label)
 
-pub returns-in-Lock-clause-unsynced : goal.returns-in-Lock-clause-unsynced
-returns-in-Lock-clause-unsynced c =
-    label_unsynced c.args.tables.now true c.in-Lock.label c.in-Lock.place c.labelled.result c.labelled.ensures
+pub returns-in-Lock-clause-pathless : goal.returns-in-Lock-clause-pathless
+returns-in-Lock-clause-pathless c =
+    label_pathless c.args.tables.now true c.in-Lock.label c.in-Lock.place c.labelled.result c.labelled.ensures
 
-pub returns-in-OpenFile-clause-unsynced : goal.returns-in-OpenFile-clause-unsynced
-returns-in-OpenFile-clause-unsynced c =
-    label_unsynced c.args.tables.now false c.in-OpenFile.label c.in-OpenFile.place c.labelled-in-OpenFile.result
+pub returns-in-OpenFile-clause-pathless : goal.returns-in-OpenFile-clause-pathless
+returns-in-OpenFile-clause-pathless c =
+    label_pathless c.args.tables.now false c.in-OpenFile.label c.in-OpenFile.place c.labelled-in-OpenFile.result
     c.labelled-in-OpenFile.ensures
 
-pub returns-in-Create-clause-unsynced : goal.returns-in-Create-clause-unsynced
-returns-in-Create-clause-unsynced c =
+pub returns-in-Create-clause-pathless : goal.returns-in-Create-clause-pathless
+returns-in-Create-clause-pathless c =
     let place = c.in-Create.place in
-    at_unsynced c.args.tables.now place.server place.fileset place.path c.in_place.result c.in_place.ensures
+    at_pathless c.args.tables.now place.server place.fileset place.path c.in_place.result c.in_place.ensures
