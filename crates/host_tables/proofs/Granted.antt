@@ -191,16 +191,19 @@ module _ (script : Script) (m new : Tables) (past : List Step) (server : ServerI
   abbrev tokens : List Token
   tokens = tokens_of new.cache.held
 
-  tokens_are : tokens ≡ taken ++ held_of m
-  tokens_are = ap tokens_of after.front ∙ (map-append (λ (h : Held). h.token) after.held m.cache.held
-      ∙ ap (λ (l : List Token). l ++ held_of m) after.taken_is)
+  tokens_are : tokens ≡ tokens_of after.held ++ held_of m
+  tokens_are = ap tokens_of after.front ∙ map-append (λ (h : Held). h.token) after.held m.cache.held
 
   in_tokens : (t : Token) → In t tokens → In t taken ⊎ In t (held_of m)
-  in_tokens t i = in_either taken (held_of m) t (subst (In t) tokens_are i)
+  in_tokens t i = elim (in_either (tokens_of after.held) (held_of m) t (subst (In t) tokens_are i)) [
+    | inl x ↦ inl ((after.taken_is t).0 x)
+    | inr x ↦ inr x
+  ]
 
   tokens_in : (t : Token) → In t taken ⊎ In t (held_of m) → In t tokens
-  tokens_in t (inl i) = subst (In t) (sym tokens_are) (in_left taken (held_of m) t i)
-  tokens_in t (inr i) = subst (In t) (sym tokens_are) (in_right taken (held_of m) t i)
+  tokens_in t (inl i) =
+      subst (In t) (sym tokens_are) (in_left (tokens_of after.held) (held_of m) t ((after.taken_is t).1 i))
+  tokens_in t (inr i) = subst (In t) (sym tokens_are) (in_right (tokens_of after.held) (held_of m) t i)
 
   in_held : (h : Held) → In h new.cache.held → In h after.held ⊎ In h m.cache.held
   in_held h i = in_either after.held m.cache.held h (subst (In h) after.front i)
@@ -253,8 +256,7 @@ module _ (script : Script) (m new : Tables) (past : List Step) (server : ServerI
       | inr x ↦ (let u = stands.cache.marked h x e in (u.0, used_after u.0 u.1, u.2))
     ];
     unmarked = λ h i e u. elim (in_held h i) [
-      | inl x ↦ taken_unused h.token (subst (In h.token) after.taken_is (map_in (λ (h : Held). h.token) after.held h x))
-          u
+      | inl x ↦ taken_unused h.token ((after.taken_is h.token).0 (map_in (λ (h : Held). h.token) after.held h x)) u
       | inr x ↦ stands.cache.unmarked h x e (u.0, used_before u.0 u.1, u.2)
     ];
     tells = λ h i e. elim (in_held h i) [ inl x ↦ (after.unused h x).1 e | inr x ↦ stands.cache.tells h x e ];
@@ -577,7 +579,7 @@ module _ (script : Script) (m new : Tables) (past : List Step) (server : ServerI
   order before behind late early e i n k a b =
       elim (where_late after.held m.cache.held before behind late (sym after.front ∙ e)) [
         | inl x ↦ (
-            let p = last_new late.token n (subst (In late.token) after.taken_is (in_token late after.held x)) a in
+            let p = last_new late.token n ((after.taken_is late.token).0 (in_token late after.held x)) a in
             let q : k ≤ suc (length past) = last_before script.roster m.host (s ∷ past) early.token k b in
             omega (arith, p, q)
             )

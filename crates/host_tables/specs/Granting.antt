@@ -24,7 +24,7 @@ use Rattle.run_rules.specs.declared.step.Cause.TheVariants.{Message as Came}
 use Rattle.run_rules.specs.declared.step.Step.{Step}
 use Rattle.script_lines.specs.Judge.{taken}
 use Rattle.std.specs.List.{list_any}
-use Rattle.std.specs.Prelude.{List, None, Some, false, if◌then◌else◌, true, ℕ, ◌++◌, ◌<◌, ◌≡◌, ◌≤◌}
+use Rattle.std.specs.Prelude.{List, None, Some, false, if◌then◌else◌, true, ℕ, ◌++◌, ◌<◌, ◌↔◌, ◌≡◌, ◌≤◌}
 use Rattle.token_types.specs.declared.token.Token.{Token}
 use Rattle.tree_laws.specs.Parts.{Part}
 use Rattle.tree_laws.specs.Parts.Part.{ByteAt}
@@ -67,7 +67,7 @@ pub record AfterGrant (m new : Tables) (g : GrantOf) (taken : List Token) (past 
   pub limit : new.limit ≡ m.limit
   pub held : List Held
   pub front : new.cache.held ≡ held ++ m.cache.held
-  pub taken_is : tokens_of held ≡ taken
+  pub taken_is : (t : Token) → In t (tokens_of held) ↔ In t taken
   pub unused : (h : Held) → In h held → (h.in_use ≡ false) × (is_status h.token.kind ≡ true → h.tells ≡ true)
   pub content_is : (fid : Fid) (part : Part)
       → content new.cache fid part ≡ (if is_shown s fid part then part_told g part else content m.cache fid part)

@@ -21,7 +21,7 @@ use Rattle.run_rules.specs.declared.step.Cause.TheVariants.{Message as Came}
 use Rattle.run_rules.specs.declared.step.Step.{Step}
 use Rattle.script_lines.specs.declared.script.Script.{Script}
 use Rattle.std.specs.List.{list_any}
-use Rattle.std.specs.Prelude.{List, None, false, if◌then◌else◌, ℕ, ◌++◌, ◌<◌, ◌∷◌, ◌≡◌}
+use Rattle.std.specs.Prelude.{List, None, false, if◌then◌else◌, ℕ, ◌++◌, ◌<◌, ◌↔◌, ◌∷◌, ◌≡◌}
 use Rattle.token_types.specs.declared.token.Token.{Token}
 use Rattle.tree_laws.specs.Parts.{Part}
 
@@ -51,7 +51,7 @@ pub record AfterDone (m new : Tables) (d : DoneOf) (taken : List Token) : Type 0
   pub limit : new.limit ≡ m.limit
   pub held : List Held
   pub front : new.cache.held ≡ held ++ m.cache.held
-  pub taken_is : tokens_of held ≡ taken
+  pub taken_is : (t : Token) → In t (tokens_of held) ↔ In t taken
   pub unused : (h : Held) → In h held → h.in_use ≡ false
   pub content_is : (fid : Fid) (part : Part) → content new.cache fid part ≡ content m.cache fid part
   pub dirty : new.dirty ≡ m.dirty
