@@ -44,4 +44,3 @@ pub mod Updates
 pub mod UpdateLaws
 pub mod Tidy
 pub mod Resting
-pub mod Running
