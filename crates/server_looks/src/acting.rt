@@ -1,7 +1,7 @@
 ghost use Rattle.std.specs.Option.{option_copied};
-ghost use Rattle.std.specs.Prelude.{◌≡◌, ◌≤◌, ◌⊎◌, ◌↔◌, ℕ, length, take, unwrap_or, IsTrue, IfOk, OnOk, OnErr};
+ghost use Rattle.std.specs.Prelude.{◌≡◌, ◌≤◌, ◌⊎◌, ◌↔◌, ℕ, length, take, unwrap_or, true, IsTrue, IfOk, OnOk, OnErr};
 ghost use Rattle.store_state.specs.Rows.{itself, numbered_name};
-ghost use Rattle.message_types.specs.Soundness.{IsCall, IsHost};
+ghost use Rattle.message_types.specs.Soundness.{IsCall, IsHost, IsReply};
 ghost use Rattle.store_acts.specs.Acts.{act_done, dones_of, state_after};
 ghost use Rattle.store_acts.specs.Sound.{AllFit, AreActs, HasName, IsAct, IsDecided, IsFor};
 ghost use Rattle.store_acts.specs.declared.act.Act.TheVariants.{Do};
@@ -30,6 +30,7 @@ pub fn do_call<S: Store>(
     requires own { IsFor (S.view keeper.old.store).state.server call.now }
     requires fit { IsFit (S.view keeper.old.store) keeper.old.left }
     ensures named { OnOk result (HasName call.now) }
+    ensures sound { IfOk result IsReply }
     ensures reply { let state = (S.view keeper.old.store).state in let act = doing state host call.now in
         S.tells → IsRepeatable state act → IfOk result (λ reply. reply ≡ (act_done state act).done.reply) }
     ensures state { let state = (S.view keeper.old.store).state in let act = doing state host call.now in
@@ -242,6 +243,7 @@ fn apply_one<S: Store>(keeper: &mut Keeper<S>, act: Act) -> Result<Reply, Export
         → IfOk result (λ reply. reply ≡ (act_done (S.view keeper.old.store).state act).done.reply) }
     ensures state { S.tells → IsRepeatable (S.view keeper.old.store).state act
         → OnOk result ((S.view keeper.new.store).state ≡ (act_done (S.view keeper.old.store).state act).state) }
+    ensures sound { IfOk result IsReply }
     ensures tried { HasTried result (S.view keeper.old.store) (S.view keeper.new.store) keeper.new.left }
 {
     let batch = [act];
@@ -264,6 +266,7 @@ fn apply_batch<S: Store>(keeper: &mut Keeper<S>, batch: &[Act]) -> Result<Reply,
     ensures fault { S.tells → AllFit (S.view keeper.old.store).state batch.now → OnErr result ((k : ℕ)
         × (k ≤ length batch.now)
         × ((S.view keeper.new.store).state ≡ state_after (S.view keeper.old.store).state (take k batch.now))) }
+    ensures sound { IfOk result IsReply }
     ensures given { HasGiven result (S.view keeper.old.store) (S.view keeper.new.store) keeper.new.left }
 {
     keeper.spend()?;
@@ -271,11 +274,35 @@ fn apply_batch<S: Store>(keeper: &mut Keeper<S>, batch: &[Act]) -> Result<Reply,
     Ok(first_reply(&dones)?)
 }
 
+/// The reply to the first act of a batch. One that is too long for a message, as no store's is that tells what it
+/// keeps, counts as no memory.
 fn first_reply(dones: &Items<Done>) -> Result<Reply, NoMemory>
-    ensures { IfOk result (λ reply. reply ≡ first_reply dones.now) }
+    ensures reply { IfOk result (λ reply. reply ≡ first_reply dones.now) }
+    ensures sound { IfOk result IsReply }
 {
     match dones.at(0) {
-        Some(done) => done.reply.copy(),
+        Some(done) => reply_copied(&done.reply),
         None => Ok(Reply::Ok),
+    }
+}
+
+fn reply_copied(reply: &Reply) -> Result<Reply, NoMemory>
+    ensures reply { IfOk result (λ copy. copy ≡ reply.now) }
+    ensures sound { IfOk result IsReply }
+{
+    if !is_reply(reply) {
+        return Err(NoMemory);
+    }
+    reply.copy()
+}
+
+/// Whether a reply has room in a message: bytes and a list of names have room for their count.
+fn is_reply(reply: &Reply) -> bool
+    ensures { result ≡ true → IsReply reply.now }
+{
+    match reply {
+        Reply::Bytes(bytes) => bytes.len() <= 4_294_967_295,
+        Reply::Names(names) => names.len() <= 65_535,
+        _ => true,
     }
 }

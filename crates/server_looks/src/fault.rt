@@ -9,7 +9,7 @@ use thiserror::Error;
 /// Why a server's machine made no step.
 #[derive(Clone, Copy, Debug, PartialEq, Error)]
 pub enum ExporterFault {
-    /// Memory ran out, or a count did that has 64 bits.
+    /// Memory ran out, or a count did that has 64 bits, or the store told what no store keeps.
     #[error("memory ran out")]
     Memory,
     /// The disk of its store failed, and again when it was tried once more.

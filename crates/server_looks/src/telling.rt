@@ -1,4 +1,6 @@
-ghost use Rattle.std.specs.Prelude.{◌≡◌, IfOk};
+ghost use Rattle.std.specs.Prelude.{◌≡◌, ◌≤◌, length, IfOk};
+ghost use Rattle.base_types.specs.declared.limits.TheConstants.{OBJECTS_MAX};
+ghost use Rattle.message_types.specs.Soundness.{AreFileBytes, NamesRise};
 ghost use Rattle.server_looks.specs.Keepers.{HasAsked, IsFit};
 ghost use Rattle.server_keeps.specs.Granting.{asked_with, entries_for, joined, piece_if_some, pieces_for, span_asked};
 
@@ -22,6 +24,7 @@ pub fn pieces_told<S: Store>(
     requires fit { IsFit (S.view keeper.old.store) keeper.old.left }
     ensures pieces { S.tells → IfOk result (λ pieces.
         pieces ≡ pieces_for (S.view keeper.old.store).state fetch.now.fid dir fetch.now.needs) }
+    ensures sound { IfOk result AreFileBytes }
     ensures asked { HasAsked S.tells result (S.view keeper.old.store) (S.view keeper.new.store) keeper.new.left }
 {
     if dir {
@@ -54,6 +57,8 @@ pub fn entries_told<S: Store>(
     requires fit { IsFit (S.view keeper.old.store) keeper.old.left }
     ensures entries { S.tells → IfOk result (λ entries.
         entries ≡ entries_for (S.view keeper.old.store).state fetch.now.fid dir fetch.now.needs) }
+    ensures few { IfOk result (λ entries. length entries ≤ OBJECTS_MAX) }
+    ensures order { IfOk result NamesRise }
     ensures asked { HasAsked S.tells result (S.view keeper.old.store) (S.view keeper.new.store) keeper.new.left }
 {
     if dir && span_asked(fetch.needs.as_slice()).is_some() {

@@ -5,3 +5,4 @@ pub mod Hailed
 pub mod Picks
 pub mod StepsMade
 pub mod Told
+pub mod SoundSaid

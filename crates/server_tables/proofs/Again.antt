@@ -30,8 +30,8 @@ use Rattle.run_rules.specs.ServerMay.DoneFor.{OfWritten, Repeated, TakenBack}
 use Rattle.run_rules.specs.declared.applied.Written.{Written}
 use Rattle.server_tables.specs.declared.tables.LastChange.{LastChange}
 use Rattle.server_tables.specs.declared.tables.Tables.{Tables}
-use Rattle.server_tables.specs.Answers.{again_of, answer_again, done_without, is_before, is_durable, is_for_change}
-use Rattle.server_tables.specs.Answers.{is_lost, is_old, last_change, once_more}
+use Rattle.server_tables.specs.Answers.{again_of, answer_again, done_without, has_still, is_before, is_durable}
+use Rattle.server_tables.specs.Answers.{is_for_change, is_lost, is_old, last_change, once_more}
 use Rattle.server_tables.specs.Standing.{IsLastChange, Stands, TokensStand, WroteThis, tokens_of}
 use Rattle.server_tables.proofs.Answering.{same_fileset}
 use Rattle.server_tables.proofs.Granting.{id_is}
@@ -42,7 +42,7 @@ not_is : (b : Bool) → not b ≡ true → b ≡ false
 not_is true e = absurd (cc)
 not_is false e = refl
 
-same_host : (a b : HostId) → (a.0 == b.0) ≡ true → a ≡ b
+pub same_host : (a b : HostId) → (a.0 == b.0) ≡ true → a ≡ b
 same_host a b e = let q : a.0 ≡ b.0 = eqb-true a.0 b.0 e in λ i. record { 0 = q i }
 
 -- # Lists of doings
@@ -209,14 +209,26 @@ module _ (past : List Doing) (x : Tables) (z : Stands past x) (h : HostId) (c : 
   its_issue e t i = was_issued past h (epoch past) 0 l.done (sent_at (epoch past) e) t i
 
   abbrev lacks : Token → Bool
-  lacks t = not (holds x.tokens.grants t.host t.id)
+  lacks t = not (has_still x.tokens.grants t)
+
+  -- one of this epoch is lost where its host hasn't it
+  lost_now : l.epoch ≡ epoch past → (t : Token) → In t l.done.bring.tokens → lacks t ≡ true
+      → holds x.tokens.grants t.host t.id ≡ false
+  lost_now e t i q =
+      right (t.id.epoch == x.tokens.grants.table.epoch) (holds x.tokens.grants t.host t.id)
+      (eq-eqb t.id.epoch x.tokens.grants.table.epoch (token_now e t i ∙ sym z.tokens.epoch_is))
+      (not_is (has_still x.tokens.grants t) q)
+    where
+      right : (a b : Bool) → a ≡ true → (a && b) ≡ false → b ≡ false
+      right true b p q = q
+      right false b p q = absurd (false≢true p)
 
   all_held : l.epoch ≡ epoch past → is_lost x.tokens.grants l.done.bring ≡ false → (t : Token)
       → In t l.done.bring.tokens → Granted x.server past t
   all_held e none t i =
       held_granted past x z.tokens t (record { moves = 0; stamp = l.done.bring.stamp }) (its_issue e t i)
-      (token_now e t i) (elim (cases_Bool (holds x.tokens.grants t.host t.id)) [
-        | inl q ↦ q
+      (token_now e t i) (elim (cases_Bool (has_still x.tokens.grants t)) [
+        | inl q ↦ (and_parts (t.id.epoch == x.tokens.grants.table.epoch) (holds x.tokens.grants t.host t.id) q).1
         | inr q ↦ absurd (false≢true (sym none ∙ in_any lacks t l.done.bring.tokens i (ap not q)))
       ])
 
@@ -228,7 +240,7 @@ module _ (past : List Doing) (x : Tables) (z : Stands past x) (h : HostId) (c : 
         b.0,
         λ t i g.
             lost_gone past x z.tokens f.0 (record { moves = 0; stamp = l.done.bring.stamp }) (its_issue e f.0 f.1)
-            (token_now e f.0 f.1) (not_is (holds x.tokens.grants f.0.host f.0.id) f.2)
+            (token_now e f.0 f.1) (lost_now e f.0 f.1 f.2)
             (subst (Granted x.server past) (b.2 t i) g),
       )
 

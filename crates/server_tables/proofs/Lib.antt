@@ -52,3 +52,6 @@ pub mod Counted
 pub mod Found
 pub mod Updated
 pub mod Again
+pub mod Eaches
+pub mod SoundTables
+pub mod SoundAgain

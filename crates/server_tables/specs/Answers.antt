@@ -13,6 +13,7 @@ use Rattle.message_types.specs.declared.telling.DoneIs.{DoneIs}
 use Rattle.message_types.specs.declared.telling.DoneIs.TheVariants.{Again}
 use Rattle.token_manager.specs.declared.grants.Grants.{Grants}
 use Rattle.token_manager.specs.Grants.{holds}
+use Rattle.token_types.specs.declared.token.Token.{Token}
 use Rattle.run_rules.specs.Past.{In}
 use Rattle.run_rules.specs.declared.applied.Written.{Written}
 use Rattle.server_tables.specs.declared.tables.LastChange.{LastChange}
@@ -55,9 +56,13 @@ done_without fileset outcome number = record {
   bring = record { number = number; fid = no_fid; stamp = 0; tokens = [] };
 }
 
--- a host hasn't one of the tokens any more that an answer brought
+-- a host has a token still that was granted to it in the present epoch
+abbrev pub has_still : Grants → Token → Bool
+has_still grants token = (token.id.epoch == grants.table.epoch) && holds grants token.host token.id
+
+-- a host hasn't one of the tokens any more that an answer brought, or claims it anew since a restart
 abbrev pub is_lost : Grants → Bring → Bool
-is_lost grants bring = list_any (λ token. not (holds grants token.host token.id)) bring.tokens
+is_lost grants bring = list_any (λ token. not (has_still grants token)) bring.tokens
 
 -- the same answer, or that the call is to be started anew
 abbrev pub once_more : Grants → DoneOf → DoneOf

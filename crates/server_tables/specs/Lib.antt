@@ -1,5 +1,6 @@
 pub mod Standing
 pub mod Steps
+pub mod Sound
 pub mod Greetings
 pub mod Restarts
 pub mod Starts

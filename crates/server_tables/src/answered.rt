@@ -2,8 +2,9 @@
 ghost use Rattle.std.specs.Prelude.{◌≡◌, Option, option_map, slice_get, IfOk, OnOk};
 ghost use Rattle.std.specs.List.{filter, find, position};
 ghost use Rattle.std.specs.Option.{option_copied};
-ghost use Rattle.server_tables.specs.Answers.{answer_again, done_without, is_before, is_for_change, is_lost, is_old};
-ghost use Rattle.server_tables.specs.Answers.{last_change, last_written, not_for_change, once_more, renewed};
+ghost use Rattle.server_tables.specs.Answers.{answer_again, done_without, has_still, is_before, is_for_change};
+ghost use Rattle.server_tables.specs.Answers.{is_lost, is_old, last_change, last_written, not_for_change, once_more};
+ghost use Rattle.server_tables.specs.Answers.{renewed};
 
 use crate::tables::{LastChange, NO_FID, Tables};
 use base_types::{FilesetId, HostId, Items, NoMemory, Plain};
@@ -11,6 +12,7 @@ use message_types::{Bring, Change, Done, DoneIs};
 use run_rules::Written;
 use std::alloc::Global;
 use token_manager::TokenManager;
+use token_types::Token;
 
 impl Tables {
     /// What was answered last to a host's Changes on a fileset.
@@ -146,7 +148,14 @@ fn is_lost(tokens: &TokenManager, bring: &Bring) -> bool
         .tokens
         .as_slice()
         .iter()
-        .any(|token| !tokens.holds(token.host, token.id))
+        .any(|token| !has_still(tokens, token))
+}
+
+/// Whether a host has a token still that was granted to it in the present epoch.
+fn has_still(tokens: &TokenManager, token: &Token) -> bool
+    ensures { result ≡ has_still tokens.now.grants token.now }
+{
+    token.id.epoch == tokens.last_id().epoch && tokens.holds(token.host, token.id)
 }
 
 /// An answer that brings no token.

@@ -45,16 +45,15 @@ told_by state _ = None
 abbrev pub IsTakenOf : Tables → Draft → Message → User → StoreState → Tables → Draft → Type 0
 IsTakenOf x d m user state y e = IsTaken x d m (needs_by state m user m.body) (told_by state m.body) y e
 
--- what is made of the tables where the store tells this or that
-pub record IsHeardBy (R : List Need → Option Status → Draft → Type 0) : Type 0 where
+-- it is so where the store tells this or that
+pub record IsHeardBy (R : List Need → Option Status → Type 0) : Type 0 where
   pub needs : List Need
   pub told : Option Status
-  pub draft : Draft
-  pub taken : R needs told draft
+  pub taken : R needs told
 
--- what a message makes of the tables, whatever the store tells
-abbrev pub IsHeard : Tables → Draft → Message → Tables → Type 0
-IsHeard x d m y = IsHeardBy (λ needs told e. IsTaken x d m needs told y e)
+-- what a message makes of the tables and of a step in the making, whatever the store tells
+abbrev pub IsHeard : Tables → Draft → Message → Tables → Draft → Type 0
+IsHeard x d m y e = IsHeardBy (λ needs told. IsTaken x d m needs told y e)
 
 -- a give-back may be given to the store
 abbrev pub IsStored : Message → StoreState → Body → Type 0

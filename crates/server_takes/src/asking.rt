@@ -84,8 +84,8 @@ pub(crate) fn take_change<S: Store>(
     ensures made { S.tells → (user : User) → user_of tables.old.roster host ≡ Some user → OnOk result
         (IsMadeOf tables.old draft.old tables.new draft.new (change_made tables.old draft.old host change.now
         (change_needs (S.view keeper.old.store).state host user change.now))) }
-    ensures heard { OnOk result (IsHeardBy (λ needs told e.
-        IsMadeOf tables.old draft.old tables.new e (change_made tables.old draft.old host change.now needs))) }
+    ensures heard { OnOk result (IsHeardBy (λ needs told.
+        IsMadeOf tables.old draft.old tables.new draft.new (change_made tables.old draft.old host change.now needs))) }
     ensures counted { OnOk result (IsCounted tables.new) }
     ensures asked { HasAsked S.tells result (S.view keeper.old.store) (S.view keeper.new.store) keeper.new.left }
 {
@@ -132,7 +132,7 @@ fn want_change<S: Store>(
     ensures made { S.tells → (user : User) → user_of tables.old.roster host ≡ Some user → OnOk result
         (IsMadeOf tables.old draft.old tables.new draft.new (want_made tables.old draft.old (wanted_for host
         (Changes change.now) (change_needs (S.view keeper.old.store).state host user change.now)))) }
-    ensures heard { OnOk result (IsHeardBy (λ needs told e. IsMadeOf tables.old draft.old tables.new e
+    ensures heard { OnOk result (IsHeardBy (λ needs told. IsMadeOf tables.old draft.old tables.new draft.new
         (want_made tables.old draft.old (wanted_for host (Changes change.now) needs)))) }
     ensures counted { OnOk result (IsCounted tables.new) }
     ensures asked { HasAsked S.tells result (S.view keeper.old.store) (S.view keeper.new.store) keeper.new.left }

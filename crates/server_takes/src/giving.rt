@@ -1,4 +1,4 @@
-ghost use Rattle.std.specs.Prelude.{◌≡◌, ◌≤◌, ◌+◌, ◌&&◌, true, length, map, if◌then◌else◌, IfOk, OnOk};
+ghost use Rattle.std.specs.Prelude.{◌≡◌, ◌≤◌, ◌+◌, ◌&&◌, true, length, map, if◌then◌else◌, IfOk, OnOk, Option};
 ghost use Rattle.base_types.specs.declared.limits.TheConstants.{FILE_BYTES_MAX};
 ghost use Rattle.message_types.specs.Soundness.{Each};
 ghost use Rattle.run_rules.specs.ServerDecides.{span_of};
@@ -13,6 +13,7 @@ ghost use Rattle.server_takes.specs.Taking.{returned_tables, store_given, takes_
 ghost use Rattle.store_acts.specs.Sound.{IsAct};
 ghost use Rattle.store_memory.specs.Reading.{status_told};
 ghost use Rattle.tree_calls.specs.declared.part.Piece.{Piece};
+ghost use Rattle.tree_calls.specs.declared.part.Status.{Status as Told};
 
 use crate::draft::Draft;
 use base_types::{HostId, Items, NoMemory, Plain, Span};
@@ -75,6 +76,8 @@ pub(crate) fn take_give_back<S: Store>(
     ensures tables { OnOk result (tables.new ≡ give_tables tables.old host give.now) }
     ensures draft { S.tells → OnOk result (draft.new ≡ give_draft tables.old draft.old host give.now
         (status_told (S.view keeper.old.store).state give.now.fid)) }
+    ensures heard { OnOk result
+        ((told : Option Told) × (draft.new ≡ give_draft tables.old draft.old host give.now told)) }
     ensures state { S.tells → IsRepeatable (S.view keeper.old.store).state (giving host give.now)
         → OnOk result ((S.view keeper.new.store).state
         ≡ give_state tables.old host give.now (S.view keeper.old.store).state) }
@@ -103,6 +106,8 @@ fn apply_first<S: Store>(
     requires fit { IsFit (S.view keeper.old.store) keeper.old.left }
     ensures draft { S.tells → OnOk result (draft.new ≡ give_applied tables.now draft.old host give.now
         (status_told (S.view keeper.old.store).state give.now.fid)) }
+    ensures heard { OnOk result
+        ((told : Option Told) × (draft.new ≡ give_applied tables.now draft.old host give.now told)) }
     ensures state { S.tells → IsRepeatable (S.view keeper.old.store).state (giving host give.now)
         → OnOk result ((S.view keeper.new.store).state
         ≡ (if is_first tables.now host give.now then store_given host give.now (S.view keeper.old.store).state
@@ -202,6 +207,8 @@ fn store<S: Store>(
     requires fit { IsFit (S.view keeper.old.store) keeper.old.left }
     ensures draft { S.tells → OnOk result (draft.new ≡ keeping draft.old host give.now
         (has_some give.now && takes_gifts (status_told (S.view keeper.old.store).state give.now.fid))) }
+    ensures heard { OnOk result ((told : Option Told)
+        × (draft.new ≡ keeping draft.old host give.now (has_some give.now && takes_gifts told))) }
     ensures state { S.tells → IsRepeatable (S.view keeper.old.store).state (giving host give.now)
         → OnOk result ((S.view keeper.new.store).state
         ≡ store_given host give.now (S.view keeper.old.store).state) }
@@ -220,6 +227,7 @@ fn may_store<S: Store>(keeper: &mut Keeper<S>, give: &Give) -> Result<bool, Expo
     requires fit { IsFit (S.view keeper.old.store) keeper.old.left }
     ensures told { S.tells → IfOk result (λ may. may ≡ (has_some give.now
         && takes_gifts (status_told (S.view keeper.old.store).state give.now.fid))) }
+    ensures heard { IfOk result (λ may. (told : Option Told) × (may ≡ (has_some give.now && takes_gifts told))) }
     ensures asked { HasAsked S.tells result (S.view keeper.old.store) (S.view keeper.new.store) keeper.new.left }
 {
     if !has_some(give) {

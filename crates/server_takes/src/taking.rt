@@ -35,7 +35,7 @@ pub fn take_message<S: Store>(
     ensures taken { S.tells → (user : User) → user_of tables.old.roster message.now.host ≡ Some user
         → OnOk result (IsTakenOf tables.old draft.old message.now user (S.view keeper.old.store).state
         tables.new draft.new) }
-    ensures heard { OnOk result (IsHeard tables.old draft.old message.now tables.new) }
+    ensures heard { OnOk result (IsHeard tables.old draft.old message.now tables.new draft.new) }
     ensures state { S.tells → IsStored message.now (S.view keeper.old.store).state message.now.body
         → OnOk result ((S.view keeper.new.store).state
         ≡ state_taken tables.old message.now (S.view keeper.old.store).state) }
@@ -69,8 +69,8 @@ fn take_other<S: Store>(
         → OnOk result (IsOtherTaken tables.old draft.old message.now
         (needs_by (S.view keeper.old.store).state message.now user message.now.body)
         (told_by (S.view keeper.old.store).state message.now.body) tables.new draft.new) }
-    ensures heard { OnOk result (IsHeardBy (λ needs told e.
-        IsOtherTaken tables.old draft.old message.now needs told tables.new e)) }
+    ensures heard { OnOk result (IsHeardBy (λ needs told.
+        IsOtherTaken tables.old draft.old message.now needs told tables.new draft.new)) }
     ensures state { S.tells → IsStored message.now (S.view keeper.old.store).state message.now.body
         → OnOk result ((S.view keeper.new.store).state
         ≡ other_state tables.old message.now (S.view keeper.old.store).state message.now.body) }
@@ -104,8 +104,8 @@ fn take_request<S: Store>(
         → OnOk result (IsRequestTaken tables.old draft.old message.now.host
         (needs_by (S.view keeper.old.store).state message.now user message.now.body)
         (told_by (S.view keeper.old.store).state message.now.body) tables.new draft.new message.now.body) }
-    ensures heard { OnOk result (IsHeardBy (λ needs told e.
-        IsRequestTaken tables.old draft.old message.now.host needs told tables.new e message.now.body)) }
+    ensures heard { OnOk result (IsHeardBy (λ needs told. IsRequestTaken tables.old draft.old
+        message.now.host needs told tables.new draft.new message.now.body)) }
     ensures state { S.tells → IsStored message.now (S.view keeper.old.store).state message.now.body
         → OnOk result ((S.view keeper.new.store).state
         ≡ request_state tables.old message.now (S.view keeper.old.store).state message.now.body) }

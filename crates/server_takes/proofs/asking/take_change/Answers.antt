@@ -54,7 +54,7 @@ returns-then-not-is_decided_here-clause-heard g c =
     let d = c.args.draft.now in
     let host = c.args.host in
     let change = c.args.change.now in
-    record { needs = []; told = None; draft = d; taken = is_elsewhere x d host change [] (cc) }
+    record { needs = []; told = None; taken = is_elsewhere x d host change [] (cc) }
 
 pub returns-then-is_old-clause-heard : goal.returns-then-is_old-clause-heard
 returns-then-is_old-clause-heard g c =
@@ -65,7 +65,6 @@ returns-then-is_old-clause-heard g c =
     record {
       needs = [];
       told = None;
-      draft = c.repeat.new.draft;
       taken = is_again x d host change [] c.repeat.new.draft
           (cc) (cc) c.in_ok-repeat.ensures;
     }
@@ -79,7 +78,6 @@ returns-then-not-branch-clause-heard g c =
     record {
       needs = [];
       told = None;
-      draft = d;
       taken = is_dropped x d host change [] (cc) (cc)
           (sym c.in_ok-may_wait.ensures ∙ c.if-not-branch.true);
     }
@@ -96,6 +94,5 @@ returns-clause-heard g c =
     on_ok_weaker c.want_change.result (λ h. record {
       needs = h.needs;
       told = None;
-      draft = h.draft;
-      taken = is_wanted x d host change h.needs c.want_change.new.tables h.draft here new may h.taken;
+      taken = is_wanted x d host change h.needs c.want_change.new.tables c.want_change.new.draft here new may h.taken;
     }) c.want_change.ensures.heard

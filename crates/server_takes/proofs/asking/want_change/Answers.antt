@@ -21,6 +21,5 @@ pub returns-clause-heard : goal.returns-clause-heard
 returns-clause-heard g c = record {
   needs = c.in_ok-needs.needs;
   told = None;
-  draft = c.want_change_of.new.draft;
   taken = record { tables = c.in_ok-want_change_of.ensures.tables; draft = c.in_ok-want_change_of.ensures.draft };
 }

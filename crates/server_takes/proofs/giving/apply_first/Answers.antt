@@ -1,4 +1,5 @@
 use Rattle.std.proofs.Common.{◌≡◌, ◌∙◌, ap, true, false}
+use Rattle.std.specs.Prelude.{None}
 use Rattle.store_memory.specs.Reading.{status_told}
 use Rattle.server_takes.proofs.Parts.{applied_again, applied_first, state_again, state_first}
 use Rattle.server_takes.specs.Taking.{ending}
@@ -26,3 +27,17 @@ pub returns-clause-state : goal.returns-clause-state
 returns-clause-state g c tells again =
     c.in_ok-store.ensures.state tells again ∙ state_first c.args.tables.now c.args.host c.args.give.now
     (g.S.Store.view c.args.keeper.now.store).state (cc)
+
+pub returns-then-not-is_first-clause-heard : goal.returns-then-not-is_first-clause-heard
+returns-then-not-is_first-clause-heard g c =
+    (None, applied_again c.args.tables.now c.args.draft.now c.args.host c.args.give.now None (cc))
+
+pub returns-clause-heard : goal.returns-clause-heard
+returns-clause-heard g c =
+    let host = c.args.host in
+    let give = c.args.give.now in
+    let h = c.in_ok-store.ensures.heard in (
+      h.0,
+      c.in_ok-end_call.ensures ∙ ap (λ (d : Draft). ending d host give) h.1
+          ∙ applied_first c.args.tables.now c.args.draft.now host give h.0 (cc),
+    )

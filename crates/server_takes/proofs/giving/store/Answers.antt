@@ -1,9 +1,10 @@
-use Rattle.std.proofs.Common.{◌≡◌, ◌∙◌, true, false, sym, subst}
+use Rattle.std.proofs.Common.{◌≡◌, ◌∙◌, ap, true, false, sym, subst}
 use Rattle.base_types.specs.declared.ids.ServerId.{ServerId}
 use Rattle.tree_calls.specs.declared.roster.Roster.{Roster}
 use Rattle.store_acts.specs.Sound.{IsAct}
 use Rattle.server_looks.specs.Acts.{giving}
 use Rattle.server_takes.proofs.Parts.{keeping_none, keeping_some, stored_none, stored_some}
+use Rattle.server_takes.specs.Taking.{keeping}
 use Rattle.server_takes.proofs.giving.store.Goals as goal
 
 pub give-requires-clause-act : goal.give-requires-clause-act
@@ -38,3 +39,16 @@ returns-clause-state g c tells again =
     (g.S.Store.view c.may_store.new.keeper.store).state (g.S.Store.view c.give.new.keeper.store).state _
     (c.in_ok-may_store.ensures.told tells) c.if-not-branch.false (c.in_ok-may_store.ensures.asked.state tells)
     (c.in_ok-give.ensures.state tells) again
+
+pub returns-then-not-branch-clause-heard : goal.returns-then-not-branch-clause-heard
+returns-then-not-branch-clause-heard g c =
+    let h = c.in_ok-may_store.ensures.heard in
+    (h.0, ap (keeping c.args.draft.now c.args.host c.args.give.now) (sym c.if-not-branch.true ∙ h.1))
+
+pub returns-clause-heard : goal.returns-clause-heard
+returns-clause-heard g c =
+    let h = c.in_ok-may_store.ensures.heard in (
+      h.0,
+      c.in_ok-note_stored.ensures
+          ∙ ap (keeping c.args.draft.now c.args.host c.args.give.now) (sym c.if-not-branch.false ∙ h.1),
+    )

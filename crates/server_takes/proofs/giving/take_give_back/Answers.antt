@@ -1,4 +1,5 @@
 use Rattle.std.proofs.Common.{◌≡◌, ◌∙◌, ap, true, false}
+use Rattle.std.specs.Prelude.{None}
 use Rattle.message_types.specs.declared.giving.AppliedGive.{AppliedGive}
 use Rattle.message_types.specs.declared.message.Body.TheVariants.{Gone}
 use Rattle.store_memory.specs.Reading.{status_told}
@@ -38,3 +39,17 @@ pub returns-clause-state : goal.returns-clause-state
 returns-clause-state g c tells again =
     c.in_ok-apply_first.ensures.state tells again ∙ state_here c.args.tables.now c.args.host c.args.give.now
     (g.S.Store.view c.args.keeper.now.store).state (cc)
+
+pub returns-then-not-is_here-clause-heard : goal.returns-then-not-is_here-clause-heard
+returns-then-not-is_here-clause-heard g c =
+    (None, draft_elsewhere c.args.tables.now c.args.draft.now c.args.host c.args.give.now None (cc))
+
+pub returns-clause-heard : goal.returns-clause-heard
+returns-clause-heard g c =
+    let x = c.args.tables.now in
+    let mid = c.apply_first.new.draft in
+    let h = c.in_ok-apply_first.ensures.heard in (
+      h.0,
+      c.in_ok-say.ensures ∙ ap (λ (n : AppliedGive). saying mid (word x c.args.host (Gone n))) c.number_of.ensures
+          ∙ draft_here x c.args.draft.now c.args.host c.args.give.now h.0 mid (cc) h.1,
+    )

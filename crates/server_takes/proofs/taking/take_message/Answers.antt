@@ -122,7 +122,7 @@ pub returns-then-is_down-clause-heard : goal.returns-then-is_down-clause-heard
 returns-then-is_down-clause-heard g c =
     let x = c.args.tables.now in
     let d = c.args.draft.now in
-    record { needs = []; told = None; draft = d; taken = taken_down x d c.args.message.now [] None x d (cc) refl refl }
+    record { needs = []; told = None; taken = taken_down x d c.args.message.now [] None x d (cc) refl refl }
 
 pub returns-in-Down-clause-heard : goal.returns-in-Down-clause-heard
 returns-in-Down-clause-heard g c =
@@ -135,7 +135,6 @@ returns-in-Down-clause-heard g c =
     on_both c.take_down.result _ _ _ (λ p q. record {
       needs = [];
       told = None;
-      draft = e;
       taken = taken_up x d m [] None y e up
           (subst (λ (b : Body). IsBodyTaken x d m [] None y e b) (sym c.in-Down.is) (record { tables = p; draft = q }));
     }) c.take_down.ensures.tables c.take_down.ensures.draft
@@ -151,7 +150,6 @@ returns-in-Hello-clause-heard g c =
     on_both c.take_hello.result _ _ _ (λ p q. record {
       needs = [];
       told = None;
-      draft = e;
       taken = taken_up x d m [] None y e up
           (subst (λ (b : Body). IsBodyTaken x d m [] None y e b) (sym c.in-Hello.is)
           (record { tables = p; draft = q }));
@@ -168,7 +166,6 @@ returns-in-Bye-clause-heard g c =
     on_both c.take_bye.result _ _ _ (λ p q. record {
       needs = [];
       told = None;
-      draft = e;
       taken = taken_up x d m [] None y e up
           (subst (λ (b : Body). IsBodyTaken x d m [] None y e b) (sym c.in-Bye.is) (record { tables = p; draft = q }));
     }) c.take_bye.ensures.tables c.take_bye.ensures.draft
@@ -179,12 +176,12 @@ returns-in_default-clause-heard g c =
     let d = c.args.draft.now in
     let m = c.args.message.now in
     let y = c.take_other.new.tables in
+    let e = c.take_other.new.draft in
     let up : has_host x.hosts.down m.host ≡ false = cc in
     on_ok_weaker c.take_other.result (λ h. record {
       needs = h.needs;
       told = h.told;
-      draft = h.draft;
-      taken = taken_up x d m h.needs h.told y h.draft up
-          (other_taken x d m h.needs h.told y h.draft m.body c.in_default.not-Down c.in_default.not-Hello
+      taken = taken_up x d m h.needs h.told y e up
+          (other_taken x d m h.needs h.told y e m.body c.in_default.not-Down c.in_default.not-Hello
           c.in_default.not-Bye h.taken);
     }) c.take_other.ensures.heard

@@ -56,7 +56,7 @@ returns-then-not-is_live-clause-heard g c =
     let d = c.args.draft.now in
     let m = c.args.message.now in
     let state = (g.S.Store.view c.args.keeper.now.store).state in
-    record { needs = []; told = None; draft = d; taken = taken_away x d m [] None x d (cc) refl refl }
+    record { needs = []; told = None; taken = taken_away x d m [] None x d (cc) refl refl }
 
 pub returns-then-message-tables-clause-heard : goal.returns-then-message-tables-clause-heard
 returns-then-message-tables-clause-heard g c =
@@ -68,7 +68,6 @@ returns-then-message-tables-clause-heard g c =
     record {
       needs = [];
       told = None;
-      draft = c.say.new.self;
       taken = taken_old x d m [] None x c.say.new.self live
           (λ e. omega (arith, e)) refl c.in_ok-say.ensures;
     }
@@ -84,7 +83,6 @@ returns-then-message-ne0-clause-heard g c =
     record {
       needs = [];
       told = None;
-      draft = d;
       taken = taken_moved x d m [] None x d live now
           (λ e. omega (arith, e)) refl refl;
     }
@@ -101,8 +99,7 @@ returns-clause-heard g c =
     on_ok_weaker c.take_request.result (λ h. record {
       needs = h.needs;
       told = h.told;
-      draft = h.draft;
-      taken = taken_now x d m h.needs h.told c.take_request.new.tables h.draft live now still h.taken;
+      taken = taken_now x d m h.needs h.told c.take_request.new.tables c.take_request.new.draft live now still h.taken;
     }) c.take_request.ensures.heard
 
 pub returns-then-not-is_live-clause-state : goal.returns-then-not-is_live-clause-state

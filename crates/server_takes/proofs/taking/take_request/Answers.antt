@@ -4,7 +4,7 @@ use Rattle.std.proofs.lemmas.Result.{on_ok_weaker}
 use Rattle.message_types.specs.declared.message.Body.{Body}
 use Rattle.store_state.specs.declared.state.StoreState.{StoreState}
 use Rattle.server_takes.specs.Messages.{IsStored, asks_store, needs_by, request_state, told_by}
-use Rattle.server_takes.specs.Taking.{IsRequestTaken, give_draft}
+use Rattle.server_takes.specs.Taking.{IsRequestTaken}
 use Rattle.server_takes.proofs.Bodies.{alone_read, asks_none, call_known, give_known, host_known, on_both, on_ok_is}
 use Rattle.server_takes.proofs.Bodies.{request_stays}
 use Rattle.server_takes.proofs.taking.take_request.Goals as goal
@@ -28,11 +28,11 @@ returns-in-Change-clause-heard g c =
     let d = c.args.draft.now in
     let m = c.args.message.now in
     let y = c.take_change.new.tables in
+    let e = c.take_change.new.draft in
     on_ok_weaker c.take_change.result (λ h. record {
       needs = h.needs;
       told = None;
-      draft = h.draft;
-      taken = subst (λ (b : Body). IsRequestTaken x d m.host h.needs None y h.draft b) (sym c.in-Change.is) h.taken;
+      taken = subst (λ (b : Body). IsRequestTaken x d m.host h.needs None y e b) (sym c.in-Change.is) h.taken;
     }) c.take_change.ensures.heard
 
 pub returns-in-GiveBack-clause-heard : goal.returns-in-GiveBack-clause-heard
@@ -41,20 +41,18 @@ returns-in-GiveBack-clause-heard g c =
     let d = c.args.draft.now in
     let m = c.args.message.now in
     let y = c.take_give_back.new.tables in
-    let e = give_draft x d m.host c.in-GiveBack.give None in
-    on_ok_weaker c.take_give_back.result (λ p. record {
+    let e = c.take_give_back.new.draft in
+    on_both c.take_give_back.result _ _ _ (λ p h. record {
       needs = [];
-      told = None;
-      draft = e;
-      taken = subst (λ (b : Body). IsRequestTaken x d m.host [] None y e b) (sym c.in-GiveBack.is)
-          (record { tables = p; draft = refl });
-    }) c.take_give_back.ensures.tables
+      told = h.0;
+      taken = subst (λ (b : Body). IsRequestTaken x d m.host [] h.0 y e b) (sym c.in-GiveBack.is)
+          (record { tables = p; draft = h.1 });
+    }) c.take_give_back.ensures.tables c.take_give_back.ensures.heard
 
 pub returns-in_ok-take_alone-in_default-clause-heard : goal.returns-in_ok-take_alone-in_default-clause-heard
 returns-in_ok-take_alone-in_default-clause-heard g c = record {
   needs = [];
   told = None;
-  draft = c.take_alone.new.draft;
   taken = c.in_ok-take_alone-in_default.ensures.taken
       (asks_none c.args.message.now.body c.in_default.not-Change c.in_default.not-GiveBack);
 }
