@@ -115,7 +115,7 @@ module _ (x : Tables) (d : Draft) (m : Message) (is : IsFor x.server x.roster m)
     by_request : m.moves ≡ 0 → (b : Body) → m.body ≡ b → IsRequestTaken x d m.host needs told y e b → AreKept y
     by_request still (Fetch fetch) q h = of_made y e _ h
         (kept_if (takes_fetch x m.host fetch) _ _
-            (kept_want (Asks fetch) fetch.needs still q (λ f r. (let s = r in cc)))
+        (kept_want (Asks fetch) fetch.needs still q (λ f r. (let s = r in cc)))
         kept_same)
     by_request still (Change change) q h = of_made y e _ h
         (kept_if (is_decided_here x change && is_old x m.host change) _ _ kept_same

@@ -1,3 +1,4 @@
+ghost use Rattle.std.specs.List.{list_all};
 ghost use Rattle.std.specs.Prelude.{◌≡◌, ◌<◌, [], true, Some, None, if◌then◌else◌, length, IfOk, IfSome, OnOk};
 ghost use Rattle.message_types.specs.Soundness.{IsTold};
 ghost use Rattle.run_rules.specs.declared.applied.Request.TheVariants.{Change as Changes};
@@ -397,10 +398,15 @@ fn file_for(fid: Option<Fid>, tokens: &Items<Token>) -> Fid
 fn are_brought(tables: &Tables, host: HostId, fid: Fid, tokens: &[Token]) -> bool
     ensures { result ≡ are_brought tables.now.server tables.now.hosts.epoch host fid tokens.now }
 {
-    tables.is_here(fid.fileset)
-        && tokens
-            .iter()
-            .all(|token| is_brought(tables, host, fid, token))
+    tables.is_here(fid.fileset) && are_all_brought(tables, host, fid, tokens)
+}
+
+fn are_all_brought(tables: &Tables, host: HostId, fid: Fid, tokens: &[Token]) -> bool
+    ensures { result ≡ list_all (is_brought tables.now.server tables.now.hosts.epoch host fid) tokens.now }
+{
+    tokens
+        .iter()
+        .all(|token| is_brought(tables, host, fid, token))
 }
 
 fn is_brought(tables: &Tables, host: HostId, fid: Fid, token: &Token) -> bool

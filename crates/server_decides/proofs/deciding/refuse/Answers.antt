@@ -45,4 +45,4 @@ returns-clause-says g c sound =
     (record { tables = made.tables; draft = made.draft })
     (written_says x d w.host change c.in_ok-reply.reply sound (host_hears x.server x.roster w c.requires.came)
     (change_here x.server x.roster w c.requires.came change c.in-Change.is)
-        (subst IsReply (sym c.in_ok-reply.ensures.reply) tt))
+    (subst IsReply (sym c.in_ok-reply.ensures.reply) tt))

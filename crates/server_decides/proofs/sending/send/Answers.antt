@@ -42,7 +42,7 @@ returns-in_ok-send_use-in-Use-clause-says g c p place may =
     made_says x d c.send_use.new.tables c.send_use.new.draft
     (use_made x d c.args.at p c.in-Use.fileset c.in-Use.number) (so.made p place)
     (use_says x d c.args.at p c.in-Use.fileset c.in-Use.number (subst (MaySay x p) c.in-Use.is may)
-        (so.brought p place))
+    (so.brought p place))
 
 pub returns-in_ok-say_done-in-Say-clause-says : goal.returns-in_ok-say_done-in-Say-clause-says
 returns-in_ok-say_done-in-Say-clause-says g c p place may =
