@@ -20,9 +20,9 @@ returns-clause-meets g c tells =
     step_made c.finish-made.result c.into_step-step.result c.step_if_stored.result c.step_if_stored.ensures.step
     (Meets st c.args.self.now)
     (settle_meets c.finish-made.result c.args.self.now c.finish-made.new.tables c.new-draft.result
-        c.finish-made.new.draft st next
+    c.finish-made.new.draft st next
     c.into_step-step.result c.new-draft.ensures c.into_step-step.ensures c.requires.served
-        (c.finish-made.ensures.finished tells)
+    (c.finish-made.ensures.finished tells)
     c.finish-made.ensures.served)
 
 pub returns-clause-follows : goal.returns-clause-follows
@@ -33,9 +33,9 @@ returns-clause-follows g c tells =
     step_made c.finish-made.result c.into_step-step.result c.step_if_stored.result c.step_if_stored.ensures.step
     (λ (s : Step). Follows st c.args.self.now s next z)
     (settle_follows c.finish-made.result c.args.self.now c.finish-made.new.tables c.step_if_stored.new.rested
-        c.new-draft.result
+    c.new-draft.result
     c.finish-made.new.draft st next c.into_step-step.result c.new-draft.ensures c.into_step-step.ensures
-        c.requires.served
+    c.requires.served
     (c.finish-made.ensures.finished tells) c.finish-made.ensures.served c.step_if_stored.ensures.rested)
 
 pub returns-clause-cause : goal.returns-clause-cause
@@ -54,14 +54,14 @@ pub returns-clause-served : goal.returns-clause-served
 returns-clause-served g c =
     if_made c.finish-made.result c.into_step-step.result c.step_if_stored.result c.step_if_stored.ensures.step
     (IsServed c.finish-made.new.tables
-        (g.S.Store.view c.finish-made.new.keeper.store).state) c.finish-made.ensures.served
+    (g.S.Store.view c.finish-made.new.keeper.store).state) c.finish-made.ensures.served
 
 pub returns-clause-same : goal.returns-clause-same
 returns-clause-same g c =
     let x = c.args.self.now in
     let y : Exporter = record { tables = c.finish-made.new.tables; rested = c.step_if_stored.new.rested } in
     if_made c.finish-made.result c.into_step-step.result c.step_if_stored.result c.step_if_stored.ensures.step
-        (IsSame x y)
+    (IsSame x y)
     (on_ok_weaker c.finish-made.result (λ s. same_machine x y (g.S.Store.view c.args.keeper.now.store)
     (g.S.Store.view c.finish-made.new.keeper.store) c.requires.served c.finish-made.ensures.tried.same s)
     c.finish-made.ensures.served)
@@ -69,7 +69,7 @@ returns-clause-same g c =
 pub returns-clause-tried : goal.returns-clause-tried
 returns-clause-tried g c =
     tried_if c.finish-made.result c.into_step-step.result c.step_if_stored.result
-        (g.S.Store.view c.args.keeper.now.store)
+    (g.S.Store.view c.args.keeper.now.store)
     (g.S.Store.view c.finish-made.new.keeper.store) c.finish-made.new.keeper.left c.step_if_stored.ensures.step
     c.finish-made.ensures.tried
 

@@ -18,14 +18,14 @@ returns-clause-meets g c tells =
     let st = (g.S.Store.view c.args.keeper.now.store).state in
     let next = (g.S.Store.view c.take_and_finish-made.new.keeper.store).state in
     step_made c.take_and_finish-made.result c.into_step-step.result c.step_if_stored.result
-        c.step_if_stored.ensures.step
+    c.step_if_stored.ensures.step
     (Meets st c.args.self.now)
     (take_meets c.take_and_finish-made.result c.args.self.now c.args.message c.take_and_finish-made.new.tables
-        c.new-draft.result
+    c.new-draft.result
     c.take_and_finish-made.new.draft st next c.into_step-step.result c.new-draft.ensures c.into_step-step.ensures
-        c.requires.given
+    c.requires.given
     c.requires.rested c.requires.served
-        (c.take_and_finish-made.ensures.taken tells) c.take_and_finish-made.ensures.served)
+    (c.take_and_finish-made.ensures.taken tells) c.take_and_finish-made.ensures.served)
 
 pub returns-clause-follows : goal.returns-clause-follows
 returns-clause-follows g c tells =
@@ -33,25 +33,25 @@ returns-clause-follows g c tells =
     let next = (g.S.Store.view c.take_and_finish-made.new.keeper.store).state in
     let z : Exporter = record { tables = c.take_and_finish-made.new.tables; rested = c.step_if_stored.new.rested } in
     step_made c.take_and_finish-made.result c.into_step-step.result c.step_if_stored.result
-        c.step_if_stored.ensures.step
+    c.step_if_stored.ensures.step
     (λ (s : Step). Follows st c.args.self.now s next z)
     (take_follows c.take_and_finish-made.result c.args.self.now c.args.message c.take_and_finish-made.new.tables
     c.step_if_stored.new.rested c.new-draft.result c.take_and_finish-made.new.draft st next c.into_step-step.result
-        c.new-draft.ensures
+    c.new-draft.ensures
     c.into_step-step.ensures c.requires.given c.requires.rested c.requires.served
     (c.take_and_finish-made.ensures.taken tells) c.take_and_finish-made.ensures.served c.step_if_stored.ensures.rested)
 
 pub returns-clause-cause : goal.returns-clause-cause
 returns-clause-cause g c =
     step_made c.take_and_finish-made.result c.into_step-step.result c.step_if_stored.result
-        c.step_if_stored.ensures.step
+    c.step_if_stored.ensures.step
     (λ (s : Step). s.cause ≡ Came c.args.message)
     (on_ok_all c.take_and_finish-made.result (ap (λ (s : Step). s.cause) c.into_step-step.ensures))
 
 pub returns-clause-node : goal.returns-clause-node
 returns-clause-node g c =
     step_made c.take_and_finish-made.result c.into_step-step.result c.step_if_stored.result
-        c.step_if_stored.ensures.step
+    c.step_if_stored.ensures.step
     (λ (s : Step). s.node ≡ Server c.args.self.now.tables.server)
     (on_ok_all c.take_and_finish-made.result (ap (λ (s : Step). s.node) c.into_step-step.ensures))
 
@@ -59,36 +59,36 @@ pub returns-clause-served : goal.returns-clause-served
 returns-clause-served g c =
     if_made c.take_and_finish-made.result c.into_step-step.result c.step_if_stored.result c.step_if_stored.ensures.step
     (IsServed c.take_and_finish-made.new.tables
-        (g.S.Store.view c.take_and_finish-made.new.keeper.store).state) c.take_and_finish-made.ensures.served
+    (g.S.Store.view c.take_and_finish-made.new.keeper.store).state) c.take_and_finish-made.ensures.served
 
 pub returns-clause-same : goal.returns-clause-same
 returns-clause-same g c =
     let x = c.args.self.now in
     let y : Exporter = record { tables = c.take_and_finish-made.new.tables; rested = c.step_if_stored.new.rested } in
     if_made c.take_and_finish-made.result c.into_step-step.result c.step_if_stored.result c.step_if_stored.ensures.step
-        (IsSame x y)
+    (IsSame x y)
     (on_ok_weaker c.take_and_finish-made.result (λ s. same_machine x y (g.S.Store.view c.args.keeper.now.store)
     (g.S.Store.view c.take_and_finish-made.new.keeper.store) c.requires.served c.take_and_finish-made.ensures.tried.same
-        s)
+    s)
     c.take_and_finish-made.ensures.served)
 
 pub returns-clause-tried : goal.returns-clause-tried
 returns-clause-tried g c =
     tried_if c.take_and_finish-made.result c.into_step-step.result c.step_if_stored.result
-        (g.S.Store.view c.args.keeper.now.store)
+    (g.S.Store.view c.args.keeper.now.store)
     (g.S.Store.view c.take_and_finish-made.new.keeper.store) c.take_and_finish-made.new.keeper.left
-        c.step_if_stored.ensures.step
+    c.step_if_stored.ensures.step
     c.take_and_finish-made.ensures.tried
 
 pub returns-clause-sends : goal.returns-clause-sends
 returns-clause-sends g c sound =
     let x = c.args.self.now.tables in
     step_made c.take_and_finish-made.result c.into_step-step.result c.step_if_stored.result
-        c.step_if_stored.ensures.step
+    c.step_if_stored.ensures.step
     (Says x)
     (on_ok_weaker c.take_and_finish-made.result (λ so. says_step x c.take_and_finish-made.new.tables c.new-draft.result
     c.take_and_finish-made.new.draft
-        (Came c.args.message) c.into_step-step.result c.new-draft.ensures c.into_step-step.ensures so)
+    (Came c.args.message) c.into_step-step.result c.new-draft.ensures c.into_step-step.ensures so)
     (c.take_and_finish-made.ensures.says sound))
 
 pub returns-clause-sound : goal.returns-clause-sound
