@@ -2,6 +2,7 @@
 use Rattle.std.proofs.Common.{◌≡◌, ◌==◌, ◌&&◌, not, Bool, true, false, List, [], ◌∷◌, Option, if◌then◌else◌, refl}
 use Rattle.std.proofs.Common.{sym, subst}
 use Rattle.std.specs.List.{filter}
+use Rattle.std.proofs.lemmas.Bool.{eqb-true}
 use Rattle.base_types.specs.declared.ids.HostId.{HostId}
 use Rattle.tree_calls.specs.declared.part.Status.{Status}
 use Rattle.token_types.specs.declared.token.Need.{Need}
@@ -56,8 +57,8 @@ each_filter P p (x ∷ xs) e = by (each_filter P p xs e.1) (p x) refl
     by rest true q = rw q (e.0, rest)
     by rest false q = rw q rest
 
-whether : (b : Bool) (P Q R : Type 0) → Whether b P Q → (P → R) → (Q → R) → R
-whether true P Q R h f g = f h
+whether : (b : Bool) (P Q R : Type 0) → Whether b P Q → (b ≡ true → P → R) → (Q → R) → R
+whether true P Q R h f g = f refl h
 whether false P Q R h f g = g h
 
 module _ (x : Tables) (d : Draft) (m : Message) (is : IsFor x.server x.roster m) (needs : List Need)
@@ -75,17 +76,18 @@ module _ (x : Tables) (d : Draft) (m : Message) (is : IsFor x.server x.roster m)
   kept_same = record { server = refl; roster = refl; came = λ e. e }
 
   -- a request that the message has
-  wanted_so : (r : Request) (needs : List Need) → m.body ≡ body_of r
+  wanted_so : (r : Request) (needs : List Need) → m.moves ≡ 0 → m.body ≡ body_of r
       → ((f : FetchOf) → r ≡ Asks f → needs ≡ f.needs) → CameSo x.server x.roster (wanted_for m.host r needs)
-  wanted_so r needs body its = record { m = m; came = is; host = refl; body = body; needs = its }
+  wanted_so r needs moves body its =
+      record { m = m; came = is; host = refl; moves = moves; body = body; needs = its }
 
-  kept_want : (r : Request) (needs : List Need) → m.body ≡ body_of r
+  kept_want : (r : Request) (needs : List Need) → m.moves ≡ 0 → m.body ≡ body_of r
       → ((f : FetchOf) → r ≡ Asks f → needs ≡ f.needs) → AreKept (want_made x d (wanted_for m.host r needs)).tables
-  kept_want r needs body its = record {
+  kept_want r needs moves body its = record {
     server = refl;
     roster = refl;
     came = λ e. each_end (λ (p : Pending). CameSo x.server x.roster p.wanted) x.pending
-        (record { number = x.next; wanted = wanted_for m.host r needs }) e (wanted_so r needs body its);
+        (record { number = x.next; wanted = wanted_for m.host r needs }) e (wanted_so r needs moves body its);
   }
 
   of_made : (y : Tables) (e : Draft) (both : Made) → IsMadeOf x d y e both → AreKept both.tables → AreKept y
@@ -110,43 +112,45 @@ module _ (x : Tables) (d : Draft) (m : Message) (is : IsFor x.server x.roster m)
   }
 
   module _ (y : Tables) (e : Draft) where
-    by_request : (b : Body) → m.body ≡ b → IsRequestTaken x d m.host needs told y e b → AreKept y
-    by_request (Fetch fetch) q h = of_made y e _ h
-        (kept_if (takes_fetch x m.host fetch) _ _ (kept_want (Asks fetch) fetch.needs q (λ f r. (let s = r in cc)))
+    by_request : m.moves ≡ 0 → (b : Body) → m.body ≡ b → IsRequestTaken x d m.host needs told y e b → AreKept y
+    by_request still (Fetch fetch) q h = of_made y e _ h
+        (kept_if (takes_fetch x m.host fetch) _ _
+        (kept_want (Asks fetch) fetch.needs still q (λ f r. (let s = r in cc)))
         kept_same)
-    by_request (Change change) q h = of_made y e _ h
+    by_request still (Change change) q h = of_made y e _ h
         (kept_if (is_decided_here x change && is_old x m.host change) _ _ kept_same
-        (kept_if (takes_change x m.host change) _ _ (kept_want (Changes change) needs q (λ f r. absurd (cc)))
+        (kept_if (takes_change x m.host change) _ _ (kept_want (Changes change) needs still q (λ f r. absurd (cc)))
         kept_same))
-    by_request (Returned named) q h = of_made y e _ h
+    by_request still (Returned named) q h = of_made y e _ h
         (kept_tables_if (is_of x.server named.fid.fileset) _ _ (record { server = refl; roster = refl; came = λ c. c })
         kept_same)
-    by_request (Kept named) q h = of_made y e _ h (record { server = refl; roster = refl; came = λ c. c })
-    by_request (GiveBack give) q h = of_made y e _ h
+    by_request still (Kept named) q h = of_made y e _ h (record { server = refl; roster = refl; came = λ c. c })
+    by_request still (GiveBack give) q h = of_made y e _ h
         (kept_tables_if (is_of x.server give.fid.fileset) _ _ (record { server = refl; roster = refl; came = λ c. c })
         kept_same)
-    by_request (Reclaim claim) q h = by (has_host x.hosts.reclaimed m.host) refl
+    by_request still (Reclaim claim) q h = by (has_host x.hosts.reclaimed m.host) refl
       where
         by : (b : Bool) → has_host x.hosts.reclaimed m.host ≡ b → AreKept y
         by true r = subst AreKept (sym (h.0.reclaimed r)) kept_same
         by false r = subst AreKept (sym (h.0.after r).0) (record { server = refl; roster = refl; came = λ c. c })
-    by_request Hello q h = of_made y e _ h kept_same
-    by_request (Grant grant) q h = of_made y e _ h kept_same
-    by_request (Done done) q h = of_made y e _ h kept_same
-    by_request (Revoke revoke) q h = of_made y e _ h kept_same
-    by_request (Gone gone) q h = of_made y e _ h kept_same
-    by_request (Reclaimed answer) q h = of_made y e _ h kept_same
-    by_request Restarted q h = of_made y e _ h kept_same
-    by_request Down q h = of_made y e _ h kept_same
-    by_request Bye q h = of_made y e _ h kept_same
-    by_request (NotHere n) q h = of_made y e _ h kept_same
-    by_request (Ship s) q h = of_made y e _ h kept_same
-    by_request (Shipped s) q h = of_made y e _ h kept_same
+    by_request still Hello q h = of_made y e _ h kept_same
+    by_request still (Grant grant) q h = of_made y e _ h kept_same
+    by_request still (Done done) q h = of_made y e _ h kept_same
+    by_request still (Revoke revoke) q h = of_made y e _ h kept_same
+    by_request still (Gone gone) q h = of_made y e _ h kept_same
+    by_request still (Reclaimed answer) q h = of_made y e _ h kept_same
+    by_request still Restarted q h = of_made y e _ h kept_same
+    by_request still Down q h = of_made y e _ h kept_same
+    by_request still Bye q h = of_made y e _ h kept_same
+    by_request still (NotHere n) q h = of_made y e _ h kept_same
+    by_request still (Ship s) q h = of_made y e _ h kept_same
+    by_request still (Shipped s) q h = of_made y e _ h kept_same
 
     by_other : IsOtherTaken x d m needs told y e → AreKept y
     by_other h = whether (is_live x.hosts m.host) _ _ (AreKept y) h
-        (λ l. whether (m.epoch == x.hosts.epoch) _ _ (AreKept y) l
-        (λ n. whether (m.moves == 0) _ _ (AreKept y) n (by_request m.body refl) (λ k. of_made y e _ k kept_same))
+        (λ live l. whether (m.epoch == x.hosts.epoch) _ _ (AreKept y) l
+        (λ now n. whether (m.moves == 0) _ _ (AreKept y) n
+        (λ still k. by_request (eqb-true m.moves 0 still) m.body refl k) (λ k. of_made y e _ k kept_same))
         (λ k. of_made y e _ k kept_same))
         (λ k. of_made y e _ k kept_same)
 
@@ -174,10 +178,11 @@ module _ (x : Tables) (d : Draft) (m : Message) (is : IsFor x.server x.roster m)
     by_body (Shipped s) h = by_other h
 
     kept : IsTaken x d m needs told y e → AreKept y
-    kept h = whether (has_host x.hosts.down m.host) _ _ (AreKept y) h (λ k. of_made y e _ k kept_same) (by_body m.body)
+    kept h = whether (has_host x.hosts.down m.host) _ _ (AreKept y) h (λ down k. of_made y e _ k kept_same)
+        (by_body m.body)
 
-pub heard_served : (x y : Tables) (d : Draft) (m : Message) (old new : View) → IsServed x old.state
-    → IsFor x.server x.roster m → IsHeard x d m y → IsCounted y → IsSameStore old new → IsServed y new.state
-heard_served x y d m old new s is h counted same =
-    let k = kept x d m is h.needs h.told y h.draft h.taken in
+pub heard_served : (x y : Tables) (d e : Draft) (m : Message) (old new : View) → IsServed x old.state
+    → IsFor x.server x.roster m → IsHeard x d m y e → IsCounted y → IsSameStore old new → IsServed y new.state
+heard_served x y d e m old new s is h counted same =
+    let k = kept x d m is h.needs h.told y e h.taken in
     served_of x y old new s same k.server k.roster counted y.pending refl (k.came s.asked)

@@ -3,6 +3,8 @@ pub mod Steps
 pub mod Parts
 pub mod Heard
 pub mod Finished
+pub mod Saying
+pub mod Onward
 pub use Rattle.server_keeps.proofs.Acting
 pub use Rattle.server_keeps.proofs.Asking
 pub use Rattle.server_keeps.proofs.Granting
@@ -11,4 +13,5 @@ pub use Rattle.server_keeps.proofs.Repeating
 pub use Rattle.server_says.proofs.Admits
 pub use Rattle.server_says.proofs.Chains
 pub use Rattle.server_says.proofs.Picks
+pub use Rattle.server_says.proofs.SoundSaid
 pub use Rattle.server_says.proofs.StepsMade

@@ -348,6 +348,7 @@ anew_served x y d p needs view s came effect e counted =
       m = came.m;
       came = came.came;
       host = came.host;
+      moves = came.moves;
       body = came.body;
       needs = λ fetch is. absurd (subst HasEffect is effect);
     })

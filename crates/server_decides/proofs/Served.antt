@@ -1,9 +1,10 @@
 -- What the wants that wait are known to be, and what stays so of the tables and the store.
 use Rattle.std.proofs.Common.{◌≡◌, ◌⊎◌, ◌<◌, ℕ, zero, suc, Bool, true, false, ◌&&◌, not, List, [], ◌∷◌, length, inl}
 use Rattle.std.proofs.Common.{inr}
-use Rattle.std.proofs.Common.{refl, sym, ◌∙◌, subst, arith, ◌++◌}
+use Rattle.std.proofs.Common.{ap, refl, sym, ◌∙◌, ◌/◌, subst, arith, ◌++◌}
 use Rattle.std.specs.Prelude.{IsTrue, is_some, remove, slice_index_or}
-use Rattle.std.proofs.lemmas.Bool.{and_parts}
+use Rattle.std.proofs.lemmas.Bool.{and_parts, eq-eqb}
+use Rattle.base_types.specs.declared.ids.FilesetId.{FilesetId}
 use Rattle.base_types.specs.declared.ids.HostId.{HostId}
 use Rattle.base_types.specs.declared.ids.ServerId.{ServerId}
 use Rattle.tree_calls.specs.declared.call.Call.{Call}
@@ -12,17 +13,21 @@ use Rattle.tree_calls.specs.declared.call.Call.TheVariants.{Lock, MakeDir, MoveF
 use Rattle.tree_calls.specs.declared.call.Call.TheVariants.{Remove, Rename, SetAcl, Stat, Sync, Truncate, Unlock, Write}
 use Rattle.tree_calls.specs.Rosters.{user_of}
 use Rattle.tree_calls.specs.declared.roster.Roster.{Roster}
-use Rattle.message_types.specs.Soundness.{Each, IsBody, IsCall, IsChange, IsDecided as IsDecidedAt, IsHost}
+use Rattle.message_types.specs.Soundness.{Each, IsBody, IsCall, IsChange, IsDecided as IsDecidedAt, IsFetch, IsHome}
+use Rattle.message_types.specs.Soundness.{IsHost, IsServer}
 use Rattle.message_types.specs.declared.asking.Change.{Change as ChangeOf}
+use Rattle.message_types.specs.declared.asking.Fetch.{Fetch as FetchOf}
 use Rattle.run_rules.specs.Past.{In}
 use Rattle.run_rules.specs.Wants.{body_of, has_effect, is_use, moves_fileset}
 use Rattle.run_rules.specs.declared.applied.Request.{Request}
-use Rattle.run_rules.specs.declared.applied.Request.TheVariants.{Change as Changes}
+use Rattle.run_rules.specs.declared.applied.Request.TheVariants.{Change as Changes, Fetch as Asks}
 use Rattle.run_rules.specs.declared.applied.Wanted.{Wanted}
 use Rattle.store_acts.specs.Sound.{IsDecided, IsFor as IsForServer}
 use Rattle.store_memory.specs.Views.{IsSameStore, View}
 use Rattle.store_state.specs.declared.state.StoreState.{StoreState}
 use Rattle.server_tables.specs.Counting.{IsCounted}
+use Rattle.server_tables.specs.Places.{is_of}
+use Rattle.server_tables.specs.Sound.{CanHear}
 use Rattle.server_tables.specs.declared.pending.Pending.{Pending}
 use Rattle.server_tables.specs.declared.tables.Tables.{Tables}
 use Rattle.server_tables.proofs.Numbered.{at_in}
@@ -74,6 +79,14 @@ module _ (server : ServerId) (roster : Roster) (w : Wanted) (c : CameSo server r
   pub host_asks : IsHost roster w.host
   host_asks = subst (IsHost roster) c.host c.came.sound.host
 
+  pub host_hears : CanHear server roster w.host
+  host_hears = record { declared = host_asks; own = subst (IsServer roster) c.came.own c.came.sound.server }
+
+  -- a fileset that has never moved is here
+  here_by : (fileset : FilesetId) → IsHome c.m fileset → is_of server fileset ≡ true
+  here_by fileset home =
+      eq-eqb (fileset.0 / 65536) server.0 (home c.moves ∙ ap (λ (v : ServerId). v.0) c.came.own)
+
   module _ (change : ChangeOf) (is : w.request ≡ Changes change) where
     its_body : IsChange roster c.m change
     its_body = subst (λ (r : Request). IsBody roster c.m (body_of r)) is
@@ -85,6 +98,19 @@ module _ (server : ServerId) (roster : Roster) (w : Wanted) (c : CameSo server r
     pub decided_asks : (IsTrue change.enter) ⊎ IsDecidedAt server change.call
     decided_asks = subst (λ (v : ServerId). (IsTrue change.enter)
         ⊎ IsDecidedAt v change.call) c.came.own its_body.decided
+
+    pub change_here : (change.fileset.0 ≡ 0) ⊎ (is_of server change.fileset ≡ true)
+    change_here = elim its_body.fileset [
+      | inl none ↦ inl none
+      | inr home ↦ inr (here_by change.fileset home)
+    ]
+
+  module _ (fetch : FetchOf) (is : w.request ≡ Asks fetch) where
+    pub fetch_here : is_of server fetch.fid.fileset ≡ true
+    fetch_here =
+        let body : IsFetch c.m fetch = subst (λ (r : Request). IsBody roster c.m (body_of r)) is
+        (subst (IsBody roster c.m) c.body c.came.sound.body) in
+        here_by fetch.fid.fileset body.home
 
 -- # A Change that has its effect may be done
 

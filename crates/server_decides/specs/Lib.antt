@@ -1,6 +1,7 @@
 pub mod Deciding
 pub mod Finishing
 pub mod Running
+pub mod Saying
 pub mod Sending
 pub mod Serving
 pub use Rattle.server_keeps.specs.Acting

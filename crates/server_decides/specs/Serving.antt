@@ -16,11 +16,12 @@ use Rattle.server_tables.specs.declared.pending.Pending.{Pending}
 use Rattle.server_tables.specs.declared.tables.Tables.{Tables}
 use Rattle.server_takes.specs.Messages.{IsFor, IsStoreOf}
 
--- a want that waits came in such a message, and a Fetch wants what it says
+-- a want that waits came in such a message, about a fileset that has never moved, and a Fetch wants what it says
 pub record CameSo (server : ServerId) (roster : Roster) (w : Wanted) : Type 0 where
   pub m : Message
   pub came : IsFor server roster m
   pub host : m.host ≡ w.host
+  pub moves : m.moves ≡ 0
   pub body : m.body ≡ body_of w.request
   pub needs : (fetch : FetchOf) → w.request ≡ Asks fetch → w.needs ≡ fetch.needs
 

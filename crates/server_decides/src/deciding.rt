@@ -7,11 +7,13 @@ ghost use Rattle.server_decides.specs.Deciding.{Decides, HasEffect, IsDecided, I
 ghost use Rattle.server_decides.specs.Deciding.{IsDueSo, IsMadeBy, IsNextDue, IsRefusing, MayBeDone, NoneDue};
 ghost use Rattle.server_decides.specs.Deciding.{accepted_by, anew_made, decision_by, due_by, is_fresh, is_of_row};
 ghost use Rattle.server_decides.specs.Deciding.{is_passed, is_waiting, still_fresh};
+ghost use Rattle.server_decides.specs.Saying.{SaysOn};
 ghost use Rattle.server_decides.specs.Serving.{CameSo, IsServed};
 ghost use Rattle.server_decides.specs.Running.{making};
 ghost use Rattle.server_says.specs.Running.{GoesTo};
 ghost use Rattle.server_looks.specs.Keepers.{HasAsked, HasTried, IsFit};
 ghost use Rattle.server_tables.specs.Counting.{IsCounted};
+ghost use Rattle.server_tables.specs.Sound.{AreSound};
 ghost use Rattle.server_takes.specs.Messages.{IsStoreOf};
 
 use base_types::{Fid, Items, NoMemory};
@@ -58,6 +60,7 @@ pub(crate) fn decide_all<S: Store>(
         (making tables.new draft.new (S.view keeper.new.store).state)) }
     ensures none { S.tells → OnOk result
         (NoneDue tables.new (S.view keeper.new.store).state draft.new.fresh tables.new.pending) }
+    ensures says { AreSound tables.old → OnOk result (SaysOn tables.old draft.old tables.new draft.new) }
     ensures served { OnOk result (IsServed tables.new (S.view keeper.new.store).state) }
     ensures tried { HasTried result (S.view keeper.old.store) (S.view keeper.new.store) keeper.new.left }
 {
@@ -254,6 +257,7 @@ fn decide<S: Store>(
     requires fit { IsFit (S.view keeper.old.store) keeper.old.left }
     ensures decided { S.tells → OnOk result (IsDecided tables.old draft.old (S.view keeper.old.store).state due
         tables.new draft.new (S.view keeper.new.store).state) }
+    ensures says { AreSound tables.old → OnOk result (SaysOn tables.old draft.old tables.new draft.new) }
     ensures served { OnOk result (IsServed tables.new (S.view keeper.new.store).state) }
     ensures tried { HasTried result (S.view keeper.old.store) (S.view keeper.new.store) keeper.new.left }
 {
@@ -275,6 +279,7 @@ fn make<S: Store>(
     requires fit { IsFit (S.view keeper.old.store) keeper.old.left }
     ensures decided { S.tells → OnOk result (IsMadeBy tables.old draft.old (S.view keeper.old.store).state pending
         tables.new draft.new (S.view keeper.new.store).state decision) }
+    ensures says { AreSound tables.old → OnOk result (SaysOn tables.old draft.old tables.new draft.new) }
     ensures served { OnOk result (IsServed tables.new (S.view keeper.new.store).state) }
     ensures tried { HasTried result (S.view keeper.old.store) (S.view keeper.new.store) keeper.new.left }
 {
@@ -298,6 +303,7 @@ fn refuse_want<S: Store>(
     requires fit { IsFit (S.view keeper.old.store) keeper.old.left }
     ensures refused { S.tells → OnOk result (IsRefusing tables.old draft.old (S.view keeper.old.store).state
         pending.wanted.host refusal tables.new draft.new (S.view keeper.new.store).state pending.wanted.request) }
+    ensures says { AreSound tables.old → OnOk result (SaysOn tables.old draft.old tables.new draft.new) }
     ensures served { OnOk result (IsServed tables.new (S.view keeper.new.store).state) }
     ensures tried { HasTried result (S.view keeper.old.store) (S.view keeper.new.store) keeper.new.left }
 {
@@ -319,6 +325,7 @@ fn do_want<S: Store>(
     requires fit { IsFit (S.view keeper.old.store) keeper.old.left }
     ensures done { S.tells → OnOk result (IsDoing tables.old draft.old (S.view keeper.old.store).state
         pending.wanted.host tables.new draft.new (S.view keeper.new.store).state pending.wanted.request) }
+    ensures says { AreSound tables.old → OnOk result (SaysOn tables.old draft.old tables.new draft.new) }
     ensures served { OnOk result (IsServed tables.new (S.view keeper.new.store).state) }
     ensures tried { HasTried result (S.view keeper.old.store) (S.view keeper.new.store) keeper.new.left }
 {
@@ -340,6 +347,7 @@ fn refuse<S: Store>(
     requires fit { IsFit (S.view keeper.old.store) keeper.old.left }
     ensures refused { S.tells → OnOk result (IsRefusing tables.old draft.old (S.view keeper.old.store).state
         wanted.now.host refusal tables.new draft.new (S.view keeper.new.store).state wanted.now.request) }
+    ensures says { AreSound tables.old → OnOk result (SaysOn tables.old draft.old tables.new draft.new) }
     ensures served { OnOk result (IsServed tables.new (S.view keeper.new.store).state) }
     ensures tried { HasTried result (S.view keeper.old.store) (S.view keeper.new.store) keeper.new.left }
 {
@@ -364,6 +372,7 @@ fn do_now<S: Store>(
     requires fit { IsFit (S.view keeper.old.store) keeper.old.left }
     ensures done { S.tells → OnOk result (IsDoing tables.old draft.old (S.view keeper.old.store).state
         wanted.now.host tables.new draft.new (S.view keeper.new.store).state wanted.now.request) }
+    ensures says { AreSound tables.old → OnOk result (SaysOn tables.old draft.old tables.new draft.new) }
     ensures served { OnOk result (IsServed tables.new (S.view keeper.new.store).state) }
     ensures tried { HasTried result (S.view keeper.old.store) (S.view keeper.new.store) keeper.new.left }
 {

@@ -1,7 +1,9 @@
 ghost use Rattle.std.specs.Prelude.{IfOk, OnOk};
 ghost use Rattle.server_decides.specs.Finishing.{IsFinished, IsTakenAndFinished};
+ghost use Rattle.server_decides.specs.Saying.{SaysOn};
 ghost use Rattle.server_decides.specs.Serving.{IsServed};
 ghost use Rattle.server_looks.specs.Keepers.{HasTried, IsFit};
+ghost use Rattle.server_tables.specs.Sound.{AreSound};
 ghost use Rattle.server_takes.specs.Messages.{IsFor};
 
 use crate::deciding::{decide_all, next_due};
@@ -26,6 +28,7 @@ pub fn take_and_finish<S: Store>(
     requires fit { IsFit (S.view keeper.old.store) keeper.old.left }
     ensures taken { S.tells → IfOk result (IsTakenAndFinished tables.old draft.old message.now
         (S.view keeper.old.store).state tables.new draft.new (S.view keeper.new.store).state) }
+    ensures says { AreSound tables.old → OnOk result (SaysOn tables.old draft.old tables.new draft.new) }
     ensures served { OnOk result (IsServed tables.new (S.view keeper.new.store).state) }
     ensures tried { HasTried result (S.view keeper.old.store) (S.view keeper.new.store) keeper.new.left }
 {
@@ -45,6 +48,7 @@ pub fn finish<S: Store>(
     requires fit { IsFit (S.view keeper.old.store) keeper.old.left }
     ensures finished { S.tells → IfOk result (IsFinished tables.old draft.old (S.view keeper.old.store).state
         tables.new draft.new (S.view keeper.new.store).state) }
+    ensures says { AreSound tables.old → OnOk result (SaysOn tables.old draft.old tables.new draft.new) }
     ensures served { OnOk result (IsServed tables.new (S.view keeper.new.store).state) }
     ensures tried { HasTried result (S.view keeper.old.store) (S.view keeper.new.store) keeper.new.left }
 {

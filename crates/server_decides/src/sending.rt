@@ -1,7 +1,11 @@
-ghost use Rattle.std.specs.Prelude.{◌≡◌, ◌<◌, Some, None, if◌then◌else◌, length, IfOk, OnOk};
+ghost use Rattle.std.specs.List.{list_all};
+ghost use Rattle.std.specs.Prelude.{◌≡◌, ◌<◌, [], true, Some, None, if◌then◌else◌, length, IfOk, IfSome, OnOk};
+ghost use Rattle.message_types.specs.Soundness.{IsTold};
 ghost use Rattle.run_rules.specs.declared.applied.Request.TheVariants.{Change as Changes};
 ghost use Rattle.store_memory.specs.Reading.{status_told};
 ghost use Rattle.server_decides.specs.Deciding.{IsPlaced};
+ghost use Rattle.server_decides.specs.Saying.{AreGranted, IsOfHere, IsSayable, MaySay, SaysOn, are_brought, file_for};
+ghost use Rattle.server_decides.specs.Saying.{has_room, is_brought};
 ghost use Rattle.server_decides.specs.Serving.{CameSo, IsServed};
 ghost use Rattle.server_decides.specs.Sending.{HasSentAll, IsChangeSending, IsLeftAt, IsSending, IsUsing};
 ghost use Rattle.server_decides.specs.Sending.{done_made, empty_made, empty_with, entering_by, file_of, grant_made};
@@ -12,6 +16,8 @@ ghost use Rattle.server_decides.specs.declared.sending.Sending.TheVariants.{Gran
 ghost use Rattle.server_keeps.specs.Asking.{entered_told};
 ghost use Rattle.server_looks.specs.Keepers.{HasAsked, IsFit};
 ghost use Rattle.server_tables.specs.Counting.{IsCounted};
+ghost use Rattle.server_tables.specs.Places.{is_of};
+ghost use Rattle.server_tables.specs.Sound.{AreSound};
 ghost use Rattle.server_tables.specs.Updates.{unqueued};
 ghost use Rattle.server_takes.specs.Messages.{IsStoreOf};
 ghost use Rattle.server_takes.specs.Taking.{IsMadeOf};
@@ -28,7 +34,7 @@ use server_takes::Draft;
 use std::alloc::Global;
 use store_memory::Store;
 use token_manager::{Outlook, Ready};
-use token_types::{Need, Token};
+use token_types::{Kind, Need, Token};
 use tree_calls::{DirEntry, Piece, Status};
 
 /// What becomes of a want that can be answered.
@@ -52,6 +58,7 @@ pub(crate) fn send_all<S: Store>(
     requires fit { IsFit (S.view keeper.old.store) keeper.old.left }
     ensures sent { S.tells → OnOk result
         (HasSentAll (S.view keeper.old.store).state tables.old draft.old tables.new draft.new) }
+    ensures says { AreSound tables.old → OnOk result (SaysOn tables.old draft.old tables.new draft.new) }
     ensures served { OnOk result (IsServed tables.new (S.view keeper.new.store).state) }
     ensures asked { HasAsked S.tells result (S.view keeper.old.store) (S.view keeper.new.store) keeper.new.left }
 {
@@ -76,6 +83,7 @@ fn sending_at<S: Store>(
     requires fit { IsFit (S.view keeper.old.store) keeper.old.left }
     ensures sending { S.tells → (p : Pending) → IsPlaced tables.now.pending at p
         → IfOk result (IsSending tables.now (S.view keeper.old.store).state p) }
+    ensures sayable { IfOk result (λ sending. IfSome sending (IsSayable tables.now.server)) }
     ensures asked { HasAsked S.tells result (S.view keeper.old.store) (S.view keeper.new.store) keeper.new.left }
 {
     sending_of(tables, keeper, tables.pending.get(at))
@@ -91,6 +99,7 @@ fn sending_of<S: Store>(
     requires came { CameSo tables.now.server tables.now.roster pending.now.wanted }
     requires fit { IsFit (S.view keeper.old.store) keeper.old.left }
     ensures sending { S.tells → IfOk result (IsSending tables.now (S.view keeper.old.store).state pending.now) }
+    ensures sayable { IfOk result (λ sending. IfSome sending (IsSayable tables.now.server)) }
     ensures asked { HasAsked S.tells result (S.view keeper.old.store) (S.view keeper.new.store) keeper.new.left }
 {
     let outlook = tables.tokens.outlook(pending.number);
@@ -135,6 +144,7 @@ fn changed<S: Store>(
     requires fit { IsFit (S.view keeper.old.store) keeper.old.left }
     ensures sending { S.tells → IfOk result (λ sending. IsChangeSending tables.now (S.view keeper.old.store).state
         pending.now is_granted sending change.now) }
+    ensures sayable { IfOk result (λ sending. IfSome sending (IsSayable tables.now.server)) }
     ensures asked { HasAsked S.tells result (S.view keeper.old.store) (S.view keeper.new.store) keeper.new.left }
 {
     if change.enter {
@@ -153,7 +163,8 @@ fn changed<S: Store>(
     Ok(used(change, &pending.wanted.needs, is_granted, &found))
 }
 
-/// What becomes of a host that enters a fileset: it learns the number of the fileset.
+/// What becomes of a host that enters a fileset: it learns the number of the fileset. One that isn't here counts as no
+/// memory: no store has it that tells what it keeps.
 fn entered<S: Store>(
     tables: &Tables,
     keeper: &mut Keeper<S>,
@@ -164,13 +175,28 @@ fn entered<S: Store>(
     requires fit { IsFit (S.view keeper.old.store) keeper.old.left }
     ensures sending { S.tells → IfOk result (λ sending. sending ≡ (if is_granted
         then entering_by change.now (entered_told (S.view keeper.old.store).state change.now.call) else None)) }
+    ensures sayable { IsOfHere tables.now.server change.now.fileset
+        → IfOk result (λ sending. IfSome sending (IsSayable tables.now.server)) }
     ensures asked { HasAsked S.tells result (S.view keeper.old.store) (S.view keeper.new.store) keeper.new.left }
 {
     if !is_granted {
         return Ok(None);
     }
     let fileset = fileset_entered(tables.server, keeper, &change.call)?;
+    if !is_known_here(tables, fileset) {
+        return Err(ExporterFault::Memory);
+    }
     Ok(entering_by(change, fileset))
+}
+
+/// Whether a fileset that was found is here.
+fn is_known_here(tables: &Tables, fileset: Option<FilesetId>) -> bool
+    ensures { result ≡ true → IfSome fileset (λ id. is_of tables.now.server id ≡ true) }
+{
+    match fileset {
+        Some(fileset) => tables.is_here(fileset),
+        None => true,
+    }
 }
 
 fn entering_by(change: &Change, fileset: Option<FilesetId>) -> Option<Sending>
@@ -229,6 +255,8 @@ fn send<S: Store>(
     ensures made { S.tells → (p : Pending) → IsPlaced tables.old.pending at p → OnOk result
         (IsMadeOf tables.old draft.old tables.new draft.new
         (sent_made tables.old draft.old (S.view keeper.old.store).state at p sending)) }
+    ensures says { (p : Pending) → IsPlaced tables.old.pending at p → MaySay tables.old p sending
+        → OnOk result (SaysOn tables.old draft.old tables.new draft.new) }
     ensures left { OnOk result (IsLeftAt tables.old at tables.new) }
     ensures counted { OnOk result (IsCounted tables.new) }
     ensures asked { HasAsked S.tells result (S.view keeper.old.store) (S.view keeper.new.store) keeper.new.left }
@@ -291,10 +319,11 @@ fn send_use(
     requires counted { IsCounted tables.old }
     ensures made { (p : Pending) → IsPlaced tables.old.pending at p → OnOk result
         (IsMadeOf tables.old draft.old tables.new draft.new (use_made tables.old draft.old at p fileset number)) }
+    ensures brought { (p : Pending) → IsPlaced tables.old.pending at p → OnOk result (AreGranted tables.old p None) }
     ensures left { OnOk result (IsLeftAt tables.old at tables.new) }
     ensures counted { OnOk result (IsCounted tables.new) }
 {
-    let tokens = granted(tables, at)?;
+    let tokens = granted(tables, at, None)?;
     let host = take_out(tables, at);
     let stamp = tables.next_stamp()?;
     let done = use_of(fileset, number, stamp, tokens);
@@ -331,8 +360,10 @@ fn finish_done(
     tables.note_done(host, done, None)
 }
 
-/// The tokens that a want is granted, by its place among those that wait.
-fn granted(tables: &mut Tables, at: usize) -> Result<Items<Token>, NoMemory>
+/// The tokens that a want is granted, by its place among those that wait; those of a lock or an open are of one file,
+/// and those of a Fetch of the file that it names. Where they aren't so, as they are where the store tells what it
+/// keeps, it counts as no memory.
+fn granted(tables: &mut Tables, at: usize, fid: Option<Fid>) -> Result<Items<Token>, NoMemory>
     requires place { at < length tables.old.pending }
     ensures tokens { (p : Pending) → IsPlaced tables.old.pending at p
         → IfOk result (λ tokens. tokens ≡ granted_tokens tables.old.tokens p.number) }
@@ -340,11 +371,58 @@ fn granted(tables: &mut Tables, at: usize) -> Result<Items<Token>, NoMemory>
         → OnOk result (tables.new ≡ granting tables.old p.number) }
     ensures counted { IsCounted tables.old → OnOk result (IsCounted tables.new) }
     ensures pending { OnOk result (tables.new.pending ≡ tables.old.pending) }
+    ensures brought { (p : Pending) → IsPlaced tables.old.pending at p → OnOk result (AreGranted tables.old p fid) }
 {
     let alloc = tables.alloc();
-    let number = tables.pending.get(at).number;
+    let pending = tables.pending.get(at);
+    let number = pending.number;
+    let host = pending.wanted.host;
     let ready = tables.tokens.decide(number)?;
-    Ok(tokens_of(ready, alloc))
+    let tokens = tokens_of(ready, alloc);
+    if !are_brought(tables, host, file_for(fid, &tokens), tokens.as_slice()) {
+        return Err(NoMemory);
+    }
+    Ok(tokens)
+}
+
+fn file_for(fid: Option<Fid>, tokens: &Items<Token>) -> Fid
+    ensures { result ≡ file_for fid tokens.now }
+{
+    match fid {
+        Some(fid) => fid,
+        None => file_of(tokens),
+    }
+}
+
+/// Whether an answer to a host may bring these tokens: they are its own, of one file that is here, and of this epoch.
+fn are_brought(tables: &Tables, host: HostId, fid: Fid, tokens: &[Token]) -> bool
+    ensures { result ≡ are_brought tables.now.server tables.now.hosts.epoch host fid tokens.now }
+{
+    tables.is_here(fid.fileset) && are_all_brought(tables, host, fid, tokens)
+}
+
+fn are_all_brought(tables: &Tables, host: HostId, fid: Fid, tokens: &[Token]) -> bool
+    ensures { result ≡ list_all (is_brought tables.now.server tables.now.hosts.epoch host fid) tokens.now }
+{
+    tokens
+        .iter()
+        .all(|token| is_brought(tables, host, fid, token))
+}
+
+fn is_brought(tables: &Tables, host: HostId, fid: Fid, token: &Token) -> bool
+    ensures { result ≡ is_brought tables.now.server tables.now.hosts.epoch host fid token.now }
+{
+    let is_now = token.id.server == tables.server && token.id.epoch == tables.hosts.epoch;
+    is_now && token.host == host && token.fid == fid && has_room(token.kind)
+}
+
+fn has_room(kind: Kind) -> bool
+    ensures { result ≡ has_room kind }
+{
+    match kind {
+        Kind::Bytes { span, .. } | Kind::Lock { span, .. } => span.from < span.to,
+        _ => true,
+    }
 }
 
 fn tokens_of(ready: Option<Ready>, alloc: Global) -> Items<Token>
@@ -381,6 +459,8 @@ fn send_grant<S: Store>(
         (IsMadeOf tables.old draft.old tables.new draft.new
         (grant_made tables.old draft.old (S.view keeper.old.store).state at p fetch.now
         (status_told (S.view keeper.old.store).state fetch.now.fid))) }
+    ensures says { (p : Pending) → IsPlaced tables.old.pending at p → MaySay tables.old p (Grants fetch.now)
+        → OnOk result (SaysOn tables.old draft.old tables.new draft.new) }
     ensures left { OnOk result (IsLeftAt tables.old at tables.new) }
     ensures counted { OnOk result (IsCounted tables.new) }
     ensures asked { HasAsked S.tells result (S.view keeper.old.store) (S.view keeper.new.store) keeper.new.left }
@@ -442,6 +522,8 @@ fn send_tokens<S: Store>(
     ensures made { S.tells → (p : Pending) → IsPlaced tables.old.pending at p → OnOk result
         (IsMadeOf tables.old draft.old tables.new draft.new (granted_made tables.old draft.old at p
         (grant_of tables.old (S.view keeper.old.store).state p fetch.now status))) }
+    ensures says { (p : Pending) → IsPlaced tables.old.pending at p → MaySay tables.old p (Grants fetch.now)
+        → IsTold (Some status) [] [] → OnOk result (SaysOn tables.old draft.old tables.new draft.new) }
     ensures left { OnOk result (IsLeftAt tables.old at tables.new) }
     ensures counted { OnOk result (IsCounted tables.new) }
     ensures asked { HasAsked S.tells result (S.view keeper.old.store) (S.view keeper.new.store) keeper.new.left }
@@ -467,10 +549,12 @@ fn say_grant(
     ensures made { (p : Pending) → IsPlaced tables.old.pending at p → OnOk result
         (IsMadeOf tables.old draft.old tables.new draft.new (granted_made tables.old draft.old at p
         (grant_with tables.old p fetch.now status pieces entries))) }
+    ensures brought { (p : Pending) → IsPlaced tables.old.pending at p
+        → OnOk result (AreGranted tables.old p (Some fetch.now.fid)) }
     ensures left { OnOk result (IsLeftAt tables.old at tables.new) }
     ensures counted { OnOk result (IsCounted tables.new) }
 {
-    let tokens = granted(tables, at)?;
+    let tokens = granted(tables, at, Some(fetch.fid))?;
     let host = take_out(tables, at);
     let grant = Grant {
         bring: Bring {

@@ -35,6 +35,7 @@ pub mod Onsets
 pub mod Counted
 pub mod Phases
 pub mod Stepped
+pub mod Spoken
 pub mod Starts
 pub mod Middle
 pub mod Ending

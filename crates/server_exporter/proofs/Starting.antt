@@ -6,6 +6,7 @@ use Rattle.run_rules.specs.Doings.{doings_of}
 use Rattle.server_tables.specs.Counting.{IsCounted}
 use Rattle.server_tables.specs.Starts.{starting}
 use Rattle.server_tables.specs.declared.tables.Tables.{Tables}
+use Rattle.server_tables.proofs.SoundTables.{starting_sound}
 use Rattle.server_tables.proofs.Starting.{answered_first, settled_first, stands_first}
 use Rattle.server_exporter.specs.Machines.{IsNew}
 use Rattle.server_exporter.specs.declared.exporter.Exporter.{Exporter}
@@ -28,6 +29,7 @@ is_new server epoch roster x e c = subst (λ (y : Tables). IsCounted y
       gives = refl;
       pending = refl;
       counted = c;
+      sound = starting_sound server epoch roster;
       rested = refl;
       stands = λ tree. record {
         tables = stands_first server epoch roster;

@@ -8,11 +8,12 @@ use Rattle.tree_answers.specs.declared.tree.Tree.{Tree}
 use Rattle.tree_calls.specs.declared.reply.Refusal.{Refusal}
 use Rattle.tree_calls.specs.declared.roster.Roster.{Roster}
 use Rattle.token_types.specs.declared.token.Token.{Token}
-use Rattle.message_types.specs.Soundness.{IsHost}
+use Rattle.message_types.specs.Soundness.{IsHost, IsSound}
 use Rattle.message_types.specs.declared.asking.Change.{Change as ChangeOf}
 use Rattle.message_types.specs.declared.asking.Fetch.{Fetch as FetchOf}
 use Rattle.message_types.specs.declared.giving.Reclaim.{Reclaim as ReclaimOf}
 use Rattle.message_types.specs.declared.message.Body.TheVariants.{Reclaim, Reclaimed, Done}
+use Rattle.message_types.specs.declared.message.Message.{Message}
 use Rattle.script_lines.specs.declared.script.Deed.TheVariants.{Restart as Restarts}
 use Rattle.script_lines.specs.declared.script.Line.{Line}
 use Rattle.script_lines.specs.declared.script.Script.{Script}
@@ -21,6 +22,7 @@ use Rattle.run_history.specs.Changes.{are_home}
 use Rattle.run_rules.specs.Doings.{Doing, HasReclaimed, IsLive, TookNow, after_step, doings_of, epoch, InEpoch}
 use Rattle.run_rules.specs.Kept.{filesets_kept}
 use Rattle.run_rules.specs.Past.{EachOnce, In}
+use Rattle.run_rules.specs.Runs.{IsFrom}
 use Rattle.run_rules.specs.ServerDecides.{IsOfRow, NotRefused, RefusedOn}
 use Rattle.run_rules.specs.ServerMay.{HasRevoked, IsAskedBack}
 use Rattle.run_rules.specs.ServerTokens.{HasTakenGives}
@@ -36,6 +38,7 @@ use Rattle.server_tables.specs.Counting.{IsCounted}
 use Rattle.server_tables.specs.Answers.{AreLastChanges}
 use Rattle.server_tables.specs.Gives.{AreLast, last_give}
 use Rattle.server_tables.specs.Places.{is_of}
+use Rattle.server_tables.specs.Sound.{AreSound}
 use Rattle.server_tables.specs.Standing.{AnsweredStand, Stands, tokens_of}
 use Rattle.server_tables.specs.declared.pending.Pending.{Pending}
 use Rattle.server_tables.specs.declared.recovering.Claimed.{Claimed}
@@ -94,7 +97,7 @@ pub record AreTold (server : ServerId) (past : List Doing) : Type 0 where
 
 -- Its tables stand for its doings, and where it is rested no Change is left that is to be decided. Hosts of the roster
 -- come on the list, each once; of a host and a fileset one give-back and one Change are the last; and tokens are granted
--- on filesets that are here.
+-- on filesets that are here. `told`: of what was said in this epoch. `quiet`: so far each step was brought to its end.
 pub record IsAt (past : List Doing) (tree : Tree) (x : Exporter) : Type 0 where
   pub tables : Stands past x.tables
   pub once : EachOnce x.tables.hosts.listed
@@ -175,5 +178,14 @@ pub record IsNew (x : Exporter) (server : ServerId) (epoch : ℕ) (roster : Rost
   pub gives : x.tables.gives ≡ []
   pub pending : x.tables.pending ≡ []
   pub counted : IsCounted x.tables
+  pub sound : AreSound x.tables
   pub rested : x.rested ≡ true
   pub stands : (tree : Tree) → IsAt (doings_of epoch server []) tree x
+
+-- # What a step says
+
+-- A step is the server's own, and so is what it sends, which is sound, whatever its store tells.
+pub record Says (x : Tables) (s : Step) : Type 0 where
+  pub node : s.node ≡ Server x.server
+  pub from : (m : Message) → In m s.sent → IsFrom (Server x.server) m
+  pub sound : (m : Message) → In m s.sent → IsSound x.roster m

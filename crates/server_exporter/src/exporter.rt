@@ -5,6 +5,7 @@ ghost use Rattle.run_rules.specs.declared.step.Cause.TheVariants.{Flushed, Lapse
 ghost use Rattle.server_decides.specs.Acts.{epoch_begun};
 ghost use Rattle.server_decides.specs.Keepers.{HasTried, IsFit};
 ghost use Rattle.server_tables.specs.Counting.{IsCounted};
+ghost use Rattle.server_tables.specs.Sound.{AreSound};
 ghost use Rattle.server_tables.specs.Updates.{begun};
 ghost use Rattle.server_decides.specs.Messages.{IsFor};
 ghost use Rattle.store_state.specs.declared.state.StoreState.{StoreState};
@@ -22,6 +23,7 @@ ghost use Rattle.server_exporter.specs.Machines.{
   Meets,
   MeetsAlone,
   MeetsOnLine,
+  Says,
 };
 ghost use Rattle.server_decides.specs.Serving.{IsServed};
 
@@ -94,8 +96,10 @@ impl Exporter {
             Follows (S.view keeper.old.store).state self.old step (S.view keeper.new.store).state self.new) }
         ensures cause { IfOk result (λ step. step.cause ≡ Came message) }
         ensures node { IfOk result (λ step. step.node ≡ Server self.old.tables.server) }
+        ensures sends { AreSound self.old.tables → IfOk result (Says self.old.tables) }
         ensures served { OnOk result (IsServed self.new.tables (S.view keeper.new.store).state) }
         ensures same { OnOk result (IsSame self.old self.new) }
+        ensures sound { AreSound self.old.tables → OnOk result (AreSound self.new.tables) }
         ensures tried { HasTried result (S.view keeper.old.store) (S.view keeper.new.store) keeper.new.left }
     {
         let server = self.tables.server;
@@ -114,8 +118,10 @@ impl Exporter {
             Follows (S.view keeper.old.store).state self.old step (S.view keeper.new.store).state self.new) }
         ensures cause { IfOk result (λ step. step.cause ≡ Flushed) }
         ensures node { IfOk result (λ step. step.node ≡ Server self.old.tables.server) }
+        ensures sends { AreSound self.old.tables → IfOk result (Says self.old.tables) }
         ensures served { OnOk result (IsServed self.new.tables (S.view keeper.new.store).state) }
         ensures same { OnOk result (IsSame self.old self.new) }
+        ensures sound { AreSound self.old.tables → OnOk result (AreSound self.new.tables) }
         ensures tried { HasTried result (S.view keeper.old.store) (S.view keeper.new.store) keeper.new.left }
     {
         let server = self.tables.server;
@@ -132,12 +138,14 @@ impl Exporter {
         ensures follows { IfOk result (λ step. FollowsAlone self.old step self.new) }
         ensures cause { IfOk result (λ step. step.cause ≡ Lapse) }
         ensures node { IfOk result (λ step. step.node ≡ Server self.old.tables.server) }
+        ensures sends { AreSound self.old.tables → IfOk result (Says self.old.tables) }
         ensures applied { IfOk result (λ step. step.applied ≡ []) }
         ensures served { (state : StoreState) → IsServed self.old.tables state
             → OnOk result (IsServed self.new.tables state) }
         ensures keeps { (tree : Tree) (state : StoreState) → Keeps self.old.tables tree state
             → OnOk result (Keeps self.new.tables tree state) }
         ensures same { OnOk result (IsSame self.old self.new) }
+        ensures sound { AreSound self.old.tables → OnOk result (AreSound self.new.tables) }
     {
         lapse_step(&mut self.tables)
     }
@@ -146,6 +154,7 @@ impl Exporter {
     pub fn line(&self, line: u32) -> Step
         requires rested { self.now.rested ≡ true }
         ensures step { result ≡ bare (Server self.now.tables.server) (Line line) }
+        ensures sends { Says self.now.tables result }
         ensures meets { MeetsOnLine IsNoRestart line self.now result }
         ensures follows { FollowsAlone self.now result self.now }
     {
@@ -165,8 +174,10 @@ impl Exporter {
             Follows (S.view keeper.old.store).state self.old step (S.view keeper.new.store).state self.new) }
         ensures cause { IfOk result (λ step. step.cause ≡ Restart line) }
         ensures node { IfOk result (λ step. step.node ≡ Server self.old.tables.server) }
+        ensures sends { AreSound self.old.tables → IfOk result (Says self.old.tables) }
         ensures served { OnOk result (IsServed self.new.tables (S.view keeper.new.store).state) }
         ensures same { OnOk result (IsSame self.old self.new) }
+        ensures sound { AreSound self.old.tables → OnOk result (AreSound self.new.tables) }
         ensures tried { HasTried result (S.view keeper.old.store) (S.view keeper.new.store) keeper.new.left }
     {
         self.begin(keeper, line)

@@ -125,9 +125,9 @@ module _ (x : Tables) (d : Draft) (m : Message) (needs : List Need) (told : Opti
     same_taken : IsTaken x d m needs told y e → IsSame y
     same_taken h = whether (has_host x.hosts.down m.host) _ _ (IsSame y) h (λ k. of_made y e _ k same) (by_body m.body)
 
-pub kept_heard : {T : Type 0} (x y : Tables) (d : Draft) (m : Message) (value : T) (old new : Keeper MapStore)
-    → IsKept x old → IsHeard x d m y → HasTried (Ok value) (map_view old.store) (map_view new.store) new.left
+pub kept_heard : {T : Type 0} (x y : Tables) (d e : Draft) (m : Message) (value : T) (old new : Keeper MapStore)
+    → IsKept x old → IsHeard x d m y e → HasTried (Ok value) (map_view old.store) (map_view new.store) new.left
     → IsKept y new
-kept_heard x y d m value old new kept h tried =
-    let s = same_taken x d m h.needs h.told y h.draft h.taken in
+kept_heard x y d e m value old new kept h tried =
+    let s = same_taken x d m h.needs h.told y e h.taken in
     kept_on x y value old new kept s.server s.roster tried

@@ -5,6 +5,7 @@ use Rattle.server_tables.specs.declared.tables.Tables.{Tables}
 use Rattle.server_decides.specs.Deciding.{MayBeDone}
 use Rattle.server_decides.specs.Serving.{CameSo}
 use Rattle.server_decides.proofs.Parts.{at_place_is, decided_so}
+use Rattle.server_decides.proofs.Saying.{says_then, unqueued_says}
 use Rattle.server_decides.proofs.Served.{came_at, served_less}
 use Rattle.server_decides.proofs.deciding.decide.Goals as goal
 
@@ -39,3 +40,12 @@ returns-clause-decided g c tells =
     c.args.draft.now c.make.new.draft (g.S.Store.view c.args.keeper.now.store).state
     (g.S.Store.view c.make.new.keeper.store).state c.args.due c.unqueue-pending.result c.requires.due.1.0
     c.unqueue-pending.ensures.value c.unqueue-pending.ensures.after h) (c.make.ensures.decided tells)
+
+pub returns-clause-says : goal.returns-clause-says
+returns-clause-says g c sound =
+    let x = c.args.tables.now in
+    let d = c.args.draft.now in
+    let u = c.unqueue-pending.new.self in
+    let so = unqueued_says x u d c.args.due.at c.unqueue-pending.result.number c.unqueue-pending.ensures.after sound in
+    on_ok_weaker c.make.result (λ more. says_then x u c.make.new.tables d d c.make.new.draft so more)
+    (c.make.ensures.says so.sound)

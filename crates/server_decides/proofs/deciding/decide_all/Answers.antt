@@ -5,6 +5,7 @@ use Rattle.server_says.proofs.Chains.{goes_none}
 use Rattle.server_decides.specs.Deciding.{Decides, IsDueSo, IsNextDue, NoneDue}
 use Rattle.server_decides.specs.Running.{making}
 use Rattle.server_decides.proofs.Steps.{decides_more, decides_still, fit_tried, gone_none, gone_tried, none_when}
+use Rattle.server_decides.proofs.Saying.{says_none, says_then}
 use Rattle.server_decides.proofs.Steps.{served_asked}
 use Rattle.server_decides.proofs.deciding.decide_all.Goals as goal
 
@@ -15,6 +16,7 @@ loop-init g c = record {
   gone = gone_none (g.S.Store.view c.args.keeper.now.store);
   goes = λ tells. goes_none Decides
       (making c.args.tables.now c.args.draft.now (g.S.Store.view c.args.keeper.now.store).state);
+  says = λ sound. says_none c.args.tables.now c.args.draft.now sound;
 }
 
 pub loop-preserved : goal.loop-preserved
@@ -36,6 +38,9 @@ loop-preserved g c =
           (asked.state tells) (inv.goes tells)
           (subst (IsNextDue c.loop.tables old.state c.loop.draft.fresh) c.in-Some.is (c.in_ok-due.ensures.due tells))
           (made.decided tells) made.served;
+      says = λ sound. let so = inv.says sound in
+          says_then c.args.tables.now c.loop.tables c.decide.new.tables c.args.draft.now c.loop.draft
+          c.decide.new.draft so (made.says so.sound);
     }
 
 pub decide-requires-clause-due : goal.decide-requires-clause-due
@@ -65,3 +70,6 @@ pub returns-in_default-clause-served : goal.returns-in_default-clause-served
 returns-in_default-clause-served g c =
     served_asked c.loop.tables (g.S.Store.view c.loop.keeper.store) (g.S.Store.view c.next_due.new.keeper.store)
     c.loop.invariant.served c.in_ok-due.ensures.asked.tried.same
+
+pub returns-in_default-clause-says : goal.returns-in_default-clause-says
+returns-in_default-clause-says g c sound = c.loop.invariant.says sound

@@ -3,6 +3,8 @@ use Rattle.server_says.specs.Running.{GoesTo}
 use Rattle.server_decides.specs.Deciding.{Decides}
 use Rattle.server_decides.specs.Serving.{IsServed}
 use Rattle.server_decides.specs.Running.{making}
+use Rattle.server_decides.specs.Saying.{SaysOn}
+use Rattle.server_tables.specs.Sound.{AreSound}
 use Rattle.server_decides.proofs.Steps.{HasGoneOn}
 use Rattle.server_decides.proofs.deciding.decide_all.Given as goal
 
@@ -14,4 +16,5 @@ invariant-loop g l = record {
   goes : g.S.Store.tells → GoesTo Decides
       (making l.initial.tables l.initial.draft (g.S.Store.view l.initial.keeper.store).state)
       (making l.tables l.draft (g.S.Store.view l.keeper.store).state);
+  says : AreSound l.initial.tables → SaysOn l.initial.tables l.initial.draft l.tables l.draft;
 }

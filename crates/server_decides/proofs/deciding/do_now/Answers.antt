@@ -1,3 +1,6 @@
+use Rattle.server_says.specs.Writing.{written_made}
+use Rattle.server_decides.proofs.Saying.{made_says, says_none, written_says}
+use Rattle.server_decides.proofs.Served.{change_here, host_hears}
 use Rattle.server_decides.proofs.Parts.{done_none, done_now, store_call, store_host, store_may, written_served}
 use Rattle.server_decides.proofs.deciding.do_now.Goals as goal
 
@@ -39,3 +42,18 @@ returns-clause-served g c =
     c.args.wanted.now.host c.in-Change.change c.args.wanted.now.request c.in-Change.is c.in_ok-reply.reply
     c.in_ok-write_down.ensures.tables c.in_ok-write_down.ensures.draft (g.S.Store.view c.args.keeper.now.store)
     (g.S.Store.view c.do_call.new.keeper.store) c.requires.served c.in_ok-reply.ensures.tried.same
+
+pub returns-in_default-clause-says : goal.returns-in_default-clause-says
+returns-in_default-clause-says g c sound = says_none c.args.tables.now c.args.draft.now sound
+
+pub returns-clause-says : goal.returns-clause-says
+returns-clause-says g c sound =
+    let x = c.args.tables.now in
+    let d = c.args.draft.now in
+    let w = c.args.wanted.now in
+    let change = c.in-Change.change in
+    let made = c.in_ok-write_down.ensures in
+    made_says x d c.write_down.new.tables c.write_down.new.draft (written_made x d w.host change c.in_ok-reply.reply)
+    (record { tables = made.tables; draft = made.draft })
+    (written_says x d w.host change c.in_ok-reply.reply sound (host_hears x.server x.roster w c.requires.came)
+    (change_here x.server x.roster w c.requires.came change c.in-Change.is) c.in_ok-reply.ensures.sound)

@@ -1,8 +1,9 @@
 use Rattle.std.proofs.Common.{refl, sym, subst}
 use Rattle.std.proofs.lemmas.Result.{on_ok_weaker}
-use Rattle.server_decides.specs.Deciding.{HasEffect, IsMadeBy, MayBeDone}
+use Rattle.server_decides.specs.Deciding.{HasEffect, IsMadeBy, MayBeDone, anew_made}
 use Rattle.server_decides.specs.declared.deciding.Decision.{Decision}
 use Rattle.server_decides.proofs.Parts.{anew_served}
+use Rattle.server_decides.proofs.Saying.{anew_says, made_says}
 use Rattle.server_decides.proofs.deciding.make.Goals as goal
 
 pub do_want-requires-clause-may : goal.do_want-requires-clause-may
@@ -44,3 +45,11 @@ returns-in-Do-clause-decided g c tells =
     on_ok_weaker c.do_want.result (λ h. subst (IsMadeBy x c.args.draft.now st c.args.pending c.do_want.new.tables
     c.do_want.new.draft (g.S.Store.view c.do_want.new.keeper.store).state) (sym c.in-Do.is) h)
     (c.do_want.ensures.done tells)
+
+pub returns-in_ok-make_anew-in-Anew-clause-says : goal.returns-in_ok-make_anew-in-Anew-clause-says
+returns-in_ok-make_anew-in-Anew-clause-says g c sound =
+    let x = c.args.tables.now in
+    let d = c.args.draft.now in
+    let made = c.in_ok-make_anew-in-Anew.ensures in
+    made_says x d c.make_anew.new.tables c.make_anew.new.draft (anew_made x d c.args.pending c.in-Anew.needs)
+    (record { tables = made.tables; draft = made.draft }) (anew_says x d c.args.pending c.in-Anew.needs sound)

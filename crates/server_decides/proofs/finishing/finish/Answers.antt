@@ -1,6 +1,8 @@
 use Rattle.token_manager.specs.Managers.{wanted}
 use Rattle.server_says.specs.Revoking.{not_asked}
 use Rattle.server_decides.proofs.Finished.{admits_served, back_served, finished_so, none_by}
+use Rattle.server_decides.proofs.Onward.{admits_says, back_says}
+use Rattle.server_decides.proofs.Saying.{says_then}
 use Rattle.server_decides.proofs.Steps.{served_asked}
 use Rattle.server_decides.proofs.finishing.finish.Goals as goal
 
@@ -40,3 +42,21 @@ returns-clause-served g c =
     c.send_all.new.draft (not_asked (wanted c.send_all.new.tables.tokens)) c.in_ok-revoke_all.ensures.tables
     c.in_ok-send_all.ensures.served)
     c.in_ok-next_due.ensures.asked.tried.same
+
+pub returns-clause-says : goal.returns-clause-says
+returns-clause-says g c sound =
+    let x = c.args.tables.now in
+    let t = c.decide_all.new.tables in
+    let u = c.admit_all.new.tables in
+    let v = c.send_all.new.tables in
+    let y = c.revoke_all.new.tables in
+    let d = c.args.draft.now in
+    let a = c.decide_all.new.draft in
+    let b = c.admit_all.new.draft in
+    let k = c.send_all.new.draft in
+    let e = c.revoke_all.new.draft in
+    let decided = c.in_ok-decide_all.ensures.says sound in
+    let admitted = admits_says t u a b c.in_ok-admit_all.ensures.goes decided.sound in
+    let sent = c.in_ok-send_all.ensures.says admitted.sound in
+    let asked = back_says v y k e c.in_ok-revoke_all.ensures.tables c.in_ok-revoke_all.ensures.draft sent.sound in
+    says_then x t y d a e decided (says_then t u y a b e admitted (says_then u v y b k e sent asked))

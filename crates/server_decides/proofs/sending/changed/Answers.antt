@@ -4,6 +4,8 @@ use Rattle.std.proofs.lemmas.Result.{IfOk-weaker}
 use Rattle.run_rules.specs.Wants.{is_use}
 use Rattle.server_keeps.specs.Asking.{entered_told}
 use Rattle.server_decides.specs.Sending.{IsChangeSending, entering_by}
+use Rattle.server_decides.proofs.Saying.{used_sayable}
+use Rattle.server_decides.proofs.Served.{change_here}
 use Rattle.server_decides.proofs.Parts.{change_enters, change_rests, change_uses, store_call, store_host}
 use Rattle.server_decides.proofs.sending.changed.Goals as goal
 
@@ -45,3 +47,16 @@ returns-clause-sending g c tells =
     change_uses x st c.args.pending.now c.args.is_granted change c.in_ok-found.found c.used.result rests uses
     (λ user known. c.in_ok-found.ensures.refusal tells user known)
     (λ user known. c.in_ok-found.ensures.needs tells user known) c.used.ensures
+
+pub returns-then-change-clause-sayable : goal.returns-then-change-clause-sayable
+returns-then-change-clause-sayable g c =
+    let x = c.args.tables.now in
+    c.entered.ensures.sayable (change_here x.server x.roster c.args.pending.now.wanted c.requires.came
+    c.args.change.now c.requires.request)
+
+pub returns-clause-sayable : goal.returns-clause-sayable
+returns-clause-sayable g c =
+    let x = c.args.tables.now in
+    let p = c.args.pending.now in
+    used_sayable x.server c.args.change.now p.wanted.needs c.args.is_granted c.in_ok-found.found c.used.result
+    c.used.ensures (change_here x.server x.roster p.wanted c.requires.came c.args.change.now c.requires.request)

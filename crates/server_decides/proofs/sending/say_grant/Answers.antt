@@ -44,3 +44,7 @@ returns-clause-counted c =
     on_ok_weaker c.say.result (λ e. subst IsCounted (sym c.in_ok-next_stamp.ensures.after)
     c.take_out-host.ensures.counted)
     c.say.ensures
+
+pub returns-clause-brought : goal.returns-clause-brought
+returns-clause-brought c p place =
+    on_ok_weaker c.say.result (λ m. c.in_ok-tokens.ensures.brought p place) c.say.ensures

@@ -48,3 +48,7 @@ returns-clause-counted c =
     on_ok_weaker c.finish_done.result (λ m. done_counted c.next_stamp.new.self c.args.draft.now
     c.finish_done.new.tables c.finish_done.new.draft c.take_out-host.result c.use_of-done.result
     (subst IsCounted (sym c.in_ok-stamp.ensures.after) c.take_out-host.ensures.counted) m) c.finish_done.ensures
+
+pub returns-clause-brought : goal.returns-clause-brought
+returns-clause-brought c p place =
+    on_ok_weaker c.finish_done.result (λ m. c.in_ok-tokens.ensures.brought p place) c.finish_done.ensures

@@ -4,6 +4,8 @@ use Rattle.run_rules.specs.declared.applied.Request.TheVariants.{Change as Chang
 use Rattle.server_decides.specs.Deciding.{is_waiting, outlook_at}
 use Rattle.server_decides.specs.Sending.{IsChangeSending, IsSending, is_granted}
 use Rattle.server_decides.proofs.Parts.{ready_so, waits_so}
+use Rattle.server_decides.proofs.Saying.{fetched_sayable}
+use Rattle.server_decides.proofs.Served.{fetch_here}
 use Rattle.server_decides.proofs.sending.sending_of.Goals as goal
 
 pub returns-then-is_waiting-clause-sending : goal.returns-then-is_waiting-clause-sending
@@ -33,3 +35,10 @@ returns-in-Change-clause-sending g c tells =
     (IsSending x st p)
     (λ s h. ready_so x st p (Changes change) s c.in-Change.is free
     (subst (λ b. IsChangeSending x st p b s change) granted h)) (c.changed.ensures.sending tells)
+
+pub returns-in_ok-fetched-in-Fetch-clause-sayable : goal.returns-in_ok-fetched-in-Fetch-clause-sayable
+returns-in_ok-fetched-in-Fetch-clause-sayable g c =
+    let x = c.args.tables.now in
+    let w = c.args.pending.now.wanted in
+    fetched_sayable x.server c.is_granted-is_granted.result c.in-Fetch.fetch _ c.in_ok-fetched-in-Fetch.ensures
+    (fetch_here x.server x.roster w c.requires.came c.in-Fetch.fetch c.in-Fetch.is)

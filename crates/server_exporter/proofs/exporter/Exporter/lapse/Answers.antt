@@ -3,10 +3,11 @@ use Rattle.base_types.specs.declared.ids.Node.TheVariants.{Server}
 use Rattle.run_rules.specs.declared.step.Cause.TheVariants.{Lapse}
 use Rattle.run_rules.specs.declared.step.Step.{Step}
 use Rattle.std.proofs.lemmas.Result.{IfOk-weaker}
-use Rattle.server_exporter.specs.Machines.{MeetsAlone}
+use Rattle.server_exporter.specs.Machines.{MeetsAlone, Says}
 use Rattle.server_decides.specs.Revoking.{lapse_step}
 use Rattle.server_exporter.proofs.Calls.{lapse_follows_all, lapse_keeps, lapse_same, lapse_served, numbered}
 use Rattle.server_exporter.proofs.Lapsed.{lapse_meets}
+use Rattle.server_exporter.proofs.Spoken.{lapse_sound_all, says_lapse}
 use Rattle.server_exporter.proofs.exporter.Exporter.lapse.Goals as goal
 
 pub returns-clause-meets : goal.returns-clause-meets
@@ -47,3 +48,12 @@ pub returns-clause-node : goal.returns-clause-node
 returns-clause-node c = let x = c.args.self.now in
     IfOk-weaker c.lapse_step.result (λ step. step ≡ lapse_step x.tables)
     (λ step. step.node ≡ Server x.tables.server) (λ step e. ap (λ (s : Step). s.node) e) c.lapse_step.ensures.step
+
+pub returns-clause-sends : goal.returns-clause-sends
+returns-clause-sends c sound = let x = c.args.self.now.tables in
+    IfOk-weaker c.lapse_step.result (λ step. step ≡ lapse_step x) (Says x) (λ step e. says_lapse x step sound e)
+    c.lapse_step.ensures.step
+
+pub returns-clause-sound : goal.returns-clause-sound
+returns-clause-sound c sound =
+    lapse_sound_all c.lapse_step.result c.args.self.now.tables c.lapse_step.new.tables c.lapse_step.ensures.tables sound

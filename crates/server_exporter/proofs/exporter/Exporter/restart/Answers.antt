@@ -3,9 +3,10 @@ use Rattle.base_types.specs.declared.ids.Node.TheVariants.{Server}
 use Rattle.run_rules.specs.declared.step.Step.{Step}
 use Rattle.std.proofs.lemmas.Result.{IfOk-weaker}
 use Rattle.server_decides.specs.Hailing.{restarting}
-use Rattle.server_exporter.specs.Machines.{IsRestart, MeetsOnLine}
+use Rattle.server_exporter.specs.Machines.{IsRestart, MeetsOnLine, Says}
 use Rattle.server_exporter.proofs.Begins.{restart_meets}
 use Rattle.server_exporter.proofs.Begun.{restart_follows_all, restart_same, restart_served}
+use Rattle.server_exporter.proofs.Spoken.{begun_sound_all, says_restart}
 use Rattle.server_exporter.proofs.exporter.Exporter.restart.Goals as goal
 
 pub returns-clause-meets : goal.returns-clause-meets
@@ -30,3 +31,12 @@ pub returns-clause-node : goal.returns-clause-node
 returns-clause-node g c = let x = c.args.self.now in
     IfOk-weaker c.begin.result (λ step. step ≡ restarting x.tables c.args.line)
     (λ step. step.node ≡ Server x.tables.server) (λ step e. ap (λ (s : Step). s.node) e) c.begin.ensures.step
+
+pub returns-clause-sends : goal.returns-clause-sends
+returns-clause-sends g c sound = let x = c.args.self.now.tables in
+    IfOk-weaker c.begin.result (λ step. step ≡ restarting x c.args.line) (Says x)
+    (λ step e. says_restart x c.args.line step sound e) c.begin.ensures.step
+
+pub returns-clause-sound : goal.returns-clause-sound
+returns-clause-sound g c sound =
+    begun_sound_all c.begin.result c.args.self.now c.begin.new.self c.begin.ensures.after sound
