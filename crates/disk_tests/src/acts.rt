@@ -69,25 +69,65 @@ pub enum Look<'a> {
     Load(u32, u8),
 }
 
-fn change_of<'a>(kind: &str, page: u32, words: &'a str) -> Option<Change<'a>> {
-    let (a, rest) = first(words);
-    let (b, c) = first(rest);
+fn anode_change<'a>(kind: &str, word: &str) -> Option<Change<'a>> {
     Some(match kind {
-        "create" => Change::Create(a == "dir"),
-        "write" => Change::Write(number(a), b),
-        "end" => Change::End(number(a), b),
-        "cut" => Change::Cut(number(a)),
-        "copy" => Change::Copy(number(a)),
+        "create" => Change::Create(word == "dir"),
+        "copy" => Change::Copy(number(word)),
         "remove" => Change::Remove,
-        "list" => Change::List(small(a), small(b)),
-        "fill" => Change::Fill(number(a), small(b)),
+        "hand" => Change::Hand(number(word)),
+        _ => return None,
+    })
+}
+
+fn bytes_change<'a>(kind: &str, word: &str, next: &'a str) -> Option<Change<'a>> {
+    let place = number(word);
+    Some(match kind {
+        "write" => Change::Write(place, next),
+        "end" => Change::End(place, next),
+        "cut" => Change::Cut(place),
+        "list" => Change::List(small(word), small(next)),
+        "fill" => Change::Fill(place, small(next)),
+        _ => return None,
+    })
+}
+
+fn other_change<'a>(kind: &str, page: u32, word: &'a str, rest: &'a str) -> Option<Change<'a>> {
+    Some(match kind {
         "take" => Change::Take,
         "share" => Change::Share(page),
         "give" => Change::Give(page),
-        "hand" => Change::Hand(number(a)),
-        "add" => Change::Add(a, number(b), number(c)),
-        "drop" => Change::Drop(a),
-        "save" => Change::Save(small(a), b),
+        "add" => added(word, rest),
+        "drop" => Change::Drop(word),
+        "save" => Change::Save(small(word), first(rest).0),
+        _ => return None,
+    })
+}
+
+fn added<'a>(name: &'a str, rest: &str) -> Change<'a> {
+    let (anode, unique) = first(rest);
+    Change::Add(name, number(anode), number(unique))
+}
+
+fn change_of<'a>(kind: &str, page: u32, words: &'a str) -> Option<Change<'a>> {
+    let (word, rest) = first(words);
+    if let Some(change) = anode_change(kind, word) {
+        return Some(change);
+    }
+    if let Some(change) = bytes_change(kind, word, first(rest).0) {
+        return Some(change);
+    }
+    other_change(kind, page, word, rest)
+}
+
+fn number_look<'a>(kind: &str, page: u32, words: &str) -> Option<Look<'a>> {
+    Some(match kind {
+        "server" => Look::Server,
+        "generation" => Look::Generation,
+        "free" => Look::Free,
+        "begin" => Look::Begin(page),
+        "byte" => Look::Byte(page, number(words)),
+        "length" => Look::Length(page),
+        "listed" => Look::Listed(page, small(words)),
         _ => return None,
     })
 }
@@ -96,39 +136,16 @@ fn look_of<'a>(kind: &str, page: u32, words: &'a str) -> Option<Look<'a>> {
     Some(match kind {
         "pages" => Look::Pages,
         "settled" => Look::Settled,
-        "server" => Look::Server,
-        "generation" => Look::Generation,
-        "free" => Look::Free,
-        "begin" => Look::Begin(page),
-        "byte" => Look::Byte(page, number(words)),
-        "length" => Look::Length(page),
-        "listed" => Look::Listed(page, small(words)),
         "used" => Look::Used,
         "counted" => Look::Counted(page.min(9) as u16),
         "find" => Look::Find(page, words),
         "names" => Look::Names(page),
         "load" => Look::Load(page, small(words)),
-        _ => return None,
+        _ => return number_look(kind, page, words),
     })
 }
 
-// The act of a row; `None` where it is another one. `unforced` before a change leaves it to a later force.
-pub fn act_of<'a>(row: &'a str) -> Option<Act<'a>> {
-    let (kind, rest) = first(row);
-    if kind == "unforced" {
-        let (kind, rest) = first(rest);
-        let (page, words) = first(rest);
-        let page = number(page);
-        return change_of(kind, page, words).map(|change| Act::Change(page, change, false));
-    }
-    let (page, words) = first(rest);
-    let page = number(page);
-    if let Some(change) = change_of(kind, page, words) {
-        return Some(Act::Change(page, change, true));
-    }
-    if let Some(look) = look_of(kind, page, words) {
-        return Some(Act::Look(look));
-    }
+fn log_act<'a>(kind: &str, page: u32, words: &str, rest: &str) -> Option<Act<'a>> {
     Some(match kind {
         "fills" => Act::Fills(three(rest)),
         "undone" => Act::Undone(three(rest)),
@@ -139,4 +156,35 @@ pub fn act_of<'a>(row: &'a str) -> Option<Act<'a>> {
         "map" => Act::Map(page, number(words)),
         _ => return None,
     })
+}
+
+fn change_act<'a>(kind: &str, rest: &'a str, is_forced: bool) -> Option<Act<'a>> {
+    let (page, words) = first(rest);
+    let page = number(page);
+    match change_of(kind, page, words) {
+        Some(change) => Some(Act::Change(page, change, is_forced)),
+        None => None,
+    }
+}
+
+fn other_act<'a>(kind: &str, rest: &'a str) -> Option<Act<'a>> {
+    let (page, words) = first(rest);
+    let page = number(page);
+    match look_of(kind, page, words) {
+        Some(look) => Some(Act::Look(look)),
+        None => log_act(kind, page, words, rest),
+    }
+}
+
+// The act of a row; `None` where it is another one. `unforced` before a change leaves it to a later force.
+pub fn act_of<'a>(row: &'a str) -> Option<Act<'a>> {
+    let (kind, rest) = first(row);
+    if kind == "unforced" {
+        let (kind, rest) = first(rest);
+        return change_act(kind, rest, false);
+    }
+    match change_act(kind, rest, true) {
+        Some(act) => Some(act),
+        None => other_act(kind, rest),
+    }
 }

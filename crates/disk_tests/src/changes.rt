@@ -145,6 +145,63 @@ pub fn named(alloc: Global, name: &str) -> Result<Name, NodeFault> {
     or_memory(Name::new(alloc, name.as_bytes()))
 }
 
+// Adds a name to a directory.
+fn name_added<D: Disk>(
+    alloc: Global,
+    log: &mut Log<D>,
+    tx: &mut Tx,
+    page: u32,
+    name: &str,
+    numbers: (u32, u32),
+) -> Result<(), NodeFault>
+    requires act { MayAct D.tells D.view log.old tx.old page }
+    requires page { page < 1058 }
+    ensures { IsAlone D.tells D.view log.new tx.new }
+{
+    let name = named(alloc, name)?;
+    let added = add(alloc, log, tx, page, &name, numbers.0, numbers.1);
+    drop(name);
+    added
+}
+
+// Drops one.
+fn name_dropped<D: Disk>(
+    alloc: Global,
+    log: &mut Log<D>,
+    tx: &mut Tx,
+    page: u32,
+    name: &str,
+) -> Result<(), NodeFault>
+    requires act { MayAct D.tells D.view log.old tx.old page }
+    requires page { page < 1058 }
+    ensures { IsAlone D.tells D.view log.new tx.new }
+{
+    let name = named(alloc, name)?;
+    let dropped = drop_name(log, tx, page, &name);
+    drop(name);
+    dropped
+}
+
+// Saves an access list.
+fn list_saved<D: Disk>(
+    alloc: Global,
+    log: &mut Log<D>,
+    tx: &mut Tx,
+    page: u32,
+    which: u8,
+    words: &str,
+) -> Result<(), NodeFault>
+    requires act { MayAct D.tells D.view log.old tx.old page }
+    requires page { page < 1058 }
+    requires which { which < 3 }
+    ensures { IsAlone D.tells D.view log.new tx.new }
+{
+    let list = or_memory(list_of(alloc, words))?;
+    let saved = save(alloc, log, tx, page, which, &list);
+    drop(list);
+    saved
+}
+
 // Changes a directory or an access list.
 fn names_changed<D: Disk>(
     alloc: Global,
@@ -159,20 +216,31 @@ fn names_changed<D: Disk>(
 {
     match change {
         Change::Add(name, anode, unique) => {
-            let name = named(alloc, name)?;
-            add(alloc, log, tx, page, &name, anode, unique)?;
+            name_added(alloc, log, tx, page, name, (anode, unique))?;
         }
-        Change::Drop(name) => {
-            let name = named(alloc, name)?;
-            drop_name(log, tx, page, &name)?;
-        }
-        Change::Save(which, words) if which < 3 => {
-            let list = or_memory(list_of(alloc, words))?;
-            save(alloc, log, tx, page, which, &list)?;
-        }
+        Change::Drop(name) => name_dropped(alloc, log, tx, page, name)?,
+        Change::Save(which, words) if which < 3 => list_saved(alloc, log, tx, page, which, words)?,
         _ => return Ok(REFUSED),
     }
     Ok(0)
+}
+
+// Makes an anode of ann's.
+fn anode_made<D: Disk>(
+    alloc: Global,
+    log: &mut Log<D>,
+    tx: &mut Tx,
+    page: u32,
+    change: Change,
+) -> Result<u32, NodeFault>
+    requires act { MayAct D.tells D.view log.old tx.old page }
+    requires page { page < 1058 }
+    ensures { IsAlone D.tells D.view log.new tx.new }
+{
+    let owner = named(alloc, "ann")?;
+    let made = anode_changed(log, tx, page, change, &owner);
+    drop(owner);
+    made
 }
 
 fn changed<D: Disk>(
@@ -193,10 +261,9 @@ fn changed<D: Disk>(
         Change::Add(_, _, _) | Change::Drop(_) | Change::Save(_, _) => names_changed(
             alloc, log, tx, page, change,
         ),
-        Change::Create(_) | Change::Copy(_) | Change::Remove | Change::Hand(_) => {
-            let owner = named(alloc, "ann")?;
-            anode_changed(log, tx, page, change, &owner)
-        }
+        Change::Create(_) | Change::Copy(_) | Change::Remove | Change::Hand(_) => anode_made(
+            alloc, log, tx, page, change,
+        ),
         _ => bytes_changed(log, tx, page, change),
     }
 }

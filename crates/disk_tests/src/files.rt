@@ -1,29 +1,31 @@
 // Disks over files by example.
-use crate::disks::{calls_said, worked};
-use crate::words::plain;
+use crate::disks::{push_calls, worked};
+use crate::words::push_plain;
 use anyhow::{Result, bail};
 use base_types::Disk;
 use disk_device::{FileDisk, FileFault};
 use std::alloc::Global;
 use std::fs::File;
 use std::rt::Files;
+use tree_test_words::Text;
 
-fn worked_said(alloc: Global, disk: &mut FileDisk) -> Result<String> {
+fn push_worked(text: &mut Text, disk: &mut FileDisk) {
     let (done, read) = worked(disk);
-    calls_said(alloc, &done, &read)
+    push_calls(text, &done, &read);
 }
 
-// How many bytes a file has, and its first eight.
-fn kept_said(alloc: Global, disk: &mut FileDisk) -> Result<String> {
+// Writes how many bytes a file has, and its first eight.
+fn push_kept(text: &mut Text, disk: &mut FileDisk) {
     let mut read = [b'?'; 8];
     let length = disk.length().unwrap_or(0);
     let _ = disk.read(0, &mut read);
-    let bytes = plain(alloc, &read)?;
-    Ok(format!(in alloc; "{length} {bytes}")?)
+    text.number("", length);
+    text.word(" ");
+    push_plain(text, &read);
 }
 
-// Whether a byte is written, two are read, which ones, whether a sync succeeds, and whether they are read then.
-fn swallowed_said(alloc: Global, disk: &mut FileDisk) -> Result<String> {
+// Writes whether a byte is written, two are read, which ones, whether a sync succeeds, and whether they are read then.
+fn push_swallowed(text: &mut Text, disk: &mut FileDisk) {
     let mut read = [b'?'; 2];
     let written = disk.write_at(0, b"x").is_ok();
     let first = disk.read(0, &mut read).is_ok();
@@ -31,14 +33,18 @@ fn swallowed_said(alloc: Global, disk: &mut FileDisk) -> Result<String> {
     let mut again = [b'?'; 2];
     let second = disk.read(0, &mut again).is_ok();
     let length = disk.length().is_ok();
-    calls_said(alloc, &[written, first, synced, second, length], &read)
+    push_calls(text, &[written, first, synced, second, length], &read);
 }
 
-// Whether a file that is open as a disk can be opened again: to be written, and to be read.
-fn again_said(rt: &(impl AllocGlobal + Files<File = File>), name: &str) -> Result<String> {
-    let written = FileDisk::open_or_make(rt, name).is_ok();
-    let read = FileDisk::open_to_read(rt, name).is_ok();
-    calls_said(rt.alloc(), &[written, read], b"")
+fn is_opened(disk: Result<FileDisk, FileFault>) -> bool {
+    disk.is_ok()
+}
+
+// Writes whether a file that is open as a disk can be opened again: to be written, and to be read.
+fn push_again(text: &mut Text, rt: &impl Files<File = File>, name: &str) {
+    let written = is_opened(FileDisk::open_or_make(rt, name));
+    let read = is_opened(FileDisk::open_to_read(rt, name));
+    push_calls(text, &[written, read], b"");
 }
 
 // The file of a row, opened as it says.
@@ -49,26 +55,49 @@ fn disk_of(rt: &impl Files<File = File>, kind: &str, name: &str) -> Result<FileD
     }
 }
 
-// What a row about a file is answered.
-pub fn file_said(
+fn tell_fault(alloc: Global, fault: FileFault, text: &mut Text) -> Result<()> {
+    let said = format!(in alloc; "{fault}")?;
+    text.word(said.as_str());
+    Ok(())
+}
+
+// Writes what a row about a file that is open is answered.
+fn tell_open(
+    rt: &impl Files<File = File>,
+    disk: &mut FileDisk,
+    kind: &str,
+    name: &str,
+    text: &mut Text,
+) -> Result<()> {
+    match kind {
+        "file" => push_worked(text, disk),
+        "kept" | "read" => push_kept(text, disk),
+        "device" => push_swallowed(text, disk),
+        "written_twice" | "both_read" => push_again(text, rt, name),
+        _ => bail!("no row: {kind}"),
+    }
+    Ok(())
+}
+
+// Writes what a row about a file is answered.
+pub fn tell_file(
     rt: &(impl AllocGlobal + Files<File = File>),
     kind: &str,
     name: &str,
-) -> Result<String> {
-    let alloc = rt.alloc();
-    if kind == "remove_file" {
-        std::fs::remove_file(rt, name)?;
-        return Ok(String::new(alloc));
+    text: &mut Text,
+) -> Result<()> {
+    match disk_of(rt, kind, name) {
+        Ok(mut disk) => {
+            let told = tell_open(rt, &mut disk, kind, name, text);
+            drop(disk);
+            told
+        }
+        Err(fault) => tell_fault(rt.alloc(), fault, text),
     }
-    let mut disk = match disk_of(rt, kind, name) {
-        Ok(disk) => disk,
-        Err(fault) => return Ok(format!(in alloc; "{fault}")?),
-    };
-    match kind {
-        "file" => worked_said(alloc, &mut disk),
-        "kept" | "read" => kept_said(alloc, &mut disk),
-        "device" => swallowed_said(alloc, &mut disk),
-        "written_twice" | "both_read" => again_said(rt, name),
-        _ => bail!("no row: {kind}"),
-    }
+}
+
+// Removes a file.
+pub fn remove_file(rt: &(impl AllocGlobal + Files<File = File>), name: &str) -> Result<()> {
+    std::fs::remove_file(rt, name)?;
+    Ok(())
 }

@@ -2,6 +2,7 @@
 use anyhow::{Context, Result, bail};
 use base_types::{AccessEntry, AccessList, Items, Name, Rights, Who};
 use std::alloc::Global;
+use tree_test_words::Text;
 
 fn who_of(alloc: Global, word: &str) -> Result<Who> {
     let (kind, name) = word.split_once(':').unwrap_or((word, ""));
@@ -19,49 +20,42 @@ fn who_of(alloc: Global, word: &str) -> Result<Who> {
 fn entry_of(alloc: Global, word: &str) -> Result<AccessEntry> {
     let (who, rights) = word.rsplit_once(':').context("an entry")?;
     let rights = Rights::from_bits(rights.parse::<u8>().context("rights")?);
-    Ok(AccessEntry {
-        who: who_of(alloc, who)?,
-        rights,
-    })
+    let who = who_of(alloc, who)?;
+    Ok(AccessEntry { who, rights })
 }
 
-pub fn list_of(alloc: Global, words: &str) -> Result<AccessList> {
+fn entries_of(alloc: Global, words: &str) -> Result<Items<AccessEntry>> {
     let mut entries = Items::new(alloc);
     for word in words.split(',') {
         entries.push(entry_of(alloc, word)?)?;
     }
-    Ok(AccessList::new(alloc, entries.as_slice())?)
+    Ok(entries)
 }
 
-fn push_name(said: &mut String, kind: &str, name: &Name) -> Result<()> {
-    said.push_str(kind)?;
-    for byte in name.as_bytes() {
-        said.push(*byte as char)?;
-    }
-    Ok(())
+pub fn list_of(alloc: Global, words: &str) -> Result<AccessList> {
+    let entries = entries_of(alloc, words)?;
+    let list = AccessList::new(alloc, entries.as_slice());
+    drop(entries);
+    Ok(list?)
 }
 
-fn push_who(said: &mut String, who: &Who) -> Result<()> {
+fn push_who(text: &mut Text, who: &Who) {
     match who {
-        Who::UserObj => said.push_str("user_obj")?,
-        Who::User(name) => push_name(said, "user:", name)?,
-        Who::GroupObj => said.push_str("group_obj")?,
-        Who::Group(name) => push_name(said, "group:", name)?,
-        Who::OtherObj => said.push_str("other_obj")?,
-        Who::MaskObj => said.push_str("mask_obj")?,
+        Who::UserObj => text.word("user_obj"),
+        Who::User(name) => text.plain("user:", name.as_bytes()),
+        Who::GroupObj => text.word("group_obj"),
+        Who::Group(name) => text.plain("group:", name.as_bytes()),
+        Who::OtherObj => text.word("other_obj"),
+        Who::MaskObj => text.word("mask_obj"),
     }
-    Ok(())
 }
 
-pub fn words_of(alloc: Global, list: &AccessList) -> Result<String> {
-    let mut said = String::new(alloc);
+pub fn push_list(text: &mut Text, list: &AccessList) {
+    let mut apart = "";
     for entry in list.as_slice() {
-        if !said.is_empty() {
-            said.push(',')?;
-        }
-        push_who(&mut said, &entry.who)?;
-        let rights = entry.rights.bits();
-        said.push_str(format!(in alloc; ":{rights}")?.as_str())?;
+        text.word(apart);
+        push_who(text, &entry.who);
+        text.number(":", u64::from(entry.rights.bits()));
+        apart = ",";
     }
-    Ok(said)
 }

@@ -4,48 +4,47 @@ ghost use Rattle.disk_log.specs.Log.{state_of, slot_of, IsSoundLog};
 ghost use Rattle.disk_log.specs.State.{IsOnly};
 ghost use Rattle.disk_tests.specs.Ready.{IsReady};
 
-use crate::acts::{Act, act_of};
-use crate::changes::{acted, or_memory};
-use crate::looks::{filled_with, fills_said, looked};
+use crate::acts::{Act, Change, act_of};
+use crate::changes::acted;
+use crate::looks::{filled_with, look_at, push_fills};
 use base_types::Disk;
 use disk_anode::{BLOCK, NodeFault};
 use disk_layout::put_u32;
 use disk_log::{Log, LogFault, Tx};
-use std::alloc::{AllocError, Global};
+use std::alloc::Global;
+use tree_test_words::Text;
 
-// What acts were answered, how many of them, and whether there was a log.
+// What acts were answered, joined by `; `, how many of them, and whether there was a log.
 #[derive(Drop)]
 pub struct Answers {
-    pub text: String,
+    pub text: Text,
     pub done: usize,
     pub fault: Option<LogFault>,
+    apart: &'static str,
 }
 
 impl Answers {
     pub fn new(alloc: Global) -> Answers {
         Answers {
-            text: String::new(alloc),
+            text: Text::new(alloc),
             done: 0,
             fault: None,
+            apart: "",
         }
     }
 
-    // Takes an answer, and whether there was memory for it.
-    fn take(&mut self, text: &str) -> bool {
-        self.done = self.done.saturating_add(1);
-        self.push(text).is_ok()
+    // The answer to a further act begins.
+    pub fn begin(&mut self) {
+        self.text.word(self.apart);
+        self.apart = "; ";
     }
 
     fn fail(&mut self, fault: NodeFault) {
-        let is_disk = matches!(fault, NodeFault::Failed);
-        let _ = self.push(if is_disk { "failed" } else { "memory" });
-    }
-
-    fn push(&mut self, text: &str) -> Result<(), AllocError> {
-        if !self.text.is_empty() && !text.is_empty() {
-            self.text.push_str("; ")?;
-        }
-        self.text.push_str(text)
+        self.begin();
+        self.text.word(match fault {
+            NodeFault::Failed => "failed",
+            NodeFault::Memory => "memory",
+        });
     }
 }
 
@@ -74,8 +73,8 @@ fn ended<D: Disk>(log: &mut Log<D>, fills: &[u8]) -> Result<(), LogFault>
     Ok(())
 }
 
-// Undoes such a transaction. Answers what the pages are within it, and how many entries are free.
-fn undone<D: Disk>(alloc: Global, log: &mut Log<D>, fills: [u8; 3]) -> Result<String, NodeFault>
+// Undoes such a transaction. Writes what the pages are within it, and how many entries are free.
+fn undone<D: Disk>(log: &mut Log<D>, fills: [u8; 3], answers: &mut Answers) -> Result<(), NodeFault>
     requires { IsReady D.tells D.view log.old }
     ensures { OnOk result (IsReady D.tells D.view log.new) }
 {
@@ -83,8 +82,9 @@ fn undone<D: Disk>(alloc: Global, log: &mut Log<D>, fills: [u8; 3]) -> Result<St
     let fills = filled_with(log);
     let free = log.free();
     log.undo(tx);
-    let said = fills_said(alloc, fills?)?;
-    or_memory(format!(in alloc; "{said} {free}"))
+    push_fills(answers, fills?);
+    answers.text.number(" ", u64::from(free));
+    Ok(())
 }
 
 // Ends so many transactions of the same pages, three at most.
@@ -152,22 +152,40 @@ fn logged<D: Disk>(log: &mut Log<D>, act: Act) -> Result<(), LogFault>
     }
 }
 
-// Does an act, and answers what it says.
-fn said<D: Disk>(alloc: Global, log: &mut Log<D>, act: Act) -> Result<String, NodeFault>
+fn change_told<D: Disk>(
+    alloc: Global,
+    log: &mut Log<D>,
+    page: u32,
+    change: Change,
+    is_forced: bool,
+    answers: &mut Answers,
+) -> Result<(), NodeFault>
+    requires { IsReady D.tells D.view log.old }
+    ensures { OnOk result (IsReady D.tells D.view log.new) }
+{
+    let number = acted(alloc, log, page, change, is_forced)?;
+    answers.begin();
+    answers.text.number("", u64::from(number));
+    Ok(())
+}
+
+// Does an act, and writes what it says.
+fn told<D: Disk>(
+    alloc: Global,
+    log: &mut Log<D>,
+    act: Act,
+    answers: &mut Answers,
+) -> Result<(), NodeFault>
     requires { IsReady D.tells D.view log.old }
     ensures { OnOk result (IsReady D.tells D.view log.new) }
 {
     match act {
-        Act::Look(look) => looked(alloc, log, look),
-        Act::Undone(fills) => undone(alloc, log, fills),
+        Act::Look(look) => look_at(alloc, log, look, answers),
+        Act::Undone(fills) => undone(log, fills, answers),
         Act::Change(page, change, is_forced) => {
-            let answer = acted(alloc, log, page, change, is_forced)?;
-            or_memory(format!(in alloc; "{answer}"))
+            change_told(alloc, log, page, change, is_forced, answers)
         }
-        _ => {
-            logged(log, act)?;
-            Ok(String::new(alloc))
-        }
+        _ => Ok(logged(log, act)?),
     }
 }
 
@@ -179,14 +197,11 @@ fn all<D: Disk>(alloc: Global, log: &mut Log<D>, acts: &str, answers: &mut Answe
         let Some(act) = act_of(row.trim()) else {
             return;
         };
-        match said(alloc, log, act) {
-            Ok(text) if answers.take(text.as_str()) => {}
-            Ok(_) => return,
-            Err(fault) => {
-                answers.fail(fault);
-                return;
-            }
+        if let Err(fault) = told(alloc, log, act, answers) {
+            answers.fail(fault);
+            return;
         }
+        answers.done = answers.done.saturating_add(1);
     }
 }
 

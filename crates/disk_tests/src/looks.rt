@@ -4,14 +4,15 @@ ghost use Rattle.disk_log.specs.Log.{IsSoundLog};
 ghost use Rattle.disk_tests.specs.Ready.{IsReady, IsRead};
 
 use crate::acts::Look;
-use crate::changes::{named, or_memory};
-use crate::lists::words_of;
-use base_types::{AccessList, Disk, Items, Name, Span};
+use crate::changes::named;
+use crate::lists::push_list;
+use crate::logs::Answers;
+use base_types::{AccessList, Disk, Name, Span};
 use disk_anode::{BLOCK, NodeFault, length_of, read_at, read_list};
 use disk_lists::{ListFault, find, list, load};
 use disk_log::{Log, LogFault};
 use disk_space::count_of;
-use std::alloc::{AllocError, Global};
+use std::alloc::Global;
 use tree_calls::DirEntry;
 
 // The byte that all have; 256 where they differ.
@@ -140,38 +141,50 @@ fn found<D: Disk>(log: &mut Log<D>, page: u32, name: &Name) -> Result<Option<(u3
     Ok(None)
 }
 
-// The numbers of a name.
-fn find_said<D: Disk>(
+// Writes the numbers of a name.
+fn tell_find<D: Disk>(
     alloc: Global,
     log: &mut Log<D>,
     page: u32,
     name: &str,
-) -> Result<String, NodeFault>
+    answers: &mut Answers,
+) -> Result<(), NodeFault>
     requires { IsReady D.tells D.view log.old }
     ensures { IsReady D.tells D.view log.new }
 {
     let name = named(alloc, name)?;
-    match found(log, page, &name)? {
-        Some((anode, unique)) => or_memory(format!(in alloc; "{anode} {unique}")),
-        None => or_memory(String::from_str(alloc, "none")),
+    let found = found(log, page, &name);
+    drop(name);
+    answers.begin();
+    match found? {
+        Some((anode, unique)) => {
+            answers.text.number("", u64::from(anode));
+            answers.text.number(" ", u64::from(unique));
+        }
+        None => answers.text.word("none"),
+    }
+    Ok(())
+}
+
+fn push_names(answers: &mut Answers, entries: &[DirEntry]) {
+    if entries.is_empty() {
+        return;
+    }
+    answers.begin();
+    let mut apart = "";
+    for entry in entries {
+        answers.text.plain(apart, entry.name.as_bytes());
+        apart = " ";
     }
 }
 
-fn names_of(alloc: Global, entries: &Items<DirEntry>) -> Result<String, AllocError> {
-    let mut said = String::new(alloc);
-    for entry in entries.as_slice() {
-        if !said.is_empty() {
-            said.push(' ')?;
-        }
-        for byte in entry.name.as_bytes() {
-            said.push(*byte as char)?;
-        }
-    }
-    Ok(said)
-}
-
-// All names of a directory.
-fn names_said<D: Disk>(alloc: Global, log: &mut Log<D>, page: u32) -> Result<String, NodeFault>
+// Writes all names of a directory.
+fn tell_names<D: Disk>(
+    alloc: Global,
+    log: &mut Log<D>,
+    page: u32,
+    answers: &mut Answers,
+) -> Result<(), NodeFault>
     requires { IsReady D.tells D.view log.old }
     ensures { IsReady D.tells D.view log.new }
 {
@@ -179,60 +192,95 @@ fn names_said<D: Disk>(alloc: Global, log: &mut Log<D>, page: u32) -> Result<Str
         return Err(NodeFault::Memory);
     }
     let entries = list(alloc, log, page)?;
-    or_memory(names_of(alloc, &entries))
+    push_names(answers, entries.as_slice());
+    drop(entries);
+    Ok(())
 }
 
-fn words_said(alloc: Global, list: Result<AccessList, ListFault>) -> Result<String, NodeFault> {
+fn push_loaded(
+    answers: &mut Answers,
+    list: Result<AccessList, ListFault>,
+) -> Result<(), NodeFault> {
     match list {
-        Ok(list) => or_memory(words_of(alloc, &list)),
-        Err(ListFault::BadList) => or_memory(String::from_str(alloc, "bad")),
+        Ok(list) => {
+            answers.begin();
+            push_list(&mut answers.text, &list);
+            drop(list);
+            Ok(())
+        }
+        Err(ListFault::BadList) => {
+            answers.begin();
+            answers.text.word("bad");
+            Ok(())
+        }
         Err(ListFault::Failed) => Err(NodeFault::Failed),
         Err(ListFault::Memory) => Err(NodeFault::Memory),
     }
 }
 
-// An access list.
-fn list_said<D: Disk>(
+// Writes an access list.
+fn tell_list<D: Disk>(
     alloc: Global,
     log: &mut Log<D>,
     page: u32,
     which: u8,
-) -> Result<String, NodeFault>
+    answers: &mut Answers,
+) -> Result<(), NodeFault>
     requires { IsReady D.tells D.view log.old }
     ensures { IsReady D.tells D.view log.new }
 {
     if 1_058 <= page || 3 <= which {
         return Err(NodeFault::Memory);
     }
-    words_said(alloc, load(alloc, log, page, which))
+    push_loaded(answers, load(alloc, log, page, which))
 }
 
-pub fn fills_said(alloc: Global, fills: [u32; 4]) -> Result<String, NodeFault> {
+pub fn push_fills(answers: &mut Answers, fills: [u32; 4]) {
+    answers.begin();
     let [first, second, third, block] = fills;
-    or_memory(format!(in alloc; "{first} {second} {third} {block}"))
+    answers.text.number("", u64::from(first));
+    answers.text.number(" ", u64::from(second));
+    answers.text.number(" ", u64::from(third));
+    answers.text.number(" ", u64::from(block));
 }
 
-fn pages_said<D: Disk>(alloc: Global, log: &mut Log<D>) -> Result<String, NodeFault>
+fn tell_pages<D: Disk>(log: &mut Log<D>, answers: &mut Answers) -> Result<(), NodeFault>
     requires { IsReady D.tells D.view log.old }
     ensures { IsReady D.tells D.view log.new }
 {
-    let fills = filled_with(log)?;
-    fills_said(alloc, fills)
+    push_fills(answers, filled_with(log)?);
+    Ok(())
 }
 
-// What a question is answered.
-pub fn looked<D: Disk>(alloc: Global, log: &mut Log<D>, look: Look) -> Result<String, NodeFault>
+fn tell_number<D: Disk>(
+    log: &mut Log<D>,
+    look: Look,
+    answers: &mut Answers,
+) -> Result<(), NodeFault>
+    requires { IsReady D.tells D.view log.old }
+    ensures { IsReady D.tells D.view log.new }
+{
+    let number = number_of(log, look)?;
+    answers.begin();
+    answers.text.number("", u64::from(number));
+    Ok(())
+}
+
+// Writes what a question is answered.
+pub fn look_at<D: Disk>(
+    alloc: Global,
+    log: &mut Log<D>,
+    look: Look,
+    answers: &mut Answers,
+) -> Result<(), NodeFault>
     requires { IsReady D.tells D.view log.old }
     ensures { IsReady D.tells D.view log.new }
 {
     match look {
-        Look::Pages => pages_said(alloc, log),
-        Look::Find(page, name) => find_said(alloc, log, page, name),
-        Look::Names(page) => names_said(alloc, log, page),
-        Look::Load(page, which) => list_said(alloc, log, page, which),
-        _ => {
-            let number = number_of(log, look)?;
-            or_memory(format!(in alloc; "{number}"))
-        }
+        Look::Pages => tell_pages(log, answers),
+        Look::Find(page, name) => tell_find(alloc, log, page, name, answers),
+        Look::Names(page) => tell_names(alloc, log, page, answers),
+        Look::Load(page, which) => tell_list(alloc, log, page, which, answers),
+        _ => tell_number(log, look, answers),
     }
 }

@@ -20,7 +20,7 @@ mod world;
 use anyhow::Result;
 use std::fs::File;
 use std::rt::Files;
-use world::World;
+use world::{World, told};
 
 // Judges one line: a comment, or a row. Answers whether it was a row, and prints one whose answer isn't the wanted one.
 fn judge(
@@ -33,21 +33,31 @@ fn judge(
         return Ok(false);
     }
     let (row, wanted) = line.split_once(" =").unwrap_or((line, ""));
-    let told = world.told(rt, row.trim())?;
+    let told = told(rt, world, row.trim())?;
     if told.as_str().trim() != wanted.trim() {
         println!(rt; "{row}: {told}, and not {wanted}")?;
     }
     Ok(true)
 }
 
-fn main(rt: HostRuntime) -> Result<()> {
-    let mut world = World::new(rt.alloc());
+// Judges each line of standard input, and answers how many rows there were.
+fn judge_all(
+    rt: &(impl Input + Print + AllocGlobal + Files<File = File>),
+    world: &mut World,
+) -> Result<u64> {
     let mut rows = 0u64;
     for line in rt.lines(rt.alloc()) {
-        if judge(&rt, &mut world, line?.as_str())? {
+        if judge(rt, world, line?.as_str())? {
             rows = rows.saturating_add(1);
         }
     }
-    println!(rt; "{rows} rows")?;
+    Ok(rows)
+}
+
+fn main(rt: HostRuntime) -> Result<()> {
+    let mut world = World::new(rt.alloc());
+    let judged = judge_all(&rt, &mut world);
+    drop(world);
+    println!(rt; "{} rows", judged?)?;
     Ok(())
 }

@@ -6,6 +6,7 @@ use anyhow::Result;
 use disk_device::MemDisk;
 use disk_log::LogFault;
 use std::alloc::Global;
+use tree_test_words::Text;
 
 // What a crash may leave of the ranges that aren't synced: what was written, or 1 in the bytes of each, or 255 in those
 // of every other one.
@@ -13,28 +14,62 @@ const TEARS: [(u64, u8); 3] = [(0, 0), (!0, 1), (0x5555, 255)];
 
 // What a disk in memory has, or that there is no log on it.
 fn contents(alloc: Global, bytes: &[u8]) -> Result<String> {
+    let disk = disk_of(alloc, bytes)?;
     let mut answers = Answers::new(alloc);
-    let _disk = over(alloc, disk_of(alloc, bytes)?, "pages", &mut answers);
+    drop(over(alloc, disk, "pages", &mut answers));
     match answers.fault {
-        Some(LogFault::NotALog(0)) => Ok(String::from_str(alloc, "none")?),
-        Some(_) => Ok(String::from_str(alloc, "fault")?),
-        None => Ok(answers.text),
+        Some(LogFault::NotALog(0)) => answers.text.word("none"),
+        Some(_) => answers.text.word("fault"),
+        None => {}
     }
+    answers.text.line()
 }
 
-// Mounts what a crash may leave of a disk. Answers the first contents that aren't one of two; an empty text where all
-// are.
-fn judged(alloc: Global, disk: &Watched<MemDisk>, one: &str, other: &str) -> Result<String> {
-    for (mask, byte) in TEARS {
-        if mask == 0 || !is_synced(&disk.seen) {
-            let bytes = torn(alloc, disk, mask, byte)?;
-            let found = contents(alloc, bytes.as_slice())?;
-            if found.as_str() != one && found.as_str() != other {
-                return Ok(found);
-            }
+// Mounts bytes. Answers whether their contents are one of two, and writes them where they aren't.
+fn is_either(
+    alloc: Global,
+    bytes: &[u8],
+    one: &str,
+    other: &str,
+    wrong: &mut Text,
+) -> Result<bool> {
+    let found = contents(alloc, bytes)?;
+    let is_either = found.as_str() == one || found.as_str() == other;
+    if !is_either {
+        wrong.word(found.as_str());
+    }
+    Ok(is_either)
+}
+
+// As that, of what a crash may leave of a disk.
+fn is_tear_right(
+    alloc: Global,
+    disk: &Watched<MemDisk>,
+    tear: (u64, u8),
+    either: (&str, &str),
+    wrong: &mut Text,
+) -> Result<bool> {
+    let bytes = torn(alloc, disk, tear.0, tear.1)?;
+    let right = is_either(alloc, bytes.as_slice(), either.0, either.1, wrong);
+    drop(bytes);
+    right
+}
+
+// Mounts what a crash may leave of a disk. Answers whether each contents is one of two, and writes one that isn't.
+fn is_right(
+    alloc: Global,
+    disk: &Watched<MemDisk>,
+    either: (&str, &str),
+    wrong: &mut Text,
+) -> Result<bool> {
+    for tear in TEARS {
+        if (tear.0 == 0 || !is_synced(&disk.seen))
+            && !is_tear_right(alloc, disk, tear, either, wrong)?
+        {
+            return Ok(false);
         }
     }
-    Ok(String::new(alloc))
+    Ok(true)
 }
 
 // A transaction is ended and forced, and a checkpoint made.
@@ -42,16 +77,46 @@ const WORK: &str = "fills 7 7 7; force; checkpoint";
 
 const AFTER: &str = "7 7 7 9";
 
-// Stops that work after so many calls. The pages are then as before until the mount has answered, as after it once the
+// What the pages may be after the work was stopped: as before it until the mount has answered, as after it once the
 // force has, and all as before or all as after between.
-fn stopped(alloc: Global, bytes: &[u8], passes: u64, before: &str) -> Result<String> {
+fn either_after<'a>(answers: &Answers, before: &'a str) -> (&'a str, &'a str) {
+    let first = if 2 <= answers.done { AFTER } else { before };
+    let second = if answers.fault.is_none() {
+        AFTER
+    } else {
+        before
+    };
+    (first, second)
+}
+
+// The disk after work that stops after so many calls, and what its pages may be.
+fn worked<'a>(
+    alloc: Global,
+    disk: Watched<MemDisk>,
+    before: &'a str,
+    either: &mut (&'a str, &'a str),
+) -> Watched<MemDisk> {
     let mut answers = Answers::new(alloc);
-    let disk = watching(alloc, MemDisk::fuse(alloc, bytes, passes)?);
     let disk = over(alloc, disk, WORK, &mut answers);
-    let is_mounted = answers.fault.is_none();
-    let is_forced = 2 <= answers.done;
-    let first = if is_forced { AFTER } else { before };
-    judged(alloc, &disk, first, if is_mounted { AFTER } else { before })
+    *either = either_after(&answers, before);
+    drop(answers);
+    disk
+}
+
+// Stops that work after so many calls.
+fn is_stop_right(
+    alloc: Global,
+    bytes: &[u8],
+    passes: u64,
+    before: &str,
+    wrong: &mut Text,
+) -> Result<bool> {
+    let disk = watching(alloc, MemDisk::fuse(alloc, bytes, passes)?);
+    let mut either = (before, before);
+    let disk = worked(alloc, disk, before, &mut either);
+    let right = is_right(alloc, &disk, either, wrong);
+    drop(disk);
+    right
 }
 
 // Whether a stop before a call leaves what a stop before the last call did: that was a read, and this isn't a write.
@@ -59,25 +124,55 @@ fn is_repeated(last: Seen, call: Seen) -> bool {
     matches!(last, Seen::Read(_)) && !matches!(call, Seen::Wrote(_, _))
 }
 
-// Stops the work at each of its calls. Answers what is wrong first, and after how many calls.
-pub fn stops_said(alloc: Global, bytes: &[u8], before: &str) -> Result<String> {
-    let mut answers = Answers::new(alloc);
-    let whole = over(alloc, disk_of(alloc, bytes)?, WORK, &mut answers);
+fn push_calls(wrong: &mut Text, passes: usize) {
+    wrong.number(" after ", passes as u64);
+    wrong.word(" calls");
+}
+
+// Stops the work at each of its calls. Answers whether all is right, and writes what is wrong first, and after how many
+// calls.
+fn is_each_right(
+    alloc: Global,
+    bytes: &[u8],
+    seen: &[Seen],
+    before: &str,
+    wrong: &mut Text,
+) -> Result<bool> {
     let mut last = Seen::Synced;
-    for (passes, call) in whole.seen.iter().enumerate() {
-        if !is_repeated(last, *call) {
-            let wrong = stopped(alloc, bytes, passes as u64, before)?;
-            if !wrong.is_empty() {
-                return Ok(format!(in alloc; "{wrong} after {passes} calls")?);
-            }
+    for (passes, call) in seen.iter().enumerate() {
+        if !is_repeated(last, *call)
+            && !is_stop_right(alloc, bytes, passes as u64, before, wrong)?
+        {
+            push_calls(wrong, passes);
+            return Ok(false);
         }
         last = *call;
     }
-    let wrong = judged(alloc, &whole, AFTER, AFTER)?;
-    if wrong.is_empty() {
-        return Ok(String::from_str(alloc, "all or nothing")?);
+    Ok(true)
+}
+
+fn tell_stops_of(
+    alloc: Global,
+    bytes: &[u8],
+    whole: &Watched<MemDisk>,
+    before: &str,
+    text: &mut Text,
+) -> Result<()> {
+    if is_each_right(alloc, bytes, &whole.seen, before, text)?
+        && is_right(alloc, whole, (AFTER, AFTER), text)?
+    {
+        text.word("all or nothing");
     }
-    Ok(wrong)
+    Ok(())
+}
+
+// Stops the work at each of its calls, and at its end. Writes what is wrong first, or that nothing is.
+pub fn tell_stops(alloc: Global, bytes: &[u8], before: &str, text: &mut Text) -> Result<()> {
+    let mut either = (before, before);
+    let whole = worked(alloc, disk_of(alloc, bytes)?, before, &mut either);
+    let told = tell_stops_of(alloc, bytes, &whole, before, text);
+    drop(whole);
+    told
 }
 
 // Whether a stop of a format before a call tells more than one before the call before it: of the pages only the first
@@ -90,19 +185,31 @@ fn is_telling(call: Seen) -> bool {
     }
 }
 
-// Stops a format of a blank disk at each of its calls: there is no log then, or the formatted one.
-pub fn formats_said(alloc: Global) -> Result<String> {
-    let blank = watching(alloc, MemDisk::new(alloc, &[])?);
-    let (whole, _) = formatted(alloc, blank, 3, 1);
-    for (passes, call) in whole.seen.iter().enumerate() {
-        if is_telling(*call) {
-            let disk = watching(alloc, MemDisk::fuse(alloc, &[], passes as u64)?);
-            let (disk, done) = formatted(alloc, disk, 3, 1);
-            let wrong = judged(alloc, &disk, "none", "0 0 0 0")?;
-            if done || !wrong.is_empty() {
-                return Ok(format!(in alloc; "{wrong} after {passes} calls")?);
-            }
+// Stops a format of a blank disk after so many calls: there is no log then, or the formatted one.
+fn is_format_right(alloc: Global, passes: u64, wrong: &mut Text) -> Result<bool> {
+    let disk = watching(alloc, MemDisk::fuse(alloc, &[], passes)?);
+    let (disk, done) = formatted(alloc, disk, 3, 1);
+    let right = is_right(alloc, &disk, ("none", "0 0 0 0"), wrong);
+    drop(disk);
+    Ok(right? && !done)
+}
+
+fn tell_formats_of(alloc: Global, seen: &[Seen], text: &mut Text) -> Result<()> {
+    for (passes, call) in seen.iter().enumerate() {
+        if is_telling(*call) && !is_format_right(alloc, passes as u64, text)? {
+            push_calls(text, passes);
+            return Ok(());
         }
     }
-    Ok(String::from_str(alloc, "no log or a new one")?)
+    text.word("no log or a new one");
+    Ok(())
+}
+
+// Stops a format at each of its calls.
+pub fn tell_formats(alloc: Global, text: &mut Text) -> Result<()> {
+    let blank = watching(alloc, MemDisk::new(alloc, &[])?);
+    let (whole, _) = formatted(alloc, blank, 3, 1);
+    let told = tell_formats_of(alloc, &whole.seen, text);
+    drop(whole);
+    told
 }

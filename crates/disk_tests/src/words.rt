@@ -1,5 +1,6 @@
 // Words of rows, and bytes as words.
 use std::alloc::{AllocError, Global};
+use tree_test_words::Text;
 
 // The first word, and what is behind it.
 pub fn first(words: &str) -> (&str, &str) {
@@ -57,21 +58,38 @@ pub fn bytes_of(alloc: Global, word: &str) -> Result<Vec<u8>, AllocError> {
     Ok(bytes)
 }
 
-// Bytes spelled so.
-pub fn hex(alloc: Global, bytes: &[u8]) -> Result<String, AllocError> {
-    let mut said = String::new(alloc);
-    for byte in bytes {
-        let byte = *byte;
-        said.push_str(format!(in alloc; "{byte:02x}")?.as_str())?;
+// The letter of a hexadecimal digit.
+fn letter(digit: u8) -> u8 {
+    if digit < 10 {
+        digit.wrapping_add(b'0')
+    } else {
+        digit.wrapping_sub(10).wrapping_add(b'a')
     }
-    Ok(said)
 }
 
-// Bytes as the characters that they are, zeros as `_`.
-pub fn plain(alloc: Global, bytes: &[u8]) -> Result<String, AllocError> {
-    let mut said = String::new(alloc);
+// Writes bytes by two hexadecimal digits each.
+pub fn push_hex(text: &mut Text, bytes: &[u8]) {
     for byte in bytes {
-        said.push(if *byte == 0 { '_' } else { *byte as char })?;
+        text.plain("", &[letter(*byte / 16), letter(*byte % 16)]);
     }
-    Ok(said)
+}
+
+// Writes a number by its hexadecimal digits, without zeros before the first one.
+pub fn push_hex_number(text: &mut Text, number: u64) {
+    let mut begun = false;
+    for byte in number.to_be_bytes() {
+        for digit in [byte / 16, byte % 16] {
+            begun |= digit != 0;
+            if begun {
+                text.plain("", &[letter(digit)]);
+            }
+        }
+    }
+}
+
+// Writes bytes as the characters that they are, zeros as `_`.
+pub fn push_plain(text: &mut Text, bytes: &[u8]) {
+    for byte in bytes {
+        text.plain("", &[if *byte == 0 { b'_' } else { *byte }]);
+    }
 }
