@@ -1,0 +1,16 @@
+use Rattle.server_node.specs.Laws.{fails_on, stays_on}
+use Rattle.server_node.proofs.server.ServerNode.go_on.Goals as goal
+
+pub returns-in-Ok-clause-works : goal.returns-in-Ok-clause-works
+returns-in-Ok-clause-works g c = λ part past so.
+    c.settle.ensures.works part past (c.in-Ok.ensures.works part past so)
+
+pub returns-in-Ok-clause-stays : goal.returns-in-Ok-clause-stays
+returns-in-Ok-clause-stays g c =
+    stays_on g.S.Store.tells g.S.Store.view c.args.self.now c.go.new.self c.settle.new.self c.go.ensures.stays
+    c.settle.ensures.stays
+
+pub returns-in-Ok-clause-failed : goal.returns-in-Ok-clause-failed
+returns-in-Ok-clause-failed g c = λ e.
+    fails_on g.S.Store.tells g.S.Store.view c.args.self.now c.go.new.self c.settle.new.self c.go.ensures.stays
+    (c.settle.ensures.failed e)

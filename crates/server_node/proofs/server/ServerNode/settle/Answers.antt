@@ -1,0 +1,28 @@
+use Rattle.std.proofs.Common.{◌∙◌}
+use Rattle.server_node.specs.Laws.{fails_on, stays_on, stays_so}
+use Rattle.server_node.proofs.server.ServerNode.settle.Goals as goal
+
+pub loop-init : goal.loop-init
+loop-init g c = record {
+  ready = c.requires.ready;
+  works = (λ part past so. so);
+  stays = stays_so g.S.Store.tells g.S.Store.view c.args.self.now;
+}
+
+pub loop-preserved : goal.loop-preserved
+loop-preserved g c = record {
+  ready = c.in-Ok.ensures.ready;
+  works = (λ part past so. c.in-Ok.ensures.works part past (c.loop.invariant.works part past so));
+  stays = stays_on g.S.Store.tells g.S.Store.view c.args.self.now c.loop.self c.settle_once.new.self
+      c.loop.invariant.stays c.settle_once.ensures.stays;
+}
+
+pub returns-in-Err-clause-stays : goal.returns-in-Err-clause-stays
+returns-in-Err-clause-stays g c =
+    stays_on g.S.Store.tells g.S.Store.view c.args.self.now c.loop.self c.settle_once.new.self c.loop.invariant.stays
+    c.settle_once.ensures.stays
+
+pub returns-in-Err-clause-failed : goal.returns-in-Err-clause-failed
+returns-in-Err-clause-failed g c = λ e.
+    fails_on g.S.Store.tells g.S.Store.view c.args.self.now c.loop.self c.settle_once.new.self c.loop.invariant.stays
+    (c.settle_once.ensures.failed (c.in-Err.is ∙ e))

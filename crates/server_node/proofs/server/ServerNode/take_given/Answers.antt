@@ -1,0 +1,28 @@
+use Rattle.std.proofs.Common.{Option, List, subst}
+use Rattle.std.specs.Prelude.{IfSome}
+use Rattle.hub_board.specs.declared.given.Given.{Given}
+use Rattle.hub_laws.specs.Keeping.{lapse_in, message_in}
+use Rattle.server_node.specs.Laws.{fails_on, stays_on, stays_so}
+use Rattle.server_node.specs.Standing.{StandsSo, WasGiven}
+use Rattle.server_node.proofs.server.ServerNode.take_given.Goals as goal
+
+pub returns-in_default-clause-stays : goal.returns-in_default-clause-stays
+returns-in_default-clause-stays g c = stays_so g.S.Store.tells g.S.Store.view c.args.self.now
+
+pub returns-in-Ok-clause-works : goal.returns-in-Ok-clause-works
+returns-in-Ok-clause-works g c = λ part past so given.
+    let tells = g.S.Store.tells in let view = g.S.Store.view in
+    c.settle.ensures.works part past (c.in-Ok.ensures.works part past
+    (subst (λ (x : Option Given). StandsSo tells view part c.args.self.now past c.args.steps.now.steps (message_in x)
+    (lapse_in x)) c.in-Some.is so)
+    (subst (λ (x : Option Given). IfSome x (WasGiven past)) c.in-Some.is given))
+
+pub returns-in-Ok-clause-stays : goal.returns-in-Ok-clause-stays
+returns-in-Ok-clause-stays g c =
+    stays_on g.S.Store.tells g.S.Store.view c.args.self.now c.take.new.self c.settle.new.self c.take.ensures.stays
+    c.settle.ensures.stays
+
+pub returns-in-Ok-clause-failed : goal.returns-in-Ok-clause-failed
+returns-in-Ok-clause-failed g c = λ e.
+    fails_on g.S.Store.tells g.S.Store.view c.args.self.now c.take.new.self c.settle.new.self c.take.ensures.stays
+    (c.settle.ensures.failed e)

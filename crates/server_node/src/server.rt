@@ -1,0 +1,401 @@
+ghost use Rattle.std.specs.Prelude.{◌≡◌, ◌∷◌, ◌++◌, ◌↔◌, ◌≤◌, ◌^◌, [], length, Some, None, true};
+ghost use Rattle.std.specs.Prelude.{IfErr, IfOk, IfSome, IsOk, IsTrue, OnOk, Err, List};
+ghost use Rattle.base_types.specs.declared.ids.Node.TheVariants.{Server as IsServer};
+ghost use Rattle.hub_board.specs.declared.given.Turned.TheVariants.{Ended};
+ghost use Rattle.hub_laws.specs.Keeping.{Round, lapse_in, message_in};
+ghost use Rattle.hub_node.specs.Nodes.{Beginning, Part, part_of};
+ghost use Rattle.hub_node.specs.declared.node.NodeFault.TheVariants.{Memory, Store as StoreFailed};
+ghost use Rattle.message_types.specs.Soundness.{IsSound};
+ghost use Rattle.message_types.specs.declared.message.Direction.TheVariants.{ToServer};
+ghost use Rattle.run_rules.specs.Plans.{receiver};
+ghost use Rattle.run_rules.specs.Steps.{lines_of};
+ghost use Rattle.script_lines.specs.Sound.{same_node};
+ghost use Rattle.script_lines.specs.declared.script.Deed.TheVariants.{Restart as Restarts};
+ghost use Rattle.server_exporter.specs.Machines.{IsNew, IsNoRestart, IsRestart};
+ghost use Rattle.server_exporter.specs.ExporterFault.TheVariants.{Store as OfStore};
+ghost use Rattle.server_node.specs.Standing.{CanServe, HasFailed, HasServed, IsFor, IsReady, NextIs, Stands, StandsSo};
+ghost use Rattle.server_node.specs.Standing.{WasGiven};
+ghost use Rattle.server_tables.specs.Listing.{is_alone};
+
+use base_types::{NoMemory, Node as NodeId, ServerId};
+use hub_node::{Node, NodeFault, OwnLines};
+use hub_turns::{Given, Pending, Turned};
+use message_types::{Direction, Message};
+use run_rules::Step;
+use script_lines::{Deed, Script};
+use server_exporter::{Exporter, ExporterFault, Keeper};
+use std::alloc::Global;
+use store_memory::Store;
+
+/// A server: its machine, its store and its lines.
+#[derive(Drop)]
+pub struct ServerNode<S> {
+    exporter: Exporter,
+    keeper: Keeper<S>,
+    lines: OwnLines,
+}
+
+// A machine that has done nothing, and the lines of its server.
+fn machine_of(
+    alloc: Global,
+    script: &Script,
+    server: ServerId,
+    epoch: u64,
+) -> Result<(Exporter, OwnLines), NoMemory>
+    ensures machine { IfOk result (λ r. IsNew r.0 server epoch script.now.roster) }
+    ensures lines { IfOk result (λ r. r.1 ≡ record { lines = lines_of script.now (IsServer server); gone = 0; told = None }) }
+{
+    let exporter = Exporter::new(alloc, server, epoch, &script.roster)?;
+    let lines = OwnLines::new(script, NodeId::Server(server))?;
+    Ok((exporter, lines))
+}
+
+// Whether a line makes the server restart.
+fn is_restart(deed: &Deed) -> bool
+    ensures { IsTrue result ↔ (deed.now ≡ Restarts) }
+{
+    matches!(deed, Deed::Restart)
+}
+
+impl<S: Store + Drop> ServerNode<S> {
+    /// A server of a script before its first step, over its store, which has begun the run. The only error is that
+    /// memory ran out; then the store comes back.
+    pub fn new(script: &Script, server: ServerId, store: S) -> Result<ServerNode<S>, S>
+        requires ready { (S.view store).ready }
+        requires mendable { (S.view store).mendable }
+        requires wear { (S.view store).wear ≤ 2 ^ 46 }
+        ensures store { IfOk result (λ n. n.keeper.store ≡ store) }
+        ensures back { IfErr result (λ back. back ≡ store) }
+        ensures stands { IfOk result (λ n. (run : Beginning) → run.script ≡ script.now
+            → CanServe S.tells run server (S.view store)
+            → Stands S.tells S.view (part_of run (IsServer server)) n [] []) }
+    {
+        let alloc = script.lines.alloc();
+        let epoch = store.epoch();
+        match machine_of(alloc, script, server, epoch) {
+            Ok((exporter, lines)) => Ok(ServerNode {
+                exporter,
+                keeper: Keeper::new(store),
+                lines,
+            }),
+            Err(NoMemory) => Err(store),
+        }
+    }
+
+    /// Its store.
+    pub fn into_store(self) -> S
+        ensures { result ≡ self.keeper.store }
+    {
+        let ServerNode {
+            exporter,
+            keeper,
+            lines,
+        } = self;
+        drop(exporter);
+        drop(lines);
+        keeper.into_store()
+    }
+
+    // Decides what is left, until nothing is.
+    fn settle(&mut self, steps: &mut Pending) -> Result<(), NodeFault>
+        requires ready { IsReady S.tells S.view self.old }
+        ensures ready { OnOk result (IsReady S.tells S.view self.new) }
+        ensures rested { OnOk result (self.new.exporter.rested ≡ true) }
+        ensures works { (part : Part) (past : List Round)
+            → StandsSo S.tells S.view part self.old past steps.old.steps [] 0
+            → OnOk result (StandsSo S.tells S.view part self.new past steps.new.steps [] 0) }
+        ensures stays { HasServed S.tells S.view self.old self.new }
+        ensures failed { result ≡ Err StoreFailed → HasFailed S.tells S.view self.old self.new }
+    {
+        for _ in 0..u64::MAX {
+            if self.exporter.is_rested() {
+                return Ok(());
+            }
+            match self.settle_once(steps) {
+                Ok(()) => {}
+                Err(fault) => return Err(fault),
+            }
+        }
+        Err(NodeFault::Memory)
+    }
+
+    // Decides what is left, in a step of its own.
+    fn settle_once(&mut self, steps: &mut Pending) -> Result<(), NodeFault>
+        requires ready { IsReady S.tells S.view self.old }
+        ensures ready { OnOk result (IsReady S.tells S.view self.new) }
+        ensures works { (part : Part) (past : List Round)
+            → StandsSo S.tells S.view part self.old past steps.old.steps [] 0
+            → OnOk result (StandsSo S.tells S.view part self.new past steps.new.steps [] 0) }
+        ensures stays { HasServed S.tells S.view self.old self.new }
+        ensures failed { result ≡ Err StoreFailed → HasFailed S.tells S.view self.old self.new }
+    {
+        let made = self.exporter.settle(&mut self.keeper);
+        push_made(steps, made)
+    }
+
+    // Takes what was given.
+    fn take(&mut self, given: Given, steps: &mut Pending) -> Result<(), NodeFault>
+        requires ready { IsReady S.tells S.view self.old }
+        requires rested { self.old.exporter.rested ≡ true }
+        requires given { IsFor self.old.exporter.tables given }
+        ensures ready { OnOk result (IsReady S.tells S.view self.new) }
+        ensures works { (part : Part) (past : List Round) → StandsSo S.tells S.view part self.old past steps.old.steps
+            (message_in (Some given)) (lapse_in (Some given)) → WasGiven past given
+            → OnOk result (StandsSo S.tells S.view part self.new past steps.new.steps [] 0) }
+        ensures stays { HasServed S.tells S.view self.old self.new }
+        ensures failed { result ≡ Err StoreFailed → HasFailed S.tells S.view self.old self.new }
+    {
+        match given {
+            Given::Begun => Ok(()),
+            Given::Raised(flag) => {
+                self.lines.tell(flag);
+                Ok(())
+            }
+            Given::Message(message) => self.hear(message, steps),
+            Given::Lapse => self.repeat(steps),
+        }
+    }
+
+    // A message comes. Filesets don't move between servers yet: what another server says is let go.
+    fn hear(&mut self, message: Message, steps: &mut Pending) -> Result<(), NodeFault>
+        requires ready { IsReady S.tells S.view self.old }
+        requires rested { self.old.exporter.rested ≡ true }
+        requires sound { IsSound self.old.exporter.tables.roster message }
+        requires own { same_node (receiver message) (IsServer self.old.exporter.tables.server) ≡ true }
+        ensures ready { OnOk result (IsReady S.tells S.view self.new) }
+        ensures works { (part : Part) (past : List Round)
+            → StandsSo S.tells S.view part self.old past steps.old.steps (message ∷ []) 0
+            → OnOk result (StandsSo S.tells S.view part self.new past steps.new.steps [] 0) }
+        ensures stays { HasServed S.tells S.view self.old self.new }
+        ensures failed { result ≡ Err StoreFailed → HasFailed S.tells S.view self.old self.new }
+    {
+        if is_to_server(&message) {
+            let made = self.exporter.take(&mut self.keeper, message);
+            return push_made(steps, made);
+        }
+        drop(message);
+        Ok(())
+    }
+
+    // It is time to send again what was sent in vain.
+    fn repeat(&mut self, steps: &mut Pending) -> Result<(), NodeFault>
+        requires ready { IsReady S.tells S.view self.old }
+        requires rested { self.old.exporter.rested ≡ true }
+        ensures ready { OnOk result (IsReady S.tells S.view self.new) }
+        ensures works { (part : Part) (past : List Round)
+            → StandsSo S.tells S.view part self.old past steps.old.steps [] 1
+            → OnOk result (StandsSo S.tells S.view part self.new past steps.new.steps [] 0) }
+        ensures stays { HasServed S.tells S.view self.old self.new }
+        ensures failed { result ≡ Err StoreFailed → HasFailed S.tells S.view self.old self.new }
+    {
+        let made = self.exporter.lapse();
+        push_sent(steps, made)
+    }
+
+    // The next line goes, where it can.
+    fn go(&mut self, steps: &mut Pending) -> Result<(), NodeFault>
+        requires ready { IsReady S.tells S.view self.old }
+        requires rested { self.old.exporter.rested ≡ true }
+        ensures ready { OnOk result (IsReady S.tells S.view self.new) }
+        ensures works { (part : Part) (past : List Round)
+            → StandsSo S.tells S.view part self.old past steps.old.steps [] 0
+            → OnOk result (StandsSo S.tells S.view part self.new past steps.new.steps [] 0) }
+        ensures stays { HasServed S.tells S.view self.old self.new }
+        ensures failed { result ≡ Err StoreFailed → HasFailed S.tells S.view self.old self.new }
+    {
+        let Some(line) = self.lines.next() else {
+            return Ok(());
+        };
+        let number = line.number;
+        if is_restart(&line.deed) {
+            self.restart(number, steps)
+        } else {
+            self.pass(number, steps)
+        }
+    }
+
+    // The next line goes, of this number: the server restarts.
+    fn restart(&mut self, number: u32, steps: &mut Pending) -> Result<(), NodeFault>
+        requires ready { IsReady S.tells S.view self.old }
+        requires next { NextIs IsRestart self.old.lines number }
+        ensures ready { OnOk result (IsReady S.tells S.view self.new) }
+        ensures works { (part : Part) (past : List Round)
+            → StandsSo S.tells S.view part self.old past steps.old.steps [] 0
+            → OnOk result (StandsSo S.tells S.view part self.new past steps.new.steps [] 0) }
+        ensures stays { HasServed S.tells S.view self.old self.new }
+        ensures failed { result ≡ Err StoreFailed → HasFailed S.tells S.view self.old self.new }
+    {
+        let made = self.exporter.restart(&mut self.keeper, number);
+        self.lines.go();
+        push_made(steps, made)
+    }
+
+    // The next line goes, of this number, and nothing else happens.
+    fn pass(&mut self, number: u32, steps: &mut Pending) -> Result<(), NodeFault>
+        requires ready { IsReady S.tells S.view self.old }
+        requires rested { self.old.exporter.rested ≡ true }
+        requires next { NextIs IsNoRestart self.old.lines number }
+        ensures ready { OnOk result (IsReady S.tells S.view self.new) }
+        ensures works { (part : Part) (past : List Round)
+            → StandsSo S.tells S.view part self.old past steps.old.steps [] 0
+            → OnOk result (StandsSo S.tells S.view part self.new past steps.new.steps [] 0) }
+        ensures stays { HasServed S.tells S.view self.old self.new }
+        ensures failed { result ≡ Err StoreFailed → HasFailed S.tells S.view self.old self.new }
+    {
+        let step = self.exporter.line(number);
+        self.lines.go();
+        push(steps, step)
+    }
+
+    // Takes what was given, if anything was, and decides what is left then.
+    fn take_given(&mut self, given: Option<Given>, steps: &mut Pending) -> Result<(), NodeFault>
+        requires ready { IsReady S.tells S.view self.old }
+        requires rested { self.old.exporter.rested ≡ true }
+        requires given { IfSome given (IsFor self.old.exporter.tables) }
+        ensures ready { OnOk result (IsReady S.tells S.view self.new) }
+        ensures rested { OnOk result (self.new.exporter.rested ≡ true) }
+        ensures works { (part : Part) (past : List Round) → StandsSo S.tells S.view part self.old past steps.old.steps
+            (message_in given) (lapse_in given) → IfSome given (WasGiven past)
+            → OnOk result (StandsSo S.tells S.view part self.new past steps.new.steps [] 0) }
+        ensures stays { HasServed S.tells S.view self.old self.new }
+        ensures failed { result ≡ Err StoreFailed → HasFailed S.tells S.view self.old self.new }
+    {
+        let Some(given) = given else {
+            return Ok(());
+        };
+        match self.take(given, steps) {
+            Ok(()) => self.settle(steps),
+            Err(fault) => Err(fault),
+        }
+    }
+
+    // Takes what was given, if anything was, and lets the next line go; and decides what is left each time.
+    fn take_turn(&mut self, given: Option<Given>, steps: &mut Pending) -> Result<(), NodeFault>
+        requires ready { IsReady S.tells S.view self.old }
+        requires rested { self.old.exporter.rested ≡ true }
+        requires given { IfSome given (IsFor self.old.exporter.tables) }
+        ensures ready { OnOk result (IsReady S.tells S.view self.new) }
+        ensures rested { OnOk result (self.new.exporter.rested ≡ true) }
+        ensures works { (part : Part) (past : List Round) → StandsSo S.tells S.view part self.old past steps.old.steps
+            (message_in given) (lapse_in given) → IfSome given (WasGiven past)
+            → OnOk result (StandsSo S.tells S.view part self.new past steps.new.steps [] 0) }
+        ensures stays { HasServed S.tells S.view self.old self.new }
+        ensures failed { result ≡ Err StoreFailed → HasFailed S.tells S.view self.old self.new }
+    {
+        match self.take_given(given, steps) {
+            Ok(()) => self.go_on(steps),
+            Err(fault) => Err(fault),
+        }
+    }
+
+    // Lets the next line go, where it can, and decides what is left then.
+    fn go_on(&mut self, steps: &mut Pending) -> Result<(), NodeFault>
+        requires ready { IsReady S.tells S.view self.old }
+        requires rested { self.old.exporter.rested ≡ true }
+        ensures ready { OnOk result (IsReady S.tells S.view self.new) }
+        ensures rested { OnOk result (self.new.exporter.rested ≡ true) }
+        ensures works { (part : Part) (past : List Round)
+            → StandsSo S.tells S.view part self.old past steps.old.steps [] 0
+            → OnOk result (StandsSo S.tells S.view part self.new past steps.new.steps [] 0) }
+        ensures stays { HasServed S.tells S.view self.old self.new }
+        ensures failed { result ≡ Err StoreFailed → HasFailed S.tells S.view self.old self.new }
+    {
+        match self.go(steps) {
+            Ok(()) => self.settle(steps),
+            Err(fault) => Err(fault),
+        }
+    }
+
+    // What came of a turn: something was given or made, or all is done, or neither.
+    fn turned(&self, came: bool, steps: &Pending) -> Turned
+        ensures none { result ≡ Ended → steps.now.steps ≡ [] }
+        ensures gone { result ≡ Ended → length self.now.lines.lines ≤ self.now.lines.gone }
+        ensures alone { result ≡ Ended → is_alone self.now.exporter.tables.hosts ≡ true }
+    {
+        if came || !steps.as_slice().is_empty() {
+            return Turned::Worked;
+        }
+        if self.lines.are_gone() && self.exporter.is_alone() {
+            return Turned::Ended;
+        }
+        Turned::Idle
+    }
+}
+
+// Whether a host says it to a server.
+fn is_to_server(message: &Message) -> bool
+    ensures { IsTrue result ↔ (message.now.direction ≡ ToServer) }
+{
+    matches!(message.direction, Direction::ToServer)
+}
+
+// The step that a machine has made is handed in next.
+fn push_made(steps: &mut Pending, made: Result<Step, ExporterFault>) -> Result<(), NodeFault>
+    ensures made { OnOk result (IsOk made) }
+    ensures ok { IfOk made (λ step. OnOk result (steps.new.steps ≡ steps.old.steps ++ step ∷ [])) }
+    ensures err { result ≡ Err StoreFailed → made ≡ Err OfStore }
+{
+    match made {
+        Ok(step) => push(steps, step),
+        Err(ExporterFault::Store) => Err(NodeFault::Store),
+        Err(ExporterFault::Memory) => Err(NodeFault::Memory),
+    }
+}
+
+// The same of one that asks nothing of its store.
+fn push_sent(steps: &mut Pending, made: Result<Step, NoMemory>) -> Result<(), NodeFault>
+    ensures made { OnOk result (IsOk made) }
+    ensures ok { IfOk made (λ step. OnOk result (steps.new.steps ≡ steps.old.steps ++ step ∷ [])) }
+    ensures err { IfErr result (λ fault. fault ≡ Memory) }
+{
+    match made {
+        Ok(step) => push(steps, step),
+        Err(NoMemory) => Err(NodeFault::Memory),
+    }
+}
+
+fn push(steps: &mut Pending, step: Step) -> Result<(), NodeFault>
+    ensures ok { OnOk result (steps.new.steps ≡ steps.old.steps ++ step ∷ []) }
+    ensures err { IfErr result (λ fault. fault ≡ Memory) }
+{
+    let reserved = steps.reserve(1);
+    let pushed = steps.push(step);
+    if reserved.is_err() || pushed.is_err() {
+        return Err(NodeFault::Memory);
+    }
+    Ok(())
+}
+
+impl<S: Store + Drop> Node for ServerNode<S> {
+    ghost use Rattle.server_node.specs.Standing.{HasFailed, HasServed, Stands};
+    ghost use Rattle.hub_node.specs.Lines.{next_number};
+    ghost use Rattle.server_node.specs.Laws.{fails_on, hands_in, stays_on, stays_so};
+
+    ghost tells = { S.tells };
+
+    ghost stands = { Stands S.tells S.view };
+
+    ghost stays = { HasServed S.tells S.view };
+
+    ghost failed = { HasFailed S.tells S.view };
+
+    ghost next = { λ n. next_number n.lines };
+
+    fn waiting(&self) -> Option<u32> {
+        self.lines.waiting()
+    }
+
+    fn work(&mut self, given: Option<Given>, steps: &mut Pending) -> Result<Turned, NodeFault> {
+        let came = given.is_some();
+        self.take_turn(given, steps)?;
+        Ok(self.turned(came, steps))
+    }
+
+    ghost hands_in = { hands_in S.tells S.view };
+
+    ghost stays_so = { stays_so S.tells S.view };
+
+    ghost stays_on = { stays_on S.tells S.view };
+
+    ghost fails_on = { fails_on S.tells S.view };
+}
