@@ -2,7 +2,7 @@
 ghost use Rattle.std.specs.Prelude.{OnOk};
 ghost use Rattle.server_tables.specs.Counting.{IsCounted};
 
-use crate::reading::{Words, yes_or_no};
+use crate::reading::{Words, push_yes};
 use anyhow::{Result, bail};
 use base_types::{FilesetId, HostId, Name};
 use message_types::{AppliedGive, Change, Done, DoneIs};
@@ -10,21 +10,23 @@ use run_rules::{Answer, Written};
 use server_tables::{NO_FID, Tables, without_token};
 use std::alloc::Global;
 use tree_calls::{Call, Reply};
+use tree_test_words::Text;
 
-/// What is told to a row about answers.
-pub fn told(tables: &mut Tables, words: &mut Words) -> Result<String>
+/// Writes what is told to a row about answers.
+pub fn tell(tables: &mut Tables, words: &mut Words, text: &mut Text) -> Result<()>
     requires { IsCounted tables.old }
     ensures { OnOk result (IsCounted tables.new) }
 {
     match words.next() {
-        "give" => give(tables, words),
+        "give" => give(tables, words, text),
         "done" => done(tables, words),
-        word => look(tables, word, words),
+        "gave" => gave(tables, words, text),
+        word => look(tables, word, words, text),
     }
 }
 
 // `give HOST FILESET NUMBER`: the last number of the host and the fileset.
-fn give(tables: &mut Tables, words: &mut Words) -> Result<String>
+fn give(tables: &mut Tables, words: &mut Words, text: &mut Text) -> Result<()>
     requires { IsCounted tables.old }
     ensures { OnOk result (IsCounted tables.new) }
 {
@@ -32,44 +34,52 @@ fn give(tables: &mut Tables, words: &mut Words) -> Result<String>
     let fileset = words.fileset();
     let number = words.number()?;
     tables.note_give(host, AppliedGive { fileset, number })?;
-    last(words.alloc, tables, host, fileset)
+    text.number("", tables.last_give(host, fileset));
+    Ok(())
 }
 
-fn last(alloc: Global, tables: &Tables, host: HostId, fileset: FilesetId) -> Result<String> {
-    let last = tables.last_give(host, fileset);
-    Ok(format!(in alloc; "{last}")?)
+fn gave(tables: &Tables, words: &mut Words, text: &mut Text) -> Result<()> {
+    let host = words.host()?;
+    let fileset = words.fileset();
+    text.number("", tables.last_give(host, fileset));
+    Ok(())
 }
 
 // `done HOST FILESET NUMBER`: it is answered, and with `written` it was written down.
-fn done(tables: &mut Tables, words: &mut Words) -> Result<String>
+fn done(tables: &mut Tables, words: &mut Words) -> Result<()>
     requires { IsCounted tables.old }
     ensures { OnOk result (IsCounted tables.new) }
 {
     let host = words.host()?;
     let fileset = words.fileset();
     let number = words.number()?;
-    let written = if words.next() == "written" {
-        Some(written(words.alloc, host, fileset, number)?)
-    } else {
-        None
-    };
+    let written = written_if(words, host, fileset, number)?;
     let done = without_token(words.alloc, fileset, DoneIs::Known(fileset), number);
     tables.note_done(host, done, written)?;
-    Ok(String::new(tables.alloc()))
+    Ok(())
 }
 
-fn written(alloc: Global, host: HostId, fileset: FilesetId, number: u64) -> Result<Written> {
-    Ok(Written {
+fn written_if(
+    words: &mut Words,
+    host: HostId,
+    fileset: FilesetId,
+    number: u64,
+) -> Result<Option<Written>> {
+    if words.next() != "written" {
+        return Ok(None);
+    }
+    let call = unlock(words.alloc)?;
+    Ok(Some(Written {
         fileset,
         number,
         answer: Answer {
             host,
             k: 1,
-            call: unlock(alloc)?,
+            call,
             reply: Reply::Ok,
             first: false,
         },
-    })
+    }))
 }
 
 fn unlock(alloc: Global) -> Result<Call> {
@@ -77,45 +87,44 @@ fn unlock(alloc: Global) -> Result<Call> {
     Ok(Call::Unlock { label })
 }
 
-fn look(tables: &Tables, word: &str, words: &mut Words) -> Result<String> {
+fn look(tables: &Tables, word: &str, words: &mut Words, text: &mut Text) -> Result<()> {
     let host = words.host()?;
     let fileset = words.fileset();
-    if word == "gave" {
-        return last(words.alloc, tables, host, fileset);
-    }
+    let number = words.number()?;
     let change = Change {
-        number: words.number()?,
+        number,
         fileset,
         fid: NO_FID,
         enter: false,
         k: 1,
         call: unlock(words.alloc)?,
     };
-    let text = look_at(words.alloc, tables, word, host, &change);
+    let told = look_at(tables, word, host, &change, text);
     drop(change);
-    text
+    told
 }
 
 fn look_at(
-    alloc: Global,
     tables: &Tables,
     word: &str,
     host: HostId,
     change: &Change,
-) -> Result<String> {
+    text: &mut Text,
+) -> Result<()> {
     match word {
-        "old" => yes_or_no(alloc, tables.is_old(host, change)),
-        "again" => again(alloc, tables, host, change),
+        "old" => push_yes(text, tables.is_old(host, change)),
+        "again" => return again(tables, host, change, text),
         _ => bail!("no step: {word}"),
     }
+    Ok(())
 }
 
 // The outcome that is told again, or none.
-fn again(alloc: Global, tables: &Tables, host: HostId, change: &Change) -> Result<String> {
+fn again(tables: &Tables, host: HostId, change: &Change, text: &mut Text) -> Result<()> {
     let done = tables.answer_again(host, change)?;
-    let word = outcome(&done);
+    text.word(outcome(&done));
     drop(done);
-    Ok(String::from_str(alloc, word)?)
+    Ok(())
 }
 
 fn outcome(done: &Option<Done>) -> &'static str {

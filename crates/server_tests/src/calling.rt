@@ -1,15 +1,16 @@
 //! Looks at Changes.
 
-use crate::reading::{Words, yes_or_no};
+use crate::reading::{Words, push_yes};
 use anyhow::{Result, bail};
 use base_types::{Items, Name, OpenKind, ServerId};
 use message_types::Change;
 use server_tables::{NO_FID, is_effect, is_meant_so, is_use};
 use std::alloc::Global;
 use tree_calls::{Call, Place};
+use tree_test_words::Text;
 
 /// `WORD CALL`, or `WORD enter CALL`.
-pub fn told(alloc: Global, words: &mut Words) -> Result<String> {
+pub fn tell(words: &mut Words, text: &mut Text) -> Result<()> {
     let word = words.next();
     let mut kind = words.next();
     let enter = kind == "enter";
@@ -22,39 +23,47 @@ pub fn told(alloc: Global, words: &mut Words) -> Result<String> {
         fid: NO_FID,
         enter,
         k: 1,
-        call: call(alloc, kind)?,
+        call: call(words.alloc, kind)?,
     };
-    let text = look(alloc, word, &change);
+    look(word, &change, text);
     drop(change);
-    text
+    Ok(())
 }
 
-fn look(alloc: Global, word: &str, change: &Change) -> Result<String> {
+fn look(word: &str, change: &Change, text: &mut Text) {
     match word {
-        "effect" => yes_or_no(alloc, is_effect(change)),
-        "meant" => yes_or_no(alloc, is_meant_so(change)),
-        "use" => yes_or_no(alloc, is_use(&change.call)),
-        _ => bail!("no step: {word}"),
+        "effect" => push_yes(text, is_effect(change)),
+        "meant" => push_yes(text, is_meant_so(change)),
+        "use" => push_yes(text, is_use(&change.call)),
+        _ => text.word("no step"),
     }
 }
 
 fn call(alloc: Global, kind: &str) -> Result<Call> {
     let server = ServerId(1);
     match kind {
-        "unlock" => Ok(Call::Unlock {
-            label: name(alloc)?,
-        }),
-        "move" => Ok(Call::MoveFileset {
-            server,
-            fileset: name(alloc)?,
-            to: ServerId(2),
-        }),
+        "unlock" => unlock(alloc),
+        "move" => move_away(alloc, server),
         "clone" => clone(alloc, server),
         "open" => open(alloc, server),
         "lock" => lock(alloc, server, 4),
         "lock-none" => lock(alloc, server, 0),
         _ => bail!("no call: {kind}"),
     }
+}
+
+fn unlock(alloc: Global) -> Result<Call> {
+    let label = name(alloc)?;
+    Ok(Call::Unlock { label })
+}
+
+fn move_away(alloc: Global, server: ServerId) -> Result<Call> {
+    let fileset = name(alloc)?;
+    Ok(Call::MoveFileset {
+        server,
+        fileset,
+        to: ServerId(2),
+    })
 }
 
 fn clone(alloc: Global, server: ServerId) -> Result<Call> {

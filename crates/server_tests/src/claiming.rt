@@ -2,96 +2,122 @@
 ghost use Rattle.std.specs.Prelude.{OnOk};
 ghost use Rattle.server_tables.specs.Counting.{IsCounted};
 
-use crate::reading::{Words, number_or_none, yes_or_no};
+use crate::reading::{Words, push_number, push_yes};
 use anyhow::{Result, bail};
 use base_types::{HostId, Items, ServerId};
 use message_types::{AppliedGive, Reclaim, Reclaimed};
-use server_tables::{Claimed, Recovering, Tables, is_same_answer};
-use std::alloc::Global;
+use server_tables::{Recovering, Tables, is_same_answer};
+use tree_test_words::Text;
 
-/// What is told to a row about claims.
-pub fn told(tables: &mut Tables, words: &mut Words) -> Result<String>
+/// Writes what is told to a row about claims.
+pub fn tell(tables: &mut Tables, word: &str, words: &mut Words, text: &mut Text) -> Result<()>
     requires { IsCounted tables.old }
     ensures { OnOk result (IsCounted tables.new) }
 {
-    told_of(&mut tables.recovering, words)
+    tell_of(&mut tables.recovering, word, words, text)
 }
 
-fn told_of(recovering: &mut Recovering, words: &mut Words) -> Result<String> {
-    let word = words.next();
+fn tell_of(
+    recovering: &mut Recovering,
+    word: &str,
+    words: &mut Words,
+    text: &mut Text,
+) -> Result<()> {
     let host = words.host()?;
     match word {
-        "claims" => claim(recovering, host, words),
-        "took" => take(recovering, host, words),
-        "lost" => lose(recovering, host, words),
-        "told" => tell(recovering, host, words),
-        _ => look(recovering, word, host, words),
+        "claims" => claim(recovering, host, words, text),
+        "took" => take(recovering, host, words, text),
+        "lost" => lose(recovering, host, words, text),
+        "told" => note_answer(recovering, host, words, text),
+        _ => look(recovering, word, host, words, text),
     }
 }
 
 // `claims HOST FILESET NUMBER TOKENS`: how many claims wait then.
-fn claim(recovering: &mut Recovering, host: HostId, words: &mut Words) -> Result<String> {
+fn claim(
+    recovering: &mut Recovering,
+    host: HostId,
+    words: &mut Words,
+    text: &mut Text,
+) -> Result<()> {
     let claim = claim_of(host, words)?;
     let noted = recovering.note_claim(host, &claim);
     drop(claim);
-    noted?;
-    let count = recovering.claims.len();
-    Ok(format!(in words.alloc; "{count}")?)
+    text.number("", recovering.claims.len() as u64);
+    Ok(noted?)
 }
 
 fn claim_of(host: HostId, words: &mut Words) -> Result<Reclaim> {
-    let mut numbers = Items::new(words.alloc);
-    numbers.push(words.outstanding()?)?;
-    Ok(Reclaim {
-        tokens: words.tokens(host)?,
-        numbers,
-    })
+    let outstanding = words.outstanding()?;
+    let numbers = Items::from_slice(words.alloc, &[outstanding])?;
+    let tokens = words.tokens(host)?;
+    Ok(Reclaim { tokens, numbers })
 }
 
 // `took HOST FILESET NUMBER`: a give-back was taken. It tells how many were.
-fn take(recovering: &mut Recovering, host: HostId, words: &mut Words) -> Result<String> {
+fn take(
+    recovering: &mut Recovering,
+    host: HostId,
+    words: &mut Words,
+    text: &mut Text,
+) -> Result<()> {
     let fileset = words.fileset();
     let number = words.number()?;
     recovering.note_taken(host, AppliedGive { fileset, number })?;
-    let count = recovering.taken.len();
-    Ok(format!(in words.alloc; "{count}")?)
+    text.number("", recovering.taken.len() as u64);
+    Ok(())
 }
 
 // `lost HOST TOKENS`: they were given up. It tells how many were.
-fn lose(recovering: &mut Recovering, host: HostId, words: &mut Words) -> Result<String> {
+fn lose(
+    recovering: &mut Recovering,
+    host: HostId,
+    words: &mut Words,
+    text: &mut Text,
+) -> Result<()> {
     let ids = words.ids()?;
-    recovering.note_given_up(host, ids.as_slice())?;
-    let count = recovering.given_up.len();
-    Ok(format!(in words.alloc; "{count}")?)
+    let noted = recovering.note_given_up(host, ids.as_slice());
+    drop(ids);
+    text.number("", recovering.given_up.len() as u64);
+    Ok(noted?)
 }
 
-// `told HOST FILESET NUMBER TOKENS`: the host's claim is answered so. It tells whether that is the answer then.
-fn tell(recovering: &mut Recovering, host: HostId, words: &mut Words) -> Result<String> {
+// `told HOST FILESET NUMBER TOKENS`: the host's claim is answered so. It tells how many are.
+fn note_answer(
+    recovering: &mut Recovering,
+    host: HostId,
+    words: &mut Words,
+    text: &mut Text,
+) -> Result<()> {
     let claim = claim_of(host, words)?;
     let answer = answer_to(recovering, host, &claim);
     drop(claim);
-    let noted = recovering.note_answer(host, answer?);
-    noted?;
-    let count = recovering.answers.len();
-    Ok(format!(in words.alloc; "{count}")?)
+    recovering.note_answer(host, answer?)?;
+    text.number("", recovering.answers.len() as u64);
+    Ok(())
 }
 
 fn answer_to(recovering: &Recovering, host: HostId, claim: &Reclaim) -> Result<Reclaimed> {
     let applied = recovering.applied(host, claim)?;
-    Ok(Reclaimed {
-        left_out: recovering.left_out(host, claim)?,
-        applied,
-    })
+    let left_out = recovering.left_out(host, claim)?;
+    Ok(Reclaimed { applied, left_out })
 }
 
-fn look(recovering: &Recovering, word: &str, host: HostId, words: &mut Words) -> Result<String> {
+fn look(
+    recovering: &Recovering,
+    word: &str,
+    host: HostId,
+    words: &mut Words,
+    text: &mut Text,
+) -> Result<()> {
     match word {
-        "gave-up" => yes_or_no(words.alloc, recovering.gave_up(host, words.id()?)),
-        "ripe" => number_or_none(words.alloc, ripe(recovering)),
-        "names" => names(recovering, words),
-        "all" | "same" => look_at(recovering, word, host, words),
+        "gave-up" => push_yes(text, recovering.gave_up(host, words.id()?)),
+        "ripe" => push_number(text, ripe(recovering)),
+        "names" => return names(recovering, words, text),
+        "all" | "same" => return look_at(recovering, word, host, words, text),
         _ => bail!("no step: {word}"),
     }
+    Ok(())
 }
 
 // The host of the first claim that is ripe.
@@ -103,16 +129,23 @@ fn ripe(recovering: &Recovering) -> Option<u64> {
 }
 
 // Whether the first claim names a fileset.
-fn names(recovering: &Recovering, words: &mut Words) -> Result<String> {
+fn names(recovering: &Recovering, words: &mut Words, text: &mut Text) -> Result<()> {
     let fileset = words.fileset();
     match recovering.claims.at(0) {
-        Some(claimed) => yes_or_no(words.alloc, claimed.names(ServerId(1), fileset)),
+        Some(claimed) => push_yes(text, claimed.names(ServerId(1), fileset)),
         None => bail!("no claim"),
     }
+    Ok(())
 }
 
 // Whether all give-backs of a claim were taken, or whether its answer is the one that was told.
-fn look_at(recovering: &Recovering, word: &str, host: HostId, words: &mut Words) -> Result<String> {
+fn look_at(
+    recovering: &Recovering,
+    word: &str,
+    host: HostId,
+    words: &mut Words,
+    text: &mut Text,
+) -> Result<()> {
     let claim = claim_of(host, words)?;
     let is_so = if word == "all" {
         Ok(recovering.has_all(ServerId(1), host, &claim))
@@ -120,7 +153,8 @@ fn look_at(recovering: &Recovering, word: &str, host: HostId, words: &mut Words)
         is_told(recovering, host, &claim)
     };
     drop(claim);
-    yes_or_no(words.alloc, is_so?)
+    push_yes(text, is_so?);
+    Ok(())
 }
 
 fn is_told(recovering: &Recovering, host: HostId, claim: &Reclaim) -> Result<bool> {

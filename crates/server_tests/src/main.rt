@@ -19,21 +19,31 @@ use reading::Words;
 use server_tables::Tables;
 use std::alloc::Global;
 use tree_calls::Roster;
+use tree_test_words::Text;
+
+// Writes what is told to a row.
+fn tell(tables: &mut Tables, row: &str, text: &mut Text) -> Result<()>
+    requires { IsCounted tables.old }
+    ensures { OnOk result (IsCounted tables.new) }
+{
+    let mut words = Words::new(tables.alloc(), row);
+    match words.next() {
+        "host" => hosting::tell(tables, &mut words, text),
+        "want" => waiting::tell(tables, &mut words, text),
+        "answer" => answering::tell(tables, &mut words, text),
+        "call" => calling::tell(&mut words, text),
+        _ => claiming::tell(tables, words.next(), &mut words, text),
+    }
+}
 
 // What is told to a row.
 fn told(tables: &mut Tables, row: &str) -> Result<String>
     requires { IsCounted tables.old }
     ensures { OnOk result (IsCounted tables.new) }
 {
-    let alloc = tables.alloc();
-    let mut words = Words::new(alloc, row);
-    match words.next() {
-        "host" => hosting::told(tables, &mut words),
-        "want" => waiting::told(tables, &mut words),
-        "answer" => answering::told(tables, &mut words),
-        "call" => calling::told(alloc, &mut words),
-        _ => claiming::told(tables, &mut words),
-    }
+    let mut text = Text::new(tables.alloc());
+    tell(tables, row, &mut text)?;
+    text.line()
 }
 
 // Judges one line: a comment or a row. Answers whether it was a row, and prints one whose answer isn't the wanted one.

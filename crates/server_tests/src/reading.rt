@@ -5,6 +5,7 @@ use base_types::{Fid, FilesetId, HostId, Items, ServerId};
 use message_types::Outstanding;
 use std::alloc::Global;
 use token_types::{Kind, Need, Token, TokenId};
+use tree_test_words::Text;
 
 /// How many things a row lists at most.
 const LIST_MAX: u64 = 100;
@@ -127,14 +128,14 @@ fn token(host: HostId, id: TokenId) -> Token {
 }
 
 /// yes or no.
-pub fn yes_or_no(alloc: Global, answer: bool) -> Result<String> {
-    Ok(String::from_str(alloc, if answer { "yes" } else { "no" })?)
+pub fn push_yes(text: &mut Text, answer: bool) {
+    text.word(if answer { "yes" } else { "no" });
 }
 
 /// A number, or none.
-pub fn number_or_none(alloc: Global, number: Option<u64>) -> Result<String> {
+pub fn push_number(text: &mut Text, number: Option<u64>) {
     match number {
-        Some(number) => Ok(format!(in alloc; "{number}")?),
-        None => Ok(String::from_str(alloc, "none")?),
+        Some(number) => text.number("", number),
+        None => text.word("none"),
     }
 }

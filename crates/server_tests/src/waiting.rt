@@ -2,62 +2,63 @@
 ghost use Rattle.std.specs.Prelude.{OnOk};
 ghost use Rattle.server_tables.specs.Counting.{IsCounted};
 
-use crate::reading::{Words, yes_or_no};
+use crate::reading::Words;
 use anyhow::{Result, bail};
-use base_types::{HostId, Items};
+use base_types::Items;
 use message_types::Fetch;
 use run_rules::{Request, Wanted};
 use server_tables::Tables;
-use std::alloc::Global;
+use tree_test_words::Text;
 
-/// What is told to a row about wants.
-pub fn told(tables: &mut Tables, words: &mut Words) -> Result<String>
+/// Writes what is told to a row about wants.
+pub fn tell(tables: &mut Tables, words: &mut Words, text: &mut Text) -> Result<()>
     requires { IsCounted tables.old }
     ensures { OnOk result (IsCounted tables.new) }
 {
     match words.next() {
-        "fetch" => fetch(tables, words),
-        "out" => out(tables, words),
-        "stamp" => stamp(tables),
-        word => look(tables, word, words),
+        "fetch" => fetch(tables, words, text),
+        "out" => out(tables, words, text),
+        "stamp" => stamp(tables, text),
+        word => look(tables, word, text),
     }
 }
 
 // `fetch HOST NUMBER FILESET ANODE`: the number of the want that is made, or `waits`.
-fn fetch(tables: &mut Tables, words: &mut Words) -> Result<String>
+fn fetch(tables: &mut Tables, words: &mut Words, text: &mut Text) -> Result<()>
     requires { IsCounted tables.old }
     ensures { OnOk result (IsCounted tables.new) }
 {
     let wanted = wanted(words)?;
     if tables.is_waiting(wanted.host, &wanted.request) {
         drop(wanted);
-        return Ok(String::from_str(words.alloc, "waits")?);
+        text.word("waits");
+        return Ok(());
     }
     let number = tables.enqueue(wanted)?;
-    Ok(format!(in words.alloc; "{number}")?)
+    text.number("", number);
+    Ok(())
 }
 
 fn wanted(words: &mut Words) -> Result<Wanted> {
     let host = words.host()?;
     let number = words.number()?;
     let need = words.need()?;
-    let mut needs = Items::new(words.alloc);
-    needs.push(need)?;
-    let fetch = Fetch {
-        number,
-        fid: need.fid,
-        needs: Items::from_slice(words.alloc, &[need])?,
-    };
+    let needs = Items::from_slice(words.alloc, &[need])?;
+    let asked = Items::from_slice(words.alloc, &[need])?;
     Ok(Wanted {
         host,
-        request: Request::Fetch(fetch),
+        request: Request::Fetch(Fetch {
+            number,
+            fid: need.fid,
+            needs: asked,
+        }),
         moves: 0,
         needs,
     })
 }
 
 // `out PLACE`: the host and the number of the want that is taken out.
-fn out(tables: &mut Tables, words: &mut Words) -> Result<String>
+fn out(tables: &mut Tables, words: &mut Words, text: &mut Text) -> Result<()>
     requires { IsCounted tables.old }
     ensures { OnOk result (IsCounted tables.new) }
 {
@@ -66,45 +67,43 @@ fn out(tables: &mut Tables, words: &mut Words) -> Result<String>
         bail!("no place");
     }
     let pending = tables.unqueue(place);
-    let host = pending.wanted.host.0;
-    let number = pending.number;
+    text.number("c", u64::from(pending.wanted.host.0));
+    text.number(" ", pending.number);
     drop(pending);
-    Ok(format!(in words.alloc; "c{host} {number}")?)
+    Ok(())
 }
 
 // `stamp`: the next one.
-fn stamp(tables: &mut Tables) -> Result<String>
+fn stamp(tables: &mut Tables, text: &mut Text) -> Result<()>
     requires { IsCounted tables.old }
     ensures { OnOk result (IsCounted tables.new) }
 {
     let stamp = tables.next_stamp()?;
-    Ok(format!(in tables.alloc(); "{stamp}")?)
+    text.number("", stamp);
+    Ok(())
 }
 
-fn look(tables: &Tables, word: &str, words: &mut Words) -> Result<String> {
+fn look(tables: &Tables, word: &str, text: &mut Text) -> Result<()> {
     match word {
-        "all" => pending_text(words.alloc, tables),
-        "queue" => queue_text(words.alloc, tables),
+        "all" => push_pending(text, tables),
+        "queue" => push_queue(text, tables),
         _ => bail!("no step: {word}"),
     }
+    Ok(())
 }
 
 // The numbers of all wants that wait.
-fn pending_text(alloc: Global, tables: &Tables) -> Result<String> {
-    let mut text = String::new(alloc);
+fn push_pending(text: &mut Text, tables: &Tables) {
     for pending in tables.pending.as_slice() {
-        let number = pending.number;
-        text.push_str(format!(in alloc; "{number} ")?.as_str())?;
+        text.number("", pending.number);
+        text.word(" ");
     }
-    Ok(text)
 }
 
 // The numbers of those in the token manager's queue.
-fn queue_text(alloc: Global, tables: &Tables) -> Result<String> {
-    let mut text = String::new(alloc);
+fn push_queue(text: &mut Text, tables: &Tables) {
     for want in tables.tokens.queue() {
-        let number = want.number;
-        text.push_str(format!(in alloc; "{number} ")?.as_str())?;
+        text.number("", want.number);
+        text.word(" ");
     }
-    Ok(text)
 }
