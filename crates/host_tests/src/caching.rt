@@ -2,78 +2,84 @@
 ghost use Rattle.std.specs.Prelude.{◌≡◌, ◌+◌, ◌-◌, false, length, IfSome};
 ghost use Rattle.host_cache.specs.Holding.{has_id};
 
-use crate::reading::{Words, number_or_none, yes_or_no};
+use crate::reading::{Words, push_number, push_yes};
 use anyhow::{Result, bail};
 use base_types::{FILE_BYTES_MAX, Fid, HostId, Items, Name, NoMemory, Span};
 use host_cache::Cache;
 use std::alloc::Global;
-use token_types::{Kind, Need, Token};
+use token_types::{Kind, Need, Token, TokenId};
 use tree_calls::{DirEntry, Piece, Status};
+use tree_test_words::Text;
 
 // Bytes of one read, at most.
 const READ_MAX: usize = 16;
 
-/// The answer to a row `cache ..`.
-pub fn told(alloc: Global, cache: &mut Cache, words: &mut Words) -> Result<String> {
+/// Writes the answer to a row `cache ..`.
+pub fn tell(alloc: Global, cache: &mut Cache, words: &mut Words, text: &mut Text) -> Result<()> {
     match words.next() {
-        "add" => add(alloc, cache, words),
+        "add" => add(alloc, cache, words, text),
         "drop" => {
             let dropped = cache.drop_id(words.id()?);
-            number_or_none(alloc, dropped.map(|token| token.id.seq))
+            push_number(text, dropped.map(|token| token.id.seq));
+            Ok(())
         }
-        "read" => read(alloc, cache, words.file()?, words.span()?),
-        "write" => {
-            let fid = words.file()?;
-            let from = words.number()?;
-            let written = write(cache, fid, from, words.next().as_bytes());
-            yes_or_no(alloc, written)
-        }
-        "covers" => {
-            let need = need(words)?;
-            yes_or_no(alloc, cache.covers(&need))
-        }
-        "used" => {
-            cache.used(&need(words)?);
-            tokens_text(alloc, cache)
-        }
-        "tokens" => tokens_text(alloc, cache),
-        word => others_told(alloc, cache, word, words),
+        "read" => read(cache, words, text),
+        "write" => write(cache, words, text),
+        "used" => use_need(cache, words, text),
+        "use" => set_use(cache, words, text),
+        "length" => set_length(cache, words, text),
+        word => look(cache, word, words, text),
     }
 }
 
-fn others_told(alloc: Global, cache: &mut Cache, word: &str, words: &mut Words) -> Result<String> {
+fn set_use(cache: &mut Cache, words: &mut Words, text: &mut Text) -> Result<()> {
+    let id = words.id()?;
+    cache.set_use(id, words.next() == "yes");
+    text.number("", cache.idle() as u64);
+    Ok(())
+}
+
+fn use_need(cache: &mut Cache, words: &mut Words, text: &mut Text) -> Result<()> {
+    let need = need(words)?;
+    cache.used(&need);
+    tell_tokens(cache, text)
+}
+
+fn set_length(cache: &mut Cache, words: &mut Words, text: &mut Text) -> Result<()> {
+    let fid = words.file()?;
+    let Some(length) = words.length()? else {
+        bail!("no length");
+    };
+    cache.set_length(fid, length);
+    push_length(text, cache, fid);
+    Ok(())
+}
+
+fn push_length(text: &mut Text, cache: &Cache, fid: Fid) {
+    let status = cache.status(fid);
+    push_number(text, status.map(|status| u64::from(status.length)));
+}
+
+fn look(cache: &Cache, word: &str, words: &mut Words, text: &mut Text) -> Result<()> {
     match word {
-        "use" => {
-            let id = words.id()?;
-            cache.set_use(id, words.next() == "yes");
-            number_or_none(alloc, Some(cache.idle() as u64))
-        }
-        "oldest" => number_or_none(alloc, cache.oldest().map(|id| id.seq)),
-        "status" => {
-            let status = cache.status(words.file()?);
-            number_or_none(alloc, status.map(|status| u64::from(status.length)))
-        }
-        "length" => {
-            let fid = words.file()?;
-            let Some(length) = words.length()? else {
-                bail!("no length");
-            };
-            cache.set_length(fid, length);
-            number_or_none(
-                alloc,
-                cache.status(fid).map(|status| u64::from(status.length)),
-            )
-        }
+        "tokens" => return tell_tokens(cache, text),
+        "oldest" => push_number(text, cache.oldest().map(|id| id.seq)),
+        "covers" => push_yes(text, cache.covers(&need(words)?)),
+        "find" => push_use(text, cache, words.id()?),
+        word => look_at_file(cache, word, words.file()?, text),
+    }
+    Ok(())
+}
+
+fn look_at_file(cache: &Cache, word: &str, fid: Fid, text: &mut Text) {
+    match word {
+        "status" => push_length(text, cache, fid),
         "entries" => {
-            let entries = cache.entries(words.file()?);
-            number_or_none(alloc, entries.first().map(|entry| u64::from(entry.anode)))
+            let first = cache.entries(fid).first();
+            push_number(text, first.map(|entry| u64::from(entry.anode)));
         }
-        "find" => {
-            let held = cache.find(words.id()?);
-            use_text(alloc, held.map(|held| held.in_use))
-        }
-        "at" => seqs_text(alloc, cache.tokens_at(words.file()?)),
-        word => bail!("no step of a cache: {word}"),
+        "at" => push_seqs(text, cache.tokens_at(fid)),
+        _ => text.word("no step of a cache"),
     }
 }
 
@@ -103,7 +109,7 @@ fn need(words: &mut Words) -> Result<Need> {
 
 // `cache add ID FILE KIND ..`: yes where no token of that number is held. A status token comes with a length or `none`;
 // bytes with a position and bytes there, and maybe with the anode of one entry.
-fn add(alloc: Global, cache: &mut Cache, words: &mut Words) -> Result<String> {
+fn add(alloc: Global, cache: &mut Cache, words: &mut Words, text: &mut Text) -> Result<()> {
     let id = words.id()?;
     let fid = words.file()?;
     let token = Token {
@@ -112,21 +118,24 @@ fn add(alloc: Global, cache: &mut Cache, words: &mut Words) -> Result<String> {
         fid,
         kind: kind(words)?,
     };
-    if cache.holds(token.id) {
-        return yes_or_no(alloc, false);
+    let is_new = !cache.holds(token.id);
+    if is_new {
+        add_new(alloc, cache, token, words)?;
     }
-    match token.kind {
-        Kind::Status { .. } => add_status(alloc, cache, token, words.length()?)?,
-        _ => add_bytes(
-            alloc,
-            cache,
-            token,
-            words.length()?,
-            words.next(),
-            words.length()?,
-        )?,
+    push_yes(text, is_new);
+    Ok(())
+}
+
+fn add_new(alloc: Global, cache: &mut Cache, token: Token, words: &mut Words) -> Result<()>
+    requires { has_id cache.old.held token.id ≡ false }
+{
+    let first = words.length()?;
+    if matches!(token.kind, Kind::Status { .. }) {
+        return add_status(alloc, cache, token, first);
     }
-    yes_or_no(alloc, true)
+    let bytes = words.next();
+    let anode = words.length()?;
+    add_bytes(alloc, cache, token, first, bytes, anode)
 }
 
 fn add_status(alloc: Global, cache: &mut Cache, token: Token, length: Option<u32>) -> Result<()>
@@ -136,18 +145,23 @@ fn add_status(alloc: Global, cache: &mut Cache, token: Token, length: Option<u32
         cache.add(token, None, &[], &[])?;
         return Ok(());
     };
-    let name = Name::new(alloc, b"u")?;
+    let status = status(alloc, length)?;
+    let added = cache.add(token, Some(&status), &[], &[]);
+    drop(status);
+    Ok(added?)
+}
+
+fn status(alloc: Global, length: u32) -> Result<Status> {
+    let owner = Name::new(alloc, b"u")?;
     let group = Name::new(alloc, b"g")?;
-    let status = Status {
+    Ok(Status {
         dir: false,
         read_only: false,
         length,
-        owner: name,
+        owner,
         group,
         lists: Items::new(alloc),
-    };
-    cache.add(token, Some(&status), &[], &[])?;
-    Ok(())
+    })
 }
 
 fn add_bytes(
@@ -161,9 +175,24 @@ fn add_bytes(
     requires { has_id cache.old.held token.id ≡ false }
 {
     let pieces = pieces(alloc, from.unwrap_or(0), bytes)?;
+    let added = add_pieces(alloc, cache, token, pieces.as_slice(), anode);
+    drop(pieces);
+    added
+}
+
+fn add_pieces(
+    alloc: Global,
+    cache: &mut Cache,
+    token: Token,
+    pieces: &[Piece],
+    anode: Option<u32>,
+) -> Result<()>
+    requires { has_id cache.old.held token.id ≡ false }
+{
     let entries = entries(alloc, anode)?;
-    cache.add(token, None, pieces.as_slice(), entries.as_slice())?;
-    Ok(())
+    let added = cache.add(token, None, pieces, entries.as_slice());
+    drop(entries);
+    Ok(added?)
 }
 
 fn pieces(alloc: Global, from: u32, bytes: &str) -> Result<Items<Piece>, NoMemory> {
@@ -176,8 +205,9 @@ fn pieces(alloc: Global, from: u32, bytes: &str) -> Result<Items<Piece>, NoMemor
 fn entries(alloc: Global, anode: Option<u32>) -> Result<Items<DirEntry>> {
     let mut entries = Items::new(alloc);
     if let Some(anode) = anode {
+        let name = Name::new(alloc, b"a")?;
         entries.push(DirEntry {
-            name: Name::new(alloc, b"a")?,
+            name,
             anode,
             unique: 1,
         })?;
@@ -186,13 +216,17 @@ fn entries(alloc: Global, anode: Option<u32>) -> Result<Items<DirEntry>> {
 }
 
 // `cache read FILE SPAN`: the bytes, a zero as a point; or that the tokens don't cover them.
-fn read(alloc: Global, cache: &Cache, fid: Fid, span: Span) -> Result<String> {
+fn read(cache: &Cache, words: &mut Words, text: &mut Text) -> Result<()> {
+    let fid = words.file()?;
+    let span = words.span()?;
     let mut out = [0; READ_MAX];
     let count = (span.to - span.from) as usize;
     if count > READ_MAX || !read_into(cache, fid, span, &mut out[..count]) {
-        return Ok(String::from_str(alloc, "not covered")?);
+        text.word("not covered");
+        return Ok(());
     }
-    bytes_text(alloc, &out[..count])
+    text.plain("", &out[..count]);
+    Ok(())
 }
 
 // Reads the bytes of a span, where the tokens cover them.
@@ -210,20 +244,17 @@ fn read_into(cache: &Cache, fid: Fid, span: Span, out: &mut [u8]) -> bool
     is_covered
 }
 
-fn bytes_text(alloc: Global, bytes: &[u8]) -> Result<String> {
-    let mut text = String::new(alloc);
-    for byte in bytes {
-        text.push(if *byte == 0 { '.' } else { char::from(*byte) })?;
-    }
-    Ok(text)
-}
-
-// Writes bytes from a position on, where the tokens cover them for update.
-fn write(cache: &mut Cache, fid: Fid, from: u64, bytes: &[u8]) -> bool {
-    match span_of(from, bytes.len()) {
+// `cache write FILE FROM BYTES`: yes where the tokens cover them for update.
+fn write(cache: &mut Cache, words: &mut Words, text: &mut Text) -> Result<()> {
+    let fid = words.file()?;
+    let from = words.number()?;
+    let bytes = words.next().as_bytes();
+    let written = match span_of(from, bytes.len()) {
         Some(span) => write_at(cache, fid, span, bytes),
         None => false,
-    }
+    };
+    push_yes(text, written);
+    Ok(())
 }
 
 fn write_at(cache: &mut Cache, fid: Fid, span: Span, bytes: &[u8]) -> bool
@@ -250,27 +281,25 @@ fn span_of(from: u64, count: usize) -> Option<Span>
     })
 }
 
-/// The numbers of the held tokens, the most recently used first.
-pub fn tokens_text(alloc: Global, cache: &Cache) -> Result<String> {
+/// Writes the numbers of the held tokens, the most recently used first.
+pub fn tell_tokens(cache: &Cache, text: &mut Text) -> Result<()> {
     let tokens = cache.tokens()?;
-    seqs_text(alloc, tokens.as_slice())
+    push_seqs(text, tokens.as_slice());
+    drop(tokens);
+    Ok(())
 }
 
-fn seqs_text(alloc: Global, tokens: &[Token]) -> Result<String> {
-    let mut text = String::new(alloc);
+fn push_seqs(text: &mut Text, tokens: &[Token]) {
     for token in tokens {
-        let seq = token.id.seq;
-        text.push_str(format!(in alloc; "{seq} ")?.as_str())?;
+        text.number("", token.id.seq);
+        text.word(" ");
     }
-    Ok(text)
 }
 
-// Whether a token that was found is in use.
-fn use_text(alloc: Global, in_use: Option<bool>) -> Result<String> {
-    let text = match in_use {
-        Some(true) => "in use",
-        Some(false) => "idle",
-        None => "none",
-    };
-    Ok(String::from_str(alloc, text)?)
+// Whether a token that is found is in use.
+fn push_use(text: &mut Text, cache: &Cache, id: TokenId) {
+    match cache.find(id) {
+        Some(held) => text.word(if held.in_use { "in use" } else { "idle" }),
+        None => text.word("none"),
+    }
 }

@@ -2,56 +2,66 @@
 ghost use Rattle.std.specs.Prelude.{IsTrue};
 ghost use Rattle.host_gives.specs.Giving.{is_next};
 
-use crate::reading::{Words, number_or_none, yes_or_no};
+use crate::reading::{Words, push_number, push_yes};
 use anyhow::{Result, bail};
 use base_types::{Fid, FilesetId, HostId, Items, NoMemory, ServerId};
 use host_gives::Gives;
 use message_types::{Body, Direction, Give, Message};
 use std::alloc::Global;
 use token_types::TokenId;
+use tree_test_words::Text;
 
 // Tokens of one give-back, at most.
 const IDS_MAX: usize = 8;
 
-/// The answer to a row `give ..`.
-pub fn told(alloc: Global, gives: &mut Gives, words: &mut Words) -> Result<String> {
+/// Writes the answer to a row `give ..`.
+pub fn tell(alloc: Global, gives: &mut Gives, words: &mut Words, text: &mut Text) -> Result<()> {
     match words.next() {
-        "add" => {
-            let fid = words.file()?;
-            let number = words.number()?;
-            let ids = ids(alloc, words)?;
-            add_text(alloc, gives, fid, number, ids)
-        }
-        "gone" => {
-            let fileset = words.fileset();
-            let number = words.number()?;
-            gone_text(alloc, gives, fileset, number)
-        }
-        "take" => {
-            let fileset = words.fileset();
-            let number = words.number()?;
-            let taken = taken_number(gives, fileset, number);
-            number_or_none(alloc, taken)
-        }
-        "open" => {
-            let fileset = words.fileset();
-            yes_or_no(alloc, gives.is_open(fileset, words.number()?))
-        }
-        "outstanding" => {
-            let outstanding = gives.outstanding(words.fileset());
-            number_or_none(alloc, outstanding.map(number_of))
-        }
-        "last" => number_or_none(alloc, Some(gives.last(words.fileset()))),
-        "names" => yes_or_no(alloc, gives.names(words.id()?)),
-        "of-file" => yes_or_no(alloc, gives.of_file(words.file()?)),
-        "all" => all_text(alloc, gives.all()),
-        word => bail!("no step of give-backs: {word}"),
+        "add" => add_row(alloc, gives, words, text),
+        "gone" => take(gives, true, words, text),
+        "take" => take(gives, false, words, text),
+        word => look(gives, word, words, text),
     }
 }
 
-fn gone_text(alloc: Global, gives: &mut Gives, fileset: FilesetId, number: u64) -> Result<String> {
-    let gone = gone_number(gives, fileset, number);
-    number_or_none(alloc, gone)
+// `give gone FILESET NUMBER`, or `give take FILESET NUMBER`.
+fn take(gives: &mut Gives, is_gone: bool, words: &mut Words, text: &mut Text) -> Result<()> {
+    let fileset = words.fileset();
+    let number = words.number()?;
+    let taken = if is_gone {
+        gone_number(gives, fileset, number)
+    } else {
+        taken_number(gives, fileset, number)
+    };
+    push_number(text, taken);
+    Ok(())
+}
+
+fn look(gives: &Gives, word: &str, words: &mut Words, text: &mut Text) -> Result<()> {
+    match word {
+        "open" => {
+            let fileset = words.fileset();
+            let number = words.number()?;
+            push_yes(text, gives.is_open(fileset, number));
+        }
+        "outstanding" => {
+            let outstanding = gives.outstanding(words.fileset());
+            push_number(text, outstanding.map(number_of));
+        }
+        "last" => text.number("", gives.last(words.fileset())),
+        "all" => push_all(text, gives.all()),
+        word => return look_at_names(gives, word, words, text),
+    }
+    Ok(())
+}
+
+fn look_at_names(gives: &Gives, word: &str, words: &mut Words, text: &mut Text) -> Result<()> {
+    match word {
+        "names" => push_yes(text, gives.names(words.id()?)),
+        "of-file" => push_yes(text, gives.of_file(words.file()?)),
+        word => bail!("no step of give-backs: {word}"),
+    }
+    Ok(())
 }
 
 // The number of the give-back that is taken out.
@@ -70,7 +80,8 @@ fn taken_number(gives: &mut Gives, fileset: FilesetId, number: u64) -> Option<u6
     number
 }
 
-fn ids(alloc: Global, words: &mut Words) -> Result<Items<TokenId>> {
+/// The numbers of tokens that the words left are.
+pub fn ids(alloc: Global, words: &mut Words) -> Result<Items<TokenId>> {
     let mut ids = Items::new(alloc);
     for _ in 0..IDS_MAX {
         if words.is_empty() {
@@ -82,28 +93,15 @@ fn ids(alloc: Global, words: &mut Words) -> Result<Items<TokenId>> {
 }
 
 // `give add FILE NUMBER IDS`, without bytes: yes where it is the next one of its fileset.
-fn add_text(
-    alloc: Global,
-    gives: &mut Gives,
-    fid: Fid,
-    number: u64,
-    ids: Items<TokenId>,
-) -> Result<String> {
-    let added = add_given(alloc, gives, fid, number, ids)?;
-    yes_or_no(alloc, added)
-}
-
-fn add_given(
-    alloc: Global,
-    gives: &mut Gives,
-    fid: Fid,
-    number: u64,
-    ids: Items<TokenId>,
-) -> Result<bool, NoMemory> {
+fn add_row(alloc: Global, gives: &mut Gives, words: &mut Words, text: &mut Text) -> Result<()> {
+    let fid = words.file()?;
+    let number = words.number()?;
+    let ids = ids(alloc, words)?;
     let give = given(alloc, fid, number, ids);
     let added = add(gives, &give);
     drop(give);
-    added
+    push_yes(text, added?);
+    Ok(())
 }
 
 fn given(alloc: Global, fid: Fid, number: u64, ids: Items<TokenId>) -> Message {
@@ -150,11 +148,9 @@ fn number_of(message: &Message) -> u64 {
     }
 }
 
-fn all_text(alloc: Global, gives: &[Message]) -> Result<String> {
-    let mut text = String::new(alloc);
+fn push_all(text: &mut Text, gives: &[Message]) {
     for give in gives {
-        let number = number_of(give);
-        text.push_str(format!(in alloc; "{number} ")?.as_str())?;
+        text.number("", number_of(give));
+        text.word(" ");
     }
-    Ok(text)
 }

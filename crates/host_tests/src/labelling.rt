@@ -2,44 +2,72 @@
 ghost use Rattle.std.specs.Prelude.{◌≡◌, IsTrue, None};
 ghost use Rattle.host_labels.specs.Labels.{is_lock, use_of, has_id};
 
-use crate::reading::{Words, number_or_none, yes_or_no};
+use crate::reading::{Words, push_number, push_yes};
 use anyhow::{Result, bail};
-use base_types::Name;
+use base_types::{Name, NoMemory};
 use host_labels::{Labelled, Uses};
 use std::alloc::Global;
 use token_types::{Kind, Token, TokenId};
+use tree_test_words::Text;
 
-/// The answer to a row `label ..`.
-pub fn told(alloc: Global, uses: &mut Uses, words: &mut Words) -> Result<String> {
+/// Writes the answer to a row `label ..`.
+pub fn tell(alloc: Global, uses: &mut Uses, words: &mut Words, text: &mut Text) -> Result<()> {
     match words.next() {
-        "take" => {
-            let name = words.name(alloc)?;
-            take(alloc, uses, &name, &words.token()?)
-        }
-        "find" => {
-            let is_lock = words.is_lock();
-            let found = uses.find(is_lock, &words.name(alloc)?);
-            number_or_none(alloc, found.map(|id| id.seq))
-        }
-        "drop" => {
-            let is_lock = words.is_lock();
-            let dropped = uses.drop_label(is_lock, &words.name(alloc)?);
-            number_or_none(alloc, dropped.as_ref().map(|used| used.token.id.seq))
-        }
-        "pin" => pin(alloc, uses, words.id()?),
-        "pinned" => yes_or_no(alloc, uses.is_pinned(words.id()?)),
-        "all" => all_text(alloc, uses.labels()),
-        word => bail!("no step of labels: {word}"),
+        "take" => take(alloc, uses, words, text),
+        "find" => find(alloc, uses, words, text),
+        "drop" => drop_label(alloc, uses, words, text),
+        word => look(uses, word, words, text),
     }
 }
 
+fn look(uses: &mut Uses, word: &str, words: &mut Words, text: &mut Text) -> Result<()> {
+    match word {
+        "pin" => return pin(uses, words, text),
+        "pinned" => push_yes(text, uses.is_pinned(words.id()?)),
+        "all" => push_all(text, uses.labels()),
+        word => bail!("no step of labels: {word}"),
+    }
+    Ok(())
+}
+
+// `label find lock|open NAME`
+fn find(alloc: Global, uses: &Uses, words: &mut Words, text: &mut Text) -> Result<()> {
+    let is_lock = words.is_lock();
+    let name = words.name(alloc)?;
+    let found = uses.find(is_lock, &name);
+    drop(name);
+    push_number(text, found.map(|id| id.seq));
+    Ok(())
+}
+
+// `label drop lock|open NAME`
+fn drop_label(alloc: Global, uses: &mut Uses, words: &mut Words, text: &mut Text) -> Result<()> {
+    let is_lock = words.is_lock();
+    let name = words.name(alloc)?;
+    let dropped = uses.drop_label(is_lock, &name);
+    drop(name);
+    push_number(text, dropped.as_ref().map(|used| used.token.id.seq));
+    drop(dropped);
+    Ok(())
+}
+
 // `label take NAME TOKEN`: yes where the label isn't in use for a token of that type.
-fn take(alloc: Global, uses: &mut Uses, name: &Name, token: &Token) -> Result<String> {
+fn take(alloc: Global, uses: &mut Uses, words: &mut Words, text: &mut Text) -> Result<()> {
+    let word = words.next();
+    let token = words.token()?;
+    let name = Name::new(alloc, word.as_bytes())?;
+    let taken = take_free(uses, &name, &token);
+    drop(name);
+    push_yes(text, taken?);
+    Ok(())
+}
+
+fn take_free(uses: &mut Uses, name: &Name, token: &Token) -> Result<bool, NoMemory> {
     let is_free = is_free(uses, name, token);
     if is_free {
         uses.take(name, token)?;
     }
-    yes_or_no(alloc, is_free)
+    Ok(is_free)
 }
 
 fn is_free(uses: &Uses, name: &Name, token: &Token) -> bool
@@ -50,12 +78,14 @@ fn is_free(uses: &Uses, name: &Name, token: &Token) -> bool
 }
 
 // `label pin ID`: yes where a label is in use for the token.
-fn pin(alloc: Global, uses: &mut Uses, id: TokenId) -> Result<String> {
+fn pin(uses: &mut Uses, words: &mut Words, text: &mut Text) -> Result<()> {
+    let id = words.id()?;
     let is_used = is_used(uses.labels(), id);
     if is_used {
         uses.pin(id)?;
     }
-    yes_or_no(alloc, is_used)
+    push_yes(text, is_used);
+    Ok(())
 }
 
 fn is_used(labels: &[Labelled], id: TokenId) -> bool
@@ -64,11 +94,9 @@ fn is_used(labels: &[Labelled], id: TokenId) -> bool
     labels.iter().any(|used| used.token.id == id)
 }
 
-fn all_text(alloc: Global, labels: &[Labelled]) -> Result<String> {
-    let mut text = String::new(alloc);
+fn push_all(text: &mut Text, labels: &[Labelled]) {
     for used in labels {
-        let seq = used.token.id.seq;
-        text.push_str(format!(in alloc; "{seq} ")?.as_str())?;
+        text.number("", used.token.id.seq);
+        text.word(" ");
     }
-    Ok(text)
 }

@@ -4,8 +4,11 @@
 
 mod caching;
 mod dirtying;
+mod drafting;
 mod giving;
 mod labelling;
+mod leaving;
+mod looking;
 mod reading;
 mod tabling;
 mod walking;
@@ -15,9 +18,11 @@ use host_cache::Cache;
 use host_dirty::Dirty;
 use host_gives::Gives;
 use host_labels::Uses;
+use leaving::Leaver;
 use reading::Words;
 use std::alloc::Global;
 use tabling::Tables;
+use tree_test_words::Text;
 use walking::Walker;
 
 // What the steps are made on.
@@ -30,6 +35,7 @@ struct Parts {
     cache: Cache,
     tables: Tables,
     walker: Walker,
+    leaver: Leaver,
 }
 
 impl Parts {
@@ -37,6 +43,7 @@ impl Parts {
         let cache = Cache::new(alloc)?;
         let tables = Tables::new(alloc)?;
         let walker = Walker::new(alloc)?;
+        let leaver = Leaver::new(alloc)?;
         Ok(Parts {
             alloc,
             uses: Uses::new(alloc),
@@ -45,20 +52,34 @@ impl Parts {
             cache,
             tables,
             walker,
+            leaver,
         })
     }
 
     // What is told to a row.
     fn told(&mut self, row: &str) -> Result<String> {
-        let mut words = Words::new(row);
+        let mut text = Text::new(self.alloc);
+        self.tell(&mut Words::new(row), &mut text)?;
+        text.line()
+    }
+
+    fn tell(&mut self, words: &mut Words, text: &mut Text) -> Result<()> {
         match words.next() {
-            "label" => labelling::told(self.alloc, &mut self.uses, &mut words),
-            "dirty" => dirtying::told(self.alloc, &mut self.dirty, &mut words),
-            "cache" => caching::told(self.alloc, &mut self.cache, &mut words),
-            "give" => giving::told(self.alloc, &mut self.gives, &mut words),
-            "table" => self.tables.told(self.alloc, &mut words),
-            "walk" => self.walker.told(self.alloc, &mut words),
-            "mark" => self.walker.marked(self.alloc, &mut words),
+            "label" => labelling::tell(self.alloc, &mut self.uses, words, text),
+            "dirty" => dirtying::tell(&mut self.dirty, words, text),
+            "cache" => caching::tell(self.alloc, &mut self.cache, words, text),
+            "give" => giving::tell(self.alloc, &mut self.gives, words, text),
+            "table" => self.tables.tell(self.alloc, words, text),
+            word => self.tell_other(word, words, text),
+        }
+    }
+
+    fn tell_other(&mut self, word: &str, words: &mut Words, text: &mut Text) -> Result<()> {
+        match word {
+            "walk" => self.walker.tell(self.alloc, words, text),
+            "mark" => self.walker.mark(self.alloc, words, text),
+            "own" => self.leaver.tell(self.alloc, words, text),
+            "step" => self.leaver.step(self.alloc, words, text),
             word => bail!("no step: {word}"),
         }
     }

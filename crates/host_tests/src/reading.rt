@@ -4,6 +4,7 @@ use anyhow::{Context, Result, bail};
 use base_types::{FILE_BYTES_MAX, Fid, FilesetId, HostId, Name, OpenKind, ServerId, Span};
 use std::alloc::Global;
 use token_types::{Kind, Token, TokenId};
+use tree_test_words::Text;
 
 /// The words of a row that are left.
 #[derive(Drop)]
@@ -114,14 +115,14 @@ fn file(word: &str) -> Result<Fid> {
 }
 
 /// yes or no.
-pub fn yes_or_no(alloc: Global, answer: bool) -> Result<String> {
-    Ok(String::from_str(alloc, if answer { "yes" } else { "no" })?)
+pub fn push_yes(text: &mut Text, answer: bool) {
+    text.word(if answer { "yes" } else { "no" });
 }
 
 /// A number, or none.
-pub fn number_or_none(alloc: Global, number: Option<u64>) -> Result<String> {
+pub fn push_number(text: &mut Text, number: Option<u64>) {
     match number {
-        Some(number) => Ok(format!(in alloc; "{number}")?),
-        None => Ok(String::from_str(alloc, "none")?),
+        Some(number) => text.number("", number),
+        None => text.word("none"),
     }
 }

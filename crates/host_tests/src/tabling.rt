@@ -1,6 +1,6 @@
 //! The steps of the tables of a host.
 
-use crate::reading::{Words, number_or_none, yes_or_no};
+use crate::reading::{Words, push_number, push_yes};
 use anyhow::{Context, Result, bail};
 use base_types::{FilesetId, HostId, Items, NoMemory, Node, ServerId};
 use host_tables::{
@@ -10,6 +10,7 @@ use host_tables::{
 };
 use run_rules::Cause;
 use std::alloc::Global;
+use tree_test_words::Text;
 
 // Servers that are declared.
 const SERVERS: u8 = 2;
@@ -38,83 +39,106 @@ impl Tables {
         })
     }
 
-    /// The answer to a row `table ..`.
-    pub fn told(&mut self, alloc: Global, words: &mut Words) -> Result<String> {
+    /// Writes the answer to a row `table ..`.
+    pub fn tell(&mut self, alloc: Global, words: &mut Words, text: &mut Text) -> Result<()> {
         match words.next() {
-            "enter" => self.enter(alloc, words),
-            "home" => {
-                let server = server(words)?;
-                let name = words.name(alloc)?;
-                let id = home_of(self.homes.as_slice(), server, &name);
-                drop(name);
-                number_or_none(alloc, id.map(|id| u64::from(id.0)))
-            }
-            "fetch" => number_or_none(alloc, Some(next_fetch(&mut self.fetched, words.fileset())?)),
-            "change" => {
-                let server = server(words)?;
-                let number = next_change(&mut self.changed, server, FilesetId(words.small()?))?;
-                number_or_none(alloc, Some(number))
-            }
-            word => self.file_told(alloc, word, words),
+            "enter" => self.enter(alloc, words, text),
+            "home" => self.home(alloc, words, text),
+            "change" => self.change(words, text),
+            "greet" => self.greet(words, text),
+            "raise" => self.raise(words, text),
+            "give" => self.give(words, text),
+            "gone" => self.gone(words, text),
+            word => self.look(alloc, word, words, text),
         }
     }
 
-    fn enter(&mut self, alloc: Global, words: &mut Words) -> Result<String> {
+    fn enter(&mut self, alloc: Global, words: &mut Words, text: &mut Text) -> Result<()> {
         let server = server(words)?;
         let name = words.name(alloc)?;
         let put = put_home(&mut self.homes, server, &name, words.fileset());
         drop(name);
-        put?;
-        number_or_none(alloc, Some(self.homes.len() as u64))
+        text.number("", self.homes.len() as u64);
+        Ok(put?)
     }
 
-    fn file_told(&mut self, alloc: Global, word: &str, words: &mut Words) -> Result<String> {
+    fn home(&self, alloc: Global, words: &mut Words, text: &mut Text) -> Result<()> {
+        let server = server(words)?;
+        let name = words.name(alloc)?;
+        let id = home_of(self.homes.as_slice(), server, &name);
+        drop(name);
+        push_number(text, id.map(|id| u64::from(id.0)));
+        Ok(())
+    }
+
+    fn change(&mut self, words: &mut Words, text: &mut Text) -> Result<()> {
+        let server = server(words)?;
+        let fileset = FilesetId(words.small()?);
+        text.number("", next_change(&mut self.changed, server, fileset)?);
+        Ok(())
+    }
+
+    fn greet(&mut self, words: &mut Words, text: &mut Text) -> Result<()> {
+        let server = server(words)?;
+        let mut site = site_at(self.sites.as_slice(), server);
+        site.greeted = true;
+        put_site(&mut self.sites, site);
+        push_yes(text, site_at(self.sites.as_slice(), server).greeted);
+        Ok(())
+    }
+
+    fn raise(&mut self, words: &mut Words, text: &mut Text) -> Result<()> {
+        let fid = words.file()?;
+        let stamp = words.number()?;
+        put_floor(&mut self.floors, Floor { fid, stamp })?;
+        text.number("", self.floors.len() as u64);
+        Ok(())
+    }
+
+    fn give(&mut self, words: &mut Words, text: &mut Text) -> Result<()> {
+        let fid = words.file()?;
+        let number = words.number()?;
+        let length = words.small()?;
+        let given = Given {
+            fid,
+            number,
+            length,
+            known: false,
+        };
+        put_given(&mut self.lengths, given)?;
+        text.number("", self.lengths.len() as u64);
+        Ok(())
+    }
+
+    fn gone(&mut self, words: &mut Words, text: &mut Text) -> Result<()> {
+        let fileset = words.fileset();
+        let number = words.number()?;
+        let fid = words.file()?;
+        mark_known(&mut self.lengths, fileset, number);
+        let given = given_length(self.lengths.as_slice(), fid);
+        push_yes(text, given.map_or(false, |given| given.known));
+        Ok(())
+    }
+
+    fn look(
+        &mut self,
+        alloc: Global,
+        word: &str,
+        words: &mut Words,
+        text: &mut Text,
+    ) -> Result<()> {
         match word {
-            "floor" => number_or_none(alloc, Some(floor_of(self.floors.as_slice(), words.file()?))),
-            "raise" => {
-                let fid = words.file()?;
-                let stamp = words.number()?;
-                put_floor(&mut self.floors, Floor { fid, stamp })?;
-                number_or_none(alloc, Some(self.floors.len() as u64))
-            }
-            "give" => {
-                let fid = words.file()?;
-                let given = Given {
-                    fid,
-                    number: words.number()?,
-                    length: words.small()?,
-                    known: false,
-                };
-                put_given(&mut self.lengths, given)?;
-                number_or_none(alloc, Some(self.lengths.len() as u64))
-            }
+            "fetch" => text.number("", next_fetch(&mut self.fetched, words.fileset())?),
+            "floor" => text.number("", floor_of(self.floors.as_slice(), words.file()?)),
             "given" => {
                 let given = given_length(self.lengths.as_slice(), words.file()?);
-                number_or_none(alloc, given.map(|given| u64::from(given.length)))
+                push_number(text, given.map(|given| u64::from(given.length)));
             }
-            "gone" => {
-                let fileset = words.fileset();
-                mark_known(&mut self.lengths, fileset, words.number()?);
-                let given = given_length(self.lengths.as_slice(), words.file()?);
-                yes_or_no(alloc, given.map_or(false, |given| given.known))
-            }
-            word => self.server_told(alloc, word, words),
-        }
-    }
-
-    fn server_told(&mut self, alloc: Global, word: &str, words: &mut Words) -> Result<String> {
-        match word {
-            "greet" => {
-                let server = server(words)?;
-                let mut site = site_at(self.sites.as_slice(), server);
-                site.greeted = true;
-                put_site(&mut self.sites, site);
-                yes_or_no(alloc, site_at(self.sites.as_slice(), server).greeted)
-            }
-            "made" => number_or_none(alloc, Some(u64::from(home(words.fileset()).0))),
-            "sent" => number_or_none(alloc, Some(sent(alloc) as u64)),
+            "made" => text.number("", u64::from(home(words.fileset()).0)),
+            "sent" => text.number("", sent(alloc) as u64),
             word => bail!("no step of tables: {word}"),
         }
+        Ok(())
     }
 }
 

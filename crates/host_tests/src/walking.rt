@@ -2,18 +2,18 @@
 //! the file a, 9 bytes long, which it may read and write, the directory d, in which it may do nothing, and the file x,
 //! 3,000 bytes long, which it may read. Held are all bytes of a, and the second block of x.
 
-use crate::caching::tokens_text;
-use crate::reading::{Words, number_or_none};
+use crate::caching::tell_tokens;
+use crate::reading::{Words, push_number};
 use anyhow::{Result, bail};
 use base_types::{
-    AccessEntry, AccessList, Fid, FilesetId, HostId, Items, Name, NoMemory, Rights, ServerId, Span,
-    User, Who,
+    AccessEntry, AccessList, Fid, FilesetId, HostId, Items, Name, Rights, ServerId, Span, User, Who,
 };
 use host_cache::Cache;
 use host_walk::{Sight, Stop};
 use std::alloc::Global;
 use token_types::{Kind, Need, Token, TokenId};
-use tree_calls::{DirEntry, Piece, Refusal, Status, Which};
+use tree_calls::{DirEntry, Refusal, Status, Which};
+use tree_test_words::Text;
 
 const ROOT: Fid = Fid {
     fileset: FilesetId(65_537),
@@ -37,110 +37,106 @@ impl Walker {
         Ok(Walker { cache, user })
     }
 
-    /// The answer to a row `walk ..`.
-    pub fn told(&mut self, alloc: Global, words: &mut Words) -> Result<String> {
+    /// Writes the answer to a row `walk ..`.
+    pub fn tell(&self, alloc: Global, words: &mut Words, text: &mut Text) -> Result<()> {
         let sight = Sight {
             cache: &self.cache,
             user: &self.user,
         };
-        match words.next() {
-            "read" => {
-                let name = words.next();
-                let from = words.small()?;
-                let len = words.small()?;
-                read(alloc, sight, name, from, len)
-            }
-            "write" => {
-                let name = words.next();
-                let from = words.small()?;
-                write(alloc, sight, name, from, words.next().as_bytes())
-            }
-            word => looked(alloc, sight, word, words),
-        }
+        let word = words.next();
+        let path = path(alloc, words.next())?;
+        let told = tell_by(sight, word, path.as_slice(), words, text);
+        drop(path);
+        told
     }
 
-    /// The answer to a row `mark ..`.
-    pub fn marked(&mut self, alloc: Global, words: &mut Words) -> Result<String> {
+    /// Writes the answer to a row `mark ..`.
+    pub fn mark(&mut self, alloc: Global, words: &mut Words, text: &mut Text) -> Result<()> {
         let path = path(alloc, words.next())?;
         host_walk::mark_way(&mut self.cache, &self.user, ROOT, path.as_slice(), &[]);
         drop(path);
         if !words.is_empty() {
-            host_walk::mark(&mut self.cache, host_walk::whole_need(words.file()?));
+            let fid = words.file()?;
+            host_walk::mark(&mut self.cache, host_walk::whole_need(fid));
         }
-        tokens_text(alloc, &self.cache)
+        tell_tokens(&self.cache, text)
     }
 }
 
-fn read(alloc: Global, sight: Sight, names: &str, from: u32, len: u32) -> Result<String> {
-    let path = path(alloc, names)?;
-    let read = sight.read(ROOT, path.as_slice(), from, len);
-    drop(path);
-    read_text(alloc, read)
-}
-
-fn write(alloc: Global, sight: Sight, names: &str, from: u32, bytes: &[u8]) -> Result<String> {
-    let path = path(alloc, names)?;
-    let wrote = sight.write(ROOT, path.as_slice(), from, bytes);
-    drop(path);
-    write_text(alloc, wrote)
+fn tell_by(
+    sight: Sight,
+    word: &str,
+    names: &[Name],
+    words: &mut Words,
+    text: &mut Text,
+) -> Result<()> {
+    match word {
+        "read" => {
+            let from = words.small()?;
+            let len = words.small()?;
+            push_read(text, sight.read(ROOT, names, from, len));
+        }
+        "write" => {
+            let from = words.small()?;
+            push_write(
+                text,
+                sight.write(ROOT, names, from, words.next().as_bytes()),
+            );
+        }
+        "access" => push_access(text, sight, names, which(words.next())),
+        "use" => push_use(text, sight, names, words.next() == "changing"),
+        word => push_look(text, sight, word, names),
+    }
+    Ok(())
 }
 
 // The rows that look at more than bytes.
-fn looked(alloc: Global, sight: Sight, word: &str, words: &mut Words) -> Result<String> {
-    let path = path(alloc, words.next())?;
-    let text = look(alloc, sight, word, path.as_slice(), words.next());
-    drop(path);
-    text
-}
-
-fn look(alloc: Global, sight: Sight, word: &str, names: &[Name], last: &str) -> Result<String> {
+fn push_look(text: &mut Text, sight: Sight, word: &str, names: &[Name]) {
     match word {
-        "list" => list_text(alloc, sight, names),
-        "stat" => stat_text(alloc, sight, names),
-        "file" => file_text(alloc, sight, names),
-        "access" => access_text(alloc, sight, names, which(last)),
-        "use" => use_text(alloc, sight, names, last == "changing"),
-        word => bail!("no look: {word}"),
+        "list" => push_list(text, sight, names),
+        "stat" => push_stat(text, sight, names),
+        "file" => push_file(text, sight, names),
+        _ => text.word("no look"),
     }
 }
 
-fn list_text(alloc: Global, sight: Sight, names: &[Name]) -> Result<String> {
+fn push_list(text: &mut Text, sight: Sight, names: &[Name]) {
     match sight.list(ROOT, names) {
-        Ok((fid, entries)) => count_text(alloc, fid, entries.len()),
-        Err(stop) => stop_text(alloc, stop),
+        Ok((fid, entries)) => push_count(text, fid, entries.len()),
+        Err(stop) => push_stop(text, stop),
     }
 }
 
-fn stat_text(alloc: Global, sight: Sight, names: &[Name]) -> Result<String> {
+fn push_stat(text: &mut Text, sight: Sight, names: &[Name]) {
     match sight.target(ROOT, names) {
-        Ok((fid, status)) => count_text(alloc, fid, status.length as usize),
-        Err(stop) => stop_text(alloc, stop),
+        Ok((fid, status)) => push_count(text, fid, status.length as usize),
+        Err(stop) => push_stop(text, stop),
     }
 }
 
-fn file_text(alloc: Global, sight: Sight, names: &[Name]) -> Result<String> {
+fn push_file(text: &mut Text, sight: Sight, names: &[Name]) {
     match sight.file(ROOT, names) {
-        Ok((fid, status)) => count_text(alloc, fid, status.length as usize),
-        Err(stop) => stop_text(alloc, stop),
+        Ok((fid, status)) => push_count(text, fid, status.length as usize),
+        Err(stop) => push_stop(text, stop),
     }
 }
 
-fn access_text(alloc: Global, sight: Sight, names: &[Name], which: Which) -> Result<String> {
+fn push_access(text: &mut Text, sight: Sight, names: &[Name], which: Which) {
     match sight.access(ROOT, names, which) {
-        Ok((fid, list)) => count_text(alloc, fid, list.as_slice().len()),
-        Err(stop) => stop_text(alloc, stop),
+        Ok((fid, list)) => push_count(text, fid, list.as_slice().len()),
+        Err(stop) => push_stop(text, stop),
     }
 }
 
-fn use_text(alloc: Global, sight: Sight, names: &[Name], changing: bool) -> Result<String> {
+fn push_use(text: &mut Text, sight: Sight, names: &[Name], changing: bool) {
     let right = if changing {
         Rights::WRITE
     } else {
         Rights::READ
     };
     match sight.usable(ROOT, names, changing, right) {
-        Ok(fid) => count_text(alloc, fid, 0),
-        Err(stop) => stop_text(alloc, stop),
+        Ok(fid) => push_count(text, fid, 0),
+        Err(stop) => push_stop(text, stop),
     }
 }
 
@@ -164,32 +160,37 @@ fn path(alloc: Global, word: &str) -> Result<Items<Name>> {
     Ok(path)
 }
 
-fn read_text(alloc: Global, read: Result<(Fid, Span), Stop>) -> Result<String> {
+fn push_read(text: &mut Text, read: Result<(Fid, Span), Stop>) {
     match read {
         Ok((fid, span)) => {
-            let (anode, from, to) = (fid.anode, span.from, span.to);
-            Ok(format!(in alloc; "f{anode} {from}-{to}")?)
+            text.number("f", u64::from(fid.anode));
+            push_span(text, " ", span);
         }
-        Err(stop) => stop_text(alloc, stop),
+        Err(stop) => push_stop(text, stop),
     }
 }
 
-fn write_text(alloc: Global, wrote: Result<Option<Fid>, Stop>) -> Result<String> {
+fn push_span(text: &mut Text, word: &str, span: Span) {
+    text.number(word, u64::from(span.from));
+    text.number("-", u64::from(span.to));
+}
+
+fn push_write(text: &mut Text, wrote: Result<Option<Fid>, Stop>) {
     match wrote {
-        Ok(fid) => number_or_none(alloc, fid.map(|fid| u64::from(fid.anode))),
-        Err(stop) => stop_text(alloc, stop),
+        Ok(fid) => push_number(text, fid.map(|fid| u64::from(fid.anode))),
+        Err(stop) => push_stop(text, stop),
     }
 }
 
-fn count_text(alloc: Global, fid: Fid, count: usize) -> Result<String> {
-    let anode = fid.anode;
-    Ok(format!(in alloc; "f{anode} {count}")?)
+fn push_count(text: &mut Text, fid: Fid, count: usize) {
+    text.number("f", u64::from(fid.anode));
+    text.number(" ", count as u64);
 }
 
-fn stop_text(alloc: Global, stop: Stop) -> Result<String> {
+fn push_stop(text: &mut Text, stop: Stop) {
     match stop {
-        Stop::Refused(refusal) => Ok(String::from_str(alloc, refusal_word(refusal))?),
-        Stop::Lacks(need) => lack_text(alloc, need),
+        Stop::Refused(refusal) => text.word(refusal_word(refusal)),
+        Stop::Lacks(need) => push_lack(text, need),
     }
 }
 
@@ -205,20 +206,19 @@ fn refusal_word(refusal: Refusal) -> &'static str {
     }
 }
 
-fn lack_text(alloc: Global, need: Need) -> Result<String> {
-    let anode = need.fid.anode;
+fn push_lack(text: &mut Text, need: Need) {
+    text.number("lacks f", u64::from(need.fid.anode));
     match need.kind {
         Kind::Bytes { update, span } => {
-            let word = if update { "update" } else { "read" };
-            let (from, to) = (span.from, span.to);
-            Ok(format!(in alloc; "lacks f{anode} {word} {from}-{to}")?)
+            push_span(text, if update { " update " } else { " read " }, span);
         }
-        Kind::Status { update: true } => Ok(format!(in alloc; "lacks f{anode} status-update")?),
-        _ => Ok(format!(in alloc; "lacks f{anode} status")?),
+        Kind::Status { update: true } => text.word(" status-update"),
+        _ => text.word(" status"),
     }
 }
 
-fn user(alloc: Global) -> Result<User> {
+/// The user for whom the host acts.
+pub fn user(alloc: Global) -> Result<User> {
     let name = Name::new(alloc, b"u")?;
     Ok(User {
         name,
@@ -229,24 +229,31 @@ fn user(alloc: Global) -> Result<User> {
 // What is held of the root.
 fn fill_root(alloc: Global, cache: &mut Cache) -> Result<()> {
     add_status(alloc, cache, 1, 1, (true, 3, 5))?;
+    let entries = root_entries(alloc)?;
+    let added = add(cache, token(2, 1, whole()), None, entries.as_slice());
+    drop(entries);
+    added
+}
+
+fn root_entries(alloc: Global) -> Result<Items<DirEntry>> {
     let mut entries = Items::new(alloc);
-    entries.push(entry(alloc, b"a", 2)?)?;
-    entries.push(entry(alloc, b"d", 3)?)?;
-    entries.push(entry(alloc, b"x", 4)?)?;
-    add(cache, token(2, 1, whole()), None, &[], entries.as_slice())
+    for (name, anode) in [("a", 2), ("d", 3), ("x", 4)] {
+        entries.push(entry(alloc, name.as_bytes(), anode)?)?;
+    }
+    Ok(entries)
 }
 
 // What is held of a, d and x.
 fn fill_files(alloc: Global, cache: &mut Cache) -> Result<()> {
     add_status(alloc, cache, 3, 2, (false, 9, 3))?;
-    add(cache, token(4, 2, whole()), None, &[], &[])?;
+    add(cache, token(4, 2, whole()), None, &[])?;
     add_status(alloc, cache, 5, 3, (true, 0, 0))?;
     add_status(alloc, cache, 6, 4, (false, 3_000, 1))?;
     let second = Kind::Bytes {
         update: false,
         span: host_walk::positions(1_024, 2_048),
     };
-    add(cache, token(7, 4, second), None, &[], &[])
+    add(cache, token(7, 4, second), None, &[])
 }
 
 fn whole() -> Kind {
@@ -286,35 +293,45 @@ fn add_status(
 ) -> Result<()> {
     let status = status(alloc, dir, length, Rights::from_bits(rights))?;
     let kind = Kind::Status { update: false };
-    let added = add(cache, token(seq, anode, kind), Some(&status), &[], &[]);
+    let added = add(cache, token(seq, anode, kind), Some(&status), &[]);
     drop(status);
     added
 }
 
 fn status(alloc: Global, dir: bool, length: u32, rights: Rights) -> Result<Status> {
-    let mut lists = Items::new(alloc);
-    lists.push(list(alloc, rights)?)?;
+    let owner = Name::new(alloc, b"u")?;
+    let group = Name::new(alloc, b"g")?;
+    let lists = lists(alloc, rights)?;
     Ok(Status {
         dir,
         read_only: false,
         length,
-        owner: Name::new(alloc, b"u")?,
-        group: Name::new(alloc, b"g")?,
+        owner,
+        group,
         lists,
     })
 }
 
+fn lists(alloc: Global, rights: Rights) -> Result<Items<AccessList>> {
+    let mut lists = Items::new(alloc);
+    lists.push(list(alloc, rights)?)?;
+    Ok(lists)
+}
+
 // The owner's rights, and none for all others.
 fn list(alloc: Global, rights: Rights) -> Result<AccessList> {
-    let mut entries = Items::new(alloc);
-    for (who, rights) in [
-        (Who::UserObj, rights),
-        (Who::GroupObj, Rights::NONE),
-        (Who::OtherObj, Rights::NONE),
-    ] {
-        entries.push(AccessEntry { who, rights })?;
-    }
-    Ok(AccessList::new(alloc, entries.as_slice())?)
+    let entries = [
+        of(Who::UserObj, rights),
+        of(Who::GroupObj, Rights::NONE),
+        of(Who::OtherObj, Rights::NONE),
+    ];
+    let list = AccessList::new(alloc, &entries);
+    drop(entries);
+    Ok(list?)
+}
+
+fn of(who: Who, rights: Rights) -> AccessEntry {
+    AccessEntry { who, rights }
 }
 
 // Adds a token that isn't held.
@@ -322,12 +339,11 @@ fn add(
     cache: &mut Cache,
     token: Token,
     status: Option<&Status>,
-    pieces: &[Piece],
     entries: &[DirEntry],
 ) -> Result<()> {
     if cache.holds(token.id) {
         bail!("held already");
     }
-    cache.add(token, status, pieces, entries)?;
+    cache.add(token, status, &[], entries)?;
     Ok(())
 }
