@@ -1,2 +1,3 @@
+pub mod Became
 pub mod Keeping
 pub mod Scripts

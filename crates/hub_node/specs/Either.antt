@@ -7,6 +7,8 @@ use Rattle.hub_laws.specs.Keeping.{Round}
 use Rattle.hub_node.specs.Nodes.{HandsIn, Knows, Part}
 use Rattle.hub_node.specs.declared.either.AnyNode.{AnyNode}
 use Rattle.hub_node.specs.declared.either.AnyNode.TheVariants.{Host, Server}
+use Rattle.hub_node.specs.declared.node.NodeFault.{NodeFault}
+use Rattle.hub_node.specs.declared.node.NodeFault.TheVariants.{Memory}
 
 knows_left : (ht st : Type 0) (node : Node) → Knows (ht × st) node → Knows ht node
 knows_left ht st (OfHost host) knows = tt
@@ -49,7 +51,7 @@ module _ {H S : Type 0} where
   stays_here hr sr f g (Host h) = f h
   stays_here hr sr f g (Server s) = g s
 
-  pub fails_after : (hr : H → H → Type 0) (sr : S → S → Type 0) (hf : H → H → Type 0) (sf : S → S → Type 0)
+  fails_after : (hr : H → H → Type 0) (sr : S → S → Type 0) (hf : H → H → Type 0) (sf : S → S → Type 0)
       → ((a b c : H) → hr a b → hf b c → hf a c) → ((a b c : S) → sr a b → sf b c → sf a c)
       → (a b c : AnyNode H S) → of_either hr sr a b → of_either hf sf b c → of_either hf sf a c
   fails_after hr sr hf sf f g (Host a) (Host b) (Host c) h k = f a b c h k
@@ -63,3 +65,16 @@ module _ {H S : Type 0} where
       → ((a b c : H) → hr a b → hr b c → hr a c) → ((a b c : S) → sr a b → sr b c → sr a c)
       → (a b c : AnyNode H S) → of_either hr sr a b → of_either hr sr b c → of_either hr sr a c
   stays_after hr sr f g a b c h k = fails_after hr sr hr sr f g a b c h k
+
+  pub fails_either : (hr : H → H → Type 0) (sr : S → S → Type 0) (hf : NodeFault → H → H → Type 0)
+      (sf : NodeFault → S → S → Type 0)
+      → ((fault : NodeFault) (a b c : H) → hr a b → hf fault b c → hf fault a c)
+      → ((fault : NodeFault) (a b c : S) → sr a b → sf fault b c → sf fault a c)
+      → (fault : NodeFault) (a b c : AnyNode H S) → of_either hr sr a b → of_either (hf fault) (sf fault) b c
+      → of_either (hf fault) (sf fault) a c
+  fails_either hr sr hf sf f g fault a b c h k =
+      fails_after hr sr (hf fault) (sf fault) (f fault) (g fault) a b c h k
+
+  pub lacks_here : (hf : NodeFault → H → H → Type 0) (sf : NodeFault → S → S → Type 0) → ((a : H) → hf Memory a a)
+      → ((a : S) → sf Memory a a) → (n : AnyNode H S) → of_either (hf Memory) (sf Memory) n n
+  lacks_here hf sf f g n = stays_here (hf Memory) (sf Memory) f g n

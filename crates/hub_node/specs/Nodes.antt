@@ -23,6 +23,7 @@ use Rattle.run_rules.specs.Steps.{first_epoch, lines_gone, lines_of}
 use Rattle.run_rules.specs.declared.step.Step.{Step}
 use Rattle.hub_laws.specs.Keeping.{Round, steps_in}
 use Rattle.hub_laws.specs.Closings.{KeepsOn}
+use Rattle.hub_node.specs.declared.node.NodeFault.{NodeFault}
 
 -- how a run begins: of which script, from which tree, and in which epochs the servers start
 pub record Beginning : Type 0 where
@@ -80,3 +81,7 @@ pub record MayHandIn (tells : Type 0) (part : Part) (past : List Round) (made : 
 abbrev pub HandsIn : {N : Type 0} → Type 0 → (Part → N → List Round → List Step → Type 0) → N → Type 0
 HandsIn tells stands n = (part : Part) (past : List Round) (made : List Step) → stands part n past made
     → MayHandIn tells part past made
+
+-- what has become of a node: what stays of it, or that something failed there
+abbrev pub HasBecome : {N : Type 0} → (N → N → Type 0) → (NodeFault → N → N → Type 0) → N → N → Type 0
+HasBecome {N = N} stays failed old new = stays old new ⊎ ((fault : NodeFault) × failed fault old new)

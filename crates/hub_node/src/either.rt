@@ -9,8 +9,8 @@ pub enum AnyNode<H, S> {
 }
 
 impl<H: Node, S: Node> Node for AnyNode<H, S> {
-    ghost use Rattle.hub_node.specs.Either.{fails_after, hands_any, next_any, of_either, stands_any, stays_after};
-    ghost use Rattle.hub_node.specs.Either.{stays_here};
+    ghost use Rattle.hub_node.specs.Either.{fails_either, hands_any, lacks_here, next_any, of_either, stands_any};
+    ghost use Rattle.hub_node.specs.Either.{stays_after, stays_here};
 
     ghost tells = { H.tells × S.tells };
 
@@ -18,7 +18,7 @@ impl<H: Node, S: Node> Node for AnyNode<H, S> {
 
     ghost stays = { of_either H.stays S.stays };
 
-    ghost failed = { of_either H.failed S.failed };
+    ghost failed = { λ fault. of_either (H.failed fault) (S.failed fault) };
 
     ghost next = { next_any H.next S.next };
 
@@ -42,5 +42,7 @@ impl<H: Node, S: Node> Node for AnyNode<H, S> {
 
     ghost stays_on = { stays_after H.stays S.stays H.stays_on S.stays_on };
 
-    ghost fails_on = { fails_after H.stays S.stays H.failed S.failed H.fails_on S.fails_on };
+    ghost fails_on = { fails_either H.stays S.stays H.failed S.failed H.fails_on S.fails_on };
+
+    ghost lacks = { lacks_here H.failed S.failed H.lacks S.lacks };
 }

@@ -1,4 +1,4 @@
-ghost use Rattle.std.specs.Prelude.{◌≡◌, ◌≤◌, ◌<◌, ◌+◌, ◌↔◌, None, Some, IsTrue, IfOk, filter, length};
+ghost use Rattle.std.specs.Prelude.{◌≡◌, ◌≤◌, ◌<◌, ◌+◌, ◌↔◌, None, Some, IsTrue, IfOk, filter, length, slice_get};
 ghost use Rattle.std.specs.Option.{option_copied};
 ghost use Rattle.run_rules.specs.Steps.{is_node, lines_of};
 ghost use Rattle.script_lines.specs.declared.script.Line.{Line as LineOf};
@@ -89,6 +89,20 @@ impl OwnLines {
         ensures { IsTrue result ↔ length self.now.lines ≤ self.now.gone }
     {
         self.gone >= self.lines.len()
+    }
+
+    /// How many have gone: the place of the next one.
+    pub fn gone(&self) -> usize
+        ensures { result ≡ self.now.gone }
+    {
+        self.gone
+    }
+
+    /// The line at a place, from 0 on.
+    pub fn at(&self, place: usize) -> Option<&Line>
+        ensures { option_copied result ≡ slice_get self.now.lines place }
+    {
+        self.lines.at(place)
     }
 
     /// The node is told that a flag was raised.

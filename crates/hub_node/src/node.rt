@@ -1,9 +1,10 @@
-ghost use Rattle.std.specs.Prelude.{◌≡◌, [], ◌∷◌, ℕ, List, Option, Ok, Err, OnOk};
-ghost use Rattle.hub_board.specs.declared.given.Turned.TheVariants.{Ended};
+ghost use Rattle.std.specs.Prelude.{◌≡◌, [], ◌∷◌, ℕ, List, None, Option, Ok, IfErr, IfOk, OnOk};
+ghost use Rattle.hub_board.specs.declared.given.Turned.TheVariants.{Ended, Worked};
 ghost use Rattle.run_rules.specs.declared.step.Step.{Step as StepOf};
 ghost use Rattle.hub_laws.specs.Keeping.{Round, steps_in};
 ghost use Rattle.hub_node.specs.Nodes.{HandsIn, IsDone, IsGivenTo, Knows, Part};
-ghost use Rattle.hub_node.specs.declared.node.NodeFault.TheVariants.{Store};
+ghost use Rattle.hub_node.specs.declared.node.NodeFault.{NodeFault as FaultOf};
+ghost use Rattle.hub_node.specs.declared.node.NodeFault.TheVariants.{Memory};
 
 use hub_turns::{Given, Pending, Turned};
 
@@ -25,11 +26,11 @@ pub trait Node: Drop {
     /// handed any in.
     ghost stands: { Part → Self → List Round → List StepOf → Type 0 };
 
-    /// What stays of a node whatever it does, from before to after.
+    /// What stays of a node as long as nothing fails there, from before to after.
     ghost stays: { Self → Self → Type 0 };
 
-    /// What has become of a node whose store failed.
-    ghost failed: { Self → Self → Type 0 };
+    /// What has become of a node where this failed, from before to after.
+    ghost failed: { FaultOf → Self → Self → Type 0 };
 
     /// The number of its next line, where one is left.
     ghost next: { Self → Option ℕ };
@@ -39,7 +40,7 @@ pub trait Node: Drop {
         ensures { result ≡ next self.now };
 
     /// Takes what was given, if anything was, and does what can be done; the steps that it makes are handed in at its
-    /// next turn. `Ended` comes only where nothing was made and it is done.
+    /// next turn. It answers `Worked` wherever anything was given or made, and `Ended` only where it is done.
     fn work(&mut self, given: Option<Given>, steps: &mut Pending) -> Result<Turned, NodeFault>
         requires none { steps.old.steps ≡ [] }
         requires stands { (part : Part) × ((past : List Round) × ((made : List StepOf)
@@ -47,12 +48,12 @@ pub trait Node: Drop {
         ensures works { (part : Part) (past : List Round) (made : List StepOf) → stands part self.old past made
             → IsGivenTo part given
             → OnOk result (stands part self.new (record { steps = made; given = given } ∷ past) steps.new.steps) }
-        ensures none { result ≡ Ok Ended → steps.new.steps ≡ [] }
+        ensures quiet { IfOk result (λ turned. (turned ≡ Worked → ⊥) → (given ≡ None) × (steps.new.steps ≡ [])) }
         ensures done { (part : Part) (past : List Round) (made : List StepOf) → stands part self.old past made
             → IsGivenTo part given → result ≡ Ok Ended → Knows tells part.node
             → IsDone part.run part.node (steps_in (record { steps = made; given = given } ∷ past)) }
-        ensures stays { stays self.old self.new }
-        ensures failed { result ≡ Err Store → failed self.old self.new };
+        ensures stays { OnOk result (stays self.old self.new) }
+        ensures failed { IfErr result (λ fault. failed fault self.old self.new) };
 
     /// It may hand in what it has made.
     ghost hands_in: { (n : Self) → HandsIn tells stands n };
@@ -61,5 +62,8 @@ pub trait Node: Drop {
 
     ghost stays_on: { (a b c : Self) → stays a b → stays b c → stays a c };
 
-    ghost fails_on: { (a b c : Self) → stays a b → failed b c → failed a c };
+    ghost fails_on: { (fault : FaultOf) (a b c : Self) → stays a b → failed fault b c → failed fault a c };
+
+    /// Memory may run out before it does anything.
+    ghost lacks: { (a : Self) → failed Memory a a };
 }
