@@ -20,7 +20,7 @@ use Rattle.host_manager.proofs.CallAnswers.{IsMarked, IsTold, answered_turn, mea
 use Rattle.host_manager.proofs.Helped.{Helped, LeadsBy, all_alike}
 use Rattle.host_manager.proofs.Ordered.{marked_held}
 use Rattle.host_manager.proofs.Running.{uses_are}
-use Rattle.host_manager.proofs.TellsNow.{comes_out}
+use Rattle.host_manager.proofs.ComesOut.{comes_out}
 use Rattle.host_manager.proofs.Turns.{IsTurn, at_turn, turn_draft}
 use Rattle.host_manager.proofs.Written.{IsWritten, write_told}
 use Rattle.host_tables.specs.Drafts.{step_of}

@@ -10,7 +10,6 @@ use Rattle.host_tables.specs.Tidy.{IsTidy}
 use Rattle.host_tables.specs.declared.draft.Draft.{Draft}
 use Rattle.host_tables.specs.declared.tables.Tables.{Tables}
 use Rattle.message_types.specs.declared.giving.AppliedGive.{AppliedGive}
-use Rattle.message_types.specs.declared.giving.Ends.{Ends}
 use Rattle.message_types.specs.declared.giving.Give.{Give}
 use Rattle.message_types.specs.declared.message.Body.TheVariants.{GiveBack}
 use Rattle.run_rules.specs.Past.{In}

@@ -1,25 +1,24 @@
 -- A Done comes that answers the outstanding Change: what the host has learnt and taken by it.
 use Rattle.base_types.specs.Ids.{same_fid}
 use Rattle.base_types.specs.Name.{same_name}
-use Rattle.base_types.specs.declared.ids.Fid.{Fid}
 use Rattle.base_types.specs.declared.ids.FilesetId.{FilesetId}
 use Rattle.base_types.specs.declared.ids.HostId.{HostId}
 use Rattle.base_types.specs.declared.ids.Node.TheVariants.{Host}
 use Rattle.base_types.specs.declared.ids.ServerId.{ServerId}
-use Rattle.base_types.specs.declared.limits.TheConstants.{FILE_BYTES_MAX}
 use Rattle.host_asks.specs.Asking.{Doing, doing}
 use Rattle.host_asks.specs.Going.{GoesOn}
 use Rattle.host_cache.specs.declared.held.Held.{Held}
 use Rattle.host_gives.specs.Giving.{Giving, IsSound as IsSoundGives, given_in, is_of_file}
 use Rattle.host_labels.specs.Labels.{IsSound as IsSoundUses}
 use Rattle.host_leaves.specs.Sending.{sending_due}
-use Rattle.host_manager.proofs.GrantedOn.{in_put, is_usable, not_used}
+use Rattle.host_manager.proofs.GrantedOn.{in_put, is_usable}
 use Rattle.host_manager.proofs.Heard.{comes_so, half_by, hears_is, message_is, takes_none}
 use Rattle.host_manager.proofs.HeardOn.{HasHeard, heard_on}
+use Rattle.host_manager.proofs.Opened.{use_kind}
 use Rattle.host_manager.proofs.Running.{asks_idle}
 use Rattle.host_leaves.specs.Owning.{is_use}
 use Rattle.host_manager.specs.Learning.{HasTaken, brings_uses, floor_by, may_use, taking, taking_from, with_floor_by}
-use Rattle.host_manager.specs.Taking.{answers_change, homes_by, homes_entered, homes_named, told_by}
+use Rattle.host_manager.specs.Taking.{answers_change, homes_by, homes_named, told_by}
 use Rattle.host_tables.proofs.HeardDone.{unused_done_stands}
 use Rattle.host_tables.proofs.HeardUsed.{used_done_stands}
 use Rattle.host_tables.proofs.Lists.{any_in, by_test, false_any, in_any, in_either, in_map, map_in, name_same}
@@ -29,16 +28,16 @@ use Rattle.host_tables.proofs.Tidy.{done_tidy, home_number, tidy_stays}
 use Rattle.host_tables.proofs.Updating.{reads_after}
 use Rattle.host_tables.specs.Drafts.{no_draft, step_of}
 use Rattle.host_tables.specs.Half.{learning}
-use Rattle.host_tables.specs.HeardDone.{AnswersChange, BringsNothing, NotesHome, call_after}
+use Rattle.host_tables.specs.HeardDone.{AnswersChange, NotesHome, call_after}
 use Rattle.host_tables.specs.HeardDone.NotesHome.{NotesNone, NotesOne}
 use Rattle.host_tables.specs.HeardUsed.{AfterDone, TakesAnew, UsesDone}
 use Rattle.host_tables.specs.Hearing.{hears, saying as saying_of}
-use Rattle.host_manager.specs.Running.{EndsOpen, IsRunning, RunsOn}
+use Rattle.host_manager.specs.Running.{IsRunning, RunsOn}
 use Rattle.host_tables.specs.Saying.{IsFirst}
 use Rattle.host_tables.specs.Stands.{Stands}
-use Rattle.host_tables.specs.Tables.{content, floor_of, held_of, home_of, last_change, site_at}
+use Rattle.host_tables.specs.Tables.{floor_of, held_of, home_of, last_change, site_at}
 use Rattle.host_tables.specs.Tidy.{IsTidy, IsTidyToken, servers_in}
-use Rattle.host_tables.specs.Updates.{is_floor, is_home, put_by, with_home}
+use Rattle.host_tables.specs.Updates.{is_floor, is_home, with_home}
 use Rattle.host_tables.specs.WholeSteps.{TakesRight}
 use Rattle.host_tables.specs.declared.calls.Home.{Home}
 use Rattle.host_tables.specs.declared.calls.Request.{Request}
@@ -206,12 +205,6 @@ use_is (StatusKind update) u = elim u [ ]
 use_is (LockKind writing span) u = refl
 use_is (OpeningKind kind) u = refl
 
-is_use_kind : (k : Kind) → is_use k ≡ true → IsUseKind k
-is_use_kind (BytesKind update span) e = absurd (cc)
-is_use_kind (StatusKind update) e = absurd (cc)
-is_use_kind (LockKind writing span) e = tt
-is_use_kind (OpeningKind kind) e = tt
-
 not_flips : (b : Bool) → not b ≡ true → b ≡ false
 not_flips true e = absurd (cc)
 not_flips false e = refl
@@ -222,7 +215,7 @@ not_flops false e = absurd (cc)
 
 pub brings_kinds : (w : Bring) → brings_uses w ≡ true → BringsUses w
 brings_kinds w e t i = elim (by_test (is_use t.kind)) [
-  | inl u ↦ is_use_kind t.kind u
+  | inl u ↦ use_kind t.kind u
   | inr n ↦ absurd (true_false (list_any (λ (token : Token). not (is_use token.kind)) w.tokens)
       (any_in (λ (token : Token). not (is_use token.kind)) w.tokens t i (ap not n))
       (not_flips (list_any (λ (token : Token). not (is_use token.kind)) w.tokens) e))
@@ -384,7 +377,7 @@ module _ (script : Script) (m : Tables) (past : List Step) (message : Message) (
       | inr r ↦ no_done w (ap (λ (x : DoneOf). x.bring) (done_is [] r.0 _ _ _ r.1) ∙ r.2) r.4 u.1 u.2
     ]
 
-    heard_d : HasHeard script m m_d past message no_draft
+    pub heard_d : HasHeard script m m_d past message no_draft
     heard_d = record {
       running = running;
       host = refl;
@@ -504,7 +497,7 @@ module _ (script : Script) (m : Tables) (past : List Step) (message : Message) (
       floors = floors_n;
     })
 
-    heard_n : HasHeard script m new past message e
+    pub heard_n : HasHeard script m new past message e
     heard_n = record {
       running = running;
       host = host_same;

@@ -7,17 +7,21 @@ use Rattle.host_gives.specs.Giving.{IsSound as IsSoundGives}
 use Rattle.host_labels.specs.Labels.{IsSound as IsSoundUses, is_lock}
 use Rattle.host_labels.specs.declared.uses.Labelled.{Labelled as UseOf}
 use Rattle.host_manager.proofs.Freed.{end_is}
+use Rattle.host_manager.proofs.GivesStep.{no_sync}
+use Rattle.host_manager.proofs.GoesDue.{by_end, goes_due}
 use Rattle.host_manager.proofs.TurnOf.{end_turn}
 use Rattle.host_manager.proofs.Turned.{turn_runs}
 use Rattle.host_manager.proofs.Turns.{at_turn, turn_draft}
 use Rattle.host_manager.specs.Closing.{BeginsIt, first_end}
+use Rattle.host_manager.specs.Due.{EndDue}
+use Rattle.host_manager.specs.Running.{EndRight, IsRunning, RunsOn}
 use Rattle.host_manager.specs.Spoken.{IsFree as IsFreePair}
 use Rattle.host_tables.specs.Drafts.{no_draft, step_of}
-use Rattle.host_manager.specs.Running.{EndRight, IsRunning, RunsOn}
 use Rattle.host_tables.specs.Stands.{Stands}
 use Rattle.host_tables.specs.Tables.{labelled}
 use Rattle.host_tables.specs.declared.draft.Draft.{Draft}
 use Rattle.host_tables.specs.declared.tables.Tables.{Tables}
+use Rattle.run_rules.specs.HostDue.{HostDue}
 use Rattle.run_rules.specs.HostMay.{TakenBefore}
 use Rattle.run_rules.specs.Past.{In}
 use Rattle.run_rules.specs.Steps.{lines_gone, lines_of}
@@ -80,6 +84,16 @@ module _ (m new : Tables) (after : Draft) (used : UseOf) (behind : List UseOf)
     refl,
   )
 
+  -- what is due of it
+  pub label_due : HostDue script m.host past (step_of (Host m.host) End after)
+  label_due =
+      goes_due script m m past End [] [] (record { k = k; call = end_of (labelled used) }) true
+      (end_turn script m past running (record { none_open = free.0; few = free.1 }) gone (labelled used)
+      (stands.uses.used used within) (taken_first script m past stands used behind labels_is)) sound_m sound
+      (by_end m past) new its.begun after its.sends label_runs.0 sound_new
+      (λ place e fid left leaves. absurd (no_sync used.token.kind used.label place e)) its.begins.gone
+      its.begins.answered goes after_is
+
 pub first_label_ends : (m new : Tables) (after : Draft) (call : Call) → first_end m.uses.labels ≡ Some call
     → BeginsIt m no_draft call new after → IsFreePair m → IsSoundUses m.uses → IsSoundGives m.gives
     → IsSoundGives new.gives → EndRight m new (step_of (Host m.host) End after)
@@ -91,4 +105,17 @@ first_label_ends m new after call first its free sound sound_m sound_new = by_la
     by_labels (used ∷ behind) e f =
         let q : ending_of (is_lock used.token.kind) used.label ≡ call = cc in
         λ script past running gone. label_runs m new after used behind e free sound sound_m sound_new
+        (subst (λ (c : Call). BeginsIt m no_draft c new after) (sym q) its) script past running gone
+
+pub first_label_due : (m new : Tables) (after : Draft) (call : Call) → first_end m.uses.labels ≡ Some call
+    → BeginsIt m no_draft call new after → IsFreePair m → IsSoundUses m.uses → IsSoundGives m.gives
+    → IsSoundGives new.gives → EndDue m (step_of (Host m.host) End after)
+first_label_due m new after call first its free sound sound_m sound_new = by_labels m.uses.labels refl first
+  where
+    by_labels : (us : List UseOf) → m.uses.labels ≡ us → first_end us ≡ Some call
+        → EndDue m (step_of (Host m.host) End after)
+    by_labels [] e f = absurd (cc)
+    by_labels (used ∷ behind) e f =
+        let q : ending_of (is_lock used.token.kind) used.label ≡ call = cc in
+        λ script past running gone. label_due m new after used behind e free sound sound_m sound_new
         (subst (λ (c : Call). BeginsIt m no_draft c new after) (sym q) its) script past running gone

@@ -17,13 +17,12 @@ use Rattle.host_leaves.specs.Owning.{has_label}
 use Rattle.host_tables.specs.Stands.{look_from}
 use Rattle.host_tables.specs.Tables.{content, gives_label}
 use Rattle.host_tables.specs.declared.tables.Tables.{Tables}
-use Rattle.need_host.specs.Calls.{Verdict as Meant}
 use Rattle.need_host.specs.Calls.Verdict.{Asks as AsksOf, Frees as FreesOf, Gives as GivesOf}
-use Rattle.need_host.specs.Looks.{Look, outcome}
+use Rattle.need_host.specs.Looks.{outcome}
 use Rattle.need_host.specs.Looks.Look.{Ends}
 use Rattle.need_host.specs.Questions.Question.{ChangeIn}
 use Rattle.std.proofs.Common.{Bool, Err, List, None, Ok, Result, ap, false, if◌then◌else◌, not, refl, sym, true, ℕ, ◌∙◌}
-use Rattle.std.proofs.Common.{◌≡◌, ◌⊎◌, inl, inr}
+use Rattle.std.proofs.Common.{◌≡◌}
 use Rattle.token_types.specs.declared.token.Kind.{Kind}
 use Rattle.token_types.specs.declared.token.Kind.TheVariants.{Bytes, Lock, Opening, Status}
 use Rattle.tree_calls.specs.declared.reply.Refusal.{Refusal}

@@ -5,7 +5,7 @@ use Rattle.host_cache.specs.Holding.{IsOnce, is_idle}
 use Rattle.host_gives.specs.Giving.{IsSound as IsSoundGives, outstanding}
 use Rattle.host_leaves.specs.Giving.{leaves_by}
 use Rattle.host_leaves.specs.Sending.{message_to}
-use Rattle.host_manager.proofs.Evicted.{after_is, after_it, done, g as give_of, message as giving, tables_are}
+use Rattle.host_manager.proofs.Evicted.{after_is, after_it, g as give_of, message as giving, tables_are}
 use Rattle.host_manager.proofs.Evicting.{draft_is}
 use Rattle.host_manager.proofs.Evictions.{evicts_it, oldest_in}
 use Rattle.host_manager.proofs.News.{IsNews, news_only, none_is_open, silent_calls}
@@ -25,7 +25,7 @@ use Rattle.run_rules.specs.HostDue.{HostDue}
 use Rattle.run_rules.specs.Past.{EachOnce, In}
 use Rattle.run_rules.specs.declared.applied.Leave.{Leave}
 use Rattle.run_rules.specs.declared.applied.Why.TheVariants.{Evicted}
-use Rattle.run_rules.specs.declared.step.Cause.TheVariants.{End, Evict, Lapse, Message as Came}
+use Rattle.run_rules.specs.declared.step.Cause.TheVariants.{Evict}
 use Rattle.run_rules.specs.declared.step.Step.{Step}
 use Rattle.script_lines.specs.declared.script.Script.{Script}
 use Rattle.std.proofs.Common.{Bool, List, None, Option, Some, [], ap, cond, false, filter, if◌then◌else◌, inl, inr}

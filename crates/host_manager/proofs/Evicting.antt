@@ -4,11 +4,11 @@ use Rattle.base_types.specs.Spans.{has_byte}
 use Rattle.base_types.specs.declared.ids.Fid.{Fid}
 use Rattle.base_types.specs.declared.ids.Node.TheVariants.{Host}
 use Rattle.base_types.specs.declared.ids.ServerId.{ServerId}
-use Rattle.host_cache.proofs.Filing.{key_same}
 use Rattle.host_cache.specs.Files.{file_key, same_key}
 use Rattle.host_cache.specs.Holding.{IsOnce, is_id, is_idle, last_of, tokens_of}
 use Rattle.host_cache.specs.Seen.{Kept, after_drop, of_key, seen}
 use Rattle.host_cache.specs.declared.held.Held.{Held}
+use Rattle.host_calls.proofs.Owned.{key_is}
 use Rattle.host_dirty.specs.Dirtiness.{is_dirty as is_dirty_in}
 use Rattle.host_gives.specs.Giving.{names}
 use Rattle.host_leaves.specs.Dirtying.{covers_left, is_dirty_left, is_named, staying, tokens_at, updates_byte}
@@ -143,11 +143,6 @@ oldest_is m t one e = by_last (last_of (filter is_idle m.cache.held)) refl e
                   (map_in (λ (x : Held). x.token) m.cache.held k r.0) id ∙ same,
               within,
             )
-
-pub key_is : (a b : Fid) → same_key (file_key a) (file_key b) ≡ true → a ≡ b
-key_is a b e =
-    let k = key_same (file_key a) (file_key b) e in
-    λ i. record { fileset = record { 0 = (k i).0 }; anode = (k i).1.0; unique = (k i).1.1 }
 
 -- # Nothing that is dirty leaves with it
 module _ (m : Tables) (t : Token) (held : In t (held_of m)) (free : HasToGive m t.fid (t ∷ []) t → ⊥) where

@@ -1,5 +1,4 @@
 -- Give-backs that become known as applied, one after the other: what a host forgets by them.
-use Rattle.base_types.specs.declared.ids.Fid.{Fid}
 use Rattle.base_types.specs.declared.ids.FilesetId.{FilesetId}
 use Rattle.host_asks.specs.Asking.{Doing, doing}
 use Rattle.host_gives.proofs.Staying.{sound_without}
@@ -7,9 +6,10 @@ use Rattle.host_gives.specs.Giving.{Giving, IsSound as IsSoundGives, after_take_
 use Rattle.host_gives.specs.Giving.{number_of as message_number, outstanding, taken_out}
 use Rattle.host_leaves.specs.Sending.{with_once}
 use Rattle.host_manager.proofs.Given.{of_body}
-use Rattle.host_manager.specs.Learning.{closed_by, due_after, due_of, ended_by, ends_in, is_leaving_by, learning_given}
+use Rattle.host_manager.proofs.Repeated.{with_once_has, with_once_keeps}
+use Rattle.host_manager.specs.Learning.{closed_by, due_after, due_of, ended_by, ends_in, learning_given}
 use Rattle.host_manager.specs.Learning.{without_give}
-use Rattle.host_tables.proofs.Lists.{by_test, in_any, in_either, in_left, in_right}
+use Rattle.host_tables.proofs.Lists.{by_test, in_either, in_left, in_right}
 use Rattle.host_tables.proofs.Outstanding.{first_outstanding, found_in, found_some, outstanding_is}
 use Rattle.host_tables.specs.Hearing.{ClosesCall, ForgetsGives, IsLearnt}
 use Rattle.host_tables.specs.Saying.{IsFirst}
@@ -30,7 +30,6 @@ use Rattle.std.proofs.Common.{false, fold, if◌then◌else◌, inl, inr, is_som
 use Rattle.std.proofs.Common.{ℕ, ◌&&◌, ◌++◌, ◌<◌, ◌==◌}
 use Rattle.std.proofs.Common.{◌∙◌, ◌∷◌, ◌≡◌, ◌⊎◌}
 use Rattle.std.proofs.lemmas.Bool.{and_from, and_parts, ltb-false}
-use Rattle.std.specs.List.{list_any}
 use Rattle.std.specs.Option.{option_map_or}
 use Rattle.host_manager.proofs.Gone as gone_of
 
@@ -46,26 +45,6 @@ equal a b up down = elim (by_test (a == b)) [
     ]
   ]
 ]
-
--- # Filesets, each once
-pub once_has : (fss : List FilesetId) (fs : FilesetId) → In fs (with_once fss fs)
-once_has fss fs = elim (by_test (list_any (λ (other : FilesetId). other.0 == fs.0) fss)) [
-  | inl t ↦
-      let r = in_any (λ (other : FilesetId). other.0 == fs.0) fss t in
-      let n = eqb-true r.0.0 fs.0 r.2 in
-      let same : r.0 ≡ fs = λ i. record { 0 = n i } in
-      subst (λ (b : Bool). In fs (if b then fss else fss ++ fs ∷ [])) (sym t)
-      (subst (λ (x : FilesetId). In x fss) same r.1)
-  | inr f ↦ subst (λ (b : Bool). In fs (if b then fss else fss ++ fs ∷ [])) (sym f)
-      (in_right fss (fs ∷ []) fs (inl refl))
-]
-
-pub once_stays : (fss : List FilesetId) (fs other : FilesetId) → In other fss → In other (with_once fss fs)
-once_stays fss fs other i = by_if (list_any (λ (x : FilesetId). x.0 == fs.0) fss)
-  where
-    by_if : (b : Bool) → In other (if b then fss else fss ++ fs ∷ [])
-    by_if true = i
-    by_if false = in_left fss (fs ∷ []) other i
 
 -- # Some numbers, and one more
 abbrev same_number : AppliedGive → AppliedGive → Bool
@@ -250,7 +229,7 @@ due_stays : (n : AppliedGive) (out : Bool) (left : Giving) (e : Draft) (fs : Fil
 due_stays n out left e fs i = by_if (out && is_some (outstanding left n.fileset))
   where
     by_if : (b : Bool) → In fs (if b then record e { due = with_once e.due n.fileset } else e).due
-    by_if true = once_stays e.due n.fileset fs i
+    by_if true = with_once_keeps e.due n.fileset fs i
     by_if false = i
 
 due_draft : (n : AppliedGive) (out : Bool) (left : Giving) (d e : Draft) → e ≡ record d { due = e.due }
@@ -320,7 +299,7 @@ module _ (script : Script) (m : Tables) (past : List Step) (stands : Stands scri
               (ap (λ (o : Option Message). is_some o) there) in
               subst (λ (y : FilesetId). In y f.due) (sym at)
               (subst (λ (b : Bool). In n.fileset (if b then record e { due = with_once e.due n.fileset } else e).due)
-              (sym so) (once_has e.due n.fileset))
+              (sym so) (with_once_has e.due n.fileset))
         ]
 
     abbrev after_it : Option Ends → Tables

@@ -1,6 +1,7 @@
 -- The use of a label ends, and the call that ends it is answered in the step that begins it.
 use Rattle.host_calls.specs.Looking.{ending_of}
 use Rattle.host_labels.specs.Labels.{is_lock}
+use Rattle.host_manager.proofs.OnceSaid.{once_append}
 use Rattle.host_tables.proofs.Lists.{in_either, in_left, in_right}
 use Rattle.run_rules.specs.Past.{EachOnce, In}
 use Rattle.run_rules.specs.Tokens.{IsUseKind, end_call}
@@ -79,14 +80,6 @@ once_front : {A : Type 0} (xs ys : List A) → EachOnce (xs ++ ys) → EachOnce 
 once_front [] ys e = tt
 once_front (x ∷ xs) ys e = ((λ i. e.0 (in_left xs ys x i)), once_front xs ys e.1)
 
-once_join : {A : Type 0} (xs ys : List A) → EachOnce xs → EachOnce ys → ((z : A) → In z xs → In z ys → ⊥)
-    → EachOnce (xs ++ ys)
-once_join [] ys e g none = g
-once_join (x ∷ xs) ys e g none = (
-  (λ i. elim (in_either xs ys x i) [ inl j ↦ e.0 j | inr j ↦ none x (inl refl) j ]),
-  once_join xs ys e.1 g (λ z i j. none z (inr i) j),
-)
-
 module _ {B C : Type 0} (f : B → List C) where
   in_last : (bs : List B) (b : B) (z : C) → In z (flat_map f (bs ++ b ∷ []))
       → In z (flat_map f (bs ++ [])) ⊎ In z (f b)
@@ -103,7 +96,7 @@ module _ {B C : Type 0} (f : B → List C) where
       → ((z : C) → In z (f b) → In z (flat_map f (bs ++ [])) → ⊥) → EachOnce (flat_map f (bs ++ b ∷ []))
   once_last [] b e g none = subst EachOnce (sym (append-nil (f b))) g
   once_last (a ∷ bs) b e g none =
-      once_join (f a) (flat_map f (bs ++ b ∷ [])) (once_front (f a) (flat_map f (bs ++ [])) e)
+      once_append (f a) (flat_map f (bs ++ b ∷ [])) (once_front (f a) (flat_map f (bs ++ [])) e)
       (once_last bs b (once_tail (f a) (flat_map f (bs ++ [])) e) g
       (λ z i j. none z i (in_right (f a) (flat_map f (bs ++ [])) z j)))
       (λ z i j. elim (in_last bs b z j) [

@@ -7,6 +7,7 @@ use Rattle.host_cache.specs.Files.{file_key, same_key}
 use Rattle.host_cache.specs.Holding.{IsOnce, is_idle, last_of as last_idle, tokens_of}
 use Rattle.host_cache.specs.Seen.{Kept, after_drop, of_key, seen}
 use Rattle.host_cache.specs.declared.held.Held.{Held}
+use Rattle.host_calls.proofs.Owned.{key_is}
 use Rattle.host_dirty.specs.Dirtiness.{is_dirty as is_dirty_in}
 use Rattle.host_dirty.specs.declared.dirty.Dirty.{Dirty}
 use Rattle.host_gives.proofs.Adding.{adds}
@@ -15,7 +16,9 @@ use Rattle.host_gives.specs.Giving.{IsSound as IsSoundGives, after_add, given_in
 use Rattle.host_leaves.specs.Dirtying.{covers_left, is_named, staying, tokens_at, updates_byte}
 use Rattle.host_leaves.specs.Giving.{AreLeft, leaves_by, leaving_by, with_length_of}
 use Rattle.host_leaves.specs.Owning.{dirty_length}
-use Rattle.host_manager.proofs.Evicting.{each_once, key_is, last_in, updated_by, updates_it}
+use Rattle.host_manager.proofs.Evicting.{each_once, last_in, updated_by, updates_it}
+use Rattle.host_manager.proofs.LeftBy.{all_stay}
+use Rattle.host_manager.proofs.OnceSaid.{once_filtered}
 use Rattle.host_tables.proofs.Dropping.{drops_alike}
 use Rattle.host_tables.proofs.LeavingWhole.{own_leaves_right}
 use Rattle.host_tables.proofs.Lists.{any_in, by_test, false_not, fid_same, filter_in, id_same, in_any, in_either}
@@ -77,31 +80,9 @@ front (suc n) (x ∷ xs) le once =
     let r = front n xs (omega (arith, le)) once.1 in
     (x ∷ r.0, ap suc r.1, ((λ i. once.0 (r.3 x i)), r.2), λ y i. elim i [ inl e ↦ inl e | inr j ↦ inr (r.3 y j) ])
 
-map_once_if : {A B : Type 0} (b : Bool) (f : A → B) (test : A → Bool) (x : A) (xs : List A)
-    → (In (f x) (map f (filter test xs)) → ⊥) → EachOnce (map f (filter test xs))
-    → EachOnce (map f (if b then x ∷ filter test xs else filter test xs))
-map_once_if true f test x xs other once = (other, once)
-map_once_if false f test x xs other once = once
-
-map_within : {A B : Type 0} (f : A → B) (test : A → Bool) (xs : List A) (y : B) → In y (map f (filter test xs))
-    → In y (map f xs)
-map_within f test xs y i =
-    let r = in_map f (filter test xs) y i in subst (λ z. In z (map f xs)) (sym r.2)
-    (map_in f xs r.0 (in_filter test xs r.0 r.1).0)
-
-map_once : {A B : Type 0} (f : A → B) (test : A → Bool) (xs : List A) → EachOnce (map f xs)
-    → EachOnce (map f (filter test xs))
-map_once f test [] once = tt
-map_once f test (x ∷ xs) once = map_once_if (test x) f test x xs (λ i. once.0 (map_within f test xs (f x) i))
-    (map_once f test xs once.1)
-
 pub of_body : (y : Message) (k : Give) (fs : FilesetId) → y.body ≡ GiveBack k → is_of fs y ≡ (k.fid.fileset.0 == fs.0)
 of_body y k fs e =
     ap (λ (b : Body). option_map_or (λ (give : Give). give.fid.fileset.0 == fs.0) (given_in b) false) e
-
-filter_all : {A : Type 0} (xs : List A) → xs ≡ filter (λ x. true) xs
-filter_all [] = refl
-filter_all (x ∷ xs) = ap (λ ys. x ∷ ys) (filter_all xs)
 
 pub if_none : {A : Type 0} (b : Bool) (x y : A) → (if b then Some x else None) ≡ Some y → (b ≡ true) × (x ≡ y)
 if_none true x y e = (refl, let q = e in cc)
@@ -343,7 +324,7 @@ module _ (script : Script) (m : Tables) (past : List Step) (running : IsRunning 
           (length_new g.length n (ap (λ (x : Give). x.length) (sym q) ∙ e));
       length_old = λ fid none. length_of g.length refl fid (λ n e at. none g (inl refl) (at, (n, e)));
       keeps_label = λ u. true;
-      labels_are = filter_all m.uses.labels;
+      labels_are = all_stay m.uses.labels;
       label_kept = λ u i none. refl;
       label_gone = λ u e k i gives.
           let p = sym no_end ∙ ap (λ (x : Give). x.ends) (sym (its k i)) ∙ gives.1 in absurd (cc);
@@ -596,7 +577,7 @@ module _ (script : Script) (m : Tables) (past : List Step) (running : IsRunning 
             let n = length-map unused (λ (x : Held). x.token) in
             let lim = stands.limit in
             let r = front (suc (limit_of script.roster m.host)) tokens (omega (arith, n, many, lim))
-            (map_once (λ (x : Held). x.token) is_idle m.cache.held (each_once m.cache.held once)) in (
+            (once_filtered (λ (x : Held). x.token) is_idle m.cache.held (each_once m.cache.held once)) in (
               none_open,
               (
                 r.0,

@@ -2,27 +2,22 @@
 use Rattle.base_types.specs.Spans.{has_byte}
 use Rattle.base_types.specs.declared.ids.Fid.{Fid}
 use Rattle.host_cache.specs.Holding.{is_id, tokens_of, with_use, without_id}
-use Rattle.host_cache.specs.Seen.{Kept, Seen, after_drop, after_set_use, of_key, seen, shown_under}
+use Rattle.host_cache.specs.Seen.{Kept, Seen, after_drop, after_set_use, seen, shown_under}
 use Rattle.host_cache.specs.declared.held.Held.{Held}
-use Rattle.host_calls.specs.Answering.{EndsUse as EndsUseOf, still_used}
 use Rattle.host_dirty.specs.Dirtiness.{is_dirty as is_dirty_in}
 use Rattle.host_leaves.specs.Dirtying.{covers_left, staying, updates_byte}
 use Rattle.host_leaves.specs.Giving.{AreLeft}
 use Rattle.host_leaves.specs.Owning.{dirty_length, update_span}
 use Rattle.host_manager.proofs.OneFile.{IsChosen}
 use Rattle.host_manager.proofs.Sizes.{size_in}
-use Rattle.host_tables.specs.Tables.{content, held_of, is_length_dirty, is_updating, length_given}
+use Rattle.host_tables.specs.Tables.{content, held_of, is_updating, length_given}
 use Rattle.host_tables.specs.declared.files.Given.{Given}
 use Rattle.host_tables.specs.declared.tables.Tables.{Tables}
-use Rattle.message_types.specs.declared.giving.Ends.{Ends}
-use Rattle.run_rules.specs.Past.{In}
 use Rattle.run_rules.specs.Tokens.{IsUseKind}
-use Rattle.run_rules.specs.Views.{byte_of}
-use Rattle.std.proofs.Common.{Bool, List, None, Option, Some, [], ap, cond, false, filter, if◌then◌else◌, map, not}
-use Rattle.std.proofs.Common.{refl, subst, sym, true, ℕ, ◌&&◌, ◌==◌, ◌||◌, ◌∙◌, ◌∷◌, ◌≡◌}
+use Rattle.std.proofs.Common.{Bool, List, None, Some, [], ap, cond, false, if◌then◌else◌, map, not}
+use Rattle.std.proofs.Common.{refl, sym, true, ℕ, ◌&&◌, ◌==◌, ◌||◌, ◌∙◌, ◌∷◌, ◌≡◌}
 use Rattle.std.specs.List.{list_any}
 use Rattle.std.specs.Option.{option_map_or}
-use Rattle.token_types.specs.Conflicts.{same_id}
 use Rattle.token_types.specs.declared.token.Kind.{Kind}
 use Rattle.token_types.specs.declared.token.Kind.TheVariants.{Bytes, Lock, Opening, Status}
 use Rattle.token_types.specs.declared.token.Token.{Token}

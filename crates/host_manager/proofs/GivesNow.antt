@@ -13,20 +13,23 @@ use Rattle.host_labels.specs.Labels.{IsSound as IsSoundUses, is_labelled, is_loc
 use Rattle.host_labels.specs.declared.uses.Labelled.{Labelled as UseOf}
 use Rattle.host_leaves.specs.Owning.{has_label}
 use Rattle.host_leaves.specs.Sending.{sending_due}
+use Rattle.host_manager.proofs.CallDue.{syncs_given}
 use Rattle.host_manager.proofs.EndsIt.{verdict_so}
 use Rattle.host_manager.proofs.Freed.{end_is, modes, one_only}
 use Rattle.host_manager.proofs.GivesStep.{no_sync}
 use Rattle.host_manager.proofs.Running.{uses_are}
+use Rattle.host_manager.proofs.TurnDue.{IsTurnDue, draft_due, opens_it}
 use Rattle.host_manager.proofs.TurnOpens.{IsAsked}
 use Rattle.host_manager.proofs.Turns.{IsTurn, at_turn, turn_draft}
-use Rattle.host_manager.proofs.UpsIt.{given_runs, it_ends}
+use Rattle.host_manager.proofs.UpsIt.{given_due, given_runs, it_ends}
+use Rattle.host_manager.specs.Running.{RunsOn}
 use Rattle.host_tables.proofs.Lists.{by_test, filter_in, in_any, names_are, true_false}
 use Rattle.host_tables.proofs.Outstanding.{found_in}
 use Rattle.host_tables.proofs.Resting.{give_rests}
+use Rattle.host_tables.specs.Answering.{GivesForCall}
 use Rattle.host_tables.specs.Drafts.{step_of}
 use Rattle.host_tables.specs.Half.{learning}
 use Rattle.host_tables.specs.Quiet.{with_moved}
-use Rattle.host_manager.specs.Running.{RunsOn}
 use Rattle.host_tables.specs.Stands.{IsAtRest, IsCoveredFrom, Stands, look_from, needs_from, verdict_from}
 use Rattle.host_tables.specs.Tables.{content, ends_label, gives_label, held_of, is_last_pinned, labelled}
 use Rattle.host_tables.specs.declared.draft.Draft.{Draft}
@@ -36,6 +39,7 @@ use Rattle.message_types.specs.declared.message.Message.{Message}
 use Rattle.need_host.specs.Calls.Verdict.{Frees as FreesOf, Gives as GivesOf}
 use Rattle.need_host.specs.Looks.{CoverAll, outcome}
 use Rattle.need_host.specs.Looks.Look.{Ends as EndsOf}
+use Rattle.run_rules.specs.HostDue.{HostDue}
 use Rattle.run_rules.specs.Messages.{HasKeptToken}
 use Rattle.run_rules.specs.Past.{In}
 use Rattle.run_rules.specs.Tokens.{FreesPinned, HasEndedUse, LabelInUse, Made, end_of}
@@ -107,6 +111,12 @@ module _ (script : Script) (old m : Tables) (past : List Step) (cause : Cause) (
 
   stands : Stands script m (h ∷ past)
   stands = turn.learnt
+
+  abbrev draft_s : Draft
+  draft_s = record draft_0 { asked = if first then Some c else None }
+
+  begins_s : turns.BeginsTurn script old m past cause came dues c first turn draft_s
+  begins_s = opens_it script old m past cause came dues c first turn draft_s refl refl
 
   uses_m : AreUses m
   uses_m = uses_are script m (h ∷ past) stands
@@ -205,6 +215,17 @@ module _ (script : Script) (old m : Tables) (past : List Step) (cause : Cause) (
           none_ends call_is verdict gone r.0 r.1 r.2 new draft after
           is sends sound_new
 
+      pub used_due : IsTurnDue m past cause came dues first → (gone : Doing)
+          → GivesLabel k call (doing begun draft_0) gone → (new : Tables) (draft after : Draft)
+          → doing new draft ≡ opened gone → after ≡ sending_due new draft → IsSoundGives new.gives → Goal new after
+          → HostDue script old.host past (step_of (Host m.host) cause after)
+      used_due by gone it new draft after is sends sound_new runs =
+          let it_u = subst (λ (x : Call). GivesLabel k x (doing begun draft_0) gone) label_is it in
+          let r = it_ends script old m past cause came dues c first turn sound_m sound used there.0 found_used last
+          none_ends call_is verdict gone it_u in
+          given_due script old m past cause came dues c first turn sound_m sound used there.0 found_used last
+          none_ends call_is verdict gone r.0 r.1 r.2 by new draft after is sends sound_new runs
+
   -- # It was ended, and waits on
   module _ (u : Labelled) (ends : m.ending ≡ Some u) (verdict : verdict_from m call ≡ GivesOf) where
     abbrev silent : Tables
@@ -277,6 +298,28 @@ module _ (script : Script) (old m : Tables) (past : List Step) (cause : Cause) (
         (opens.by_code script old m past cause came dues c first turn sound_m silent refl refl (λ v. refl) [] none_own
         (opens.waits_now script old m past cause came dues c first turn sound_m sent_0 with_0 rest))
 
+    -- nothing is due of it
+    gives_still : GivesForCall m past (turns.by script old m past cause came dues c first turn draft_s)
+    gives_still = syncs_given script m past cause came stands call
+        (turns.by script old m past cause came dues c first turn draft_s)
+        (λ n other has. (turns.only_it script old m past cause came dues c first turn draft_s begins_s n other has).1)
+        (λ place fid w is. absurd (no_sync u.token.kind u.label place (sym call_is_u ∙ is)))
+        (λ w e f. absurd (turn.running.rests.rest.freed c w
+        (turns.was_open script old m past cause came dues c first turn (turn.ending u ends).0) e f))
+
+    pub waits_due : IsTurnDue m past cause came dues first → (gone : Doing) → gone ≡ doing begun draft_0
+        → (new : Tables) (draft after : Draft) → doing new draft ≡ opened gone → after ≡ sending_due new draft
+        → Goal new after → HostDue script old.host past (step_of (Host m.host) cause after)
+    waits_due by gone same new draft after is sends runs =
+        let whole : doing new draft ≡ doing (record begun { call = Some c }) draft_s = is ∙ ap opened same in
+        let all : after ≡ sending_due (record begun { call = Some c }) draft_s =
+        sends ∙ (λ i. sending_due (whole i).tables (whole i).draft) in
+        subst (λ (d : Draft). HostDue script old.host past (step_of (Host m.host) cause d)) (sym all)
+        (draft_due script old m past cause came dues c first turn by (record begun { call = Some c }) sound_m draft_s
+        refl
+        begins_s (subst (λ (q : Tables × Draft). Goal q.0 q.1) (λ i. ((whole i).tables, all i)) runs) gives_still
+        (λ y i. elim i [ ]) tt by.fresh by.once_dues (λ l i. elim i [ ]) tt tt (λ y i e. elim i [ ]))
+
   pub gives_now : verdict_from m call ≡ GivesOf → (gone : Doing) → GivesLabel k call (doing begun draft_0) gone
       → (new : Tables) (draft after : Draft) → doing new draft ≡ opened gone
       → after ≡ sending_due new draft → IsSoundGives new.gives → Goal new after
@@ -296,6 +339,35 @@ module _ (script : Script) (old m : Tables) (past : List Step) (cause : Cause) (
       by_unused (Some u) e none same = waits_still u e verdict gone same new draft after is sends
 
       by_case : GivesUseOf it.lock it.label k (doing begun draft_0) gone → Goal new after
+      by_case (HasEnded busy same) = by_ending m.ending refl busy same
+      by_case (IsUnused none same) = by_unused m.ending refl none same
+      by_case (IsLost idle used found lost ended ends same) = by_used idle used found
+      by_case (EndsIt idle used found ended ends leaves) = by_used idle used found
+
+  -- what is due of it
+  abbrev pub DueOf : Draft → Type 0
+  DueOf after = HostDue script old.host past (step_of (Host m.host) cause after)
+
+  pub use_due : IsTurnDue m past cause came dues first → verdict_from m call ≡ GivesOf → (gone : Doing)
+      → GivesLabel k call (doing begun draft_0) gone → (new : Tables) (draft after : Draft)
+      → doing new draft ≡ opened gone → after ≡ sending_due new draft → IsSoundGives new.gives → Goal new after
+      → HostDue script old.host past (step_of (Host m.host) cause after)
+  use_due by verdict gone it new draft after is sends sound_new runs = by_case it.gives
+    where
+      by_used : m.ending ≡ None → (used : UseOf) → use_of m.uses it.lock it.label ≡ Some used → DueOf after
+      by_used none used found = used_due it.lock it.label it.call_is verdict none used found by gone it new draft after
+          is sends sound_new runs
+
+      by_ending : (o : Option Labelled) → m.ending ≡ o → (o ≡ None → ⊥) → gone ≡ doing begun draft_0 → DueOf after
+      by_ending None e busy same = absurd (busy refl)
+      by_ending (Some u) e busy same = waits_due u e verdict by gone same new draft after is sends runs
+
+      by_unused : (o : Option Labelled) → m.ending ≡ o → use_of m.uses it.lock it.label ≡ None
+          → gone ≡ doing begun draft_0 → DueOf after
+      by_unused None e none same = absurd (some_use it.lock it.label it.call_is verdict e none)
+      by_unused (Some u) e none same = waits_due u e verdict by gone same new draft after is sends runs
+
+      by_case : GivesUseOf it.lock it.label k (doing begun draft_0) gone → DueOf after
       by_case (HasEnded busy same) = by_ending m.ending refl busy same
       by_case (IsUnused none same) = by_unused m.ending refl none same
       by_case (IsLost idle used found lost ended ends same) = by_used idle used found

@@ -146,7 +146,7 @@ module _ (script : Script) (was : Tables) (past : List Step) (stands : Stands sc
         let q : r.0 ≡ g = cc in
         stands.gives.one g k (subst (Made past) q r.2) its.2 (only_n (number_of g) l.number ∙ sym its_number)
 
-    none_left : (z : Message) → In z (without test m.gives.gives) → test z ≡ true → ⊥
+    pub none_left : (z : Message) → In z (without test m.gives.gives) → test z ≡ true → ⊥
     none_left z i t =
         let p = (takes_any m.gives n.fileset n.number).is_open sound n.fileset n.number in
         let mine : ((n.fileset.0 == n.fileset.0) && (n.number == n.number)) ≡ true =

@@ -2,7 +2,7 @@
 use Rattle.host_asks.specs.Asking.{Doing, doing}
 use Rattle.host_asks.specs.Going.{GoesOn}
 use Rattle.host_gives.specs.Giving.{IsSound as IsSoundGives}
-use Rattle.host_labels.specs.Labels.{InUse as InUseOf, IsSound as IsSoundUses}
+use Rattle.host_labels.specs.Labels.{IsSound as IsSoundUses}
 use Rattle.host_leaves.specs.Sending.{sending_due}
 use Rattle.base_types.specs.declared.ids.HostId.{HostId}
 use Rattle.base_types.specs.declared.ids.Node.TheVariants.{Host}
@@ -26,11 +26,10 @@ use Rattle.message_types.specs.declared.message.Body.TheVariants.{Done, Gone, Gr
 use Rattle.message_types.specs.declared.message.Direction.TheVariants.{ToHost}
 use Rattle.message_types.specs.declared.message.Message.{Message}
 use Rattle.run_rules.specs.Messages.{stay_of}
-use Rattle.run_rules.specs.declared.step.Asked.{Asked}
 use Rattle.run_rules.specs.declared.step.Cause.TheVariants.{Message as Came}
 use Rattle.run_rules.specs.declared.step.Step.{Step}
 use Rattle.script_lines.specs.declared.script.Script.{Script}
-use Rattle.std.proofs.Common.{List, None, Some, [], ap, inl, inr, refl, subst, sym, ◌∙◌, ◌∷◌, ◌≡◌}
+use Rattle.std.proofs.Common.{List, [], ap, inl, inr, refl, subst, sym, ◌∙◌, ◌∷◌, ◌≡◌}
 use Rattle.host_manager.proofs.Closed as closed_of
 
 module _ (script : Script) (m : Tables) (past : List Step) (message : Message) (running : IsRunning script m past)
@@ -49,7 +48,7 @@ module _ (script : Script) (m : Tables) (past : List Step) (message : Message) (
   abbrev e : Draft
   e = learnt.draft
 
-  it : HasForgotten m no_draft (n ∷ []) x e
+  pub it : HasForgotten m no_draft (n ∷ []) x e
   it = one_forgotten script m past stands no_draft [] n m no_draft (none_forgotten m no_draft gives)
 
   is : half_by m.host message ≡ hears m.host message.server message.epoch message.moves (Gone n)

@@ -8,7 +8,6 @@ use Rattle.base_types.specs.declared.ids.ServerId.{ServerId}
 use Rattle.base_types.specs.declared.limits.TheConstants.{FILE_BYTES_MAX}
 use Rattle.host_asks.specs.Asking.{Doing, doing}
 use Rattle.host_asks.specs.Going.{GoesOn}
-use Rattle.host_cache.specs.Holding.{tokens_of}
 use Rattle.host_cache.specs.declared.held.Held.{Held}
 use Rattle.host_gives.specs.Giving.{Giving, IsSound as IsSoundGives, given_in, is_of_file}
 use Rattle.host_labels.specs.Labels.{IsSound as IsSoundUses}
@@ -26,12 +25,12 @@ use Rattle.host_tables.specs.Granting.{AfterGrant, BringsAnew, IsUsed, grants}
 use Rattle.host_tables.specs.Half.{learning}
 use Rattle.host_tables.specs.Hearing.{hears}
 use Rattle.host_tables.specs.Heeding.{AnswersUnused}
-use Rattle.host_manager.specs.Running.{EndsOpen, IsRunning, RunsOn}
+use Rattle.host_manager.specs.Running.{IsRunning, RunsOn}
 use Rattle.host_tables.specs.Saying.{IsFirst}
 use Rattle.host_tables.specs.Stands.{Stands}
 use Rattle.host_tables.specs.Tables.{content, floor_of, held_of, last_fetch, site_at}
 use Rattle.host_tables.specs.Tidy.{IsTidy, IsTidyToken, servers_in}
-use Rattle.host_tables.specs.Updates.{is_floor, put_by, with_floor}
+use Rattle.host_tables.specs.Updates.{is_floor, put_by}
 use Rattle.host_tables.specs.WholeSteps.{TakesRight}
 use Rattle.host_tables.specs.declared.calls.Request.{Request}
 use Rattle.host_tables.specs.declared.calls.Request.TheVariants.{Change as AChange, Fetch as AFetch}
@@ -54,13 +53,12 @@ use Rattle.run_rules.specs.Messages.{About, Asking, ComesIn, home, stay_of}
 use Rattle.run_rules.specs.Past.{In}
 use Rattle.run_rules.specs.Tokens.{AboveFloor, GiveOpen, Uses}
 use Rattle.run_rules.specs.Views.{is_shown, part_told}
-use Rattle.run_rules.specs.declared.step.Asked.{Asked}
 use Rattle.run_rules.specs.declared.step.Cause.TheVariants.{Message as Came}
 use Rattle.run_rules.specs.declared.step.Labelled.{Labelled}
 use Rattle.run_rules.specs.declared.step.Step.{Step}
 use Rattle.script_lines.specs.declared.script.Script.{Script}
 use Rattle.std.proofs.Common.{Bool, List, None, Option, Some, [], ap, arith, eqb-true, false, if◌then◌else◌, inl, inr}
-use Rattle.std.proofs.Common.{nat_lt, not, refl, subst, sym, true, ℕ, ◌&&◌, ◌++◌, ◌<◌, ◌==◌, ◌∙◌, ◌∷◌, ◌≡◌, ◌≤◌, ◌⊎◌}
+use Rattle.std.proofs.Common.{nat_lt, not, refl, subst, sym, true, ℕ, ◌&&◌, ◌<◌, ◌==◌, ◌∙◌, ◌∷◌, ◌≡◌, ◌≤◌, ◌⊎◌}
 use Rattle.std.proofs.lemmas.Bool.{and_parts, ltb-false}
 use Rattle.std.proofs.Common.{ltb-true}
 use Rattle.std.specs.List.{list_any}
@@ -232,7 +230,7 @@ module _ (script : Script) (m : Tables) (past : List Step) (message : Message) (
     no_uses : (w : Bring) → Uses past (half_by m.host message) w → ⊥
     no_uses w u = elim u.0 [ inl r ↦ no_grant w r u.1 u.2 | inr r ↦ not_done [] r.0 _ _ _ r.1 ]
 
-    heard_u : HasHeard script m m_u past message no_draft
+    pub heard_u : HasHeard script m m_u past message no_draft
     heard_u = record {
       running = running;
       host = refl;
@@ -367,7 +365,7 @@ module _ (script : Script) (m : Tables) (past : List Step) (message : Message) (
       floors = floors_n;
     })
 
-    heard_n : HasHeard script m new past message d
+    pub heard_n : HasHeard script m new past message d
     heard_n = record {
       running = running;
       host = host_same;

@@ -36,26 +36,22 @@ use Rattle.host_tables.specs.WholeSteps.{TakesRight, hears_says}
 use Rattle.host_tables.specs.declared.calls.Request.{Request}
 use Rattle.host_tables.specs.declared.draft.Draft.{Draft}
 use Rattle.host_tables.specs.declared.tables.Tables.{Tables}
-use Rattle.message_types.specs.Soundness.{IsSound}
 use Rattle.message_types.specs.declared.giving.Give.{Give}
 use Rattle.message_types.specs.declared.giving.Reclaim.{Reclaim as ReclaimOf}
-use Rattle.message_types.specs.declared.message.Body.{Body}
 use Rattle.message_types.specs.declared.message.Body.TheVariants.{GiveBack, Grant, Reclaim}
 use Rattle.message_types.specs.declared.message.Message.{Message}
 use Rattle.message_types.specs.declared.telling.Done.{Done as DoneOf}
 use Rattle.message_types.specs.declared.telling.Grant.{Grant as GrantOf}
-use Rattle.run_rules.specs.Messages.{About, DoneComes, SendsTo, home, stay_of}
+use Rattle.run_rules.specs.Messages.{About, DoneComes, SendsTo, stay_of}
 use Rattle.run_rules.specs.Past.{In}
 use Rattle.run_rules.specs.Steps.{lines_gone, lines_of}
-use Rattle.run_rules.specs.Tokens.{end_of}
 use Rattle.run_rules.specs.declared.step.Asked.{Asked}
 use Rattle.run_rules.specs.declared.step.Cause.TheVariants.{Message as Came}
-use Rattle.run_rules.specs.declared.step.Labelled.{Labelled}
 use Rattle.run_rules.specs.declared.step.Step.{Step}
 use Rattle.script_lines.specs.declared.script.Script.{Script}
-use Rattle.std.proofs.Common.{Bool, List, None, Option, Some, [], ap, arith, false, fold, if◌then◌else◌, inl, inr}
+use Rattle.std.proofs.Common.{Bool, List, None, Option, Some, [], ap, false, if◌then◌else◌, inl, inr}
 use Rattle.std.proofs.Common.{length}
-use Rattle.std.proofs.Common.{refl, subst, sym, true, ℕ, ◌∙◌, ◌∷◌, ◌≡◌, ◌≤◌}
+use Rattle.std.proofs.Common.{refl, subst, sym, true, ◌∙◌, ◌∷◌, ◌≡◌, ◌≤◌}
 
 -- The tables `m` have learnt and taken what came, and the step in the making says again what is outstanding, and knows
 -- which give-backs are to be sent.
@@ -97,7 +93,7 @@ module _ (script : Script) (old m : Tables) (past : List Step) (message : Messag
   only : OnlySends d d2
   only = fold_only (sending_give m) (λ d fs. giving_only m d fs) d d.due
 
-  step_is : step_of (Host m.host) (Came message) d2 ≡ s
+  pub step_is : step_of (Host m.host) (Came message) d2 ≡ s
   step_is = ap (step_of (Host m.host) (Came message)) (only ∙ ap (λ (z : Draft). record z { sent = d2.sent }) it.draft)
 
   said : (y : Message) → In y d2.sent
@@ -155,11 +151,11 @@ module _ (script : Script) (old m : Tables) (past : List Step) (message : Messag
 
   -- # The call is gone on with
   module _ (c : Asked) (open_is : m.call ≡ Some c) (idle : m.request ≡ None) where
-    turn : IsTurn script old m past (Came message) d.taken d.due c false
+    pub turn : IsTurn script old m past (Came message) d.taken d.due c false
     turn = message_turn script old m past message d.taken d.due c it.running it.host it.learnt it.tidy idle open_is
         it.ending it.takes it.grants it.changes it.due
 
-    draft_is : d ≡ turn_draft d.taken d.due
+    pub draft_is : d ≡ turn_draft d.taken d.due
     draft_is = it.draft ∙ (λ i. record no_draft {
       taken = d.taken;
       sent = it.silent c open_is idle i;
@@ -177,7 +173,7 @@ module _ (script : Script) (old m : Tables) (past : List Step) (message : Messag
         is
 
   -- while a request is outstanding nothing is made of it
-  waits_same : (c : Asked) → m.call ≡ Some c → (m.request ≡ None → ⊥) → (gone : Doing) (answered : Bool)
+  pub waits_same : (c : Asked) → m.call ≡ Some c → (m.request ≡ None → ⊥) → (gone : Doing) (answered : Bool)
       → Goes c.k c.call false (doing (record m { call = None }) d) gone answered
       → (if answered then gone else record gone { tables = record gone.tables { call = Some c } }) ≡ doing m d
   waits_same c open_is busy gone _ (Waits outstanding is) =

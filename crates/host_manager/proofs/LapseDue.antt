@@ -3,8 +3,8 @@ use Rattle.base_types.specs.declared.ids.FilesetId.{FilesetId}
 use Rattle.base_types.specs.declared.ids.Node.TheVariants.{Host}
 use Rattle.base_types.specs.declared.ids.ServerId.{ServerId}
 use Rattle.host_asks.specs.Claiming.{claim_of, repeating}
-use Rattle.host_gives.specs.Giving.{IsSound as IsSoundGives, outstanding}
-use Rattle.host_leaves.specs.Sending.{filesets_given, message_to}
+use Rattle.host_gives.specs.Giving.{IsSound as IsSoundGives}
+use Rattle.host_leaves.specs.Sending.{message_to}
 use Rattle.host_manager.proofs.Folding.{IsRequest}
 use Rattle.host_manager.proofs.Folding.IsRequest.{AskedChange, AskedFetch}
 use Rattle.host_manager.proofs.Lapsing.{only_says}
@@ -40,20 +40,18 @@ use Rattle.message_types.specs.declared.message.Body.TheVariants.{Hello, Kept, N
 use Rattle.message_types.specs.declared.message.Body.TheVariants.{Returned, Revoke, Ship, Shipped}
 use Rattle.message_types.specs.declared.message.Message.{Message}
 use Rattle.run_rules.specs.HostAsks.{HasChanged, HasFetched}
-use Rattle.run_rules.specs.HostDue.{CallsDue, HostDue, IsUnanswered, RepeatsDue}
+use Rattle.run_rules.specs.HostDue.{HostDue, IsUnanswered}
 use Rattle.run_rules.specs.HostMay.{AwaitsReclaimed, ClaimsAt}
 use Rattle.run_rules.specs.Messages.{Asking, Changing, HasBye, HasGreeted, HasSaid, IsDecidedAt, IsWelcome, Sends, Stay}
 use Rattle.run_rules.specs.Messages.{StaysAt, epoch_at, home}
-use Rattle.run_rules.specs.Past.{EachOnce, In}
-use Rattle.run_rules.specs.Tokens.{HasCall, Held as HeldBy, IsKnown, IsOpen, IsOutstanding, Made, end_of, number_of}
+use Rattle.run_rules.specs.Past.{In}
+use Rattle.run_rules.specs.Tokens.{HasCall, Held as HeldBy, IsKnown, IsOutstanding, Made, end_of, number_of}
 use Rattle.run_rules.specs.Views.{Stance}
-use Rattle.run_rules.specs.declared.step.Asked.{Asked}
-use Rattle.run_rules.specs.declared.step.Cause.TheVariants.{End, Evict, Lapse, Message as Came}
-use Rattle.run_rules.specs.declared.step.Labelled.{Labelled}
+use Rattle.run_rules.specs.declared.step.Cause.TheVariants.{Lapse}
 use Rattle.run_rules.specs.declared.step.Step.{Step}
 use Rattle.script_lines.specs.declared.script.Script.{Script}
-use Rattle.std.proofs.Common.{Bool, List, None, Option, Some, [], ap, false, inl, inr, not, refl, subst, sym, true, ℕ}
-use Rattle.std.proofs.Common.{◌&&◌, ◌<◌, ◌∙◌, ◌∷◌, ◌≡◌, ◌⊎◌}
+use Rattle.std.proofs.Common.{Bool, List, Option, Some, [], ap, inl, inr, not, refl, subst, sym, true, ℕ}
+use Rattle.std.proofs.Common.{◌&&◌, ◌∙◌, ◌∷◌, ◌≡◌, ◌⊎◌}
 use Rattle.std.proofs.lemmas.Bool.{and_from, and_parts}
 use Rattle.token_types.specs.declared.token.Token.{Token}
 use Rattle.tree_calls.specs.declared.call.Call.{Call}

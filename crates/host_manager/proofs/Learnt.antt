@@ -1,19 +1,17 @@
 -- What the code of learning leaves of the tables.
-use Rattle.host_asks.specs.Asking.{Doing, doing}
-use Rattle.host_cache.specs.Seen.{Seen, seen}
+use Rattle.host_asks.specs.Asking.{doing}
 use Rattle.host_gives.proofs.Staying.{first_behind}
 use Rattle.host_gives.specs.Giving.{Giving, after_take_out, is_numbered, is_outstanding, taken_out, without}
 use Rattle.host_manager.specs.Learning.{HasTaken, Taking, closed_at, closed_by, due_of, ended_by, ends_in}
-use Rattle.host_manager.specs.Learning.{learning_given, taking, taking_from, taking_one, without_give}
+use Rattle.host_manager.specs.Learning.{learning_given, taking_from, taking_one, without_give}
 use Rattle.host_tables.specs.declared.draft.Draft.{Draft}
-use Rattle.host_tables.specs.declared.files.Given.{Given}
 use Rattle.host_tables.specs.declared.tables.Tables.{Tables}
 use Rattle.message_types.specs.declared.giving.AppliedGive.{AppliedGive}
 use Rattle.message_types.specs.declared.giving.Ends.{Ends}
 use Rattle.message_types.specs.declared.message.Message.{Message}
 use Rattle.message_types.specs.declared.telling.Grant.{Grant}
 use Rattle.std.proofs.Common.{Bool, List, None, Option, Some, [], ap, cond, false, if◌then◌else◌, is_some, refl}
-use Rattle.std.proofs.Common.{subst, sym, true, ℕ, ◌++◌, ◌∙◌, ◌∷◌, ◌≡◌}
+use Rattle.std.proofs.Common.{sym, true, ℕ, ◌∙◌, ◌∷◌, ◌≡◌}
 use Rattle.std.specs.List.{find}
 use Rattle.std.specs.Option.{option_map, option_map_or}
 use Rattle.token_types.specs.declared.token.Token.{Token}

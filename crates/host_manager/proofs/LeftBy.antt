@@ -1,6 +1,6 @@
 -- The cache after tokens are dropped: it holds the others, and shows under them what it showed.
 use Rattle.base_types.specs.Image.{byte_at}
-use Rattle.std.proofs.Common.{inl, inr, zero}
+use Rattle.std.proofs.Common.{inl, inr}
 use Rattle.base_types.specs.Ids.{same_fid}
 use Rattle.base_types.specs.declared.ids.Fid.{Fid}
 use Rattle.base_types.specs.declared.limits.TheConstants.{FILE_BYTES_MAX}

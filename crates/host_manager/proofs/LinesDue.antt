@@ -21,7 +21,7 @@ use Rattle.run_rules.specs.declared.step.Cause.TheVariants.{End, Evict, Lapse, L
 use Rattle.run_rules.specs.declared.step.Step.{Step}
 use Rattle.script_lines.specs.declared.script.Deed.{Deed}
 use Rattle.script_lines.specs.declared.script.Script.{Script}
-use Rattle.std.proofs.Common.{List, None, [], inl, inr, map, refl, subst, sym, ℕ, ◌∙◌, ◌∷◌, ◌≡◌}
+use Rattle.std.proofs.Common.{List, None, [], inl, inr, map, refl, subst, sym, ℕ, ◌∙◌, ◌≡◌}
 use Rattle.token_types.specs.declared.token.Token.{Token}
 use Rattle.tree_calls.specs.declared.call.Call.{Call}
 use Rattle.tree_calls.specs.declared.call.Call.TheVariants.{Sync}

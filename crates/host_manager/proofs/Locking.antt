@@ -15,8 +15,9 @@ use Rattle.host_labels.specs.Labels.{InUse, IsSound as IsSoundUses, after_take, 
 use Rattle.host_labels.specs.Labels.{is_pinned}
 use Rattle.host_labels.specs.declared.uses.Labelled.{Labelled as UseOf}
 use Rattle.host_leaves.specs.Owning.{has_label}
-use Rattle.host_manager.proofs.Freed.{mode_same}
+use Rattle.host_manager.proofs.Freed.{map_parts, mode_same}
 use Rattle.host_manager.proofs.Helped.{Helped}
+use Rattle.host_manager.proofs.OnceSaid.{once_append}
 use Rattle.host_manager.proofs.Ordered.{in_used, order_after, used_in}
 use Rattle.host_manager.proofs.Turns.{IsTurn}
 use Rattle.host_tables.proofs.Answered.{its}
@@ -47,7 +48,7 @@ use Rattle.run_rules.specs.declared.step.Labelled.{Labelled}
 use Rattle.run_rules.specs.declared.step.Step.{Step}
 use Rattle.script_lines.specs.declared.script.Script.{Script}
 use Rattle.std.proofs.Common.{Bool, IsTrue, List, None, Option, Some, [], ap, append-nil, append_assoc, false, filter}
-use Rattle.std.proofs.Common.{flat_map, if◌then◌else◌, inl, inr, map, nat_le, refl, subst, sym, true, unwrap_or, zero}
+use Rattle.std.proofs.Common.{flat_map, if◌then◌else◌, inl, inr, map, nat_le, refl, subst, sym, true, unwrap_or}
 use Rattle.std.proofs.Common.{ℕ, ◌++◌, ◌+◌, ◌↔◌, ◌∙◌, ◌∷◌, ◌≡◌, ◌⊎◌}
 use Rattle.std.proofs.lemmas.Bool.{and_from}
 use Rattle.std.specs.Bool.{beq}
@@ -76,14 +77,6 @@ use Rattle.host_manager.proofs.TurnAnswers as answers
 use Rattle.host_manager.proofs.Turns as turns
 
 -- # Lists
-once_both : {A : Type 0} (xs ys : List A) → EachOnce xs → EachOnce ys → ((z : A) → In z xs → In z ys → ⊥)
-    → EachOnce (xs ++ ys)
-once_both [] ys a b apart = b
-once_both (x ∷ xs) ys a b apart = (
-  (λ i. elim (in_either xs ys x i) [ inl j ↦ a.0 j | inr j ↦ apart x (inl refl) j ]),
-  once_both xs ys a.1 b (λ z i j. apart z (inr i) j),
-)
-
 module _ {A B C : Type 0} (f : B → List C) (g : A → B) where
   flat_last : (xs : List A) (u : A) → flat_map f (map g (xs ++ u ∷ []) ++ [])
       ≡ flat_map f (map g xs ++ []) ++ f (g u)
@@ -95,7 +88,7 @@ module _ {A B C : Type 0} (f : B → List C) (g : A → B) where
       → ((z : C) → In z (f (g u)) → In z (flat_map f (map g xs ++ [])) → ⊥)
       → EachOnce (flat_map f (map g (xs ++ u ∷ []) ++ []))
   once_last xs u a b apart = subst EachOnce (sym (flat_last xs u))
-      (once_both (flat_map f (map g xs ++ [])) (f (g u)) a b (λ z i j. apart z j i))
+      (once_append (flat_map f (map g xs ++ [])) (f (g u)) a b (λ z i j. apart z j i))
 
   from_one : (xs : List A) (z : C) → In z (flat_map f (map g xs ++ [])) → (x : A) × In x xs × In z (f (g x))
   from_one xs z i =
@@ -107,16 +100,6 @@ last_one : {A : Type 0} (x u v : A) (us vs : List A) → x ∷ [] ≡ us ++ u �
 last_one x u v [] vs e i = none_in vs (let p = e in cc) v i
 last_one x u v (w ∷ []) vs e i = cc
 last_one x u v (w ∷ z ∷ us) vs e i = cc
-
-map_parts : {A : Type 0} (f : A → A) (xs us : List A) (y : A) (vs : List A) → map f xs ≡ us ++ y ∷ vs
-    → (ws : List A) × (x : A) × (zs : List A) × (xs ≡ ws ++ x ∷ zs) × (y ≡ f x) × (vs ≡ map f zs)
-map_parts f [] [] y vs e = absurd (cc)
-map_parts f [] (u ∷ us) y vs e = absurd (cc)
-map_parts f (x ∷ xs) [] y vs e = ([], x, xs, refl, (let q = e in cc), (let q = e in cc))
-map_parts {A = A} f (x ∷ xs) (u ∷ us) y vs e =
-    let t : map f xs ≡ us ++ y ∷ vs = cc in
-    let r = map_parts f xs us y vs t in
-    (x ∷ r.0, r.1, r.2, ap (λ (zs : List A). x ∷ zs) r.3, r.4, r.5)
 
 -- # The label that a Lock or an OpenFile takes wasn't in use
 locks_so : (m : Tables) (label : List ℕ) (place : NamedPlace) (writing : Bool) (from len : ℕ) (fid : Fid) (w : Bool)

@@ -3,10 +3,11 @@ use Rattle.base_types.specs.declared.ids.Node.TheVariants.{Host}
 use Rattle.host_gives.specs.Giving.{IsSound as IsSoundGives}
 use Rattle.host_labels.specs.Labels.{IsSound as IsSoundUses}
 use Rattle.host_cache.specs.Holding.{IsOnce}
+use Rattle.host_manager.proofs.EndsDue.{end_due}
 use Rattle.host_manager.proofs.NextEnds.{end_none, end_some}
 use Rattle.host_manager.proofs.Owned.{ends_own}
 use Rattle.host_manager.specs.Closing.{EndsNext, MayEnd}
-use Rattle.host_manager.specs.Due.{IsOwn}
+use Rattle.host_manager.specs.Due.{EndDue, IsOwn}
 use Rattle.host_manager.specs.Spoken.{IsFree}
 use Rattle.host_tables.specs.Drafts.{no_draft, step_of}
 use Rattle.host_manager.specs.Running.{EndRight}
@@ -47,3 +48,11 @@ module _ {E : Type 0} (m new : Tables) (after : Draft) (made : Result Bool E) (r
   pub end_own : IfOk result (λ answer. IfSome answer (IsOwn m))
   end_own = made_so made result step (EndsNext m no_draft new after) (λ answer. IfSome answer (IsOwn m)) its ok is
       (λ ends. subst (IsOwn m) (sym step_is) (ends_own m new after true ends)) (λ ends. tt)
+
+  pub end_is_due : IsFree m → IsOnce m.cache.held → IsSoundUses m.uses → IsSoundGives m.gives
+      → IsSoundGives new.gives → IfOk result (λ answer. IfSome answer (EndDue m))
+  end_is_due free once uses sound sound_new = made_so made result step (EndsNext m no_draft new after)
+      (λ answer. IfSome answer (EndDue m)) its ok is
+      (λ ends. subst (EndDue m) (sym step_is) (end_due m new after true refl
+      free once uses sound sound_new ends))
+      (λ ends. tt)

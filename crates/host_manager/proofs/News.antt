@@ -1,12 +1,10 @@
 -- What is due of a step that a host makes by itself or by a line, with no call open: nothing is said again.
-use Rattle.base_types.specs.declared.ids.FilesetId.{FilesetId}
 use Rattle.base_types.specs.declared.ids.ServerId.{ServerId}
 use Rattle.host_gives.specs.Giving.{given_in, is_of, outstanding}
 use Rattle.host_tables.proofs.Outstanding.{found_some}
 use Rattle.host_manager.specs.Running.{IsRunning, RunsOn}
 use Rattle.host_tables.specs.Stands.{Stands}
 use Rattle.host_tables.specs.Tables.{site_at}
-use Rattle.host_tables.specs.declared.calls.Request.{Request}
 use Rattle.host_tables.specs.declared.tables.Tables.{Tables}
 use Rattle.message_types.specs.declared.giving.Give.{Give}
 use Rattle.message_types.specs.declared.message.Body.{Body}
@@ -15,17 +13,16 @@ use Rattle.message_types.specs.declared.message.Body.TheVariants.{Hello, Kept, N
 use Rattle.message_types.specs.declared.message.Body.TheVariants.{Returned, Revoke, Ship, Shipped}
 use Rattle.message_types.specs.declared.message.Message.{Message}
 use Rattle.run_rules.specs.HostDue.{CallsDue, IsUnanswered, RepeatsDue}
-use Rattle.run_rules.specs.Messages.{HasBye, HasSaid, Says, Sends}
+use Rattle.run_rules.specs.Messages.{Sends}
 use Rattle.run_rules.specs.Past.{In}
-use Rattle.run_rules.specs.Tokens.{HasCall, IsKnown, IsOutstanding, Made, NoneOpen, WaitsBehind, end_of}
+use Rattle.run_rules.specs.Tokens.{HasCall, IsKnown, IsOutstanding, NoneOpen, end_of}
 use Rattle.run_rules.specs.Views.{Stance}
 use Rattle.run_rules.specs.declared.applied.Answer.{Answer}
-use Rattle.run_rules.specs.declared.step.Asked.{Asked}
 use Rattle.run_rules.specs.declared.step.Cause.TheVariants.{Lapse, Message as Came}
 use Rattle.run_rules.specs.declared.step.Step.{Step}
 use Rattle.script_lines.specs.declared.script.Script.{Script}
-use Rattle.std.proofs.Common.{List, None, Option, Some, [], ap, eq-eqb, false, inl, inr, refl, subst, sym, true, ℕ}
-use Rattle.std.proofs.Common.{◌==◌, ◌∙◌, ◌∷◌, ◌≡◌, ◌⊎◌}
+use Rattle.std.proofs.Common.{List, None, [], ap, eq-eqb, false, inl, inr, refl, subst, sym, true, ℕ}
+use Rattle.std.proofs.Common.{◌==◌, ◌∙◌, ◌∷◌, ◌≡◌}
 use Rattle.std.specs.Option.{option_map_or}
 use Rattle.tree_calls.specs.declared.call.Call.{Call}
 use Rattle.tree_calls.specs.declared.call.Call.TheVariants.{Sync}

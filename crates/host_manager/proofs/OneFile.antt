@@ -6,6 +6,7 @@ use Rattle.host_cache.specs.Files.{file_key, same_key}
 use Rattle.host_cache.specs.Holding.{tokens_of}
 use Rattle.host_cache.specs.Seen.{Kept, of_key}
 use Rattle.host_cache.specs.declared.held.Held.{Held}
+use Rattle.host_calls.proofs.Owned.{key_is}
 use Rattle.host_dirty.specs.Dirtiness.{is_dirty as is_dirty_in}
 use Rattle.host_dirty.specs.declared.dirty.Dirty.{Dirty}
 use Rattle.host_gives.proofs.Adding.{adds}
@@ -16,7 +17,7 @@ use Rattle.host_labels.specs.declared.uses.Labelled.{Labelled as UseOf}
 use Rattle.host_leaves.specs.Dirtying.{covers_left, is_dirty_left, is_named, staying, tokens_at, updates_byte}
 use Rattle.host_leaves.specs.Giving.{AreGiven, AreLeft, HasToGive, ids_of, leaving_by, with_length_of}
 use Rattle.host_leaves.specs.Owning.{dirty_length}
-use Rattle.host_manager.proofs.Evicting.{key_is, updated_by, updates_it}
+use Rattle.host_manager.proofs.Evicting.{updated_by, updates_it}
 use Rattle.host_manager.proofs.Given.{if_none, left_dirty}
 use Rattle.host_manager.proofs.LeftBy.{IsLeftBy, all_stay, stays_of}
 use Rattle.host_tables.proofs.Lists.{any_in, by_test, false_not, fid_same, filter_in, id_same, in_any, in_either}
@@ -41,8 +42,8 @@ use Rattle.run_rules.specs.HostTokens.{GivesByte}
 use Rattle.run_rules.specs.Messages.{HasStopped, KeepsToken, ReturnsToken, SendsTo, stay_of}
 use Rattle.run_rules.specs.Past.{EachOnce, In}
 use Rattle.run_rules.specs.Tokens.{Drops, FreesPinned, GivesUse, IsOpen, IsOutstanding, LabelInUse}
-use Rattle.run_rules.specs.Tokens.{LeavesHost, end_of, number_of}
-use Rattle.run_rules.specs.Views.{UpdatesByte, byte_of, gives_at}
+use Rattle.run_rules.specs.Tokens.{LeavesHost, end_of}
+use Rattle.run_rules.specs.Views.{UpdatesByte, byte_of}
 use Rattle.run_rules.specs.declared.step.Labelled.{Labelled}
 use Rattle.run_rules.specs.declared.step.Step.{Step}
 use Rattle.std.proofs.Common.{Bool, List, None, Option, Some, [], ap, arith, eq-eqb, eqb-true, false, filter}
@@ -87,7 +88,7 @@ pub record LabelsLeft (m : Tables) (l : Left) (past : List Step) (s : Step) : Ty
   pub ends : EndsBy m l past s
   pub labels : LabelsStand (own_of (with_left m l))
 
-none_mapped : {A B : Type 0} (f : A → B) (xs : List A) → map f xs ≡ [] → xs ≡ []
+pub none_mapped : {A B : Type 0} (f : A → B) (xs : List A) → map f xs ≡ [] → xs ≡ []
 none_mapped f [] e = refl
 none_mapped f (x ∷ xs) e = absurd (cc)
 

@@ -7,7 +7,7 @@ use Rattle.base_types.specs.declared.ids.HostId.{HostId}
 use Rattle.base_types.specs.declared.user.User.{User}
 use Rattle.host_manager.proofs.Running.{AsksWhy}
 use Rattle.host_tables.proofs.Resting.{ask_rests, lack_rests}
-use Rattle.host_tables.specs.Stands.{IsAtRest, IsWaiting, look_from}
+use Rattle.host_tables.specs.Stands.{IsAtRest, IsWaiting}
 use Rattle.host_tables.specs.Stands.IsWaiting.{ForDone, ForGrant}
 use Rattle.host_tables.specs.Tables.{content, held_of, own_of}
 use Rattle.host_tables.specs.declared.calls.Request.{Request}
@@ -15,16 +15,16 @@ use Rattle.host_tables.specs.declared.calls.Request.TheVariants.{Change as AChan
 use Rattle.host_tables.specs.declared.tables.Tables.{Tables}
 use Rattle.need_host.proofs.Looking.{outcome_on}
 use Rattle.need_host.proofs.Updates.{needs_on}
-use Rattle.need_host.specs.Calls.{Own, Verdict, call_look, from_root, judged, lock_look, refuse, sync_look}
+use Rattle.need_host.specs.Calls.{Own, call_look, from_root, judged, lock_look, refuse, sync_look}
 use Rattle.need_host.specs.Calls.{sync_verdict}
 use Rattle.need_host.specs.Calls.Verdict.{Asks, Frees, Gives, Replies}
-use Rattle.need_host.specs.Looks.{CoverAll, IsFirstLack, Look, View, needs_of, outcome}
+use Rattle.need_host.specs.Looks.{CoverAll, IsFirstLack, View, needs_of, outcome}
 use Rattle.need_host.specs.Looks.Look.{Ends}
 use Rattle.need_host.specs.Questions.{Question}
 use Rattle.need_host.specs.Walks.{file_look, root_of}
 use Rattle.run_rules.specs.declared.step.Asked.{Asked}
 use Rattle.run_rules.specs.declared.step.Step.{Step}
-use Rattle.std.proofs.Common.{Bool, Err, List, None, Ok, Option, Result, Some, ap, false, if◌then◌else◌, inl, inr, not}
+use Rattle.std.proofs.Common.{Bool, Err, List, None, Ok, Option, Result, Some, false, if◌then◌else◌, inl, inr, not}
 use Rattle.std.proofs.Common.{refl, subst, sym, true, ℕ, ◌∙◌, ◌≡◌}
 use Rattle.token_types.specs.declared.token.Need.{Need}
 use Rattle.tree_answers.specs.Locks.{has_lock}

@@ -4,7 +4,7 @@ use Rattle.base_types.specs.declared.ids.FilesetId.{FilesetId}
 use Rattle.base_types.specs.declared.ids.Node.TheVariants.{Host}
 use Rattle.base_types.specs.declared.ids.ServerId.{ServerId}
 use Rattle.host_asks.specs.Asking.{Doing, doing}
-use Rattle.host_asks.specs.Claiming.{claim_of, claiming}
+use Rattle.host_asks.specs.Claiming.{claim_of}
 use Rattle.host_asks.specs.Going.{GoesOn as CallGoesOn}
 use Rattle.host_asks.specs.Going.GoesOn.{IsNone, IsOpen}
 use Rattle.host_leaves.specs.Giving.{ids_of}
@@ -15,15 +15,15 @@ use Rattle.host_leaves.specs.Revoking.LeaveAll.{FileLeaves, NoneLeft}
 use Rattle.host_gives.specs.Giving.{after_take_out, is_outstanding, outstanding, taken_out}
 use Rattle.host_leaves.specs.Sending.{filesets_given, saying, sending_give, sending_request, with_once}
 use Rattle.host_manager.proofs.Owned.{AllFrom, GoesOn, fold_from, giving_from, goes_on, leaves_on, on_by, own_step}
-use Rattle.host_manager.proofs.Owned.{request_from, saying_from, silent_on, stays_on, then_due, then_on, where_from}
+use Rattle.host_manager.proofs.Owned.{request_from, saying_from, silent_on, stays_on, then_due, then_on}
 use Rattle.host_manager.specs.Due.{IsOwn}
-use Rattle.host_manager.specs.Learning.{UsesBring, due_after, due_of, ended_by, ends_in, learning_given, renewed}
+use Rattle.host_manager.specs.Learning.{UsesBring, due_after, ended_by, ends_in, learning_given, renewed}
 use Rattle.host_manager.specs.Learning.{without_give}
 use Rattle.host_manager.specs.Learning.UsesBring.{MayNot, UsesIt}
 use Rattle.host_manager.specs.Learning.{brings_uses, closed_by}
 use Rattle.host_manager.specs.Taking.{HearsMessage, Takes, TakesBody, bye_again, claimed_at, hearing, hearing_epoch}
 use Rattle.host_manager.specs.Taking.{is_asked_at, put_site_in, reclaiming, request_again, restarting, sending_each}
-use Rattle.host_manager.specs.Taking.{sending_to, told_by, welcomed}
+use Rattle.host_manager.specs.Taking.{sending_to, told_by}
 use Rattle.host_manager.specs.Taking.Takes.{HadRestarted, HasParted, HasRestarted, Hears, IsOld, Passes, TakesIt}
 use Rattle.host_manager.specs.Taking.TakesBody.{IsDone, IsGone, IsGrant, IsLateDone, IsLateGrant, IsOther, IsRevoke}
 use Rattle.host_tables.specs.Drafts.{no_draft, step_of}
@@ -42,14 +42,11 @@ use Rattle.message_types.specs.declared.telling.DoneIs.TheVariants.{Known, Reply
 use Rattle.message_types.specs.declared.telling.Bring.{Bring}
 use Rattle.message_types.specs.declared.telling.Grant.{Grant}
 use Rattle.message_types.specs.declared.tokens.Revoke.{Revoke as RevokeOf}
-use Rattle.host_leaves.specs.Giving.{Leaves}
 use Rattle.run_rules.specs.declared.applied.Why.TheVariants.{Revoked}
-use Rattle.run_rules.specs.declared.step.Asked.{Asked}
 use Rattle.run_rules.specs.declared.step.Cause.TheVariants.{Message as Came}
-use Rattle.run_rules.specs.Past.{In}
-use Rattle.std.proofs.Common.{Bool, List, None, Option, Some, [], ap, false, fold, if◌then◌else◌, inl, inr, is_some}
+use Rattle.std.proofs.Common.{Bool, List, None, Option, Some, [], ap, false, fold, if◌then◌else◌, is_some}
 use Rattle.std.proofs.Common.{not}
-use Rattle.std.proofs.Common.{nat_lt, refl, subst, sym, true, ℕ, ◌&&◌, ◌==◌, ◌∙◌, ◌∷◌, ◌≡◌}
+use Rattle.std.proofs.Common.{nat_lt, refl, subst, sym, true, ℕ, ◌&&◌, ◌==◌, ◌∷◌, ◌≡◌}
 use Rattle.std.specs.Option.{option_map_or}
 use Rattle.token_types.specs.declared.token.Token.{Token}
 use Rattle.token_types.specs.declared.token.TokenId.{TokenId}

@@ -1,34 +1,29 @@
 -- Some tokens leave, file by file: the next file.
 use Rattle.base_types.specs.Ids.{same_fid}
-use Rattle.base_types.specs.Spans.{has_byte}
 use Rattle.base_types.specs.declared.ids.Fid.{Fid}
 use Rattle.base_types.specs.declared.ids.FilesetId.{FilesetId}
 use Rattle.base_types.specs.declared.limits.TheConstants.{FILE_BYTES_MAX}
-use Rattle.host_cache.specs.Files.{file_key, same_key}
 use Rattle.host_cache.specs.Holding.{is_status, tokens_of}
-use Rattle.host_cache.specs.Seen.{Kept, Seen, after_drop, seen}
+use Rattle.host_cache.specs.Seen.{Kept, Seen, seen}
 use Rattle.host_cache.specs.declared.held.Held.{Held}
 use Rattle.host_dirty.specs.Dirtiness.{is_dirty as is_dirty_in}
 use Rattle.host_dirty.specs.declared.dirty.Dirty.{Dirty}
 use Rattle.host_gives.proofs.Adding.{adds}
 use Rattle.host_gives.specs.Counters.{last_of}
-use Rattle.host_gives.specs.Giving.{after_add, is_of, names, outstanding}
-use Rattle.host_leaves.specs.Dirtying.{covers_left, is_dirty_left, is_named, staying, tokens_at, updates_byte}
+use Rattle.host_gives.specs.Giving.{after_add, given_in, is_of, names, outstanding}
+use Rattle.host_leaves.specs.Dirtying.{covers_left, is_named, staying, tokens_at, updates_byte}
 use Rattle.host_leaves.specs.Giving.{AreGiven, AreLeft, Gives, GivesWhere, HasToGive, Leaves, ids_of, leaves_by}
 use Rattle.host_leaves.specs.Giving.{leaving_by, returned_ids, returning, shown_without, with_length_of}
-use Rattle.host_leaves.specs.Owning.{dirty_length, update_span}
+use Rattle.host_leaves.specs.Owning.{dirty_length}
 use Rattle.host_leaves.specs.Sending.{message_to, with_once}
-use Rattle.host_manager.proofs.Folding.{OnlySends, saying_keeps, saying_said, saying_says}
 use Rattle.host_manager.proofs.Given.{of_body}
 use Rattle.host_manager.proofs.OneFile.{at_file, file_at}
 use Rattle.host_tables.proofs.Lists.{any_in, by_test, false_any, false_not, fid_same, filter_in, id_same, in_any}
 use Rattle.host_tables.proofs.Lists.{in_either, in_filter, in_left, in_map, in_right, map_in, none_in, not_true}
 use Rattle.host_tables.proofs.Lists.{same_fid_is, same_id_is, true_false, true_not}
 use Rattle.host_tables.proofs.Outstanding.{found_in, found_some}
-use Rattle.host_tables.proofs.Updating.{reads_after}
-use Rattle.host_tables.specs.Drafts.{no_draft}
 use Rattle.host_tables.specs.LeavingSteps.{Left, with_left}
-use Rattle.host_tables.specs.Tables.{content, held_of, is_shown_by, is_updating, length_given, updates_status}
+use Rattle.host_tables.specs.Tables.{content, held_of, is_updating, length_given, updates_status}
 use Rattle.host_tables.specs.Updates.{home_at}
 use Rattle.host_tables.specs.declared.calls.Leaving.{Leaving}
 use Rattle.host_tables.specs.declared.draft.Draft.{Draft}
@@ -36,10 +31,10 @@ use Rattle.host_tables.specs.declared.files.Given.{Given}
 use Rattle.host_tables.specs.declared.tables.Tables.{Tables}
 use Rattle.message_types.specs.declared.giving.AppliedGive.{AppliedGive}
 use Rattle.message_types.specs.declared.giving.Give.{Give}
+use Rattle.message_types.specs.declared.message.Body.{Body}
 use Rattle.message_types.specs.declared.message.Body.TheVariants.{GiveBack, Returned}
 use Rattle.message_types.specs.declared.message.Message.{Message}
 use Rattle.message_types.specs.declared.tokens.Named.{Named}
-use Rattle.need_host.specs.Shows.{shows as kind_shows}
 use Rattle.run_rules.specs.Past.{EachOnce, In}
 use Rattle.run_rules.specs.Tokens.{number_of}
 use Rattle.run_rules.specs.Views.{HasLength, byte_of}
@@ -50,20 +45,19 @@ use Rattle.std.proofs.Common.{true, ℕ, ◌&&◌, ◌++◌, ◌+◌, ◌<◌, �
 use Rattle.std.proofs.lemmas.Bool.{and_from, and_parts}
 use Rattle.std.specs.List.{list_any}
 use Rattle.std.specs.Option.{option_map_or}
-use Rattle.token_types.specs.Conflicts.{need_of, same_id}
-use Rattle.token_types.specs.declared.token.Kind.{Kind}
-use Rattle.token_types.specs.declared.token.Kind.TheVariants.{Bytes, Lock, Opening, Status}
-use Rattle.token_types.specs.declared.token.Need.{Need}
+use Rattle.token_types.specs.Conflicts.{same_id}
 use Rattle.token_types.specs.declared.token.Token.{Token}
 use Rattle.token_types.specs.declared.token.TokenId.{TokenId}
-use Rattle.tree_laws.specs.Parts.{Part}
 use Rattle.tree_laws.specs.Parts.Part.{ByteAt, Size}
 use Rattle.host_manager.proofs.LeftBy.{left_by, stays_of}
 use Rattle.host_manager.proofs.LeftFile.{alike, any_last, and_true, byte_shows, cleaned, in_last, is_some_if, last_or}
 use Rattle.host_manager.proofs.LeftFile.{length_here, length_other, once_keeps, once_there, returning_keeps}
 use Rattle.host_manager.proofs.LeftFile.{returning_only, returning_said, returning_says, shows_there, size_shows}
 use Rattle.host_manager.proofs.LeftFile.{some_alike, without_more}
-use Rattle.host_manager.proofs.LeftSo.{returns}
+use Rattle.host_manager.proofs.LeftSo.{OnceSo, returns}
+use Rattle.host_manager.proofs.OnceSaid.{once_append, once_more}
+use Rattle.host_manager.proofs.Repeated.{with_once_from, with_once_once}
+use Rattle.host_manager.proofs.SortedSo.{filter_once}
 use Rattle.host_manager.proofs.PartSo.{HasParted, IsPart, PartLost, PartSaid, PartSo, gone_or, held_from, kept, start}
 use Rattle.host_leaves.specs.Revoking.{covers_status, is_lost, of_file, with_lost, with_lost_where}
 use Rattle.run_rules.specs.declared.applied.Why.TheVariants.{Revoked}
@@ -113,7 +107,10 @@ module _ (m : Tables) (once : (t u : Token) → In t (held_of m) → In u (held_
     (l : Left) (lost : List Fid) (fids : List Fid) (gone : List Token) (made : List Give)
     (so : PartSo m tokens l fids gone made) (sent : List Message) (due : List FilesetId)
     (saying_so : PartSaid m first asked all_back fids gone made sent due) (losing : PartLost m tokens l fids lost)
-    (fid : Fid) (fresh : In fid fids → ⊥) (backs : (i : TokenId) → In i now_back → In i all_back × (fid ≡ asked)) where
+    (each : OnceSo m gone made sent due) (tokens_once : EachOnce tokens)
+    (plain_first : (y : Message) → In y first → (w : Named) → y.body ≡ Returned w → ⊥)
+    (fid : Fid) (fresh : In fid fids → ⊥) (backs : (i : TokenId) → In i now_back → In i all_back × (fid ≡ asked))
+    (now_all : asked ≡ fid → (i : TokenId) → In i all_back → In i now_back) where
   abbrev pub x : Tables
   x = record (with_left m l) { lost = lost }
 
@@ -262,6 +259,45 @@ module _ (m : Tables) (once : (t u : Token) → In t (held_of m) → In u (held_
       fresh (subst (λ (z : Fid). In z fids) (sym (same_fid_is k.0.fid g.fid f.1) ∙ ap (λ (u : Token). u.fid) same
       ∙ (left_from t i).1) (so.its_file g j))
 
+  names_it : (y : Message) (g : Give) (i : TokenId) → y.body ≡ GiveBack g → names i y ≡ true → In i g.ids
+  names_it y g i e n =
+      let p = subst (λ (b : Body). option_map_or (λ (give : Give). list_any (λ other. same_id other i) give.ids)
+      (given_in b) false ≡ true) e n in
+      let k = in_any (λ (other : TokenId). same_id other i) g.ids p in
+      subst (λ (z : TokenId). In z g.ids) (same_id_is k.0 i k.2) k.1
+
+  has_back : (t : Token) → In t leaving → HasToGive x fid leaving t → HasToGive m fid leaving t
+  has_back t i (inl e) =
+      let r = in_any (names t.id) l.gives.gives e in
+      elim (so.gives_from r.0 r.1) [
+        | inl was ↦ inl (any_in (names t.id) m.gives.gives r.0 was r.2)
+        | inr q ↦ absurd (not_in_made t q.0 i q.2 (names_it r.0 q.0 t.id q.1 r.2))
+      ]
+  has_back t i (inr (inl (at, dirty, updates))) =
+      inr (inl (at, (λ i. sym (dirty_same at) i && sym (covers_same leaving at) i) ∙ dirty, updates))
+  has_back t i (inr (inr (updates, dirty))) =
+      inr (inr (updates, ap (λ (o : Option ℕ). is_some o) (sym length_same) ∙ dirty))
+
+  -- each of them has left once
+  gone_once : EachOnce then_gone
+  gone_once = once_append gone leaving each.tokens
+      (filter_once (λ (token : Token). same_fid token.fid fid) tokens tokens_once) (λ t i j. (left_from t j).2 i)
+
+  -- and is returned once
+  sent_once : (z : Tables) (d : Draft) (ids : List TokenId) → d.sent ≡ sent → EachOnce (returning z fid ids d).sent
+  sent_once z d [] e = subst EachOnce (sym e) each.messages
+  sent_once z d (k ∷ ids) e =
+      let y : Message = message_to z (home_at fid.fileset) (Returned (record { fid = fid; ids = k ∷ ids })) in
+      once_more d.sent y (subst EachOnce (sym e) each.messages)
+      (λ i. elim (saying_so.said y (subst (λ (ys : List Message). In y ys) e i)) [
+        | inl f ↦ plain_first y f (record { fid = fid; ids = k ∷ ids }) refl
+        | inr r ↦
+            let p : Returned (record { fid = fid; ids = k ∷ ids }) ≡ Returned r.0 =
+            ap (λ (z : Message). z.body) r.1 in
+            let same : r.0.fid ≡ fid = cc in
+            fresh (subst (λ (f : Fid). In f fids) same r.2)
+      ])
+
   -- # Which files lose their status
   abbrev lost_by : Tables → List Fid
   lost_by between = if is_lost fid leaving between then with_lost fid lost else lost
@@ -320,6 +356,10 @@ module _ (m : Tables) (once : (t u : Token) → In t (held_of m) → In u (held_
         let r = in_any (λ (t : Token). same_id t.id u.id) giving e in
         n (subst (λ (t : Token). In t giving) (once r.0 u (left_held r.0 (given_left r.0 r.1)) (left_held u i)
         (same_id_is r.0.id u.id r.2)) r.1)))))
+
+    rest_back : (i : TokenId) → In i all_back → asked ≡ fid → In i back
+    rest_back i j e =
+        in_right (ids_of (filter (λ token. not (is_named giving token)) leaving)) now_back i (now_all e i j)
 
     given_or : (u : Token) → In u leaving → In u giving ⊎ (In u giving → ⊥)
     given_or u i = elim (by_test (which.test u)) [
@@ -386,7 +426,8 @@ module _ (m : Tables) (once : (t u : Token) → In t (held_of m) → In u (held_
               | inl e ↦ (let at = same_fid_is f fid e in
                   subst (λ (z : Fid). covers_status z (tokens_of then_left.cache.held) ≡ false) (sym at)
                   (none_after (subst (λ (z : Fid). covers_status z (tokens_of l.cache.held) ≡ false) at r.2)))
-              | inr n ↦ status_kept then_left.cache shown f (λ e. true_false (same_fid f fid) (fid_same f fid e) n) ∙ r.2
+              | inr n ↦ status_kept then_left.cache shown f (λ e. true_false (same_fid f fid) (fid_same f fid e) n)
+                  ∙ r.2
             ],
           )
         ]
@@ -549,6 +590,24 @@ module _ (m : Tables) (once : (t u : Token) → In t (held_of m) → In u (held_
                 n,
               )
         ];
+        rest = λ i j at. elim (in_either fids (fid ∷ []) asked at) [
+          | inl k ↦
+              let r = saying_so.rest i j k in (
+                r.0,
+                returning_keeps (with_left m bare_left) fid back (start made then_gone sent due) (returns m r.0) r.1,
+                r.2,
+                r.3,
+              )
+          | inr k ↦ elim k [
+            | inl e ↦ (
+              named,
+              returning_said (with_left m bare_left) fid back (start made then_gone sent due) i (rest_back i j e),
+              rest_back i j e,
+              sym e,
+            )
+            | inr n ↦ elim n [ ]
+          ]
+        ];
         due = saying_so.due;
       }
 
@@ -567,6 +626,13 @@ module _ (m : Tables) (once : (t u : Token) → In t (held_of m) → In u (held_
         left = bare_so;
         said = bare_said;
         loses = lost_so bare_left shown;
+        once = record {
+          tokens = gone_once;
+          gives = each.gives;
+          messages = sent_once (with_left m bare_left) (start made then_gone sent due) back refl;
+          filesets = each.filesets;
+          new = each.new;
+        };
       }
 
     -- # A give-back is made
@@ -623,6 +689,9 @@ module _ (m : Tables) (once : (t u : Token) → In t (held_of m) → In u (held_
         from = λ t i. subst (λ (z : Fid). In t (of_file z tokens)) (sym file) (given_left t i);
         ids = ids;
         some = some;
+        only = λ t i. subst (λ (z : Fid). HasToGive m z (of_file z tokens) t) (sym file)
+            (has_back t (given_left t i) (which.why t (given_left t i)
+            (in_filter which.test leaving t (subst (λ (ts : List Token). In t ts) which.some i)).1));
         pieces = subst (λ (z : Fid). AreLeft m z giving (of_file z tokens) g.pieces) (sym file)
             (record { rise = pieces.rise; bytes = bytes_at; fit = pieces.fit });
         length = length ∙ length_same ∙ ap (dirty_length m) (sym file);
@@ -925,6 +994,31 @@ module _ (m : Tables) (once : (t u : Token) → In t (held_of m) → In u (held_
                     (saying_so.due r.0 r.2 (ap (outstanding m.gives) same ∙ none))
               ]
 
+      dues_once : (b : Bool) → EachOnce (due_by b)
+      dues_once true = with_once_once due g.fid.fileset each.filesets
+      dues_once false = each.filesets
+
+      due_new : (fs : FilesetId) → In fs then_due → outstanding m.gives fs ≡ None
+      due_new fs i = by_one (outstanding l.gives g.fid.fileset) refl i
+        where
+          none_yet : outstanding l.gives g.fid.fileset ≡ None → outstanding m.gives g.fid.fileset ≡ None
+          none_yet none = by_old (outstanding m.gives g.fid.fileset) refl
+            where
+              by_old : (o : Option Message) → outstanding m.gives g.fid.fileset ≡ o → o ≡ None
+              by_old None q = refl
+              by_old (Some z) q =
+                  let f = found_in (is_of g.fid.fileset) m.gives.gives z q in
+                  let r = found_some (is_of g.fid.fileset) l.gives.gives z (so.gives_old z f.0) f.1 in
+                  let p = sym none ∙ r.1 in absurd (cc)
+
+          by_one : (o : Option Message) → outstanding l.gives g.fid.fileset ≡ o → In fs (due_by (is_none o))
+              → outstanding m.gives fs ≡ None
+          by_one (Some z) q j = each.new fs j
+          by_one None q j = elim (with_once_from due g.fid.fileset fs j) [
+            | inl k ↦ each.new fs k
+            | inr e ↦ subst (λ (x : FilesetId). outstanding m.gives x ≡ None) (sym e) (none_yet q)
+          ]
+
       then_said : PartSaid m first asked all_back more then_gone then_made then_draft.sent then_due
       then_said = record {
         said = λ z i. elim (returning_says (with_left m then_left) fid back
@@ -1001,6 +1095,26 @@ module _ (m : Tables) (once : (t u : Token) → In t (held_of m) → In u (held_
                 )
           ]
         ];
+        rest = λ i j at. elim (in_either fids (fid ∷ []) asked at) [
+          | inl k ↦
+              let r = saying_so.rest i j k in (
+                r.0,
+                returning_keeps (with_left m then_left) fid back (start then_made then_gone sent then_due)
+                    (returns m r.0) r.1,
+                r.2,
+                r.3,
+              )
+          | inr k ↦ elim k [
+            | inl e ↦ (
+              named,
+              returning_said (with_left m then_left) fid back (start then_made then_gone sent then_due) i
+                  (rest_back i j e),
+              rest_back i j e,
+              sym e,
+            )
+            | inr n ↦ elim n [ ]
+          ]
+        ];
         due = λ k i none. elim (made_or k i) [
           | inl j ↦ due_keeps (is_none (outstanding l.gives g.fid.fileset)) k.fid.fileset (saying_so.due k j none)
           | inr q ↦ subst (λ (z : Give). In z.fid.fileset then_due) (sym q)
@@ -1025,6 +1139,13 @@ module _ (m : Tables) (once : (t u : Token) → In t (held_of m) → In u (held_
         left = then_so;
         said = then_said;
         loses = lost_so then_left shown;
+        once = record {
+          tokens = gone_once;
+          gives = once_more made g each.gives (λ i. other_file g i refl);
+          messages = sent_once (with_left m then_left) (start then_made then_gone sent then_due) back refl;
+          filesets = dues_once (is_none (outstanding l.gives g.fid.fileset));
+          new = due_new;
+        };
       }
 
   -- # Either

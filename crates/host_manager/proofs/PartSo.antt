@@ -14,7 +14,7 @@ use Rattle.host_leaves.specs.Giving.{AreLeft, HasToGive, ids_of, leaves_by, show
 use Rattle.host_leaves.specs.Owning.{dirty_length}
 use Rattle.host_leaves.specs.Revoking.{covers_status, of_file}
 use Rattle.host_manager.proofs.LeftBy.{IsLeftBy, left_by, stays_of}
-use Rattle.host_manager.proofs.LeftSo.{first_left, returns}
+use Rattle.host_manager.proofs.LeftSo.{OnceSo, first_left, returns}
 use Rattle.host_tables.proofs.Lists.{any_in, by_test, false_not, filter_in, id_same, in_any, in_filter, in_map}
 use Rattle.host_tables.proofs.Lists.{map_in, not_true, same_id_is}
 use Rattle.host_tables.specs.Drafts.{no_draft}
@@ -27,11 +27,11 @@ use Rattle.message_types.specs.declared.giving.Give.{Give}
 use Rattle.message_types.specs.declared.message.Body.TheVariants.{GiveBack}
 use Rattle.message_types.specs.declared.message.Message.{Message}
 use Rattle.message_types.specs.declared.tokens.Named.{Named}
-use Rattle.run_rules.specs.Past.{In}
+use Rattle.run_rules.specs.Past.{EachOnce, In}
 use Rattle.run_rules.specs.Tokens.{number_of}
 use Rattle.run_rules.specs.Views.{HasLength, byte_of}
 use Rattle.run_rules.specs.declared.applied.Why.TheVariants.{Revoked}
-use Rattle.std.proofs.Common.{Bool, List, None, Some, [], arith, false, if◌then◌else◌, inl, inr, is_some, map, not}
+use Rattle.std.proofs.Common.{Bool, List, None, Some, [], arith, false, inl, inr, is_some, map, not}
 use Rattle.std.proofs.Common.{refl, subst, suc, sym, true, ℕ, ◌&&◌, ◌+◌, ◌<◌, ◌≡◌, ◌≤◌, ◌⊎◌}
 use Rattle.std.specs.List.{list_any}
 use Rattle.token_types.specs.Conflicts.{same_id}
@@ -45,6 +45,7 @@ pub record IsPart (m : Tables) (tokens : List Token) (g : Give) : Type 0 where
   pub from : (t : Token) → In t named → In t (of_file g.fid tokens)
   pub ids : g.ids ≡ ids_of named
   pub some : named ≡ [] → ⊥
+  pub only : (t : Token) → In t named → HasToGive m g.fid (of_file g.fid tokens) t
   pub pieces : AreLeft m g.fid named (of_file g.fid tokens) g.pieces
   pub length : g.length ≡ dirty_length m g.fid
   pub ends : g.ends ≡ None
@@ -98,6 +99,8 @@ pub record PartSaid (m : Tables) (first : List Message) (asked : Fid) (others : 
   pub keeps : (y : Message) → In y first → In y sent
   pub back : (t : Token) → In t gone → ((g : Give) × In g made × In t.id g.ids)
       ⊎ ((w : Named) × In (returns m w) sent × In t.id w.ids)
+  pub rest : (i : TokenId) → In i others → In asked fids
+      → (w : Named) × In (returns m w) sent × In i w.ids × (w.fid ≡ asked)
   pub due : (g : Give) → In g made → outstanding m.gives g.fid.fileset ≡ None → In g.fid.fileset dues
 
 -- which files have lost their last token of the status, while a call is open
@@ -127,6 +130,7 @@ pub record HasParted (m : Tables) (tokens : List Token) (first : List Message) (
   pub left : PartSo m tokens l fids gone made
   pub said : PartSaid m first asked back fids gone made sent due
   pub loses : PartLost m tokens l fids lost
+  pub once : OnceSo m gone made sent due
 
 and_not_false : (b : Bool) → b ≡ (b && not false)
 and_not_false true = refl
@@ -134,8 +138,8 @@ and_not_false false = refl
 
 -- before the first file
 pub none_parted : (m : Tables) (tokens : List Token) (first : List Message) (asked : Fid) (back : List TokenId)
-    → HasParted m tokens first asked back [] m (record no_draft { sent = first })
-none_parted m tokens first asked back = record {
+    → EachOnce first → HasParted m tokens first asked back [] m (record no_draft { sent = first })
+none_parted m tokens first asked back once = record {
   l = first_left m;
   lost = m.lost;
   gone = [];
@@ -174,9 +178,11 @@ none_parted m tokens first asked back = record {
     said = λ y i. inl i;
     keeps = λ y i. i;
     back = λ t i. elim i [ ];
+    rest = λ i j k. elim k [ ];
     due = λ g i e. elim i [ ];
   };
   loses = record { old = λ f i. i; from = λ f i. inl i; new = λ f i. elim i [ ] };
+  once = record { tokens = tt; gives = tt; messages = once; filesets = tt; new = λ fs i. elim i [ ] };
 }
 
 -- # Which are left

@@ -14,14 +14,13 @@ use Rattle.host_manager.proofs.Forgotten.{HasForgotten, forgets_all, none_forgot
 use Rattle.host_manager.proofs.Heard.{byes_same, comes_so, half_by, hears_is, no_use, takes_none, told_tidy}
 use Rattle.host_manager.proofs.HeardOn.{HasHeard, heard_on}
 use Rattle.host_manager.specs.Learning.{closed_by, due_after, ended_by, ends_in, learning_given, renewed, without_give}
-use Rattle.host_manager.specs.Taking.{IsHeard, bye_again, hearing, hearing_epoch, is_asked_at, put_site_in, reclaiming}
+use Rattle.host_manager.specs.Taking.{IsHeard, bye_again, hearing, is_asked_at, reclaiming}
 use Rattle.host_manager.specs.Taking.{request_again, welcomed}
 use Rattle.host_gives.specs.Giving.{taken_out}
 use Rattle.host_tables.proofs.Declared.{floors_renew, home_is, site_number, site_put}
 use Rattle.host_tables.proofs.Heeding.{first_reclaimed_stands, reclaimed_stands}
 use Rattle.host_tables.proofs.Lists.{by_test, in_filter, none_in, true_false}
 use Rattle.host_tables.specs.Drafts.{no_draft, step_of}
-use Rattle.host_tables.specs.Half.{learning}
 use Rattle.host_tables.specs.Hearing.{ChangesSite, hears}
 use Rattle.host_tables.specs.Heeding.{hearing as heard_site}
 use Rattle.host_manager.specs.Running.{IsRunning, RunsOn}
@@ -31,7 +30,6 @@ use Rattle.host_tables.specs.Tables.{site_at}
 use Rattle.host_tables.specs.Tidy.{IsTidy}
 use Rattle.host_tables.specs.Updates.{home_at, with_site}
 use Rattle.host_tables.specs.declared.calls.Request.{Request}
-use Rattle.host_tables.specs.declared.calls.Request.TheVariants.{Change as AChange, Fetch as AFetch}
 use Rattle.host_tables.specs.declared.draft.Draft.{Draft}
 use Rattle.host_tables.specs.declared.files.Floor.{Floor}
 use Rattle.host_tables.specs.declared.sites.Site.{Site}
@@ -117,10 +115,10 @@ module _ (script : Script) (m : Tables) (past : List Step) (message : Message) (
   abbrev site : Site
   site = site_at m.sites v
 
-  none_moved : message.moves ≡ 0
+  pub none_moved : message.moves ≡ 0
   none_moved = subst (λ (c : Body). HasMoves c message.moves) b sound.moves
 
-  is : half_by m.host message ≡ hears m.host v message.epoch 0 (Reclaimed a)
+  pub is : half_by m.host message ≡ hears m.host v message.epoch 0 (Reclaimed a)
   is = hears_is m.host message host_is way
       ∙ (λ i. hears m.host v message.epoch (none_moved i) (b i))
 
@@ -156,7 +154,7 @@ module _ (script : Script) (m : Tables) (past : List Step) (message : Message) (
     changes = subst (ChangesSite m.sites sites2 v) two_is
         (changes_both m.sites sites1 sites2 v one two first second)
 
-    tidy_2 : IsTidy script.roster (record m { sites = sites2; floors = floors })
+    pub tidy_2 : IsTidy script.roster (record m { sites = sites2; floors = floors })
     tidy_2 = told_tidy script.roster m1 two floors tidy_1 (λ f i. i)
 
     -- what has been forgotten by it, and what was said
@@ -216,20 +214,20 @@ module _ (script : Script) (m : Tables) (past : List Step) (message : Message) (
 
   -- # The first one of a server, which tells its epoch
   module _ (unknown : site.epoch ≡ 0) (other : (message.epoch == site.epoch) ≡ false) where
-    abbrev one_f : Site
+    abbrev pub one_f : Site
     one_f = record site { epoch = message.epoch; claimed = false }
 
-    abbrev floors_f : List Floor
+    abbrev pub floors_f : List Floor
     floors_f = filter (λ (floor : Floor). not ((home_at floor.fid.fileset).0 == v.0)) m.floors
 
-    at_f : one_f.server ≡ v
+    pub at_f : one_f.server ≡ v
     at_f = site_number m.sites v
 
-    first_f : ChangesSite m.sites (with_site one_f m.sites) v one_f
+    pub first_f : ChangesSite m.sites (with_site one_f m.sites) v one_f
     first_f = subst (λ (w : ServerId). ChangesSite m.sites (with_site one_f m.sites) w one_f) at_f
         (site_put script.roster m running.tidy one_f (subst (IsServer script.roster) (sym at_f) sound.server))
 
-    fewer_f : (f : Floor) → In f floors_f → In f m.floors
+    pub fewer_f : (f : Floor) → In f floors_f → In f m.floors
     fewer_f f i = (in_filter (λ (floor : Floor). not ((home_at floor.fid.fileset).0 == v.0)) m.floors f i).0
 
     above : 0 < message.epoch
@@ -242,19 +240,23 @@ module _ (script : Script) (m : Tables) (past : List Step) (message : Message) (
         positive zero f = absurd (cc)
         positive (suc n) f = omega arith
 
-    abbrev sites_f : List Site
+    abbrev pub sites_f : List Site
     sites_f = sites2 one_f first_f floors_f fewer_f refl at_f
 
-    learnt_f : Stands script (record m { sites = sites_f; floors = floors_f }) (half_by m.host message ∷ past)
+    pub learnt_f : Stands script (record m { sites = sites_f; floors = floors_f }) (half_by m.host message ∷ past)
     learnt_f = subst (λ (s : Step). Stands script (record m { sites = sites_f; floors = floors_f }) (s ∷ past)) (sym is)
         (first_reclaimed_stands script m past v message.epoch a sites_f floors_f stands unknown above
         (changes one_f first_f floors_f fewer_f refl at_f)
         (floors_renew v m.floors (λ f i. home_is script.roster m running.tidy f.fid.fileset (running.tidy.floors f i))))
 
-    heard_first : hearing message a (doing m no_draft)
+    pub heard_first : hearing message a (doing m no_draft)
         ≡ doing (record m { sites = sites_f; floors = floors_f }) no_draft
     heard_first = ap (λ (t : Bool). welcomed v (if t then reclaiming site a (doing m no_draft)
         else doing (renewed v message.epoch m) no_draft)) other
+
+    pub heard_f : HasHeard script m (record m { sites = sites_f; floors = floors_f }) past message no_draft
+    heard_f = has_heard one_f first_f floors_f fewer_f refl at_f [] m no_draft (none_forgotten m no_draft gives)
+        learnt_f [] (λ s y i. elim i [ ]) (λ c q r. refl)
 
     pub first_goes : IsSoundUses m.uses → (at : Doing) → GoesOn (hearing message a (doing m no_draft)) at
         → IsSoundGives at.tables.gives
@@ -266,54 +268,54 @@ module _ (script : Script) (m : Tables) (past : List Step) (message : Message) (
 
   -- # One of the present epoch: what it names is known as applied, and what else is outstanding is said again
   module _ (present : (message.epoch == site.epoch) ≡ true) where
-    abbrev one_p : Site
+    abbrev pub one_p : Site
     one_p = record site { claimed = false }
 
-    at_p : one_p.server ≡ v
+    pub at_p : one_p.server ≡ v
     at_p = site_number m.sites v
 
-    first_p : ChangesSite m.sites (with_site one_p m.sites) v one_p
+    pub first_p : ChangesSite m.sites (with_site one_p m.sites) v one_p
     first_p = subst (λ (w : ServerId). ChangesSite m.sites (with_site one_p m.sites) w one_p) at_p
         (site_put script.roster m running.tidy one_p (subst (IsServer script.roster) (sym at_p) sound.server))
 
-    abbrev forgotten : Doing
+    abbrev pub forgotten : Doing
     forgotten = fold (λ now applied. learning_given applied now) (doing m no_draft) a.applied
 
-    abbrev x_p : Tables
+    abbrev pub x_p : Tables
     x_p = forgotten.tables
 
-    abbrev e_p : Draft
+    abbrev pub e_p : Draft
     e_p = forgotten.draft
 
-    it_p : HasForgotten m no_draft a.applied x_p e_p
+    pub it_p : HasForgotten m no_draft a.applied x_p e_p
     it_p = forgets_all script m past stands no_draft a.applied [] m no_draft (none_forgotten m no_draft gives)
 
-    abbrev sites_1 : List Site
+    abbrev pub sites_1 : List Site
     sites_1 = with_site one_p m.sites
 
-    abbrev x_1 : Tables
+    abbrev pub x_1 : Tables
     x_1 = record x_p { sites = sites_1 }
 
-    abbrev sites_p : List Site
+    abbrev pub sites_p : List Site
     sites_p = sites2 one_p first_p m.floors (λ f i. i) refl at_p
 
-    abbrev x_2 : Tables
+    abbrev pub x_2 : Tables
     x_2 = record x_p { sites = sites_p; floors = m.floors }
 
-    floors_are : x_p.floors ≡ m.floors
+    pub floors_are : x_p.floors ≡ m.floors
     floors_are = ap (λ (z : Tables). z.floors) it_p.tables
 
     -- what is said
-    abbrev asked : Bool
+    abbrev pub asked : Bool
     asked = is_asked_at site.server x_1.request
 
-    abbrev d_a : Draft
+    abbrev pub d_a : Draft
     d_a = if asked then sending_request x_1 x_1.request e_p else e_p
 
-    abbrev bye : Bool
+    abbrev pub bye : Bool
     bye = site.said_bye && not site.has_bye
 
-    abbrev d_b : Draft
+    abbrev pub d_b : Draft
     d_b = if bye then saying x_1 site.server Bye d_a else d_a
 
     one_doing : (t : Bool) (d e : Draft) → (if t then doing x_1 d else doing x_1 e) ≡ doing x_1 (if t then d else e)
@@ -331,13 +333,13 @@ module _ (script : Script) (m : Tables) (past : List Step) (message : Message) (
         (all_sited sites_1 a.applied (doing m no_draft))
         ∙ said_is
 
-    heard_is : hearing message a (doing m no_draft) ≡ doing (record x_p { sites = sites_p }) d_b
+    pub heard_is : hearing message a (doing m no_draft) ≡ doing (record x_p { sites = sites_p }) d_b
     heard_is =
         ap (λ (t : Bool). welcomed v (if t then reclaiming site a (doing m no_draft)
         else doing (renewed v message.epoch m) no_draft)) present
         ∙ ap (welcomed v) reclaimed_is
 
-    only_a : OnlySends e_p d_a
+    pub only_a : OnlySends e_p d_a
     only_a = by_asked asked
       where
         by_asked : (t : Bool) → OnlySends e_p (if t then sending_request x_1 x_1.request e_p else e_p)
@@ -351,7 +353,7 @@ module _ (script : Script) (m : Tables) (past : List Step) (message : Message) (
         by_bye true = sends_on e_p d_a (saying x_1 site.server Bye d_a) only_a refl
         by_bye false = only_a
 
-    draft_is : d_b ≡ record no_draft { sent = d_b.sent; due = e_p.due }
+    pub draft_is : d_b ≡ record no_draft { sent = d_b.sent; due = e_p.due }
     draft_is = only_b ∙ ap (λ (z : Draft). record z { sent = d_b.sent }) it_p.draft
 
     -- the epochs are as before
@@ -379,14 +381,14 @@ module _ (script : Script) (m : Tables) (past : List Step) (message : Message) (
     no_claim z _ (AskedFetch f q) c e = let p = sym (ap (λ (k : Message). k.body) q) ∙ e in cc
     no_claim z _ (AskedChange w k q) c e = let p = sym (ap (λ (k : Message). k.body) q) ∙ e in cc
 
-    tidy_p : IsTidy script.roster x_2
+    pub tidy_p : IsTidy script.roster x_2
     tidy_p = closed_of.tidy_now script m past running no_draft a.applied x_p e_p it_p x_2 refl running.tidy
         (tidy_2 one_p first_p m.floors (λ f i. i) refl at_p)
 
     abbrev SaysOld : Step → Message → Type 0
     SaysOld s z = SaidAgain script.roster x_2 past s z × ((c : ReclaimOf) → z.body ≡ Reclaim c → ⊥)
 
-    said_a : (s : Step) (z : Message) → In z d_a.sent → SaysOld s z
+    pub said_a : (s : Step) (z : Message) → In z d_a.sent → SaysOld s z
     said_a s z i = by_asked asked i
       where
         by_asked : (t : Bool) → In z (if t then sending_request x_1 x_1.request e_p else e_p).sent → SaysOld s z
@@ -418,7 +420,7 @@ module _ (script : Script) (m : Tables) (past : List Step) (message : Message) (
       λ c e. absurd (let p = sym (ap (λ (k : Message). k.body) q) ∙ e in cc),
     )
 
-    said_b : (s : Step) (z : Message) → In z d_b.sent → SaysOld s z
+    pub said_b : (s : Step) (z : Message) → In z d_b.sent → SaysOld s z
     said_b s z i = by_bye bye refl i
       where
         by_bye : (t : Bool) → bye ≡ t → In z (if t then saying x_1 site.server Bye d_a else d_a).sent → SaysOld s z
@@ -429,7 +431,7 @@ module _ (script : Script) (m : Tables) (past : List Step) (message : Message) (
         ]
 
     -- with nothing asked, and a call open, nothing was said
-    silent_p : (c : Asked) → m.call ≡ Some c → m.request ≡ None → d_b.sent ≡ []
+    pub silent_p : (c : Asked) → m.call ≡ Some c → m.request ≡ None → d_b.sent ≡ []
     silent_p c open_is idle =
         ap (λ (t : Bool). (if t then saying x_1 site.server Bye d_a else d_a).sent) no_bye
         ∙ ap (λ (t : Bool). (if t then sending_request x_1 x_1.request e_p else e_p).sent) not_asked
@@ -448,10 +450,10 @@ module _ (script : Script) (m : Tables) (past : List Step) (message : Message) (
               )
         ]
 
-    epoch_is : site.epoch ≡ message.epoch
+    pub epoch_is : site.epoch ≡ message.epoch
     epoch_is = sym (eqb-true message.epoch site.epoch present)
 
-    learnt_p : Stands script x_2 (half_by m.host message ∷ past)
+    pub learnt_p : Stands script x_2 (half_by m.host message ∷ past)
     learnt_p = subst (λ (z : Tables). Stands script (record z { sites = sites_p; floors = m.floors })
         (half_by m.host message ∷ past)) (sym it_p.tables)
         (subst (λ (s : Step). Stands script (record m {
@@ -469,6 +471,10 @@ module _ (script : Script) (m : Tables) (past : List Step) (message : Message) (
       where
         site_is : record one_p { welcome = one_p.welcome || one_p.greeted } ≡ heard_site site message.epoch
         site_is = λ i. record one_p { welcome = one_p.welcome || one_p.greeted; epoch = epoch_is i }
+
+    pub heard_p : HasHeard script m x_2 past message (record no_draft { sent = d_b.sent; due = e_p.due })
+    heard_p = has_heard one_p first_p m.floors (λ f i. i) refl at_p a.applied x_p e_p it_p learnt_p d_b.sent said_b
+        silent_p
 
     pub present_goes : IsSoundUses m.uses → (at : Doing) → GoesOn (hearing message a (doing m no_draft)) at
         → IsSoundGives at.tables.gives

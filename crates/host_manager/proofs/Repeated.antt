@@ -6,7 +6,7 @@ use Rattle.host_gives.specs.Giving.{IsSound as IsSoundGives, give_of, given_in, 
 use Rattle.host_leaves.specs.Sending.{filesets_given, message_to, saying, sending_give, sending_request, with_fileset}
 use Rattle.host_leaves.specs.Sending.{with_once}
 use Rattle.host_manager.proofs.Folding.{IsRequest, asking_keeps, asking_says, fold_keeps, fold_said, fold_says}
-use Rattle.host_manager.proofs.Folding.{giving_keeps, giving_said, giving_says, says_where, saying_says, where_keeps}
+use Rattle.host_manager.proofs.Folding.{giving_keeps, giving_said, giving_says, says_where, where_keeps}
 use Rattle.host_manager.proofs.Folding.{where_says}
 use Rattle.host_manager.proofs.Folding.IsRequest.{AskedChange, AskedFetch}
 use Rattle.host_manager.proofs.OnceSaid.{fold_once, once_more}
@@ -50,7 +50,7 @@ site_among test (x ∷ sites) v fresh e = by_head (site_among test sites v fresh
     by_head rest false t g = let r = rest g in (r.0, inr r.1, r.2, r.3)
 
 -- # The filesets of give-backs
-with_once_has : (fss : List FilesetId) (fs : FilesetId) → In fs (with_once fss fs)
+pub with_once_has : (fss : List FilesetId) (fs : FilesetId) → In fs (with_once fss fs)
 with_once_has fss fs = elim (by_test (list_any (λ (other : FilesetId). other.0 == fs.0) fss)) [
   | inl t ↦
       let r = in_any (λ (other : FilesetId). other.0 == fs.0) fss t in
@@ -62,7 +62,7 @@ with_once_has fss fs = elim (by_test (list_any (λ (other : FilesetId). other.0 
       (in_right fss (fs ∷ []) fs (inl refl))
 ]
 
-with_once_keeps : (fss : List FilesetId) (fs other : FilesetId) → In other fss → In other (with_once fss fs)
+pub with_once_keeps : (fss : List FilesetId) (fs other : FilesetId) → In other fss → In other (with_once fss fs)
 with_once_keeps fss fs other i = by_if (list_any (λ (x : FilesetId). x.0 == fs.0) fss)
   where
     by_if : (b : Bool) → In other (if b then fss else fss ++ fs ∷ [])
@@ -177,7 +177,7 @@ module _ (m : Tables) (sort : ℕ) (b : Site → Body) (test : Site → Bool)
 
 module _ (m : Tables) (sound : IsSoundGives m.gives) where
   -- the fileset of a give-back
-  abbrev fileset_of : Message → FilesetId
+  abbrev pub fileset_of : Message → FilesetId
   fileset_of y = option_map_or (λ (give : Give). give.fid.fileset) (give_of y) (record { 0 = 0 })
 
   give_is : (fs : FilesetId) (z : Message) → outstanding m.gives fs ≡ Some z → (v : ServerId)
@@ -188,15 +188,18 @@ module _ (m : Tables) (sound : IsSoundGives m.gives) where
         ap (λ (b : Body). option_map_or (λ (give : Give). give.fid.fileset) (given_in b) (record { 0 = 0 })) r.1 ∙ r.2,
       )
 
-  pub given_once : (fss : List FilesetId) → EachOnce fss → (d : Draft) → EachOnce d.sent
-      → ((y : Message) → In y d.sent → sort_of y.body ≡ 1 → ⊥) → EachOnce (fold (sending_give m) d fss).sent
-  given_once fss once d sent apart =
+  -- those of other filesets may have been said
+  pub given_apart : (fss : List FilesetId) → EachOnce fss → (d : Draft) → EachOnce d.sent
+      → ((y : Message) → In y d.sent → sort_of y.body ≡ 1 → In (fileset_of y) fss → ⊥)
+      → EachOnce (fold (sending_give m) d fss).sent
+  given_apart fss once d sent apart =
       fold_once (sending_give m) (λ (fs : FilesetId). fs) fileset_of (λ y. sort_of y.body ≡ 1) keeps
       (λ e x y i. elim (giving_says m e x y i) [
         | inl j ↦ inl j
         | inr r ↦ inr (ap fileset_of r.2 ∙ (give_is x r.0 r.1 (home_at x)).1)
       ])
-      fss (subst EachOnce (sym (map_same fss)) once) d sent (λ y i o j. apart y i o)
+      fss (subst EachOnce (sym (map_same fss)) once) d sent
+      (λ y i o j. apart y i o (subst (λ (xs : List FilesetId). In (fileset_of y) xs) (map_same fss) j))
     where
       map_same : (xs : List FilesetId) → map (λ (fs : FilesetId). fs) xs ≡ xs
       map_same [] = refl
@@ -214,6 +217,10 @@ module _ (m : Tables) (sound : IsSoundGives m.gives) where
               let r = give_is x z f (home_at x) in
               once_more e.sent (message_to m (home_at x) z.body) sent
               (λ i. apart (message_to m (home_at x) z.body) i r.0 r.1)
+
+  pub given_once : (fss : List FilesetId) → EachOnce fss → (d : Draft) → EachOnce d.sent
+      → ((y : Message) → In y d.sent → sort_of y.body ≡ 1 → ⊥) → EachOnce (fold (sending_give m) d fss).sent
+  given_once fss once d sent apart = given_apart fss once d sent (λ y i o j. apart y i o)
 
   given_sort : (fss : List FilesetId) (d : Draft) (y : Message) → In y (fold (sending_give m) d fss).sent
       → In y d.sent ⊎ (sort_of y.body ≡ 1)
@@ -282,8 +289,8 @@ module _ (m : Tables) (sound : IsSoundGives m.gives) where
                     (filesets_given m.gives.gives) y i2) [
                       | inr r ↦ GivesIt r.0 r.2.0 r.2.1 r.2.2
                       | inl i1 ↦ elim (fold_says (helloing m) (λ site y. (hello_test site ≡ true)
-                          × (y ≡ message_to m site.server Hello)) (λ e x y j. where_says m (λ z. Hello) hello_test e x y j)
-                          no_draft m.sites y i1) [
+                          × (y ≡ message_to m site.server Hello))
+                          (λ e x y j. where_says m (λ z. Hello) hello_test e x y j) no_draft m.sites y i1) [
                             | inr r ↦ Greets r.0 r.1 r.2.0 r.2.1
                             | inl n ↦ elim n [ ]
                           ]

@@ -73,31 +73,31 @@ module _ (script : Script) (m : Tables) (past : List Step) (message : Message) (
     (b : message.body ≡ Restarted) (up : (site_at m.sites message.server).epoch < message.epoch)
     (gives : IsSoundGives m.gives)
     (greeted : (site_at (renewed message.server message.epoch m).sites message.server).greeted ≡ true) where
-  abbrev v : ServerId
+  abbrev pub v : ServerId
   v = message.server
 
-  abbrev m1 : Tables
+  abbrev pub m1 : Tables
   m1 = renewed v message.epoch m
 
-  abbrev claimed : Site
+  abbrev pub claimed : Site
   claimed = record (site_at m1.sites v) { claimed = true }
 
-  abbrev sites : List Site
+  abbrev pub sites : List Site
   sites = with_site claimed m1.sites
 
-  abbrev new : Tables
+  abbrev pub new : Tables
   new = record m1 { sites = sites }
 
-  abbrev x : Moved
+  abbrev pub x : Moved
   x = record (moved_of m1) { sites = sites }
 
-  abbrev given : Draft
+  abbrev pub given : Draft
   given = fold (sending_to new v) no_draft (filesets_given m.gives.gives)
 
-  abbrev sent : List Message
+  abbrev pub sent : List Message
   sent = (claiming new given v).sent
 
-  abbrev s : Step
+  abbrev pub s : Step
   s = hears_says m.host message [] sent
 
   tidy_1 : IsTidy script.roster m1
@@ -112,7 +112,7 @@ module _ (script : Script) (m : Tables) (past : List Step) (message : Message) (
   changes = subst (λ (w : ServerId). ChangesSite m1.sites sites w claimed) at
       (site_put script.roster m1 tidy_1 claimed (subst (IsServer script.roster) (sym at) sound.server))
 
-  tidy_new : IsTidy script.roster new
+  pub tidy_new : IsTidy script.roster new
   tidy_new = told_tidy script.roster m1 claimed m1.floors tidy_1 (λ f i. i)
 
   -- all but whether a claim waits is as before
@@ -124,13 +124,13 @@ module _ (script : Script) (m : Tables) (past : List Step) (message : Message) (
       | inr n ↦ ap part (changes.others w n)
     ]
 
-  epochs : (w : ServerId) → (site_at sites w).epoch ≡ (site_at m1.sites w).epoch
+  pub epochs : (w : ServerId) → (site_at sites w).epoch ≡ (site_at m1.sites w).epoch
   epochs = part_same (λ (z : Site). z.epoch) refl
 
-  learnt : Stands script m1 (half s ∷ past)
+  pub learnt : Stands script m1 (half s ∷ past)
   learnt = renewed_stands script m past message running sound e way b up
 
-  restart : LearnsRestart past s v
+  pub restart : LearnsRestart past s v
   restart = (
     (running.rests.stands.sites v).greeted.0 (sym (part_was (λ (z : Site). z.greeted) refl) ∙ greeted),
     (let p = (learnt.sites v).epoch in let q = (running.rests.stands.sites v).epoch in
@@ -145,7 +145,7 @@ module _ (script : Script) (m : Tables) (past : List Step) (message : Message) (
       part_was part same = ap part (renewed_changes script m past message running sound e way b up).here ∙ same
 
   -- what is said: give-backs, and the claim
-  said : (y : Message) → In y sent
+  pub said : (y : Message) → In y sent
       → ((g : Give) × (y.body ≡ GiveBack g) × SaidAgain script.roster new past s y)
       ⊎ (y ≡ message_to new v (Reclaim (claim_of new v)))
   said y i = elim (saying_says new v (Reclaim (claim_of new v)) given y i) [
@@ -235,7 +235,7 @@ module _ (script : Script) (m : Tables) (past : List Step) (message : Message) (
     | inr r ↦ sym c.3.2 ∙ r.2
   ]
 
-  claims_here : ClaimsAt s v
+  pub claims_here : ClaimsAt s v
   claims_here = (
     message.epoch,
     0,

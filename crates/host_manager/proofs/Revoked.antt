@@ -1,4 +1,5 @@
 -- A Revoke comes, and no call goes on by it: those of its tokens that are in use are kept, the others leave.
+use Rattle.host_leaves.proofs.Sorting.{pinned_labels}
 use Rattle.std.proofs.Common.{◌&&◌, ◌++◌, ◌<◌, ◌∙◌, ◌∷◌, ◌≡◌, ◌≤◌, ◌⊎◌}
 use Rattle.base_types.specs.Ids.{same_fid}
 use Rattle.base_types.specs.declared.ids.Fid.{Fid}
@@ -13,29 +14,28 @@ use Rattle.host_gives.specs.Giving.{IsSound as IsSoundGives, given_in, is_of, na
 use Rattle.host_labels.specs.Labels.{InUse, has_id as is_in_use, is_pinned}
 use Rattle.host_labels.specs.declared.uses.Labelled.{Labelled as UseOf}
 use Rattle.host_leaves.specs.Dirtying.{covers_left, is_dirty_left, is_named, staying, tokens_at, updates_byte}
-use Rattle.host_leaves.specs.Giving.{HasToGive, ids_of, leaves_by}
+use Rattle.host_leaves.specs.Giving.{ids_of, leaves_by}
 use Rattle.host_leaves.specs.Owning.{dirty_length}
-use Rattle.host_leaves.specs.Revoking.{covers_status, fids_of, is_leaving, keeping_all, keeping_file, of_file}
+use Rattle.host_leaves.specs.Revoking.{covers_status, fids_of, is_leaving, of_file}
 use Rattle.host_leaves.specs.Revoking.{others_of}
-use Rattle.host_leaves.specs.Revoking.{pinned, sending_given}
+use Rattle.host_leaves.specs.Revoking.{pinned}
 use Rattle.host_leaves.specs.Sending.{message_to, sending_give}
 use Rattle.host_tables.proofs.LeavingSteps.{known_made}
 use Rattle.host_manager.proofs.Evicting.{updated_by, updates_it}
 use Rattle.host_manager.proofs.Folding.{OnlySends, fold_keeps, fold_only, fold_said, fold_says, giving_keeps}
-use Rattle.host_manager.proofs.Folding.{giving_only, giving_said, giving_says, saying_keeps, saying_said, saying_says}
-use Rattle.host_manager.proofs.Folding.{sends_on}
+use Rattle.host_manager.proofs.Folding.{giving_only, giving_said, giving_says}
 use Rattle.host_manager.proofs.Given.{if_none}
-use Rattle.host_manager.proofs.LeftBy.{IsLeftBy, stays_of}
+use Rattle.host_manager.proofs.LeftBy.{IsLeftBy, all_stay, stays_of}
 use Rattle.host_manager.proofs.LeftSo.{returns}
-use Rattle.host_manager.proofs.OneFile.{at_file, file_at}
+use Rattle.host_manager.proofs.OneFile.{at_file, file_at, none_mapped}
 use Rattle.host_manager.proofs.PartSo.{PartLost, PartSaid, PartSo, gone_or, held_from, kept, start}
 use Rattle.host_manager.proofs.Running.{gone_on, runs_on}
 use Rattle.host_manager.proofs.Sizes.{length_fits, size_left}
-use Rattle.host_manager.proofs.SortedSo.{SortedSo, among_files, fids_in, file_among, file_tokens, in_fids, labels_stay}
+use Rattle.host_manager.proofs.SortedSo.{SortedSo, among_files, fids_in, file_among, file_tokens, in_fids}
 use Rattle.host_manager.proofs.SortedSo.{now_pinned, pinned_from, still_pinned, tokens_file}
 use Rattle.host_tables.proofs.Declared.{home_is}
-use Rattle.host_tables.proofs.Lists.{any_false, any_in, by_test, false_not, fid_same, filter_in, id_same, in_any}
-use Rattle.host_tables.proofs.Lists.{in_filter, in_map, map_in, none_in, not_true, same_fid_is, same_id_is, true_false}
+use Rattle.host_tables.proofs.Lists.{any_in, by_test, false_not, fid_same, filter_in, id_same, in_any}
+use Rattle.host_tables.proofs.Lists.{in_filter, in_map, map_in, not_true, same_fid_is, same_id_is, true_false}
 use Rattle.host_tables.proofs.Lists.{true_not}
 use Rattle.host_tables.proofs.Outstanding.{first_outstanding, found_in, outstanding_is}
 use Rattle.host_tables.proofs.RevokeSteps.{revoke_step_right}
@@ -44,18 +44,16 @@ use Rattle.host_tables.specs.Giving.{GivesBack}
 use Rattle.host_tables.specs.LeavingSteps.{LeavesRight, Left, with_left}
 use Rattle.host_tables.specs.LeavingSteps.EndsBy.{EndsNone}
 use Rattle.host_tables.specs.Letting.{IsAsked, Keeping}
-use Rattle.host_tables.specs.Machine.{StepRight}
 use Rattle.host_tables.specs.RevokeSteps.{Raises, RevokeCounts, SaysRevoked}
 use Rattle.host_tables.specs.RevokeSteps.SaysRevoked.{BackGiven, BackKept, BackReturned}
 use Rattle.host_tables.specs.Revoking.{InUseHere, Returnable, revokes, revoking}
-use Rattle.host_manager.specs.Running.{AsksForCall, EndsOpen, IsRunning, RunsOn}
+use Rattle.host_manager.specs.Running.{AsksForCall, IsRunning, RunsOn}
 use Rattle.host_tables.specs.Saying.{IsFirst}
 use Rattle.host_tables.specs.Stands.{IsAtRest, LostStands, Stands}
 use Rattle.host_tables.specs.Tables.{content, held_of, is_length_clean, is_updating, labelled, locks_under, ones}
 use Rattle.host_tables.specs.Tables.{opens_under, own_of, site_at, updates_status}
 use Rattle.host_tables.specs.Tidy.{IsOutgoing, IsTidy, IsTidyGive}
 use Rattle.host_tables.specs.Updates.{home_at}
-use Rattle.host_tables.specs.declared.calls.Leaving.{Leaving}
 use Rattle.host_tables.specs.declared.draft.Draft.{Draft}
 use Rattle.host_tables.specs.declared.files.Floor.{Floor}
 use Rattle.host_tables.specs.declared.tables.Tables.{Tables}
@@ -69,10 +67,9 @@ use Rattle.message_types.specs.declared.message.Body.TheVariants.{Revoke}
 use Rattle.message_types.specs.declared.message.Message.{Message}
 use Rattle.message_types.specs.declared.tokens.Named.{Named}
 use Rattle.message_types.specs.declared.tokens.Revoke.{Revoke as RevokeOf}
-use Rattle.run_rules.specs.HostAsks.{HasLost, LosesStatus, ShowsStatus}
-use Rattle.run_rules.specs.Messages.{ComesIn, HasStopped, KeepsToken, ReturnsToken, SendsTo, home, stay_of}
+use Rattle.run_rules.specs.HostAsks.{HasLost, ShowsStatus}
+use Rattle.run_rules.specs.Messages.{ComesIn, HasStopped, KeepsToken, SendsTo, home, stay_of}
 use Rattle.run_rules.specs.Past.{EachOnce, In}
-use Rattle.run_rules.specs.Steps.{lines_gone, lines_of}
 use Rattle.run_rules.specs.Tokens.{Drops, GivesUse, Held as HeldBy, IsKnown, IsOutstanding, LabelInUse, Learns}
 use Rattle.run_rules.specs.Tokens.{LeavesHost}
 use Rattle.run_rules.specs.Tokens.{Made, TokenInUse, number_of}
@@ -83,31 +80,21 @@ use Rattle.run_rules.specs.declared.step.Asked.{Asked}
 use Rattle.run_rules.specs.declared.step.Labelled.{Labelled}
 use Rattle.run_rules.specs.declared.step.Step.{Step}
 use Rattle.script_lines.specs.declared.script.Script.{Script}
-use Rattle.std.proofs.Common.{Bool, List, None, Option, Some, [], ap, arith, false, filter, flat_map, fold}
+use Rattle.std.proofs.Common.{Bool, List, None, Option, Some, [], ap, arith, false, flat_map, fold}
 use Rattle.std.proofs.Common.{if◌then◌else◌, inl, inr}
-use Rattle.std.proofs.Common.{is_some, map, not, refl, subst, sym, true, ◌&&◌, ◌+◌, ◌++◌, ◌<◌, ◌==◌, ◌∙◌, ◌∷◌, ◌≡◌, ◌≤◌}
+use Rattle.std.proofs.Common.{is_some, map, not, refl, subst, sym, true, ◌&&◌, ◌++◌, ◌<◌, ◌∙◌, ◌∷◌, ◌≡◌, ◌≤◌}
 use Rattle.std.proofs.Common.{◌⊎◌, ℕ}
 use Rattle.std.proofs.lemmas.Bool.{and_from, and_parts}
 use Rattle.std.specs.List.{find, list_any}
 use Rattle.std.specs.Option.{option_map_or}
 use Rattle.std.specs.Prelude.{IfSome}
 use Rattle.run_rules.specs.HostTokens.{GivesByte}
-use Rattle.host_tables.proofs.AtOnce as at_once
-use Rattle.host_tables.proofs.Learning as learning_of
 use Rattle.token_types.specs.Conflicts.{same_id}
 use Rattle.token_types.specs.declared.token.Kind.{Kind}
 use Rattle.token_types.specs.declared.token.Kind.TheVariants.{Bytes, Lock, Opening, Status}
 use Rattle.token_types.specs.declared.token.Token.{Token}
 use Rattle.token_types.specs.declared.token.TokenId.{TokenId}
 use Rattle.tree_laws.specs.Parts.Part.{ByteAt, Size}
-
-none_mapped : {A B : Type 0} (f : A → B) (xs : List A) → map f xs ≡ [] → xs ≡ []
-none_mapped f [] e = refl
-none_mapped f (x ∷ xs) e = absurd (cc)
-
-all_stay : {A : Type 0} (xs : List A) → xs ≡ filter (λ (x : A). true) xs
-all_stay [] = refl
-all_stay (x ∷ xs) = ap (λ ys. x ∷ ys) (all_stay xs)
 
 not_found : {A : Type 0} (test : A → Bool) (xs : List A) → find test xs ≡ None → (x : A) → In x xs → test x ≡ true → ⊥
 not_found test [] e x i t = elim i [ ]
@@ -324,7 +311,7 @@ module _ (script : Script) (old : Tables) (past : List Step) (message : Message)
 
   -- # The tables
   labels_same : l.uses.labels ≡ old.uses.labels
-  labels_same = ap (λ (z : InUse). z.labels) so.uses ∙ labels_stay in_use old.uses
+  labels_same = ap (λ (z : InUse). z.labels) so.uses ∙ pinned_labels in_use old.uses
 
   pub right : LeavesRight m l past s
   right = record {

@@ -32,6 +32,7 @@ use Rattle.host_gives.specs.Counters.{last_of}
 use Rattle.host_gives.specs.Giving.{IsSound as IsSoundGives, given_in, is_of_file, outstanding}
 use Rattle.host_labels.specs.Labels.{InUse, is_labelled, is_pinned}
 use Rattle.host_labels.specs.declared.uses.Labelled.{Labelled as UseOf}
+use Rattle.host_leaves.proofs.Sorting.{pinned_labels}
 use Rattle.host_leaves.specs.Dirtying.{tokens_at}
 use Rattle.host_leaves.specs.Giving.{AreDirty, IsDirtyUnder as DirtyUnder, Leaves, LeavesWhere, ids_of, leaves_by}
 use Rattle.host_leaves.specs.Owning.{dirty_length, is_use}
@@ -41,25 +42,30 @@ use Rattle.host_leaves.specs.Revoking.LeaveAll.{FileLeaves, NoneLeft}
 use Rattle.host_leaves.specs.Sending.{message_to, sending_due, sending_give}
 use Rattle.host_manager.proofs.Alike.{AsksAlike, GivesStill, call_alike, close_gives, gives_still, unlock_gives}
 use Rattle.host_manager.proofs.Evicting.{updates_it}
-use Rattle.host_manager.proofs.Folding.{OnlySends, fold_only, fold_said, fold_says, giving_only, giving_says}
+use Rattle.host_manager.proofs.Folding.{OnlySends, fold_keeps, fold_only, fold_said, fold_says, giving_keeps}
+use Rattle.host_manager.proofs.Folding.{giving_only, giving_said, giving_says}
 use Rattle.host_manager.proofs.Folding.{saying_keeps, saying_said, saying_says, sends_on}
 use Rattle.host_manager.proofs.Homely.{lack_declared, seen_declared}
 use Rattle.host_manager.proofs.LeftBy.{IsLeftBy}
 use Rattle.host_manager.proofs.OneFile.{file_at}
+use Rattle.host_manager.proofs.OnceSaid.{fold_once, once_more}
 use Rattle.host_manager.proofs.Opened.{and_false, no_use_kind, use_kind, welcome_greets}
 use Rattle.host_manager.proofs.PartFile.{file_leaves}
 use Rattle.host_manager.proofs.PartSo.{HasParted, gone_or, held_from, kept, none_parted, start}
+use Rattle.host_manager.proofs.Repeated.{given_once}
+use Rattle.host_manager.proofs.RevokeSees.{all_once}
 use Rattle.host_manager.proofs.Revoked.{counts, runs, tidy_by}
 use Rattle.host_manager.proofs.Running.{asks_none, uses_are}
-use Rattle.host_manager.proofs.SortedSo.{SortedSo, each_file, labels_stay, sorted_so, still_pinned}
+use Rattle.host_manager.proofs.SortedSo.{SortedSo, each_file, fids_once, sorted_so, still_pinned}
 use Rattle.host_manager.proofs.SyncSo.{covers_stay, decide_all, finds_same, found_sync, only_sync, status_covers}
-use Rattle.host_manager.proofs.TellsNow.{comes_out}
+use Rattle.host_manager.proofs.ComesOut.{comes_out}
 use Rattle.host_manager.specs.Running.{AsksForCall, IsRunning, RunsOn}
 use Rattle.host_tables.proofs.Answered.{agree as agree_of}
 use Rattle.host_tables.proofs.Declared.{home_is}
 use Rattle.host_tables.proofs.LeavingSteps.{known_made}
 use Rattle.host_tables.proofs.Lists.{any_in, by_test, false_any, false_not, fid_same, in_any, in_either, not_false}
-use Rattle.host_tables.proofs.Lists.{not_true, or_left, or_right, same_fid_is, true_false, true_not}
+use Rattle.host_tables.proofs.Lists.{in_left, in_right, not_true, or_left, or_right, same_fid_is, true_false, true_not}
+use Rattle.host_tables.proofs.Outstanding.{outstanding_is}
 use Rattle.host_tables.proofs.Resting.{ask_rests, give_rests, idle_rests, lack_rests}
 use Rattle.host_tables.proofs.RevokeSteps.{revoke_stands}
 use Rattle.host_tables.proofs.Standing.{knows as knows_of}
@@ -96,9 +102,12 @@ use Rattle.message_types.specs.declared.asking.Fetch.{Fetch as FetchOf}
 use Rattle.message_types.specs.declared.giving.AppliedGive.{AppliedGive}
 use Rattle.message_types.specs.declared.giving.Give.{Give}
 use Rattle.message_types.specs.declared.message.Body.{Body}
-use Rattle.message_types.specs.declared.message.Body.TheVariants.{Change, Fetch, GiveBack, Kept as KeptBody, Revoke}
+use Rattle.message_types.specs.declared.message.Body.TheVariants.{Bye, Change, Done, Down, Fetch, GiveBack, Gone}
+use Rattle.message_types.specs.declared.message.Body.TheVariants.{Grant, Hello, Kept as KeptBody, NotHere, Reclaim}
+use Rattle.message_types.specs.declared.message.Body.TheVariants.{Reclaimed, Restarted, Returned, Revoke, Ship, Shipped}
 use Rattle.message_types.specs.declared.message.Direction.TheVariants.{ToHost}
 use Rattle.message_types.specs.declared.message.Message.{Message}
+use Rattle.message_types.specs.declared.tokens.Named.{Named}
 use Rattle.message_types.specs.declared.tokens.Revoke.{Revoke as RevokeOf}
 use Rattle.need_host.proofs.Asking.{questions_are_about_filesets}
 use Rattle.need_host.proofs.Looking.{covered_alike, lack_alike, lacks_are_first, needs_alike, outcome_alike}
@@ -152,32 +161,43 @@ module _ (m : Tables) (once : (t u : Token) → In t (held_of m) → In u (held_
     (tells : (h : Held) → In h m.cache.held → is_status h.token.kind ≡ true → h.tells ≡ true)
     (zero : (fid : Fid) (at : ℕ) → FILE_BYTES_MAX ≤ at → content m.cache fid (ByteAt at) ≡ 0)
     (tokens : List Token) (their : (t : Token) → In t tokens → In t (held_of m)) (first : List Message)
-    (asked : Fid) (back : List TokenId) where
+    (asked : Fid) (back : List TokenId) (tokens_once : EachOnce tokens)
+    (plain_first : (y : Message) → In y first → (w : Named) → y.body ≡ Returned w → ⊥) where
   all_parted : (fids : List Fid) (now : List TokenId) (x : Tables) (d : Draft) (new : Tables) (after : Draft)
       → LeaveAll tokens fids now x d new after → (done : List Fid) → EachOnce fids
       → ((f : Fid) → In f done → In f fids → ⊥)
       → ((f : Fid) (rest : List Fid) → fids ≡ f ∷ rest → (i : TokenId) → In i now → In i back × (f ≡ asked))
+      → In asked done ⊎ ((rest : List Fid) × (fids ≡ asked ∷ rest) × (now ≡ back))
       → HasParted m tokens first asked back done x d → HasParted m tokens first asked back (done ++ fids) new after
-  all_parted _ _ _ _ _ _ (NoneLeft now x d) done each apart backs h =
+  all_parted _ _ _ _ _ _ (NoneLeft now x d) done each apart backs begun h =
       subst (λ (z : List Fid). HasParted m tokens first asked back z x d) (sym (append-nil done)) h
-  all_parted _ _ _ _ _ _ (FileLeaves fid fids now x between new d middle after leaves rest) done each apart backs h =
+  all_parted _ _ _ _ _ _ (FileLeaves fid fids now x between new d middle after leaves rest) done each apart backs begun
+      h =
       subst (λ (z : List Fid). HasParted m tokens first asked back z new after) (append_assoc done (fid ∷ []) fids)
       (all_parted fids [] (with_lost_where fid (of_file fid tokens) between) middle new after rest (done ++ fid ∷ [])
       each.1 (λ f i j. elim (in_either done (fid ∷ []) f i) [
         | inl k ↦ apart f k (inr j)
         | inr k ↦ elim k [ inl e ↦ each.0 (subst (λ (z : Fid). In z fids) e j) | inr n ↦ elim n [ ] ]
       ]) (λ f more e i n. elim n [ ])
+      (inl (elim begun [
+        | inl i ↦ in_left done (fid ∷ []) asked i
+        | inr r ↦ in_right done (fid ∷ []) asked (inl (let p = r.1 in cc))
+      ]))
       (file_leaves m once tells zero tokens their first asked back now h.l h.lost done h.gone h.made h.left h.sent h.due
-      h.said h.loses fid (λ i. apart fid i (inl refl)) (λ i n. backs fid fids refl i n) between middle
+      h.said h.loses h.once tokens_once plain_first fid (λ i. apart fid i (inl refl)) (λ i n. backs fid fids refl i n)
+      (λ e i n. elim begun [
+        | inl j ↦ absurd (apart asked j (inl e))
+        | inr r ↦ subst (λ (is : List TokenId). In i is) (sym r.2) n
+      ]) between middle
       (subst (λ (q : Tables × Draft). Leaves q.0 q.1 fid (of_file fid tokens) Revoked now between middle)
       (λ i. (h.tables i, h.draft i)) leaves)))
 
 -- # The floor of a file
-abbrev floors_by : Tables → RevokeOf → List Floor
+abbrev pub floors_by : Tables → RevokeOf → List Floor
 floors_by m r = if nat_lt (floor_of m.floors r.fid) r.stamp
     then with_floor (record { fid = r.fid; stamp = r.stamp }) m.floors else m.floors
 
-raised_is : (m : Tables) (r : RevokeOf) → with_raised r.fid r.stamp m ≡ record m { floors = floors_by m r }
+pub raised_is : (m : Tables) (r : RevokeOf) → with_raised r.fid r.stamp m ≡ record m { floors = floors_by m r }
 raised_is m r = by_low (nat_lt (floor_of m.floors r.fid) r.stamp)
   where
     by_low : (b : Bool) → (if b then record m { floors = with_floor (record { fid = r.fid; stamp = r.stamp }) m.floors }
@@ -188,7 +208,7 @@ raised_is m r = by_low (nat_lt (floor_of m.floors r.fid) r.stamp)
     by_low true = refl
     by_low false = refl
 
-raises : (m : Tables) (r : RevokeOf) → Raises m.floors (floors_by m r) r
+pub raises : (m : Tables) (r : RevokeOf) → Raises m.floors (floors_by m r) r
 raises m r f = by_low (nat_lt (floor_of m.floors r.fid) r.stamp) refl
   where
     by_low : (b : Bool) → nat_lt (floor_of m.floors r.fid) r.stamp ≡ b
@@ -236,12 +256,33 @@ floors_of m r f i = by_low (nat_lt (floor_of m.floors r.fid) r.stamp) i
       | inr e ↦ inr (ap (λ (z : Floor). z.fid) e)
     ]
 
+-- of which file a Kept is
+fid_of : Body → Fid
+fid_of (KeptBody w) = w.fid
+fid_of Hello = no_fid
+fid_of (Fetch f) = no_fid
+fid_of (Grant g) = no_fid
+fid_of (Change c) = no_fid
+fid_of (Done d) = no_fid
+fid_of (Revoke r) = no_fid
+fid_of (Returned w) = no_fid
+fid_of (GiveBack g) = no_fid
+fid_of (Gone a) = no_fid
+fid_of (Reclaim c) = no_fid
+fid_of (Reclaimed a) = no_fid
+fid_of Restarted = no_fid
+fid_of Down = no_fid
+fid_of Bye = no_fid
+fid_of (NotHere a) = no_fid
+fid_of (Ship a) = no_fid
+fid_of (Shipped a) = no_fid
+
 -- # What is said first
 module _ (m : Tables) (in_use : List Token) (on_way : List FilesetId) where
   abbrev given : Draft
   given = fold (sending_give m) no_draft on_way
 
-  abbrev told : Draft
+  abbrev pub told : Draft
   told = fold (keeping_file m in_use) given (fids_of in_use)
 
   first_only : OnlySends no_draft told
@@ -249,7 +290,7 @@ module _ (m : Tables) (in_use : List Token) (on_way : List FilesetId) where
       (fold_only (sending_give m) (λ d fs. giving_only m d fs) no_draft on_way)
       (fold_only (keeping_file m in_use) (λ d f. refl) given (fids_of in_use))
 
-  first_is : (y : Message) → In y told.sent
+  pub first_is : (y : Message) → In y told.sent
       → ((f : Fid) × In f (fids_of in_use) × (y ≡ message_to m (home_at f.fileset)
       (KeptBody (record { fid = f; ids = ids_of (of_file f in_use) }))))
       ⊎ ((fs : FilesetId) × In fs on_way × ((z : Message) × (outstanding m.gives fs ≡ Some z)
@@ -266,7 +307,7 @@ module _ (m : Tables) (in_use : List Token) (on_way : List FilesetId) where
             ]
       ]
 
-  is_first : (f : Fid) → In f (fids_of in_use) → In (message_to m (home_at f.fileset)
+  pub is_first : (f : Fid) → In f (fids_of in_use) → In (message_to m (home_at f.fileset)
       (KeptBody (record { fid = f; ids = ids_of (of_file f in_use) }))) told.sent
   is_first f i = fold_said (keeping_file m in_use)
       (λ d g z j. saying_keeps m (home_at g.fileset) (KeptBody (record { fid = g; ids = ids_of (of_file g in_use) }))
@@ -274,6 +315,44 @@ module _ (m : Tables) (in_use : List Token) (on_way : List FilesetId) where
       j) f (message_to m (home_at f.fileset) (KeptBody (record { fid = f; ids = ids_of (of_file f in_use) })))
       (λ d. saying_said m (home_at f.fileset) (KeptBody (record { fid = f; ids = ids_of (of_file f in_use) })) d)
       given (fids_of in_use) i
+
+  pub told_once : IsSoundGives m.gives → EachOnce on_way → EachOnce told.sent
+  unfolding fid_of
+  told_once sound once = fold_once (keeping_file m in_use) (λ (f : Fid). f) kept_fid (λ y. (w : Named)
+      × (y.body ≡ KeptBody w))
+      (λ d f each apart. once_more d.sent (message_to m (home_at f.fileset)
+      (KeptBody (record { fid = f; ids = ids_of (of_file f in_use) }))) each
+      (λ i. apart (message_to m (home_at f.fileset) (KeptBody (record { fid = f; ids = ids_of (of_file f in_use) }))) i
+      (record { fid = f; ids = ids_of (of_file f in_use) }, refl) refl))
+      (λ d f y i. elim (saying_says m (home_at f.fileset)
+      (KeptBody (record { fid = f; ids = ids_of (of_file f in_use) })) d y i) [
+        | inl j ↦ inl j
+        | inr q ↦ inr (ap kept_fid q)
+      ])
+      (fids_of in_use) (subst EachOnce (sym (map_same (fids_of in_use))) (fids_once in_use)) given
+      (given_once m sound on_way once no_draft tt (λ y i e. elim i [ ]))
+      (λ y i kept_y j. elim (fold_says (sending_give m) (λ fs z. (o : Message) × (outstanding m.gives fs ≡ Some o)
+      × (z ≡ message_to m (home_at fs) o.body)) (λ d fs z k. giving_says m d fs z k) no_draft on_way y i) [
+        | inl n ↦ elim n [ ]
+        | inr q ↦
+            let o = outstanding_is m.gives sound q.0 q.2.0 q.2.1 in
+            let p = sym (ap (λ (z : Message). z.body) q.2.2 ∙ o.1) ∙ kept_y.1 in cc
+      ])
+    where
+      kept_fid : Message → Fid
+      kept_fid y = fid_of y.body
+
+      map_same : (xs : List Fid) → map (λ (f : Fid). f) xs ≡ xs
+      map_same [] = refl
+      map_same (f ∷ xs) = ap (λ (ys : List Fid). f ∷ ys) (map_same xs)
+
+  pub given_first : (fs : FilesetId) (z : Message) → In fs on_way → outstanding m.gives fs ≡ Some z
+      → In (message_to m (home_at fs) z.body) told.sent
+  given_first fs z i e = fold_keeps (keeping_file m in_use)
+      (λ d f y j. saying_keeps m (home_at f.fileset) (KeptBody (record { fid = f; ids = ids_of (of_file f in_use) }))
+      d y j) given (fids_of in_use) (message_to m (home_at fs) z.body)
+      (fold_said (sending_give m) (λ d w y j. giving_keeps m d w y j) fs (message_to m (home_at fs) z.body)
+      (λ d. giving_said m d fs z e) no_draft on_way i)
 
 -- what covers a need does with more tokens
 covers_more : (held more : List Token) → ((t : Token) → In t held → In t more) → (need : Need) → Covers held need
@@ -309,7 +388,7 @@ module _ (script : Script) (old : Tables) (past : List Step) (message : Message)
   stands : Stands script old past
   stands = running.rests.stands
 
-  sorts : SortedSo m r.ids its.sorted.kept its.sorted.left its.sorted.back its.sorted.given
+  pub sorts : SortedSo m r.ids its.sorted.kept its.sorted.left its.sorted.back its.sorted.given
   sorts =
       let e = its.sorted_is ∙ ap (λ (z : Tables). sorted_by z r.ids) (raised_is old r) in
       subst (λ z. SortedSo m r.ids z.kept z.left z.back z.given) (sym e) (sorted_so m r.ids)
@@ -325,22 +404,40 @@ module _ (script : Script) (old : Tables) (past : List Step) (message : Message)
   their : (t : Token) → In t its.sorted.left → In t (held_of old)
   their t i = (sorts.idle t i).0
 
+  lists_once : EachOnce its.sorted.left × EachOnce its.sorted.given
+  lists_once =
+      let e = its.sorted_is ∙ ap (λ (z : Tables). sorted_by z r.ids) (raised_is old r) in
+      subst (λ z. EachOnce z.left × EachOnce z.given) (sym e) (all_once m r.ids)
+
+  plain_first : (y : Message) → In y first → (w : Named) → y.body ≡ Returned w → ⊥
+  plain_first y i w e = elim (first_is m its.sorted.kept its.sorted.given y i) [
+    | inl q ↦ (let p = sym (ap (λ (z : Message). z.body) q.2) ∙ e in cc)
+    | inr q ↦
+        let o = outstanding_is old.gives sound q.0 q.2.0 q.2.1 in
+        let p = sym (ap (λ (z : Message). z.body) q.2.2 ∙ o.1) ∙ e in cc
+  ]
+
+  pub first_once : EachOnce first
+  first_once = told_once m its.sorted.kept its.sorted.given sound lists_once.1
+
   pub h : HasParted m1 its.sorted.left first r.fid its.sorted.back files revoked.tables revoked.draft
   h = all_parted m1 stands.cache.once stands.cache.tells stands.contents.zero its.sorted.left their first r.fid
-      its.sorted.back files its.sorted.back m1 (record no_draft { sent = first }) revoked.tables revoked.draft leaves []
+      its.sorted.back lists_once.0 plain_first files its.sorted.back m1 (record no_draft { sent = first })
+      revoked.tables revoked.draft leaves []
       (each_file r.fid its.sorted.left) (λ f i j. elim i [ ]) (λ f rest e i n. (n, (let p = e in cc)))
-      (none_parted m1 its.sorted.left first r.fid its.sorted.back)
+      (inr (others_of r.fid its.sorted.left, refl, refl))
+      (none_parted m1 its.sorted.left first r.fid its.sorted.back first_once)
 
-  abbrev x : Tables
+  abbrev pub x : Tables
   x = record (with_left m h.l) { lost = h.lost }
 
-  abbrev sent : List Message
+  abbrev pub sent : List Message
   sent = (fold (sending_give x) (start h.made h.gone h.sent h.due) h.due).sent
 
-  abbrev s : Step
+  abbrev pub s : Step
   s = revokes old.host message.server message.epoch 0 r h.made (map (leaves_by Revoked) h.gone) sent
 
-  sound_l : IsSoundGives h.l.gives
+  pub sound_l : IsSoundGives h.l.gives
   sound_l = subst (λ (z : Tables). IsSoundGives z.gives) h.tables sound_new
 
   its_runs : ((stance : Stance script.roster old.host past s) → stance.kept ≡ tokens_of h.l.cache.held → stance.held
@@ -356,7 +453,7 @@ module _ (script : Script) (old : Tables) (past : List Step) (message : Message)
   abbrev pub Goal : Tables → Draft → Type 0
   Goal z d = RunsOn script old z past (step_of (Host old.host) (Came message) (sending_due z d))
 
-  message_is : message ≡ revoking old.host message.server message.epoch 0 r
+  pub message_is : message ≡ revoking old.host message.server message.epoch 0 r
   message_is i = record {
     direction = way i;
     host = host_is i;
@@ -416,7 +513,7 @@ module _ (script : Script) (old : Tables) (past : List Step) (message : Message)
       kept_so.beyond
 
   labels_same : h.l.uses.labels ≡ old.uses.labels
-  labels_same = ap (λ (z : InUse). z.labels) h.left.uses ∙ labels_stay its.sorted.kept old.uses
+  labels_same = ap (λ (z : InUse). z.labels) h.left.uses ∙ pinned_labels its.sorted.kept old.uses
 
   locks_same : (own_of x).locks ≡ (own_of old).locks
   locks_same i = flat_map (λ u. locks_under old.host u.token.kind u)
@@ -488,13 +585,13 @@ module _ (script : Script) (old : Tables) (past : List Step) (message : Message)
 
   -- # A call is open, and nothing is asked: what is said of it, if anything
   -- facts of the step
-  counts_r : RevokeCounts old past message.server message.epoch 0 r
+  pub counts_r : RevokeCounts old past message.server message.epoch 0 r
   counts_r = counts script old past message running sound_m no_moves r body present (floors_by old r) (raises old r)
       (floors_of old r) its.sorted.kept its.sorted.left its.sorted.back its.sorted.given sorts h.l h.lost h.gone h.made
       h.sent h.due h.left first (first_is m its.sorted.kept its.sorted.given)
       (is_first m its.sorted.kept its.sorted.given) h.said h.loses sound sound_l
 
-  tidy_x : IsTidy script.roster x
+  pub tidy_x : IsTidy script.roster x
   tidy_x = tidy_by script old past message running sound_m no_moves r body present (floors_by old r) (raises old r)
       (floors_of old r) its.sorted.kept its.sorted.left its.sorted.back its.sorted.given sorts h.l h.lost h.gone h.made
       h.sent h.due h.left first (first_is m its.sorted.kept its.sorted.given)
@@ -509,7 +606,7 @@ module _ (script : Script) (old : Tables) (past : List Step) (message : Message)
       h.sent h.due h.left first (first_is m its.sorted.kept its.sorted.given)
       (is_first m its.sorted.kept its.sorted.given) h.said h.loses sound sound_l
 
-  keeping_x : Keeping m past s (tokens_of h.l.cache.held)
+  pub keeping_x : Keeping m past s (tokens_of h.l.cache.held)
   keeping_x = revoked_of.keeping script old past message running sound_m no_moves r body present (floors_by old r)
       (raises old r)
       (floors_of old r) its.sorted.kept its.sorted.left its.sorted.back its.sorted.given sorts h.l h.lost h.gone h.made
@@ -626,6 +723,18 @@ module _ (script : Script) (old : Tables) (past : List Step) (message : Message)
     agree_s : AgreeUnder (tokens_of h.l.cache.held) (content old.cache) (sees past s)
     agree_s fid part c = agree_of script m past s learnt_m fid part
         (covers_more (tokens_of h.l.cache.held) (held_of old) within (record { fid = fid; kind = kind_for part }) c)
+
+    -- so in each step that learns of the Revoke
+    pub lack_in : (other : Step) → Stands script m (half other ∷ past) → (need : Need) → IsLack x call need
+        → IsFirstLack (tokens_of h.l.cache.held) (needs_of (sees past other) (look_from old call)) need
+    lack_in other learnt need lack =
+        let one = lack_alike (tokens_of h.l.cache.held) (content h.l.cache) (content old.cache) agree
+        (look_from x call) need lack in
+        let two = subst (λ (ns : List Need). IsFirstLack (tokens_of h.l.cache.held) ns need) (alike call).needs one in
+        lack_alike (tokens_of h.l.cache.held) (content old.cache) (sees past other)
+        (λ fid part c. agree_of script m past other learnt fid part
+        (covers_more (tokens_of h.l.cache.held) (held_of old) within (record { fid = fid; kind = kind_for part }) c))
+        (look_from old call) need two
 
     module _ (stance : Stance script.roster old.host past s) (kept_is : stance.kept ≡ tokens_of h.l.cache.held)
         (own_is : stance.own ≡ own_of old) (user_is : stance.user ≡ old.user) where
@@ -1113,28 +1222,29 @@ module _ (script : Script) (old : Tables) (past : List Step) (message : Message)
         sym (home_is script.roster old running.tidy fs
         (seen_declared script.roster old running.tidy about.0 about.1 fs about.3))
 
-    module _ (at : Doing) where
-      abbrev EndsAs : Doing → Bool → Type 0
-      EndsAs gone b = at ≡ (if b then gone else record gone { tables = record gone.tables { call = Some c } })
+    abbrev EndsAs : Doing → Doing → Bool → Type 0
+    EndsAs at gone b = at ≡ (if b then gone else record gone { tables = record gone.tables { call = Some c } })
 
-      silent_goal : (gone : Doing) → gone ≡ silenced → EndsAs gone false → Goal revoked.tables revoked.draft
-          → Goal at.tables at.draft
+    -- whatever holds of what is left as it was
+    module _ (P : Doing → Type 0) (quiet : Goal revoked.tables revoked.draft → P revoked) (at : Doing) where
+      silent_goal : (gone : Doing) → gone ≡ silenced → EndsAs at gone false → Goal revoked.tables revoked.draft
+          → P at
       silent_goal gone same is goal =
           let there : at ≡ revoked =
           is ∙ ap (λ (z : Doing). record z { tables = record z.tables { call = Some c } }) same
           ∙ (λ i. doing (record x { call = (sym e) i }) revoked.draft)
           ∙ (λ i. doing (sym h.tables i) revoked.draft) in
-          subst (λ (z : Doing). Goal z.tables z.draft) (sym there) goal
+          subst P (sym there) (quiet goal)
 
       settles_on : (v : Result Judged Refusal) → (all : IsCoveredFrom x call) → verdict_from x call ≡ meant x call v
           → ((fid : Fid) → v ≡ Ok (Syncs fid) → (t : Token) → In t (tokens_at x fid) → DirtyUnder x fid t → ⊥)
-          → (gone : Doing) (b : Bool) → Settles c.k call false silenced gone v b → EndsAs gone b
-          → Goal at.tables at.draft
+          → (gone : Doing) (b : Bool) → Settles c.k call false silenced gone v b → EndsAs at gone b
+          → P at
       settles_on _ all says clean gone _ (SyncsIt fid leaves) is = by_tokens leaves.tokens leaves.dirty leaves.leaves
         where
           by_tokens : (ts : List Token) → AreDirty (record x { call = None }) fid ts
               → LeavesWhere (record x { call = None }) revoked.draft fid ts gone.tables gone.draft
-              → Goal at.tables at.draft
+              → P at
           by_tokens [] are same = silent_goal gone (λ i. doing (same.0 i) (same.1 i)) is (rests_still all
               (waits_still all))
           by_tokens (t ∷ ts) are left =
@@ -1146,7 +1256,7 @@ module _ (script : Script) (old : Tables) (past : List Step) (message : Message)
           old_gives (GivesOn g v_old v_x made unknown) = v_old
 
           by_use : (lock : Bool) (label : List ℕ) → call ≡ ending_of lock label
-              → GivesUse lock label c.k silenced gone → Goal at.tables at.draft
+              → GivesUse lock label c.k silenced gone → P at
           by_use lock label call_is (HasEnded busy same) =
               silent_goal gone same is (rests_still all (waits_still all))
           by_use lock label call_is (IsUnused unused same) =
@@ -1157,7 +1267,7 @@ module _ (script : Script) (old : Tables) (past : List Step) (message : Message)
               absurd (ends_some lock label call_is (old_gives (waits_still all)) (sym ending_same ∙ no_end))
       settles_on _ all says clean gone _ (AsksIt question asks) is = by_waiting (waits_still all)
         where
-          by_waiting : WaitsStill → Goal at.tables at.draft
+          by_waiting : WaitsStill → P at
           by_waiting (GivesOn g v_old v_x made unknown) = absurd (let p = sym says ∙ v_x in cc)
           by_waiting (AsksOn q v_old v_x greeted unwelcome) =
               let p : Asks (asked_by question) ≡ Asks q = sym says ∙ v_x in
@@ -1367,35 +1477,33 @@ module _ (script : Script) (old : Tables) (past : List Step) (message : Message)
       asks_open gone (FetchesIt plain no_give may it) at whole =
           subst (λ (z : Doing). Goal z.tables z.draft) (sym whole) (fetch_open gone it plain no_give may)
 
-    -- all that the code makes of it
-    module _ (at : Doing) where
-      lacks_open : (need : Need) → IsLack x call need → (gone : Doing) → AsksFor need c.k call silenced gone
-          → EndsAs at gone false → Goal at.tables at.draft
-      lacks_open need lack gone asks is = asks_open need lack gone
-          (subst (λ (d : Draft). AsksFor need c.k call (doing (record x { call = None }) d) gone) h.draft asks) at is
-
+    -- all that the code makes of it, but for what is said to a server anew
+    module _ (P : Doing → Type 0) (quiet : Goal revoked.tables revoked.draft → P revoked) (at : Doing)
+        (asks_anew : (need : Need) → IsLack x call need → (gone : Doing) → AsksFor need c.k call silenced gone
+        → EndsAs at gone false → P at) where
       pub goes_open : (gone : Doing) (b : Bool) → Goes c.k call false silenced gone b → EndsAs at gone b
-          → Goal at.tables at.draft
+          → P at
       goes_open gone _ (Waits busy same) is = absurd (busy none)
       goes_open gone _ (EndsAt no_ask v so pathless answered settles) is =
           let look = so uses_x in
-          settles_on at v (subst (CoverAll (tokens_of h.l.cache.held)) (sym (ap (needs_of (content h.l.cache)) look))
+          settles_on P quiet at v (subst (CoverAll (tokens_of h.l.cache.held))
+          (sym (ap (needs_of (content h.l.cache)) look))
           tt)
           (ap (outcome (content h.l.cache)) look) (λ fid q. absurd (subst IsPathless q pathless)) gone answered
           settles is
       goes_open gone _ (LacksIt no_ask root path walks need walked asks) is =
-          lacks_open need (lack_x root path walks need walked) gone asks is
+          asks_anew need (lack_x root path walks need walked) gone asks is
       goes_open gone _ (Finds no_ask root path walks v walked leads marked marks answered settles) is =
           let both = comes root path walks (Ok v) walked (Ok v) refl in
           by_settled (is_settled (Ok v)) refl both
         where
           by_settled : (b : Bool) → is_settled (Ok v) ≡ b
-              → IsCoveredFrom x call × (verdict_from x call ≡ meant x call (Ok v)) → Goal at.tables at.draft
+              → IsCoveredFrom x call × (verdict_from x call ≡ meant x call (Ok v)) → P at
           by_settled true t both = absurd (still_waits (Ok v) both.1 (waits_still both.0) t)
           by_settled false f both =
               let same : marked ≡ record x { call = None } =
               subst (λ (b : Bool). MarksWhere b (record x { call = None }) call root path (Ok v) marked) f marks in
-              settles_on at (Ok v) both.0 both.1 (λ fid q.
+              settles_on P quiet at (Ok v) both.0 both.1 (λ fid q.
               let p : Ok v ≡ Ok (Syncs fid) = q in
               let is_sync : v ≡ Syncs fid = cc in
               sync_clean root path walks fid
@@ -1408,16 +1516,24 @@ module _ (script : Script) (old : Tables) (past : List Step) (message : Message)
           absurd (still_waits (Err refusal) both.1 (waits_still both.0) refl)
 
       -- from the tables of the code
-      pub open_waits : (gone : Doing) (answered : Bool)
+      pub open_ends : (gone : Doing) (answered : Bool)
           → Goes c.k c.call false (record revoked { tables = record revoked.tables { call = None } }) gone answered
           → at ≡ (if answered then gone else record gone { tables = record gone.tables { call = Some c } })
-          → Goal at.tables at.draft
-      open_waits gone answered goes is = goes_open gone answered
+          → P at
+      open_ends gone answered goes is = goes_open gone answered
           (subst (λ (z : Tables). Goes c.k c.call false (doing (record z { call = None }) revoked.draft) gone answered)
           h.tables goes) is
 
+    lacks_open : (at : Doing) (need : Need) → IsLack x call need → (gone : Doing)
+        → AsksFor need c.k call silenced gone → EndsAs at gone false → Goal at.tables at.draft
+    lacks_open at need lack gone asks is = asks_open need lack gone
+        (subst (λ (d : Draft). AsksFor need c.k call (doing (record x { call = None }) d) gone) h.draft asks) at is
+
   -- # All cases
-  module _ (at : Doing) where
+  module _ (P : Doing → Type 0) (quiet : Goal revoked.tables revoked.draft → P revoked) (at : Doing)
+      (asks_anew : (c : Asked) → old.call ≡ Some c → old.request ≡ None → (need : Need) → IsLack x c.call need
+      → (gone : Doing) → AsksFor need c.k c.call (doing (record x { call = None }) revoked.draft) gone
+      → at ≡ record gone { tables = record gone.tables { call = Some c } } → P at) where
     call_same : revoked.tables.call ≡ old.call
     call_same = ap (λ (z : Tables). z.call) h.tables
 
@@ -1427,8 +1543,9 @@ module _ (script : Script) (old : Tables) (past : List Step) (message : Message)
     by_waiting : (c : Asked) → old.call ≡ Some c → (gone : Doing) (answered : Bool)
         → Goes c.k c.call false (record revoked { tables = record revoked.tables { call = None } }) gone answered
         → at ≡ (if answered then gone else record gone { tables = record gone.tables { call = Some c } })
-        → (o : Option Request) → old.request ≡ o → Goal at.tables at.draft
-    by_waiting c e gone answered goes is None none = open_waits c e none at gone answered goes is
+        → (o : Option Request) → old.request ≡ o → P at
+    by_waiting c e gone answered goes is None none =
+        open_ends c e none P quiet at (asks_anew c e none) gone answered goes is
     by_waiting c e gone answered goes is (Some q) asked = by_goes gone answered goes is
       where
         busy : old.request ≡ None → ⊥
@@ -1440,19 +1557,22 @@ module _ (script : Script) (old : Tables) (past : List Step) (message : Message)
         by_goes : (gone : Doing) (answered : Bool)
             → Goes c.k c.call false (record revoked { tables = record revoked.tables { call = None } }) gone answered
             → at ≡ (if answered then gone else record gone { tables = record gone.tables { call = Some c } })
-            → Goal at.tables at.draft
+            → P at
         by_goes gone _ (Waits b same) is =
             let there : at ≡ revoked =
             is ∙ ap (λ (z : Doing). record z { tables = record z.tables { call = Some c } }) same
             ∙ (λ i. doing (record revoked.tables { call = (sym (call_same ∙ e)) i }) revoked.draft) in
-            subst (λ (z : Doing). Goal z.tables z.draft) (sym there) (waits_revoked c e busy)
+            subst P (sym there) (quiet (waits_revoked c e busy))
         by_goes gone _ (EndsAt none v so no_sync answered settles) is = absurd (idle none)
         by_goes gone _ (LacksIt none root path so need walked asks) is = absurd (idle none)
         by_goes gone _ (Finds none root path so v walked leads marked marks answered settles) is = absurd (idle none)
         by_goes gone _ (IsRefused none root path so refusal walked marked marks settles) is = absurd (idle none)
 
-    pub revoked_runs : GoesOn revoked at → Goal at.tables at.draft
-    revoked_runs (IsNone e is) =
-        subst (λ (z : Doing). Goal z.tables z.draft) (sym is) (idle_revoked (sym call_same ∙ e))
-    revoked_runs (IsOpen c e gone answered goes is) =
+    pub revoked_ends : GoesOn revoked at → P at
+    revoked_ends (IsNone e is) = subst P (sym is) (quiet (idle_revoked (sym call_same ∙ e)))
+    revoked_ends (IsOpen c e gone answered goes is) =
         by_waiting c (sym call_same ∙ e) gone answered goes is old.request refl
+
+  pub revoked_runs : (at : Doing) → GoesOn revoked at → Goal at.tables at.draft
+  revoked_runs at goes = revoked_ends (λ (z : Doing). Goal z.tables z.draft) (λ g. g) at
+      (λ c e none. lacks_open c e none at) goes

@@ -14,9 +14,9 @@ use Rattle.host_leaves.specs.Sending.{with_once}
 use Rattle.host_manager.proofs.LeftFile.{in_last, last_or}
 use Rattle.host_manager.proofs.OnceSaid.{once_more}
 use Rattle.host_manager.proofs.Repeated.{with_once_from}
-use Rattle.host_tables.proofs.Lists.{any_false, any_in, by_test, fid_same, filter_in, id_same, in_any, in_either}
+use Rattle.host_tables.proofs.Lists.{any_false, any_in, by_test, fid_same, filter_in, id_same, in_any}
 use Rattle.host_tables.proofs.Lists.{in_filter}
-use Rattle.host_tables.proofs.Lists.{in_left, in_right, map_in, not_false, not_true, same_fid_is, same_id_is, true_not}
+use Rattle.host_tables.proofs.Lists.{in_left, map_in, not_true, same_fid_is, same_id_is, true_not}
 use Rattle.host_tables.proofs.Outstanding.{found_in}
 use Rattle.host_tables.specs.Tables.{held_of}
 use Rattle.host_tables.specs.declared.calls.Leaving.{Leaving}
@@ -25,7 +25,7 @@ use Rattle.message_types.specs.declared.message.Message.{Message}
 use Rattle.run_rules.specs.Past.{EachOnce, In}
 use Rattle.std.proofs.Common.{append-nil, append_assoc}
 use Rattle.std.proofs.Common.{Bool, List, None, Option, Some, [], ap, false, filter, fold, if◌then◌else◌, inl, inr, not}
-use Rattle.std.proofs.Common.{refl, subst, sym, true, ◌&&◌, ◌++◌, ◌==◌, ◌||◌, ◌∙◌, ◌∷◌, ◌≡◌, ◌⊎◌, ℕ}
+use Rattle.std.proofs.Common.{refl, subst, sym, true, ◌&&◌, ◌++◌, ◌==◌, ◌∙◌, ◌∷◌, ◌≡◌, ◌⊎◌, ℕ}
 use Rattle.std.proofs.lemmas.Bool.{and_parts}
 use Rattle.std.specs.List.{find, list_any}
 use Rattle.std.specs.Option.{option_map_or}
@@ -41,7 +41,7 @@ pub record SortedSo (m : Tables) (ids : List TokenId) (kept left : List Token) (
       → In i ids × (find (is_id i) m.cache.held ≡ None) × (list_any (is_leaving i) m.leaving ≡ false)
   pub on_way : (fs : FilesetId) → In fs given → (z : Message) × (outstanding m.gives fs ≡ Some z)
 
-fold_end : {A B : Type 0} (f : B → A → B) (b : B) (xs : List A) (x : A)
+pub fold_end : {A B : Type 0} (f : B → A → B) (b : B) (xs : List A) (x : A)
     → fold f b (xs ++ x ∷ []) ≡ f (fold f b xs) x
 fold_end f b [] x = refl
 fold_end f b (y ∷ xs) x = fold_end f (f b y) xs x
@@ -221,10 +221,6 @@ module _ (m : Tables) (ids : List TokenId) where
   })
 
 -- # Pins
-pub labels_stay : (ts : List Token) (uses : InUse) → (pinned uses ts).labels ≡ uses.labels
-labels_stay [] uses = refl
-labels_stay (t ∷ ts) uses = labels_stay ts (after_pin uses t.id)
-
 pinned_one : (uses : InUse) (id i : TokenId) → is_pinned (after_pin uses id) i ≡ true
     → (is_pinned uses i ≡ true) ⊎ (i ≡ id)
 pinned_one uses id i e = by_pinned (is_pinned uses id) e
@@ -330,13 +326,16 @@ files_once : (ts : List Token) (fids : List Fid) → EachOnce fids → EachOnce 
 files_once [] fids once = once
 files_once (t ∷ ts) fids once = files_once ts (with_fid fids t) (with_fid_once fids t once)
 
-filter_once : {A : Type 0} (test : A → Bool) (xs : List A) → EachOnce xs → EachOnce (filter test xs)
+pub filter_once : {A : Type 0} (test : A → Bool) (xs : List A) → EachOnce xs → EachOnce (filter test xs)
 filter_once test [] once = tt
 filter_once {A = A} test (x ∷ xs) once = by_head (filter_once test xs once.1) (test x)
   where
     by_head : EachOnce (filter test xs) → (b : Bool) → EachOnce (if b then x ∷ filter test xs else filter test xs)
     by_head rest true = ((λ i. once.0 (in_filter test xs x i).0), rest)
     by_head rest false = rest
+
+pub fids_once : (ts : List Token) → EachOnce (fids_of ts)
+fids_once ts = files_once ts [] tt
 
 pub fids_in : (ts : List Token) (t : Token) → In t ts → In t.fid (fids_of ts)
 fids_in ts t i = files_have ts [] t i

@@ -1,6 +1,5 @@
 -- What is due of a host that stops.
 use Rattle.base_types.specs.declared.ids.Node.TheVariants.{Host}
-use Rattle.base_types.specs.declared.ids.ServerId.{ServerId}
 use Rattle.host_cache.specs.Holding.{IsOnce, tokens_of}
 use Rattle.host_leaves.specs.Giving.{leaves_by}
 use Rattle.host_leaves.specs.Sending.{message_to}
@@ -27,7 +26,6 @@ use Rattle.run_rules.specs.Tokens.{Held}
 use Rattle.run_rules.specs.declared.applied.Leave.{Leave}
 use Rattle.run_rules.specs.declared.applied.Why.TheVariants.{Stopped}
 use Rattle.run_rules.specs.declared.step.Cause.TheVariants.{Line as LineOf}
-use Rattle.run_rules.specs.declared.step.Step.{Step}
 use Rattle.script_lines.specs.declared.script.Deed.TheVariants.{Stop}
 use Rattle.std.proofs.Common.{List, [], ap, fold, inl, inr, map, refl, subst, sym, ℕ, ◌++◌, ◌∙◌, ◌∷◌, ◌≡◌}
 use Rattle.token_types.specs.declared.token.Token.{Token}

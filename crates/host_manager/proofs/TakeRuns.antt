@@ -76,7 +76,7 @@ module _ (script : Script) (m : Tables) (past : List Step) (message : Message) (
       (eqb-true (site_at m.sites message.server).epoch message.epoch p.0, eqb-true message.moves 0 p.1)
 
   -- # What answers nothing
-  no_fetch : (g : GrantOf) → answers_fetch g m.request ≡ false → AnswersNoFetch m g
+  pub no_fetch : (g : GrantOf) → answers_fetch g m.request ≡ false → AnswersNoFetch m g
   no_fetch g e f asked at number =
       let so : answers_fetch g m.request ≡ true =
       ap (answers_fetch g) asked
@@ -85,7 +85,7 @@ module _ (script : Script) (m : Tables) (past : List Step) (message : Message) (
       (eq-eqb f.fid.fileset.0 g.bring.fid.fileset.0 (ap (λ (x : FilesetId). x.0) at)) in
       true_false (answers_fetch g m.request) so e
 
-  no_change : (d : DoneOf) → answers_change message.server d m.request ≡ false → AnswersNoChange m message.server d
+  pub no_change : (d : DoneOf) → answers_change message.server d m.request ≡ false → AnswersNoChange m message.server d
   no_change d e v c asked at fs number =
       let so : answers_change message.server d m.request ≡ true =
       ap (answers_change message.server d) asked

@@ -4,8 +4,12 @@ use Rattle.base_types.specs.declared.ids.Fid.{Fid}
 use Rattle.base_types.specs.declared.ids.Node.TheVariants.{Host}
 use Rattle.host_cache.specs.Seen.{seen}
 use Rattle.host_calls.specs.Answering.{last_needs, way_of}
-use Rattle.host_calls.specs.Looking.{AreSized, AreUses, IsVerdictOf, LeadsSo, OnlyTells, Walked, meant, path_look}
+use Rattle.host_calls.specs.Looking.{AreSized, AreUses, LeadsSo, OnlyTells, meant, path_look}
 use Rattle.host_calls.specs.declared.looking.Verdict.{Verdict}
+use Rattle.host_gives.specs.Giving.{IsSound as IsSoundGives}
+use Rattle.host_manager.proofs.AnsweredDue.{reply_due}
+use Rattle.host_manager.proofs.ComesOut.{comes_out}
+use Rattle.host_manager.proofs.GoesDue.{by_line}
 use Rattle.host_manager.proofs.Helped.{Helped, LeadsBy, tells_alike}
 use Rattle.host_manager.proofs.Ordered.{marked_held}
 use Rattle.host_manager.proofs.Running.{uses_are}
@@ -22,14 +26,13 @@ use Rattle.host_tables.specs.declared.tables.Tables.{Tables}
 use Rattle.host_tells.specs.Spoken.{SpeaksAtOnce, StaysSilent}
 use Rattle.host_walk.proofs.Blocks.{outcome_end}
 use Rattle.host_walk.specs.Marks.{marks_of}
-use Rattle.host_walk.specs.declared.sight.Stop.{Stop}
-use Rattle.host_walk.specs.declared.sight.Stop.TheVariants.{Lacks, Refused}
 use Rattle.message_types.specs.Soundness.{IsCall}
 use Rattle.need_host.specs.Calls.{Verdict as Meant, access_look, entries_for, facts_for, judged, list_for, list_look}
 use Rattle.need_host.specs.Calls.{read_from, read_look, reply_now, stat_look}
 use Rattle.need_host.specs.Calls.Verdict.{Replies}
 use Rattle.need_host.specs.Looks.{IsCovered, Look, View, checked, needs_of, outcome}
 use Rattle.need_host.specs.Walks.{permitted_look, target_look}
+use Rattle.run_rules.specs.HostDue.{HostDue}
 use Rattle.run_rules.specs.Steps.{IsNextLine, lines_of}
 use Rattle.run_rules.specs.declared.step.Asked.{Asked}
 use Rattle.run_rules.specs.declared.step.Cause.TheVariants.{Line as LineOf}
@@ -79,20 +82,8 @@ tells_replies m (GetAcl place which) root path tells =
     judged_replies (content m.cache) (checked (target_look m.user root path) (list_for which)) (λ list. Access list)
 tells_replies m call root path tells = elim tells [ ]
 
--- what the code makes of a look is how it ends
-pub comes_out : (m : Tables) (call : Call) (root : Fid) (path : List (List ℕ)) → AreSized m.cache
-    → (made : Result Verdict Stop) → Walked m call root path made → (verdict : Result Verdict Refusal)
-    → IsVerdictOf made verdict
-    → IsCovered (held_of m) (content m.cache) (path_look m call root path)
-    × (outcome (content m.cache) (path_look m call root path) ≡ meant m call verdict)
-comes_out m call root path sized (Ok v) w verdict is =
-    (w.0, w.1 sized ∙ ap (λ (x : Result Verdict Refusal). meant m call x) (sym is))
-comes_out m call root path sized (Err (Refused refusal)) w verdict is =
-    (w.0, w.1 ∙ ap (λ (x : Result Verdict Refusal). meant m call x) (sym is))
-comes_out m call root path sized (Err (Lacks need)) w verdict is = elim is [ ]
-
 module _ (m new : Tables) (call : Call) (out : List ℕ) (count : ℕ) (it : SpeaksAtOnce m new call out count)
-    (free : IsFreePair m) (leads : LeadsBy m call it.root it.path it.verdict) where
+    (free : IsFreePair m) (gives : IsSoundGives m.gives) (leads : LeadsBy m call it.root it.path it.verdict) where
   abbrev marks : List Need
   marks = marks_of (content m.cache) m.user (last_needs m it.verdict) (way_of m call it.root it.path) it.root
 
@@ -156,13 +147,21 @@ module _ (m new : Tables) (call : Call) (out : List ℕ) (count : ℕ) (it : Spe
           (turn_writes.told_runs script m m past (LineOf number) [] [] c true turn [] alone it.can.reply verdict
           it.can.covered it.marked.cache marks told alike)
 
+      pub speaks_due : HostDue script m.host past (answered_step m.host number (m.begun + 1) call it.can.reply)
+      speaks_due = reply_due script m m past (LineOf number) [] [] c true turn gives (by_line m past number) m.host
+          it.can.reply None [] new (ap (λ (x : Tables). x.gives) new_is) (λ e. let p = sym verdict ∙ e in cc)
+          speaks_right
+
   pub spoken : SpokenRight m new call out count
   spoken = record {
     tells = it.tells;
     can = it.can;
     spelled = it.spelled;
+    fits = it.fits;
     right = λ script past running number line next deed askable.
         speaks_right script past running number line next deed askable;
+    due = λ script past running number line next deed askable.
+        speaks_due script past running number line next deed askable;
   }
 
 -- where it leads, by its verdict
@@ -173,16 +172,16 @@ leads_by m call root path (Err refusal) leads = tt
 
 -- what the code answers is right, or nothing changes
 pub answers_into : (m new : Tables) (call : Call) (room : ℕ) (out : List ℕ) (result : Option ℕ) → IsFreePair m
-    → (AreUses m → AreSized m.cache → MatchOption result (StaysSilent m new call room)
+    → IsSoundGives m.gives → (AreUses m → AreSized m.cache → MatchOption result (StaysSilent m new call room)
     (λ count. SpeaksAtOnce m new call out count))
     → (script : Script) (past : List Step) → IsRunning script m past
     → MatchOption result (StaysSilent m new call room) (λ count. SpokenRight m new call out count)
-answers_into m new call room out result free told script past running =
+answers_into m new call room out result free gives told script past running =
     by_result result (told (uses_are script m past running.rests.stands) running.tidy.sizes)
   where
     by_result : (r : Option ℕ)
         → MatchOption r (StaysSilent m new call room) (λ count. SpeaksAtOnce m new call out count)
         → MatchOption r (StaysSilent m new call room) (λ count. SpokenRight m new call out count)
     by_result None silent = silent
-    by_result (Some count) it = spoken m new call out count it free
+    by_result (Some count) it = spoken m new call out count it free gives
         (leads_by m call it.root it.path it.verdict it.comes.leads)

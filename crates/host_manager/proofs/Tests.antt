@@ -2,7 +2,7 @@
 use Rattle.host_cache.specs.Holding.{tokens_of}
 use Rattle.host_labels.specs.declared.uses.Labelled.{Labelled as UseOf}
 use Rattle.host_manager.specs.Closing.{first_end}
-use Rattle.std.proofs.Common.{Err, IfOk, None, Ok, Option, Result, Some, eqb-true, is_some, ◌==◌}
+use Rattle.std.proofs.Common.{Err, IfOk, None, Ok, Result, eqb-true, ◌==◌}
 use Rattle.std.specs.Prelude.{IsOk, OnOk}
 use Rattle.host_cache.specs.declared.held.Held.{Held}
 use Rattle.host_manager.specs.Closing.{MayEnd, awaits_bye, is_to_part}
@@ -10,11 +10,9 @@ use Rattle.host_tables.proofs.Lists.{any_in, by_test, false_not, in_any, not_tru
 use Rattle.host_tables.specs.Machine.{IsParted}
 use Rattle.host_tables.specs.declared.sites.Site.{Site}
 use Rattle.host_tables.specs.declared.tables.Tables.{Tables}
-use Rattle.message_types.specs.declared.message.Message.{Message}
-use Rattle.run_rules.specs.Past.{In}
 use Rattle.std.proofs.Common.{Bool, List, [], arith, false, inl, inr, length, not, refl, subst, sym, true, ◌&&◌, ◌<◌}
 use Rattle.std.proofs.Common.{◌↔◌}
-use Rattle.std.proofs.Common.{◌||◌, ◌∙◌, ◌∷◌, ◌≡◌, ◌⊎◌}
+use Rattle.std.proofs.Common.{◌∙◌, ◌∷◌, ◌≡◌}
 use Rattle.std.proofs.lemmas.Bool.{and_from, and_parts}
 use Rattle.std.specs.List.{list_any}
 use Rattle.std.specs.Prelude.{IsTrue, ◌≢◌}
@@ -87,7 +85,3 @@ pub when_so : {A B E : Type 0} (done : Result B E) (result : Result A E) (step :
 when_so done (Err e) step P Q p ok is f = tt
 when_so (Err e) (Ok a) step P Q p ok is f = absurd (let z = ok in cc)
 when_so (Ok b) (Ok a) step P Q p ok is f = subst Q (sym is) (f p)
-
-pub none_some : {A : Type 0} (o : Option A) → is_some o ≡ false → o ≡ None
-none_some None e = refl
-none_some (Some a) e = absurd (cc)

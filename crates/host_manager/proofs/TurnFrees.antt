@@ -39,8 +39,8 @@ use Rattle.run_rules.specs.declared.step.Asked.{Asked}
 use Rattle.run_rules.specs.declared.step.Cause.{Cause}
 use Rattle.run_rules.specs.declared.step.Step.{Step}
 use Rattle.script_lines.specs.declared.script.Script.{Script}
-use Rattle.std.proofs.Common.{Bool, List, None, [], ap, append-nil, false, filter, if◌then◌else◌, inl, inr, length}
-use Rattle.std.proofs.Common.{map, not, refl, subst, sym, true, unwrap_or, zero, ℕ, ◌&&◌, ◌++◌, ◌∙◌, ◌∷◌, ◌≡◌}
+use Rattle.std.proofs.Common.{Bool, List, None, [], ap, append-nil, false, filter, if◌then◌else◌, inl, inr}
+use Rattle.std.proofs.Common.{map, not, refl, subst, sym, true, unwrap_or, ℕ, ◌&&◌, ◌++◌, ◌∙◌, ◌∷◌, ◌≡◌}
 use Rattle.std.proofs.lemmas.Bool.{and_from, and_parts}
 use Rattle.std.specs.Bool.{beq}
 use Rattle.std.specs.List.{list_any}

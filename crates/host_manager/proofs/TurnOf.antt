@@ -1,4 +1,5 @@
 -- Whose turn it is: the call that a line begins, one that the end implies, and the open call when a message has come.
+use Rattle.host_manager.proofs.News.{none_is_open}
 use Rattle.host_manager.specs.Running.{EndsOpen}
 use Rattle.std.proofs.Common.{ap, ◌+◌, ◌∙◌, ◌∷◌, ◌≡◌, ◌≤◌}
 use Rattle.base_types.specs.declared.ids.FilesetId.{FilesetId}
@@ -27,7 +28,7 @@ use Rattle.run_rules.specs.HostMay.{DoesLine, TakenBefore}
 use Rattle.run_rules.specs.Messages.{About, DoneComes}
 use Rattle.run_rules.specs.Past.{In}
 use Rattle.run_rules.specs.Steps.{lines_gone, lines_of, servers_of}
-use Rattle.run_rules.specs.Tokens.{BeginsCall, LabelInUse, NoneOpen, calls_begun, end_of}
+use Rattle.run_rules.specs.Tokens.{BeginsCall, LabelInUse, calls_begun, end_of}
 use Rattle.run_rules.specs.declared.step.Asked.{Asked}
 use Rattle.run_rules.specs.declared.step.Cause.TheVariants.{End, Line as LineOf, Message as Came}
 use Rattle.run_rules.specs.declared.step.Labelled.{Labelled}
@@ -39,9 +40,6 @@ use Rattle.token_types.specs.declared.token.Token.{Token}
 use Rattle.tree_calls.specs.declared.call.Call.{Call}
 use Rattle.host_tables.proofs.AtOnce as at_once
 use Rattle.host_tables.proofs.Learning as learning_of
-
-none_open_by : (script : Script) (m : Tables) (past : List Step) → Stands script m past → m.call ≡ None → NoneOpen past
-none_open_by script m past stands free d o = let p = sym free ∙ stands.call.asked d o in cc
 
 -- # By a line
 module _ (script : Script) (m : Tables) (past : List Step) (line : ℕ) (call : Call) (running : IsRunning script m past)
@@ -60,7 +58,7 @@ module _ (script : Script) (m : Tables) (past : List Step) (line : ℕ) (call : 
       subst (DoesLine (servers_of script.roster) past s) (sym next.deed) begins_it,
     );
     free = λ n e. (
-      none_open_by script m past stands_l free.none_open,
+      none_is_open script m past stands_l free.none_open,
       at_once.not_many script m past stands_l free.few,
     );
     begins = λ k d b. inl (line, cause);
@@ -117,7 +115,7 @@ module _ (script : Script) (m : Tables) (past : List Step) (running : IsRunning 
     applies_none = applies;
     after = λ e. (
       gone,
-      none_open_by script m past stands_e free.none_open,
+      none_is_open script m past stands_e free.none_open,
       at_once.not_many script m past stands_e free.few,
     );
     implied = λ k d e b.

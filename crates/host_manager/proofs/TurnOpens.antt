@@ -1,4 +1,5 @@
 -- A call whose turn it is is left open: what is said for it, if anything, and that the machine runs on.
+use Rattle.host_tables.proofs.HearingParts.{server_is}
 use Rattle.std.proofs.Common.{◌&&◌, ◌+◌, ◌<◌, ◌==◌, ◌||◌, ◌↔◌, ◌∙◌, ◌∷◌, ◌≡◌, ◌≤◌, ◌⊎◌}
 use Rattle.base_types.specs.declared.ids.Fid.{Fid}
 use Rattle.base_types.specs.declared.ids.FilesetId.{FilesetId}
@@ -95,9 +96,6 @@ asked_spoken (Fetch f) a = tt
 asked_spoken (Change d) a = tt
 asked_spoken b a = elim a [ ]
 
-numbers_same : (a b : ServerId) → (a.0 == b.0) ≡ true → a ≡ b
-numbers_same a b e = let p = eqb-true a.0 b.0 e in λ i. record { 0 = p i }
-
 -- the counter of a numbered fileset is the same at each server
 changes_any : (changed : List Changed) (u v : ServerId) (fs : FilesetId) → (fs.0 == 0) ≡ false
     → last_change changed u fs ≡ last_change changed v fs
@@ -139,7 +137,7 @@ module _ (changed : List Changed) (v : ServerId) (d : ChangeOf)
       let p = and_parts (d.fileset.0 == fs.0) (not (fs.0 == 0) || (v.0 == w.0)) h in
       let e = eqb-true d.fileset.0 fs.0 p.0 in (
         (λ i. record { 0 = e i }),
-        λ z. sym (numbers_same v w (or_right_of (fs.0 == 0) (v.0 == w.0) p.1
+        λ z. sym (server_is v w (or_right_of (fs.0 == 0) (v.0 == w.0) p.1
             (eq-eqb fs.0 0 z))),
       )
     where
@@ -211,7 +209,7 @@ module _ (script : Script) (m : Tables) (tidy : IsTidy script.roster m) (v : Ser
       ⊎ ((w ≡ v → ⊥) × (site_at hello_sites w ≡ site_at m.sites w))
   hello_at w = elim (by_test (w.0 == v.0)) [
     | inl t ↦
-        let e = numbers_same w v t in
+        let e = server_is w v t in
         inl (e, ap (site_at hello_sites) (e ∙ sym number) ∙ put.here)
     | inr f ↦
         let other : w ≡ v → ⊥ = λ e. true_false (w.0 == v.0) (eq-eqb w.0 v.0 (ap (λ (x : ServerId). x.0) e)) f in

@@ -26,7 +26,7 @@ use Rattle.host_manager.proofs.GivesNow.{gives_now}
 use Rattle.host_manager.proofs.Opened.{Opens, asks_question, changes_for, comes_for, fetches_for, waits_give}
 use Rattle.host_manager.proofs.Running.{uses_are}
 use Rattle.host_manager.proofs.SyncCall.{sync_now}
-use Rattle.host_manager.proofs.TellsNow.{comes_out}
+use Rattle.host_manager.proofs.ComesOut.{comes_out}
 use Rattle.host_manager.proofs.Turns.{IsTurn, at_turn, turn_draft}
 use Rattle.host_tables.specs.Drafts.{step_of}
 use Rattle.host_tables.specs.Half.{learning}
@@ -114,7 +114,7 @@ settle_asked k call first at gone _ _ e (AsksIt question is) =
     ap (λ (d : Doing). d.draft.asked) is ∙ question_asked question k call at
 settle_asked k call first at gone _ _ e (AnswersIt v it) = absurd (cc)
 
-goes_asked : (k : ℕ) (call : Call) (first : Bool) (at gone : Doing) (b : Bool) → b ≡ false
+pub goes_asked : (k : ℕ) (call : Call) (first : Bool) (at gone : Doing) (b : Bool) → b ≡ false
     → Goes k call first at gone b → gone.draft.asked ≡ at.draft.asked
 goes_asked k call first at gone _ e (Waits busy is) = ap (λ (d : Doing). d.draft.asked) is
 goes_asked k call first at gone _ e (EndsEarly idle v so early answered settles) =
@@ -131,7 +131,7 @@ abbrev pub stays_open : Asked → Bool → Doing → Doing
 stays_open c first gone =
     if first then left_open c gone else doing (record gone.tables { call = Some c }) gone.draft
 
-stays_is : (c : Asked) (b : Bool) (gone : Doing) → gone.draft.asked ≡ None
+pub stays_is : (c : Asked) (b : Bool) (gone : Doing) → gone.draft.asked ≡ None
     → stays_open c b gone ≡ doing (record gone.tables { call = Some c })
     (record gone.draft { asked = if b then Some c else None })
 stays_is c true gone e = refl

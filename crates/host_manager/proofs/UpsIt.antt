@@ -15,35 +15,48 @@ use Rattle.host_gives.specs.Giving.{IsSound as IsSoundGives, outstanding}
 use Rattle.host_labels.specs.Labels.{IsSound as IsSoundUses, after_drop as without_use, is_lock, use_of}
 use Rattle.host_labels.specs.declared.uses.Labelled.{Labelled as UseOf}
 use Rattle.host_leaves.specs.Giving.{LeavesGiven, given_tables, leaves_by, making}
-use Rattle.host_leaves.specs.Sending.{sending_due, with_once}
-use Rattle.host_manager.proofs.Forgotten.{once_has, once_stays}
+use Rattle.host_leaves.specs.Sending.{message_to, sending_due, with_once}
+use Rattle.host_manager.proofs.CallDue.{syncs_given}
 use Rattle.host_manager.proofs.Freed.{end_is}
 use Rattle.host_manager.proofs.GivenUp.{covers_none, drop_marked, left_by_use, marked_size, marked_tokens, same_dirty}
+use Rattle.host_manager.proofs.GivesStep.{no_sync}
+use Rattle.host_manager.proofs.NewGive.{all_fresh, all_once}
 use Rattle.host_manager.proofs.OneFile.{IsGiven}
+use Rattle.host_manager.proofs.Repeated.{with_once_has, with_once_keeps}
+use Rattle.host_manager.proofs.TurnDue.{IsTurnDue, draft_due, opens_it}
 use Rattle.host_manager.proofs.Turns.{IsTurn, at_turn, turn_draft}
+use Rattle.host_manager.specs.Running.{RunsOn}
+use Rattle.host_tables.specs.Answering.{GivesForCall}
 use Rattle.host_tables.specs.Drafts.{step_of}
 use Rattle.host_tables.specs.Half.{learning}
-use Rattle.host_manager.specs.Running.{RunsOn}
 use Rattle.host_tables.specs.Stands.{Stands, verdict_from}
 use Rattle.host_tables.specs.Tables.{held_of, is_last_pinned, labelled}
+use Rattle.host_tables.specs.Updates.{home_at}
 use Rattle.host_tables.specs.declared.draft.Draft.{Draft}
 use Rattle.host_tables.specs.declared.tables.Tables.{Tables}
 use Rattle.message_types.specs.declared.giving.Ends.{Ends}
 use Rattle.message_types.specs.declared.giving.Give.{Give}
+use Rattle.message_types.specs.declared.message.Body.TheVariants.{GiveBack}
 use Rattle.message_types.specs.declared.message.Message.{Message}
 use Rattle.need_host.specs.Calls.Verdict.{Gives as GivesOf}
+use Rattle.run_rules.specs.HostDue.{HostDue}
 use Rattle.run_rules.specs.Past.{In}
-use Rattle.run_rules.specs.Tokens.{end_of}
-use Rattle.run_rules.specs.declared.applied.Why.TheVariants.{ForCall}
+use Rattle.run_rules.specs.Tokens.{AtHand, FreesPinned, GivesUse, IsOutstanding, end_of}
+use Rattle.run_rules.specs.declared.applied.Leave.{Leave}
+use Rattle.run_rules.specs.declared.applied.Why.TheVariants.{Ended as AtEnd, ForCall}
 use Rattle.run_rules.specs.declared.step.Asked.{Asked}
 use Rattle.run_rules.specs.declared.step.Cause.{Cause}
+use Rattle.run_rules.specs.declared.step.Labelled.{Labelled}
 use Rattle.run_rules.specs.declared.step.Step.{Step}
 use Rattle.script_lines.specs.declared.script.Script.{Script}
-use Rattle.std.proofs.Common.{Bool, List, None, Option, Some, [], ap, false, if◌then◌else◌, is_none, length, not}
-use Rattle.std.proofs.Common.{refl, subst, sym, true, ℕ, ◌&&◌, ◌++◌, ◌+◌, ◌∙◌, ◌∷◌, ◌≡◌}
+use Rattle.std.proofs.Common.{Bool, List, None, Option, Some, [], ap, arith, false, if◌then◌else◌, inl, inr, is_none}
+use Rattle.std.proofs.Common.{not, refl, subst, sym, true, ℕ, ◌&&◌, ◌++◌, ◌+◌, ◌∙◌, ◌∷◌, ◌≡◌}
 use Rattle.token_types.specs.declared.token.Token.{Token}
 use Rattle.tree_calls.specs.declared.call.Call.{Call}
 use Rattle.host_manager.proofs.GivesStep as gives_step
+use Rattle.host_manager.proofs.GivesUp as gives_up
+use Rattle.host_manager.proofs.Turns as turns
+use Rattle.host_tables.proofs.Standing as standing
 
 -- the label by its call
 pub end_label : (a b : Bool) (x y : List ℕ) → ending_of a x ≡ ending_of b y → (a ≡ b) × (x ≡ y)
@@ -191,12 +204,12 @@ module _ (script : Script) (old m : Tables) (past : List Step) (cause : Cause) (
     more fs i = by_one (is_none (outstanding m.gives g.fid.fileset))
       where
         by_one : (b : Bool) → In fs (dues_by b)
-        by_one true = once_stays dues g.fid.fileset fs i
+        by_one true = with_once_keeps dues g.fid.fileset fs i
         by_one false = i
 
     has_due : outstanding m.gives g.fid.fileset ≡ None → In g.fid.fileset all
     has_due e = subst (λ (b : Bool). In g.fid.fileset (dues_by b)) (sym (ap (λ (o : Option Message). is_none o) e))
-        (once_has dues g.fid.fileset)
+        (with_once_has dues g.fid.fileset)
 
     abbrev x : Tables
     x = gives_step.x script old m past cause came dues c first turn sound_m sound used within last none_ending call_c
@@ -239,6 +252,9 @@ module _ (script : Script) (old m : Tables) (past : List Step) (cause : Cause) (
         }) (leaves.gives.draft_is ∙ ap (λ (z : Tables). making z g draft_0) mid_is
         ∙ made_is (is_none (outstanding m.gives g.fid.fileset)))
 
+    begins_it : turns.BeginsTurn script old m past cause came dues c first turn start
+    begins_it = opens_it script old m past cause came dues c first turn start refl refl
+
     pub given_runs : (new : Tables) (draft after : Draft) → doing new draft ≡ opened gone
         → after ≡ sending_due new draft → IsSoundGives new.gives
         → RunsOn script old new past (step_of (Host m.host) cause after)
@@ -258,3 +274,63 @@ module _ (script : Script) (old m : Tables) (past : List Step) (cause : Cause) (
         (gives_step.runs script old m past cause came dues c first turn sound_m sound used within last none_ending
         call_c verdict gone.tables.cache
         leaves.given.dirty g given refl cleans shown all more has_due sound_l)
+
+    -- # What is due of it
+    -- its call gives the use back, and is no Sync
+    gives_for : GivesForCall m past (turns.by script old m past cause came dues c first turn start)
+    gives_for = syncs_given script m past cause came stands c.call
+        (turns.by script old m past cause came dues c first turn start)
+        (λ n other has. (turns.only_it script old m past cause came dues c first turn start begins_it n other has).1)
+        (λ place fid w is. absurd (no_sync t.kind label place (sym call_c ∙ is))) frees
+      where
+        frees : (w : Labelled) → c.call ≡ end_of w → FreesPinned past w → (k : Give) × In k (g ∷ []) × GivesUse k w
+        frees w is f =
+            let v : UseOf = record { label = w.label; token = w.token } in
+            let i = stands.uses.labels w
+            (standing.used_after script m past (learning m.host cause came) stands w f.0.0) in
+            let e = gives_up.end_same script m past cause came stands sound used within last w (sym call_c ∙ is) in
+            let same : v ≡ used = gives_up.the_label script m past cause came stands sound used within last v i
+            (gives_up.labelled_by script m past cause came stands sound used within last v i e) in (
+              g,
+              inl refl,
+              subst (GivesUse g) (sym (ap labelled same)) (gives_up.gives_use script m past cause came stands sound used
+                  within last c.k none_ending gone.tables.cache leaves.given.dirty g given refl cleans shown
+                  (message_to m (home_at g.fid.fileset) (GiveBack g)) refl),
+            )
+
+    -- it is new
+    new_give : IsOutstanding past g → ⊥
+    new_give o =
+        let low = stands.gives.last g (inr o.made) in
+        let number = given.number in
+        let at = ap (λ (f : Fid). last_counter m.gives.counters f.fileset) given.file in
+        omega (arith, low, number, at)
+
+    module _ (by : IsTurnDue m past cause came dues first) where
+      abbrev back : Message
+      back = message_to m (home_at g.fid.fileset) (GiveBack g)
+
+      pub given_due : (new : Tables) (draft after : Draft) → doing new draft ≡ opened gone
+          → after ≡ sending_due new draft → IsSoundGives new.gives
+          → RunsOn script old new past (step_of (Host m.host) cause after)
+          → HostDue script old.host past (step_of (Host m.host) cause after)
+      given_due new draft after is sends sound_new runs =
+          let tables : new ≡ x = ap (λ (z : Doing). z.tables) is ∙ tables_is in
+          let drafts : draft ≡ start = ap (λ (z : Doing). z.draft) is ∙ draft_is in
+          let whole : after ≡ sending_due x start = sends ∙ (λ i. sending_due (tables i) (drafts i)) in
+          subst (λ (d : Draft). HostDue script old.host past (step_of (Host m.host) cause d)) (sym whole)
+          (draft_due script old m past cause came dues c first turn by x
+          (subst (λ (z : Tables). IsSoundGives z.gives) tables sound_new) start refl begins_it
+          (subst (λ (q : Tables × Draft). RunsOn script old q.0 past (step_of (Host m.host) cause q.1))
+          (λ i. (tables i, whole i)) runs) gives_for (λ y i. elim i [ ]) tt
+          (all_fresh m past dues g back refl new_give by.fresh)
+          (all_once m past dues g back refl new_give by.fresh by.once_dues)
+          (λ w i. elim i [
+            | inl e ↦ (
+              subst (λ (z : Leave).
+                  AtHand (turns.by script old m past cause came dues c first turn start) past z.token)
+                  (sym e) (standing.hand_of script m past (learning m.host cause came) stands t t_held),
+              λ q. let p : ForCall ≡ AtEnd = ap (λ (z : Leave). z.why) (sym e) ∙ q in cc,
+            )
+            | inr n ↦ elim n [ ]
+          ]) ((λ i. i), tt) ((λ i. i), tt) (λ y i e. elim i [ ]))

@@ -11,6 +11,7 @@ use Rattle.host_tables.specs.Stands.{CanReply}
 use Rattle.host_tables.specs.declared.tables.Tables.{Tables}
 use Rattle.message_calls.specs.Replies.{spell_reply}
 use Rattle.message_types.specs.Soundness.{IsCall}
+use Rattle.run_rules.specs.HostDue.{HostDue}
 use Rattle.run_rules.specs.Steps.{IsNextLine, lines_of}
 use Rattle.run_rules.specs.declared.step.Cause.TheVariants.{Line as LineOf}
 use Rattle.run_rules.specs.declared.step.Step.{Step}
@@ -37,12 +38,18 @@ answered_step host line k call reply = step_of (Host host) (LineOf line) (record
   answers = record { host = host; k = k; call = call; reply = reply; first = true } ∷ [];
 })
 
--- the spelling of the reply is in front of the room, and the step of the next line is right
+-- the spelling of the reply is in front of the room and can be read back, the step of the next line is right, and what
+-- is due is done
 pub record SpokenRight (old new : Tables) (call : Call) (out : List ℕ) (count : ℕ) : Type 0 where
   pub tells : OnlyTells call
   pub can : CanReply old call
   pub spelled : take count out ≡ (spell_reply can.reply).bytes
+  pub fits : (spell_reply can.reply).fits ≡ true
   pub right : (script : Script) (past : List Step) → IsRunning script old past → (number : ℕ) (line : Line)
       → IsNextLine (lines_of script (Host old.host)) past number line → line.deed ≡ MakesCall call
       → IsCall script.roster call
       → RunsOn script old new past (answered_step old.host number (old.begun + 1) call can.reply)
+  pub due : (script : Script) (past : List Step) → IsRunning script old past → (number : ℕ) (line : Line)
+      → IsNextLine (lines_of script (Host old.host)) past number line → line.deed ≡ MakesCall call
+      → IsCall script.roster call
+      → HostDue script old.host past (answered_step old.host number (old.begun + 1) call can.reply)

@@ -13,7 +13,7 @@ ghost use Rattle.run_rules.specs.Steps.{bare};
 ghost use Rattle.host_tables.specs.Drafts.{step_of};
 ghost use Rattle.host_manager.specs.Closing.{MayEnd, awaits_bye, is_to_part};
 ghost use Rattle.std.specs.List.{list_any};
-ghost use Rattle.host_manager.specs.Due.{IsOwn, LineDue, OwnDue};
+ghost use Rattle.host_manager.specs.Due.{EndDue, IsOwn, LineDue, OwnDue, TakeDue};
 ghost use Rattle.host_manager.specs.Taking.{HearsMessage};
 ghost use Rattle.host_manager.specs.Spoken.{HasRoom, IsFree, SpokenRight, answered_step, tables_of};
 ghost use Rattle.host_tells.specs.Spoken.{StaysSilent};
@@ -90,7 +90,9 @@ impl Manager {
         ensures right { IfOk result (λ step.
             LineRight (tables_of self.old) (tables_of self.new) line (MakesCall call.now) step) }
         ensures own { IfOk result (λ step. IsOwn (tables_of self.old) step) }
+        ensures due { IfOk result (LineDue (tables_of self.old) line (MakesCall call.now)) }
     {
+        self.tables.cache.laws();
         self.tables.uses.laws();
         self.tables.gives.laws();
         let host = self.tables.host;
@@ -102,14 +104,15 @@ impl Manager {
 
     /// The next line makes a call that is a Read, Stat, List or GetAcl, and its need is covered: the reply's spelling
     /// is put into `out`, and its length answered. The step is the line's, with that one answer and nothing else.
-    /// None, and then nothing changes, where the call isn't one of these, its need isn't covered, or `out` is too
-    /// short. The machine is free. It takes no memory.
+    /// None, and then nothing changes, where the call isn't one of these, its need isn't covered, the reply has no
+    /// spelling that can be read back, or `out` is too short. The machine is free. It takes no memory.
     pub fn answer_into(&mut self, call: &Call, out: &mut [u8]) -> Option<usize>
         requires { IsFree (tables_of self.old) }
         ensures { (script : Script) (past : List StepOf) → IsRunning script (tables_of self.old) past
             → MatchOption result (StaysSilent (tables_of self.old) (tables_of self.new) call.now (length out.old))
             (λ count. SpokenRight (tables_of self.old) (tables_of self.new) call.now out.new count) }
     {
+        self.tables.gives.laws();
         answer_into(&mut self.tables, call, out)
     }
 
@@ -162,7 +165,9 @@ impl Manager {
     pub fn take(&mut self, message: Message) -> Result<Step, NoMemory>
         ensures right { IfOk result (λ step. TakeRight (tables_of self.old) (tables_of self.new) message step) }
         ensures own { IfOk result (IsOwn (tables_of self.old)) }
+        ensures due { IfOk result (TakeDue (tables_of self.old) message) }
     {
+        self.tables.cache.laws();
         self.tables.uses.laws();
         self.tables.gives.laws();
         let host = self.tables.host;
@@ -234,6 +239,7 @@ impl Manager {
             (λ step. EndRight (tables_of self.old) (tables_of self.new) step)) }
         ensures some { IfOk result (λ step. MayEnd (tables_of self.old) → step ≢ None) }
         ensures own { IfOk result (λ made. IfSome made (IsOwn (tables_of self.old))) }
+        ensures due { IfOk result (λ made. IfSome made (EndDue (tables_of self.old))) }
     {
         self.tables.cache.laws();
         self.tables.uses.laws();

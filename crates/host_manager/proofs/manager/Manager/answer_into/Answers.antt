@@ -6,4 +6,5 @@ use Rattle.host_manager.proofs.manager.Manager.answer_into.Goals as goal
 pub returns : goal.returns
 returns c = λ script past running.
     answers_into (tables_of c.args.self.now) c.answer_into.new.tables c.args.call.now (length c.args.out.now)
-    c.answer_into.new.out c.answer_into.result c.requires c.answer_into.ensures script past running
+    c.answer_into.new.out c.answer_into.result c.requires
+    c.laws.ensures c.answer_into.ensures script past running

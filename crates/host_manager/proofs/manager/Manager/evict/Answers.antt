@@ -1,7 +1,8 @@
+use Rattle.host_asks.proofs.Gone.{none_is}
 use Rattle.host_manager.proofs.EvictDue.{evict_due}
 use Rattle.host_manager.proofs.Evictions.{evicts_it, no_room, oldest_in, some_oldest}
 use Rattle.host_manager.proofs.Owned.{evicts_own}
-use Rattle.host_manager.proofs.Tests.{none_some, when_so}
+use Rattle.host_manager.proofs.Tests.{when_so}
 use Rattle.host_manager.specs.Closing.{EvictsIt}
 use Rattle.host_manager.specs.Due.{IsOwn, OwnDue}
 use Rattle.host_manager.specs.Spoken.{HasRoom, tables_of}
@@ -22,7 +23,7 @@ returns-clause-right c =
     (λ made. MatchOption made (new ≡ m) (λ step. OwnRight Evict m new step))
     c.drop_oldest-dropped.ensures c.some_when.ensures.done c.some_when.ensures.step
     (λ its. subst (OwnRight Evict m new) (sym c.step.ensures)
-    (evicts_it m new after c.in-Some.token (none_some m.call (sym c.is_some.ensures ∙ c.if-is_some.false))
+    (evicts_it m new after c.in-Some.token (none_is m.call (sym c.is_some.ensures ∙ c.if-is_some.false))
     (no_room m c.has_room.result c.has_room.ensures c.if-has_room.false) c.laws.ensures c.laws-2.ensures
     (sym c.in-Some.ensures) (subst (λ d. EvictsIt m d c.in-Some.token new after) c.new-draft.ensures its)))
 
@@ -45,7 +46,7 @@ returns-clause-due c =
     when_so c.drop_oldest-dropped.result c.some_when.result (Some c.step.result) _ (λ made. IfSome made (OwnDue m))
     c.drop_oldest-dropped.ensures c.some_when.ensures.done c.some_when.ensures.step
     (λ its. subst (OwnDue m) (sym c.step.ensures)
-    (evict_due m new after c.in-Some.token (none_some m.call (sym c.is_some.ensures ∙ c.if-is_some.false))
+    (evict_due m new after c.in-Some.token (none_is m.call (sym c.is_some.ensures ∙ c.if-is_some.false))
     (no_room m c.has_room.result c.has_room.ensures c.if-has_room.false) c.laws.ensures c.laws-2.ensures
     (sym c.in-Some.ensures) (subst (λ d. EvictsIt m d c.in-Some.token new after) c.new-draft.ensures its)))
 

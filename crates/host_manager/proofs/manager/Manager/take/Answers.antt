@@ -1,8 +1,8 @@
-use Rattle.base_types.specs.declared.ids.Node.TheVariants.{Host}
 use Rattle.host_manager.proofs.OwnTakes.{takes_own}
 use Rattle.host_manager.proofs.TakeRuns.{take_right}
+use Rattle.host_manager.proofs.TakesDue.{take_due}
 use Rattle.host_manager.proofs.Tests.{when_so}
-use Rattle.host_manager.specs.Due.{IsOwn}
+use Rattle.host_manager.specs.Due.{IsOwn, TakeDue}
 use Rattle.host_manager.specs.Spoken.{tables_of}
 use Rattle.host_manager.specs.Taking.{HearsMessage}
 use Rattle.host_manager.specs.Running.{TakeRight}
@@ -17,7 +17,7 @@ returns-clause-right c =
     when_so c.hear-heard.result c.when.result c.step.result _ (TakeRight m new c.args.message) c.hear-heard.ensures
     c.when.ensures.done c.when.ensures.step
     (λ its. subst (TakeRight m new c.args.message) (sym c.step.ensures)
-    (take_right m new after c.args.message c.laws.ensures c.laws-2.ensures c.laws-3.ensures
+    (take_right m new after c.args.message c.laws-2.ensures c.laws-3.ensures c.laws-4.ensures
     (subst (λ d. HearsMessage c.args.message m d new after) c.new-draft.ensures its)))
 
 pub returns-clause-own : goal.returns-clause-own
@@ -30,3 +30,14 @@ returns-clause-own c =
     (λ its. subst (IsOwn m) (sym c.step.ensures)
     (takes_own m c.args.message new after (subst (λ d. HearsMessage c.args.message m d new after) c.new-draft.ensures
     its)))
+
+pub returns-clause-due : goal.returns-clause-due
+returns-clause-due c =
+    let m = tables_of c.args.self.now in
+    let new = c.hear-heard.new.tables in
+    let after = c.hear-heard.new.draft in
+    when_so c.hear-heard.result c.when.result c.step.result _ (TakeDue m c.args.message) c.hear-heard.ensures
+    c.when.ensures.done c.when.ensures.step
+    (λ its. subst (TakeDue m c.args.message) (sym c.step.ensures)
+    (take_due m new after c.args.message c.laws-2.ensures c.laws-3.ensures c.laws-4.ensures c.laws.ensures
+    (subst (λ d. HearsMessage c.args.message m d new after) c.new-draft.ensures its)))
