@@ -12,7 +12,7 @@ use Rattle.base_types.specs.declared.access.AccessEntry.{AccessEntry}
 use Rattle.base_types.specs.declared.access.Who.{Who}
 use Rattle.base_types.specs.declared.access.Who.TheVariants.{Group, GroupObj, MaskObj, OtherObj, User, UserObj}
 use Rattle.host_tells.specs.Spoken.{Puts, Spells}
-use Rattle.message_calls.specs.Replies.{refusal_fields, refusal_tag, reply_fields}
+use Rattle.message_calls.specs.Replies.{refusal_fields, reply_fields}
 use Rattle.message_calls.specs.Replies.{spell_facts, spell_refusal, spell_reply}
 use Rattle.message_laws.proofs.Fits.{flag_in, number_in}
 use Rattle.message_laws.proofs.Parts.{bytes_fit, name_in, u32_in}

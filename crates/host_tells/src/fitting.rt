@@ -1,6 +1,7 @@
 //! Whether a reply has a spelling that can be read back.
-ghost use Rattle.std.specs.Prelude.{◌≡◌};
+ghost use Rattle.std.specs.Prelude.{◌≡◌, IsTrue};
 ghost use Rattle.std.specs.List.{list_all};
+ghost use Rattle.base_types.specs.Name.{is_name};
 ghost use Rattle.base_types.specs.declared.access.AccessEntry.{AccessEntry};
 ghost use Rattle.host_tells.specs.Spoken.{facts_told};
 ghost use Rattle.message_calls.specs.Replies.{spell_facts, spell_refusal};
@@ -30,7 +31,15 @@ fn each_name_fits(entries: &[DirEntry]) -> bool
 fn name_fits(name: &Name) -> bool
     ensures { result ≡ (spell_name name.now).fits }
 {
-    !name.as_bytes().is_empty()
+    bytes_fit(name.as_bytes())
+}
+
+// Whether the bytes of a name have one.
+fn bytes_fit(bytes: &[u8]) -> bool
+    requires { IsTrue (is_name bytes.now) }
+    ensures { result ≡ (spell_name bytes.now).fits }
+{
+    !bytes.is_empty()
 }
 
 /// What is told of an object.

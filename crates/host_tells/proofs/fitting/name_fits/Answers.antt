@@ -1,14 +1,11 @@
-use Rattle.std.proofs.Common.{List, ap, arith, length, not, subst, sym, ℕ, ◌∙◌, ◌≤◌}
-use Rattle.base_types.specs.Image.{AreBytes}
-use Rattle.host_tells.proofs.Fits.{name_fits, name_long, some_bytes}
+use Rattle.std.proofs.Common.{List, ap, subst, sym, true, ℕ, ◌∙◌, ◌≡◌}
+use Rattle.base_types.specs.Name.{is_name}
+use Rattle.message_parts.specs.Words.{spell_name}
 use Rattle.host_tells.proofs.fitting.name_fits.Goals as goal
 
+pub bytes_fit-requires : goal.bytes_fit-requires
+bytes_fit-requires c =
+    subst (λ (bytes : List ℕ). is_name bytes ≡ true) (sym c.as_bytes.ensures.value) c.as_bytes.ensures.name
+
 pub returns : goal.returns
-returns c =
-    let name = c.args.name.now in
-    let is = c.as_bytes.ensures.name in
-    let same = c.as_bytes.ensures.value in
-    let small = subst AreBytes same (λ k. omega (arith, c.as_bytes.type_inv k)) in
-    ap not c.is_empty.ensures
-    ∙ some_bytes c.as_bytes.result.now (subst (λ (bytes : List ℕ). 1 ≤ length bytes) (sym same) (name_long name is))
-    ∙ name_fits name is small
+returns c = c.bytes_fit.ensures ∙ ap (λ (bytes : List ℕ). (spell_name bytes).fits) c.as_bytes.ensures.value
