@@ -130,6 +130,8 @@ are_dirty m fid held spans length e f g =
     here m fid =
         let test = is_dirty_under (spans_of m.dirty fid) (dirty_length m fid) in
         record {
+          test = test;
+          some = refl;
           from = λ token h. let r = in_filter test (tokens_at m fid) token h in
               (r.0, dirty_why (spans_of m.dirty fid) (dirty_length m fid) token r.1);
           all = λ token h w. filter_in test (tokens_at m fid) token h

@@ -180,7 +180,10 @@ abbrev pub IsDirtyUnder : Tables → Fid → Token → Type 0
 IsDirtyUnder m fid token = ((at : ℕ) × (is_dirty m.dirty fid at ≡ true) × (updates_byte at token ≡ true))
     ⊎ ((updates_status token.kind ≡ true) × (is_some (dirty_length m fid) ≡ true))
 
+-- of the tokens of a file those under which something is dirty, in their order
 pub record AreDirty (m : Tables) (fid : Fid) (tokens : List Token) : Type 0 where
+  pub test : Token → Bool
+  pub some : tokens ≡ filter test (tokens_at m fid)
   pub from : (token : Token) → In token tokens → In token (tokens_at m fid) × IsDirtyUnder m fid token
   pub all : (token : Token) → In token (tokens_at m fid) → IsDirtyUnder m fid token → In token tokens
 

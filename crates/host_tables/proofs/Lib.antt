@@ -18,12 +18,8 @@ pub mod Ending
 pub mod Passing
 pub mod Writing
 pub mod Dropping
-pub mod Trying
 pub mod Using
-pub mod Replied
-pub mod AsksByLine
 pub mod Evicting
-pub mod GrantSteps
 pub mod Hearing
 pub mod HearingParts
 pub mod Heeding
@@ -37,7 +33,6 @@ pub mod WholeSteps
 pub mod LeavingSteps
 pub mod LeavingWhole
 pub mod Closing
-pub mod CallGives
 pub mod AnswerSteps
 pub mod RevokeSteps
 pub mod Updating

@@ -1,5 +1,5 @@
--- What is said beside what is decided and answered is sound: to a message that comes, where claims are granted, and where
--- tokens are asked back.
+-- What is said beside what is decided and answered is sound: to a message that comes, where claims are granted, and
+-- where tokens are asked back.
 use Rattle.std.proofs.Common.{◌≡◌, subst, sym}
 use Rattle.message_types.specs.declared.message.Message.{Message}
 use Rattle.token_manager.specs.Managers.{wanted}

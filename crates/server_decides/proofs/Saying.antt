@@ -1,5 +1,5 @@
 -- What is answered to wants is sound, and so are the tables then.
-use Rattle.std.proofs.Common.{◌≡◌, ◌∙◌, ◌+◌, ◌/◌, ◌≤◌, ℕ, Bool, true, false, ◌&&◌, ◌==◌, List, [], ◌∷◌, Option, Some}
+use Rattle.std.proofs.Common.{◌≡◌, ◌∙◌, ◌+◌, ◌/◌, ℕ, Bool, true, false, ◌&&◌, ◌==◌, List, [], ◌∷◌, Option, Some}
 use Rattle.std.proofs.Common.{None}
 use Rattle.std.proofs.Common.{ap, arith, inl, inr, refl, subst, sym}
 use Rattle.std.specs.List.{list_all}
@@ -19,9 +19,6 @@ use Rattle.token_types.specs.declared.token.Kind.{Kind}
 use Rattle.token_types.specs.declared.token.Kind.TheVariants.{Bytes, Lock, Opening, Status}
 use Rattle.token_types.specs.declared.token.Need.{Need}
 use Rattle.token_types.specs.declared.token.Token.{Token}
-use Rattle.token_manager.specs.Managers.{decide_answer}
-use Rattle.token_manager.specs.declared.want.Ready.{Ready}
-use Rattle.token_manager.specs.declared.want.Ready.TheVariants.{Granted as GrantedLater}
 use Rattle.message_types.specs.Soundness.{Brings, Each, HasRoom, IsBrought, IsNumbered, IsOutcome, IsReply, IsSound}
 use Rattle.message_types.specs.Soundness.{IsTold}
 use Rattle.message_types.specs.declared.asking.Change.{Change as ChangeOf}

@@ -1,5 +1,5 @@
 ghost use Rattle.std.specs.List.{list_all};
-ghost use Rattle.std.specs.Prelude.{◌≡◌, ◌<◌, [], true, Some, None, if◌then◌else◌, length, IfOk, IfSome, OnOk};
+ghost use Rattle.std.specs.Prelude.{◌≡◌, ◌<◌, ◌↔◌, [], true, Some, None, if◌then◌else◌, length, IfOk, IfSome, IsTrue, OnOk};
 ghost use Rattle.message_types.specs.Soundness.{IsTold};
 ghost use Rattle.run_rules.specs.declared.applied.Request.TheVariants.{Change as Changes};
 ghost use Rattle.store_memory.specs.Reading.{status_told};
@@ -191,7 +191,7 @@ fn entered<S: Store>(
 
 /// Whether a fileset that was found is here.
 fn is_known_here(tables: &Tables, fileset: Option<FilesetId>) -> bool
-    ensures { result ≡ true → IfSome fileset (λ id. is_of tables.now.server id ≡ true) }
+    ensures { IsTrue result ↔ IfSome fileset (λ id. is_of tables.now.server id ≡ true) }
 {
     match fileset {
         Some(fileset) => tables.is_here(fileset),

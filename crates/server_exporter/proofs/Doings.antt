@@ -87,7 +87,8 @@ pub few_hosts : (tree : Tree) (state : StoreState) (host : HostId) → StandsFor
 few_hosts tree state host k known =
     let roster : IsHost tree.roster host = subst (λ (r : Roster). IsHost r host) k.keeps.roster known in
     let four = and_parts _ _ (and_parts _ _ (and_parts _ _ k.formed.roster).0).0 in
-    let most : length tree.roster.hosts ≤ HOSTS_MAX = leb-true (length tree.roster.hosts) HOSTS_MAX (and_parts _ _ four.0).1 in
+    let most : length tree.roster.hosts ≤ HOSTS_MAX = leb-true (length tree.roster.hosts) HOSTS_MAX
+    (and_parts _ _ four.0).1 in
     omega (arith, roster, most)
 
 module _ (tree : Tree) (st : StoreState) (host : HostId) (user : User) (c : ChangeOf) (asks : Asks tree st host user c)

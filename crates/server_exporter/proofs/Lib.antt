@@ -1,4 +1,5 @@
 pub mod Resting
+pub mod Stores
 pub mod Starting
 pub mod Lines
 pub mod Begins

@@ -1,6 +1,6 @@
 -- What a step says is sound, by what its parts answer.
-use Rattle.std.proofs.Common.{◌≡◌, ◌∙◌, ℕ, List, [], true, refl, sym, ap, subst}
-use Rattle.std.specs.Prelude.{IfOk, OnOk, Result, Ok, Err}
+use Rattle.std.proofs.Common.{◌≡◌, ◌∙◌, ℕ, List, [], true, sym, ap, subst}
+use Rattle.std.specs.Prelude.{OnOk, Result, Ok, Err}
 use Rattle.base_types.specs.declared.ids.Node.TheVariants.{Server}
 use Rattle.message_types.specs.declared.message.Message.{Message}
 use Rattle.run_rules.specs.declared.step.Cause.{Cause}

@@ -1,4 +1,5 @@
 pub mod Machines
+pub mod Stores
 pub use Rattle.server_decides.specs.ExporterFault
 pub use Rattle.server_decides.specs.Keeper
 pub use Rattle.server_decides.specs.Keepers

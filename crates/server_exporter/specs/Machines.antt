@@ -85,8 +85,8 @@ pub record IsTold (server : ServerId) (past : List Doing) (host : HostId) (answe
   pub applied : (g : AppliedGive) → In g answer.applied → IsApplied server past host g
   pub left_out : (i : TokenId) → In i answer.left_out → GivenUp server past host i
 
--- Of what was said in this epoch: it was said since that began, each Reclaimed tells so, and no Change that was answered
--- waits.
+-- Of what was said in this epoch: it was said since that began, each Reclaimed tells so, and no Change that was
+-- answered waits.
 pub record AreTold (server : ServerId) (past : List Doing) : Type 0 where
   pub claims : (h : HostId) (n : ℕ) (answer : ReclaimedOf) → SentTo past h (epoch past) n (Reclaimed answer)
       → IsTold server past h answer
@@ -96,8 +96,9 @@ pub record AreTold (server : ServerId) (past : List Doing) : Type 0 where
       → SentTo past w.host (epoch past) n (Done d) → d.fileset ≡ c.fileset → d.bring.number ≡ c.number → ⊥
 
 -- Its tables stand for its doings, and where it is rested no Change is left that is to be decided. Hosts of the roster
--- come on the list, each once; of a host and a fileset one give-back and one Change are the last; and tokens are granted
--- on filesets that are here. `told`: of what was said in this epoch. `quiet`: so far each step was brought to its end.
+-- come on the list, each once; of a host and a fileset one give-back and one Change are the last; and tokens are
+-- granted on filesets that are here. `told`: of what was said in this epoch. `quiet`: so far each step was brought to
+-- its end.
 pub record IsAt (past : List Doing) (tree : Tree) (x : Exporter) : Type 0 where
   pub tables : Stands past x.tables
   pub once : EachOnce x.tables.hosts.listed

@@ -1,7 +1,7 @@
 -- Acts that may be given once more.
 use Rattle.std.proofs.Common.{◌≡◌, ◌≤◌, ◌⊎◌, ℕ, zero, suc, ◌+◌, List, [], ◌∷◌, ◌++◌, length, take, inl, inr, refl, sym}
 use Rattle.std.proofs.Common.{subst, ◌∙◌, ap, arith}
-use Rattle.std.specs.Prelude.{◌==◌, Bool, true, Option, Some, None, Result, Ok, Err, OnOk, OnErr, slice_set}
+use Rattle.std.specs.Prelude.{◌==◌, true, Option, Some, None, Result, Ok, Err, OnOk, OnErr, slice_set}
 use Rattle.std.specs.Option.{option_map}
 use Rattle.base_types.specs.declared.ids.HostId.{HostId}
 use Rattle.base_types.specs.declared.ids.ServerId.{ServerId}

@@ -1,5 +1,5 @@
 ghost use Rattle.std.specs.Option.{option_copied};
-ghost use Rattle.std.specs.Prelude.{◌≡◌, ◌≤◌, ◌⊎◌, ◌↔◌, ℕ, length, take, unwrap_or, true, IsTrue, IfOk, OnOk, OnErr};
+ghost use Rattle.std.specs.Prelude.{◌≡◌, ◌≤◌, ◌⊎◌, ◌↔◌, ℕ, length, take, unwrap_or, IsTrue, IfOk, OnOk, OnErr};
 ghost use Rattle.store_state.specs.Rows.{itself, numbered_name};
 ghost use Rattle.message_types.specs.Soundness.{IsCall, IsHost, IsReply};
 ghost use Rattle.store_acts.specs.Acts.{act_done, dones_of, state_after};
@@ -298,7 +298,7 @@ fn reply_copied(reply: &Reply) -> Result<Reply, NoMemory>
 
 /// Whether a reply has room in a message: bytes and a list of names have room for their count.
 fn is_reply(reply: &Reply) -> bool
-    ensures { result ≡ true → IsReply reply.now }
+    ensures { IsTrue result ↔ IsReply reply.now }
 {
     match reply {
         Reply::Bytes(bytes) => bytes.len() <= 4_294_967_295,

@@ -1,5 +1,4 @@
 pub mod Still
-pub mod Holes
 pub mod Idle
 pub mod Resting
 pub mod Quiet
@@ -18,7 +17,6 @@ pub mod Waiting
 pub mod Making
 pub mod Restarting
 pub mod Starting
-pub mod Returning
 pub mod Without
 pub mod Leaving
 pub mod Pinning
@@ -26,7 +24,6 @@ pub mod Anewing
 pub mod Admitting
 pub mod Listed
 pub mod Saying
-pub mod Welcoming
 pub mod Hailing
 pub mod Lapsing
 pub mod Linking

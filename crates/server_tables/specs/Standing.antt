@@ -153,7 +153,7 @@ pub record IsLastChange (past : List Doing) (last : LastChange) : Type 0 where
       × ((u : Token) → In u last.done.bring.tokens → u ≡ t)
 
 -- The Changes that were answered. A Change that waits is above the last one that was written down, and not below the
--- last one that was answered: E14.
+-- last one that was answered: an older one is dropped.
 pub record ChangesStand (past : List Doing) (changes : List LastChange) : Type 0 where
   pub last : (c : LastChange) → In c changes → IsLastChange past c
   pub last_all : (h : HostId) (e n : ℕ) (d : DoneOf) → SentTo past h e n (Done d)

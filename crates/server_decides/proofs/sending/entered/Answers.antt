@@ -15,4 +15,4 @@ returns-clause-sending g c tells =
 pub returns-clause-sayable : goal.returns-clause-sayable
 returns-clause-sayable g c here =
     entered_sayable c.args.tables.now.server c.args.change.now c.in_ok-fileset.fileset c.entering_by.result
-    c.entering_by.ensures here (c.is_known_here.ensures (cc))
+    c.entering_by.ensures here (c.is_known_here.ensures.0 (cc))

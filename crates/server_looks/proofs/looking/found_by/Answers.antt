@@ -1,9 +1,9 @@
 use Rattle.std.proofs.Common.{◌≡◌, ◌∙◌, []}
 use Rattle.std.specs.Prelude.{if◌then◌else◌}
 use Rattle.std.proofs.lemmas.Result.{IfOk-weaker}
-use Rattle.server_keeps.specs.Asking.{change_needs, change_refused, needs_some, needs_told, refusal_told}
+use Rattle.server_keeps.specs.Asking.{change_refused, refusal_told}
 use Rattle.server_looks.specs.declared.looking.Found.{Found}
-use Rattle.server_looks.proofs.Looked.{calls_need, calls_refused}
+use Rattle.server_looks.proofs.Looked.{calls_refused}
 use Rattle.server_looks.proofs.looking.found_by.Goals as goal
 
 pub returns-else-change-clause-refusal : goal.returns-else-change-clause-refusal

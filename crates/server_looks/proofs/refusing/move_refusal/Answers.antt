@@ -1,7 +1,6 @@
 use Rattle.std.proofs.Common.{◌≡◌, ◌∙◌, ap, sym}
 use Rattle.std.specs.Prelude.{Some}
 use Rattle.base_types.specs.declared.ids.Fid.{Fid}
-use Rattle.base_types.specs.declared.user.User.{User}
 use Rattle.store_memory.specs.Reading.{status_told}
 use Rattle.server_looks.proofs.Looked.{moved_if}
 use Rattle.server_looks.proofs.refusing.move_refusal.Goals as goal

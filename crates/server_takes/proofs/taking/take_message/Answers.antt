@@ -3,7 +3,7 @@ use Rattle.std.specs.Prelude.{None, OnOk}
 use Rattle.std.proofs.lemmas.Result.{on_ok_weaker}
 use Rattle.message_types.specs.declared.message.Body.{Body}
 use Rattle.server_tables.specs.Listing.{has_host}
-use Rattle.server_takes.specs.Messages.{IsStored, body_state, needs_by, state_taken, told_by}
+use Rattle.server_takes.specs.Messages.{body_state, needs_by, told_by}
 use Rattle.server_takes.specs.Taking.{IsBodyTaken}
 use Rattle.server_takes.proofs.Bodies.{body_other, on_both, other_taken, state_down, state_up, taken_down, taken_up}
 use Rattle.server_takes.proofs.taking.take_message.Goals as goal

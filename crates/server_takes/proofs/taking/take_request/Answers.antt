@@ -2,8 +2,7 @@ use Rattle.std.proofs.Common.{[], ◌≡◌, ◌∙◌, false, refl, sym, ap, su
 use Rattle.std.specs.Prelude.{None, OnOk}
 use Rattle.std.proofs.lemmas.Result.{on_ok_weaker}
 use Rattle.message_types.specs.declared.message.Body.{Body}
-use Rattle.store_state.specs.declared.state.StoreState.{StoreState}
-use Rattle.server_takes.specs.Messages.{IsStored, asks_store, needs_by, request_state, told_by}
+use Rattle.server_takes.specs.Messages.{IsStored, needs_by, request_state, told_by}
 use Rattle.server_takes.specs.Taking.{IsRequestTaken}
 use Rattle.server_takes.proofs.Bodies.{alone_read, asks_none, call_known, give_known, host_known, on_both, on_ok_is}
 use Rattle.server_takes.proofs.Bodies.{request_stays}
