@@ -1,3 +1,4 @@
 pub mod Room
 pub mod Spelled
+pub mod Fits
 pub mod Speaking

@@ -1,6 +1,6 @@
 -- What is answered at once is what the call table replies.
 use Rattle.std.proofs.Common.{◌≡◌, ◌<◌, ◌+◌, ◌∙◌, ◌⊎◌, Err, IfOk, List, MatchOption, None, Ok, Option, Result}
-use Rattle.std.proofs.Common.{Some, [], ap, arith, inl, inr, length, refl, subst, sym, ℕ}
+use Rattle.std.proofs.Common.{Some, [], ap, arith, false, inl, inr, length, refl, subst, sym, ℕ}
 use Rattle.base_types.specs.declared.ids.Fid.{Fid}
 use Rattle.base_types.specs.declared.span.Span.{Span}
 use Rattle.host_calls.proofs.Starting.{place_of, starts_in}
@@ -116,19 +116,22 @@ module _ (m : Tables) (call : Call) (place : Place) (told : told_place call ≡ 
       no_reply : reply_now (meant m call verdict) ≡ None → CanReply m call → ⊥
       no_reply none can = none_some can.reply (sym (ap reply_now verdict_is ∙ none) ∙ can.settled)
 
+      -- there isn't room for it, or it has no spelling that can be read back
+      abbrev pub IsUnspelled : List ℕ → CanReply m call → Type 0
+      IsUnspelled old can =
+          (length old < length (spell_reply can.reply).bytes) ⊎ ((spell_reply can.reply).fits ≡ false)
+
       pub is_silent : (old new : List ℕ) → Spells (reply_now (meant m call verdict)) old new None →
-          (CanReply m call → ⊥) ⊎ ((can : CanReply m call) × (length old < length (spell_reply can.reply).bytes))
+          (CanReply m call → ⊥) ⊎ ((can : CanReply m call) × IsUnspelled old can)
       is_silent old new spells = by_reply (reply_now (meant m call verdict)) refl spells
         where
           by_reply : (o : Option Reply) → reply_now (meant m call verdict) ≡ o → Spells o old new None →
-              (CanReply m call → ⊥)
-              ⊎ ((can : CanReply m call) × (length old < length (spell_reply can.reply).bytes))
+              (CanReply m call → ⊥) ⊎ ((can : CanReply m call) × IsUnspelled old can)
           by_reply None is s = inl (no_reply is)
-          by_reply (Some reply) is s =
-              let low : length old < length (spell_reply reply).bytes = omega (arith, s) in inr (
-                can_reply reply is,
-                low,
-              )
+          by_reply (Some reply) is (inl short) =
+              let low : length old < length (spell_reply reply).bytes = omega (arith, short) in
+              inr (can_reply reply is, inl low)
+          by_reply (Some reply) is (inr unfit) = inr (can_reply reply is, inr unfit)
 
       pub speaks : (old new : List ℕ) (count : ℕ) → Spells (reply_now (meant m call verdict)) old new (Some count) →
           (marked after : Tables) → MarksUsed m call root path verdict marked →
@@ -140,12 +143,13 @@ module _ (m : Tables) (call : Call) (place : Place) (told : told_place call ≡ 
               SpeaksAtOnce m after call new count
           by_reply None is s = absurd (none_some count (sym s))
           by_reply (Some reply) is s =
-              let low = s.1 in
-              let same = s.2 in record {
+              let low = s.0.1 in
+              let same = s.0.2 in record {
                 tells = told_tells call place told;
                 can = can_reply reply is;
                 room = omega (arith, low, same);
-                spelled = s.3;
+                spelled = s.0.3;
+                fits = s.1;
                 root = root;
                 path = path;
                 walks = walks;

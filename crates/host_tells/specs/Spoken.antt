@@ -1,6 +1,6 @@
 -- What a host owes where it answers a call at once, without memory.
 use Rattle.std.specs.Prelude.{[], List, None, Option, Some, length, take, ℕ, ◌+◌, ◌++◌, ◌<◌, ◌≡◌, ◌≤◌, ◌⊎◌}
-use Rattle.std.specs.Prelude.{Err, Ok, Result, min}
+use Rattle.std.specs.Prelude.{Err, Ok, Result, false, min, true}
 use Rattle.base_types.specs.declared.ids.Fid.{Fid}
 use Rattle.base_types.specs.declared.user.User.{User}
 use Rattle.host_calls.specs.Answering.{MarksUsed}
@@ -29,10 +29,14 @@ Puts bytes at old new None = length old < at + length bytes
 Puts bytes at old new (Some end) = (end ≡ at + length bytes) × (end ≤ length old) × (length new ≡ length old)
     × (take end new ≡ take at old ++ bytes)
 
--- the spelling of a reply is put into room; where there is none, nothing is answered
+-- the spelling of a reply is put into room, and can be read back; nothing is answered where there is no reply, or none
+-- that can be spelled, or there isn't room
 abbrev pub Spells : Option Reply → List ℕ → List ℕ → Option ℕ → Type 0
 Spells None old new result = result ≡ None
-Spells (Some reply) old new result = Puts (spell_reply reply).bytes 0 old new result
+Spells (Some reply) old new None =
+    Puts (spell_reply reply).bytes 0 old new None ⊎ ((spell_reply reply).fits ≡ false)
+Spells (Some reply) old new (Some count) =
+    Puts (spell_reply reply).bytes 0 old new (Some count) × ((spell_reply reply).fits ≡ true)
 
 -- the place of a call that only tells of an object
 abbrev pub told_place : Call → Option Place
@@ -79,11 +83,13 @@ SpeaksCounted m call root path begun old new after (Some count) =
     (marked : Tables) × SpeaksAlong m call root path old new marked (Some count)
     × (after ≡ record marked { begun = begun; lost = [] })
 
--- nothing changes: the call isn't one of these, or can't be replied to, or there isn't room for the reply, or no
--- further call can be counted
+-- nothing changes: the call isn't one of these, or can't be replied to, or there isn't room for the reply, or it has no
+-- spelling that can be read back, or no further call can be counted
 abbrev pub StaysSilent : Tables → Tables → Call → ℕ → Type 0
 StaysSilent old new call room = (new ≡ old) × ((OnlyTells call → ⊥) ⊎ (CanReply old call → ⊥)
-    ⊎ ((can : CanReply old call) × (room < length (spell_reply can.reply).bytes)) ⊎ (4294967295 ≤ old.begun))
+    ⊎ ((can : CanReply old call)
+    × ((room < length (spell_reply can.reply).bytes) ⊎ ((spell_reply can.reply).fits ≡ false)))
+    ⊎ (4294967295 ≤ old.begun))
 
 -- the spelling of the reply is in front of the room; what the call used is marked, and the call is counted
 pub record SpeaksAtOnce (old new : Tables) (call : Call) (out : List ℕ) (count : ℕ) : Type 0 where
@@ -91,6 +97,7 @@ pub record SpeaksAtOnce (old new : Tables) (call : Call) (out : List ℕ) (count
   pub can : CanReply old call
   pub room : count ≤ length out
   pub spelled : take count out ≡ (spell_reply can.reply).bytes
+  pub fits : (spell_reply can.reply).fits ≡ true
   pub root : Fid
   pub path : List (List ℕ)
   pub walks : WalksSo old call root path

@@ -1,5 +1,6 @@
 //! Calls that are answered at once from what the host sees, without memory.
-ghost use Rattle.std.specs.Prelude.{◌≡◌, ◌≤◌, ◌++◌, ◌-◌, MatchOption, None, Ok, Some, false, length};
+ghost use Rattle.std.specs.Prelude.{◌≡◌, ◌≤◌, ◌++◌, ◌-◌, IfSome, MatchOption, None, Ok, Some, false, length, true};
+ghost use Rattle.base_types.specs.Image.{AreBytes};
 ghost use Rattle.host_calls.specs.Answering.{MarksUsed};
 ghost use Rattle.host_calls.specs.Looking.{AreSized, AreUses, CanRead, IsFresh, access_of, facts_of, meant, of_seen};
 ghost use Rattle.host_tables.specs.Tables.{content, held_of};
@@ -7,7 +8,7 @@ ghost use Rattle.host_tells.specs.Spoken.{Puts, SpeaksAlong, SpeaksAtOnce, Speak
 ghost use Rattle.host_tells.specs.Spoken.{facts_told, told_place};
 ghost use Rattle.host_walk.specs.Bytes.{bytes_seen};
 ghost use Rattle.host_walk.specs.Views.{nature_told};
-ghost use Rattle.message_parts.specs.Words.{spell_u32};
+ghost use Rattle.message_parts.specs.Words.{spell_bytes, spell_u32};
 ghost use Rattle.need_host.specs.Calls.{reply_now};
 ghost use Rattle.token_types.specs.Covers.{CoversBetween};
 ghost use Rattle.tree_calls.specs.declared.call.Call.{Call as CallOf};
@@ -15,6 +16,7 @@ ghost use Rattle.tree_calls.specs.declared.reply.Reply.TheVariants.{Access, Byte
 ghost use Rattle.tree_laws.specs.Parts.Part.{Entries};
 ghost use Rattle.tree_objects.specs.Entries.{names_of};
 
+use crate::fitting::{access_fits, facts_fit, names_fit, refusal_fits};
 use crate::putting::{put_byte, put_number};
 use crate::spelling::{put_access, put_facts, put_names, put_refusal};
 use base_types::{AccessList, Fid, Name, Span, User};
@@ -26,8 +28,8 @@ use tree_calls::{Call, Place, Refusal, Status, Which};
 /// Answers a Read, Stat, List or GetAcl whose need is covered: puts the reply's spelling into `out`, marks what the
 /// call used, counts it, and answers the spelling's length. It takes no memory.
 ///
-/// None, and then no table changes, where the call isn't one of these, or lacks a token, or `out` is too short for the
-/// reply, or 2^32 - 1 calls were begun.
+/// None, and then no table changes, where the call isn't one of these, or lacks a token, or the reply has no spelling
+/// (it has too many names), or `out` is too short for it, or 2^32 - 1 calls were begun.
 pub fn answer_into(tables: &mut Tables, call: &Call, out: &mut [u8]) -> Option<usize>
     ensures { AreUses tables.old → AreSized tables.old.cache → MatchOption result
         (StaysSilent tables.old tables.new call.now (length out.old))
@@ -108,7 +110,8 @@ fn answer_so(
     Some(count)
 }
 
-// Puts the spelling of a reply into room, and answers its length; None where there isn't room for it, or no reply.
+// Puts the spelling of a reply into room, and answers its length; None where there isn't room for it, or it has none, or
+// there is no reply.
 fn spell(tables: &Tables, verdict: &Result<Verdict, Refusal>, out: &mut [u8]) -> Option<usize>
     requires { CanRead tables.now verdict.now }
     ensures { (call : CallOf) → Spells (reply_now (meant tables.now call verdict.now)) out.old out.new result }
@@ -138,6 +141,9 @@ fn spell_by(tables: &Tables, verdict: Verdict, out: &mut [u8]) -> Option<usize>
 fn spell_refused(refusal: Refusal, out: &mut [u8]) -> Option<usize>
     ensures { Spells (Some (Refused refusal)) out.old out.new result }
 {
+    if !refusal_fits(&refusal) {
+        return None;
+    }
     let at = put_byte(out, 0, 5)?;
     put_refusal(out, at, &refusal)
 }
@@ -155,8 +161,10 @@ fn spell_bytes(tables: &Tables, fid: Fid, span: Span, out: &mut [u8]) -> Option<
 fn put_bytes(tables: &Tables, fid: Fid, span: Span, at: usize, out: &mut [u8]) -> Option<usize>
     requires covered { CoversBetween (held_of tables.now) fid false span.from span.to }
     requires room { at ≤ length out.old }
-    ensures { Puts ((spell_u32 (span.to - span.from)).bytes
+    ensures puts { Puts ((spell_u32 (span.to - span.from)).bytes
         ++ bytes_seen (content tables.now.cache) fid span.from (span.to - span.from)) at out.old out.new result }
+    ensures fits { IfSome result (λ end. (spell_bytes 4294967295 (bytes_seen (content tables.now.cache) fid span.from
+        (span.to - span.from))).fits ≡ true) }
 {
     let at = put_number(out, at, span.len())?;
     put_content(tables, fid, span, at, out)
@@ -167,8 +175,10 @@ fn put_bytes(tables: &Tables, fid: Fid, span: Span, at: usize, out: &mut [u8]) -
 fn put_content(tables: &Tables, fid: Fid, span: Span, at: usize, out: &mut [u8]) -> Option<usize>
     requires covered { CoversBetween (held_of tables.now) fid false span.from span.to }
     requires room { at ≤ length out.old }
-    ensures { Puts (bytes_seen (content tables.now.cache) fid span.from (span.to - span.from)) at
+    ensures puts { Puts (bytes_seen (content tables.now.cache) fid span.from (span.to - span.from)) at
         out.old out.new result }
+    ensures small { IfSome result (λ end. AreBytes (bytes_seen (content tables.now.cache) fid span.from
+        (span.to - span.from))) }
 {
     let count = span.len() as usize;
     if count > out.len() - at {
@@ -183,7 +193,8 @@ fn put_content(tables: &Tables, fid: Fid, span: Span, at: usize, out: &mut [u8])
 fn show(tables: &Tables, fid: Fid, span: Span, out: &mut [u8])
     requires covered { CoversBetween (held_of tables.now) fid false span.from span.to }
     requires count { length out.old ≡ span.to - span.from }
-    ensures { out.new ≡ bytes_seen (content tables.now.cache) fid span.from (span.to - span.from) }
+    ensures shown { out.new ≡ bytes_seen (content tables.now.cache) fid span.from (span.to - span.from) }
+    ensures small { AreBytes out.new }
 {
     tables.cache.bytes_into(fid, span.from, out);
 }
@@ -191,8 +202,12 @@ fn show(tables: &Tables, fid: Fid, span: Span, out: &mut [u8])
 fn spell_names(tables: &Tables, fid: Fid, out: &mut [u8]) -> Option<usize>
     ensures { Spells (Some (Names (names_of (content tables.now.cache fid Entries)))) out.old out.new result }
 {
+    let told = tables.cache.entries(fid);
+    if !names_fit(told) {
+        return None;
+    }
     let at = put_byte(out, 0, 2)?;
-    put_names(out, at, tables.cache.entries(fid))
+    put_names(out, at, told)
 }
 
 fn spell_facts(tables: &Tables, fid: Fid, out: &mut [u8]) -> Option<usize>
@@ -208,6 +223,9 @@ fn spell_facts(tables: &Tables, fid: Fid, out: &mut [u8]) -> Option<usize>
 fn spell_told(status: &Status, user: &User, out: &mut [u8]) -> Option<usize>
     ensures { Spells (Some (Facts (facts_told status.now user.now))) out.old out.new result }
 {
+    if !facts_fit(status, user) {
+        return None;
+    }
     let at = put_byte(out, 0, 3)?;
     put_facts(out, at, status, user)
 }
@@ -233,6 +251,9 @@ fn spell_shown(status: &Status, which: Which, out: &mut [u8]) -> Option<usize>
 fn spell_access(list: &AccessList, out: &mut [u8]) -> Option<usize>
     ensures { Spells (Some (Access list.now)) out.old out.new result }
 {
+    if !access_fits(list) {
+        return None;
+    }
     let at = put_byte(out, 0, 4)?;
     put_access(out, at, list)
 }

@@ -3,6 +3,7 @@
 #![tactic(auto)]
 
 mod at_once;
+mod fitting;
 mod putting;
 mod spelling;
 

@@ -8,11 +8,14 @@ bytes_into-requires c at low high =
     let ordered = c.args.span.ordered in
     c.requires.covered at low (omega (arith, high, count, ordered))
 
-pub returns : goal.returns
-returns c =
+pub returns-clause-shown : goal.returns-clause-shown
+returns-clause-shown c =
     let span = c.args.span in
     let count = c.bytes_into.ensures.count in
     let size = c.requires.count in
     let same : length c.bytes_into.new.out ≡ span.to - span.from = count ∙ size in
     shown_are c.args.tables.now.cache c.args.fid c.bytes_into.new.out span.from (span.to - span.from) same
     (λ at low. c.bytes_into.ensures.bytes at (omega (arith, low, size)))
+
+pub returns-clause-small : goal.returns-clause-small
+returns-clause-small c at = omega (arith, c.type_inv.out at)

@@ -2,10 +2,12 @@ use Rattle.std.proofs.Common.{List, None, Ok, Option, refl, subst, sym, ℕ}
 use Rattle.host_calls.specs.Looking.{CanRead, meant}
 use Rattle.host_calls.specs.declared.looking.Verdict.{Verdict}
 use Rattle.host_tells.proofs.Speaking.{done_else}
+use Rattle.host_tells.proofs.Fits.{done_fits, spelled}
 use Rattle.host_tells.proofs.Spelled.{done_is}
 use Rattle.host_tells.specs.Spoken.{Puts, Spells}
 use Rattle.need_host.specs.Calls.{reply_now}
 use Rattle.tree_calls.specs.declared.reply.Reply.{Reply}
+use Rattle.tree_calls.specs.declared.reply.Reply.TheVariants.{Ok as Done}
 use Rattle.host_tells.proofs.at_once.spell_by.Goals as goal
 
 pub spell_bytes-requires : goal.spell_bytes-requires
@@ -58,5 +60,5 @@ returns-in_default c call =
     d.not-Syncs
     d.not-Gives d.not-Asks in
     subst (λ (r : Option Reply). Spells r c.args.out.now c.put_byte.new.out c.put_byte.result) (sym done)
-    (subst (λ (bytes : List ℕ). Puts bytes 0 c.args.out.now c.put_byte.new.out c.put_byte.result) done_is
-    c.put_byte.ensures)
+    (spelled Done c.args.out.now c.put_byte.new.out c.put_byte.result (subst (λ (bytes : List ℕ). Puts bytes 0
+    c.args.out.now c.put_byte.new.out c.put_byte.result) done_is c.put_byte.ensures) done_fits)
