@@ -76,7 +76,8 @@ module _ {N : Type 0} (tells : Type 0) (stands : Part → N → List Round → L
     held = closed_has_held script [] hub turns passes journal closed
 
     -- the steps of a node in the journal are those of its rounds
-    own_is : (s : Seat N) (i : In s seats) → mine s.pass.node (past_of journal) ≡ steps_in (is_through s i).seated.rounds
+    own_is : (s : Seat N) (i : In s seats) → mine s.pass.node (past_of journal)
+        ≡ steps_in (is_through s i).seated.rounds
     own_is s i =
         let seated = (is_through s i).seated in
         (held.whole s.pass (map_in pass_of s seats i)).past seated.rounds seated.made
@@ -178,7 +179,8 @@ module _ {N : Type 0} (tells : Type 0) (stands : Part → N → List Round → L
         rules = rules;
         done = done;
         run = (λ told. is_run script start epochs can journal starts epochs_are hub passes held (knows told) all);
-        dutiful = (λ told. is_dutiful script start epochs can journal starts epochs_are hub passes held (knows told) all);
+        dutiful = (λ told. is_dutiful script start epochs can journal starts epochs_are hub passes held
+            (knows told) all);
         ended = (λ told. is_ended script start epochs can journal starts epochs_are hub passes held (knows told) all);
         count = size ∙ many;
         stand = stand_at;

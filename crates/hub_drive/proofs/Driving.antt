@@ -1,6 +1,7 @@
 -- The seats at the start of a run and at its end.
-use Rattle.std.proofs.Common.{◌≡◌, ℕ, zero, suc, ◌+◌, ◌<◌, List, [], ◌∷◌, ◌++◌, Option, None, map, length, get_or, refl, sym, ap, ◌∙◌, subst, arith}
-use Rattle.std.specs.Prelude.{IfErr, IfOk, Result, Ok, Err}
+use Rattle.std.proofs.Common.{◌≡◌, inl, inr, ℕ, zero, suc, ◌+◌, ◌<◌, List, [], ◌∷◌, ◌++◌, Option, None, Some, map}
+use Rattle.std.proofs.Common.{length, get_or, refl, sym, ap, ◌∙◌, subst, arith}
+use Rattle.std.specs.Prelude.{IfErr, IfOk, OnOk, Result, Ok, Err}
 use Rattle.base_types.specs.declared.ids.Node.{Node}
 use Rattle.base_types.specs.declared.ids.Node.TheVariants.{Host}
 use Rattle.tree_answers.specs.declared.tree.Tree.{Tree}
@@ -12,11 +13,15 @@ use Rattle.hub_turns.specs.Views.{HubView, NodeView}
 use Rattle.run_rules.specs.declared.journal.Journal.{Journal}
 use Rattle.run_rules.specs.declared.step.Step.{Step}
 use Rattle.hub_laws.specs.Keeping.{Round}
-use Rattle.hub_drive.specs.Driving.{AreNodes, CanStart, HasDriven, IsFault, IsFree, IsHubOf, IsJournalOf, ShowsFault, beginning}
-use Rattle.hub_node.specs.Nodes.{Beginning, HandsIn, Part, part_of}
-use Rattle.hub_drive.specs.Seats.{EachAt, HasGone, IsHere, IsIn, IsSeated, IsThrough, PairsAt}
+use Rattle.hub_drive.specs.Driving.{AreNodes, CanStart, HasDriven, HaveRested, IsFault, IsFree, IsHubOf, IsJournalOf}
+use Rattle.hub_drive.specs.Driving.{ShowsFault, beginning}
+use Rattle.hub_node.specs.Nodes.{Beginning, HandsIn, HasBecome, Part, part_of}
+use Rattle.hub_node.specs.declared.node.NodeFault.{NodeFault}
+use Rattle.hub_node.specs.declared.node.NodeFault.TheVariants.{Store as StoreFailed}
+use Rattle.hub_drive.specs.Seats.{EachAt, HasGone, IsAtRest, IsHere, IsIn, IsSeated, IsThrough, PairsAt}
 use Rattle.hub_drive.specs.declared.driver.DriveFault.{DriveFault}
 use Rattle.hub_drive.specs.declared.driver.DriveFault.TheVariants.{Store, Memory, Stuck}
+use Rattle.hub_drive.specs.declared.driver.Waiting.{Waiting}
 use Rattle.hub_drive.specs.declared.seat.Seat.{Seat}
 use Rattle.hub_drive.proofs.Closing.{driven}
 use Rattle.hub_drive.proofs.Lists.{map_here, map_size, maps_same, same_at}
@@ -29,6 +34,15 @@ pub if_err : {T E : Type 0} (r : Result T E) (P Q : E → Type 0) → ((x : E) �
 if_err (Ok x) P Q f h = tt
 if_err (Err e) P Q f h = f e h
 
+-- what holds whatever comes
+pub on_any : {T E P : Type 0} (r : Result T E) → P → OnOk r P
+on_any (Ok x) p = p
+on_any (Err e) p = tt
+
+pub on_none : {T E : Type 0} (P : Type 0) (r : Result T E) (e : E) → r ≡ Err e → OnOk r P
+on_none P (Ok x) e is = absurd (cc)
+on_none P (Err x) e is = tt
+
 pub err_at : {T E : Type 0} (r : Result T E) (e : E) (P : E → Type 0) → r ≡ Err e → P e → IfErr r P
 err_at (Ok x) e P is h = absurd (cc)
 err_at (Err x) e P is h = let same : e ≡ x = cc in subst P same h
@@ -38,60 +52,110 @@ module _ {N : Type 0} where
   node_of s = s.node
 
   -- what has become of seats has become of their nodes
-  module _ (stands : Part → N → List Round → List Step → Type 0) (stays failed : N → N → Type 0)
-      (next : N → Option ℕ) (hub : HubView) where
-    two : (olds news : List (Seat N)) → PairsAt (HasGone stands stays failed hub) olds news → (i : ℕ) (d : N)
-        → i < length olds → stays (get_or (map node_of olds) i d) (get_or (map node_of news) i d)
-    two [] news h i d lt = absurd (omega (arith, lt))
-    two (o ∷ olds) news h i d lt =
-        let n = h.count in
-        let there : i < length news = omega (arith, lt, n) in
-        let g = h.each i o lt in
-        let old = map_here node_of (o ∷ olds) i o d lt in
-        let new = map_here node_of news i o d there in
-        subst (stays (get_or (map node_of (o ∷ olds)) i d)) (sym new)
-        (subst (λ x. stays x (get_or news i o).node) (sym old) g.stayed)
-
-    pub stayed_of : (olds news : List (Seat N)) → PairsAt (HasGone stands stays failed hub) olds news
-        → PairsAt stays (map node_of olds) (map node_of news)
-    stayed_of olds news h =
-        let a = map_size node_of olds in let b = map_size node_of news in let n = h.count in
+  module _ (stands : Part → N → List Round → List Step → Type 0) (stays : N → N → Type 0)
+      (failed : NodeFault → N → N → Type 0) (next : N → Option ℕ) (hub : HubView) where
+    -- by what is so of each two seats
+    nodes_by : (R : N → N → Type 0) (olds news : List (Seat N)) → length news ≡ length olds
+        → ((i : ℕ) (d : Seat N) → i < length olds → R (get_or olds i d).node (get_or news i d).node)
+        → PairsAt R (map node_of olds) (map node_of news)
+    nodes_by R olds news n h =
+        let a = map_size node_of olds in let b = map_size node_of news in
         record {
           count = omega arith;
-          each = λ i d lt. two olds news h i d (omega (arith, lt, a));
+          each = λ i d lt. two olds news n h i d (omega (arith, lt, a));
         }
+      where
+        two : (olds news : List (Seat N)) → length news ≡ length olds
+            → ((i : ℕ) (d : Seat N) → i < length olds → R (get_or olds i d).node (get_or news i d).node)
+            → (i : ℕ) (d : N) → i < length olds → R (get_or (map node_of olds) i d) (get_or (map node_of news) i d)
+        two [] news n h i d lt = absurd (omega (arith, lt))
+        two (o ∷ olds) news n h i d lt =
+            let there : i < length news = omega (arith, lt, n) in
+            let old = map_here node_of (o ∷ olds) i o d lt in
+            let new = map_here node_of news i o d there in
+            subst (R (get_or (map node_of (o ∷ olds)) i d)) (sym new)
+            (subst (λ x. R x (get_or news i o).node) (sym old) (h i o lt))
+
+    -- of those that are through it stays
+    pub stayed_of : (olds news : List (Seat N)) → PairsAt (HasGone stands stays failed hub) olds news
+        → EachAt (λ (s : Seat N). s.fault ≡ None) news → PairsAt stays (map node_of olds) (map node_of news)
+    stayed_of olds news h well =
+        let n = h.count in
+        nodes_by stays olds news h.count (λ i d lt. (h.each i d lt).stayed (well i d (omega (arith, lt, n))))
+
+    pub became_of : (olds news : List (Seat N)) → PairsAt (HasGone stands stays failed hub) olds news
+        → EachAt (λ (s : Seat N). s.fault ≡ None) olds
+        → PairsAt (HasBecome stays failed) (map node_of olds) (map node_of news)
+    became_of olds news h well =
+        nodes_by (HasBecome stays failed) olds news h.count
+        (λ i d lt. by_fault (get_or olds i d) (get_or news i d) (get_or news i d).fault refl (h.each i d lt)
+        (well i d lt))
+      where
+        by_fault : (old new : Seat N) (fault : Option NodeFault) → new.fault ≡ fault
+            → HasGone stands stays failed hub old new → old.fault ≡ None → HasBecome stays failed old.node new.node
+        by_fault old new None e h well = inl (h.stayed e)
+        by_fault old new (Some fault) e h well = inr (fault, h.fails well fault e)
 
     pub nodes_on : (olds news : List (Seat N)) → PairsAt (HasGone stands stays failed hub) olds news
         → map (λ (s : Seat N). s.pass.node) news ≡ map (λ (s : Seat N). s.pass.node) olds
     nodes_on olds news h =
         maps_same (λ (s : Seat N). s.pass.node) olds news h.count (λ i d lt. (h.each i d lt).node_is)
 
-    pub failed_of : (olds news : List (Seat N)) (fault : DriveFault) → PairsAt (HasGone stands stays failed hub) olds news
-        → EachAt (λ (s : Seat N). s.fault ≡ None) olds → ShowsFault next news fault
-        → IsFault failed next (map node_of olds) (map node_of news) fault
-    failed_of [] news (Store k) h well shows =
+    -- seats at rest are those of nodes that have come to rest
+    rested_of : (run : Beginning) (news : List (Seat N)) → EachAt (IsAtRest stands run hub) news
+        → map (λ (s : Seat N). s.pass.node) news ≡ nodes_of run.script → HaveRested stands run (map node_of news)
+    rested_of run [] rests are i n node lt = absurd (omega (arith, lt))
+    rested_of run (x ∷ news) rests are i n node lt =
+        let size = map_size node_of (x ∷ news) in
+        let here : i < length (x ∷ news) = omega (arith, lt, size) in
+        let s : Seat N = get_or (x ∷ news) i x in
+        let rest : IsAtRest stands run hub s = rests i x here in
+        let node_is : get_or (nodes_of run.script) i node ≡ s.pass.node =
+        ap (λ l. get_or l i node) (sym are) ∙ map_here (λ (y : Seat N). y.pass.node) (x ∷ news) i x node here in
+        record {
+          before = rest.before;
+          stood = subst (λ y. stands (part_of run (get_or (nodes_of run.script) i node)) y
+              (record { steps = []; given = None } ∷ rest.before) [])
+              (sym (map_here node_of (x ∷ news) i x n here))
+              (subst (λ k. stands (part_of run k) s.node (record { steps = []; given = None } ∷ rest.before) [])
+              (sym node_is)
+              (subst (λ l. stands (part_of run s.pass.node) s.node
+              (record { steps = []; given = None } ∷ rest.before) l)
+              rest.none
+              (subst (λ r. stands (part_of run s.pass.node) s.node r s.steps.steps) rest.newest rest.seated.stood)));
+        }
+
+    pub failed_of : (run : Beginning) (olds news : List (Seat N)) (fault : DriveFault)
+        → PairsAt (HasGone stands stays failed hub) olds news → EachAt (λ (s : Seat N). s.fault ≡ None) olds
+        → ((w : Waiting) → fault ≡ Stuck w → EachAt (IsAtRest stands run hub) news)
+        → map (λ (s : Seat N). s.pass.node) news ≡ nodes_of run.script → ShowsFault next news fault
+        → IsFault stands run failed next (map node_of olds) (map node_of news) fault
+    failed_of run [] news (Store k) h well rests are shows =
         let n = h.count in let lt = shows.0 in absurd (omega arith)
-    failed_of (o ∷ olds) news (Store k) h well shows =
+    failed_of run (o ∷ olds) news (Store k) h well rests are shows =
         let n = h.count in let low = shows.0 in
         let here : k < length (o ∷ olds) = omega arith in
         let g = h.each k o here in
         let size = map_size node_of (o ∷ olds) in (
           omega (arith, here, size),
-          (λ d. subst (λ x. failed x (get_or (map node_of news) k d)) (sym (map_here node_of (o ∷ olds) k o d here))
-              (subst (failed (get_or (o ∷ olds) k o).node) (sym (map_here node_of news k o d low))
-              (g.fails (well k o here) (shows.1 o)))),
+          (λ d. subst (λ x. failed StoreFailed x (get_or (map node_of news) k d))
+              (sym (map_here node_of (o ∷ olds) k o d here))
+              (subst (failed StoreFailed (get_or (o ∷ olds) k o).node) (sym (map_here node_of news k o d low))
+              (g.fails (well k o here) StoreFailed (shows.1 o)))),
         )
-    failed_of olds news Memory h well shows = tt
-    failed_of olds news (Stuck w) h well shows = shows
+    failed_of run olds news Memory h well rests are shows = tt
+    failed_of run olds news (Stuck w) h well rests are shows = (shows, rested_of run news (rests w refl) are)
 
-    pub free_of : (olds news : List N) (fault : DriveFault) → IsFree fault → IsFault failed next olds news fault
-    free_of olds news (Store k) h = absurd h
-    free_of olds news Memory h = tt
-    free_of olds news (Stuck w) h = absurd h
+    pub free_of : (run : Beginning) (olds news : List N) (fault : DriveFault) → IsFree fault
+        → IsFault stands run failed next olds news fault
+    free_of run olds news (Store k) h = absurd h
+    free_of run olds news Memory h = tt
+    free_of run olds news (Stuck w) h = absurd h
 
   -- seats that were in a run are in it still
-  pub all_in : (stands : Part → N → List Round → List Step → Type 0) (stays failed : N → N → Type 0) (hub : HubView)
-      (run : Beginning) (olds news : List (Seat N)) → PairsAt (HasGone stands stays failed hub) olds news
+  pub all_in : (stands : Part → N → List Round → List Step → Type 0) (stays : N → N → Type 0)
+      (failed : NodeFault → N → N → Type 0) (hub : HubView) (run : Beginning) (olds news : List (Seat N))
+      → PairsAt (HasGone stands stays failed hub) olds news
       → EachAt (IsIn stands run hub) olds → EachAt (IsIn stands run hub) news
   all_in stands stays failed hub run olds news h at i d lt =
       let n = h.count in
@@ -136,7 +200,8 @@ module _ {N : Type 0} where
         let count = are.count in
         let there : i < length (nodes_of run.script) = omega (arith, lt, size, count) in
         let pass_is : s.pass ≡ first_pass hub.id n =
-        same_at (λ (x : Seat N). x.pass) (first_pass hub.id) seats (nodes_of run.script) i d n0 (have ∙ first) lt there in
+        same_at (λ (x : Seat N). x.pass) (first_pass hub.id) seats (nodes_of run.script) i d n0
+        (have ∙ first) lt there in
         let node_is : get_or nodes i s.node ≡ s.node =
         ap (λ l. get_or l i s.node) (sym sit) ∙ map_here node_of seats i d s.node lt in
         let fresh : stands (part_of run n) s.node [] [] =

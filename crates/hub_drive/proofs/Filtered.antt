@@ -26,19 +26,23 @@ module _ (P : List Step → Step → Type 0) (n : Node) where
       by_test false e again k = (again k, λ is. absurd (cc))
 
 -- a server's doings are in its own steps
-pub acts_own : (first : ℕ) (v : ServerId) (past : List Step) → doings_of first v (steps_of_server v past) ≡ doings_of first v past
+pub acts_own : (first : ℕ) (v : ServerId) (past : List Step)
+    → doings_of first v (steps_of_server v past) ≡ doings_of first v past
 acts_own first v [] = refl
 acts_own first v (s ∷ past) = by_test (is_node s.node (Server v)) refl (acts_own first v past)
   where
-    by_test : (b : Bool) → is_node s.node (Server v) ≡ b → doings_of first v (steps_of_server v past) ≡ doings_of first v past
+    by_test : (b : Bool) → is_node s.node (Server v) ≡ b
+        → doings_of first v (steps_of_server v past) ≡ doings_of first v past
         → doings_of first v (cond b (s ∷ steps_of_server v past) (steps_of_server v past))
         ≡ cond b (after_step s (doings_of first v past)) (doings_of first v past)
     by_test true e again =
-        ap (λ c. cond c (after_step s (doings_of first v (steps_of_server v past))) (doings_of first v (steps_of_server v past))) e
+        ap (λ c. cond c (after_step s (doings_of first v (steps_of_server v past)))
+        (doings_of first v (steps_of_server v past))) e
         ∙ ap (after_step s) again
     by_test false e again = again
 
 -- what always was so is so without the newest
-pub always_before : {A : Type 0} (P : List A → A → Type 0) (xs past : List A) → Always P (appended xs past) → Always P past
+pub always_before : {A : Type 0} (P : List A → A → Type 0) (xs past : List A) → Always P (appended xs past)
+    → Always P past
 always_before P [] past h = h
 always_before P (x ∷ xs) past h = (always_before P xs (x ∷ past) h).0

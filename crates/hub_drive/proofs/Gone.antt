@@ -6,36 +6,44 @@ use Rattle.hub_laws.specs.Keeping.{Round}
 use Rattle.hub_node.specs.Nodes.{Part}
 use Rattle.hub_drive.specs.Seats.{HasGone, IsHere}
 use Rattle.hub_node.specs.declared.node.NodeFault.{NodeFault}
-use Rattle.hub_node.specs.declared.node.NodeFault.TheVariants.{Store}
 use Rattle.hub_drive.specs.declared.seat.Seat.{Seat}
 
-module _ {N : Type 0} (stands : Part → N → List Round → List Step → Type 0) (stays failed : N → N → Type 0)
-    (hub : HubView) (so : (a : N) → stays a a)
+module _ {N : Type 0} (stands : Part → N → List Round → List Step → Type 0) (stays : N → N → Type 0)
+    (failed : NodeFault → N → N → Type 0) (hub : HubView) (so : (a : N) → stays a a)
     (on : (a b c : N) → stays a b → stays b c → stays a c)
-    (fails_on : (a b c : N) → stays a b → failed b c → failed a c) where
+    (fails_on : (fault : NodeFault) (a b c : N) → stays a b → failed fault b c → failed fault a c) where
   pub gone_so : (s : Seat N) → HasGone stands stays failed hub s s
   gone_so s = record {
     node_is = refl;
     kept = (λ run h. h);
-    stayed = so s.node;
-    fails = (λ well e. let clash = sym well ∙ e in absurd (cc));
+    stayed = (λ well. so s.node);
+    fails = (λ well fault e. let clash = sym well ∙ e in absurd (cc));
     frozen = (λ ill. (refl, refl));
   }
 
-  fails_by : (a b c : Seat N) (fault : Option NodeFault) → b.fault ≡ fault → HasGone stands stays failed hub a b
-      → HasGone stands stays failed hub b c → a.fault ≡ None → c.fault ≡ Some Store → failed a.node c.node
-  fails_by a b c None e h k well f = fails_on a.node b.node c.node h.stayed (k.fails e f)
-  fails_by a b c (Some fault) e h k well f =
+  stays_by : (a b c : Seat N) (fault : Option NodeFault) → b.fault ≡ fault → HasGone stands stays failed hub a b
+      → HasGone stands stays failed hub b c → c.fault ≡ None → stays a.node c.node
+  stays_by a b c None e h k well = on a.node b.node c.node (h.stayed e) (k.stayed well)
+  stays_by a b c (Some fault) e h k well =
       let ill : b.fault ≡ None → ⊥ = λ x. (let clash = sym x ∙ e in absurd (cc)) in
       let same = k.frozen ill in
-      subst (failed a.node) (sym same.0) (h.fails well (sym same.1 ∙ f))
+      let clash = sym e ∙ sym same.1 ∙ well in absurd (cc)
+
+  fails_by : (a b c : Seat N) (fault : Option NodeFault) → b.fault ≡ fault → HasGone stands stays failed hub a b
+      → HasGone stands stays failed hub b c → a.fault ≡ None → (f : NodeFault) → c.fault ≡ Some f
+      → failed f a.node c.node
+  fails_by a b c None e h k well f is = fails_on f a.node b.node c.node (h.stayed e) (k.fails e f is)
+  fails_by a b c (Some fault) e h k well f is =
+      let ill : b.fault ≡ None → ⊥ = λ x. (let clash = sym x ∙ e in absurd (cc)) in
+      let same = k.frozen ill in
+      subst (failed f a.node) (sym same.0) (h.fails well f (sym same.1 ∙ is))
 
   pub gone_on : (a b c : Seat N) → HasGone stands stays failed hub a b → HasGone stands stays failed hub b c
       → HasGone stands stays failed hub a c
   gone_on a b c h k = record {
     node_is = k.node_is ∙ h.node_is;
     kept = (λ run at. k.kept run (h.kept run at));
-    stayed = on a.node b.node c.node h.stayed k.stayed;
+    stayed = stays_by a b c b.fault refl h k;
     fails = fails_by a b c b.fault refl h k;
     frozen = (λ ill.
         let first = h.frozen ill in
@@ -43,6 +51,7 @@ module _ {N : Type 0} (stands : Part → N → List Round → List Step → Type
   }
 
 -- a seat that was somewhere is there still
-pub here_on : {N : Type 0} (stands : Part → N → List Round → List Step → Type 0) (stays failed : N → N → Type 0)
-    (hub : HubView) (a b : Seat N) → IsHere stands hub a → HasGone stands stays failed hub a b → IsHere stands hub b
+pub here_on : {N : Type 0} (stands : Part → N → List Round → List Step → Type 0) (stays : N → N → Type 0)
+    (failed : NodeFault → N → N → Type 0) (hub : HubView) (a b : Seat N) → IsHere stands hub a
+    → HasGone stands stays failed hub a b → IsHere stands hub b
 here_on stands stays failed hub a b h k = record { run = h.run; is_in = k.kept h.run h.is_in }

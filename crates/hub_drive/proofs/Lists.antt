@@ -1,5 +1,6 @@
 -- Facts on each element of a list, by its place.
-use Rattle.std.proofs.Common.{◌≡◌, ◌⊎◌, ⊎_elim, inl, inr, ℕ, zero, suc, ◌+◌, ◌<◌, List, [], ◌∷◌, ◌++◌, map, length, get_or, refl, sym, ap, ◌∙◌, subst, arith}
+use Rattle.std.proofs.Common.{◌≡◌, ◌⊎◌, ⊎_elim, inl, inr, ℕ, zero, suc, ◌+◌, ◌<◌, List, [], ◌∷◌, ◌++◌, map, length}
+use Rattle.std.proofs.Common.{get_or, refl, sym, ap, ◌∙◌, subst, arith}
 use Rattle.std.proofs.Math.ListN.{set}
 use Rattle.std.specs.Prelude.{remove, take}
 use Rattle.std.proofs.lemmas.List.{get_or-set_same, get_or-set_other, length-set}
@@ -42,7 +43,8 @@ module _ {A : Type 0} where
   abbrev pub FirstAt : (A → Type 0) → ℕ → List A → Type 0
   FirstAt P k xs = (i : ℕ) (d : A) → i < k → i < length xs → P (get_or xs i d)
 
-  pub first_more : (P : A → Type 0) (xs : List A) (k : ℕ) (y : A) → FirstAt P k xs → P y → FirstAt P (k + 1) (set xs k y)
+  pub first_more : (P : A → Type 0) (xs : List A) (k : ℕ) (y : A) → FirstAt P k xs → P y
+      → FirstAt P (k + 1) (set xs k y)
   first_more P xs k y h p i d low lt = ⊎_elim
       (λ (e : i ≡ k).
       let size = length-set xs k y in
@@ -70,7 +72,8 @@ module _ {A : Type 0} where
       let size = h.count in
       record {
         count = k.count ∙ h.count;
-        each = λ i d lt. on (get_or xs i d) (get_or ys i d) (get_or zs i d) (h.each i d lt) (k.each i d (omega (arith, lt, size)));
+        each = λ i d lt. on (get_or xs i d) (get_or ys i d) (get_or zs i d) (h.each i d lt)
+            (k.each i d (omega (arith, lt, size)));
       }
 
   pub defaults : (xs : List A) (i : ℕ) (d e : A) → i < length xs → get_or xs i d ≡ get_or xs i e

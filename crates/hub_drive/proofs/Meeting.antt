@@ -1,5 +1,6 @@
 -- The journal of a closed hub is a run, and ended, where each node's own steps meet its rules and it is done.
-use Rattle.std.proofs.Common.{◌≡◌, ◌⊎◌, ⊎_elim, inl, inr, ℕ, true, List, [], ◌∷◌, length, refl, sym, ap, ◌∙◌, subst, eq-eqb}
+use Rattle.std.proofs.Common.{◌≡◌, ◌⊎◌, ⊎_elim, inl, inr, ℕ, true, List, [], ◌∷◌, length, refl, sym, ap, ◌∙◌, subst}
+use Rattle.std.proofs.Common.{eq-eqb}
 use Rattle.base_types.specs.declared.ids.HostId.{HostId}
 use Rattle.base_types.specs.declared.ids.Node.{Node}
 use Rattle.base_types.specs.declared.ids.Node.TheVariants.{Host, Server}
@@ -11,7 +12,8 @@ use Rattle.script_lines.specs.declared.script.Script.{Script}
 use Rattle.hub_board.specs.Hubs.{nodes_of}
 use Rattle.run_rules.specs.Doings.{Doing, HasGoneAway, Listed, doings_of}
 use Rattle.run_rules.specs.Past.{Always, In, appended}
-use Rattle.run_rules.specs.Runs.{FlagsMet, IsDutiful, IsEnded, IsFrom, IsRun, StepDue, StepMeets, StepsMeet, TakesPart, past_of}
+use Rattle.run_rules.specs.Runs.{FlagsMet, IsDutiful, IsEnded, IsFrom, IsRun, StepDue, StepMeets, StepsMeet}
+use Rattle.run_rules.specs.Runs.{TakesPart, past_of}
 use Rattle.run_rules.specs.ServerDue.{ServerDue}
 use Rattle.run_rules.specs.ServerMay.{ServerMay}
 use Rattle.run_rules.specs.Steps.{first_epoch, is_node, steps_of_server}
@@ -30,7 +32,8 @@ node_self (Host h) = eq-eqb h.0 h.0 refl
 node_self (Server v) = eq-eqb v.0 v.0 refl
 
 -- what is known of a pass of a closed hub: its node is one of the script, its own steps meet its rules, and it is done
-pub record IsKnown (script : Script) (start : Tree) (epochs : List ℕ) (past : List Step) (pass : NodeView) : Type 0 where
+pub record IsKnown (script : Script) (start : Tree) (epochs : List ℕ) (past : List Step) (pass : NodeView)
+    : Type 0 where
   pub among : In pass.node (nodes_of script)
   pub meets : Always (OwnMeets (beginning script start epochs) pass.node) (mine pass.node past)
   pub done : IsDone (beginning script start epochs) pass.node (mine pass.node past)
@@ -46,25 +49,31 @@ module _ (script : Script) (start : Tree) (epochs : List ℕ) where
   step_meets : (n : Node) (before : List Step) (s : Step) → P n (mine n before) s → CauseSent firsts n before s
       → StepMeets script start firsts n before s
   step_meets (Host h) before s o c = (o.0, c)
-  step_meets (Server v) before s o c =
-      (subst (λ (a : List Doing). ServerMay script start v (steps_of_server v before) a s) (acts_own (firsts v) v before) o.0, c)
+  step_meets (Server v) before s o c = (
+    subst (λ (a : List Doing). ServerMay script start v (steps_of_server v before) a s)
+        (acts_own (firsts v) v before) o.0,
+    c,
+  )
 
   step_due : (n : Node) (before : List Step) (s : Step) → P n (mine n before) s → StepDue script start firsts n before s
   step_due (Host h) before s o = o.1
   step_due (Server v) before s o =
-      subst (λ (a : List Doing). ServerDue script start v (steps_of_server v before) a s) (acts_own (firsts v) v before) o.1
+      subst (λ (a : List Doing). ServerDue script start v (steps_of_server v before) a s)
+      (acts_own (firsts v) v before) o.1
 
   abbrev Sends : Step → Type 0
   Sends s = (m : Message) → In m s.sent → IsFrom s.node m × IsSound script.roster m
 
   abbrev Met : List Step → Step → Type 0
-  Met before s = StepMeets script start firsts s.node before s × FlagsMet script before s × TakesPart script s.node × Sends s
+  Met before s = StepMeets script start firsts s.node before s × FlagsMet script before s × TakesPart script s.node
+      × Sends s
 
   -- a step of a node that is known
   module _ (passes : List NodeView) (servers : script.servers ≡ length script.roster.capacity)
       (among : (p : NodeView) → In p passes → In p.node (nodes_of script)) where
     all_meet : (past : List Step) → ((s : Step) → In s past → IsMade script passes s)
-        → ((p : NodeView) → In p passes → Always (λ before s. is_node s.node p.node ≡ true → P p.node (mine p.node before) s) past)
+        → ((p : NodeView) → In p passes → Always (λ before s. is_node s.node p.node ≡ true
+        → P p.node (mine p.node before) s) past)
         → Always (λ before s. CauseSent firsts s.node before s) past → Always (FlagsMet script) past → Always Met past
     all_meet [] made ways sent met = tt
     all_meet (s ∷ past) made ways sent met =
@@ -83,7 +92,8 @@ module _ (script : Script) (start : Tree) (epochs : List ℕ) where
         )
 
     all_due : (past : List Step) → ((s : Step) → In s past → IsMade script passes s)
-        → ((p : NodeView) → In p passes → Always (λ before s. is_node s.node p.node ≡ true → P p.node (mine p.node before) s) past)
+        → ((p : NodeView) → In p passes → Always (λ before s. is_node s.node p.node ≡ true
+        → P p.node (mine p.node before) s) past)
         → Always (λ before s. StepDue script start firsts s.node before s) past
     all_due [] made ways = tt
     all_due (s ∷ past) made ways =
@@ -113,7 +123,8 @@ module _ (script : Script) (start : Tree) (epochs : List ℕ) (can : CanStart sc
   past = past_of journal
 
   sent : Always (λ before s. CauseSent (firsts script start epochs) s.node before s) past
-  sent = subst (λ e. Always (λ before s. CauseSent (λ server. first_epoch e server) s.node before s) past) epochs_are held.sent
+  sent = subst (λ e. Always (λ before s. CauseSent (λ server. first_epoch e server) s.node before s) past) epochs_are
+      held.sent
 
   meet : StepsMeet script start (firsts script start epochs) past
   meet =

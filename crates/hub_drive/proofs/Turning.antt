@@ -1,5 +1,6 @@
 -- One turn of a node.
-use Rattle.std.proofs.Common.{◌≡◌, ℕ, Bool, true, false, ◌&&◌, List, [], ◌∷◌, Option, None, Some, refl, sym, ap, ◌∙◌, subst}
+use Rattle.std.proofs.Common.{◌≡◌, ℕ, Bool, true, false, ◌&&◌, List, [], ◌∷◌, Option, None, Some, refl, sym, ap, ◌∙◌}
+use Rattle.std.proofs.Common.{subst}
 use Rattle.std.proofs.lemmas.List.{append-nil}
 use Rattle.base_types.specs.declared.ids.Node.{Node}
 use Rattle.tree_calls.specs.declared.roster.Roster.{Roster}
@@ -11,7 +12,7 @@ use Rattle.hub_board.specs.declared.given.Gift.{Gift}
 use Rattle.hub_board.specs.declared.given.Gift.TheVariants.{Message as Copied, Begun, Raised, Lapse}
 use Rattle.hub_board.specs.declared.given.Given.{Given}
 use Rattle.hub_board.specs.declared.given.Given.TheVariants.{Message as Came, Raised as WasRaised}
-use Rattle.std.specs.Prelude.{OnOk, Result, Ok, Err, option_map}
+use Rattle.std.specs.Prelude.{IfOk, OnOk, Result, Ok, Err, option_map}
 use Rattle.hub_turns.specs.Meetings.{AreSent, HasPassed, IsGivenSound, IsRefused}
 use Rattle.hub_turns.specs.Views.{HubView, NodeView}
 use Rattle.run_rules.specs.Past.{Always}
@@ -23,7 +24,7 @@ use Rattle.hub_wire.proofs.Takes.{takes_first}
 use Rattle.hub_laws.specs.Keeping.{Round, steps_in}
 use Rattle.hub_laws.specs.Closings.{HasMade, KeepsOn}
 use Rattle.hub_node.specs.Nodes.{Beginning, HandsIn, IsDone, IsGivenTo, Knows, MayHandIn, Part, part_of}
-use Rattle.hub_drive.specs.Seats.{IsSeated, IsThrough}
+use Rattle.hub_drive.specs.Seats.{IsAtRest, IsSeated, IsThrough}
 use Rattle.hub_drive.specs.declared.seat.Seat.{Seat}
 
 untouched : (pass : NodeView) → IsRefused pass pass
@@ -52,7 +53,8 @@ given_own hub node None m e = absurd (cc)
 given_own hub node (Some Copied) m e =
     let t = (takes_first hub.net node).0 m (came_is (next_copy hub.net node) m e) in
     subst (λ (x : Message). same_node (receiver x) node ≡ true) t.own
-    (both (same_node (receiver t.packet.message) node) (is_released (any_free hub.net.packets) hub.net.steps t.packet) t.fits)
+    (both (same_node (receiver t.packet.message) node)
+    (is_released (any_free hub.net.packets) hub.net.steps t.packet) t.fits)
 given_own hub node (Some Begun) m e = absurd (cc)
 given_own hub node (Some Raised) m e = absurd (raised_not (flag_of hub node) m e)
 given_own hub node (Some Lapse) m e = absurd (cc)
@@ -75,8 +77,8 @@ module _ {N : Type 0} (tells : Type 0) (stands : Part → N → List Round → L
       (sound : IsGivenSound hub.roster given) where
     pub given_to : IsGivenTo part given
     given_to = record {
-      own = (λ m e. given_own (with_steps passed.before.hub s.pass.node s.steps.steps) s.pass.node passed.turned.gift_is m
-          (sym passed.turned.given_is ∙ e));
+      own = (λ m e. given_own (with_steps passed.before.hub s.pass.node s.steps.steps) s.pass.node
+          passed.turned.gift_is m (sym passed.turned.given_is ∙ e));
       sound = (λ m e. subst (λ (r : Roster). IsSound r m) seated.roster (sound m e));
     }
 
@@ -115,6 +117,18 @@ module _ {N : Type 0} (tells : Type 0) (stands : Part → N → List Round → L
           (done (subst (Knows tells) (node_on s' is) knows)));
     }
 
+    -- nothing came
+    pub rests_on : (s' : Seat N) → s'.pass ≡ pass → stands part s'.node (round ∷ seated.rounds) s'.steps.steps
+        → s'.fault ≡ None → s.steps.steps ≡ [] → given ≡ None → s'.steps.steps ≡ [] → IsAtRest stands run hub s'
+    unfolding seated_on
+    rests_on s' is stood well handed nothing none = record {
+      well = well;
+      seated = seated_on s' is stood;
+      none = none;
+      before = seated.rounds;
+      newest = (λ i. record { steps = handed i; given = nothing i } ∷ seated.rounds);
+    }
+
 -- a seat notes whether its node was done, and nothing else
 pub through_so : {N : Type 0} (tells : Type 0) (stands : Part → N → List Round → List Step → Type 0) (hub : HubView)
     (run : Beginning) (s : Seat N) (ended : Bool) → IsThrough stands run hub tells s
@@ -133,10 +147,36 @@ through_so tells stands hub run s ended h = record {
   done = h.done;
 }
 
+pub rests_so : {N : Type 0} (stands : Part → N → List Round → List Step → Type 0) (hub : HubView) (run : Beginning)
+    (s : Seat N) (ended : Bool) → IsAtRest stands run hub s → IsAtRest stands run hub (record s { ended = ended })
+rests_so stands hub run s ended h = record {
+  well = h.well;
+  seated = record {
+    hub_is = h.seated.hub_is;
+    roster = h.seated.roster;
+    rounds = h.seated.rounds;
+    made = h.seated.made;
+    keeps = h.seated.keeps;
+    stood = h.seated.stood;
+  };
+  none = h.none;
+  before = h.before;
+  newest = h.newest;
+}
+
 -- what holds where a result is Ok
 pub on_ok : {T E : Type 0} (r : Result T E) (P Q : Type 0) → (P → Q) → OnOk r P → OnOk r Q
 on_ok (Ok x) P Q f h = f h
 on_ok (Err e) P Q f h = tt
+
+pub if_on : {T E : Type 0} (r : Result T E) (S : Type 0) (Q P : T → Type 0) → (S → (x : T) → Q x → P x) → OnOk r S
+    → IfOk r Q → IfOk r P
+if_on (Ok x) S Q P f s q = f s x q
+if_on (Err e) S Q P f s q = tt
+
+pub if_at : {T E : Type 0} (r : Result T E) (x : T) (P : T → Type 0) → r ≡ Ok x → IfOk r P → P x
+if_at (Ok y) x P e h = let same : y ≡ x = cc in subst P same h
+if_at (Err y) x P e h = absurd (cc)
 
 pub at_ok : {T E : Type 0} (r : Result T E) (x : T) (P : Type 0) → r ≡ Ok x → OnOk r P → P
 at_ok (Ok y) x P e h = h

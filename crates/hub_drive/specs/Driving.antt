@@ -1,6 +1,6 @@
 -- What comes of a run that nodes were driven through.
 use Rattle.std.specs.List.{filter}
-use Rattle.std.specs.Prelude.{List, Option, Some, [], length, map, slice_index_or, ◌<◌, ◌∷◌, ◌≡◌, ◌≤◌, ℕ}
+use Rattle.std.specs.Prelude.{List, None, Option, Some, [], length, map, slice_index_or, ◌<◌, ◌∷◌, ◌≡◌, ◌≤◌, ℕ}
 use Rattle.base_types.specs.declared.ids.Node.{Node}
 use Rattle.base_types.specs.declared.limits.TheConstants.{HOSTS_MAX, SERVERS_MAX}
 use Rattle.tree_answers.specs.declared.tree.Tree.{Tree}
@@ -20,6 +20,7 @@ use Rattle.hub_node.specs.Nodes.{Beginning, IsDone, Knows, OwnMeets, Part, part_
 use Rattle.hub_drive.specs.declared.driver.DriveFault.{DriveFault}
 use Rattle.hub_drive.specs.declared.driver.DriveFault.TheVariants.{Memory, Store, Stuck}
 use Rattle.hub_drive.specs.declared.driver.Waiting.{Waiting}
+use Rattle.hub_node.specs.declared.node.NodeFault.{NodeFault}
 use Rattle.hub_node.specs.declared.node.NodeFault.TheVariants.{Store as StoreFailed}
 use Rattle.hub_drive.specs.declared.seat.Seat.{Seat}
 
@@ -86,16 +87,29 @@ pub record IsJournalOf (start : Tree) (epochs : List ℕ) (turns : List Turn) (j
   pub epochs_are : journal.epochs ≡ epochs
   pub steps : journal.steps ≡ steps_of turns
 
--- it is one of these nodes, with its next line: that it waits is not said
+-- a node has come to rest: in its newest round it handed in nothing and was given nothing, and it has made nothing
+pub record HasRested {N : Type 0} (stands : Part → N → List Round → List Step → Type 0) (part : Part) (n : N)
+    : Type 0 where
+  pub before : List Round
+  pub stood : stands part n (record { steps = []; given = None } ∷ before) []
+
+-- so has each of the nodes of a run
+abbrev pub HaveRested : {N : Type 0} → (Part → N → List Round → List Step → Type 0) → Beginning → List N → Type 0
+HaveRested {N = N} stands run nodes = (i : ℕ) (n : N) (node : Node) → i < length nodes
+    → HasRested stands (part_of run (slice_index_or (nodes_of run.script) i node)) (slice_index_or nodes i n)
+
+-- it is one of these nodes, with its next line: that it waits for anything is not said
 abbrev pub IsWaitingAt : {N : Type 0} → (N → Option ℕ) → List N → Waiting → Type 0
 IsWaitingAt next nodes w = (w.node < length nodes) × ((d : _) → w.line ≡ next (slice_index_or nodes w.node d))
 
--- why a run came to no end: the store of the node at a place failed, or a node is named with its next line
-abbrev pub IsFault : {N : Type 0} → (N → N → Type 0) → (N → Option ℕ) → List N → List N → DriveFault → Type 0
-IsFault failed next olds news (Store k) =
-    (k < length olds) × ((d : _) → failed (slice_index_or olds k d) (slice_index_or news k d))
-IsFault failed next olds news (Stuck w) = IsWaitingAt next news w
-IsFault failed next olds news Memory = Unit {0}
+-- why a run came to no end: the store of the node at a place failed, or all nodes have come to rest, of which one is
+-- named with its next line
+abbrev pub IsFault : {N : Type 0} → (Part → N → List Round → List Step → Type 0) → Beginning
+    → (NodeFault → N → N → Type 0) → (N → Option ℕ) → List N → List N → DriveFault → Type 0
+IsFault stands run failed next olds news (Store k) =
+    (k < length olds) × ((d : _) → failed StoreFailed (slice_index_or olds k d) (slice_index_or news k d))
+IsFault stands run failed next olds news (Stuck w) = IsWaitingAt next news w × HaveRested stands run news
+IsFault stands run failed next olds news Memory = Unit {0}
 
 -- the same as it shows in the seats
 abbrev pub ShowsFault : {N : Type 0} → (N → Option ℕ) → List (Seat N) → DriveFault → Type 0

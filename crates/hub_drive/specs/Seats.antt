@@ -1,12 +1,12 @@
 -- Nodes at the hub, each with its pass and the steps that it hands in next.
-use Rattle.std.specs.Prelude.{List, None, Some, [], length, slice_index_or, ◌<◌, ◌≡◌, ℕ}
+use Rattle.std.specs.Prelude.{List, None, Some, [], length, slice_index_or, ◌<◌, ◌∷◌, ◌≡◌, ℕ}
 use Rattle.hub_turns.specs.Views.{HubView}
 use Rattle.run_rules.specs.Past.{Always}
 use Rattle.run_rules.specs.declared.step.Step.{Step}
 use Rattle.hub_laws.specs.Keeping.{Round, steps_in}
 use Rattle.hub_laws.specs.Closings.{HasMade, KeepsOn}
 use Rattle.hub_node.specs.Nodes.{Beginning, IsDone, Knows, Part, part_of}
-use Rattle.hub_node.specs.declared.node.NodeFault.TheVariants.{Store}
+use Rattle.hub_node.specs.declared.node.NodeFault.{NodeFault}
 use Rattle.hub_drive.specs.declared.seat.Seat.{Seat}
 
 module _ {N : Type 0} (stands : Part → N → List Round → List Step → Type 0) (run : Beginning) (hub : HubView) where
@@ -24,6 +24,14 @@ module _ {N : Type 0} (stands : Part → N → List Round → List Step → Type
   abbrev pub IsIn : Seat N → Type 0
   IsIn s = s.fault ≡ None → IsSeated s
 
+  -- and it is at rest: in its newest round it handed in nothing and was given nothing, and it has made nothing
+  pub record IsAtRest (s : Seat N) : Type 0 where
+    pub well : s.fault ≡ None
+    pub seated : IsSeated s
+    pub none : s.steps.steps ≡ []
+    pub before : List Round
+    pub newest : seated.rounds ≡ record { steps = []; given = None } ∷ before
+
   -- and it is done, with nothing to hand in
   pub record IsThrough (tells : Type 0) (s : Seat N) : Type 0 where
     pub well : s.fault ≡ None
@@ -37,14 +45,15 @@ pub record IsHere {N : Type 0} (stands : Part → N → List Round → List Step
   pub run : Beginning
   pub is_in : IsIn stands run hub s
 
--- What has become of a seat: it is its node's, and that sits there still, in whatever run it did, with what stays of
--- it; where its store failed, that is so since then; and where something failed before nothing was done.
-pub record HasGone {N : Type 0} (stands : Part → N → List Round → List Step → Type 0) (stays failed : N → N → Type 0)
-    (hub : HubView) (old new : Seat N) : Type 0 where
+-- What has become of a seat: it is its node's, and that sits there still, in whatever run it did; as long as nothing
+-- failed it has what stays of it, and where something has, that is so since then; and where something failed before
+-- nothing was done.
+pub record HasGone {N : Type 0} (stands : Part → N → List Round → List Step → Type 0) (stays : N → N → Type 0)
+    (failed : NodeFault → N → N → Type 0) (hub : HubView) (old new : Seat N) : Type 0 where
   pub node_is : new.pass.node ≡ old.pass.node
   pub kept : (run : Beginning) → IsIn stands run hub old → IsIn stands run hub new
-  pub stayed : stays old.node new.node
-  pub fails : old.fault ≡ None → new.fault ≡ Some Store → failed old.node new.node
+  pub stayed : new.fault ≡ None → stays old.node new.node
+  pub fails : old.fault ≡ None → (fault : NodeFault) → new.fault ≡ Some fault → failed fault old.node new.node
   pub frozen : (old.fault ≡ None → ⊥) → (new.node ≡ old.node) × (new.fault ≡ old.fault)
 
 -- it is so of each of a list

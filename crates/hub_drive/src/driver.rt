@@ -1,13 +1,17 @@
 //! The driver.
-ghost use Rattle.std.specs.Prelude.{◌≡◌, ◌≤◌, ◌<◌, [], None, Err, IfOk, IfErr, List, length, map, vec_capacity};
+ghost use Rattle.std.specs.Prelude.{◌≡◌, ◌≤◌, ◌<◌, [], None, Err, IfOk, IfErr, OnOk, List, false, length, map};
+ghost use Rattle.std.specs.Prelude.{vec_capacity};
 ghost use Rattle.hub_board.specs.Hubs.{nodes_of};
 ghost use Rattle.hub_board.specs.declared.given.Turn.{Turn as TurnOf};
 ghost use Rattle.hub_turns.specs.Meetings.{HasEnded};
 ghost use Rattle.hub_drive.specs.Driving.{AreNodes, CanStart, HasDriven, IsFault, IsFree, IsHubOf, IsJournalOf};
 ghost use Rattle.hub_drive.specs.Driving.{IsWaitingAt, ShowsFault, beginning};
+ghost use Rattle.hub_drive.specs.declared.driver.DriveFault.TheVariants.{Stuck as StuckAt};
+ghost use Rattle.hub_drive.specs.declared.driver.Waiting.{Waiting as WaitingAt};
 ghost use Rattle.hub_drive.specs.Seats.{EachAt, IsSeated, IsThrough, PairsAt};
+ghost use Rattle.hub_node.specs.Nodes.{HasBecome};
 
-use crate::rounds::turn_until;
+use crate::rounds::{Went, turn_until};
 use crate::seat::Seat;
 use base_types::{Items, NoMemory};
 use hub_node::{Node, NodeFault};
@@ -26,12 +30,13 @@ pub enum DriveFault {
     Store(usize),
     /// Memory ran out.
     Memory,
-    /// In a round no node did anything, and not all were done, as where a node waits for a flag that nobody raises, or a
-    /// copy does that it waits for. No clause says so: a node is named, with its next line.
+    /// All nodes came to rest, and not all were done, as where a node waits for a flag that nobody raises, or for a
+    /// copy that waits for one: in its newest round each handed in nothing and was given nothing, and none made
+    /// anything. A node is named, with its next line.
     Stuck(Waiting),
 }
 
-/// A node, and its next line. That it waits no clause says.
+/// A node, and its next line. What it waits for no clause says.
 #[derive(Clone, Copy, Debug, PartialEq, Eq)]
 pub struct Waiting {
     /// Its place among the nodes.
@@ -114,20 +119,21 @@ fn stuck_at<N: Node>(seats: &[Seat<N>]) -> Waiting
     }
 }
 
-// Why the nodes aren't all done.
-fn fault_of<N: Node>(seats: &[Seat<N>]) -> DriveFault
+// Why the nodes aren't all done, by what came of a turn of each at last.
+fn fault_of<N: Node>(went: Went, seats: &[Seat<N>]) -> DriveFault
     requires { 0 < length seats.now }
-    ensures { ShowsFault N.next seats.now result }
+    ensures shows { ShowsFault N.next seats.now result }
+    ensures stuck { (w : WaitingAt) → result ≡ StuckAt w → (went.worked ≡ false) × (went.stopped ≡ false) }
 {
-    let mut found = DriveFault::Stuck(stuck_at(seats));
+    if !went.worked && !went.stopped {
+        return DriveFault::Stuck(stuck_at(seats));
+    }
     for (k, seat) in seats.iter().enumerate() {
-        match seat.fault {
-            Some(NodeFault::Store) => return DriveFault::Store(k),
-            Some(NodeFault::Memory) => found = DriveFault::Memory,
-            None => {}
+        if let Some(NodeFault::Store) = seat.fault {
+            return DriveFault::Store(k);
         }
     }
-    found
+    DriveFault::Memory
 }
 
 // The journal of a hub that is closed.
@@ -245,16 +251,19 @@ fn run_at<N: Node + Send, R: Threads + Wait + Sync>(
     requires none { (nodes.items ≡ []) × (passes.items ≡ []) }
     requires nodes_room { length seats.items ≤ vec_capacity nodes }
     requires passes_room { length seats.items ≤ vec_capacity passes }
-    ensures stayed { PairsAt N.stays (map (λ s. s.node) seats.items) result.nodes.items }
+    ensures stayed { OnOk result.result (PairsAt N.stays (map (λ s. s.node) seats.items) result.nodes.items) }
+    ensures became { PairsAt (HasBecome N.stays N.failed) (map (λ s. s.node) seats.items) result.nodes.items }
     ensures driven { IfOk result.result
         (λ journal. HasDriven N.tells N.stands script.now start epochs result.nodes.items journal) }
     ensures failed { IfErr result.result
-        (λ fault. IsFault N.failed N.next (map (λ s. s.node) seats.items) result.nodes.items fault) }
+        (λ fault. IsFault N.stands (beginning script.now start epochs) N.failed N.next (map (λ s. s.node) seats.items)
+        result.nodes.items fault) }
 {
-    if turn_until(rt, &hub, &mut seats, workers) {
+    let went = turn_until(rt, &hub, &mut seats, workers);
+    if went.through {
         return finish(alloc, script, start, epochs, hub, seats, nodes, passes);
     }
-    let fault = fault_of(seats.as_slice());
+    let fault = fault_of(went, seats.as_slice());
     stop(seats, nodes, passes, fault)
 }
 
@@ -276,14 +285,15 @@ fn rooms<N: Drop>(
 }
 
 /// Drives the nodes of a script, the setup host first, then the other hosts and the servers: they take turns at a hub,
-/// on so many workers, until all are done. Then the journal of the hub keeps to the plan of the script; where it is known
-/// what the nodes' stores keep it is a run of the script from the tree, in which what is due is done, and is ended; and
-/// each node stands where its own steps in it have brought it.
+/// on so many workers, until all are done. Then the journal of the hub keeps to the plan of the script; where it is
+/// known what the nodes' stores keep it is a run of the script from the tree, in which what is due is done, and is
+/// ended; and each node stands where its own steps in it have brought it.
 ///
-/// `Store` comes only where the store of that node failed twice. `Memory` and `Stuck` may come at any time, as far as
-/// clauses say: `Memory` is meant where memory runs out, and `Stuck` where in a round no node did anything and not all
-/// were done; it names a node by its place, with its next line. The nodes come back in their order, whatever comes. It
-/// may wait for what never comes about.
+/// `Store` comes only where the store of that node failed twice, and `Stuck` only where all nodes have come to rest: in
+/// its newest round each handed in nothing and was given nothing, and none made anything; it names a node by its place,
+/// with its next line. `Memory` may come at any time, as far as clauses say: it is meant where memory runs out. The
+/// nodes come back in their order, whatever comes: where the run went to its end, with what stays of each; else each
+/// with that, or as it is where something failed there. It may wait for what never comes about.
 pub fn drive<N: Node + Send, R: Threads + Wait + Sync>(
     rt: &R,
     alloc: Global,
@@ -295,10 +305,12 @@ pub fn drive<N: Node + Send, R: Threads + Wait + Sync>(
 ) -> Driven<N>
     requires can { CanStart script.now start epochs }
     requires nodes { AreNodes N.stands (beginning script.now start epochs) nodes.items }
-    ensures stayed { PairsAt N.stays nodes.items result.nodes.items }
+    ensures stayed { OnOk result.result (PairsAt N.stays nodes.items result.nodes.items) }
+    ensures became { PairsAt (HasBecome N.stays N.failed) nodes.items result.nodes.items }
     ensures driven { IfOk result.result
         (λ journal. HasDriven N.tells N.stands script.now start epochs result.nodes.items journal) }
-    ensures failed { IfErr result.result (λ fault. IsFault N.failed N.next nodes.items result.nodes.items fault) }
+    ensures failed { IfErr result.result (λ fault.
+        IsFault N.stands (beginning script.now start epochs) N.failed N.next nodes.items result.nodes.items fault) }
 {
     let Ok((seats, back, passes_back)) = rooms(alloc, nodes.len()) else {
         return Driven {

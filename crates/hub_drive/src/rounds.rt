@@ -1,6 +1,6 @@
 //! Turns of many nodes.
-ghost use Rattle.std.specs.Prelude.{◌≡◌, ◌<◌, true};
-ghost use Rattle.hub_drive.specs.Seats.{EachAt, HasGone, IsHere, IsIn, IsThrough, PairsAt};
+ghost use Rattle.std.specs.Prelude.{◌≡◌, ◌<◌, false, true};
+ghost use Rattle.hub_drive.specs.Seats.{EachAt, HasGone, IsAtRest, IsHere, IsIn, IsThrough, PairsAt};
 ghost use Rattle.hub_node.specs.Nodes.{Beginning};
 
 use crate::seat::{Seat, turn};
@@ -28,6 +28,8 @@ pub(crate) fn turn_all<N: Node, R: Wait>(rt: &R, hub: &Hub, seats: &mut [Seat<N>
     ensures kept { EachAt (IsHere N.stands hub.now) seats.new }
     ensures through { (run : Beginning) → EachAt (IsIn N.stands run hub.now) seats.old → result.through ≡ true
         → EachAt (IsThrough N.stands run hub.now N.tells) seats.new }
+    ensures rests { (run : Beginning) → EachAt (IsIn N.stands run hub.now) seats.old → result.worked ≡ false
+        → result.stopped ≡ false → EachAt (IsAtRest N.stands run hub.now) seats.new }
     ensures gone { PairsAt (HasGone N.stands N.stays N.failed hub.now) seats.old seats.new }
 {
     let mut went = Went {
@@ -44,7 +46,9 @@ pub(crate) fn turn_all<N: Node, R: Wait>(rt: &R, hub: &Hub, seats: &mut [Seat<N>
 
 // What has come of one turn more.
 fn went_on(went: Went, turned: Turned, failed: bool) -> Went
-    ensures { result.through ≡ true → (went.through ≡ true) × (turned ≡ Turned.Ended) }
+    ensures through { result.through ≡ true → (went.through ≡ true) × (turned ≡ Turned.Ended) }
+    ensures worked { result.worked ≡ false → (went.worked ≡ false) × (turned ≡ Turned.Worked → ⊥) }
+    ensures stopped { result.stopped ≡ false → (went.stopped ≡ false) × (failed ≡ false) }
 {
     Went {
         through: went.through && turned == Turned::Ended,
@@ -161,6 +165,8 @@ fn turn_once<N: Node + Send, R: Threads + Wait + Sync>(
     ensures kept { EachAt (IsHere N.stands hub.now) seats.new }
     ensures through { (run : Beginning) → EachAt (IsIn N.stands run hub.now) seats.old → result.through ≡ true
         → EachAt (IsThrough N.stands run hub.now N.tells) seats.new }
+    ensures rests { (run : Beginning) → EachAt (IsIn N.stands run hub.now) seats.old → result.worked ≡ false
+        → result.stopped ≡ false → EachAt (IsAtRest N.stands run hub.now) seats.new }
     ensures gone { PairsAt (HasGone N.stands N.stays N.failed hub.now) seats.old seats.new }
 {
     if workers <= 1 {
@@ -170,29 +176,26 @@ fn turn_once<N: Node + Send, R: Threads + Wait + Sync>(
     turn_all(rt, hub, seats)
 }
 
-/// Nodes take turns until all are done, or nothing more can be done, as where something failed. Answers whether all are
-/// done. With more than one worker they do so on threads.
+/// Nodes take turns until all are done, or nothing more can be done, as where something failed. Answers what came of a
+/// turn of each at last. With more than one worker they do so on threads.
 fn turn_slice<N: Node + Send, R: Threads + Wait + Sync>(
     rt: &R,
     hub: &Hub,
     seats: &mut [Seat<N>],
     workers: u32,
-) -> bool
+) -> Went
     requires { EachAt (IsHere N.stands hub.now) seats.old }
-    ensures through { (run : Beginning) → EachAt (IsIn N.stands run hub.now) seats.old → result ≡ true
+    ensures through { (run : Beginning) → EachAt (IsIn N.stands run hub.now) seats.old → result.through ≡ true
         → EachAt (IsThrough N.stands run hub.now N.tells) seats.new }
+    ensures rests { (run : Beginning) → EachAt (IsIn N.stands run hub.now) seats.old → result.worked ≡ false
+        → result.stopped ≡ false → EachAt (IsAtRest N.stands run hub.now) seats.new }
     ensures gone { PairsAt (HasGone N.stands N.stays N.failed hub.now) seats.old seats.new }
 {
     for _ in rt.forever() {
         let went = turn_once(rt, hub, seats, workers);
-        if went.through {
-            return true;
-        }
-        if went.stopped {
-            return false;
-        }
-        if !went.worked {
-            return false;
+        let rested = !went.worked;
+        if went.through || went.stopped || rested {
+            return went;
         }
     }
     unreachable!()
@@ -204,10 +207,12 @@ pub(crate) fn turn_until<N: Node + Send, R: Threads + Wait + Sync>(
     hub: &Hub,
     seats: &mut Vec<Seat<N>>,
     workers: u32,
-) -> bool
+) -> Went
     requires here { EachAt (IsHere N.stands hub.now) seats.old.items }
-    ensures through { (run : Beginning) → EachAt (IsIn N.stands run hub.now) seats.old.items → result ≡ true
+    ensures through { (run : Beginning) → EachAt (IsIn N.stands run hub.now) seats.old.items → result.through ≡ true
         → EachAt (IsThrough N.stands run hub.now N.tells) seats.new.items }
+    ensures rests { (run : Beginning) → EachAt (IsIn N.stands run hub.now) seats.old.items → result.worked ≡ false
+        → result.stopped ≡ false → EachAt (IsAtRest N.stands run hub.now) seats.new.items }
     ensures gone { PairsAt (HasGone N.stands N.stays N.failed hub.now) seats.old.items seats.new.items }
 {
     turn_slice(rt, hub, seats.as_mut_slice(), workers)

@@ -1,9 +1,8 @@
 //! A node at the hub.
-ghost use Rattle.std.specs.Prelude.{◌≡◌, Ok, Err, None, OnOk};
-ghost use Rattle.hub_board.specs.declared.given.Turned.TheVariants.{Ended as HasEnded};
-ghost use Rattle.hub_drive.specs.Seats.{HasGone, IsHere, IsIn, IsSeated, IsThrough};
+ghost use Rattle.std.specs.Prelude.{◌≡◌, [], Ok, None, IfErr, IfOk, OnOk};
+ghost use Rattle.hub_board.specs.declared.given.Turned.TheVariants.{Ended as HasEnded, Worked as HasWorked};
+ghost use Rattle.hub_drive.specs.Seats.{HasGone, IsAtRest, IsHere, IsIn, IsSeated, IsThrough};
 ghost use Rattle.hub_node.specs.Nodes.{Beginning};
-ghost use Rattle.hub_node.specs.declared.node.NodeFault.TheVariants.{Store};
 
 use hub_node::{Node, NodeFault};
 use hub_turns::{Hub, NodePass, Pending, Turned};
@@ -27,9 +26,12 @@ fn take_turn<N: Node, R: Wait>(rt: &R, hub: &Hub, seat: &mut Seat<N>) -> Result<
         → OnOk result (IsSeated N.stands run hub.now seat.new) }
     ensures through { (run : Beginning) → IsSeated N.stands run hub.now seat.old → result ≡ Ok HasEnded
         → seat.new.fault ≡ None → IsThrough N.stands run hub.now N.tells seat.new }
+    ensures rests { (run : Beginning) → IsSeated N.stands run hub.now seat.old → seat.old.steps.steps ≡ []
+        → IfOk result (λ turned. (turned ≡ HasWorked → ⊥) → seat.new.fault ≡ None
+        → IsAtRest N.stands run hub.now seat.new) }
     ensures node { seat.new.pass.node ≡ seat.old.pass.node }
-    ensures stays { N.stays seat.old.node seat.new.node }
-    ensures failed { result ≡ Err Store → N.failed seat.old.node seat.new.node }
+    ensures stays { OnOk result (N.stays seat.old.node seat.new.node) }
+    ensures failed { IfErr result (λ fault. N.failed fault seat.old.node seat.new.node) }
     ensures fault { seat.new.fault ≡ seat.old.fault }
 {
     let Ok(given) = hub.turn(rt, &mut seat.pass, &mut seat.steps) else {
@@ -44,6 +46,8 @@ pub(crate) fn turn<N: Node, R: Wait>(rt: &R, hub: &Hub, seat: &mut Seat<N>) -> T
     requires { IsHere N.stands hub.now seat.old }
     ensures through { (run : Beginning) → IsIn N.stands run hub.now seat.old → result ≡ HasEnded
         → IsThrough N.stands run hub.now N.tells seat.new }
+    ensures rests { (run : Beginning) → IsIn N.stands run hub.now seat.old → (result ≡ HasWorked → ⊥)
+        → seat.new.fault ≡ None → IsAtRest N.stands run hub.now seat.new }
     ensures gone { HasGone N.stands N.stays N.failed hub.now seat.old seat.new }
 {
     if seat.fault.is_some() {

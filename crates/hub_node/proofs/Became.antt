@@ -1,5 +1,5 @@
 -- What has become of a node of either kind.
-use Rattle.std.proofs.Common.{◌⊎◌, inl, inr}
+use Rattle.std.proofs.Common.{inl, inr}
 use Rattle.hub_node.specs.Either.{of_either}
 use Rattle.hub_node.specs.Nodes.{HasBecome}
 use Rattle.hub_node.specs.declared.either.AnyNode.{AnyNode}

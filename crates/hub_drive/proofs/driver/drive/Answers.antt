@@ -23,7 +23,8 @@ run_at-requires-clause-are g c κs w =
     } in
     nodes_are g.N.Node.stands (beginning c.args.script.now c.args.start c.args.epochs) c.in-Ok-new.hub hub_is
     c.seat_all-seats.result.items c.args.nodes.items c.in-Ok-new.passes.items c.requires.nodes
-    c.seat_all-seats.ensures.nodes c.seat_all-seats.ensures.passes c.in-Ok-new.ensures.passes c.seat_all-seats.ensures.fresh
+    c.seat_all-seats.ensures.nodes c.seat_all-seats.ensures.passes c.in-Ok-new.ensures.passes
+    c.seat_all-seats.ensures.fresh
 
 pub run_at-requires-clause-seated : goal.run_at-requires-clause-seated
 run_at-requires-clause-seated g c κs w =
@@ -34,7 +35,8 @@ run_at-requires-clause-seated g c κs w =
     } in
     all_seated g.N.Node.stands (beginning c.args.script.now c.args.start c.args.epochs) c.in-Ok-new.hub hub_is
     c.seat_all-seats.result.items c.args.nodes.items c.in-Ok-new.passes.items c.requires.nodes
-    c.seat_all-seats.ensures.nodes c.seat_all-seats.ensures.passes c.in-Ok-new.ensures.passes c.seat_all-seats.ensures.fresh
+    c.seat_all-seats.ensures.nodes c.seat_all-seats.ensures.passes c.in-Ok-new.ensures.passes
+    c.seat_all-seats.ensures.fresh
 
 pub run_at-requires-clause-well : goal.run_at-requires-clause-well
 run_at-requires-clause-well g c κs w = λ i d lt. (c.seat_all-seats.ensures.fresh i d lt).1

@@ -11,6 +11,12 @@ returns-clause-through g c = λ run at e.
     c.turn_in_bundles.new.seats c.turn_in_bundles.ensures.gone at)
     e
 
+pub returns-clause-rests : goal.returns-clause-rests
+returns-clause-rests g c = λ run at.
+    c.turn_all-2.ensures.rests run
+    (all_in g.N.Node.stands g.N.Node.stays g.N.Node.failed c.args.hub.now run c.args.seats.now
+    c.turn_in_bundles.new.seats c.turn_in_bundles.ensures.gone at)
+
 pub returns-clause-gone : goal.returns-clause-gone
 returns-clause-gone g c =
     let met = g.met.N.Node g.world.𝓛 g.world.𝓜 g.world.𝓡 ((λ s x. x), (λ x. x), (λ x. x), (λ x. x)) in

@@ -5,35 +5,30 @@ use Rattle.hub_drive.proofs.Lists.{pairs_then}
 use Rattle.hub_drive.proofs.rounds.turn_slice.Goals as goal
 
 pub returns-then-went-clause-through : goal.returns-then-went-clause-through
-returns-then-went-clause-through g c = λ run at e.
+returns-then-went-clause-through g c = λ run at.
     c.turn_once-went.ensures.through run
     (all_in g.N.Node.stands g.N.Node.stays g.N.Node.failed c.args.hub.now run c.args.seats.now c.loop.seats
     c.loop.invariant.gone at)
-    c.if-went.true
+
+pub returns-then-went-clause-rests : goal.returns-then-went-clause-rests
+returns-then-went-clause-rests g c = λ run at.
+    c.turn_once-went.ensures.rests run
+    (all_in g.N.Node.stands g.N.Node.stays g.N.Node.failed c.args.hub.now run c.args.seats.now c.loop.seats
+    c.loop.invariant.gone at)
 
 pub returns-then-went-clause-gone : goal.returns-then-went-clause-gone
 returns-then-went-clause-gone g c =
+    let met = g.met.N.Node g.world.𝓛 g.world.𝓜 g.world.𝓡 ((λ s x. x), (λ x. x), (λ x. x), (λ x. x)) in
     pairs_then (HasGone {N = g.row.N.Denot} g.N.Node.stands g.N.Node.stays g.N.Node.failed c.args.hub.now)
-    (gone_on g.N.Node.stands g.N.Node.stays g.N.Node.failed c.args.hub.now (g.met.N.Node g.world.𝓛 g.world.𝓜 g.world.𝓡 ((λ s x. x), (λ x. x), (λ x. x), (λ x. x))).stays_so (g.met.N.Node g.world.𝓛 g.world.𝓜 g.world.𝓡 ((λ s x. x), (λ x. x), (λ x. x), (λ x. x))).stays_on (g.met.N.Node g.world.𝓛 g.world.𝓜 g.world.𝓡 ((λ s x. x), (λ x. x), (λ x. x), (λ x. x))).fails_on)
-    c.args.seats.now c.loop.seats c.turn_once-went.new.seats c.loop.invariant.gone c.turn_once-went.ensures.gone
-
-pub returns-then-went-2-clause-gone : goal.returns-then-went-2-clause-gone
-returns-then-went-2-clause-gone g c =
-    pairs_then (HasGone {N = g.row.N.Denot} g.N.Node.stands g.N.Node.stays g.N.Node.failed c.args.hub.now)
-    (gone_on g.N.Node.stands g.N.Node.stays g.N.Node.failed c.args.hub.now (g.met.N.Node g.world.𝓛 g.world.𝓜 g.world.𝓡 ((λ s x. x), (λ x. x), (λ x. x), (λ x. x))).stays_so (g.met.N.Node g.world.𝓛 g.world.𝓜 g.world.𝓡 ((λ s x. x), (λ x. x), (λ x. x), (λ x. x))).stays_on (g.met.N.Node g.world.𝓛 g.world.𝓜 g.world.𝓡 ((λ s x. x), (λ x. x), (λ x. x), (λ x. x))).fails_on)
-    c.args.seats.now c.loop.seats c.turn_once-went.new.seats c.loop.invariant.gone c.turn_once-went.ensures.gone
-
-pub returns-then-not-went-clause-gone : goal.returns-then-not-went-clause-gone
-returns-then-not-went-clause-gone g c =
-    pairs_then (HasGone {N = g.row.N.Denot} g.N.Node.stands g.N.Node.stays g.N.Node.failed c.args.hub.now)
-    (gone_on g.N.Node.stands g.N.Node.stays g.N.Node.failed c.args.hub.now (g.met.N.Node g.world.𝓛 g.world.𝓜 g.world.𝓡 ((λ s x. x), (λ x. x), (λ x. x), (λ x. x))).stays_so (g.met.N.Node g.world.𝓛 g.world.𝓜 g.world.𝓡 ((λ s x. x), (λ x. x), (λ x. x), (λ x. x))).stays_on (g.met.N.Node g.world.𝓛 g.world.𝓜 g.world.𝓡 ((λ s x. x), (λ x. x), (λ x. x), (λ x. x))).fails_on)
+    (gone_on g.N.Node.stands g.N.Node.stays g.N.Node.failed c.args.hub.now met.stays_so met.stays_on met.fails_on)
     c.args.seats.now c.loop.seats c.turn_once-went.new.seats c.loop.invariant.gone c.turn_once-went.ensures.gone
 
 pub loop-preserved : goal.loop-preserved
-loop-preserved g c = record {
-  kept = c.turn_once-went.ensures.kept;
-  gone =
-      pairs_then (HasGone {N = g.row.N.Denot} g.N.Node.stands g.N.Node.stays g.N.Node.failed c.args.hub.now)
-      (gone_on g.N.Node.stands g.N.Node.stays g.N.Node.failed c.args.hub.now (g.met.N.Node g.world.𝓛 g.world.𝓜 g.world.𝓡 ((λ s x. x), (λ x. x), (λ x. x), (λ x. x))).stays_so (g.met.N.Node g.world.𝓛 g.world.𝓜 g.world.𝓡 ((λ s x. x), (λ x. x), (λ x. x), (λ x. x))).stays_on (g.met.N.Node g.world.𝓛 g.world.𝓜 g.world.𝓡 ((λ s x. x), (λ x. x), (λ x. x), (λ x. x))).fails_on)
-      c.args.seats.now c.loop.seats c.turn_once-went.new.seats c.loop.invariant.gone c.turn_once-went.ensures.gone;
-}
+loop-preserved g c =
+    let met = g.met.N.Node g.world.𝓛 g.world.𝓜 g.world.𝓡 ((λ s x. x), (λ x. x), (λ x. x), (λ x. x)) in
+    record {
+      kept = c.turn_once-went.ensures.kept;
+      gone = pairs_then (HasGone {N = g.row.N.Denot} g.N.Node.stands g.N.Node.stays g.N.Node.failed c.args.hub.now)
+          (gone_on g.N.Node.stands g.N.Node.stays g.N.Node.failed c.args.hub.now met.stays_so met.stays_on met.fails_on)
+          c.args.seats.now c.loop.seats c.turn_once-went.new.seats c.loop.invariant.gone c.turn_once-went.ensures.gone;
+    }
