@@ -20,9 +20,10 @@ use Rattle.host_manager.proofs.Folding.{OnlySends, fold_keeps, fold_only, fold_s
 use Rattle.host_manager.proofs.Folding.{giving_only, giving_said, giving_says}
 use Rattle.host_manager.proofs.Given.{if_none}
 use Rattle.host_manager.proofs.LeftBy.{IsLeftBy, stays_of}
-use Rattle.host_manager.proofs.LeftFile.{all_files}
-use Rattle.host_manager.proofs.LeftSo.{LeftSo, SaidSo, held_from, kept, returns, start}
-use Rattle.host_manager.proofs.OneFile.{LabelsLeft, labels_stay}
+use Rattle.host_manager.proofs.LeftSo.{returns}
+use Rattle.host_manager.proofs.PartSo.{PartSo, held_from, kept}
+use Rattle.host_manager.proofs.WholeFile.{HasDirt, IsWhole, SaidSo, all_files, some_there, start, whole_has, whole_of}
+use Rattle.host_manager.proofs.OneFile.{LabelsLeft, labels_stay, none_mapped}
 use Rattle.host_manager.proofs.Running.{asks_none, gone_on, runs_on}
 use Rattle.host_manager.proofs.Sizes.{length_fits, size_left}
 use Rattle.host_manager.specs.Closing.{AllLeave}
@@ -79,19 +80,11 @@ use Rattle.tree_laws.specs.Parts.Part.{ByteAt, Size}
 use Rattle.host_tables.proofs.AtOnce as at_once
 use Rattle.host_tables.proofs.Learning as learning_of
 
-none_mapped : {A B : Type 0} (f : A → B) (xs : List A) → map f xs ≡ [] → xs ≡ []
-none_mapped f [] e = refl
-none_mapped f (x ∷ xs) e = absurd (cc)
-
-pub some_there : {A : Type 0} (xs : List A) → (xs ≡ [] → ⊥) → (x : A) × In x xs
-some_there [] some = absurd (some refl)
-some_there (x ∷ xs) some = (x, inl refl)
-
 module _ (script : Script) (m : Tables) (past : List Step) (running : IsRunning script m past)
     (lines : lines_gone past ≡ length (lines_of script (Host m.host))) (free : IsFreePair m)
     (no_labels : m.uses.labels ≡ []) (sound : IsSoundGives m.gives) (first : Token) (has_first : In first (held_of m))
     (l : Left) (gone : List Token) (made : List Give) (told : List Message) (dues : List FilesetId)
-    (so : LeftSo m l (map (λ (t : Token). t.fid) (held_of m)) gone made)
+    (so : PartSo m (held_of m) l (map (λ (t : Token). t.fid) (held_of m)) gone made)
     (saying_so : SaidSo m (map (λ (t : Token). t.fid) (held_of m)) gone made told dues)
     (sound_l : IsSoundGives l.gives) where
   abbrev fids : List Fid
@@ -122,7 +115,13 @@ module _ (script : Script) (m : Tables) (past : List Step) (running : IsRunning 
   only = fold_only (sending_give x) (λ d fs. giving_only x d fs) d1 dues
 
   kept_so : IsLeftBy m.cache l.cache gone
-  kept_so = kept m stands.cache.once stands.cache.tells stands.contents.zero l fids gone made so
+  kept_so = kept m stands.cache.once stands.cache.tells stands.contents.zero (held_of m) (λ u n. n) l fids gone made so
+
+  its_whole : (g : Give) → In g made → IsWhole m g
+  its_whole g i = whole_of m g (so.part g i)
+
+  its_has : (t : Token) → In t gone → HasDirt m t → (g : Give) × In g made × (g.fid ≡ t.fid) × In t.id g.ids
+  its_has t i dirt = whole_has m l fids gone made so t i dirt
 
   -- # Tokens
   its_gone : (t : Token) → In t (held_of m) → In t gone
@@ -130,7 +129,8 @@ module _ (script : Script) (m : Tables) (past : List Step) (running : IsRunning 
 
   none_held : (t : Token) → In t (tokens_of l.cache.held) → ⊥
   none_held t i =
-      let r = held_from m stands.cache.once stands.cache.tells stands.contents.zero l fids gone made so t i in
+      let r = held_from m stands.cache.once stands.cache.tells stands.contents.zero (held_of m) (λ u n. n) l fids gone
+      made so t i in
       r.1 (its_gone t r.0)
 
   none_used : NoneUsed past
@@ -147,13 +147,13 @@ module _ (script : Script) (m : Tables) (past : List Step) (running : IsRunning 
   named_token : (g : Give) (i : TokenId) → In g made → In i g.ids
       → (t : Token) × In t (held_of m) × (t.id ≡ i) × (t.fid ≡ g.fid)
   named_token g i made_it n =
-      let w = so.whole g made_it in
+      let w = its_whole g made_it in
       let r = in_map (λ (t : Token). t.id) w.named i (subst (λ (is : List TokenId). In i is) w.ids n) in
       let f = w.from r.0 r.1 in (r.0, f.0, sym r.2, f.1)
 
-  in_named : (g : Give) (t : Token) (i : In g made) → In t (held_of m) → In t.id g.ids → In t (so.whole g i).named
+  in_named : (g : Give) (t : Token) (i : In g made) → In t (held_of m) → In t.id g.ids → In t (its_whole g i).named
   in_named g t i held n =
-      let w = so.whole g i in
+      let w = its_whole g i in
       let r = in_map (λ (u : Token). u.id) w.named t.id (subst (λ (is : List TokenId). In t.id is) w.ids n) in
       subst (λ (u : Token). In u w.named) (stands.cache.once r.0 t (w.from r.0 r.1).0 held (sym r.2)) r.1
 
@@ -181,7 +181,7 @@ module _ (script : Script) (m : Tables) (past : List Step) (running : IsRunning 
   ]
 
   no_end : (g : Give) (ends : Ends) → In g made → g.ends ≡ Some ends → ⊥
-  no_end g ends i e = absurd (let p = sym (so.whole g i).ends ∙ e in cc)
+  no_end g ends i e = absurd (let p = sym (its_whole g i).ends ∙ e in cc)
 
   labels : LabelsLeft m l past s
   labels = labels_stay m l past s so.uses so.ending no_end none_kept stands.labels
@@ -273,7 +273,7 @@ module _ (script : Script) (m : Tables) (past : List Step) (running : IsRunning 
       let y : Message = message_to x (home_at fs) r.0.body in
       let there = fold_said (sending_give x) (λ d z w j. giving_keeps x d z w j) fs y
       (λ d. giving_said x d fs r.0 r.1) d1 dues (saying_so.due k i e) in
-      (y.epoch, (y, there, at k.fid (so.of_file k i), refl, refl, r.2))
+      (y.epoch, (y, there, at k.fid (so.its_file k i), refl, refl, r.2))
 
   due : (g : Give) → IsFirst l.gives g → (IsFirst m.gives g → ⊥)
       → SendsTo s (stay_of (s ∷ past) g.fid.fileset) (GiveBack g)
@@ -367,7 +367,7 @@ module _ (script : Script) (m : Tables) (past : List Step) (running : IsRunning 
       × ((t : Token) × In t (held_of m) × In t.id g.ids × UpdatesByte t g.fid place)
       × ((t : Token) → In t (tokens_of l.cache.held) → UpdatesByte t g.fid place → ⊥)
   has_byte_of g place b i e =
-      let w = so.whole g i in
+      let w = its_whole g i in
       let p = if_none (is_dirty_in m.dirty g.fid place && list_any (updates_byte place) w.named)
       (content m.cache g.fid (ByteAt place)) b (sym (w.bytes place) ∙ e) in
       let both = and_parts (is_dirty_in m.dirty g.fid place) (list_any (updates_byte place) w.named) p.0 in
@@ -392,8 +392,8 @@ module _ (script : Script) (m : Tables) (past : List Step) (running : IsRunning 
       let mine = updated_by t f place updates in
       let same : t.fid ≡ f = updates.1 in
       let dirty = subst (λ (z : Fid). is_dirty_in m.dirty z place ≡ true) (sym same) d in
-      let r = so.has t (its_gone t i) (inr (inl (place, dirty, mine))) in
-      let w = so.whole r.0 r.1 in
+      let r = its_has t (its_gone t i) (inr (inl (place, dirty, mine))) in
+      let w = its_whole r.0 r.1 in
       let its = in_named r.0 t r.1 i r.3 in
       let dirty_g = subst (λ (z : Fid). is_dirty_in m.dirty z place ≡ true) (sym r.2) dirty in
       let both = and_from (is_dirty_in m.dirty r.0.fid place) (list_any (updates_byte place) w.named) dirty_g
@@ -422,13 +422,13 @@ module _ (script : Script) (m : Tables) (past : List Step) (running : IsRunning 
       (false_not (is_length_clean m.lengths (content m.cache) t.fid) n) in
       let dirty : is_some (dirty_length m t.fid) ≡ true =
       ap (λ (b : Bool). is_some (if b then Some (content m.cache t.fid Size) else None)) both in
-      inr (so.has t (its_gone t i) (inr (inr (e, dirty))))
+      inr (its_has t (its_gone t i) (inr (inr (e, dirty))))
 
   gives : GivesBack m past s (tokens_of l.cache.held)
   gives = record {
     names = λ g i e.
-        let w = so.whole g i in w.some (none_mapped (λ (t : Token). t.id) w.named (sym w.ids ∙ e));
-    rise = λ g i. (so.whole g i).rise;
+        let w = its_whole g i in w.some (none_mapped (λ (t : Token). t.id) w.named (sym w.ids ∙ e));
+    rise = λ g i. (its_whole g i).rise;
     ids = λ g i made_it n. named_token g i made_it n;
     one = so.one;
     above = so.above;
@@ -436,7 +436,7 @@ module _ (script : Script) (m : Tables) (past : List Step) (running : IsRunning 
     apart = so.apart;
     has = has_byte_of;
     saves = saves_byte;
-    length_is = λ g i. (so.whole g i).length;
+    length_is = λ g i. (its_whole g i).length;
     saves_length = saves_length;
     ends = λ g ends i e. absurd (no_end g ends i e);
     ends_used = λ g u i used n. absurd (none_used u used);
@@ -446,7 +446,7 @@ module _ (script : Script) (m : Tables) (past : List Step) (running : IsRunning 
   -- # The tables stay tidy
   a_named : (g : Give) (i : In g made) → (t : Token) × In t (held_of m) × (t.fid ≡ g.fid)
   a_named g i =
-      let w = so.whole g i in
+      let w = its_whole g i in
       let r = some_there w.named w.some in
       let f = w.from r.0 r.1 in (r.0, f.0, f.1)
 
@@ -459,10 +459,10 @@ module _ (script : Script) (m : Tables) (past : List Step) (running : IsRunning 
             let t = named_token g k i n in
             ap (λ (id : TokenId). id.server) (sym t.2) ∙ (tidy.held t.0 t.1).issued
             ∙ ap (λ (z : Fid). home z.fileset) t.3;
-        bytes = (so.whole g i).fit;
-        size = subst (λ (o : Option ℕ). IfSome o (λ n. n ≤ FILE_BYTES_MAX)) (sym (so.whole g i).length)
+        bytes = (its_whole g i).fit;
+        size = subst (λ (o : Option ℕ). IfSome o (λ n. n ≤ FILE_BYTES_MAX)) (sym (its_whole g i).length)
             (length_fits script.roster m tidy g.fid);
-        ends = subst (λ (o : Option Ends). IfSome o (λ (ends : Ends). IsEnd ends.call)) (sym (so.whole g i).ends) tt;
+        ends = subst (λ (o : Option Ends). IfSome o (λ (ends : Ends). IsEnd ends.call)) (sym (its_whole g i).ends) tt;
       }
 
   tidy_l : IsTidy script.roster x
@@ -520,7 +520,7 @@ module _ (script : Script) (m : Tables) (past : List Step) (running : IsRunning 
                 idle_here q.0 held,
                 elim (by_test (list_any (names q.0.id) m.gives.gives)) [
                   | inl e ↦
-                      let g = so.has q.0 q.1 (inl e) in
+                      let g = its_has q.0 q.1 (inl e) in
                       absurd (q.4 g.0 g.1 (subst (λ (id : TokenId). In id g.0.ids) q.2 g.3))
                   | inr f ↦ f
                 ],

@@ -6,11 +6,12 @@ use Rattle.host_cache.specs.declared.held.Held.{Held}
 use Rattle.host_gives.specs.Giving.{IsSound as IsSoundGives, outstanding}
 use Rattle.host_leaves.specs.Giving.{leaves_by}
 use Rattle.host_leaves.specs.Sending.{message_to, sending_due, sending_give}
-use Rattle.host_manager.proofs.AllEnds.{all_right, some_there}
+use Rattle.host_manager.proofs.AllEnds.{all_right}
 use Rattle.host_manager.proofs.Evicting.{each_once}
 use Rattle.host_manager.proofs.Folding.{OnlySends, fold_only, fold_says, giving_only, giving_says, where_only}
-use Rattle.host_manager.proofs.LeftFile.{all_files}
-use Rattle.host_manager.proofs.LeftSo.{LeftSo, OnceSo, SaidSo, start}
+use Rattle.host_manager.proofs.LeftSo.{OnceSo}
+use Rattle.host_manager.proofs.PartSo.{PartSo}
+use Rattle.host_manager.proofs.WholeFile.{SaidSo, all_files, some_there, start}
 use Rattle.host_manager.proofs.News.{IsNews, news_only, none_is_open, silent_calls}
 use Rattle.host_manager.proofs.OnceSaid.{servers_once}
 use Rattle.host_manager.proofs.Parting.{bye_said, byes_run}
@@ -57,7 +58,7 @@ tokens_left why (t ∷ tokens) = ap (λ (l : List Token). t ∷ l) (tokens_left 
 -- # All leaves
 module _ (script : Script) (m : Tables) (past : List Step) (running : IsRunning script m past) (free : m.call ≡ None)
     (no_labels : m.uses.labels ≡ []) (l : Left) (gone : List Token) (made : List Give) (told : List Message)
-    (dues : List FilesetId) (so : LeftSo m l (map (λ (t : Token). t.fid) (held_of m)) gone made)
+    (dues : List FilesetId) (so : PartSo m (held_of m) l (map (λ (t : Token). t.fid) (held_of m)) gone made)
     (says : SaidSo m (map (λ (t : Token). t.fid) (held_of m)) gone made told dues) (each : OnceSo m gone made told dues)
     (sound : IsSoundGives l.gives) where
   abbrev x : Tables

@@ -18,12 +18,13 @@ use Rattle.host_manager.proofs.EndsIt.{verdict_so}
 use Rattle.host_manager.proofs.Freed.{end_is, modes, one_only}
 use Rattle.host_manager.proofs.GivesStep.{no_sync}
 use Rattle.host_manager.proofs.Running.{uses_are}
+use Rattle.host_manager.proofs.Tests.{none_found}
 use Rattle.host_manager.proofs.TurnDue.{IsTurnDue, draft_due, opens_it}
 use Rattle.host_manager.proofs.TurnOpens.{IsAsked}
 use Rattle.host_manager.proofs.Turns.{IsTurn, at_turn, turn_draft}
 use Rattle.host_manager.proofs.UpsIt.{given_due, given_runs, it_ends}
 use Rattle.host_manager.specs.Running.{RunsOn}
-use Rattle.host_tables.proofs.Lists.{by_test, filter_in, in_any, names_are, true_false}
+use Rattle.host_tables.proofs.Lists.{by_test, filter_in, in_any, names_are}
 use Rattle.host_tables.proofs.Outstanding.{found_in}
 use Rattle.host_tables.proofs.Resting.{give_rests}
 use Rattle.host_tables.specs.Answering.{GivesForCall}
@@ -48,11 +49,11 @@ use Rattle.run_rules.specs.declared.step.Cause.{Cause}
 use Rattle.run_rules.specs.declared.step.Labelled.{Labelled}
 use Rattle.run_rules.specs.declared.step.Step.{Step}
 use Rattle.script_lines.specs.declared.script.Script.{Script}
-use Rattle.std.proofs.Common.{Bool, Err, List, None, Ok, Option, Some, [], ap, cond, false, filter, if◌then◌else◌}
+use Rattle.std.proofs.Common.{Bool, Err, List, None, Ok, Option, Some, [], ap, false, filter, if◌then◌else◌}
 use Rattle.std.proofs.Common.{inl, inr, not, refl, subst, sym, true, ℕ, ◌&&◌, ◌||◌, ◌∙◌, ◌∷◌, ◌≡◌}
 use Rattle.std.proofs.lemmas.Bool.{and_parts}
 use Rattle.std.specs.Bool.{beq}
-use Rattle.std.specs.List.{find, list_any}
+use Rattle.std.specs.List.{list_any}
 use Rattle.token_types.specs.declared.token.Token.{Token}
 use Rattle.token_types.specs.declared.token.TokenId.{TokenId}
 use Rattle.tree_calls.specs.declared.call.Call.{Call}
@@ -66,18 +67,6 @@ ended_made : (past : List Step) (g : Give) (u : Labelled) → HasEndedUse past g
 ended_made [] g u o = elim o [ ]
 ended_made (s ∷ past) g u (inl o) = inl o.0
 ended_made (s ∷ past) g u (inr o) = inr (ended_made past g u o)
-
-none_found : {A : Type 0} (p : A → Bool) (xs : List A) → find p xs ≡ None → (x : A) → In x xs → p x ≡ true → ⊥
-none_found p [] none x i e = elim i [ ]
-none_found p (y ∷ ys) none x i e = by_first (λ rest j. none_found p ys rest x j e) (p y) refl
-  where
-    by_first : (find p ys ≡ None → In x ys → ⊥) → (b : Bool) → p y ≡ b → ⊥
-    by_first below true t =
-        let q : Some y ≡ None = sym (ap (λ (b : Bool). cond b (Some y) (find p ys)) t) ∙ none in cc
-    by_first below false f = elim i [
-      | inl q ↦ true_false (p y) (ap p (sym q) ∙ e) f
-      | inr j ↦ below (sym (ap (λ (b : Bool). cond b (Some y) (find p ys)) f) ∙ none) j
-    ]
 
 or_none : (b : Bool) → (b || false) ≡ true → b ≡ true
 or_none true e = refl

@@ -91,7 +91,9 @@ pub mod EvictDue
 pub mod Repeated
 pub mod LapseDue
 pub mod PartSo
+pub mod NextFile
 pub mod PartFile
+pub mod WholeFile
 pub mod SortedSo
 pub mod Revoked
 pub mod RevokesIt

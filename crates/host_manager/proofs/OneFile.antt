@@ -6,7 +6,6 @@ use Rattle.host_cache.specs.Files.{file_key, same_key}
 use Rattle.host_cache.specs.Holding.{tokens_of}
 use Rattle.host_cache.specs.Seen.{Kept, of_key}
 use Rattle.host_cache.specs.declared.held.Held.{Held}
-use Rattle.host_calls.proofs.Owned.{key_is}
 use Rattle.host_dirty.specs.Dirtiness.{is_dirty as is_dirty_in}
 use Rattle.host_dirty.specs.declared.dirty.Dirty.{Dirty}
 use Rattle.host_gives.proofs.Adding.{adds}
@@ -14,6 +13,7 @@ use Rattle.host_gives.specs.Counters.{last_of}
 use Rattle.host_gives.specs.Giving.{after_add}
 use Rattle.host_labels.specs.Labels.{InUse, is_pinned}
 use Rattle.host_labels.specs.declared.uses.Labelled.{Labelled as UseOf}
+use Rattle.host_leaves.proofs.DirtyTokens.{at_file as file_at}
 use Rattle.host_leaves.specs.Dirtying.{covers_left, is_dirty_left, is_named, staying, tokens_at, updates_byte}
 use Rattle.host_leaves.specs.Giving.{AreGiven, AreLeft, HasToGive, ids_of, leaving_by, with_length_of}
 use Rattle.host_leaves.specs.Owning.{dirty_length}
@@ -91,15 +91,6 @@ pub record LabelsLeft (m : Tables) (l : Left) (past : List Step) (s : Step) : Ty
 pub none_mapped : {A B : Type 0} (f : A → B) (xs : List A) → map f xs ≡ [] → xs ≡ []
 none_mapped f [] e = refl
 none_mapped f (x ∷ xs) e = absurd (cc)
-
--- a token of a file is held, and of the file
-pub file_at : (m : Tables) (fid : Fid) (u : Token) → In u (tokens_at m fid) → In u (held_of m) × (u.fid ≡ fid)
-file_at m fid u i =
-    let k = in_map (λ (h : Held). h.token) (of_key (file_key fid) m.cache.held) u i in
-    let p = in_filter (λ (h : Held). same_key (file_key h.token.fid) (file_key fid)) m.cache.held k.0 k.1 in (
-      subst (λ (t : Token). In t (held_of m)) (sym k.2) (map_in (λ (h : Held). h.token) m.cache.held k.0 p.0),
-      ap (λ (t : Token). t.fid) k.2 ∙ key_is k.0.token.fid fid p.1,
-    )
 
 pub at_file : (m : Tables) (fid : Fid) (u : Token) → In u (held_of m) → u.fid ≡ fid → In u (tokens_at m fid)
 at_file m fid u i e =

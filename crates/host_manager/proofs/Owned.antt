@@ -346,7 +346,7 @@ file_on : (m : Tables) (d : Draft) (fid : Fid) (new : Tables) (e : Draft) → Le
     → GoesOn m d new e
 file_on m d fid new e (HasLeft none same is) =
     silent_on m d new e (ap (λ (x : Tables). x.host) same) (ap (λ (x : Draft). x.sent) is)
-file_on m d fid new e (NowLeaves its) = leaves_on m d fid (tokens_at m fid) Ended [] new e its
+file_on m d fid new e (NowLeaves some its) = leaves_on m d fid (tokens_at m fid) Ended [] new e its
 
 each_on : (ts : List Token) (m : Tables) (d : Draft) (new : Tables) (e : Draft) → LeavesEach ts m d new e
     → GoesOn m d new e

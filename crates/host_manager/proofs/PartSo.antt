@@ -10,11 +10,11 @@ use Rattle.host_dirty.specs.Dirtiness.{is_dirty as is_dirty_in}
 use Rattle.host_gives.specs.Counters.{last_of}
 use Rattle.host_gives.specs.Giving.{outstanding}
 use Rattle.host_leaves.specs.Dirtying.{is_named}
-use Rattle.host_leaves.specs.Giving.{AreLeft, HasToGive, ids_of, leaves_by, shown_without}
+use Rattle.host_leaves.specs.Giving.{AreLeft, HasToGive, ids_of, shown_without}
 use Rattle.host_leaves.specs.Owning.{dirty_length}
 use Rattle.host_leaves.specs.Revoking.{covers_status, of_file}
 use Rattle.host_manager.proofs.LeftBy.{IsLeftBy, left_by, stays_of}
-use Rattle.host_manager.proofs.LeftSo.{OnceSo, first_left, returns}
+use Rattle.host_manager.proofs.LeftSo.{OnceSo, first_left, returns, start_by}
 use Rattle.host_tables.proofs.Lists.{any_in, by_test, false_not, filter_in, id_same, in_any, in_filter, in_map}
 use Rattle.host_tables.proofs.Lists.{map_in, not_true, same_id_is}
 use Rattle.host_tables.specs.Drafts.{no_draft}
@@ -30,8 +30,9 @@ use Rattle.message_types.specs.declared.tokens.Named.{Named}
 use Rattle.run_rules.specs.Past.{EachOnce, In}
 use Rattle.run_rules.specs.Tokens.{number_of}
 use Rattle.run_rules.specs.Views.{HasLength, byte_of}
+use Rattle.run_rules.specs.declared.applied.Why.{Why}
 use Rattle.run_rules.specs.declared.applied.Why.TheVariants.{Revoked}
-use Rattle.std.proofs.Common.{Bool, List, None, Some, [], arith, false, inl, inr, is_some, map, not}
+use Rattle.std.proofs.Common.{Bool, List, None, Some, [], arith, false, inl, inr, is_some, not}
 use Rattle.std.proofs.Common.{refl, subst, suc, sym, true, ℕ, ◌&&◌, ◌+◌, ◌<◌, ◌≡◌, ◌≤◌, ◌⊎◌}
 use Rattle.std.specs.List.{list_any}
 use Rattle.token_types.specs.Conflicts.{same_id}
@@ -113,10 +114,23 @@ pub record PartLost (m : Tables) (tokens : List Token) (l : Left) (fids lost : L
 
 -- a draft in which such has been done
 abbrev pub start : List Give → List Token → List Message → List FilesetId → Draft
-start made gone sent due =
-    record no_draft { made = made; dropped = map (leaves_by Revoked) gone; sent = sent; due = due }
+start = start_by Revoked
 
--- the tokens of these files have left
+-- the tokens of these files have left, for one cause
+pub record HasLeft (why : Why) (m : Tables) (tokens : List Token) (first : List Message) (asked : Fid)
+    (back : List TokenId) (lost : List Fid) (fids : List Fid) (x : Tables) (d : Draft) : Type 0 where
+  pub l : Left
+  pub gone : List Token
+  pub made : List Give
+  pub sent : List Message
+  pub due : List FilesetId
+  pub tables : x ≡ record (with_left m l) { lost = lost }
+  pub draft : d ≡ start_by why made gone sent due
+  pub left : PartSo m tokens l fids gone made
+  pub said : PartSaid m first asked back fids gone made sent due
+  pub once : OnceSo m gone made sent due
+
+-- those that are asked back, and the files that are lost by it
 pub record HasParted (m : Tables) (tokens : List Token) (first : List Message) (asked : Fid) (back : List TokenId)
     (fids : List Fid) (x : Tables) (d : Draft) : Type 0 where
   pub l : Left
@@ -137,11 +151,11 @@ and_not_false true = refl
 and_not_false false = refl
 
 -- before the first file
-pub none_parted : (m : Tables) (tokens : List Token) (first : List Message) (asked : Fid) (back : List TokenId)
-    → EachOnce first → HasParted m tokens first asked back [] m (record no_draft { sent = first })
-none_parted m tokens first asked back once = record {
+pub none_left : (why : Why) (m : Tables) (tokens : List Token) (first : List Message) (asked : Fid)
+    (back : List TokenId) → EachOnce first
+    → HasLeft why m tokens first asked back m.lost [] m (record no_draft { sent = first })
+none_left why m tokens first asked back once = record {
   l = first_left m;
-  lost = m.lost;
   gone = [];
   made = [];
   sent = first;
@@ -181,9 +195,27 @@ none_parted m tokens first asked back once = record {
     rest = λ i j k. elim k [ ];
     due = λ g i e. elim i [ ];
   };
-  loses = record { old = λ f i. i; from = λ f i. inl i; new = λ f i. elim i [ ] };
   once = record { tokens = tt; gives = tt; messages = once; filesets = tt; new = λ fs i. elim i [ ] };
 }
+
+-- and where they are asked back
+pub none_parted : (m : Tables) (tokens : List Token) (first : List Message) (asked : Fid) (back : List TokenId)
+    → EachOnce first → HasParted m tokens first asked back [] m (record no_draft { sent = first })
+none_parted m tokens first asked back once =
+    let h = none_left Revoked m tokens first asked back once in record {
+      l = h.l;
+      lost = m.lost;
+      gone = h.gone;
+      made = h.made;
+      sent = h.sent;
+      due = h.due;
+      tables = h.tables;
+      draft = h.draft;
+      left = h.left;
+      said = h.said;
+      loses = record { old = λ f i. i; from = λ f i. inl i; new = λ f i. elim i [ ] };
+      once = h.once;
+    }
 
 -- # Which are left
 module _ (m : Tables) (once : (t u : Token) → In t (held_of m) → In u (held_of m) → t.id ≡ u.id → t ≡ u)

@@ -10,13 +10,14 @@ use Rattle.host_gives.specs.Giving.{IsSound as IsSoundGives, given_in, is_of, is
 use Rattle.host_gives.specs.Giving.{outstanding}
 use Rattle.host_labels.specs.Labels.{has_id as is_in_use}
 use Rattle.host_labels.specs.declared.uses.Labelled.{Labelled as UseOf}
+use Rattle.host_leaves.proofs.DirtyTokens.{at_file as file_at}
 use Rattle.host_leaves.specs.Dirtying.{covers_left, is_named, staying, tokens_at, updates_byte}
 use Rattle.host_leaves.specs.Giving.{HasToGive, ids_of}
 use Rattle.host_leaves.specs.Revoking.{Revokes, is_leaving, of_file, others_of, pinned, sorted_by}
 use Rattle.host_leaves.specs.Sending.{message_to}
 use Rattle.host_manager.proofs.Evicting.{updated_by, updates_it}
 use Rattle.host_manager.proofs.LeftSo.{returns}
-use Rattle.host_manager.proofs.OneFile.{at_file, file_at}
+use Rattle.host_manager.proofs.OneFile.{at_file}
 use Rattle.host_manager.proofs.PartSo.{HasParted, gone_or, held_from}
 use Rattle.host_manager.proofs.RevokeSees.{Sees, all_seen}
 use Rattle.host_manager.proofs.RevokesIt as revoked_so

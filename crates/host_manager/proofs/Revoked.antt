@@ -1,5 +1,7 @@
 -- A Revoke comes, and no call goes on by it: those of its tokens that are in use are kept, the others leave.
+use Rattle.host_leaves.proofs.DirtyTokens.{at_file as file_at}
 use Rattle.host_leaves.proofs.Sorting.{pinned_labels}
+use Rattle.host_manager.proofs.Tests.{none_found}
 use Rattle.std.proofs.Common.{◌&&◌, ◌++◌, ◌<◌, ◌∙◌, ◌∷◌, ◌≡◌, ◌≤◌, ◌⊎◌}
 use Rattle.base_types.specs.Ids.{same_fid}
 use Rattle.base_types.specs.declared.ids.Fid.{Fid}
@@ -27,7 +29,7 @@ use Rattle.host_manager.proofs.Folding.{giving_only, giving_said, giving_says}
 use Rattle.host_manager.proofs.Given.{if_none}
 use Rattle.host_manager.proofs.LeftBy.{IsLeftBy, all_stay, stays_of}
 use Rattle.host_manager.proofs.LeftSo.{returns}
-use Rattle.host_manager.proofs.OneFile.{at_file, file_at, none_mapped}
+use Rattle.host_manager.proofs.OneFile.{at_file, none_mapped}
 use Rattle.host_manager.proofs.PartSo.{PartLost, PartSaid, PartSo, gone_or, held_from, kept, start}
 use Rattle.host_manager.proofs.Running.{gone_on, runs_on}
 use Rattle.host_manager.proofs.Sizes.{length_fits, size_left}
@@ -80,12 +82,12 @@ use Rattle.run_rules.specs.declared.step.Asked.{Asked}
 use Rattle.run_rules.specs.declared.step.Labelled.{Labelled}
 use Rattle.run_rules.specs.declared.step.Step.{Step}
 use Rattle.script_lines.specs.declared.script.Script.{Script}
-use Rattle.std.proofs.Common.{Bool, List, None, Option, Some, [], ap, arith, false, flat_map, fold}
+use Rattle.std.proofs.Common.{Bool, List, None, Option, Some, ap, arith, false, flat_map, fold}
 use Rattle.std.proofs.Common.{if◌then◌else◌, inl, inr}
 use Rattle.std.proofs.Common.{is_some, map, not, refl, subst, sym, true, ◌&&◌, ◌++◌, ◌<◌, ◌∙◌, ◌∷◌, ◌≡◌, ◌≤◌}
 use Rattle.std.proofs.Common.{◌⊎◌, ℕ}
 use Rattle.std.proofs.lemmas.Bool.{and_from, and_parts}
-use Rattle.std.specs.List.{find, list_any}
+use Rattle.std.specs.List.{list_any}
 use Rattle.std.specs.Option.{option_map_or}
 use Rattle.std.specs.Prelude.{IfSome}
 use Rattle.run_rules.specs.HostTokens.{GivesByte}
@@ -95,16 +97,6 @@ use Rattle.token_types.specs.declared.token.Kind.TheVariants.{Bytes, Lock, Openi
 use Rattle.token_types.specs.declared.token.Token.{Token}
 use Rattle.token_types.specs.declared.token.TokenId.{TokenId}
 use Rattle.tree_laws.specs.Parts.Part.{ByteAt, Size}
-
-not_found : {A : Type 0} (test : A → Bool) (xs : List A) → find test xs ≡ None → (x : A) → In x xs → test x ≡ true → ⊥
-not_found test [] e x i t = elim i [ ]
-not_found {A = A} test (y ∷ xs) e x i t = by_head (λ f j. not_found test xs f x j t) (test y) refl e i
-  where
-    by_head : (find test xs ≡ None → In x xs → ⊥) → (b : Bool) → test y ≡ b
-        → (if b then Some y else find test xs) ≡ None → In x (y ∷ xs) → ⊥
-    by_head rest true q f j = absurd (cc)
-    by_head rest false q f (inl p) = true_false (test x) t (ap test p ∙ q)
-    by_head rest false q f (inr j) = rest f j
 
 module _ (script : Script) (old : Tables) (past : List Step) (message : Message) (running : IsRunning script old past)
     (sound_m : IsSound script.roster message) (no_moves : message.moves ≡ 0) (r : RevokeOf)
@@ -387,7 +379,7 @@ module _ (script : Script) (old : Tables) (past : List Step) (message : Message)
   not_held : (i : TokenId) → In i others → (t : Token) → In t (held_of old) → t.id ≡ i → ⊥
   not_held i j t held e =
       let h = in_map (λ (z : Held). z.token) old.cache.held t held in
-      not_found (is_id i) old.cache.held (sorts.others i j).1 h.0 h.1
+      none_found (is_id i) old.cache.held (sorts.others i j).1 h.0 h.1
       (id_same h.0.token.id i (ap (λ (z : Token). z.id) (sym h.2) ∙ e))
 
   -- a token that stays isn't named

@@ -32,6 +32,7 @@ use Rattle.host_gives.specs.Counters.{last_of}
 use Rattle.host_gives.specs.Giving.{IsSound as IsSoundGives, given_in, is_of_file, outstanding}
 use Rattle.host_labels.specs.Labels.{InUse, is_labelled, is_pinned}
 use Rattle.host_labels.specs.declared.uses.Labelled.{Labelled as UseOf}
+use Rattle.host_leaves.proofs.DirtyTokens.{at_file as file_at}
 use Rattle.host_leaves.proofs.Sorting.{pinned_labels}
 use Rattle.host_leaves.specs.Dirtying.{tokens_at}
 use Rattle.host_leaves.specs.Giving.{AreDirty, IsDirtyUnder as DirtyUnder, Leaves, LeavesWhere, ids_of, leaves_by}
@@ -47,7 +48,6 @@ use Rattle.host_manager.proofs.Folding.{giving_only, giving_said, giving_says}
 use Rattle.host_manager.proofs.Folding.{saying_keeps, saying_said, saying_says, sends_on}
 use Rattle.host_manager.proofs.Homely.{lack_declared, seen_declared}
 use Rattle.host_manager.proofs.LeftBy.{IsLeftBy}
-use Rattle.host_manager.proofs.OneFile.{file_at}
 use Rattle.host_manager.proofs.OnceSaid.{fold_once, once_more}
 use Rattle.host_manager.proofs.Opened.{and_false, no_use_kind, use_kind, welcome_greets}
 use Rattle.host_manager.proofs.PartFile.{file_leaves}

@@ -13,6 +13,7 @@ use Rattle.host_dirty.specs.Dirtiness.{is_dirty as is_dirty_in, spans_of}
 use Rattle.host_gives.specs.Counters.{last_of as last_counter}
 use Rattle.host_gives.specs.Giving.{IsSound as IsSoundGives, is_of_file, outstanding}
 use Rattle.host_labels.specs.Labels.{IsSound as IsSoundUses}
+use Rattle.host_leaves.proofs.DirtyTokens.{at_file as file_at}
 use Rattle.host_leaves.specs.Giving.{AreDirty, IsDirtyUnder, LeavesDirty, LeavesGiven, LeavesWhere, leaves_by}
 use Rattle.host_leaves.specs.Giving.{shown_without}
 use Rattle.host_leaves.specs.Sending.{message_to, sending_due, with_once}
@@ -21,7 +22,7 @@ use Rattle.host_manager.proofs.EndDue.{tokens_left}
 use Rattle.host_manager.proofs.Evicting.{updated_by}
 use Rattle.host_manager.proofs.GivesStep.{no_sync}
 use Rattle.host_manager.proofs.NewGive.{all_fresh, all_once}
-use Rattle.host_manager.proofs.OneFile.{IsGiven, at_file, file_at}
+use Rattle.host_manager.proofs.OneFile.{IsGiven, at_file}
 use Rattle.host_manager.proofs.Repeated.{with_once_has, with_once_keeps}
 use Rattle.host_manager.proofs.Running.{uses_are}
 use Rattle.host_manager.proofs.SyncSo.{finds_same, found_sync, ok_first, only_sync}

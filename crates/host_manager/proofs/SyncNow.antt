@@ -12,6 +12,7 @@ use Rattle.host_dirty.specs.declared.dirty.Dirty.{Dirty}
 use Rattle.host_gives.proofs.Adding.{adds}
 use Rattle.host_gives.specs.Counters.{last_of as last_counter}
 use Rattle.host_gives.specs.Giving.{IsSound as IsSoundGives, after_add, gone, is_of_file, outstanding}
+use Rattle.host_leaves.proofs.DirtyTokens.{at_file as file_at}
 use Rattle.host_leaves.specs.Dirtying.{covers_left}
 use Rattle.host_leaves.specs.Giving.{AreDirty, leaves_by, leaving_by, shown_without, with_length_of}
 use Rattle.host_leaves.specs.Owning.{dirty_length, update_span}
@@ -21,7 +22,7 @@ use Rattle.host_manager.proofs.Given.{left_dirty}
 use Rattle.host_manager.proofs.GivesStep.{no_sync}
 use Rattle.host_manager.proofs.Homely.{first_lack_in}
 use Rattle.host_manager.proofs.LeftBy.{IsLeftBy, all_stay, left_by, stays_of}
-use Rattle.host_manager.proofs.OneFile.{IsChosen, IsGiven, at_file, file_at}
+use Rattle.host_manager.proofs.OneFile.{IsChosen, IsGiven, at_file}
 use Rattle.host_manager.proofs.Running.{runs_on}
 use Rattle.host_manager.proofs.Sizes.{length_fits, size_left}
 use Rattle.host_manager.proofs.SyncSo.{covers_stay, decide_all, ok_first, status_covers, sync_from, sync_gives}

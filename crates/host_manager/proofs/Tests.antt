@@ -2,11 +2,12 @@
 use Rattle.host_cache.specs.Holding.{tokens_of}
 use Rattle.host_labels.specs.declared.uses.Labelled.{Labelled as UseOf}
 use Rattle.host_manager.specs.Closing.{first_end}
-use Rattle.std.proofs.Common.{Err, IfOk, None, Ok, Result, eqb-true, ◌==◌}
+use Rattle.run_rules.specs.Past.{In}
+use Rattle.std.proofs.Common.{Err, IfOk, None, Ok, Result, Some, ap, eqb-true, if◌then◌else◌, ◌==◌}
 use Rattle.std.specs.Prelude.{IsOk, OnOk}
 use Rattle.host_cache.specs.declared.held.Held.{Held}
 use Rattle.host_manager.specs.Closing.{MayEnd, awaits_bye, is_to_part}
-use Rattle.host_tables.proofs.Lists.{any_in, by_test, false_not, in_any, not_true, true_not}
+use Rattle.host_tables.proofs.Lists.{any_in, by_test, false_not, in_any, not_true, true_false, true_not}
 use Rattle.host_tables.specs.Machine.{IsParted}
 use Rattle.host_tables.specs.declared.sites.Site.{Site}
 use Rattle.host_tables.specs.declared.tables.Tables.{Tables}
@@ -14,7 +15,7 @@ use Rattle.std.proofs.Common.{Bool, List, [], arith, false, inl, inr, length, no
 use Rattle.std.proofs.Common.{◌↔◌}
 use Rattle.std.proofs.Common.{◌∙◌, ◌∷◌, ◌≡◌}
 use Rattle.std.proofs.lemmas.Bool.{and_from, and_parts}
-use Rattle.std.specs.List.{list_any}
+use Rattle.std.specs.List.{find, list_any}
 use Rattle.std.specs.Prelude.{IsTrue, ◌≢◌}
 
 -- each greeted server has said Bye
@@ -85,3 +86,15 @@ pub when_so : {A B E : Type 0} (done : Result B E) (result : Result A E) (step :
 when_so done (Err e) step P Q p ok is f = tt
 when_so (Err e) (Ok a) step P Q p ok is f = absurd (let z = ok in cc)
 when_so (Ok b) (Ok a) step P Q p ok is f = subst Q (sym is) (f p)
+
+-- what is found nowhere is nowhere
+pub none_found : {A : Type 0} (test : A → Bool) (xs : List A) → find test xs ≡ None → (x : A) → In x xs
+    → test x ≡ true → ⊥
+none_found test [] e x i t = elim i [ ]
+none_found {A = A} test (y ∷ xs) e x i t = by_head (λ f j. none_found test xs f x j t) (test y) refl e i
+  where
+    by_head : (find test xs ≡ None → In x xs → ⊥) → (b : Bool) → test y ≡ b
+        → (if b then Some y else find test xs) ≡ None → In x (y ∷ xs) → ⊥
+    by_head rest true q f j = absurd (cc)
+    by_head rest false q f (inl p) = true_false (test x) t (ap test p ∙ q)
+    by_head rest false q f (inr j) = rest f j

@@ -46,7 +46,8 @@ first_end (used ∷ labels) = Some (ending_of (is_lock used.token.kind) used.lab
 -- the tokens of a file leave, where there are any
 pub data LeavesFile (m : Tables) (draft : Draft) (fid : Fid) (new : Tables) (after : Draft) : Type 0 where
   HasLeft : tokens_at m fid ≡ [] → new ≡ m → after ≡ draft → LeavesFile m draft fid new after
-  NowLeaves : Leaves m draft fid (tokens_at m fid) Ended [] new after → LeavesFile m draft fid new after
+  NowLeaves : (tokens_at m fid ≡ [] → ⊥) → Leaves m draft fid (tokens_at m fid) Ended [] new after
+      → LeavesFile m draft fid new after
 
 -- tokens leave, file by file
 pub data LeavesEach : List Token → Tables → Draft → Tables → Draft → Type 0 where

@@ -43,11 +43,13 @@ pub struct Manager {
 }
 
 impl Manager {
-    /// A host before its first step. It is declared by the roster. The only error is that memory ran out, or that the
-    /// roster has no server, or more than 255.
+    /// A host before its first step. It is declared by the roster. The only error is NoMemory: where the roster has no
+    /// server, or more than 255, and else where memory ran out.
     pub fn new(alloc: Global, host: HostId, roster: &Roster) -> Result<Manager, NoMemory>
         requires { IsSome (user_of roster.now host) }
         ensures host { IfOk result (λ manager. (tables_of manager).host ≡ host) }
+        ensures servers { IfOk result (λ manager.
+            (1 ≤ length roster.now.capacity) × (length roster.now.capacity ≤ 255)) }
         ensures rests { IfOk result (λ manager.
             (script : Script) → script.roster ≡ roster.now → IsRunning script (tables_of manager) []) }
     {

@@ -1,7 +1,7 @@
 use Rattle.host_manager.proofs.Tests.{if_both, none_by, some_by}
 use Rattle.host_manager.specs.Closing.{EndsNext, parting, with_byes}
 use Rattle.host_manager.specs.Closing.EndsNext.{Awaits, Parts}
-use Rattle.std.proofs.Common.{[], fold, refl, subst, sym, ◌≡◌, ◌↔◌, ◌∙◌}
+use Rattle.std.proofs.Common.{[], fold, refl, sym, ◌≡◌, ◌↔◌, ◌∙◌}
 use Rattle.std.specs.Prelude.{IsTrue, ◌≢◌}
 use Rattle.host_manager.proofs.closing.end_parting.Goals as goal
 

@@ -1,4 +1,4 @@
-use Rattle.std.proofs.Common.{ap, sym, ◌∙◌}
+use Rattle.std.proofs.Common.{sym, ◌∙◌}
 use Rattle.host_manager.proofs.Learnt.{ends_none, ends_some}
 use Rattle.host_manager.proofs.learning.end_call.Goals as goal
 

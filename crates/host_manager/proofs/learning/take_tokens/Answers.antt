@@ -2,7 +2,7 @@ use Rattle.std.proofs.Common.{subst, take}
 use Rattle.std.specs.Prelude.{option_copied}
 use Rattle.host_leaves.proofs.Steps.{fold_next, take_whole}
 use Rattle.host_manager.specs.Learning.{HasTaken, Taking, taking, taking_from, taking_one}
-use Rattle.host_manager.proofs.Learnt.{took_more, took_none}
+use Rattle.host_manager.proofs.Learnt.{took_more}
 use Rattle.token_types.specs.declared.token.Token.{Token}
 use Rattle.std.proofs.Common.{List}
 use Rattle.host_manager.proofs.learning.take_tokens.Goals as goal

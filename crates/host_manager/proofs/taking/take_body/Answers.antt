@@ -1,4 +1,4 @@
-use Rattle.std.proofs.Common.{refl, sym}
+use Rattle.std.proofs.Common.{refl}
 use Rattle.std.proofs.lemmas.Result.{on_ok_weaker}
 use Rattle.host_manager.proofs.Tooks.{for_others}
 use Rattle.host_manager.specs.Taking.TakesBody.{IsOther}

@@ -2,7 +2,7 @@ use Rattle.host_manager.proofs.First.{first_runs}
 use Rattle.host_tables.specs.Beginning.{new_tables}
 use Rattle.host_manager.specs.Running.{IsRunning}
 use Rattle.host_tables.specs.declared.tables.Tables.{Tables}
-use Rattle.std.proofs.Common.{Some, [], subst, sym, ◌∙◌, ◌≡◌}
+use Rattle.std.proofs.Common.{Some, [], arith, subst, sym, ◌∙◌, ◌≡◌}
 use Rattle.tree_calls.specs.Rosters.{user_of}
 use Rattle.host_manager.proofs.manager.Manager.new.Goals as goal
 
@@ -19,3 +19,10 @@ returns-clause-rests c script same =
     (first_runs script c.args.roster.now c.args.host c.in-Some.user cache dirty c.args.alloc c.in_ok-servers.servers
     same c.in_ok-servers.ensures.0 c.in_ok-servers.ensures.1 c.in_ok-servers.ensures.2 c.in_ok-cache.ensures
     c.new-dirty.ensures user)
+
+pub returns-clause-servers : goal.returns-clause-servers
+returns-clause-servers c =
+    let is = c.in_ok-servers.ensures.0 in
+    let low = c.in_ok-servers.ensures.1 in
+    let high = c.in_ok-servers.ensures.2 in
+    (omega (arith, is, low), omega (arith, is, high))
