@@ -1,0 +1,19 @@
+use Rattle.std.proofs.Common.{◌≡◌, true, false, List, []}
+use Rattle.host_node.proofs.Turns.{let_go, pushed, repeated_then}
+use Rattle.host_node.specs.Standing.{IsInTurn, IsOver}
+use Rattle.host_node.specs.declared.host.HostNode.{HostNode}
+use Rattle.run_rules.specs.declared.step.Step.{Step}
+use Rattle.host_node.proofs.host.HostNode.repeat.Goals as goal
+
+pub returns-then-is_over : goal.returns-then-is_over
+returns-then-is_over c = λ part past turn. let_go part c.args.self.now past c.args.steps.now.steps [] 1 turn
+
+pub returns : goal.returns
+returns c = λ part past turn.
+    let now : HostNode = record c.args.self.now { manager = c.lapse-made.new.self } in
+    let live : IsOver c.args.self.now → ⊥ =
+    (λ over. let is = c.is_over.ensures.1 over in let no = c.if-is_over.false in absurd (cc)) in
+    pushed c.lapse-made.result c.push_made.result c.args.steps.now.steps c.push_made.new.steps.steps
+    (λ (l : List Step). IsInTurn part now past l [] 0) c.push_made.ensures.made c.push_made.ensures.ok
+    (repeated_then part c.args.self.now past c.args.steps.now.steps live turn c.lapse-made.new.self c.lapse-made.result
+    c.lapse-made.ensures.right c.lapse-made.ensures.own c.lapse-made.ensures.due)

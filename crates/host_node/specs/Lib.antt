@@ -1,0 +1,4 @@
+pub mod Between
+pub mod Doing
+pub mod Laws
+pub mod Standing
