@@ -36,8 +36,8 @@ use Rattle.server_takes.specs.Messages.{IsHeard}
 use Rattle.server_takes.specs.Taking.{IsBodyTaken, IsMadeOf, IsOtherTaken, IsRequestTaken, IsTaken, Made, Whether}
 use Rattle.server_takes.specs.Taking.{comes_new, ends_now, is_decided_here, takes_change, takes_fetch}
 use Rattle.server_takes.specs.declared.draft.Draft.{Draft}
-use Rattle.server_takes_tests.specs.Serving.{IsKept}
-use Rattle.server_takes_tests.proofs.Keeping.{kept_on}
+use Rattle.server_exporter_tests.specs.Serving.{IsKept}
+use Rattle.server_exporter_tests.proofs.Keeping.{kept_on}
 
 whether : (b : Bool) (P Q R : Type 0) → Whether b P Q → (P → R) → (Q → R) → R
 whether true P Q R h f g = f h

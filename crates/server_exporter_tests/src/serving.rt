@@ -1,6 +1,6 @@
 //! A server's tables and its store.
-ghost use Rattle.std.specs.Prelude.{IfOk, OnOk};
-ghost use Rattle.server_takes_tests.specs.Serving.{IsKept, Stands};
+ghost use Rattle.std.specs.Prelude.{◌≡◌, length, IfOk, OnOk};
+ghost use Rattle.server_exporter_tests.specs.Serving.{HasTwo, IsKept, Stands};
 
 use crate::{storing, taking};
 use anyhow::{Result, bail};
@@ -22,8 +22,10 @@ pub struct Served {
     pub keeper: Keeper<MapStore>,
 }
 
-// Ann and bob of dev, for whom hosts 1 and 2 act, and two servers.
-fn roster(alloc: Global) -> Result<Roster> {
+/// Ann and bob of dev, for whom hosts 1 and 2 act, and two servers.
+pub fn roster(alloc: Global) -> Result<Roster>
+    ensures { IfOk result HasTwo }
+{
     let ann = HostLine { user: 0, limit: 64 };
     let bob = HostLine { user: 1, limit: 64 };
     Ok(Roster {
@@ -33,25 +35,17 @@ fn roster(alloc: Global) -> Result<Roster> {
     })
 }
 
-fn users(alloc: Global) -> Result<Items<User>> {
+fn users(alloc: Global) -> Result<Items<User>>
+    ensures { IfOk result (λ users. length users ≡ 2) }
+{
     let mut users = Items::new(alloc);
-    for name in ["ann", "bob"] {
-        users.push(user(alloc, name, "dev")?)?;
-    }
+    users.push(user(alloc, "ann", "dev")?)?;
+    users.push(user(alloc, "bob", "dev")?)?;
     Ok(users)
 }
 
 /// The tables of the server before its first epoch, and its store before its first act.
-pub fn starting(alloc: Global) -> Result<Served>
-    ensures { IfOk result Stands }
-{
-    let roster = roster(alloc)?;
-    let served = served_for(alloc, &roster);
-    drop(roster);
-    served
-}
-
-fn served_for(alloc: Global, roster: &Roster) -> Result<Served>
+pub fn served_for(alloc: Global, roster: &Roster) -> Result<Served>
     ensures { IfOk result Stands }
 {
     let store = MapStore::new(alloc, SERVER, roster)?;
@@ -62,30 +56,25 @@ fn served_for(alloc: Global, roster: &Roster) -> Result<Served>
     })
 }
 
-/// What is told to a row.
-pub fn told(served: &mut Served, row: &str) -> Result<String>
+/// Writes what is told to a row.
+pub fn tell_served(
+    served: &mut Served,
+    word: &str,
+    words: &mut Words,
+    text: &mut Text,
+) -> Result<()>
     requires { Stands served.old }
     ensures { OnOk result (Stands served.new) }
 {
-    let alloc = served.tables.alloc();
-    let mut words = Words::new(alloc, row);
-    let mut text = Text::new(alloc);
-    answer(served, &mut words, &mut text)?;
-    text.line()
-}
-
-fn answer(served: &mut Served, words: &mut Words, text: &mut Text) -> Result<()>
-    requires { Stands served.old }
-    ensures { OnOk result (Stands served.new) }
-{
-    match words.next() {
+    match word {
         "begin" => taking::begin(served, text),
         "from" => taking::take(served, words, text),
         word => look(&served.tables, &mut served.keeper, word, words, text),
     }
 }
 
-fn look(
+/// Writes what is told to a row that asks of a store, or looks at tables.
+pub fn look(
     tables: &Tables,
     keeper: &mut Keeper<MapStore>,
     word: &str,

@@ -1,2 +1,4 @@
 pub mod Keeping
 pub mod Heard
+pub mod Users
+pub mod Working

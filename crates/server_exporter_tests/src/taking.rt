@@ -1,6 +1,6 @@
 //! Messages that come to a server, and the steps that they begin.
 ghost use Rattle.std.specs.Prelude.{OnOk};
-ghost use Rattle.server_takes_tests.specs.Serving.{Stands};
+ghost use Rattle.server_exporter_tests.specs.Serving.{Stands};
 
 use crate::serving::{SERVER, Served};
 use crate::sound::is_for;

@@ -4,29 +4,32 @@
 #![tactic(auto)]
 
 ghost use Rattle.std.specs.Prelude.{OnOk};
-ghost use Rattle.server_takes_tests.specs.Serving.{Stands};
+ghost use Rattle.server_exporter_tests.specs.Serving.{AllStand};
 
+mod machine;
 mod serving;
 mod sound;
+mod stepping;
 mod storing;
 mod taking;
 mod telling;
 mod wording;
+mod world;
 
 use anyhow::Result;
-use serving::{Served, starting, told};
+use world::{World, starting, told};
 
 // Judges one line: a comment or a row. Answers whether it was a row, and prints one that doesn't get what is wanted.
-fn judge(rt: &(impl Print + AllocGlobal), served: &mut Served, line: &str) -> Result<bool>
-    requires { Stands served.old }
-    ensures { OnOk result (Stands served.new) }
+fn judge(rt: &(impl Print + AllocGlobal), world: &mut World, line: &str) -> Result<bool>
+    requires { AllStand world.old }
+    ensures { OnOk result (AllStand world.new) }
 {
     let line = line.trim();
     if line.is_empty() || line.starts_with("#") {
         return Ok(false);
     }
     let (row, wanted) = line.split_once(" =").unwrap_or((line, ""));
-    let told = told(served, row.trim())?;
+    let told = told(rt.alloc(), world, row.trim())?;
     if told.as_str().trim() != wanted.trim() {
         println!(rt; "{row}: {told}, and not {wanted}")?;
     }
@@ -34,12 +37,12 @@ fn judge(rt: &(impl Print + AllocGlobal), served: &mut Served, line: &str) -> Re
 }
 
 // Judges each line of standard input, and answers how many rows there were.
-fn judge_all(rt: &(impl Input + Print + AllocGlobal), served: &mut Served) -> Result<u64>
-    requires { Stands served.old }
+fn judge_all(rt: &(impl Input + Print + AllocGlobal), world: &mut World) -> Result<u64>
+    requires { AllStand world.old }
 {
     let mut rows = 0u64;
     for line in rt.lines(rt.alloc()) {
-        if judge(rt, served, line?.as_str())? {
+        if judge(rt, world, line?.as_str())? {
             rows = rows.saturating_add(1);
         }
     }
@@ -47,9 +50,9 @@ fn judge_all(rt: &(impl Input + Print + AllocGlobal), served: &mut Served) -> Re
 }
 
 fn main(rt: HostRuntime) -> Result<()> {
-    let mut served = starting(rt.alloc())?;
-    let judged = judge_all(&rt, &mut served);
-    drop(served);
+    let mut world = starting(rt.alloc())?;
+    let judged = judge_all(&rt, &mut world);
+    drop(world);
     println!(rt; "{} rows", judged?)?;
     Ok(())
 }

@@ -5,7 +5,7 @@ use Rattle.store_memory.specs.declared.map_store.MapStore.{MapStore}
 use Rattle.server_looks.specs.Keepers.{HasAsked, HasTried}
 use Rattle.server_looks.specs.declared.keeper.Keeper.{Keeper}
 use Rattle.server_tables.specs.declared.tables.Tables.{Tables}
-use Rattle.server_takes_tests.specs.Serving.{IsKept}
+use Rattle.server_exporter_tests.specs.Serving.{IsKept}
 
 pub kept_on : {T : Type 0} (x y : Tables) (value : T) (old new : Keeper MapStore) → IsKept x old
     → y.server ≡ x.server → y.roster ≡ x.roster

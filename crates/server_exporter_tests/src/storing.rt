@@ -2,9 +2,9 @@
 ghost use Rattle.std.specs.Prelude.{OnOk};
 ghost use Rattle.message_types.specs.Soundness.{IsCall, IsHost};
 ghost use Rattle.store_acts.specs.Sound.{IsDecided, IsFor};
-ghost use Rattle.server_takes_tests.specs.Serving.{IsKept};
+ghost use Rattle.server_exporter_tests.specs.Serving.{IsKept};
 
-use crate::sound::{is_call, is_host};
+use crate::sound::{is_call, is_done, is_host};
 use crate::telling::push_pieces;
 use crate::wording::{change, fetch};
 use anyhow::{Result, bail};
@@ -67,7 +67,10 @@ fn ask_sound(
     requires { IsKept tables.now keeper.old }
     ensures { OnOk result (IsKept tables.now keeper.new) }
 {
-    if !is_host(&tables.roster, host) || !is_call(tables.server, &tables.roster, &change.call) {
+    if !is_host(&tables.roster, host)
+        || !is_call(tables.server, &tables.roster, &change.call)
+        || !is_done(tables.server, &change.call)
+    {
         bail!("no sound call");
     }
     let found = found_by(tables.server, &tables.roster, keeper, host, change)?;

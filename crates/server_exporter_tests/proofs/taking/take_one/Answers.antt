@@ -1,5 +1,5 @@
-use Rattle.server_takes_tests.proofs.Heard.{kept_heard}
-use Rattle.server_takes_tests.proofs.taking.take_one.Goals as goal
+use Rattle.server_exporter_tests.proofs.Heard.{kept_heard}
+use Rattle.server_exporter_tests.proofs.taking.take_one.Goals as goal
 
 pub returns : goal.returns
 returns c = record {
