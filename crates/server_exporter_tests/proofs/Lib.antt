@@ -1,4 +1,2 @@
-pub mod Keeping
-pub mod Heard
 pub mod Users
 pub mod Working

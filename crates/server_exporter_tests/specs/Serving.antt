@@ -6,13 +6,10 @@ use Rattle.store_memory.specs.MapStores.{kept_in, map_view}
 use Rattle.store_memory.specs.declared.map_store.MapStore.{MapStore}
 use Rattle.server_looks.specs.Keepers.{IsFit}
 use Rattle.server_looks.specs.declared.keeper.Keeper.{Keeper}
-use Rattle.server_tables.specs.Counting.{IsCounted}
 use Rattle.server_tables.specs.declared.tables.Tables.{Tables}
 use Rattle.server_takes.specs.Messages.{IsStoreOf}
 use Rattle.server_exporter.specs.Serving.{IsServed}
 use Rattle.server_exporter_tests.specs.declared.machine.Machine.{Machine}
-use Rattle.server_exporter_tests.specs.declared.serving.Served.{Served}
-use Rattle.server_exporter_tests.specs.declared.world.World.{World}
 
 -- host 1 acts for the first user, and host 2 for the second
 abbrev pub two_hosts : List HostLine
@@ -27,15 +24,7 @@ pub record IsKept (tables : Tables) (keeper : Keeper MapStore) : Type 0 where
   pub of : IsStoreOf tables (kept_in keeper.store)
   pub fit : IsFit (map_view keeper.store) keeper.left
 
-pub record Stands (served : Served) : Type 0 where
-  pub counted : IsCounted served.tables
-  pub kept : IsKept served.tables served.keeper
-
 -- a machine's tables are those of its store's server, which may be asked and written
 pub record Works (machine : Machine) : Type 0 where
   pub served : IsServed machine.exporter.tables (map_view machine.keeper.store).state
   pub fit : IsFit (map_view machine.keeper.store) machine.keeper.left
-
-pub record AllStand (world : World) : Type 0 where
-  pub served : Stands world.served
-  pub machine : Works world.machine

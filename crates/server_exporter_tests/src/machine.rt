@@ -2,14 +2,16 @@
 ghost use Rattle.std.specs.Prelude.{IfOk, OnOk};
 ghost use Rattle.server_exporter_tests.specs.Serving.{HasTwo, Works};
 
-use crate::serving::{SERVER, look};
 use crate::sound::is_for;
+use crate::starting::{SERVER, roster};
 use crate::stepping::push_step;
+use crate::storing::look;
 use crate::wording::message;
 use anyhow::{Result, bail};
 use message_types::Message;
 use server_exporter::{Exporter, Keeper};
 use std::alloc::Global;
+use std::mem::replace;
 use store_memory::MapStore;
 use tree_calls::Roster;
 use tree_test_words::{Text, Words};
@@ -23,7 +25,16 @@ pub struct Machine {
 
 impl Machine {
     /// Before its first epoch and its first act.
-    pub fn new(alloc: Global, roster: &Roster) -> Result<Machine>
+    pub fn new(alloc: Global) -> Result<Machine>
+        ensures { IfOk result Works }
+    {
+        let roster = roster(alloc)?;
+        let machine = Machine::for_hosts(alloc, &roster);
+        drop(roster);
+        machine
+    }
+
+    fn for_hosts(alloc: Global, roster: &Roster) -> Result<Machine>
         requires { HasTwo roster.now }
         ensures { IfOk result Works }
     {
@@ -36,12 +47,24 @@ impl Machine {
     }
 }
 
-/// Writes the step that a machine makes, or what is asked of its store.
-pub fn tell_machine(machine: &mut Machine, words: &mut Words, text: &mut Text) -> Result<()>
+/// What is told to a row.
+pub fn told(alloc: Global, machine: &mut Machine, row: &str) -> Result<String>
+    requires { Works machine.old }
+    ensures { OnOk result (Works machine.new) }
+{
+    let mut words = Words::new(alloc, row);
+    let mut text = Text::new(alloc);
+    tell(machine, &mut words, &mut text)?;
+    text.line()
+}
+
+// Writes the step that a machine makes, or what is asked of its store.
+fn tell(machine: &mut Machine, words: &mut Words, text: &mut Text) -> Result<()>
     requires { Works machine.old }
     ensures { OnOk result (Works machine.new) }
 {
     match words.next() {
+        "new" => begin_anew(machine, words.alloc()),
         "from" => take(machine, words, text),
         "settle" => settle(machine, text),
         "lapse" => lapse(machine, text),
@@ -51,7 +74,16 @@ pub fn tell_machine(machine: &mut Machine, words: &mut Words, text: &mut Text) -
     }
 }
 
-// `x from HOST EPOCH WORD ..`
+// `new`: another machine, over another store.
+fn begin_anew(machine: &mut Machine, alloc: Global) -> Result<()>
+    ensures { OnOk result (Works machine.new) }
+{
+    let fresh = Machine::new(alloc)?;
+    drop(replace(machine, fresh));
+    Ok(())
+}
+
+// `from HOST EPOCH WORD ..`
 fn take(machine: &mut Machine, words: &mut Words, text: &mut Text) -> Result<()>
     requires { Works machine.old }
     ensures { OnOk result (Works machine.new) }
@@ -67,7 +99,7 @@ fn take(machine: &mut Machine, words: &mut Words, text: &mut Text) -> Result<()>
     Ok(())
 }
 
-// `x settle`
+// `settle`
 fn settle(machine: &mut Machine, text: &mut Text) -> Result<()>
     requires { Works machine.old }
     ensures { OnOk result (Works machine.new) }
@@ -78,7 +110,7 @@ fn settle(machine: &mut Machine, text: &mut Text) -> Result<()>
     Ok(())
 }
 
-// `x lapse`
+// `lapse`
 fn lapse(machine: &mut Machine, text: &mut Text) -> Result<()>
     requires { Works machine.old }
     ensures { OnOk result (Works machine.new) }
@@ -92,7 +124,7 @@ fn lapse(machine: &mut Machine, text: &mut Text) -> Result<()>
     Ok(())
 }
 
-// `x line NUMBER`
+// `line NUMBER`
 fn line(machine: &Machine, words: &mut Words, text: &mut Text) -> Result<()> {
     let number = words.number()?;
     if !machine.exporter.is_rested() {
@@ -104,7 +136,7 @@ fn line(machine: &Machine, words: &mut Words, text: &mut Text) -> Result<()> {
     Ok(())
 }
 
-// `x restart LINE`
+// `restart LINE`
 fn restart(machine: &mut Machine, words: &mut Words, text: &mut Text) -> Result<()>
     requires { Works machine.old }
     ensures { OnOk result (Works machine.new) }
@@ -116,7 +148,7 @@ fn restart(machine: &mut Machine, words: &mut Words, text: &mut Text) -> Result<
     Ok(())
 }
 
-// A row as those of a store; `x is`: what is so of the machine.
+// `is`: what is so of the machine. Else what is asked of its store.
 fn ask(machine: &mut Machine, word: &str, words: &mut Words, text: &mut Text) -> Result<()>
     requires { Works machine.old }
     ensures { OnOk result (Works machine.new) }

@@ -1,6 +1,6 @@
 //! The messages that rows name.
 
-use crate::serving::SERVER;
+use crate::starting::SERVER;
 use anyhow::{Context, Result, bail};
 use base_types::{FILE_BYTES_MAX, Fid, FilesetId, HostId, Items, Span};
 use message_types::{Body, Change, Direction, Fetch, Give, Message, Named, Outstanding, Reclaim};

@@ -3,7 +3,7 @@ use Rattle.store_memory.specs.MapStores.{kept_in}
 use Rattle.store_memory.specs.declared.map_store.MapStore.{MapStore}
 use Rattle.store_state.specs.declared.state.StoreState.{StoreState}
 use Rattle.server_exporter_tests.proofs.Working.{works_new}
-use Rattle.server_exporter_tests.proofs.machine.Machine.new.Goals as goal
+use Rattle.server_exporter_tests.proofs.machine.Machine.for_hosts.Goals as goal
 
 pub returns : goal.returns
 returns c =
