@@ -1,6 +1,6 @@
 -- A call that a host makes between turns.
-use Rattle.std.proofs.Common.{◌≡◌, ◌⊎◌, inl, inr, ℕ, ◌+◌, ◌<◌, ◌≤◌, Bool, true, false, cond, List, [], ◌∷◌, ◌++◌}
-use Rattle.std.proofs.Common.{Option, None, Some, length, slice_get, take, refl, sym, ap, ◌∙◌, subst, append_assoc}
+use Rattle.std.proofs.Common.{◌≡◌, inl, inr, ℕ, ◌+◌, Bool, true, false, cond, List, [], ◌∷◌, ◌++◌}
+use Rattle.std.proofs.Common.{Option, None, Some, slice_get, take, refl, sym, ap, ◌∙◌, subst, append_assoc}
 use Rattle.std.proofs.Common.{arith}
 use Rattle.std.specs.Option.{option_and_then, option_map}
 use Rattle.std.specs.Prelude.{Err, IfOk, IsOk, MatchOption, Ok, OnOk, Result}
@@ -38,7 +38,6 @@ use Rattle.script_lines.specs.declared.script.Deed.TheVariants.{Call as MakesCal
 use Rattle.script_lines.specs.declared.script.Line.{Line}
 use Rattle.script_lines.specs.declared.script.Script.{Script}
 use Rattle.tree_calls.specs.declared.call.Call.{Call}
-use Rattle.tree_calls.specs.declared.reply.Reply.{Reply}
 
 -- the next line is there, and has the number of the next one
 next_slot : (lines : LinesView) (line : Line) → next_of lines ≡ Some line → slice_get lines.lines lines.gone ≡ Some line

@@ -1,5 +1,5 @@
 -- What a line makes a host do, as its machine answers it.
-use Rattle.std.proofs.Common.{◌≡◌, ℕ, List}
+use Rattle.std.proofs.Common.{ℕ}
 use Rattle.std.specs.Prelude.{Err, IfOk, Ok, Result}
 use Rattle.base_types.specs.declared.errors.NoMemory.{NoMemory}
 use Rattle.host_manager.specs.Due.{IsOwn, LineDue}

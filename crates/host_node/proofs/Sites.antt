@@ -1,6 +1,6 @@
 -- What a host has of the servers, and whether it has parted from them.
 use Rattle.std.proofs.Common.{◌≡◌, ⊎_elim, inl, inr, ℕ, ◌+◌, ◌≤◌, ◌==◌, Bool, true, false, cond, List, [], ◌∷◌}
-use Rattle.std.proofs.Common.{Option, None, Some, length, map, unwrap_or, refl, sym, ap, ◌∙◌, subst, arith, eq-eqb}
+use Rattle.std.proofs.Common.{Some, map, unwrap_or, refl, sym, ap, ◌∙◌, subst, arith, eq-eqb}
 use Rattle.std.proofs.Common.{eqb-true}
 use Rattle.std.specs.List.{enumerate_from, find}
 use Rattle.base_types.specs.declared.ids.ServerId.{ServerId}

@@ -1,9 +1,8 @@
 -- A host goes on: what its machine answers is what a node owes.
-use Rattle.std.proofs.Common.{◌≡◌, ◌⊎◌, ⊎_elim, inl, inr, ℕ, zero, suc, ◌+◌, ◌<◌, ◌≤◌, ◌==◌, Bool, true, false, cond}
-use Rattle.std.proofs.Common.{List, [], ◌∷◌, ◌++◌, Option, None, Some, filter, length, slice_get, refl, sym, ap, ◌∙◌}
+use Rattle.std.proofs.Common.{◌≡◌, ◌⊎◌, ⊎_elim, inl, inr, ℕ, zero, ◌+◌, ◌<◌, ◌≤◌, ◌==◌, Bool, true, false, cond}
+use Rattle.std.proofs.Common.{List, [], ◌∷◌, ◌++◌, Option, None, Some, length, slice_get, refl, sym, ap, ◌∙◌}
 use Rattle.std.proofs.Common.{subst, arith, eq-eqb, eqb-true}
 use Rattle.std.specs.Option.{option_and_then}
-use Rattle.std.proofs.lemmas.List.{append-nil}
 use Rattle.base_types.specs.Name.{same_name}
 use Rattle.base_types.specs.declared.ids.HostId.{HostId}
 use Rattle.base_types.specs.declared.ids.Node.{Node}
@@ -13,20 +12,18 @@ use Rattle.host_manager.specs.Due.{IsOwn}
 use Rattle.host_manager.specs.Spoken.{tables_of}
 use Rattle.host_manager.specs.declared.manager.Manager.{Manager}
 use Rattle.host_node.proofs.Sites.{bye_of, parted_of}
-use Rattle.host_node.specs.Doing.{DoesLine}
-use Rattle.host_node.specs.Standing.{IsOver, IsPlayable, Stands, StandsSo, host_of}
+use Rattle.host_node.specs.Standing.{IsOver, StandsSo, host_of}
 use Rattle.host_node.specs.declared.host.HostNode.{HostNode}
 use Rattle.host_tables.specs.Machine.{IsParted}
 use Rattle.host_manager.specs.Running.{IsAskable, IsRunning, RunsOn}
 use Rattle.host_tables.specs.declared.tables.Tables.{Tables}
 use Rattle.hub_board.specs.Follows.{setup_node}
 use Rattle.hub_board.specs.Hubs.{may_begin}
-use Rattle.hub_board.specs.declared.given.Given.{Given}
 use Rattle.hub_laws.proofs.Ends.{after_more}
 use Rattle.hub_laws.proofs.Names.{name_same}
-use Rattle.hub_laws.specs.Beginnings.{Rests, WasBegun}
-use Rattle.hub_laws.specs.Keeping.{LineGoes, Round, WasTold, is_lapse, lapse_in, message_in, message_of, steps_in}
-use Rattle.hub_node.proofs.Keeping.{let_go, next_round, push_lapse, push_message, push_own}
+use Rattle.hub_laws.specs.Beginnings.{WasBegun}
+use Rattle.hub_laws.specs.Keeping.{LineGoes, Round, WasTold, is_lapse, message_of, steps_in}
+use Rattle.hub_node.proofs.Keeping.{let_go, push_lapse, push_message, push_own}
 use Rattle.hub_node.proofs.Scripts.{get_below, in_get, line_is, line_once}
 use Rattle.hub_node.specs.Keeping.{HasKeptOn, StepKeeps}
 use Rattle.hub_node.specs.Lines.{may_go, next_of}
@@ -35,16 +32,14 @@ use Rattle.message_types.specs.Soundness.{IsSound}
 use Rattle.message_types.specs.declared.message.Direction.{Direction}
 use Rattle.message_types.specs.declared.message.Direction.TheVariants.{BetweenServers, ToHost, ToServer}
 use Rattle.message_types.specs.declared.message.Message.{Message}
-use Rattle.message_types.specs.declared.message.Body.TheVariants.{Down, Hello}
 use Rattle.run_rules.specs.HostDue.{HostDue}
 use Rattle.run_rules.specs.HostMay.{HostMay}
-use Rattle.run_rules.specs.Messages.{HasBye, HasGreeted, HasStopped, Says}
+use Rattle.run_rules.specs.Messages.{HasBye, HasGreeted, HasStopped}
 use Rattle.run_rules.specs.Past.{In, appended}
 use Rattle.run_rules.specs.Plans.{receiver, receiver_by}
 use Rattle.run_rules.specs.Runs.{HostIsDone, IsFrom, IsLine}
 use Rattle.run_rules.specs.Steps.{goes_with, is_node, lines_gone, lines_of, setup, steps_of_host}
-use Rattle.run_rules.specs.declared.step.Cause.{Cause}
-use Rattle.run_rules.specs.declared.step.Cause.TheVariants.{End, Evict, Lapse, Line as LineOf, Message as Came, Restart}
+use Rattle.run_rules.specs.declared.step.Cause.TheVariants.{Lapse, Line as LineOf, Message as Came, Restart}
 use Rattle.run_rules.specs.declared.step.Step.{Step}
 use Rattle.script_lines.specs.Sound.{same_node}
 use Rattle.script_lines.specs.declared.script.Deed.{Deed}

@@ -1,5 +1,5 @@
 -- A host's turn: what each of its doings makes of where it stands.
-use Rattle.std.proofs.Common.{◌≡◌, ◌⊎◌, ⊎_elim, inl, inr, ℕ, ◌+◌, ◌<◌, ◌≤◌, ◌==◌, not, Bool, true, false, cond, List}
+use Rattle.std.proofs.Common.{◌≡◌, inl, inr, ℕ, ◌+◌, ◌<◌, ◌≤◌, ◌==◌, not, Bool, true, false, cond, List}
 use Rattle.std.proofs.Common.{[], ◌∷◌, ◌++◌, Option, None, Some, length, slice_get, refl, sym, ap, ◌∙◌, subst, arith}
 use Rattle.std.proofs.Common.{eq-eqb}
 use Rattle.std.proofs.lemmas.List.{append-nil}
@@ -14,7 +14,7 @@ use Rattle.host_manager.specs.Due.{EndDue, IsOwn, OwnDue, TakeDue}
 use Rattle.host_manager.specs.Spoken.{tables_of}
 use Rattle.host_manager.specs.declared.manager.Manager.{Manager}
 use Rattle.host_node.proofs.Standing.{after_lapse, after_line, after_message, after_own, can_ask, done_of, is_next}
-use Rattle.host_node.proofs.Standing.{node_is, not_stopped, running, stands_on, to_host}
+use Rattle.host_node.proofs.Standing.{node_is, running, stands_on, to_host}
 use Rattle.host_node.specs.Between.{Holds}
 use Rattle.host_node.specs.Doing.{DeedRight, DoesLine}
 use Rattle.host_node.specs.Standing.{IsInTurn, IsOver, IsPlayable, Stands, StandsSo, WasGiven, host_of}
@@ -27,27 +27,24 @@ use Rattle.hub_board.specs.declared.given.Given.TheVariants.{Begun, Raised}
 use Rattle.hub_laws.proofs.Ends.{after_more}
 use Rattle.hub_laws.specs.Keeping.{Round, is_lapse, lapse_in, message_in, message_of, steps_in}
 use Rattle.hub_node.proofs.Keeping.{next_round}
-use Rattle.hub_node.specs.Keeping.{HasKeptOn}
 use Rattle.hub_node.proofs.Scripts.{get_below}
 use Rattle.hub_node.specs.Lines.{LinesView, may_go, next_of}
 use Rattle.hub_node.specs.Nodes.{Beginning, IsDone, Part, part_of}
 use Rattle.message_types.specs.Soundness.{IsSound}
 use Rattle.message_types.specs.declared.message.Message.{Message}
-use Rattle.message_types.specs.declared.message.Body.TheVariants.{Down}
 use Rattle.run_rules.specs.HostDue.{HostDue}
 use Rattle.run_rules.specs.HostMay.{DoesLine as DoesDeed, HostMay}
 use Rattle.run_rules.specs.Messages.{HasStopped}
 use Rattle.run_rules.specs.Past.{In, appended}
 use Rattle.run_rules.specs.Plans.{receiver}
 use Rattle.run_rules.specs.Steps.{IsNextLine, goes_with, lines_gone, lines_of, servers_of}
-use Rattle.run_rules.specs.declared.step.Cause.TheVariants.{End, Evict, Lapse, Line as LineOf, Message as Came}
+use Rattle.run_rules.specs.declared.step.Cause.TheVariants.{Evict, Lapse, Line as LineOf}
 use Rattle.run_rules.specs.declared.step.Step.{Step}
 use Rattle.script_lines.specs.Sound.{is_stop, same_node}
 use Rattle.script_lines.specs.declared.script.Deed.{Deed}
 use Rattle.script_lines.specs.declared.script.Deed.TheVariants.{Await, Call, Raise, Restart, Stop}
 use Rattle.script_lines.specs.declared.script.Line.{Line}
 use Rattle.script_lines.specs.declared.script.Script.{Script}
-use Rattle.tree_calls.specs.declared.roster.Roster.{Roster}
 
 -- what holds where a result is Ok
 pub on_ok : {T E : Type 0} (r : Result T E) (P Q : Type 0) → (P → Q) → OnOk r P → OnOk r Q

@@ -1,5 +1,5 @@
 -- Where a host stands in a run, as a node.
-use Rattle.std.specs.Prelude.{List, Option, Some, [], false, length, true, ℕ, ◌∷◌, ◌++◌, ◌≡◌, ◌≤◌, ◌⊎◌}
+use Rattle.std.specs.Prelude.{List, Some, [], false, length, true, ℕ, ◌∷◌, ◌++◌, ◌≡◌, ◌≤◌, ◌⊎◌}
 use Rattle.base_types.specs.declared.ids.HostId.{HostId}
 use Rattle.base_types.specs.declared.ids.Node.{Node}
 use Rattle.base_types.specs.declared.ids.Node.TheVariants.{Host, Server}

@@ -1,6 +1,5 @@
 use Rattle.std.proofs.Common.{◌≡◌, ◌∙◌, Some, ap, slice_get, sym}
 use Rattle.std.specs.Option.{option_copied}
-use Rattle.script_lines.specs.declared.script.Deed.{Deed}
 use Rattle.script_lines.specs.declared.script.Deed.TheVariants.{Call as MakesCall}
 use Rattle.script_lines.specs.declared.script.Line.{Line}
 use Rattle.host_node.proofs.between.call_of.Goals as goal

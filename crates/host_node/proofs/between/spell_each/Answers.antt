@@ -1,4 +1,4 @@
-use Rattle.std.proofs.Common.{List, drop, subst}
+use Rattle.std.proofs.Common.{List, subst}
 use Rattle.std.proofs.lemmas.List.{drop_all}
 use Rattle.host_manager.specs.Spoken.{tables_of}
 use Rattle.host_node.proofs.Waiting.{none_left, spelled_next}

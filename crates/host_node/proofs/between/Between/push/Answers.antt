@@ -1,5 +1,4 @@
-use Rattle.std.proofs.Common.{◌≡◌, ◌++◌, ◌∷◌, List, [], ap, ◌∙◌}
-use Rattle.std.specs.Prelude.{OnOk}
+use Rattle.std.proofs.Common.{◌++◌, ◌∷◌, List, [], ap, ◌∙◌}
 use Rattle.host_node.proofs.Turns.{on_both}
 use Rattle.host_node.proofs.Waiting.{none_kept}
 use Rattle.host_manager.specs.Spoken.{tables_of}

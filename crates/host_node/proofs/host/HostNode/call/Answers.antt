@@ -7,7 +7,6 @@ use Rattle.host_node.proofs.Turns.{next_below}
 use Rattle.host_node.specs.Between.{Holds}
 use Rattle.hub_node.specs.Lines.{LinesView}
 use Rattle.run_rules.specs.Past.{appended}
-use Rattle.run_rules.specs.declared.step.Step.{Step}
 use Rattle.script_lines.specs.declared.script.Line.{Line}
 use Rattle.hub_laws.specs.Keeping.{steps_in}
 use Rattle.host_node.proofs.host.HostNode.call.Goals as goal

@@ -1,4 +1,4 @@
-use Rattle.std.proofs.Common.{◌≡◌, ◌+◌, ◌∙◌, ap, sym, true, false, List, []}
+use Rattle.std.proofs.Common.{◌≡◌, ◌∙◌, ap, sym, List, []}
 use Rattle.std.specs.Option.{option_copied}
 use Rattle.host_node.proofs.Turns.{next_below, pushed, went_then}
 use Rattle.host_node.specs.Standing.{IsInTurn}

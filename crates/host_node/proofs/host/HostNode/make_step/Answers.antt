@@ -1,4 +1,3 @@
-use Rattle.std.proofs.Common.{◌≡◌, true, false}
 use Rattle.host_node.proofs.host.HostNode.make_step.Goals as goal
 
 pub evict-requires : goal.evict-requires

@@ -2,7 +2,6 @@ use Rattle.std.proofs.Common.{None, sym, ap, ◌∙◌, subst}
 use Rattle.base_types.specs.declared.ids.Node.TheVariants.{Host}
 use Rattle.host_node.proofs.Turns.{fresh}
 use Rattle.host_node.specs.Standing.{IsPlayable}
-use Rattle.hub_node.specs.Lines.{LinesView}
 use Rattle.run_rules.specs.Steps.{lines_of}
 use Rattle.script_lines.specs.declared.script.Script.{Script}
 use Rattle.host_node.proofs.host.HostNode.new.Goals as goal

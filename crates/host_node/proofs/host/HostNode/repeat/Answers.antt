@@ -1,4 +1,4 @@
-use Rattle.std.proofs.Common.{◌≡◌, true, false, List, []}
+use Rattle.std.proofs.Common.{List, []}
 use Rattle.host_node.proofs.Turns.{let_go, pushed, repeated_then}
 use Rattle.host_node.specs.Standing.{IsInTurn, IsOver}
 use Rattle.host_node.specs.declared.host.HostNode.{HostNode}

@@ -1,9 +1,8 @@
-use Rattle.std.proofs.Common.{◌≡◌, Some, subst, sym}
+use Rattle.std.proofs.Common.{Some, subst}
 use Rattle.hub_board.specs.declared.given.Given.{Given}
 use Rattle.hub_laws.specs.Keeping.{lapse_in, message_in}
 use Rattle.host_node.proofs.Turns.{begun_then, told_then}
 use Rattle.host_node.specs.Standing.{IsInTurn, WasGiven}
-use Rattle.hub_node.specs.Nodes.{IsGivenTo}
 use Rattle.host_node.proofs.host.HostNode.take.Goals as goal
 
 pub returns-in-Begun : goal.returns-in-Begun

@@ -1,4 +1,4 @@
-use Rattle.std.proofs.Common.{◌≡◌, ◌∙◌, sym, Ok, ◌∷◌}
+use Rattle.std.proofs.Common.{◌≡◌, ◌∙◌, sym, ◌∷◌}
 use Rattle.hub_board.specs.declared.given.Turned.TheVariants.{Ended}
 use Rattle.host_node.proofs.Turns.{ends, is_done, none_of}
 use Rattle.host_node.proofs.host.HostNodeNode.work.Goals as goal
