@@ -114,7 +114,7 @@ falls : (roster : Roster) (host : HostId) (server n : ℕ) → Each (MayAct rost
 falls roster host server zero = tt
 falls roster host server (suc n) = (tt, falls roster host (server + 1) n)
 
-line_acts : (script : Script) → IsSound script → (node : Node) (deed : Deed) →
+pub line_acts : (script : Script) → IsSound script → (node : Node) (deed : Deed) →
     is_sound_deed script.servers (length script.roster.hosts) node deed ≡ true →
     Each (λ asked. IsSayable asked.call) (asked_by node deed) →
     Each (MayAct script.roster) (acts_by (length script.roster.capacity) node deed)
@@ -134,7 +134,7 @@ line_acts script s (Host host) Stop h say = falls script.roster host 1 (length s
 line_acts script s (Host host) deed h say = tt
 line_acts script s (Server server) deed h say = tt
 
-setup_acts : (script : Script) → IsSound script → (node : Node) (deed : Deed) →
+pub setup_acts : (script : Script) → IsSound script → (node : Node) (deed : Deed) →
     (same_node node (Host (record { 0 = 0 })) && is_setup_call script.servers deed) ≡ true →
     Each (λ asked. IsSayable asked.call) (asked_by node deed) →
     Each (MayAct script.roster) (acts_by (length script.roster.capacity) node deed)
