@@ -1,11 +1,13 @@
 -- A server goes on: what its machine answers is what a node owes.
-use Rattle.std.proofs.Common.{◌≡◌, ◌⊎◌, ⊎_elim, inl, inr, ℕ, zero, suc, ◌+◌, ◌<◌, ◌≤◌, ◌==◌, Bool, true, false, ◌&&◌, ◌||◌, cond, List, [], ◌∷◌, ◌++◌, Option, None, Some, length, slice_get, refl, sym, ap, ◌∙◌, subst, arith, eq-eqb, eqb-true}
-use Rattle.std.specs.List.{list_all, list_any}
+use Rattle.std.proofs.Common.{◌≡◌, ◌⊎◌, ⊎_elim, inl, inr, ℕ, ◌+◌, ◌<◌, ◌≤◌, ◌==◌, Bool, true, false, ◌&&◌}
+use Rattle.std.proofs.Common.{◌||◌, cond, List, [], ◌∷◌, ◌++◌, Option, None, Some, length, slice_get, refl, sym, ap}
+use Rattle.std.proofs.Common.{◌∙◌, subst, arith, eq-eqb, eqb-true}
+use Rattle.std.specs.List.{list_all}
 use Rattle.std.specs.Option.{option_and_then}
 use Rattle.std.proofs.lemmas.List.{append-nil}
 use Rattle.base_types.specs.declared.ids.HostId.{HostId}
 use Rattle.base_types.specs.declared.ids.Node.{Node}
-use Rattle.base_types.specs.declared.ids.Node.TheVariants.{Host, Server}
+use Rattle.base_types.specs.declared.ids.Node.TheVariants.{Server}
 use Rattle.base_types.specs.declared.ids.ServerId.{ServerId}
 use Rattle.hub_board.specs.Follows.{setup_node}
 use Rattle.hub_board.specs.Hubs.{may_begin}
@@ -18,26 +20,26 @@ use Rattle.hub_node.proofs.Keeping.{let_go, next_round, push_lapse, push_message
 use Rattle.hub_node.proofs.Scripts.{get_below, in_get, line_once}
 use Rattle.hub_node.specs.Keeping.{HasKeptOn, StepKeeps}
 use Rattle.hub_node.specs.Lines.{LinesView, may_go, next_of}
-use Rattle.hub_node.specs.Nodes.{Beginning, IsDone, IsGivenTo, Knows, OwnMeets, Part, first_at}
+use Rattle.hub_node.specs.Nodes.{Beginning, IsDone, IsGivenTo, Knows, OwnMeets, Part}
 use Rattle.message_types.specs.Soundness.{IsSound}
 use Rattle.message_types.specs.declared.message.Direction.{Direction}
-use Rattle.message_types.specs.declared.message.Direction.TheVariants.{BetweenServers, ToHost, ToServer}
+use Rattle.message_types.specs.declared.message.Direction.TheVariants.{ToServer}
 use Rattle.message_types.specs.declared.message.Message.{Message}
-use Rattle.run_rules.specs.Doings.{Doing, HasGoneAway, Listed, after_step, doings_of}
+use Rattle.run_rules.specs.Doings.{Doing, HasGoneAway, Listed, after_step}
 use Rattle.run_rules.specs.Past.{In, appended}
 use Rattle.run_rules.specs.Plans.{receiver, receiver_by}
 use Rattle.run_rules.specs.Runs.{IsFrom, IsLine}
 use Rattle.run_rules.specs.Steps.{IsNextLine, goes_with, is_node, lines_gone, lines_of}
-use Rattle.run_rules.specs.declared.step.Cause.{Cause}
-use Rattle.run_rules.specs.declared.step.Cause.TheVariants.{Flushed, Lapse, Line as LineOf, Message as Came, Restart}
+use Rattle.run_rules.specs.declared.step.Cause.TheVariants.{Lapse, Line as LineOf, Message as Came, Restart}
 use Rattle.run_rules.specs.declared.step.Step.{Step}
 use Rattle.run_tokens.specs.ServerRest.{ServerMeets}
 use Rattle.script_lines.specs.Sound.{same_node}
 use Rattle.script_lines.specs.declared.script.Deed.{Deed}
-use Rattle.script_lines.specs.declared.script.Deed.TheVariants.{Await, Restart as Restarts}
+use Rattle.script_lines.specs.declared.script.Deed.TheVariants.{Await}
 use Rattle.script_lines.specs.declared.script.Line.{Line}
 use Rattle.script_lines.specs.declared.script.Script.{Script}
-use Rattle.server_exporter.specs.Machines.{Follows, FollowsAlone, IsAt, IsNoRestart, IsRestart, IsSame, Keeps, Meets, MeetsAlone, MeetsOnLine, Says}
+use Rattle.server_exporter.specs.Machines.{IsAt, IsSame, Keeps}
+use Rattle.server_exporter.specs.Machines.{Says}
 use Rattle.server_exporter.specs.declared.exporter.Exporter.{Exporter}
 use Rattle.server_exporter.specs.Keeper.{Keeper}
 use Rattle.server_node.specs.Standing.{IsFor, Stands, StandsSo, doings_in, kept_in, server_of}
@@ -46,7 +48,6 @@ use Rattle.server_tables.specs.Listing.{has_host, is_alone}
 use Rattle.server_tables.specs.Standing.{HostsStand}
 use Rattle.server_tables.specs.declared.hosts.Hosts.{Hosts}
 use Rattle.store_memory.specs.Views.{View}
-use Rattle.store_state.specs.declared.state.StoreState.{StoreState}
 
 -- # Who it is
 
@@ -120,7 +121,8 @@ module _ {S : Type 0} (tells : Type 0) (view : S → View) (part : Part) (n : Se
 
   pub keeps : tells → Keeps x.tables (kept_in run v own) (view n.keeper.store).state
   keeps told =
-      subst (λ (w : ServerId). Keeps x.tables (kept_in run w own) (view n.keeper.store).state) (sym so.server) (so.keeps told)
+      subst (λ (w : ServerId). Keeps x.tables (kept_in run w own) (view n.keeper.store).state) (sym so.server)
+      (so.keeps told)
 
   step_keeps : (s : Step) → Says x.tables s → LineGoes (lines_of script part.node) own s
       → ((k : ℕ) (line : Line) (flag : List ℕ) → s.cause ≡ LineOf k → IsLine script part.node k line
@@ -171,9 +173,11 @@ module _ {S : Type 0} (tells : Type 0) (view : S → View) (part : Part) (n : Se
       at = (λ t.
           let now : IsAt (doings_in run v (s ∷ own)) (kept_in run v (s ∷ own)) y =
           subst (λ d. IsAt d (kept_in run v (s ∷ own)) y) (doings_on s says.node) (at_then t) in
-          let here : IsAt (doings_in run (server_of part.node) (s ∷ own)) (kept_in run (server_of part.node) (s ∷ own)) y =
+          let here : IsAt (doings_in run (server_of part.node) (s ∷ own))
+          (kept_in run (server_of part.node) (s ∷ own)) y =
           subst (λ (w : ServerId). IsAt (doings_in run w (s ∷ own)) (kept_in run w (s ∷ own)) y) so.server now in
-          subst (λ l. IsAt (doings_in run (server_of part.node) l) (kept_in run (server_of part.node) l) y) (sym grown) here);
+          subst (λ l. IsAt (doings_in run (server_of part.node) l) (kept_in run (server_of part.node) l) y)
+          (sym grown) here);
       keeps = (λ t.
           let here : Keeps y.tables (kept_in run (server_of part.node) (s ∷ own)) (view keeper.store).state =
           subst (λ (w : ServerId). Keeps y.tables (kept_in run w (s ∷ own)) (view keeper.store).state) so.server
@@ -219,7 +223,8 @@ module _ {S : Type 0} (tells : Type 0) (view : S → View) (part : Part) (n : Se
         → StandsSo tells view part after_it past (made ++ s ∷ []) came lapses
     after_own no_message no_lapse =
         plain came lapses
-        (push_own tells part past made s keeps_to (λ t. meets s (meet (told_of t))) came lapses no_message no_lapse so.kept)
+        (push_own tells part past made s keeps_to (λ t. meets s (meet (told_of t))) came lapses
+        no_message no_lapse so.kept)
 
     pub after_message : (message : Message) → came ≡ message ∷ [] → s.cause ≡ Came message
         → StandsSo tells view part after_it past (made ++ s ∷ []) [] 0
@@ -295,7 +300,8 @@ module _ {S : Type 0} (tells : Type 0) (view : S → View) (part : Part) (n : Se
       line_keeps = step_keeps s says goes (λ k l flag e is awaits.
           let in_own : In l (lines_of script (Server v)) =
           subst (λ (z : Node). In l (lines_of script z)) (sym node_is) is.0 in
-          let equal : l ≡ line = line_once script so.script (Server v) l line in_own line_in (is.1 ∙ sym (number k e)) in
+          let equal : l ≡ line = line_once script so.script (Server v) l line in_own line_in
+          (is.1 ∙ sym (number k e)) in
           awaited flag (ap (λ (z : Line). z.deed) (sym equal) ∙ awaits))
 
       pub after_line : StandsSo tells view part
@@ -303,7 +309,8 @@ module _ {S : Type 0} (tells : Type 0) (view : S → View) (part : Part) (n : Se
           past (made ++ s ∷ []) came lapses
       after_line =
           stands_then y keeper s says same (record n.lines { gone = n.lines.gone + 1 }) came lapses
-          (push_own tells part past made s line_keeps (λ t. meets s (meet (told_of t))) came lapses no_message no_lapse so.kept)
+          (push_own tells part past made s line_keeps (λ t. meets s (meet (told_of t))) came
+          lapses no_message no_lapse so.kept)
           at_then keeps_then refl (omega arith) (let more = more_lines in omega arith) so.told
 
   -- what was given last is let go
@@ -326,7 +333,8 @@ module _ {S : Type 0} (tells : Type 0) (view : S → View) (part : Part) (n : Se
   pub done_of : Knows tells part.node → length n.lines.lines ≤ n.lines.gone → is_alone x.tables.hosts ≡ true
       → IsDone run part.node own
   done_of knows full is =
-      let size : length n.lines.lines ≡ length (lines_of script part.node) = ap (λ (l : List Line). length l) so.lines in
+      let size : length n.lines.lines ≡ length (lines_of script part.node) =
+      ap (λ (l : List Line). length l) so.lines in
       let g = so.gone in let within = so.within in
       let gone : lines_gone own ≡ length (lines_of script (Server (server_of part.node))) =
       subst (λ (k : Node). lines_gone own ≡ length (lines_of script k)) so.node (omega arith) in
@@ -360,7 +368,8 @@ pub given_for : {S : Type 0} (tells : Type 0) (view : S → View) (part : Part) 
     → (given : Given) → IsGivenTo part (Some given) → IsFor n.exporter.tables given
 given_for tells view part n past made came lapses so given to m e =
     let is : Some given ≡ Some (CameIn m) = ap (λ (g : Given). Some g) e in
-    let node : part.node ≡ Server n.exporter.tables.server = so.node ∙ ap (λ (w : ServerId). Server w) (sym so.server) in (
+    let node : part.node ≡ Server n.exporter.tables.server =
+    so.node ∙ ap (λ (w : ServerId). Server w) (sym so.server) in (
       subst (λ r. IsSound r m) (sym so.roster) (to.sound m is),
       subst (λ (k : Node). same_node (receiver m) k ≡ true) node (to.own m is),
     )

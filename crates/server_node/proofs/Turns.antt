@@ -1,5 +1,6 @@
 -- A server's turn: what each of its doings makes of where it stands.
-use Rattle.std.proofs.Common.{◌≡◌, ℕ, ◌+◌, ◌<◌, ◌≤◌, inl, Bool, true, false, cond, List, [], ◌∷◌, ◌++◌, Option, None, Some, length, slice_get, refl, sym, ap, ◌∙◌, subst, arith}
+use Rattle.std.proofs.Common.{◌≡◌, ℕ, ◌+◌, ◌<◌, ◌≤◌, inl, true, false, cond, List, [], ◌∷◌, ◌++◌, Option, None}
+use Rattle.std.proofs.Common.{Some, length, slice_get, refl, sym, ap, ◌∙◌, subst, arith}
 use Rattle.std.specs.Option.{option_and_then}
 use Rattle.std.specs.Prelude.{IfOk, IfSome, IsOk, OnOk, Result, Ok, Err, is_some}
 use Rattle.base_types.specs.declared.errors.NoMemory.{NoMemory}
@@ -22,10 +23,12 @@ use Rattle.run_rules.specs.Steps.{IsNextLine, bare, goes_with, lines_of}
 use Rattle.run_rules.specs.declared.step.Cause.TheVariants.{Flushed, Lapse, Line as LineOf, Message as Came, Restart}
 use Rattle.run_rules.specs.declared.step.Step.{Step}
 use Rattle.script_lines.specs.declared.script.Line.{Line}
-use Rattle.server_exporter.specs.Machines.{Follows, FollowsAlone, IsAt, IsNew, IsNoRestart, IsRestart, IsSame, Keeps, Meets, MeetsAlone, MeetsOnLine, Says}
+use Rattle.server_exporter.specs.Machines.{Follows, FollowsAlone, IsAt, IsNew, IsNoRestart, IsRestart, IsSame, Keeps}
+use Rattle.server_exporter.specs.Machines.{Meets, MeetsAlone, MeetsOnLine, Says}
 use Rattle.server_exporter.specs.declared.exporter.Exporter.{Exporter}
 use Rattle.server_exporter.specs.Keeper.{Keeper}
-use Rattle.server_node.proofs.Standing.{after_lapse, after_line, after_message, after_own, at, done_of, given_for, is_next, keeps, next_here}
+use Rattle.server_node.proofs.Standing.{after_lapse, after_line, after_message, after_own, at, done_of, given_for}
+use Rattle.server_node.proofs.Standing.{is_next, keeps, next_here}
 use Rattle.server_exporter.specs.Serving.{CameSo, IsServed}
 use Rattle.server_exporter.specs.Keepers.{HasTried, IsFit}
 use Rattle.server_exporter.specs.ExporterFault.{ExporterFault}
@@ -33,7 +36,6 @@ use Rattle.server_node.specs.Standing.{CanServe, IsFor, IsReady, NextIs, Stands,
 use Rattle.server_node.specs.declared.server.ServerNode.{ServerNode}
 use Rattle.server_tables.specs.Listing.{is_alone}
 use Rattle.server_tables.specs.Sound.{AreSound}
-use Rattle.server_tables.specs.declared.tables.Tables.{Tables}
 use Rattle.store_memory.specs.Views.{View}
 use Rattle.store_state.specs.declared.state.StoreState.{StoreState}
 use Rattle.tree_answers.specs.declared.tree.Tree.{Tree}
@@ -255,10 +257,12 @@ module _ {S : Type 0} (tells : Type 0) (view : S → View) (part : Part) (n : Se
         let own_slot : IsNextLine (lines_of run.script part.node) own number line =
         subst (λ k. IsNextLine (lines_of run.script part.node) own k line) is.2
         (next_here tells view part n past made [] 0 so line is.1) in
-        after_line tells view part n past made [] 0 so line is.1 x n.keeper s says (record { server = refl; roster = refl })
+        after_line tells view part n past made [] 0 so line is.1 x n.keeper s says
+        (record { server = refl; roster = refl })
         (λ t. meets run.script run.start own (doings_in run v own) (here t) line slot is.3)
         (λ t. follows run.start own (doings_in run v own) (here t))
-        (λ t. subst (λ (z : Step). Keeps x.tables (filesets_through z.cause z.applied (kept_in run v own)) (view n.keeper.store).state)
+        (λ t. subst (λ (z : Step). Keeps x.tables (filesets_through z.cause z.applied (kept_in run v own))
+        (view n.keeper.store).state)
         (sym bare_is) (kept t))
         (record {
           line = (λ k e. (line, (own_slot.0, own_slot.1 ∙ line_same number k (sym by ∙ e))));
@@ -291,7 +295,8 @@ fresh tells view run server x keeper lines epoch can new lines_are told fit = re
       users = (λ host is. subst (λ r. is_some (user_of r host) ≡ true) (sym new.roster_is)
           (can.users host (subst (λ r. IsHost r host) new.roster_is is)));
       counted = new.counted;
-      asked = subst (λ l. Each (λ (p : Pending). CameSo x.tables.server x.tables.roster p.wanted) l) (sym new.pending) tt;
+      asked = subst (λ l. Each (λ (p : Pending). CameSo x.tables.server x.tables.roster p.wanted) l)
+          (sym new.pending) tt;
     };
     sound = new.sound;
     fit = fit;
@@ -337,6 +342,11 @@ pub was_given : (past : List Round) (made : List Step) (given : Option Given)
     → IfSome given (WasGiven (record { steps = made; given = given } ∷ past))
 was_given past made None = tt
 was_given past made (Some given) = (record { steps = made; given = Some given }, inl refl, refl)
+
+-- nothing was given
+pub none_of : {A : Type 0} (o : Option A) → is_some o ≡ false → o ≡ None
+none_of None e = refl
+none_of (Some x) e = absurd (cc)
 
 -- it is done
 pub is_done : {S : Type 0} (tells : Type 0) (view : S → View) (part : Part) (n : ServerNode S) (past : List Round)

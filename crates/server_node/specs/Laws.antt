@@ -4,7 +4,9 @@ use Rattle.base_types.specs.Faults.{RoseBy}
 use Rattle.store_memory.specs.Views.{View}
 use Rattle.hub_node.proofs.Keeping.{may_hand_in}
 use Rattle.hub_node.specs.Nodes.{HandsIn}
-use Rattle.server_node.specs.Standing.{HasFailed, HasServed, Stands}
+use Rattle.hub_node.specs.declared.node.NodeFault.{NodeFault}
+use Rattle.hub_node.specs.declared.node.NodeFault.TheVariants.{Memory}
+use Rattle.server_node.specs.Standing.{HasFailed, HasFailedBy, HasServed, Stands}
 use Rattle.server_node.specs.declared.server.ServerNode.{ServerNode}
 
 -- it may hand in what it has made
@@ -32,8 +34,20 @@ module _ {S : Type 0} (tells : Type 0) (view : S → View) where
     worn = (λ w. k.worn (h.worn w));
   }
 
-  pub fails_on : (a b c : ServerNode S) → HasServed tells view a b → HasFailed tells view b c → HasFailed tells view a c
-  fails_on a b c h f = record {
-    rose = rose_since (view a.keeper.store).faults (view b.keeper.store).faults (view c.keeper.store).faults h.counted f.rose;
+  fails_later : (a b c : ServerNode S) → HasServed tells view a b → HasFailed tells view b c → HasFailed tells view a c
+  fails_later a b c h f = record {
+    rose = rose_since (view a.keeper.store).faults (view b.keeper.store).faults (view c.keeper.store).faults h.counted
+        f.rose;
     last = f.last;
   }
+
+  pub fails_on : (fault : NodeFault) (a b c : ServerNode S) → HasServed tells view a b
+      → HasFailedBy tells view fault b c → HasFailedBy tells view fault a c
+  fails_on fault a b c h f = record {
+    served = stays_on a b c h f.served;
+    store = λ is. fails_later a b c h (f.store is);
+  }
+
+  -- memory may run out before it does anything
+  pub lacks : (a : ServerNode S) → HasFailedBy tells view Memory a a
+  lacks a = record { served = stays_so a; store = λ is. absurd (cc) }

@@ -1,5 +1,5 @@
 -- Where a server stands in a run, as a node. What its store is known to keep is said where the store tells it.
-use Rattle.std.specs.Prelude.{List, Option, Some, [], is_some, length, true, ℕ, ◌∷◌, ◌≡◌, ◌≤◌}
+use Rattle.std.specs.Prelude.{List, Some, [], is_some, length, true, ℕ, ◌≡◌, ◌≤◌}
 use Rattle.base_types.specs.declared.ids.HostId.{HostId}
 use Rattle.base_types.specs.declared.ids.Node.{Node}
 use Rattle.base_types.specs.declared.ids.Node.TheVariants.{Host, Server}
@@ -10,7 +10,6 @@ use Rattle.message_types.specs.Soundness.{IsHost, IsSound as IsSoundFor}
 use Rattle.message_types.specs.declared.message.Message.{Message}
 use Rattle.script_lines.specs.Sound.{IsSound, same_node}
 use Rattle.script_lines.specs.declared.script.Line.{Line}
-use Rattle.script_lines.specs.declared.script.Script.{Script}
 use Rattle.store_memory.specs.Views.{IsSameStore, View}
 use Rattle.run_rules.specs.Doings.{Doing, doings_of}
 use Rattle.run_rules.specs.Kept.{filesets_first, filesets_kept}
@@ -24,9 +23,10 @@ use Rattle.hub_laws.specs.Keeping.{Round, WasTold, steps_in}
 use Rattle.hub_node.specs.Keeping.{HasKeptOn}
 use Rattle.hub_node.specs.Lines.{LinesView, next_of}
 use Rattle.hub_node.specs.Nodes.{Beginning, Part, first_at}
+use Rattle.hub_node.specs.declared.node.NodeFault.{NodeFault}
+use Rattle.hub_node.specs.declared.node.NodeFault.TheVariants.{Store as StoreFailed}
 use Rattle.server_exporter.specs.Serving.{IsServed}
 use Rattle.server_exporter.specs.Machines.{IsAt, Keeps}
-use Rattle.server_exporter.specs.declared.exporter.Exporter.{Exporter}
 use Rattle.server_exporter.specs.Keepers.{FailedTwice, IsFit, IsWorn}
 use Rattle.server_tables.specs.Sound.{AreSound}
 use Rattle.server_tables.specs.declared.tables.Tables.{Tables}
@@ -98,6 +98,11 @@ module _ {S : Type 0} (tells : Type 0) (view : S → View) where
   -- its disk has failed twice, and the second time in its last call
   abbrev pub HasFailed : ServerNode S → ServerNode S → Type 0
   HasFailed old new = FailedTwice (view old.keeper.store) (view new.keeper.store)
+
+  -- Where this failed it has served till then; and where that was its store, its disk has failed twice.
+  pub record HasFailedBy (fault : NodeFault) (old new : ServerNode S) : Type 0 where
+    pub served : HasServed old new
+    pub store : fault ≡ StoreFailed → HasFailed old new
 
 -- the newest round gave this
 abbrev pub WasGiven : List Round → Given → Type 0

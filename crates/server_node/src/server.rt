@@ -1,7 +1,7 @@
-ghost use Rattle.std.specs.Prelude.{◌≡◌, ◌∷◌, ◌++◌, ◌↔◌, ◌≤◌, ◌^◌, [], length, Some, None, true};
+ghost use Rattle.std.specs.Prelude.{◌≡◌, ◌∷◌, ◌++◌, ◌↔◌, ◌≤◌, ◌^◌, [], length, Some, None, false, true};
 ghost use Rattle.std.specs.Prelude.{IfErr, IfOk, IfSome, IsOk, IsTrue, OnOk, Err, List};
 ghost use Rattle.base_types.specs.declared.ids.Node.TheVariants.{Server as IsServer};
-ghost use Rattle.hub_board.specs.declared.given.Turned.TheVariants.{Ended};
+ghost use Rattle.hub_board.specs.declared.given.Turned.TheVariants.{Ended, Worked};
 ghost use Rattle.hub_laws.specs.Keeping.{Round, lapse_in, message_in};
 ghost use Rattle.hub_node.specs.Nodes.{Beginning, Part, part_of};
 ghost use Rattle.hub_node.specs.declared.node.NodeFault.TheVariants.{Memory, Store as StoreFailed};
@@ -43,7 +43,8 @@ fn machine_of(
     epoch: u64,
 ) -> Result<(Exporter, OwnLines), NoMemory>
     ensures machine { IfOk result (λ r. IsNew r.0 server epoch script.now.roster) }
-    ensures lines { IfOk result (λ r. r.1 ≡ record { lines = lines_of script.now (IsServer server); gone = 0; told = None }) }
+    ensures lines { IfOk result
+        (λ r. r.1 ≡ record { lines = lines_of script.now (IsServer server); gone = 0; told = None }) }
 {
     let exporter = Exporter::new(alloc, server, epoch, &script.roster)?;
     let lines = OwnLines::new(script, NodeId::Server(server))?;
@@ -308,7 +309,7 @@ impl<S: Store + Drop> ServerNode<S> {
 
     // What came of a turn: something was given or made, or all is done, or neither.
     fn turned(&self, came: bool, steps: &Pending) -> Turned
-        ensures none { result ≡ Ended → steps.now.steps ≡ [] }
+        ensures quiet { (result ≡ Worked → ⊥) → (came ≡ false) × (steps.now.steps ≡ []) }
         ensures gone { result ≡ Ended → length self.now.lines.lines ≤ self.now.lines.gone }
         ensures alone { result ≡ Ended → is_alone self.now.exporter.tables.hosts ≡ true }
     {
@@ -367,9 +368,9 @@ fn push(steps: &mut Pending, step: Step) -> Result<(), NodeFault>
 }
 
 impl<S: Store + Drop> Node for ServerNode<S> {
-    ghost use Rattle.server_node.specs.Standing.{HasFailed, HasServed, Stands};
+    ghost use Rattle.server_node.specs.Standing.{HasFailedBy, HasServed, Stands};
     ghost use Rattle.hub_node.specs.Lines.{next_number};
-    ghost use Rattle.server_node.specs.Laws.{fails_on, hands_in, stays_on, stays_so};
+    ghost use Rattle.server_node.specs.Laws.{fails_on, hands_in, lacks, stays_on, stays_so};
 
     ghost tells = { S.tells };
 
@@ -377,7 +378,7 @@ impl<S: Store + Drop> Node for ServerNode<S> {
 
     ghost stays = { HasServed S.tells S.view };
 
-    ghost failed = { HasFailed S.tells S.view };
+    ghost failed = { HasFailedBy S.tells S.view };
 
     ghost next = { λ n. next_number n.lines };
 
@@ -398,4 +399,6 @@ impl<S: Store + Drop> Node for ServerNode<S> {
     ghost stays_on = { stays_on S.tells S.view };
 
     ghost fails_on = { fails_on S.tells S.view };
+
+    ghost lacks = { lacks S.tells S.view };
 }

@@ -1,6 +1,5 @@
 use Rattle.std.proofs.Common.{None, sym, ap, ◌∙◌, subst}
 use Rattle.base_types.specs.declared.ids.Node.TheVariants.{Server}
-use Rattle.hub_node.specs.Lines.{LinesView}
 use Rattle.run_rules.specs.Steps.{lines_of}
 use Rattle.script_lines.specs.declared.script.Script.{Script}
 use Rattle.server_exporter.specs.Machines.{IsNew}

@@ -20,7 +20,8 @@ returns-clause-works g c = λ part past so.
     (λ (l : List Step). StandsSo g.S.Store.tells g.S.Store.view part now past l [] 0) c.push_sent.ensures.made
     c.push_sent.ensures.ok
     (repeated_then g.S.Store.tells g.S.Store.view part c.args.self.now past c.args.steps.now.steps so
-    c.lapse-made.new.self c.lapse-made.result (c.lapse-made.ensures.sends c.requires.ready.sound) c.lapse-made.ensures.same
+    c.lapse-made.new.self c.lapse-made.result (c.lapse-made.ensures.sends c.requires.ready.sound)
+    c.lapse-made.ensures.same
     c.lapse-made.ensures.cause c.lapse-made.ensures.meets c.lapse-made.ensures.follows c.lapse-made.ensures.keeps
     c.lapse-made.ensures.applied)
 

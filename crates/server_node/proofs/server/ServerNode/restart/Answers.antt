@@ -1,4 +1,4 @@
-use Rattle.std.proofs.Common.{List, [], ◌+◌}
+use Rattle.std.proofs.Common.{List, []}
 use Rattle.run_rules.specs.declared.step.Step.{Step}
 use Rattle.server_node.proofs.Staying.{served_by}
 use Rattle.server_node.proofs.Turns.{next_below, pushed, ready_then, restarted_then}
@@ -26,7 +26,8 @@ returns-clause-works g c = λ part past so.
     c.push_made.ensures.ok
     (rw c.go.ensures (restarted_then g.S.Store.tells g.S.Store.view part c.args.self.now past c.args.steps.now.steps so
     c.args.number c.requires.next c.restart-made.new.self c.restart-made.new.keeper c.restart-made.result
-    (c.restart-made.ensures.sends c.requires.ready.sound) c.restart-made.ensures.same c.restart-made.ensures.cause c.restart-made.ensures.meets
+    (c.restart-made.ensures.sends c.requires.ready.sound) c.restart-made.ensures.same c.restart-made.ensures.cause
+    c.restart-made.ensures.meets
     c.restart-made.ensures.follows))
 
 pub returns-clause-stays : goal.returns-clause-stays

@@ -1,4 +1,4 @@
-use Rattle.std.proofs.Common.{List, [], ◌∷◌}
+use Rattle.std.proofs.Common.{List, []}
 use Rattle.run_rules.specs.declared.step.Step.{Step}
 use Rattle.server_node.proofs.Staying.{served_by}
 use Rattle.server_node.proofs.Turns.{pushed, ready_then, settled_then}
@@ -22,7 +22,8 @@ returns-clause-works g c = λ part past so.
     (λ (l : List Step). StandsSo g.S.Store.tells g.S.Store.view part now past l [] 0) c.push_made.ensures.made
     c.push_made.ensures.ok
     (settled_then g.S.Store.tells g.S.Store.view part c.args.self.now past c.args.steps.now.steps so
-    c.settle-made.new.self c.settle-made.new.keeper c.settle-made.result (c.settle-made.ensures.sends c.requires.ready.sound)
+    c.settle-made.new.self c.settle-made.new.keeper c.settle-made.result
+    (c.settle-made.ensures.sends c.requires.ready.sound)
     c.settle-made.ensures.same c.settle-made.ensures.cause c.settle-made.ensures.meets c.settle-made.ensures.follows)
 
 pub returns-clause-stays : goal.returns-clause-stays

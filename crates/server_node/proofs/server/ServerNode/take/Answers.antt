@@ -1,4 +1,4 @@
-use Rattle.std.proofs.Common.{Some, List, [], ◌∷◌, refl, subst}
+use Rattle.std.proofs.Common.{Some, subst}
 use Rattle.hub_board.specs.declared.given.Given.{Given}
 use Rattle.hub_laws.specs.Keeping.{lapse_in, message_in}
 use Rattle.server_node.proofs.Staying.{same_keeper}

@@ -1,4 +1,4 @@
-use Rattle.std.proofs.Common.{Option, List, subst}
+use Rattle.std.proofs.Common.{Option, subst}
 use Rattle.std.specs.Prelude.{IfSome}
 use Rattle.hub_board.specs.declared.given.Given.{Given}
 use Rattle.hub_laws.specs.Keeping.{lapse_in, message_in}

@@ -1,9 +1,10 @@
-use Rattle.std.proofs.Common.{◌≡◌, Ok, List, [], ◌∷◌, sym, subst}
+use Rattle.std.proofs.Common.{◌≡◌, ◌∙◌, Err, List, ◌∷◌, ap, sym, subst}
+use Rattle.std.proofs.lemmas.Result.{err_from_is_err_and}
 use Rattle.hub_board.specs.declared.given.Turned.TheVariants.{Ended}
 use Rattle.hub_laws.specs.Keeping.{Round, lapse_in, message_in}
 use Rattle.run_rules.specs.declared.step.Step.{Step}
 use Rattle.server_node.proofs.Standing.{begins}
-use Rattle.server_node.proofs.Turns.{given_if, is_done, was_given}
+use Rattle.server_node.proofs.Turns.{given_if, is_done, none_of, was_given}
 use Rattle.server_node.specs.Standing.{StandsSo}
 use Rattle.server_node.proofs.server.ServerNodeNode.work.Goals as goal
 
@@ -33,8 +34,9 @@ returns-clause-works g c = λ part past made st to.
       so = c.in_ok-take_turn.ensures.works part (round ∷ past) at (was_given past made c.args.given);
     }
 
-pub returns-clause-none : goal.returns-clause-none
-returns-clause-none g c = λ e. let same : c.turned.result ≡ Ended = cc in c.turned.ensures.none same
+pub returns-clause-quiet : goal.returns-clause-quiet
+returns-clause-quiet g c = λ idle.
+    let quiet = c.turned.ensures.quiet idle in (none_of c.args.given quiet.0, quiet.1)
 
 pub returns-clause-done : goal.returns-clause-done
 returns-clause-done g c = λ part past made st to e knows.
@@ -48,4 +50,13 @@ returns-clause-done g c = λ part past made st to e knows.
     let same : c.turned.result ≡ Ended = cc in
     is_done tells view part c.take_turn.new.self (round ∷ past) c.take_turn.new.steps.steps
     (c.in_ok-take_turn.ensures.works part (round ∷ past) at (was_given past made c.args.given))
-    (c.turned.ensures.none same) knows (c.turned.ensures.gone same) (c.turned.ensures.alone same)
+    (c.turned.ensures.quiet (λ worked. let clash = sym worked ∙ same in absurd (cc))).1 knows
+    (c.turned.ensures.gone same) (c.turned.ensures.alone same)
+
+pub returns-in_err-take_turn-clause-failed : goal.returns-in_err-take_turn-clause-failed
+returns-in_err-take_turn-clause-failed g c =
+    let p = err_from_is_err_and c.from_residual.result c.from_residual.ensures.1 in
+    rw (p.1, p.2) (record {
+      served = c.take_turn.ensures.stays;
+      store = λ is. c.take_turn.ensures.failed (c.in_err-take_turn.is ∙ ap (λ e. Err e) is);
+    })
