@@ -139,8 +139,8 @@ module _ {S : Type 0} (tells : Type 0) (view : S → View) (script : Script) whe
         wear = (let w = one.wear in omega (arith, w));
       })
 
--- The last node is taken out, and its store, where it is a server's, put before those that were taken: with those of the
--- nodes that are left, in front, they are the same.
+-- The last node is taken out, and its store, where it is a server's, put before those that were taken: with those of
+-- the nodes that are left, in front, they are the same.
 module _ {S : Type 0} (whole : List S) where
   pub record AreTaken (nodes : List (NodeOf S)) (stores : List S) : Type 0 where
     pub are : stores_in nodes ++ stores ≡ whole

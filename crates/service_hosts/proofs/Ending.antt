@@ -31,7 +31,8 @@ module _ {S : Type 0} (tells : Type 0) (view : S → View) (script : Script) (st
     has_run t = record { run = d.run (tt, t); dutiful = d.dutiful (tt, t); ended = d.ended (tt, t) }
 
     -- a server stands where its own steps have brought it
-    stands_at : (stores : List S) (over : AreOver news (length script.roster.hosts + 1) stores) (k : ℕ) (b : ServerNode S)
+    stands_at : (stores : List S) (over : AreOver news (length script.roster.hosts + 1) stores) (k : ℕ)
+        (b : ServerNode S)
         → slice_get over.servers k ≡ Some b → k < script.servers
         → StandsAfter (stands_any HostStands (ServerStands tells view)) (beginning script start epochs) journal
         (server_at (k + 1)) (Server b)

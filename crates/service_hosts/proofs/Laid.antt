@@ -138,7 +138,9 @@ module _ {S : Type 0} where
   at_back : (xs : List (ServerNode S)) (k : ℕ) (b : ServerNode S) (d : NodeOf S) → slice_get xs k ≡ Some b
       → (k < length (servers_in xs)) × (get_or (servers_in xs) k d ≡ Server b)
   at_back [] k b d e = absurd (cc)
-  at_back (x ∷ xs) zero b d e = (omega arith, (let same : x ≡ b = cc in ap (λ (n : ServerNode S). get_or (servers_in (n ∷ [])) 0 d) same))
+  at_back (x ∷ xs) zero b d e =
+      (let same : x ≡ b = cc in
+      (omega arith, ap (λ (n : ServerNode S). get_or (servers_in (n ∷ [])) 0 d) same))
   at_back (x ∷ xs) (suc k) b d e = (let r = at_back xs k b d e in let lt = r.0 in (omega (arith, lt), r.1))
 
   -- a server's node stands behind the hosts

@@ -112,8 +112,8 @@ fn add_servers<S: Store + Drop>(
     Ok(())
 }
 
-// Takes the store of a node back into a list that has room for it, in front of those that are there, where the node is a
-// server's.
+// Takes the store of a node, where it is a server's, back into a list that has room for it, in front of those that are
+// there.
 fn take_store<S: Store + Drop>(node: NodeOf<S>, stores: &mut Vec<S>)
     requires { length (store_under node) + length stores.old.items ≤ vec_capacity stores.old }
     ensures stores { stores.new.items ≡ store_under node ++ stores.old.items }

@@ -126,8 +126,8 @@ returns-in-Err-clause-stopped g c = λ stores over.
     (FailedSo tells view) next_line olds news) c.in-Err.is c.drive-driven.ensures.failed in
     let many = (are_nodes tells view script start c.args.epochs olds o.0 o.1.0 c.requires.sound.servers o.1.1.1
     c.requires.first).count in
-    let stopped = stopped_so tells view olds news count stores over became script start c.args.epochs c.in-Err.fault many
-    refl fault in
+    let stopped = stopped_so tells view olds news count stores over became script start c.args.epochs c.in-Err.fault
+    many refl fault in
     let taken = taken_back tells view olds news count stores over became c.take_stores.new.stores.items
     c.args.room.items c.take_stores.ensures c.requires.none in
     subst (λ (s : HostsStopped). IsStopped tells view script start stores c.take_stores.new.stores.items s)
