@@ -388,8 +388,10 @@ impl<S: Store + Drop> Node for ServerNode<S> {
 
     fn work(&mut self, given: Option<Given>, steps: &mut Pending) -> Result<Turned, NodeFault> {
         let came = given.is_some();
-        self.take_turn(given, steps)?;
-        Ok(self.turned(came, steps))
+        match self.take_turn(given, steps) {
+            Ok(()) => Ok(self.turned(came, steps)),
+            Err(fault) => Err(fault),
+        }
     }
 
     ghost hands_in = { hands_in S.tells S.view };

@@ -1,4 +1,4 @@
-use Rattle.server_node.specs.Laws.{fails_on, stays_on}
+use Rattle.server_node.specs.Laws.{fails_later, stays_on}
 use Rattle.server_node.proofs.server.ServerNode.go_on.Goals as goal
 
 pub returns-in-Ok-clause-works : goal.returns-in-Ok-clause-works
@@ -12,5 +12,5 @@ returns-in-Ok-clause-stays g c =
 
 pub returns-in-Ok-clause-failed : goal.returns-in-Ok-clause-failed
 returns-in-Ok-clause-failed g c = λ e.
-    fails_on g.S.Store.tells g.S.Store.view c.args.self.now c.go.new.self c.settle.new.self c.go.ensures.stays
+    fails_later g.S.Store.tells g.S.Store.view c.args.self.now c.go.new.self c.settle.new.self c.go.ensures.stays
     (c.settle.ensures.failed e)

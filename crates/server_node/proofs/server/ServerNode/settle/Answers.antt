@@ -1,5 +1,5 @@
 use Rattle.std.proofs.Common.{◌∙◌}
-use Rattle.server_node.specs.Laws.{fails_on, stays_on, stays_so}
+use Rattle.server_node.specs.Laws.{fails_later, stays_on, stays_so}
 use Rattle.server_node.proofs.server.ServerNode.settle.Goals as goal
 
 pub loop-init : goal.loop-init
@@ -24,5 +24,5 @@ returns-in-Err-clause-stays g c =
 
 pub returns-in-Err-clause-failed : goal.returns-in-Err-clause-failed
 returns-in-Err-clause-failed g c = λ e.
-    fails_on g.S.Store.tells g.S.Store.view c.args.self.now c.loop.self c.settle_once.new.self c.loop.invariant.stays
+    fails_later g.S.Store.tells g.S.Store.view c.args.self.now c.loop.self c.settle_once.new.self c.loop.invariant.stays
     (c.settle_once.ensures.failed (c.in-Err.is ∙ e))

@@ -2,7 +2,7 @@ use Rattle.std.proofs.Common.{Option, subst}
 use Rattle.std.specs.Prelude.{IfSome}
 use Rattle.hub_board.specs.declared.given.Given.{Given}
 use Rattle.hub_laws.specs.Keeping.{lapse_in, message_in}
-use Rattle.server_node.specs.Laws.{fails_on, stays_on, stays_so}
+use Rattle.server_node.specs.Laws.{fails_later, stays_on, stays_so}
 use Rattle.server_node.specs.Standing.{StandsSo, WasGiven}
 use Rattle.server_node.proofs.server.ServerNode.take_given.Goals as goal
 
@@ -24,5 +24,5 @@ returns-in-Ok-clause-stays g c =
 
 pub returns-in-Ok-clause-failed : goal.returns-in-Ok-clause-failed
 returns-in-Ok-clause-failed g c = λ e.
-    fails_on g.S.Store.tells g.S.Store.view c.args.self.now c.take.new.self c.settle.new.self c.take.ensures.stays
+    fails_later g.S.Store.tells g.S.Store.view c.args.self.now c.take.new.self c.settle.new.self c.take.ensures.stays
     (c.settle.ensures.failed e)

@@ -1,4 +1,4 @@
-use Rattle.server_node.specs.Laws.{fails_on, stays_on}
+use Rattle.server_node.specs.Laws.{fails_later, stays_on}
 use Rattle.server_node.proofs.server.ServerNode.take_turn.Goals as goal
 
 pub returns-in-Ok-clause-works : goal.returns-in-Ok-clause-works
@@ -12,5 +12,5 @@ returns-in-Ok-clause-stays g c =
 
 pub returns-in-Ok-clause-failed : goal.returns-in-Ok-clause-failed
 returns-in-Ok-clause-failed g c = λ e.
-    fails_on g.S.Store.tells g.S.Store.view c.args.self.now c.take_given.new.self c.go_on.new.self
+    fails_later g.S.Store.tells g.S.Store.view c.args.self.now c.take_given.new.self c.go_on.new.self
     c.take_given.ensures.stays (c.go_on.ensures.failed e)

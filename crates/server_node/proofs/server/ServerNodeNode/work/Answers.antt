@@ -1,5 +1,4 @@
 use Rattle.std.proofs.Common.{◌≡◌, ◌∙◌, Err, List, ◌∷◌, ap, sym, subst}
-use Rattle.std.proofs.lemmas.Result.{err_from_is_err_and}
 use Rattle.hub_board.specs.declared.given.Turned.TheVariants.{Ended}
 use Rattle.hub_laws.specs.Keeping.{Round, lapse_in, message_in}
 use Rattle.run_rules.specs.declared.step.Step.{Step}
@@ -19,8 +18,8 @@ take_turn-requires-clause-given g c =
     let s = c.requires.stands in
     given_if g.S.Store.tells g.S.Store.view s.0 c.args.self.now s.1.0 s.1.1.0 s.1.1.1.0 c.args.given s.1.1.1.1
 
-pub returns-clause-works : goal.returns-clause-works
-returns-clause-works g c = λ part past made st to.
+pub returns-in-Ok-clause-works : goal.returns-in-Ok-clause-works
+returns-in-Ok-clause-works g c = λ part past made st to.
     let tells = g.S.Store.tells in let view = g.S.Store.view in
     let round : Round = record { steps = made; given = c.args.given } in
     let at : StandsSo tells view part c.args.self.now (round ∷ past) c.args.steps.now.steps (message_in c.args.given)
@@ -29,17 +28,17 @@ returns-clause-works g c = λ part past made st to.
     (lapse_in c.args.given)) (sym c.requires.none)
     (begins tells view part c.args.self.now past made c.args.given st) in
     record {
-      ready = c.in_ok-take_turn.ensures.ready;
-      rested = c.in_ok-take_turn.ensures.rested;
-      so = c.in_ok-take_turn.ensures.works part (round ∷ past) at (was_given past made c.args.given);
+      ready = c.in-Ok.ensures.ready;
+      rested = c.in-Ok.ensures.rested;
+      so = c.in-Ok.ensures.works part (round ∷ past) at (was_given past made c.args.given);
     }
 
-pub returns-clause-quiet : goal.returns-clause-quiet
-returns-clause-quiet g c = λ idle.
-    let quiet = c.turned.ensures.quiet idle in (none_of c.args.given quiet.0, quiet.1)
+pub returns-in-Ok-clause-quiet : goal.returns-in-Ok-clause-quiet
+returns-in-Ok-clause-quiet g c = λ idle.
+    let quiet = c.turned.ensures.quiet idle in (none_of c.args.given (sym c.is_some-came.ensures ∙ quiet.0), quiet.1)
 
-pub returns-clause-done : goal.returns-clause-done
-returns-clause-done g c = λ part past made st to e knows.
+pub returns-in-Ok-clause-done : goal.returns-in-Ok-clause-done
+returns-in-Ok-clause-done g c = λ part past made st to e knows.
     let tells = g.S.Store.tells in let view = g.S.Store.view in
     let round : Round = record { steps = made; given = c.args.given } in
     let at : StandsSo tells view part c.args.self.now (round ∷ past) c.args.steps.now.steps (message_in c.args.given)
@@ -49,14 +48,15 @@ returns-clause-done g c = λ part past made st to e knows.
     (begins tells view part c.args.self.now past made c.args.given st) in
     let same : c.turned.result ≡ Ended = cc in
     is_done tells view part c.take_turn.new.self (round ∷ past) c.take_turn.new.steps.steps
-    (c.in_ok-take_turn.ensures.works part (round ∷ past) at (was_given past made c.args.given))
+    (c.in-Ok.ensures.works part (round ∷ past) at (was_given past made c.args.given))
     (c.turned.ensures.quiet (λ worked. let clash = sym worked ∙ same in absurd (cc))).1 knows
     (c.turned.ensures.gone same) (c.turned.ensures.alone same)
 
-pub returns-in_err-take_turn-clause-failed : goal.returns-in_err-take_turn-clause-failed
-returns-in_err-take_turn-clause-failed g c =
-    let p = err_from_is_err_and c.from_residual.result c.from_residual.ensures.1 in
-    rw (p.1, p.2) (record {
-      served = c.take_turn.ensures.stays;
-      store = λ is. c.take_turn.ensures.failed (c.in_err-take_turn.is ∙ ap (λ e. Err e) is);
-    })
+pub returns-in-Ok-clause-stays : goal.returns-in-Ok-clause-stays
+returns-in-Ok-clause-stays g c = c.take_turn.ensures.stays
+
+pub returns-in-Err-clause-failed : goal.returns-in-Err-clause-failed
+returns-in-Err-clause-failed g c = record {
+  served = c.take_turn.ensures.stays;
+  store = λ is. c.take_turn.ensures.failed (c.in-Err.is ∙ ap (λ e. Err e) is);
+}
