@@ -8,7 +8,8 @@ use crate::watch::watching;
 use anyhow::{Result, bail};
 use base_types::Disk;
 use disk_classes::{ClassFault, Classes};
-use std::alloc::{AllocError, Global};
+use std::alloc::Global;
+use tree_test_words::Text;
 
 // What is done by or to the member that has a number.
 #[derive(Clone, Copy)]
@@ -100,14 +101,17 @@ pub fn acted<D: Disk>(
     }
 }
 
-// An answer in words.
-fn words_of(alloc: Global, said: Said) -> Result<String, AllocError> {
+// Writes an answer.
+fn push_said(text: &mut Text, said: Said) {
     match said {
-        Said::Done => String::from_str(alloc, "ok"),
-        Said::Refused => String::from_str(alloc, "no"),
-        Said::Full(free, needed) => format!(in alloc; "full {free} {needed}"),
-        Said::Count(count) => format!(in alloc; "{count}"),
-        Said::Fill(fill) => format!(in alloc; "{fill}"),
+        Said::Done => text.word("ok"),
+        Said::Refused => text.word("no"),
+        Said::Full(free, needed) => {
+            text.number("full ", u64::from(free));
+            text.number(" ", needed);
+        }
+        Said::Count(count) => text.number("", u64::from(count)),
+        Said::Fill(fill) => text.number("", u64::from(fill)),
     }
 }
 
@@ -119,51 +123,63 @@ pub struct Done {
     pub fault: Option<ClassFault>,
 }
 
-// Does acts one after the other, up to one that fails, and tells what they are answered.
+impl Done {
+    // Nothing was done yet.
+    pub fn nothing() -> Done {
+        Done {
+            acts: 0,
+            forces: 0,
+            fault: None,
+        }
+    }
+
+    // One more act was done.
+    fn count(&mut self, act: Act) {
+        self.acts = self.acts.saturating_add(1);
+        self.forces = self.forces.saturating_add(matches!(act, Act::Force) as u8);
+    }
+}
+
+// Does acts one after the other, up to one that fails, and writes what they are answered.
 pub fn all_acted<D: Disk>(
     alloc: Global,
     classes: &mut Classes<D>,
     acts: &str,
-    told: &mut String,
-) -> Result<Done, AllocError>
+    done: &mut Done,
+    text: &mut Text,
+)
     requires { IsReady D.tells D.view classes.old }
 {
     let mut members = Vec::new(alloc);
-    let mut done = Done {
-        acts: 0,
-        forces: 0,
-        fault: None,
-    };
     for words in acts.split(';') {
         let Some(act) = act_of(words.trim()) else {
-            return Ok(done);
+            return;
         };
         match acted(classes, &mut members, act) {
             Ok(said) => {
-                told.push_str(words_of(alloc, said)?.as_str())?;
-                told.push(' ')?;
+                text.word(if done.acts == 0 { "" } else { " " });
+                push_said(text, said);
+                done.count(act);
             }
             Err(fault) => {
                 done.fault = Some(fault);
-                return Ok(done);
+                return;
             }
         }
-        done.acts = done.acts.saturating_add(1);
-        done.forces = done.forces.saturating_add(matches!(act, Act::Force) as u8);
     }
-    Ok(done)
 }
 
-// What acts are answered, over a log.
-pub fn acts_said(alloc: Global, start: &[u8], acts: &str) -> Result<String> {
+// Writes what acts are answered, over a log.
+pub fn tell_acts(alloc: Global, start: &[u8], acts: &str, text: &mut Text) -> Result<()> {
     let disk = watching(alloc, start, None)?;
     let Ok(mut classes) = opened(alloc, disk) else {
         bail!("no log");
     };
-    let mut told = String::new(alloc);
-    let done = all_acted(alloc, &mut classes, acts, &mut told)?;
-    if let Some(fault) = done.fault {
-        bail!("{fault:?}");
+    let mut done = Done::nothing();
+    all_acted(alloc, &mut classes, acts, &mut done, text);
+    drop(classes);
+    match done.fault {
+        Some(fault) => bail!("{fault:?}"),
+        None => Ok(()),
     }
-    Ok(String::from_str(alloc, told.as_str().trim())?)
 }

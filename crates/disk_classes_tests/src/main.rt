@@ -11,26 +11,36 @@ mod stops;
 mod tried;
 mod watch;
 
-use acts::acts_said;
+use acts::tell_acts;
 use anyhow::{Result, bail};
-use many::{puts_said, syncs_said};
+use many::{tell_puts, tell_syncs};
 use mounted::new_log;
-use random::random_said;
+use random::tell_random;
 use std::alloc::Global;
-use stops::stops_said;
+use stops::tell_stops;
+use tree_test_words::Text;
 
-// What a row is answered.
-fn told(alloc: Global, row: &str) -> Result<String> {
+// Writes what a row is answered.
+fn tell(alloc: Global, start: &[u8], row: &str, text: &mut Text) -> Result<()> {
     let (kind, words) = row.split_once(' ').unwrap_or((row, ""));
-    let start = new_log(alloc)?;
     match kind {
-        "do" => acts_said(alloc, &start, words),
-        "stops" => stops_said(alloc, &start, words),
-        "random" => random_said(alloc, &start, words),
-        "syncs" => syncs_said(alloc, &start, words),
-        "puts" => puts_said(alloc, &start, words),
+        "do" => tell_acts(alloc, start, words, text),
+        "stops" => tell_stops(alloc, start, words, text),
+        "random" => tell_random(alloc, start, words, text),
+        "syncs" => tell_syncs(alloc, start, words, text),
+        "puts" => tell_puts(alloc, start, words, text),
         _ => bail!("no row: {kind}"),
     }
+}
+
+// What a row is answered, over a new log.
+fn told(alloc: Global, row: &str) -> Result<String> {
+    let start = new_log(alloc)?;
+    let mut text = Text::new(alloc);
+    let told = tell(alloc, start.as_slice(), row, &mut text);
+    drop(start);
+    told?;
+    text.line()
 }
 
 // Judges one line: a comment, or a row. Answers whether it was a row, and prints one whose answer isn't the wanted one.
@@ -47,13 +57,19 @@ fn judge(rt: &(impl Print + AllocGlobal), line: &str) -> Result<bool> {
     Ok(true)
 }
 
-fn main(rt: HostRuntime) -> Result<()> {
+// Judges each line of standard input, and answers how many rows there were.
+fn judge_all(rt: &(impl Input + Print + AllocGlobal)) -> Result<u64> {
     let mut rows = 0u64;
     for line in rt.lines(rt.alloc()) {
-        if judge(&rt, line?.as_str())? {
+        if judge(rt, line?.as_str())? {
             rows = rows.saturating_add(1);
         }
     }
+    Ok(rows)
+}
+
+fn main(rt: HostRuntime) -> Result<()> {
+    let rows = judge_all(&rt)?;
     println!(rt; "{rows} rows")?;
     Ok(())
 }

@@ -8,6 +8,7 @@ use anyhow::{Result, bail};
 use base_types::Disk;
 use disk_classes::{ClassFault, Classes, Member};
 use std::alloc::Global;
+use tree_test_words::Text;
 
 // Pages that many members put, from 1 on.
 const MANY_PAGES: u32 = 1_000;
@@ -131,39 +132,66 @@ fn forced_at_once<D: Disk>(
     classes.force()
 }
 
-// How many classes so many members are, and how many syncs one force of all takes.
-pub fn syncs_said(alloc: Global, start: &[u8], words: &str) -> Result<String> {
+// How many syncs a mount takes.
+fn syncs_before(alloc: Global, start: &[u8]) -> Result<usize> {
+    let Ok(classes) = opened(alloc, watching(alloc, start, None)?) else {
+        bail!("no log");
+    };
+    let disk = classes.into_log().into_disk();
+    let before = syncs(&disk.seen);
+    drop(disk);
+    Ok(before)
+}
+
+// Writes how many classes so many members are, and how many syncs one force of all takes.
+pub fn tell_syncs(alloc: Global, start: &[u8], words: &str, text: &mut Text) -> Result<()> {
     let (many, kind) = words.split_once(' ').unwrap_or((words, ""));
     let many = many.parse::<u32>().unwrap_or(0);
+    let before = syncs_before(alloc, start)?;
     let Ok(mut classes) = opened(alloc, watching(alloc, start, None)?) else {
         bail!("no log");
     };
-    let Ok(before) = opened(alloc, watching(alloc, start, None)?) else {
-        bail!("no log");
-    };
-    let before = syncs(&before.into_log().into_disk().seen);
-    match forced_at_once(alloc, &mut classes, many, kind == "apart") {
+    let forced = forced_at_once(alloc, &mut classes, many, kind == "apart");
+    let disk = classes.into_log().into_disk();
+    let after = syncs(&disk.seen);
+    drop(disk);
+    match forced {
         Ok(count) => {
-            let syncs = syncs(&classes.into_log().into_disk().seen).saturating_sub(before);
-            Ok(format!(in alloc; "{count} {syncs}")?)
+            text.number("", u64::from(count));
+            text.number(" ", after.saturating_sub(before) as u64);
+            Ok(())
         }
         Err(fault) => bail!("{fault:?}"),
     }
 }
 
 // So many members are open, of which ten put pages, fifty each in turn, so often in all.
-pub fn puts_said(alloc: Global, start: &[u8], words: &str) -> Result<String> {
+fn put_by_ten<D: Disk>(
+    alloc: Global,
+    classes: &mut Classes<D>,
+    many: u32,
+    puts: u32,
+) -> Result<(), ClassFault>
+    requires { IsReady D.tells D.view classes.old }
+{
+    let mut members = Vec::new(alloc);
+    begin_many(classes, &mut members, many, 10, 50)?;
+    put_many(classes, &mut members, puts)
+}
+
+// Writes whether that is put.
+pub fn tell_puts(alloc: Global, start: &[u8], words: &str, text: &mut Text) -> Result<()> {
     let (many, puts) = words.split_once(' ').unwrap_or((words, ""));
+    let many = many.parse::<u32>().unwrap_or(0);
+    let puts = puts.parse::<u32>().unwrap_or(0);
     let Ok(mut classes) = opened(alloc, watching(alloc, start, None)?) else {
         bail!("no log");
     };
-    let mut members = Vec::new(alloc);
-    let many = many.parse::<u32>().unwrap_or(0);
-    if let Err(fault) = begin_many(&mut classes, &mut members, many, 10, 50) {
-        bail!("{fault:?}");
-    }
-    match put_many(&mut classes, &mut members, puts.parse::<u32>().unwrap_or(0)) {
-        Ok(()) => Ok(String::from_str(alloc, "put")?),
+    let put = put_by_ten(alloc, &mut classes, many, puts);
+    drop(classes);
+    match put {
+        Ok(()) => text.word("put"),
         Err(fault) => bail!("{fault:?}"),
     }
+    Ok(())
 }

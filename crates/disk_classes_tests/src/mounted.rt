@@ -16,12 +16,20 @@ pub const PAGES: usize = 8;
 // What rows read of these pages: the byte that each is filled with, and 255 where its bytes differ.
 pub type Fills = [u8; PAGES];
 
+fn bytes_of(alloc: Global, disk: &MemDisk) -> Result<Vec<u8>> {
+    Ok(Vec::from_slice(alloc, disk.bytes())?)
+}
+
 // The bytes of a new log, of one block and 1,059 pages.
 pub fn new_log(alloc: Global) -> Result<Vec<u8>> {
-    match Log::format(alloc, MemDisk::new(alloc, &[])?, 1, 1) {
-        Ok(log) => Ok(Vec::from_slice(alloc, log.into_disk().bytes())?),
-        Err(_) => bail!("no log"),
-    }
+    let blank = MemDisk::new(alloc, &[])?;
+    let Ok(log) = Log::format(alloc, blank, 1, 1) else {
+        bail!("no log");
+    };
+    let disk = log.into_disk();
+    let bytes = bytes_of(alloc, &disk);
+    drop(disk);
+    bytes
 }
 
 // Classes over the log on a disk that tells nothing.
@@ -36,6 +44,17 @@ pub fn opened<D: Disk + Drop>(alloc: Global, disk: D) -> Result<Classes<D>, Clas
             Err(ClassFault::Failed)
         }
     }
+}
+
+// How many calls a mount makes.
+pub fn calls_of_mount(alloc: Global, start: &[u8]) -> Result<usize> {
+    let Ok(classes) = opened(alloc, watching(alloc, start, None)?) else {
+        bail!("no log");
+    };
+    let disk = classes.into_log().into_disk();
+    let calls = disk.seen.len();
+    drop(disk);
+    Ok(calls)
 }
 
 fn fill_of(bytes: &[u8]) -> u8 {
@@ -78,7 +97,9 @@ pub fn pages_left(alloc: Global, bytes: &[u8]) -> Result<Fills> {
     let Ok(mut classes) = opened(alloc, disk) else {
         bail!("no log was left");
     };
-    match all_filled(&mut classes) {
+    let fills = all_filled(&mut classes);
+    drop(classes);
+    match fills {
         Ok(fills) => Ok(fills),
         Err(_) => bail!("no pages were left"),
     }

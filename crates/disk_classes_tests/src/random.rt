@@ -2,7 +2,7 @@
 ghost use Rattle.std.specs.Prelude.{◌≡◌, ◌<◌, OnOk};
 ghost use Rattle.disk_classes_tests.specs.Ready.{IsReady};
 
-use crate::mounted::{PAGES, all_filled, filled, opened, pages_left};
+use crate::mounted::{Fills, PAGES, all_filled, calls_of_mount, filled, opened, pages_left};
 use crate::plain::{
     Plain, SLOTS, Slot, Standing, commit_ended, lowest, may_leave, may_put, new_plain, put, settle,
 };
@@ -13,6 +13,7 @@ use base_types::Disk;
 use disk_classes::{ClassFault, Classes};
 use disk_device::MemDisk;
 use std::alloc::Global;
+use tree_test_words::Text;
 
 // How many acts an order has.
 const ACTS: usize = 40;
@@ -172,59 +173,95 @@ fn all_done<D: Disk>(
     }
 }
 
-// An order over a log on a disk that fails each call behind so many. Answers the disk, or `None` where something
-// wasn't as it has to be.
+// The disk after an order over a log, which fails each call behind so many, and whether all was as it has to be.
 fn ordered(
     alloc: Global,
     start: &[u8],
     passes: Option<u64>,
     plain: &mut Plain,
     random: &mut Random,
-) -> Result<Option<Watched<MemDisk>>> {
+    well: &mut bool,
+) -> Result<Watched<MemDisk>> {
     let disk = watching(alloc, start, passes)?;
     let Ok(mut classes) = opened(alloc, disk) else {
         bail!("no log");
     };
-    let well = all_done(alloc, &mut classes, plain, random);
-    let disk = classes.into_log().into_disk();
-    Ok(if well { Some(disk) } else { None })
+    *well = all_done(alloc, &mut classes, plain, random);
+    Ok(classes.into_log().into_disk())
+}
+
+// How many calls stand before a random write behind those of the mount.
+fn before_write(seen: &[Seen], mounted: usize, random: &mut Random) -> u64 {
+    let many = seen.len().saturating_sub(mounted) as u64;
+    let from = mounted.saturating_add(random.below(many.max(1)) as usize);
+    write_from(seen, from) as u64
+}
+
+// Does an order. Answers how many calls stand before a random write of it, where all was as it has to be.
+fn whole(alloc: Global, start: &[u8], mounted: usize, random: &mut Random) -> Result<Option<u64>> {
+    let mut well = false;
+    let mut plain = new_plain();
+    let disk = ordered(alloc, start, None, &mut plain, random, &mut well)?;
+    let passes = if well {
+        Some(before_write(&disk.seen, mounted, random))
+    } else {
+        None
+    };
+    drop(disk);
+    Ok(passes)
+}
+
+// What a crash leaves of a disk, by random tears.
+fn left(alloc: Global, disk: &Watched<MemDisk>, random: &mut Random) -> Result<Fills> {
+    let mask = random.below(1 << 40);
+    let byte = random.below(255) as u8;
+    let bytes = torn(alloc, disk, mask, byte)?;
+    let left = pages_left(alloc, bytes.as_slice());
+    drop(bytes);
+    left
+}
+
+// Does an order that stops after so many calls. Answers whether all was as it has to be, and a crash left what it may.
+fn is_well_stopped(
+    alloc: Global,
+    start: &[u8],
+    passes: u64,
+    random: &mut Random,
+    again: &mut Random,
+) -> Result<bool> {
+    let mut well = false;
+    let mut plain = new_plain();
+    let disk = ordered(alloc, start, Some(passes), &mut plain, again, &mut well)?;
+    let left = left(alloc, &disk, random);
+    drop(disk);
+    Ok(well && may_leave(&plain, &left?))
 }
 
 // An order, and the same one with a crash at a random write. Answers whether all was as it has to be.
 fn is_well(alloc: Global, start: &[u8], mounted: usize, random: &mut Random) -> Result<bool> {
     let mut again = *random;
-    let mut plain = new_plain();
-    let Some(whole) = ordered(alloc, start, None, &mut plain, random)? else {
-        return Ok(false);
-    };
-    let many = whole.seen.len().saturating_sub(mounted) as u64;
-    let from = mounted.saturating_add(random.below(many.max(1)) as usize);
-    let passes = write_from(&whole.seen, from) as u64;
-    let mut plain = new_plain();
-    let Some(disk) = ordered(alloc, start, Some(passes), &mut plain, &mut again)? else {
-        return Ok(false);
-    };
-    let mask = random.below(1 << 40);
-    let byte = random.below(255) as u8;
-    let left = pages_left(alloc, &torn(alloc, &disk, mask, byte)?)?;
-    Ok(may_leave(&plain, &left))
+    match whole(alloc, start, mounted, random)? {
+        Some(passes) => is_well_stopped(alloc, start, passes, random, &mut again),
+        None => Ok(false),
+    }
 }
 
-// So many random orders, from a seed on: the first that isn't well, or that all are.
-pub fn random_said(alloc: Global, start: &[u8], words: &str) -> Result<String> {
+// Writes of so many random orders, from a seed on, the first that isn't well, or that all are.
+pub fn tell_random(alloc: Global, start: &[u8], words: &str, text: &mut Text) -> Result<()> {
     let (orders, seed) = words.split_once(' ').unwrap_or((words, "1"));
     let orders = orders.parse::<u32>().unwrap_or(0);
     let mut random = Random {
         state: seed.parse::<u64>().unwrap_or(1) | 1,
     };
-    let Ok(mounted) = opened(alloc, watching(alloc, start, None)?) else {
-        bail!("no log");
-    };
-    let mounted = mounted.into_log().into_disk().seen.len();
+    let mounted = calls_of_mount(alloc, start)?;
     for order in 0..orders {
         if !is_well(alloc, start, mounted, &mut random)? {
-            return Ok(format!(in alloc; "order {order} isn't well")?);
+            text.number("order ", u64::from(order));
+            text.word(" isn't well");
+            return Ok(());
         }
     }
-    Ok(format!(in alloc; "{orders} are well")?)
+    text.number("", u64::from(orders));
+    text.word(" are well");
+    Ok(())
 }

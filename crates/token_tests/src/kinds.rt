@@ -1,12 +1,12 @@
 //! Which kinds conflict, what tokens cover, and sets of positions.
 
 use crate::reading::Words;
-use crate::telling::yes_or_no;
+use crate::telling::push_yes;
 use anyhow::Result;
 use base_types::{Fid, FilesetId, HostId, NoMemory, OpenKind, Plain, ServerId, Span};
-use std::alloc::Global;
 use token_ranges::SpanSet;
 use token_types::{Kind, Need, Token, TokenId, conflicts, covers, wants_conflict};
+use tree_test_words::Text;
 
 const FILE: Fid = Fid {
     fileset: FilesetId(65_537),
@@ -84,7 +84,7 @@ fn token(host: u8, fid: Fid, kind: Kind) -> Token {
 
 // x where two hosts' kinds of one file conflict, in tokens and in wants alike; ? where the two answers differ, or where
 // those of one host or of two files conflict.
-fn cell(kind: Kind, other: Kind) -> char {
+fn cell(kind: Kind, other: Kind) -> &'static str {
     let ours = token(1, FILE, kind);
     let conflict = conflicts(&ours, &token(2, FILE, other));
     let needs = [token(2, FILE, other).need()];
@@ -92,55 +92,75 @@ fn cell(kind: Kind, other: Kind) -> char {
     let alone = conflicts(&ours, &token(1, FILE, other));
     let apart = conflicts(&ours, &token(2, OTHER_FILE, other));
     if conflict != in_wants || alone || apart {
-        return '?';
+        return "?";
     }
-    if conflict { 'x' } else { '.' }
+    if conflict { "x" } else { "." }
 }
 
 /// `conflicts KIND`: a picture, with a cell for each kind of another host.
-pub fn conflicts_text(alloc: Global, words: &mut Words) -> Result<String> {
+pub fn tell_conflicts(words: &mut Words, text: &mut Text) -> Result<()> {
     let kind = words.kind()?;
-    let mut picture = String::new(alloc);
     for other in &KINDS {
-        picture.push(cell(kind, *other))?;
+        text.word(cell(kind, *other));
     }
-    Ok(picture)
+    Ok(())
 }
 
 /// `covers KIND KIND KIND`: whether tokens of the first two on a file cover a need of the third, and whether the same
 /// tokens on another file do.
-pub fn covers_text(alloc: Global, words: &mut Words) -> Result<String> {
+pub fn tell_covers(words: &mut Words, text: &mut Text) -> Result<()> {
     let held = words.kind()?;
     let other = words.kind()?;
     let kind = words.kind()?;
-    let need = Need { fid: FILE, kind };
-    let here = covers(&[token(1, FILE, held), token(2, FILE, other)], &need);
+    push_covers(text, held, other, Need { fid: FILE, kind });
+    Ok(())
+}
+
+fn push_covers(text: &mut Text, held: Kind, other: Kind, need: Need) {
+    push_yes(
+        text,
+        covers(&[token(1, FILE, held), token(2, FILE, other)], &need),
+    );
     let elsewhere = [token(1, OTHER_FILE, held), token(2, OTHER_FILE, other)];
-    let mut text = yes_or_no(alloc, here)?;
     if covers(&elsewhere, &need) {
-        text.push_str(" elsewhere")?;
+        text.word(" elsewhere");
     }
-    Ok(text)
 }
 
 /// `add SPAN` or `cut SPAN`: how many spans the set has then, its first twelve positions, and its gaps in 2..10.
-pub fn spans_text(alloc: Global, set: &mut SpanSet, adds: bool, span: Span) -> Result<String> {
-    changed(set, adds, span)?;
-    let count = set.spans().len();
-    let mut text = format!(in alloc; "{count} ")?;
+pub fn tell_spans(set: &mut SpanSet, adds: bool, words: &mut Words, text: &mut Text) -> Result<()> {
+    changed(set, adds, words.span()?)?;
+    text.number("", set.spans().len() as u64);
+    text.word(" ");
+    push_picture(text, set);
+    let copy = set.copy()?;
+    let told = tell_gaps(&copy, text);
+    drop(copy);
+    Ok(told?)
+}
+
+fn push_picture(text: &mut Text, set: &SpanSet) {
     for at in 0..12u32 {
         let cell = Span {
             from: at,
             to: at + 1,
         };
-        text.push(if set.covers(cell) { '#' } else { '.' })?;
+        text.word(if set.covers(cell) { "#" } else { "." });
     }
-    let gaps = set.copy()?.missing(Span { from: 2, to: 10 })?;
-    for gap in gaps.as_slice() {
-        let (from, to) = (gap.from, gap.to);
-        text.push_str(format!(in alloc; " {from}-{to}")?.as_str())?;
+}
+
+fn tell_gaps(set: &SpanSet, text: &mut Text) -> Result<(), NoMemory> {
+    let gaps = set.missing(Span { from: 2, to: 10 })?;
+    push_gaps(text, gaps.as_slice());
+    drop(gaps);
+    Ok(())
+}
+
+fn push_gaps(text: &mut Text, gaps: &[Span]) {
+    for gap in gaps {
+        text.number(" ", u64::from(gap.from));
+        text.number("-", u64::from(gap.to));
     }
-    Ok(text)
 }
 
 fn changed(set: &mut SpanSet, adds: bool, span: Span) -> Result<(), NoMemory> {

@@ -1,115 +1,185 @@
 //! The steps of a token manager.
-ghost use Rattle.std.specs.Prelude.{◌<◌, ◌^◌, IsTrue, IfSome};
+ghost use Rattle.std.specs.Prelude.{◌≡◌, ◌<◌, ◌≤◌, ◌^◌, length, IsTrue, IfSome, IfOk};
+ghost use Rattle.base_types.specs.declared.limits.TheConstants.{NEEDS_MAX};
 
 use crate::reading::Words;
 use crate::telling::{
-    asked_text, ids_text, number_or_none, outlook_text, ready_text, wanted_text, wants_text,
-    yes_or_no,
+    push_asked, push_ids, push_number, push_outlook, push_ready, push_wanted, push_wants, push_yes,
 };
 use anyhow::{Result, bail};
-use base_types::{NEEDS_MAX, Plain};
-use std::alloc::Global;
+use base_types::{NEEDS_MAX, NoMemory, Plain};
 use token_manager::{TokenManager, Want};
+use token_types::Token;
+use tree_test_words::Text;
 
-/// The answer to a step, whose row has this number: it is the number of its want, where it asks one.
-pub fn manager_text(
-    alloc: Global,
+/// Writes the answer to a step, whose row has this number: it is the number of its want, where it asks one.
+pub fn tell_manager(
     manager: &mut TokenManager,
     number: u64,
     word: &str,
     words: &mut Words,
-) -> Result<String> {
+    text: &mut Text,
+) -> Result<()> {
     match word {
-        "ask" => ask(alloc, manager, number, words),
-        "enqueue" => enqueue(alloc, manager, number, words),
-        "next" => next(alloc, manager),
-        "decide" => decide(alloc, manager, words),
-        "returned" | "kept" | "revoked" => token_gone(alloc, manager, word, words),
-        "admit" => admit(alloc, manager, words),
-        _ => lose(alloc, manager, word, words),
+        "ask" => ask(manager, number, words, text),
+        "enqueue" => enqueue(manager, number, words, text),
+        "next" => next(manager, text),
+        "decide" => decide(manager, words, text),
+        "admit" => admit(manager, words, text),
+        "returned" | "kept" | "revoked" => token_gone(manager, word, words, text),
+        _ => lose_or_look(manager, word, words, text),
+    }
+}
+
+fn lose_or_look(
+    manager: &mut TokenManager,
+    word: &str,
+    words: &mut Words,
+    text: &mut Text,
+) -> Result<()> {
+    match word {
+        "give-up" | "down" | "drop-fileset" | "forget" => lose(manager, word, words, text),
+        "of-file" | "of-host" | "wanted" => look_at_tokens(manager, word, words, text),
+        "holds" | "granted" | "pinned" | "asked-back" => ask_of_token(manager, word, words, text),
+        _ => look(manager, word, words, text),
     }
 }
 
 // `next`
-fn next(alloc: Global, manager: &mut TokenManager) -> Result<String> {
+fn next(manager: &mut TokenManager, text: &mut Text) -> Result<()> {
     let ready = manager.next_ready()?;
-    let text = ready_text(alloc, &ready);
+    push_ready(text, &ready);
     drop(ready);
-    text
+    Ok(())
 }
 
 // `decide NUMBER`
-fn decide(alloc: Global, manager: &mut TokenManager, words: &mut Words) -> Result<String> {
-    let ready = manager.decide(words.number()?)?;
-    let text = ready_text(alloc, &ready);
+fn decide(manager: &mut TokenManager, words: &mut Words, text: &mut Text) -> Result<()> {
+    let number = words.number()?;
+    let ready = manager.decide(number)?;
+    push_ready(text, &ready);
     drop(ready);
-    text
+    Ok(())
 }
 
 // What a host says of a token.
 fn token_gone(
-    alloc: Global,
     manager: &mut TokenManager,
     word: &str,
     words: &mut Words,
-) -> Result<String> {
+    text: &mut Text,
+) -> Result<()> {
     if word == "revoked" {
-        return yes_or_no(alloc, manager.set_revoked(words.id()?));
+        let id = words.id()?;
+        push_yes(text, manager.set_revoked(id));
+        return Ok(());
     }
     let host = words.host()?;
     let id = words.id()?;
-    if word == "kept" {
-        yes_or_no(alloc, manager.kept(host, id))
-    } else {
-        yes_or_no(alloc, manager.returned(host, id))
+    push_yes(
+        text,
+        if word == "kept" {
+            manager.kept(host, id)
+        } else {
+            manager.returned(host, id)
+        },
+    );
+    Ok(())
+}
+
+// Steps by which something is gone.
+fn lose(manager: &mut TokenManager, word: &str, words: &mut Words, text: &mut Text) -> Result<()> {
+    match word {
+        "give-up" => {
+            let number = words.number()?;
+            manager.give_up(number);
+            Ok(())
+        }
+        "down" => {
+            let host = words.host()?;
+            manager.host_down(host);
+            Ok(())
+        }
+        "forget" => forget(manager, words, text),
+        _ => drop_fileset(manager, words, text),
     }
 }
 
-// Steps by which something is gone, and looks.
-fn lose(
-    alloc: Global,
-    manager: &mut TokenManager,
-    word: &str,
-    words: &mut Words,
-) -> Result<String> {
-    match word {
-        "give-up" => {
-            manager.give_up(words.number()?);
-            Ok(String::new(alloc))
-        }
-        "down" => {
-            manager.host_down(words.host()?);
-            Ok(String::new(alloc))
-        }
-        "drop-fileset" => {
-            let dropped = manager.drop_fileset(words.fileset()?)?;
-            wants_text(alloc, dropped.as_slice())
-        }
-        "forget" => forget(alloc, manager, words),
-        _ => look(alloc, manager, word, words),
-    }
+fn drop_fileset(manager: &mut TokenManager, words: &mut Words, text: &mut Text) -> Result<()> {
+    let fileset = words.fileset()?;
+    let dropped = manager.drop_fileset(fileset)?;
+    push_wants(text, dropped.as_slice());
+    drop(dropped);
+    Ok(())
 }
 
 // Looks at the manager.
-fn look(alloc: Global, manager: &TokenManager, word: &str, words: &mut Words) -> Result<String> {
+fn look(manager: &TokenManager, word: &str, words: &mut Words, text: &mut Text) -> Result<()> {
     match word {
-        "outlook" => outlook_text(alloc, manager.outlook(words.number()?)),
-        "first" => number_or_none(alloc, manager.first_ready()),
-        "wanted" => wanted_text(alloc, manager.wanted()?.as_slice()),
-        "queue" => wants_text(alloc, manager.queue()),
-        "asked" => number_or_none(alloc, Some(manager.asked())),
-        "latest" => number_or_none(alloc, manager.latest()),
-        "of-file" => ids_text(alloc, manager.of_file(words.file()?)),
-        "of-host" => ids_text(alloc, manager.of_host(words.host()?)?.as_slice()),
-        "holds" => {
-            let host = words.host()?;
-            yes_or_no(alloc, manager.holds(host, words.id()?))
-        }
-        "granted" => yes_or_no(alloc, manager.is_granted(words.id()?)),
-        "pinned" => yes_or_no(alloc, manager.is_pinned(words.id()?)),
-        "asked-back" => yes_or_no(alloc, manager.is_revoked(words.id()?)),
+        "outlook" => push_outlook(text, manager.outlook(words.number()?)),
+        "first" => push_number(text, manager.first_ready()),
+        "queue" => push_wants(text, manager.queue()),
+        "asked" => push_number(text, Some(manager.asked())),
+        "latest" => push_number(text, manager.latest()),
         _ => bail!("no step: {word}"),
     }
+    Ok(())
+}
+
+fn look_at_tokens(
+    manager: &TokenManager,
+    word: &str,
+    words: &mut Words,
+    text: &mut Text,
+) -> Result<()> {
+    match word {
+        "of-file" => {
+            let file = words.file()?;
+            push_ids(text, manager.of_file(file));
+            Ok(())
+        }
+        "of-host" => of_host(manager, words, text),
+        _ => wanted(manager, text),
+    }
+}
+
+fn of_host(manager: &TokenManager, words: &mut Words, text: &mut Text) -> Result<()> {
+    let host = words.host()?;
+    let tokens = manager.of_host(host)?;
+    push_ids(text, tokens.as_slice());
+    drop(tokens);
+    Ok(())
+}
+
+fn wanted(manager: &TokenManager, text: &mut Text) -> Result<()> {
+    let wanted = manager.wanted()?;
+    push_wanted(text, wanted.as_slice());
+    drop(wanted);
+    Ok(())
+}
+
+fn ask_of_token(
+    manager: &TokenManager,
+    word: &str,
+    words: &mut Words,
+    text: &mut Text,
+) -> Result<()> {
+    if word == "holds" {
+        let host = words.host()?;
+        let id = words.id()?;
+        push_yes(text, manager.holds(host, id));
+        return Ok(());
+    }
+    let id = words.id()?;
+    push_yes(
+        text,
+        match word {
+            "granted" => manager.is_granted(id),
+            "pinned" => manager.is_pinned(id),
+            _ => manager.is_revoked(id),
+        },
+    );
+    Ok(())
 }
 
 // Whether a number is above the last one, where there is one.
@@ -130,64 +200,79 @@ fn may_ask(manager: &TokenManager, number: u64) -> bool
     manager.asked() < 1 << 44 && rises(manager.latest(), number)
 }
 
-// `ask HOST NEEDS`
-fn ask(
-    alloc: Global,
-    manager: &mut TokenManager,
-    number: u64,
-    words: &mut Words,
-) -> Result<String> {
+// `HOST NEEDS`: a want of this number that may be asked.
+fn want_of(manager: &TokenManager, number: u64, words: &mut Words) -> Result<Want>
+    ensures number { IfOk result (λ want. IfSome manager.now.latest (λ last. last < want.number)) }
+    ensures count { IfOk result (λ want. manager.now.asked < 2 ^ 44) }
+    ensures needs { IfOk result (λ want. length want.needs ≤ NEEDS_MAX) }
+{
     let host = words.host()?;
-    let needs = words.needs()?;
-    if needs.len() > NEEDS_MAX || !may_ask(manager, number) {
+    if !may_ask(manager, number) {
         bail!("no want to be asked");
     }
-    let want = Want {
+    let needs = words.needs()?;
+    if NEEDS_MAX < needs.len() {
+        bail!("no want to be asked");
+    }
+    Ok(Want {
         number,
         host,
         needs,
-    };
-    let copy = want.copy();
+    })
+}
+
+fn copy_of(want: &Want) -> Result<Want, NoMemory>
+    ensures { IfOk result (λ copy. copy ≡ want.now) }
+{
+    want.copy()
+}
+
+// `ask HOST NEEDS`: of a copy of the want.
+fn ask(manager: &mut TokenManager, number: u64, words: &mut Words, text: &mut Text) -> Result<()> {
+    let want = want_of(manager, number, words)?;
+    let copy = copy_of(&want);
     drop(want);
     let asked = manager.ask(copy?)?;
-    let text = asked_text(alloc, &asked);
+    push_asked(text, &asked);
     drop(asked);
-    text
+    Ok(())
 }
 
 // `enqueue HOST NEEDS`: the numbers of the wants that wait then.
 fn enqueue(
-    alloc: Global,
     manager: &mut TokenManager,
     number: u64,
     words: &mut Words,
-) -> Result<String> {
-    let host = words.host()?;
-    let needs = words.needs()?;
-    if needs.len() > NEEDS_MAX || !may_ask(manager, number) {
-        bail!("no want to be asked");
-    }
-    manager.enqueue(Want {
-        number,
-        host,
-        needs,
-    })?;
-    wants_text(alloc, manager.queue())
+    text: &mut Text,
+) -> Result<()> {
+    let want = want_of(manager, number, words)?;
+    manager.enqueue(want)?;
+    push_wants(text, manager.queue());
+    Ok(())
 }
 
 // `admit TOKENS`: yes where they may be admitted.
-fn admit(alloc: Global, manager: &mut TokenManager, words: &mut Words) -> Result<String> {
+fn admit(manager: &mut TokenManager, words: &mut Words, text: &mut Text) -> Result<()> {
     let tokens = words.tokens()?;
-    let can = manager.can_admit(tokens.as_slice());
+    let admitted = admit_all(manager, tokens.as_slice());
+    drop(tokens);
+    push_yes(text, admitted?);
+    Ok(())
+}
+
+fn admit_all(manager: &mut TokenManager, tokens: &[Token]) -> Result<bool, NoMemory> {
+    let can = manager.can_admit(tokens);
     if can {
-        manager.admit(tokens.as_slice())?;
+        manager.admit(tokens)?;
     }
-    yes_or_no(alloc, can)
+    Ok(can)
 }
 
 // `forget EPOCH`: yes where the epoch is a later one.
-fn forget(alloc: Global, manager: &mut TokenManager, words: &mut Words) -> Result<String> {
-    let later = manager.forget(words.number()?);
+fn forget(manager: &mut TokenManager, words: &mut Words, text: &mut Text) -> Result<()> {
+    let epoch = words.number()?;
+    let later = manager.forget(epoch);
     manager.laws();
-    yes_or_no(alloc, later)
+    push_yes(text, later);
+    Ok(())
 }

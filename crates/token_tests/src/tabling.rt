@@ -4,58 +4,85 @@ ghost use Rattle.std.specs.Prelude.{◌≡◌, ◌+◌, ◌<◌, ◌^◌, false,
 ghost use Rattle.token_table.specs.Tables.{has_id, is_past};
 
 use crate::reading::Words;
-use crate::telling::{ids_text, token_or_none, token_text, yes_or_no};
+use crate::telling::{push_ids, push_token, push_token_or_none, push_yes};
 use anyhow::{Result, bail};
-use base_types::{NEEDS_MAX, Plain};
-use std::alloc::Global;
+use base_types::{HostId, NEEDS_MAX, Plain};
 use token_table::TokenTable;
 use token_types::{Need, TokenId};
+use tree_test_words::Text;
 
-/// The answer to a row `table ..`.
-pub fn table_text(alloc: Global, table: &mut TokenTable, words: &mut Words) -> Result<String> {
+/// Writes the answer to a row `table ..`.
+pub fn tell_table(table: &mut TokenTable, words: &mut Words, text: &mut Text) -> Result<()> {
     match words.next() {
-        "grant" => grant(alloc, table, words),
-        "next" => next(alloc, table, words),
-        "insert" => insert(alloc, table, words),
+        "grant" => grant(table, words, text),
+        "next" => next(table, words, text),
+        "insert" => insert(table, words, text),
         "drop" => {
-            let dropped = table.drop_id(words.id()?);
-            token_or_none(alloc, dropped.as_ref())
+            let id = words.id()?;
+            push_token_or_none(text, table.drop_id(id).as_ref());
+            Ok(())
         }
         "drop-host" => {
-            table.drop_host(words.host()?);
-            Ok(String::new(alloc))
+            let host = words.host()?;
+            table.drop_host(host);
+            Ok(())
         }
-        word => {
-            let copy = table.copy()?;
-            let said = look(alloc, &copy, word, words);
-            drop(copy);
-            said
-        }
+        word => look_at_copy(table, word, words, text),
     }
 }
 
-// Looks at the table, which is a copy: so the copy is seen to be the same.
-fn look(alloc: Global, table: &TokenTable, word: &str, words: &mut Words) -> Result<String> {
+// Looks at a copy of the table: so the copy is seen to be the same.
+fn look_at_copy(table: &TokenTable, word: &str, words: &mut Words, text: &mut Text) -> Result<()> {
+    let copy = table.copy()?;
+    let told = look(&copy, word, words, text);
+    drop(copy);
+    told
+}
+
+fn look(table: &TokenTable, word: &str, words: &mut Words, text: &mut Text) -> Result<()> {
     match word {
-        "get" => token_or_none(alloc, table.get(words.id()?)),
-        "of-file" => ids_text(alloc, table.of_file(words.file()?)),
-        "of-host" => ids_text(alloc, table.of_host(words.host()?)?.as_slice()),
-        "conflicting" => {
-            let host = words.host()?;
-            let needs = words.needs()?;
-            ids_text(alloc, table.conflicting(host, needs.as_slice())?.as_slice())
+        "get" => {
+            let id = words.id()?;
+            push_token_or_none(text, table.get(id));
         }
-        "in-the-way" => {
-            let host = words.host()?;
-            let needs = words.needs()?;
-            yes_or_no(alloc, table.is_in_the_way(host, needs.as_slice()))
+        "of-file" => {
+            let file = words.file()?;
+            push_ids(text, table.of_file(file));
         }
-        "last" => {
-            let last = table.last_id().seq;
-            Ok(format!(in alloc; "{last}")?)
-        }
+        "last" => text.number("", table.last_id().seq),
+        "of-host" => return of_host(table, words, text),
+        "conflicting" => return conflicting(table, words, text),
+        "in-the-way" => return in_the_way(table, words, text),
         _ => bail!("no step of a table: {word}"),
     }
+    Ok(())
+}
+
+fn of_host(table: &TokenTable, words: &mut Words, text: &mut Text) -> Result<()> {
+    let host = words.host()?;
+    let tokens = table.of_host(host)?;
+    push_ids(text, tokens.as_slice());
+    drop(tokens);
+    Ok(())
+}
+
+fn conflicting(table: &TokenTable, words: &mut Words, text: &mut Text) -> Result<()> {
+    let host = words.host()?;
+    let needs = words.needs()?;
+    let found = table.conflicting(host, needs.as_slice());
+    drop(needs);
+    let found = found?;
+    push_ids(text, found.as_slice());
+    drop(found);
+    Ok(())
+}
+
+fn in_the_way(table: &TokenTable, words: &mut Words, text: &mut Text) -> Result<()> {
+    let host = words.host()?;
+    let needs = words.needs()?;
+    push_yes(text, table.is_in_the_way(host, needs.as_slice()));
+    drop(needs);
+    Ok(())
 }
 
 // Whether so many more tokens find their numbers.
@@ -66,26 +93,47 @@ fn has_room(table: &TokenTable, needs: &[Need]) -> bool
 }
 
 // `table next HOST NEEDS`
-fn next(alloc: Global, table: &TokenTable, words: &mut Words) -> Result<String> {
+fn next(table: &TokenTable, words: &mut Words, text: &mut Text) -> Result<()> {
     let host = words.host()?;
     let needs = words.needs()?;
-    if !has_room(table, needs.as_slice()) {
-        bail!("no numbers are left");
-    }
-    ids_text(alloc, table.next_tokens(host, needs.as_slice())?.as_slice())
+    let told = next_of(table, host, needs.as_slice(), text);
+    drop(needs);
+    told
 }
 
-// `table grant HOST NEEDS`: one need by `grant`, and several by `grant_each`.
-fn grant(alloc: Global, table: &mut TokenTable, words: &mut Words) -> Result<String> {
-    let host = words.host()?;
-    let needs = words.needs()?;
-    if !has_room(table, needs.as_slice()) {
+fn next_of(table: &TokenTable, host: HostId, needs: &[Need], text: &mut Text) -> Result<()> {
+    if !has_room(table, needs) {
         bail!("no numbers are left");
     }
-    if let [need] = needs.as_slice() {
-        return token_text(alloc, &table.grant(host, need.fid, need.kind)?);
+    let tokens = table.next_tokens(host, needs)?;
+    push_ids(text, tokens.as_slice());
+    drop(tokens);
+    Ok(())
+}
+
+// `table grant HOST NEEDS`
+fn grant(table: &mut TokenTable, words: &mut Words, text: &mut Text) -> Result<()> {
+    let host = words.host()?;
+    let needs = words.needs()?;
+    let told = grant_of(table, host, needs.as_slice(), text);
+    drop(needs);
+    told
+}
+
+// One need by `grant`, and several by `grant_each`.
+fn grant_of(table: &mut TokenTable, host: HostId, needs: &[Need], text: &mut Text) -> Result<()> {
+    if !has_room(table, needs) {
+        bail!("no numbers are left");
     }
-    ids_text(alloc, table.grant_each(host, needs.as_slice())?.as_slice())
+    if let [need] = needs {
+        let token = table.grant(host, need.fid, need.kind)?;
+        push_token(text, &token);
+        return Ok(());
+    }
+    let tokens = table.grant_each(host, needs)?;
+    push_ids(text, tokens.as_slice());
+    drop(tokens);
+    Ok(())
 }
 
 fn is_there(table: &TokenTable, id: TokenId) -> bool
@@ -110,11 +158,12 @@ fn can_insert(table: &TokenTable, id: TokenId) -> bool
 }
 
 // `table insert TOKEN`: yes where it may be put in.
-fn insert(alloc: Global, table: &mut TokenTable, words: &mut Words) -> Result<String> {
+fn insert(table: &mut TokenTable, words: &mut Words, text: &mut Text) -> Result<()> {
     let token = words.token()?;
     let can = can_insert(table, token.id);
     if can {
         table.insert(token)?;
     }
-    yes_or_no(alloc, can)
+    push_yes(text, can);
+    Ok(())
 }

@@ -1,173 +1,141 @@
 //! Answers as text.
 
-use anyhow::Result;
 use base_types::{Fid, Items, OpenKind, Span};
-use std::alloc::Global;
 use token_manager::{Asked, Outlook, Ready, Want, Wanted};
 use token_types::{Kind, Token, TokenId};
+use tree_test_words::Text;
 
 /// yes or no.
-pub fn yes_or_no(alloc: Global, answer: bool) -> Result<String> {
-    Ok(String::from_str(alloc, if answer { "yes" } else { "no" })?)
+pub fn push_yes(text: &mut Text, answer: bool) {
+    text.word(if answer { "yes" } else { "no" });
 }
 
 /// A number, or none.
-pub fn number_or_none(alloc: Global, number: Option<u64>) -> Result<String> {
+pub fn push_number(text: &mut Text, number: Option<u64>) {
     match number {
-        Some(number) => Ok(format!(in alloc; "{number}")?),
-        None => Ok(String::from_str(alloc, "none")?),
+        Some(number) => text.number("", number),
+        None => text.word("none"),
     }
 }
 
 /// A whole token, or none.
-pub fn token_or_none(alloc: Global, token: Option<&Token>) -> Result<String> {
+pub fn push_token_or_none(text: &mut Text, token: Option<&Token>) {
     match token {
-        Some(token) => token_text(alloc, token),
-        None => Ok(String::from_str(alloc, "none")?),
+        Some(token) => push_token(text, token),
+        None => text.word("none"),
     }
 }
 
 /// The numbers of tokens.
-pub fn ids_text(alloc: Global, tokens: &[Token]) -> Result<String> {
-    let mut text = String::new(alloc);
-    push_ids(&mut text, alloc, tokens)?;
-    Ok(text)
+pub fn push_ids(text: &mut Text, tokens: &[Token]) {
+    for token in tokens {
+        push_id(text, token.id);
+        text.word(" ");
+    }
 }
 
 /// The numbers of tokens that are asked back, with `!` at those that were before.
-pub fn wanted_text(alloc: Global, tokens: &[Wanted]) -> Result<String> {
-    let mut text = String::new(alloc);
+pub fn push_wanted(text: &mut Text, tokens: &[Wanted]) {
     for wanted in tokens {
-        push_id(&mut text, alloc, wanted.token.id)?;
-        if wanted.revoked {
-            text.push('!')?;
-        }
-        text.push(' ')?;
+        push_id(text, wanted.token.id);
+        text.word(if wanted.revoked { "! " } else { " " });
     }
-    Ok(text)
 }
 
 /// The numbers of wants.
-pub fn wants_text(alloc: Global, wants: &[Want]) -> Result<String> {
-    let mut text = String::new(alloc);
+pub fn push_wants(text: &mut Text, wants: &[Want]) {
     for want in wants {
-        let number = want.number;
-        text.push_str(format!(in alloc; "{number} ")?.as_str())?;
+        text.number("", want.number);
+        text.word(" ");
     }
-    Ok(text)
 }
 
 /// The answer to a want that was asked.
-pub fn asked_text(alloc: Global, asked: &Asked) -> Result<String> {
+pub fn push_asked(text: &mut Text, asked: &Asked) {
     match asked {
-        Asked::Granted(tokens) => granted_text(alloc, tokens),
-        Asked::Waits { revoke, behind } => waits_text(alloc, revoke, *behind),
+        Asked::Granted(tokens) => {
+            text.word("granted ");
+            push_ids(text, tokens.as_slice());
+        }
+        Asked::Waits { revoke, behind } => push_waits(text, revoke, *behind),
     }
 }
 
-fn granted_text(alloc: Global, tokens: &Items<Token>) -> Result<String> {
-    let mut text = String::from_str(alloc, "granted ")?;
-    push_ids(&mut text, alloc, tokens.as_slice())?;
-    Ok(text)
-}
-
-fn waits_text(alloc: Global, revoke: &Items<Token>, behind: Option<u64>) -> Result<String> {
-    let mut text = String::from_str(alloc, "waits ")?;
-    push_ids(&mut text, alloc, revoke.as_slice())?;
+fn push_waits(text: &mut Text, revoke: &Items<Token>, behind: Option<u64>) {
+    text.word("waits ");
+    push_ids(text, revoke.as_slice());
     if let Some(number) = behind {
-        text.push_str(format!(in alloc; "behind {number}")?.as_str())?;
+        text.number("behind ", number);
     }
-    Ok(text)
 }
 
 /// The decision on a queued want.
-pub fn ready_text(alloc: Global, ready: &Option<Ready>) -> Result<String> {
+pub fn push_ready(text: &mut Text, ready: &Option<Ready>) {
     match ready {
-        Some(Ready::Granted(number, tokens)) => later_text(alloc, *number, tokens),
-        Some(Ready::Refused(number, token)) => refused_text(alloc, *number, token),
-        None => Ok(String::from_str(alloc, "none")?),
+        Some(Ready::Granted(number, tokens)) => {
+            text.number("ready ", *number);
+            text.word(" ");
+            push_ids(text, tokens.as_slice());
+        }
+        Some(Ready::Refused(number, token)) => {
+            text.number("refused ", *number);
+            text.word(" ");
+            push_id(text, token.id);
+        }
+        None => text.word("none"),
     }
 }
 
 /// What can become of a queued want.
-pub fn outlook_text(alloc: Global, outlook: Outlook) -> Result<String> {
+pub fn push_outlook(text: &mut Text, outlook: Outlook) {
     match outlook {
-        Outlook::Waits => Ok(String::from_str(alloc, "waits")?),
-        Outlook::Granted => Ok(String::from_str(alloc, "granted")?),
+        Outlook::Waits => text.word("waits"),
+        Outlook::Granted => text.word("granted"),
         Outlook::Refused(token) => {
-            let mut text = String::from_str(alloc, "refused ")?;
-            push_id(&mut text, alloc, token.id)?;
-            Ok(text)
+            text.word("refused ");
+            push_id(text, token.id);
         }
     }
 }
 
-fn later_text(alloc: Global, number: u64, tokens: &Items<Token>) -> Result<String> {
-    let mut text = format!(in alloc; "ready {number} ")?;
-    push_ids(&mut text, alloc, tokens.as_slice())?;
-    Ok(text)
-}
-
-fn refused_text(alloc: Global, number: u64, token: &Token) -> Result<String> {
-    let mut text = format!(in alloc; "refused {number} ")?;
-    push_id(&mut text, alloc, token.id)?;
-    Ok(text)
-}
-
-fn push_ids(text: &mut String, alloc: Global, tokens: &[Token]) -> Result<()> {
-    for token in tokens {
-        push_id(text, alloc, token.id)?;
-        text.push(' ')?;
-    }
-    Ok(())
-}
-
-fn push_id(text: &mut String, alloc: Global, id: TokenId) -> Result<()> {
-    let (server, epoch, seq) = (id.server.0, id.epoch, id.seq);
-    text.push_str(format!(in alloc; "{server}.{epoch}.{seq}")?.as_str())?;
-    Ok(())
+fn push_id(text: &mut Text, id: TokenId) {
+    text.number("", u64::from(id.server.0));
+    text.number(".", id.epoch);
+    text.number(".", id.seq);
 }
 
 /// A token: its number, host, file and kind.
-pub fn token_text(alloc: Global, token: &Token) -> Result<String> {
-    let mut text = String::new(alloc);
-    push_id(&mut text, alloc, token.id)?;
-    let host = token.host.0;
-    text.push_str(format!(in alloc; " c{host} ")?.as_str())?;
-    push_file(&mut text, alloc, token.fid)?;
-    push_kind(&mut text, alloc, token.kind)?;
-    Ok(text)
+pub fn push_token(text: &mut Text, token: &Token) {
+    push_id(text, token.id);
+    text.number(" c", u64::from(token.host.0));
+    text.word(" ");
+    push_file(text, token.fid);
+    text.word(" ");
+    push_kind(text, token.kind);
 }
 
-fn push_file(text: &mut String, alloc: Global, fid: Fid) -> Result<()> {
-    let letter = if fid.fileset.0 == 65_537 { 'f' } else { 'g' };
-    let anode = fid.anode;
-    text.push_str(format!(in alloc; "{letter}{anode} ")?.as_str())?;
-    Ok(())
+fn push_file(text: &mut Text, fid: Fid) {
+    let letter = if fid.fileset.0 == 65_537 { "f" } else { "g" };
+    text.number(letter, u64::from(fid.anode));
 }
 
-fn push_kind(text: &mut String, alloc: Global, kind: Kind) -> Result<()> {
+fn push_kind(text: &mut Text, kind: Kind) {
     match kind {
         Kind::Bytes { update, span } => {
-            push_spanned(text, alloc, if update { "update" } else { "read" }, span)
+            push_spanned(text, if update { "update" } else { "read" }, span);
         }
         Kind::Lock { writing, span } => {
-            push_spanned(text, alloc, if writing { "wlock" } else { "rlock" }, span)
+            push_spanned(text, if writing { "wlock" } else { "rlock" }, span);
         }
-        Kind::Status { update } => push_word(text, if update { "status-update" } else { "status" }),
-        Kind::Opening(kind) => push_word(text, opening(kind)),
+        Kind::Status { update } => text.word(if update { "status-update" } else { "status" }),
+        Kind::Opening(kind) => text.word(opening(kind)),
     }
 }
 
-fn push_word(text: &mut String, word: &str) -> Result<()> {
-    text.push_str(word)?;
-    Ok(())
-}
-
-fn push_spanned(text: &mut String, alloc: Global, word: &str, span: Span) -> Result<()> {
-    let (from, to) = (span.from, span.to);
-    text.push_str(format!(in alloc; "{word}:{from}-{to}")?.as_str())?;
-    Ok(())
+fn push_spanned(text: &mut Text, word: &str, span: Span) {
+    text.word(word);
+    text.number(":", u64::from(span.from));
+    text.number("-", u64::from(span.to));
 }
 
 fn opening(kind: OpenKind) -> &'static str {
