@@ -36,7 +36,7 @@ loop-before-preserved g c =
     record {
       made = host_made g.S.Store.tells g.S.Store.view c.args.script.now c.loop-before.nodes.items
           c.push_reserved.new.self.items c.loop-before.before c.in_ok-node.node c.loop-before.invariant.made
-          c.push_reserved.ensures.items within c.in_ok-node.ensures.stands;
+          c.push_reserved.ensures.items within c.in_ok-node.ensures;
       room = c.push_reserved.ensures.capacity ∙ c.loop-before.invariant.room;
     }
 
