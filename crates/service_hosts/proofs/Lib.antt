@@ -1,0 +1,9 @@
+pub mod Places
+pub mod Laid
+pub mod Adding
+pub mod Paired
+pub mod Driven
+pub mod Starting
+pub mod Serving
+pub mod Ending
+pub mod Promised

@@ -1,0 +1,64 @@
+-- What comes of a script that hosts and servers run over the stores of servers.
+use Rattle.std.specs.Prelude.{List, Some, [], length, map, slice_get, slice_index_or, ℕ, ◌+◌, ◌-◌, ◌<◌, ◌∷◌, ◌≡◌}
+use Rattle.tree_answers.specs.declared.tree.Tree.{Tree}
+use Rattle.script_lines.specs.declared.script.Script.{Script}
+use Rattle.store_laws.specs.TreeKeeping.{KeepsOf}
+use Rattle.store_memory.specs.Views.{View}
+use Rattle.hub_board.specs.Hubs.{nodes_of}
+use Rattle.hub_drive.specs.Driving.{HaveRested, beginning}
+use Rattle.hub_drive.specs.declared.driver.DriveFault.{DriveFault}
+use Rattle.hub_drive.specs.declared.driver.DriveFault.TheVariants as drive
+use Rattle.hub_drive.specs.declared.driver.Waiting.{Waiting}
+use Rattle.hub_node.specs.Either.{stands_any}
+use Rattle.host_node.specs.Standing.{Stands as HostStands}
+use Rattle.server_node.specs.Standing.{Stands as ServerStands}
+use Rattle.run_rules.specs.Plans.{IsPlanned}
+use Rattle.run_rules.specs.declared.journal.Journal.{Journal}
+use Rattle.service_moves.specs.Stopping.{HasFailed}
+use Rattle.run_promises.specs.Promises.{HasRun, last_tree}
+use Rattle.service_hosts.specs.Nodes.{AreOver, NodeOf, next_line}
+use Rattle.service_hosts.specs.declared.running.HostsStopped.{HostsStopped}
+use Rattle.service_hosts.specs.declared.running.HostsStopped.TheVariants.{Failed, Memory, Stuck}
+
+-- the epochs of stores, in their order
+abbrev pub epochs_of : {S : Type 0} → (S → View) → List S → List ℕ
+epochs_of view stores = map (λ store. (view store).state.epoch) stores
+
+-- what a fault of the driver means, where so many hosts are before the first server
+abbrev pub stopped_by : ℕ → DriveFault → HostsStopped
+stopped_by hosts (drive.Store node) = Failed (record { 0 = (node - hosts) + 1 })
+stopped_by hosts (drive.Stuck waiting) = Stuck waiting
+stopped_by hosts drive.Memory = Memory
+
+-- each store keeps its server's part of a tree, and may be asked
+pub record AreKeeping {S : Type 0} (tells : Type 0) (view : S → View) (tree : Tree) (stores : List S) : Type 0 where
+  pub ready : (k : ℕ) (store : S) → slice_get stores k ≡ Some store → (view store).ready
+  pub keeps : tells → (k : ℕ) (store : S) → slice_get stores k ≡ Some store → KeepsOf tree (view store).state
+
+-- Hosts and servers ran a script from a tree on, to its end: the journal starts from the tree, in the epochs of the
+-- stores, and keeps to the plan of the script; where the stores tell what they keep it is a run of the script, and each
+-- keeps its server's part of the tree that it leaves.
+pub record HasHosted {S : Type 0} (tells : Type 0) (view : S → View) (script : Script) (start : Tree)
+    (old new : List S) (journal : Journal) : Type 0 where
+  pub starts : journal.start ≡ start ∷ []
+  pub epochs : tells → journal.epochs ≡ epochs_of view old
+  pub planned : IsPlanned script journal
+  pub run : tells → HasRun script journal
+  pub kept : AreKeeping tells view (last_tree start journal) new
+
+-- Hosts and servers over these stores, in a run from a tree, have come to rest: in its newest round each handed in
+-- nothing and was given nothing, and it has made nothing. One of them is named, with its next line.
+pub record IsStuck {S : Type 0} (tells : Type 0) (view : S → View) (script : Script) (start : Tree) (stores : List S)
+    (waiting : Waiting) : Type 0 where
+  pub node : waiting.node < length (nodes_of script)
+  pub epochs : List ℕ
+  pub nodes : List (NodeOf S)
+  pub over : AreOver nodes (length script.roster.hosts + 1) stores
+  pub rested : HaveRested (stands_any HostStands (ServerStands tells view)) (beginning script start epochs) nodes
+  pub line : (d : NodeOf S) → waiting.line ≡ next_line (slice_index_or nodes waiting.node d)
+
+-- why it came to no end: the store of a server failed twice; all have come to rest; or memory ran out
+abbrev pub IsStopped : {S : Type 0} → Type 0 → (S → View) → Script → Tree → List S → List S → HostsStopped → Type 0
+IsStopped tells view script start old new (Failed server) = HasFailed view old new server.0
+IsStopped tells view script start old new (Stuck waiting) = IsStuck tells view script start new waiting
+IsStopped tells view script start old new Memory = Unit {0}

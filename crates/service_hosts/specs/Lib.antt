@@ -1,0 +1,4 @@
+pub mod Homes
+pub mod Nodes
+pub mod Hosting
+pub mod Runs

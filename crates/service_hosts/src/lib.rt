@@ -1,0 +1,10 @@
+//! A script is run by hosts and servers: each node is made from the script and the stores, the driver takes their
+//! turns, and the journal and the stores come back.
+#![tactic(auto)]
+
+mod homes;
+mod nodes;
+mod running;
+
+pub use homes::may_host;
+pub use running::{Hosted, HostsStopped, run_hosts};

@@ -1,0 +1,177 @@
+//! Hosts and servers run a script.
+ghost use Rattle.std.specs.Prelude.{◌≡◌, ◌≤◌, ◌<◌, ◌+◌, ◌-◌, ◌^◌, ℕ, true, List, [], length, vec_capacity};
+ghost use Rattle.std.specs.Prelude.{IfErr, IfOk, OnErr, OnOk};
+ghost use Rattle.base_types.specs.declared.limits.TheConstants.{SERVERS_MAX};
+ghost use Rattle.host_node.specs.Standing.{IsPlayable};
+ghost use Rattle.hub_drive.specs.Driving.{beginning};
+ghost use Rattle.hub_drive.specs.declared.driver.DriveFault.TheVariants.{Store as StoreFailed};
+ghost use Rattle.hub_node.specs.Nodes.{Beginning};
+ghost use Rattle.run_rules.specs.Runs.{IsValid};
+ghost use Rattle.script_lines.specs.Sound.{IsSound};
+ghost use Rattle.service_hosts.specs.Homes.{may_host};
+ghost use Rattle.service_hosts.specs.Hosting.{HasHosted, IsStopped, epochs_of, stopped_by};
+ghost use Rattle.service_hosts.specs.Nodes.{AreFirst, AreOver, CanAll};
+ghost use Rattle.service_moves.specs.Stores.{AreSame, AreStores, states_of};
+ghost use Rattle.service_plain.specs.Played.{IsStart};
+ghost use Rattle.service_stores.specs.Laws.{AreSayable};
+ghost use Rattle.service_stores.specs.Starting.{HaveBegun};
+ghost use Rattle.store_laws.specs.MoveKeeping.{KeepAll};
+
+use crate::nodes::{NodeOf, epochs_of, hosts_for, take_stores, with_servers};
+use base_types::{Items, NoMemory, ServerId};
+use hub_drive::{DriveFault, Waiting, drive};
+use run_rules::Journal;
+use script_lines::Script;
+use std::alloc::Global;
+use std::sync::Wait;
+use std::thread::Threads;
+use store_memory::Store;
+use tree_answers::Tree;
+
+/// Why hosts and servers came to no end.
+#[derive(Clone, Copy)]
+pub enum HostsStopped {
+    /// The store of this server failed, and failed again when that was tried once more.
+    Failed(ServerId),
+    /// All hosts and servers came to rest, and not all were done, as where one waits for a flag that nobody raises. One
+    /// is named, with its next line.
+    Stuck(Waiting),
+    /// Memory ran out.
+    Memory,
+}
+
+/// What came of a run by hosts and servers, and the stores, in their order.
+#[derive(Drop)]
+pub struct Hosted<S> {
+    pub stores: Vec<S>,
+    pub result: Result<Journal, HostsStopped>,
+}
+
+// What a fault of the driver means, where so many hosts are before the first server.
+fn stopped_by(hosts: usize, fault: DriveFault) -> HostsStopped
+    requires { (k : ℕ) → fault ≡ StoreFailed k → (hosts ≤ k) × (k - hosts < SERVERS_MAX) }
+    ensures { result ≡ stopped_by hosts fault }
+{
+    match fault {
+        DriveFault::Store(node) => HostsStopped::Failed(ServerId((node - hosts) as u8 + 1)),
+        DriveFault::Stuck(waiting) => HostsStopped::Stuck(waiting),
+        DriveFault::Memory => HostsStopped::Memory,
+    }
+}
+
+// The epochs of stores, and all nodes, over the stores, which leave their list. Where memory runs out they are in it
+// again.
+fn nodes_over<S: Store + Drop>(
+    alloc: Global,
+    script: &Script,
+    stores: &mut Vec<S>,
+) -> Result<(Items<u64>, Vec<NodeOf<S>>), NoMemory>
+    requires sound { IsSound script.now }
+    requires count { length stores.old.items ≡ length script.now.roster.capacity }
+    requires stores { AreStores S.view script.now.roster (2 ^ 40) 1 stores.old.items }
+    requires stores_room { length stores.old.items ≤ vec_capacity stores.old }
+    ensures epochs { S.tells → IfOk result (λ r. r.0 ≡ epochs_of S.view stores.old.items) }
+    ensures count { IfOk result (λ r. length r.0 ≡ length stores.old.items) }
+    ensures over { IfOk result (λ r. AreOver r.1.items (length script.now.roster.hosts + 1) stores.old.items) }
+    ensures first { (run : Beginning) → run.script ≡ script.now → IsPlayable script.now
+        → CanAll S.tells S.view run 1 stores.old.items
+        → IfOk result (λ r. AreFirst S.tells S.view run r.1.items) }
+    ensures taken { OnOk result (stores.new.items ≡ []) }
+    ensures room { OnOk result (vec_capacity stores.old ≤ vec_capacity stores.new) }
+    ensures back { OnErr result (stores.new.items ≡ stores.old.items) }
+{
+    let epochs = epochs_of(alloc, stores.as_slice())?;
+    let nodes = hosts_for(alloc, script)?;
+    match with_servers(script, stores, nodes) {
+        Ok(nodes) => Ok((epochs, nodes)),
+        Err(NoMemory) => Err(NoMemory),
+    }
+}
+
+// The nodes are driven, and their stores taken back into a list that has room for them.
+fn drive_all<S: Store + Drop + Send, R: Threads + Wait + Sync>(
+    rt: &R,
+    alloc: Global,
+    script: &Script,
+    start: Tree,
+    epochs: Items<u64>,
+    nodes: Vec<NodeOf<S>>,
+    room: Vec<S>,
+    workers: u32,
+) -> Hosted<S>
+    requires sound { IsSound script.now }
+    requires valid { IsValid start }
+    requires roster { start.roster ≡ script.now.roster }
+    requires epochs { length epochs ≡ length script.now.roster.capacity }
+    requires over { (stores : List S) × (AreOver nodes.items (length script.now.roster.hosts + 1) stores
+        × (AreStores S.view script.now.roster (2 ^ 40) 1 stores
+        × (length stores ≡ length script.now.roster.capacity))) }
+    requires first { AreFirst S.tells S.view (beginning script.now start epochs) nodes.items }
+    requires none { room.items ≡ [] }
+    requires room { length script.now.roster.capacity ≤ vec_capacity room }
+    ensures same { (stores : List S) → AreOver nodes.items (length script.now.roster.hosts + 1) stores
+        → AreStores S.view script.now.roster (2 ^ 40) 1 stores → AreSame S.view stores result.stores.items }
+    ensures hosted { (stores : List S) → AreOver nodes.items (length script.now.roster.hosts + 1) stores
+        → AreStores S.view script.now.roster (2 ^ 40) 1 stores → (S.tells → epochs ≡ epochs_of S.view stores)
+        → IfOk result.result (HasHosted S.tells S.view script.now start stores result.stores.items) }
+    ensures stopped { (stores : List S) → AreOver nodes.items (length script.now.roster.hosts + 1) stores
+        → IfErr result.result (IsStopped S.tells S.view script.now start stores result.stores.items) }
+{
+    let hosts = script.roster.hosts.len() + 1;
+    let driven = drive(rt, alloc, script, start, epochs, nodes, workers);
+    let result = driven.result;
+    let mut stores = room;
+    take_stores(driven.nodes, &mut stores);
+    match result {
+        Ok(journal) => Hosted {
+            stores,
+            result: Ok(journal),
+        },
+        Err(fault) => Hosted {
+            stores,
+            result: Err(stopped_by(hosts, fault)),
+        },
+    }
+}
+
+/// Hosts and servers run a script from a tree, over the stores of the servers, which have begun the run, on so many
+/// workers. The stores come back in their order, whatever comes.
+///
+/// `Failed` comes only where the store of a server failed twice, and `Stuck` only where all hosts and servers have come
+/// to rest: in its newest round each handed in nothing and was given nothing, and none has made anything; one is named,
+/// with its next line. `Memory` may come at any time, as far as clauses say: it is meant where memory runs out. It may
+/// wait for what never comes about.
+pub fn run_hosts<S: Store + Drop + Send, R: Threads + Wait + Sync>(
+    rt: &R,
+    alloc: Global,
+    script: &Script,
+    start: Tree,
+    stores: Vec<S>,
+    workers: u32,
+) -> Hosted<S>
+    requires sound { IsSound script.now }
+    requires sayable { AreSayable script.now }
+    requires start { IsStart script.now.roster start }
+    requires homes { may_host script.now start ≡ true }
+    requires count { length stores.items ≡ length script.now.roster.capacity }
+    requires stores { AreStores S.view script.now.roster (2 ^ 40) 1 stores.items }
+    requires kept { S.tells → KeepAll (λ host. 1) start (states_of S.view stores.items) }
+    requires begun { S.tells → HaveBegun (states_of S.view stores.items) }
+    ensures same { AreSame S.view stores.items result.stores.items }
+    ensures hosted { IfOk result.result
+        (HasHosted S.tells S.view script.now start stores.items result.stores.items) }
+    ensures stopped { IfErr result.result
+        (IsStopped S.tells S.view script.now start stores.items result.stores.items) }
+{
+    let mut stores = stores;
+    match nodes_over(alloc, script, &mut stores) {
+        Ok((epochs, nodes)) => drive_all(rt, alloc, script, start, epochs, nodes, stores, workers),
+        Err(NoMemory) => {
+            drop(start);
+            Hosted {
+                stores,
+                result: Err(HostsStopped::Memory),
+            }
+        }
+    }
+}
