@@ -4,7 +4,10 @@ pub mod Ran
 pub mod Checked
 pub mod Lists
 pub mod Gone
+pub mod Worked
 pub mod Same
+pub mod Waits
+pub mod Hosts
 pub mod Opened
 pub mod RunsOver
 pub mod Names

@@ -40,3 +40,7 @@ drop_all (x ∷ xs) (suc n) e = drop_all xs n (omega (arith, e))
 -- what a slice leaves in the list that it was borrowed from
 pub written_back : {X : Type 0} (n : ℕ) (olds news : List X) → length news ≡ length olds → n ≡ length olds → take n (news ++ drop (length news) olds) ≡ news
 written_back n olds news count e = ap (λ l. take n (news ++ l)) (drop_all olds (length news) count) ∙ ap (λ l. take n l) (append-nil news) ∙ take_all news n (omega (arith, count, e))
+
+-- or of what was lent
+pub lent_back : {X : Type 0} (n : ℕ) (olds lent news : List X) → lent ≡ olds → n ≡ length olds → length news ≡ length lent → take n (news ++ drop (length news) olds) ≡ news
+lent_back n olds lent news is e count = written_back n olds news (count ∙ ap length is) e

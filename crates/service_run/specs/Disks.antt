@@ -2,6 +2,7 @@
 use Rattle.std.specs.Prelude.{
   ◌≡◌,
   ◌≤◌,
+  ◌<◌,
   ◌⊎◌,
   ℕ,
   ◌+◌,
@@ -36,29 +37,37 @@ use Rattle.disk_records.specs.Record.{record_in}
 use Rattle.service_moves.specs.Doing.{Step, acts_at}
 use Rattle.service_moves.specs.Plans.{behind}
 use Rattle.service_plain.specs.Played.{IsPlayed}
-use Rattle.service_plain.specs.declared.played.Played.{Played}
+use Rattle.service_plain.specs.declared.played.Played.{Played as WasPlayed}
 use Rattle.service_starts.specs.Fitting.{misfit}
 use Rattle.service_starts.specs.Told.{Placed}
+use Rattle.message_types.specs.Soundness.{Each}
 use Rattle.service_starts.specs.declared.told.Told.{Told}
 use Rattle.script_lines.specs.declared.script.Script.{Script}
 use Rattle.service_disks.specs.Opening.{new_store, store_on}
 use Rattle.service_disks.specs.Stores.{server_of, IsFirstRefused, AreBack as AreUnopened}
 use Rattle.service_stores.specs.Plans.{AreBeginning, AreOfHistory}
 use Rattle.service_stores.specs.Starting.{told_of, start_from}
+use Rattle.service_watch.specs.Gone.{IsLeftOf}
 use Rattle.store_acts.specs.Acts.{state_after}
 use Rattle.store_acts.specs.declared.act.Act.{Act}
+use Rattle.store_acts.specs.Sound.{IsAct}
 use Rattle.store_memory.specs.Views.{IsFirstOf}
 use Rattle.store_state.specs.declared.state.StoreState.{StoreState}
 use Rattle.store_laws.specs.TreeKeeping.{KeepsOf}
 use Rattle.script_commands.specs.declared.command.Play.{Play}
 use Rattle.service_run.specs.Checks.{IsDiskRefused}
-use Rattle.service_run.specs.Lines.{no_aggregate_line}
+use Rattle.service_hosts.specs.Runs.{nodes_of}
+use Rattle.service_hosts.specs.Homes.{may_host}
+use Rattle.service_run.specs.Lines.{no_aggregate_line, stuck_line}
+use Rattle.service_run.specs.Courses.{IsTold, last_in, start_in, history_in}
 use Rattle.service_run.specs.Outcomes.{has_run, has_reached}
 use Rattle.service_run.specs.Output.{Wrote}
 use Rattle.service_run.specs.Scripts.{IsRead}
 use Rattle.service_run.specs.World.{Shown, World}
 use Rattle.service_run.specs.declared.outcome.Outcome.{Outcome}
-use Rattle.service_run.specs.declared.outcome.Status.TheVariants.{NoDisk, NoAggregate}
+use Rattle.service_run.specs.declared.outcome.Course.{Course}
+use Rattle.service_run.specs.declared.outcome.Course.TheVariants.{Hosted, Played}
+use Rattle.service_run.specs.declared.outcome.Status.TheVariants.{NoDisk, NoAggregate, Stuck}
 
 -- What the store of the server of a number keeps: the one on its disk, a new one where that is blank; a new one in
 -- memory, where it has no disk. Nothing where the disk has no record of it.
@@ -118,15 +127,15 @@ AreStill roster olds news = (k : ℕ) (old new : List ℕ) → slice_get olds k 
 -- part of its history
 pub record IsKeptHistory (script : Script) (all : List Told) (states : ℕ → Option StoreState) (steps : List Step) :
     Type 0 where
-  pub played : Played
+  pub played : WasPlayed
   pub start : played.start ≡ start_from script.roster all
   pub goes : IsPlayed script played
   pub count : ℕ
   pub keeps : AreOfHistory played.start (take count played.history) states steps
 
 -- The steps of a run over stores that keep this and tell that, in the order in which they are done: first what an
--- earlier run left of moves is settled and finished, and each server begins the run; and then, where the script ran,
--- the acts of its history, one that may happen from the tree that was told.
+-- earlier run left of moves is settled and finished, and each server begins the run; and then, where the script ran on
+-- the tree alone, the steps of its history, one that may happen from the tree that was told.
 pub record ArePlanned (script : Script) (all : List Told) (states : ℕ → Option StoreState) (steps : List Step) :
     Type 0 where
   pub begins : List Step
@@ -136,13 +145,21 @@ pub record ArePlanned (script : Script) (all : List Told) (states : ℕ → Opti
   pub keeping : (keeps ≡ []) ⊎ IsKeptHistory script all (behind states begins) keeps
 
 -- What a crash at any moment of a run may leave on a server's disk that held these bytes: on a blank one no log,
--- refused at place 0; on another one the record that it had, or none as it; or, of what are bytes, the record that the
--- first of its server's acts made of the one that it had, or of a new one where it was blank.
-abbrev pub IsLeftBySteps : Roster → ServerId → List Act → List ℕ → List ℕ → Type 0
-IsLeftBySteps roster server acts old c =
+-- refused at place 0; on another one the record that it had, or none as it; or, of what are bytes, a record of which P
+-- says how it came of the one that it had, or of a new one where it was blank.
+abbrev pub IsLeftBy : Roster → ServerId → (StoreState → Option StoreState → Type 0) → List ℕ → List ℕ → Type 0
+IsLeftBy roster server P old c =
     ((is_blank old ≡ true) × HasNoLog 0 c) ⊎ ((is_blank old ≡ false) × HasSameRecord roster server old c)
     ⊎ (AreBytes c → (from : StoreState) × (store_on roster server old ≡ Some from)
-    × IsFirstOf from acts (record_in roster server c))
+    × P from (record_in roster server c))
+
+-- the first of its server's acts made it
+abbrev pub IsLeftBySteps : Roster → ServerId → List Act → List ℕ → List ℕ → Type 0
+IsLeftBySteps roster server acts = IsLeftBy roster server (λ from found. IsFirstOf from acts found)
+
+-- so they did, and perhaps some of one batch more, of which nobody heard
+abbrev pub IsLeftByHosts : Roster → ServerId → List Act → List ℕ → List ℕ → Type 0
+IsLeftByHosts roster server acts = IsLeftBy roster server (λ from found. IsLeftOf from acts found)
 
 -- A server's disk has the record that some acts made of the one that it had, or of a new one where it was blank.
 pub record HasDone (roster : Roster) (server : ServerId) (acts : List Act) (old new : List ℕ) : Type 0 where
@@ -162,14 +179,37 @@ pub record GoBySteps {D : Type 0} (view : D → View) (script : Script) (outcome
   pub planned : ArePlanned script all (found_at script.roster (images view olds)) steps
   pub cut : ℕ
   pub within : cut ≤ length steps
-  pub whole : has_run outcome.status ≡ true
-      → (cut ≡ length steps) × AreOfHistory outcome.played.start outcome.played.history
+  pub whole : has_run outcome.status ≡ true → cut ≡ length steps
+  pub history : (played : WasPlayed) → has_run outcome.status ≡ true → outcome.course ≡ Played played
+      → AreOfHistory played.start played.history
       (behind (found_at script.roster (images view olds)) planned.begins) planned.keeps
   pub kept : (k : ℕ) (old new : D) → slice_get olds k ≡ Some old → slice_get news k ≡ Some new
       → HasDone script.roster (server_of (k + 1)) (acts_at k (take cut steps)) (view old).image (view new).image
   pub leaves : (k : ℕ) (old new : D) → slice_get olds k ≡ Some old → slice_get news k ≡ Some new
       → LeavesOnly (IsLeftBySteps script.roster (server_of (k + 1)) (acts_at k (take (cut + BATCH_ACTS_MAX) steps))
       (view old).image) (view old) (view new)
+
+-- What became of a server's disk in a run by hosts and servers: it has the record that the acts with which the server
+-- began the run, and some more that it may do, made of the one that it had. A crash at any moment leaves of it the
+-- record that the first of these made, and perhaps some of one batch more; or what is said above.
+pub record HasServed (roster : Roster) (server : ServerId) (begins : List Act) (old new : View) : Type 0 where
+  pub acts : List Act
+  pub each : Each (IsAct roster server) acts
+  pub done : HasDone roster server (begins ++ acts) old.image new.image
+  pub leaves : LeavesOnly (IsLeftByHosts roster server (begins ++ acts) old.image) old new
+
+-- What became of disks over which hosts and servers ran a script, or began to: they can from the tree that the disks
+-- held. What an earlier run left of moves was settled and finished, each server began the run, and then it did some
+-- acts of its own (there are such acts, which ∥ ∥₁ says); what they come to is told where the run went to its end, by
+-- the tree that the disks keep then.
+pub record GoByHosts {D : Type 0} (view : D → View) (script : Script) (olds news : List D) : Type 0 where
+  pub start : Tree
+  pub starts : IsStartOf script.roster (images view olds) start
+  pub may : may_host script start ≡ true
+  pub begins : List Step
+  pub beginning : AreBeginning (found_at script.roster (images view olds)) begins
+  pub each : (k : ℕ) (old new : D) → slice_get olds k ≡ Some old → slice_get news k ≡ Some new
+      → ∥ HasServed script.roster (server_of (k + 1)) (acts_at k begins) (view old) (view new) ∥₁
 
 -- there are as many disks as before, and the count of faults of none fell
 pub record AreBack {D : Type 0} (view : D → View) (old new : List D) : Type 0 where
@@ -196,21 +236,38 @@ pub record IsAggregateRefused {D writes : Type 0} (tells : Type 0) (view : D →
       ⊎ (tells → IsUnfit roster (images view old) number place × AreStill roster (images view old) (images view new))
   pub wrote : writes → Wrote (no_aggregate_line number place) before after
 
+-- a server begins a run by hosts and servers in the epoch that its store then has, one more than it had
+abbrev pub BeginsIn : Roster → List (List ℕ) → Course → Type 0
+BeginsIn roster images (Hosted journal) = (k epoch : ℕ) (state : StoreState)
+    → slice_get journal.epochs k ≡ Some epoch → found_at roster images k ≡ Some state → epoch ≡ state.epoch + 1
+BeginsIn roster images _ = Unit {0}
+
+-- Hosts and servers came to no end: a node is named, with the last of its lines that went.
+pub record IsStuckTold {writes : Type 0} (script : Script) (before after : Shown writes) : Type 0 where
+  pub place : ℕ
+  pub next : Option ℕ
+  pub within : place < length (nodes_of script)
+  pub wrote : writes → Wrote (stuck_line script place next) before after
+
 -- What became of disks that are handed back, the same ones in their order, where a script was to run over them; of
 -- what they hold, where they tell it. A script that ran did so from the tree that they held, and they hold what it
 -- left, also where a crash comes right after. Where one failed it did so twice, the second time at its last call;
--- and one that is no aggregate is the first. However it ended, they went by the steps of the run; or nothing ran, since
--- not all could be opened, and each that wasn't blank has the record that it had.
+-- and one that is no aggregate is the first. However it ended, they went by the steps of the run, or hosts and servers
+-- had begun to run it; or nothing ran, since not all could be opened, and each that wasn't blank has the record that it
+-- had.
 pub record RanOver {D writes : Type 0} (tells : Type 0) (view : D → View) (script : Script) (outcome : Outcome)
     (old new : List D) (before after : Shown writes) : Type 0 where
   pub back : AreBack view old new
-  pub start : tells → has_run outcome.status ≡ true
-      → IsStartOf outcome.lines.roster (images view old) outcome.played.start
-  pub kept : tells → has_run outcome.status ≡ true → AreKept outcome.played.last (images view new)
-  pub durable : tells → has_run outcome.status ≡ true → AreDurable view outcome.played.last new
+  pub start : IsTold tells old → has_run outcome.status ≡ true
+      → IsStartOf outcome.lines.roster (images view old) (start_in outcome.course)
+  pub epochs : IsTold tells old → has_run outcome.status ≡ true
+      → BeginsIn outcome.lines.roster (images view old) outcome.course
+  pub kept : tells → has_run outcome.status ≡ true → AreKept (last_in outcome.course) (images view new)
+  pub durable : tells → has_run outcome.status ≡ true → AreDurable view (last_in outcome.course) new
   pub failed : outcome.status ≡ NoDisk → IsDiskRefused view old new before after
   pub refused : outcome.status ≡ NoAggregate → IsAggregateRefused tells view script.roster old new before after
-  pub goes : (tells → GoBySteps view script outcome old new)
+  pub stuck : outcome.status ≡ Stuck → IsStuckTold script before after
+  pub goes : (tells → GoBySteps view script outcome old new ⊎ GoByHosts view script old new)
       ⊎ ((has_run outcome.status ≡ false) × AreUnopened tells view script.roster 1 old new)
 
 -- the script that was read, or generated, was to run over the disks

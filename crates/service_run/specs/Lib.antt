@@ -1,4 +1,5 @@
 pub mod World
+pub mod Courses
 pub mod Lines
 pub mod Scripts
 pub mod Engine

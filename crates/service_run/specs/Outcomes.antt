@@ -1,10 +1,9 @@
 -- What an outcome of the top call says.
 use Rattle.std.specs.Prelude.{◌≡◌, ◌⊎◌, ℕ, Bool, true, false, not, List, [], Option, Some, None, Ok, Err}
 use Rattle.base_types.specs.Faults.{RoseBy}
-use Rattle.tree_calls.specs.declared.roster.Roster.{Roster}
-use Rattle.tree_answers.specs.declared.tree.Tree.{Tree}
-use Rattle.service_plain.specs.Played.{IsPlayed}
-use Rattle.service_plain.specs.declared.played.Played.{Played}
+use Rattle.service_run.specs.Courses.{HasRunSo, no_roster}
+use Rattle.service_run.specs.declared.outcome.Course.{Course}
+use Rattle.service_run.specs.declared.outcome.Course.TheVariants.{Empty}
 use Rattle.script_lines.specs.declared.script.Script.{Script}
 use Rattle.script_reader.specs.declared.refused.ScriptRefused.{ScriptRefused}
 use Rattle.script_commands.specs.declared.command.Command.{Command}
@@ -21,6 +20,7 @@ use Rattle.service_run.specs.declared.outcome.Status.TheVariants.{
   NoAggregate,
   NoMemory,
   HasFaults,
+  Stuck,
 }
 use Rattle.service_run.specs.declared.outcome.Outcome.{Outcome}
 use Rattle.service_run.specs.Lines.{input_line, refusal_line}
@@ -38,6 +38,7 @@ code_of NoDisk = 5
 code_of NoAggregate = 6
 code_of NoMemory = 7
 code_of HasFaults = 8
+code_of Stuck = 9
 
 -- whether a script ran
 abbrev pub has_run : Status → Bool
@@ -50,12 +51,14 @@ abbrev pub is_end_of_run : Status → Bool
 is_end_of_run NoMemory = true
 is_end_of_run NoDisk = true
 is_end_of_run NoAggregate = true
+is_end_of_run Stuck = true
 is_end_of_run status = has_run status
 
 -- whether it ends so only once it has reached the disks
 abbrev pub has_reached : Status → Bool
 has_reached NoDisk = true
 has_reached NoAggregate = true
+has_reached Stuck = true
 has_reached status = has_run status
 
 -- whether a check of disks can end so where none of them fails
@@ -86,31 +89,32 @@ may_end (Some command) NoCommand = false
 may_end (Some (Plays play)) status = not (is_of_check status)
 may_end (Some (Check workers)) status = is_end_of_check status
 
--- the script, the tree and the play of an outcome without a run
-abbrev pub no_roster : Roster
-no_roster = record { users = []; hosts = []; capacity = [] }
-
+-- the script of an outcome without a run
 abbrev pub no_script : Script
 no_script = record { servers = 0; roster = no_roster; setup = []; plan = []; net = None; lines = [] }
 
-abbrev pub no_tree : Tree
-no_tree = record { roster = no_roster; servers = []; filesets = []; away = []; locks = []; opens = [] }
-
-abbrev pub no_play : Played
-no_play = record { start = no_tree; history = []; last = no_tree; order = [] }
-
 -- nothing ran
 pub record IsEmpty (outcome : Outcome) : Type 0 where
-  pub played : outcome.played ≡ no_play
+  pub course : outcome.course ≡ Empty
   pub lines : outcome.lines ≡ no_script
 
--- a script ran, and the sink got the output, or a part of it; or a disk is no aggregate, or failed; or memory ran out
-pub record RanSo {told : Type 0}
+-- a script ran, and the sink got the output, or a part of it; or a disk is no aggregate, or failed; or a run came to no
+-- end; or memory ran out
+pub record RanSo {told : Type 0} (tells : Type 0)
     (play : Play) (script : Script) (outcome : Outcome) (before after : Shown told) : Type 0 where
   pub ends : is_end_of_run outcome.status ≡ true
   pub lines : has_run outcome.status ≡ true → outcome.lines ≡ script
-  pub played : has_run outcome.status ≡ true → IsPlayed outcome.lines outcome.played
-  pub printed : HasPrinted (output_of play outcome.lines outcome.played) outcome.status before after
+  pub went : has_run outcome.status ≡ true → HasRunSo tells outcome.lines outcome.course
+  pub printed : HasPrinted (output_of play outcome.lines outcome.course) outcome.status before after
+  pub empty : has_run outcome.status ≡ false → IsEmpty outcome
+
+-- of a script that ran so the sink got the output, or a part of it; or memory ran out
+pub record IsToldSo {told : Type 0} (play : Play) (script : Script) (course : Course) (outcome : Outcome)
+    (before after : Shown told) : Type 0 where
+  pub ends : (has_run outcome.status ≡ true) ⊎ (outcome.status ≡ NoMemory)
+  pub own : has_run outcome.status ≡ true → outcome.course ≡ course
+  pub lines : has_run outcome.status ≡ true → outcome.lines ≡ script
+  pub printed : HasPrinted (output_of play outcome.lines outcome.course) outcome.status before after
   pub empty : has_run outcome.status ≡ false → IsEmpty outcome
 
 -- nothing ran, and a line says why; or memory ran out
@@ -128,14 +132,15 @@ pub record IsRefused {reads writes : Type 0} (play : Play) (before after : World
   pub wrote : writes → Wrote (refusal_line why) before.sink after.sink
 
 -- what an outcome says of a script that is to run
-pub record EndsSo {reads writes : Type 0}
+pub record EndsSo {reads writes : Type 0} (tells : Type 0)
     (play : Play) (outcome : Outcome) (before after : World reads writes) : Type 0 where
   pub words : may_end (Some (Plays play)) outcome.status ≡ true
-  -- a script that ran is the one that was asked for, and went as scripts go; `NoScript` has a cause in what was read
+  -- a script that ran is the one that was asked for, and went as scripts go, by hosts and servers or on the tree alone;
+  -- `NoScript` has a cause in what was read
   pub read : has_run outcome.status ≡ true → IsRead before.source play (Ok outcome.lines)
-  pub played : has_run outcome.status ≡ true → IsPlayed outcome.lines outcome.played
+  pub went : has_run outcome.status ≡ true → HasRunSo tells outcome.lines outcome.course
   pub refused : outcome.status ≡ NoScript → IsRefused play before after
   -- the sink got the output, or a part of it; or the line of a refusal; or nothing
-  pub printed : HasPrinted (output_of play outcome.lines outcome.played) outcome.status before.sink after.sink
+  pub printed : HasPrinted (output_of play outcome.lines outcome.course) outcome.status before.sink after.sink
   pub input : writes → outcome.status ≡ NoInput → Wrote input_line before.sink after.sink
   pub failed : outcome.status ≡ NoInput → RoseBy 1 before.source.faults after.source.faults

@@ -7,9 +7,10 @@ use Rattle.script_output.specs.Printed.{printed}
 use Rattle.script_output.specs.Summary.{printed_json}
 use Rattle.script_commands.specs.declared.command.Play.{Play}
 use Rattle.script_commands.specs.declared.command.Play.TheVariants.{Run, Gen}
-use Rattle.service_plain.specs.declared.played.Played.{Played}
 use Rattle.service_run.specs.declared.outcome.Status.{Status}
 use Rattle.service_run.specs.declared.outcome.Status.TheVariants.{Done, NoOutput, NoMemory}
+use Rattle.service_run.specs.Courses.{history_in, start_in}
+use Rattle.service_run.specs.declared.outcome.Course.{Course}
 use Rattle.service_run.specs.World.{Shown}
 
 -- whether a command writes JSON
@@ -18,10 +19,10 @@ is_json (Run json workers disks) = json
 is_json (Gen seed hosts calls workers) = true
 
 -- the output of a run
-abbrev pub output_of : Play → Script → Played → List ℕ
-output_of play script played =
-    if is_json play then printed_json script played.start played.history
-    else printed script played.start played.history
+abbrev pub output_of : Play → Script → Course → List ℕ
+output_of play script course =
+    if is_json play then printed_json script (start_in course) (history_in course)
+    else printed script (start_in course) (history_in course)
 
 -- a line was written: the whole of it, or, where the sink failed, a part of it, from its front
 abbrev pub Wrote : {told : Type 0} → List ℕ → Shown told → Shown told → Type 0

@@ -1,17 +1,33 @@
 -- The steps in which a script runs over the stores of its servers.
-use Rattle.std.specs.Prelude.{◌≡◌, ⊤, ℕ, List, [], ◌∷◌, None, Result, IfOk, IfErr}
+use Rattle.std.specs.Prelude.{◌≡◌, ◌<◌, ◌⊎◌, ⊤, ℕ, ◌+◌, List, [], ◌∷◌, ◌++◌, true, None, Option, length, map}
+use Rattle.std.specs.Prelude.{Result, Some, slice_get, Ok, Err, IfOk, IfErr, OnOk}
 use Rattle.base_types.specs.View.{View as DiskView}
-use Rattle.store_memory.specs.Views.{View}
+use Rattle.message_types.specs.Soundness.{Each}
+use Rattle.store_acts.specs.Acts.{state_after}
+use Rattle.store_acts.specs.Sound.{IsAct}
+use Rattle.store_acts.specs.declared.act.Act.{Act}
+use Rattle.store_memory.specs.Views.{View, Leaves}
 use Rattle.disk_aggregate.specs.declared.refused.MountRefused.TheVariants as mount
 use Rattle.disk_aggregate.specs.declared.refused.MountRefused.TheVariants.{NotAggregate}
 use Rattle.disk_image.specs.Aggregate.{header_number}
 use Rattle.disk_layout.specs.Places.{page_start}
 use Rattle.disk_report.specs.Text.{failed_line}
 use Rattle.service_starts.specs.Fitting.{misfit}
-use Rattle.store_laws.specs.Shape.{number_after}
-use Rattle.store_laws.specs.MoveKeeping.{KeepAll}
+use Rattle.service_hosts.specs.Runs.{nodes_of}
+use Rattle.tree_answers.specs.declared.tree.Tree.{Tree}
+use Rattle.run_rules.specs.declared.journal.Journal.{Journal}
+use Rattle.service_hosts.specs.Homes.{may_host}
+use Rattle.service_hosts.specs.declared.running.HostsStopped.{HostsStopped}
+use Rattle.service_hosts.specs.declared.running.HostsStopped.TheVariants as hosts
 use Rattle.service_plain.specs.Played.{IsPlayed}
-use Rattle.service_plain.specs.declared.played.Played.{Played}
+use Rattle.service_plain.specs.declared.played.Played.{Played as WasPlayed}
+use Rattle.store_state.specs.declared.state.StoreState.{StoreState}
+use Rattle.service_starts.specs.declared.told.Told.{Told}
+use Rattle.service_run.specs.Courses.{HasRunSo, KeepTree, last_in, start_in}
+use Rattle.service_run.specs.declared.disks.Stopped.{Stopped}
+use Rattle.service_run.specs.declared.disks.Stopped.TheVariants.{Run, Stuck}
+use Rattle.service_run.specs.declared.outcome.Course.{Course}
+use Rattle.service_run.specs.declared.outcome.Course.TheVariants.{Hosted, Played}
 use Rattle.script_lines.specs.declared.script.Script.{Script}
 use Rattle.service_disks.specs.Stores.{disks_of}
 use Rattle.service_disks.specs.View.{store_view}
@@ -19,15 +35,16 @@ use Rattle.service_disks.specs.declared.disks.StoresRefused.{StoresRefused}
 use Rattle.service_disks.specs.declared.disks.StoresRefused.TheVariants as opening
 use Rattle.service_disks.specs.declared.stores.ServerStore.{ServerStore}
 use Rattle.service_disks.specs.declared.stores.ServerStore.TheVariants.{Disk, Memory}
-use Rattle.service_moves.specs.Doing.{Step, DoSteps}
+use Rattle.service_moves.specs.Doing.{Step, DoSteps, acts_at}
 use Rattle.service_moves.specs.Plans.{behind, states_at}
 use Rattle.service_moves.specs.Stopping.{IsStopped}
 use Rattle.service_moves.specs.Stores.{AreSame, states_of}
 use Rattle.service_moves.specs.declared.stopped.RunStopped.{RunStopped}
 use Rattle.service_moves.specs.declared.stopped.RunStopped.TheVariants as running
-use Rattle.service_stores.specs.Plans.{AreOfHistory}
+use Rattle.service_stores.specs.Plans.{AreBeginning, AreOfHistory, KeepsHistory}
 use Rattle.service_stores.specs.Starting.{told_by, start_from}
 use Rattle.service_stores.specs.Steps.{MayBeAsked}
+use Rattle.service_watch.specs.Gone.{HaveGone as HaveWorked, IsLeftOf}
 use Rattle.service_run.specs.Disks.{ArePlanned}
 use Rattle.service_run.specs.Lines.{no_aggregate_line}
 use Rattle.service_run.specs.Outcomes.{IsEmpty, RefusedSo}
@@ -35,33 +52,118 @@ use Rattle.service_run.specs.World.{Shown}
 use Rattle.service_run.specs.declared.outcome.Outcome.{Outcome}
 use Rattle.service_run.specs.declared.outcome.Status.TheVariants.{NoDisk, NoAggregate, NoMemory}
 
--- A script ran from the tree that stores kept, of which so many in front are on disks, and they keep what came of it,
--- and may be asked.
-pub record HasRunOver {S : Type 0} (tells : Type 0) (view : S → View) (script : Script) (disks : ℕ) (old new : List S)
-    (run : Played) : Type 0 where
-  pub played : IsPlayed script run
-  pub fit : tells → misfit (told_by view disks old) ≡ None
-  pub start : tells → run.start ≡ start_from script.roster (told_by view disks old)
-  pub kept : tells → KeepAll (λ host. number_after host 1 run.history) run.last (states_of view new)
+-- the epochs of a run by hosts and servers are those of the stores of its servers
+abbrev pub RunsIn : List ℕ → Course → Type 0
+RunsIn epochs (Hosted journal) = journal.epochs ≡ epochs
+RunsIn epochs _ = Unit {0}
+
+-- A script ran from a tree over stores that have begun the run, in their epochs; each keeps its server's part of what
+-- came of it, and may be asked.
+pub record HasRunFrom {S : Type 0} (tells : Type 0) (view : S → View) (script : Script) (start : Tree)
+    (old new : List S) (run : Course) : Type 0 where
+  pub went : HasRunSo tells script run
+  pub start_is : start_in run ≡ start
+  pub epochs : tells → RunsIn (map (λ state. state.epoch) (states_of view old)) run
+  pub kept : tells → KeepTree (last_in run) (states_of view new)
   pub ready : MayBeAsked view new
 
--- Stores did the first steps of a run of the script, up to one and the same for all: where it ran, all steps, and they
--- are those of its history.
-pub record HaveGone {S : Type 0} (view : S → View) (script : Script) (disks : ℕ) (result : Result Played RunStopped)
+-- Stores kept the history of a script that ran on the tree alone from this tree, or the first part of it; where it ran,
+-- all of it.
+pub record KeepsPlayed {S : Type 0} (view : S → View) (script : Script) (start : Tree) (result : Result Course Stopped)
+    (old new : List S) : Type 0 where
+  pub played : WasPlayed
+  pub starts : played.start ≡ start
+  pub goes : IsPlayed script played
+  pub keeps : KeepsHistory view result played.start played.history old new
+  pub ran : IfOk result (λ run. run ≡ Played played)
+
+-- or it didn't run, and they did nothing
+abbrev pub HaveKept : {S : Type 0} → (S → View) → Script → Tree → Result Course Stopped → List S → List S → Type 0
+HaveKept view script start result old new =
+    (OnOk result ⊥ × DoSteps view result [] old new) ⊎ KeepsPlayed view script start result old new
+
+-- how a script ran that hosts and servers ran, or why it didn't
+abbrev pub course_of : Result Journal HostsStopped → Result Course Stopped
+course_of (Ok journal) = Ok (Hosted journal)
+course_of (Err (hosts.Failed server)) = Err (Run (running.Failed server))
+course_of (Err (hosts.Stuck waiting)) = Err (Stuck waiting.node waiting.line)
+course_of (Err hosts.Memory) = Err (Run running.Memory)
+
+-- why a script didn't run over stores to its end
+abbrev pub IsStoppedSo : {S : Type 0} → Type 0 → (S → View) → Script → List Told → List S → List S → Stopped → Type 0
+IsStoppedSo tells view script all old new (Run stopped) = IsStopped tells view all old new stopped
+IsStoppedSo tells view script all old new (Stuck place next) = place < length (nodes_of script)
+
+-- hosts and servers can run the script from this tree, and the stores did acts since they were seen so
+abbrev pub HaveHosted : {S : Type 0} → (ℕ → View) → (S → View) → Script → Tree → List S → Type 0
+HaveHosted from view script start stores = (may_host script start ≡ true) × HaveWorked from view stores
+
+-- A script ran from a tree over stores that have begun the run, or why it didn't; each is still that of its server.
+-- Either it ran on the tree alone, or this holds of the stores.
+pub record IsRunFrom {S : Type 0} (tells : Type 0) (view : S → View) (hosted : List S → Type 0) (script : Script)
+    (start : Tree) (result : Result Course Stopped) (old new : List S) : Type 0 where
+  pub same : AreSame view old new
+  pub ran : IfOk result (HasRunFrom tells view script start old new)
+  pub stopped : IfErr result (IsStoppedSo tells view script [] old new)
+  pub goes : tells → hosted new ⊎ HaveKept view script start result old new
+
+-- the stores are closed then: these are the disks
+pub record IsClosedFrom {S D : Type 0} (tells : Type 0) (view : S → View) (hosted : List S → Type 0)
+    (disks_in : List S → List D) (script : Script) (start : Tree) (result : Result Course Stopped) (stores : List S)
+    (empty disks : List D) : Type 0 where
+  pub left : List S
+  pub closed : disks ≡ disks_in left ++ empty
+  pub over : IsRunFrom tells view hosted script start result stores left
+
+-- A script ran from the tree that stores kept, of which so many in front are on disks: each began one run more, keeps
+-- its server's part of what came of it, and may be asked.
+pub record HasRunOver {S : Type 0} (tells : Type 0) (view : S → View) (script : Script) (disks : ℕ) (old new : List S)
+    (run : Course) : Type 0 where
+  pub went : HasRunSo tells script run
+  pub fit : tells → misfit (told_by view disks old) ≡ None
+  pub start : tells → start_in run ≡ start_from script.roster (told_by view disks old)
+  pub epochs : tells → RunsIn (map (λ state. state.epoch + 1) (states_of view old)) run
+  pub kept : tells → KeepTree (last_in run) (states_of view new)
+  pub ready : MayBeAsked view new
+
+-- the stores keep what was played
+abbrev pub IsKeptBy : (ℕ → Option StoreState) → List Step → Course → Type 0
+IsKeptBy states keeps (Played run) = AreOfHistory run.start run.history states keeps
+IsKeptBy states keeps _ = Unit {0}
+
+-- Stores did the first steps of a run of the script on the tree alone, up to one and the same for all: where it ran,
+-- all steps, and they are those of its history.
+pub record HaveGone {S : Type 0} (view : S → View) (script : Script) (disks : ℕ) (result : Result Course Stopped)
     (old new : List S) : Type 0 where
   pub steps : List Step
   pub planned : ArePlanned script (told_by view disks old) (states_at view old) steps
   pub does : DoSteps view result steps old new
-  pub ran : IfOk result
-      (λ run. AreOfHistory run.start run.history (behind (states_at view old) planned.begins) planned.keeps)
+  pub ran : IfOk result (IsKeptBy (behind (states_at view old) planned.begins) planned.keeps)
+
+-- A store did the acts with which it began a run, and then some more that its server may do. A crash at any moment
+-- leaves what the first of these made, and perhaps some of one batch more.
+pub record HasWorked (begins : List Act) (old new : View) : Type 0 where
+  pub acts : List Act
+  pub each : Each (IsAct old.state.roster old.state.server) acts
+  pub state : new.state ≡ state_after old.state (begins ++ acts)
+  pub leaves : Leaves (IsLeftOf old.state (begins ++ acts)) old new
+
+-- or hosts and servers can run it from the tree that they kept, and they began to
+pub record HaveServed {S : Type 0} (view : S → View) (script : Script) (disks : ℕ) (old new : List S) : Type 0 where
+  pub fit : misfit (told_by view disks old) ≡ None
+  pub may : may_host script (start_from script.roster (told_by view disks old)) ≡ true
+  pub begins : List Step
+  pub beginning : AreBeginning (states_at view old) begins
+  pub each : (k : ℕ) (before after : S) → slice_get old k ≡ Some before → slice_get new k ≡ Some after
+      → ∥ HasWorked (acts_at k begins) (view before) (view after) ∥₁
 
 -- A script ran over stores, or why it didn't; each is still that of its server.
 pub record IsRunOf {S : Type 0} (tells : Type 0) (view : S → View) (script : Script) (disks : ℕ)
-    (result : Result Played RunStopped) (old new : List S) : Type 0 where
+    (result : Result Course Stopped) (old new : List S) : Type 0 where
   pub same : AreSame view old new
   pub ran : IfOk result (HasRunOver tells view script disks old new)
-  pub stopped : IfErr result (IsStopped tells view (told_by view disks old) old new)
-  pub goes : tells → HaveGone view script disks result old new
+  pub stopped : IfErr result (IsStoppedSo tells view script (told_by view disks old) old new)
+  pub goes : tells → HaveGone view script disks result old new ⊎ HaveServed view script disks old new
 
 -- each of these stores is on a disk where the other is
 abbrev pub AreAsPlaced : {D : Type 0} → List (ServerStore D) → List (ServerStore D) → Type 0
@@ -70,13 +172,13 @@ AreAsPlaced (Memory old ∷ olds) (Memory new ∷ news) = AreAsPlaced olds news
 AreAsPlaced [] [] = ⊤
 AreAsPlaced _ _ = ⊥
 
--- A script ran over the stores of servers, which are closed then: these are their disks.
-pub record IsRunOn {D : Type 0} (tells : Type 0) (view : D → DiskView) (script : Script) (count : ℕ)
-    (result : Result Played RunStopped) (stores : List (ServerStore D)) (disks : List D) : Type 0 where
+-- A script ran over the stores of servers, of which so much is told, and which are closed then: these are their disks.
+pub record IsRunOn {D : Type 0} (told tells : Type 0) (view : D → DiskView) (script : Script) (count : ℕ)
+    (result : Result Course Stopped) (stores : List (ServerStore D)) (disks : List D) : Type 0 where
   pub left : List (ServerStore D)
   pub closed : disks ≡ disks_of left
   pub placed : AreAsPlaced stores left
-  pub over : IsRunOf tells (store_view tells view) script count result stores left
+  pub over : IsRunOf told (store_view tells view) script count result stores left
 
 -- memory ran out before anything was written
 pub record IsWithoutMemory {told : Type 0} (outcome : Outcome) (before after : Shown told) : Type 0 where

@@ -1,40 +1,69 @@
 //! The third and the fourth stage: the script runs over the stores of its servers, which are on disks or in memory, and
 //! what came of it is kept there and written.
-ghost use Rattle.std.specs.Prelude.{◌≡◌, ◌≤◌, ◌⊎◌, true, [], None, length, vec_capacity};
+ghost use Rattle.std.specs.Prelude.{◌≡◌, ◌≤◌, ◌+◌, ◌^◌, ⊥, true, false, [], None, length, vec_capacity};
 ghost use Rattle.disk_image.specs.Aggregate.{header_number};
 ghost use Rattle.disk_layout.specs.Places.{page_start};
-ghost use Rattle.service_plain.specs.Played.{IsPlayed};
-ghost use Rattle.service_stores.specs.Laws.{AreSayable};
-ghost use Rattle.store_records.specs.Stored.{IsStorable};
 ghost use Rattle.message_types.specs.Soundness.{Each};
-ghost use Rattle.script_reader.specs.Walk.{stuck_at};
 ghost use Rattle.script_lines.specs.Sound.{IsSound};
-ghost use Rattle.service_disks.specs.Seats.{AreSeated};
+ghost use Rattle.script_reader.specs.Walk.{stuck_at};
+ghost use Rattle.service_disks.specs.Seats.{AreSeated, seat_tells, seat_view, stores_in};
+ghost use Rattle.service_disks.specs.Stores.{disks_of};
 ghost use Rattle.service_disks.specs.View.{store_view};
+ghost use Rattle.service_hosts.specs.Homes.{may_host};
 ghost use Rattle.service_moves.specs.Stores.{AreStores, states_of};
+ghost use Rattle.service_plain.specs.Played.{IsStart};
+ghost use Rattle.service_run.specs.Courses.{IsPrintable, IsTold};
 ghost use Rattle.service_run.specs.Disks.{RanOver};
-ghost use Rattle.service_run.specs.Outcomes.{has_run, RanSo};
-ghost use Rattle.service_run.specs.Steps.{IsRunOf, IsRunOn, IsOpeningRefused, IsRunRefused};
+ghost use Rattle.service_run.specs.Outcomes.{IsToldSo, RanSo};
+ghost use Rattle.service_run.specs.Steps.{HaveHosted, IsClosedFrom, IsRunFrom, IsRunOn, course_of};
+ghost use Rattle.service_run.specs.Steps.{IsOpeningRefused, IsRunRefused};
 ghost use Rattle.service_run.specs.World.{shown};
-ghost use Rattle.service_run.specs.declared.outcome.Status.TheVariants.{NoMemory};
+ghost use Rattle.service_stores.specs.Laws.{AreSayable};
+ghost use Rattle.service_stores.specs.Starting.{HaveBegun};
+ghost use Rattle.service_watch.specs.Gone.{HaveGone as HaveWorked};
+ghost use Rattle.store_laws.specs.MoveKeeping.{KeepAll};
+ghost use Rattle.store_records.specs.Stored.{IsStorable};
 
 use crate::engine::play_script;
-use crate::outcome::{Outcome, Status, without_run};
-use crate::output::{output_of, refuse_aggregate, refuse_disk};
+use crate::outcome::{Course, Outcome, Status, without_run};
+use crate::output::{output_of, refuse_aggregate, refuse_disk, refuse_stuck};
 use base_io::write_all;
-use base_types::{Disk, Sink};
+use base_types::{Disk, NoMemory, Sink};
 use disk_aggregate::MountRefused;
+use run_rules::Journal;
 use script_commands::Play;
 use script_lines::Script;
 use service_disks::{
-    Count, ServerStore, StoresRefused, close_seats, close_stores, open_stores, seat_stores,
+    Count, Seat, ServerStore, StoresRefused, close_seats, close_stores, open_stores, seat_stores,
 };
+use service_hosts::{HostsStopped, may_host, run_hosts};
 use service_moves::RunStopped;
 use service_plain::Played;
 use service_stores::{keep, start_on};
+use service_watch::{Origin, unwatch, watch};
 use std::alloc::Global;
 use std::marker::Brand;
+use std::sync::Wait;
+use std::thread::Threads;
 use store_memory::Store;
+use tree_answers::Tree;
+
+// Why a run over stores stopped.
+#[derive(Clone, Copy)]
+enum Stopped {
+    // A store failed, or doesn't fit, or memory ran out.
+    Run(RunStopped),
+    // Hosts and servers came to no end: a node, by its place, and its next line.
+    Stuck(usize, Option<u32>),
+}
+
+// How many workers run the nodes.
+fn workers_of(play: Play) -> u32 {
+    match play {
+        Play::Run { workers, .. } => workers,
+        Play::Gen { workers, .. } => workers,
+    }
+}
 
 // The place on a disk, in bytes, of the header of a slot.
 fn header_place(slot: u32) -> u64
@@ -75,61 +104,159 @@ fn refuse_run<K: Sink>(alloc: Global, stopped: RunStopped, sink: &mut K) -> Outc
     }
 }
 
-// Runs a script over stores, of which so many in front are on disks, and has them keep what came of it.
+// The script runs on the file tree alone, from a tree on, and stores keep what came of it.
 fn play_over<S: Store>(
     alloc: Global,
     script: &Script,
-    disks: usize,
+    start: Tree,
     stores: &mut [S],
-) -> Result<Played, RunStopped>
+) -> Result<Course, Stopped>
     requires sound { IsSound script.now }
     requires goes { stuck_at script.now.lines ≡ None }
     requires sayable { AreSayable script.now }
+    requires start { IsStart script.now.roster start }
+    requires moves { may_host script.now start ≡ false }
     requires count { length stores.old ≡ length script.now.roster.capacity }
-    requires stores { AreStores S.view script.now.roster 0 1 stores.old }
-    requires storable { S.tells → Each IsStorable (states_of S.view stores.old) }
-    ensures { IsRunOf S.tells S.view script.now disks result stores.old stores.new }
+    requires stores { AreStores S.view script.now.roster (2 ^ 40) 1 stores.old }
+    requires kept { S.tells → KeepAll (λ host. 1) start (states_of S.view stores.old) }
+    ensures { IsRunFrom S.tells S.view (λ stores. ⊥) script.now start result stores.old stores.new }
 {
-    let start = start_on(alloc, stores, disks, &script.roster)?;
-    let played = play_script(alloc, script, start)?;
+    let Ok(played) = play_script(alloc, script, start) else {
+        return Err(Stopped::Run(RunStopped::Memory));
+    };
     match keep(alloc, stores, &played.start, played.history.as_slice()) {
-        Ok(()) => Ok(played),
+        Ok(()) => Ok(Course::Played(played)),
         Err(stopped) => {
             drop(played);
-            Err(stopped)
+            Err(Stopped::Run(stopped))
         }
     }
 }
 
+// How a script ran that hosts and servers ran, or why it didn't.
+fn course_of(hosted: Result<Journal, HostsStopped>) -> Result<Course, Stopped>
+    ensures { result ≡ course_of hosted }
+{
+    match hosted {
+        Ok(journal) => Ok(Course::Hosted(journal)),
+        Err(HostsStopped::Failed(server)) => Err(Stopped::Run(RunStopped::Failed(server))),
+        Err(HostsStopped::Stuck(waiting)) => Err(Stopped::Stuck(waiting.node, waiting.line)),
+        Err(HostsStopped::Memory) => Err(Stopped::Run(RunStopped::Memory)),
+    }
+}
+
+// Hosts and servers run a script from a tree on, over the seats of stores, which are watched meanwhile, and closed then.
+fn host_over<D: Disk + Drop + Send, C: Count + Send, O: Origin + Send, R: Threads + Wait + Sync>(
+    rt: &R,
+    alloc: Global,
+    script: &Script,
+    start: Tree,
+    seats: Vec<Seat<D, C>>,
+    disks: &mut Vec<D>,
+    workers: u32,
+) -> Result<Course, Stopped>
+    requires sound { IsSound script.now }
+    requires sayable { AreSayable script.now }
+    requires start { IsStart script.now.roster start }
+    requires homes { may_host script.now start ≡ true }
+    requires count { length seats.items ≡ length script.now.roster.capacity }
+    requires stores { AreStores (seat_view D.tells D.view) script.now.roster (2 ^ 40) 1 seats.items }
+    requires kept { seat_tells D.tells C.disks
+        → KeepAll (λ host. 1) start (states_of (seat_view D.tells D.view) seats.items) }
+    requires begun { seat_tells D.tells C.disks → HaveBegun (states_of (seat_view D.tells D.view) seats.items) }
+    requires gone { seat_tells D.tells C.disks → HaveWorked O.from (seat_view D.tells D.view) seats.items }
+    requires seats_room { length seats.items ≤ vec_capacity seats }
+    requires room { length disks.old.items + length seats.items ≤ vec_capacity disks.old }
+    ensures { IsClosedFrom (seat_tells D.tells C.disks) (seat_view D.tells D.view)
+        (HaveHosted O.from (seat_view D.tells D.view) script.now start) (λ seats. disks_of (stores_in seats))
+        script.now start result seats.items disks.old.items disks.new.items }
+{
+    let mut seats = seats;
+    match watch::<Seat<D, C>, O>(alloc, &mut seats) {
+        Ok(watched) => {
+            let hosted = run_hosts(rt, alloc, script, start, watched, workers);
+            unwatch(hosted.stores, &mut seats);
+            close_seats(disks, seats);
+            course_of(hosted.result)
+        }
+        Err(NoMemory) => {
+            drop(start);
+            close_seats(disks, seats);
+            Err(Stopped::Run(RunStopped::Memory))
+        }
+    }
+}
+
+// A script runs over the seats of stores, and they are closed then: hosts and servers run it where they can.
+fn run_over<D: Disk + Drop + Send, C: Count + Send, O: Origin + Send, R: Threads + Wait + Sync>(
+    rt: &R,
+    alloc: Global,
+    script: &Script,
+    start: Tree,
+    mut seats: Vec<Seat<D, C>>,
+    disks: &mut Vec<D>,
+    workers: u32,
+) -> Result<Course, Stopped>
+    requires sound { IsSound script.now }
+    requires goes { stuck_at script.now.lines ≡ None }
+    requires sayable { AreSayable script.now }
+    requires start { IsStart script.now.roster start }
+    requires count { length seats.items ≡ length script.now.roster.capacity }
+    requires stores { AreStores (seat_view D.tells D.view) script.now.roster (2 ^ 40) 1 seats.items }
+    requires kept { seat_tells D.tells C.disks
+        → KeepAll (λ host. 1) start (states_of (seat_view D.tells D.view) seats.items) }
+    requires begun { seat_tells D.tells C.disks → HaveBegun (states_of (seat_view D.tells D.view) seats.items) }
+    requires gone { seat_tells D.tells C.disks → HaveWorked O.from (seat_view D.tells D.view) seats.items }
+    requires seats_room { length seats.items ≤ vec_capacity seats }
+    requires room { length disks.old.items + length seats.items ≤ vec_capacity disks.old }
+    ensures { IsClosedFrom (seat_tells D.tells C.disks) (seat_view D.tells D.view)
+        (HaveHosted O.from (seat_view D.tells D.view) script.now start) (λ seats. disks_of (stores_in seats))
+        script.now start result seats.items disks.old.items disks.new.items }
+{
+    if may_host(script, &start) {
+        return host_over::<D, C, O, R>(rt, alloc, script, start, seats, disks, workers);
+    }
+    let result = play_over(alloc, script, start, seats.as_mut_slice());
+    close_seats(disks, seats);
+    result
+}
+
 // Runs a script over the stores of its servers, of which so many in front are on disks, and closes them.
-fn play_on<D: Disk + Drop, C: Count>(
+fn play_on<D: Disk + Drop + Send, C: Count + Send, R: Threads + Wait + Sync>(
+    rt: &R,
     alloc: Global,
     script: &Script,
     count: usize,
     stores: Vec<ServerStore<D>>,
     disks: &mut Vec<D>,
-) -> Result<Played, RunStopped>
+    workers: u32,
+) -> Result<Course, Stopped>
     requires sound { IsSound script.now }
     requires goes { stuck_at script.now.lines ≡ None }
     requires sayable { AreSayable script.now }
     requires count { length stores.items ≡ length script.now.roster.capacity }
     requires stores { AreStores (store_view D.tells D.view) script.now.roster 0 1 stores.items }
-    requires storable { D.tells → Each IsStorable (states_of (store_view D.tells D.view) stores.items) }
+    requires storable { seat_tells D.tells C.disks
+        → Each IsStorable (states_of (store_view D.tells D.view) stores.items) }
     requires seated { AreSeated D.tells D.view C.disks stores.items }
     requires none { disks.old.items ≡ [] }
     requires room { length stores.items ≤ vec_capacity disks.old }
-    ensures { IsRunOn D.tells D.view script.now count result stores.items disks.new.items }
+    ensures { IsRunOn (seat_tells D.tells C.disks) D.tells D.view script.now count result stores.items disks.new.items }
 {
     let mut seats = match seat_stores::<D, C>(alloc, stores) {
         Ok(seats) => seats,
         Err(stores) => {
             close_stores(disks, stores);
-            return Err(RunStopped::Memory);
+            return Err(Stopped::Run(RunStopped::Memory));
         }
     };
-    let result = play_over(alloc, script, count, seats.as_mut_slice());
-    close_seats(disks, seats);
-    result
+    match start_on(alloc, seats.as_mut_slice(), count, &script.roster) {
+        Ok(start) => { run_over::<D, C, Brand, R>(rt, alloc, script, start, seats, disks, workers) }
+        Err(stopped) => {
+            close_seats(disks, seats);
+            Err(Stopped::Run(stopped))
+        }
+    }
 }
 
 // Writes what came of a script that ran.
@@ -137,16 +264,14 @@ fn tell_run<K: Sink>(
     alloc: Global,
     play: Play,
     script: Script,
-    played: Played,
+    course: Course,
     sink: &mut K,
 ) -> Outcome
-    requires { IsPlayed script played }
-    ensures ran { RanSo play script result
+    requires went { IsPrintable script course }
+    ensures told { IsToldSo play script course result
         (shown K.tells (K.got sink.old) (K.faults sink.old)) (shown K.tells (K.got sink.new) (K.faults sink.new)) }
-    ensures own { has_run result.status ≡ true → result.played ≡ played }
-    ensures ends { (has_run result.status ≡ true) ⊎ (result.status ≡ NoMemory) }
 {
-    let Ok(output) = output_of(alloc, play, &script, &played) else {
+    let Ok(output) = output_of(alloc, play, &script, &course) else {
         return without_run(alloc, Status::NoMemory);
     };
     let status = match write_all(sink, output.as_slice()) {
@@ -155,14 +280,15 @@ fn tell_run<K: Sink>(
     };
     Outcome {
         status,
-        played,
+        course,
         lines: script,
     }
 }
 
 /// Runs a script over disks, the first as that of server 1, and writes what came of it. A server without a disk keeps
 /// its filesets in memory. All disks are in the list again then, in their order.
-pub(crate) fn run_script<K: Sink, D: Disk + Drop>(
+pub(crate) fn run_script<K: Sink, D: Disk + Drop + Send, R: Threads + Wait + Sync>(
+    rt: &R,
     alloc: Global,
     play: Play,
     script: Script,
@@ -173,7 +299,7 @@ pub(crate) fn run_script<K: Sink, D: Disk + Drop>(
     requires goes { stuck_at script.lines ≡ None }
     requires sayable { AreSayable script }
     requires few { length disks.old.items ≤ length script.roster.capacity }
-    ensures ran { RanSo play script result
+    ensures ran { RanSo (IsTold D.tells disks.old.items) play script result
         (shown K.tells (K.got sink.old) (K.faults sink.old)) (shown K.tells (K.got sink.new) (K.faults sink.new)) }
     ensures over { RanOver D.tells D.view script result disks.old.items disks.new.items
         (shown K.tells (K.got sink.old) (K.faults sink.old)) (shown K.tells (K.got sink.new) (K.faults sink.new)) }
@@ -183,8 +309,10 @@ pub(crate) fn run_script<K: Sink, D: Disk + Drop>(
         Ok(stores) => stores,
         Err(refused) => return refuse_opening(alloc, refused, sink),
     };
-    match play_on::<D, Brand>(alloc, &script, count, stores, disks) {
-        Ok(played) => tell_run(alloc, play, script, played, sink),
-        Err(stopped) => refuse_run(alloc, stopped, sink),
+    let workers = workers_of(play);
+    match play_on::<D, Brand, R>(rt, alloc, &script, count, stores, disks, workers) {
+        Ok(course) => tell_run(alloc, play, script, course, sink),
+        Err(Stopped::Run(stopped)) => refuse_run(alloc, stopped, sink),
+        Err(Stopped::Stuck(node, next)) => refuse_stuck(alloc, &script, node, next, sink),
     }
 }

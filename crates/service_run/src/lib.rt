@@ -13,6 +13,6 @@ mod script;
 mod top;
 
 pub use laws::{losses_law, replies_law};
-pub use outcome::{Outcome, Status};
+pub use outcome::{Course, Outcome, Status};
 pub use output::refuse_disk;
 pub use top::run;

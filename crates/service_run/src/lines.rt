@@ -1,10 +1,15 @@
-ghost use Rattle.std.specs.Prelude.{◌≡◌, ◌++◌, [], codes, decimal, IfOk, OnOk};
+ghost use Rattle.std.specs.Prelude.{◌≡◌, ◌<◌, ◌++◌, codes, decimal, length, slice_index_or, IfOk, OnOk};
+ghost use Rattle.service_hosts.specs.Runs.{setup_node};
+ghost use Rattle.service_hosts.specs.Runs.{nodes_of};
+ghost use Rattle.script_lines.specs.Sound.{IsSound};
 ghost use Rattle.service_run.specs.Lines.{usage_line, input_line, no_aggregate_line};
 ghost use Rattle.service_run.specs.Lines.{why_text, refusal_text, refusal_line};
+ghost use Rattle.service_run.specs.Lines.{behind_word, has_gone, last_gone, node_word, stuck_line};
 
-use base_types::{Items, NoMemory};
+use base_types::{HostId, Items, NoMemory, Node, ServerId};
 use itoa::Buffer;
-use script_reader::ScriptRefused;
+use script_lines::{Line, Script};
+use script_reader::{ScriptRefused, same_node};
 use script_words::BadWhy;
 use std::alloc::Global;
 
@@ -39,6 +44,109 @@ pub(crate) fn no_aggregate_line(
     line.extend(Buffer::new().format(number).as_bytes())?;
     line.extend(b" is no aggregate at ")?;
     line.extend(Buffer::new().format(place).as_bytes())?;
+    line.push(b'\n')?;
+    Ok(line)
+}
+
+// The node at a place of a script, the setup host first.
+fn node_at(script: &Script, place: usize) -> Node
+    requires sound { IsSound script.now }
+    requires within { place < length (nodes_of script.now) }
+    ensures { result ≡ slice_index_or (nodes_of script.now) place setup_node }
+{
+    let hosts = script.roster.hosts.len() + 1;
+    if place < hosts {
+        let host = place as u8;
+        Node::Host(HostId(host))
+    } else {
+        let server = (place - hosts) as u8;
+        Node::Server(ServerId(server + 1))
+    }
+}
+
+// Whether a line is a node's and went, where this is the number of the node's next line, if one is left.
+fn has_gone(line: &Line, node: Node, next: Option<u32>) -> bool
+    ensures { result ≡ has_gone node next line.now }
+{
+    match next {
+        Some(next) => same_node(line.node, node) && line.number < next,
+        None => same_node(line.node, node),
+    }
+}
+
+// The number of the last of these lines that a node went, where this is the number of its next.
+fn last_gone(lines: &[Line], node: Node, next: Option<u32>) -> Option<u32>
+    ensures { result ≡ last_gone node next lines.now }
+{
+    let mut last = None;
+    for line in lines {
+        if has_gone(line, node, next) {
+            last = Some(line.number);
+        }
+    }
+    last
+}
+
+// The number of the last line of a script that a node went, where this is the number of its next.
+fn last_of(script: &Script, node: Node, next: Option<u32>) -> Option<u32>
+    ensures { result ≡ last_gone node next (script.now.setup ++ script.now.lines) }
+{
+    match last_gone(script.lines.as_slice(), node, next) {
+        Some(number) => Some(number),
+        None => last_gone(script.setup.as_slice(), node, next),
+    }
+}
+
+fn push_node(line: &mut Items<u8>, node: Node) -> Result<(), NoMemory>
+    ensures { OnOk result (line.new ≡ line.old ++ node_word node) }
+{
+    match node {
+        Node::Host(host) => {
+            line.push(b'c')?;
+            line.extend(Buffer::new().format(host.0).as_bytes())
+        }
+        Node::Server(server) => {
+            line.push(b's')?;
+            line.extend(Buffer::new().format(server.0).as_bytes())
+        }
+    }
+}
+
+fn push_behind(line: &mut Items<u8>, number: Option<u32>) -> Result<(), NoMemory>
+    ensures { OnOk result (line.new ≡ line.old ++ behind_word number) }
+{
+    match number {
+        Some(number) => push_last(line, number),
+        None => Ok(()),
+    }
+}
+
+fn push_last(line: &mut Items<u8>, number: u32) -> Result<(), NoMemory>
+    ensures { OnOk result (line.new ≡ line.old ++ codes " behind line " ++ decimal number) }
+{
+    line.extend(b" behind line ")?;
+    line.extend(Buffer::new().format(number).as_bytes())
+}
+
+/// The line where hosts and servers came to no end, and the node at this place isn't done, whose next line has this
+/// number, where one is left.
+#[tactic(auto, unfolding(crate::specs::Lines::stuck_line))]
+pub(crate) fn stuck_line(
+    alloc: Global,
+    script: &Script,
+    place: usize,
+    next: Option<u32>,
+) -> Result<Items<u8>, NoMemory>
+    requires sound { IsSound script.now }
+    requires within { place < length (nodes_of script.now) }
+    ensures { IfOk result (λ line. line ≡ stuck_line script.now place next) }
+{
+    let node = node_at(script, place);
+    let number = last_of(script, node, next);
+    let mut line = Items::new(alloc);
+    line.extend(b"stuck: ")?;
+    push_node(&mut line, node)?;
+    push_behind(&mut line, number)?;
     line.push(b'\n')?;
     Ok(line)
 }

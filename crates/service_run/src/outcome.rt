@@ -1,11 +1,12 @@
 ghost use Rattle.std.specs.Prelude.{◌≡◌};
-ghost use Rattle.service_run.specs.Outcomes.{code_of, IsEmpty, no_roster as none, no_tree as nothing};
+ghost use Rattle.service_run.specs.Courses.{no_roster as none};
+ghost use Rattle.service_run.specs.Outcomes.{code_of, IsEmpty};
 
 use base_types::Items;
+use run_rules::Journal;
 use script_lines::Script;
 use service_plain::Played;
 use std::alloc::Global;
-use tree_answers::Tree;
 use tree_calls::Roster;
 
 /// How a run ended.
@@ -29,6 +30,8 @@ pub enum Status {
     NoMemory,
     /// The disks were checked, one of them has a fault, and the sink got the whole output.
     HasFaults,
+    /// Hosts and servers ran the script to where nothing more could happen, and a node wasn't done.
+    Stuck,
 }
 
 impl Status {
@@ -46,8 +49,20 @@ impl Status {
             Status::NoAggregate => 6,
             Status::NoMemory => 7,
             Status::HasFaults => 8,
+            Status::Stuck => 9,
         }
     }
+}
+
+/// How a script ran.
+#[derive(Drop)]
+pub enum Course {
+    /// Nothing is told of a run.
+    Empty,
+    /// Hosts and servers ran it, and this happened, step by step.
+    Hosted(Journal),
+    /// It ran on the file tree alone, since a line of it moves a fileset, or one of the tree has moved.
+    Played(Played),
 }
 
 /// What became of a run.
@@ -56,8 +71,8 @@ pub struct Outcome {
     /// How it ended. Where it isn't `Done` or `NoOutput`, or disks were checked, nothing is told of a run, and the
     /// other fields are empty.
     pub status: Status,
-    /// How the script went.
-    pub played: Played,
+    /// How the script ran.
+    pub course: Course,
     /// The script.
     pub lines: Script,
 }
@@ -69,12 +84,7 @@ pub(crate) fn without_run(alloc: Global, status: Status) -> Outcome
 {
     Outcome {
         status,
-        played: Played {
-            start: no_tree(alloc),
-            history: Items::new(alloc),
-            last: no_tree(alloc),
-            order: Items::new(alloc),
-        },
+        course: Course::Empty,
         lines: Script {
             servers: 0,
             roster: no_roster(alloc),
@@ -83,19 +93,6 @@ pub(crate) fn without_run(alloc: Global, status: Status) -> Outcome
             net: None,
             lines: Items::new(alloc),
         },
-    }
-}
-
-fn no_tree(alloc: Global) -> Tree
-    ensures { result ≡ nothing }
-{
-    Tree {
-        roster: no_roster(alloc),
-        servers: Items::new(alloc),
-        filesets: Items::new(alloc),
-        locks: Items::new(alloc),
-        opens: Items::new(alloc),
-        away: Items::new(alloc),
     }
 }
 

@@ -1,18 +1,25 @@
 //! The last stage: what came of a run is written, or why there was none.
-ghost use Rattle.std.specs.Prelude.{◌≡◌, IfOk};
+ghost use Rattle.std.specs.Prelude.{◌≡◌, ◌<◌, ◌∷◌, [], length, IfOk};
 ghost use Rattle.tree_answers.specs.Histories.{after_history};
-ghost use Rattle.service_run.specs.declared.outcome.Status.TheVariants.{NoScript, NoDisk, NoAggregate};
+ghost use Rattle.service_run.specs.declared.outcome.Status.TheVariants.{NoScript, NoDisk, NoAggregate, Stuck};
+ghost use Rattle.service_hosts.specs.Runs.{nodes_of};
+ghost use Rattle.script_lines.specs.Sound.{IsSound};
 ghost use Rattle.disk_report.specs.Text.{failed_line};
-ghost use Rattle.service_run.specs.Lines.{no_aggregate_line, refusal_line};
+ghost use Rattle.service_run.specs.Courses.{IsPrintable};
+ghost use Rattle.service_run.specs.declared.outcome.Course.TheVariants.{Hosted, Played as WasPlayed};
+ghost use Rattle.tree_answers.specs.declared.tree.Tree.{Tree as TreeOf};
+ghost use Rattle.service_run.specs.Lines.{no_aggregate_line, refusal_line, stuck_line};
 ghost use Rattle.service_run.specs.Outcomes.{IsEmpty, RefusedSo};
 ghost use Rattle.service_run.specs.Output.{is_json, output_of, Wrote};
 ghost use Rattle.service_run.specs.World.{shown};
 
-use crate::lines::{no_aggregate_line, refusal_line};
-use crate::outcome::{Outcome, Status, without_run};
+use crate::lines::{no_aggregate_line, refusal_line, stuck_line};
+use crate::outcome::{Course, Outcome, Status, without_run};
 use base_io::write_all;
 use base_types::{Items, NoMemory, Sink};
 use disk_report::failed_line;
+use run_output::{print_json, print_text};
+use run_rules::Journal;
 use script_commands::Play;
 use script_lines::Script;
 use script_output::{json_of, text_of};
@@ -25,10 +32,44 @@ pub(crate) fn output_of(
     alloc: Global,
     play: Play,
     script: &Script,
+    course: &Course,
+) -> Result<Items<u8>, NoMemory>
+    requires { IsPrintable script.now course.now }
+    ensures { IfOk result (λ output. output ≡ output_of play script.now course.now) }
+{
+    match course {
+        Course::Empty => Ok(Items::new(alloc)),
+        Course::Hosted(journal) => hosted_output(alloc, play, script, journal),
+        Course::Played(played) => played_output(alloc, play, script, played),
+    }
+}
+
+// The output of a script that hosts and servers ran.
+fn hosted_output(
+    alloc: Global,
+    play: Play,
+    script: &Script,
+    journal: &Journal,
+) -> Result<Items<u8>, NoMemory>
+    requires { (start : TreeOf) × (journal.now.start ≡ start ∷ []) }
+    ensures { IfOk result (λ output. output ≡ output_of play script.now (Hosted journal.now)) }
+{
+    if is_json(play) {
+        print_json(alloc, script, journal)
+    } else {
+        print_text(alloc, script, journal)
+    }
+}
+
+// The output of a script that ran on the file tree alone.
+fn played_output(
+    alloc: Global,
+    play: Play,
+    script: &Script,
     played: &Played,
 ) -> Result<Items<u8>, NoMemory>
     requires { played.now.last ≡ after_history played.now.start played.now.history }
-    ensures { IfOk result (λ output. output ≡ output_of play script.now played.now) }
+    ensures { IfOk result (λ output. output ≡ output_of play script.now (WasPlayed played.now)) }
 {
     let history = played.history.as_slice();
     if is_json(play) {
@@ -82,6 +123,26 @@ pub(crate) fn refuse_aggregate<K: Sink>(
 {
     match no_aggregate_line(alloc, number, place) {
         Ok(line) => refuse(alloc, Status::NoAggregate, line.as_slice(), sink),
+        Err(NoMemory) => without_run(alloc, Status::NoMemory),
+    }
+}
+
+/// Writes which node of a script, by its place, isn't done where hosts and servers came to no end, and which of its
+/// lines went last, where this is the number of its next; and ends without a run.
+pub(crate) fn refuse_stuck<K: Sink>(
+    alloc: Global,
+    script: &Script,
+    node: usize,
+    next: Option<u32>,
+    sink: &mut K,
+) -> Outcome
+    requires sound { IsSound script.now }
+    requires within { node < length (nodes_of script.now) }
+    ensures refused { RefusedSo Stuck (stuck_line script.now node next) result
+        (shown K.tells (K.got sink.old) (K.faults sink.old)) (shown K.tells (K.got sink.new) (K.faults sink.new)) }
+{
+    match stuck_line(alloc, script, node, next) {
+        Ok(line) => refuse(alloc, Status::Stuck, line.as_slice(), sink),
         Err(NoMemory) => without_run(alloc, Status::NoMemory),
     }
 }

@@ -14,6 +14,7 @@ use disk::{NamedDisk, disk_called, disk_of};
 use row::{Row, row_of};
 use series::{judge_series, series_of};
 use stage::run_over;
+use std::sync::Wait;
 use std::thread::Threads;
 
 // Whether these words check disks.
@@ -37,7 +38,7 @@ fn are_held(disks: &[NamedDisk], left: &[NamedDisk]) -> Result<bool> {
 
 // Runs a row, and prints what it got where that isn't what it wants.
 fn judge(
-    rt: &(impl Print + AllocGlobal + Threads + Sync),
+    rt: &(impl Print + AllocGlobal + Threads + Wait + Sync),
     disks: &[NamedDisk],
     row: &Row,
 ) -> Result<()> {

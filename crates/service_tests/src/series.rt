@@ -8,6 +8,7 @@ use anyhow::{Context, Result, bail};
 use base_io::{MemSink, MemSource};
 use script_commands::disk_names;
 use std::alloc::Global;
+use std::sync::Wait;
 use std::thread::Threads;
 
 // How the disk fails that does.
@@ -146,7 +147,7 @@ fn check_words(alloc: Global, words: &[String]) -> Result<Vec<String>> {
 
 // Runs words over disks, with this script.
 fn ran_on(
-    rt: &(impl AllocGlobal + Threads + Sync),
+    rt: &(impl AllocGlobal + Threads + Wait + Sync),
     disks: &[NamedDisk],
     words: &[String],
     script: &[u8],
@@ -178,7 +179,7 @@ fn tell(
 
 // Runs a series with a fault at this call.
 fn judge_at(
-    rt: &(impl Print + AllocGlobal + Threads + Sync),
+    rt: &(impl Print + AllocGlobal + Threads + Wait + Sync),
     disks: &[NamedDisk],
     series: &Series,
     call: u64,
@@ -200,7 +201,7 @@ fn judge_at(
 
 // Checks the disks that a run left: each is blank, or has no fault.
 fn check_left(
-    rt: &(impl Print + AllocGlobal + Threads + Sync),
+    rt: &(impl Print + AllocGlobal + Threads + Wait + Sync),
     series: &Series,
     call: u64,
     ran: &Ran,
@@ -215,7 +216,7 @@ fn check_left(
 
 /// Runs a series, prints what isn't as it has to be, and tells how many times it ran.
 pub fn judge_series(
-    rt: &(impl Print + AllocGlobal + Threads + Sync),
+    rt: &(impl Print + AllocGlobal + Threads + Wait + Sync),
     disks: &[NamedDisk],
     series: &Series,
 ) -> Result<u64> {

@@ -13,6 +13,7 @@ use disk_device::MemDisk;
 use script_commands::disk_names;
 use service_run::run;
 use std::alloc::Global;
+use std::sync::Wait;
 use std::thread::Threads;
 
 /// What a run gave.
@@ -28,7 +29,7 @@ pub struct Ran {
 
 /// Runs these words over the disks that they name.
 pub fn run_over(
-    rt: &(impl AllocGlobal + Threads + Sync),
+    rt: &(impl AllocGlobal + Threads + Wait + Sync),
     disks: &[NamedDisk],
     words: &[String],
     mut source: MemSource,

@@ -1,46 +1,113 @@
-use Rattle.std.proofs.Common.{◌≡◌, ℕ, ◌≤◌, Ok, Err, length, subst, arith}
+use Rattle.std.proofs.Common.{◌≡◌, ℕ, ◌≤◌, List, Ok, Err, inl, inr, ⊎_elim, length, subst, sym, ap, ◌∙◌, arith}
 use Rattle.base_types.specs.declared.limits.TheConstants.{SERVERS_MAX}
 use Rattle.service_disks.proofs.Limits.{has_limits}
-use Rattle.service_run.proofs.Opened.{are_seated, are_storable, are_stores}
-use Rattle.service_run.proofs.RunsOver.{over_stopped, over_told, over_unopened, ran_stopped, ran_unopened}
+use Rattle.service_disks.specs.Seats.{seat_tells}
+use Rattle.service_run.proofs.Opened.{are_seated, are_storable, are_stores, count_told, seats_told}
+use Rattle.service_run.proofs.Ran.{printable, ran_told, runs_so}
+use Rattle.service_run.proofs.RunsOver.{over_stopped, over_told, over_unopened, over_waited, ran_stopped, ran_stuck}
+use Rattle.service_run.proofs.RunsOver.{ran_unopened}
+use Rattle.service_run.specs.Courses.{IsTold}
 use Rattle.service_run.specs.Steps.{IsRunOn}
+use Rattle.service_run.specs.declared.disks.Stopped.TheVariants.{Run, Stuck}
 use Rattle.service_run.proofs.disks.run_script.Goals as goal
 
 pub returns-in-Err-clause-ran : goal.returns-in-Err-clause-ran
-returns-in-Err-clause-ran g c = ran_unopened c.args.play c.args.script c.refuse_opening.result _ _ c.in-Err.refused c.refuse_opening.ensures
+returns-in-Err-clause-ran g c = ran_unopened _ c.args.play c.args.script c.refuse_opening.result _ _ c.in-Err.refused
+    c.refuse_opening.ensures
 
 pub returns-in-Err-clause-over : goal.returns-in-Err-clause-over
 returns-in-Err-clause-over g c =
-    over_unopened g.D.Disk.tells g.D.Disk.view c.args.script c.refuse_opening.result _ _ c.args.disks.now.items c.open_stores.new.disks.items c.in-Err.refused c.in-Err.ensures.back c.in-Err.ensures.stopped c.refuse_opening.ensures
+    over_unopened g.D.Disk.tells g.D.Disk.view c.args.script c.refuse_opening.result _ _ c.args.disks.now.items
+    c.open_stores.new.disks.items c.in-Err.refused c.in-Err.ensures.back c.in-Err.ensures.stopped
+    c.refuse_opening.ensures
 
 pub play_on-requires-clause-stores : goal.play_on-requires-clause-stores
-play_on-requires-clause-stores g c = are_stores g.D.Disk.tells g.D.Disk.view c.args.script.roster 1 c.args.disks.now.items c.in-Ok.stores.items c.in-Ok.ensures.opened
+play_on-requires-clause-stores g c κs w = are_stores g.D.Disk.tells g.D.Disk.view c.args.script.roster 1
+    c.args.disks.now.items c.in-Ok.stores.items c.in-Ok.ensures.opened
 
 pub play_on-requires-clause-storable : goal.play_on-requires-clause-storable
-play_on-requires-clause-storable g c = λ told.
-    (let few : length c.args.script.roster.capacity ≤ SERVERS_MAX = (has_limits c.args.script.roster c.requires.sound.roster).servers in
+play_on-requires-clause-storable g c κs w = λ told.
+    (let few : length c.args.script.roster.capacity ≤ SERVERS_MAX =
+    (has_limits c.args.script.roster c.requires.sound.roster).servers in
     let count = c.in-Ok.ensures.count in
-    are_storable g.D.Disk.tells g.D.Disk.view c.args.script.roster told 1 c.args.disks.now.items c.in-Ok.stores.items (omega arith) (omega (arith, few, count)) few c.in-Ok.ensures.opened)
+    let counted = c.len-count.ensures in
+    are_storable g.D.Disk.tells g.D.Disk.view c.args.script.roster 1 c.args.disks.now.items c.in-Ok.stores.items
+    (count_told g.D.Disk.tells c.args.disks.now.items c.len-count.result (omega (arith, counted)) told)
+    (omega arith) (omega (arith, few, count)) few c.in-Ok.ensures.opened)
 
 pub play_on-requires-clause-seated : goal.play_on-requires-clause-seated
-play_on-requires-clause-seated g c =
+play_on-requires-clause-seated g c κs w =
     (let counted = c.len-count.ensures in
-    are_seated g.D.Disk.tells g.D.Disk.view c.args.script.roster c.len-count.result 1 c.args.disks.now.items c.in-Ok.stores.items (omega (arith, counted)) c.in-Ok.ensures.opened)
+    are_seated g.D.Disk.tells g.D.Disk.view c.args.script.roster c.len-count.result 1 c.args.disks.now.items
+    c.in-Ok.stores.items (omega arith) (omega (arith, counted)) c.in-Ok.ensures.opened)
+
+pub tell_run-requires : goal.tell_run-requires
+tell_run-requires g c =
+    (let on = c.in-Ok-play_on.ensures in record {
+      went = printable _ c.args.script c.in-Ok-play_on.course
+          on.over.ran.went;
+    })
+
+pub returns-in-Ok-play_on-clause-ran : goal.returns-in-Ok-play_on-clause-ran
+returns-in-Ok-play_on-clause-ran g c =
+    (let counted = c.len-count.ensures in
+    let same : c.len-count.result ≡ length c.args.disks.now.items = omega (arith, counted) in
+    let told = seat_tells g.D.Disk.tells c.len-count.result in
+    let tells = IsTold g.D.Disk.tells c.args.disks.now.items in
+    let on = c.in-Ok-play_on.ensures in
+    ran_told tells c.args.play c.args.script c.in-Ok-play_on.course c.tell_run.result _ _
+    (runs_so told tells c.args.script c.in-Ok-play_on.course (seats_told g.D.Disk.tells c.args.disks.now.items
+    c.len-count.result same) on.over.ran.went) c.tell_run.ensures)
 
 pub returns-in-Ok-play_on-clause-over : goal.returns-in-Ok-play_on-clause-over
 returns-in-Ok-play_on-clause-over g c =
     (let counted = c.len-count.ensures in
     let same : c.len-count.result ≡ length c.args.disks.now.items = omega (arith, counted) in
-    over_told g.D.Disk.tells g.D.Disk.view c.args.script c.tell_run.result _ _ c.args.disks.now.items c.play_on.new.disks.items c.in-Ok.stores.items c.args.play c.in-Ok-play_on.played c.in-Ok.ensures.opened c.in-Ok.ensures.count
-    (subst (λ (n : ℕ). IsRunOn g.D.Disk.tells g.D.Disk.view c.args.script n (Ok c.in-Ok-play_on.played) c.in-Ok.stores.items c.play_on.new.disks.items) same c.in-Ok-play_on.ensures) c.tell_run.ensures.own
-    c.tell_run.ensures.ends c.tell_run.ensures.ran)
+    let told = seat_tells g.D.Disk.tells c.len-count.result in
+    over_told g.D.Disk.tells g.D.Disk.view c.args.script c.tell_run.result _ _ told c.args.disks.now.items
+    c.play_on.new.disks.items (seats_told g.D.Disk.tells c.args.disks.now.items c.len-count.result same)
+    c.in-Ok.stores.items c.in-Ok.ensures.opened c.in-Ok.ensures.count c.args.play c.in-Ok-play_on.course
+    (subst (λ (n : ℕ). IsRunOn told g.D.Disk.tells g.D.Disk.view c.args.script n (Ok c.in-Ok-play_on.course)
+    c.in-Ok.stores.items c.play_on.new.disks.items) same c.in-Ok-play_on.ensures) c.tell_run.ensures)
 
-pub returns-in-Err-play_on-clause-ran : goal.returns-in-Err-play_on-clause-ran
-returns-in-Err-play_on-clause-ran g c = ran_stopped c.args.play c.args.script c.refuse_run.result _ _ c.in-Err-play_on.stopped c.refuse_run.ensures
+pub returns-in-Err-Run-clause-ran : goal.returns-in-Err-Run-clause-ran
+returns-in-Err-Run-clause-ran g c = ran_stopped _ c.args.play c.args.script c.refuse_run.result _ _
+    c.in-Err-Run.stopped c.refuse_run.ensures
 
-pub returns-in-Err-play_on-clause-over : goal.returns-in-Err-play_on-clause-over
-returns-in-Err-play_on-clause-over g c =
+pub returns-in-Err-Run-clause-over : goal.returns-in-Err-Run-clause-over
+returns-in-Err-Run-clause-over g c =
     (let counted = c.len-count.ensures in
     let same : c.len-count.result ≡ length c.args.disks.now.items = omega (arith, counted) in
-    over_stopped g.D.Disk.tells g.D.Disk.view c.args.script c.refuse_run.result _ _ c.args.disks.now.items c.play_on.new.disks.items c.in-Ok.stores.items c.in-Err-play_on.stopped c.in-Ok.ensures.opened c.in-Ok.ensures.count
-    (subst (λ (n : ℕ). IsRunOn g.D.Disk.tells g.D.Disk.view c.args.script n (Err c.in-Err-play_on.stopped) c.in-Ok.stores.items c.play_on.new.disks.items) same c.in-Err-play_on.ensures) c.refuse_run.ensures)
+    let told = seat_tells g.D.Disk.tells c.len-count.result in
+    over_stopped g.D.Disk.tells g.D.Disk.view c.args.script c.refuse_run.result _ _ told c.args.disks.now.items
+    c.play_on.new.disks.items (seats_told g.D.Disk.tells c.args.disks.now.items c.len-count.result same)
+    c.in-Ok.stores.items c.in-Ok.ensures.opened c.in-Ok.ensures.count c.in-Err-Run.stopped
+    (subst (λ (n : ℕ). IsRunOn told g.D.Disk.tells g.D.Disk.view c.args.script n (Err (Run c.in-Err-Run.stopped))
+    c.in-Ok.stores.items c.play_on.new.disks.items) same
+    (subst (λ s. IsRunOn told g.D.Disk.tells g.D.Disk.view c.args.script c.len-count.result (Err s)
+    c.in-Ok.stores.items c.play_on.new.disks.items) c.in-Err-Run.field-0-is c.in-Err-Run.ensures)) c.refuse_run.ensures)
+
+pub refuse_stuck-requires-clause-within : goal.refuse_stuck-requires-clause-within
+refuse_stuck-requires-clause-within g c =
+    (let on = subst (λ s. IsRunOn (seat_tells g.D.Disk.tells c.len-count.result) g.D.Disk.tells g.D.Disk.view
+    c.args.script c.len-count.result (Err s) c.in-Ok.stores.items c.play_on.new.disks.items)
+    c.in-Err-Stuck.field-0-is c.in-Err-Stuck.ensures in
+    on.over.stopped)
+
+pub returns-in-Err-Stuck-clause-ran : goal.returns-in-Err-Stuck-clause-ran
+returns-in-Err-Stuck-clause-ran g c = ran_stuck _ c.args.play c.args.script c.refuse_stuck.result _ _
+    c.in-Err-Stuck.node c.in-Err-Stuck.next c.refuse_stuck.ensures.refused
+
+pub returns-in-Err-Stuck-clause-over : goal.returns-in-Err-Stuck-clause-over
+returns-in-Err-Stuck-clause-over g c =
+    (let counted = c.len-count.ensures in
+    let same : c.len-count.result ≡ length c.args.disks.now.items = omega (arith, counted) in
+    let told = seat_tells g.D.Disk.tells c.len-count.result in
+    over_waited g.D.Disk.tells g.D.Disk.view c.args.script c.refuse_stuck.result _ _ told c.args.disks.now.items
+    c.play_on.new.disks.items (seats_told g.D.Disk.tells c.args.disks.now.items c.len-count.result same)
+    c.in-Ok.stores.items c.in-Ok.ensures.opened c.in-Ok.ensures.count c.in-Err-Stuck.node c.in-Err-Stuck.next
+    (subst (λ (n : ℕ). IsRunOn told g.D.Disk.tells g.D.Disk.view c.args.script n
+    (Err (Stuck c.in-Err-Stuck.node c.in-Err-Stuck.next)) c.in-Ok.stores.items c.play_on.new.disks.items) same
+    (subst (λ s. IsRunOn told g.D.Disk.tells g.D.Disk.view c.args.script c.len-count.result (Err s)
+    c.in-Ok.stores.items c.play_on.new.disks.items) c.in-Err-Stuck.field-0-is c.in-Err-Stuck.ensures))
+    c.refuse_stuck.ensures.refused)
