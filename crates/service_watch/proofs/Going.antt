@@ -1,8 +1,10 @@
 -- How stores go on.
-use Rattle.std.proofs.Common.{◌≡◌, ◌≤◌, ◌+◌, ◌++◌, ◌∙◌, ℕ, zero, suc, List, [], ◌∷◌, length, take, refl, sym, subst, ap, arith}
+use Rattle.std.proofs.Common.{◌≡◌, ◌≤◌, ◌+◌, ◌++◌, ◌∙◌, ℕ, zero, suc, List, [], ◌∷◌, length, take, refl, sym, subst}
+use Rattle.std.proofs.Common.{ap, arith}
 use Rattle.std.proofs.Common.{◌⊎◌, ⊎_elim, inl, inr, length-append}
 use Rattle.std.specs.Prelude.{◌-◌, Option, Some, Result, Ok, Err, OnOk, OnErr, slice_get}
 use Rattle.std.proofs.lemmas.List.{append_assoc, take-append-le}
+use Rattle.std.proofs.Math.Logic.{∥∥₁_map}
 use Rattle.std.proofs.Math.Seq.{take-append-add, take-length}
 use Rattle.base_types.specs.declared.ids.ServerId.{ServerId}
 use Rattle.base_types.specs.declared.limits.TheConstants.{BATCH_ACTS_MAX}
@@ -32,7 +34,8 @@ take_few zero xs = omega arith
 take_few (suc k) [] = omega arith
 take_few (suc k) (x ∷ xs) = (let rest = take_few k xs in omega (arith, rest))
 
-pub acts_take : (roster : Roster) (server : ServerId) (k : ℕ) (acts : List Act) → AreActs roster server acts → AreActs roster server (take k acts)
+pub acts_take : (roster : Roster) (server : ServerId) (k : ℕ) (acts : List Act) → AreActs roster server acts
+    → AreActs roster server (take k acts)
 acts_take roster server k acts are = record {
   few = (let fewer = take_few k acts in let few = are.few in omega (arith, fewer, few));
   each = each_take (IsAct roster server) k acts are.each;
@@ -42,7 +45,8 @@ no_acts : (roster : Roster) (server : ServerId) → AreActs roster server []
 no_acts roster server = record { few = omega arith; each = tt }
 
 -- what is left of the first of some acts is left of these and others
-pub left_more : (from : StoreState) (acts more : List Act) (found : Option StoreState) → IsLeftOf from acts found → IsLeftOf from (acts ++ more) found
+pub left_more : (from : StoreState) (acts more : List Act) (found : Option StoreState) → IsLeftOf from acts found
+    → IsLeftOf from (acts ++ more) found
 left_more from acts more found left =
     (let size = length-append acts more in
     let few = left.2 in (
@@ -54,7 +58,8 @@ left_more from acts more found left =
     ))
 
 -- and so is what is left of those behind them
-pub left_then : (from mid : StoreState) (acts more : List Act) (found : Option StoreState) → mid ≡ state_after from acts → mid.roster ≡ from.roster → mid.server ≡ from.server
+pub left_then : (from mid : StoreState) (acts more : List Act) (found : Option StoreState) → mid ≡ state_after from
+    acts → mid.roster ≡ from.roster → mid.server ≡ from.server
     → IsLeftOf mid more found → IsLeftOf from (acts ++ more) found
 left_then from mid acts more found made roster server left =
     (let size = length-append acts more in
@@ -64,16 +69,18 @@ left_then from mid acts more found made roster server left =
       length acts + left.0,
       extra,
       omega (arith, size, few),
-      subst (λ (r : Roster). AreActs r from.server extra) roster (subst (λ (s : ServerId). AreActs mid.roster s extra) server left.3),
+      subst (λ (r : Roster). AreActs r from.server extra) roster
+          (subst (λ (s : ServerId). AreActs mid.roster s extra) server left.3),
       left.4
-      ∙ ap (λ (s : StoreState). Some (state_after s (front ++ extra))) made
-      ∙ ap (λ (s : StoreState). Some s) (sym (after_append acts (front ++ extra) from))
-      ∙ ap (λ (l : List Act). Some (state_after from l)) (sym (append_assoc acts front extra))
-      ∙ ap (λ (l : List Act). Some (state_after from (l ++ extra))) (sym (take-append-add acts more left.0)),
+          ∙ ap (λ (s : StoreState). Some (state_after s (front ++ extra))) made
+          ∙ ap (λ (s : StoreState). Some s) (sym (after_append acts (front ++ extra) from))
+          ∙ ap (λ (l : List Act). Some (state_after from l)) (sym (append_assoc acts front extra))
+          ∙ ap (λ (l : List Act). Some (state_after from (l ++ extra))) (sym (take-append-add acts more left.0)),
     ))
 
 -- what the first of some acts made is left of them
-pub left_first : (from : StoreState) (acts : List Act) (found : Option StoreState) → IsFirstOf from acts found → IsLeftOf from acts found
+pub left_first : (from : StoreState) (acts : List Act) (found : Option StoreState) → IsFirstOf from acts found
+    → IsLeftOf from acts found
 left_first from acts found first = (
   first.0,
   [],
@@ -88,7 +95,14 @@ left_first from acts found first = (
 
 -- a store that was only seen
 pub gone_none : (view : View) → HasGone view view
-gone_none view = record { acts = []; each = tt; same = record { server = refl; roster = refl }; state = refl; leaves = leaves_none _ view }
+gone_none view = record {
+  acts = [];
+  each = tt;
+  same = record { server = refl; roster = refl };
+  state = refl;
+  leaves
+      = leaves_none _ view;
+}
 
 -- one that went on, and then went on
 pub gone_then : (from mid now : View) → HasGone from mid → HasGone mid now → HasGone from now
@@ -99,15 +113,18 @@ gone_then from mid now first second = record {
       (subst (λ (r : Roster). Each (IsAct r from.state.server) second.acts) first.same.roster
       (subst (λ (s : ServerId). Each (IsAct mid.state.roster s) second.acts) first.same.server second.each));
   same = record { server = second.same.server ∙ first.same.server; roster = second.same.roster ∙ first.same.roster };
-  state = second.state ∙ ap (λ (s : StoreState). state_after s second.acts) first.state ∙ sym (after_append first.acts second.acts from.state);
+  state = second.state ∙ ap (λ (s : StoreState). state_after s second.acts) first.state ∙ sym
+      (after_append first.acts second.acts from.state);
   leaves =
       leaves_then (leaves_weaker first.leaves (λ found left. left_more from.state first.acts second.acts found left))
       (leaves_weaker second.leaves
-      (λ found left. left_then from.state mid.state first.acts second.acts found first.state first.same.roster first.same.server left));
+      (λ found left. left_then from.state mid.state first.acts second.acts found first.state first.same.roster
+      first.same.server left));
 }
 
 -- one that did nothing
-pub gone_idle : (old new : View) → IsSameStore old new → new.state ≡ old.state → Leaves (IsFirstOf old.state []) old new → HasGone old new
+pub gone_idle : (old new : View) → IsSameStore old new → new.state ≡ old.state → Leaves (IsFirstOf old.state []) old
+    new → HasGone old new
 gone_idle old new same state leaves = record {
   acts = [];
   each = tt;
@@ -117,7 +134,8 @@ gone_idle old new same state leaves = record {
 }
 
 -- one that did the first of a batch
-pub gone_done : (old new : View) (batch : List Act) (k : ℕ) → AreActs old.state.roster old.state.server batch → IsSameStore old new → new.state ≡ state_after old.state (take k batch)
+pub gone_done : (old new : View) (batch : List Act) (k : ℕ) → AreActs old.state.roster old.state.server batch
+    → IsSameStore old new → new.state ≡ state_after old.state (take k batch)
     → Leaves (IsFirstOf old.state batch) old new → HasGone old new
 gone_done old new batch k are same state leaves = record {
   acts = take k batch;
@@ -126,20 +144,34 @@ gone_done old new batch k are same state leaves = record {
   state = state;
   leaves =
       leaves_weaker leaves
-      (λ found first. (0, take first.0 batch, omega arith, acts_take old.state.roster old.state.server first.0 batch are, first.2));
+      (λ found first. (
+        0,
+        take first.0 batch,
+        omega arith,
+        acts_take old.state.roster old.state.server first.0 batch
+            are,
+        first.2,
+      ));
 }
 
 -- what the first of some acts, and of a batch behind them, made is left of them
 le_tells : (a b : ℕ) → (a ≤ b) ⊎ ((i : ℕ) × (a ≡ b + i))
 le_tells zero b = inl (omega arith)
 le_tells (suc a) zero = inr (suc a, omega arith)
-le_tells (suc a) (suc b) = ⊎_elim (λ le. inl (omega (arith, le))) (λ more. inr (more.0, (let e = more.1 in omega (arith, e)))) (le_tells a b)
+le_tells (suc a) (suc b) = ⊎_elim (λ le. inl (omega (arith, le)))
+    (λ more. inr (more.0, (let e = more.1 in omega (arith, e)))) (le_tells a b)
 
-pub left_near : (from : StoreState) (acts more : List Act) (found : Option StoreState) → AreActs from.roster from.server more → IsFirstOf from (acts ++ more) found → IsLeftOf from acts found
+pub left_near : (from : StoreState) (acts more : List Act) (found : Option StoreState) → AreActs from.roster
+    from.server more → IsFirstOf from (acts ++ more) found → IsLeftOf from acts found
 left_near from acts more found are first = ⊎_elim within beyond (le_tells first.0 (length acts))
   where
     within : first.0 ≤ length acts → IsLeftOf from acts found
-    within le = left_first from acts found (first.0, le, first.2 ∙ ap (λ (l : List Act). Some (state_after from l)) (take-append-le first.0 acts more le))
+    within le = left_first from acts found (
+      first.0,
+      le,
+      first.2 ∙ ap (λ (l : List Act). Some (state_after from l))
+          (take-append-le first.0 acts more le),
+    )
 
     beyond : (i : ℕ) × (first.0 ≡ length acts + i) → IsLeftOf from acts found
     beyond b = (
@@ -148,9 +180,9 @@ left_near from acts more found are first = ⊎_elim within beyond (le_tells firs
       omega arith,
       acts_take from.roster from.server b.0 more are,
       first.2
-      ∙ ap (λ (n : ℕ). Some (state_after from (take n (acts ++ more)))) b.1
-      ∙ ap (λ (l : List Act). Some (state_after from l)) (take-append-add acts more b.0)
-      ∙ ap (λ (l : List Act). Some (state_after from (l ++ take b.0 more))) (sym (take-length acts)),
+          ∙ ap (λ (n : ℕ). Some (state_after from (take n (acts ++ more)))) b.1
+          ∙ ap (λ (l : List Act). Some (state_after from l)) (take-append-add acts more b.0)
+          ∙ ap (λ (l : List Act). Some (state_after from (l ++ take b.0 more))) (sym (take-length acts)),
     )
 
 -- so many acts, and a batch behind them
@@ -189,7 +221,8 @@ parted P (suc a) b (act ∷ acts) each =
     })
 
 -- one that did acts as stores do
-pub gone_acts : {T E : Type 0} (result : Result T E) (acts : List Act) (old new : View) → Each (IsAct old.state.roster old.state.server) acts → IsSameStore old new
+pub gone_acts : {T E : Type 0} (result : Result T E) (acts : List Act) (old new : View) → Each
+    (IsAct old.state.roster old.state.server) acts → IsSameStore old new
     → DoesActs result acts old new → HasGone old new
 gone_acts result acts old new each same does =
     (let state = old.state in
@@ -206,32 +239,45 @@ gone_acts result acts old new each same does =
           (subst (λ (l : List Act). IsFirstOf state l found) part.are first));
     })
 
--- what is watched
-abbrev pub Went : Type 0 → (ℕ → View) → View → Type 0
-Went tells from view = tells → HasGone (from view.state.server.0) view
+-- what is watched of a store goes on as it does
+module _ (tells : Type 0) (from : ℕ → View) where
+  pub went_on : (old new : View) → (tells → ∥ HasGone (from old.state.server.0) old ∥₁) → IsSameStore old new
+      → (tells → HasGone old new) → tells → ∥ HasGone (from new.state.server.0) new ∥₁
+  went_on old new went same gone told =
+      subst (λ (s : ServerId). ∥ HasGone (from s.0) new ∥₁) (sym same.server)
+      (∥∥₁_map (went told) (λ before. gone_then (from old.state.server.0) old new before (gone told)))
 
-pub went_on : (tells : Type 0) (from : ℕ → View) (old new : View) → Went tells from old → IsSameStore old new → (tells → HasGone old new) → Went tells from new
-went_on tells from old new went same gone told =
-    subst (λ (s : ServerId). HasGone (from s.0) new) (sym same.server) (gone_then (from old.state.server.0) old new (went told) (gone told))
+  -- where it was asked
+  pub went_asked : {T : Type 0} (result : Result T StoreFault) (old new : View)
+      → (tells → ∥ HasGone (from old.state.server.0) old ∥₁) → IsAsked tells result old new
+      → tells → ∥ HasGone (from new.state.server.0) new ∥₁
+  went_asked result old new went asked = went_on old new went asked.same
+      (λ told. gone_idle old new asked.same (asked.state told) (asked.leaves told))
 
--- where it was asked
-pub went_asked : {T : Type 0} (tells : Type 0) (from : ℕ → View) (result : Result T StoreFault) (old new : View) → Went tells from old → IsAsked tells result old new → Went tells from new
-went_asked tells from result old new went asked =
-    went_on tells from old new went asked.same (λ told. gone_idle old new asked.same (asked.state told) (asked.leaves told))
+  -- where it was opened anew
+  pub went_anew : (old new : View) → (tells → ∥ HasGone (from old.state.server.0) old ∥₁) → IsSameStore old new
+      → (tells → new.state ≡ old.state)
+      → (tells → Leaves (IsFirstOf old.state []) old new) → tells → ∥ HasGone (from new.state.server.0) new ∥₁
+  went_anew old new went same state leaves = went_on old new went same
+      (λ told. gone_idle old new same (state told) (leaves told))
 
--- where a batch was given
-batch_done : {T : Type 0} (result : Result T StoreFault) (old new : View) (batch : List Act) → OnOk result (new.state ≡ state_after old.state batch)
-    → OnErr result ((k : ℕ) × (k ≤ length batch) × (new.state ≡ state_after old.state (take k batch))) → (k : ℕ) × (new.state ≡ state_after old.state (take k batch))
-batch_done (Ok dones) old new batch state fault = (length batch, state ∙ ap (state_after old.state) (sym (take-length batch)))
-batch_done (Err error) old new batch state fault = (fault.0, fault.2)
-
-pub went_done : {T : Type 0} (tells : Type 0) (from : ℕ → View) (result : Result T StoreFault) (old new : View) (batch : List Act) → Went tells from old
-    → AreActs old.state.roster old.state.server batch → IsSameStore old new → (tells → OnOk result (new.state ≡ state_after old.state batch))
-    → (tells → OnErr result ((k : ℕ) × (k ≤ length batch) × (new.state ≡ state_after old.state (take k batch)))) → (tells → Leaves (IsFirstOf old.state batch) old new)
-    → Went tells from new
-went_done tells from result old new batch went are same state fault leaves =
-    went_on tells from old new went same
-    (λ told. (let done = batch_done result old new batch (state told) (fault told) in gone_done old new batch done.0 are same done.1 (leaves told)))
+  -- where a batch was given
+  pub went_done : {T : Type 0} (result : Result T StoreFault) (old new : View) (batch : List Act)
+      → (tells → ∥ HasGone (from old.state.server.0) old ∥₁)
+      → AreActs old.state.roster old.state.server batch → IsSameStore old new
+      → (tells → OnOk result (new.state ≡ state_after old.state batch))
+      → (tells → OnErr result ((k : ℕ) × (k ≤ length batch) × (new.state ≡ state_after old.state (take k batch))))
+      → (tells → Leaves (IsFirstOf old.state batch) old new)
+      → tells → ∥ HasGone (from new.state.server.0) new ∥₁
+  went_done {T = T} result old new batch went are same state fault leaves =
+      went_on old new went same (λ told. (let done = batch_done result (state told) (fault told) in gone_done old new
+      batch done.0 are same done.1 (leaves told)))
+    where
+      batch_done : (result : Result T StoreFault) → OnOk result (new.state ≡ state_after old.state batch)
+          → OnErr result ((k : ℕ) × (k ≤ length batch) × (new.state ≡ state_after old.state (take k batch)))
+          → (k : ℕ) × (new.state ≡ state_after old.state (take k batch))
+      batch_done (Ok dones) ok err = (length batch, ok ∙ ap (state_after old.state) (sym (take-length batch)))
+      batch_done (Err error) ok err = (err.0, err.2)
 
 -- what is seen of the one of these stores that has this place, where there is one
 abbrev pub view_at : {S : Type 0} → (S → View) → List S → ℕ → View
@@ -247,22 +293,27 @@ first_views view stores number = view_at view stores (number - 1)
 pub gone_first : {S : Type 0} (view : S → View) (stores : List S)
     → ((k : ℕ) (store : S) → slice_get stores k ≡ Some store → (view store).state.server.0 ≡ k + 1)
     → HaveGone (first_views view stores) view stores
-gone_first {S = S} view stores numbered = from_place stores 0 (λ place store is. (let same : place ≡ 0 + place = omega arith in subst (λ (n : ℕ). slice_get stores n ≡ Some store) same is))
+gone_first {S = S} view stores numbered = from_place stores 0
+    (λ place store is. (let same : place ≡ 0 + place = omega arith in subst
+    (λ (n : ℕ). slice_get stores n ≡ Some store) same is))
   where
     seen : (all : List S) (k : ℕ) (store : S) → slice_get all k ≡ Some store → HasGone (view_at view all k) (view store)
     seen [] k store is = absurd (cc)
-    seen (s ∷ all) zero store is = (let same : s ≡ store = cc in subst (λ (x : S). HasGone (view s) (view x)) same (gone_none (view s)))
+    seen (s ∷ all) zero store is = (let same : s ≡ store = cc in subst (λ (x : S). HasGone (view s) (view x)) same
+        (gone_none (view s)))
     seen (s ∷ all) (suc k) store is = seen all k store is
 
-    from_place : (rest : List S) (at : ℕ) → ((place : ℕ) (store : S) → slice_get rest place ≡ Some store → slice_get stores (at + place) ≡ Some store)
+    from_place : (rest : List S) (at : ℕ) → ((place : ℕ) (store : S) → slice_get rest place ≡ Some store → slice_get
+        stores (at + place) ≡ Some store)
         → HaveGone (first_views view stores) view rest
     from_place [] at are = tt
     from_place (store ∷ rest) at are =
         (let here : slice_get stores (at + 0) ≡ Some store = are 0 store refl in
         let number : (view store).state.server.0 ≡ at + 0 + 1 = numbered (at + 0) store here in
-        let place : at + 0 ≡ (view store).state.server.0 - 1 = omega (arith, number) in
-        (
-          subst (λ (n : ℕ). HasGone (view_at view stores n) (view store)) place (seen stores (at + 0) store here),
+        let place : at + 0 ≡ (view store).state.server.0 - 1 = omega (arith, number) in (
+          subst (λ (n : ℕ). ∥ HasGone (view_at view stores n) (view store) ∥₁) place ∣ seen stores (at + 0) store
+              here ∣₁,
           from_place rest (at + 1)
-          (λ next s is. (let same : at + suc next ≡ at + 1 + next = omega arith in subst (λ (n : ℕ). slice_get stores n ≡ Some s) same (are (suc next) s is))),
+              (λ next s is. (let same : at + suc next ≡ at + 1 + next = omega arith in subst
+              (λ (n : ℕ). slice_get stores n ≡ Some s) same (are (suc next) s is))),
         ))

@@ -1,3 +1,3 @@
+pub mod Fitting
 pub mod Going
-pub mod Plain
-pub mod Watched
+pub mod Listed

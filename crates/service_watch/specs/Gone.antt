@@ -22,8 +22,8 @@ pub record HasGone (from now : View) : Type 0 where
   pub state : now.state ≡ state_after from.state acts
   pub leaves : Leaves (IsLeftOf from.state acts) from now
 
--- so it is of each of these stores, where that of the server of a number was first seen so
+-- so it is of each of these stores, for some acts, where that of the server of a number was first seen so
 abbrev pub HaveGone : {S : Type 0} → (ℕ → View) → (S → View) → List S → Type 0
 HaveGone from view [] = ⊤
 HaveGone from view (store ∷ stores) =
-    HasGone (from (view store).state.server.0) (view store) × HaveGone from view stores
+    ∥ HasGone (from (view store).state.server.0) (view store) ∥₁ × HaveGone from view stores

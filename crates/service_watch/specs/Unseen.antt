@@ -1,5 +1,5 @@
 -- What is seen of a store of which nothing is known.
-use Rattle.std.specs.Prelude.{⊥, ⊤, false, [], None}
+use Rattle.std.specs.Prelude.{false, [], None}
 use Rattle.store_memory.specs.Views.{View}
 use Rattle.store_state.specs.declared.state.StoreState.{StoreState}
 

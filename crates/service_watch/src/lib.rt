@@ -1,4 +1,5 @@
-//! Stores that are watched: whatever is done with one, it is known what acts it has done since then, and what a crash at
+//! Stores that are watched: whatever is done with one, it is known what acts it has done since then, and what a crash
+//! at
 //! any moment may have left of it.
 #![tactic(auto)]
 

@@ -7,7 +7,7 @@ use base_types::Name;
 use store_acts::Act;
 use tree_calls::Call;
 
-// Whether the fileset that a call makes gets a name, as each does.
+// Whether the fileset that a call makes gets a name, as it always does.
 fn has_name(call: &Call) -> bool
     ensures { result ≡ true → HasName call.now }
 {
@@ -18,7 +18,7 @@ fn has_name(call: &Call) -> bool
     }
 }
 
-// Whether an act fits any store: what comes from other servers, or leaves for them, may not.
+// Whether an act fits any store: what comes from another server, or begins to leave for one, may not.
 fn is_plain(act: &Act) -> bool
     ensures { result ≡ true → (state : StoreState) → Fits state act.now }
 {

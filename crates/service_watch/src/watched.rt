@@ -23,12 +23,14 @@ impl Origin for Brand {
 }
 
 /// A store that is watched: it has done some acts since it was first seen, and a crash at any moment since may leave
-/// what the first of them made.
+/// what the first of them made, and perhaps some of one batch more. It is for servers between which no fileset moves:
+/// an act by which one begins to leave, or a part of one that arrives, isn't done, nor is what is behind it in its
+/// batch; `Memory` is the answer.
 #[derive(Drop)]
 pub struct Watched<S: Store, O: Origin> {
     pub(crate) store: S,
     pub(crate) origin: PhantomData<O>,
-    ghost went: { S.tells → HasGone (O.from (S.view store).state.server.0) (S.view store) },
+    ghost went: { S.tells → ∥ HasGone (O.from (S.view store).state.server.0) (S.view store) ∥₁ },
 }
 
 impl<S: Store, O: Origin> Watched<S, O> {
@@ -38,7 +40,7 @@ impl<S: Store, O: Origin> Watched<S, O> {
     /// The store, which isn't watched any more.
     pub fn into_store(self) -> S
         ensures is { result ≡ store_in self }
-        ensures went { S.tells → HasGone (O.from (S.view result).state.server.0) (S.view result) }
+        ensures went { S.tells → ∥ HasGone (O.from (S.view result).state.server.0) (S.view result) ∥₁ }
     {
         self.store
     }
@@ -51,7 +53,7 @@ impl<S: Store, O: Origin> Store for Watched<S, O> {
 
     ghost view = { λ watched. S.view (store_in watched) };
 
-    // What comes from other servers, or leaves for them, isn't done: `Memory` is the answer.
+    #[tactic(auto, using(crate::proofs::Fitting::first_fault, crate::proofs::Fitting::first_leaves))]
     fn apply(&mut self, batch: &[Act]) -> Result<Items<Done>, StoreFault> {
         let count = plain_acts(batch);
         let dones = self.store.apply(&batch[..count])?;
