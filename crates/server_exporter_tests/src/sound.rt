@@ -1,19 +1,19 @@
 //! Whether calls and messages may be given to a server and its store. Only what rows say is told as sound.
-ghost use Rattle.std.specs.Prelude.{IsTrue, ◌+◌, ◌/◌, ◌≤◌, ◌≡◌, IfSome};
+ghost use Rattle.std.specs.Prelude.{IsTrue, ◌+◌, ◌/◌, ◌<◌, ◌≤◌, ◌≡◌, IfSome};
 ghost use Rattle.base_types.specs.declared.limits.TheConstants.{FILE_BYTES_MAX};
 ghost use Rattle.message_types.specs.Soundness.{AreFileBytes, AreNamed, Each, Goes, HasMoves, HasRoom, IsBody, IsCall};
-ghost use Rattle.message_types.specs.Soundness.{IsChange, IsDecided, IsFetch, IsFetched, IsGiveBack, IsHost};
-ghost use Rattle.message_types.specs.Soundness.{IsServer, IsShort};
+ghost use Rattle.message_types.specs.Soundness.{IsChange, IsClaim, IsDecided, IsFetch, IsFetched, IsGiveBack, IsHost};
+ghost use Rattle.message_types.specs.Soundness.{IsServer, IsShort, IsToken, Numbers};
 ghost use Rattle.message_types.specs.declared.message.Direction.TheVariants.{ToServer};
 ghost use Rattle.token_types.specs.declared.token.Need.{Need as NeedOf};
 ghost use Rattle.token_types.specs.declared.token.TokenId.{TokenId as TokenIdOf};
 ghost use Rattle.store_acts.specs.Sound.{IsDecided as IsDone, IsFor as IsForStore};
-ghost use Rattle.server_takes.specs.Messages.{IsFor};
+ghost use Rattle.server_exporter.specs.Messages.{IsFor};
 
 use base_types::{FILE_BYTES_MAX, Fid, FilesetId, GROUPS_MAX, HostId, OBJECTS_MAX, ServerId};
-use message_types::{Body, Change, Direction, Fetch, Give, Message, Named};
+use message_types::{Body, Change, Direction, Fetch, Give, Message, Named, Reclaim};
 use server_tables::Tables;
-use token_types::{Kind, Need, TokenId};
+use token_types::{Kind, Need, Token, TokenId};
 use tree_calls::{Call, Piece, Place, Roster};
 
 fn is_server(roster: &Roster, server: ServerId) -> bool
@@ -35,12 +35,10 @@ fn is_place(roster: &Roster, place: &Place) -> bool
     place.path.len() <= 65_535 && is_server(roster, place.server)
 }
 
-/// Whether a call may be asked, decided by a server, and done by its store.
+/// Whether a call may be asked, and is decided by a server.
 pub fn is_call(server: ServerId, roster: &Roster, call: &Call) -> bool
     ensures call { IsTrue result → IsCall roster.now call.now }
     ensures decided { IsTrue result → IsDecided server call.now }
-    ensures done { IsTrue result → IsDone call.now }
-    ensures own { IsTrue result → IsForStore server call.now }
 {
     match call {
         Call::NewFileset {
@@ -58,6 +56,19 @@ pub fn is_call(server: ServerId, roster: &Roster, call: &Call) -> bool
         }
         Call::Create { place } => is_place(roster, place),
         Call::MakeDir { place } => is_place(roster, place),
+        Call::Lock { place, .. } => is_place(roster, place),
+        _ => false,
+    }
+}
+
+/// Whether a call is done by a server's store.
+pub fn is_done(server: ServerId, call: &Call) -> bool
+    ensures done { IsTrue result → IsDone call.now }
+    ensures own { IsTrue result → IsForStore server call.now }
+{
+    match call {
+        Call::NewFileset { server: at, .. } => *at == server,
+        Call::Create { .. } | Call::MakeDir { .. } => true,
         _ => false,
     }
 }
@@ -132,16 +143,27 @@ fn is_length(length: Option<u32>) -> bool
     }
 }
 
-// Whether a give-back names no tokens and ends no call.
+// Whether a give-back names at most one token, and ends no call.
 fn is_give(roster: &Roster, message: &Message, give: &Give) -> bool
     ensures { IsTrue result → IsGiveBack roster.now message.now give.now }
 {
     1 <= give.number
         && is_home(message.server, give.fid.fileset)
-        && give.ids.is_empty()
+        && are_declared(roster, message.server, give.ids.as_slice())
         && give.ends.is_none()
         && are_file_bytes(give.pieces.as_slice())
         && is_length(give.length)
+}
+
+// Whether at most one token is named, of a server that is declared.
+fn are_declared(roster: &Roster, server: ServerId, ids: &[TokenId]) -> bool
+    ensures issued { IsTrue result → Each (λ (id : TokenIdOf). id.server ≡ server) ids.now }
+    ensures declared { IsTrue result → Each (λ (id : TokenIdOf). IsServer roster.now id.server) ids.now }
+{
+    match ids.split_first() {
+        Some((id, rest)) => rest.is_empty() && id.server == server && is_server(roster, id.server),
+        None => true,
+    }
 }
 
 // Whether at most one token is named, of a server.
@@ -160,6 +182,38 @@ fn are_named(message: &Message, named: &Named) -> bool
     is_home(message.server, named.fid.fileset) && are_issued(message.server, named.ids.as_slice())
 }
 
+// Whether a claim has at most one token, an earlier one on the fileset that it names.
+fn is_claim(message: &Message, claim: &Reclaim) -> bool
+    ensures { IsTrue result → IsClaim message.now claim.now }
+{
+    match claim.tokens.as_slice().split_first() {
+        Some((token, rest)) => {
+            rest.is_empty() && is_claimed(message, token) && names(claim, token.fid.fileset)
+        }
+        None => true,
+    }
+}
+
+fn is_claimed(message: &Message, token: &Token) -> bool
+    ensures own { IsTrue result → IsToken message.now token.now }
+    ensures earlier { IsTrue result → token.now.id.epoch < message.now.epoch }
+{
+    token.host == message.host
+        && token.id.server == message.server
+        && token.id.epoch < message.epoch
+        && is_fetched(token.kind)
+}
+
+// Whether the first number of a claim is of a fileset.
+fn names(claim: &Reclaim, fileset: FilesetId) -> bool
+    ensures { IsTrue result → Numbers claim.now.numbers fileset }
+{
+    match claim.numbers.as_slice().split_first() {
+        Some((outstanding, _)) => outstanding.fileset == fileset,
+        None => false,
+    }
+}
+
 fn is_body(roster: &Roster, message: &Message) -> bool
     ensures way { IsTrue result → Goes message.now.body ToServer }
     ensures moves { IsTrue result → HasMoves message.now.body 0 }
@@ -169,9 +223,9 @@ fn is_body(roster: &Roster, message: &Message) -> bool
         Body::Hello | Body::Down | Body::Bye => true,
         Body::Fetch(fetch) => is_fetch(message, fetch),
         Body::Change(change) => is_change(roster, message, change),
-        Body::Returned(named) => are_named(message, named),
+        Body::Returned(named) | Body::Kept(named) => are_named(message, named),
         Body::GiveBack(give) => is_give(roster, message, give),
-        Body::Reclaim(claim) => claim.tokens.is_empty(),
+        Body::Reclaim(claim) => is_claim(message, claim),
         _ => false,
     }
 }

@@ -1,47 +1,42 @@
-//! Acts on a server's store, and what is asked of it.
+//! Calls that are given to a server's store, and what is asked of it.
 ghost use Rattle.std.specs.Prelude.{OnOk};
 ghost use Rattle.message_types.specs.Soundness.{IsCall, IsHost};
 ghost use Rattle.store_acts.specs.Sound.{IsDecided, IsFor};
-ghost use Rattle.server_takes_tests.specs.Serving.{IsKept};
+ghost use Rattle.server_exporter_tests.specs.Serving.{IsKept};
 
-use crate::sound::{is_call, is_host};
-use crate::telling::push_pieces;
+use crate::sound::{is_call, is_done, is_host};
 use crate::wording::{change, fetch};
 use anyhow::{Result, bail};
 use base_types::HostId;
 use message_types::{Change, Fetch};
 use server_looks::{
-    ExporterFault, Keeper, do_call, entries_told, found_by, note_host, pieces_told, refuse_call,
+    ExporterFault, Keeper, do_call, entries_told, found_by, pieces_told, refuse_call,
 };
 use server_tables::{NO_FID, Tables};
-use store_memory::{HostState, MapStore, Store};
-use tree_calls::{Call, Refusal, Reply};
+use store_memory::MapStore;
+use tree_calls::{Call, Piece, Refusal, Reply};
 use tree_test_words::{Text, Words, push_reply};
 
-/// `note HOST`: a host is live. Whether the store says so.
-pub fn note(
+/// Writes what is told to a row that asks of a store.
+pub fn look(
     tables: &Tables,
     keeper: &mut Keeper<MapStore>,
+    word: &str,
     words: &mut Words,
     text: &mut Text,
 ) -> Result<()>
     requires { IsKept tables.now keeper.old }
     ensures { OnOk result (IsKept tables.now keeper.new) }
 {
-    let host = words.host()?;
-    if !is_host(&tables.roster, host) {
-        bail!("no host of the roster");
+    match word {
+        "call" => ask(tables, keeper, words, text),
+        "told" => tell(tables, keeper, words, text),
+        _ => bail!("no row: {word}"),
     }
-    note_host(keeper, host, HostState::Live)?;
-    text.word(match keeper.store.host(host) {
-        HostState::Live => "live",
-        _ => "other",
-    });
-    Ok(())
 }
 
-/// `call HOST NUMBER FILESET CALL`: how much a Change finds that it needs, and the reply where it is done or refused.
-pub fn ask(
+// `call HOST NUMBER FILESET CALL`: how much a Change finds that it needs, and the reply where it is done or refused.
+fn ask(
     tables: &Tables,
     keeper: &mut Keeper<MapStore>,
     words: &mut Words,
@@ -67,7 +62,10 @@ fn ask_sound(
     requires { IsKept tables.now keeper.old }
     ensures { OnOk result (IsKept tables.now keeper.new) }
 {
-    if !is_host(&tables.roster, host) || !is_call(tables.server, &tables.roster, &change.call) {
+    if !is_host(&tables.roster, host)
+        || !is_call(tables.server, &tables.roster, &change.call)
+        || !is_done(tables.server, &change.call)
+    {
         bail!("no sound call");
     }
     let found = found_by(tables.server, &tables.roster, keeper, host, change)?;
@@ -102,8 +100,8 @@ fn reply_to(
     }
 }
 
-/// `told NUMBER FID KIND`: the bytes that a Fetch is told of a file, and the names of a directory.
-pub fn tell(
+// `told NUMBER FID KIND`: the bytes that a Fetch is told of a file, and the names of a directory.
+fn tell(
     tables: &Tables,
     keeper: &mut Keeper<MapStore>,
     words: &mut Words,
@@ -134,4 +132,11 @@ fn tell_fetch(
     text.number(" names ", entries.len() as u64);
     drop(entries);
     Ok(())
+}
+
+fn push_pieces(text: &mut Text, pieces: &[Piece]) {
+    for piece in pieces {
+        text.number("", u64::from(piece.from));
+        text.plain(" ", piece.bytes.as_slice());
+    }
 }
