@@ -59,9 +59,9 @@ fn went_on(went: Went, turned: Turned, failed: bool) -> Went
     }
 }
 
-// How long a worker waits for those that haven't begun. Where no thread can be started for them they begin one after
-// the other, when it has ended.
-const PATIENCE: Duration = Duration::from_millis(100);
+// How many milliseconds a worker waits for those that haven't begun. Where no thread can be started for them they begin
+// one after the other, when it has ended.
+const PATIENCE: u64 = 100;
 
 /// What workers on threads tell each other. No proof rests on it.
 #[derive(Drop)]
@@ -100,7 +100,8 @@ impl Words {
             self.events.park(rt, word);
             return true;
         }
-        self.events.park_timeout(rt, word, PATIENCE);
+        let patience = Duration::from_millis(PATIENCE);
+        self.events.park_timeout(rt, word, patience);
         self.late.load(Ordering::SeqCst) == 0 || self.events.load(Ordering::SeqCst) != seen
     }
 
