@@ -110,8 +110,8 @@ fn answer_so(
     Some(count)
 }
 
-// Puts the spelling of a reply into room, and answers its length; None where there isn't room for it, or it has none, or
-// there is no reply.
+// Puts the spelling of a reply into room, and answers its length; None where there isn't room for it, or it has none,
+// or there is no reply.
 fn spell(tables: &Tables, verdict: &Result<Verdict, Refusal>, out: &mut [u8]) -> Option<usize>
     requires { CanRead tables.now verdict.now }
     ensures { (call : CallOf) → Spells (reply_now (meant tables.now call verdict.now)) out.old out.new result }

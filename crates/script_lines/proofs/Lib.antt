@@ -3,6 +3,7 @@ mod Places
 mod Circles
 mod Leading
 mod Ends
+mod Found
 pub mod Cloned
 pub mod Locks
 pub mod Kept

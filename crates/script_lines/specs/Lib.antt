@@ -9,4 +9,5 @@ pub mod Ways
 pub mod Leads
 pub mod Sound
 pub mod Asks
+pub mod Index
 pub mod Laws

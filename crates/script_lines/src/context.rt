@@ -5,6 +5,7 @@ ghost use Rattle.script_words.specs.Outcome.{Gives};
 ghost use Rattle.script_lines.specs.Context.{find_placed, server_of, is_elsewhere, has_stopped, user_place, place_of};
 ghost use Rattle.script_lines.specs.Context.{place_at, host_named, server_named, node_declared};
 
+use crate::flags::Flags;
 use crate::script::Script;
 use base_types::{HostId, Items, Name, Node, ServerId, User};
 use script_words::{BadWhy, Fault, Words, names_of, node_of, word_at};
@@ -31,7 +32,7 @@ pub struct Context {
     /// Where filesets are: those of the headers, and after `begin` also those of clones.
     pub(crate) placed: Items<Placed>,
     /// The flags that a line raises.
-    pub(crate) raised: Items<Name>,
+    pub(crate) raised: Flags,
     /// The hosts that have stopped.
     pub(crate) stopped: Items<HostId>,
 }

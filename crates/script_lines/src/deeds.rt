@@ -10,8 +10,8 @@ use crate::context::Context;
 use crate::script::{Deed, NUMBER_MAX};
 use base_types::{Name, Node, OpenKind};
 use script_words::{
-    BadWhy, Fault, Words, end_at, is_among, is_word, known, label_at, list_at, lock_mode_of,
-    name_at, open_kind_of, small_at, text_at, unless, word_at,
+    BadWhy, Fault, Words, end_at, is_word, known, label_at, list_at, lock_mode_of, name_at,
+    open_kind_of, small_at, text_at, unless, word_at,
 };
 use tree_calls::{Call, Place, Which};
 
@@ -349,7 +349,7 @@ impl Context {
         ensures { Gives result (raise_deed self.now.raised words.now) }
     {
         let flag = label_at(words, 2)?;
-        unless(is_among(&self.raised, &flag), BadWhy::Repeated)?;
+        unless(self.raised.has(&flag), BadWhy::Repeated)?;
         end_at(words, 3)?;
         Ok(Deed::Raise(flag))
     }

@@ -4,6 +4,7 @@ ghost use Rattle.script_lines.specs.Judge.{nothing_said, node_stopped, node_at, 
 ghost use Rattle.script_lines.specs.Judge.{line_judged};
 
 use crate::context::Context;
+use crate::flags::Flags;
 use crate::headers::header_of;
 use crate::script::{Deed, Line, Script};
 use base_types::{Items, NoMemory, Node, Plain};
@@ -32,7 +33,7 @@ impl Context {
             begun: false,
             capped: Items::new(alloc),
             placed: Items::new(alloc),
-            raised: Items::new(alloc),
+            raised: Flags::new(alloc),
             stopped: Items::new(alloc),
         }
     }

@@ -11,16 +11,15 @@ ghost use Rattle.script_reader.specs.Walk.{
   stuck_at,
 };
 
-use base_types::{Items, Name, NoMemory, Node, Plain};
-use script_lines::{Deed, Line, same_node};
-use script_words::is_among;
+use base_types::{Items, NoMemory, Node, Plain};
+use script_lines::{Deed, Flags, Line, same_node};
 use std::alloc::Global;
 
 /// A pass along lines, by their places.
 #[derive(Drop)]
 pub(crate) struct Walk {
     /// The flags that lines which went have raised.
-    pub flags: Items<Name>,
+    pub flags: Flags,
     /// The lines that are left.
     pub left: Items<usize>,
     /// The nodes that stand at one of these.
@@ -38,11 +37,11 @@ fn is_blocked(blocked: &Items<Node>, node: Node) -> bool
 
 /// Whether a line with this deed can go once these flags are raised: an await when its flag is among them, and any
 /// other at once.
-pub fn can_go(flags: &Items<Name>, deed: &Deed) -> bool
+pub fn can_go(flags: &Flags, deed: &Deed) -> bool
     ensures { result ≡ can_go flags.now deed.now }
 {
     match deed {
-        Deed::Await(flag) => is_among(flags, flag),
+        Deed::Await(flag) => flags.has(flag),
         _ => true,
     }
 }
@@ -67,7 +66,7 @@ impl Walk {
 fn pass(
     alloc: Global,
     lines: &Items<Line>,
-    flags: Items<Name>,
+    flags: Flags,
     places: &Items<usize>,
 ) -> Result<Walk, NoMemory>
     ensures { IfOk result (λ walk. walk ≡ pass_from lines.now (walk_of flags) places.now) }
@@ -114,7 +113,7 @@ fn rounds(alloc: Global, lines: &Items<Line>) -> Result<Items<usize>, NoMemory>
     ensures { IfOk result (λ left. left ≡ rounds (length lines.now) lines.now [] (count_up (length lines.now))) }
 {
     let mut places = count_up(alloc, lines.len())?;
-    let mut flags = Items::new(alloc);
+    let mut flags = Flags::new(alloc);
     let most = lines.len();
     for round in 0..most {
         let walk = pass(alloc, lines, flags, &places)?;

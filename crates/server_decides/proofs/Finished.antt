@@ -11,8 +11,8 @@ use Rattle.token_types.specs.declared.token.TokenId.{TokenId}
 use Rattle.server_tables.specs.Counting.{IsCounted}
 use Rattle.server_tables.specs.Judging.{first_ripe}
 use Rattle.server_tables.specs.declared.tables.Tables.{Tables}
-use Rattle.server_takes.specs.Taking.{Made, made}
-use Rattle.server_takes.specs.declared.draft.Draft.{Draft}
+use Rattle.server_says.specs.Taking.{Made, made}
+use Rattle.server_says.specs.Draft.{Draft}
 use Rattle.server_says.specs.Claiming.{AdmitsOne}
 use Rattle.server_says.specs.Revoking.{Asking, all_revoked, asked, asked_all, asking_back, askings, not_asked}
 use Rattle.server_says.specs.Running.{GoesTo}

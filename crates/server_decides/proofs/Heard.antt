@@ -41,11 +41,11 @@ use Rattle.server_tables.specs.Places.{is_of}
 use Rattle.server_tables.specs.Updates.{gone_away}
 use Rattle.server_tables.specs.declared.pending.Pending.{Pending}
 use Rattle.server_tables.specs.declared.tables.Tables.{Tables}
-use Rattle.server_takes.specs.Messages.{IsFor, IsHeard}
-use Rattle.server_takes.specs.Taking.{IsBodyTaken, IsMadeOf, IsOtherTaken, IsRequestTaken, IsTaken, Made, Whether}
-use Rattle.server_takes.specs.Taking.{want_made}
-use Rattle.server_takes.specs.Taking.{comes_new, ends_now, is_decided_here, takes_change, takes_fetch, wanted_for}
-use Rattle.server_takes.specs.declared.draft.Draft.{Draft}
+use Rattle.server_says.specs.Messages.{IsFor, IsHeard}
+use Rattle.server_says.specs.Taking.{IsBodyTaken, IsMadeOf, IsOtherTaken, IsRequestTaken, IsTaken, Made, Whether}
+use Rattle.server_says.specs.Taking.{want_made}
+use Rattle.server_says.specs.Taking.{comes_new, ends_now, is_decided_here, takes_change, takes_fetch, wanted_for}
+use Rattle.server_says.specs.Draft.{Draft}
 use Rattle.server_decides.specs.Serving.{CameSo, IsServed}
 use Rattle.server_decides.proofs.Served.{each_end, served_of}
 

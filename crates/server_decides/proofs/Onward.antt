@@ -5,10 +5,10 @@ use Rattle.message_types.specs.declared.message.Message.{Message}
 use Rattle.token_manager.specs.Managers.{wanted}
 use Rattle.server_tables.specs.Sound.{AreSound}
 use Rattle.server_tables.specs.declared.tables.Tables.{Tables}
-use Rattle.server_takes.specs.Messages.{IsFor, IsHeard}
-use Rattle.server_takes.specs.Taking.{made}
-use Rattle.server_takes.specs.declared.draft.Draft.{Draft}
-use Rattle.server_takes.proofs.SoundTaken.{GoesOn, heard_goes}
+use Rattle.server_says.specs.Messages.{IsFor, IsHeard}
+use Rattle.server_says.specs.Taking.{made}
+use Rattle.server_says.specs.Draft.{Draft}
+use Rattle.server_says.proofs.SoundTaken.{GoesOn, heard_goes}
 use Rattle.server_says.specs.Claiming.{AdmitsOne}
 use Rattle.server_says.specs.Revoking.{asking_back, not_asked}
 use Rattle.server_says.specs.Running.{GoesTo}

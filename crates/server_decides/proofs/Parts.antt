@@ -21,16 +21,16 @@ use Rattle.store_memory.specs.Reading.{status_told}
 use Rattle.store_state.specs.declared.state.StoreState.{StoreState}
 use Rattle.token_types.specs.declared.token.Need.{Need}
 use Rattle.token_types.specs.declared.token.Token.{Token}
-use Rattle.server_keeps.specs.Asking.{change_needs, change_refused}
-use Rattle.server_keeps.specs.Granting.{entries_for, pieces_for}
-use Rattle.server_looks.specs.declared.looking.Found.{Found}
+use Rattle.server_says.specs.Asking.{change_needs, change_refused}
+use Rattle.server_says.specs.Granting.{entries_for, pieces_for}
+use Rattle.server_says.specs.Found.{Found}
 use Rattle.server_tables.specs.Counting.{IsCounted}
 use Rattle.server_tables.specs.Updates.{stamped, unqueued}
 use Rattle.server_tables.specs.declared.pending.Pending.{Pending}
 use Rattle.server_tables.specs.declared.tables.Tables.{Tables}
-use Rattle.server_takes.specs.Drafts.{saying, word}
-use Rattle.server_takes.specs.Taking.{IsMadeOf, Made, Whether, made}
-use Rattle.server_takes.specs.declared.draft.Draft.{Draft}
+use Rattle.server_says.specs.Drafts.{saying, word}
+use Rattle.server_says.specs.Taking.{IsMadeOf, Made, Whether, made}
+use Rattle.server_says.specs.Draft.{Draft}
 use Rattle.server_decides.specs.Deciding.{IsDecision, IsDueOf, IsPlaced, found_on, is_passed, is_waiting, outlook_at}
 use Rattle.server_decides.specs.Sending.{IsChangeSending, IsLeftAt, IsSending, IsSendingOf, IsUsing, done_made}
 use Rattle.server_decides.specs.Sending.{empty_made, grant_made, grant_of, grant_with, granted_made, granted_out}
@@ -49,11 +49,11 @@ use Rattle.run_rules.specs.declared.applied.Wanted.{Wanted}
 use Rattle.store_acts.specs.Acts.{act_done}
 use Rattle.store_acts.specs.Sound.{HasName, IsDecided as IsDecidedCall, IsFor as IsForServer}
 use Rattle.store_memory.specs.Views.{IsSameStore, View}
-use Rattle.server_keeps.specs.Asking.{entered_told}
-use Rattle.server_looks.specs.Acts.{IsRepeatable, doing, refusing}
+use Rattle.server_says.specs.Asking.{entered_told}
+use Rattle.server_says.specs.Acts.{IsRepeatable, doing, refusing}
 use Rattle.server_says.specs.Writing.{written_made}
-use Rattle.server_takes.specs.Messages.{IsStoreOf}
-use Rattle.server_takes.specs.Taking.{wanted_for}
+use Rattle.server_says.specs.Messages.{IsStoreOf}
+use Rattle.server_says.specs.Taking.{wanted_for}
 use Rattle.server_decides.specs.Deciding.{HasEffect, IsDecided, IsDoing, IsMadeBy, IsRefusing, anew_made}
 use Rattle.server_decides.specs.Sending.{entering_by}
 use Rattle.server_decides.specs.Serving.{CameSo, IsServed}

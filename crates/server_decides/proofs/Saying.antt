@@ -40,11 +40,11 @@ use Rattle.server_tables.specs.declared.tables.Tables.{Tables}
 use Rattle.server_tables.proofs.Eaches.{each_so}
 use Rattle.server_tables.proofs.SoundTables.{decided_sound, enqueued_sound, renewed_sound, said_end, stamped_sound}
 use Rattle.server_tables.proofs.SoundTables.{unqueued_sound, word_sound}
-use Rattle.server_takes.specs.Drafts.{saying, word}
-use Rattle.server_takes.specs.Taking.{IsMadeOf, Made, made, wanted_for}
-use Rattle.server_takes.specs.declared.draft.Draft.{Draft}
+use Rattle.server_says.specs.Drafts.{saying, word}
+use Rattle.server_says.specs.Taking.{IsMadeOf, Made, made, wanted_for}
+use Rattle.server_says.specs.Draft.{Draft}
 use Rattle.server_says.specs.Writing.{done_of, written_made, written_of}
-use Rattle.server_looks.specs.declared.looking.Found.{Found}
+use Rattle.server_says.specs.Found.{Found}
 use Rattle.server_decides.specs.Deciding.{anew_made, is_fresh, is_of_row, still_fresh}
 use Rattle.server_decides.specs.Saying.{AreGranted, IsKnownHere, IsOfHere, IsSayable, MaySay, SaysOn, are_brought}
 use Rattle.server_decides.specs.Saying.{file_for, has_room, is_brought}

@@ -31,7 +31,7 @@ use Rattle.server_tables.specs.Sound.{CanHear}
 use Rattle.server_tables.specs.declared.pending.Pending.{Pending}
 use Rattle.server_tables.specs.declared.tables.Tables.{Tables}
 use Rattle.server_tables.proofs.Numbered.{at_in}
-use Rattle.server_takes.specs.Messages.{IsStoreOf}
+use Rattle.server_says.specs.Messages.{IsStoreOf}
 use Rattle.server_decides.specs.Deciding.{HasEffect, IsPlaced}
 use Rattle.server_decides.specs.Serving.{CameSo, IsServed}
 

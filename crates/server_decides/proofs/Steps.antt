@@ -7,14 +7,14 @@ use Rattle.std.proofs.Common.{refl, sym, ◌∙◌, ap, subst, arith}
 use Rattle.std.specs.Prelude.{◌-◌, Ok, remove}
 use Rattle.store_memory.specs.Views.{IsSameStore, View}
 use Rattle.store_state.specs.declared.state.StoreState.{StoreState}
-use Rattle.server_looks.specs.Keepers.{HasAsked, HasStayed, HasTried, IsFit}
+use Rattle.server_says.specs.Keepers.{HasAsked, HasStayed, HasTried, IsFit}
 use Rattle.server_says.specs.Running.{GoesTo}
 use Rattle.server_says.proofs.Chains.{goes_more}
 use Rattle.server_tables.specs.Updates.{unqueued}
 use Rattle.server_tables.specs.declared.pending.Pending.{Pending}
 use Rattle.server_tables.specs.declared.tables.Tables.{Tables}
-use Rattle.server_takes.specs.Taking.{IsMadeOf}
-use Rattle.server_takes.specs.declared.draft.Draft.{Draft}
+use Rattle.server_says.specs.Taking.{IsMadeOf}
+use Rattle.server_says.specs.Draft.{Draft}
 use Rattle.server_decides.specs.Deciding.{Decides, IsDecided, IsDue, IsDueOf, IsMadeBy, IsNextDue, IsPlaced, NoneDue}
 use Rattle.server_decides.specs.Deciding.{is_fresh}
 use Rattle.server_decides.specs.declared.deciding.Decision.{Decision}

@@ -23,15 +23,15 @@ use Rattle.run_rules.specs.declared.applied.Request.TheVariants.{Change as Chang
 use Rattle.store_acts.specs.Acts.{act_done}
 use Rattle.store_acts.specs.Sound.{HasName}
 use Rattle.store_state.specs.declared.state.StoreState.{StoreState}
-use Rattle.server_keeps.specs.Asking.{change_needs, change_refused}
-use Rattle.server_looks.specs.Acts.{IsRepeatable, doing, refusing}
-use Rattle.server_looks.specs.declared.looking.Found.{Found}
+use Rattle.server_says.specs.Asking.{change_needs, change_refused}
+use Rattle.server_says.specs.Acts.{IsRepeatable, doing, refusing}
+use Rattle.server_says.specs.Found.{Found}
 use Rattle.server_tables.specs.Listing.{no_grace}
 use Rattle.server_tables.specs.Updates.{unqueued}
 use Rattle.server_tables.specs.declared.pending.Pending.{Pending}
 use Rattle.server_tables.specs.declared.tables.Tables.{Tables}
-use Rattle.server_takes.specs.Taking.{IsMadeOf, Made, Whether, made, want_made, wanted_for}
-use Rattle.server_takes.specs.declared.draft.Draft.{Draft}
+use Rattle.server_says.specs.Taking.{IsMadeOf, Made, Whether, made, want_made, wanted_for}
+use Rattle.server_says.specs.Draft.{Draft}
 use Rattle.server_decides.specs.Serving.{IsServed}
 use Rattle.server_decides.specs.Running.{Making}
 use Rattle.server_says.specs.Writing.{written_made}

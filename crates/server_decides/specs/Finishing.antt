@@ -8,9 +8,9 @@ use Rattle.token_manager.specs.Laws.{KeepsLaws}
 use Rattle.token_manager.specs.Managers.{wanted}
 use Rattle.server_tables.specs.Judging.{first_ripe}
 use Rattle.server_tables.specs.declared.tables.Tables.{Tables}
-use Rattle.server_takes.specs.Messages.{IsStored, IsTakenOf, state_taken}
-use Rattle.server_takes.specs.Taking.{IsMadeOf, Made, made}
-use Rattle.server_takes.specs.declared.draft.Draft.{Draft}
+use Rattle.server_says.specs.Messages.{IsStored, IsTakenOf, state_taken}
+use Rattle.server_says.specs.Taking.{IsMadeOf, Made, made}
+use Rattle.server_says.specs.Draft.{Draft}
 use Rattle.server_says.specs.Claiming.{AdmitsOne}
 use Rattle.server_decides.specs.Deciding.{Decides, NoneDue}
 use Rattle.server_says.specs.Revoking.{asking_back, not_asked}

@@ -15,7 +15,7 @@ use Rattle.server_tables.specs.Places.{is_of}
 use Rattle.server_tables.specs.Sound.{AreSaid, AreSound, CanHear}
 use Rattle.server_tables.specs.declared.pending.Pending.{Pending}
 use Rattle.server_tables.specs.declared.tables.Tables.{Tables}
-use Rattle.server_takes.specs.declared.draft.Draft.{Draft}
+use Rattle.server_says.specs.Draft.{Draft}
 use Rattle.server_decides.specs.Sending.{file_of, granted_tokens}
 use Rattle.server_decides.specs.declared.sending.Sending.{Sending}
 use Rattle.server_decides.specs.declared.sending.Sending.TheVariants.{Grant, Say, Use}

@@ -21,17 +21,17 @@ use Rattle.run_rules.specs.declared.applied.Request.{Request}
 use Rattle.run_rules.specs.declared.applied.Request.TheVariants.{Change as Changes, Fetch as Asks}
 use Rattle.store_memory.specs.Reading.{status_told}
 use Rattle.store_state.specs.declared.state.StoreState.{StoreState}
-use Rattle.server_keeps.specs.Asking.{entered_told}
-use Rattle.server_keeps.specs.Granting.{entries_for, pieces_for}
-use Rattle.server_looks.specs.declared.looking.Found.{Found}
+use Rattle.server_says.specs.Asking.{entered_told}
+use Rattle.server_says.specs.Granting.{entries_for, pieces_for}
+use Rattle.server_says.specs.Found.{Found}
 use Rattle.message_types.specs.Soundness.{no_fid}
 use Rattle.server_tables.specs.Answers.{done_without, renewed}
 use Rattle.server_tables.specs.Updates.{stamped, unqueued}
 use Rattle.server_tables.specs.declared.pending.Pending.{Pending}
 use Rattle.server_tables.specs.declared.tables.Tables.{Tables}
-use Rattle.server_takes.specs.Drafts.{saying, word}
-use Rattle.server_takes.specs.Taking.{Made, Whether, made}
-use Rattle.server_takes.specs.declared.draft.Draft.{Draft}
+use Rattle.server_says.specs.Drafts.{saying, word}
+use Rattle.server_says.specs.Taking.{Made, Whether, made}
+use Rattle.server_says.specs.Draft.{Draft}
 use Rattle.token_manager.specs.Managers.{Manager, after_decide, decide_answer}
 use Rattle.token_manager.specs.declared.want.Outlook.{Outlook}
 use Rattle.token_manager.specs.declared.want.Outlook.TheVariants.{Granted as CanBeGranted}

@@ -14,7 +14,7 @@ use Rattle.store_state.specs.declared.state.StoreState.{StoreState}
 use Rattle.server_tables.specs.Counting.{IsCounted}
 use Rattle.server_tables.specs.declared.pending.Pending.{Pending}
 use Rattle.server_tables.specs.declared.tables.Tables.{Tables}
-use Rattle.server_takes.specs.Messages.{IsFor, IsStoreOf}
+use Rattle.server_says.specs.Messages.{IsFor, IsStoreOf}
 
 -- a want that waits came in such a message, about a fileset that has never moved, and a Fetch wants what it says
 pub record CameSo (server : ServerId) (roster : Roster) (w : Wanted) : Type 0 where

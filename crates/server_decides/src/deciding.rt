@@ -11,18 +11,18 @@ ghost use Rattle.server_decides.specs.Saying.{SaysOn};
 ghost use Rattle.server_decides.specs.Serving.{CameSo, IsServed};
 ghost use Rattle.server_decides.specs.Running.{making};
 ghost use Rattle.server_says.specs.Running.{GoesTo};
-ghost use Rattle.server_looks.specs.Keepers.{HasAsked, HasTried, IsFit};
+ghost use Rattle.server_says.specs.Keepers.{HasAsked, HasTried, IsFit};
 ghost use Rattle.server_tables.specs.Counting.{IsCounted};
 ghost use Rattle.server_tables.specs.Sound.{AreSound};
-ghost use Rattle.server_takes.specs.Messages.{IsStoreOf};
+ghost use Rattle.server_says.specs.Messages.{IsStoreOf};
 
 use base_types::{Fid, Items, NoMemory};
 use message_types::Change;
 use run_rules::{Request, Wanted};
-use server_looks::{ExporterFault, Found, Keeper, do_call, found_by, refuse_call};
-use server_says::write_down;
+use server_says::{
+    Draft, ExporterFault, Found, Keeper, do_call, enqueue, found_by, refuse_call, write_down,
+};
 use server_tables::{Pending, Tables, are_same_needs, is_effect, is_use};
-use server_takes::{Draft, enqueue};
 use store_memory::Store;
 use token_manager::Outlook;
 use token_types::Need;

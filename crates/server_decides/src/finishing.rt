@@ -2,17 +2,15 @@ ghost use Rattle.std.specs.Prelude.{IfOk, OnOk};
 ghost use Rattle.server_decides.specs.Finishing.{IsFinished, IsTakenAndFinished};
 ghost use Rattle.server_decides.specs.Saying.{SaysOn};
 ghost use Rattle.server_decides.specs.Serving.{IsServed};
-ghost use Rattle.server_looks.specs.Keepers.{HasTried, IsFit};
+ghost use Rattle.server_says.specs.Keepers.{HasTried, IsFit};
 ghost use Rattle.server_tables.specs.Sound.{AreSound};
-ghost use Rattle.server_takes.specs.Messages.{IsFor};
+ghost use Rattle.server_says.specs.Messages.{IsFor};
 
 use crate::deciding::{decide_all, next_due};
 use crate::sending::send_all;
 use message_types::Message;
-use server_looks::{ExporterFault, Keeper};
-use server_says::{admit_all, revoke_all};
+use server_says::{Draft, ExporterFault, Keeper, admit_all, revoke_all, take_message};
 use server_tables::Tables;
-use server_takes::{Draft, take_message};
 use store_memory::Store;
 
 /// Takes a message that is addressed to the server and sound, and what each step ends with. It answers whether no

@@ -9,6 +9,4 @@ mod sending;
 pub use deciding::{Decision, Due};
 pub use finishing::{finish, take_and_finish};
 pub use sending::Sending;
-pub use server_looks::{ExporterFault, Keeper, begin_epoch};
-pub use server_says::{hail_step, lapse_step};
-pub use server_takes::{Draft, bare};
+pub use server_says::{Draft, ExporterFault, Keeper, bare, begin_epoch, hail_step, lapse_step};

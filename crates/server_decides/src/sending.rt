@@ -1,5 +1,6 @@
 ghost use Rattle.std.specs.List.{list_all};
-ghost use Rattle.std.specs.Prelude.{◌≡◌, ◌<◌, ◌↔◌, [], true, Some, None, if◌then◌else◌, length, IfOk, IfSome, IsTrue, OnOk};
+ghost use Rattle.std.specs.Prelude.{◌≡◌, ◌<◌, ◌↔◌, [], true, Some, None, if◌then◌else◌, length};
+ghost use Rattle.std.specs.Prelude.{IfOk, IfSome, IsTrue, OnOk};
 ghost use Rattle.message_types.specs.Soundness.{IsTold};
 ghost use Rattle.run_rules.specs.declared.applied.Request.TheVariants.{Change as Changes};
 ghost use Rattle.store_memory.specs.Reading.{status_told};
@@ -13,24 +14,23 @@ ghost use Rattle.server_decides.specs.Sending.{grant_of, grant_with, granted_mad
 ghost use Rattle.server_decides.specs.Sending.{is_granted, said_made, sent_made, tokens_of, use_made, use_with};
 ghost use Rattle.server_decides.specs.Sending.{using_by};
 ghost use Rattle.server_decides.specs.declared.sending.Sending.TheVariants.{Grant as Grants};
-ghost use Rattle.server_keeps.specs.Asking.{entered_told};
-ghost use Rattle.server_looks.specs.Keepers.{HasAsked, IsFit};
+ghost use Rattle.server_says.specs.Asking.{entered_told};
+ghost use Rattle.server_says.specs.Keepers.{HasAsked, IsFit};
 ghost use Rattle.server_tables.specs.Counting.{IsCounted};
 ghost use Rattle.server_tables.specs.Places.{is_of};
 ghost use Rattle.server_tables.specs.Sound.{AreSound};
 ghost use Rattle.server_tables.specs.Updates.{unqueued};
-ghost use Rattle.server_takes.specs.Messages.{IsStoreOf};
-ghost use Rattle.server_takes.specs.Taking.{IsMadeOf};
+ghost use Rattle.server_says.specs.Messages.{IsStoreOf};
+ghost use Rattle.server_says.specs.Taking.{IsMadeOf};
 
 use crate::deciding::{is_of_row, is_waiting};
 use base_types::{Fid, FilesetId, HostId, Items, NoMemory, Plain};
 use message_types::{Body, Bring, Change, Done, DoneIs, Fetch, Grant};
 use run_rules::Request;
-use server_looks::{
-    ExporterFault, Found, Keeper, entries_told, fileset_entered, found_by, pieces_told,
+use server_says::{
+    Draft, ExporterFault, Found, Keeper, entries_told, fileset_entered, found_by, pieces_told,
 };
 use server_tables::{NO_FID, Pending, Tables, are_same_needs, is_use, without_token};
-use server_takes::Draft;
 use std::alloc::Global;
 use store_memory::Store;
 use token_manager::{Outlook, Ready};

@@ -29,7 +29,7 @@ use Rattle.run_rules.specs.declared.applied.Wanted.{Wanted}
 use Rattle.run_rules.specs.declared.applied.Written.{Written}
 use Rattle.run_rules.specs.declared.step.Cause.{Cause}
 use Rattle.run_rules.specs.declared.step.Cause.TheVariants.{Message as Came}
-use Rattle.run_stores.specs.Keeping.{StandsFor}
+use Rattle.server_decides.specs.StoreKeeping.{StandsFor}
 use Rattle.store_acts.specs.Acts.{act_done}
 use Rattle.store_acts.specs.declared.act.Act.TheVariants.{Host}
 use Rattle.store_state.specs.declared.state.HostState.{HostState}
@@ -75,7 +75,7 @@ use Rattle.server_exporter.proofs.Replies.{taken_m}
 use Rattle.server_tables.specs.Answers.{AreLastChanges}
 use Rattle.server_tables.specs.declared.tables.LastGive.{LastGive}
 use Rattle.tree_calls.specs.declared.roster.Roster.{Roster}
-use Rattle.run_history.specs.Changes.{are_home}
+use Rattle.server_decides.specs.Changes.{are_home}
 use Rattle.server_tables.proofs.Still.{changes_still, claims_of, dones_of, gives_still, queue_still, recovery_still}
 use Rattle.server_tables.proofs.Still.{stamps_still, tokens_still, waits_back, wants_still}
 use Rattle.run_rules.specs.Kept.{filesets_through}

@@ -28,9 +28,9 @@ use Rattle.run_rules.specs.declared.applied.Applied.{Applied}
 use Rattle.run_rules.specs.declared.applied.Applied.TheVariants.{Done}
 use Rattle.run_rules.specs.declared.applied.Written.{Written}
 use Rattle.run_rules.specs.declared.step.Cause.{Cause}
-use Rattle.run_stores.specs.Keeping.{StandsFor}
-use Rattle.run_stores.proofs.Changes.{changes_are_kept}
-use Rattle.run_stores.proofs.Replies.{replies_are_kept}
+use Rattle.server_decides.specs.StoreKeeping.{StandsFor}
+use Rattle.server_decides.proofs.Changes.{changes_are_kept}
+use Rattle.server_decides.proofs.Replies.{replies_are_kept}
 use Rattle.store_acts.specs.Acts.{act_done}
 use Rattle.store_acts.specs.Sound.{HasName, IsDecided, IsFor}
 use Rattle.store_laws.specs.Calls.{IsNewChange}

@@ -42,7 +42,7 @@ use Rattle.run_rules.specs.declared.applied.Request.TheVariants.{Change as Chang
 use Rattle.run_rules.specs.declared.applied.Wanted.{Wanted}
 use Rattle.run_rules.specs.declared.step.Cause.{Cause}
 use Rattle.run_rules.specs.declared.step.Step.{Step}
-use Rattle.run_stores.specs.Keeping.{StandsFor}
+use Rattle.server_decides.specs.StoreKeeping.{StandsFor}
 use Rattle.run_tokens.specs.ServerRest.{ServerMeets}
 use Rattle.store_state.specs.declared.state.StoreState.{StoreState}
 use Rattle.server_decides.specs.Acting.{GivesBelow}

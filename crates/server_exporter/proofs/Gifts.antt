@@ -31,7 +31,7 @@ use Rattle.message_types.specs.declared.message.Body.{Body}
 use Rattle.message_types.specs.declared.message.Body.TheVariants.{Bye, Change, Done, Down, GiveBack, Gone, Grant}
 use Rattle.message_types.specs.declared.message.Body.TheVariants.{Hello, Reclaim, Reclaimed, Restarted, Revoke}
 use Rattle.message_types.specs.declared.message.Message.{Message}
-use Rattle.run_history.specs.Changes.{are_home, is_home}
+use Rattle.server_decides.specs.Changes.{are_home, is_home}
 use Rattle.run_rules.specs.Doings.{Doing, Here, IsApplied, IsLive, TakenNow, TakesOf, deciding, epoch}
 use Rattle.run_rules.specs.Doings.Doing.{Took}
 use Rattle.run_rules.specs.Kept.{filesets_through, pieces_in, pieces_of, takes_gifts as takes_by_rule, tree_given}
@@ -46,9 +46,9 @@ use Rattle.run_rules.specs.declared.applied.Request.TheVariants.{Change as Chang
 use Rattle.run_rules.specs.declared.applied.Written.{Written}
 use Rattle.run_rules.specs.declared.step.Cause.TheVariants.{Message as Came}
 use Rattle.run_rules.specs.declared.step.Step.{Step}
-use Rattle.run_stores.specs.Keeping.{StandsFor}
-use Rattle.run_stores.specs.Telling.{may_take}
-use Rattle.run_stores.proofs.Tells.{gifts_are_told}
+use Rattle.server_decides.specs.StoreKeeping.{StandsFor}
+use Rattle.server_decides.specs.Telling.{may_take}
+use Rattle.server_decides.proofs.Tells.{gifts_are_told}
 use Rattle.store_acts.specs.Acts.{act_done}
 use Rattle.store_memory.specs.Reading.{status_told}
 use Rattle.store_state.specs.declared.state.StoreState.{StoreState}

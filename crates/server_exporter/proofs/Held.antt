@@ -10,7 +10,7 @@ use Rattle.message_types.specs.declared.asking.Change.{Change as ChangeOf}
 use Rattle.message_types.specs.declared.giving.Reclaimed.{Reclaimed as ReclaimedOf}
 use Rattle.message_types.specs.declared.message.Body.TheVariants.{Done, Reclaimed}
 use Rattle.message_types.specs.declared.message.Message.{Message}
-use Rattle.run_history.specs.Changes.{are_home}
+use Rattle.server_decides.specs.Changes.{are_home}
 use Rattle.run_rules.specs.Doings.{Doing, HasReclaimed, IsLive, NoGrace, SentTo, after_cause, epoch, sending}
 use Rattle.run_rules.specs.Doings.Doing.{Admits, Sent, WritesDown}
 use Rattle.run_rules.specs.Kept.{filesets_through}
@@ -25,7 +25,7 @@ use Rattle.run_rules.specs.declared.applied.Request.TheVariants.{Change as Chang
 use Rattle.run_rules.specs.declared.applied.Wanted.{Wanted}
 use Rattle.run_rules.specs.declared.applied.Written.{Written}
 use Rattle.run_rules.specs.declared.step.Cause.{Cause}
-use Rattle.run_stores.specs.Keeping.{StandsFor}
+use Rattle.server_decides.specs.StoreKeeping.{StandsFor}
 use Rattle.store_state.specs.declared.state.StoreState.{StoreState}
 use Rattle.server_decides.specs.Acting.{GivesBelow}
 use Rattle.server_tables.specs.Answers.{AreLastChanges}

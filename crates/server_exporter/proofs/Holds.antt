@@ -22,8 +22,8 @@ use Rattle.token_types.specs.declared.token.Need.{Need}
 use Rattle.message_types.specs.Soundness.{IsCall, IsHost}
 use Rattle.message_types.specs.declared.asking.Change.{Change as ChangeOf}
 use Rattle.message_types.specs.declared.message.Message.{Message}
-use Rattle.run_history.proofs.Homes.{homes_after}
-use Rattle.run_history.specs.Changes.{are_home}
+use Rattle.server_decides.proofs.Homes.{homes_after}
+use Rattle.server_decides.specs.Changes.{are_home}
 use Rattle.run_rules.specs.Doings.{Doing, NoGrace, after_cause, sending}
 use Rattle.run_rules.specs.Doings.Doing.{MakesWant}
 use Rattle.run_rules.specs.Kept.{filesets_through, is_refusal}

@@ -19,11 +19,11 @@ use Rattle.token_types.specs.declared.token.Need.{Need}
 use Rattle.message_types.specs.declared.asking.Change.{Change as ChangeOf}
 use Rattle.need_server.specs.Wants.{want}
 use Rattle.need_server.proofs.WantsThere.{wants_are_there}
-use Rattle.run_history.specs.Changes.{are_home, is_home}
+use Rattle.server_decides.specs.Changes.{are_home, is_home}
 use Rattle.run_rules.specs.Messages.{home}
 use Rattle.run_rules.specs.Past.{In}
 use Rattle.run_rules.specs.Wants.{row_needs}
-use Rattle.run_stores.specs.Keeping.{StandsFor}
+use Rattle.server_decides.specs.StoreKeeping.{StandsFor}
 use Rattle.store_state.specs.declared.state.StoreState.{StoreState}
 use Rattle.server_tables.specs.Places.{is_of}
 

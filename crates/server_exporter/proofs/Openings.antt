@@ -14,7 +14,7 @@ use Rattle.message_types.specs.declared.giving.Reclaimed.{Reclaimed as Reclaimed
 use Rattle.message_types.specs.declared.message.Body.{Body}
 use Rattle.message_types.specs.declared.message.Body.TheVariants.{Reclaim, Reclaimed}
 use Rattle.message_types.specs.declared.message.Message.{Message}
-use Rattle.run_history.specs.Changes.{are_home}
+use Rattle.server_decides.specs.Changes.{are_home}
 use Rattle.run_rules.specs.Doings.{Doing, HasReclaimed, IsLive, StayStamp, TookNow, after_cause, deciding, sending}
 use Rattle.run_rules.specs.Doings.{Issues}
 use Rattle.run_rules.specs.Doings.Doing.{Sent, Took}
@@ -30,7 +30,7 @@ use Rattle.run_rules.specs.declared.applied.Request.TheVariants.{Change as Chang
 use Rattle.run_rules.specs.declared.applied.Written.{Written}
 use Rattle.run_rules.specs.declared.step.Cause.TheVariants.{Message as Came}
 use Rattle.run_rules.specs.declared.step.Step.{Step}
-use Rattle.run_stores.specs.Keeping.{StandsFor}
+use Rattle.server_decides.specs.StoreKeeping.{StandsFor}
 use Rattle.store_state.specs.declared.state.StoreState.{StoreState}
 use Rattle.server_decides.specs.Acting.{GivesBelow}
 use Rattle.server_tables.specs.Answers.{AreLastChanges}

@@ -14,7 +14,7 @@ use Rattle.message_types.specs.declared.asking.Change.{Change as ChangeOf}
 use Rattle.message_types.specs.declared.asking.Fetch.{Fetch as FetchOf}
 use Rattle.message_types.specs.declared.message.Body.TheVariants.{Done, Grant as IsGrant}
 use Rattle.message_types.specs.declared.message.Message.{Message}
-use Rattle.run_history.specs.Changes.{are_home}
+use Rattle.server_decides.specs.Changes.{are_home}
 use Rattle.run_rules.specs.Doings.{Doing, HasReclaimed, IsLive, admitting, after_cause, sending}
 use Rattle.run_rules.specs.Past.{EachInTurn, In, appended}
 use Rattle.run_rules.specs.ServerDecides.{IsNewRequest}
@@ -27,7 +27,7 @@ use Rattle.run_rules.specs.declared.applied.Request.TheVariants.{Change as Chang
 use Rattle.run_rules.specs.declared.applied.Wanted.{Wanted}
 use Rattle.run_rules.specs.declared.step.Cause.{Cause}
 use Rattle.run_rules.specs.declared.step.Step.{Step}
-use Rattle.run_stores.specs.Keeping.{StandsFor}
+use Rattle.server_decides.specs.StoreKeeping.{StandsFor}
 use Rattle.store_state.specs.declared.state.StoreState.{StoreState}
 use Rattle.server_tables.specs.Answers.{done_without}
 use Rattle.server_tables.specs.Updates.{unqueued}

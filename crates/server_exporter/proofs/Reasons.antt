@@ -32,7 +32,7 @@ use Rattle.run_rules.specs.ServerDecides.DecidedSo.{IsRefusedByTable, MeetsPinne
 use Rattle.run_rules.specs.Wants.{CanDecide, CanGrant, CanRefuse, IsQueued, asker, has_effect, is_use, row_needs}
 use Rattle.run_rules.specs.declared.applied.Request.TheVariants.{Change as Changes}
 use Rattle.run_rules.specs.declared.applied.Wanted.{Wanted}
-use Rattle.run_stores.specs.Keeping.{StandsFor}
+use Rattle.server_decides.specs.StoreKeeping.{StandsFor}
 use Rattle.store_state.specs.declared.state.StoreState.{StoreState}
 use Rattle.server_decides.specs.Asking.{Asks, change_needs}
 use Rattle.server_decides.proofs.Asking.{changes_are_told}

@@ -22,7 +22,7 @@ use Rattle.run_rules.specs.ServerDecides.{IsOfRow, NotRefused}
 use Rattle.run_rules.specs.Wants.{CanDecide, CanGrant, CanRefuse, is_use}
 use Rattle.run_rules.specs.declared.applied.Request.TheVariants.{Change as Changes, Fetch as Asks}
 use Rattle.run_rules.specs.declared.applied.Wanted.{Wanted}
-use Rattle.run_stores.specs.Keeping.{StandsFor}
+use Rattle.server_decides.specs.StoreKeeping.{StandsFor}
 use Rattle.store_state.specs.declared.state.StoreState.{StoreState}
 use Rattle.server_decides.specs.Asking.{entered_told, refusal_told}
 use Rattle.server_decides.specs.Found.{Found}

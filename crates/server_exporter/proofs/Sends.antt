@@ -21,7 +21,7 @@ use Rattle.run_rules.specs.declared.applied.Request.{Request}
 use Rattle.run_rules.specs.declared.applied.Request.TheVariants.{Change as Changes, Fetch as Asks}
 use Rattle.run_rules.specs.declared.applied.Wanted.{Wanted}
 use Rattle.run_rules.specs.declared.step.Step.{Step}
-use Rattle.run_stores.specs.Keeping.{StandsFor}
+use Rattle.server_decides.specs.StoreKeeping.{StandsFor}
 use Rattle.store_state.specs.declared.state.StoreState.{StoreState}
 use Rattle.server_tables.specs.Answers.{AreLastChanges}
 use Rattle.server_tables.specs.Standing.{Stands}

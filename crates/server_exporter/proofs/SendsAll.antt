@@ -22,8 +22,8 @@ use Rattle.run_rules.specs.declared.applied.Request.{Request}
 use Rattle.run_rules.specs.declared.applied.Request.TheVariants.{Change as Changes, Fetch as Asks}
 use Rattle.run_rules.specs.declared.applied.Wanted.{Wanted}
 use Rattle.run_rules.specs.declared.step.Step.{Step}
-use Rattle.run_history.specs.Changes.{are_home}
-use Rattle.run_stores.specs.Keeping.{StandsFor}
+use Rattle.server_decides.specs.Changes.{are_home}
+use Rattle.server_decides.specs.StoreKeeping.{StandsFor}
 use Rattle.token_types.specs.declared.token.Need.{Need}
 use Rattle.store_memory.specs.Reading.{status_told}
 use Rattle.store_state.specs.declared.state.StoreState.{StoreState}

@@ -23,7 +23,7 @@ use Rattle.message_types.specs.declared.message.Message.{Message}
 use Rattle.message_types.specs.declared.telling.Done.{Done as DoneOf}
 use Rattle.message_types.specs.declared.telling.DoneIs.TheVariants.{Again, Known, Reply as HasReply}
 use Rattle.message_types.specs.declared.telling.Grant.{Grant as GrantOf}
-use Rattle.run_history.specs.Changes.{are_home}
+use Rattle.server_decides.specs.Changes.{are_home}
 use Rattle.run_rules.specs.Doings.{Doing, NoGrace, TakenNow, sending}
 use Rattle.run_rules.specs.Past.{EachOnce, In, appended}
 use Rattle.run_rules.specs.ServerDue.{IsOfChange}
@@ -37,7 +37,7 @@ use Rattle.run_rules.specs.declared.applied.Wanted.{Wanted}
 use Rattle.run_rules.specs.declared.applied.Written.{Written}
 use Rattle.run_rules.specs.declared.step.Cause.{Cause}
 use Rattle.run_rules.specs.declared.step.Step.{Step}
-use Rattle.run_stores.specs.Keeping.{StandsFor}
+use Rattle.server_decides.specs.StoreKeeping.{StandsFor}
 use Rattle.store_memory.specs.Reading.{status_told}
 use Rattle.store_state.specs.declared.state.StoreState.{StoreState}
 use Rattle.server_tables.specs.Answers.{done_without}

@@ -18,7 +18,7 @@ use Rattle.script_lines.specs.declared.script.Deed.TheVariants.{Restart as Resta
 use Rattle.script_lines.specs.declared.script.Line.{Line}
 use Rattle.script_lines.specs.declared.script.Script.{Script}
 use Rattle.store_state.specs.declared.state.StoreState.{StoreState}
-use Rattle.run_history.specs.Changes.{are_home}
+use Rattle.server_decides.specs.Changes.{are_home}
 use Rattle.run_rules.specs.Doings.{Doing, HasReclaimed, IsLive, TookNow, after_step, doings_of, epoch, InEpoch}
 use Rattle.run_rules.specs.Kept.{filesets_kept}
 use Rattle.run_rules.specs.Past.{EachOnce, In}
@@ -31,7 +31,7 @@ use Rattle.run_rules.specs.Wants.{CanDecide, CanGrant, CanRefuse, IsQueued, has_
 use Rattle.run_rules.specs.declared.applied.Request.TheVariants.{Change as Changes, Fetch as Asks}
 use Rattle.run_rules.specs.declared.applied.Wanted.{Wanted}
 use Rattle.run_rules.specs.declared.step.Step.{Step}
-use Rattle.run_stores.specs.Keeping.{StandsFor}
+use Rattle.server_decides.specs.StoreKeeping.{StandsFor}
 use Rattle.run_tokens.specs.ServerRest.{ServerMeets}
 use Rattle.server_decides.specs.Acting.{GivesBelow}
 use Rattle.server_tables.specs.Counting.{IsCounted}

@@ -1,2 +1,2 @@
 -- What run_stores says of a store, for the crates above.
-pub use Rattle.run_stores.specs.Keeping.{StandsFor}
+pub use Rattle.server_decides.specs.StoreKeeping.{StandsFor}

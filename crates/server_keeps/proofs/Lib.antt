@@ -6,3 +6,9 @@ pub mod Granting
 pub mod Acting
 pub mod Numbers
 pub mod Repeating
+pub use Rattle.run_stores.proofs.Stands
+pub use Rattle.run_stores.proofs.Ends
+pub use Rattle.run_stores.proofs.Changes
+pub use Rattle.run_stores.proofs.Replies
+pub use Rattle.run_history.proofs.Homes
+pub use Rattle.run_stores.proofs.Tells

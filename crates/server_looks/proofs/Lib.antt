@@ -1,2 +1,13 @@
 pub mod Again
 pub mod Looked
+pub use Rattle.server_keeps.proofs.Acting
+pub use Rattle.server_keeps.proofs.Asking
+pub use Rattle.server_keeps.proofs.Granting
+pub use Rattle.server_keeps.proofs.Numbers
+pub use Rattle.server_keeps.proofs.Repeating
+pub use Rattle.server_keeps.proofs.Stands
+pub use Rattle.server_keeps.proofs.Ends
+pub use Rattle.server_keeps.proofs.Changes
+pub use Rattle.server_keeps.proofs.Replies
+pub use Rattle.server_keeps.proofs.Homes
+pub use Rattle.server_keeps.proofs.Tells

@@ -1,3 +1,9 @@
 pub mod Acts
 pub mod Keepers
 pub mod Needs
+pub use Rattle.server_keeps.specs.Asking
+pub use Rattle.server_keeps.specs.Granting
+pub use Rattle.server_keeps.specs.Acting
+pub use Rattle.server_keeps.specs.StoreKeeping
+pub use Rattle.server_keeps.specs.Changes
+pub use Rattle.server_keeps.specs.Telling

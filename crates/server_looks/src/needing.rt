@@ -1,7 +1,7 @@
 ghost use Rattle.std.specs.Prelude.{◌≡◌, ◌+◌, ◌++◌, ◌∷◌, [], true, false, if◌then◌else◌, IfOk, OnOk};
 ghost use Rattle.std.specs.List.{filter, flat_map};
 ghost use Rattle.need_server.specs.Wants.{all_of, every_use_of};
-ghost use Rattle.run_stores.specs.Wanting.{all_and_uses_of, directory_of, wanted_of};
+ghost use Rattle.server_keeps.specs.Wanting.{all_and_uses_of, directory_of, wanted_of};
 ghost use Rattle.server_keeps.specs.Asking.{is_file_told, needs_told, whole_of};
 ghost use Rattle.store_memory.specs.Reading.{looked_up};
 ghost use Rattle.tree_objects.specs.Spans.{span_between, whole};

@@ -34,7 +34,8 @@ module _ {S : Type 0} (tells : Type 0) (view : S → View) where
     worn = (λ w. k.worn (h.worn w));
   }
 
-  pub fails_later : (a b c : ServerNode S) → HasServed tells view a b → HasFailed tells view b c → HasFailed tells view a c
+  pub fails_later : (a b c : ServerNode S) → HasServed tells view a b → HasFailed tells view b c
+      → HasFailed tells view a c
   fails_later a b c h f = record {
     rose = rose_since (view a.keeper.store).faults (view b.keeper.store).faults (view c.keeper.store).faults h.counted
         f.rose;

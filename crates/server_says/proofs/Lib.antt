@@ -6,3 +6,15 @@ pub mod Picks
 pub mod StepsMade
 pub mod Told
 pub mod SoundSaid
+pub use Rattle.server_takes.proofs.SoundTaken
+pub use Rattle.server_takes.proofs.Acting
+pub use Rattle.server_takes.proofs.Asking
+pub use Rattle.server_takes.proofs.Granting
+pub use Rattle.server_takes.proofs.Numbers
+pub use Rattle.server_takes.proofs.Repeating
+pub use Rattle.server_takes.proofs.Stands
+pub use Rattle.server_takes.proofs.Ends
+pub use Rattle.server_takes.proofs.Changes
+pub use Rattle.server_takes.proofs.Replies
+pub use Rattle.server_takes.proofs.Homes
+pub use Rattle.server_takes.proofs.Tells

@@ -15,4 +15,8 @@ pub use hailing::hail_step;
 pub use lapsing::lapse_step;
 pub use laws::claim_law;
 pub use revoking::revoke_all;
+pub use server_takes::{
+    Draft, ExporterFault, Found, Keeper, bare, begin_epoch, do_call, enqueue, entries_told,
+    fileset_entered, found_by, pieces_told, refuse_call, take_message,
+};
 pub use writing::write_down;

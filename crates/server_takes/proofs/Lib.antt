@@ -1,3 +1,14 @@
 pub mod Bodies
 pub mod Parts
 pub mod SoundTaken
+pub use Rattle.server_looks.proofs.Acting
+pub use Rattle.server_looks.proofs.Asking
+pub use Rattle.server_looks.proofs.Granting
+pub use Rattle.server_looks.proofs.Numbers
+pub use Rattle.server_looks.proofs.Repeating
+pub use Rattle.server_looks.proofs.Stands
+pub use Rattle.server_looks.proofs.Ends
+pub use Rattle.server_looks.proofs.Changes
+pub use Rattle.server_looks.proofs.Replies
+pub use Rattle.server_looks.proofs.Homes
+pub use Rattle.server_looks.proofs.Tells

@@ -1,3 +1,14 @@
 pub mod Drafts
 pub mod Taking
 pub mod Messages
+pub use Rattle.server_looks.specs.Keepers
+pub use Rattle.server_looks.specs.Asking
+pub use Rattle.server_looks.specs.declared.looking.Found
+pub use Rattle.server_looks.specs.Acts
+pub use Rattle.server_looks.specs.Granting
+pub use Rattle.server_looks.specs.declared.fault.ExporterFault
+pub use Rattle.server_looks.specs.declared.keeper.Keeper
+pub use Rattle.server_looks.specs.Acting
+pub use Rattle.server_looks.specs.StoreKeeping
+pub use Rattle.server_looks.specs.Changes
+pub use Rattle.server_looks.specs.Telling

@@ -13,7 +13,7 @@ use Rattle.message_types.specs.declared.message.Message.{Message}
 use Rattle.store_memory.specs.Reading.{status_told}
 use Rattle.store_state.specs.declared.state.HostState.TheVariants.{IsDown}
 use Rattle.store_state.specs.declared.state.StoreState.{StoreState}
-use Rattle.server_keeps.specs.Asking.{change_needs}
+use Rattle.server_looks.specs.Asking.{change_needs}
 use Rattle.server_looks.specs.Acts.{IsRepeatable, giving, host_noted}
 use Rattle.server_tables.specs.Listing.{has_host, is_live}
 use Rattle.server_tables.specs.declared.tables.Tables.{Tables}

@@ -3,7 +3,7 @@ ghost use Rattle.base_types.specs.declared.user.User.{User};
 ghost use Rattle.message_types.specs.Soundness.{IsCall, IsHost};
 ghost use Rattle.run_rules.specs.declared.applied.Applied.TheVariants.{Wants};
 ghost use Rattle.run_rules.specs.declared.applied.Request.TheVariants.{Change as Changes, Fetch as Asks};
-ghost use Rattle.server_keeps.specs.Asking.{change_needs};
+ghost use Rattle.server_looks.specs.Asking.{change_needs};
 ghost use Rattle.server_looks.specs.Keepers.{HasAsked, IsFit};
 ghost use Rattle.server_tables.specs.Answers.{answer_again};
 ghost use Rattle.server_tables.specs.Counting.{IsCounted};

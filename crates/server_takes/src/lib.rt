@@ -10,4 +10,8 @@ mod taking;
 
 pub use asking::enqueue;
 pub use draft::{Draft, bare};
+pub use server_looks::{
+    ExporterFault, Found, Keeper, begin_epoch, do_call, entries_told, fileset_entered, found_by,
+    pieces_told, refuse_call,
+};
 pub use taking::take_message;

@@ -22,9 +22,14 @@ stores_in all = map store_in all
 abbrev pub seat_view : {D C : Type 0} {g : _} {h : _} → Type 0 → (D → DiskView) → Seat D C g h → View
 seat_view tells view seat = store_view tells view (store_in seat)
 
+-- where so many servers have a disk, stores in seats tell what they keep if disks, where there are any, tell their bytes
+abbrev pub seat_tells : Type 0 → ℕ → Type 0
+seat_tells tells count = 0 < count → tells
+
 -- where so many servers have a disk, those in front, the store of a server is on one exactly where its server has one
 abbrev pub IsSeated : {D : Type 0} → Type 0 → (D → DiskView) → ℕ → ServerStore D → Type 0
-IsSeated tells view count (Disk store) = (aggregate_view tells view store).state.server.0 ≤ count
+IsSeated tells view count (Disk store) =
+    (0 < count) × ((aggregate_view tells view store).state.server.0 ≤ count)
 IsSeated tells view count (Memory store) = count < (kept_in store).server.0
 
 abbrev pub AreSeated : {D : Type 0} → Type 0 → (D → DiskView) → ℕ → List (ServerStore D) → Type 0

@@ -24,6 +24,7 @@ impl Count for Brand {
 pub struct DiskSeat<D: Disk, C: Count> {
     pub(crate) store: Aggregate<D>,
     pub(crate) count: PhantomData<C>,
+    ghost some: { 0 < C.disks },
     ghost within: { (aggregate_view D.tells D.view store).state.server.0 ≤ C.disks },
 }
 
@@ -62,9 +63,9 @@ impl<D: Disk, C: Count> Seat<D, C> {
 }
 
 impl<D: Disk, C: Count> Store for Seat<D, C> {
-    ghost use Rattle.service_disks.specs.Seats.{seat_view};
+    ghost use Rattle.service_disks.specs.Seats.{seat_tells, seat_view};
 
-    ghost tells = { D.tells };
+    ghost tells = { seat_tells D.tells C.disks };
 
     ghost view = { seat_view D.tells D.view };
 

@@ -34,8 +34,8 @@ ghost use Rattle.service_plain.specs.Seats.{
   is_ready,
 };
 
-use base_types::{HOSTS_MAX, HostId, Items, Name, NoMemory, Node, Plain, SERVERS_MAX, ServerId};
-use script_lines::{Deed, Line};
+use base_types::{HOSTS_MAX, HostId, Items, NoMemory, Node, Plain, SERVERS_MAX, ServerId};
+use script_lines::{Deed, Flags, Line};
 use script_reader::{can_go, same_node};
 use std::alloc::Global;
 
@@ -48,7 +48,7 @@ struct Order {
     /// then of the servers.
     next: Items<usize>,
     /// The flags that are raised.
-    flags: Items<Name>,
+    flags: Flags,
 }
 
 /// An order in which all lines go: as long as one can go, the first node that can makes one line. Hosts come before
@@ -76,7 +76,7 @@ impl Order {
         Ok(Order {
             went: Items::new(alloc),
             next: first_places(alloc, lines)?,
-            flags: Items::new(alloc),
+            flags: Flags::new(alloc),
         })
     }
 
@@ -117,7 +117,7 @@ impl Order {
 }
 
 // Notes the flag that a deed raises.
-fn raise(flags: &mut Items<Name>, deed: &Deed) -> Result<(), NoMemory>
+fn raise(flags: &mut Flags, deed: &Deed) -> Result<(), NoMemory>
     ensures { OnOk result (flags.new ≡ flags_after flags.old deed.now) }
 {
     if let Deed::Raise(flag) = deed {

@@ -12,6 +12,7 @@ pub mod Doing
 pub mod Planned
 pub mod Telling
 pub mod Begins
+pub mod Epochs
 pub mod Starts
 pub mod Sound
 pub mod Called

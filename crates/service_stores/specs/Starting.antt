@@ -1,5 +1,5 @@
 -- What a run finds in the stores of servers.
-use Rattle.std.specs.Prelude.{◌≡◌, ◌≤◌, ℕ, ◌-◌, nat_lt, Bool, List, [], ◌∷◌, Some, slice_get}
+use Rattle.std.specs.Prelude.{◌≡◌, ◌≤◌, ℕ, ◌+◌, ◌-◌, nat_lt, Bool, List, [], ◌∷◌, map, Some, slice_get}
 use Rattle.tree_calls.specs.declared.roster.Roster.{Roster}
 use Rattle.store_memory.specs.Reading.{kept_of, slots_from}
 use Rattle.store_memory.specs.Views.{View}
@@ -18,6 +18,10 @@ abbrev pub told_by : {S : Type 0} → (S → View) → ℕ → List S → List T
 told_by view disks [] = []
 told_by view disks (store ∷ stores) =
     told_of (nat_lt 0 disks) (view store).state ∷ told_by view (disks - 1) stores
+
+-- each of these stores has begun one run more: its epoch rose by one
+abbrev pub HaveBegunAnew : List StoreState → List StoreState → Type 0
+HaveBegunAnew olds news = map (λ state. state.epoch) news ≡ map (λ state. state.epoch + 1) olds
 
 -- each store has begun a run
 abbrev pub HaveBegun : List StoreState → Type 0

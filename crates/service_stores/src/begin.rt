@@ -15,6 +15,7 @@ ghost use Rattle.service_moves.specs.Plans.{states_at};
 ghost use Rattle.service_moves.specs.Stores.{states_of, AreStores, AreSame};
 ghost use Rattle.service_moves.specs.Stopping.{IsStopped};
 ghost use Rattle.service_stores.specs.Plans.{AreBeginning};
+ghost use Rattle.service_stores.specs.Starting.{HaveBegunAnew};
 ghost use Rattle.service_stores.specs.Steps.{AreReady, IsOneOf};
 ghost use Rattle.service_stores.specs.declared.tree.TheConstants.{SETTLINGS_MAX};
 
@@ -87,6 +88,9 @@ pub(crate) fn begin<S: Store>(
         → KeepUnderWay tree (settled_stores 1 settlings.now (states_of S.view stores.old))
         → (steps : List Step) × AreBeginning (states_at S.view stores.old) steps
         × DoSteps S.view result steps stores.old stores.new }
+    ensures begun { S.tells → Each IsStorable (states_of S.view stores.old) → (tree : Tree)
+        → KeepUnderWay tree (settled_stores 1 settlings.now (states_of S.view stores.old))
+        → OnOk result (HaveBegunAnew (states_of S.view stores.old) (states_of S.view stores.new)) }
     ensures stores { OnOk result (AreStores S.view roster.now (2 ^ 40) 1 stores.new) }
     ensures same { AreSame S.view stores.old stores.new }
     ensures stopped { IfErr result (IsStopped S.tells S.view [] stores.old stores.new) }

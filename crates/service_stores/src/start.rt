@@ -12,7 +12,7 @@ ghost use Rattle.service_moves.specs.Plans.{states_at};
 ghost use Rattle.service_moves.specs.Stores.{states_of, AreStores, AreSame};
 ghost use Rattle.service_moves.specs.Stopping.{IsStopped};
 ghost use Rattle.service_stores.specs.Plans.{AreBeginning};
-ghost use Rattle.service_stores.specs.Starting.{told_by, start_from};
+ghost use Rattle.service_stores.specs.Starting.{HaveBegunAnew, told_by, start_from};
 
 use crate::begin::begin;
 use crate::told::all_told;
@@ -45,6 +45,9 @@ fn start_told<S: Store>(
         → Each IsStorable (states_of S.view stores.old)
         → (steps : List Step) × AreBeginning (states_at S.view stores.old) steps
         × DoSteps S.view result steps stores.old stores.new }
+    ensures begun { S.tells → (disks : ℕ) → all.now ≡ told_by S.view disks stores.old
+        → Each IsStorable (states_of S.view stores.old)
+        → OnOk result (HaveBegunAnew (states_of S.view stores.old) (states_of S.view stores.new)) }
     ensures stores { OnOk result (AreStores S.view roster.now (2 ^ 40) 1 stores.new) }
     ensures same { AreSame S.view stores.old stores.new }
     ensures stopped { IfErr result (IsStopped S.tells S.view all.now stores.old stores.new) }
@@ -81,6 +84,8 @@ pub fn start_on<S: Store>(
     ensures does { S.tells
         → (steps : List Step) × AreBeginning (states_at S.view stores.old) steps
         × DoSteps S.view result steps stores.old stores.new }
+    ensures begun { S.tells
+        → OnOk result (HaveBegunAnew (states_of S.view stores.old) (states_of S.view stores.new)) }
     ensures stores { OnOk result (AreStores S.view roster.now (2 ^ 40) 1 stores.new) }
     ensures same { AreSame S.view stores.old stores.new }
     ensures stopped { IfErr result

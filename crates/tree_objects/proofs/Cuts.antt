@@ -1,5 +1,5 @@
 -- Where the unsaved bytes of a span stand, what is put in their place, and the spans that a position lies in.
-use Rattle.std.proofs.Common.{◌≡◌, ℕ, zero, suc, ◌+◌, ◌-◌, ◌<◌, ◌≤◌, nat_le, nat_lt, Bool, true, false, ◌||◌, not, cond, List, [], ◌∷◌, ◌++◌, length, filter, map, take, drop, get_or, Option, Some, None, append_assoc, refl, sym, ap, ◌∙◌, subst, arith, inl, inr}
+use Rattle.std.proofs.Common.{◌≡◌, ℕ, zero, suc, ◌+◌, ◌-◌, ◌<◌, ◌≤◌, nat_le, nat_lt, Bool, true, false, ◌||◌, not, cond, List, [], ◌∷◌, ◌++◌, length, filter, map, take, drop, get_or, Some, None, append_assoc, refl, sym, ap, ◌∙◌, subst, arith, inl, inr}
 use Rattle.std.specs.List.{list_all, list_any, prefix_len, position, splice, AllWithin}
 use Rattle.std.specs.List.Sorted.{IsPartitionedBy, IsPartitionPoint}
 use Rattle.std.specs.Option.{is_some, option_map_or}
@@ -88,7 +88,7 @@ filter_within p q f (x ∷ xs) =
     ] refl
 
 -- some behind others
-drop_more : (xs : List Unsaved) (i k : ℕ) → drop (i + k) xs ≡ drop k (drop i xs)
+pub drop_more : (xs : List Unsaved) (i k : ℕ) → drop (i + k) xs ≡ drop k (drop i xs)
 drop_more xs zero k = let z : zero + k ≡ k = omega arith in rw z refl
 drop_more [] (suc i) k = drop-nil (suc i + k) ∙ sym (drop-nil k)
 drop_more (x ∷ xs) (suc i) k = let z : suc i + k ≡ suc (i + k) = omega arith in rw z (drop_more xs i k)

@@ -5,7 +5,6 @@ use Rattle.std.specs.Option.{option_map_or}
 use Rattle.base_types.specs.Name.{is_before}
 use Rattle.base_types.specs.declared.limits.TheConstants.{FILE_BYTES_MAX}
 use Rattle.tree_calls.specs.declared.part.DirEntry.{DirEntry}
-use Rattle.tree_objects.specs.declared.content.Unsaved.{Unsaved}
 use Rattle.tree_objects.specs.declared.content.UnsavedLength.{UnsavedLength}
 use Rattle.tree_objects.specs.declared.content.Content.{Content}
 use Rattle.tree_objects.specs.declared.content.Content.TheVariants.{Dir, File}

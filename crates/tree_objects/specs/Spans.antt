@@ -1,6 +1,5 @@
 -- Spans of a file.
-use Rattle.std.specs.Prelude.{◌≤◌, ℕ, min, Bool, nat_le, nat_lt, ◌&&◌, List}
-use Rattle.std.specs.List.{list_any}
+use Rattle.std.specs.Prelude.{◌≤◌, ℕ, min}
 use Rattle.std.proofs.Common.{arith}
 use Rattle.base_types.specs.declared.span.Span.{Span}
 use Rattle.base_types.specs.declared.limits.TheConstants.{FILE_BYTES_MAX}

@@ -2,7 +2,6 @@ ghost use Rattle.std.specs.Prelude.{◌≡◌, OnOk, OnErr};
 ghost use Rattle.tree_objects.specs.Changes.{anode_changed, length_forgotten, content_forgotten};
 ghost use Rattle.tree_objects.specs.Stores.{length_left, own_length_of, content_stored, content_synced};
 
-use crate::bytes::bytes_over;
 use crate::content::{Anode, Content, UnsavedLength};
 use base_types::{HostId, NoMemory, Span};
 
@@ -79,9 +78,7 @@ impl Content {
         } = self
         {
             let end = stored.map_or(kept.len(), |stored| stored as usize);
-            let parted = unsaved.parted(host, spans, end)?;
-            *kept = bytes_over(kept, parted.stored.as_slice(), 0, end)?;
-            *unsaved = parted.left;
+            *kept = unsaved.store(kept, host, spans, end)?;
             *length = length_left(stored, *length);
         }
         Ok(())

@@ -9,6 +9,8 @@ ghost use Rattle.std.specs.Prelude.{
   nat_eq,
   nat_lt,
   nat_le,
+  min,
+  max,
   not,
   true,
   [],
@@ -28,7 +30,7 @@ ghost use Rattle.std.specs.Option.{option_copied};
 ghost use Rattle.base_types.specs.Spans.{has_byte, in_spans};
 ghost use Rattle.base_types.specs.declared.limits.TheConstants.{FILE_BYTES_MAX};
 ghost use Rattle.tree_objects.specs.Changes.{written, unsaved_after};
-ghost use Rattle.tree_objects.specs.Cuts.{IsCut};
+ghost use Rattle.tree_objects.specs.Cuts.{IsCut, first_of, end_of};
 ghost use Rattle.tree_objects.specs.Files.{bytes_over};
 ghost use Rattle.tree_objects.specs.Positions.{positions_rise};
 ghost use Rattle.tree_objects.specs.Stores.{is_stored};
@@ -57,13 +59,6 @@ impl Model for UnsavedBytes {
     ghost view = { λ a. a.bytes };
 
     ghost invariant = { λ a. positions_rise a.bytes ≡ true };
-}
-
-/// What a host stores of the unsaved bytes of a file, and what it leaves.
-#[derive(Drop)]
-pub(crate) struct Parted {
-    pub(crate) stored: Items<Unsaved>,
-    pub(crate) left: UnsavedBytes,
 }
 
 impl UnsavedBytes {
@@ -127,25 +122,28 @@ impl UnsavedBytes {
         drop_own(&mut self.bytes, host);
     }
 
-    /// What a host stores in these spans below the position `end`, and the rest.
-    pub(crate) fn parted(
-        &self,
+    /// Stores what a host has in these spans below the position `end`: its bytes go, and the answer is the first `end`
+    /// bytes that are kept from then on. After `NoMemory` nothing has changed.
+    pub(crate) fn store(
+        &mut self,
+        kept: &Items<u8>,
         host: HostId,
         spans: &[Span],
         end: usize,
-    ) -> Result<Parted, NoMemory>
-        ensures stored { IfOk result (λ parted. parted.stored ≡ filter (is_stored host spans.now end) self.now) }
-        ensures left { IfOk result
-            (λ parted. parted.left ≡ filter (λ byte. not (is_stored host spans.now end byte)) self.now) }
+    ) -> Result<Items<u8>, NoMemory>
+        ensures kept { IfOk result
+            (λ bytes. bytes ≡ bytes_over kept.now (filter (is_stored host spans.now end) self.old) 0 end) }
+        ensures left { OnOk result
+            (self.new ≡ filter (λ byte. not (is_stored host spans.now end byte)) self.old) }
+        ensures err { OnErr result (self.new ≡ self.old) }
     {
-        let alloc = self.bytes.alloc();
-        let (stored, left) = split_stored(alloc, self.bytes.as_slice(), host, spans, end)?;
-        Ok(Parted {
-            stored: Items::from_vec(stored),
-            left: UnsavedBytes {
-                bytes: Items::from_vec(left),
-            },
-        })
+        let bytes = self.bytes.as_slice();
+        let cut = cut_of(bytes, spans, end);
+        let part = &bytes[cut.from..cut.to];
+        let (stored, left) = split_stored(self.bytes.alloc(), part, host, spans, end)?;
+        let stored = bytes_over(kept, stored.as_slice(), 0, end)?;
+        put_between(&mut self.bytes, cut, left)?;
+        Ok(stored)
     }
 }
 
@@ -186,6 +184,33 @@ fn cut_at(unsaved: &[Unsaved], from: usize, to: usize) -> Cut
         from: first,
         to: first + count_below(rest, to),
     }
+}
+
+// Where the unsaved bytes stand that lie between the first position and the last one of spans, below `end`.
+fn cut_of(unsaved: &[Unsaved], spans: &[Span], end: usize) -> Cut
+    requires { positions_rise unsaved.now ≡ true }
+    ensures { IsCut unsaved.now (first_of spans.now end)
+        (max (min (end_of spans.now) end) (first_of spans.now end)) result.from result.to }
+{
+    let from = first_of(spans, end);
+    let to = end_of(spans).min(end).max(from);
+    cut_at(unsaved, from, to)
+}
+
+// The first position that spans begin at, and `end` where none begins before it.
+fn first_of(spans: &[Span], end: usize) -> usize
+    ensures { result ≡ first_of spans.now end }
+{
+    spans
+        .iter()
+        .fold(end, |from, span| from.min(span.from as usize))
+}
+
+// The last position that spans end before, and 0 of none.
+fn end_of(spans: &[Span]) -> usize
+    ensures { result ≡ end_of spans.now }
+{
+    spans.iter().fold(0, |to, span| to.max(span.to as usize))
 }
 
 // The unsaved bytes of a span.

@@ -1,4 +1,4 @@
-use Rattle.server_looks.specs.Keepers.{IsFit}
+use Rattle.server_says.specs.Keepers.{IsFit}
 use Rattle.server_says.specs.Running.{GoesTo}
 use Rattle.server_decides.specs.Deciding.{Decides}
 use Rattle.server_decides.specs.Serving.{IsServed}

@@ -1,5 +1,5 @@
 use Rattle.std.proofs.Common.{◌∙◌, ap}
-use Rattle.server_takes.specs.declared.draft.Draft.{Draft}
+use Rattle.server_says.specs.Draft.{Draft}
 use Rattle.server_decides.specs.Deciding.{still_fresh}
 use Rattle.server_decides.proofs.deciding.make_anew.Goals as goal
 

@@ -1,5 +1,5 @@
 use Rattle.std.proofs.Common.{drop}
-use Rattle.server_looks.specs.Keepers.{HasStayed, IsFit}
+use Rattle.server_says.specs.Keepers.{HasStayed, IsFit}
 use Rattle.server_decides.specs.Deciding.{NoneDue}
 use Rattle.server_decides.proofs.deciding.next_due.Given as goal
 

@@ -2,7 +2,7 @@ use Rattle.std.proofs.Common.{◌≡◌, true, false}
 use Rattle.std.specs.Prelude.{None, if◌then◌else◌}
 use Rattle.std.proofs.lemmas.Result.{IfOk-weaker}
 use Rattle.run_rules.specs.Wants.{is_use}
-use Rattle.server_keeps.specs.Asking.{entered_told}
+use Rattle.server_says.specs.Asking.{entered_told}
 use Rattle.server_decides.specs.Sending.{IsChangeSending, entering_by}
 use Rattle.server_decides.proofs.Saying.{used_sayable}
 use Rattle.server_decides.proofs.Served.{change_here}

@@ -2,7 +2,7 @@ use Rattle.std.proofs.Common.{◌∙◌, ap}
 use Rattle.std.proofs.lemmas.Result.{on_ok_weaker}
 use Rattle.message_types.specs.declared.message.Body.TheVariants.{Done as IsDone}
 use Rattle.message_types.specs.declared.telling.Done.{Done as DoneOf}
-use Rattle.server_takes.specs.Drafts.{saying, word}
+use Rattle.server_says.specs.Drafts.{saying, word}
 use Rattle.server_decides.proofs.sending.finish_done.Goals as goal
 
 pub returns : goal.returns

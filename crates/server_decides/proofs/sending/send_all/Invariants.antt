@@ -1,5 +1,5 @@
 use Rattle.std.proofs.Common.{◌-◌, length}
-use Rattle.server_looks.specs.Keepers.{HasStayed, IsFit}
+use Rattle.server_says.specs.Keepers.{HasStayed, IsFit}
 use Rattle.server_says.specs.Running.{GoesTo}
 use Rattle.server_tables.specs.Sound.{AreSound}
 use Rattle.server_decides.specs.Saying.{SaysOn}

@@ -1,6 +1,6 @@
 use Rattle.std.proofs.Common.{◌∙◌, ap}
 use Rattle.store_state.specs.declared.state.StoreState.{StoreState}
-use Rattle.server_keeps.specs.Granting.{entries_for}
+use Rattle.server_says.specs.Granting.{entries_for}
 use Rattle.server_decides.specs.Sending.{grant_with, granted_made}
 use Rattle.server_decides.proofs.Parts.{made_same, shown_so}
 use Rattle.server_decides.proofs.Saying.{grant_says, made_says}

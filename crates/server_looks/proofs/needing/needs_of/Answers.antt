@@ -2,7 +2,7 @@ use Rattle.std.proofs.Common.{◌≡◌, [], ◌∷◌, subst, sym}
 use Rattle.std.specs.Prelude.{IfOk}
 use Rattle.tree_calls.specs.declared.call.Call.{Call}
 use Rattle.token_types.specs.declared.token.Kind.{Kind}
-use Rattle.run_stores.specs.Wanting.{wanted_of}
+use Rattle.server_keeps.specs.Wanting.{wanted_of}
 use Rattle.store_memory.specs.Reading.{looked_up}
 use Rattle.server_keeps.specs.Asking.{needs_told}
 use Rattle.server_looks.proofs.needing.needs_of.Goals as goal

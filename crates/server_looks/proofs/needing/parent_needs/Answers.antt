@@ -2,7 +2,7 @@ use Rattle.std.proofs.Common.{◌≡◌, true, subst}
 use Rattle.std.specs.Prelude.{IfOk}
 use Rattle.tree_calls.specs.declared.place.Place.{Place}
 use Rattle.need_server.specs.Wants.{all_of}
-use Rattle.run_stores.specs.Wanting.{wanted_of}
+use Rattle.server_keeps.specs.Wanting.{wanted_of}
 use Rattle.store_memory.specs.Reading.{looked_up}
 use Rattle.server_looks.proofs.needing.parent_needs.Goals as goal
 

@@ -1,7 +1,7 @@
 use Rattle.std.proofs.Common.{sym, ◌∙◌, ◌≡◌, [], true, false}
 use Rattle.std.specs.Prelude.{None}
 use Rattle.std.proofs.lemmas.Result.{on_ok_weaker}
-use Rattle.server_keeps.specs.Asking.{change_needs}
+use Rattle.server_looks.specs.Asking.{change_needs}
 use Rattle.server_tables.specs.Answers.{is_old}
 use Rattle.server_takes.proofs.Parts.{is_again, is_dropped, is_elsewhere, is_wanted}
 use Rattle.server_takes.specs.Taking.{is_decided_here, may_wait}

@@ -1,7 +1,7 @@
 use Rattle.std.proofs.Common.{◌≡◌, ◌∙◌, ap, refl}
 use Rattle.std.specs.Prelude.{None}
 use Rattle.run_rules.specs.declared.applied.Request.TheVariants.{Change as Changes}
-use Rattle.server_keeps.specs.Asking.{change_needs}
+use Rattle.server_looks.specs.Asking.{change_needs}
 use Rattle.server_takes.proofs.Parts.{want_so}
 use Rattle.server_takes.specs.Taking.{Made}
 use Rattle.server_takes.proofs.asking.want_change.Goals as goal

@@ -7,6 +7,8 @@ use Rattle.service_moves.specs.Stopping.{IsStopped}
 use Rattle.service_moves.specs.Plans.{states_at}
 use Rattle.service_moves.proofs.Twice.{never_ok}
 use Rattle.service_stores.proofs.Begins.{begins, count_under}
+use Rattle.service_stores.proofs.Epochs.{begun_anew}
+use Rattle.service_stores.specs.Starting.{HaveBegunAnew}
 use Rattle.service_stores.proofs.Doing.{begin_failed, begin_then, moves_begin}
 use Rattle.service_stores.proofs.Lists.{ok_map, err_map}
 use Rattle.service_stores.proofs.Stores.{ready_of, ready_more, same_then, stores_then, stopped_later}
@@ -82,3 +84,11 @@ returns-clause-does g c t storable tree under =
     let second = c.in_ok-finish_moves.ensures.does t tree (subst (KeepUnderWay tree) (sym (c.in_ok-settle_all.ensures.settled t storable)) under) in
     begin_then view _ _ c.args.stores.now c.finish_moves.new.stores c.boot_all.new.stores
     (begin_then view _ _ c.args.stores.now c.settle_all.new.stores c.finish_moves.new.stores first (second.0, moves_begin (states_at view c.settle_all.new.stores) second.0 second.1, second.2)) (c.boot_all.ensures.does t)
+
+pub returns-clause-begun : goal.returns-clause-begun
+returns-clause-begun g c t storable tree under =
+    let view = g.S.Store.view in
+    let settled = c.in_ok-settle_all.ensures.settled t storable in
+    let does = c.in_ok-finish_moves.ensures.does t tree (subst (KeepUnderWay tree) (sym settled) under) in
+    ok_map c.boot_all.result (λ _. _) (λ _. HaveBegunAnew (states_of view c.args.stores.now) (states_of view c.boot_all.new.stores)) (c.boot_all.ensures.booted t)
+    (λ _ booted. begun_anew view _ c.args.settlings.now _ does.0 c.args.stores.now c.settle_all.new.stores c.finish_moves.new.stores c.boot_all.new.stores settled does.1 does.2 booted)

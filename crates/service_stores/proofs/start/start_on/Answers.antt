@@ -1,4 +1,4 @@
-use Rattle.std.proofs.Common.{◌≡◌, ◌*◌, [], None, sym, subst, ◌∙◌, rules, IfOk, OnOk}
+use Rattle.std.proofs.Common.{◌≡◌, ◌*◌, List, [], None, sym, subst, ◌∙◌, rules, IfOk, OnOk}
 use Rattle.service_starts.specs.Fitting.{misfit}
 use Rattle.store_records.specs.Stored.{IsStorable}
 use Rattle.message_types.specs.Soundness.{Each}
@@ -14,7 +14,9 @@ use Rattle.service_stores.proofs.Starts.{stopped_told}
 use Rattle.service_stores.proofs.Stores.{ready_of, same_self, same_then, stores_then, stopped_later}
 use Rattle.service_stores.proofs.Telling.{told_same}
 use Rattle.service_stores.proofs.start.start_on.Goals as goal
-use Rattle.service_stores.specs.Starting.{told_by, start_from}
+use Rattle.service_moves.specs.Stores.{states_of}
+use Rattle.store_state.specs.declared.state.StoreState.{StoreState}
+use Rattle.service_stores.specs.Starting.{told_by, start_from, HaveBegunAnew}
 
 pub all_told-requires-clause-ready : goal.all_told-requires-clause-ready
 all_told-requires-clause-ready g c = ready_of g.S.Store.view c.args.roster.now 0 1 c.args.stores.now c.requires.stores
@@ -69,3 +71,10 @@ returns-clause-does g c t =
     begin_then g.S.Store.view _ _ c.args.stores.now c.all_told.new.stores c.start_told.new.stores
     ([], moves_none IsBeginning (states_at g.S.Store.view c.args.stores.now), c.in_ok-all.ensures.does t)
     (c.start_told.ensures.does t c.args.disks (same ∙ sym (told_same g.S.Store.view c.args.disks c.args.stores.now c.all_told.new.stores states)) (subst (Each IsStorable) (sym states) (c.requires.storable t)))
+
+pub returns-clause-begun : goal.returns-clause-begun
+returns-clause-begun g c t =
+    let same : c.as_slice.result.now ≡ told_by g.S.Store.view c.args.disks c.args.stores.now = c.as_slice.ensures ∙ c.in_ok-all.ensures.told t in
+    let states = c.all_told.ensures.states t in
+    subst (λ (olds : List StoreState). OnOk c.start_told.result (HaveBegunAnew olds (states_of g.S.Store.view c.start_told.new.stores))) states
+    (c.start_told.ensures.begun t c.args.disks (same ∙ sym (told_same g.S.Store.view c.args.disks c.args.stores.now c.all_told.new.stores states)) (subst (Each IsStorable) (sym states) (c.requires.storable t)))

@@ -78,3 +78,11 @@ returns-clause-does g c t disks told storable =
     let d = c.in_ok-begin.ensures.does t storable (start_of c.args.roster.now c.args.all.now)
     (subst (λ those. KeepUnderWay (start_of c.args.roster.now c.args.all.now) (settled_stores 1 those (states_of g.S.Store.view c.args.stores.now))) (sym are) under) in
     (d.0, d.1, steps_ok g.S.Store.view _ _ d.0 c.args.stores.now c.begin.new.stores d.2)
+
+pub returns-clause-begun : goal.returns-clause-begun
+returns-clause-begun g c t disks told storable =
+    let are : c.as_slice.result.now ≡ settlings_of c.args.all.now = c.as_slice.ensures ∙ c.in_ok-settlings.ensures.settlings in
+    let under =
+    under_way g.S.Store.view c.args.roster.now (2 * batch_wear) disks c.args.all.now c.args.stores.now c.requires.stores storable c.requires.told told c.in_ok-settlings.ensures.fits in
+    c.in_ok-begin.ensures.begun t storable (start_of c.args.roster.now c.args.all.now)
+    (subst (λ those. KeepUnderWay (start_of c.args.roster.now c.args.all.now) (settled_stores 1 those (states_of g.S.Store.view c.args.stores.now))) (sym are) under)

@@ -1,4 +1,4 @@
-use Rattle.std.proofs.Common.{Bool, nat_lt, nat_le, take, drop, filter, length, ◌≡◌, rules}
+use Rattle.std.proofs.Common.{nat_lt, rules}
 use Rattle.std.proofs.lemmas.List.Sorted.{IsPartitionPoint-from_clause}
 use Rattle.tree_objects.proofs.Cuts.{parts_rise, counted}
 use Rattle.tree_objects.proofs.unsaved.count_below.Goals as goal
