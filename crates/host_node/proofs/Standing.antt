@@ -341,6 +341,26 @@ module _ (part : Part) (n : HostNode) (past : List Round) (made : List Step) (ca
           inr (bye_of script m own (so.runs e) p.1))
           over
 
+  -- and where it is done they have gone, and it makes none
+  pub over_of : IsDone part.run part.node own → (length n.lines.lines ≤ n.lines.gone) × IsOver n
+  over_of done =
+      let here : IsDone part.run (Host (host_of part.node)) own =
+      subst (λ (k : Node). IsDone part.run k own) so.node done in
+      let size : length n.lines.lines ≡ length (lines_of script (Host (host_of part.node))) =
+      ap (λ (l : List Line). length l) (so.lines ∙ ap (lines_of script) so.node) in
+      let told = so.gone in let gone = here.0 in
+      let full : length n.lines.lines ≤ n.lines.gone = omega (arith, told, gone, size) in
+      (full, by_stop n.stopped refl full here.1)
+    where
+      by_stop : (b : Bool) → n.stopped ≡ b → length n.lines.lines ≤ n.lines.gone
+          → HasStopped own ⊎ ((v : ServerId) → HasGreeted own v → HasBye own v) → IsOver n
+      by_stop true e full how = inl e
+      by_stop false e full how = ⊎_elim
+          (λ (stopped : HasStopped own). absurd ((so.runs e).rests.stands.live stopped))
+          (λ (f : (v : ServerId) → HasGreeted own v → HasBye own v).
+          inr (full, parted_of script m own (so.runs e) f))
+          how
+
   -- what was given last is let go
   pub stands_on : StandsSo part n past made [] 0
   stands_on = record {

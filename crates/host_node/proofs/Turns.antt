@@ -14,7 +14,7 @@ use Rattle.host_manager.specs.Due.{EndDue, IsOwn, OwnDue, TakeDue}
 use Rattle.host_manager.specs.Spoken.{tables_of}
 use Rattle.host_manager.specs.declared.manager.Manager.{Manager}
 use Rattle.host_node.proofs.Standing.{after_lapse, after_line, after_message, after_own, can_ask, done_of, is_next}
-use Rattle.host_node.proofs.Standing.{node_is, running, stands_on, to_host}
+use Rattle.host_node.proofs.Standing.{node_is, over_of, running, stands_on, to_host}
 use Rattle.host_node.specs.Between.{Holds}
 use Rattle.host_node.specs.Doing.{DeedRight, DoesLine}
 use Rattle.host_node.specs.Standing.{IsInTurn, IsOver, IsPlayable, Stands, StandsSo, WasGiven, host_of}
@@ -212,6 +212,15 @@ pub is_done : (part : Part) (n : HostNode) (past : List Round) (made : List Step
 is_done part n past made turn none full over =
     subst (λ (l : List Step). IsDone part.run part.node (appended l (steps_in past))) none
     (done_of part n past made [] 0 turn.so full over)
+
+-- and it isn't where it goes on
+pub not_done : (part : Part) (n : HostNode) (past : List Round) (made : List Step) → IsInTurn part n past made [] 0
+    → made ≡ [] → (length n.lines.lines ≤ n.lines.gone → IsOver n → ⊥)
+    → IsDone part.run part.node (steps_in past) → ⊥
+not_done part n past made turn none goes done =
+    let over = over_of part n past made [] 0 turn.so
+    (subst (λ (l : List Step). IsDone part.run part.node (appended l (steps_in past))) (sym none) done) in
+    goes over.0 over.1
 
 -- a turn ends
 pub ends : (part : Part) (n : HostNode) (past : List Round) (made : List Step) → IsInTurn part n past made [] 0

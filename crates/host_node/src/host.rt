@@ -2,7 +2,7 @@ ghost use Rattle.std.specs.Prelude.{◌≡◌, ◌∷◌, ◌++◌, ◌↔◌, �
 ghost use Rattle.std.specs.Prelude.{IfOk, IfSome, IsOk, IsSome, IsTrue, MatchOption, OnOk, List, Option};
 ghost use Rattle.base_types.specs.declared.ids.Node.TheVariants.{Host as IsHost};
 ghost use Rattle.hub_board.specs.declared.given.Given.{Given as GivenOf};
-ghost use Rattle.hub_board.specs.declared.given.Turned.TheVariants.{Ended, Worked};
+ghost use Rattle.hub_board.specs.declared.given.Turned.TheVariants.{Ended, Idle, Worked};
 ghost use Rattle.host_manager.specs.Spoken.{IsFree, tables_of};
 ghost use Rattle.host_node.specs.Doing.{DoesLine};
 ghost use Rattle.host_node.specs.declared.between.Spoken.TheVariants.{Answered};
@@ -331,6 +331,7 @@ impl HostNode {
         ensures quiet { (result ≡ Worked → ⊥) → (came ≡ false) × (steps.now.steps ≡ []) }
         ensures gone { result ≡ Ended → length self.now.lines.lines ≤ self.now.lines.gone }
         ensures over { result ≡ Ended → IsOver self.now }
+        ensures undone { result ≡ Idle → length self.now.lines.lines ≤ self.now.lines.gone → IsOver self.now → ⊥ }
     {
         if came || !steps.as_slice().is_empty() {
             return Turned::Worked;

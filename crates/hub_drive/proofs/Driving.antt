@@ -1,21 +1,21 @@
 -- The seats at the start of a run and at its end.
-use Rattle.std.proofs.Common.{◌≡◌, inl, inr, ℕ, zero, suc, ◌+◌, ◌<◌, List, [], ◌∷◌, ◌++◌, Option, None, Some, map}
-use Rattle.std.proofs.Common.{length, get_or, refl, sym, ap, ◌∙◌, subst, arith}
+use Rattle.std.proofs.Common.{◌≡◌, inl, inr, ℕ, ◌<◌, false, List, [], ◌∷◌, Option, None, Some}
+use Rattle.std.proofs.Common.{map, length, get_or, refl, sym, ap, ◌∙◌, subst, arith}
 use Rattle.std.specs.Prelude.{IfErr, IfOk, OnOk, Result, Ok, Err}
 use Rattle.base_types.specs.declared.ids.Node.{Node}
 use Rattle.base_types.specs.declared.ids.Node.TheVariants.{Host}
 use Rattle.tree_answers.specs.declared.tree.Tree.{Tree}
 use Rattle.script_lines.specs.declared.script.Script.{Script}
-use Rattle.hub_board.specs.Hubs.{hosts_up_to, nodes_of, servers_up_to}
+use Rattle.hub_board.specs.Hubs.{nodes_of}
 use Rattle.hub_board.specs.declared.given.Turn.{Turn}
 use Rattle.hub_turns.specs.Meetings.{HasEnded, first_pass}
 use Rattle.hub_turns.specs.Views.{HubView, NodeView}
 use Rattle.run_rules.specs.declared.journal.Journal.{Journal}
 use Rattle.run_rules.specs.declared.step.Step.{Step}
-use Rattle.hub_laws.specs.Keeping.{Round}
-use Rattle.hub_drive.specs.Driving.{AreNodes, CanStart, HasDriven, HaveRested, IsFault, IsFree, IsHubOf, IsJournalOf}
-use Rattle.hub_drive.specs.Driving.{ShowsFault, beginning}
-use Rattle.hub_node.specs.Nodes.{Beginning, HandsIn, HasBecome, Part, part_of}
+use Rattle.hub_laws.specs.Keeping.{Round, steps_in}
+use Rattle.hub_drive.specs.Driving.{AreNodes, CanStart, HasDriven, HasRested, HaveRested, IsFault, IsFree, IsHubOf}
+use Rattle.hub_drive.specs.Driving.{IsJournalOf, IsUndone, IsUndoneAt, ShowsFault, beginning}
+use Rattle.hub_node.specs.Nodes.{Beginning, HandsIn, HasBecome, IsDone, Knows, Part, part_of}
 use Rattle.hub_node.specs.declared.node.NodeFault.{NodeFault}
 use Rattle.hub_node.specs.declared.node.NodeFault.TheVariants.{Store as StoreFailed}
 use Rattle.hub_drive.specs.Seats.{EachAt, HasGone, IsAtRest, IsHere, IsIn, IsSeated, IsThrough, PairsAt}
@@ -24,7 +24,7 @@ use Rattle.hub_drive.specs.declared.driver.DriveFault.TheVariants.{Store, Memory
 use Rattle.hub_drive.specs.declared.driver.Waiting.{Waiting}
 use Rattle.hub_drive.specs.declared.seat.Seat.{Seat}
 use Rattle.hub_drive.proofs.Closing.{driven}
-use Rattle.hub_drive.proofs.Lists.{map_here, map_size, maps_same, same_at}
+use Rattle.hub_drive.proofs.Lists.{map_here, map_size, maps_same, pairs_map, same_at}
 
 pub if_ok : {T E : Type 0} (r : Result T E) (P Q : T → Type 0) → ((x : T) → P x → Q x) → IfOk r P → IfOk r Q
 if_ok (Ok x) P Q f h = f x h
@@ -54,40 +54,18 @@ module _ {N : Type 0} where
   -- what has become of seats has become of their nodes
   module _ (stands : Part → N → List Round → List Step → Type 0) (stays : N → N → Type 0)
       (failed : NodeFault → N → N → Type 0) (next : N → Option ℕ) (hub : HubView) where
-    -- by what is so of each two seats
-    nodes_by : (R : N → N → Type 0) (olds news : List (Seat N)) → length news ≡ length olds
-        → ((i : ℕ) (d : Seat N) → i < length olds → R (get_or olds i d).node (get_or news i d).node)
-        → PairsAt R (map node_of olds) (map node_of news)
-    nodes_by R olds news n h =
-        let a = map_size node_of olds in let b = map_size node_of news in
-        record {
-          count = omega arith;
-          each = λ i d lt. two olds news n h i d (omega (arith, lt, a));
-        }
-      where
-        two : (olds news : List (Seat N)) → length news ≡ length olds
-            → ((i : ℕ) (d : Seat N) → i < length olds → R (get_or olds i d).node (get_or news i d).node)
-            → (i : ℕ) (d : N) → i < length olds → R (get_or (map node_of olds) i d) (get_or (map node_of news) i d)
-        two [] news n h i d lt = absurd (omega (arith, lt))
-        two (o ∷ olds) news n h i d lt =
-            let there : i < length news = omega (arith, lt, n) in
-            let old = map_here node_of (o ∷ olds) i o d lt in
-            let new = map_here node_of news i o d there in
-            subst (R (get_or (map node_of (o ∷ olds)) i d)) (sym new)
-            (subst (λ x. R x (get_or news i o).node) (sym old) (h i o lt))
-
     -- of those that are through it stays
     pub stayed_of : (olds news : List (Seat N)) → PairsAt (HasGone stands stays failed hub) olds news
         → EachAt (λ (s : Seat N). s.fault ≡ None) news → PairsAt stays (map node_of olds) (map node_of news)
     stayed_of olds news h well =
         let n = h.count in
-        nodes_by stays olds news h.count (λ i d lt. (h.each i d lt).stayed (well i d (omega (arith, lt, n))))
+        pairs_map node_of stays olds news h.count (λ i d lt. (h.each i d lt).stayed (well i d (omega (arith, lt, n))))
 
     pub became_of : (olds news : List (Seat N)) → PairsAt (HasGone stands stays failed hub) olds news
         → EachAt (λ (s : Seat N). s.fault ≡ None) olds
         → PairsAt (HasBecome stays failed) (map node_of olds) (map node_of news)
     became_of olds news h well =
-        nodes_by (HasBecome stays failed) olds news h.count
+        pairs_map node_of (HasBecome stays failed) olds news h.count
         (λ i d lt. by_fault (get_or olds i d) (get_or news i d) (get_or news i d).fault refl (h.each i d lt)
         (well i d lt))
       where
@@ -101,38 +79,77 @@ module _ {N : Type 0} where
     nodes_on olds news h =
         maps_same (λ (s : Seat N). s.pass.node) olds news h.count (λ i d lt. (h.each i d lt).node_is)
 
-    -- seats at rest are those of nodes that have come to rest
-    rested_of : (run : Beginning) (news : List (Seat N)) → EachAt (IsAtRest stands run hub) news
-        → map (λ (s : Seat N). s.pass.node) news ≡ nodes_of run.script → HaveRested stands run (map node_of news)
-    rested_of run [] rests are i n node lt = absurd (omega (arith, lt))
-    rested_of run (x ∷ news) rests are i n node lt =
-        let size = map_size node_of (x ∷ news) in
-        let here : i < length (x ∷ news) = omega (arith, lt, size) in
-        let s : Seat N = get_or (x ∷ news) i x in
-        let rest : IsAtRest stands run hub s = rests i x here in
-        let node_is : get_or (nodes_of run.script) i node ≡ s.pass.node =
-        ap (λ l. get_or l i node) (sym are) ∙ map_here (λ (y : Seat N). y.pass.node) (x ∷ news) i x node here in
-        record {
-          before = rest.before;
-          stood = subst (λ y. stands (part_of run (get_or (nodes_of run.script) i node)) y
-              (record { steps = []; given = None } ∷ rest.before) [])
-              (sym (map_here node_of (x ∷ news) i x n here))
-              (subst (λ k. stands (part_of run k) s.node (record { steps = []; given = None } ∷ rest.before) [])
-              (sym node_is)
-              (subst (λ l. stands (part_of run s.pass.node) s.node
-              (record { steps = []; given = None } ∷ rest.before) l)
-              rest.none
-              (subst (λ r. stands (part_of run s.pass.node) s.node r s.steps.steps) rest.newest rest.seated.stood)));
-        }
+    -- the node of a seat at rest has come to rest
+    rested_by : (tells : Type 0) (run : Beginning) (s : Seat N) (n : N) (node : Node)
+        → IsAtRest stands run hub tells s → s.node ≡ n → s.pass.node ≡ node → HasRested stands (part_of run node) n
+    rested_by tells run s n node rest here own = record {
+      before = rest.before;
+      stood = subst (λ y. stands (part_of run node) y (record { steps = []; given = None } ∷ rest.before) []) here
+          (subst (λ k. stands (part_of run k) s.node (record { steps = []; given = None } ∷ rest.before) []) own
+          (subst (λ l. stands (part_of run s.pass.node) s.node (record { steps = []; given = None } ∷ rest.before) l)
+          rest.none
+          (subst (λ r. stands (part_of run s.pass.node) s.node r s.steps.steps) rest.newest rest.seated.stood)));
+    }
 
-    pub failed_of : (run : Beginning) (olds news : List (Seat N)) (fault : DriveFault)
+    -- and it isn't done where it didn't say so
+    undone_by : (tells : Type 0) (run : Beginning) (s : Seat N) (n : N) (node : Node)
+        → IsAtRest stands run hub tells s → s.node ≡ n → s.pass.node ≡ node → s.ended ≡ false
+        → IsUndone tells stands (part_of run node) n
+    unfolding rested_by
+    undone_by tells run s n node rest here own e = record {
+      rested = rested_by tells run s n node rest here own;
+      undone = (λ knows done. rest.undone e (subst (Knows tells) (sym own) knows)
+          (subst (λ (k : Node). IsDone run k (steps_in rest.before)) (sym own) done));
+    }
+
+    -- seats at rest are those of nodes that have come to rest
+    module _ (tells : Type 0) (run : Beginning) (x : Seat N) (news : List (Seat N))
+        (rests : EachAt (IsAtRest stands run hub tells) (x ∷ news))
+        (are : map (λ (s : Seat N). s.pass.node) (x ∷ news) ≡ nodes_of run.script) (i : ℕ) (n : N) (node : Node)
+        (here : i < length (x ∷ news)) where
+      node_here : (get_or (x ∷ news) i x).node ≡ get_or (map node_of (x ∷ news)) i n
+      node_here = sym (map_here node_of (x ∷ news) i x n here)
+
+      pass_here : (get_or (x ∷ news) i x).pass.node ≡ get_or (nodes_of run.script) i node
+      pass_here = sym (ap (λ l. get_or l i node) (sym are)
+          ∙ map_here (λ (y : Seat N). y.pass.node) (x ∷ news) i x node here)
+
+      rested_at : HasRested stands (part_of run (get_or (nodes_of run.script) i node))
+          (get_or (map node_of (x ∷ news)) i n)
+      rested_at = rested_by tells run (get_or (x ∷ news) i x) (get_or (map node_of (x ∷ news)) i n)
+          (get_or (nodes_of run.script) i node) (rests i x here) node_here pass_here
+
+      undone_at : (get_or (x ∷ news) i x).ended ≡ false
+          → IsUndone tells stands (part_of run (get_or (nodes_of run.script) i node))
+          (get_or (map node_of (x ∷ news)) i n)
+      undone_at e = undone_by tells run (get_or (x ∷ news) i x) (get_or (map node_of (x ∷ news)) i n)
+          (get_or (nodes_of run.script) i node) (rests i x here) node_here pass_here e
+
+    rested_of : (tells : Type 0) (run : Beginning) (news : List (Seat N))
+        → EachAt (IsAtRest stands run hub tells) news
+        → map (λ (s : Seat N). s.pass.node) news ≡ nodes_of run.script → HaveRested stands run (map node_of news)
+    rested_of tells run [] rests are i n node lt = absurd (omega (arith, lt))
+    rested_of tells run (x ∷ news) rests are i n node lt =
+        let size = map_size node_of (x ∷ news) in
+        rested_at tells run x news rests are i n node (omega (arith, lt, size))
+
+    undone_of : (tells : Type 0) (run : Beginning) (news : List (Seat N)) (k : ℕ)
+        → EachAt (IsAtRest stands run hub tells) news
+        → map (λ (s : Seat N). s.pass.node) news ≡ nodes_of run.script → k < length (map node_of news)
+        → ((d : Seat N) → (get_or news k d).ended ≡ false) → IsUndoneAt tells stands run (map node_of news) k
+    undone_of tells run [] k rests are lt e n node = absurd (omega (arith, lt))
+    undone_of tells run (x ∷ news) k rests are lt e n node =
+        let size = map_size node_of (x ∷ news) in
+        undone_at tells run x news rests are k n node (omega (arith, lt, size)) (e x)
+
+    pub failed_of : (tells : Type 0) (run : Beginning) (olds news : List (Seat N)) (fault : DriveFault)
         → PairsAt (HasGone stands stays failed hub) olds news → EachAt (λ (s : Seat N). s.fault ≡ None) olds
-        → ((w : Waiting) → fault ≡ Stuck w → EachAt (IsAtRest stands run hub) news)
+        → ((w : Waiting) → fault ≡ Stuck w → EachAt (IsAtRest stands run hub tells) news)
         → map (λ (s : Seat N). s.pass.node) news ≡ nodes_of run.script → ShowsFault next news fault
-        → IsFault stands run failed next (map node_of olds) (map node_of news) fault
-    failed_of run [] news (Store k) h well rests are shows =
+        → IsFault tells stands run failed next (map node_of olds) (map node_of news) fault
+    failed_of tells run [] news (Store k) h well rests are shows =
         let n = h.count in let lt = shows.0 in absurd (omega arith)
-    failed_of run (o ∷ olds) news (Store k) h well rests are shows =
+    failed_of tells run (o ∷ olds) news (Store k) h well rests are shows =
         let n = h.count in let low = shows.0 in
         let here : k < length (o ∷ olds) = omega arith in
         let g = h.each k o here in
@@ -143,14 +160,18 @@ module _ {N : Type 0} where
               (subst (failed StoreFailed (get_or (o ∷ olds) k o).node) (sym (map_here node_of news k o d low))
               (g.fails (well k o here) StoreFailed (shows.1 o)))),
         )
-    failed_of run olds news Memory h well rests are shows = tt
-    failed_of run olds news (Stuck w) h well rests are shows = (shows, rested_of run news (rests w refl) are)
+    failed_of tells run olds news Memory h well rests are shows = tt
+    failed_of tells run olds news (Stuck w) h well rests are shows = (
+      shows.0,
+      rested_of tells run news (rests w refl) are,
+      undone_of tells run news w.node (rests w refl) are shows.0.0 shows.1,
+    )
 
-    pub free_of : (run : Beginning) (olds news : List N) (fault : DriveFault) → IsFree fault
-        → IsFault stands run failed next olds news fault
-    free_of run olds news (Store k) h = absurd h
-    free_of run olds news Memory h = tt
-    free_of run olds news (Stuck w) h = absurd h
+    pub free_of : (tells : Type 0) (run : Beginning) (olds news : List N) (fault : DriveFault) → IsFree fault
+        → IsFault tells stands run failed next olds news fault
+    free_of tells run olds news (Store k) h = absurd h
+    free_of tells run olds news Memory h = tt
+    free_of tells run olds news (Stuck w) h = absurd h
 
   -- seats that were in a run are in it still
   pub all_in : (stands : Part → N → List Round → List Step → Type 0) (stays : N → N → Type 0)
@@ -254,16 +275,3 @@ pub seats_count : {N : Type 0} (script : Script) (seats : List (Seat N))
     → map (λ (s : Seat N). s.pass.node) seats ≡ nodes_of script → length seats ≡ length (nodes_of script)
 seats_count {N} script seats are =
     sym (map_size (λ (s : Seat N). s.pass.node) seats) ∙ ap (λ (l : List Node). length l) are
-
--- there is a node
-pub some_node : (script : Script) → 0 < length (nodes_of script)
-some_node script = longer (hosts_up_to (length script.roster.hosts)) (servers_up_to script.servers)
-    (some_host (length script.roster.hosts))
-  where
-    longer : (xs ys : List Node) → 0 < length xs → 0 < length (xs ++ ys)
-    longer [] ys lt = absurd (omega (arith, lt))
-    longer (x ∷ xs) ys lt = omega arith
-
-    some_host : (n : ℕ) → 0 < length (hosts_up_to n)
-    some_host zero = omega arith
-    some_host (suc n) = longer (hosts_up_to n) (Host (record { 0 = suc n }) ∷ []) (some_host n)

@@ -1,10 +1,10 @@
 -- What becomes of a seat, over several turns.
-use Rattle.std.proofs.Common.{◌≡◌, List, Option, None, Some, refl, sym, ◌∙◌, subst}
+use Rattle.std.proofs.Common.{◌≡◌, ◌<◌, List, Option, None, Some, length, get_or, refl, sym, ◌∙◌, subst, arith}
 use Rattle.hub_turns.specs.Views.{HubView}
 use Rattle.run_rules.specs.declared.step.Step.{Step}
 use Rattle.hub_laws.specs.Keeping.{Round}
 use Rattle.hub_node.specs.Nodes.{Part}
-use Rattle.hub_drive.specs.Seats.{HasGone, IsHere}
+use Rattle.hub_drive.specs.Seats.{EachAt, HasGone, IsHere, PairsAt}
 use Rattle.hub_node.specs.declared.node.NodeFault.{NodeFault}
 use Rattle.hub_drive.specs.declared.seat.Seat.{Seat}
 
@@ -55,3 +55,11 @@ pub here_on : {N : Type 0} (stands : Part → N → List Round → List Step →
     (failed : NodeFault → N → N → Type 0) (hub : HubView) (a b : Seat N) → IsHere stands hub a
     → HasGone stands stays failed hub a b → IsHere stands hub b
 here_on stands stays failed hub a b h k = record { run = h.run; is_in = k.kept h.run h.is_in }
+
+pub each_here : {N : Type 0} (stands : Part → N → List Round → List Step → Type 0) (stays : N → N → Type 0)
+    (failed : NodeFault → N → N → Type 0) (hub : HubView) (olds news : List (Seat N)) → EachAt (IsHere stands hub) olds
+    → PairsAt (HasGone stands stays failed hub) olds news → EachAt (IsHere stands hub) news
+each_here stands stays failed hub olds news here gone i d lt =
+    let n = gone.count in
+    let there : i < length olds = omega (arith, lt, n) in
+    here_on stands stays failed hub (get_or olds i d) (get_or news i d) (here i d there) (gone.each i d there)

@@ -7,7 +7,7 @@ use Rattle.std.proofs.lemmas.List.{get_or-set_same, get_or-set_other, length-set
 use Rattle.run_rules.specs.Past.{In}
 use Rattle.hub_drive.specs.Seats.{EachAt, PairsAt}
 
-same_or_not : (a b : ℕ) → (a ≡ b) ⊎ (a ≡ b → ⊥)
+pub same_or_not : (a b : ℕ) → (a ≡ b) ⊎ (a ≡ b → ⊥)
 same_or_not zero zero = inl refl
 same_or_not zero (suc b) = inr (λ e. absurd (cc))
 same_or_not (suc a) zero = inr (λ e. absurd (cc))
@@ -152,3 +152,30 @@ maps_same f (o ∷ olds) (x ∷ news) n h =
 pub back_again : {A : Type 0} (news rest : List A) → take (length news) (news ++ rest) ≡ news
 back_again [] rest = refl
 back_again (x ∷ news) rest = ap (λ l. x ∷ l) (back_again news rest)
+
+-- what is so of each two is so of their maps
+pub pairs_map : {A B : Type 0} (f : A → B) (R : B → B → Type 0) (olds news : List A) → length news ≡ length olds
+    → ((i : ℕ) (d : A) → i < length olds → R (f (get_or olds i d)) (f (get_or news i d)))
+    → PairsAt R (map f olds) (map f news)
+pairs_map {A} {B} f R olds news n h =
+    let a = map_size f olds in let b = map_size f news in
+    record {
+      count = omega arith;
+      each = λ i d lt. two olds news n h i d (omega (arith, lt, a));
+    }
+  where
+    two : (olds news : List A) → length news ≡ length olds
+        → ((i : ℕ) (d : A) → i < length olds → R (f (get_or olds i d)) (f (get_or news i d)))
+        → (i : ℕ) (d : B) → i < length olds → R (get_or (map f olds) i d) (get_or (map f news) i d)
+    two [] news n h i d lt = absurd (omega (arith, lt))
+    two (o ∷ olds) news n h i d lt =
+        let there : i < length news = omega (arith, lt, n) in
+        let old = map_here f (o ∷ olds) i o d lt in
+        let new = map_here f news i o d there in
+        subst (R (get_or (map f (o ∷ olds)) i d)) (sym new)
+        (subst (λ x. R x (f (get_or news i o))) (sym old) (h i o lt))
+
+pub map_set : {A B : Type 0} (f : A → B) (xs : List A) (k : ℕ) (y : A) → map f (set xs k y) ≡ set (map f xs) k (f y)
+map_set f [] k y = refl
+map_set f (x ∷ xs) zero y = refl
+map_set f (x ∷ xs) (suc k) y = ap (λ l. f x ∷ l) (map_set f xs k y)

@@ -11,11 +11,13 @@ use Rattle.hub_board.specs.Hubs.{Hubbed, flag_of, given_of, with_steps}
 use Rattle.hub_board.specs.declared.given.Gift.{Gift}
 use Rattle.hub_board.specs.declared.given.Gift.TheVariants.{Message as Copied, Begun, Raised, Lapse}
 use Rattle.hub_board.specs.declared.given.Given.{Given}
+use Rattle.hub_board.specs.declared.given.Turned.{Turned}
+use Rattle.hub_board.specs.declared.given.Turned.TheVariants.{Ended, Idle, Worked}
 use Rattle.hub_board.specs.declared.given.Given.TheVariants.{Message as Came, Raised as WasRaised}
 use Rattle.std.specs.Prelude.{IfOk, OnOk, Result, Ok, Err, option_map}
 use Rattle.hub_turns.specs.Meetings.{AreSent, HasPassed, IsGivenSound, IsRefused}
 use Rattle.hub_turns.specs.Views.{HubView, NodeView}
-use Rattle.run_rules.specs.Past.{Always}
+use Rattle.run_rules.specs.Past.{Always, appended}
 use Rattle.run_rules.specs.Plans.{receiver}
 use Rattle.run_rules.specs.declared.step.Step.{Step}
 use Rattle.hub_wire.specs.Networks.{next_copy}
@@ -119,15 +121,27 @@ module _ {N : Type 0} (tells : Type 0) (stands : Part → N → List Round → L
 
     -- nothing came
     pub rests_on : (s' : Seat N) → s'.pass ≡ pass → stands part s'.node (round ∷ seated.rounds) s'.steps.steps
-        → s'.fault ≡ None → s.steps.steps ≡ [] → given ≡ None → s'.steps.steps ≡ [] → IsAtRest stands run hub s'
+        → s'.fault ≡ None → s.steps.steps ≡ [] → given ≡ None → s'.steps.steps ≡ []
+        → (s'.ended ≡ false → Knows tells s.pass.node
+        → IsDone run s.pass.node (steps_in (round ∷ seated.rounds)) → ⊥)
+        → IsAtRest stands run hub tells s'
     unfolding seated_on
-    rests_on s' is stood well handed nothing none = record {
+    rests_on s' is stood well handed nothing none undone = record {
       well = well;
       seated = seated_on s' is stood;
       none = none;
       before = seated.rounds;
       newest = (λ i. record { steps = handed i; given = nothing i } ∷ seated.rounds);
+      undone = (λ e knows done. undone e (subst (Knows tells) (node_on s' is) knows)
+          (subst (λ (l : List Step). IsDone run s.pass.node (appended l (steps_in seated.rounds))) (sym handed)
+          (subst (λ (n : Node). IsDone run n (steps_in seated.rounds)) (node_on s' is) done)));
     }
+
+-- what is neither of the others
+pub is_idle : (turned : Turned) → (turned ≡ Worked → ⊥) → (turned ≡ Ended → ⊥) → turned ≡ Idle
+is_idle Worked worked ended = absurd (worked refl)
+is_idle Idle worked ended = refl
+is_idle Ended worked ended = absurd (ended refl)
 
 -- a seat notes whether its node was done, and nothing else
 pub through_so : {N : Type 0} (tells : Type 0) (stands : Part → N → List Round → List Step → Type 0) (hub : HubView)
@@ -147,32 +161,15 @@ through_so tells stands hub run s ended h = record {
   done = h.done;
 }
 
-pub rests_so : {N : Type 0} (stands : Part → N → List Round → List Step → Type 0) (hub : HubView) (run : Beginning)
-    (s : Seat N) (ended : Bool) → IsAtRest stands run hub s → IsAtRest stands run hub (record s { ended = ended })
-rests_so stands hub run s ended h = record {
-  well = h.well;
-  seated = record {
-    hub_is = h.seated.hub_is;
-    roster = h.seated.roster;
-    rounds = h.seated.rounds;
-    made = h.seated.made;
-    keeps = h.seated.keeps;
-    stood = h.seated.stood;
-  };
-  none = h.none;
-  before = h.before;
-  newest = h.newest;
-}
-
 -- what holds where a result is Ok
 pub on_ok : {T E : Type 0} (r : Result T E) (P Q : Type 0) → (P → Q) → OnOk r P → OnOk r Q
 on_ok (Ok x) P Q f h = f h
 on_ok (Err e) P Q f h = tt
 
-pub if_on : {T E : Type 0} (r : Result T E) (S : Type 0) (Q P : T → Type 0) → (S → (x : T) → Q x → P x) → OnOk r S
-    → IfOk r Q → IfOk r P
-if_on (Ok x) S Q P f s q = f s x q
-if_on (Err e) S Q P f s q = tt
+pub if_both : {T E : Type 0} (r : Result T E) (S : Type 0) (Q P : T → Type 0)
+    → ((x : T) → r ≡ Ok x → S → Q x → P x) → OnOk r S → IfOk r Q → IfOk r P
+if_both (Ok x) S Q P f s q = f x refl s q
+if_both (Err e) S Q P f s q = tt
 
 pub if_at : {T E : Type 0} (r : Result T E) (x : T) (P : T → Type 0) → r ≡ Ok x → IfOk r P → P x
 if_at (Ok y) x P e h = let same : y ≡ x = cc in subst P same h

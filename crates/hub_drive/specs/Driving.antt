@@ -1,6 +1,6 @@
 -- What comes of a run that nodes were driven through.
 use Rattle.std.specs.List.{filter}
-use Rattle.std.specs.Prelude.{List, None, Option, Some, [], length, map, slice_index_or, ◌<◌, ◌∷◌, ◌≡◌, ◌≤◌, ℕ}
+use Rattle.std.specs.Prelude.{List, None, Option, Some, [], false, length, map, slice_index_or, ◌<◌, ◌∷◌, ◌≡◌, ◌≤◌, ℕ}
 use Rattle.base_types.specs.declared.ids.Node.{Node}
 use Rattle.base_types.specs.declared.limits.TheConstants.{HOSTS_MAX, SERVERS_MAX}
 use Rattle.tree_answers.specs.declared.tree.Tree.{Tree}
@@ -98,24 +98,38 @@ abbrev pub HaveRested : {N : Type 0} → (Part → N → List Round → List Ste
 HaveRested {N = N} stands run nodes = (i : ℕ) (n : N) (node : Node) → i < length nodes
     → HasRested stands (part_of run (slice_index_or (nodes_of run.script) i node)) (slice_index_or nodes i n)
 
--- it is one of these nodes, with its next line: that it waits for anything is not said
+-- a node has come to rest, and isn't done by its own steps, as far as is known what its store keeps
+pub record IsUndone {N : Type 0} (tells : Type 0) (stands : Part → N → List Round → List Step → Type 0) (part : Part)
+    (n : N) : Type 0 where
+  pub rested : HasRested stands part n
+  pub undone : Knows tells part.node → IsDone part.run part.node (steps_in rested.before) → ⊥
+
+-- so it is with the node at this place
+abbrev pub IsUndoneAt : {N : Type 0} → Type 0 → (Part → N → List Round → List Step → Type 0) → Beginning → List N → ℕ
+    → Type 0
+IsUndoneAt {N = N} tells stands run nodes k = (n : N) (node : Node)
+    → IsUndone tells stands (part_of run (slice_index_or (nodes_of run.script) k node)) (slice_index_or nodes k n)
+
+-- it is one of these nodes, with its next line
 abbrev pub IsWaitingAt : {N : Type 0} → (N → Option ℕ) → List N → Waiting → Type 0
 IsWaitingAt next nodes w = (w.node < length nodes) × ((d : _) → w.line ≡ next (slice_index_or nodes w.node d))
 
--- why a run came to no end: the store of the node at a place failed, or all nodes have come to rest, of which one is
--- named with its next line
-abbrev pub IsFault : {N : Type 0} → (Part → N → List Round → List Step → Type 0) → Beginning
+-- why a run came to no end: the store of the node at a place failed, or all nodes have come to rest, of which one that
+-- isn't done is named with its next line
+abbrev pub IsFault : {N : Type 0} → Type 0 → (Part → N → List Round → List Step → Type 0) → Beginning
     → (NodeFault → N → N → Type 0) → (N → Option ℕ) → List N → List N → DriveFault → Type 0
-IsFault stands run failed next olds news (Store k) =
+IsFault tells stands run failed next olds news (Store k) =
     (k < length olds) × ((d : _) → failed StoreFailed (slice_index_or olds k d) (slice_index_or news k d))
-IsFault stands run failed next olds news (Stuck w) = IsWaitingAt next news w × HaveRested stands run news
-IsFault stands run failed next olds news Memory = Unit {0}
+IsFault tells stands run failed next olds news (Stuck w) =
+    IsWaitingAt next news w × HaveRested stands run news × IsUndoneAt tells stands run news w.node
+IsFault tells stands run failed next olds news Memory = Unit {0}
 
 -- the same as it shows in the seats
 abbrev pub ShowsFault : {N : Type 0} → (N → Option ℕ) → List (Seat N) → DriveFault → Type 0
 ShowsFault next seats (Store k) =
     (k < length seats) × ((d : _) → (slice_index_or seats k d).fault ≡ Some StoreFailed)
-ShowsFault next seats (Stuck w) = IsWaitingAt next (map (λ s. s.node) seats) w
+ShowsFault next seats (Stuck w) =
+    IsWaitingAt next (map (λ s. s.node) seats) w × ((d : _) → (slice_index_or seats w.node d).ended ≡ false)
 ShowsFault next seats Memory = Unit {0}
 
 -- memory ran out: nothing is said of any node

@@ -1,5 +1,5 @@
 -- Nodes at the hub, each with its pass and the steps that it hands in next.
-use Rattle.std.specs.Prelude.{List, None, Some, [], length, slice_index_or, ◌<◌, ◌∷◌, ◌≡◌, ℕ}
+use Rattle.std.specs.Prelude.{List, None, Some, [], false, length, slice_index_or, ◌<◌, ◌∷◌, ◌≡◌, ℕ}
 use Rattle.hub_turns.specs.Views.{HubView}
 use Rattle.run_rules.specs.Past.{Always}
 use Rattle.run_rules.specs.declared.step.Step.{Step}
@@ -24,13 +24,15 @@ module _ {N : Type 0} (stands : Part → N → List Round → List Step → Type
   abbrev pub IsIn : Seat N → Type 0
   IsIn s = s.fault ≡ None → IsSeated s
 
-  -- and it is at rest: in its newest round it handed in nothing and was given nothing, and it has made nothing
-  pub record IsAtRest (s : Seat N) : Type 0 where
+  -- and it is at rest: in its newest round it handed in nothing and was given nothing, and it has made nothing; where
+  -- it didn't say that it is done, it isn't
+  pub record IsAtRest (tells : Type 0) (s : Seat N) : Type 0 where
     pub well : s.fault ≡ None
     pub seated : IsSeated s
     pub none : s.steps.steps ≡ []
     pub before : List Round
     pub newest : seated.rounds ≡ record { steps = []; given = None } ∷ before
+    pub undone : s.ended ≡ false → Knows tells s.pass.node → IsDone run s.pass.node (steps_in before) → ⊥
 
   -- and it is done, with nothing to hand in
   pub record IsThrough (tells : Type 0) (s : Seat N) : Type 0 where

@@ -1,11 +1,11 @@
 //! The driver.
-ghost use Rattle.std.specs.Prelude.{◌≡◌, ◌≤◌, ◌<◌, [], None, Err, IfOk, IfErr, OnOk, List, false, length, map};
+ghost use Rattle.std.specs.Prelude.{◌≡◌, ◌≤◌, [], None, Err, IfOk, IfErr, IfSome, OnOk, List, false, length, map};
 ghost use Rattle.std.specs.Prelude.{vec_capacity};
 ghost use Rattle.hub_board.specs.Hubs.{nodes_of};
 ghost use Rattle.hub_board.specs.declared.given.Turn.{Turn as TurnOf};
 ghost use Rattle.hub_turns.specs.Meetings.{HasEnded};
 ghost use Rattle.hub_drive.specs.Driving.{AreNodes, CanStart, HasDriven, IsFault, IsFree, IsHubOf, IsJournalOf};
-ghost use Rattle.hub_drive.specs.Driving.{IsWaitingAt, ShowsFault, beginning};
+ghost use Rattle.hub_drive.specs.Driving.{ShowsFault, beginning};
 ghost use Rattle.hub_drive.specs.declared.driver.DriveFault.TheVariants.{Stuck as StuckAt};
 ghost use Rattle.hub_drive.specs.declared.driver.Waiting.{Waiting as WaitingAt};
 ghost use Rattle.hub_drive.specs.Seats.{EachAt, IsSeated, IsThrough, PairsAt};
@@ -32,7 +32,7 @@ pub enum DriveFault {
     Memory,
     /// All nodes came to rest, and not all were done, as where a node waits for a flag that nobody raises, or for a
     /// copy that waits for one: in its newest round each handed in nothing and was given nothing, and none made
-    /// anything. A node is named, with its next line.
+    /// anything. A node that isn't done by its own steps is named, with its next line.
     Stuck(Waiting),
 }
 
@@ -101,32 +101,30 @@ fn unseat<N: Node>(seats: Vec<Seat<N>>, nodes: &mut Vec<N>, passes: &mut Vec<Nod
 }
 
 // The first node that wasn't done at its last turn.
-fn stuck_at<N: Node>(seats: &[Seat<N>]) -> Waiting
-    requires { 0 < length seats.now }
-    ensures { IsWaitingAt N.next (map (λ s. s.node) seats.now) result }
+fn stuck_at<N: Node>(seats: &[Seat<N>]) -> Option<Waiting>
+    ensures { IfSome result (λ w. ShowsFault N.next seats.now (StuckAt w)) }
 {
     for (k, seat) in seats.iter().enumerate() {
         if !seat.ended {
-            return Waiting {
+            return Some(Waiting {
                 node: k,
                 line: seat.node.waiting(),
-            };
+            });
         }
     }
-    Waiting {
-        node: 0,
-        line: seats[0].node.waiting(),
-    }
+    None
 }
 
-// Why the nodes aren't all done, by what came of a turn of each at last.
+// Why the nodes aren't all done, by what came of a turn of each at last: where none worked and none failed, one wasn't
+// done.
 fn fault_of<N: Node>(went: Went, seats: &[Seat<N>]) -> DriveFault
-    requires { 0 < length seats.now }
     ensures shows { ShowsFault N.next seats.now result }
     ensures stuck { (w : WaitingAt) → result ≡ StuckAt w → (went.worked ≡ false) × (went.stopped ≡ false) }
 {
     if !went.worked && !went.stopped {
-        return DriveFault::Stuck(stuck_at(seats));
+        if let Some(waiting) = stuck_at(seats) {
+            return DriveFault::Stuck(waiting);
+        }
     }
     for (k, seat) in seats.iter().enumerate() {
         if let Some(NodeFault::Store) = seat.fault {
@@ -230,6 +228,11 @@ fn finish<N: Node>(
     Driven { nodes, result }
 }
 
+// How many hosts take part, with the setup host.
+fn hosts_of(script: &Script) -> usize {
+    script.roster.hosts.len().saturating_add(1)
+}
+
 // Takes turns at a hub, and closes it.
 fn run_at<N: Node + Send, R: Threads + Wait + Sync>(
     rt: &R,
@@ -256,10 +259,10 @@ fn run_at<N: Node + Send, R: Threads + Wait + Sync>(
     ensures driven { IfOk result.result
         (λ journal. HasDriven N.tells N.stands script.now start epochs result.nodes.items journal) }
     ensures failed { IfErr result.result
-        (λ fault. IsFault N.stands (beginning script.now start epochs) N.failed N.next (map (λ s. s.node) seats.items)
-        result.nodes.items fault) }
+        (λ fault. IsFault N.tells N.stands (beginning script.now start epochs) N.failed N.next
+        (map (λ s. s.node) seats.items) result.nodes.items fault) }
 {
-    let went = turn_until(rt, &hub, &mut seats, workers);
+    let went = turn_until(rt, &hub, hosts_of(script), &mut seats, workers);
     if went.through {
         return finish(alloc, script, start, epochs, hub, seats, nodes, passes);
     }
@@ -290,8 +293,8 @@ fn rooms<N: Drop>(
 /// ended; and each node stands where its own steps in it have brought it.
 ///
 /// `Store` comes only where the store of that node failed twice, and `Stuck` only where all nodes have come to rest: in
-/// its newest round each handed in nothing and was given nothing, and none made anything; it names a node by its place,
-/// with its next line. `Memory` may come at any time, as far as clauses say: it is meant where memory runs out. The
+/// its newest round each handed in nothing and was given nothing, and none made anything; it names a node that isn't
+/// done by its own steps, by its place and with its next line. `Memory` may come at any time, as far as clauses say: it is meant where memory runs out. The
 /// nodes come back in their order, whatever comes: where the run went to its end, with what stays of each; else each
 /// with that, or as it is where something failed there. It may wait for what never comes about.
 pub fn drive<N: Node + Send, R: Threads + Wait + Sync>(
@@ -310,7 +313,8 @@ pub fn drive<N: Node + Send, R: Threads + Wait + Sync>(
     ensures driven { IfOk result.result
         (λ journal. HasDriven N.tells N.stands script.now start epochs result.nodes.items journal) }
     ensures failed { IfErr result.result (λ fault.
-        IsFault N.stands (beginning script.now start epochs) N.failed N.next nodes.items result.nodes.items fault) }
+        IsFault N.tells N.stands (beginning script.now start epochs) N.failed N.next nodes.items result.nodes.items
+        fault) }
 {
     let Ok((seats, back, passes_back)) = rooms(alloc, nodes.len()) else {
         return Driven {

@@ -2,6 +2,7 @@
 //! ended run of the script, which keeps to its plan.
 #![tactic(auto)]
 
+mod dealing;
 mod driver;
 mod rounds;
 mod seat;

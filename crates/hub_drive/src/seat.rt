@@ -1,5 +1,5 @@
 //! A node at the hub.
-ghost use Rattle.std.specs.Prelude.{◌≡◌, [], Ok, None, IfErr, IfOk, OnOk};
+ghost use Rattle.std.specs.Prelude.{◌≡◌, [], Bool, Ok, None, false, IfErr, IfOk, OnOk};
 ghost use Rattle.hub_board.specs.declared.given.Turned.TheVariants.{Ended as HasEnded, Worked as HasWorked};
 ghost use Rattle.hub_drive.specs.Seats.{HasGone, IsAtRest, IsHere, IsIn, IsSeated, IsThrough};
 ghost use Rattle.hub_node.specs.Nodes.{Beginning};
@@ -19,6 +19,13 @@ pub struct Seat<N> {
     pub ended: bool,
 }
 
+// Whether a node was done.
+fn was_done(turned: Turned) -> bool
+    ensures { result ≡ false → turned ≡ HasEnded → ⊥ }
+{
+    matches!(turned, Turned::Ended)
+}
+
 // A turn of a node: its steps are handed in, it takes what it is given, and does what it can.
 fn take_turn<N: Node, R: Wait>(rt: &R, hub: &Hub, seat: &mut Seat<N>) -> Result<Turned, NodeFault>
     requires { (run : Beginning) × IsSeated N.stands run hub.now seat.old }
@@ -26,9 +33,10 @@ fn take_turn<N: Node, R: Wait>(rt: &R, hub: &Hub, seat: &mut Seat<N>) -> Result<
         → OnOk result (IsSeated N.stands run hub.now seat.new) }
     ensures through { (run : Beginning) → IsSeated N.stands run hub.now seat.old → result ≡ Ok HasEnded
         → seat.new.fault ≡ None → IsThrough N.stands run hub.now N.tells seat.new }
-    ensures rests { (run : Beginning) → IsSeated N.stands run hub.now seat.old → seat.old.steps.steps ≡ []
-        → IfOk result (λ turned. (turned ≡ HasWorked → ⊥) → seat.new.fault ≡ None
-        → IsAtRest N.stands run hub.now seat.new) }
+    ensures rests { (run : Beginning) (ended : Bool) → IsSeated N.stands run hub.now seat.old
+        → seat.old.steps.steps ≡ [] → IfOk result (λ turned. (turned ≡ HasWorked → ⊥)
+        → (ended ≡ false → turned ≡ HasEnded → ⊥) → seat.new.fault ≡ None
+        → IsAtRest N.stands run hub.now N.tells (record seat.new { ended = ended })) }
     ensures node { seat.new.pass.node ≡ seat.old.pass.node }
     ensures stays { OnOk result (N.stays seat.old.node seat.new.node) }
     ensures failed { IfErr result (λ fault. N.failed fault seat.old.node seat.new.node) }
@@ -47,7 +55,7 @@ pub(crate) fn turn<N: Node, R: Wait>(rt: &R, hub: &Hub, seat: &mut Seat<N>) -> T
     ensures through { (run : Beginning) → IsIn N.stands run hub.now seat.old → result ≡ HasEnded
         → IsThrough N.stands run hub.now N.tells seat.new }
     ensures rests { (run : Beginning) → IsIn N.stands run hub.now seat.old → (result ≡ HasWorked → ⊥)
-        → seat.new.fault ≡ None → IsAtRest N.stands run hub.now seat.new }
+        → seat.new.fault ≡ None → IsAtRest N.stands run hub.now N.tells seat.new }
     ensures gone { HasGone N.stands N.stays N.failed hub.now seat.old seat.new }
 {
     if seat.fault.is_some() {
@@ -56,7 +64,7 @@ pub(crate) fn turn<N: Node, R: Wait>(rt: &R, hub: &Hub, seat: &mut Seat<N>) -> T
     let handed = !seat.steps.as_slice().is_empty();
     match take_turn(rt, hub, seat) {
         Ok(turned) => {
-            seat.ended = turned == Turned::Ended;
+            seat.ended = was_done(turned);
             if handed { Turned::Worked } else { turned }
         }
         Err(fault) => {

@@ -1,5 +1,5 @@
 ghost use Rattle.std.specs.Prelude.{◌≡◌, [], ◌∷◌, ℕ, List, None, Option, Ok, IfErr, IfOk, OnOk};
-ghost use Rattle.hub_board.specs.declared.given.Turned.TheVariants.{Ended, Worked};
+ghost use Rattle.hub_board.specs.declared.given.Turned.TheVariants.{Ended, Idle, Worked};
 ghost use Rattle.run_rules.specs.declared.step.Step.{Step as StepOf};
 ghost use Rattle.hub_laws.specs.Keeping.{Round, steps_in};
 ghost use Rattle.hub_node.specs.Nodes.{HandsIn, IsDone, IsGivenTo, Knows, Part};
@@ -40,7 +40,8 @@ pub trait Node: Drop {
         ensures { result ≡ next self.now };
 
     /// Takes what was given, if anything was, and does what can be done; the steps that it makes are handed in at its
-    /// next turn. It answers `Worked` wherever anything was given or made, and `Ended` only where it is done.
+    /// next turn. It answers `Worked` wherever anything was given or made, `Ended` only where it is done by its own
+    /// steps, and `Idle` only where it isn't.
     fn work(&mut self, given: Option<Given>, steps: &mut Pending) -> Result<Turned, NodeFault>
         requires none { steps.old.steps ≡ [] }
         requires stands { (part : Part) × ((past : List Round) × ((made : List StepOf)
@@ -52,6 +53,9 @@ pub trait Node: Drop {
         ensures done { (part : Part) (past : List Round) (made : List StepOf) → stands part self.old past made
             → IsGivenTo part given → result ≡ Ok Ended → Knows tells part.node
             → IsDone part.run part.node (steps_in (record { steps = made; given = given } ∷ past)) }
+        ensures undone { (part : Part) (past : List Round) (made : List StepOf) → stands part self.old past made
+            → IsGivenTo part given → result ≡ Ok Idle → Knows tells part.node
+            → IsDone part.run part.node (steps_in (record { steps = made; given = given } ∷ past)) → ⊥ }
         ensures stays { OnOk result (stays self.old self.new) }
         ensures failed { IfErr result (λ fault. failed fault self.old self.new) };
 

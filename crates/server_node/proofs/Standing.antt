@@ -91,6 +91,28 @@ alone past x stands is host listed =
     stands.away host (host_in x.away host
     (all_in (λ (h : HostId). has_host x.away h) x.listed is host (stands.listed_all host listed)))
 
+all_of : {A : Type 0} (p : A → Bool) (xs : List A) → ((x : A) → In x xs → p x ≡ true) → list_all p xs ≡ true
+all_of p [] f = refl
+all_of p (x ∷ xs) f =
+    ap (λ (b : Bool). b && list_all p xs) (f x (inl refl)) ∙ all_of p xs (λ y i. f y (inr i))
+
+in_host : (hosts : List HostId) (host : HostId) → In host hosts → has_host hosts host ≡ true
+in_host [] host i = absurd i
+in_host (x ∷ hosts) host i = ⊎_elim
+    (λ (e : host ≡ x).
+    ap (λ (b : Bool). b || has_host hosts host) (eq-eqb x.0 host.0 (ap (λ (h : HostId). h.0) (sym e))))
+    (λ (k : In host hosts). by_test (x.0 == host.0) (in_host hosts host k))
+    i
+  where
+    by_test : (b : Bool) → has_host hosts host ≡ true → (b || has_host hosts host) ≡ true
+    by_test true e = refl
+    by_test false e = e
+
+is_left : (past : List Doing) (x : Hosts) → HostsStand past x
+    → ((host : HostId) → Listed past host → HasGoneAway past host) → is_alone x ≡ true
+is_left past x stands away = all_of (λ (h : HostId). has_host x.away h) x.listed
+    (λ host i. in_host x.away host (stands.away_all host (away host (stands.listed host i))))
+
 module _ {S : Type 0} (tells : Type 0) (view : S → View) (part : Part) (n : ServerNode S) (past : List Round)
     (made : List Step) (came : List Message) (lapses : ℕ) (so : StandsSo tells view part n past made came lapses) where
   abbrev own : List Step
@@ -340,6 +362,19 @@ module _ {S : Type 0} (tells : Type 0) (view : S → View) (part : Part) (n : Se
       subst (λ (k : Node). lines_gone own ≡ length (lines_of script k)) so.node (omega arith) in
       subst (λ (k : Node). IsDone run k own) (sym so.node)
       (gone, alone (doings_in run (server_of part.node) own) x.tables.hosts (so.at (told_of knows)).tables.hosts is)
+
+  -- and where it is done they have gone, and each is
+  pub left_of : Knows tells part.node → IsDone part.run part.node own
+      → (length n.lines.lines ≤ n.lines.gone) × (is_alone x.tables.hosts ≡ true)
+  left_of knows done =
+      let here : IsDone run (Server (server_of part.node)) own =
+      subst (λ (k : Node). IsDone run k own) so.node done in
+      let size : length n.lines.lines ≡ length (lines_of script (Server (server_of part.node))) =
+      ap (λ (l : List Line). length l) (so.lines ∙ ap (lines_of script) so.node) in
+      let g = so.gone in let gone = here.0 in (
+        omega (arith, g, gone, size),
+        is_left (doings_in run (server_of part.node) own) x.tables.hosts (so.at (told_of knows)).tables.hosts here.1,
+      )
 
 -- # A turn begins
 

@@ -28,7 +28,7 @@ use Rattle.server_exporter.specs.Machines.{Meets, MeetsAlone, MeetsOnLine, Says}
 use Rattle.server_exporter.specs.declared.exporter.Exporter.{Exporter}
 use Rattle.server_exporter.specs.Keeper.{Keeper}
 use Rattle.server_node.proofs.Standing.{after_lapse, after_line, after_message, after_own, at, done_of, given_for}
-use Rattle.server_node.proofs.Standing.{is_next, keeps, next_here}
+use Rattle.server_node.proofs.Standing.{is_next, keeps, left_of, next_here}
 use Rattle.server_exporter.specs.Serving.{CameSo, IsServed}
 use Rattle.server_exporter.specs.Keepers.{HasTried, IsFit}
 use Rattle.server_exporter.specs.ExporterFault.{ExporterFault}
@@ -356,3 +356,13 @@ pub is_done : {S : Type 0} (tells : Type 0) (view : S → View) (part : Part) (n
 is_done tells view part n past made so none knows full is =
     subst (λ (l : List Step). IsDone part.run part.node (appended l (steps_in past))) none
     (done_of tells view part n past made [] 0 so knows full is)
+
+-- and it isn't where it goes on
+pub not_done : {S : Type 0} (tells : Type 0) (view : S → View) (part : Part) (n : ServerNode S) (past : List Round)
+    (made : List Step) → StandsSo tells view part n past made [] 0 → made ≡ [] → Knows tells part.node
+    → (length n.lines.lines ≤ n.lines.gone → is_alone n.exporter.tables.hosts ≡ true → ⊥)
+    → IsDone part.run part.node (steps_in past) → ⊥
+not_done tells view part n past made so none knows goes done =
+    let left = left_of tells view part n past made [] 0 so knows
+    (subst (λ (l : List Step). IsDone part.run part.node (appended l (steps_in past))) (sym none) done) in
+    goes left.0 left.1

@@ -1,7 +1,7 @@
 ghost use Rattle.std.specs.Prelude.{◌≡◌, ◌∷◌, ◌++◌, ◌↔◌, ◌≤◌, ◌^◌, [], length, Some, None, false, true};
 ghost use Rattle.std.specs.Prelude.{IfErr, IfOk, IfSome, IsOk, IsTrue, OnOk, Err, List};
 ghost use Rattle.base_types.specs.declared.ids.Node.TheVariants.{Server as IsServer};
-ghost use Rattle.hub_board.specs.declared.given.Turned.TheVariants.{Ended, Worked};
+ghost use Rattle.hub_board.specs.declared.given.Turned.TheVariants.{Ended, Idle, Worked};
 ghost use Rattle.hub_laws.specs.Keeping.{Round, lapse_in, message_in};
 ghost use Rattle.hub_node.specs.Nodes.{Beginning, Part, part_of};
 ghost use Rattle.hub_node.specs.declared.node.NodeFault.TheVariants.{Memory, Store as StoreFailed};
@@ -312,6 +312,8 @@ impl<S: Store + Drop> ServerNode<S> {
         ensures quiet { (result ≡ Worked → ⊥) → (came ≡ false) × (steps.now.steps ≡ []) }
         ensures gone { result ≡ Ended → length self.now.lines.lines ≤ self.now.lines.gone }
         ensures alone { result ≡ Ended → is_alone self.now.exporter.tables.hosts ≡ true }
+        ensures undone { result ≡ Idle → length self.now.lines.lines ≤ self.now.lines.gone
+            → is_alone self.now.exporter.tables.hosts ≡ true → ⊥ }
     {
         if came || !steps.as_slice().is_empty() {
             return Turned::Worked;

@@ -115,16 +115,17 @@ module _ {S : Type 0} (tells : Type 0) (view : S → View) where
         })
 
     pub stops_by : (run : Beginning) (next : NodeOf S → Option ℕ) (fault : DriveFault)
-        → IsFault (stands_any HostStands (ServerStands tells view)) run FailedSo next olds news fault
+        → IsFault (Unit {0} × tells) (stands_any HostStands (ServerStands tells view)) run FailedSo next olds news fault
         → (k : ℕ) → fault ≡ drive.Store k → (count ≤ k) × (k - count < length stores)
     stops_by run next fault f k e =
-        (let g = subst (IsFault (stands_any HostStands (ServerStands tells view)) run FailedSo next olds news) e f in
+        (let g = subst (IsFault (Unit {0} × tells) (stands_any HostStands (ServerStands tells view)) run FailedSo next olds
+        news) e f in
         let at = failed_at k g.0 g.1 in (at.behind_hosts, at.few))
 
     pub stopped_so : (script : Script) (start : Tree) (epochs : List ℕ) (fault : DriveFault)
         → length olds ≡ length (nodes_of script) → count ≡ length script.roster.hosts + 1
-        → IsFault (stands_any HostStands (ServerStands tells view)) (beginning script start epochs) FailedSo next_line
-        olds news fault
+        → IsFault (Unit {0} × tells) (stands_any HostStands (ServerStands tells view)) (beginning script start epochs)
+        FailedSo next_line olds news fault
         → IsStopped tells view script start stores stores_back (stopped_by count fault)
     stopped_so script start epochs (drive.Store k) many hosts f = (failed_at k f.0 f.1).failed
     stopped_so script start epochs (drive.Stuck w) many hosts f = record {
@@ -133,6 +134,7 @@ module _ {S : Type 0} (tells : Type 0) (view : S → View) where
       nodes = news;
       over = subst (λ n. AreOver news n stores_back) hosts over_back;
       rested = f.1;
+      undone = f.2;
       line = f.0.1;
     }
     stopped_so script start epochs drive.Memory many hosts f = tt

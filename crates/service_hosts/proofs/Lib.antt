@@ -7,3 +7,4 @@ pub mod Starting
 pub mod Serving
 pub mod Ending
 pub mod Promised
+pub mod Unmoved

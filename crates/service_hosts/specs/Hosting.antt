@@ -5,7 +5,7 @@ use Rattle.script_lines.specs.declared.script.Script.{Script}
 use Rattle.store_laws.specs.TreeKeeping.{KeepsOf}
 use Rattle.store_memory.specs.Views.{View}
 use Rattle.hub_board.specs.Hubs.{nodes_of}
-use Rattle.hub_drive.specs.Driving.{HaveRested, beginning}
+use Rattle.hub_drive.specs.Driving.{HaveRested, IsUndoneAt, beginning}
 use Rattle.hub_drive.specs.declared.driver.DriveFault.{DriveFault}
 use Rattle.hub_drive.specs.declared.driver.DriveFault.TheVariants as drive
 use Rattle.hub_drive.specs.declared.driver.Waiting.{Waiting}
@@ -47,7 +47,8 @@ pub record HasHosted {S : Type 0} (tells : Type 0) (view : S → View) (script :
   pub kept : AreKeeping tells view (last_tree start journal) new
 
 -- Hosts and servers over these stores, in a run from a tree, have come to rest: in its newest round each handed in
--- nothing and was given nothing, and it has made nothing. One of them is named, with its next line.
+-- nothing and was given nothing, and it has made nothing. One of them is named, with its next line: it isn't done by its
+-- own steps, a server as far as the stores tell what they keep.
 pub record IsStuck {S : Type 0} (tells : Type 0) (view : S → View) (script : Script) (start : Tree) (stores : List S)
     (waiting : Waiting) : Type 0 where
   pub node : waiting.node < length (nodes_of script)
@@ -55,9 +56,12 @@ pub record IsStuck {S : Type 0} (tells : Type 0) (view : S → View) (script : S
   pub nodes : List (NodeOf S)
   pub over : AreOver nodes (length script.roster.hosts + 1) stores
   pub rested : HaveRested (stands_any HostStands (ServerStands tells view)) (beginning script start epochs) nodes
+  pub undone : IsUndoneAt (Unit {0} × tells) (stands_any HostStands (ServerStands tells view))
+      (beginning script start epochs) nodes waiting.node
   pub line : (d : NodeOf S) → waiting.line ≡ next_line (slice_index_or nodes waiting.node d)
 
--- why it came to no end: the store of a server failed twice; all have come to rest; or memory ran out
+-- why it came to no end: the store of a server failed twice; all have come to rest, and one isn't done; or memory ran
+-- out
 abbrev pub IsStopped : {S : Type 0} → Type 0 → (S → View) → Script → Tree → List S → List S → HostsStopped → Type 0
 IsStopped tells view script start old new (Failed server) = HasFailed view old new server.0
 IsStopped tells view script start old new (Stuck waiting) = IsStuck tells view script start new waiting

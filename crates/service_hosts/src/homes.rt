@@ -1,7 +1,7 @@
 //! What hosts and servers can run: filesets don't move between servers yet.
 ghost use Rattle.std.specs.Prelude.{◌≡◌};
 ghost use Rattle.std.specs.List.{list_all, list_any};
-ghost use Rattle.service_hosts.specs.Homes.{is_home, is_move, may_host};
+ghost use Rattle.service_hosts.specs.Homes.{UnmovedMayHost, is_home, is_move, may_host};
 ghost use Rattle.run_rules.specs.Messages.{home};
 ghost use Rattle.script_lines.specs.declared.script.Deed.TheVariants.{Call as MakesCall};
 ghost use Rattle.script_lines.specs.declared.script.Line.{Line as LineOf};
@@ -67,3 +67,8 @@ pub fn may_host(script: &Script, start: &Tree) -> bool
     let homes = are_home(start.filesets.as_slice());
     !moves && (homes && start.away.as_slice().is_empty())
 }
+
+/// Hosts and servers can run each script that moves no fileset from a tree without filesets, as that of blank disks is.
+pub fn unmoved_law()
+    ensures { UnmovedMayHost }
+{}

@@ -6,5 +6,5 @@ mod homes;
 mod nodes;
 mod running;
 
-pub use homes::may_host;
+pub use homes::{may_host, unmoved_law};
 pub use running::{Hosted, HostsStopped, run_hosts};

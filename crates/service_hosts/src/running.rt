@@ -34,7 +34,7 @@ pub enum HostsStopped {
     /// The store of this server failed, and failed again when that was tried once more.
     Failed(ServerId),
     /// All hosts and servers came to rest, and not all were done, as where one waits for a flag that nobody raises. One
-    /// is named, with its next line.
+    /// that isn't done is named, with its next line.
     Stuck(Waiting),
     /// Memory ran out.
     Memory,
@@ -138,9 +138,9 @@ fn drive_all<S: Store + Drop + Send, R: Threads + Wait + Sync>(
 /// workers. The stores come back in their order, whatever comes.
 ///
 /// `Failed` comes only where the store of a server failed twice, and `Stuck` only where all hosts and servers have come
-/// to rest: in its newest round each handed in nothing and was given nothing, and none has made anything; one is named,
-/// with its next line. `Memory` may come at any time, as far as clauses say: it is meant where memory runs out. It may
-/// wait for what never comes about.
+/// to rest: in its newest round each handed in nothing and was given nothing, and none has made anything; one that isn't
+/// done by its own steps is named, with its next line. `Memory` may come at any time, as far as clauses say: it is meant
+/// where memory runs out. It may wait for what never comes about.
 pub fn run_hosts<S: Store + Drop + Send, R: Threads + Wait + Sync>(
     rt: &R,
     alloc: Global,

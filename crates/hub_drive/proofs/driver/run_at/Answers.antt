@@ -41,7 +41,7 @@ returns-then-went-clause-became g c =
 pub returns-then-went-clause-failed : goal.returns-then-went-clause-failed
 returns-then-went-clause-failed g c =
     if_err c.finish.result.result _ _
-    (free_of g.N.Node.stands g.N.Node.stays g.N.Node.failed g.N.Node.next c.args.hub
+    (free_of g.N.Node.stands g.N.Node.stays g.N.Node.failed g.N.Node.next c.args.hub g.N.Node.tells
     (beginning c.args.script.now c.args.start c.args.epochs) (map (node_of {N = g.row.N.Denot}) c.args.seats.items)
     c.finish.result.nodes.items)
     c.finish.ensures.failed
@@ -69,8 +69,9 @@ returns-clause-failed g c =
     let shows : ShowsFault next news fault =
     subst (λ l. ShowsFault next l fault) c.as_slice.ensures.value c.fault_of-fault.ensures.shows in
     err_at c.stop.result.result fault _ c.stop.ensures.result
-    (subst (λ l. IsFault stands run failed next olds l fault) (sym c.stop.ensures.nodes)
-    (failed_of stands stays failed next c.args.hub run c.args.seats.items news fault c.turn_until-went.ensures.gone
+    (subst (λ l. IsFault g.N.Node.tells stands run failed next olds l fault) (sym c.stop.ensures.nodes)
+    (failed_of stands stays failed next c.args.hub g.N.Node.tells run c.args.seats.items news fault
+    c.turn_until-went.ensures.gone
     c.requires.well
     (λ w is.
     let idle = c.fault_of-fault.ensures.stuck w is in

@@ -34,7 +34,7 @@ loop-k-preserved g c =
           let stopped = c.went_on-went.ensures.stopped whole in
           let well : new.fault ≡ None = first_of (search rules, grind (arith, common_steps)) in
           let now = all_in stands stays failed hub run c.args.seats.now seats c.loop-k.invariant.gone at in
-          first_more (IsAtRest stands run hub) seats c.loop-k.k new
+          first_more (IsAtRest stands run hub g.N.Node.tells) seats c.loop-k.k new
           (c.loop-k.invariant.rests run at worked.0 stopped.0)
           (c.turn-turned.ensures.rests run (now c.loop-k.k c.index-seats-k.result (grind arith)) worked.1 well));
       gone = pairs_then gone on c.args.seats.now seats (set seats c.loop-k.k new) c.loop-k.invariant.gone

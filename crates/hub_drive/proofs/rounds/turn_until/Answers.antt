@@ -1,24 +1,37 @@
-use Rattle.std.proofs.Common.{◌≡◌, ◌++◌, ◌∙◌, ap, subst, sym, length, take, drop, arith}
-use Rattle.hub_drive.specs.Seats.{EachAt, IsAtRest, IsIn, IsThrough}
-use Rattle.hub_drive.proofs.Lists.{back_again}
+use Rattle.hub_drive.specs.Seats.{HasGone}
+use Rattle.hub_drive.proofs.Driving.{all_in}
+use Rattle.hub_drive.proofs.Gone.{each_here, gone_on}
+use Rattle.hub_drive.proofs.Lists.{pairs_then}
 use Rattle.hub_drive.proofs.rounds.turn_until.Goals as goal
 
-pub returns-clause-rests : goal.returns-clause-rests
-returns-clause-rests g c = λ run at idle whole.
-    let news = c.turn_slice.new.seats in
-    let rest = drop (length news) c.args.seats.now.items in
-    let size : c.args.seats.now.len ≡ length news = grind arith in
-    subst (EachAt (IsAtRest {N = g.row.N.Denot} g.N.Node.stands run c.args.hub.now))
-    (sym (ap (λ n. take n (news ++ rest)) size ∙ back_again news rest)) (c.turn_slice.ensures.rests run
-    (subst (EachAt (IsIn {N = g.row.N.Denot} g.N.Node.stands run c.args.hub.now)) (sym c.as_mut_slice.ensures.value) at)
-    idle whole)
+pub returns-then-went-clause-through : goal.returns-then-went-clause-through
+returns-then-went-clause-through g c = λ run at.
+    c.turn_once-went.ensures.through run
+    (all_in g.N.Node.stands g.N.Node.stays g.N.Node.failed c.args.hub.now run c.args.seats.now.items c.loop.seats.items
+    c.loop.invariant.gone at)
 
-pub returns-clause-through : goal.returns-clause-through
-returns-clause-through g c = λ run at t.
-    let news = c.turn_slice.new.seats in
-    let rest = drop (length news) c.args.seats.now.items in
-    let size : c.args.seats.now.len ≡ length news = grind arith in
-    subst (EachAt (IsThrough {N = g.row.N.Denot} g.N.Node.stands run c.args.hub.now g.N.Node.tells))
-    (sym (ap (λ n. take n (news ++ rest)) size ∙ back_again news rest)) (c.turn_slice.ensures.through run
-    (subst (EachAt (IsIn {N = g.row.N.Denot} g.N.Node.stands run c.args.hub.now))
-    (sym c.as_mut_slice.ensures.value) at) t)
+pub returns-then-went-clause-rests : goal.returns-then-went-clause-rests
+returns-then-went-clause-rests g c = λ run at.
+    c.turn_once-went.ensures.rests run
+    (all_in g.N.Node.stands g.N.Node.stays g.N.Node.failed c.args.hub.now run c.args.seats.now.items c.loop.seats.items
+    c.loop.invariant.gone at)
+
+pub returns-then-went-clause-gone : goal.returns-then-went-clause-gone
+returns-then-went-clause-gone g c =
+    let met = g.met.N.Node g.world.𝓛 g.world.𝓜 g.world.𝓡 ((λ s x. x), (λ x. x), (λ x. x), (λ x. x)) in
+    pairs_then (HasGone {N = g.row.N.Denot} g.N.Node.stands g.N.Node.stays g.N.Node.failed c.args.hub.now)
+    (gone_on g.N.Node.stands g.N.Node.stays g.N.Node.failed c.args.hub.now met.stays_so met.stays_on met.fails_on)
+    c.args.seats.now.items c.loop.seats.items c.turn_once-went.new.seats.items c.loop.invariant.gone
+    c.turn_once-went.ensures.gone
+
+pub loop-preserved : goal.loop-preserved
+loop-preserved g c =
+    let met = g.met.N.Node g.world.𝓛 g.world.𝓜 g.world.𝓡 ((λ s x. x), (λ x. x), (λ x. x), (λ x. x)) in
+    record {
+      kept = each_here g.N.Node.stands g.N.Node.stays g.N.Node.failed c.args.hub.now c.loop.seats.items
+          c.turn_once-went.new.seats.items c.loop.invariant.kept c.turn_once-went.ensures.gone;
+      gone = pairs_then (HasGone {N = g.row.N.Denot} g.N.Node.stands g.N.Node.stays g.N.Node.failed c.args.hub.now)
+          (gone_on g.N.Node.stands g.N.Node.stays g.N.Node.failed c.args.hub.now met.stays_so met.stays_on met.fails_on)
+          c.args.seats.now.items c.loop.seats.items c.turn_once-went.new.seats.items c.loop.invariant.gone
+          c.turn_once-went.ensures.gone;
+    }

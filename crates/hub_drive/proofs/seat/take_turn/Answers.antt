@@ -1,8 +1,9 @@
-use Rattle.std.proofs.Common.{refl}
+use Rattle.std.proofs.Common.{Ok, ap, refl, ◌∙◌}
 use Rattle.hub_board.specs.declared.given.Turned.TheVariants.{Ended as HasEnded}
 use Rattle.hub_node.specs.Nodes.{part_of}
 use Rattle.hub_drive.specs.declared.seat.Seat.{Seat}
-use Rattle.hub_drive.proofs.Turning.{at_ok, given_to, if_at, if_on, on_ok, rests_on, seated_on, sends_sound, through_on}
+use Rattle.hub_drive.proofs.Turning.{at_ok, given_to, if_at, if_both, is_idle, on_ok, rests_on, seated_on, sends_sound}
+use Rattle.hub_drive.proofs.Turning.{through_on}
 use Rattle.hub_drive.proofs.seat.take_turn.Goals as goal
 
 pub turn-requires-clause-sound : goal.turn-requires-clause-sound
@@ -56,23 +57,25 @@ returns-clause-through g c = λ run seated e well.
     (c.work.ensures.done part seated.rounds c.args.seat.now.steps.steps seated.stood given e)
 
 pub returns-clause-rests : goal.returns-clause-rests
-returns-clause-rests g c = λ run seated handed.
+returns-clause-rests g c = λ run ended seated handed.
     let new : Seat g.row.N.Denot = record {
       node = c.work.new.self;
       pass = c.turn.new.pass;
       steps = c.work.new.steps;
       fault = c.args.seat.now.fault;
-      ended = c.args.seat.now.ended;
+      ended = ended;
     } in
+    let part = part_of run c.args.seat.now.pass.node in
     let given = given_to g.N.Node.tells g.N.Node.stands g.met.N.Node.hands_in c.args.hub.now c.args.seat.now run seated
     c.turn.new.pass c.in-Ok.given c.in-Ok.ensures.ok c.in-Ok.ensures.sound in
-    if_on c.work.result _ _ _
-    (λ stood turned quiet idle well.
+    if_both c.work.result _ _ _
+    (λ turned is stood quiet idle goes well.
     let none = quiet idle in
     rests_on g.N.Node.tells g.N.Node.stands g.met.N.Node.hands_in c.args.hub.now c.args.seat.now run seated
-    c.turn.new.pass c.in-Ok.given c.in-Ok.ensures.ok c.in-Ok.ensures.sound new refl stood well handed none.0 none.1)
-    (c.work.ensures.works (part_of run c.args.seat.now.pass.node) seated.rounds c.args.seat.now.steps.steps seated.stood
-    given)
+    c.turn.new.pass c.in-Ok.given c.in-Ok.ensures.ok c.in-Ok.ensures.sound new refl stood well handed none.0 none.1
+    (λ e. c.work.ensures.undone part seated.rounds c.args.seat.now.steps.steps seated.stood given
+    (is ∙ ap (λ x. Ok x) (is_idle turned idle (goes e)))))
+    (c.work.ensures.works part seated.rounds c.args.seat.now.steps.steps seated.stood given)
     c.work.ensures.quiet
 
 pub returns-clause-node : goal.returns-clause-node

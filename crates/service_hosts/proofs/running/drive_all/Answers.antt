@@ -100,7 +100,7 @@ stopped_by-requires g c = λ k e.
     let news = c.drive-driven.result.nodes.items in
     let became = c.drive-driven.ensures.became in
     let fault = err_at c.drive-driven.result.result c.in-Err.fault
-    (IsFault (stands_any HostStands (ServerStands tells view)) run (FailedSo tells view)
+    (IsFault (Unit {0} × tells) (stands_any HostStands (ServerStands tells view)) run (FailedSo tells view)
     next_line olds news)
     c.in-Err.is c.drive-driven.ensures.failed in
     let at = stops_by tells view olds news count o.0 o.1.0 became run next_line c.in-Err.fault fault k e in
@@ -122,7 +122,7 @@ returns-in-Err-clause-stopped g c = λ stores over.
     let news = c.drive-driven.result.nodes.items in
     let became = c.drive-driven.ensures.became in
     let fault = err_at c.drive-driven.result.result c.in-Err.fault
-    (IsFault (stands_any HostStands (ServerStands tells view)) (beginning script start c.args.epochs)
+    (IsFault (Unit {0} × tells) (stands_any HostStands (ServerStands tells view)) (beginning script start c.args.epochs)
     (FailedSo tells view) next_line olds news) c.in-Err.is c.drive-driven.ensures.failed in
     let many = (are_nodes tells view script start c.args.epochs olds o.0 o.1.0 c.requires.sound.servers o.1.1.1
     c.requires.first).count in

@@ -1,9 +1,9 @@
 use Rattle.std.proofs.Common.{◌≡◌, ◌∙◌, Err, List, ◌∷◌, ap, sym, subst}
-use Rattle.hub_board.specs.declared.given.Turned.TheVariants.{Ended}
+use Rattle.hub_board.specs.declared.given.Turned.TheVariants.{Ended, Idle}
 use Rattle.hub_laws.specs.Keeping.{Round, lapse_in, message_in}
 use Rattle.run_rules.specs.declared.step.Step.{Step}
 use Rattle.server_node.proofs.Standing.{begins}
-use Rattle.server_node.proofs.Turns.{given_if, is_done, none_of, was_given}
+use Rattle.server_node.proofs.Turns.{given_if, is_done, none_of, not_done, was_given}
 use Rattle.server_node.specs.Standing.{StandsSo}
 use Rattle.server_node.proofs.server.ServerNodeNode.work.Goals as goal
 
@@ -51,6 +51,21 @@ returns-in-Ok-clause-done g c = λ part past made st to e knows.
     (c.in-Ok.ensures.works part (round ∷ past) at (was_given past made c.args.given))
     (c.turned.ensures.quiet (λ worked. let clash = sym worked ∙ same in absurd (cc))).1 knows
     (c.turned.ensures.gone same) (c.turned.ensures.alone same)
+
+pub returns-in-Ok-clause-undone : goal.returns-in-Ok-clause-undone
+returns-in-Ok-clause-undone g c = λ part past made st to e knows done.
+    let tells = g.S.Store.tells in let view = g.S.Store.view in
+    let round : Round = record { steps = made; given = c.args.given } in
+    let at : StandsSo tells view part c.args.self.now (round ∷ past) c.args.steps.now.steps (message_in c.args.given)
+    (lapse_in c.args.given) =
+    subst (λ (l : List Step). StandsSo tells view part c.args.self.now (round ∷ past) l (message_in c.args.given)
+    (lapse_in c.args.given)) (sym c.requires.none)
+    (begins tells view part c.args.self.now past made c.args.given st) in
+    let same : c.turned.result ≡ Idle = cc in
+    not_done tells view part c.take_turn.new.self (round ∷ past) c.take_turn.new.steps.steps
+    (c.in-Ok.ensures.works part (round ∷ past) at (was_given past made c.args.given))
+    (c.turned.ensures.quiet (λ worked. let clash = sym worked ∙ same in absurd (cc))).1 knows
+    (c.turned.ensures.undone same) done
 
 pub returns-in-Ok-clause-stays : goal.returns-in-Ok-clause-stays
 returns-in-Ok-clause-stays g c = c.take_turn.ensures.stays
