@@ -17,6 +17,7 @@ use Rattle.service_disks.specs.View.{store_view}
 use Rattle.service_disks.specs.declared.disks.StoresRefused.{StoresRefused}
 use Rattle.service_disks.specs.declared.disks.StoresRefused.TheVariants as opening
 use Rattle.service_disks.specs.declared.stores.ServerStore.{ServerStore}
+use Rattle.service_moves.specs.Doing.{acts_at}
 use Rattle.service_moves.specs.Plans.{behind, states_at}
 use Rattle.service_moves.specs.Stopping.{IsStopped}
 use Rattle.service_moves.specs.Stores.{AreSame}
@@ -279,16 +280,16 @@ module _ {D writes : Type 0} (tells : Type 0) (view : D → DiskView) (script : 
     back_is = subst (λ (l : List D). AreBack view olds l) (sym closed)
         (are_back tells view script.roster olds stores left are placed same)
 
-    few : ℕ → Option StoreState
+    abbrev few : ℕ → Option StoreState
     few = states_at (store_view tells view) stores
 
-    more : ℕ → Option StoreState
+    abbrev more : ℕ → Option StoreState
     more = found_at script.roster (images view olds)
 
     are_in : tells → AreIn few more
     are_in t = states_in tells view script.roster olds stores (λ _. t) are
 
-    all : List Told
+    abbrev all : List Told
     all = told_by (store_view tells view) (length olds) stores
 
     -- by the steps of their stores
@@ -297,8 +298,8 @@ module _ {D writes : Type 0} (tells : Type 0) (view : D → DiskView) (script : 
         (own : has_run outcome.status ≡ true → IfOk result (λ run. outcome.course ≡ run) × (OnErr result ⊥)) where
       whole_so : (result : Result Course Stopped) → OnOk result (gone.does.cut ≡ length gone.steps) → IfOk result
           (λ run. outcome.course ≡ run) × (OnErr result ⊥) → gone.does.cut ≡ length gone.steps
-      whole_so (Ok run) all own = all
-      whole_so (Err why) all own = absurd own.1
+      whole_so (Ok run) made own = made
+      whole_so (Err why) made own = absurd own.1
 
       history_so : (result : Result Course Stopped) (played : WasPlayed) → IfOk result
           (IsKeptBy (behind few gone.planned.begins) gone.planned.keeps) → IfOk result (λ run. outcome.course ≡ run)

@@ -1,6 +1,6 @@
 //! The third and the fourth stage: the script runs over the stores of its servers, which are on disks or in memory, and
 //! what came of it is kept there and written.
-ghost use Rattle.std.specs.Prelude.{◌≡◌, ◌≤◌, ◌+◌, ◌^◌, ⊥, true, false, [], None, length, vec_capacity};
+ghost use Rattle.std.specs.Prelude.{◌≡◌, ◌≤◌, ◌+◌, ◌^◌, true, false, [], None, length, vec_capacity};
 ghost use Rattle.disk_image.specs.Aggregate.{header_number};
 ghost use Rattle.disk_layout.specs.Places.{page_start};
 ghost use Rattle.message_types.specs.Soundness.{Each};
