@@ -58,13 +58,13 @@ use std::thread::Threads;
 /// written, of the first such disk; `NoDisk` only where the count of a disk rose by two or more and its last call
 /// failed, and then `refused: disk K failed` is written; `Stuck` where hosts and servers come to no end, as where a
 /// copy of a message waits for a flag that nobody raises, and then `stuck: cH behind line N` is written, of a node
-/// that isn't done and the last of its lines that went; `NoOutput` only where the sink's count rose, and then it got a
-/// part of the output, from its front; `HasFaults` where a disk that was checked has a fault, with the output whole;
-/// `NoMemory` where memory ran out, which may come anywhere and writes nothing; and else `Done`, with the output
-/// whole. Of two the first in this order comes, but that at the opening of the disks the first disk that is refused
-/// decides. But for `Done` and `NoOutput` of a script nothing was told of a run, and the outcome is empty. Where the
-/// sink fails while the line of a refusal is written, it got a part of it, and the status stays. Where a disk fails, a
-/// look at it, a mount, a format and a batch are tried once more.
+/// (that it isn't done, and all have come to rest, `run_hosts` says) and the last of its lines that went; `NoOutput`
+/// only where the sink's count rose, and then it got a part of the output, from its front; `HasFaults` where a disk
+/// that was checked has a fault, with the output whole; `NoMemory` where memory ran out, which may come anywhere and
+/// writes nothing; and else `Done`, with the output whole. Of two the first in this order comes, but that at the
+/// opening of the disks the first disk that is refused decides. But for `Done` and `NoOutput` of a script nothing was
+/// told of a run, and the outcome is empty. Where the sink fails while the line of a refusal is written, it got a part
+/// of it, and the status stays. Where a disk fails, a look at it, a mount, a format and a batch are tried once more.
 ///
 /// A check writes for each disk K, from 1, `disk K blank` where nobody formatted it or its format was stopped,
 /// `disk K ok` where it has no faults, and else `disk K PLACE rule N` for each of its faults; then `end`. It writes
