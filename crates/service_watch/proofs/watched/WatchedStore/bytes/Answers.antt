@@ -1,0 +1,10 @@
+use Rattle.service_watch.proofs.Going.{went_asked}
+use Rattle.service_watch.proofs.watched.WatchedStore.bytes.Goals as goal
+
+pub invariant_of-self : goal.invariant_of-self
+invariant_of-self g c =
+    (let view = g.S.Store.view in
+    record {
+      went = went_asked g.S.Store.tells g.O.Origin.from c.bytes.result (view c.args.self.now.store)
+          (view c.bytes.new.self) c.args.self.now.went c.bytes.ensures.asked;
+    })
