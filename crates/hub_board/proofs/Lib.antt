@@ -4,3 +4,4 @@ pub mod Steps
 pub mod Goings
 pub mod Boards
 pub mod Turns
+pub mod Waits

@@ -3,4 +3,5 @@ pub mod Hubs
 pub mod Pendings
 pub mod Ties
 pub mod Turning
+pub mod Waits
 pub mod Laws

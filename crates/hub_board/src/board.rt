@@ -14,7 +14,8 @@ ghost use Rattle.base_types.specs.declared.limits.TheConstants.{HOSTS_MAX, SERVE
 ghost use Rattle.hub_board.specs.Turning.{entered, IsPrepared, IsUntouched, HasTurned};
 ghost use Rattle.hub_board.specs.declared.follow.Follow.{Follow as FollowOf};
 
-use crate::follow::{Follow, SETUP, gone_in, place_of};
+use crate::follow::{SETUP, gone_in};
+use crate::follower::{Follower, place_of};
 use crate::given::{Gift, Given, Turn};
 use crate::pending::Pending;
 use crate::tie::{Tie, are_loose, no_ties, take_step};
@@ -32,7 +33,7 @@ use std::mem;
 pub struct Board {
     turns: Vec<Turn>,
     wire: Wire,
-    follows: Items<Follow>,
+    follows: Items<Follower>,
     ties: Items<Tie>,
 }
 
@@ -67,7 +68,7 @@ fn post(wire: &mut Wire, steps: &[Step]) -> Result<(), NoMemory>
 }
 
 #[tactic(auto, using(base_types::proofs::ChangedLists::changes))]
-fn let_go(follows: &mut Items<Follow>, node: Node, count: usize)
+fn let_go(follows: &mut Items<Follower>, node: Node, count: usize)
     ensures { follows.new ≡ changed_at follows.old (place_of follows.old node) (with_gone count) }
 {
     let place = place_of(follows.as_slice(), node);
@@ -77,7 +78,7 @@ fn let_go(follows: &mut Items<Follow>, node: Node, count: usize)
 }
 
 #[tactic(auto, using(crate::proofs::Mapped::maps))]
-fn raise_at(follows: &mut Items<Follow>, flag: &Name)
+fn raise_at(follows: &mut Items<Follower>, flag: &Name)
     ensures { follows.new ≡ map (with_raised flag.now) follows.old }
 {
     for place in 0..follows.len() {
@@ -86,7 +87,7 @@ fn raise_at(follows: &mut Items<Follow>, flag: &Name)
 }
 
 #[tactic(auto, using(crate::proofs::Steps::raised_more))]
-fn raise_all_at(follows: &mut Items<Follow>, flags: &[Name])
+fn raise_all_at(follows: &mut Items<Follower>, flags: &[Name])
     ensures { follows.new ≡ all_raised flags.now follows.old }
 {
     for flag in flags {
@@ -123,7 +124,7 @@ fn tie(ties: &mut Items<Tie>, node: Node, steps: &[Step])
 
 // Hands out the flag for which the node's next line waits, where it was raised.
 #[tactic(auto, using(base_types::proofs::ChangedLists::changes))]
-fn take_flag(follows: &mut Items<Follow>, node: Node) -> Option<Name>
+fn take_flag(follows: &mut Items<Follower>, node: Node) -> Option<Name>
     ensures flag { result ≡ flag_at follows.old (place_of follows.old node) }
     ensures rest { follows.new ≡ changed_at follows.old (place_of follows.old node) if_flag }
 {
@@ -145,7 +146,7 @@ fn may_begin(node: Node) -> bool
 }
 
 #[tactic(auto, using(base_types::proofs::ChangedLists::changes))]
-fn begin(follows: &mut Items<Follow>, node: Node)
+fn begin(follows: &mut Items<Follower>, node: Node)
     ensures { follows.new ≡ changed_at follows.old (place_of follows.old node) with_begun }
 {
     let place = place_of(follows.as_slice(), node);
@@ -179,12 +180,12 @@ fn add_servers(nodes: &mut Items<Node>, servers: u32) -> Result<(), NoMemory>
     Ok(())
 }
 
-fn follows_of(script: &Script, nodes: &[Node]) -> Result<Items<Follow>, NoMemory>
+fn follows_of(script: &Script, nodes: &[Node]) -> Result<Items<Follower>, NoMemory>
     ensures { IfOk result (λ follows. follows ≡ map (follow_of script.now) nodes.now) }
 {
     let mut follows = Items::new(script.lines.alloc());
     for node in nodes {
-        follows.push(Follow::new(script, *node)?)?;
+        follows.push(Follower::new(script, *node)?)?;
     }
     Ok(follows)
 }
@@ -227,7 +228,7 @@ impl Board {
         ensures { IfOk result (λ flags. flags ≡ flags_of self.now.hub node steps.now) }
     {
         match self.follows.at(place_of(self.follows.as_slice(), node)) {
-            Some(follow) => follow.flags_next(gone_in(steps)),
+            Some(follower) => follower.as_follow().flags_next(gone_in(steps)),
             None => Ok(Items::new(self.follows.alloc())),
         }
     }
@@ -247,7 +248,7 @@ impl Board {
         ensures { result ≡ has_ended self.now.hub }
     {
         match self.follows.at(0) {
-            Some(setup) => setup.is_through() && are_loose(&self.ties),
+            Some(setup) => setup.as_follow().is_through() && are_loose(&self.ties),
             None => false,
         }
     }
@@ -263,7 +264,7 @@ impl Board {
         ensures { result ≡ option_map_or (λ (f : FollowOf). not f.begun) (follow_at self.now.hub node) false }
     {
         match self.follows.at(place_of(self.follows.as_slice(), node)) {
-            Some(follow) => !follow.begun,
+            Some(follower) => !follower.as_follow().begun,
             None => false,
         }
     }

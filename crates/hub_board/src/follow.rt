@@ -6,9 +6,9 @@ ghost use Rattle.base_types.specs.Lists.{changed_at};
 ghost use Rattle.script_lines.specs.Sound.{same_node};
 ghost use Rattle.hub_board.specs.Follows.{mark_of, follow_of, goes, gone_in, raise_of, flags_next, with_gone};
 ghost use Rattle.hub_board.specs.Follows.{waits_for};
-ghost use Rattle.hub_board.specs.Follows.{raised_mark, mark_raised, with_raised, told, flag_in, flag_for};
+ghost use Rattle.hub_board.specs.Follows.{raised_mark, mark_raised, told, flag_in, flag_for};
 ghost use Rattle.hub_board.specs.Follows.{if_flag, with_begun};
-ghost use Rattle.hub_board.specs.Follows.{is_through, place_of};
+ghost use Rattle.hub_board.specs.Follows.{is_through};
 
 use base_types::{HostId, Items, Name, NoMemory, Node, Plain};
 use run_rules::{Cause, Step};
@@ -53,8 +53,8 @@ impl Mark {
         }
     }
 
-    // Takes notice of a flag.
-    fn raise(&mut self, flag: &Name)
+    /// Takes notice of a flag.
+    pub(crate) fn raise(&mut self, flag: &Name)
         ensures { self.new ≡ mark_raised flag.now self.old }
     {
         if self.waits_for(flag) {
@@ -152,15 +152,6 @@ fn add_flag(flags: &mut Items<Name>, mark: &Mark) -> Result<(), NoMemory>
     Ok(())
 }
 
-#[tactic(auto, using(crate::proofs::Mapped::maps))]
-fn raise_marks(marks: &mut Items<Mark>, flag: &Name)
-    ensures { marks.new ≡ map (mark_raised flag.now) marks.old }
-{
-    for place in 0..marks.len() {
-        marks.get_mut(place).raise(flag);
-    }
-}
-
 impl Follow {
     /// A node at the start of a script. The only error is that memory ran out.
     pub fn new(script: &Script, node: Node) -> Result<Follow, NoMemory>
@@ -211,13 +202,6 @@ impl Follow {
         self.begun = true;
     }
 
-    /// Takes notice of a flag.
-    pub(crate) fn raise(&mut self, flag: &Name)
-        ensures { self.new ≡ with_raised flag.now self.old }
-    {
-        raise_marks(&mut self.marks, flag);
-    }
-
     /// Hands out the flag for which the next line waits, where it was raised; it is handed out once.
     pub(crate) fn take_flag(&mut self) -> Option<Name>
         ensures flag { result ≡ flag_for self.old }
@@ -254,22 +238,4 @@ fn flag_of(mark: Mark) -> Option<Name>
         Mark::Raised(flag) => Some(flag),
         _ => None,
     }
-}
-
-/// The place of a node among those that are followed, or their number.
-pub(crate) fn place_of(follows: &[Follow], node: Node) -> usize
-    ensures { result ≡ place_of follows.now node }
-{
-    match place_at(follows, node) {
-        Some(place) => place,
-        None => follows.len(),
-    }
-}
-
-fn place_at(follows: &[Follow], node: Node) -> Option<usize>
-    ensures { result ≡ position (λ follow. same_node follow.node node) follows.now }
-{
-    follows
-        .iter()
-        .position(|follow| same_node(follow.node, node))
 }

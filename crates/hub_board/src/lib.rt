@@ -4,6 +4,7 @@
 
 mod board;
 mod follow;
+mod follower;
 mod given;
 mod laws;
 mod pending;

@@ -143,6 +143,23 @@ fn tell(alloc: Global, driven: &Driven<Stub>) -> Result<String> {
     })
 }
 
+// Drives these stubs, with servers in these epochs.
+fn drive_stubs<R: Threads + Wait + Sync>(
+    rt: &R,
+    alloc: Global,
+    workers: u32,
+    epochs: Items<u64>,
+    stubs: Vec<Stub>,
+) -> Result<String>
+    requires epochs { length epochs ≡ 2 }
+    requires stubs { length stubs.items ≡ 7 }
+{
+    let script = script_of(alloc)?;
+    let start = start_of(alloc, &script.roster)?;
+    let driven = drive(rt, alloc, &script, start, epochs, stubs, workers);
+    tell(alloc, &driven)
+}
+
 /// Drives stubs on so many workers, and says what came of it.
 pub fn run<R: Threads + Wait + Sync>(
     rt: &R,
@@ -150,11 +167,8 @@ pub fn run<R: Threads + Wait + Sync>(
     workers: u32,
     trial: Trial,
 ) -> Result<String> {
-    let script = script_of(alloc)?;
-    let start = start_of(alloc, &script.roster)?;
-    let epochs = Items::from_slice(alloc, &[1, 1])?;
     let word = Arc::new(alloc, AtomicU64::new(0))?;
     let stubs = stubs_of(alloc, trial, &word)?;
-    let driven = drive(rt, alloc, &script, start, epochs, stubs, workers);
-    tell(alloc, &driven)
+    let epochs = Items::from_slice(alloc, &[1, 1])?;
+    drive_stubs(rt, alloc, workers, epochs, stubs)
 }

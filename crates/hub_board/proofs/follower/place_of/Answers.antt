@@ -4,7 +4,7 @@ use Rattle.std.specs.Prelude.{not}
 use Rattle.script_lines.specs.Sound.{same_node}
 use Rattle.hub_board.specs.declared.follow.Follow.{Follow}
 use Rattle.hub_wire.proofs.Takes.{at_none, at_place}
-use Rattle.hub_board.proofs.follow.place_of.Goals as goal
+use Rattle.hub_board.proofs.follower.place_of.Goals as goal
 
 pub returns-in-Some : goal.returns-in-Some
 returns-in-Some c =
