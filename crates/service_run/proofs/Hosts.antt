@@ -1,6 +1,6 @@
 -- A script that ran from a tree on, by hosts and servers or on the tree alone.
-use Rattle.std.proofs.Common.{◌≡◌, ◌+◌, ◌++◌, ℕ, List, [], ◌∷◌, map, length, Some, Ok, Err, true, false, inl, inr, ⊎_elim}
-use Rattle.std.proofs.Common.{refl, sym, ap, subst, ◌∙◌}
+use Rattle.std.proofs.Common.{◌≡◌, ◌+◌, ◌++◌, ℕ, List, [], ◌∷◌, map, length, Some, Ok, Err, true, false, inl, inr}
+use Rattle.std.proofs.Common.{⊎_elim, refl, sym, ap, subst, ◌∙◌}
 use Rattle.std.specs.Prelude.{Result, IfErr, IfOk, slice_get, unwrap_or}
 use Rattle.service_hosts.proofs.Promised.{promises_are_kept}
 use Rattle.service_hosts.specs.Runs.{last_tree}

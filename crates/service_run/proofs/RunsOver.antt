@@ -40,7 +40,7 @@ use Rattle.service_run.specs.Disks.{IsStuckTold, RanOver, IsUnfit, IsStartOf, Ar
 use Rattle.service_run.specs.Lines.{no_aggregate_line, stuck_line}
 use Rattle.service_run.specs.Outcomes.{has_run, is_end_of_run, IsEmpty, IsToldSo, RanSo, RefusedSo}
 use Rattle.service_run.specs.Steps.{AreAsPlaced, HaveGone, IsKeptBy, IsOpeningRefused, IsRunRefused, IsRunOf, IsRunOn}
-use Rattle.service_run.specs.Steps.{HaveServed, IsWithoutMemory}
+use Rattle.service_run.specs.Steps.{HaveServed, IsPlaced, IsStopRefused, IsWithoutMemory}
 use Rattle.service_run.specs.World.{Shown}
 use Rattle.service_run.specs.declared.disks.Stopped.{Stopped}
 use Rattle.service_run.specs.declared.disks.Stopped.TheVariants.{Run, Stuck}
@@ -131,16 +131,21 @@ module _ {told : Type 0} (tells : Type 0) (play : Play) (script : Script) (outco
   ran_unopened (opening.Refused number mount.Memory) r = ran_starved r
   ran_unopened opening.Memory r = ran_starved r
 
-  pub ran_stopped : (stopped : RunStopped) → IsRunRefused stopped outcome before after → RanSo tells play script
+  ran_stopped : (stopped : RunStopped) → IsRunRefused stopped outcome before after → RanSo tells play script
       outcome before after
   ran_stopped (running.Failed server) r = ran_refused NoDisk (failed_line server.0) refl r
   ran_stopped (running.Unfit disk slot) r = ran_refused NoAggregate
       (no_aggregate_line disk (page_start (header_number slot))) refl r
   ran_stopped running.Memory r = ran_starved r
 
-  pub ran_stuck : (place : ℕ) (next : Option ℕ) → RefusedSo IsStuck (stuck_line script place next) outcome before
+  ran_stuck : (place : ℕ) (next : Option ℕ) → RefusedSo IsStuck (stuck_line script place next) outcome before
       after → RanSo tells play script outcome before after
   ran_stuck place next r = ran_refused IsStuck (stuck_line script place next) refl r
+
+  pub ran_ended : (stopped : Stopped) → IsStopRefused script stopped outcome before after → RanSo tells play script
+      outcome before after
+  ran_ended (Run stopped) r = ran_stopped stopped r
+  ran_ended (Stuck place next) r = ran_stuck place next r
 
 -- one of two statuses isn't a third
 two_not : (status one wanted : Status) → ((status ≡ one) ⊎ (status ≡ NoMemory)) → status ≡ wanted
@@ -363,13 +368,15 @@ module _ {D writes : Type 0} (tells : Type 0) (view : D → DiskView) (script : 
     -- where it stopped
     ended : (stopped : Stopped) (wanted : Status) → is_refusal wanted ≡ true
         → ((outcome.status ≡ wanted) ⊎ (outcome.status ≡ NoMemory))
-        → (told → HaveGone (store_view tells view) script (length olds) (Err stopped) stores left ⊎ HaveServed (store_view tells view) script (length olds) stores left) → Ended olds news
+        → (told → HaveGone (store_view tells view) script (length olds) (Err stopped) stores left
+        ⊎ HaveServed (store_view tells view) script (length olds) stores left) → Ended olds news
     ended stopped wanted h ends gone =
         ended_so (Err stopped) gone (λ ran. never_ran outcome.status
         (refusal_runs_not outcome.status (refused_is outcome.status wanted h ends)) ran)
 
     over_halted : (stopped : RunStopped) → IsStopped told (store_view tells view) all stores left stopped
-        → (told → HaveGone (store_view tells view) script (length olds) (Err (Run stopped)) stores left ⊎ HaveServed (store_view tells view) script (length olds) stores left)
+        → (told → HaveGone (store_view tells view) script (length olds) (Err (Run stopped)) stores left
+        ⊎ HaveServed (store_view tells view) script (length olds) stores left)
         → IsRunRefused stopped outcome before after → RanOver tells view script outcome olds news before after
     over_halted (running.Failed server) is gone r =
         over_failed olds news server.0 back_is (ended (Run (running.Failed server)) NoDisk refl r.ends gone)
@@ -448,21 +455,33 @@ module _ {D writes : Type 0} (tells : Type 0) (view : D → DiskView) (script : 
       (are : AreOpen tells view script.roster 1 olds stores) (count : length stores ≡ length script.roster.capacity)
     where
       -- a run on them stopped
-      pub over_stopped : (stopped : RunStopped) → IsRunOn told tells view script (length olds) (Err (Run stopped))
+      over_stopped : (stopped : RunStopped) → IsRunOn told tells view script (length olds) (Err (Run stopped))
           stores news → IsRunRefused stopped outcome before after → RanOver tells view script outcome olds news before
           after
       over_stopped stopped on r = over_halted told olds news so stores on.left are count on.closed on.placed
           on.over.same stopped on.over.stopped on.over.goes r
 
       -- or came to no end
-      pub over_waited : (place : ℕ) (next : Option ℕ) → IsRunOn told tells view script (length olds)
+      over_waited : (place : ℕ) (next : Option ℕ) → IsRunOn told tells view script (length olds)
           (Err (Stuck place next)) stores news → RefusedSo IsStuck (stuck_line script place next) outcome before after
           → RanOver tells view script outcome olds news before after
       over_waited place next on r = over_waits told olds news so stores on.left are count on.closed on.placed
           on.over.same place next on.over.stopped on.over.goes r
+
+      pub over_ended : (stopped : Stopped) → IsRunOn told tells view script (length olds) (Err stopped) stores news
+          → IsStopRefused script stopped outcome before after → RanOver tells view script outcome olds news before after
+      over_ended (Run stopped) on r = over_stopped stopped on r
+      over_ended (Stuck place next) on r = over_waited place next on r
 
       -- or went, and was told
       pub over_told : (play : Play) (run : Course) → IsRunOn told tells view script (length olds) (Ok run) stores news
           → IsToldSo play script run outcome before after → RanOver tells view script outcome olds news before after
       over_told play run on is = over_went told olds news so stores on.left are count on.closed on.placed on.over.same
           play run on.over is
+
+-- the node at which a run came to no end is one of the script's
+pub placed_so : {D : Type 0} (told tells : Type 0) (view : D → DiskView) (script : Script) (count : ℕ)
+    (stopped : Stopped) (stores : List (ServerStore D)) (news : List D)
+    → IsRunOn told tells view script count (Err stopped) stores news → IsPlaced script stopped
+placed_so told tells view script count (Run stopped) stores news on = tt
+placed_so told tells view script count (Stuck place next) stores news on = on.over.stopped

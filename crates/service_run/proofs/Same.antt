@@ -127,14 +127,15 @@ module _ {S : Type 0} (view : S → View) where
         → (tells → HaveBegunAnew (states_of view olds) (states_of view mids))
         → (tells → (steps : List Step) × AreBeginning (states_at view olds) steps × DoSteps {T = Tree} {E = E} view
         (Ok start) steps olds mids)
-        → IsRunFrom tells view (HaveHosted (first_views view mids) view script start) script start result mids news → IsRunOf
-        tells view script disks result olds news
+        → IsRunFrom tells view (HaveHosted (first_views view mids) view script start) script start result mids news
+        → IsRunOf tells view script disks result olds news
     run_from {E = E} worn olds mids news start result are same fit tree begun steps from = record {
       same = same_trans olds mids news same from.same;
       ran = ran result from.ran;
       stopped = halted result from.stopped;
       goes = λ told.
-          ⊎_elim (λ (hosted : HaveHosted (first_views view mids) view script start news). inr (have_served view {E = E} script
+          ⊎_elim (λ (hosted : HaveHosted (first_views view mids) view script start news). inr (have_served view {E = E}
+          script
           disks worn olds mids news start are same from.same (fit told)
           (subst (λ (t : Tree). may_host script t ≡ true) (tree told) hosted.0) (steps told) hosted.1))
           (λ (kept : HaveKept view script start result mids news). inl (gone told kept)) (from.goes told);

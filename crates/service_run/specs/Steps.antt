@@ -46,11 +46,11 @@ use Rattle.service_stores.specs.Starting.{told_by, start_from}
 use Rattle.service_stores.specs.Steps.{MayBeAsked}
 use Rattle.service_watch.specs.Gone.{HaveGone as HaveWorked, IsLeftOf}
 use Rattle.service_run.specs.Disks.{ArePlanned}
-use Rattle.service_run.specs.Lines.{no_aggregate_line}
+use Rattle.service_run.specs.Lines.{no_aggregate_line, stuck_line}
 use Rattle.service_run.specs.Outcomes.{IsEmpty, RefusedSo}
 use Rattle.service_run.specs.World.{Shown}
 use Rattle.service_run.specs.declared.outcome.Outcome.{Outcome}
-use Rattle.service_run.specs.declared.outcome.Status.TheVariants.{NoDisk, NoAggregate, NoMemory}
+use Rattle.service_run.specs.declared.outcome.Status.TheVariants.{NoDisk, NoAggregate, NoMemory, Stuck as IsStuck}
 
 -- the epochs of a run by hosts and servers are those of the stores of its servers
 abbrev pub RunsIn : List ℕ → Course → Type 0
@@ -201,3 +201,14 @@ IsRunRefused (running.Failed server) outcome before after = RefusedSo NoDisk (fa
 IsRunRefused (running.Unfit disk slot) outcome before after =
     RefusedSo NoAggregate (no_aggregate_line disk (page_start (header_number slot))) outcome before after
 IsRunRefused running.Memory outcome before after = IsWithoutMemory outcome before after
+
+-- the place of a node at which a run came to no end is one of the script's
+abbrev pub IsPlaced : Script → Stopped → Type 0
+IsPlaced script (Run stopped) = Unit {0}
+IsPlaced script (Stuck place next) = place < length (nodes_of script)
+
+-- a run over stores stopped, or came to no end, and a line says why
+abbrev pub IsStopRefused : {told : Type 0} → Script → Stopped → Outcome → Shown told → Shown told → Type 0
+IsStopRefused script (Run stopped) outcome before after = IsRunRefused stopped outcome before after
+IsStopRefused script (Stuck place next) outcome before after =
+    RefusedSo IsStuck (stuck_line script place next) outcome before after

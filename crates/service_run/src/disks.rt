@@ -16,7 +16,7 @@ ghost use Rattle.service_run.specs.Courses.{IsPrintable, IsTold};
 ghost use Rattle.service_run.specs.Disks.{RanOver};
 ghost use Rattle.service_run.specs.Outcomes.{IsToldSo, RanSo};
 ghost use Rattle.service_run.specs.Steps.{HaveHosted, IsClosedFrom, IsRunFrom, IsRunOn, course_of};
-ghost use Rattle.service_run.specs.Steps.{IsOpeningRefused, IsRunRefused};
+ghost use Rattle.service_run.specs.Steps.{IsOpeningRefused, IsPlaced, IsRunRefused, IsStopRefused};
 ghost use Rattle.service_run.specs.World.{shown};
 ghost use Rattle.service_stores.specs.Laws.{AreSayable};
 ghost use Rattle.service_stores.specs.Starting.{HaveBegun};
@@ -104,6 +104,24 @@ fn refuse_run<K: Sink>(alloc: Global, stopped: RunStopped, sink: &mut K) -> Outc
     }
 }
 
+// Writes why a run over stores stopped, or came to no end, and ends without one.
+fn refuse_stopped<K: Sink>(
+    alloc: Global,
+    script: &Script,
+    stopped: Stopped,
+    sink: &mut K,
+) -> Outcome
+    requires sound { IsSound script.now }
+    requires placed { IsPlaced script.now stopped }
+    ensures { IsStopRefused script.now stopped result
+        (shown K.tells (K.got sink.old) (K.faults sink.old)) (shown K.tells (K.got sink.new) (K.faults sink.new)) }
+{
+    match stopped {
+        Stopped::Run(stopped) => refuse_run(alloc, stopped, sink),
+        Stopped::Stuck(node, next) => refuse_stuck(alloc, script, node, next, sink),
+    }
+}
+
 // The script runs on the file tree alone, from a tree on, and stores keep what came of it.
 fn play_over<S: Store>(
     alloc: Global,
@@ -145,7 +163,8 @@ fn course_of(hosted: Result<Journal, HostsStopped>) -> Result<Course, Stopped>
     }
 }
 
-// Hosts and servers run a script from a tree on, over the seats of stores, which are watched meanwhile, and closed then.
+// Hosts and servers run a script from a tree on, over the seats of stores, which are watched meanwhile, and closed
+// then.
 fn host_over<D: Disk + Drop + Send, C: Count + Send, O: Origin + Send, R: Threads + Wait + Sync>(
     rt: &R,
     alloc: Global,
@@ -312,7 +331,6 @@ pub(crate) fn run_script<K: Sink, D: Disk + Drop + Send, R: Threads + Wait + Syn
     let workers = workers_of(play);
     match play_on::<D, Brand, R>(rt, alloc, &script, count, stores, disks, workers) {
         Ok(course) => tell_run(alloc, play, script, course, sink),
-        Err(Stopped::Run(stopped)) => refuse_run(alloc, stopped, sink),
-        Err(Stopped::Stuck(node, next)) => refuse_stuck(alloc, &script, node, next, sink),
+        Err(stopped) => refuse_stopped(alloc, &script, stopped, sink),
     }
 }

@@ -13,26 +13,26 @@ use Rattle.service_run.proofs.Seated.{stored_count, watched_count}
 use Rattle.service_run.proofs.disks.host_over.Goals as goal
 use Rattle.service_run.specs.Steps.{HaveHosted, IsClosedFrom, IsRunFrom}
 
-pub run_hosts-requires-clause-count : goal.run_hosts-requires-clause-count
-run_hosts-requires-clause-count g c κs w =
+pub run_hosts-hosted-requires-clause-count : goal.run_hosts-hosted-requires-clause-count
+run_hosts-hosted-requires-clause-count g c κs w =
     sym (watched_count c.in-Ok.watched.items) ∙ ap length c.in-Ok.ensures.watched ∙ c.requires.count
 
-pub run_hosts-requires-clause-stores : goal.run_hosts-requires-clause-stores
-run_hosts-requires-clause-stores g c κs w =
+pub run_hosts-hosted-requires-clause-stores : goal.run_hosts-hosted-requires-clause-stores
+run_hosts-hosted-requires-clause-stores g c κs w =
     (let view = seat_view g.D.Disk.tells g.D.Disk.view in
     stores_in_are watched_in view c.args.script.now.roster (2 ^ 40) 1 c.in-Ok.watched.items
     (subst (λ l. AreStores view c.args.script.now.roster (2 ^ 40) 1 l) (sym c.in-Ok.ensures.watched)
     c.requires.stores))
 
-pub run_hosts-requires-clause-kept : goal.run_hosts-requires-clause-kept
-run_hosts-requires-clause-kept g c κs w = λ told.
+pub run_hosts-hosted-requires-clause-kept : goal.run_hosts-hosted-requires-clause-kept
+run_hosts-hosted-requires-clause-kept g c κs w = λ told.
     (let view = seat_view g.D.Disk.tells g.D.Disk.view in
     subst (λ l. KeepAll (λ host. 1) c.args.start l) (states_in watched_in view c.in-Ok.watched.items)
     (subst (λ l. KeepAll (λ host. 1) c.args.start (states_of view l)) (sym c.in-Ok.ensures.watched)
     (c.requires.kept told)))
 
-pub run_hosts-requires-clause-begun : goal.run_hosts-requires-clause-begun
-run_hosts-requires-clause-begun g c κs w = λ told.
+pub run_hosts-hosted-requires-clause-begun : goal.run_hosts-hosted-requires-clause-begun
+run_hosts-hosted-requires-clause-begun g c κs w = λ told.
     (let view = seat_view g.D.Disk.tells g.D.Disk.view in
     subst HaveBegun (states_in watched_in view c.in-Ok.watched.items)
     (subst (λ l. HaveBegun (states_of view l)) (sym c.in-Ok.ensures.watched) (c.requires.begun told)))
@@ -97,7 +97,7 @@ returns-in-Err g c =
     let seats = c.args.seats.items in
     let side = HaveHosted g.O.Origin.from view script start in
     run_closed view told side script start (λ seats. disks_of (stores_in seats)) seats seats _
-    c.args.disks.now.items c.close_seats.new.disks.items
+    c.args.disks.now.items c.close_seats-in-Err.new.disks.items
     (run_unwatched view told side script start (2 ^ 40) seats c.requires.stores
     (λ t. (c.requires.homes, c.requires.gone t)))
-    (c.close_seats.ensures.back ∙ ap (λ l. disks_of (stores_in l) ++ c.args.disks.now.items) c.in-Err.ensures.back))
+    (c.close_seats-in-Err.ensures.back ∙ ap (λ l. disks_of (stores_in l) ++ c.args.disks.now.items) c.in-Err.ensures.back))

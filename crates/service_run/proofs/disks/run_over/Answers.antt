@@ -1,11 +1,19 @@
-use Rattle.std.proofs.Common.{◌≡◌, ap, length, subst, ◌++◌, ◌∙◌, arith}
+use Rattle.std.proofs.Common.{◌≡◌, ap, length, subst, sym, ◌++◌, ◌∙◌, arith}
 use Rattle.service_disks.specs.Seats.{seat_tells, seat_view, stores_in}
 use Rattle.service_disks.specs.Stores.{disks_of}
+use Rattle.service_moves.specs.Stores.{states_of}
+use Rattle.store_laws.specs.MoveKeeping.{KeepAll}
 use Rattle.service_run.proofs.Hosts.{run_closed, run_wider}
 use Rattle.service_run.proofs.Lists.{written_back}
 use Rattle.service_run.proofs.Same.{same_count}
 use Rattle.service_run.proofs.disks.run_over.Goals as goal
 use Rattle.service_run.specs.Steps.{HaveHosted, IsClosedFrom, IsRunFrom}
+
+pub play_over-result-requires-clause-kept : goal.play_over-result-requires-clause-kept
+play_over-result-requires-clause-kept g c = λ told.
+    (let view = seat_view g.D.Disk.tells g.D.Disk.view in
+    subst (λ l. KeepAll (λ host. 1) c.args.start (states_of view l)) (sym c.as_mut_slice.ensures.value)
+    (c.requires.kept told))
 
 pub returns : goal.returns
 returns g c =

@@ -4,11 +4,9 @@ use Rattle.service_disks.proofs.Limits.{has_limits}
 use Rattle.service_disks.specs.Seats.{seat_tells}
 use Rattle.service_run.proofs.Opened.{are_seated, are_storable, are_stores, count_told, seats_told}
 use Rattle.service_run.proofs.Ran.{printable, ran_told, runs_so}
-use Rattle.service_run.proofs.RunsOver.{over_stopped, over_told, over_unopened, over_waited, ran_stopped, ran_stuck}
-use Rattle.service_run.proofs.RunsOver.{ran_unopened}
+use Rattle.service_run.proofs.RunsOver.{over_ended, over_told, over_unopened, placed_so, ran_ended, ran_unopened}
 use Rattle.service_run.specs.Courses.{IsTold}
 use Rattle.service_run.specs.Steps.{IsRunOn}
-use Rattle.service_run.specs.declared.disks.Stopped.TheVariants.{Run, Stuck}
 use Rattle.service_run.proofs.disks.run_script.Goals as goal
 
 pub returns-in-Err-clause-ran : goal.returns-in-Err-clause-ran
@@ -57,7 +55,7 @@ returns-in-Ok-play_on-clause-ran g c =
     let on = c.in-Ok-play_on.ensures in
     ran_told tells c.args.play c.args.script c.in-Ok-play_on.course c.tell_run.result _ _
     (runs_so told tells c.args.script c.in-Ok-play_on.course (seats_told g.D.Disk.tells c.args.disks.now.items
-    c.len-count.result same) on.over.ran.went) c.tell_run.ensures)
+    c.len-count.result same) on.over.ran.went) c.tell_run.ensures.told)
 
 pub returns-in-Ok-play_on-clause-over : goal.returns-in-Ok-play_on-clause-over
 returns-in-Ok-play_on-clause-over g c =
@@ -68,46 +66,24 @@ returns-in-Ok-play_on-clause-over g c =
     c.play_on.new.disks.items (seats_told g.D.Disk.tells c.args.disks.now.items c.len-count.result same)
     c.in-Ok.stores.items c.in-Ok.ensures.opened c.in-Ok.ensures.count c.args.play c.in-Ok-play_on.course
     (subst (λ (n : ℕ). IsRunOn told g.D.Disk.tells g.D.Disk.view c.args.script n (Ok c.in-Ok-play_on.course)
-    c.in-Ok.stores.items c.play_on.new.disks.items) same c.in-Ok-play_on.ensures) c.tell_run.ensures)
+    c.in-Ok.stores.items c.play_on.new.disks.items) same c.in-Ok-play_on.ensures) c.tell_run.ensures.told)
 
-pub returns-in-Err-Run-clause-ran : goal.returns-in-Err-Run-clause-ran
-returns-in-Err-Run-clause-ran g c = ran_stopped _ c.args.play c.args.script c.refuse_run.result _ _
-    c.in-Err-Run.stopped c.refuse_run.ensures
+pub refuse_stopped-requires-clause-placed : goal.refuse_stopped-requires-clause-placed
+refuse_stopped-requires-clause-placed g c =
+    placed_so _ g.D.Disk.tells g.D.Disk.view c.args.script c.len-count.result c.in-Err-play_on.stopped
+    c.in-Ok.stores.items c.play_on.new.disks.items c.in-Err-play_on.ensures
 
-pub returns-in-Err-Run-clause-over : goal.returns-in-Err-Run-clause-over
-returns-in-Err-Run-clause-over g c =
+pub returns-in-Err-play_on-clause-ran : goal.returns-in-Err-play_on-clause-ran
+returns-in-Err-play_on-clause-ran g c = ran_ended _ c.args.play c.args.script c.refuse_stopped.result _ _
+    c.in-Err-play_on.stopped c.refuse_stopped.ensures
+
+pub returns-in-Err-play_on-clause-over : goal.returns-in-Err-play_on-clause-over
+returns-in-Err-play_on-clause-over g c =
     (let counted = c.len-count.ensures in
     let same : c.len-count.result ≡ length c.args.disks.now.items = omega (arith, counted) in
     let told = seat_tells g.D.Disk.tells c.len-count.result in
-    over_stopped g.D.Disk.tells g.D.Disk.view c.args.script c.refuse_run.result _ _ told c.args.disks.now.items
+    over_ended g.D.Disk.tells g.D.Disk.view c.args.script c.refuse_stopped.result _ _ told c.args.disks.now.items
     c.play_on.new.disks.items (seats_told g.D.Disk.tells c.args.disks.now.items c.len-count.result same)
-    c.in-Ok.stores.items c.in-Ok.ensures.opened c.in-Ok.ensures.count c.in-Err-Run.stopped
-    (subst (λ (n : ℕ). IsRunOn told g.D.Disk.tells g.D.Disk.view c.args.script n (Err (Run c.in-Err-Run.stopped))
-    c.in-Ok.stores.items c.play_on.new.disks.items) same
-    (subst (λ s. IsRunOn told g.D.Disk.tells g.D.Disk.view c.args.script c.len-count.result (Err s)
-    c.in-Ok.stores.items c.play_on.new.disks.items) c.in-Err-Run.field-0-is c.in-Err-Run.ensures)) c.refuse_run.ensures)
-
-pub refuse_stuck-requires-clause-within : goal.refuse_stuck-requires-clause-within
-refuse_stuck-requires-clause-within g c =
-    (let on = subst (λ s. IsRunOn (seat_tells g.D.Disk.tells c.len-count.result) g.D.Disk.tells g.D.Disk.view
-    c.args.script c.len-count.result (Err s) c.in-Ok.stores.items c.play_on.new.disks.items)
-    c.in-Err-Stuck.field-0-is c.in-Err-Stuck.ensures in
-    on.over.stopped)
-
-pub returns-in-Err-Stuck-clause-ran : goal.returns-in-Err-Stuck-clause-ran
-returns-in-Err-Stuck-clause-ran g c = ran_stuck _ c.args.play c.args.script c.refuse_stuck.result _ _
-    c.in-Err-Stuck.node c.in-Err-Stuck.next c.refuse_stuck.ensures.refused
-
-pub returns-in-Err-Stuck-clause-over : goal.returns-in-Err-Stuck-clause-over
-returns-in-Err-Stuck-clause-over g c =
-    (let counted = c.len-count.ensures in
-    let same : c.len-count.result ≡ length c.args.disks.now.items = omega (arith, counted) in
-    let told = seat_tells g.D.Disk.tells c.len-count.result in
-    over_waited g.D.Disk.tells g.D.Disk.view c.args.script c.refuse_stuck.result _ _ told c.args.disks.now.items
-    c.play_on.new.disks.items (seats_told g.D.Disk.tells c.args.disks.now.items c.len-count.result same)
-    c.in-Ok.stores.items c.in-Ok.ensures.opened c.in-Ok.ensures.count c.in-Err-Stuck.node c.in-Err-Stuck.next
-    (subst (λ (n : ℕ). IsRunOn told g.D.Disk.tells g.D.Disk.view c.args.script n
-    (Err (Stuck c.in-Err-Stuck.node c.in-Err-Stuck.next)) c.in-Ok.stores.items c.play_on.new.disks.items) same
-    (subst (λ s. IsRunOn told g.D.Disk.tells g.D.Disk.view c.args.script c.len-count.result (Err s)
-    c.in-Ok.stores.items c.play_on.new.disks.items) c.in-Err-Stuck.field-0-is c.in-Err-Stuck.ensures))
-    c.refuse_stuck.ensures.refused)
+    c.in-Ok.stores.items c.in-Ok.ensures.opened c.in-Ok.ensures.count c.in-Err-play_on.stopped
+    (subst (λ (n : ℕ). IsRunOn told g.D.Disk.tells g.D.Disk.view c.args.script n (Err c.in-Err-play_on.stopped)
+    c.in-Ok.stores.items c.play_on.new.disks.items) same c.in-Err-play_on.ensures) c.refuse_stopped.ensures)
