@@ -11,7 +11,8 @@ use Rattle.service_run.specs.Outcomes.{may_end, is_end_of_report, is_end_of_chec
 use Rattle.service_run.specs.World.{Shown}
 use Rattle.service_run.specs.declared.outcome.Outcome.{Outcome}
 use Rattle.service_run.specs.declared.outcome.Status.{Status}
-use Rattle.service_run.specs.declared.outcome.Status.TheVariants.{Done, NoCommand, NoScript, NoInput, NoOutput, NoDisk, NoAggregate, NoMemory, HasFaults}
+use Rattle.service_run.specs.declared.outcome.Status.TheVariants.{Done, NoCommand, NoScript, NoInput, NoOutput, NoDisk, NoAggregate}
+use Rattle.service_run.specs.declared.outcome.Status.TheVariants.{NoMemory, HasFaults, Stuck}
 
 ends_check : (status : Status) → is_end_of_report status ≡ true → is_end_of_check status ≡ true
 ends_check Done h = refl
@@ -23,6 +24,7 @@ ends_check NoDisk h = refl
 ends_check NoAggregate h = cc
 ends_check NoMemory h = refl
 ends_check HasFaults h = refl
+ends_check Stuck h = cc
 
 -- all disks were looked at
 pub checks_told : {D writes : Type 0} (tells : Type 0) (view : D → View) (outcome : Outcome) (old new : List D) (before after : Shown writes) (reports : List Report) →
@@ -55,6 +57,7 @@ nothing_told reports NoScript before after h n = absurd (cc)
 nothing_told reports NoInput before after h n = absurd (cc)
 nothing_told reports NoOutput before after h n = absurd (cc)
 nothing_told reports HasFaults before after h n = absurd (cc)
+nothing_told reports Stuck before after h n = absurd (cc)
 nothing_told reports NoAggregate before after h n = absurd (cc)
 nothing_told reports NoDisk before after h n = record { sound = λ e. absurd (cc); faulty = λ e. absurd (cc); all = λ t e. absurd (cc); part = λ t e. absurd (cc); failed = λ e. absurd (cc); nothing = n }
 nothing_told reports NoMemory before after h n = record { sound = λ e. absurd (cc); faulty = λ e. absurd (cc); all = λ t e. absurd (cc); part = λ t e. absurd (cc); failed = λ e. absurd (cc); nothing = n }
@@ -69,6 +72,7 @@ ends_untold NoDisk h = refl
 ends_untold NoAggregate h = cc
 ends_untold NoMemory h = refl
 ends_untold HasFaults h = refl
+ends_untold Stuck h = cc
 
 -- a disk failed twice
 pub checks_refused : {D writes : Type 0} (tells : Type 0) (view : D → View) (outcome : Outcome) (old new : List D) (before after : Shown writes) (number : ℕ) →
@@ -118,6 +122,7 @@ check_may_end workers NoDisk h = refl
 check_may_end workers NoAggregate h = cc
 check_may_end workers NoMemory h = refl
 check_may_end workers HasFaults h = refl
+check_may_end workers Stuck h = cc
 
 pub check_has_words : (status : Status) → is_end_of_check status ≡ true → status ≡ NoCommand → ⊥
 check_has_words status h e = let bad : is_end_of_check NoCommand ≡ true = subst (λ (s : Status). is_end_of_check s ≡ true) e h in absurd (cc)

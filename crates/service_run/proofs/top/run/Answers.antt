@@ -13,7 +13,7 @@ returns-in-Err-clause-checks g c = λ workers is.
     checks_stopped g.D.Disk.tells g.D.Disk.view c.without_run.result disks disks _ _ c.without_run.ensures.status c.without_run.ensures.empty quiet (λ w. refl)
 
 pub run_play-requires-clause-disks : goal.run_play-requires-clause-disks
-run_play-requires-clause-disks g c =
+run_play-requires-clause-disks g c κs w =
     named_disks (map string_bytes c.args.words.now) c.in-Ok-Some-Play.play (length c.args.disks.now.items)
     (sym c.in-Ok-Some-Play.ensures.value ∙ c.in-Ok-Some-Play.field-0-is ∙ ap (λ x. Some x) c.in-Ok-Some-Play.field-0-0-is) c.requires.disks
 
