@@ -1,4 +1,4 @@
-// The covered reads of `service_bench` in plain Rust: a look-up in a `HashMap` from files to their bytes, and a copy of
+// The covered reads of `bench/parts` in plain Rust: a look-up in a `HashMap` from files to their bytes, and a copy of
 // 64 bytes.
 use std::collections::HashMap;
 use std::env;

@@ -1,4 +1,4 @@
-// The work of `service_bench` at a cell over `std::sync::Mutex`: so many workers push so many entries each on one list.
+// The work of `bench/parts` at a cell over `std::sync::Mutex`: so many workers push so many entries each on one list.
 use std::sync::{Arc, Mutex};
 use std::time::Instant;
 use std::{env, thread};
