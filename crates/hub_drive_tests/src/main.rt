@@ -40,21 +40,23 @@ fn row_of(line: &str) -> Option<Row<'_>> {
 
 fn trial_of(text: &str) -> Option<Trial> {
     let (node, rest) = text.split_once(' ')?;
-    let (word, number) = rest.split_once(' ')?;
+    let (word, last) = rest.split_once(' ')?;
     let node = node.parse().ok()?;
-    let number = number.parse().ok()?;
     match word {
         "waits" => Some(Trial::Meets {
             node,
-            other: number,
+            other: last.parse().ok()?,
             often: WAIT,
         }),
         "looks" => Some(Trial::Meets {
             node,
-            other: number,
+            other: last.parse().ok()?,
             often: LOOK,
         }),
-        "fails" => Some(Trial::Fails { node, turn: number }),
+        "fails" => Some(Trial::Fails {
+            node,
+            turn: last.parse().ok()?,
+        }),
         _ => None,
     }
 }
