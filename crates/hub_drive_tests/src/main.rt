@@ -19,6 +19,7 @@ const LOOK: u64 = 1_000_000;
 // A row `NAME | WORKERS TRIAL | GIVES`. TRIAL is `NODE waits NODE`, where the first waits in its first turn until the
 // other has begun its second; the same with `looks`, where it gives up soon; or `NODE fails TURN`. GIVES is `met`,
 // `missed`, or the place of the node that failed.
+#[derive(Clone, Copy)]
 struct Row<'a> {
     name: &'a str,
     workers: u32,
