@@ -19,6 +19,7 @@ const LOOK: u64 = 1_000_000;
 // A row `NAME | WORKERS TRIAL | GIVES`. TRIAL is `NODE waits NODE`, where the first waits in its first turn until the
 // other has begun its second; the same with `looks`, where it gives up soon; or `NODE fails TURN`. GIVES is `met`,
 // `missed`, or the place of the node that failed.
+#[derive(Clone, Copy)]
 struct Row<'a> {
     name: &'a str,
     workers: u32,
@@ -40,21 +41,23 @@ fn row_of(line: &str) -> Option<Row<'_>> {
 
 fn trial_of(text: &str) -> Option<Trial> {
     let (node, rest) = text.split_once(' ')?;
-    let (word, number) = rest.split_once(' ')?;
+    let (word, last) = rest.split_once(' ')?;
     let node = node.parse().ok()?;
-    let number = number.parse().ok()?;
     match word {
         "waits" => Some(Trial::Meets {
             node,
-            other: number,
+            other: last.parse().ok()?,
             often: WAIT,
         }),
         "looks" => Some(Trial::Meets {
             node,
-            other: number,
+            other: last.parse().ok()?,
             often: LOOK,
         }),
-        "fails" => Some(Trial::Fails { node, turn: number }),
+        "fails" => Some(Trial::Fails {
+            node,
+            turn: last.parse().ok()?,
+        }),
         _ => None,
     }
 }
