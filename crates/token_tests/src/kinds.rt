@@ -2,7 +2,6 @@
 
 use crate::reading::Words;
 use crate::telling::push_yes;
-use anyhow::Result;
 use base_types::{Fid, FilesetId, HostId, NoMemory, OpenKind, Plain, ServerId, Span};
 use token_ranges::SpanSet;
 use token_types::{Kind, Need, Token, TokenId, conflicts, covers, wants_conflict};
@@ -98,22 +97,20 @@ fn cell(kind: Kind, other: Kind) -> &'static str {
 }
 
 /// `conflicts KIND`: a picture, with a cell for each kind of another host.
-pub fn tell_conflicts(words: &mut Words, text: &mut Text) -> Result<()> {
-    let kind = words.kind()?;
+pub fn tell_conflicts(words: &mut Words, text: &mut Text) {
+    let kind = words.kind();
     for other in &KINDS {
         text.word(cell(kind, *other));
     }
-    Ok(())
 }
 
 /// `covers KIND KIND KIND`: whether tokens of the first two on a file cover a need of the third, and whether the same
 /// tokens on another file do.
-pub fn tell_covers(words: &mut Words, text: &mut Text) -> Result<()> {
-    let held = words.kind()?;
-    let other = words.kind()?;
-    let kind = words.kind()?;
+pub fn tell_covers(words: &mut Words, text: &mut Text) {
+    let held = words.kind();
+    let other = words.kind();
+    let kind = words.kind();
     push_covers(text, held, other, Need { fid: FILE, kind });
-    Ok(())
 }
 
 fn push_covers(text: &mut Text, held: Kind, other: Kind, need: Need) {
@@ -128,15 +125,20 @@ fn push_covers(text: &mut Text, held: Kind, other: Kind, need: Need) {
 }
 
 /// `add SPAN` or `cut SPAN`: how many spans the set has then, its first twelve positions, and its gaps in 2..10.
-pub fn tell_spans(set: &mut SpanSet, adds: bool, words: &mut Words, text: &mut Text) -> Result<()> {
-    changed(set, adds, words.span()?)?;
+pub fn tell_spans(
+    set: &mut SpanSet,
+    adds: bool,
+    words: &mut Words,
+    text: &mut Text,
+) -> Result<(), NoMemory> {
+    changed(set, adds, words.span())?;
     text.number("", set.spans().len() as u64);
     text.word(" ");
     push_picture(text, set);
     let copy = set.copy()?;
     let told = tell_gaps(&copy, text);
     drop(copy);
-    Ok(told?)
+    told
 }
 
 fn push_picture(text: &mut Text, set: &SpanSet) {

@@ -5,6 +5,7 @@
 mod kinds;
 mod managing;
 mod reading;
+mod reclaiming;
 mod tabling;
 mod telling;
 mod world;
@@ -40,7 +41,7 @@ fn judge_all(rt: &(impl Print + AllocGlobal), world: &mut World, lines: &str) ->
 
 // Judges lines where everything starts anew.
 fn judge_anew(rt: &(impl Print + AllocGlobal), lines: &str) -> Result<u64> {
-    let mut world = World::new(rt.alloc());
+    let mut world = World::new(rt.alloc())?;
     let rows = judge_all(rt, &mut world, lines);
     drop(world);
     rows

@@ -6,7 +6,6 @@ use crate::reading::Words;
 use crate::telling::{
     push_asked, push_ids, push_number, push_outlook, push_ready, push_wanted, push_wants, push_yes,
 };
-use anyhow::{Result, bail};
 use base_types::{NEEDS_MAX, NoMemory, Plain};
 use token_manager::{TokenManager, Want};
 use token_types::Token;
@@ -19,34 +18,36 @@ pub fn tell_manager(
     word: &str,
     words: &mut Words,
     text: &mut Text,
-) -> Result<()> {
+) -> Result<(), NoMemory> {
     match word {
         "ask" => ask(manager, number, words, text),
         "enqueue" => enqueue(manager, number, words, text),
         "next" => next(manager, text),
         "decide" => decide(manager, words, text),
         "admit" => admit(manager, words, text),
-        "returned" | "kept" | "revoked" => token_gone(manager, word, words, text),
-        _ => lose_or_look(manager, word, words, text),
+        "drop-fileset" => drop_fileset(manager, words, text),
+        "of-host" => of_host(manager, words, text),
+        "wanted" => wanted(manager, text),
+        _ => {
+            lose_or_look(manager, word, words, text);
+            Ok(())
+        }
     }
 }
 
-fn lose_or_look(
-    manager: &mut TokenManager,
-    word: &str,
-    words: &mut Words,
-    text: &mut Text,
-) -> Result<()> {
+fn lose_or_look(manager: &mut TokenManager, word: &str, words: &mut Words, text: &mut Text) {
     match word {
-        "give-up" | "down" | "drop-fileset" | "forget" => lose(manager, word, words, text),
-        "of-file" | "of-host" | "wanted" => look_at_tokens(manager, word, words, text),
+        "returned" | "kept" | "revoked" => token_gone(manager, word, words, text),
+        "give-up" => manager.give_up(words.number()),
+        "down" => manager.host_down(words.host()),
+        "forget" => forget(manager, words, text),
         "holds" | "granted" | "pinned" | "asked-back" => ask_of_token(manager, word, words, text),
         _ => look(manager, word, words, text),
     }
 }
 
 // `next`
-fn next(manager: &mut TokenManager, text: &mut Text) -> Result<()> {
+fn next(manager: &mut TokenManager, text: &mut Text) -> Result<(), NoMemory> {
     let ready = manager.next_ready()?;
     push_ready(text, &ready);
     drop(ready);
@@ -54,28 +55,21 @@ fn next(manager: &mut TokenManager, text: &mut Text) -> Result<()> {
 }
 
 // `decide NUMBER`
-fn decide(manager: &mut TokenManager, words: &mut Words, text: &mut Text) -> Result<()> {
-    let number = words.number()?;
-    let ready = manager.decide(number)?;
+fn decide(manager: &mut TokenManager, words: &mut Words, text: &mut Text) -> Result<(), NoMemory> {
+    let ready = manager.decide(words.number())?;
     push_ready(text, &ready);
     drop(ready);
     Ok(())
 }
 
 // What a host says of a token.
-fn token_gone(
-    manager: &mut TokenManager,
-    word: &str,
-    words: &mut Words,
-    text: &mut Text,
-) -> Result<()> {
+fn token_gone(manager: &mut TokenManager, word: &str, words: &mut Words, text: &mut Text) {
     if word == "revoked" {
-        let id = words.id()?;
-        push_yes(text, manager.set_revoked(id));
-        return Ok(());
+        push_yes(text, manager.set_revoked(words.id()));
+        return;
     }
-    let host = words.host()?;
-    let id = words.id()?;
+    let host = words.host();
+    let id = words.id();
     push_yes(
         text,
         if word == "kept" {
@@ -84,93 +78,53 @@ fn token_gone(
             manager.returned(host, id)
         },
     );
-    Ok(())
 }
 
-// Steps by which something is gone.
-fn lose(manager: &mut TokenManager, word: &str, words: &mut Words, text: &mut Text) -> Result<()> {
-    match word {
-        "give-up" => {
-            let number = words.number()?;
-            manager.give_up(number);
-            Ok(())
-        }
-        "down" => {
-            let host = words.host()?;
-            manager.host_down(host);
-            Ok(())
-        }
-        "forget" => forget(manager, words, text),
-        _ => drop_fileset(manager, words, text),
-    }
-}
-
-fn drop_fileset(manager: &mut TokenManager, words: &mut Words, text: &mut Text) -> Result<()> {
-    let fileset = words.fileset()?;
-    let dropped = manager.drop_fileset(fileset)?;
+fn drop_fileset(
+    manager: &mut TokenManager,
+    words: &mut Words,
+    text: &mut Text,
+) -> Result<(), NoMemory> {
+    let dropped = manager.drop_fileset(words.fileset())?;
     push_wants(text, dropped.as_slice());
     drop(dropped);
     Ok(())
 }
 
 // Looks at the manager.
-fn look(manager: &TokenManager, word: &str, words: &mut Words, text: &mut Text) -> Result<()> {
+fn look(manager: &TokenManager, word: &str, words: &mut Words, text: &mut Text) {
     match word {
-        "outlook" => push_outlook(text, manager.outlook(words.number()?)),
+        "outlook" => push_outlook(text, manager.outlook(words.number())),
         "first" => push_number(text, manager.first_ready()),
         "queue" => push_wants(text, manager.queue()),
         "asked" => push_number(text, Some(manager.asked())),
         "latest" => push_number(text, manager.latest()),
-        _ => bail!("no step: {word}"),
-    }
-    Ok(())
-}
-
-fn look_at_tokens(
-    manager: &TokenManager,
-    word: &str,
-    words: &mut Words,
-    text: &mut Text,
-) -> Result<()> {
-    match word {
-        "of-file" => {
-            let file = words.file()?;
-            push_ids(text, manager.of_file(file));
-            Ok(())
-        }
-        "of-host" => of_host(manager, words, text),
-        _ => wanted(manager, text),
+        "of-file" => push_ids(text, manager.of_file(words.file())),
+        _ => words.refuse(),
     }
 }
 
-fn of_host(manager: &TokenManager, words: &mut Words, text: &mut Text) -> Result<()> {
-    let host = words.host()?;
-    let tokens = manager.of_host(host)?;
+fn of_host(manager: &TokenManager, words: &mut Words, text: &mut Text) -> Result<(), NoMemory> {
+    let tokens = manager.of_host(words.host())?;
     push_ids(text, tokens.as_slice());
     drop(tokens);
     Ok(())
 }
 
-fn wanted(manager: &TokenManager, text: &mut Text) -> Result<()> {
+fn wanted(manager: &TokenManager, text: &mut Text) -> Result<(), NoMemory> {
     let wanted = manager.wanted()?;
     push_wanted(text, wanted.as_slice());
     drop(wanted);
     Ok(())
 }
 
-fn ask_of_token(
-    manager: &TokenManager,
-    word: &str,
-    words: &mut Words,
-    text: &mut Text,
-) -> Result<()> {
+fn ask_of_token(manager: &TokenManager, word: &str, words: &mut Words, text: &mut Text) {
     if word == "holds" {
-        let host = words.host()?;
-        let id = words.id()?;
-        push_yes(text, manager.holds(host, id));
-        return Ok(());
+        let host = words.host();
+        push_yes(text, manager.holds(host, words.id()));
+        return;
     }
-    let id = words.id()?;
+    let id = words.id();
     push_yes(
         text,
         match word {
@@ -179,7 +133,6 @@ fn ask_of_token(
             _ => manager.is_revoked(id),
         },
     );
-    Ok(())
 }
 
 // Whether a number is above the last one, where there is one.
@@ -200,21 +153,20 @@ fn may_ask(manager: &TokenManager, number: u64) -> bool
     manager.asked() < 1 << 44 && rises(manager.latest(), number)
 }
 
-// `HOST NEEDS`: a want of this number that may be asked.
-fn want_of(manager: &TokenManager, number: u64, words: &mut Words) -> Result<Want>
-    ensures number { IfOk result (λ want. IfSome manager.now.latest (λ last. last < want.number)) }
-    ensures count { IfOk result (λ want. manager.now.asked < 2 ^ 44) }
-    ensures needs { IfOk result (λ want. length want.needs ≤ NEEDS_MAX) }
+// `HOST NEEDS`: a want of this number, where it may be asked.
+fn want_of(manager: &TokenManager, number: u64, words: &mut Words) -> Option<Want>
+    ensures number { IfSome result (λ want. IfSome manager.now.latest (λ last. last < want.number)) }
+    ensures count { IfSome result (λ want. manager.now.asked < 2 ^ 44) }
+    ensures needs { IfSome result (λ want. length want.needs ≤ NEEDS_MAX) }
 {
-    let host = words.host()?;
-    if !may_ask(manager, number) {
-        bail!("no want to be asked");
+    let host = words.host();
+    let needs = words.needs();
+    if !may_ask(manager, number) || NEEDS_MAX < needs.len() {
+        drop(needs);
+        words.refuse();
+        return None;
     }
-    let needs = words.needs()?;
-    if NEEDS_MAX < needs.len() {
-        bail!("no want to be asked");
-    }
-    Ok(Want {
+    Some(Want {
         number,
         host,
         needs,
@@ -228,8 +180,15 @@ fn copy_of(want: &Want) -> Result<Want, NoMemory>
 }
 
 // `ask HOST NEEDS`: of a copy of the want.
-fn ask(manager: &mut TokenManager, number: u64, words: &mut Words, text: &mut Text) -> Result<()> {
-    let want = want_of(manager, number, words)?;
+fn ask(
+    manager: &mut TokenManager,
+    number: u64,
+    words: &mut Words,
+    text: &mut Text,
+) -> Result<(), NoMemory> {
+    let Some(want) = want_of(manager, number, words) else {
+        return Ok(());
+    };
     let copy = copy_of(&want);
     drop(want);
     let asked = manager.ask(copy?)?;
@@ -244,16 +203,18 @@ fn enqueue(
     number: u64,
     words: &mut Words,
     text: &mut Text,
-) -> Result<()> {
-    let want = want_of(manager, number, words)?;
+) -> Result<(), NoMemory> {
+    let Some(want) = want_of(manager, number, words) else {
+        return Ok(());
+    };
     manager.enqueue(want)?;
     push_wants(text, manager.queue());
     Ok(())
 }
 
 // `admit TOKENS`: yes where they may be admitted.
-fn admit(manager: &mut TokenManager, words: &mut Words, text: &mut Text) -> Result<()> {
-    let tokens = words.tokens()?;
+fn admit(manager: &mut TokenManager, words: &mut Words, text: &mut Text) -> Result<(), NoMemory> {
+    let tokens = words.tokens();
     let admitted = admit_all(manager, tokens.as_slice());
     drop(tokens);
     push_yes(text, admitted?);
@@ -269,10 +230,8 @@ fn admit_all(manager: &mut TokenManager, tokens: &[Token]) -> Result<bool, NoMem
 }
 
 // `forget EPOCH`: yes where the epoch is a later one.
-fn forget(manager: &mut TokenManager, words: &mut Words, text: &mut Text) -> Result<()> {
-    let epoch = words.number()?;
-    let later = manager.forget(epoch);
+fn forget(manager: &mut TokenManager, words: &mut Words, text: &mut Text) {
+    let later = manager.forget(words.number());
     manager.laws();
     push_yes(text, later);
-    Ok(())
 }

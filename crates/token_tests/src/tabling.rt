@@ -5,26 +5,27 @@ ghost use Rattle.token_table.specs.Tables.{has_id, is_past};
 
 use crate::reading::Words;
 use crate::telling::{push_ids, push_token, push_token_or_none, push_yes};
-use anyhow::{Result, bail};
-use base_types::{HostId, NEEDS_MAX, Plain};
+use base_types::{HostId, NEEDS_MAX, NoMemory, Plain};
 use token_table::TokenTable;
 use token_types::{Need, TokenId};
 use tree_test_words::Text;
 
 /// Writes the answer to a row `table ..`.
-pub fn tell_table(table: &mut TokenTable, words: &mut Words, text: &mut Text) -> Result<()> {
+pub fn tell_table(
+    table: &mut TokenTable,
+    words: &mut Words,
+    text: &mut Text,
+) -> Result<(), NoMemory> {
     match words.next() {
         "grant" => grant(table, words, text),
         "next" => next(table, words, text),
         "insert" => insert(table, words, text),
         "drop" => {
-            let id = words.id()?;
-            push_token_or_none(text, table.drop_id(id).as_ref());
+            push_token_or_none(text, table.drop_id(words.id()).as_ref());
             Ok(())
         }
         "drop-host" => {
-            let host = words.host()?;
-            table.drop_host(host);
+            table.drop_host(words.host());
             Ok(())
         }
         word => look_at_copy(table, word, words, text),
@@ -32,43 +33,54 @@ pub fn tell_table(table: &mut TokenTable, words: &mut Words, text: &mut Text) ->
 }
 
 // Looks at a copy of the table: so the copy is seen to be the same.
-fn look_at_copy(table: &TokenTable, word: &str, words: &mut Words, text: &mut Text) -> Result<()> {
+fn look_at_copy(
+    table: &TokenTable,
+    word: &str,
+    words: &mut Words,
+    text: &mut Text,
+) -> Result<(), NoMemory> {
     let copy = table.copy()?;
     let told = look(&copy, word, words, text);
     drop(copy);
     told
 }
 
-fn look(table: &TokenTable, word: &str, words: &mut Words, text: &mut Text) -> Result<()> {
+fn look(
+    table: &TokenTable,
+    word: &str,
+    words: &mut Words,
+    text: &mut Text,
+) -> Result<(), NoMemory> {
     match word {
-        "get" => {
-            let id = words.id()?;
-            push_token_or_none(text, table.get(id));
+        "of-host" => of_host(table, words, text),
+        "conflicting" => conflicting(table, words, text),
+        _ => {
+            look_up(table, word, words, text);
+            Ok(())
         }
-        "of-file" => {
-            let file = words.file()?;
-            push_ids(text, table.of_file(file));
-        }
-        "last" => text.number("", table.last_id().seq),
-        "of-host" => return of_host(table, words, text),
-        "conflicting" => return conflicting(table, words, text),
-        "in-the-way" => return in_the_way(table, words, text),
-        _ => bail!("no step of a table: {word}"),
     }
-    Ok(())
 }
 
-fn of_host(table: &TokenTable, words: &mut Words, text: &mut Text) -> Result<()> {
-    let host = words.host()?;
-    let tokens = table.of_host(host)?;
+fn look_up(table: &TokenTable, word: &str, words: &mut Words, text: &mut Text) {
+    match word {
+        "get" => push_token_or_none(text, table.get(words.id())),
+        "of-file" => push_ids(text, table.of_file(words.file())),
+        "last" => text.number("", table.last_id().seq),
+        "in-the-way" => in_the_way(table, words, text),
+        _ => words.refuse(),
+    }
+}
+
+fn of_host(table: &TokenTable, words: &mut Words, text: &mut Text) -> Result<(), NoMemory> {
+    let tokens = table.of_host(words.host())?;
     push_ids(text, tokens.as_slice());
     drop(tokens);
     Ok(())
 }
 
-fn conflicting(table: &TokenTable, words: &mut Words, text: &mut Text) -> Result<()> {
-    let host = words.host()?;
-    let needs = words.needs()?;
+fn conflicting(table: &TokenTable, words: &mut Words, text: &mut Text) -> Result<(), NoMemory> {
+    let host = words.host();
+    let needs = words.needs();
     let found = table.conflicting(host, needs.as_slice());
     drop(needs);
     let found = found?;
@@ -77,12 +89,11 @@ fn conflicting(table: &TokenTable, words: &mut Words, text: &mut Text) -> Result
     Ok(())
 }
 
-fn in_the_way(table: &TokenTable, words: &mut Words, text: &mut Text) -> Result<()> {
-    let host = words.host()?;
-    let needs = words.needs()?;
+fn in_the_way(table: &TokenTable, words: &mut Words, text: &mut Text) {
+    let host = words.host();
+    let needs = words.needs();
     push_yes(text, table.is_in_the_way(host, needs.as_slice()));
     drop(needs);
-    Ok(())
 }
 
 // Whether so many more tokens find their numbers.
@@ -93,17 +104,23 @@ fn has_room(table: &TokenTable, needs: &[Need]) -> bool
 }
 
 // `table next HOST NEEDS`
-fn next(table: &TokenTable, words: &mut Words, text: &mut Text) -> Result<()> {
-    let host = words.host()?;
-    let needs = words.needs()?;
+fn next(table: &TokenTable, words: &mut Words, text: &mut Text) -> Result<(), NoMemory> {
+    let host = words.host();
+    let needs = words.needs();
     let told = next_of(table, host, needs.as_slice(), text);
     drop(needs);
     told
 }
 
-fn next_of(table: &TokenTable, host: HostId, needs: &[Need], text: &mut Text) -> Result<()> {
+fn next_of(
+    table: &TokenTable,
+    host: HostId,
+    needs: &[Need],
+    text: &mut Text,
+) -> Result<(), NoMemory> {
     if !has_room(table, needs) {
-        bail!("no numbers are left");
+        text.word("no numbers are left");
+        return Ok(());
     }
     let tokens = table.next_tokens(host, needs)?;
     push_ids(text, tokens.as_slice());
@@ -112,18 +129,24 @@ fn next_of(table: &TokenTable, host: HostId, needs: &[Need], text: &mut Text) ->
 }
 
 // `table grant HOST NEEDS`
-fn grant(table: &mut TokenTable, words: &mut Words, text: &mut Text) -> Result<()> {
-    let host = words.host()?;
-    let needs = words.needs()?;
+fn grant(table: &mut TokenTable, words: &mut Words, text: &mut Text) -> Result<(), NoMemory> {
+    let host = words.host();
+    let needs = words.needs();
     let told = grant_of(table, host, needs.as_slice(), text);
     drop(needs);
     told
 }
 
 // One need by `grant`, and several by `grant_each`.
-fn grant_of(table: &mut TokenTable, host: HostId, needs: &[Need], text: &mut Text) -> Result<()> {
+fn grant_of(
+    table: &mut TokenTable,
+    host: HostId,
+    needs: &[Need],
+    text: &mut Text,
+) -> Result<(), NoMemory> {
     if !has_room(table, needs) {
-        bail!("no numbers are left");
+        text.word("no numbers are left");
+        return Ok(());
     }
     if let [need] = needs {
         let token = table.grant(host, need.fid, need.kind)?;
@@ -158,8 +181,8 @@ fn can_insert(table: &TokenTable, id: TokenId) -> bool
 }
 
 // `table insert TOKEN`: yes where it may be put in.
-fn insert(table: &mut TokenTable, words: &mut Words, text: &mut Text) -> Result<()> {
-    let token = words.token()?;
+fn insert(table: &mut TokenTable, words: &mut Words, text: &mut Text) -> Result<(), NoMemory> {
+    let token = words.token();
     let can = can_insert(table, token.id);
     if can {
         table.insert(token)?;
