@@ -4,16 +4,16 @@ use Rattle.hub_drive_tests.proofs.Stubs.{is_done, none_given, stands_on, still_n
 use Rattle.hub_drive_tests.proofs.stub.StubNode.work.Goals as goal
 
 pub returns-clause-works : goal.returns-clause-works
-returns-clause-works g c = λ part past made st to.
+returns-clause-works c = λ part past made st to.
     stands_on part c.args.self.now _ past made c.args.steps.now.steps c.args.given st c.requires.none
 
 pub returns-clause-quiet : goal.returns-clause-quiet
-returns-clause-quiet g c = λ idle. (none_given c.args.given (c.turned.ensures.quiet idle), c.requires.none)
+returns-clause-quiet c = λ idle. (none_given c.args.given (c.turned.ensures.quiet idle), c.requires.none)
 
 pub returns-clause-done : goal.returns-clause-done
-returns-clause-done g c = λ part past made st to e knows.
+returns-clause-done c = λ part past made st to e knows.
     is_done part.run part.node _ (still_none past made c.args.given st.nothing st.none) st.setup st.lines knows
 
 pub returns-clause-undone : goal.returns-clause-undone
-returns-clause-undone g c = λ part past made st to e knows done.
+returns-clause-undone c = λ part past made st to e knows done.
     let same : c.turned.result ≡ Idle = cc in c.turned.ensures.busy same
