@@ -1,5 +1,9 @@
 //! A tree, and the rows that it answers.
 
+use crate::access::tell_access;
+use crate::lists::tell_lists;
+use crate::parts::tell_copy;
+use crate::streams::tell_stream;
 use anyhow::{Result, bail};
 use base_types::{Fid, FilesetId, HostId, Items, ServerId, Span, User};
 use std::alloc::Global;
@@ -38,14 +42,28 @@ pub fn new_tree(alloc: Global) -> Result<Tree> {
 }
 
 /// Writes what is told to a row: the reply to a call; `ok` where something became kept, or where a fileset has arrived;
-/// and where a host is down, the losses.
+/// where a host is down, the losses; and behind `base` what the types below the tree answer.
 pub fn tell(tree: &mut Tree, words: &mut Words, text: &mut Text) -> Result<()> {
     match words.next() {
         "stored" => store(tree, words, text),
         "down" => stop(tree, words, text),
         "left" => leave(tree, words, text),
         "at" => place(tree, words, text),
+        "base" => tell_base(words.next(), words, text),
         word => call(tree, host(word)?, words, text),
+    }
+}
+
+fn tell_base(word: &str, words: &mut Words, text: &mut Text) -> Result<()> {
+    match word {
+        "name" | "before" | "acl" | "rights" | "user" | "all" | "bits" | "limited" | "allows" => {
+            tell_access(word, words, text)
+        }
+        "reply" | "loss" | "piece" | "entry" | "status" => tell_copy(word, words, text),
+        "read" | "long" | "write" | "put" | "calls" | "take" | "room" => {
+            tell_stream(word, words, text)
+        }
+        _ => tell_lists(word, words, text),
     }
 }
 
