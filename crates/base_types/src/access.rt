@@ -23,7 +23,7 @@ use std::marker::Model;
 use thiserror::Error;
 
 /// Whom an entry of an access list speaks of.
-#[derive(Debug, Drop, PartialEq)]
+#[derive(Debug, PartialEq)]
 pub enum Who {
     /// The object's owner.
     UserObj,
@@ -37,6 +37,19 @@ pub enum Who {
     OtherObj,
     /// No one: a limit of the rights that other entries give.
     MaskObj,
+}
+
+impl Drop for Who {
+    fn drop(self) {
+        match self {
+            Who::UserObj => {}
+            Who::User(_) => {}
+            Who::GroupObj => {}
+            Who::Group(_) => {}
+            Who::OtherObj => {}
+            Who::MaskObj => {}
+        }
+    }
 }
 
 impl Who {
@@ -116,10 +129,16 @@ impl Plain for Who {
 }
 
 /// The rights that an access list gives to one of those that it speaks of.
-#[derive(Debug, Drop, PartialEq)]
+#[derive(Debug, PartialEq)]
 pub struct AccessEntry {
     pub who: Who,
     pub rights: Rights,
+}
+
+impl Drop for AccessEntry {
+    fn drop(self) {
+        let AccessEntry { who: _, rights: _ } = self;
+    }
 }
 
 impl Plain for AccessEntry {
@@ -133,9 +152,15 @@ impl Plain for AccessEntry {
 
 /// An access list: at most 16 entries, with `UserObj`, `GroupObj` and `OtherObj` among them, and
 /// none twice. Contracts see it as its entries.
-#[derive(Debug, Drop, PartialEq)]
+#[derive(Debug, PartialEq)]
 pub struct AccessList {
     entries: Items<AccessEntry>,
+}
+
+impl Drop for AccessList {
+    fn drop(self) {
+        let AccessList { entries: _ } = self;
+    }
 }
 
 impl Model for AccessList {

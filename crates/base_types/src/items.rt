@@ -31,9 +31,15 @@ use std::alloc::Global;
 use std::marker::Model;
 
 /// A list of values. Contracts see it as the list of its elements.
-#[derive(Debug, Drop)]
+#[derive(Debug)]
 pub struct Items<T> {
     elements: Vec<T>,
+}
+
+impl<T: Drop> Drop for Items<T> {
+    fn drop(self) {
+        let Items { elements: _ } = self;
+    }
 }
 
 impl<T> Model for Items<T> {
@@ -65,7 +71,8 @@ impl<T> Items<T> {
     pub fn into_vec(self) -> Vec<T>
         ensures { result.items ≡ self }
     {
-        self.elements
+        let Items { elements } = self;
+        elements
     }
 
     /// The memory that the list grows in.
@@ -183,7 +190,7 @@ impl<T: Drop> Items<T> {
         ensures ok { OnOk result (self.new ≡ self.old ++ other) }
         ensures err { OnErr result (self.new ≡ self.old) }
     {
-        let mut elements = other.elements;
+        let mut elements = other.into_vec();
         self.elements.append(&mut elements)?;
         Ok(())
     }

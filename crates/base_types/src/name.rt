@@ -12,9 +12,15 @@ use thiserror::Error;
 
 /// The name of a user, a group, a fileset, an entry of a directory or a label: 1 to 60 bytes,
 /// without `/` and without the byte 0. Contracts see it as its bytes.
-#[derive(Debug, Drop, PartialEq)]
+#[derive(Debug, PartialEq)]
 pub struct Name {
     bytes: Items<u8>,
+}
+
+impl Drop for Name {
+    fn drop(self) {
+        let Name { bytes: _ } = self;
+    }
 }
 
 impl Model for Name {

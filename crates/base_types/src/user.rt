@@ -7,10 +7,16 @@ use crate::name::Name;
 use crate::plain::Plain;
 
 /// A user by name, with 1 to 8 groups.
-#[derive(Debug, Drop, PartialEq)]
+#[derive(Debug, PartialEq)]
 pub struct User {
     pub name: Name,
     pub groups: Items<Name>,
+}
+
+impl Drop for User {
+    fn drop(self) {
+        let User { name: _, groups: _ } = self;
+    }
 }
 
 impl User {

@@ -3,7 +3,6 @@ use token_types::Need;
 use tree_calls::Call;
 
 /// What a host needs of one object.
-#[derive(Drop)]
 pub struct Fetch {
     /// Its number among the Fetches of the host and the fileset, from 1.
     pub number: u64,
@@ -13,8 +12,17 @@ pub struct Fetch {
     pub needs: Items<Need>,
 }
 
+impl Drop for Fetch {
+    fn drop(self) {
+        let Fetch {
+            number: _,
+            fid: _,
+            needs: _,
+        } = self;
+    }
+}
+
 /// A call that the server is to decide.
-#[derive(Drop)]
 pub struct Change {
     /// Its number among the Changes of the host and the fileset, from 1.
     pub number: u64,
@@ -28,6 +36,19 @@ pub struct Change {
     pub k: u32,
     /// The call itself.
     pub call: Call,
+}
+
+impl Drop for Change {
+    fn drop(self) {
+        let Change {
+            number: _,
+            fileset: _,
+            fid: _,
+            enter: _,
+            k: _,
+            call: _,
+        } = self;
+    }
 }
 
 impl Plain for Fetch {

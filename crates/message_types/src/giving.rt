@@ -3,7 +3,6 @@ use token_types::{Token, TokenId};
 use tree_calls::{Call, Piece};
 
 /// The call that a give-back answers: the end of a lock, or of an open, whose token was pinned.
-#[derive(Drop)]
 pub struct Ends {
     /// The number of the call among the host's, from 1.
     pub k: u32,
@@ -11,8 +10,13 @@ pub struct Ends {
     pub call: Call,
 }
 
+impl Drop for Ends {
+    fn drop(self) {
+        let Ends { k: _, call: _ } = self;
+    }
+}
+
 /// What a host gives back of one file.
-#[derive(Drop)]
 pub struct Give {
     /// Its number among those of the host and the fileset, from 1. It goes on over epochs and moves.
     pub number: u64,
@@ -26,6 +30,19 @@ pub struct Give {
     pub length: Option<u32>,
     /// The call that it answers, where it answers one.
     pub ends: Option<Ends>,
+}
+
+impl Drop for Give {
+    fn drop(self) {
+        let Give {
+            number: _,
+            fid: _,
+            ids: _,
+            pieces: _,
+            length: _,
+            ends: _,
+        } = self;
+    }
 }
 
 /// A give-back that was applied.
@@ -51,7 +68,6 @@ pub struct Outstanding {
 }
 
 /// What a host claims from a server that has restarted.
-#[derive(Drop)]
 pub struct Reclaim {
     /// The tokens that the server granted in earlier epochs, and that the host has.
     pub tokens: Items<Token>,
@@ -59,13 +75,30 @@ pub struct Reclaim {
     pub numbers: Items<Outstanding>,
 }
 
+impl Drop for Reclaim {
+    fn drop(self) {
+        let Reclaim {
+            tokens: _,
+            numbers: _,
+        } = self;
+    }
+}
+
 /// What a server says of a claim.
-#[derive(Drop)]
 pub struct Reclaimed {
     /// Of the outstanding give-backs those that were applied.
     pub applied: Items<AppliedGive>,
     /// The tokens that aren't granted again.
     pub left_out: Items<TokenId>,
+}
+
+impl Drop for Reclaimed {
+    fn drop(self) {
+        let Reclaimed {
+            applied: _,
+            left_out: _,
+        } = self;
+    }
 }
 
 impl Plain for Ends {

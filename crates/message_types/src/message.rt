@@ -17,7 +17,6 @@ pub enum Direction {
 }
 
 /// What a message says.
-#[derive(Drop)]
 pub enum Body {
     /// A host greets a server.
     Hello,
@@ -57,8 +56,32 @@ pub enum Body {
     Shipped(Shipped),
 }
 
+impl Drop for Body {
+    fn drop(self) {
+        match self {
+            Body::Hello => {}
+            Body::Fetch(_) => {}
+            Body::Grant(_) => {}
+            Body::Change(_) => {}
+            Body::Done(_) => {}
+            Body::Revoke(_) => {}
+            Body::Returned(_) => {}
+            Body::Kept(_) => {}
+            Body::GiveBack(_) => {}
+            Body::Gone(_) => {}
+            Body::Reclaim(_) => {}
+            Body::Reclaimed(_) => {}
+            Body::Restarted => {}
+            Body::Down => {}
+            Body::Bye => {}
+            Body::NotHere(_) => {}
+            Body::Ship(_) => {}
+            Body::Shipped(_) => {}
+        }
+    }
+}
+
 /// A message between a host and a server, or between two servers.
-#[derive(Drop)]
 pub struct Message {
     /// From whom to whom it goes.
     pub direction: Direction,
@@ -73,6 +96,19 @@ pub struct Message {
     pub moves: u32,
     /// What it says.
     pub body: Body,
+}
+
+impl Drop for Message {
+    fn drop(self) {
+        let Message {
+            direction: _,
+            host: _,
+            server: _,
+            epoch: _,
+            moves: _,
+            body: _,
+        } = self;
+    }
 }
 
 impl Plain for Body {

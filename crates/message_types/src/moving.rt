@@ -11,7 +11,6 @@ pub struct NotHere {
 }
 
 /// A part of a fileset that moves to another server.
-#[derive(Drop)]
 pub struct Ship {
     /// The server to which the fileset moves.
     pub to: ServerId,
@@ -25,8 +24,19 @@ pub struct Ship {
     pub part: ShipPart,
 }
 
+impl Drop for Ship {
+    fn drop(self) {
+        let Ship {
+            to: _,
+            ship: _,
+            fileset: _,
+            at: _,
+            part: _,
+        } = self;
+    }
+}
+
 /// A server has taken a part of a fileset, or has refused the head.
-#[derive(Drop)]
 pub struct Shipped {
     /// The server that sends the fileset.
     pub to: ServerId,
@@ -36,6 +46,17 @@ pub struct Shipped {
     pub at: u32,
     /// What became of the part.
     pub reply: Reply,
+}
+
+impl Drop for Shipped {
+    fn drop(self) {
+        let Shipped {
+            to: _,
+            ship: _,
+            at: _,
+            reply: _,
+        } = self;
+    }
 }
 
 impl Plain for NotHere {

@@ -3,7 +3,6 @@ use token_types::Token;
 use tree_calls::{DirEntry, Piece, Reply, Status};
 
 /// What an answer brings: tokens on one object, under a stamp.
-#[derive(Drop)]
 pub struct Bring {
     /// The number of the request that it answers.
     pub number: u64,
@@ -15,8 +14,18 @@ pub struct Bring {
     pub tokens: Items<Token>,
 }
 
+impl Drop for Bring {
+    fn drop(self) {
+        let Bring {
+            number: _,
+            fid: _,
+            stamp: _,
+            tokens: _,
+        } = self;
+    }
+}
+
 /// The answer to a Fetch.
-#[derive(Drop)]
 pub struct Grant {
     /// What it brings.
     pub bring: Bring,
@@ -28,8 +37,18 @@ pub struct Grant {
     pub entries: Items<DirEntry>,
 }
 
+impl Drop for Grant {
+    fn drop(self) {
+        let Grant {
+            bring: _,
+            status: _,
+            pieces: _,
+            entries: _,
+        } = self;
+    }
+}
+
 /// What became of a Change.
-#[derive(Drop)]
 pub enum DoneIs {
     /// The call has this reply.
     Reply(Reply),
@@ -43,8 +62,19 @@ pub enum DoneIs {
     Elsewhere(ServerId),
 }
 
+impl Drop for DoneIs {
+    fn drop(self) {
+        match self {
+            DoneIs::Reply(_) => {}
+            DoneIs::Known(_) => {}
+            DoneIs::Granted => {}
+            DoneIs::Again => {}
+            DoneIs::Elsewhere(_) => {}
+        }
+    }
+}
+
 /// The answer to a Change.
-#[derive(Drop)]
 pub struct Done {
     /// The fileset under which the Change was numbered.
     pub fileset: FilesetId,
@@ -52,6 +82,16 @@ pub struct Done {
     pub outcome: DoneIs,
     /// What it brings.
     pub bring: Bring,
+}
+
+impl Drop for Done {
+    fn drop(self) {
+        let Done {
+            fileset: _,
+            outcome: _,
+            bring: _,
+        } = self;
+    }
 }
 
 impl Plain for Bring {

@@ -2,7 +2,6 @@ use base_types::{Fid, Items, NoMemory, Plain};
 use token_types::TokenId;
 
 /// Tokens of one file that a server asks back.
-#[derive(Drop)]
 pub struct Revoke {
     /// The file.
     pub fid: Fid,
@@ -12,13 +11,28 @@ pub struct Revoke {
     pub ids: Items<TokenId>,
 }
 
+impl Drop for Revoke {
+    fn drop(self) {
+        let Revoke {
+            fid: _,
+            stamp: _,
+            ids: _,
+        } = self;
+    }
+}
+
 /// Tokens of one file, as a Returned or a Kept names them.
-#[derive(Drop)]
 pub struct Named {
     /// The file.
     pub fid: Fid,
     /// The tokens.
     pub ids: Items<TokenId>,
+}
+
+impl Drop for Named {
+    fn drop(self) {
+        let Named { fid: _, ids: _ } = self;
+    }
 }
 
 impl Plain for Revoke {

@@ -28,7 +28,6 @@ pub struct Leave {
 }
 
 /// The reply to a call of a host.
-#[derive(Drop)]
 pub struct Answer {
     /// The host.
     pub host: HostId,
@@ -42,8 +41,19 @@ pub struct Answer {
     pub first: bool,
 }
 
+impl Drop for Answer {
+    fn drop(self) {
+        let Answer {
+            host: _,
+            k: _,
+            call: _,
+            reply: _,
+            first: _,
+        } = self;
+    }
+}
+
 /// A Change that a server writes down, with its reply.
-#[derive(Drop)]
 pub struct Written {
     /// The fileset under which the Change is numbered.
     pub fileset: FilesetId,
@@ -53,8 +63,17 @@ pub struct Written {
     pub answer: Answer,
 }
 
+impl Drop for Written {
+    fn drop(self) {
+        let Written {
+            fileset: _,
+            number: _,
+            answer: _,
+        } = self;
+    }
+}
+
 /// A request of a host, which a server is to decide.
-#[derive(Drop)]
 pub enum Request {
     /// Tokens are asked for.
     Fetch(Fetch),
@@ -62,8 +81,16 @@ pub enum Request {
     Change(Change),
 }
 
+impl Drop for Request {
+    fn drop(self) {
+        match self {
+            Request::Fetch(_) => {}
+            Request::Change(_) => {}
+        }
+    }
+}
+
 /// What a request of a host wants, from now on: a want stands in its server's queue, behind all earlier ones.
-#[derive(Drop)]
 pub struct Wanted {
     /// The host.
     pub host: HostId,
@@ -75,8 +102,18 @@ pub struct Wanted {
     pub needs: Items<Need>,
 }
 
+impl Drop for Wanted {
+    fn drop(self) {
+        let Wanted {
+            host: _,
+            request: _,
+            moves: _,
+            needs: _,
+        } = self;
+    }
+}
+
 /// What a server decided, stored or learnt.
-#[derive(Drop)]
 pub enum Applied {
     /// Bytes of a give-back became kept in these spans, and its length where it has one.
     Stored {
@@ -99,11 +136,33 @@ pub enum Applied {
     Done(Written),
 }
 
+impl Drop for Applied {
+    fn drop(self) {
+        match self {
+            Applied::Stored {
+                host: _,
+                fid: _,
+                spans: _,
+                length: _,
+            } => {}
+            Applied::Replied(_) => {}
+            Applied::IsDown(_) => {}
+            Applied::Wants(_) => {}
+            Applied::Done(_) => {}
+        }
+    }
+}
+
 /// Tokens that are granted again to the host that claims them.
-#[derive(Drop)]
 pub struct Admission {
     /// The host.
     pub host: HostId,
     /// The tokens.
     pub tokens: Items<Token>,
+}
+
+impl Drop for Admission {
+    fn drop(self) {
+        let Admission { host: _, tokens: _ } = self;
+    }
 }

@@ -5,7 +5,6 @@ use token_types::Token;
 use tree_calls::Call;
 
 /// What makes a node do a step.
-#[derive(Drop)]
 pub enum Cause {
     /// The node's next line, of this number, which isn't `restart`.
     Line(u32),
@@ -23,8 +22,21 @@ pub enum Cause {
     Flushed,
 }
 
+impl Drop for Cause {
+    fn drop(self) {
+        match self {
+            Cause::Line(_) => {}
+            Cause::Restart(_) => {}
+            Cause::Message(_) => {}
+            Cause::Lapse => {}
+            Cause::Evict => {}
+            Cause::End => {}
+            Cause::Flushed => {}
+        }
+    }
+}
+
 /// A call that a host begins, and doesn't answer at once.
-#[derive(Drop)]
 pub struct Asked {
     /// The number of the call among the host's, from 1.
     pub k: u32,
@@ -32,8 +44,13 @@ pub struct Asked {
     pub call: Call,
 }
 
+impl Drop for Asked {
+    fn drop(self) {
+        let Asked { k: _, call: _ } = self;
+    }
+}
+
 /// A label that comes into use: that of a lock for a lock token, that of an open file for an open token.
-#[derive(Drop)]
 pub struct Labelled {
     /// The label.
     pub label: Name,
@@ -41,10 +58,15 @@ pub struct Labelled {
     pub token: Token,
 }
 
+impl Drop for Labelled {
+    fn drop(self) {
+        let Labelled { label: _, token: _ } = self;
+    }
+}
+
 /// What a node does at a time. A host does it in this order: it takes tokens, answers calls, makes give-backs, drops
 /// tokens, sends. A server takes the cause, with what it stores and learns by it; it makes wants and writes Changes
 /// down, grants claims, sends in order; and then its exporter takes tokens.
-#[derive(Drop)]
 pub struct Step {
     /// The node.
     pub node: Node,
@@ -73,4 +95,24 @@ pub struct Step {
     pub sent: Items<Message>,
     /// The tokens that the server's exporter keeps until the Changes of the step are on the server's disk.
     pub reserved: Items<Token>,
+}
+
+impl Drop for Step {
+    fn drop(self) {
+        let Step {
+            node: _,
+            cause: _,
+            asked: _,
+            taken: _,
+            answers: _,
+            wrote: _,
+            begun: _,
+            made: _,
+            dropped: _,
+            applied: _,
+            admitted: _,
+            sent: _,
+            reserved: _,
+        } = self;
+    }
 }

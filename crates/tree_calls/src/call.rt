@@ -3,7 +3,6 @@ use base_types::{AccessList, Items, Name, NoMemory, OpenKind, Plain, ServerId, U
 
 /// What a host asks of the service. Positions and lengths are in bytes. The first eight and the last change names,
 /// lists, lengths and filesets, and are always decided by a server.
-#[derive(Drop)]
 pub enum Call {
     /// Makes a fileset of so many objects with an empty root, of an owner and the owner's first group.
     NewFileset {
@@ -103,6 +102,70 @@ pub enum Call {
         fileset: Name,
         to: ServerId,
     },
+}
+
+impl Drop for Call {
+    fn drop(self) {
+        match self {
+            Call::NewFileset {
+                server: _,
+                name: _,
+                objects: _,
+                owner: _,
+            } => {}
+            Call::Create { place: _ } => {}
+            Call::MakeDir { place: _ } => {}
+            Call::Remove { place: _ } => {}
+            Call::Rename { from: _, to: _ } => {}
+            Call::Truncate {
+                place: _,
+                length: _,
+            } => {}
+            Call::SetAcl {
+                place: _,
+                which: _,
+                list: _,
+            } => {}
+            Call::CloneFileset {
+                server: _,
+                fileset: _,
+                new: _,
+            } => {}
+            Call::Read {
+                place: _,
+                from: _,
+                len: _,
+            } => {}
+            Call::Write {
+                place: _,
+                from: _,
+                bytes: _,
+            } => {}
+            Call::List { place: _ } => {}
+            Call::Stat { place: _ } => {}
+            Call::GetAcl { place: _, which: _ } => {}
+            Call::Sync { place: _ } => {}
+            Call::Lock {
+                label: _,
+                place: _,
+                writing: _,
+                from: _,
+                len: _,
+            } => {}
+            Call::Unlock { label: _ } => {}
+            Call::OpenFile {
+                label: _,
+                place: _,
+                kind: _,
+            } => {}
+            Call::CloseFile { label: _ } => {}
+            Call::MoveFileset {
+                server: _,
+                fileset: _,
+                to: _,
+            } => {}
+        }
+    }
 }
 
 impl Plain for Call {

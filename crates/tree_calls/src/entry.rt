@@ -3,7 +3,6 @@ use crate::reply::Reply;
 use base_types::{Fid, FilesetId, HostId, Items, Name, NoMemory, Plain, ServerId, Span};
 
 /// One entry of a history of the file tree.
-#[derive(Drop)]
 pub enum Entry {
     /// The `k`-th call of a host, from 1, and the reply to it.
     Call {
@@ -31,8 +30,32 @@ pub enum Entry {
     },
 }
 
+impl Drop for Entry {
+    fn drop(self) {
+        match self {
+            Entry::Call {
+                host: _,
+                k: _,
+                call: _,
+                reply: _,
+            } => {}
+            Entry::Stored {
+                host: _,
+                fid: _,
+                spans: _,
+                length: _,
+            } => {}
+            Entry::Down { host: _, server: _ } => {}
+            Entry::Left {
+                server: _,
+                fileset: _,
+            } => {}
+        }
+    }
+}
+
 /// What a host that went down hadn't stored: bytes of a file, or its length.
-#[derive(Drop, PartialEq)]
+#[derive(PartialEq)]
 pub struct Loss {
     /// The host.
     pub host: HostId,
@@ -44,6 +67,18 @@ pub struct Loss {
     pub span: Option<Span>,
     /// The length in bytes that is lost.
     pub length: Option<u32>,
+}
+
+impl Drop for Loss {
+    fn drop(self) {
+        let Loss {
+            host: _,
+            server: _,
+            path: _,
+            span: _,
+            length: _,
+        } = self;
+    }
 }
 
 impl Plain for Loss {

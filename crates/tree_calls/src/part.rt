@@ -1,7 +1,6 @@
 use base_types::{AccessList, Items, Name, NoMemory, Plain};
 
 /// Bytes of a file, from a position on.
-#[derive(Drop)]
 pub struct Piece {
     /// The position of the first byte.
     pub from: u32,
@@ -9,8 +8,13 @@ pub struct Piece {
     pub bytes: Items<u8>,
 }
 
+impl Drop for Piece {
+    fn drop(self) {
+        let Piece { from: _, bytes: _ } = self;
+    }
+}
+
 /// A name in a directory, and the anode that it leads to.
-#[derive(Drop)]
 pub struct DirEntry {
     /// The name.
     pub name: Name,
@@ -20,8 +24,17 @@ pub struct DirEntry {
     pub unique: u32,
 }
 
+impl Drop for DirEntry {
+    fn drop(self) {
+        let DirEntry {
+            name: _,
+            anode: _,
+            unique: _,
+        } = self;
+    }
+}
+
 /// What a host caches of an object beside its bytes and entries.
-#[derive(Drop)]
 pub struct Status {
     /// Whether it is a directory.
     pub dir: bool,
@@ -35,6 +48,19 @@ pub struct Status {
     pub group: Name,
     /// The one list of a file, or the three of a directory in the order of `Which`.
     pub lists: Items<AccessList>,
+}
+
+impl Drop for Status {
+    fn drop(self) {
+        let Status {
+            dir: _,
+            read_only: _,
+            length: _,
+            owner: _,
+            group: _,
+            lists: _,
+        } = self;
+    }
 }
 
 impl Plain for Piece {

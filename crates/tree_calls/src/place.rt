@@ -12,7 +12,6 @@ pub enum Which {
 }
 
 /// Where an object is found: a fileset of a server, and the names from its root.
-#[derive(Drop)]
 pub struct Place {
     /// The server that the fileset is at.
     pub server: ServerId,
@@ -20,6 +19,16 @@ pub struct Place {
     pub fileset: Name,
     /// The names from the fileset's root on; none for the root itself.
     pub path: Items<Name>,
+}
+
+impl Drop for Place {
+    fn drop(self) {
+        let Place {
+            server: _,
+            fileset: _,
+            path: _,
+        } = self;
+    }
 }
 
 impl Plain for Place {

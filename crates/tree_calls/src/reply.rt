@@ -48,7 +48,7 @@ pub enum Refusal {
 }
 
 /// What is told of an object.
-#[derive(Drop, PartialEq)]
+#[derive(PartialEq)]
 pub struct Facts {
     /// Whether it is a directory.
     pub dir: bool,
@@ -60,8 +60,19 @@ pub struct Facts {
     pub rights: Rights,
 }
 
+impl Drop for Facts {
+    fn drop(self) {
+        let Facts {
+            dir: _,
+            length: _,
+            owner: _,
+            rights: _,
+        } = self;
+    }
+}
+
 /// The reply to a call.
-#[derive(Drop, PartialEq)]
+#[derive(PartialEq)]
 pub enum Reply {
     /// The call is done.
     Ok,
@@ -75,6 +86,19 @@ pub enum Reply {
     Access(AccessList),
     /// The call was refused, and nothing changed.
     Refused(Refusal),
+}
+
+impl Drop for Reply {
+    fn drop(self) {
+        match self {
+            Reply::Ok => {}
+            Reply::Bytes(_) => {}
+            Reply::Names(_) => {}
+            Reply::Facts(_) => {}
+            Reply::Access(_) => {}
+            Reply::Refused(_) => {}
+        }
+    }
 }
 
 impl Plain for Facts {

@@ -20,7 +20,6 @@ impl Plain for HostLine {
 }
 
 /// Who takes part in the service.
-#[derive(Drop)]
 pub struct Roster {
     /// The users.
     pub users: Items<User>,
@@ -28,6 +27,16 @@ pub struct Roster {
     pub hosts: Items<HostLine>,
     /// The capacity of each server in blocks, from number 1 on.
     pub capacity: Items<u32>,
+}
+
+impl Drop for Roster {
+    fn drop(self) {
+        let Roster {
+            users: _,
+            hosts: _,
+            capacity: _,
+        } = self;
+    }
 }
 
 impl Plain for Roster {

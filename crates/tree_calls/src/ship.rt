@@ -16,7 +16,6 @@ pub struct Record {
 }
 
 /// Whose call a fileset moves for.
-#[derive(Drop)]
 pub struct Mover {
     /// The host that called.
     pub host: HostId,
@@ -28,8 +27,18 @@ pub struct Mover {
     pub call: Call,
 }
 
+impl Drop for Mover {
+    fn drop(self) {
+        let Mover {
+            host: _,
+            number: _,
+            k: _,
+            call: _,
+        } = self;
+    }
+}
+
 /// A part of a fileset that moves between servers. Part 0 is the head; part `i` is the anode `i`.
-#[derive(Drop)]
 pub enum ShipPart {
     /// What holds for the whole fileset.
     Head {
@@ -55,6 +64,26 @@ pub enum ShipPart {
         /// The entries of a directory.
         entries: Items<DirEntry>,
     },
+}
+
+impl Drop for ShipPart {
+    fn drop(self) {
+        match self {
+            ShipPart::Head {
+                name: _,
+                objects: _,
+                records: _,
+                mover: _,
+            } => {}
+            ShipPart::Object {
+                anode: _,
+                unique: _,
+                status: _,
+                pieces: _,
+                entries: _,
+            } => {}
+        }
+    }
 }
 
 impl Plain for Record {
