@@ -4,12 +4,18 @@ ghost use Rattle.store_state.specs.Outcomes.{now_done, not_fresh};
 use tree_calls::Reply;
 
 /// What became of an act.
-#[derive(Drop, PartialEq)]
+#[derive(PartialEq)]
 pub struct Done {
     /// Whether it was done now. If not, nothing changed.
     pub fresh: bool,
     /// The reply; of a request that was decided before the one that is kept.
     pub reply: Reply,
+}
+
+impl Drop for Done {
+    fn drop(self) {
+        let Done { fresh: _, reply: _ } = self;
+    }
 }
 
 impl Done {

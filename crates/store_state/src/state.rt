@@ -44,7 +44,6 @@ pub enum Stay {
 }
 
 /// What a store keeps in a slot.
-#[derive(Drop)]
 pub struct Holding {
     /// How the fileset stays.
     pub stay: Stay,
@@ -53,6 +52,16 @@ pub struct Holding {
     pub fileset: Fileset,
     /// What is kept of each host's requests on it, from the setup host on.
     pub records: Items<Record>,
+}
+
+impl Drop for Holding {
+    fn drop(self) {
+        let Holding {
+            stay: _,
+            fileset: _,
+            records: _,
+        } = self;
+    }
 }
 
 /// The last ship that was taken from a server.

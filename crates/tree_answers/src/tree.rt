@@ -16,7 +16,6 @@ pub struct ServerRoom {
 }
 
 /// A lock in use.
-#[derive(Drop)]
 pub struct LockUse {
     /// The host that has it.
     pub host: HostId,
@@ -30,8 +29,19 @@ pub struct LockUse {
     pub span: Span,
 }
 
+impl Drop for LockUse {
+    fn drop(self) {
+        let LockUse {
+            host: _,
+            label: _,
+            fid: _,
+            writing: _,
+            span: _,
+        } = self;
+    }
+}
+
 /// An open file.
-#[derive(Drop)]
 pub struct OpenUse {
     /// The host that has it open.
     pub host: HostId,
@@ -43,8 +53,18 @@ pub struct OpenUse {
     pub kind: OpenKind,
 }
 
+impl Drop for OpenUse {
+    fn drop(self) {
+        let OpenUse {
+            host: _,
+            label: _,
+            fid: _,
+            kind: _,
+        } = self;
+    }
+}
+
 /// What a server notes of a fileset that moved away from it. A call with a place there still finds the fileset.
-#[derive(Drop)]
 pub struct Away {
     /// The server.
     pub server: ServerId,
@@ -59,9 +79,20 @@ pub struct Away {
     pub room_kept: bool,
 }
 
+impl Drop for Away {
+    fn drop(self) {
+        let Away {
+            server: _,
+            fileset: _,
+            name: _,
+            to: _,
+            room_kept: _,
+        } = self;
+    }
+}
+
 /// The file tree of the whole service (Kazar et al., "DEcorum File System Architectural Overview", 1990; Chutani et
 /// al., "The Episode File System", 1992).
-#[derive(Drop)]
 pub struct Tree {
     /// Who takes part.
     pub roster: Roster,
@@ -75,6 +106,19 @@ pub struct Tree {
     pub locks: Items<LockUse>,
     /// The open files, by host and then by label.
     pub opens: Items<OpenUse>,
+}
+
+impl Drop for Tree {
+    fn drop(self) {
+        let Tree {
+            roster: _,
+            servers: _,
+            filesets: _,
+            away: _,
+            locks: _,
+            opens: _,
+        } = self;
+    }
 }
 
 impl Plain for ServerRoom {

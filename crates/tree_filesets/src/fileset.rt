@@ -14,7 +14,6 @@ pub const MOVES_MAX: u32 = 4_294_967_295;
 
 /// A fileset: a tree of objects, which stand at anodes (Chutani et al., "The Episode File System", 1992). No function
 /// here requires that it is well formed; the laws say that a well formed one stays so.
-#[derive(Drop)]
 pub struct Fileset {
     /// The server that it is at.
     pub server: ServerId,
@@ -30,6 +29,20 @@ pub struct Fileset {
     pub moves: u32,
     /// As many anodes as it may have objects, which are counted from 1; the first is the root directory.
     pub anodes: Items<Anode>,
+}
+
+impl Drop for Fileset {
+    fn drop(self) {
+        let Fileset {
+            server: _,
+            id: _,
+            name: _,
+            read_only: _,
+            objects: _,
+            moves: _,
+            anodes: _,
+        } = self;
+    }
 }
 
 impl Fileset {

@@ -24,7 +24,6 @@ pub struct UnsavedLength {
 
 /// What an object contains. What readers see of a file, its present bytes and length, are the unsaved ones where there
 /// are any, and else the kept ones.
-#[derive(Drop)]
 pub enum Content {
     /// A directory.
     Dir {
@@ -46,8 +45,24 @@ pub enum Content {
     },
 }
 
+impl Drop for Content {
+    fn drop(self) {
+        match self {
+            Content::Dir {
+                entries: _,
+                lists: _,
+            } => {}
+            Content::File {
+                list: _,
+                kept: _,
+                unsaved: _,
+                length: _,
+            } => {}
+        }
+    }
+}
+
 /// A file or a directory.
-#[derive(Drop)]
 pub struct Object {
     /// The name of its owner.
     pub owner: Name,
@@ -57,13 +72,31 @@ pub struct Object {
     pub content: Content,
 }
 
+impl Drop for Object {
+    fn drop(self) {
+        let Object {
+            owner: _,
+            group: _,
+            content: _,
+        } = self;
+    }
+}
+
 /// A place for an object in a fileset.
-#[derive(Drop)]
 pub struct Anode {
     /// How often it has been used, the present use counted.
     pub unique: u32,
     /// The object of the present use.
     pub object: Option<Object>,
+}
+
+impl Drop for Anode {
+    fn drop(self) {
+        let Anode {
+            unique: _,
+            object: _,
+        } = self;
+    }
 }
 
 impl Plain for Unsaved {

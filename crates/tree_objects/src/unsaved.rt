@@ -44,9 +44,14 @@ use std::mem;
 
 /// The bytes of a file that aren't stored yet, in the order of their positions, each of which has at most one.
 /// Contracts see it as the list of these bytes.
-#[derive(Drop)]
 pub struct UnsavedBytes {
     bytes: Items<Unsaved>,
+}
+
+impl Drop for UnsavedBytes {
+    fn drop(self) {
+        let UnsavedBytes { bytes: _ } = self;
+    }
 }
 
 impl Model for UnsavedBytes {
