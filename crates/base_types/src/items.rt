@@ -226,6 +226,15 @@ impl<T: Copy> Items<T> {
     }
 }
 
+impl<T: Copy> Items<T> {
+    /// The same list once more, which is copied as one piece.
+    pub fn twin(&self) -> Result<Items<T>, NoMemory>
+        ensures { IfOk result (λ items. items ≡ self.now) }
+    {
+        Items::from_slice(self.alloc(), self.as_slice())
+    }
+}
+
 impl<T: Plain> Items<T> {
     /// The list of copies of these values.
     pub fn copied(alloc: Global, values: &[T]) -> Result<Items<T>, NoMemory>

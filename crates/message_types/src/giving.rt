@@ -115,7 +115,7 @@ impl Plain for Give {
         Ok(Give {
             number: self.number,
             fid: self.fid,
-            ids: self.ids.copy()?,
+            ids: self.ids.twin()?,
             pieces: self.pieces.copy()?,
             length: self.length,
             ends: self.ends.copy()?,
@@ -138,8 +138,8 @@ impl Plain for Outstanding {
 impl Plain for Reclaim {
     fn copy(&self) -> Result<Reclaim, NoMemory> {
         Ok(Reclaim {
-            tokens: self.tokens.copy()?,
-            numbers: self.numbers.copy()?,
+            tokens: self.tokens.twin()?,
+            numbers: self.numbers.twin()?,
         })
     }
 }
@@ -147,8 +147,8 @@ impl Plain for Reclaim {
 impl Plain for Reclaimed {
     fn copy(&self) -> Result<Reclaimed, NoMemory> {
         Ok(Reclaimed {
-            applied: self.applied.copy()?,
-            left_out: self.left_out.copy()?,
+            applied: self.applied.twin()?,
+            left_out: self.left_out.twin()?,
         })
     }
 }

@@ -40,7 +40,7 @@ impl Plain for Revoke {
         Ok(Revoke {
             fid: self.fid,
             stamp: self.stamp,
-            ids: self.ids.copy()?,
+            ids: self.ids.twin()?,
         })
     }
 }
@@ -49,7 +49,7 @@ impl Plain for Named {
     fn copy(&self) -> Result<Named, NoMemory> {
         Ok(Named {
             fid: self.fid,
-            ids: self.ids.copy()?,
+            ids: self.ids.twin()?,
         })
     }
 }

@@ -270,7 +270,7 @@ impl Plain for Call {
                 let Ok(place) = place.copy() else {
                     return Err(NoMemory);
                 };
-                let Ok(bytes) = bytes.copy() else {
+                let Ok(bytes) = bytes.twin() else {
                     return Err(NoMemory);
                 };
                 Call::Write {
