@@ -18,7 +18,7 @@ use base_types::{FilesetId, Name, OBJECTS_MAX};
 use disk_layout::{PAGE, u32_at, u64_at};
 
 /// The state of a slot.
-#[derive(Clone, Copy, Debug, PartialEq, Eq)]
+#[derive(Clone, Copy, PartialEq, Eq)]
 pub enum SlotState {
     /// It has no fileset.
     Free,

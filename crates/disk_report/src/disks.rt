@@ -10,7 +10,7 @@ use std::alloc::Global;
 use std::thread::Threads;
 
 /// Why there are no reports.
-#[derive(Clone, Copy, Debug)]
+#[derive(Clone, Copy)]
 pub enum Stopped {
     /// The disk of this number, from 1, failed, and failed again when it was looked at once more.
     Failed(usize),

@@ -12,7 +12,7 @@ use std::alloc::Global;
 use std::thread::Threads;
 
 /// What a check finds on a disk.
-#[derive(Debug, Drop)]
+#[derive(Drop)]
 pub enum Report {
     /// Nobody formatted the disk, or its format was stopped.
     Blank,

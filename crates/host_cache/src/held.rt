@@ -5,7 +5,7 @@ ghost use Rattle.host_cache.specs.Holding.{kind_has_byte, is_status, helps, help
 use token_types::{Kind, Need, Token};
 
 /// A token that is held.
-#[derive(Clone, Copy, Debug, PartialEq)]
+#[derive(Clone, Copy, PartialEq)]
 pub struct Held {
     /// The token.
     pub token: Token,

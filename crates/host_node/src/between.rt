@@ -17,7 +17,7 @@ use std::alloc::Global;
 use tree_calls::{Call, Reply};
 
 /// What became of a call between turns.
-#[derive(Clone, Copy, Debug, PartialEq)]
+#[derive(Clone, Copy, PartialEq)]
 pub enum Spoken {
     /// It is answered: so long is the spelling of the reply.
     Answered(usize),

@@ -20,7 +20,7 @@ pub enum Given {
 }
 
 /// Which of these it is.
-#[derive(Clone, Copy, Debug, PartialEq, Eq)]
+#[derive(Clone, Copy, PartialEq, Eq)]
 pub enum Gift {
     /// The earliest copy for the node that may arrive.
     Message,
@@ -44,7 +44,7 @@ pub struct Turn {
 }
 
 /// What a node's turn has come to.
-#[derive(Clone, Copy, Debug, PartialEq, Eq)]
+#[derive(Clone, Copy, PartialEq, Eq)]
 pub enum Turned {
     /// It did something.
     Worked,

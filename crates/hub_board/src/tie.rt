@@ -9,7 +9,7 @@ use run_rules::Cause;
 use std::alloc::Global;
 
 /// What the setup host has with a server.
-#[derive(Clone, Copy, Debug, PartialEq, Eq)]
+#[derive(Clone, Copy, PartialEq, Eq)]
 pub enum Tie {
     /// Nothing.
     Apart,

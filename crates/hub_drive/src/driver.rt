@@ -24,7 +24,7 @@ use std::thread::Threads;
 use tree_answers::Tree;
 
 /// Why a run came to no end.
-#[derive(Clone, Copy, Debug, PartialEq, Eq)]
+#[derive(Clone, Copy, PartialEq, Eq)]
 pub enum DriveFault {
     /// The store of the node at this place failed twice.
     Store(usize),
@@ -37,7 +37,7 @@ pub enum DriveFault {
 }
 
 /// A node, and its next line. What it waits for no clause says.
-#[derive(Clone, Copy, Debug, PartialEq, Eq)]
+#[derive(Clone, Copy, PartialEq, Eq)]
 pub struct Waiting {
     /// Its place among the nodes.
     pub node: usize,

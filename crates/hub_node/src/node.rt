@@ -9,7 +9,7 @@ ghost use Rattle.hub_node.specs.declared.node.NodeFault.TheVariants.{Memory};
 use hub_turns::{Given, Pending, Turned};
 
 /// Why a node can't go on.
-#[derive(Clone, Copy, Debug, PartialEq, Eq)]
+#[derive(Clone, Copy, PartialEq, Eq)]
 pub enum NodeFault {
     /// The disk of its store failed twice.
     Store,

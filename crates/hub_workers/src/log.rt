@@ -6,7 +6,7 @@ use std::alloc::Global;
 use std::marker::Model;
 
 /// An entry of the list.
-#[derive(Clone, Copy, Debug, PartialEq, Eq)]
+#[derive(Clone, Copy, PartialEq, Eq)]
 pub struct Entry {
     /// The number of the worker that made it, from 0.
     pub worker: u32,

@@ -6,7 +6,7 @@ use crate::tokens::{Named, Revoke};
 use base_types::{HostId, NoMemory, Plain, ServerId};
 
 /// From whom to whom a message goes.
-#[derive(Clone, Copy, Debug, PartialEq, Eq)]
+#[derive(Clone, Copy, PartialEq, Eq)]
 pub enum Direction {
     /// From its host to its server.
     ToServer,

@@ -4,7 +4,7 @@ use token_types::{Need, Token};
 use tree_calls::{Call, Reply};
 
 /// Why a token leaves its host.
-#[derive(Clone, Copy, Debug, PartialEq, Eq)]
+#[derive(Clone, Copy, PartialEq, Eq)]
 pub enum Why {
     /// The server asked for it.
     Revoked,

@@ -31,7 +31,7 @@ pub enum Fate {
 }
 
 /// How many messages the net line of a script lets be lost, repeated and delayed yet.
-#[derive(Clone, Copy, Debug, PartialEq, Eq)]
+#[derive(Clone, Copy, PartialEq, Eq)]
 pub struct Left {
     /// So many may be lost.
     pub losses: u32,

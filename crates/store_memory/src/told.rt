@@ -4,7 +4,7 @@ use tree_calls::Refusal;
 use tree_filesets::Fileset;
 
 /// Where a place leads.
-#[derive(Clone, Copy, Debug, PartialEq)]
+#[derive(Clone, Copy, PartialEq)]
 pub enum Looked {
     /// To this object.
     Found(Fid),

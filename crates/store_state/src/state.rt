@@ -7,7 +7,7 @@ use tree_calls::{Record, Roster};
 use tree_filesets::Fileset;
 
 /// What a server knows of a host.
-#[derive(Clone, Copy, Debug, PartialEq)]
+#[derive(Clone, Copy, PartialEq)]
 pub enum HostState {
     /// It hasn't come yet.
     Unknown,
@@ -20,7 +20,7 @@ pub enum HostState {
 }
 
 /// How a fileset stays in a slot of a store.
-#[derive(Clone, Copy, Debug, PartialEq)]
+#[derive(Clone, Copy, PartialEq)]
 pub enum Stay {
     /// It is here, and may be changed.
     Writable,
@@ -65,7 +65,7 @@ impl Drop for Holding {
 }
 
 /// The last ship that was taken from a server.
-#[derive(Clone, Copy, Debug, PartialEq)]
+#[derive(Clone, Copy, PartialEq)]
 pub struct TakenShip {
     /// Its number among the ships of that server, 0 for none.
     pub ship: u64,

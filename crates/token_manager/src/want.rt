@@ -41,7 +41,7 @@ pub enum Ready {
 }
 
 /// What can become of a queued want as things are.
-#[derive(Clone, Copy, Debug, PartialEq)]
+#[derive(Clone, Copy, PartialEq)]
 pub enum Outlook {
     /// It has to wait.
     Waits,
@@ -52,7 +52,7 @@ pub enum Outlook {
 }
 
 /// A granted token that queued wants ask back.
-#[derive(Clone, Copy, Debug, PartialEq)]
+#[derive(Clone, Copy, PartialEq)]
 pub struct Wanted {
     pub token: Token,
     /// Whether its host was asked for it before.

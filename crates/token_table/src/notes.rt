@@ -13,7 +13,7 @@ use token_types::{Token, TokenId};
 type NoteKey = (u8, (u64, u64));
 
 /// What is noted of a granted token.
-#[derive(Clone, Copy, Debug, PartialEq)]
+#[derive(Clone, Copy, PartialEq)]
 pub struct Note {
     pub host: HostId,
     /// The number of the want by which it was granted; None where it was claimed again after a restart.

@@ -4,7 +4,7 @@ use base_types::{Fid, HostId, NoMemory, OpenKind, Plain, ServerId, Span};
 
 /// The number of a token: the server that granted it, the server's epoch then, and the place in the order of its
 /// grants of that epoch. It is never used again, and stays the same when the token is reclaimed.
-#[derive(Clone, Copy, Debug, PartialEq)]
+#[derive(Clone, Copy, PartialEq)]
 pub struct TokenId {
     pub server: ServerId,
     pub epoch: u64,
@@ -12,7 +12,7 @@ pub struct TokenId {
 }
 
 /// What a token lets its host do with an object. Spans are in bytes.
-#[derive(Clone, Copy, Debug, PartialEq)]
+#[derive(Clone, Copy, PartialEq)]
 pub enum Kind {
     /// To cache these bytes of a file, or the entries of a directory, for reading or for update.
     Bytes { update: bool, span: Span },
@@ -25,7 +25,7 @@ pub enum Kind {
 }
 
 /// A token as a server granted it to a host.
-#[derive(Clone, Copy, Debug, PartialEq)]
+#[derive(Clone, Copy, PartialEq)]
 pub struct Token {
     pub id: TokenId,
     pub host: HostId,
@@ -34,7 +34,7 @@ pub struct Token {
 }
 
 /// What a host wants to do with an object.
-#[derive(Clone, Copy, Debug, PartialEq)]
+#[derive(Clone, Copy, PartialEq)]
 pub struct Need {
     pub fid: Fid,
     pub kind: Kind,
