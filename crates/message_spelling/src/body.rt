@@ -1,6 +1,11 @@
 ghost use Rattle.std.specs.Prelude.{◌≡◌, ◌++◌, OnOk};
 ghost use Rattle.message_parts.specs.Reading.{Gives};
+ghost use Rattle.message_parts.specs.Spelled.{◌&◌};
+ghost use Rattle.message_parts.specs.Words.{spell_u32};
+ghost use Rattle.message_types.specs.declared.message.Body.TheVariants.{NotHere as IsAway, Ship as IsShip};
 ghost use Rattle.message_spelling.specs.Bodies.{body_tag, body_fields};
+ghost use Rattle.message_spelling.specs.Bodies.{spell_change, spell_done, spell_fetch, spell_give, spell_gone};
+ghost use Rattle.message_spelling.specs.Bodies.{spell_grant, spell_named, spell_revoke};
 ghost use Rattle.message_spelling.specs.Readings.{
   body_of,
   with_moves_at,
@@ -31,7 +36,9 @@ use crate::telling::{done_at, grant_at, write_done, write_grant};
 use crate::tokens::{named_at, revoke_at, write_named, write_revoke};
 use base_types::{FilesetId, Items, NoMemory, ServerId};
 use message_parts::{Part, Stopped};
-use message_types::{Body, NotHere, Ship};
+use message_types::{
+    AppliedGive, Body, Change, Done, Fetch, Give, Grant, Named, NotHere, Revoke, Ship,
+};
 use std::alloc::Global;
 
 /// The number of its kind.
@@ -67,62 +74,101 @@ pub fn write_body(moves: u32, body: &Body, out: &mut Items<u8>) -> Result<(), No
 {
     match body {
         Body::Hello => Ok(()),
-        Body::Fetch(fetch) => {
-            write_fetch(fetch, out)?;
-            moves.write(out)
-        }
-        Body::Grant(grant) => {
-            write_grant(grant, out)?;
-            moves.write(out)
-        }
-        Body::Change(change) => {
-            write_change(change, out)?;
-            moves.write(out)
-        }
-        Body::Done(done) => {
-            write_done(done, out)?;
-            moves.write(out)
-        }
-        Body::Revoke(revoke) => {
-            write_revoke(revoke, out)?;
-            moves.write(out)
-        }
-        Body::Returned(named) => {
-            write_named(named, out)?;
-            moves.write(out)
-        }
-        Body::Kept(named) => {
-            write_named(named, out)?;
-            moves.write(out)
-        }
-        Body::GiveBack(give) => {
-            write_give(give, out)?;
-            moves.write(out)
-        }
-        Body::Gone(gone) => {
-            write_gone(gone, out)?;
-            moves.write(out)
-        }
+        Body::Fetch(fetch) => tell_fetch(moves, fetch, out),
+        Body::Grant(grant) => tell_grant(moves, grant, out),
+        Body::Change(change) => tell_change(moves, change, out),
+        Body::Done(done) => tell_done(moves, done, out),
+        Body::Revoke(revoke) => tell_revoke(moves, revoke, out),
+        Body::Returned(named) => tell_named(moves, named, out),
+        Body::Kept(named) => tell_named(moves, named, out),
+        Body::GiveBack(give) => tell_give(moves, give, out),
+        Body::Gone(gone) => tell_gone(moves, gone, out),
         Body::Reclaim(reclaim) => write_reclaim(reclaim, out),
         Body::Reclaimed(reclaimed) => write_reclaimed(reclaimed, out),
         Body::Restarted => Ok(()),
         Body::Down => Ok(()),
         Body::Bye => Ok(()),
-        Body::NotHere(not_here) => {
-            not_here.fileset.write(out)?;
-            moves.write(out)?;
-            not_here.to.write(out)
-        }
-        Body::Ship(ship) => {
-            ship.to.write(out)?;
-            ship.ship.write(out)?;
-            ship.fileset.write(out)?;
-            moves.write(out)?;
-            ship.at.write(out)?;
-            write_part(&ship.part, out)
-        }
+        Body::NotHere(not_here) => tell_not_here(moves, not_here, out),
+        Body::Ship(ship) => tell_ship(moves, ship, out),
         Body::Shipped(shipped) => write_shipped(shipped, out),
     }
+}
+
+fn tell_fetch(moves: u32, fetch: &Fetch, out: &mut Items<u8>) -> Result<(), NoMemory>
+    ensures { OnOk result (out.new ≡ out.old ++ (spell_fetch fetch.now & spell_u32 moves).bytes) }
+{
+    write_fetch(fetch, out)?;
+    moves.write(out)
+}
+
+fn tell_grant(moves: u32, grant: &Grant, out: &mut Items<u8>) -> Result<(), NoMemory>
+    ensures { OnOk result (out.new ≡ out.old ++ (spell_grant grant.now & spell_u32 moves).bytes) }
+{
+    write_grant(grant, out)?;
+    moves.write(out)
+}
+
+fn tell_change(moves: u32, change: &Change, out: &mut Items<u8>) -> Result<(), NoMemory>
+    ensures { OnOk result (out.new ≡ out.old ++ (spell_change change.now & spell_u32 moves).bytes) }
+{
+    write_change(change, out)?;
+    moves.write(out)
+}
+
+fn tell_done(moves: u32, done: &Done, out: &mut Items<u8>) -> Result<(), NoMemory>
+    ensures { OnOk result (out.new ≡ out.old ++ (spell_done done.now & spell_u32 moves).bytes) }
+{
+    write_done(done, out)?;
+    moves.write(out)
+}
+
+fn tell_revoke(moves: u32, revoke: &Revoke, out: &mut Items<u8>) -> Result<(), NoMemory>
+    ensures { OnOk result (out.new ≡ out.old ++ (spell_revoke revoke.now & spell_u32 moves).bytes) }
+{
+    write_revoke(revoke, out)?;
+    moves.write(out)
+}
+
+fn tell_named(moves: u32, named: &Named, out: &mut Items<u8>) -> Result<(), NoMemory>
+    ensures { OnOk result (out.new ≡ out.old ++ (spell_named named.now & spell_u32 moves).bytes) }
+{
+    write_named(named, out)?;
+    moves.write(out)
+}
+
+fn tell_give(moves: u32, give: &Give, out: &mut Items<u8>) -> Result<(), NoMemory>
+    ensures { OnOk result (out.new ≡ out.old ++ (spell_give give.now & spell_u32 moves).bytes) }
+{
+    write_give(give, out)?;
+    moves.write(out)
+}
+
+fn tell_gone(moves: u32, gone: &AppliedGive, out: &mut Items<u8>) -> Result<(), NoMemory>
+    ensures { OnOk result (out.new ≡ out.old ++ (spell_gone gone.now & spell_u32 moves).bytes) }
+{
+    write_gone(gone, out)?;
+    moves.write(out)
+}
+
+#[tactic(auto, unfolding(crate::specs::Bodies::body_fields))]
+fn tell_not_here(moves: u32, not_here: &NotHere, out: &mut Items<u8>) -> Result<(), NoMemory>
+    ensures { OnOk result (out.new ≡ out.old ++ (body_fields moves (IsAway not_here.now)).bytes) }
+{
+    not_here.fileset.write(out)?;
+    moves.write(out)?;
+    not_here.to.write(out)
+}
+
+#[tactic(auto, unfolding(crate::specs::Bodies::body_fields))]
+fn tell_ship(moves: u32, ship: &Ship, out: &mut Items<u8>) -> Result<(), NoMemory>
+    ensures { OnOk result (out.new ≡ out.old ++ (body_fields moves (IsShip ship.now)).bytes) }
+{
+    ship.to.write(out)?;
+    ship.ship.write(out)?;
+    ship.fileset.write(out)?;
+    moves.write(out)?;
+    ship.at.write(out)?;
+    write_part(&ship.part, out)
 }
 
 /// Reads the moves that stand behind what was read.
