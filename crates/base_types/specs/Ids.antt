@@ -1,4 +1,4 @@
-use Rattle.std.specs.Prelude.{Bool, ◌==◌, ◌&&◌, nat_eq}
+use Rattle.std.specs.Prelude.{Bool, ◌==◌, ◌&&◌}
 use Rattle.base_types.specs.declared.ids.Fid.{Fid}
 
 -- whether two fids are the same

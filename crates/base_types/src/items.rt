@@ -216,6 +216,13 @@ impl<T: Copy> Items<T> {
         })
     }
 
+    /// The same list once more, copied as one piece (`copy` goes by elements).
+    pub fn to_items(&self) -> Result<Items<T>, NoMemory>
+        ensures { IfOk result (λ items. items ≡ self.now) }
+    {
+        Items::from_slice(self.alloc(), self.as_slice())
+    }
+
     /// Adds these values at the end.
     pub fn extend(&mut self, values: &[T]) -> Result<(), NoMemory>
         ensures ok { OnOk result (self.new ≡ self.old ++ values.now) }
@@ -223,15 +230,6 @@ impl<T: Copy> Items<T> {
     {
         self.elements.extend_from_slice(values)?;
         Ok(())
-    }
-}
-
-impl<T: Copy> Items<T> {
-    /// The same list once more, which is copied as one piece.
-    pub fn twin(&self) -> Result<Items<T>, NoMemory>
-        ensures { IfOk result (λ items. items ≡ self.now) }
-    {
-        Items::from_slice(self.alloc(), self.as_slice())
     }
 }
 

@@ -103,7 +103,7 @@ fn has_separator(bytes: &[u8]) -> bool
 impl Plain for Name {
     fn copy(&self) -> Result<Name, NoMemory> {
         Ok(Name {
-            bytes: self.bytes.twin()?,
+            bytes: self.bytes.to_items()?,
         })
     }
 }

@@ -56,7 +56,7 @@ impl Plain for Fetch {
         Ok(Fetch {
             number: self.number,
             fid: self.fid,
-            needs: self.needs.twin()?,
+            needs: self.needs.to_items()?,
         })
     }
 }

@@ -115,7 +115,7 @@ impl Plain for Give {
         Ok(Give {
             number: self.number,
             fid: self.fid,
-            ids: self.ids.twin()?,
+            ids: self.ids.to_items()?,
             pieces: self.pieces.copy()?,
             length: self.length,
             ends: self.ends.copy()?,
@@ -138,8 +138,8 @@ impl Plain for Outstanding {
 impl Plain for Reclaim {
     fn copy(&self) -> Result<Reclaim, NoMemory> {
         Ok(Reclaim {
-            tokens: self.tokens.twin()?,
-            numbers: self.numbers.twin()?,
+            tokens: self.tokens.to_items()?,
+            numbers: self.numbers.to_items()?,
         })
     }
 }
@@ -147,8 +147,8 @@ impl Plain for Reclaim {
 impl Plain for Reclaimed {
     fn copy(&self) -> Result<Reclaimed, NoMemory> {
         Ok(Reclaimed {
-            applied: self.applied.twin()?,
-            left_out: self.left_out.twin()?,
+            applied: self.applied.to_items()?,
+            left_out: self.left_out.to_items()?,
         })
     }
 }

@@ -100,7 +100,7 @@ impl Plain for Bring {
             number: self.number,
             fid: self.fid,
             stamp: self.stamp,
-            tokens: self.tokens.twin()?,
+            tokens: self.tokens.to_items()?,
         })
     }
 }

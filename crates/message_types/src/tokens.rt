@@ -40,7 +40,7 @@ impl Plain for Revoke {
         Ok(Revoke {
             fid: self.fid,
             stamp: self.stamp,
-            ids: self.ids.twin()?,
+            ids: self.ids.to_items()?,
         })
     }
 }
@@ -49,7 +49,7 @@ impl Plain for Named {
     fn copy(&self) -> Result<Named, NoMemory> {
         Ok(Named {
             fid: self.fid,
-            ids: self.ids.twin()?,
+            ids: self.ids.to_items()?,
         })
     }
 }

@@ -270,7 +270,7 @@ impl Plain for Call {
                 let Ok(place) = place.copy() else {
                     return Err(NoMemory);
                 };
-                let Ok(bytes) = bytes.twin() else {
+                let Ok(bytes) = bytes.to_items() else {
                     return Err(NoMemory);
                 };
                 Call::Write {

@@ -67,7 +67,7 @@ impl Plain for Piece {
     fn copy(&self) -> Result<Piece, NoMemory> {
         Ok(Piece {
             from: self.from,
-            bytes: self.bytes.twin()?,
+            bytes: self.bytes.to_items()?,
         })
     }
 }

@@ -116,7 +116,7 @@ impl Plain for Reply {
     fn copy(&self) -> Result<Reply, NoMemory> {
         Ok(match self {
             Reply::Ok => Reply::Ok,
-            Reply::Bytes(bytes) => Reply::Bytes(bytes.twin()?),
+            Reply::Bytes(bytes) => Reply::Bytes(bytes.to_items()?),
             Reply::Names(names) => Reply::Names(names.copy()?),
             Reply::Facts(facts) => Reply::Facts(facts.copy()?),
             Reply::Access(list) => Reply::Access(list.copy()?),

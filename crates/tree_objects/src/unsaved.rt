@@ -155,7 +155,7 @@ impl UnsavedBytes {
 impl Plain for UnsavedBytes {
     fn copy(&self) -> Result<UnsavedBytes, NoMemory> {
         Ok(UnsavedBytes {
-            bytes: self.bytes.twin()?,
+            bytes: self.bytes.to_items()?,
         })
     }
 }
