@@ -102,6 +102,21 @@ pub struct Wanted {
     pub needs: Items<Need>,
 }
 
+impl Wanted {
+    /// The request alone.
+    pub fn into_request(self) -> Request
+        ensures { result ≡ self.request }
+    {
+        let Wanted {
+            host: _,
+            request,
+            moves: _,
+            needs: _,
+        } = self;
+        request
+    }
+}
+
 impl Drop for Wanted {
     fn drop(self) {
         let Wanted {

@@ -399,7 +399,7 @@ fn make_anew(
     let fresh = draft.fresh;
     let number = pending.number;
     let wanted = pending.wanted;
-    enqueue(tables, draft, wanted.host, wanted.request, needs)?;
+    enqueue(tables, draft, wanted.host, wanted.into_request(), needs)?;
     keep_fresh(draft, fresh, number);
     Ok(())
 }
