@@ -49,6 +49,10 @@ some_told : (k t : Bool) (new old : ℕ) →
 some_told true t new old = refl
 some_told false t new old = refl
 
+neither : (a b : Bool) → (a || b) ≡ false → (a ≡ false) × (b ≡ false)
+neither true b e = absurd (grind (arith, e))
+neither false b e = (refl, e)
+
 -- the token that is added
 abbrev pub new_held : Token → Option StatusOf → Held
 new_held token status =
@@ -79,6 +83,15 @@ module _ (held : List Held) (files files' : Files) (inv : IsKept held files) (to
               (learns_roomy (parts_at files (file_key token.fid)) (parts_at files' (file_key token.fid)) token told
               pieces names own fits (inv.room (file_key token.fid)))
           | false ↦ λ e. subst IsRoomy (sym (others key e)) (inv.room key)
+        ] refl;
+    told = λ fid. elim (same_fid token.fid fid) as (λ b. same_fid token.fid fid ≡ b →
+        ((b && is_some told) || tells held fid) ≡ false → (parts_at files' (file_key fid)).status ≡ None) [
+          | true ↦ λ e none. let k = key_same (file_key token.fid) (file_key fid) e in
+              let apart = neither (is_some told) (tells held fid) none in
+              ap (λ (q : FileKey). (parts_at files' q).status) (sym k) ∙ own.status
+              ∙ ap (λ b. if b then told else (parts_at files (file_key token.fid)).status) apart.0
+              ∙ ap (λ (q : FileKey). (parts_at files q).status) k ∙ inv.told fid apart.1
+          | false ↦ λ e none. ap (λ (p : Parts). p.status) (others (file_key fid) e) ∙ inv.told fid none
         ] refl;
   }
 

@@ -10,12 +10,14 @@ use Rattle.token_types.specs.Conflicts.{same_id}
 use Rattle.token_types.specs.declared.token.Token.{Token}
 use Rattle.token_types.specs.declared.token.TokenId.{TokenId}
 use Rattle.host_cache.specs.declared.held.Held.{Held}
-use Rattle.host_cache.specs.Holding.{is_id, without_id, tokens_of, kind_has_byte, shows_byte, tells_of, IsOnce}
-use Rattle.host_cache.specs.Files.{FileKey, file_key, same_key, parts_at, Puts, left, without_token, IsRoomy}
+use Rattle.host_cache.specs.Holding.{is_id, without_id, tokens_of, kind_has_byte, shows_byte, tells_at, tells_of}
+use Rattle.host_cache.specs.Holding.{IsOnce}
+use Rattle.host_cache.specs.Files.{FileKey, file_key, same_key, parts_at, Puts, left, told_by, without_token, IsRoomy}
 use Rattle.host_cache.specs.Parts.{Parts}
 use Rattle.host_cache.specs.Seen.{seen, tells, shows, after_drop, of_key, IsKept}
-use Rattle.host_cache.proofs.Filing.{each_key, left_roomy, left_some, left_none}
-use Rattle.host_cache.proofs.Lists.{filters_turned, filter-map, none_kept}
+use Rattle.host_cache.proofs.Filing.{each_key, key_same, left_roomy, left_some, left_none, put_here, put_elsewhere}
+use Rattle.host_cache.proofs.Lists.{any_kept, filters_turned, filter-map, none_kept}
+use Rattle.host_cache.proofs.Adding.{tells_is}
 use Rattle.host_cache.proofs.Seeing.{Files, kept, seen_is, AreAlike, alike_same}
 
 -- one passes at most, and this one does
@@ -66,6 +68,10 @@ tokens_many : (held : List Held) → length (tokens_of held) ≡ length held
 tokens_many [] = refl
 tokens_many (h ∷ held) = ap (λ (n : ℕ). suc n) (tokens_many held)
 
+twice : {A : Type 0} (b : Bool) (x none : A) → (if b then x else none) ≡ (if b then (if b then x else none) else none)
+twice true x none = refl
+twice false x none = refl
+
 module _ (held : List Held) (files files' : Files) (inv : IsKept held files) (id : TokenId) (h : Held)
     (once : IsOnce held) (there : find (is_id id) held ≡ Some h)
     (put : Puts files (file_key h.token.fid) (left (without_token id (parts_at files (file_key h.token.fid))))
@@ -106,15 +112,16 @@ module _ (held : List Held) (files files' : Files) (inv : IsKept held files) (id
           let k : length p.tokens ≡ suc (length ts) = ap (λ (l : List Token). length l) e in
           ap (λ (q : Parts). q.tokens) (left_some p (omega (arith, k)))
 
-  pub dropped_kept : IsKept rest files'
-  dropped_kept = record {
-    tokens = each_key files files' key (left fewer_parts) put (λ k parts. parts.tokens ≡ tokens_of (of_key k rest))
-        (left_tokens fewer_parts ∙ ap (filter (λ (t : Token). not (same_id t.id id))) (inv.tokens key)
-        ∙ tokens_rest key)
-        (λ other apart. inv.tokens other ∙ ap tokens_of (sym (others_rest other apart)));
-    room = each_key files files' key (left fewer_parts) put (λ k parts. IsRoomy parts)
-        (left_roomy (parts_at files key) id (inv.room key)) (λ other apart. inv.room other);
-  }
+  dropped_tokens : (k : FileKey) → (parts_at files' k).tokens ≡ tokens_of (of_key k rest)
+  dropped_tokens =
+      each_key files files' key (left fewer_parts) put (λ k parts. parts.tokens ≡ tokens_of (of_key k rest))
+      (left_tokens fewer_parts ∙ ap (filter (λ (t : Token). not (same_id t.id id))) (inv.tokens key)
+      ∙ tokens_rest key)
+      (λ other apart. inv.tokens other ∙ ap tokens_of (sym (others_rest other apart)))
+
+  dropped_room : (k : FileKey) → IsRoomy (parts_at files' k)
+  dropped_room = each_key files files' key (left fewer_parts) put (λ k parts. IsRoomy parts)
+      (left_roomy (parts_at files key) id (inv.room key)) (λ other apart. inv.room other)
 
   -- of a file of which a token is left the same is kept
   alike : (k : FileKey) → 0 < length (of_key k rest) → AreAlike (parts_at files' k) (parts_at files k)
@@ -144,7 +151,7 @@ module _ (held : List Held) (files files' : Files) (inv : IsKept held files) (id
       same_key (file_key x.token.fid) (file_key fid) ≡ true
   own_shows fid at x e = (and_parts (same_fid x.token.fid fid) (kind_has_byte at x.token.kind) e).0
 
-  pub dropped_seen : seen (kept rest files') ≡ after_drop (seen (kept held files)) id
+  dropped_seen : seen (kept rest files') ≡ after_drop (seen (kept held files)) id
   dropped_seen =
       seen_is (seen (kept rest files')) (after_drop (seen (kept held files)) id) refl
       (λ fid. under (tells rest fid) (tells held fid) (parts_at files' (file_key fid)).status
@@ -161,6 +168,73 @@ module _ (held : List Held) (files files' : Files) (inv : IsKept held files) (id
       (any_fewer (shows_byte fid at) (λ x. not (is_id id x)) held)
       (λ e. ap (λ (n : ℕ). Some n) ((alike (file_key fid) (any_length (shows_byte fid at)
       (λ x. same_key (file_key x.token.fid) (file_key fid)) (own_shows fid at) rest e)).bytes at)))
+
+  -- then its status is forgotten, where none of its tokens came with one
+  module _ (last : Files) (single : IsOnce rest)
+      (gone : Puts files' key (told_by rest (parts_at files' key)) last) where
+    told_here : (fid : Fid) → key ≡ file_key fid → list_any (λ (t : Token). tells_at rest t.id) (parts_at files'
+        key).tokens ≡ tells rest fid
+    told_here fid k =
+        ap (list_any (λ (t : Token). tells_at rest t.id)) (dropped_tokens key)
+        ∙ ap (λ q. list_any (λ (t : Token). tells_at rest t.id) (tokens_of (of_key q rest))) k
+        ∙ tells_is rest fid single
+
+    here : (fid : Fid) → key ≡ file_key fid → (parts_at last (file_key fid)).status
+        ≡ (if tells rest fid then (parts_at files' (file_key fid)).status else None)
+    here fid k =
+        ap (λ q. (parts_at last q).status) (sym k)
+        ∙ ap (λ (p : Parts). p.status) (put_here files' last key (told_by rest (parts_at files' key)) gone)
+        ∙ ap (λ b. if b then (parts_at files' key).status else None) (told_here fid k)
+        ∙ ap (λ q. if tells rest fid then (parts_at files' q).status else None) k
+
+    others_tell : (fid : Fid) → same_key key (file_key fid) ≡ false → tells held fid ≡ tells rest fid
+    others_tell fid apart =
+        sym (any_kept (tells_of fid) (λ x. same_key (file_key x.token.fid) (file_key fid)) (own_tells fid) held)
+        ∙ ap (list_any (tells_of fid)) (sym (others_rest (file_key fid) apart))
+        ∙ any_kept (tells_of fid) (λ x. same_key (file_key x.token.fid) (file_key fid)) (own_tells fid) rest
+
+    pub forgot_kept : IsKept rest last
+    forgot_kept = record {
+      tokens = each_key files' last key (told_by rest (parts_at files' key)) gone
+          (λ k parts. parts.tokens ≡ tokens_of (of_key k rest)) (dropped_tokens key) (λ other apart. dropped_tokens
+          other);
+      room = each_key files' last key (told_by rest (parts_at files' key)) gone (λ k parts. IsRoomy parts)
+          (dropped_room key) (λ other apart. dropped_room other);
+      told = λ fid none. elim (same_key key (file_key fid)) as (λ b. same_key key (file_key fid) ≡ b →
+          (parts_at last (file_key fid)).status ≡ None) [
+            | true ↦ λ e. here fid (key_same key (file_key fid) e)
+                ∙ ap (λ b. if b then (parts_at files' (file_key fid)).status else None) none
+            | false ↦ λ e.
+                ap (λ (p : Parts). p.status) (put_elsewhere files' last key (told_by rest (parts_at files' key)) gone
+                (file_key fid) e)
+                ∙ ap (λ (p : Parts). p.status) (put_elsewhere files files' key (left fewer_parts) put (file_key fid) e)
+                ∙ inv.told fid (others_tell fid e ∙ none)
+          ] refl;
+    }
+
+    forgot_status : (fid : Fid) → (seen (kept rest last)).status fid ≡ (seen (kept rest files')).status fid
+    forgot_status fid = elim (same_key key (file_key fid)) as (λ b. same_key key (file_key fid) ≡ b →
+        (if tells rest fid then (parts_at last (file_key fid)).status else None)
+        ≡ (if tells rest fid then (parts_at files' (file_key fid)).status else None)) [
+          | true ↦ λ e. ap (λ s. if tells rest fid then s else None) (here fid (key_same key (file_key fid) e))
+              ∙ sym (twice (tells rest fid) (parts_at files' (file_key fid)).status None)
+          | false ↦ λ e. ap (λ (p : Parts). if tells rest fid then p.status else None)
+              (put_elsewhere files' last key (told_by rest (parts_at files' key)) gone (file_key fid) e)
+        ] refl
+
+    forgot_rest : (k : FileKey) → ((parts_at last k).entries ≡ (parts_at files' k).entries)
+        × ((parts_at last k).bytes ≡ (parts_at files' k).bytes)
+    forgot_rest = each_key files' last key (told_by rest (parts_at files' key)) gone
+        (λ k parts. (parts.entries ≡ (parts_at files' k).entries) × (parts.bytes ≡ (parts_at files' k).bytes))
+        (refl, refl) (λ other apart. (refl, refl))
+
+    pub forgot_seen : seen (kept rest last) ≡ after_drop (seen (kept held files)) id
+    forgot_seen =
+        seen_is (seen (kept rest last)) (seen (kept rest files')) refl forgot_status
+        (λ fid. ap (λ es. if shows rest fid 0 then es else []) (forgot_rest (file_key fid)).0)
+        (λ fid at. ap (λ (l : List ℕ). if shows rest fid at then Some (byte_at l at) else None)
+        (forgot_rest (file_key fid)).1)
+        ∙ dropped_seen
 
 -- where no token has the number, nothing changes
 pub nothing_dropped : (held : List Held) (files : Files) (id : TokenId) → without_id id held ≡ held →
@@ -179,8 +253,3 @@ nothing_dropped held files id same =
     ∙ ap (λ hs. if shows hs fid at then (if shows held fid at then Some (byte_at (parts_at files (file_key
     fid)).bytes at)
     else None) else None) (sym same))
-  where
-    twice : {A : Type 0} (b : Bool) (x none : A) → (if b then x else none) ≡ (if b then (if b then x else none) else
-        none)
-    twice true x none = refl
-    twice false x none = refl

@@ -3,7 +3,7 @@ use Rattle.std.proofs.Common.{◌≡◌, ◌≤◌, ◌<◌, ℕ, zero, suc, Boo
 use Rattle.std.proofs.Common.{not, cond, ◌&&◌, ◌==◌, List, [], length, Option, Some}
 use Rattle.std.proofs.Common.{None, refl, sym, ap, ◌∙◌, subst, arith, if◌then◌else◌, unwrap_or}
 use Rattle.std.proofs.Common.{is_some, ne_eqb, All, IsSome, Result, Ok, Err, OnErr, OnOk}
-use Rattle.std.specs.List.{filter}
+use Rattle.std.specs.List.{filter, list_any}
 use Rattle.std.specs.Map.{lookup}
 use Rattle.std.proofs.lemmas.Bool.{eqb-true, and_parts, cond-false}
 use Rattle.std.proofs.lemmas.Bool.Decides.{nat_tests}
@@ -17,8 +17,9 @@ use Rattle.token_types.specs.declared.token.Kind.TheVariants.{Bytes, Status, Loc
 use Rattle.token_types.specs.declared.token.Need.{Need}
 use Rattle.token_types.specs.declared.token.Token.{Token}
 use Rattle.token_types.specs.declared.token.TokenId.{TokenId}
-use Rattle.host_cache.specs.Holding.{helps_cover, helpers_first}
-use Rattle.host_cache.specs.Files.{FileKey, same_key, nothing, parts_at, Puts, left}
+use Rattle.host_cache.specs.declared.held.Held.{Held}
+use Rattle.host_cache.specs.Holding.{helps_cover, helpers_first, tells_at}
+use Rattle.host_cache.specs.Files.{FileKey, same_key, nothing, parts_at, Puts, left, told_by}
 use Rattle.host_cache.specs.Files.{HasRoom, Grows, Learns, Writes, without_token, IsRoomy}
 use Rattle.host_cache.specs.Parts.{Parts}
 
@@ -217,6 +218,17 @@ left_some p some = by_count (length p.tokens) some
     by_count : (n : ℕ) → 0 < n → (if n == 0 then nothing else p) ≡ p
     by_count zero lt = absurd (omega (arith, lt))
     by_count (suc n) lt = cond-false (suc n == 0) nothing p (ne_eqb (suc n) 0 (λ e. omega (arith, e)))
+
+-- a status is forgotten, or stays
+module _ (held : List Held) (p : Parts) where
+  abbrev any_tells : Bool
+  any_tells = list_any (λ (t : Token). tells_at held t.id) p.tokens
+
+  pub told_none : any_tells ≡ false → told_by held p ≡ record p { status = None }
+  told_none e = λ i. record p { status = if e i then p.status else None }
+
+  pub told_some : any_tells ≡ true → told_by held p ≡ p
+  told_some e = λ i. record p { status = if e i then p.status else None }
 
 pub on_err : {A E P : Type 0} (r : Result A E) → P → OnErr r P
 on_err (Ok a) p = tt

@@ -4,8 +4,8 @@ pub mod Ordering
 pub mod Filing
 pub mod Seeing
 pub mod Using
-pub mod Dropping
 pub mod Adding
+pub mod Dropping
 pub mod ShownLaws
 pub mod Learning
 pub mod Parting

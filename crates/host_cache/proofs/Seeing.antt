@@ -1,5 +1,5 @@
 -- What a cache shows, where the held tokens or what is kept of a file change.
-use Rattle.std.proofs.Common.{◌≡◌, ◌≤◌, ◌<◌, ℕ, ◌+◌, ◌-◌, Bool, true}
+use Rattle.std.proofs.Common.{◌≡◌, ◌↔◌, ◌≤◌, ◌<◌, ℕ, ◌+◌, ◌-◌, Bool, true}
 use Rattle.std.proofs.Common.{false, ◌&&◌, ◌||◌, List, [], ◌∷◌, map, length, Option}
 use Rattle.std.proofs.Common.{Some, None, refl, sym, ap, ◌∙◌, subst, arith}
 use Rattle.std.proofs.Common.{if◌then◌else◌, All, option_map, inl, inr, take, drop, slice_get, length-drop}
@@ -81,6 +81,7 @@ grown held files files' inv grows = (
   record {
     tokens = λ key. (grows key).tokens ∙ inv.tokens key;
     room = λ key. grows_roomy (parts_at files key) (parts_at files' key) (grows key) (inv.room key);
+    told = λ fid e. (grows (file_key fid)).status ∙ inv.told fid e;
   },
   seen_alike held held files files' (λ fid. refl) (λ fid at. refl)
       (λ key. record { status = (grows key).status; entries = (grows key).entries; bytes = (grows key).bytes }),
@@ -144,6 +145,13 @@ module _ (held : List Held) (fid : Fid) where
   covers_own (Lock writing span) c = subst IsTrue (sym (alone_same (Lock writing span))) c
   covers_own (Opening kind) c = subst IsTrue (sym (alone_same (Opening kind))) c
 
+  pub covers_same : (tokens : List Token) → tokens ≡ own → (kind : Kind) →
+      CoversKind tokens fid kind ↔ CoversKind (tokens_of held) fid kind
+  covers_same tokens e kind = (
+    λ c. covers_all kind (subst (λ ts. CoversKind ts fid kind) e c),
+    λ c. subst (λ ts. CoversKind ts fid kind) (sym e) (covers_own kind c),
+  )
+
 -- a token that covers a byte has it
 kind_has : (update : Bool) (at : ℕ) (kind : Kind) → kind_covers_byte update at kind ≡ true →
     kind_has_byte at kind ≡ true
@@ -195,6 +203,9 @@ module _ (held : List Held) (files files' : Files) (inv : IsKept held files) (fi
     room = each_key files files' (file_key file) w put (λ key parts. IsRoomy parts)
         (writes_roomy (parts_at files (file_key file)) w from piece writes (inv.room (file_key file)))
         (λ other apart. inv.room other);
+    told = λ fid e. each_key files files' (file_key file) w put
+        (λ key parts. (parts_at files key).status ≡ None → parts.status ≡ None)
+        (λ none. writes.status ∙ none) (λ other apart none. none) (file_key fid) (inv.told fid e);
   }
 
   byte_written : (fid : Fid) (at : ℕ) → same_fid file fid ≡ true →
@@ -271,6 +282,9 @@ module _ (held : List Held) (files files' : Files) (inv : IsKept held files) (fi
         (inv.tokens (file_key file)) (λ other apart. inv.tokens other);
     room = each_key files files' (file_key file) w put (λ key parts. IsRoomy parts)
         (inv.room (file_key file)) (λ other apart. inv.room other);
+    told = λ fid e. each_key files files' (file_key file) w put
+        (λ key parts. (parts_at files key).status ≡ None → parts.status ≡ None)
+        (λ none. ap (option_map longer) none) (λ other apart none. none) (file_key fid) (inv.told fid e);
   }
 
   told_longer : (b : Bool) (s : Option StatusOf) →
@@ -392,6 +406,24 @@ none_shown held files inv fid at none =
     no_own held files inv fid none (shows_byte fid at)
     (λ h e. (and_parts (same_fid h.token.fid fid) (kind_has_byte at h.token.kind) e).0)
 
+-- what is kept of a file is what is shown of it
+module _ (held : List Held) (files : Files) (inv : IsKept held files) (fid : Fid) where
+  abbrev own_parts : Parts
+  own_parts = parts_at files (file_key fid)
+
+  pub status_shown : own_parts.status ≡ (seen (kept held files)).status fid
+  status_shown =
+      elim (tells held fid) as (λ b. tells held fid ≡ b → own_parts.status ≡ (if b then own_parts.status else None)) [
+        | true ↦ λ e. refl
+        | false ↦ λ e. inv.told fid e
+      ] refl
+
+  pub entries_shown :
+      (if list_any (λ (t : Token). kind_has_byte 0 t.kind) own_parts.tokens then own_parts.entries else [])
+      ≡ (seen (kept held files)).entries fid
+  entries_shown =
+      ap (λ b. if b then own_parts.entries else []) (first_told held files inv fid own_parts.tokens refl)
+
 -- ---- tokens in use
 module _ (id : TokenId) (in_use : Bool) where
   -- what goes by the token alone stays
@@ -419,16 +451,20 @@ module _ (id : TokenId) (in_use : Bool) where
       tokens_same [] = refl
       tokens_same (x ∷ xs) = λ i. changed Token (λ h. h.token) (λ h. refl) x i ∷ tokens_same xs i
 
+  told_same : (fid : Fid) (held : List Held) → tells (map (with_use id in_use) held) fid ≡ tells held fid
+  told_same fid held = used_any (tells_of fid) (changed Bool (tells_of fid) (λ h. refl)) held
+
   pub use_kept : (held : List Held) (files : Files) → IsKept held files → IsKept (map (with_use id in_use) held) files
   use_kept held files inv = record {
     tokens = λ key. inv.tokens key ∙ sym (same_own key held);
     room = inv.room;
+    told = λ fid e. inv.told fid (sym (told_same fid held) ∙ e);
   }
 
   pub use_seen : (held : List Held) (files : Files) →
       seen (kept (map (with_use id in_use) held) files) ≡ after_set_use (seen (kept held files)) id in_use
   use_seen held files =
       seen_alike held (map (with_use id in_use) held) files files
-      (λ fid. used_any (tells_of fid) (changed Bool (tells_of fid) (λ h. refl)) held)
+      (λ fid. told_same fid held)
       (λ fid at. used_any (shows_byte fid at) (changed Bool (shows_byte fid at) (λ h. refl)) held)
       (λ key. alike_same (parts_at files key) (parts_at files key) refl)

@@ -1,6 +1,6 @@
 -- Tokens that are used, and tokens that are dropped.
 use Rattle.std.proofs.Common.{◌≡◌, ◌≤◌, ◌<◌, ℕ, suc, ◌+◌, Bool, true, false, not, cond, ◌&&◌, ◌==◌, List}
-use Rattle.std.proofs.Common.{[], ◌∷◌, ◌++◌, length, refl, sym, ap}
+use Rattle.std.proofs.Common.{[], ◌∷◌, ◌++◌, length, None, refl, sym, ap}
 use Rattle.std.proofs.Common.{◌∙◌, subst, arith, if◌then◌else◌, append_assoc, length-append, drop, get_or}
 use Rattle.std.specs.List.{filter}
 use Rattle.std.proofs.lemmas.Bool.{and_parts}
@@ -152,6 +152,10 @@ module _ (held : List Held) (files files' : Files) (inv : IsKept held files) (ne
         ∙ sym (of_used other)));
     room = each_key files files' key w put (λ k parts. IsRoomy parts)
         (first_roomy (parts_at files key) need (inv.room key)) (λ other apart. inv.room other);
+    told = λ fid e. each_key files files' key w put
+        (λ k parts. (parts_at files k).status ≡ None → parts.status ≡ None)
+        (λ none. none) (λ other apart none. none) (file_key fid)
+        (inv.told fid (sym (any_first (tells_of fid) (helper need) held) ∙ e));
   }
 
   pub used_seen : seen (kept (used need held) files') ≡ after_used (seen (kept held files)) need

@@ -3,6 +3,7 @@ use Rattle.std.specs.Prelude.{◌≡◌, ℕ, ◌-◌, ◌≤◌, Bool, ◌==◌
 use Rattle.std.specs.Prelude.{Option, None, unwrap_or, is_some, not, filter, All}
 use Rattle.token_types.specs.Conflicts.{same_id}
 use Rattle.token_types.specs.declared.token.TokenId.{TokenId}
+use Rattle.std.specs.List.{list_any}
 use Rattle.std.specs.Map.{lookup}
 use Rattle.std.specs.Option.{option_map}
 use Rattle.base_types.specs.declared.ids.Fid.{Fid}
@@ -14,7 +15,8 @@ use Rattle.token_types.specs.declared.token.Kind.TheVariants.{Bytes}
 use Rattle.token_types.specs.declared.token.Token.{Token}
 use Rattle.base_types.specs.Image.{byte_at}
 use Rattle.host_cache.specs.Bytes.{told_byte, is_within}
-use Rattle.host_cache.specs.Holding.{kind_has_byte, is_status}
+use Rattle.host_cache.specs.declared.held.Held.{Held}
+use Rattle.host_cache.specs.Holding.{kind_has_byte, is_status, tells_at}
 use Rattle.host_cache.specs.Parts.{Parts}
 
 abbrev pub FileKey : Type 0
@@ -41,6 +43,12 @@ Puts old key parts new =
 -- nothing is kept of a file without tokens
 abbrev pub left : Parts → Parts
 left parts = if length parts.tokens == 0 then nothing else parts
+
+-- the status is kept only where one of the tokens came with one
+abbrev pub told_by : List Held → Parts → Parts
+told_by held parts = record parts {
+  status = if list_any (λ token. tells_at held token.id) parts.tokens then parts.status else None;
+}
 
 -- the status that counts under a token of a kind
 abbrev pub told_under : Kind → Option Status → Option Status

@@ -101,7 +101,8 @@ after_used s need = record s { held = used need s.held }
 abbrev pub of_key : FileKey → List Held → List Held
 of_key key held = filter (λ h. same_key (file_key h.token.fid) key) held
 
--- each file has its tokens, and room for their bytes
+-- each file has its tokens, room for their bytes, and a status only where a token came with one
 pub record IsKept (held : List Held) (files : List (FileKey × Parts)) : Type 0 where
   pub tokens : (key : FileKey) → (parts_at files key).tokens ≡ tokens_of (of_key key held)
   pub room : (key : FileKey) → IsRoomy (parts_at files key)
+  pub told : (fid : Fid) → tells held fid ≡ false → (parts_at files (file_key fid)).status ≡ None

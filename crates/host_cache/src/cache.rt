@@ -1,18 +1,18 @@
 ghost use Rattle.std.specs.Prelude.{◌≡◌, ◌↔◌, ◌+◌, ◌<◌, ◌≤◌, ℕ, IsTrue};
 ghost use Rattle.std.specs.Prelude.{[], None, false, true, length, slice_get, filter};
 ghost use Rattle.std.specs.Prelude.{option_copied, OnOk, OnErr, IfOk, is_some};
-ghost use Rattle.std.specs.List.{find, list_any};
+ghost use Rattle.std.specs.List.{find};
 ghost use Rattle.std.specs.Option.{option_map};
-ghost use Rattle.token_types.specs.Covers.{Covers, CoversBetween};
-ghost use Rattle.host_cache.specs.Holding.{IsOnce, has_id, is_id, tokens_of, is_idle, last_of, tells_at};
-ghost use Rattle.host_cache.specs.Holding.{kind_has_byte, is_status, promoted};
+ghost use Rattle.token_types.specs.Covers.{Covers, CoversBetween, CoversKind};
+ghost use Rattle.host_cache.specs.Holding.{IsOnce, has_id, is_id, tokens_of, is_idle, last_of};
+ghost use Rattle.host_cache.specs.Holding.{is_status, promoted};
 ghost use Rattle.host_cache.specs.Files.{FileKey, file_key, same_key, parts_at, HasRoom, Grows, Learns, Puts};
-ghost use Rattle.host_cache.specs.Files.{without_token, left, told_under};
+ghost use Rattle.host_cache.specs.Files.{without_token, left, told_under, told_by};
 ghost use Rattle.host_cache.specs.Seen.{seen, after_add, after_drop, after_write};
 ghost use Rattle.host_cache.specs.Seen.{after_length, after_set_use, after_used, of_key};
 
-use crate::file::{File, FileKey, file_key};
-use crate::held::{Held, helps_cover, is_status, kind_has_byte};
+use crate::file::{File, FileKey, Shown, file_key};
+use crate::held::{Held, helps_cover, is_status};
 use crate::order::Order;
 use base_types::{Fid, Items, NoMemory};
 use std::alloc::Global;
@@ -109,6 +109,8 @@ impl Cache {
         self.order.laws();
         let held = self.order.take(id)?;
         drop_from_file(&mut self.files, held.token.fid, id);
+        self.order.laws();
+        forget_status(&mut self.files, &self.order, held.token.fid);
         Some(held.token)
     }
 
@@ -136,31 +138,32 @@ impl Cache {
         covers(self.tokens_at(need.fid), need)
     }
 
+    /// What is shown of a file, looked up once. It takes no memory.
+    pub fn at(&self, fid: Fid) -> Shown<'_>
+        ensures tokens { result.tokens.now ≡ tokens_of (of_key (file_key fid) self.now.held) }
+        ensures covered { (kind : Kind) →
+            CoversKind result.tokens.now fid kind ↔ CoversKind (tokens_of self.now.held) fid kind }
+        ensures status { option_copied result.status ≡ (seen self.now).status fid }
+        ensures entries { result.entries.now ≡ (seen self.now).entries fid }
+    {
+        let Some(file) = self.files.get(&file_key(fid)) else {
+            return Shown::nothing();
+        };
+        file.shown()
+    }
+
     /// The status of a file; None where no held token of it came with a status. It takes no memory.
     pub fn status(&self, fid: Fid) -> Option<&Status>
         ensures { option_copied result ≡ (seen self.now).status fid }
     {
-        self.order.laws();
-        let Some(file) = self.files.get(&file_key(fid)) else {
-            return None;
-        };
-        if self.is_told(file.tokens()) {
-            return file.status();
-        }
-        None
+        self.at(fid).status
     }
 
     /// The entries of a directory; none where no held token of it has byte 0. It takes no memory.
     pub fn entries(&self, fid: Fid) -> &[DirEntry]
         ensures { result.now ≡ (seen self.now).entries fid }
     {
-        let Some(file) = self.files.get(&file_key(fid)) else {
-            return &[];
-        };
-        if has_first(file.tokens()) {
-            return file.entries();
-        }
-        &[]
+        self.at(fid).entries
     }
 
     /// Fills `out` with the bytes of a file from a position on. The held tokens cover them for reading. It takes no
@@ -255,15 +258,6 @@ impl Cache {
     }
 }
 
-impl Cache {
-    // Whether one of these tokens is held and came with a status.
-    fn is_told(&self, tokens: &[Token]) -> bool
-        ensures { result ≡ list_any (λ token. tells_at self.now.held token.id) tokens.now }
-    {
-        tokens.iter().any(|token| self.order.tells(token.id))
-    }
-}
-
 // The status that counts under a token of this kind.
 fn told_under(kind: Kind, status: Option<&Status>) -> Option<&Status>
     ensures { option_copied result ≡ told_under kind (option_copied status.entry) }
@@ -272,13 +266,6 @@ fn told_under(kind: Kind, status: Option<&Status>) -> Option<&Status>
         return status;
     }
     None
-}
-
-// Whether one of these tokens has byte 0.
-fn has_first(tokens: &[Token]) -> bool
-    ensures { result ≡ list_any (λ token. kind_has_byte 0 token.kind) tokens.now }
-{
-    tokens.iter().any(|token| kind_has_byte(token.kind, 0))
 }
 
 // Brings those of a file's tokens to the front that help to cover a need, from the last to the first.
@@ -348,5 +335,18 @@ fn drop_from_file(files: &mut HashMap<FileKey, File>, fid: Fid, id: TokenId)
     file.drop_id(id);
     if file.tokens().is_empty() {
         files.remove(&key);
+    }
+}
+
+// Forgets the status of a file with which none of its tokens came.
+fn forget_status(files: &mut HashMap<FileKey, File>, order: &Order, fid: Fid)
+    ensures { Puts files.old.entries (file_key fid)
+        (told_by order.now (parts_at files.old.entries (file_key fid))) files.new.entries }
+{
+    let Some(file) = files.get_mut(&file_key(fid)) else {
+        return;
+    };
+    if !order.tells_any(file.tokens()) {
+        file.forget_status();
     }
 }

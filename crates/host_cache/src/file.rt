@@ -1,13 +1,14 @@
 //! What is kept of one file or directory.
 ghost use Rattle.std.specs.Prelude.{◌≡◌, ◌+◌, ◌<◌, ◌≤◌, length, option_copied, is_some, take, drop, IsTrue};
-ghost use Rattle.std.specs.Prelude.{OnOk, OnErr, ℕ, None, if◌then◌else◌};
+ghost use Rattle.std.specs.Prelude.{OnOk, OnErr, ℕ, None, [], if◌then◌else◌};
+ghost use Rattle.std.specs.List.{list_any};
 ghost use Rattle.base_types.specs.Spans.{has_byte};
 ghost use Rattle.host_cache.specs.Files.{nothing, HasRoom, Grows, Learns, Writes, with_length, file_key, with_token};
 ghost use Rattle.host_cache.specs.Files.{with_status, with_entries, without_token};
 ghost use Rattle.host_cache.specs.Holding.{helpers_first, kind_has_byte, is_status};
 
 use crate::bytes;
-use crate::held::bring_helpers;
+use crate::held::{bring_helpers, kind_has_byte};
 use base_types::{Fid, Items, NoMemory, Plain, Span};
 use std::alloc::Global;
 use std::marker::Model;
@@ -17,7 +18,34 @@ use tree_calls::{DirEntry, Piece, Status};
 /// A file by its fileset, its anode and the unique number.
 pub(crate) type FileKey = (u32, (u32, u32));
 
-/// What is kept of a file: the held tokens, and what was told of it under tokens, changed by own writes.
+/// What is shown of a file or directory.
+#[derive(Clone, Copy)]
+pub struct Shown<'a> {
+    /// Its held tokens, the most recently used first.
+    pub tokens: &'a [Token],
+    /// Its status; None where no held token of it came with a status.
+    pub status: Option<&'a Status>,
+    /// Its entries; none where no held token of it has byte 0.
+    pub entries: &'a [DirEntry],
+}
+
+impl<'a> Shown<'a> {
+    /// Of a file of which no token is held.
+    pub(crate) fn nothing() -> Shown<'a>
+        ensures tokens { result.tokens.now ≡ [] }
+        ensures status { result.status ≡ None }
+        ensures entries { result.entries.now ≡ [] }
+    {
+        Shown {
+            tokens: &[],
+            status: None,
+            entries: &[],
+        }
+    }
+}
+
+/// What is kept of a file: the held tokens, and what was told of it under tokens, changed by own writes; a status only
+/// as long as a token is held that came with one.
 #[derive(Drop)]
 pub(crate) struct File {
     tokens: Vec<Token>,
@@ -59,18 +87,27 @@ impl File {
         self.tokens.as_slice()
     }
 
-    /// The status that was told last.
-    pub(crate) fn status(&self) -> Option<&Status>
-        ensures { option_copied result ≡ self.now.status }
+    /// What is shown of it.
+    pub(crate) fn shown(&self) -> Shown<'_>
+        ensures tokens { result.tokens.now ≡ self.now.tokens }
+        ensures status { option_copied result.status ≡ self.now.status }
+        ensures entries { result.entries.now
+            ≡ (if list_any (λ token. kind_has_byte 0 token.kind) self.now.tokens then self.now.entries else []) }
     {
-        self.status.as_ref()
-    }
-
-    /// The entries that were told last.
-    pub(crate) fn entries(&self) -> &[DirEntry]
-        ensures { result.now ≡ self.now.entries }
-    {
-        self.entries.as_slice()
+        let tokens = self.tokens.as_slice();
+        let status = self.status.as_ref();
+        if has_first(tokens) {
+            return Shown {
+                tokens,
+                status,
+                entries: self.entries.as_slice(),
+            };
+        }
+        Shown {
+            tokens,
+            status,
+            entries: &[],
+        }
     }
 
     /// Reads the bytes from `at` on.
@@ -201,12 +238,26 @@ impl File {
         bring_helpers(self.tokens.as_mut_slice(), need);
     }
 
+    /// Forgets the status.
+    pub(crate) fn forget_status(&mut self)
+        ensures { self.new ≡ record self.old { status = None } }
+    {
+        self.status = None;
+    }
+
     /// Takes the token with this number out.
     pub(crate) fn drop_id(&mut self, id: TokenId)
         ensures { self.new ≡ without_token id self.old }
     {
         self.tokens.retain(|token| token.id != id);
     }
+}
+
+// Whether one of these tokens has byte 0.
+fn has_first(tokens: &[Token]) -> bool
+    ensures { result ≡ list_any (λ token. kind_has_byte 0 token.kind) tokens.now }
+{
+    tokens.iter().any(|token| kind_has_byte(token.kind, 0))
 }
 
 pub(crate) fn file_key(fid: Fid) -> FileKey

@@ -10,5 +10,6 @@ mod laws;
 mod order;
 
 pub use cache::Cache;
+pub use file::Shown;
 pub use held::Held;
 pub use laws::cache_law;

@@ -1,6 +1,6 @@
 //! The order in which the held tokens were used.
 ghost use Rattle.std.specs.Prelude.{◌≡◌, ◌∷◌, [], false, map, filter, length, IfOk, OnOk, OnErr};
-ghost use Rattle.std.specs.List.{find};
+ghost use Rattle.std.specs.List.{find, list_any};
 ghost use Rattle.std.specs.Option.{option_map};
 ghost use Rattle.host_cache.specs.Holding.{IsOnce, is_id, has_id, without_id, brought, with_use, is_idle, last_of};
 ghost use Rattle.host_cache.specs.Holding.{tells_at, tokens_of};
@@ -106,14 +106,21 @@ impl Order {
         held.in_use = in_use;
     }
 
-    /// Whether the token with this number is held, and came with a status.
-    pub(crate) fn tells(&self, id: TokenId) -> bool
+    // Whether the token with this number is held, and came with a status.
+    fn tells(&self, id: TokenId) -> bool
         ensures { result ≡ tells_at self.now id }
     {
         match self.entries.peek(&id_key(id)) {
             Some(held) => held.tells,
             None => false,
         }
+    }
+
+    /// Whether one of these tokens is held, and came with a status.
+    pub(crate) fn tells_any(&self, tokens: &[Token]) -> bool
+        ensures { result ≡ list_any (λ token. tells_at self.now token.id) tokens.now }
+    {
+        tokens.iter().any(|token| self.tells(token.id))
     }
 
     /// How many tokens are held.

@@ -68,13 +68,14 @@ fn mark_dir(cache: &mut Cache, at: Fid)
 fn way(cache: &Cache, user: &User, at: Fid, name: &Name) -> Onward
     ensures { result ≡ way_of (view_of cache.now) user.now at name.now }
 {
-    let Some(status) = cache.status(at) else {
+    let shown = cache.at(at);
+    let Some(status) = shown.status else {
         return Onward::Ends;
     };
     if !status.dir || !rights_on(status, user).allows(Rights::EXECUTE) {
         return Onward::Ends;
     }
-    match child(cache.entries(at), at, name) {
+    match child(shown.entries, at, name) {
         Some(fid) => Onward::Leads(fid),
         None => Onward::Misses,
     }

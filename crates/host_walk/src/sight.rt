@@ -13,8 +13,8 @@ ghost use Rattle.host_walk.specs.Walks.{entries_look};
 
 use crate::needs::{status_need, whole_need};
 use base_types::{Fid, Name, Rights, User, rights_of};
-use host_cache::Cache;
-use token_types::Need;
+use host_cache::{Cache, Shown};
+use token_types::{Need, covers};
 use tree_calls::{DirEntry, Refusal, Status};
 
 /// Why a look ends before it found what it looks for.
@@ -44,14 +44,28 @@ impl<'a> Sight<'a> {
         Err(Stop::Lacks(need))
     }
 
+    // What is shown of the object of a need, where the tokens cover that.
+    fn shown(&self, need: Need) -> Result<Shown<'a>, Stop>
+        ensures tried { TriesNeed self.now.cache.now need result }
+        ensures status { IfOk result (λ shown. option_copied shown.status
+            ≡ (seen self.now.cache.now).status need.fid) }
+        ensures entries { IfOk result (λ shown. shown.entries.now ≡ (seen self.now.cache.now).entries need.fid) }
+    {
+        let shown = self.cache.at(need.fid);
+        if covers(shown.tokens, &need) {
+            return Ok(shown);
+        }
+        Err(Stop::Lacks(need))
+    }
+
     /// The status of an object.
     pub fn status(&self, fid: Fid) -> Result<&'a Status, Stop>
         ensures tried { Tries self.now.cache.now (nature_look fid) (λ status. nature_told status.now) result }
         ensures covered { OnOk result (Covers (held_by self.now.cache.now) (status_need fid)) }
         ensures seen { IfOk result (λ status. (seen self.now.cache.now).status fid ≡ Some status.now) }
     {
-        self.covered(status_need(fid))?;
-        match self.cache.status(fid) {
+        let shown = self.shown(status_need(fid))?;
+        match shown.status {
             Some(status) => Ok(status),
             None => Err(Stop::Refused(Refusal::NoEntry)),
         }
@@ -71,8 +85,8 @@ impl<'a> Sight<'a> {
             return Err(Stop::Refused(Refusal::NotDir));
         }
         self.permitted(status, right)?;
-        self.covered(whole_need(fid))?;
-        Ok(self.cache.entries(fid))
+        let shown = self.shown(whole_need(fid))?;
+        Ok(shown.entries)
     }
 
     /// Whether the user has this right on an object.

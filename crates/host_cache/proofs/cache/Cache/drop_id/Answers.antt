@@ -1,10 +1,11 @@
 use Rattle.std.proofs.Common.{◌≡◌, ap, sym, ◌∙◌, subst, Some, None}
 use Rattle.std.specs.List.{find}
-use Rattle.host_cache.specs.Holding.{is_id}
+use Rattle.host_cache.specs.Files.{file_key, parts_at, Puts, told_by}
+use Rattle.host_cache.specs.Holding.{is_id, IsOnce}
 use Rattle.host_cache.specs.Seen.{Kept, seen, after_drop, IsKept}
 use Rattle.host_cache.proofs.Lists.{none_kept, none_passes}
 use Rattle.host_cache.proofs.Seeing.{kept}
-use Rattle.host_cache.proofs.Dropping.{dropped_kept, dropped_seen, nothing_dropped}
+use Rattle.host_cache.proofs.Dropping.{forgot_kept, forgot_seen, nothing_dropped}
 use Rattle.host_cache.proofs.cache.Cache.drop_id.Goals as goal
 
 pub invariant_of-self : goal.invariant_of-self
@@ -26,18 +27,24 @@ returns-in_err-held-clause-after c =
 pub invariant_of-self-2 : goal.invariant_of-self-2
 invariant_of-self-2 c =
     let s = c.self.inside in
+    let mid = c.drop_from_file.new.files.entries in
+    let last = c.forget_status.new.files.entries in
+    let key = file_key c.in_ok-held.held.token.fid in
     let there : find (is_id c.args.id) s.order ≡ Some c.in_ok-held.held = sym c.take.ensures.taken ∙ c.in_ok-held.was in
-    subst (λ o. IsKept o c.drop_from_file.new.files.entries) (sym c.take.ensures.left)
-    (dropped_kept s.order s.files.entries c.drop_from_file.new.files.entries c.self.invariant c.args.id
-    c.in_ok-held.held
-    c.laws.ensures there c.drop_from_file.ensures)
+    subst (λ o. IsKept o last) (sym c.take.ensures.left)
+    (forgot_kept s.order s.files.entries mid c.self.invariant c.args.id c.in_ok-held.held
+    c.laws.ensures there c.drop_from_file.ensures last (subst IsOnce c.take.ensures.left c.laws-2.ensures)
+    (subst (λ o. Puts mid key (told_by o (parts_at mid key)) last) c.take.ensures.left c.forget_status.ensures))
 
 pub returns-clause-after : goal.returns-clause-after
 returns-clause-after c =
     let s = c.self.inside in
+    let mid = c.drop_from_file.new.files.entries in
+    let last = c.forget_status.new.files.entries in
+    let key = file_key c.in_ok-held.held.token.fid in
     let there : find (is_id c.args.id) s.order ≡ Some c.in_ok-held.held = sym c.take.ensures.taken ∙ c.in_ok-held.was in
-    ap (λ o. seen (kept o c.drop_from_file.new.files.entries)) c.take.ensures.left
-    ∙ dropped_seen s.order s.files.entries c.drop_from_file.new.files.entries c.self.invariant c.args.id
-    c.in_ok-held.held
-    c.laws.ensures there c.drop_from_file.ensures
+    ap (λ o. seen (kept o last)) c.take.ensures.left
+    ∙ forgot_seen s.order s.files.entries mid c.self.invariant c.args.id c.in_ok-held.held
+    c.laws.ensures there c.drop_from_file.ensures last (subst IsOnce c.take.ensures.left c.laws-2.ensures)
+    (subst (λ o. Puts mid key (told_by o (parts_at mid key)) last) c.take.ensures.left c.forget_status.ensures)
     ∙ ap (λ (k : Kept). after_drop (seen k) c.args.id) c.self.view_is
