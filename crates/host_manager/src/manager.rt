@@ -37,9 +37,14 @@ use tree_calls::{Call, Reply, Roster};
 
 /// The machine of a host. Its calls answer steps, each the next one of the host. After want of memory nothing is
 /// promised of it.
-#[derive(Drop)]
 pub struct Manager {
     tables: Tables,
+}
+
+impl Drop for Manager {
+    fn drop(self) {
+        let Manager { tables: _ } = self;
+    }
 }
 
 impl Manager {

@@ -31,13 +31,24 @@ use tree_calls::Call;
 const OWN_STEPS_MAX: usize = 16;
 
 /// A host: its machine, its lines, and whether they may go.
-#[derive(Drop)]
 pub struct HostNode {
     manager: Manager,
     lines: OwnLines,
     between: Between,
     begun: bool,
     stopped: bool,
+}
+
+impl Drop for HostNode {
+    fn drop(self) {
+        let HostNode {
+            manager: _,
+            lines: _,
+            between: _,
+            begun: _,
+            stopped: _,
+        } = self;
+    }
 }
 
 // Whether it is the setup host, which waits for nobody to begin.
