@@ -19,9 +19,14 @@ use std::sync::Wait;
 
 /// The hub of a run. Contracts see which one it is, how many nodes take turns at it, what lay in it at the start, and
 /// who takes part.
-#[derive(Drop)]
 pub struct Hub {
     cell: TurnCell<Meeting>,
+}
+
+impl Drop for Hub {
+    fn drop(self) {
+        let Hub { cell: _ } = self;
+    }
 }
 
 impl Model for Hub {

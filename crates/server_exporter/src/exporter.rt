@@ -44,11 +44,19 @@ use tree_calls::Roster;
 ///
 /// A step may leave a Change that could be decided, as one does that ends a grace period: then `settle` is called until
 /// none is left, and nothing else before that. After an error the machine takes nothing more.
-#[derive(Drop)]
 pub struct Exporter {
     pub tables: Tables,
     /// Whether no Change is left that is to be decided.
     pub rested: bool,
+}
+
+impl Drop for Exporter {
+    fn drop(self) {
+        let Exporter {
+            tables: _,
+            rested: _,
+        } = self;
+    }
 }
 
 impl Exporter {

@@ -28,11 +28,20 @@ use std::alloc::Global;
 use store_memory::Store;
 
 /// A server: its machine, its store and its lines.
-#[derive(Drop)]
 pub struct ServerNode<S> {
     exporter: Exporter,
     keeper: Keeper<S>,
     lines: OwnLines,
+}
+
+impl<S: Drop> Drop for ServerNode<S> {
+    fn drop(self) {
+        let ServerNode {
+            exporter: _,
+            keeper: _,
+            lines: _,
+        } = self;
+    }
 }
 
 // A machine that has done nothing, and the lines of its server.
