@@ -1,4 +1,4 @@
-use Rattle.std.proofs.Common.{◌≡◌, ◌∙◌, ap, subst, sym}
+use Rattle.std.proofs.Common.{◌≡◌, ◌∙◌, ap, option_copied, subst, sym}
 use Rattle.std.proofs.lemmas.Result.{err_from_is_err_and}
 use Rattle.token_types.specs.Covers.{Covers}
 use Rattle.token_types.specs.declared.token.Need.{Need}
@@ -22,7 +22,7 @@ returns-in-Some-clause-tried c =
     let kept = c.args.self.now.cache.now in
     nature_found kept c.args.fid c.in-Some.status.now
     (subst (Covers (held_by kept)) c.status_need.ensures c.in_ok-shown.ensures.tried)
-    (c.in-Some.ensures ∙ c.in_ok-shown.ensures.status
+    (sym (ap (λ o. option_copied o) c.in-Some.is) ∙ c.in_ok-shown.ensures.status
     ∙ ap (λ (n : Need). (seen kept).status n.fid) c.status_need.ensures)
 
 pub returns-in-None-clause-tried : goal.returns-in-None-clause-tried
@@ -30,5 +30,11 @@ returns-in-None-clause-tried c =
     let kept = c.args.self.now.cache.now in
     nature_missing kept c.args.fid
     (subst (Covers (held_by kept)) c.status_need.ensures c.in_ok-shown.ensures.tried)
-    (c.in-None.ensures ∙ c.in_ok-shown.ensures.status
+    (sym (ap (λ o. option_copied o) c.in-None.is) ∙ c.in_ok-shown.ensures.status
     ∙ ap (λ (n : Need). (seen kept).status n.fid) c.status_need.ensures)
+
+pub returns-in-Some-clause-seen : goal.returns-in-Some-clause-seen
+returns-in-Some-clause-seen c =
+    let kept = c.args.self.now.cache.now in
+    sym (c.in_ok-shown.ensures.status ∙ ap (λ (n : Need). (seen kept).status n.fid) c.status_need.ensures)
+    ∙ ap (λ o. option_copied o) c.in-Some.is
