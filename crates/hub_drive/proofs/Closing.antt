@@ -1,4 +1,4 @@
--- A hub that was closed with the passes of nodes that are through.
+-- A hub that was closed with the passes of nodes that are through, or that came to no end.
 use Rattle.std.proofs.Common.{◌≡◌, ℕ, ◌<◌, List, [], ◌∷◌, map, length, get_or, refl, sym, ap, ◌∙◌, subst, arith}
 use Rattle.base_types.specs.declared.ids.Node.{Node}
 use Rattle.base_types.specs.declared.ids.Node.TheVariants.{Host, Server}
@@ -8,18 +8,20 @@ use Rattle.hub_board.specs.Hubs.{nodes_of}
 use Rattle.hub_board.specs.Turning.{steps_of}
 use Rattle.hub_board.specs.declared.given.Turn.{Turn}
 use Rattle.run_rules.specs.Past.{Always, In}
-use Rattle.run_rules.specs.Runs.{past_of}
+use Rattle.run_rules.specs.Runs.{IsDutiful, IsRun, past_of}
 use Rattle.hub_turns.specs.Meetings.{HasEnded}
 use Rattle.hub_turns.specs.Views.{HubView, NodeView}
 use Rattle.run_rules.specs.declared.journal.Journal.{Journal}
 use Rattle.run_rules.specs.declared.step.Step.{Step}
 use Rattle.hub_laws.specs.Keeping.{Round, steps_in}
-use Rattle.hub_laws.specs.Closings.{AreApart, HasHeld, HasKept, IsClosed}
+use Rattle.hub_laws.specs.Closings.{AreApart, HasHeld, HasKept, HasMade, IsClosed, KeepsOn}
 use Rattle.hub_laws.proofs.Apart.{nodes_are_apart}
 use Rattle.hub_laws.proofs.Closing.{closed_has_held}
-use Rattle.hub_drive.specs.Driving.{CanStart, HasDriven, IsHubOf, StandsAfter, beginning}
+use Rattle.hub_drive.specs.Driving.{CanStart, HasDriven, HasStoodAfter, HasStopped, IsHubOf, StandAfter}
+use Rattle.hub_drive.specs.Driving.{StandsAfter, beginning}
 use Rattle.hub_node.specs.Nodes.{Beginning, HandsIn, IsDone, Knows, MayHandIn, OwnMeets, Part, part_of}
-use Rattle.hub_drive.specs.Seats.{EachAt, IsThrough}
+use Rattle.hub_node.specs.declared.node.NodeFault.{NodeFault}
+use Rattle.hub_drive.specs.Seats.{EachAt, HasStood, IsSeated, IsThrough}
 use Rattle.hub_drive.specs.declared.seat.Seat.{Seat}
 use Rattle.hub_drive.proofs.Filtered.{always_before, mine}
 use Rattle.hub_drive.proofs.Lists.{each_in, in_each, map_here, map_size}
@@ -30,12 +32,47 @@ map_map : {A B C : Type 0} (f : B → C) (g : A → B) (xs : List A) → map f (
 map_map f g [] = refl
 map_map f g (x ∷ xs) = ap (λ l. f (g x) ∷ l) (map_map f g xs)
 
+-- what is known of a pass of a hub that is closed: these rounds have made it, its node has kept on in each, and their
+-- steps meet the node's rules
+pub record IsSat (tells : Type 0) (run : Beginning) (hub : HubView) (pass : NodeView) : Type 0 where
+  pub rounds : List Round
+  pub made : HasMade hub rounds pass
+  pub keeps : Always (KeepsOn run.script pass.node) rounds
+  pub meets : Knows tells pass.node → Always (OwnMeets run pass.node) (steps_in rounds)
+
 module _ {N : Type 0} (tells : Type 0) (stands : Part → N → List Round → List Step → Type 0)
-    (hands_in : (n : N) → HandsIn tells stands n)
+    (hands_in : (n : N) → HandsIn tells stands n) (run : Beginning) (hub : HubView) where
+  -- so it is with those of nodes that are through
+  pub sat_through : (s : Seat N) → IsThrough stands run hub tells s → IsSat tells run hub s.pass
+  sat_through s t =
+      let seated = t.seated in
+      let part : Part = part_of run s.pass.node in
+      let may : MayHandIn tells part seated.rounds s.steps.steps =
+      hands_in s.node part seated.rounds s.steps.steps seated.stood in record {
+        rounds = seated.rounds;
+        made = seated.made;
+        keeps = seated.keeps;
+        meets = (λ knows. always_before (OwnMeets run s.pass.node) s.steps.steps (steps_in seated.rounds)
+            (may.meets knows));
+      }
+
+  -- and with those of nodes that have stood there
+  pub sat_stood : (stays : N → N → Type 0) (failed : NodeFault → N → N → Type 0) (pass : NodeView) (n : N)
+      → HasStood stands stays failed run hub pass n → IsSat tells run hub pass
+  sat_stood stays failed pass n h =
+      let part : Part = part_of run pass.node in
+      let may : MayHandIn tells part h.past h.handed = hands_in h.before part h.past h.handed h.stood in record {
+        rounds = h.rounds;
+        made = h.made;
+        keeps = h.keeps;
+        meets = (λ knows. subst (λ (l : List Step). Always (OwnMeets run pass.node) l) (sym h.whole) (may.meets knows));
+      }
+
+module _ {N : Type 0} (tells : Type 0) (stands : Part → N → List Round → List Step → Type 0)
     (script : Script) (start : Tree) (epochs : List ℕ) (can : CanStart script start epochs)
     (hub : HubView) (hub_is : IsHubOf script hub) (seats : List (Seat N))
     (are : map (λ (s : Seat N). s.pass.node) seats ≡ nodes_of script)
-    (through : EachAt (IsThrough stands (beginning script start epochs) hub tells) seats) (turns : List Turn)
+    (sat : (s : Seat N) → In s seats → IsSat tells (beginning script start epochs) hub s.pass) (turns : List Turn)
     (journal : Journal)
     (starts : journal.start ≡ start ∷ []) (epochs_are : journal.epochs ≡ epochs)
     (steps : journal.steps ≡ steps_of turns) where
@@ -48,17 +85,14 @@ module _ {N : Type 0} (tells : Type 0) (stands : Part → N → List Round → L
   abbrev passes : List NodeView
   passes = map pass_of seats
 
-  is_through : (s : Seat N) → In s seats → IsThrough stands run hub tells s
-  is_through s i = each_in (IsThrough stands run hub tells) seats s through i
-
   nodes_are : map (λ (p : NodeView). p.node) passes ≡ nodes_of script
   nodes_are = map_map (λ (p : NodeView). p.node) pass_of seats ∙ are
 
   kept : (p : NodeView) → In p passes → HasKept script hub p
   kept p i =
       let j = in_map pass_of p seats i in
-      let seated = (is_through j.0 j.1).seated in
-      subst (HasKept script hub) (sym j.2) (seated.rounds, seated.made, seated.keeps)
+      let here = sat j.0 j.1 in
+      subst (HasKept script hub) (sym j.2) (here.rounds, here.made, here.keeps)
 
   module _ (ended : HasEnded hub turns passes) where
     closed : IsClosed script [] hub turns passes journal
@@ -76,25 +110,15 @@ module _ {N : Type 0} (tells : Type 0) (stands : Part → N → List Round → L
     held = closed_has_held script [] hub turns passes journal closed
 
     -- the steps of a node in the journal are those of its rounds
-    own_is : (s : Seat N) (i : In s seats) → mine s.pass.node (past_of journal)
-        ≡ steps_in (is_through s i).seated.rounds
-    own_is s i =
-        let seated = (is_through s i).seated in
-        (held.whole s.pass (map_in pass_of s seats i)).past seated.rounds seated.made
+    own_is : (s : Seat N) (i : In s seats) (rounds : List Round) → HasMade hub rounds s.pass
+        → mine s.pass.node (past_of journal) ≡ steps_in rounds
+    own_is s i rounds made = (held.whole s.pass (map_in pass_of s seats i)).past rounds made
 
     seat_meets : (s : Seat N) → In s seats → Knows tells s.pass.node
         → Always (OwnMeets run s.pass.node) (mine s.pass.node (past_of journal))
     seat_meets s i knows =
-        let seated = (is_through s i).seated in
-        let part : Part = part_of run s.pass.node in
-        let may : MayHandIn tells part seated.rounds s.steps.steps =
-        hands_in s.node part seated.rounds s.steps.steps seated.stood in
-        subst (λ l. Always (OwnMeets run s.pass.node) l) (sym (own_is s i))
-        (always_before (OwnMeets run s.pass.node) s.steps.steps (steps_in seated.rounds) (may.meets knows))
-
-    seat_done : (s : Seat N) → In s seats → Knows tells s.pass.node
-        → IsDone run s.pass.node (mine s.pass.node (past_of journal))
-    seat_done s i knows = subst (IsDone run s.pass.node) (sym (own_is s i)) ((is_through s i).done knows)
+        let here = sat s i in
+        subst (λ l. Always (OwnMeets run s.pass.node) l) (sym (own_is s i here.rounds here.made)) (here.meets knows)
 
     all_known : tells → (node : Node) → Knows tells node
     all_known told (Host host) = tt
@@ -105,7 +129,6 @@ module _ {N : Type 0} (tells : Type 0) (stands : Part → N → List Round → L
       among = subst (In s.pass.node) nodes_are
           (map_in (λ (p : NodeView). p.node) s.pass passes (map_in pass_of s seats i));
       meets = seat_meets s i (all_known told s.pass.node);
-      done = seat_done s i (all_known told s.pass.node);
     }
 
     knows : tells → (p : NodeView) → In p passes → IsKnown script start epochs (past_of journal) p
@@ -124,26 +147,11 @@ module _ {N : Type 0} (tells : Type 0) (stands : Part → N → List Round → L
         subst (λ (n : Node). Always (OwnMeets run n) (mine n (past_of journal))) (sym j.2)
         (seat_meets j.0 j.1 (subst (Knows tells) j.2 knows))
 
-    done : (node : Node) → In node (nodes_of script) → Knows tells node → IsDone run node (mine node (past_of journal))
-    done node i knows =
-        let j = seat_of node i in
-        subst (λ (n : Node). IsDone run n (mine n (past_of journal))) (sym j.2)
-        (seat_done j.0 j.1 (subst (Knows tells) j.2 knows))
+    run_is : tells → IsRun script journal
+    run_is told = is_run script start epochs can journal starts epochs_are hub passes held (knows told)
 
-    all : (n : Node) → In n (nodes_of script) → (p : NodeView) × In p passes × (p.node ≡ n)
-    all n i =
-        let j = in_map (λ (p : NodeView). p.node) n passes (subst (In n) (sym nodes_are) i) in (j.0, j.1, sym j.2)
-
-    stand : (s : Seat N) → In s seats → StandsAfter stands run journal s.pass.node s.node
-    stand s i =
-        let t = is_through s i in record {
-          rounds = t.seated.rounds;
-          stood = subst (stands (part_of run s.pass.node) s.node t.seated.rounds) t.none t.seated.stood;
-          own = own_is s i;
-        }
-
-    stand_each : EachAt (λ (s : Seat N). StandsAfter stands run journal s.pass.node s.node) seats
-    stand_each = in_each (λ (s : Seat N). StandsAfter stands run journal s.pass.node s.node) seats stand
+    dutiful_is : tells → IsDutiful script journal
+    dutiful_is told = is_dutiful script start epochs can journal starts epochs_are hub passes held (knows told)
 
     many : length seats ≡ length (nodes_of script)
     many = sym (map_size (λ (s : Seat N). s.pass.node) seats) ∙ ap (λ (l : List Node). length l) are
@@ -156,10 +164,10 @@ module _ {N : Type 0} (tells : Type 0) (stands : Part → N → List Round → L
       first_seat [] i lt = absurd (omega (arith, lt))
       first_seat (s ∷ l) i lt = s
 
-      -- a node of the list stands where its steps have brought it
-      stand_at : (i : ℕ) (n : N) (node : Node) → i < length nodes
-          → StandsAfter stands run journal (get_or (nodes_of script) i node) (get_or nodes i n)
-      stand_at i n node lt =
+      -- what holds of each seat holds of the node at its place
+      each_place : (P : Node → N → Type 0) → ((s : Seat N) → In s seats → P s.pass.node s.node)
+          → (i : ℕ) (n : N) (node : Node) → i < length nodes → P (get_or (nodes_of script) i node) (get_or nodes i n)
+      each_place P h i n node lt =
           let same = size in
           let here : i < length seats = omega (arith, lt, same) in
           let d = first_seat seats i here in
@@ -168,20 +176,78 @@ module _ {N : Type 0} (tells : Type 0) (stands : Part → N → List Round → L
           ap (λ l. get_or l i node) (sym are) ∙ map_here (λ (x : Seat N). x.pass.node) seats i d node here in
           let n_is : get_or nodes i n ≡ s.node =
           ap (λ l. get_or l i n) sit ∙ map_here (λ (x : Seat N). x.node) seats i d n here in
-          subst (λ (k : Node). StandsAfter stands run journal k (get_or nodes i n)) (sym node_is)
-          (subst (StandsAfter stands run journal s.pass.node) (sym n_is) (stand_each i d here))
+          subst (λ (k : Node). P k (get_or nodes i n)) (sym node_is)
+          (subst (P s.pass.node) (sym n_is)
+          (in_each (λ (x : Seat N). P x.pass.node x.node) seats h i d here))
 
-      pub driven : HasDriven tells stands script start epochs nodes journal
-      driven = record {
-        starts = starts;
-        epochs_are = epochs_are;
-        planned = held.planned;
-        rules = rules;
-        done = done;
-        run = (λ told. is_run script start epochs can journal starts epochs_are hub passes held (knows told) all);
-        dutiful = (λ told. is_dutiful script start epochs can journal starts epochs_are hub passes held
-            (knows told) all);
-        ended = (λ told. is_ended script start epochs can journal starts epochs_are hub passes held (knows told) all);
-        count = size ∙ many;
-        stand = stand_at;
-      }
+      -- nodes that sit there, and have nothing to hand in
+      module _ (sitting : (s : Seat N) → In s seats → IsSeated stands run hub s × (s.steps.steps ≡ [])) where
+        stand : (s : Seat N) → In s seats → StandsAfter stands run journal s.pass.node s.node
+        stand s i =
+            let h = sitting s i in record {
+              rounds = h.0.rounds;
+              stood = subst (stands (part_of run s.pass.node) s.node h.0.rounds) h.1 h.0.stood;
+              own = own_is s i h.0.rounds h.0.made;
+            }
+
+        pub stand_after : StandAfter stands run journal nodes
+        stand_after = each_place (StandsAfter stands run journal) stand
+
+      -- nodes that are through
+      module _ (through : (s : Seat N) → In s seats → IsThrough stands run hub tells s) where
+        seat_done : (s : Seat N) → In s seats → Knows tells s.pass.node
+            → IsDone run s.pass.node (mine s.pass.node (past_of journal))
+        seat_done s i knows =
+            let t = through s i in
+            subst (IsDone run s.pass.node) (sym (own_is s i t.seated.rounds t.seated.made)) (t.done knows)
+
+        done : (node : Node) → In node (nodes_of script) → Knows tells node
+            → IsDone run node (mine node (past_of journal))
+        done node i knows =
+            let j = seat_of node i in
+            subst (λ (n : Node). IsDone run n (mine n (past_of journal))) (sym j.2)
+            (seat_done j.0 j.1 (subst (Knows tells) j.2 knows))
+
+        pub driven : HasDriven tells stands script start epochs nodes journal
+        driven = record {
+          starts = starts;
+          epochs_are = epochs_are;
+          planned = held.planned;
+          rules = rules;
+          done = done;
+          run = run_is;
+          dutiful = dutiful_is;
+          ended = (λ told. is_ended script start epochs can journal starts epochs_are hub passes held (knows told)
+              (λ n i. done n i (all_known told n)));
+          count = size ∙ many;
+          stand = stand_after (λ s i. ((through s i).seated, (through s i).none));
+        }
+
+      -- nodes that came to no end
+      module _ (stays : N → N → Type 0) (failed : NodeFault → N → N → Type 0)
+          (stood : (s : Seat N) → In s seats → HasStood stands stays failed run hub s.pass s.node) where
+        stood_after : (s : Seat N) → In s seats
+            → HasStoodAfter stands stays failed run journal s.pass.node s.node
+        stood_after s i =
+            let h = stood s i in record {
+              rounds = h.rounds;
+              own = own_is s i h.rounds h.made;
+              before = h.before;
+              past = h.past;
+              handed = h.handed;
+              stood = h.stood;
+              whole = h.whole;
+              since = h.since;
+            }
+
+        pub stopped : HasStopped tells stands stays failed script start epochs nodes journal
+        stopped = record {
+          starts = starts;
+          epochs_are = epochs_are;
+          planned = held.planned;
+          rules = rules;
+          run = run_is;
+          dutiful = dutiful_is;
+          count = size ∙ many;
+          stood = each_place (HasStoodAfter stands stays failed run journal) stood_after;
+        }

@@ -1,7 +1,7 @@
 -- The seats at the start of a run and at its end.
-use Rattle.std.proofs.Common.{◌≡◌, inl, inr, ℕ, ◌<◌, false, List, [], ◌∷◌, Option, None, Some}
+use Rattle.std.proofs.Common.{◌≡◌, ⊎_elim, inl, inr, ℕ, ◌<◌, false, List, [], ◌∷◌, Option, None, Some}
 use Rattle.std.proofs.Common.{map, length, get_or, refl, sym, ap, ◌∙◌, subst, arith}
-use Rattle.std.specs.Prelude.{IfErr, IfOk, OnOk, Result, Ok, Err}
+use Rattle.std.specs.Prelude.{◌⊎◌, IfErr, IfOk, IfSome, OnOk, Result, Ok, Err}
 use Rattle.base_types.specs.declared.ids.Node.{Node}
 use Rattle.base_types.specs.declared.ids.Node.TheVariants.{Host}
 use Rattle.tree_answers.specs.declared.tree.Tree.{Tree}
@@ -10,21 +10,24 @@ use Rattle.hub_board.specs.Hubs.{nodes_of}
 use Rattle.hub_board.specs.declared.given.Turn.{Turn}
 use Rattle.hub_turns.specs.Meetings.{HasEnded, first_pass}
 use Rattle.hub_turns.specs.Views.{HubView, NodeView}
+use Rattle.run_rules.specs.Past.{In}
 use Rattle.run_rules.specs.declared.journal.Journal.{Journal}
 use Rattle.run_rules.specs.declared.step.Step.{Step}
 use Rattle.hub_laws.specs.Keeping.{Round, steps_in}
-use Rattle.hub_drive.specs.Driving.{AreNodes, CanStart, HasDriven, HasRested, HaveRested, IsFault, IsFree, IsHubOf}
+use Rattle.hub_drive.specs.Driving.{AreNodes, CanStart, HasDriven, HasRested, HasStopped, HaveRested, IsFault, IsFree}
+use Rattle.hub_drive.specs.Driving.{IsHubOf, StandAfter}
 use Rattle.hub_drive.specs.Driving.{IsJournalOf, IsUndone, IsUndoneAt, ShowsFault, beginning}
 use Rattle.hub_node.specs.Nodes.{Beginning, HandsIn, HasBecome, IsDone, Knows, Part, part_of}
 use Rattle.hub_node.specs.declared.node.NodeFault.{NodeFault}
 use Rattle.hub_node.specs.declared.node.NodeFault.TheVariants.{Store as StoreFailed}
-use Rattle.hub_drive.specs.Seats.{EachAt, HasGone, IsAtRest, IsHere, IsIn, IsSeated, IsThrough, PairsAt}
+use Rattle.hub_drive.specs.Seats.{EachAt, HasGone, HasStood, IsAtRest, IsHere, IsIn, IsSeated, IsThrough, PairsAt}
 use Rattle.hub_drive.specs.declared.driver.DriveFault.{DriveFault}
 use Rattle.hub_drive.specs.declared.driver.DriveFault.TheVariants.{Store, Memory, Stuck}
 use Rattle.hub_drive.specs.declared.driver.Waiting.{Waiting}
 use Rattle.hub_drive.specs.declared.seat.Seat.{Seat}
-use Rattle.hub_drive.proofs.Closing.{driven}
-use Rattle.hub_drive.proofs.Lists.{map_here, map_size, maps_same, pairs_map, same_at}
+use Rattle.hub_drive.proofs.Closing.{IsSat, driven, sat_stood, sat_through, stand_after, stopped}
+use Rattle.hub_drive.proofs.Lists.{each_in, map_here, map_size, maps_same, pairs_map, same_at}
+use Rattle.hub_drive.proofs.Turning.{stood_first}
 
 pub if_ok : {T E : Type 0} (r : Result T E) (P Q : T → Type 0) → ((x : T) → P x → Q x) → IfOk r P → IfOk r Q
 if_ok (Ok x) P Q f h = f x h
@@ -39,13 +42,23 @@ pub on_any : {T E P : Type 0} (r : Result T E) → P → OnOk r P
 on_any (Ok x) p = p
 on_any (Err e) p = tt
 
-pub on_none : {T E : Type 0} (P : Type 0) (r : Result T E) (e : E) → r ≡ Err e → OnOk r P
-on_none P (Ok x) e is = absurd (cc)
-on_none P (Err x) e is = tt
+-- what comes never
+pub on_never : {T E : Type 0} (r : Result T E) (P : Type 0) → OnOk r ⊥ → OnOk r P
+on_never (Ok x) P h = absurd h
+on_never (Err e) P h = tt
 
-pub err_at : {T E : Type 0} (r : Result T E) (e : E) (P : E → Type 0) → r ≡ Err e → P e → IfErr r P
-err_at (Ok x) e P is h = absurd (cc)
-err_at (Err x) e P is h = let same : e ≡ x = cc in subst P same h
+pub ok_never : {T E : Type 0} (r : Result T E) (P : T → Type 0) → OnOk r ⊥ → IfOk r P
+ok_never (Ok x) P h = absurd h
+ok_never (Err e) P h = tt
+
+pub none_some : {A : Type 0} (o : Option A) (P : A → Type 0) → o ≡ None → IfSome o P
+none_some None P e = tt
+none_some (Some x) P e = absurd (cc)
+
+pub is_memory : (fault : DriveFault) → IsFree fault → fault ≡ Memory
+is_memory (Store k) h = absurd h
+is_memory (Stuck w) h = absurd h
+is_memory Memory h = refl
 
 module _ {N : Type 0} where
   abbrev pub node_of : Seat N → N
@@ -173,6 +186,14 @@ module _ {N : Type 0} where
     free_of tells run olds news Memory h = tt
     free_of tells run olds news (Stuck w) h = absurd h
 
+    -- the fault is this one, or memory ran out
+    pub fault_or_free : (tells : Type 0) (run : Beginning) (olds news : List N) (fault : DriveFault)
+        → IsFault tells stands run failed next olds news fault → (f : DriveFault) → (f ≡ fault) ⊎ IsFree f
+        → IsFault tells stands run failed next olds news f
+    fault_or_free tells run olds news fault h f either = ⊎_elim
+        (λ (e : f ≡ fault). subst (IsFault tells stands run failed next olds news) (sym e) h)
+        (λ (free : IsFree f). free_of tells run olds news f free) either
+
   -- seats that were in a run are in it still
   pub all_in : (stands : Part → N → List Round → List Step → Type 0) (stays : N → N → Type 0)
       (failed : NodeFault → N → N → Type 0) (hub : HubView) (run : Beginning) (olds news : List (Seat N))
@@ -182,6 +203,26 @@ module _ {N : Type 0} where
       let n = h.count in
       let here : i < length olds = omega (arith, lt, n) in
       (h.each i d here).kept run (at i d here)
+
+  -- those that have stood in a run have done so still
+  pub all_stood : (stands : Part → N → List Round → List Step → Type 0) (stays : N → N → Type 0)
+      (failed : NodeFault → N → N → Type 0) (hub : HubView) (run : Beginning) (olds news : List (Seat N))
+      → PairsAt (HasGone stands stays failed hub) olds news → EachAt (IsIn stands run hub) olds
+      → EachAt (λ (s : Seat N). HasStood stands stays failed run hub s.pass s.node) olds
+      → EachAt (λ (s : Seat N). HasStood stands stays failed run hub s.pass s.node) news
+  all_stood stands stays failed hub run olds news h at stood i d lt =
+      let n = h.count in
+      let here : i < length olds = omega (arith, lt, n) in
+      (h.each i d here).held run (at i d here) (stood i d here)
+
+  -- those that have just sat down stand there
+  pub first_stood : (stands : Part → N → List Round → List Step → Type 0) (stays : N → N → Type 0)
+      (failed : NodeFault → N → N → Type 0) (so : (a : N) → stays a a) (hub : HubView) (run : Beginning)
+      (seats : List (Seat N)) → EachAt (IsSeated stands run hub) seats
+      → EachAt (λ (s : Seat N). (s.steps.steps ≡ []) × (s.fault ≡ None)) seats
+      → EachAt (λ (s : Seat N). HasStood stands stays failed run hub s.pass s.node) seats
+  first_stood stands stays failed so hub run seats at empty i d lt =
+      stood_first stands stays failed so run hub (get_or seats i d) (at i d lt) (empty i d lt).0
 
   -- those that sit in a run sit somewhere
   pub all_here : (stands : Part → N → List Round → List Step → Type 0) (hub : HubView) (run : Beginning)
@@ -238,23 +279,23 @@ module _ {N : Type 0} where
           stood = subst (stands (part_of run s.pass.node) s.node []) (sym (empty i d lt).0) own;
         }
 
--- passes of nodes that are through are ready for the hub to be closed
-pub close_ready : {N : Type 0} (tells : Type 0) (stands : Part → N → List Round → List Step → Type 0) (run : Beginning)
-    (hub : HubView) (seats : List (Seat N)) (passes : List NodeView) → EachAt (IsThrough stands run hub tells) seats
+-- passes of nodes that sit at a hub are ready for it to be closed
+pub close_ready : {N : Type 0} (hub : HubView) (seats : List (Seat N)) (passes : List NodeView)
+    → EachAt (λ (s : Seat N). s.pass.hub ≡ hub.id) seats
     → passes ≡ map (λ (s : Seat N). s.pass) seats → length seats ≡ hub.nodes
     → (length passes ≡ hub.nodes) × EachAt (λ (p : NodeView). p.hub ≡ hub.id) passes
-close_ready tells stands run hub [] passes h are count = (
+close_ready hub [] passes h are count = (
   ap (λ (l : List NodeView). length l) are ∙ count,
   λ i d lt. absurd (let e = ap (λ (l : List NodeView). length l) are in omega arith),
 )
-close_ready {N} tells stands run hub (s ∷ seats) passes h are count =
+close_ready {N} hub (s ∷ seats) passes h are count =
     let size = map_size (λ (x : Seat N). x.pass) (s ∷ seats) in
     let sizes = ap (λ (l : List NodeView). length l) are in (
       sizes ∙ size ∙ count,
       (λ i d lt.
           let there : i < length (s ∷ seats) = omega (arith, lt, sizes, size) in
           let at = ap (λ l. get_or l i d) are ∙ map_here (λ (x : Seat N). x.pass) (s ∷ seats) i s d there in
-          ap (λ (p : NodeView). p.hub) at ∙ (h i s there).seated.hub_is),
+          ap (λ (p : NodeView). p.hub) at ∙ h i s there),
     )
 
 -- the run of nodes that are through, by the turns of the hub that was closed
@@ -267,9 +308,47 @@ pub driven_by : {N : Type 0} (tells : Type 0) (stands : Part → N → List Roun
     → nodes ≡ map node_of seats → passes ≡ map (λ (s : Seat N). s.pass) seats → (journal : Journal)
     → ((turns : List Turn) × HasEnded hub turns passes × IsJournalOf start epochs turns journal)
     → HasDriven tells stands script start epochs nodes journal
-driven_by tells stands hands_in script start epochs can hub hub_is seats are through nodes passes sit have journal h =
-    driven tells stands hands_in script start epochs can hub hub_is seats are through h.0 journal
-    h.2.starts h.2.epochs_are h.2.steps (subst (HasEnded hub h.0) have h.1) nodes sit
+driven_by {N} tells stands hands_in script start epochs can hub hub_is seats are through nodes passes sit have journal
+    h =
+    let run = beginning script start epochs in
+    let each : (s : Seat N) → In s seats → IsThrough stands run hub tells s =
+    λ s i. each_in (IsThrough stands run hub tells) seats s through i in
+    driven tells stands script start epochs can hub hub_is seats are
+    (λ s i. sat_through tells stands hands_in run hub s (each s i)) h.0 journal
+    h.2.starts h.2.epochs_are h.2.steps (subst (HasEnded hub h.0) have h.1) nodes sit each
+
+-- the run of nodes that came to no end, by the turns of the hub that was closed
+module _ {N : Type 0} (tells : Type 0) (stands : Part → N → List Round → List Step → Type 0)
+    (stays : N → N → Type 0) (failed : NodeFault → N → N → Type 0)
+    (hands_in : (n : N) → HandsIn tells stands n) (script : Script) (start : Tree) (epochs : List ℕ)
+    (can : CanStart script start epochs) (hub : HubView) (hub_is : IsHubOf script hub) (seats : List (Seat N))
+    (are : map (λ (s : Seat N). s.pass.node) seats ≡ nodes_of script)
+    (stood : EachAt (λ (s : Seat N). HasStood stands stays failed (beginning script start epochs) hub s.pass s.node)
+    seats)
+    (nodes : List N) (passes : List NodeView) (sit : nodes ≡ map node_of seats)
+    (have : passes ≡ map (λ (s : Seat N). s.pass) seats) (journal : Journal)
+    (h : (turns : List Turn) × HasEnded hub turns passes × IsJournalOf start epochs turns journal) where
+  stood_each : (s : Seat N) → In s seats
+      → HasStood stands stays failed (beginning script start epochs) hub s.pass s.node
+  stood_each s i =
+      each_in (λ (x : Seat N). HasStood stands stays failed (beginning script start epochs) hub x.pass x.node)
+      seats s stood i
+
+  sat_each : (s : Seat N) → In s seats → IsSat tells (beginning script start epochs) hub s.pass
+  sat_each s i =
+      sat_stood tells stands hands_in (beginning script start epochs) hub stays failed s.pass s.node (stood_each s i)
+
+  pub stopped_by : HasStopped tells stands stays failed script start epochs nodes journal
+  stopped_by = stopped tells stands script start epochs can hub hub_is seats are sat_each h.0 journal
+      h.2.starts h.2.epochs_are h.2.steps (subst (HasEnded hub h.0) have h.1) nodes sit stays failed stood_each
+
+  -- those that are at rest stand where it brought them
+  pub rests_by : EachAt (IsAtRest stands (beginning script start epochs) hub tells) seats
+      → StandAfter stands (beginning script start epochs) journal nodes
+  rests_by rest = stand_after tells stands script start epochs can hub hub_is seats are sat_each h.0 journal
+      h.2.starts h.2.epochs_are h.2.steps (subst (HasEnded hub h.0) have h.1) nodes sit
+      (λ s i. (let r = each_in (IsAtRest stands (beginning script start epochs) hub tells) seats s rest i in
+      (r.seated, r.none)))
 
 pub seats_count : {N : Type 0} (script : Script) (seats : List (Seat N))
     → map (λ (s : Seat N). s.pass.node) seats ≡ nodes_of script → length seats ≡ length (nodes_of script)

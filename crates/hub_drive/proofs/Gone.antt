@@ -19,6 +19,7 @@ module _ {N : Type 0} (stands : Part → N → List Round → List Step → Type
     stayed = (λ well. so s.node);
     fails = (λ well fault e. let clash = sym well ∙ e in absurd (cc));
     frozen = (λ ill. (refl, refl));
+    held = (λ run at h. h);
   }
 
   stays_by : (a b c : Seat N) (fault : Option NodeFault) → b.fault ≡ fault → HasGone stands stays failed hub a b
@@ -48,6 +49,7 @@ module _ {N : Type 0} (stands : Part → N → List Round → List Step → Type
     frozen = (λ ill.
         let first = h.frozen ill in
         let second = k.frozen (λ e. ill (sym first.1 ∙ e)) in (second.0 ∙ first.0, second.1 ∙ first.1));
+    held = (λ run at x. k.held run (h.kept run at) (h.held run at x));
   }
 
 -- a seat that was somewhere is there still

@@ -31,12 +31,11 @@ node_self : (n : Node) → is_node n n ≡ true
 node_self (Host h) = eq-eqb h.0 h.0 refl
 node_self (Server v) = eq-eqb v.0 v.0 refl
 
--- what is known of a pass of a closed hub: its node is one of the script, its own steps meet its rules, and it is done
+-- what is known of a pass of a closed hub: its node is one of the script, and its own steps meet its rules
 pub record IsKnown (script : Script) (start : Tree) (epochs : List ℕ) (past : List Step) (pass : NodeView)
     : Type 0 where
   pub among : In pass.node (nodes_of script)
   pub meets : Always (OwnMeets (beginning script start epochs) pass.node) (mine pass.node past)
-  pub done : IsDone (beginning script start epochs) pass.node (mine pass.node past)
 
 module _ (script : Script) (start : Tree) (epochs : List ℕ) where
   abbrev firsts : ServerId → ℕ
@@ -117,8 +116,7 @@ in_steps s steps i = ⊎_elim (λ (a : In s steps). a) (λ (none : In s []). abs
 module _ (script : Script) (start : Tree) (epochs : List ℕ) (can : CanStart script start epochs) (journal : Journal)
     (starts : journal.start ≡ start ∷ []) (epochs_are : journal.epochs ≡ epochs) (hub : HubView)
     (passes : List NodeView) (held : HasHeld script hub passes journal)
-    (knows : (p : NodeView) → In p passes → IsKnown script start epochs (past_of journal) p)
-    (all : (n : Node) → In n (nodes_of script) → (p : NodeView) × In p passes × (p.node ≡ n)) where
+    (knows : (p : NodeView) → In p passes → IsKnown script start epochs (past_of journal) p) where
   abbrev past : List Step
   past = past_of journal
 
@@ -154,20 +152,17 @@ module _ (script : Script) (start : Tree) (epochs : List ℕ) (can : CanStart sc
         (λ p i. own_always (P script start epochs p.node) p.node past (knows p i).meets));
   }
 
-  done_at : (n : Node) → In n (nodes_of script) → IsDone (beginning script start epochs) n (mine n past)
-  done_at n i =
-      let p = all n i in
-      subst (λ (m : Node). IsDone (beginning script start epochs) m (mine m past)) p.2 (knows p.0 p.1).done
+  -- and each node is done
+  module _ (done : (n : Node) → In n (nodes_of script) → IsDone (beginning script start epochs) n (mine n past)) where
+    abbrev Goes : ServerId → HostId → List Doing → Type 0
+    Goes server host acts_of = Listed acts_of host → HasGoneAway acts_of host
 
-  abbrev Goes : ServerId → HostId → List Doing → Type 0
-  Goes server host acts_of = Listed acts_of host → HasGoneAway acts_of host
-
-  pub is_ended : IsEnded script journal
-  is_ended = record {
-    hosts = (λ host takes. done_at (Host host) (is_host script can.servers host takes));
-    lines = (λ server i. (done_at (Server server) (is_server script can.servers server i)).0);
-    servers = (λ server host i.
-        let own_done = (done_at (Server server) (is_server script can.servers server i)).1 host in
-        subst (λ e. Goes server host (doings_of (first_epoch e server) server past)) (sym epochs_are)
-        (subst (Goes server host) (acts_own (first_epoch epochs server) server past) own_done));
-  }
+    pub is_ended : IsEnded script journal
+    is_ended = record {
+      hosts = (λ host takes. done (Host host) (is_host script can.servers host takes));
+      lines = (λ server i. (done (Server server) (is_server script can.servers server i)).0);
+      servers = (λ server host i.
+          let own_done = (done (Server server) (is_server script can.servers server i)).1 host in
+          subst (λ e. Goes server host (doings_of (first_epoch e server) server past)) (sym epochs_are)
+          (subst (Goes server host) (acts_own (first_epoch epochs server) server past) own_done));
+    }

@@ -14,7 +14,8 @@ use Rattle.hub_board.specs.declared.given.Given.{Given}
 use Rattle.hub_board.specs.declared.given.Turned.{Turned}
 use Rattle.hub_board.specs.declared.given.Turned.TheVariants.{Ended, Idle, Worked}
 use Rattle.hub_board.specs.declared.given.Given.TheVariants.{Message as Came, Raised as WasRaised}
-use Rattle.std.specs.Prelude.{IfOk, OnOk, Result, Ok, Err, option_map}
+use Rattle.std.specs.Prelude.{IfErr, IfOk, OnOk, Result, Ok, Err, option_map}
+use Rattle.std.proofs.Common.{inl, inr}
 use Rattle.hub_turns.specs.Meetings.{AreSent, HasPassed, IsGivenSound, IsRefused}
 use Rattle.hub_turns.specs.Views.{HubView, NodeView}
 use Rattle.run_rules.specs.Past.{Always, appended}
@@ -25,8 +26,10 @@ use Rattle.hub_wire.specs.Packets.{is_released, any_free}
 use Rattle.hub_wire.proofs.Takes.{takes_first}
 use Rattle.hub_laws.specs.Keeping.{Round, steps_in}
 use Rattle.hub_laws.specs.Closings.{HasMade, KeepsOn}
+use Rattle.hub_laws.proofs.Passing.{made_stays}
 use Rattle.hub_node.specs.Nodes.{Beginning, HandsIn, IsDone, IsGivenTo, Knows, MayHandIn, Part, part_of}
-use Rattle.hub_drive.specs.Seats.{IsAtRest, IsSeated, IsThrough}
+use Rattle.hub_node.specs.declared.node.NodeFault.{NodeFault}
+use Rattle.hub_drive.specs.Seats.{HasComeTo, HasStood, IsAtRest, IsSeated, IsThrough}
 use Rattle.hub_drive.specs.declared.seat.Seat.{Seat}
 
 untouched : (pass : NodeView) → IsRefused pass pass
@@ -119,6 +122,27 @@ module _ {N : Type 0} (tells : Type 0) (stands : Part → N → List Round → L
           (done (subst (Knows tells) (node_on s' is) knows)));
     }
 
+    -- the node has handed in, and did its work, or something failed there
+    pub stood_on : (stays : N → N → Type 0) (failed : NodeFault → N → N → Type 0) (n : N)
+        → HasComeTo stands stays failed part (round ∷ seated.rounds) s.node n
+        → HasStood stands stays failed run hub pass n
+    stood_on stays failed n since =
+        let own : pass.node ≡ s.pass.node = ap (λ (p : NodeView). p.node) passed.pass_is in record {
+          hub_is = ap (λ (p : NodeView). p.hub) passed.pass_is ∙ seated.hub_is;
+          rounds = round ∷ seated.rounds;
+          made = made_goes_on hub seated.rounds s.pass pass round seated.made passed;
+          keeps = subst (λ (k : Node). Always (KeepsOn run.script k) (round ∷ seated.rounds)) (sym own)
+              (seated.keeps, may.keeps given);
+          before = s.node;
+          past = seated.rounds;
+          handed = s.steps.steps;
+          stood = subst (λ (k : Node). stands (part_of run k) s.node seated.rounds s.steps.steps) (sym own)
+              seated.stood;
+          whole = refl;
+          since = subst (λ (k : Node). HasComeTo stands stays failed (part_of run k) (round ∷ seated.rounds) s.node n)
+              (sym own) since;
+        }
+
     -- nothing came
     pub rests_on : (s' : Seat N) → s'.pass ≡ pass → stands part s'.node (round ∷ seated.rounds) s'.steps.steps
         → s'.fault ≡ None → s.steps.steps ≡ [] → given ≡ None → s'.steps.steps ≡ []
@@ -136,6 +160,49 @@ module _ {N : Type 0} (tells : Type 0) (stands : Part → N → List Round → L
           (subst (λ (l : List Step). IsDone run s.pass.node (appended l (steps_in seated.rounds))) (sym handed)
           (subst (λ (n : Node). IsDone run n (steps_in seated.rounds)) (node_on s' is) done)));
     }
+
+-- nothing was handed in through a pass for want of memory
+pub stood_still : {N : Type 0} (stands : Part → N → List Round → List Step → Type 0) (stays : N → N → Type 0)
+    (failed : NodeFault → N → N → Type 0) (run : Beginning) (hub : HubView) (old new : NodeView) (n : N)
+    → HasStood stands stays failed run hub old n → IsRefused old new → HasStood stands stays failed run hub new n
+stood_still stands stays failed run hub old new n h refused =
+    let own : new.node ≡ old.node = ap (λ (p : NodeView). p.node) refused.pass_is in record {
+      hub_is = ap (λ (p : NodeView). p.hub) refused.pass_is ∙ h.hub_is;
+      rounds = h.rounds;
+      made = made_stays hub h.rounds old new h.made refused;
+      keeps = subst (λ (k : Node). Always (KeepsOn run.script k) h.rounds) (sym own) h.keeps;
+      before = h.before;
+      past = h.past;
+      handed = h.handed;
+      stood = subst (λ (k : Node). stands (part_of run k) h.before h.past h.handed) (sym own) h.stood;
+      whole = h.whole;
+      since = subst (λ (k : Node). HasComeTo stands stays failed (part_of run k) h.rounds h.before n) (sym own) h.since;
+    }
+
+-- one that sits there with nothing to hand in stands there
+pub stood_first : {N : Type 0} (stands : Part → N → List Round → List Step → Type 0) (stays : N → N → Type 0)
+    (failed : NodeFault → N → N → Type 0) (so : (a : N) → stays a a) (run : Beginning) (hub : HubView) (s : Seat N)
+    → IsSeated stands run hub s → s.steps.steps ≡ [] → HasStood stands stays failed run hub s.pass s.node
+stood_first stands stays failed so run hub s h none = record {
+  hub_is = h.hub_is;
+  rounds = h.rounds;
+  made = h.made;
+  keeps = h.keeps;
+  before = s.node;
+  past = h.rounds;
+  handed = [];
+  stood = subst (stands (part_of run s.pass.node) s.node h.rounds) none h.stood;
+  whole = refl;
+  since = inl ([], subst (stands (part_of run s.pass.node) s.node h.rounds) none h.stood, so s.node);
+}
+
+-- what has become of a node, by what came of its work
+pub came_by : {N T : Type 0} (stands : Part → N → List Round → List Step → Type 0) (stays : N → N → Type 0)
+    (failed : NodeFault → N → N → Type 0) (part : Part) (rounds : List Round) (made : List Step) (before n : N)
+    (r : Result T NodeFault) → OnOk r (stands part n rounds made) → OnOk r (stays before n)
+    → IfErr r (λ fault. failed fault before n) → HasComeTo stands stays failed part rounds before n
+came_by stands stays failed _ rounds made before n (Ok x) stood h f = inl (made, stood, h)
+came_by stands stays failed _ rounds made before n (Err fault) stood h f = inr (fault, f)
 
 -- what is neither of the others
 pub is_idle : (turned : Turned) → (turned ≡ Worked → ⊥) → (turned ≡ Ended → ⊥) → turned ≡ Idle

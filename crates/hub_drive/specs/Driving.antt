@@ -8,7 +8,7 @@ use Rattle.script_lines.specs.declared.script.Script.{Script}
 use Rattle.hub_board.specs.Hubs.{first_hub, nodes_of}
 use Rattle.hub_board.specs.Turning.{steps_of}
 use Rattle.hub_board.specs.declared.given.Turn.{Turn}
-use Rattle.run_rules.specs.Past.{Always, In}
+use Rattle.run_rules.specs.Past.{Always, In, appended}
 use Rattle.run_rules.specs.Plans.{IsPlanned}
 use Rattle.run_rules.specs.Runs.{IsDutiful, IsEnded, IsRun, IsValid, past_of}
 use Rattle.run_rules.specs.Steps.{is_node}
@@ -22,6 +22,7 @@ use Rattle.hub_drive.specs.declared.driver.DriveFault.TheVariants.{Memory, Store
 use Rattle.hub_drive.specs.declared.driver.Waiting.{Waiting}
 use Rattle.hub_node.specs.declared.node.NodeFault.{NodeFault}
 use Rattle.hub_node.specs.declared.node.NodeFault.TheVariants.{Store as StoreFailed}
+use Rattle.hub_drive.specs.Seats.{HasComeTo}
 use Rattle.hub_drive.specs.declared.seat.Seat.{Seat}
 
 -- what a run of a script can begin from
@@ -60,6 +61,12 @@ pub record StandsAfter {N : Type 0} (stands : Part → N → List Round → List
   pub stood : stands (part_of run node) n rounds []
   pub own : own_steps journal node ≡ steps_in rounds
 
+-- so do all nodes of a run
+abbrev pub StandAfter : {N : Type 0} → (Part → N → List Round → List Step → Type 0) → Beginning → Journal → List N
+    → Type 0
+StandAfter {N = N} stands run journal nodes = (i : ℕ) (n : N) (node : Node) → i < length nodes
+    → StandsAfter stands run journal (slice_index_or (nodes_of run.script) i node) (slice_index_or nodes i n)
+
 -- The run went to its end: its journal starts from the tree and in the epochs, and keeps to the plan of the script;
 -- each host's own steps meet its rules, and it is done, and so it is with the servers where it is known what their
 -- stores keep; then the journal is a run of the script, in which what is due is done, and is ended; and each node
@@ -77,9 +84,40 @@ pub record HasDriven {N : Type 0} (tells : Type 0) (stands : Part → N → List
   pub dutiful : tells → IsDutiful script journal
   pub ended : tells → IsEnded script journal
   pub count : length nodes ≡ length (nodes_of script)
-  pub stand : (i : ℕ) (n : N) (node : Node) → i < length nodes
-      → StandsAfter stands (beginning script start epochs) journal (slice_index_or (nodes_of script) i node)
-      (slice_index_or nodes i n)
+  pub stand : StandAfter stands (beginning script start epochs) journal nodes
+
+-- A node has stood where its own steps in a journal brought it: so it did as it was when it handed in the last of them,
+-- or before its first turn. It stands there still, with some steps that it has made since and not handed in; or
+-- something failed there since then.
+pub record HasStoodAfter {N : Type 0} (stands : Part → N → List Round → List Step → Type 0) (stays : N → N → Type 0)
+    (failed : NodeFault → N → N → Type 0) (run : Beginning) (journal : Journal) (node : Node) (n : N) : Type 0 where
+  pub rounds : List Round
+  pub own : own_steps journal node ≡ steps_in rounds
+  pub before : N
+  pub past : List Round
+  pub handed : List Step
+  pub stood : stands (part_of run node) before past handed
+  pub whole : steps_in rounds ≡ appended handed (steps_in past)
+  pub since : HasComeTo stands stays failed (part_of run node) rounds before n
+
+-- The run came to no end: the journal so far starts from the tree and in the epochs, and keeps to the plan of the
+-- script; each host's own steps meet its rules, and so it is with the servers where it is known what their stores keep;
+-- then it is a run of the script, in which what is due is done. All steps that were handed in are in it: each node
+-- stood where its own steps in it brought it when it handed in the last of them.
+pub record HasStopped {N : Type 0} (tells : Type 0) (stands : Part → N → List Round → List Step → Type 0)
+    (stays : N → N → Type 0) (failed : NodeFault → N → N → Type 0) (script : Script) (start : Tree) (epochs : List ℕ)
+    (nodes : List N) (journal : Journal) : Type 0 where
+  pub starts : journal.start ≡ start ∷ []
+  pub epochs_are : journal.epochs ≡ epochs
+  pub planned : IsPlanned script journal
+  pub rules : (node : Node) → In node (nodes_of script) → Knows tells node
+      → Always (OwnMeets (beginning script start epochs) node) (own_steps journal node)
+  pub run : tells → IsRun script journal
+  pub dutiful : tells → IsDutiful script journal
+  pub count : length nodes ≡ length (nodes_of script)
+  pub stood : (i : ℕ) (n : N) (node : Node) → i < length nodes
+      → HasStoodAfter stands stays failed (beginning script start epochs) journal
+      (slice_index_or (nodes_of script) i node) (slice_index_or nodes i n)
 
 -- a journal from a tree and in these epochs, with the steps of these turns
 pub record IsJournalOf (start : Tree) (epochs : List ℕ) (turns : List Turn) (journal : Journal) : Type 0 where

@@ -1,7 +1,7 @@
 -- Nodes at the hub, each with its pass and the steps that it hands in next.
-use Rattle.std.specs.Prelude.{List, None, Some, [], false, length, slice_index_or, ◌<◌, ◌∷◌, ◌≡◌, ℕ}
-use Rattle.hub_turns.specs.Views.{HubView}
-use Rattle.run_rules.specs.Past.{Always}
+use Rattle.std.specs.Prelude.{List, None, Some, [], false, length, slice_index_or, ◌<◌, ◌∷◌, ◌≡◌, ◌⊎◌, ℕ}
+use Rattle.hub_turns.specs.Views.{HubView, NodeView}
+use Rattle.run_rules.specs.Past.{Always, appended}
 use Rattle.run_rules.specs.declared.step.Step.{Step}
 use Rattle.hub_laws.specs.Keeping.{Round, steps_in}
 use Rattle.hub_laws.specs.Closings.{HasMade, KeepsOn}
@@ -47,9 +47,32 @@ pub record IsHere {N : Type 0} (stands : Part → N → List Round → List Step
   pub run : Beginning
   pub is_in : IsIn stands run hub s
 
+-- What has become of a node since it handed in for the last time: it stands on the steps of all its rounds, with some
+-- that it has made since; or something failed there.
+abbrev pub HasComeTo : {N : Type 0} → (Part → N → List Round → List Step → Type 0) → (N → N → Type 0)
+    → (NodeFault → N → N → Type 0) → Part → List Round → N → N → Type 0
+HasComeTo stands stays failed part rounds before n =
+    ((made : List Step) × stands part n rounds made × stays before n) ⊎ ((fault : NodeFault) × failed fault before n)
+
+-- What is known of a node with its pass, even where something failed there: these rounds have made the pass, and the
+-- node has kept on in each. As it was when it handed in for the last time, or before its first turn, it stood on all
+-- the steps of these rounds.
+pub record HasStood {N : Type 0} (stands : Part → N → List Round → List Step → Type 0) (stays : N → N → Type 0)
+    (failed : NodeFault → N → N → Type 0) (run : Beginning) (hub : HubView) (pass : NodeView) (n : N) : Type 0 where
+  pub hub_is : pass.hub ≡ hub.id
+  pub rounds : List Round
+  pub made : HasMade hub rounds pass
+  pub keeps : Always (KeepsOn run.script pass.node) rounds
+  pub before : N
+  pub past : List Round
+  pub handed : List Step
+  pub stood : stands (part_of run pass.node) before past handed
+  pub whole : steps_in rounds ≡ appended handed (steps_in past)
+  pub since : HasComeTo stands stays failed (part_of run pass.node) rounds before n
+
 -- What has become of a seat: it is its node's, and that sits there still, in whatever run it did; as long as nothing
--- failed it has what stays of it, and where something has, that is so since then; and where something failed before
--- nothing was done.
+-- failed it has what stays of it, and where something has, that is so since then; where something failed before
+-- nothing was done; and whatever comes, it has stood there.
 pub record HasGone {N : Type 0} (stands : Part → N → List Round → List Step → Type 0) (stays : N → N → Type 0)
     (failed : NodeFault → N → N → Type 0) (hub : HubView) (old new : Seat N) : Type 0 where
   pub node_is : new.pass.node ≡ old.pass.node
@@ -57,6 +80,8 @@ pub record HasGone {N : Type 0} (stands : Part → N → List Round → List Ste
   pub stayed : new.fault ≡ None → stays old.node new.node
   pub fails : old.fault ≡ None → (fault : NodeFault) → new.fault ≡ Some fault → failed fault old.node new.node
   pub frozen : (old.fault ≡ None → ⊥) → (new.node ≡ old.node) × (new.fault ≡ old.fault)
+  pub held : (run : Beginning) → IsIn stands run hub old → HasStood stands stays failed run hub old.pass old.node
+      → HasStood stands stays failed run hub new.pass new.node
 
 -- it is so of each of a list
 abbrev pub EachAt : {A : Type 0} → (A → Type 0) → List A → Type 0

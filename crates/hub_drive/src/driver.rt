@@ -1,14 +1,14 @@
 //! The driver.
-ghost use Rattle.std.specs.Prelude.{◌≡◌, ◌≤◌, [], None, Err, IfOk, IfErr, IfSome, OnOk, List, false, length, map};
+ghost use Rattle.std.specs.Prelude.{◌≡◌, ◌≤◌, ◌⊎◌, [], None, Err, IfOk, IfErr, IfSome, OnOk, List, false, length, map};
 ghost use Rattle.std.specs.Prelude.{vec_capacity};
 ghost use Rattle.hub_board.specs.Hubs.{nodes_of};
 ghost use Rattle.hub_board.specs.declared.given.Turn.{Turn as TurnOf};
 ghost use Rattle.hub_turns.specs.Meetings.{HasEnded};
-ghost use Rattle.hub_drive.specs.Driving.{AreNodes, CanStart, HasDriven, IsFault, IsFree, IsHubOf, IsJournalOf};
-ghost use Rattle.hub_drive.specs.Driving.{ShowsFault, beginning};
-ghost use Rattle.hub_drive.specs.declared.driver.DriveFault.TheVariants.{Stuck as StuckAt};
+ghost use Rattle.hub_drive.specs.Driving.{AreNodes, CanStart, HasDriven, HasStopped, IsFault, IsFree, IsHubOf};
+ghost use Rattle.hub_drive.specs.Driving.{IsJournalOf, ShowsFault, StandAfter, beginning};
+ghost use Rattle.hub_drive.specs.declared.driver.DriveFault.TheVariants.{Memory as OutOfMemory, Stuck as StuckAt};
 ghost use Rattle.hub_drive.specs.declared.driver.Waiting.{Waiting as WaitingAt};
-ghost use Rattle.hub_drive.specs.Seats.{EachAt, IsSeated, IsThrough, PairsAt};
+ghost use Rattle.hub_drive.specs.Seats.{EachAt, HasStood, IsAtRest, IsSeated, IsThrough, PairsAt};
 ghost use Rattle.hub_node.specs.Nodes.{HasBecome};
 
 use crate::rounds::{Went, turn_until};
@@ -50,6 +50,8 @@ pub struct Waiting {
 pub struct Driven<N> {
     pub nodes: Vec<N>,
     pub result: Result<Journal, DriveFault>,
+    /// Where the run came to no end, its journal so far, as far as there was memory for it.
+    pub so_far: Option<Journal>,
 }
 
 // Nodes sit down, each with its pass. There is room for them.
@@ -178,24 +180,51 @@ fn close(
     }
 }
 
-// The nodes stand up again, and nothing came of the run.
+// The nodes stand up again where the run came to no end, and the hub is closed: it has the journal so far. Where memory
+// lacks for that, it has run out.
 fn stop<N: Node>(
+    alloc: Global,
+    script: &Script,
+    start: Tree,
+    epochs: Items<u64>,
+    hub: Hub,
     seats: Vec<Seat<N>>,
     mut nodes: Vec<N>,
     mut passes: Vec<NodePass>,
     fault: DriveFault,
 ) -> Driven<N>
+    requires can { CanStart script.now start epochs }
+    requires hub { IsHubOf script.now hub }
+    requires are { map (λ s. s.pass.node) seats.items ≡ nodes_of script.now }
+    requires stood { EachAt (λ s. HasStood N.stands N.stays N.failed (beginning script.now start epochs) hub s.pass
+        s.node) seats.items }
+    requires rest { (w : WaitingAt) → fault ≡ StuckAt w
+        → EachAt (IsAtRest N.stands (beginning script.now start epochs) hub N.tells) seats.items }
     requires none { (nodes.items ≡ []) × (passes.items ≡ []) }
     requires nodes_room { length seats.items ≤ vec_capacity nodes }
     requires passes_room { length seats.items ≤ vec_capacity passes }
     ensures nodes { result.nodes.items ≡ map (λ s. s.node) seats.items }
-    ensures result { result.result ≡ Err fault }
+    ensures stopped { OnOk result.result ⊥ }
+    ensures fault { IfErr result.result (λ f. (f ≡ fault) ⊎ IsFree f) }
+    ensures so_far { IfSome result.so_far (λ journal.
+        HasStopped N.tells N.stands N.stays N.failed script.now start epochs result.nodes.items journal) }
+    ensures lacks { IfErr result.result (λ f. result.so_far ≡ None → f ≡ OutOfMemory) }
+    ensures stuck { (w : WaitingAt) → result.result ≡ Err (StuckAt w) → IfSome result.so_far (λ journal.
+        StandAfter N.stands (beginning script.now start epochs) journal result.nodes.items) }
 {
+    let _script = script;
     unseat(seats, &mut nodes, &mut passes);
-    drop(passes);
-    Driven {
-        nodes,
-        result: Err(fault),
+    match journal_of(alloc, hub, passes, start, epochs) {
+        Ok(journal) => Driven {
+            nodes,
+            result: Err(fault),
+            so_far: Some(journal),
+        },
+        Err(NoMemory) => Driven {
+            nodes,
+            result: Err(DriveFault::Memory),
+            so_far: None,
+        },
     }
 }
 
@@ -221,11 +250,16 @@ fn finish<N: Node>(
     ensures driven { IfOk result.result
         (λ journal. HasDriven N.tells N.stands script.now start epochs result.nodes.items journal) }
     ensures failed { IfErr result.result (λ fault. IsFree fault) }
+    ensures none { result.so_far ≡ None }
 {
     let _script = script;
     unseat(seats, &mut nodes, &mut passes);
     let result = close(alloc, hub, passes, start, epochs);
-    Driven { nodes, result }
+    Driven {
+        nodes,
+        result,
+        so_far: None,
+    }
 }
 
 // How many hosts take part, with the setup host.
@@ -251,6 +285,8 @@ fn run_at<N: Node + Send, R: Threads + Wait + Sync>(
     requires are { map (λ s. s.pass.node) seats.items ≡ nodes_of script.now }
     requires seated { EachAt (IsSeated N.stands (beginning script.now start epochs) hub) seats.items }
     requires well { EachAt (λ s. s.fault ≡ None) seats.items }
+    requires stood { EachAt (λ s. HasStood N.stands N.stays N.failed (beginning script.now start epochs) hub s.pass
+        s.node) seats.items }
     requires none { (nodes.items ≡ []) × (passes.items ≡ []) }
     requires nodes_room { length seats.items ≤ vec_capacity nodes }
     requires passes_room { length seats.items ≤ vec_capacity passes }
@@ -261,13 +297,20 @@ fn run_at<N: Node + Send, R: Threads + Wait + Sync>(
     ensures failed { IfErr result.result
         (λ fault. IsFault N.tells N.stands (beginning script.now start epochs) N.failed N.next
         (map (λ s. s.node) seats.items) result.nodes.items fault) }
+    ensures so_far { IfSome result.so_far (λ journal.
+        HasStopped N.tells N.stands N.stays N.failed script.now start epochs result.nodes.items journal) }
+    ensures lacks { IfErr result.result (λ fault. result.so_far ≡ None → fault ≡ OutOfMemory) }
+    ensures stuck { (w : WaitingAt) → result.result ≡ Err (StuckAt w) → IfSome result.so_far (λ journal.
+        StandAfter N.stands (beginning script.now start epochs) journal result.nodes.items) }
 {
     let went = turn_until(rt, &hub, hosts_of(script), &mut seats, workers);
     if went.through {
         return finish(alloc, script, start, epochs, hub, seats, nodes, passes);
     }
     let fault = fault_of(went, seats.as_slice());
-    stop(seats, nodes, passes, fault)
+    stop(
+        alloc, script, start, epochs, hub, seats, nodes, passes, fault,
+    )
 }
 
 // Room for so many.
@@ -294,9 +337,15 @@ fn rooms<N: Drop>(
 ///
 /// `Store` comes only where the store of that node failed twice, and `Stuck` only where all nodes have come to rest: in
 /// its newest round each handed in nothing and was given nothing, and none made anything; it names a node that isn't
-/// done by its own steps, by its place and with its next line. `Memory` may come at any time, as far as clauses say: it is meant where memory runs out. The
-/// nodes come back in their order, whatever comes: where the run went to its end, with what stays of each; else each
-/// with that, or as it is where something failed there. It may wait for what never comes about.
+/// done by its own steps, by its place and with its next line. `Memory` may come at any time, as far as clauses say: it
+/// is meant where memory runs out. Where the run came to no end its journal so far comes beside the fault, but where
+/// memory lacks for it, and the fault is `Memory` then: it keeps to the plan of the script; where it is known what the
+/// nodes' stores keep it is a run of the script, in which what is due is done; and each node has stood where its own
+/// steps in it brought it, as it was when it handed in the last of them; where all have come to rest each stands there
+/// still.
+///
+/// The nodes come back in their order, whatever comes: where the run went to its end, with what stays of each; else
+/// each with that, or as it is where something failed there. It may wait for what never comes about.
 pub fn drive<N: Node + Send, R: Threads + Wait + Sync>(
     rt: &R,
     alloc: Global,
@@ -315,17 +364,24 @@ pub fn drive<N: Node + Send, R: Threads + Wait + Sync>(
     ensures failed { IfErr result.result (λ fault.
         IsFault N.tells N.stands (beginning script.now start epochs) N.failed N.next nodes.items result.nodes.items
         fault) }
+    ensures so_far { IfSome result.so_far (λ journal.
+        HasStopped N.tells N.stands N.stays N.failed script.now start epochs result.nodes.items journal) }
+    ensures lacks { IfErr result.result (λ fault. result.so_far ≡ None → fault ≡ OutOfMemory) }
+    ensures stuck { (w : WaitingAt) → result.result ≡ Err (StuckAt w) → IfSome result.so_far (λ journal.
+        StandAfter N.stands (beginning script.now start epochs) journal result.nodes.items) }
 {
     let Ok((seats, back, passes_back)) = rooms(alloc, nodes.len()) else {
         return Driven {
             nodes,
             result: Err(DriveFault::Memory),
+            so_far: None,
         };
     };
     let Ok((hub, passes)) = Hub::new(script, &[]) else {
         return Driven {
             nodes,
             result: Err(DriveFault::Memory),
+            so_far: None,
         };
     };
     let seats = seat_all(alloc, nodes, passes, seats);

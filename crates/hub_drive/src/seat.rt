@@ -1,7 +1,7 @@
 //! A node at the hub.
 ghost use Rattle.std.specs.Prelude.{◌≡◌, [], Bool, Ok, None, false, IfErr, IfOk, OnOk};
 ghost use Rattle.hub_board.specs.declared.given.Turned.TheVariants.{Ended as HasEnded, Worked as HasWorked};
-ghost use Rattle.hub_drive.specs.Seats.{HasGone, IsAtRest, IsHere, IsIn, IsSeated, IsThrough};
+ghost use Rattle.hub_drive.specs.Seats.{HasGone, HasStood, IsAtRest, IsHere, IsIn, IsSeated, IsThrough};
 ghost use Rattle.hub_node.specs.Nodes.{Beginning};
 
 use hub_node::{Node, NodeFault};
@@ -37,6 +37,9 @@ fn take_turn<N: Node, R: Wait>(rt: &R, hub: &Hub, seat: &mut Seat<N>) -> Result<
         → seat.old.steps.steps ≡ [] → IfOk result (λ turned. (turned ≡ HasWorked → ⊥)
         → (ended ≡ false → turned ≡ HasEnded → ⊥) → seat.new.fault ≡ None
         → IsAtRest N.stands run hub.now N.tells (record seat.new { ended = ended })) }
+    ensures held { (run : Beginning) → IsSeated N.stands run hub.now seat.old
+        → HasStood N.stands N.stays N.failed run hub.now seat.old.pass seat.old.node
+        → HasStood N.stands N.stays N.failed run hub.now seat.new.pass seat.new.node }
     ensures node { seat.new.pass.node ≡ seat.old.pass.node }
     ensures stays { OnOk result (N.stays seat.old.node seat.new.node) }
     ensures failed { IfErr result (λ fault. N.failed fault seat.old.node seat.new.node) }

@@ -12,7 +12,11 @@ use Rattle.hub_drive.specs.declared.driver.Waiting.{Waiting}
 use Rattle.hub_node.specs.Either.{stands_any}
 use Rattle.host_node.specs.Standing.{Stands as HostStands}
 use Rattle.server_node.specs.Standing.{Stands as ServerStands}
+use Rattle.base_types.specs.declared.ids.ServerId.{ServerId}
+use Rattle.run_rules.specs.Kept.{filesets_kept}
 use Rattle.run_rules.specs.Plans.{IsPlanned}
+use Rattle.run_rules.specs.Runs.{IsDutiful, IsRun, past_of}
+use Rattle.run_rules.specs.Steps.{steps_of_server}
 use Rattle.run_rules.specs.declared.journal.Journal.{Journal}
 use Rattle.service_moves.specs.Stopping.{HasFailed}
 use Rattle.run_promises.specs.Promises.{HasRun, last_tree}
@@ -66,3 +70,27 @@ abbrev pub IsStopped : {S : Type 0} → Type 0 → (S → View) → Script → T
 IsStopped tells view script start old new (Failed server) = HasFailed view old new server.0
 IsStopped tells view script start old new (Stuck waiting) = IsStuck tells view script start new waiting
 IsStopped tells view script start old new Memory = Unit {0}
+
+-- what a server keeps by the rules after all its steps in a journal that starts from this tree
+abbrev pub kept_so_far : Tree → Journal → ServerId → Tree
+kept_so_far start journal server = filesets_kept start server (steps_of_server server (past_of journal))
+
+-- each store keeps what its server keeps by the rules after all its steps in a journal, and may be asked
+pub record KeepSoFar {S : Type 0} (tells : Type 0) (view : S → View) (start : Tree) (journal : Journal)
+    (stores : List S) : Type 0 where
+  pub ready : (k : ℕ) (store : S) → slice_get stores k ≡ Some store → (view store).ready
+  pub keeps : tells → (k : ℕ) (store : S) → slice_get stores k ≡ Some store
+      → KeepsOf (kept_so_far start journal (record { 0 = k + 1 })) (view store).state
+
+-- Hosts and servers ran a script from a tree on, and came to no end: the journal so far starts from the tree, in the
+-- epochs of the stores, and keeps to the plan of the script; where the stores tell what they keep it is a run of the
+-- script, in which what is due is done. Where all came to rest each store keeps what its server keeps by the rules
+-- after all its steps in it.
+pub record HasHostedSoFar {S : Type 0} (tells : Type 0) (view : S → View) (script : Script) (start : Tree)
+    (old new : List S) (stopped : HostsStopped) (journal : Journal) : Type 0 where
+  pub starts : journal.start ≡ start ∷ []
+  pub epochs : tells → journal.epochs ≡ epochs_of view old
+  pub planned : IsPlanned script journal
+  pub run : tells → IsRun script journal
+  pub dutiful : tells → IsDutiful script journal
+  pub rested : (waiting : Waiting) → stopped ≡ Stuck waiting → KeepSoFar tells view start journal new

@@ -1,6 +1,6 @@
 //! Hosts and servers run a script.
 ghost use Rattle.std.specs.Prelude.{◌≡◌, ◌≤◌, ◌<◌, ◌+◌, ◌-◌, ◌^◌, ℕ, true, List, [], length, vec_capacity};
-ghost use Rattle.std.specs.Prelude.{IfErr, IfOk, OnErr, OnOk};
+ghost use Rattle.std.specs.Prelude.{IfErr, IfOk, IfSome, None, OnErr, OnOk};
 ghost use Rattle.base_types.specs.declared.limits.TheConstants.{SERVERS_MAX};
 ghost use Rattle.host_node.specs.Standing.{IsPlayable};
 ghost use Rattle.hub_drive.specs.Driving.{beginning};
@@ -9,8 +9,9 @@ ghost use Rattle.hub_node.specs.Nodes.{Beginning};
 ghost use Rattle.run_rules.specs.Runs.{IsValid};
 ghost use Rattle.script_lines.specs.Sound.{IsSound};
 ghost use Rattle.service_hosts.specs.Homes.{may_host};
-ghost use Rattle.service_hosts.specs.Hosting.{HasHosted, IsStopped, epochs_of, stopped_by};
+ghost use Rattle.service_hosts.specs.Hosting.{HasHosted, HasHostedSoFar, IsStopped, epochs_of, stopped_by};
 ghost use Rattle.service_hosts.specs.Nodes.{AreFirst, AreOver, CanAll};
+ghost use Rattle.service_hosts.specs.declared.running.HostsStopped.TheVariants.{Memory as OutOfMemory};
 ghost use Rattle.service_moves.specs.Stores.{AreSame, AreStores, states_of};
 ghost use Rattle.service_plain.specs.Played.{IsStart};
 ghost use Rattle.service_stores.specs.Laws.{AreSayable};
@@ -45,6 +46,8 @@ pub enum HostsStopped {
 pub struct Hosted<S> {
     pub stores: Vec<S>,
     pub result: Result<Journal, HostsStopped>,
+    /// Where the run came to no end, its journal so far, as far as there was memory for it.
+    pub so_far: Option<Journal>,
 }
 
 // What a fault of the driver means, where so many hosts are before the first server.
@@ -116,20 +119,27 @@ fn drive_all<S: Store + Drop + Send, R: Threads + Wait + Sync>(
         → IfOk result.result (HasHosted S.tells S.view script.now start stores result.stores.items) }
     ensures stopped { (stores : List S) → AreOver nodes.items (length script.now.roster.hosts + 1) stores
         → IfErr result.result (IsStopped S.tells S.view script.now start stores result.stores.items) }
+    ensures so_far { (stores : List S) → AreOver nodes.items (length script.now.roster.hosts + 1) stores
+        → (S.tells → epochs ≡ epochs_of S.view stores) → IfErr result.result (λ stopped. IfSome result.so_far
+        (HasHostedSoFar S.tells S.view script.now start stores result.stores.items stopped)) }
+    ensures lacks { IfErr result.result (λ stopped. result.so_far ≡ None → stopped ≡ OutOfMemory) }
 {
     let hosts = script.roster.hosts.len() + 1;
     let driven = drive(rt, alloc, script, start, epochs, nodes, workers);
     let result = driven.result;
+    let so_far = driven.so_far;
     let mut stores = room;
     take_stores(driven.nodes, &mut stores);
     match result {
         Ok(journal) => Hosted {
             stores,
             result: Ok(journal),
+            so_far: None,
         },
         Err(fault) => Hosted {
             stores,
             result: Err(stopped_by(hosts, fault)),
+            so_far,
         },
     }
 }
@@ -141,6 +151,10 @@ fn drive_all<S: Store + Drop + Send, R: Threads + Wait + Sync>(
 /// to rest: in its newest round each handed in nothing and was given nothing, and none has made anything; one that isn't
 /// done by its own steps is named, with its next line. `Memory` may come at any time, as far as clauses say: it is meant
 /// where memory runs out. It may wait for what never comes about.
+///
+/// Where the run came to no end its journal so far comes back beside the cause, but where memory lacks for it, and the
+/// cause is `Memory` then: as far as the stores tell what they keep it is a run of the script in which what is due is
+/// done; and where all came to rest each store keeps what its server keeps by the rules after all its steps in it.
 pub fn run_hosts<S: Store + Drop + Send, R: Threads + Wait + Sync>(
     rt: &R,
     alloc: Global,
@@ -162,6 +176,9 @@ pub fn run_hosts<S: Store + Drop + Send, R: Threads + Wait + Sync>(
         (HasHosted S.tells S.view script.now start stores.items result.stores.items) }
     ensures stopped { IfErr result.result
         (IsStopped S.tells S.view script.now start stores.items result.stores.items) }
+    ensures so_far { IfErr result.result (λ stopped. IfSome result.so_far
+        (HasHostedSoFar S.tells S.view script.now start stores.items result.stores.items stopped)) }
+    ensures lacks { IfErr result.result (λ stopped. result.so_far ≡ None → stopped ≡ OutOfMemory) }
 {
     let mut stores = stores;
     match nodes_over(alloc, script, &mut stores) {
@@ -171,6 +188,7 @@ pub fn run_hosts<S: Store + Drop + Send, R: Threads + Wait + Sync>(
             Hosted {
                 stores,
                 result: Err(HostsStopped::Memory),
+                so_far: None,
             }
         }
     }

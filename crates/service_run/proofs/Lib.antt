@@ -14,3 +14,4 @@ pub mod Names
 pub mod Happens
 pub mod Seated
 pub mod Plays
+pub mod Complete

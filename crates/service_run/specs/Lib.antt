@@ -8,4 +8,5 @@ pub mod Outcomes
 pub mod Checks
 pub mod Disks
 pub mod Steps
+pub mod Complete
 pub mod Laws

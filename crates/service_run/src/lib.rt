@@ -12,7 +12,7 @@ mod output;
 mod script;
 mod top;
 
-pub use laws::{losses_law, replies_law};
+pub use laws::{complete_law, losses_law, replies_law};
 pub use outcome::{Course, Outcome, Status};
 pub use output::refuse_disk;
 pub use top::run;

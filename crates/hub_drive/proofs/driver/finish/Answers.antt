@@ -1,12 +1,11 @@
 use Rattle.std.proofs.Common.{◌∙◌, sym}
-use Rattle.hub_drive.specs.Driving.{beginning}
 use Rattle.hub_drive.proofs.Driving.{close_ready, driven_by, if_ok, seats_count}
 use Rattle.hub_drive.proofs.driver.finish.Goals as goal
 
 pub close-result-requires : goal.close-result-requires
 close-result-requires g c =
-    close_ready g.N.Node.tells g.N.Node.stands (beginning c.args.script.now c.args.start c.args.epochs) c.args.hub
-    c.args.seats.items c.unseat.new.passes.items c.requires.through c.unseat.ensures.passes
+    close_ready c.args.hub c.args.seats.items c.unseat.new.passes.items
+    (λ i d lt. (c.requires.through i d lt).seated.hub_is) c.unseat.ensures.passes
     (seats_count c.args.script.now c.args.seats.items c.requires.are ∙ sym c.requires.hub.nodes)
 
 pub returns-clause-driven : goal.returns-clause-driven

@@ -2,8 +2,8 @@ use Rattle.std.proofs.Common.{◌∙◌, map, sym, subst}
 use Rattle.hub_drive.specs.Driving.{IsFault, ShowsFault, beginning}
 use Rattle.hub_drive.specs.Seats.{PairsAt}
 use Rattle.hub_node.specs.Nodes.{HasBecome}
-use Rattle.hub_drive.proofs.Driving.{all_here, became_of, err_at, failed_of, free_of, if_err, node_of, nodes_on}
-use Rattle.hub_drive.proofs.Driving.{on_any, on_none, stayed_of}
+use Rattle.hub_drive.proofs.Driving.{all_here, all_stood, became_of, failed_of, fault_or_free, free_of, if_err}
+use Rattle.hub_drive.proofs.Driving.{is_memory, node_of, nodes_on, none_some, ok_never, on_any, on_never, stayed_of}
 use Rattle.hub_drive.proofs.driver.run_at.Goals as goal
 
 pub turn_until-went-requires-clause-here : goal.turn_until-went-requires-clause-here
@@ -46,8 +46,38 @@ returns-then-went-clause-failed g c =
     c.finish.result.nodes.items)
     c.finish.ensures.failed
 
+pub stop-requires-clause-are : goal.stop-requires-clause-are
+stop-requires-clause-are g c =
+    nodes_on g.N.Node.stands g.N.Node.stays g.N.Node.failed g.N.Node.next c.args.hub c.args.seats.items
+    c.turn_until-went.new.seats.items c.turn_until-went.ensures.gone ∙ c.requires.are
+
+pub stop-requires-clause-stood : goal.stop-requires-clause-stood
+stop-requires-clause-stood g c =
+    all_stood g.N.Node.stands g.N.Node.stays g.N.Node.failed c.args.hub
+    (beginning c.args.script.now c.args.start c.args.epochs) c.args.seats.items c.turn_until-went.new.seats.items
+    c.turn_until-went.ensures.gone (λ i d lt well. c.requires.seated i d lt) c.requires.stood
+
+pub stop-requires-clause-rest : goal.stop-requires-clause-rest
+stop-requires-clause-rest g c = λ w is.
+    let idle = c.fault_of-fault.ensures.stuck w is in
+    c.turn_until-went.ensures.rests (beginning c.args.script.now c.args.start c.args.epochs)
+    (λ i d lt well. c.requires.seated i d lt) idle.0 idle.1
+
+pub returns-then-went-clause-so_far : goal.returns-then-went-clause-so_far
+returns-then-went-clause-so_far g c = none_some c.finish.result.so_far _ c.finish.ensures.none
+
+pub returns-then-went-clause-lacks : goal.returns-then-went-clause-lacks
+returns-then-went-clause-lacks g c =
+    if_err c.finish.result.result _ _ (λ fault free none. is_memory fault free) c.finish.ensures.failed
+
+pub returns-then-went-clause-stuck : goal.returns-then-went-clause-stuck
+returns-then-went-clause-stuck g c = λ w is. none_some c.finish.result.so_far _ c.finish.ensures.none
+
 pub returns-clause-stayed : goal.returns-clause-stayed
-returns-clause-stayed g c = on_none _ c.stop.result.result c.fault_of-fault.result c.stop.ensures.result
+returns-clause-stayed g c = on_never c.stop.result.result _ c.stop.ensures.stopped
+
+pub returns-clause-driven : goal.returns-clause-driven
+returns-clause-driven g c = ok_never c.stop.result.result _ c.stop.ensures.stopped
 
 pub returns-clause-became : goal.returns-clause-became
 returns-clause-became g c =
@@ -68,8 +98,7 @@ returns-clause-failed g c =
     let fault = c.fault_of-fault.result in
     let shows : ShowsFault next news fault =
     subst (λ l. ShowsFault next l fault) c.as_slice.ensures.value c.fault_of-fault.ensures.shows in
-    err_at c.stop.result.result fault _ c.stop.ensures.result
-    (subst (λ l. IsFault g.N.Node.tells stands run failed next olds l fault) (sym c.stop.ensures.nodes)
+    let is_fault = subst (λ l. IsFault g.N.Node.tells stands run failed next olds l fault) (sym c.stop.ensures.nodes)
     (failed_of stands stays failed next c.args.hub g.N.Node.tells run c.args.seats.items news fault
     c.turn_until-went.ensures.gone
     c.requires.well
@@ -78,4 +107,7 @@ returns-clause-failed g c =
     c.turn_until-went.ensures.rests run (λ i d lt well. c.requires.seated i d lt) idle.0 idle.1)
     (nodes_on stands stays failed next c.args.hub c.args.seats.items news c.turn_until-went.ensures.gone
     ∙ c.requires.are)
-    shows))
+    shows) in
+    if_err c.stop.result.result _ _
+    (fault_or_free stands stays failed next c.args.hub g.N.Node.tells run olds c.stop.result.nodes.items fault is_fault)
+    c.stop.ensures.fault

@@ -1,9 +1,10 @@
-use Rattle.std.proofs.Common.{Ok, ap, refl, ◌∙◌}
+use Rattle.std.proofs.Common.{Ok, ap, refl, ◌∙◌, ◌∷◌}
 use Rattle.hub_board.specs.declared.given.Turned.TheVariants.{Ended as HasEnded}
+use Rattle.hub_laws.specs.Keeping.{Round}
 use Rattle.hub_node.specs.Nodes.{part_of}
 use Rattle.hub_drive.specs.declared.seat.Seat.{Seat}
-use Rattle.hub_drive.proofs.Turning.{at_ok, given_to, if_at, if_both, is_idle, on_ok, rests_on, seated_on, sends_sound}
-use Rattle.hub_drive.proofs.Turning.{through_on}
+use Rattle.hub_drive.proofs.Turning.{at_ok, came_by, given_to, if_at, if_both, is_idle, on_ok, rests_on, seated_on}
+use Rattle.hub_drive.proofs.Turning.{sends_sound, stood_on, stood_still, through_on}
 use Rattle.hub_drive.proofs.seat.take_turn.Goals as goal
 
 pub turn-requires-clause-sound : goal.turn-requires-clause-sound
@@ -80,3 +81,22 @@ returns-clause-rests g c = λ run ended seated handed.
 
 pub returns-clause-node : goal.returns-clause-node
 returns-clause-node g c = c.in-Ok.ensures.same.0
+
+pub returns-clause-held : goal.returns-clause-held
+returns-clause-held g c = λ run seated stood.
+    let given = given_to g.N.Node.tells g.N.Node.stands g.met.N.Node.hands_in c.args.hub.now c.args.seat.now run seated
+    c.turn.new.pass c.in-Ok.given c.in-Ok.ensures.ok c.in-Ok.ensures.sound in
+    let round : Round = record { steps = c.args.seat.now.steps.steps; given = c.in-Ok.given } in
+    stood_on g.N.Node.tells g.N.Node.stands g.met.N.Node.hands_in c.args.hub.now c.args.seat.now run seated
+    c.turn.new.pass c.in-Ok.given c.in-Ok.ensures.ok c.in-Ok.ensures.sound g.N.Node.stays g.N.Node.failed
+    c.work.new.self
+    (came_by g.N.Node.stands g.N.Node.stays g.N.Node.failed (part_of run c.args.seat.now.pass.node)
+    (round ∷ seated.rounds) c.work.new.steps.steps c.args.seat.now.node c.work.new.self c.work.result
+    (c.work.ensures.works (part_of run c.args.seat.now.pass.node) seated.rounds c.args.seat.now.steps.steps seated.stood
+    given)
+    c.work.ensures.stays c.work.ensures.failed)
+
+pub returns-in_default-clause-held : goal.returns-in_default-clause-held
+returns-in_default-clause-held g c = λ run seated stood.
+    stood_still g.N.Node.stands g.N.Node.stays g.N.Node.failed run c.args.hub.now c.args.seat.now.pass c.turn.new.pass
+    c.args.seat.now.node stood c.in_default.ensures.err

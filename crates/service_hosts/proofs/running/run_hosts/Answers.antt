@@ -49,3 +49,7 @@ pub returns-in-Err-clause-same : goal.returns-in-Err-clause-same
 returns-in-Err-clause-same g c =
     subst (λ (l : List g.row.S.Denot). AreSame g.S.Store.view c.args.stores.items l) (sym c.in-Err.ensures.back)
     (same_as g.S.Store.view c.args.script.now.roster (2 ^ 40) 1 c.args.stores.items c.requires.stores)
+
+pub returns-in-Ok-clause-so_far : goal.returns-in-Ok-clause-so_far
+returns-in-Ok-clause-so_far g c =
+    c.drive_all.ensures.so_far c.args.stores.items c.in-Ok.ensures.over c.in-Ok.ensures.epochs
