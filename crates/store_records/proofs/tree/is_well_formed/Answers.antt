@@ -14,7 +14,7 @@ returns-then-not-has_root-clause-refused c = λ _ w.
     ]
 
 -- what was found
-are_found : (c : goal.After-drop-found-inside) → AreFound c.args.fileset.now.anodes (length c.in-Some.found) c.in-Some.found
+are_found : (c : goal.After-drop-found) → AreFound c.args.fileset.now.anodes (length c.in-Some.found) c.in-Some.found
 are_found c = subst (λ o. IfSome o (λ found. AreFound c.args.fileset.now.anodes (length found) found)) c.in-Some.is c.in_ok-found.ensures.found
 
 pub returns-in-Some-clause-formed : goal.returns-in-Some-clause-formed
