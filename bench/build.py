@@ -1,9 +1,10 @@
-"""Builds an unproved program over the crates of this repository at -O1, without the checks of `rt try`.
+"""Builds an unproved program over the crates of this repository, without the checks of `rt try`.
 
-    bench/build.py OUT FOLDER
+    bench/build.py OUT FOLDER [-O0]
 
 FOLDER/line is the program's line of crates.txt. Its code is FOLDER/program, or where that is a folder, a file for each
-of its modules. The module is what `rt try` compiles; it is copied when its own compiler begins, which is ended.
+of its modules. The module is what `rt try` compiles; it is copied when its own compiler begins, which is ended. It is
+compiled at -O1; at -O0 in a third of that time.
 """
 import os
 import shutil
@@ -15,6 +16,7 @@ import time
 
 OUT = os.path.abspath(sys.argv[1])
 FOLDER = os.path.abspath(sys.argv[2])
+LEVEL = sys.argv[3] if len(sys.argv) > 3 else "-O1"
 TOP = os.path.join(os.path.dirname(os.path.abspath(__file__)), "..")
 LINE = open(FOLDER + "/line").read()
 CRATE = LINE.split()[0].rstrip(":")
@@ -22,7 +24,7 @@ KIT = os.path.dirname(os.path.dirname(os.path.realpath(shutil.which("rattle") or
 TOOLS = KIT + "/toolchain"
 CLANG = [TOOLS + "/bin/clang", "--target=x86_64-unknown-linux-gnu", "--sysroot=" + TOOLS, "-march=x86-64",
          "-ffunction-sections", "-fdata-sections", "--no-default-config", "-no-canonical-prefixes", "-c", "-x", "ir",
-         "-fPIE", "-O1"]
+         "-fPIE", LEVEL]
 
 
 def copy_to(top):

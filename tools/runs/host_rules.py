@@ -1007,9 +1007,12 @@ class Look:
             for u in p.in_use:
                 if u.token.id in g.ids and not gives_use(g, u):
                     bad("HostGives.ends_used", g, u)
+        left = [t for t in p.owned if t not in n.owned]
         for fid, dirty in p.dirty.items():
-            wrong = [at for at in dirty if p.owns_update(fid, at) and not n.owns_update(fid, at)
-                     and not any(g.fid == fid and byte_of(g.pieces, at) is not None for g in s.made)]
+            gone = [t for t in left if t.fid == fid]
+            wrong = [at for at in dirty if any(p.updates_byte(t, fid, at) for t in gone)
+                     and not n.owns_update(fid, at)
+                     and not any(g.fid == fid and byte_of(g.pieces, at) is not None for g in s.made)] if gone else ()
             if wrong:
                 bad("HostGives.bytes_saved", fid, wrong[:5])
         for t in p.owned:

@@ -25,6 +25,7 @@ from tree import (ENTRIES, SIZE, TRAITS, answer_to, byte_of, cell, down_tree, ke
 
 
 UNSAVED = re.compile(rb"[^\0]+")
+SIZE_MAX = 65536
 
 
 def entries_of(step):
@@ -192,23 +193,14 @@ class Laws:
             if self.deep:
                 self.sees(p)
             for fid, dirty in p.dirty.items():
-                owned = [t for t in p.owned if t.fid == fid and isinstance(t.kind, Bytes) and t.kind.update]
-                for at in dirty:
-                    if any(t.kind.span[0] <= at < t.kind.span[1] for t in owned):
-                        _, unsaved = cell(tree, fid, ("byte", at))
-                        if unsaved != (p.host, view_of(p.seen)(fid, ("byte", at))):
-                            self.bad("dirty", p.host, fid, at, unsaved)
-                            break
+                self.dirty(p, fid, dirty)
         for server in tree.at.values():
             for f in server.values():
                 for anode, thing in f.objects.items():
                     if thing.is_dir or (not thing.who and thing.tall is None):
                         continue
                     fid = (f.id, anode, f.unique[anode])
-                    for at in (at for run in UNSAVED.finditer(thing.who) for at in range(*run.span())):
-                        if not self.is_accounted(thing.who[at] - 1, fid, at, thing.new[at], f.server):
-                            self.bad("unsaved", thing.who[at] - 1, fid, at)
-                            break
+                    self.unsaved(fid, thing, f.server)
                     if thing.tall is not None:
                         host = thing.tall[1]
                         p, v = c.hosts[host], c.servers[f.server]
@@ -218,12 +210,38 @@ class Laws:
                         if not waits and not mine:
                             self.bad("unsaved", host, fid, "length")
 
-    def is_accounted(self, host, fid, at, value, server):
+    def dirty(self, p, fid, dirty):
+        """What is dirty at a host under a token of its own is unsaved in the tree."""
+        found = object_of(self.tree, fid)
+        who, new = (b"", b"") if found is None or found[1].is_dir else (found[1].who, found[1].new)
+        mine = p.seen[fid].bytes if fid in p.seen else bytes(SIZE_MAX)
+        for a, b in [t.kind.span for t in p.owned if t.fid == fid and isinstance(t.kind, Bytes) and t.kind.update]:
+            for at in dirty:
+                if a <= at < b and not (at < len(who) and who[at] == p.host + 1 and new[at] == mine[at]):
+                    self.bad("dirty", p.host, fid, at)
+                    return
+
+    def unsaved(self, fid, thing, server):
+        """What is unsaved in the tree is dirty at its host, or in a give-back that isn't applied."""
+        hosts, who, new = self.c.hosts, thing.who, thing.new
+        dirty = {h: p.dirty.get(fid, ()) if fid in p.seen else () for h, p in hosts.items()}
+        mine = {h: p.seen[fid].bytes if fid in p.seen else b"" for h, p in hosts.items()}
+        gives = {}
+        for run in UNSAVED.finditer(who):
+            for at in range(*run.span()):
+                host = who[at] - 1
+                if at in dirty[host] and mine[host][at] == new[at]:
+                    continue
+                if host not in gives:
+                    gives[host] = self.given(host, fid, server)
+                if not any(byte_of(g.pieces, at) == new[at] for g in gives[host]):
+                    self.bad("unsaved", host, fid, at)
+                    return
+
+    def given(self, host, fid, server):
+        """What a host gave back of a file that its server hasn't applied."""
         p, v = self.c.hosts[host], self.c.servers[server]
-        if at in p.dirty.get(fid, ()) and fid in p.seen and p.seen[fid].bytes[at] == value:
-            return True
-        return any(tuple(g.fid) == fid and byte_of(g.pieces, at) == value and not v.is_applied(host, number_of(g))
-                   for g in p.made)
+        return [g for g in p.made if tuple(g.fid) == fid and not v.is_applied(host, number_of(g))]
 
     def sees(self, p):
         view, real = view_of(p.seen), tree_view(self.tree)
