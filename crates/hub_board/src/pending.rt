@@ -4,6 +4,7 @@ use base_types::{Items, NoMemory};
 use run_rules::Step;
 use std::alloc::Global;
 use std::marker::Model;
+use std::mem;
 
 /// A node's steps that aren't in the hub's list yet. Contracts see them, in order, and how many more there is room for.
 #[derive(Drop)]
@@ -41,14 +42,15 @@ impl Pending {
         Ok(())
     }
 
-    /// Adds a step. The only error is that memory ran out; then it isn't added. With room for it that can't be, and
-    /// there is room for one less.
+    /// Adds a step, whose lists keep no room for more. The only error is that memory ran out; then it isn't added. With
+    /// room for it that can't be, and there is room for one less.
     pub fn push(&mut self, step: Step) -> Result<(), NoMemory>
         ensures ok { OnOk result (self.new.steps ≡ self.old.steps ++ step ∷ []) }
         ensures err { OnErr result (self.new.steps ≡ self.old.steps) }
         ensures room { 0 < self.old.spare → IsOk result }
         ensures less { 0 < self.old.spare → self.new.spare + 1 ≡ self.old.spare }
     {
+        let step = fitted(step);
         if self.steps.len() < self.steps.capacity() {
             self.steps.push_reserved(step);
             return Ok(());
@@ -75,4 +77,25 @@ impl Pending {
     {
         Items::from_vec(self.steps)
     }
+}
+
+// The step, of which the lists that nodes fill one by one have no room for more: it stays to the end of the run.
+fn fitted(mut step: Step) -> Step
+    ensures { result ≡ step }
+{
+    fit(&mut step.answers);
+    fit(&mut step.made);
+    fit(&mut step.applied);
+    fit(&mut step.sent);
+    step
+}
+
+// Gives back the room that a list has for more.
+fn fit<T: Drop>(items: &mut Items<T>)
+    ensures { items.new ≡ items.old }
+{
+    let alloc = items.alloc();
+    let mut elements = mem::replace(items, Items::new(alloc)).into_vec();
+    elements.shrink_to_fit();
+    drop(mem::replace(items, Items::from_vec(elements)));
 }

@@ -9,6 +9,6 @@ mod report;
 mod summary;
 mod texts;
 
-pub use print::text_of;
-pub use report::losses_in;
-pub use summary::json_of;
+pub use print::{text_of, text_of_report};
+pub use report::{Answer, Report, by_host, losses_in};
+pub use summary::{json_of, json_of_report};

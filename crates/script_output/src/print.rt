@@ -37,8 +37,9 @@ pub fn text_of(
     text_of_report(alloc, &report, &last.filesets)
 }
 
+/// What a run tells and the filesets that it leaves, as text. `NoMemory` comes where memory runs out.
 #[tactic(auto, unfolding(crate::specs::Printed::text_of_report))]
-fn text_of_report(
+pub fn text_of_report(
     alloc: Global,
     report: &Report,
     filesets: &Items<Fileset>,

@@ -13,7 +13,7 @@ use tree_calls::{Entry, Loss, Reply};
 
 /// The reply to a line of a script.
 #[derive(Drop)]
-pub(crate) struct Answer {
+pub struct Answer {
     /// The host that called.
     pub host: HostId,
     /// Which of its calls it was, from 1.
@@ -24,7 +24,7 @@ pub(crate) struct Answer {
 
 /// What a run tells beside the filesets that it leaves.
 #[derive(Drop)]
-pub(crate) struct Report {
+pub struct Report {
     /// The replies to the lines of the script, by host.
     pub answers: Items<Answer>,
     /// The losses, by host, server, path and position.
@@ -125,24 +125,11 @@ fn push_answer(
             answers.push(Answer {
                 host: *by,
                 k: *k,
-                reply: copy_of(reply)?,
+                reply: reply.copy()?,
             })?;
         }
     }
     Ok(())
-}
-
-// A copy of a reply. Bytes are copied as one piece.
-fn copy_of(reply: &Reply) -> Result<Reply, NoMemory>
-    ensures { IfOk result (λ copy. copy ≡ reply.now) }
-{
-    match reply {
-        Reply::Bytes(bytes) => {
-            let piece = Items::from_slice(bytes.alloc(), bytes.as_slice())?;
-            Ok(Reply::Bytes(piece))
-        }
-        _ => reply.copy(),
-    }
 }
 
 // Goes through a history. Gives the losses as they come, and leaves the last tree.
@@ -157,9 +144,9 @@ fn follow(alloc: Global, tree: &mut Tree, history: &[Entry]) -> Result<Items<Los
     Ok(losses)
 }
 
-// Losses by host, and then by server.
+/// Losses by host, and then by server. `NoMemory` comes where memory runs out.
 #[tactic(auto, unfolding(crate::specs::Reports::by_host))]
-fn by_host(losses: &Items<Loss>) -> Result<Items<Loss>, NoMemory>
+pub fn by_host(losses: &Items<Loss>) -> Result<Items<Loss>, NoMemory>
     ensures { IfOk result (λ ordered. ordered ≡ by_host losses.now) }
 {
     let mut ordered = Items::new(losses.alloc());

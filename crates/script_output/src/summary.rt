@@ -38,8 +38,9 @@ pub fn json_of(
     json_of_report(alloc, &report, &last.filesets)
 }
 
+/// What a run tells and the filesets that it leaves, as one line of JSON. `NoMemory` comes where memory runs out.
 #[tactic(auto, using(crate::proofs::Lines::report_line))]
-fn json_of_report(
+pub fn json_of_report(
     alloc: Global,
     report: &Report,
     filesets: &Items<Fileset>,
