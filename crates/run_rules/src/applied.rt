@@ -1,3 +1,5 @@
+ghost use Rattle.std.specs.Prelude.{◌≡◌};
+
 use base_types::{Fid, FilesetId, HostId, Items, Span};
 use message_types::{Change, Fetch};
 use token_types::{Need, Token};
