@@ -102,7 +102,7 @@ fn follow_one(
 }
 
 // Makes the tree what it is after a call. A read, of which there may be many, leaves it as it is.
-#[tactic(auto, using(tree_answers::proofs::Reading::read_stays))]
+#[tactic(auto, using(crate::proofs::Reading::read_stays))]
 fn follow_call(tree: &mut Tree, answer: &Answer) -> Result<(), NoMemory>
     ensures { OnOk result (tree.new ≡ (answer_to tree.old answer.now.host answer.now.call).tree) }
 {
