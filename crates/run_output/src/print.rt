@@ -1,17 +1,21 @@
-ghost use Rattle.std.specs.Prelude.{◌≡◌, [], ◌∷◌, IfOk, OnOk};
+//! What a run lost, and its output.
+ghost use Rattle.std.specs.Prelude.{◌≡◌, [], ◌∷◌, IfOk};
 ghost use Rattle.tree_answers.specs.declared.tree.Tree.{Tree as TreeOf};
-ghost use Rattle.tree_answers.specs.Histories.{after_history, lost_in};
+ghost use Rattle.tree_answers.specs.Histories.{lost_in};
 ghost use Rattle.script_output.specs.Printed.{printed};
+ghost use Rattle.script_output.specs.Reports.{report_of};
 ghost use Rattle.script_output.specs.Summary.{printed_json};
 ghost use Rattle.run_rules.specs.Runs.{history_of};
 
-use base_types::{Items, NoMemory, Plain};
-use run_rules::{Journal, hist};
+use crate::follow::followed;
+use crate::told::answers_of;
+use base_types::{Items, NoMemory};
+use run_rules::{Journal, Step};
 use script_lines::Script;
-use script_output::{json_of, losses_in, text_of};
+use script_output::{Report, by_host, json_of_report, text_of_report};
 use std::alloc::Global;
 use tree_answers::Tree;
-use tree_calls::{Entry, Loss};
+use tree_calls::Loss;
 
 /// The losses of a run, as they come: what each host that went down hadn't stored at each server, in bytes and lengths,
 /// by path and position. A journal in which no run began has none. `NoMemory` comes where memory runs out.
@@ -21,9 +25,32 @@ pub fn lost(alloc: Global, journal: &Journal) -> Result<Items<Loss>, NoMemory>
     ensures unbegun { journal.now.start ≡ [] → IfOk result (λ losses. losses ≡ []) }
 {
     match journal.start.at(0) {
-        Some(start) => losses_in(alloc, start, hist(alloc, journal)?.as_slice()),
+        Some(start) => losses_from(alloc, start, journal.steps.as_slice()),
         None => Ok(Items::new(alloc)),
     }
+}
+
+fn losses_from(alloc: Global, start: &Tree, steps: &[Step]) -> Result<Items<Loss>, NoMemory>
+    ensures { IfOk result (λ losses. losses ≡ lost_in start.now (history_of steps.now)) }
+{
+    let (losses, _last) = followed(alloc, start, steps)?;
+    Ok(losses)
+}
+
+// What a run tells, along which this was lost, as it came.
+#[tactic(auto, unfolding(script_output::specs::Reports::report_of))]
+fn report_of(
+    alloc: Global,
+    script: &Script,
+    steps: &[Step],
+    lost: &Items<Loss>,
+) -> Result<Report, NoMemory>
+    ensures { (start : TreeOf) → lost.now ≡ lost_in start (history_of steps.now)
+        → IfOk result (λ report. report ≡ report_of script.now start (history_of steps.now)) }
+{
+    let losses = by_host(lost)?;
+    let answers = answers_of(alloc, script, steps)?;
+    Ok(Report { answers, losses })
 }
 
 /// The output of a run as text: each reply, loss and fileset, as `script_output::text_of` says of its history. A
@@ -34,7 +61,7 @@ pub fn print_text(alloc: Global, script: &Script, journal: &Journal) -> Result<I
     ensures unbegun { journal.now.start ≡ [] → IfOk result (λ text. text ≡ []) }
 {
     match journal.start.at(0) {
-        Some(start) => text_from(alloc, script, start, hist(alloc, journal)?.as_slice()),
+        Some(start) => text_from(alloc, script, start, journal.steps.as_slice()),
         None => Ok(Items::new(alloc)),
     }
 }
@@ -43,12 +70,13 @@ fn text_from(
     alloc: Global,
     script: &Script,
     start: &Tree,
-    history: &[Entry],
+    steps: &[Step],
 ) -> Result<Items<u8>, NoMemory>
-    ensures { IfOk result (λ text. text ≡ printed script.now start.now history.now) }
+    ensures { IfOk result (λ text. text ≡ printed script.now start.now (history_of steps.now)) }
 {
-    let last = last_tree(start, history)?;
-    text_of(alloc, script, start, history, &last)
+    let (lost, last) = followed(alloc, start, steps)?;
+    let report = report_of(alloc, script, steps, &lost)?;
+    text_of_report(alloc, &report, &last.filesets)
 }
 
 /// The output of a run as one line of JSON, as `script_output::json_of` says of its history. A journal in which no run
@@ -59,7 +87,7 @@ pub fn print_json(alloc: Global, script: &Script, journal: &Journal) -> Result<I
     ensures unbegun { journal.now.start ≡ [] → IfOk result (λ text. text ≡ []) }
 {
     match journal.start.at(0) {
-        Some(start) => json_from(alloc, script, start, hist(alloc, journal)?.as_slice()),
+        Some(start) => json_from(alloc, script, start, journal.steps.as_slice()),
         None => Ok(Items::new(alloc)),
     }
 }
@@ -68,28 +96,11 @@ fn json_from(
     alloc: Global,
     script: &Script,
     start: &Tree,
-    history: &[Entry],
+    steps: &[Step],
 ) -> Result<Items<u8>, NoMemory>
-    ensures { IfOk result (λ text. text ≡ printed_json script.now start.now history.now) }
+    ensures { IfOk result (λ text. text ≡ printed_json script.now start.now (history_of steps.now)) }
 {
-    let last = last_tree(start, history)?;
-    json_of(alloc, script, start, history, &last)
-}
-
-// The tree to which a history leads.
-fn last_tree(start: &Tree, history: &[Entry]) -> Result<Tree, NoMemory>
-    ensures { IfOk result (λ last. last ≡ after_history start.now history.now) }
-{
-    let mut tree = start.copy()?;
-    follow(&mut tree, history)?;
-    Ok(tree)
-}
-
-fn follow(tree: &mut Tree, history: &[Entry]) -> Result<(), NoMemory>
-    ensures { OnOk result (tree.new ≡ after_history tree.old history.now) }
-{
-    for entry in history {
-        tree.follow(entry)?;
-    }
-    Ok(())
+    let (lost, last) = followed(alloc, start, steps)?;
+    let report = report_of(alloc, script, steps, &lost)?;
+    json_of_report(alloc, &report, &last.filesets)
 }
