@@ -1,11 +1,14 @@
 -- Where nothing fails a run that can go ends so, or for want of memory.
-use Rattle.std.proofs.Common.{◌≡◌, ◌⊎◌, ⊎_elim, ◌<◌, ◌+◌, ℕ, zero, suc, true, false, List, [], ◌∷◌, ◌++◌, length}
+use Rattle.std.proofs.Common.{◌≡◌, ◌⊎◌, ⊎_elim, ◌+◌, ℕ, zero, suc, true, false, List, [], ◌∷◌, ◌++◌, length}
 use Rattle.std.proofs.Common.{slice_get, Some, Ok, Err, refl, sym, ap, ◌∙◌, subst, arith}
-use Rattle.std.specs.Prelude.{None, Result}
+use Rattle.std.specs.Prelude.{None}
 use Rattle.base_types.specs.Crash.{IsQuiet}
 use Rattle.base_types.specs.Faults.{RoseBy}
 use Rattle.base_types.specs.View.{View}
 use Rattle.disk_aggregate.specs.declared.refused.MountRefused.TheVariants.{NotAggregate}
+use Rattle.disk_image.specs.Aggregate.{is_blank}
+use Rattle.disk_image.specs.Refused.{refused_at}
+use Rattle.script_commands.specs.declared.command.Command.TheVariants.{Play as Plays}
 use Rattle.script_commands.specs.declared.command.Play.{Play}
 use Rattle.script_lines.specs.declared.script.Script.{Script}
 use Rattle.script_reader.specs.declared.refused.ScriptRefused.{ScriptRefused}
@@ -16,9 +19,9 @@ use Rattle.service_disks.specs.declared.stores.ServerStore.TheVariants.{Disk, Me
 use Rattle.service_starts.specs.declared.told.Told.{Told}
 use Rattle.service_run.specs.Complete.{CanRun, IsCalm, NothingFails, is_complete}
 use Rattle.service_run.specs.Courses.{IsTold}
-use Rattle.service_run.specs.Disks.{AreFound, IsAggregateRefused, IsRunOver, IsUnfit, RanOver, RunsOver, images}
+use Rattle.service_run.specs.Disks.{AreFound, AreStill, IsAggregateRefused, IsRunOver, IsUnfit, RunsOver, images}
 use Rattle.service_run.specs.Checks.{IsDiskRefused}
-use Rattle.service_run.specs.Outcomes.{EndsSo, has_reached}
+use Rattle.service_run.specs.Outcomes.{EndsSo, has_reached, may_end}
 use Rattle.service_run.specs.Scripts.{IsRead, script_for}
 use Rattle.service_run.specs.World.{World}
 use Rattle.service_run.specs.declared.outcome.Outcome.{Outcome}
@@ -70,13 +73,13 @@ module _ {D : Type 0} (tells : Type 0) (view : D → View) where
   -- as many disks are open as were opened
   open_long : (roster : Roster) (number : ℕ) (disks : List D) (stores : List (ServerStore D))
       → AreOpen tells view roster number disks stores → length (disks_of stores) ≡ length disks
-  open_long roster number [] [] open = refl
-  open_long roster number [] (Memory store ∷ stores) open = open_long roster (number + 1) [] stores open.1
-  open_long roster number [] (Disk store ∷ stores) open = absurd open
-  open_long roster number (disk ∷ disks) [] open = absurd open
-  open_long roster number (disk ∷ disks) (Memory store ∷ stores) open = absurd open
-  open_long roster number (disk ∷ disks) (Disk store ∷ stores) open =
-      ap suc (open_long roster (number + 1) disks stores open.1)
+  open_long roster number [] [] are = refl
+  open_long roster number [] (Memory store ∷ stores) are = open_long roster (number + 1) [] stores are.1
+  open_long roster number [] (Disk store ∷ stores) are = absurd are
+  open_long roster number (disk ∷ disks) [] are = absurd are
+  open_long roster number (disk ∷ disks) (Memory store ∷ stores) are = absurd are
+  open_long roster number (disk ∷ disks) (Disk store ∷ stores) are =
+      ap suc (open_long roster (number + 1) disks stores are.1)
 
   module _ {reads writes : Type 0} (play : Play) (outcome : Outcome) (old new : List D)
       (before after : World reads writes) (told : tells) (read : reads) (can : CanRun view play old before.source)
@@ -113,8 +116,9 @@ module _ {D : Type 0} (tells : Type 0) (view : D → View) where
         let stays = calm.disks at h.before h.after was is in
         let why = h.refused.cause in ⊎_elim
         (λ (quiet : IsQuiet (view h.before) (view h.after)). ⊎_elim
-        (λ blank. (let full = why.1 told in absurd (cc)))
-        (λ none. (let some = why.0.1 told in let image = quiet.image in let number_is = h.numbered in absurd (cc)))
+        (λ (blank : is_blank (view h.before).image ≡ true). (let full = why.1 told in absurd (cc)))
+        (λ (none : refused_at (at + 1) (length can.script.roster.capacity) (view h.before).image ≡ None).
+        (let some = why.0.1 told in let image = quiet.image in let number_is = h.numbered in absurd (cc)))
         (can.sound at h.before was))
         (λ (rose : RoseBy 1 (view h.before).faults (view h.after).faults).
         calm_once (view h.before).faults (view h.after).faults stays rose)
@@ -128,8 +132,11 @@ module _ {D : Type 0} (tells : Type 0) (view : D → View) where
 
     no_aggregate : IsAggregateRefused tells view can.script.roster old new before.sink after.sink → ⊥
     no_aggregate h = ⊎_elim
-        (λ first. not_first h.number h.place first)
-        (λ unfit. not_unfit h.number h.place (unfit told).0)
+        (λ (first : IsFirstRefused tells view can.script.roster h.number (NotAggregate h.place) old new).
+        not_first h.number h.place first)
+        (λ (unfit : tells → IsUnfit can.script.roster (images view old) h.number h.place
+        × AreStill can.script.roster (images view old) (images view new)).
+        not_unfit h.number h.place (unfit told).0)
         h.cause
 
     module _ (ends : EndsSo (IsTold tells old) play outcome before after)
@@ -142,12 +149,16 @@ module _ {D : Type 0} (tells : Type 0) (view : D → View) where
           (λ (h : IsRunOver tells view play outcome old new before after). h)
           over
 
+      -- no such status comes of a script
+      never : (status : Status) → outcome.status ≡ status → may_end (Some (Plays play)) status ≡ false → ⊥
+      never status is not = (let words = ends.words in absurd (cc))
+
       by_status : (status : Status) → outcome.status ≡ status → is_complete status ≡ true
       by_status Done is = refl
       by_status Stuck is = refl
       by_status NoMemory is = refl
-      by_status NoCommand is = (let words = ends.words in absurd (cc))
-      by_status HasFaults is = (let words = ends.words in absurd (cc))
+      by_status NoCommand is = absurd (never NoCommand is refl)
+      by_status HasFaults is = absurd (never HasFaults is refl)
       by_status NoScript is = (let r = ends.refused is in absurd (not_refused r.why r.read))
       by_status NoInput is =
           absurd (calm_once before.source.faults after.source.faults calm.source (ends.failed is))
