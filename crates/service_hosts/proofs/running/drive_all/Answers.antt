@@ -1,4 +1,4 @@
-use Rattle.std.proofs.Common.{ℕ, ◌+◌, ◌^◌, ◌∙◌, List, length, ap, refl, sym, subst, arith}
+use Rattle.std.proofs.Common.{◌≡◌, ℕ, ◌+◌, ◌^◌, ◌∙◌, List, length, ap, refl, sym, subst, arith}
 use Rattle.hub_drive.specs.Driving.{HasDriven, IsFault, beginning}
 use Rattle.hub_node.specs.Either.{stands_any}
 use Rattle.host_node.specs.Standing.{Stands as HostStands}
