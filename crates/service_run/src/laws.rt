@@ -19,7 +19,6 @@ pub fn losses_law()
 
 /// Where nothing outside fails, a script that can run over disks that tell their bytes runs to its end, and the output
 /// is whole; or hosts and servers come to no end, which the status tells; or memory runs out.
-#[tactic(auto, using(crate::proofs::Complete::complete))]
 pub fn complete_law<D: Disk, R: Source, K: Sink>()
     ensures { RunsAreComplete D.tells R.tells K.tells D.view }
 {}
