@@ -3,8 +3,8 @@
     bench/build.py OUT FOLDER [-O0]
 
 FOLDER/line is the program's line of crates.txt. Its code is FOLDER/program, or where that is a folder, a file for each
-of its modules. The module is what `rt try` compiles; it is copied when its own compiler begins, which is ended. It is
-compiled at -O1; at -O0 in a third of that time.
+of its modules. The module is what `rt try` compiles; it is copied when its own compiler begins, which is ended, as is
+the check beside it. The module is compiled at -O1; at -O0 in a third of that time.
 """
 import os
 import shutil
@@ -60,14 +60,22 @@ def make_module(top, into):
         found = None
         while made.poll() is None and not found:
             time.sleep(0.5)
+            for check in children(made.pid, "rattle check"):
+                end(check)
             found = module_in(tmp)
         if not found:
             sys.exit(open(into + ".log").read()[-3000:])
         shutil.copy(found, into + ".bc")
-        for child in subprocess.run(["pgrep", "-P", str(made.pid)], capture_output=True, text=True).stdout.split():
-            end(int(child))
+        for child in children(made.pid):
+            end(child)
         end(made.pid)
         made.wait()
+
+
+def children(pid, words=""):
+    """The children of a process, or those whose command has these words."""
+    found = subprocess.run(["pgrep", "-P", str(pid), "-f", words], capture_output=True, text=True)
+    return [int(child) for child in found.stdout.split()]
 
 
 def end(pid):

@@ -42,7 +42,7 @@ def seed_of(a, size, seed):
     runs, steps, tree = 0, 0, None
     with tempfile.TemporaryDirectory(dir="/dev/shm" if a.disks else None) as folder:
         for text in drawing.parts_of(seed, size, a.disks):
-            done = judging.ran(a.program, text, words, folder, tree, not a.shallow)
+            done = judging.ran(a.program, text, words, folder, tree, not a.shallow, a.seconds)
             runs, steps, tree = runs + 1, steps + done.steps, done.tree
             if done.faults:
                 break
@@ -91,7 +91,7 @@ def given(a):
     bad = 0
     for name, words, text in texts:
         words += ("--workers", str(a.workers)) if a.workers else ()
-        done = judging.ran(a.program, text, words, deep=not a.shallow, seconds=1200)
+        done = judging.ran(a.program, text, words, deep=not a.shallow, seconds=a.seconds)
         if done.faults:
             bad += 1
             tell(name, done.faults, 10)
@@ -127,6 +127,7 @@ def main():
     p.add_argument("--stop", type=int, default=10, help="after so many bad ones")
     p.add_argument("--workers", type=int, default=0, help="on so many threads")
     p.add_argument("--disks", action="store_true", help="over disks that are files in memory")
+    p.add_argument("--seconds", type=int, default=300, help="after which a run has no end")
     p.add_argument("--shallow", action="store_true", help="without the laws that take longest")
     a = p.parse_args()
     bad = given(a) + (rows(a) if a.rows else 0)
