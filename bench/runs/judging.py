@@ -49,7 +49,9 @@ def ran(program, text, words=("run",), folder=".", before=None, deep=True, secon
                               stderr=subprocess.PIPE, timeout=seconds, cwd=folder)
     except subprocess.TimeoutExpired as late:
         return Ran([("end", "no end in time", "")], 0, None, late.stdout or b"")
-    body, _, lines = done.stdout.partition(b"----\n")
+    # a line of its own: rights of an access list may end in dashes, too
+    body, _, lines = (b"\n" + done.stdout).partition(b"\n----\n")
+    body = body[1:] + b"\n" if body else b""
     if done.returncode or not lines:
         return Ran([("program", "status %d" % done.returncode, (body + done.stderr)[-600:])], 0, None, done.stdout)
     plain = None if words[0] == "gen" else body
