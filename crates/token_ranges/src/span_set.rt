@@ -109,7 +109,7 @@ fn joined(spans: &[Span], span: Span, alloc: Global) -> Result<Items<Span>, NoMe
     ensures apart { IfOk result IsApart }
     ensures positions { IfOk result (Joins spans.now span) }
 {
-    let mut done = Items::new(alloc);
+    let mut done = Items::from_vec(Vec::with_capacity(alloc, spans.len().saturating_add(1))?);
     let mut merged = span;
     for next in spans {
         if next.to < merged.from {
