@@ -7,7 +7,7 @@ use Rattle.std.proofs.Common.{refl, sym, ◌∙◌, ap, subst, arith}
 use Rattle.std.specs.Prelude.{◌-◌, Ok, remove}
 use Rattle.store_memory.specs.Views.{IsSameStore, View}
 use Rattle.store_state.specs.declared.state.StoreState.{StoreState}
-use Rattle.server_says.specs.Keepers.{HasAsked, HasStayed, HasTried, IsFit}
+use Rattle.server_says.specs.Keepers.{GoesOn, HasAsked, HasCome, HasStayed, HasTried, IsFit}
 use Rattle.server_says.specs.Running.{GoesTo}
 use Rattle.server_says.proofs.Chains.{goes_more}
 use Rattle.server_tables.specs.Updates.{unqueued}
@@ -40,6 +40,10 @@ gone_tried v a b c left x y = record {
   same = record { server = y.same.server ∙ x.same.server; roster = y.same.roster ∙ x.same.roster };
   counted = (let p = x.counted in let q = y.counted in omega (arith, p, q));
 }
+
+-- one that was only asked goes on
+pub went_asked : (old new : View) → new.state ≡ old.state → GoesOn old new
+went_asked old new same = λ from h. subst (λ (s : StoreState). HasCome from s) (sym same) h
 
 pub stayed_none : (tells : Type 0) (a : View) → HasStayed tells a a
 stayed_none tells a = record {

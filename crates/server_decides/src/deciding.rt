@@ -11,7 +11,7 @@ ghost use Rattle.server_decides.specs.Saying.{SaysOn};
 ghost use Rattle.server_decides.specs.Serving.{CameSo, IsServed};
 ghost use Rattle.server_decides.specs.Running.{making};
 ghost use Rattle.server_says.specs.Running.{GoesTo};
-ghost use Rattle.server_says.specs.Keepers.{HasAsked, HasTried, IsFit};
+ghost use Rattle.server_says.specs.Keepers.{GoesOn, HasAsked, HasTried, IsFit};
 ghost use Rattle.server_tables.specs.Counting.{IsCounted};
 ghost use Rattle.server_tables.specs.Sound.{AreSound};
 ghost use Rattle.server_says.specs.Messages.{IsStoreOf};
@@ -63,6 +63,7 @@ pub(crate) fn decide_all<S: Store>(
     ensures says { AreSound tables.old → OnOk result (SaysOn tables.old draft.old tables.new draft.new) }
     ensures served { OnOk result (IsServed tables.new (S.view keeper.new.store).state) }
     ensures tried { HasTried result (S.view keeper.old.store) (S.view keeper.new.store) keeper.new.left }
+    ensures went { S.tells → GoesOn (S.view keeper.old.store) (S.view keeper.new.store) }
 {
     for _ in 0..rounds(tables.pending.len()) {
         let Some(due) = next_due(tables, keeper, draft.fresh)? else {
@@ -260,6 +261,7 @@ fn decide<S: Store>(
     ensures says { AreSound tables.old → OnOk result (SaysOn tables.old draft.old tables.new draft.new) }
     ensures served { OnOk result (IsServed tables.new (S.view keeper.new.store).state) }
     ensures tried { HasTried result (S.view keeper.old.store) (S.view keeper.new.store) keeper.new.left }
+    ensures went { S.tells → GoesOn (S.view keeper.old.store) (S.view keeper.new.store) }
 {
     let pending = tables.unqueue(due.at);
     make(tables, keeper, draft, pending, due.decision)
@@ -282,6 +284,7 @@ fn make<S: Store>(
     ensures says { AreSound tables.old → OnOk result (SaysOn tables.old draft.old tables.new draft.new) }
     ensures served { OnOk result (IsServed tables.new (S.view keeper.new.store).state) }
     ensures tried { HasTried result (S.view keeper.old.store) (S.view keeper.new.store) keeper.new.left }
+    ensures went { S.tells → GoesOn (S.view keeper.old.store) (S.view keeper.new.store) }
 {
     match decision {
         Decision::Anew(needs) => Ok(make_anew(tables, draft, pending, needs)?),
@@ -306,6 +309,7 @@ fn refuse_want<S: Store>(
     ensures says { AreSound tables.old → OnOk result (SaysOn tables.old draft.old tables.new draft.new) }
     ensures served { OnOk result (IsServed tables.new (S.view keeper.new.store).state) }
     ensures tried { HasTried result (S.view keeper.old.store) (S.view keeper.new.store) keeper.new.left }
+    ensures went { S.tells → GoesOn (S.view keeper.old.store) (S.view keeper.new.store) }
 {
     let refused = refuse(tables, keeper, draft, &pending.wanted, refusal);
     drop(pending);
@@ -328,6 +332,7 @@ fn do_want<S: Store>(
     ensures says { AreSound tables.old → OnOk result (SaysOn tables.old draft.old tables.new draft.new) }
     ensures served { OnOk result (IsServed tables.new (S.view keeper.new.store).state) }
     ensures tried { HasTried result (S.view keeper.old.store) (S.view keeper.new.store) keeper.new.left }
+    ensures went { S.tells → GoesOn (S.view keeper.old.store) (S.view keeper.new.store) }
 {
     let done = do_now(tables, keeper, draft, &pending.wanted);
     drop(pending);
@@ -350,6 +355,7 @@ fn refuse<S: Store>(
     ensures says { AreSound tables.old → OnOk result (SaysOn tables.old draft.old tables.new draft.new) }
     ensures served { OnOk result (IsServed tables.new (S.view keeper.new.store).state) }
     ensures tried { HasTried result (S.view keeper.old.store) (S.view keeper.new.store) keeper.new.left }
+    ensures went { S.tells → GoesOn (S.view keeper.old.store) (S.view keeper.new.store) }
 {
     let Request::Change(change) = &wanted.request else {
         return Ok(());
@@ -375,6 +381,7 @@ fn do_now<S: Store>(
     ensures says { AreSound tables.old → OnOk result (SaysOn tables.old draft.old tables.new draft.new) }
     ensures served { OnOk result (IsServed tables.new (S.view keeper.new.store).state) }
     ensures tried { HasTried result (S.view keeper.old.store) (S.view keeper.new.store) keeper.new.left }
+    ensures went { S.tells → GoesOn (S.view keeper.old.store) (S.view keeper.new.store) }
 {
     let Request::Change(change) = &wanted.request else {
         return Ok(());

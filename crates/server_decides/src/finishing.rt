@@ -2,7 +2,7 @@ ghost use Rattle.std.specs.Prelude.{IfOk, OnOk};
 ghost use Rattle.server_decides.specs.Finishing.{IsFinished, IsTakenAndFinished};
 ghost use Rattle.server_decides.specs.Saying.{SaysOn};
 ghost use Rattle.server_decides.specs.Serving.{IsServed};
-ghost use Rattle.server_says.specs.Keepers.{HasTried, IsFit};
+ghost use Rattle.server_says.specs.Keepers.{GoesOn, HasTried, IsFit};
 ghost use Rattle.server_tables.specs.Sound.{AreSound};
 ghost use Rattle.server_says.specs.Messages.{IsFor};
 
@@ -29,6 +29,7 @@ pub fn take_and_finish<S: Store>(
     ensures says { AreSound tables.old → OnOk result (SaysOn tables.old draft.old tables.new draft.new) }
     ensures served { OnOk result (IsServed tables.new (S.view keeper.new.store).state) }
     ensures tried { HasTried result (S.view keeper.old.store) (S.view keeper.new.store) keeper.new.left }
+    ensures went { S.tells → GoesOn (S.view keeper.old.store) (S.view keeper.new.store) }
 {
     tables.tokens.laws();
     take_message(tables, keeper, draft, message)?;
@@ -49,6 +50,7 @@ pub fn finish<S: Store>(
     ensures says { AreSound tables.old → OnOk result (SaysOn tables.old draft.old tables.new draft.new) }
     ensures served { OnOk result (IsServed tables.new (S.view keeper.new.store).state) }
     ensures tried { HasTried result (S.view keeper.old.store) (S.view keeper.new.store) keeper.new.left }
+    ensures went { S.tells → GoesOn (S.view keeper.old.store) (S.view keeper.new.store) }
 {
     decide_all(tables, keeper, draft)?;
     admit_all(tables, draft)?;

@@ -3,7 +3,7 @@ ghost use Rattle.base_types.specs.declared.ids.Node.TheVariants.{Server};
 ghost use Rattle.run_rules.specs.Steps.{bare};
 ghost use Rattle.run_rules.specs.declared.step.Cause.TheVariants.{Flushed, Lapse, Line, Message as Came, Restart};
 ghost use Rattle.server_decides.specs.Acts.{epoch_begun};
-ghost use Rattle.server_decides.specs.Keepers.{HasTried, IsFit};
+ghost use Rattle.server_decides.specs.Keepers.{GoesOn, HasTried, IsFit};
 ghost use Rattle.server_tables.specs.Counting.{IsCounted};
 ghost use Rattle.server_tables.specs.Sound.{AreSound};
 ghost use Rattle.server_tables.specs.Updates.{begun};
@@ -109,6 +109,7 @@ impl Exporter {
         ensures same { OnOk result (IsSame self.old self.new) }
         ensures sound { AreSound self.old.tables → OnOk result (AreSound self.new.tables) }
         ensures tried { HasTried result (S.view keeper.old.store) (S.view keeper.new.store) keeper.new.left }
+        ensures went { S.tells → GoesOn (S.view keeper.old.store) (S.view keeper.new.store) }
     {
         let server = self.tables.server;
         let mut draft = Draft::new(self.tables.alloc());
@@ -131,6 +132,7 @@ impl Exporter {
         ensures same { OnOk result (IsSame self.old self.new) }
         ensures sound { AreSound self.old.tables → OnOk result (AreSound self.new.tables) }
         ensures tried { HasTried result (S.view keeper.old.store) (S.view keeper.new.store) keeper.new.left }
+        ensures went { S.tells → GoesOn (S.view keeper.old.store) (S.view keeper.new.store) }
     {
         let server = self.tables.server;
         let mut draft = Draft::new(self.tables.alloc());
@@ -187,6 +189,7 @@ impl Exporter {
         ensures same { OnOk result (IsSame self.old self.new) }
         ensures sound { AreSound self.old.tables → OnOk result (AreSound self.new.tables) }
         ensures tried { HasTried result (S.view keeper.old.store) (S.view keeper.new.store) keeper.new.left }
+        ensures went { S.tells → GoesOn (S.view keeper.old.store) (S.view keeper.new.store) }
     {
         self.begin(keeper, line)
     }
@@ -200,6 +203,7 @@ impl Exporter {
             ≡ epoch_begun (S.view keeper.old.store).state) }
         ensures counted { IsCounted self.old.tables → OnOk result (IsCounted self.new.tables) }
         ensures tried { HasTried result (S.view keeper.old.store) (S.view keeper.new.store) keeper.new.left }
+        ensures went { S.tells → GoesOn (S.view keeper.old.store) (S.view keeper.new.store) }
     {
         self.tables.begin()?;
         self.rested = true;

@@ -1,4 +1,5 @@
 pub mod Again
+pub mod Came
 pub mod Looked
 pub use Rattle.server_keeps.proofs.Acting
 pub use Rattle.server_keeps.proofs.Asking

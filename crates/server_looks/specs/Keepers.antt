@@ -1,10 +1,16 @@
 -- How a server's machine asks its store, and gives it acts.
-use Rattle.std.specs.Prelude.{◌≡◌, ◌≤◌, ℕ, ◌+◌, ◌*◌, ◌^◌, IsTrue, Result, Ok, Err, OnOk}
+use Rattle.std.specs.Prelude.{◌≡◌, ◌≤◌, ℕ, ◌+◌, ◌*◌, ◌^◌, IsTrue, List, Result, Ok, Err, OnOk}
 use Rattle.base_types.specs.Faults.{RoseBy}
 use Rattle.base_types.specs.declared.limits.TheConstants.{BATCH_ACTS_MAX}
+use Rattle.message_types.specs.Soundness.{Each}
+use Rattle.store_acts.specs.Acts.{state_after}
+use Rattle.store_acts.specs.Sound.{IsAct}
+use Rattle.store_acts.specs.declared.act.Act.{Act}
+use Rattle.store_acts.specs.declared.act.Act.TheVariants.{Do, Epoch, Give, Host, Refuse}
 use Rattle.store_memory.specs.Views.{IsSameStore, View}
 use Rattle.store_memory.specs.declared.store.StoreFault.{StoreFault}
 use Rattle.store_memory.specs.declared.store.StoreFault.TheVariants.{Failed, Memory as NoRoom}
+use Rattle.store_state.specs.declared.state.StoreState.{StoreState}
 use Rattle.server_looks.specs.declared.fault.ExporterFault.{ExporterFault}
 use Rattle.server_looks.specs.declared.fault.ExporterFault.TheVariants.{Memory, Store}
 
@@ -71,3 +77,26 @@ pub record HasMended {T : Type 0} (tells : Type 0) (result : Result T ExporterFa
   where
     pub given : HasGiven result old new left
     pub state : tells → new.state ≡ old.state
+
+-- an act of a server that runs: its epoch rises, a host is noted, a call is decided or refused, or what was given back
+-- is stored; none by which a run begins, or a fileset moves
+abbrev pub IsOfRun : Act → Type 0
+IsOfRun Epoch = Unit {0}
+IsOfRun (Host host known) = Unit {0}
+IsOfRun (Do host number call) = Unit {0}
+IsOfRun (Refuse host id number refusal) = Unit {0}
+IsOfRun (Give host number fid pieces given) = Unit {0}
+IsOfRun _ = ⊥
+
+-- What a store keeps has come from this by acts, some or none, that its server may do while it runs.
+pub record HasCome (from now : StoreState) : Type 0 where
+  pub acts : List Act
+  pub each : Each (IsAct from.roster from.server) acts
+  pub running : Each IsOfRun acts
+  pub server : now.server ≡ from.server
+  pub roster : now.roster ≡ from.roster
+  pub state : now ≡ state_after from acts
+
+-- A store goes on so, whatever comes of a call: what came to be kept by its server's acts before has come so still.
+abbrev pub GoesOn : View → View → Type 0
+GoesOn old new = (from : StoreState) → HasCome from old.state → HasCome from new.state

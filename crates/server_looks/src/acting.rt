@@ -1,14 +1,15 @@
 ghost use Rattle.std.specs.Option.{option_copied};
 ghost use Rattle.std.specs.Prelude.{◌≡◌, ◌≤◌, ◌⊎◌, ◌↔◌, ℕ, length, take, unwrap_or, IsTrue, IfOk, OnOk, OnErr};
 ghost use Rattle.store_state.specs.Rows.{itself, numbered_name};
-ghost use Rattle.message_types.specs.Soundness.{IsCall, IsHost, IsReply};
+ghost use Rattle.message_types.specs.Soundness.{Each, IsCall, IsHost, IsReply};
 ghost use Rattle.store_acts.specs.Acts.{act_done, dones_of, state_after};
-ghost use Rattle.store_acts.specs.Sound.{AllFit, AreActs, HasName, IsAct, IsDecided, IsFor};
+ghost use Rattle.store_acts.specs.Sound.{AllFit, AreActs, Fits, HasName, IsAct, IsDecided, IsFor};
+ghost use Rattle.store_state.specs.declared.state.StoreState.{StoreState};
 ghost use Rattle.store_acts.specs.declared.act.Act.TheVariants.{Do};
 ghost use Rattle.tree_calls.specs.declared.reply.Reply.TheVariants.{Refused};
 ghost use Rattle.server_looks.specs.Acts.{IsRepeatable, doing, epoch_begun, first_reply, giving, host_noted};
 ghost use Rattle.server_looks.specs.Acts.{next_number, numbered_at, refusing};
-ghost use Rattle.server_looks.specs.Keepers.{HasAsked, HasGiven, HasTried, IsFit};
+ghost use Rattle.server_looks.specs.Keepers.{GoesOn, HasAsked, HasGiven, HasTried, IsFit, IsOfRun};
 
 use crate::fault::ExporterFault;
 use crate::keeper::Keeper;
@@ -19,6 +20,7 @@ use tree_calls::{Call, Refusal, Reply};
 
 /// The reply to the call of a host, which is done. It is numbered at the store behind those of the host that were done
 /// before.
+#[tactic(auto, using(crate::proofs::Came::went_then, crate::proofs::Came::went_idle))]
 pub fn do_call<S: Store>(
     keeper: &mut Keeper<S>,
     host: HostId,
@@ -37,6 +39,7 @@ pub fn do_call<S: Store>(
         S.tells → IsRepeatable state act
         → OnOk result ((S.view keeper.new.store).state ≡ (act_done state act).state) }
     ensures tried { HasTried result (S.view keeper.old.store) (S.view keeper.new.store) keeper.new.left }
+    ensures went { S.tells → GoesOn (S.view keeper.old.store) (S.view keeper.new.store) }
 {
     if !has_name(call) {
         return Err(ExporterFault::Memory);
@@ -48,6 +51,7 @@ pub fn do_call<S: Store>(
 }
 
 /// The reply to the call of a host, which is refused. It is noted under a fileset.
+#[tactic(auto, using(crate::proofs::Came::went_then, crate::proofs::Came::went_idle))]
 pub fn refuse_call<S: Store>(
     keeper: &mut Keeper<S>,
     host: HostId,
@@ -61,6 +65,7 @@ pub fn refuse_call<S: Store>(
         S.tells → IsRepeatable state act
         → OnOk result ((S.view keeper.new.store).state ≡ (act_done state act).state) }
     ensures tried { HasTried result (S.view keeper.old.store) (S.view keeper.new.store) keeper.new.left }
+    ensures went { S.tells → GoesOn (S.view keeper.old.store) (S.view keeper.new.store) }
 {
     let number = next_number(keeper, host, fileset)?;
     let act = Act::Refuse {
@@ -74,6 +79,7 @@ pub fn refuse_call<S: Store>(
 }
 
 /// Stores what a host gives back.
+#[tactic(auto, using(crate::proofs::Came::went_then, crate::proofs::Came::went_idle))]
 pub fn give<S: Store>(
     keeper: &mut Keeper<S>,
     host: HostId,
@@ -85,6 +91,7 @@ pub fn give<S: Store>(
     ensures state { let state = (S.view keeper.old.store).state in S.tells → IsRepeatable state (giving host give.now)
         → OnOk result ((S.view keeper.new.store).state ≡ (act_done state (giving host give.now)).state) }
     ensures tried { HasTried result (S.view keeper.old.store) (S.view keeper.new.store) keeper.new.left }
+    ensures went { S.tells → GoesOn (S.view keeper.old.store) (S.view keeper.new.store) }
 {
     let act = act_of_give(host, give)?;
     drop(apply_one(keeper, act)?);
@@ -92,6 +99,7 @@ pub fn give<S: Store>(
 }
 
 /// Notes what is known of a host.
+#[tactic(auto, using(crate::proofs::Came::went_then, crate::proofs::Came::went_idle))]
 pub fn note_host<S: Store>(
     keeper: &mut Keeper<S>,
     host: HostId,
@@ -102,17 +110,20 @@ pub fn note_host<S: Store>(
     ensures state { S.tells → OnOk result ((S.view keeper.new.store).state
         ≡ host_noted (S.view keeper.old.store).state host state) }
     ensures tried { HasTried result (S.view keeper.old.store) (S.view keeper.new.store) keeper.new.left }
+    ensures went { S.tells → GoesOn (S.view keeper.old.store) (S.view keeper.new.store) }
 {
     drop(apply_one(keeper, Act::Host { host, state })?);
     Ok(())
 }
 
 /// The server starts anew: its epoch rises. Where the disk fails the store's epoch tells whether it has risen.
+#[tactic(auto, using(crate::proofs::Came::went_then, crate::proofs::Came::went_idle))]
 pub fn begin_epoch<S: Store>(keeper: &mut Keeper<S>) -> Result<(), ExporterFault>
     requires fit { IsFit (S.view keeper.old.store) keeper.old.left }
     ensures state { S.tells → OnOk result ((S.view keeper.new.store).state
         ≡ epoch_begun (S.view keeper.old.store).state) }
     ensures tried { HasTried result (S.view keeper.old.store) (S.view keeper.new.store) keeper.new.left }
+    ensures went { S.tells → GoesOn (S.view keeper.old.store) (S.view keeper.new.store) }
 {
     let epoch = keeper.store.epoch();
     match begin_once(keeper) {
@@ -138,6 +149,7 @@ fn has_name(call: &Call) -> bool
     }
 }
 
+#[tactic(auto, using(crate::proofs::Came::went_then, crate::proofs::Came::went_idle))]
 fn begin_once<S: Store>(keeper: &mut Keeper<S>) -> Result<(), ExporterFault>
     requires fit { IsFit (S.view keeper.old.store) keeper.old.left }
     ensures state { S.tells → OnOk result ((S.view keeper.new.store).state
@@ -145,6 +157,7 @@ fn begin_once<S: Store>(keeper: &mut Keeper<S>) -> Result<(), ExporterFault>
     ensures fault { S.tells → OnErr result (((S.view keeper.new.store).state ≡ (S.view keeper.old.store).state)
         ⊎ ((S.view keeper.new.store).state ≡ epoch_begun (S.view keeper.old.store).state)) }
     ensures given { HasGiven result (S.view keeper.old.store) (S.view keeper.new.store) keeper.new.left }
+    ensures went { S.tells → GoesOn (S.view keeper.old.store) (S.view keeper.new.store) }
 {
     drop(apply_batch(keeper, &[Act::Epoch])?);
     Ok(())
@@ -236,8 +249,11 @@ fn numbered_name(call: &Call) -> Option<&Name>
 }
 
 /// Does one act, and answers the reply. Where the disk fails the store is opened anew, and the act given once more.
+#[tactic(auto, using(crate::proofs::Came::went_then, crate::proofs::Came::went_idle))]
 fn apply_one<S: Store>(keeper: &mut Keeper<S>, act: Act) -> Result<Reply, ExporterFault>
     requires act { IsAct (S.view keeper.old.store).state.roster (S.view keeper.old.store).state.server act }
+    requires running { IsOfRun act }
+    requires fits { (state : StoreState) → Fits state act }
     requires fit { IsFit (S.view keeper.old.store) keeper.old.left }
     ensures reply { S.tells → IsRepeatable (S.view keeper.old.store).state act
         → IfOk result (λ reply. reply ≡ (act_done (S.view keeper.old.store).state act).done.reply) }
@@ -245,6 +261,7 @@ fn apply_one<S: Store>(keeper: &mut Keeper<S>, act: Act) -> Result<Reply, Export
         → OnOk result ((S.view keeper.new.store).state ≡ (act_done (S.view keeper.old.store).state act).state) }
     ensures sound { IfOk result IsReply }
     ensures tried { HasTried result (S.view keeper.old.store) (S.view keeper.new.store) keeper.new.left }
+    ensures went { S.tells → GoesOn (S.view keeper.old.store) (S.view keeper.new.store) }
 {
     let batch = [act];
     match apply_batch(keeper, &batch) {
@@ -256,8 +273,11 @@ fn apply_one<S: Store>(keeper: &mut Keeper<S>, act: Act) -> Result<Reply, Export
     }
 }
 
+#[tactic(auto, using(crate::proofs::Came::went_kept))]
 fn apply_batch<S: Store>(keeper: &mut Keeper<S>, batch: &[Act]) -> Result<Reply, ExporterFault>
     requires acts { AreActs (S.view keeper.old.store).state.roster (S.view keeper.old.store).state.server batch.now }
+    requires running { Each IsOfRun batch.now }
+    requires fits { (state : StoreState) → AllFit state batch.now }
     requires fit { IsFit (S.view keeper.old.store) keeper.old.left }
     ensures reply { S.tells → AllFit (S.view keeper.old.store).state batch.now
         → IfOk result (λ reply. reply ≡ first_reply (dones_of (S.view keeper.old.store).state batch.now)) }
@@ -268,6 +288,7 @@ fn apply_batch<S: Store>(keeper: &mut Keeper<S>, batch: &[Act]) -> Result<Reply,
         × ((S.view keeper.new.store).state ≡ state_after (S.view keeper.old.store).state (take k batch.now))) }
     ensures sound { IfOk result IsReply }
     ensures given { HasGiven result (S.view keeper.old.store) (S.view keeper.new.store) keeper.new.left }
+    ensures went { S.tells → GoesOn (S.view keeper.old.store) (S.view keeper.new.store) }
 {
     keeper.spend()?;
     let dones = keeper.store.apply(batch)?;

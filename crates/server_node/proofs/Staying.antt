@@ -4,7 +4,7 @@ use Rattle.std.specs.Prelude.{Result}
 use Rattle.store_memory.specs.Views.{View}
 use Rattle.hub_node.specs.Lines.{LinesView}
 use Rattle.server_exporter.specs.declared.exporter.Exporter.{Exporter}
-use Rattle.server_exporter.specs.Keepers.{HasTried}
+use Rattle.server_exporter.specs.Keepers.{GoesOn, HasTried}
 use Rattle.server_exporter.specs.ExporterFault.{ExporterFault}
 use Rattle.server_node.specs.Standing.{HasServed}
 use Rattle.server_node.specs.declared.server.ServerNode.{ServerNode}
@@ -12,9 +12,11 @@ use Rattle.server_node.specs.declared.server.ServerNode.{ServerNode}
 module _ {S : Type 0} (tells : Type 0) (view : S → View) where
   -- its machine has tried its store
   pub served_by : {T : Type 0} (r : Result T ExporterFault) (a b : ServerNode S)
-      → HasTried r (view a.keeper.store) (view b.keeper.store) b.keeper.left → HasServed tells view a b
-  served_by r a b h = record {
+      → HasTried r (view a.keeper.store) (view b.keeper.store) b.keeper.left
+      → (tells → GoesOn (view a.keeper.store) (view b.keeper.store)) → HasServed tells view a b
+  served_by r a b h went = record {
     same = h.same;
+    went = went;
     counted = h.counted;
     mendable = (λ m. h.mendable);
     worn = (λ w. h.wear);
@@ -25,6 +27,7 @@ module _ {S : Type 0} (tells : Type 0) (view : S → View) where
       → HasServed tells view n (record n { exporter = x; lines = lines })
   same_keeper n x lines = record {
     same = record { server = refl; roster = refl };
+    went = (λ t from h. h);
     counted = omega arith;
     mendable = (λ m. m);
     worn = (λ w. w);

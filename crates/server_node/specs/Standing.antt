@@ -27,7 +27,8 @@ use Rattle.hub_node.specs.declared.node.NodeFault.{NodeFault}
 use Rattle.hub_node.specs.declared.node.NodeFault.TheVariants.{Store as StoreFailed}
 use Rattle.server_exporter.specs.Serving.{IsServed}
 use Rattle.server_exporter.specs.Machines.{IsAt, Keeps}
-use Rattle.server_exporter.specs.Keepers.{FailedTwice, IsFit, IsWorn}
+pub use Rattle.server_exporter.specs.Keepers.{HasCome}
+use Rattle.server_exporter.specs.Keepers.{FailedTwice, GoesOn, IsFit, IsWorn}
 use Rattle.server_tables.specs.Sound.{AreSound}
 use Rattle.server_tables.specs.declared.tables.Tables.{Tables}
 use Rattle.server_node.specs.declared.server.ServerNode.{ServerNode}
@@ -87,10 +88,11 @@ module _ {S : Type 0} (tells : Type 0) (view : S → View) where
     pub rested : n.exporter.rested ≡ true
     pub so : StandsSo part n past made [] 0
 
-  -- Whatever it does, its store is for the same server, the disk's count of faults doesn't fall, and the store may be
-  -- opened anew and isn't worn out, as it was before.
+  -- Whatever it does, its store is for the same server and has done acts of it alone, the disk's count of faults
+  -- doesn't fall, and the store may be opened anew and isn't worn out, as it was before.
   pub record HasServed (old new : ServerNode S) : Type 0 where
     pub same : IsSameStore (view old.keeper.store) (view new.keeper.store)
+    pub went : tells → GoesOn (view old.keeper.store) (view new.keeper.store)
     pub counted : (view old.keeper.store).faults ≤ (view new.keeper.store).faults
     pub mendable : (view old.keeper.store).mendable → (view new.keeper.store).mendable
     pub worn : IsWorn (view old.keeper.store) old.keeper.left → IsWorn (view new.keeper.store) new.keeper.left

@@ -4,7 +4,7 @@ ghost use Rattle.message_types.specs.Soundness.{Each};
 ghost use Rattle.run_rules.specs.ServerDecides.{span_of};
 ghost use Rattle.run_rules.specs.Tokens.{number_of};
 ghost use Rattle.server_looks.specs.Acts.{IsRepeatable, giving};
-ghost use Rattle.server_looks.specs.Keepers.{HasAsked, HasTried, IsFit};
+ghost use Rattle.server_looks.specs.Keepers.{GoesOn, HasAsked, HasTried, IsFit};
 ghost use Rattle.server_tables.specs.Counting.{IsCounted};
 ghost use Rattle.server_tables.specs.Gives.{given};
 ghost use Rattle.server_takes.specs.Taking.{all_kept, all_returned, answer_by, ending, freed, give_applied, give_draft};
@@ -83,6 +83,7 @@ pub(crate) fn take_give_back<S: Store>(
         ≡ give_state tables.old host give.now (S.view keeper.old.store).state) }
     ensures counted { OnOk result (IsCounted tables.new) }
     ensures tried { HasTried result (S.view keeper.old.store) (S.view keeper.new.store) keeper.new.left }
+    ensures went { S.tells → GoesOn (S.view keeper.old.store) (S.view keeper.new.store) }
 {
     if !tables.is_here(give.fid.fileset) {
         return Ok(());
@@ -113,6 +114,7 @@ fn apply_first<S: Store>(
         ≡ (if is_first tables.now host give.now then store_given host give.now (S.view keeper.old.store).state
         else (S.view keeper.old.store).state)) }
     ensures tried { HasTried result (S.view keeper.old.store) (S.view keeper.new.store) keeper.new.left }
+    ensures went { S.tells → GoesOn (S.view keeper.old.store) (S.view keeper.new.store) }
 {
     if !is_first(tables, host, give) {
         return Ok(());
@@ -213,6 +215,7 @@ fn store<S: Store>(
         → OnOk result ((S.view keeper.new.store).state
         ≡ store_given host give.now (S.view keeper.old.store).state) }
     ensures tried { HasTried result (S.view keeper.old.store) (S.view keeper.new.store) keeper.new.left }
+    ensures went { S.tells → GoesOn (S.view keeper.old.store) (S.view keeper.new.store) }
 {
     if !may_store(keeper, give)? {
         return Ok(());

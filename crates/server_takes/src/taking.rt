@@ -1,6 +1,6 @@
 ghost use Rattle.std.specs.Prelude.{◌≡◌, false, [], Some, None, OnOk};
 ghost use Rattle.base_types.specs.declared.user.User.{User};
-ghost use Rattle.server_looks.specs.Keepers.{HasTried, IsFit};
+ghost use Rattle.server_looks.specs.Keepers.{GoesOn, HasTried, IsFit};
 ghost use Rattle.server_tables.specs.Counting.{IsCounted};
 ghost use Rattle.server_takes.specs.Messages.{IsFor, IsHeard, IsHeardBy, IsStored, IsStoreOf, IsTakenOf};
 ghost use Rattle.server_takes.specs.Messages.{asks_store, needs_by};
@@ -41,6 +41,7 @@ pub fn take_message<S: Store>(
         ≡ state_taken tables.old message.now (S.view keeper.old.store).state) }
     ensures counted { OnOk result (IsCounted tables.new) }
     ensures tried { HasTried result (S.view keeper.old.store) (S.view keeper.new.store) keeper.new.left }
+    ensures went { S.tells → GoesOn (S.view keeper.old.store) (S.view keeper.new.store) }
 {
     let host = message.host;
     if tables.hosts.is_down(host) {
@@ -76,6 +77,7 @@ fn take_other<S: Store>(
         ≡ other_state tables.old message.now (S.view keeper.old.store).state message.now.body) }
     ensures counted { OnOk result (IsCounted tables.new) }
     ensures tried { HasTried result (S.view keeper.old.store) (S.view keeper.new.store) keeper.new.left }
+    ensures went { S.tells → GoesOn (S.view keeper.old.store) (S.view keeper.new.store) }
 {
     if !tables.hosts.is_live(message.host) {
         return Ok(());
@@ -111,6 +113,7 @@ fn take_request<S: Store>(
         ≡ request_state tables.old message.now (S.view keeper.old.store).state message.now.body) }
     ensures counted { OnOk result (IsCounted tables.new) }
     ensures tried { HasTried result (S.view keeper.old.store) (S.view keeper.new.store) keeper.new.left }
+    ensures went { S.tells → GoesOn (S.view keeper.old.store) (S.view keeper.new.store) }
 {
     let host = message.host;
     match &message.body {

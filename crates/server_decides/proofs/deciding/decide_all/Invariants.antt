@@ -1,4 +1,4 @@
-use Rattle.server_says.specs.Keepers.{IsFit}
+use Rattle.server_says.specs.Keepers.{GoesOn, IsFit}
 use Rattle.server_says.specs.Running.{GoesTo}
 use Rattle.server_decides.specs.Deciding.{Decides}
 use Rattle.server_decides.specs.Serving.{IsServed}
@@ -13,6 +13,7 @@ invariant-loop g l = record {
   served : IsServed l.tables (g.S.Store.view l.keeper.store).state;
   fit : IsFit (g.S.Store.view l.keeper.store) l.keeper.left;
   gone : HasGoneOn (g.S.Store.view l.initial.keeper.store) (g.S.Store.view l.keeper.store);
+  went : g.S.Store.tells → GoesOn (g.S.Store.view l.initial.keeper.store) (g.S.Store.view l.keeper.store);
   goes : g.S.Store.tells → GoesTo Decides
       (making l.initial.tables l.initial.draft (g.S.Store.view l.initial.keeper.store).state)
       (making l.tables l.draft (g.S.Store.view l.keeper.store).state);

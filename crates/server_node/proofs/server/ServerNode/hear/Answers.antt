@@ -41,6 +41,7 @@ returns-then-is_to_server-clause-stays g c =
     let now : ServerNode g.row.S.Denot =
     record c.args.self.now { exporter = c.take-made.new.self; keeper = c.take-made.new.keeper } in
     served_by g.S.Store.tells g.S.Store.view c.take-made.result c.args.self.now now c.take-made.ensures.tried
+    c.take-made.ensures.went
 
 pub returns-then-is_to_server-clause-failed : goal.returns-then-is_to_server-clause-failed
 returns-then-is_to_server-clause-failed g c = λ e. c.take-made.ensures.tried.blame (c.push_made.ensures.err e)

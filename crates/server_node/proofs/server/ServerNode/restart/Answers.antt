@@ -35,6 +35,7 @@ returns-clause-stays g c =
     let now : ServerNode g.row.S.Denot =
     record { exporter = c.restart-made.new.self; keeper = c.restart-made.new.keeper; lines = c.go.new.self } in
     served_by g.S.Store.tells g.S.Store.view c.restart-made.result c.args.self.now now c.restart-made.ensures.tried
+    c.restart-made.ensures.went
 
 pub returns-clause-failed : goal.returns-clause-failed
 returns-clause-failed g c = λ e. c.restart-made.ensures.tried.blame (c.push_made.ensures.err e)

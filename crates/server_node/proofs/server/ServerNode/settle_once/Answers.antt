@@ -31,6 +31,7 @@ returns-clause-stays g c =
     let now : ServerNode g.row.S.Denot =
     record c.args.self.now { exporter = c.settle-made.new.self; keeper = c.settle-made.new.keeper } in
     served_by g.S.Store.tells g.S.Store.view c.settle-made.result c.args.self.now now c.settle-made.ensures.tried
+    c.settle-made.ensures.went
 
 pub returns-clause-failed : goal.returns-clause-failed
 returns-clause-failed g c = λ e. c.settle-made.ensures.tried.blame (c.push_made.ensures.err e)
