@@ -52,9 +52,13 @@ others_have : (span first : Span) (spans : List Span) → first.to ≤ span.from
 unfolding HasAll
 others_have span first spans before all at in' =
     elim (or_cases (has_byte first at) (in_spans spans at) (all at in')) [
-      | inl here ↦ absurd (omega (arith, ltb-true at first.to
-          (and_parts (nat_le first.from at) (nat_lt at first.to) here).1, leb-true span.from at
-          (and_parts (nat_le span.from at) (nat_lt at span.to) in').0))
+      | inl here ↦ absurd (omega (
+        arith,
+        ltb-true at first.to
+            (and_parts (nat_le first.from at) (nat_lt at first.to) here).1,
+        leb-true span.from at
+            (and_parts (nat_le span.from at) (nat_lt at span.to) in').0,
+      ))
       | inr later ↦ later
     ]
 

@@ -37,9 +37,9 @@ pub cuts_next : (want : ℕ → Bool) (span : Span) (done first both : List Span
 cuts_next want span done first both next rest filled stays adds stays' adds' h =
     let p = split 0 (FILE_BYTES_MAX + 1) done next rest h.apart in
     let to_end = stays 0 (next.to + 1) (omega arith) p.front (widen 0 0 next.from (next.to + 1) done (omega arith)
-        (omega (arith, p.filled)) p.front) in
+    (omega (arith, p.filled)) p.front) in
     let to_rest = stays 0 (max next.from span.to) (omega arith) p.front
-        (widen 0 0 next.from (max next.from span.to) done (omega arith) (omega arith) p.front) in
+    (widen 0 0 next.from (max next.from span.to) done (omega arith) (omega arith) p.front) in
     record {
       apart = append 0 (next.to + 1) (FILE_BYTES_MAX + 1) both rest
           (stays' 0 (next.to + 1) (omega arith) to_rest to_end) p.back;

@@ -70,7 +70,7 @@ pub parts_apart : (place : ℕ) (spans : List Span) → IsApart spans → IsPart
     (λ (next : Span). nat_lt next.to place) spans
 parts_apart place spans h =
     IsPartitionedBy-ltb (λ (next : Span). next.to) spans place
-        (λ i j d o l. (ends_at 0 (FILE_BYTES_MAX + 1) spans i j d h o l).0)
+    (λ i j d o l. (ends_at 0 (FILE_BYTES_MAX + 1) spans i j d h o l).0)
 
 -- those that end before a place
 ends_before : (low high place i : ℕ) (spans : List Span) → low ≤ place → i ≤ length spans → IsApartBetween low spans

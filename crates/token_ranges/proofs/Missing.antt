@@ -33,8 +33,11 @@ gap_at : (place a b end at : ℕ) (r : Bool) → a < b → (at < b + 1 → r ≡
     → ((nat_le place at && nat_lt at (min a end)) || ((nat_le (max place b) at && nat_lt at end) && not r))
     ≡ ((nat_le place at && nat_lt at end) && not ((nat_le a at && nat_lt at b) || r))
 gap_at place a b end at r h none =
-    elim (cases_lt at (b + 1)) [ inl lt ↦ rw (none lt) (gap_before place a b end at h lt) | inr le ↦ gap_behind place
-    a b end at r h le ]
+    elim (cases_lt at (b + 1)) [
+      | inl lt ↦ rw (none lt) (gap_before place a b end at h lt)
+      | inr le ↦ gap_behind place
+          a b end at r h le
+    ]
 
 or_next : (o g k m : Bool) → (g || k) ≡ m → ((o || g) || k) ≡ (o || m)
 or_next true g k m e = refl

@@ -40,8 +40,13 @@ returns-clause-apart c =
           w.if-spans-end.false
       | else-loop-end-test w ↦ begins_none merged.to (drop end spans) (drop_all end spans w.loop-end-test.false)
     ] in
-    rw (c.in_ok-extend-2.ensures.ok, c.in_ok-push.ensures.ok, c.in_ok-extend.ensures.ok, c.from_vec-done.ensures,
-    c.in_ok-with_capacity.ensures.items)
+    rw (
+      c.in_ok-extend-2.ensures.ok,
+      c.in_ok-push.ensures.ok,
+      c.in_ok-extend.ensures.ok,
+      c.from_vec-done.ensures,
+      c.in_ok-with_capacity.ensures.items,
+    )
     (subst IsApart (sym (put_together (take c.partition_point-front.result spans) spans merged end))
     (joined_apart _ (take c.partition_point-front.result spans) merged (drop end spans) merged.within begins
     c.loop-end.invariant.1))
@@ -50,9 +55,14 @@ pub returns-clause-positions : goal.returns-clause-positions
 unfolding Rattle.token_ranges.specs.Positions.Joins
 returns-clause-positions c = λ at.
     let front = take c.partition_point-front.result c.args.spans.now in let rest = drop c.loop-end.end
-        c.args.spans.now in
-    rw (c.in_ok-extend-2.ensures.ok, c.in_ok-push.ensures.ok, c.in_ok-extend.ensures.ok, c.from_vec-done.ensures,
-    c.in_ok-with_capacity.ensures.items)
+    c.args.spans.now in
+    rw (
+      c.in_ok-extend-2.ensures.ok,
+      c.in_ok-push.ensures.ok,
+      c.in_ok-extend.ensures.ok,
+      c.from_vec-done.ensures,
+      c.in_ok-with_capacity.ensures.items,
+    )
     (ap (λ (l : List Span). in_spans l at) (put_together front c.args.spans.now c.loop-end.merged c.loop-end.end)
     ∙ joined_positions (λ k. in_spans c.args.spans.now k || has_byte c.args.span k) front c.loop-end.merged rest
     c.loop-end.invariant.1 at)
