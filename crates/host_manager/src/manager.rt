@@ -54,6 +54,7 @@ impl Model for Manager {
 impl Manager {
     /// A host before its first step. It is declared by the roster. The only error is NoMemory: where the roster has no
     /// server, or more than 255, and else where memory ran out.
+    #[tactic(auto, using(host_tells::proofs::Placing::forgotten))]
     pub fn new(alloc: Global, host: HostId, roster: &Roster) -> Result<Manager, NoMemory>
         requires { IsSome (user_of roster.now host) }
         ensures host { IfOk result (λ manager. (tables_of manager).host ≡ host) }
@@ -91,6 +92,7 @@ impl Manager {
     }
 
     /// The line of this number makes a call: it is answered at once, or left open and asked about. The machine is free.
+    #[tactic(auto, using(host_tells::proofs::Placing::forgotten))]
     pub fn call(&mut self, line: u32, call: &Call) -> Result<Step, NoMemory>
         requires { IsFree (tables_of self.old) }
         ensures right { IfOk result (λ step.
@@ -151,6 +153,7 @@ impl Manager {
     }
 
     /// A message comes, which is sound and for this host.
+    #[tactic(auto, using(host_tells::proofs::Placing::forgotten))]
     pub fn take(&mut self, message: Message) -> Result<Step, NoMemory>
         ensures right { IfOk result (λ step. TakeRight (tables_of self.old) (tables_of self.new) message step) }
         ensures own { IfOk result (IsOwn (tables_of self.old)) }
@@ -161,6 +164,7 @@ impl Manager {
     }
 
     /// It is time to send again what was sent in vain.
+    #[tactic(auto, using(host_tells::proofs::Placing::forgotten))]
     pub fn lapse(&mut self) -> Result<Step, NoMemory>
         ensures right { IfOk result (λ step. OwnRight Lapse (tables_of self.old) (tables_of self.new) step) }
         ensures own { IfOk result (IsOwn (tables_of self.old)) }
@@ -187,6 +191,7 @@ impl Manager {
 
     /// The token that was last used longest ago leaves; None where a call is open, or the host caches no more than it
     /// may.
+    #[tactic(auto, using(host_tells::proofs::Placing::forgotten))]
     pub fn evict(&mut self) -> Result<Option<Step>, NoMemory>
         ensures right { IfOk result (λ step. MatchOption step (tables_of self.new ≡ tables_of self.old)
             (λ step. OwnRight Evict (tables_of self.old) (tables_of self.new) step)) }
@@ -200,6 +205,7 @@ impl Manager {
     }
 
     /// All lines have gone, and the machine is free: the next step of the end, None where there is none to make now.
+    #[tactic(auto, using(host_tells::proofs::Placing::forgotten))]
     pub fn end(&mut self) -> Result<Option<Step>, NoMemory>
         requires { IsFree (tables_of self.old) }
         ensures right { IfOk result (λ step. MatchOption step (tables_of self.new ≡ tables_of self.old)
@@ -213,6 +219,7 @@ impl Manager {
     }
 
     /// The line of this number stops the host, which is free: its last step.
+    #[tactic(auto, using(host_tells::proofs::Placing::forgotten))]
     pub fn stop(&mut self, line: u32) -> Result<Step, NoMemory>
         requires { IsFree (tables_of self.old) }
         ensures right { IfOk result (λ step. StopRight (tables_of self.old) line step) }
