@@ -41,14 +41,14 @@ impl Drop for Manager {
 }
 
 impl Model for Manager {
+    ghost use Rattle.host_manager.specs.contracts.machine.Machine.{the_row as machine_row};
     ghost use Rattle.host_manager.specs.declared.machine.Machine.{Machine};
-    ghost use Rattle.host_manager.specs.contracts.machine.Machine as machine;
     ghost use Rattle.host_tells.specs.Knows.{IsLast};
     ghost use Rattle.std.specs.Coded.{codes};
 
     ghost Value = { Machine };
 
-    ghost coded = { Prim.hlevel (codes, machine.the_row.coded) };
+    ghost coded = { Prim.hlevel (codes, machine_row.coded) };
 
     ghost view = { λ m. m.machine };
 
