@@ -22,6 +22,7 @@ use std::alloc::{AllocError, Global};
 use std::env;
 use std::fs::File;
 use std::io::ErrorKind;
+use std::mem;
 use std::process::ExitCode;
 use std::rt::{Env, Files};
 
@@ -69,13 +70,13 @@ fn main(rt: HostRuntime) -> ExitCode {
     ExitCode::from(code)
 }
 
-// The number with which the program ends.
+// The number with which the program ends. What the outcome holds isn't taken apart: the system takes all memory at once.
 fn code_of(outcome: Outcome) -> u8
     ensures { result ≡ code_of outcome.status }
 {
-    let status = outcome.status;
-    drop(outcome);
-    status.code()
+    let code = outcome.status.code();
+    mem::forget(outcome);
+    code
 }
 
 // The words after the program's name. Where one isn't UTF-8 there are none, which are in no grammar.

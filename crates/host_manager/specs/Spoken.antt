@@ -4,7 +4,7 @@ use Rattle.base_types.specs.declared.ids.HostId.{HostId}
 use Rattle.base_types.specs.declared.ids.Node.TheVariants.{Host}
 use Rattle.host_cache.specs.Holding.{is_idle}
 use Rattle.host_calls.specs.Looking.{OnlyTells}
-use Rattle.host_manager.specs.declared.manager.Manager.{Manager}
+use Rattle.host_manager.specs.declared.machine.Machine.{Machine}
 use Rattle.host_tables.specs.Drafts.{no_draft, step_of}
 use Rattle.host_manager.specs.Running.{IsRunning, RunsOn}
 use Rattle.host_tables.specs.Stands.{CanReply}
@@ -22,8 +22,8 @@ use Rattle.tree_calls.specs.declared.call.Call.{Call}
 use Rattle.tree_calls.specs.declared.reply.Reply.{Reply}
 
 -- the tables of a machine
-abbrev pub tables_of : Manager → Tables
-tables_of manager = manager.tables
+abbrev pub tables_of : Machine → Tables
+tables_of machine = machine.tables
 
 -- it caches no more tokens than it may; no call is open, too, so that a line may go
 abbrev pub HasRoom : Tables → Type 0

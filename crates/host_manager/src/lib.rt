@@ -3,6 +3,7 @@
 
 mod closing;
 mod learning;
+mod machine;
 mod manager;
 mod taking;
 

@@ -1,55 +1,64 @@
-ghost use Rattle.std.specs.Prelude.{◌≡◌, ◌≢◌, ◌↔◌, ◌≤◌, [], length, IfOk, IsOk, IsSome, IsTrue, List};
-ghost use Rattle.std.specs.Prelude.{IfSome, MatchOption, None, OnOk, Some, if◌then◌else◌};
+//! The machine of a host, with what is known of the file that was read last.
+ghost use Rattle.std.specs.Prelude.{◌≡◌, ◌≢◌, ◌↔◌, ◌≤◌, [], length, IfOk, IsSome, IsTrue, List};
+ghost use Rattle.std.specs.Prelude.{IfSome, MatchOption, None};
 ghost use Rattle.script_lines.specs.declared.script.Deed.TheVariants.{Await, Call as MakesCall, Raise, Stop};
 ghost use Rattle.script_lines.specs.declared.script.Script.{Script};
 ghost use Rattle.run_rules.specs.declared.step.Cause.TheVariants.{Evict, Lapse};
-ghost use Rattle.run_rules.specs.Steps.{limit_of};
 ghost use Rattle.tree_calls.specs.Rosters.{user_of};
-ghost use Rattle.host_tables.specs.Beginning.{new_tables};
 ghost use Rattle.host_tables.specs.Machine.{IsParted};
 ghost use Rattle.host_manager.specs.Running.{EndRight, IsRunning, LineRight, OwnRight, StopRight, TakeRight};
-ghost use Rattle.base_types.specs.declared.ids.Node.TheVariants.{Host};
-ghost use Rattle.run_rules.specs.Steps.{bare};
-ghost use Rattle.host_tables.specs.Drafts.{step_of};
-ghost use Rattle.host_manager.specs.Closing.{MayEnd, awaits_bye, is_to_part};
-ghost use Rattle.std.specs.List.{list_any};
+ghost use Rattle.host_manager.specs.Closing.{MayEnd};
 ghost use Rattle.host_manager.specs.Due.{EndDue, IsOwn, LineDue, OwnDue, TakeDue};
-ghost use Rattle.host_manager.specs.Taking.{HearsMessage};
 ghost use Rattle.host_manager.specs.Spoken.{HasRoom, IsFree, SpokenRight, answered_step, tables_of};
+ghost use Rattle.host_tells.specs.Knows.{IsLast};
 ghost use Rattle.host_tells.specs.Spoken.{StaysSilent};
 ghost use Rattle.run_rules.specs.declared.step.Step.{Step as StepOf};
 
-use crate::closing::{begin, drop_oldest, end_next, go_down, oldest};
-use crate::taking::take_message;
-use base_types::{CACHED_TOKENS_DEFAULT, HostId, Items, Name, NoMemory, Node, User};
-use host_asks::repeat_all;
-use host_cache::Cache;
-use host_dirty::Dirty;
-use host_gives::Gives;
-use host_labels::Uses;
-use host_leaves::send_due;
-use host_tables::{Draft, Site, Tables, bare_step, new_sites};
-use host_tells::answer_into;
+use crate::machine::Machine;
+use base_types::{HostId, Name, NoMemory};
+use host_tells::Last;
 use message_types::Message;
-use run_rules::{Answer, Cause, Step};
+use run_rules::Step;
 use std::alloc::Global;
+use std::marker::Model;
 use tree_calls::{Call, Reply, Roster};
 
 /// The machine of a host. Its calls answer steps, each the next one of the host. After want of memory nothing is
-/// promised of it.
+/// promised of it. Contracts see it without what is known of the file that was read last.
 pub struct Manager {
-    tables: Tables,
+    machine: Machine,
+    // holds of the machine as it is: each call but `answer_into` forgets it
+    last: Last,
 }
 
 impl Drop for Manager {
     fn drop(self) {
-        let Manager { tables: _ } = self;
+        let Manager {
+            machine: _,
+            last: _,
+        } = self;
     }
+}
+
+impl Model for Manager {
+    ghost use Rattle.host_manager.specs.declared.machine.Machine.{Machine};
+    ghost use Rattle.host_manager.specs.contracts.machine.Machine as machine;
+    ghost use Rattle.host_tells.specs.Knows.{IsLast};
+    ghost use Rattle.std.specs.Coded.{codes};
+
+    ghost Value = { Machine };
+
+    ghost coded = { Prim.hlevel (codes, machine.the_row.coded) };
+
+    ghost view = { λ m. m.machine };
+
+    ghost invariant = { λ m. IsLast m.machine.tables m.last };
 }
 
 impl Manager {
     /// A host before its first step. It is declared by the roster. The only error is NoMemory: where the roster has no
     /// server, or more than 255, and else where memory ran out.
+    #[tactic(auto, using(host_tells::proofs::Placing::forgotten))]
     pub fn new(alloc: Global, host: HostId, roster: &Roster) -> Result<Manager, NoMemory>
         requires { IsSome (user_of roster.now host) }
         ensures host { IfOk result (λ manager. (tables_of manager).host ≡ host) }
@@ -58,40 +67,36 @@ impl Manager {
         ensures rests { IfOk result (λ manager.
             (script : Script) → script.roster ≡ roster.now → IsRunning script (tables_of manager) []) }
     {
-        let servers = server_count(roster)?;
-        let cache = Cache::new(alloc)?;
-        let sites = new_sites(alloc, servers)?;
-        let Some(user) = roster.user_of(host)? else {
-            return Err(NoMemory);
-        };
-        let limit = limit_of(roster, host);
-        let dirty = Dirty::new(alloc);
-        let tables = new_tables(alloc, host, user, limit, cache, dirty, sites);
-        Ok(Manager { tables })
+        let last = Last::new(alloc)?;
+        Ok(Manager {
+            machine: Machine::new(alloc, host, roster)?,
+            last,
+        })
     }
 
     /// Whether no call is open and no token has to be evicted, so that a line may go. It takes no memory.
     pub fn is_free(&self) -> bool
         ensures { IsTrue result ↔ IsFree (tables_of self.now) }
     {
-        self.tables.call.is_none() && self.has_room()
+        self.machine.is_free()
     }
 
     /// Whether each server that was greeted has said Bye. It takes no memory.
     pub fn has_parted(&self) -> bool
         ensures { IsTrue result ↔ IsParted (tables_of self.now).sites }
     {
-        !awaits_bye(self.tables.sites.as_slice())
+        self.machine.has_parted()
     }
 
     /// How many calls were begun. It takes no memory.
     pub fn begun(&self) -> u32
         ensures { result ≡ (tables_of self.now).begun }
     {
-        self.tables.begun
+        self.machine.begun()
     }
 
     /// The line of this number makes a call: it is answered at once, or left open and asked about. The machine is free.
+    #[tactic(auto, using(host_tells::proofs::Placing::forgotten))]
     pub fn call(&mut self, line: u32, call: &Call) -> Result<Step, NoMemory>
         requires { IsFree (tables_of self.old) }
         ensures right { IfOk result (λ step.
@@ -99,14 +104,8 @@ impl Manager {
         ensures own { IfOk result (λ step. IsOwn (tables_of self.old) step) }
         ensures due { IfOk result (LineDue (tables_of self.old) line (MakesCall call.now)) }
     {
-        self.tables.cache.laws();
-        self.tables.uses.laws();
-        self.tables.gives.laws();
-        let host = self.tables.host;
-        let mut draft = Draft::new(self.tables.alloc);
-        let begun = begin(&mut self.tables, &mut draft, call);
-        self.tables.gives.laws();
-        when(begun, self.step(host, draft, Cause::Line(line)))
+        self.last.forget();
+        self.machine.call(line, call)
     }
 
     /// The next line makes a call that is a Read, Stat, List or GetAcl, and its need is covered: the reply's spelling
@@ -120,8 +119,7 @@ impl Manager {
             → MatchOption result (StaysSilent (tables_of self.old) (tables_of self.new) call.now (length out.old))
             (λ count. SpokenRight (tables_of self.old) (tables_of self.new) call.now out.new count) }
     {
-        self.tables.gives.laws();
-        answer_into(&mut self.tables, call, out)
+        self.machine.answer_again(&mut self.last, call, out)
     }
 
     /// The step of a line whose call, of this number, was answered by `answer_into`. The only error is that memory ran
@@ -135,16 +133,7 @@ impl Manager {
     ) -> Result<Step, NoMemory>
         ensures { IfOk result (λ step. step ≡ answered_step (tables_of self.now).host line k call reply) }
     {
-        let host = self.tables.host;
-        let mut draft = Draft::new(self.tables.alloc);
-        let noted = draft.answers.push(Answer {
-            host,
-            k,
-            call,
-            reply,
-            first: true,
-        });
-        when(noted, self.step(host, draft, Cause::Line(line)))
+        self.machine.answered_step(line, k, call, reply)
     }
 
     /// The line of this number raises a flag. The machine is free. It takes no memory.
@@ -154,8 +143,7 @@ impl Manager {
         ensures own { IsOwn (tables_of self.now) result }
         ensures due { LineDue (tables_of self.now) line (Raise flag.now) result }
     {
-        let _flag = flag;
-        self.bare(Cause::Line(line))
+        self.machine.raise(line, flag)
     }
 
     /// The line of this number awaits a flag, which is raised. The machine is free. It takes no memory.
@@ -165,44 +153,36 @@ impl Manager {
         ensures own { IsOwn (tables_of self.now) result }
         ensures due { LineDue (tables_of self.now) line (Await flag.now) result }
     {
-        let _flag = flag;
-        self.bare(Cause::Line(line))
+        self.machine.wait_for(line, flag)
     }
 
     /// A message comes, which is sound and for this host.
+    #[tactic(auto, using(host_tells::proofs::Placing::forgotten))]
     pub fn take(&mut self, message: Message) -> Result<Step, NoMemory>
         ensures right { IfOk result (λ step. TakeRight (tables_of self.old) (tables_of self.new) message step) }
         ensures own { IfOk result (IsOwn (tables_of self.old)) }
         ensures due { IfOk result (TakeDue (tables_of self.old) message) }
     {
-        self.tables.cache.laws();
-        self.tables.uses.laws();
-        self.tables.gives.laws();
-        let host = self.tables.host;
-        let mut draft = Draft::new(self.tables.alloc);
-        let heard = hear(&mut self.tables, &mut draft, &message);
-        self.tables.gives.laws();
-        when(heard, self.step(host, draft, Cause::Message(message)))
+        self.last.forget();
+        self.machine.take(message)
     }
 
     /// It is time to send again what was sent in vain.
+    #[tactic(auto, using(host_tells::proofs::Placing::forgotten))]
     pub fn lapse(&mut self) -> Result<Step, NoMemory>
         ensures right { IfOk result (λ step. OwnRight Lapse (tables_of self.old) (tables_of self.new) step) }
         ensures own { IfOk result (IsOwn (tables_of self.old)) }
         ensures due { IfOk result (OwnDue (tables_of self.old)) }
     {
-        self.tables.gives.laws();
-        let host = self.tables.host;
-        let mut draft = Draft::new(self.tables.alloc);
-        let repeated = repeat_all(&self.tables, &mut draft);
-        when(repeated, self.step(host, draft, Cause::Lapse))
+        self.last.forget();
+        self.machine.lapse()
     }
 
     /// Whether a token has to leave: no call is open, and the host caches more than it may. It takes no memory.
     pub fn has_to_evict(&self) -> bool
         ensures { IsTrue result ↔ (((tables_of self.now).call ≡ None) × (HasRoom (tables_of self.now) → ⊥)) }
     {
-        self.tables.call.is_none() && !self.has_room()
+        self.machine.has_to_evict()
     }
 
     /// Whether the end has a step to make now: a token is held, or each give-back is known as applied, and Bye is to be
@@ -210,14 +190,12 @@ impl Manager {
     pub fn may_end(&self) -> bool
         ensures { IsTrue result ↔ MayEnd (tables_of self.now) }
     {
-        if self.tables.cache.len() > 0 {
-            return true;
-        }
-        self.tables.gives.all().is_empty() && is_to_part(self.tables.sites.as_slice())
+        self.machine.may_end()
     }
 
     /// The token that was last used longest ago leaves; None where a call is open, or the host caches no more than it
     /// may.
+    #[tactic(auto, using(host_tells::proofs::Placing::forgotten))]
     pub fn evict(&mut self) -> Result<Option<Step>, NoMemory>
         ensures right { IfOk result (λ step. MatchOption step (tables_of self.new ≡ tables_of self.old)
             (λ step. OwnRight Evict (tables_of self.old) (tables_of self.new) step)) }
@@ -226,21 +204,12 @@ impl Manager {
         ensures own { IfOk result (λ made. IfSome made (IsOwn (tables_of self.old))) }
         ensures due { IfOk result (λ made. IfSome made (OwnDue (tables_of self.old))) }
     {
-        if self.tables.call.is_some() || self.has_room() {
-            return Ok(None);
-        }
-        let Some(token) = oldest(&self.tables) else {
-            return Ok(None);
-        };
-        self.tables.cache.laws();
-        self.tables.gives.laws();
-        let host = self.tables.host;
-        let mut draft = Draft::new(self.tables.alloc);
-        let dropped = drop_oldest(&mut self.tables, &mut draft, token);
-        some_when(dropped, self.step(host, draft, Cause::Evict))
+        self.last.forget();
+        self.machine.evict()
     }
 
     /// All lines have gone, and the machine is free: the next step of the end, None where there is none to make now.
+    #[tactic(auto, using(host_tells::proofs::Placing::forgotten))]
     pub fn end(&mut self) -> Result<Option<Step>, NoMemory>
         requires { IsFree (tables_of self.old) }
         ensures right { IfOk result (λ step. MatchOption step (tables_of self.new ≡ tables_of self.old)
@@ -249,177 +218,19 @@ impl Manager {
         ensures own { IfOk result (λ made. IfSome made (IsOwn (tables_of self.old))) }
         ensures due { IfOk result (λ made. IfSome made (EndDue (tables_of self.old))) }
     {
-        self.tables.cache.laws();
-        self.tables.uses.laws();
-        self.tables.gives.laws();
-        let host = self.tables.host;
-        let mut draft = Draft::new(self.tables.alloc);
-        let made = end_next(&mut self.tables, &mut draft);
-        self.tables.gives.laws();
-        where_made(made, self.step(host, draft, Cause::End))
+        self.last.forget();
+        self.machine.end()
     }
 
     /// The line of this number stops the host, which is free: its last step.
+    #[tactic(auto, using(host_tells::proofs::Placing::forgotten))]
     pub fn stop(&mut self, line: u32) -> Result<Step, NoMemory>
         requires { IsFree (tables_of self.old) }
         ensures right { IfOk result (λ step. StopRight (tables_of self.old) line step) }
         ensures own { IfOk result (IsOwn (tables_of self.old)) }
         ensures due { IfOk result (LineDue (tables_of self.old) line Stop) }
     {
-        let host = self.tables.host;
-        self.tables.cache.laws();
-        let mut draft = Draft::new(self.tables.alloc);
-        let gone = go_down(&mut self.tables, &mut draft);
-        when(gone, self.step(host, draft, Cause::Line(line)))
-    }
-
-    // Whether the host caches no more tokens than it may.
-    fn has_room(&self) -> bool
-        ensures { IsTrue result ↔ HasRoom (tables_of self.now) }
-    {
-        let limit = self.tables.limit as usize;
-        self.tables.cache.len() <= limit || self.tables.cache.idle() <= limit
-    }
-
-    // The step in which this is done, for a cause.
-    fn step(&self, host: HostId, draft: Draft, cause: Cause) -> Step
-        ensures { result ≡ step_of (Host host) cause draft }
-    {
-        draft.into_step(self.tables.alloc, Node::Host(host), cause)
-    }
-
-    // The step in which nothing is done, for a cause.
-    fn bare(&self, cause: Cause) -> Step
-        ensures { result ≡ bare (Host (tables_of self.now).host) cause }
-    {
-        bare_step(self.tables.alloc, Node::Host(self.tables.host), cause)
-    }
-}
-
-// Takes a message, and sends each give-back that became outstanding.
-fn hear(tables: &mut Tables, draft: &mut Draft, message: &Message) -> Result<(), NoMemory>
-    ensures { OnOk result (HearsMessage message.now tables.old draft.old tables.new draft.new) }
-{
-    take_message(tables, draft, message)?;
-    send_due(tables, draft)
-}
-
-// Whether a server that was greeted hasn't said Bye yet.
-fn awaits_bye(sites: &[Site]) -> bool
-    ensures { result ≡ list_any awaits_bye sites.now }
-{
-    sites.iter().any(|site| site.greeted && !site.has_bye)
-}
-
-// Whether Bye is to be said to a server.
-fn is_to_part(sites: &[Site]) -> bool
-    ensures { result ≡ list_any is_to_part sites.now }
-{
-    sites.iter().any(|site| site.greeted && !site.said_bye)
-}
-
-// A step, where all that it does was done.
-fn when(done: Result<(), NoMemory>, step: Step) -> Result<Step, NoMemory>
-    ensures step { IfOk result (λ made. made ≡ step) }
-    ensures done { OnOk result (IsOk done) }
-{
-    match done {
-        Ok(()) => Ok(step),
-        Err(error) => {
-            drop(step);
-            Err(error)
-        }
-    }
-}
-
-// The same of a step that may be none.
-fn some_when(done: Result<(), NoMemory>, step: Step) -> Result<Option<Step>, NoMemory>
-    ensures step { IfOk result (λ made. made ≡ Some step) }
-    ensures done { OnOk result (IsOk done) }
-{
-    match done {
-        Ok(()) => Ok(Some(step)),
-        Err(error) => {
-            drop(step);
-            Err(error)
-        }
-    }
-}
-
-// A step, where one was made.
-fn where_made(made: Result<bool, NoMemory>, step: Step) -> Result<Option<Step>, NoMemory>
-    ensures step { IfOk result (λ answer. IfOk made (λ some. answer ≡ (if some then Some step else None))) }
-    ensures made { OnOk result (IsOk made) }
-{
-    match made {
-        Ok(true) => Ok(Some(step)),
-        Ok(false) => {
-            drop(step);
-            Ok(None)
-        }
-        Err(error) => {
-            drop(step);
-            Err(error)
-        }
-    }
-}
-
-// The tables of a host before its first step.
-fn new_tables(
-    alloc: Global,
-    host: HostId,
-    user: User,
-    limit: u32,
-    cache: Cache,
-    dirty: Dirty,
-    sites: Items<Site>,
-) -> Tables
-    ensures { result ≡ new_tables alloc host user limit cache dirty sites }
-{
-    Tables {
-        alloc,
-        host,
-        user,
-        limit,
-        cache,
-        dirty,
-        lengths: Items::new(alloc),
-        uses: Uses::new(alloc),
-        gives: Gives::new(alloc),
-        leaving: Items::new(alloc),
-        ending: None,
-        floors: Items::new(alloc),
-        sites,
-        request: None,
-        fetched: Items::new(alloc),
-        changed: Items::new(alloc),
-        homes: Items::new(alloc),
-        lost: Items::new(alloc),
-        call: None,
-        begun: 0,
-    }
-}
-
-// How many servers a roster has, from 1 to 255.
-fn server_count(roster: &Roster) -> Result<u8, NoMemory>
-    ensures { IfOk result (λ count. (count ≡ length roster.now.capacity) × (1 ≤ count) × (count ≤ 255)) }
-{
-    let count = roster.capacity.len();
-    if count == 0 || count > 255 {
-        return Err(NoMemory);
-    }
-    Ok(count as u8)
-}
-
-// How many tokens a host caches that aren't in use, at most.
-fn limit_of(roster: &Roster, host: HostId) -> u32
-    ensures { result ≡ limit_of roster.now host }
-{
-    if host == HostId::SETUP {
-        return CACHED_TOKENS_DEFAULT;
-    }
-    match roster.hosts.at(host.0.saturating_sub(1) as usize) {
-        Some(line) => line.limit,
-        None => CACHED_TOKENS_DEFAULT,
+        self.last.forget();
+        self.machine.stop(line)
     }
 }

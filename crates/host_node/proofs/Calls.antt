@@ -9,7 +9,7 @@ use Rattle.base_types.specs.declared.ids.HostId.{HostId}
 use Rattle.base_types.specs.declared.ids.Node.TheVariants.{Host}
 use Rattle.host_manager.specs.Due.{IsOwn, LineDue}
 use Rattle.host_manager.specs.Spoken.{IsFree, SpokenRight, answered_step, tables_of}
-use Rattle.host_manager.specs.declared.manager.Manager.{Manager}
+use Rattle.host_manager.specs.declared.machine.Machine.{Machine}
 use Rattle.host_node.proofs.Standing.{after_line, can_ask, is_next}
 use Rattle.host_node.proofs.Turns.{next_below}
 use Rattle.host_node.specs.Between.{Holds, IsSaid, IsToldOf, Said, step_of}
@@ -112,7 +112,7 @@ module _ (part : Part) (n : HostNode) (past : List Round) (made : List Step) (st
       (can_ask part n past (made ++ st.waiting) [] 0 st.so live can.line can.next can.begun)
 
   -- a step more
-  then_stands : (new : Manager) (b : Between) (spoken : Spoken) (out : List ℕ) (s : Step)
+  then_stands : (new : Machine) (b : Between) (spoken : Spoken) (out : List ℕ) (s : Step)
       → HostMay script m.host own s → IsOwn m s
       → ((y : Message) → In y s.sent → IsSound script.roster y) → HostDue script m.host own s
       → s.cause ≡ LineOf can.line.number → (tables_of new).host ≡ m.host → IsRunning script (tables_of new) (s ∷ own)
@@ -140,7 +140,7 @@ module _ (part : Part) (n : HostNode) (past : List Round) (made : List Step) (st
   }
 
   -- it was answered without memory, and is noted
-  pub answered_then : (new : Manager) (out : List ℕ) (count : ℕ) → SpokenRight m (tables_of new) call out count
+  pub answered_then : (new : Machine) (out : List ℕ) (count : ℕ) → SpokenRight m (tables_of new) call out count
       → (b : Between) (result : Result Spoken NoMemory) (done : Result (Unit {0}) NoMemory) → OnOk result (IsOk done)
       → IfOk result (λ spoken. spoken ≡ Answered count) → (k : ℕ) → k ≡ (tables_of new).begun
       → ((said : Said) (host : HostId) (steps : List Step) → IsSaid n.lines.lines said → said.place ≡ n.lines.gone
@@ -184,7 +184,7 @@ module _ (part : Part) (n : HostNode) (past : List Round) (made : List Step) (st
   pub still_free : (between : Tables) → between ≡ m → IsFree between
   still_free between same = subst IsFree (sym same) can.free
 
-  pub asked_then : (between : Tables) → between ≡ m → (new : Manager) (r : Result Step NoMemory) (number : ℕ)
+  pub asked_then : (between : Tables) → between ≡ m → (new : Machine) (r : Result Step NoMemory) (number : ℕ)
       → next_number n.lines ≡ Some number
       → IfOk r (λ s. LineRight between (tables_of new) number (MakesCall call) s) → IfOk r (IsOwn between)
       → IfOk r (LineDue between number (MakesCall call)) → (b : Between) (done : Result Spoken NoMemory)

@@ -10,7 +10,7 @@ use Rattle.base_types.specs.declared.ids.Node.TheVariants.{Host, Server}
 use Rattle.base_types.specs.declared.ids.ServerId.{ServerId}
 use Rattle.host_manager.specs.Due.{IsOwn}
 use Rattle.host_manager.specs.Spoken.{tables_of}
-use Rattle.host_manager.specs.declared.manager.Manager.{Manager}
+use Rattle.host_manager.specs.declared.machine.Machine.{Machine}
 use Rattle.host_node.proofs.Sites.{bye_of, parted_of}
 use Rattle.host_node.specs.Standing.{IsOver, StandsSo, host_of}
 use Rattle.host_node.specs.declared.host.HostNode.{HostNode}
@@ -149,7 +149,7 @@ module _ (part : Part) (n : HostNode) (past : List Round) (made : List Step) (ca
 
     -- ## A step by itself, or by what was given
 
-    module _ (new : Manager) (s : Step) (runs : RunsOn script m (tables_of new) own s) (mine : IsOwn m s)
+    module _ (new : Machine) (s : Step) (runs : RunsOn script m (tables_of new) own s) (mine : IsOwn m s)
         (due : HostDue script m.host own s) (no_line : goes_with s.cause ≡ 0) where
       none : (k : ℕ) → s.cause ≡ LineOf k → ⊥
       none k e = let one : goes_with s.cause ≡ 1 = ap goes_with e in omega arith
@@ -302,7 +302,7 @@ module _ (part : Part) (n : HostNode) (past : List Round) (made : List Step) (ca
             ap lines_gone line_same ∙ one ∙ (omega arith)
 
         -- it goes
-        pub after_line : (new : Manager) (stops : Bool)
+        pub after_line : (new : Machine) (stops : Bool)
             → (stops ≡ false → ((tables_of new).host ≡ m.host) × IsRunning script (tables_of new) (s ∷ own))
             → (stops ≡ true → HasStopped (s ∷ own))
             → StandsSo part

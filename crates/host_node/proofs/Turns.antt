@@ -12,7 +12,7 @@ use Rattle.base_types.specs.declared.ids.Node.TheVariants.{Host}
 use Rattle.base_types.specs.declared.ids.ServerId.{ServerId}
 use Rattle.host_manager.specs.Due.{EndDue, IsOwn, OwnDue, TakeDue}
 use Rattle.host_manager.specs.Spoken.{tables_of}
-use Rattle.host_manager.specs.declared.manager.Manager.{Manager}
+use Rattle.host_manager.specs.declared.machine.Machine.{Machine}
 use Rattle.host_node.proofs.Standing.{after_lapse, after_line, after_message, after_own, can_ask, done_of, is_next}
 use Rattle.host_node.proofs.Standing.{node_is, over_of, running, stands_on, to_host}
 use Rattle.host_node.specs.Between.{Holds}
@@ -81,7 +81,7 @@ pushed_some (Err e) (Err f) olds news P is at p = tt
 
 -- a machine with the same tables is as it was
 pub same_tables : (part : Part) (n : HostNode) (past : List Round) (made : List Step) (came : List Message)
-    (lapses : ℕ) (new : Manager) → tables_of new ≡ tables_of n.manager → IsInTurn part n past made came lapses
+    (lapses : ℕ) (new : Machine) → tables_of new ≡ tables_of n.manager → IsInTurn part n past made came lapses
     → IsInTurn part (record n { manager = new }) past made came lapses
 same_tables part n past made came lapses new same turn = let so = turn.so in record {
   so = record {
@@ -285,7 +285,7 @@ module _ (part : Part) (n : HostNode) (past : List Round) (made : List Step) (li
 
   -- it has taken a message
   pub heard : (message : Message) (turn : IsInTurn part n past made (message ∷ []) 0) → IsSound script.roster message
-      → same_node (receiver message) part.node ≡ true → (new : Manager) (s : Step)
+      → same_node (receiver message) part.node ≡ true → (new : Machine) (s : Step)
       → TakeRight m (tables_of new) message s → IsOwn m s → TakeDue m message s
       → IsInTurn part (record n { manager = new }) past (made ++ s ∷ []) [] 0
   heard message turn sound is new s right mine due =
@@ -301,14 +301,14 @@ module _ (part : Part) (n : HostNode) (past : List Round) (made : List Step) (li
       }
 
   pub heard_then : (message : Message) → IsInTurn part n past made (message ∷ []) 0 → IsSound script.roster message
-      → same_node (receiver message) part.node ≡ true → (new : Manager) (r : Result Step NoMemory)
+      → same_node (receiver message) part.node ≡ true → (new : Machine) (r : Result Step NoMemory)
       → IfOk r (λ s. TakeRight m (tables_of new) message s) → IfOk r (IsOwn m) → IfOk r (TakeDue m message)
       → IfOk r (λ s. IsInTurn part (record n { manager = new }) past (made ++ s ∷ []) [] 0)
   heard_then message turn sound is new (Ok s) right mine due = heard message turn sound is new s right mine due
   heard_then message turn sound is new (Err e) right mine due = tt
 
   -- it has sent again what it sent in vain
-  pub repeated : (turn : IsInTurn part n past made [] 1) (new : Manager) (s : Step)
+  pub repeated : (turn : IsInTurn part n past made [] 1) (new : Machine) (s : Step)
       → OwnRight Lapse m (tables_of new) s → IsOwn m s → OwnDue m s
       → IsInTurn part (record n { manager = new }) past (made ++ s ∷ []) [] 0
   repeated turn new s right mine due =
@@ -321,7 +321,7 @@ module _ (part : Part) (n : HostNode) (past : List Round) (made : List Step) (li
         none = turn.none;
       }
 
-  pub repeated_then : IsInTurn part n past made [] 1 → (new : Manager) (r : Result Step NoMemory)
+  pub repeated_then : IsInTurn part n past made [] 1 → (new : Machine) (r : Result Step NoMemory)
       → IfOk r (λ s. OwnRight Lapse m (tables_of new) s) → IfOk r (IsOwn m) → IfOk r (OwnDue m)
       → IfOk r (λ s. IsInTurn part (record n { manager = new }) past (made ++ s ∷ []) [] 0)
   repeated_then turn new (Ok s) right mine due = repeated turn new s right mine due
@@ -334,7 +334,7 @@ module _ (part : Part) (n : HostNode) (past : List Round) (made : List Step) (li
     abbrev run : IsRunning script m own
     run = running part n past made [] 0 so live
 
-    pub evicted : (new : Manager) (s : Step) → OwnRight Evict m (tables_of new) s → IsOwn m s → OwnDue m s
+    pub evicted : (new : Machine) (s : Step) → OwnRight Evict m (tables_of new) s → IsOwn m s → OwnDue m s
         → IsInTurn part (record n { manager = new }) past (made ++ s ∷ []) [] 0
     evicted new s right mine due =
         let r = right script own run in
@@ -345,7 +345,7 @@ module _ (part : Part) (n : HostNode) (past : List Round) (made : List Step) (li
           none = turn.none;
         }
 
-    pub evicted_then : (new : Manager) (r : Result (Option Step) NoMemory)
+    pub evicted_then : (new : Machine) (r : Result (Option Step) NoMemory)
         → IfOk r (λ o. MatchOption o (tables_of new ≡ m) (λ s. OwnRight Evict m (tables_of new) s))
         → IfOk r (λ o. IfSome o (IsOwn m)) → IfOk r (λ o. IfSome o (OwnDue m))
         → IfOk r (λ o. MatchOption o (IsInTurn part (record n { manager = new }) past made [] 0)
@@ -363,7 +363,7 @@ module _ (part : Part) (n : HostNode) (past : List Round) (made : List Step) (li
         (l : List Line). length l) lines in
         let g = so.gone in let within = so.within in omega arith
 
-    pub ended : length n.lines.lines ≤ n.lines.gone → (new : Manager) (s : Step) → EndRight m (tables_of new) s
+    pub ended : length n.lines.lines ≤ n.lines.gone → (new : Machine) (s : Step) → EndRight m (tables_of new) s
         → IsOwn m s → EndDue m s → IsInTurn part (record n { manager = new }) past (made ++ s ∷ []) [] 0
     ended full new s right mine due =
         let r = right script own run (all_gone full) in
@@ -375,7 +375,7 @@ module _ (part : Part) (n : HostNode) (past : List Round) (made : List Step) (li
           none = turn.none;
         }
 
-    pub ended_then : length n.lines.lines ≤ n.lines.gone → (new : Manager) (r : Result (Option Step) NoMemory)
+    pub ended_then : length n.lines.lines ≤ n.lines.gone → (new : Machine) (r : Result (Option Step) NoMemory)
         → IfOk r (λ o. MatchOption o (tables_of new ≡ m) (λ s. EndRight m (tables_of new) s))
         → IfOk r (λ o. IfSome o (IsOwn m)) → IfOk r (λ o. IfSome o (EndDue m))
         → IfOk r (λ o. MatchOption o (IsInTurn part (record n { manager = new }) past made [] 0)
@@ -385,7 +385,7 @@ module _ (part : Part) (n : HostNode) (past : List Round) (made : List Step) (li
     ended_then full new (Err e) right mine due = tt
 
     -- a line has gone
-    module _ (line : Line) (next : next_of n.lines ≡ Some line) (begun : n.begun ≡ true) (new : Manager) (s : Step)
+    module _ (line : Line) (next : next_of n.lines ≡ Some line) (begun : n.begun ≡ true) (new : Machine) (s : Step)
         (does : DoesLine m (tables_of new) line.number line.deed s) (no_restart : line.deed ≡ Restart → ⊥) where
       abbrev slot : IsNextLine (lines_of script (Host m.host)) own line.number line
       slot = (is_next part n past made [] 0 so live line next begun, refl)
@@ -449,7 +449,7 @@ module _ (part : Part) (n : HostNode) (past : List Round) (made : List Step) (li
       pub went : IsInTurn part (after (is_stop line.deed)) past (made ++ s ∷ []) [] 0
       went = by_deed line.deed refl does.right
 
-    pub went_then : (line : Line) → next_of n.lines ≡ Some line → n.begun ≡ true → (new : Manager) {E : Type 0}
+    pub went_then : (line : Line) → next_of n.lines ≡ Some line → n.begun ≡ true → (new : Machine) {E : Type 0}
         (r : Result Step E) → IfOk r (λ s. DoesLine m (tables_of new) line.number line.deed s)
         → (line.deed ≡ Restart → ⊥)
         → IfOk r (λ s. IsInTurn part
@@ -464,7 +464,7 @@ module _ (part : Part) (n : HostNode) (past : List Round) (made : List Step) (li
 
 -- # Before the first turn
 
-pub fresh : (run : Beginning) (host : HostId) (manager : Manager) (between : Between) (own : LinesView) (begun : Bool)
+pub fresh : (run : Beginning) (host : HostId) (manager : Machine) (between : Between) (own : LinesView) (begun : Bool)
     → IsPlayable run.script → (tables_of manager).host ≡ host → IsRunning run.script (tables_of manager) []
     → own ≡ record { lines = lines_of run.script (Host host); gone = 0; told = None }
     → (begun ≡ true → host.0 ≡ 0) → Holds between own.lines host []

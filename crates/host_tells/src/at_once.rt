@@ -30,7 +30,7 @@ use tree_calls::{Call, Place, Refusal, Status, Which};
 ///
 /// None, and then no table changes, where the call isn't one of these, or lacks a token, or the reply has no spelling
 /// (it has too many names), or `out` is too short for it, or 2^32 - 1 calls were begun.
-pub fn answer_into(tables: &mut Tables, call: &Call, out: &mut [u8]) -> Option<usize>
+pub(crate) fn answer_into(tables: &mut Tables, call: &Call, out: &mut [u8]) -> Option<usize>
     ensures { AreUses tables.old → AreSized tables.old.cache → MatchOption result
         (StaysSilent tables.old tables.new call.now (length out.old))
         (λ count. SpeaksAtOnce tables.old tables.new call.now out.new count) }
@@ -91,8 +91,8 @@ fn answer_along(
     }
 }
 
-// So with one that comes to a verdict.
-fn answer_so(
+/// So with one that comes to a verdict.
+pub(crate) fn answer_so(
     tables: &mut Tables,
     call: &Call,
     root: Fid,
@@ -148,7 +148,7 @@ fn spell_refused(refusal: Refusal, out: &mut [u8]) -> Option<usize>
     put_refusal(out, at, &refusal)
 }
 
-fn spell_bytes(tables: &Tables, fid: Fid, span: Span, out: &mut [u8]) -> Option<usize>
+pub(crate) fn spell_bytes(tables: &Tables, fid: Fid, span: Span, out: &mut [u8]) -> Option<usize>
     requires { CoversBetween (held_of tables.now) fid false span.from span.to }
     ensures { Spells (Some (Bytes (bytes_seen (content tables.now.cache) fid span.from (span.to - span.from))))
         out.old out.new result }

@@ -2,9 +2,12 @@
 //! Architectural Overview", 1990; the spelling is this project's own).
 #![tactic(auto)]
 
+mod again;
 mod at_once;
 mod fitting;
+mod last;
 mod putting;
 mod spelling;
 
-pub use at_once::answer_into;
+pub use again::answer_again;
+pub use last::{Known, Last};

@@ -21,7 +21,8 @@ moved hub n n' fs fs' e f = λ i. record hub { net = e i; follows = f i }
 
 pub give_view : (s : Inside) (b : Posted) (wire : Wired) (follows : List Follow) (node : Node) → board_of s ≡ b
     → record (hub_of s) { net = wire.counted; follows = follows } ≡ without (gift_for (hub_of s) node) node (hub_of s)
-    → board_of (record s { wire = wire; follows = follows }) ≡ record b { hub = without (gift_for b.hub node) node b.hub }
+    → board_of (record s { wire = wire; follows = follows }) ≡ record b
+    { hub = without (gift_for b.hub node) node b.hub }
 give_view s b wire follows node view e =
     ap (λ (h : Hubbed). record (board_of s) { hub = h }) e
     ∙ ap (λ (x : Posted). record x { hub = without (gift_for x.hub node) node x.hub }) view

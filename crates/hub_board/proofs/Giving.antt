@@ -1,5 +1,6 @@
 -- What is given to a node, by what there is for it.
-use Rattle.std.proofs.Common.{◌≡◌, ℕ, zero, suc, true, false, cond, ◌&&◌, List, [], ◌∷◌, Option, None, Some, is_some, refl, sym, ap, ◌∙◌}
+use Rattle.std.proofs.Common.{◌≡◌, ℕ, zero, suc, true, false, cond, ◌&&◌, ◌||◌, Bool, List, [], ◌∷◌, Option, None}
+use Rattle.std.proofs.Common.{Some, is_some, refl, sym, ap, ◌∙◌}
 use Rattle.std.specs.Option.{option_map, option_and_then, option_map_or}
 use Rattle.std.specs.Prelude.{slice_get}
 use Rattle.std.specs.List.{remove}
@@ -12,7 +13,8 @@ use Rattle.hub_board.specs.Hubs.{Hubbed, begins, flag_of, gift_for, given_of, ma
 use Rattle.hub_board.specs.declared.follow.Follow.{Follow}
 use Rattle.hub_board.specs.declared.given.Gift.{Gift}
 use Rattle.hub_board.specs.declared.given.Gift.TheVariants.{Message, Begun, Raised, Lapse}
-use Rattle.hub_board.specs.declared.given.Given.TheVariants.{Message as Came, Begun as Began, Raised as WasRaised, Lapse as Lapsed}
+use Rattle.hub_board.specs.declared.given.Given.TheVariants.{Message as Came, Begun as Began, Raised as WasRaised}
+use Rattle.hub_board.specs.declared.given.Given.TheVariants.{Lapse as Lapsed}
 
 -- two changes that do the same there
 pub same_change : {X : Type 0} (f g : X → X) (xs : List X) (i : ℕ) → ((x : X) → slice_get xs i ≡ Some x → f x ≡ g x)
@@ -41,6 +43,23 @@ nothing_there : {X Y : Type 0} (f : X → Y) (o : Option X) (d : Y) → is_some 
 nothing_there f None d e = refl
 nothing_there f (Some x) d e = absurd (cc)
 
+some_of : (a b c d : Bool)
+    → is_some (cond a (Some Message) (cond b (Some Begun) (cond c (Some Raised) (cond d (Some Lapse) None))))
+    ≡ (((a || b) || c) || d)
+some_of true b c d = refl
+some_of false true c d = refl
+some_of false false true d = refl
+some_of false false false true = refl
+some_of false false false false = refl
+
+-- whether there is something
+pub some_gift : (hub : Hubbed) (node : Node) → is_some (gift_for hub node)
+    ≡ (((is_some (next_copy hub.net node) || (may_begin node && begins hub node)) || is_some (flag_of hub node))
+    || is_some (lapse_place hub.net node))
+some_gift hub node =
+    some_of (is_some (next_copy hub.net node)) (may_begin node && begins hub node) (is_some (flag_of hub node))
+    (is_some (lapse_place hub.net node))
+
 module _ (hub : Hubbed) (node : Node) where
   abbrev after_flag : Option Gift
   after_flag = cond (is_some (lapse_place hub.net node)) (Some Lapse) None
@@ -60,7 +79,8 @@ module _ (hub : Hubbed) (node : Node) where
   is_begun : None ≡ next_copy hub.net node → (may_begin node && begins hub node) ≡ true → gift_for hub node ≡ Some Begun
   is_begun e b = no_copy e ∙ ap (λ t. cond t (Some Begun) after_begun) b
 
-  no_begun : None ≡ next_copy hub.net node → (may_begin node && begins hub node) ≡ false → gift_for hub node ≡ after_begun
+  no_begun : None ≡ next_copy hub.net node → (may_begin node && begins hub node) ≡ false → gift_for hub node
+      ≡ after_begun
   no_begun e b = no_copy e ∙ ap (λ t. cond t (Some Begun) after_begun) b
 
   is_raised : (flag : List ℕ) → None ≡ next_copy hub.net node → (may_begin node && begins hub node) ≡ false
@@ -71,7 +91,8 @@ module _ (hub : Hubbed) (node : Node) where
       → gift_for hub node ≡ after_flag
   no_raised e b f = no_begun e b ∙ ap (λ t. cond t (Some Raised) after_flag) (sym (ap is_some f))
 
-  pub gives_copy : (m : MessageOf) → Some m ≡ next_copy hub.net node → Some (Came m) ≡ given_of hub node (gift_for hub node)
+  pub gives_copy : (m : MessageOf) → Some m ≡ next_copy hub.net node → Some (Came m) ≡ given_of hub node
+      (gift_for hub node)
   gives_copy m e = ap (option_map (λ x. Came x)) e ∙ ap (given_of hub node) (sym (is_copy m e))
 
   pub after_gives_copy : (m : MessageOf) → Some m ≡ next_copy hub.net node
@@ -87,7 +108,8 @@ module _ (hub : Hubbed) (node : Node) where
   gives_raised flag e b f =
       ap (option_map (λ x. WasRaised x)) f ∙ ap (given_of hub node) (sym (is_raised flag e b f))
 
-  pub gives_lapse : None ≡ next_copy hub.net node → (may_begin node && begins hub node) ≡ false → None ≡ flag_of hub node
+  pub gives_lapse : None ≡ next_copy hub.net node → (may_begin node && begins hub node) ≡ false → None ≡ flag_of hub
+      node
       → is_some (lapse_place hub.net node) ≡ true → Some Lapsed ≡ given_of hub node (gift_for hub node)
   gives_lapse e b f l =
       ap (given_of hub node) (sym (no_raised e b f ∙ ap (λ t. cond t (Some Lapse) None) l))
@@ -97,17 +119,23 @@ module _ (hub : Hubbed) (node : Node) where
   gives_none e b f l =
       ap (given_of hub node) (sym (no_raised e b f ∙ ap (λ t. cond t (Some Lapse) None) l))
 
-  pub after_begins : without_copy node hub.net ≡ hub.net → None ≡ next_copy hub.net node → (may_begin node && begins hub node) ≡ true
+  pub after_begins : without_copy node hub.net ≡ hub.net → None ≡ next_copy hub.net node
+      → (may_begin node && begins hub node) ≡ true
       → record hub {
         net = without_copy node hub.net;
         follows = changed_at hub.follows (place_of hub.follows node) with_begun;
       } ≡ without (gift_for hub node) node hub
   after_begins stays e b =
-      ap (λ (n : Network). record hub { net = n; follows = changed_at hub.follows (place_of hub.follows node) with_begun })
+      ap (λ (n : Network). record hub {
+        net = n;
+        follows = changed_at hub.follows (place_of hub.follows node)
+            with_begun;
+      })
       stays
       ∙ ap (λ g. without g node hub) (sym (is_begun e b))
 
-  pub after_raises : without_copy node hub.net ≡ hub.net → (flag : List ℕ) → None ≡ next_copy hub.net node → (may_begin node && begins hub node) ≡ false
+  pub after_raises : without_copy node hub.net ≡ hub.net → (flag : List ℕ) → None ≡ next_copy hub.net node
+      → (may_begin node && begins hub node) ≡ false
       → Some flag ≡ flag_of hub node
       → record hub {
         net = without_copy node hub.net;
@@ -128,7 +156,8 @@ module _ (hub : Hubbed) (node : Node) where
       same_change if_flag (λ x. x) hub.follows place (λ x at. flag_none x (then_some hub.follows place None f x at))
       ∙ no_change hub.follows place
 
-  pub after_lapses : without_copy node hub.net ≡ hub.net → None ≡ next_copy hub.net node → (may_begin node && begins hub node) ≡ false
+  pub after_lapses : without_copy node hub.net ≡ hub.net → None ≡ next_copy hub.net node
+      → (may_begin node && begins hub node) ≡ false
       → None ≡ flag_of hub node → is_some (lapse_place hub.net node) ≡ true
       → record hub {
         net = without_lapse node (without_copy node hub.net);
@@ -142,7 +171,8 @@ module _ (hub : Hubbed) (node : Node) where
       ∙ ap (λ (fs : List Follow). record hub { net = without_lapse node hub.net; follows = fs }) (untold f)
       ∙ ap (λ g. without g node hub) (sym (no_raised e b f ∙ ap (λ t. cond t (Some Lapse) None) l))
 
-  pub after_nothing : without_copy node hub.net ≡ hub.net → None ≡ next_copy hub.net node → (may_begin node && begins hub node) ≡ false
+  pub after_nothing : without_copy node hub.net ≡ hub.net → None ≡ next_copy hub.net node
+      → (may_begin node && begins hub node) ≡ false
       → None ≡ flag_of hub node → is_some (lapse_place hub.net node) ≡ false
       → record hub {
         net = without_lapse node (without_copy node hub.net);

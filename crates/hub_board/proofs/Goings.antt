@@ -1,5 +1,6 @@
 -- A turn goes on with what the turns before it have come to.
-use Rattle.std.proofs.Common.{◌≡◌, ℕ, ◌+◌, ◌-◌, min, Bool, true, false, cond, List, [], ◌∷◌, ◌++◌, length, Option, None, Some, refl, sym, ap, subst, ◌∙◌, arith}
+use Rattle.std.proofs.Common.{◌≡◌, ℕ, ◌+◌, ◌-◌, min, Bool, true, false, cond, List, [], ◌∷◌, ◌++◌, length, Option}
+use Rattle.std.proofs.Common.{None, Some, refl, sym, ap, subst, ◌∙◌, arith}
 use Rattle.std.specs.Option.{option_map_or}
 use Rattle.base_types.specs.Lists.{changed_at}
 use Rattle.base_types.specs.declared.ids.Node.{Node}
@@ -19,7 +20,8 @@ append_none : {X : Type 0} (xs : List X) → xs ++ [] ≡ xs
 append_none [] = refl
 append_none (x ∷ xs) = ap (λ ys. x ∷ ys) (append_none xs)
 
-after_append : (hub : Hubbed) (turns : List Turn) (t : Turn) → after hub (turns ++ t ∷ []) ≡ with_turn (after hub turns) t
+after_append : (hub : Hubbed) (turns : List Turn) (t : Turn) → after hub (turns ++ t ∷ []) ≡ with_turn
+    (after hub turns) t
 after_append hub [] t = refl
 after_append hub (x ∷ turns) t = after_append (with_turn hub x) turns t
 
@@ -42,20 +44,24 @@ either : {X : Type 0} (b : Bool) (x : X) → cond b x x ≡ x
 either true x = refl
 either false x = refl
 
-nothing_handed : (hub : Hubbed) (node : Node) → with_steps hub node [] ≡ hub
+pub nothing_handed : (hub : Hubbed) (node : Node) → with_steps hub node [] ≡ hub
 nothing_handed hub node =
     let gone : changed_at hub.follows (place_of hub.follows node) (with_gone 0) ≡ hub.follows =
     same_change (with_gone 0) (λ x. x) hub.follows (place_of hub.follows node) (λ x at. none_gone x)
     ∙ no_change hub.follows (place_of hub.follows node) in
     ap (λ flags. noted hub node [] flags) (none_raised (follow_at hub node))
-    ∙ ap (λ (fs : List Follow). record hub { follows = fs; ties = cond (same_node node setup_node) hub.ties hub.ties }) gone
+    ∙ ap (λ (fs : List Follow). record hub {
+      follows = fs;
+      ties = cond (same_node node setup_node) hub.ties hub.ties;
+    }) gone
     ∙ ap (λ (ts : List Tie). record hub { ties = ts }) (either (same_node node setup_node) hub.ties)
 
 module _ (first : Hubbed) (before now : Posted) (o : IsOf first before) where
   one_more : (t : Turn) → t.gift ≡ gift_for (with_steps before.hub t.node t.steps) t.node
       → now.turns ≡ before.turns ++ t ∷ [] → now.hub ≡ with_turn before.hub t → IsOf first now
   one_more t g turns hub = record {
-    hub = hub ∙ ap (λ (h : Hubbed). with_turn h t) o.hub ∙ sym (after_append first before.turns t) ∙ ap (after first) (sym turns);
+    hub = hub ∙ ap (λ (h : Hubbed). with_turn h t) o.hub ∙ sym (after_append first before.turns t) ∙ ap (after first)
+        (sym turns);
     given = subst (AreGiven first) (sym turns) (given_append first before.turns t o.given
         (g ∙ ap (λ (h : Hubbed). gift_for (with_steps h t.node t.steps) t.node) o.hub));
   }
@@ -68,7 +74,8 @@ module _ (first : Hubbed) (before now : Posted) (o : IsOf first before) where
         given = subst (AreGiven first) (sym same) o.given;
       }
 
-  by_entry : (node : Node) (steps : List Step) (gift : Option Gift) → gift ≡ gift_for (with_steps before.hub node steps) node
+  by_entry : (node : Node) (steps : List Step) (gift : Option Gift) → gift ≡ gift_for
+      (with_steps before.hub node steps) node
       → now.turns ≡ before.turns ++ entered node steps gift
       → now.hub ≡ without gift node (with_steps before.hub node steps) → IsOf first now
   by_entry node [] None g turns hub = no_more node turns hub

@@ -3,7 +3,8 @@ use Rattle.std.specs.List.{cons_option, filter_map}
 use Rattle.std.specs.Option.{option_to_list}
 use Rattle.std.proofs.lemmas.List.Elements.{filter_map-append}
 use Rattle.std.proofs.lemmas.List.Sums.{sum_by_push}
-use Rattle.std.proofs.Common.{◌≡◌, ℕ, ◌+◌, ◌<◌, true, false, cond, Option, None, Some, List, [], ◌∷◌, ◌++◌, length, get_or, take, map, refl, sym, ap, ◌∙◌, arith}
+use Rattle.std.proofs.Common.{◌≡◌, ℕ, ◌+◌, ◌<◌, true, false, cond, Option, None, Some, List, [], ◌∷◌, ◌++◌, length}
+use Rattle.std.proofs.Common.{get_or, take, map, refl, sym, ap, ◌∙◌, arith}
 use Rattle.std.proofs.lemmas.List.{take_more}
 use Rattle.message_types.specs.declared.message.Message.{Message}
 use Rattle.run_rules.specs.declared.step.Step.{Step}
@@ -46,7 +47,8 @@ flags_more marks i mark h e =
     ∙ ap (λ fs. filter_map raise_of (take i marks) ++ fs) (flag_alone (raise_of (get_or marks i mark)))
     ∙ ap (λ (m : Mark). filter_map raise_of (take i marks) ++ option_to_list (raise_of m)) (sym e)
 
-sent_append : (net : Network) (steps : List Step) (s : Step) → with_sent net (steps ++ s ∷ []) ≡ with_step (with_sent net steps) s.sent
+sent_append : (net : Network) (steps : List Step) (s : Step) → with_sent net (steps ++ s ∷ []) ≡ with_step
+    (with_sent net steps) s.sent
 sent_append net [] s = refl
 sent_append net (x ∷ steps) s = sent_append (with_step net x.sent) steps s
 
@@ -56,11 +58,13 @@ sent_more net steps i s h e =
     ap (with_sent net) (take_more steps i s h) ∙ sent_append net (take i steps) (get_or steps i s)
     ∙ ap (λ (x : Step). with_step (with_sent net (take i steps)) x.sent) (sym e)
 
-flagged_append : (flags : List (List ℕ)) (flag : List ℕ) (net : Network) → flagged (flags ++ flag ∷ []) net ≡ with_flag flag (flagged flags net)
+flagged_append : (flags : List (List ℕ)) (flag : List ℕ) (net : Network) → flagged (flags ++ flag ∷ []) net
+    ≡ with_flag flag (flagged flags net)
 flagged_append [] flag net = refl
 flagged_append (x ∷ flags) flag net = flagged_append flags flag (with_flag x net)
 
-pub flagged_more : (net : Network) (flags : List (List ℕ)) (i : ℕ) (flag : List ℕ) → i < length flags → flag ≡ get_or flags i flag
+pub flagged_more : (net : Network) (flags : List (List ℕ)) (i : ℕ) (flag : List ℕ) → i < length flags → flag ≡ get_or
+    flags i flag
     → flagged (take (i + 1) flags) net ≡ with_flag flag (flagged (take i flags) net)
 flagged_more net flags i flag h e =
     ap (λ fs. flagged fs net) (take_more flags i flag h) ∙ flagged_append (take i flags) (get_or flags i flag) net
@@ -75,7 +79,8 @@ pub raised_more : (follows : List Follow) (flags : List (List ℕ)) (i : ℕ) (f
     → flag ≡ get_or flags i flag
     → all_raised (take (i + 1) flags) follows ≡ map (with_raised flag) (all_raised (take i flags) follows)
 raised_more follows flags i flag h e =
-    ap (λ fs. all_raised fs follows) (take_more flags i flag h) ∙ raised_append (take i flags) (get_or flags i flag) follows
+    ap (λ fs. all_raised fs follows) (take_more flags i flag h) ∙ raised_append (take i flags) (get_or flags i flag)
+    follows
     ∙ ap (λ f. map (with_raised f) (all_raised (take i flags) follows)) (sym e)
 
 tied_append : (ties : List Tie) (steps : List Step) (s : Step)
@@ -89,7 +94,8 @@ tied_more ties steps i s h e =
     ap (tied ties) (take_more steps i s h) ∙ tied_append ties (take i steps) (get_or steps i s)
     ∙ ap (λ (x : Step). with_all_sent (with_cause (tied ties (take i steps)) x.cause) x.sent) (sym e)
 
-sent_one_more : (ties : List Tie) (ms : List Message) (m : Message) → with_all_sent ties (ms ++ m ∷ []) ≡ tied_by (with_all_sent ties ms) m
+sent_one_more : (ties : List Tie) (ms : List Message) (m : Message) → with_all_sent ties (ms ++ m ∷ []) ≡ tied_by
+    (with_all_sent ties ms) m
 sent_one_more ties [] m = refl
 sent_one_more ties (x ∷ ms) m = sent_one_more (tied_by ties x) ms m
 

@@ -1,16 +1,19 @@
 -- A turn, from its parts.
-use Rattle.std.proofs.Common.{◌≡◌, ℕ, Bool, true, false, cond, ◌&&◌, List, ◌++◌, Option, None, Some, is_some, refl, ap, ◌∙◌}
+use Rattle.std.proofs.Common.{◌≡◌, ℕ, Bool, true, false, cond, ◌&&◌, List, ◌++◌, Option, None, Some, is_some, refl}
+use Rattle.std.proofs.Common.{ap, ◌∙◌}
 use Rattle.std.specs.Option.{option_map}
 use Rattle.base_types.specs.declared.ids.Node.{Node}
 use Rattle.message_types.specs.declared.message.Message.{Message as MessageOf}
 use Rattle.run_rules.specs.declared.step.Step.{Step}
 use Rattle.hub_wire.specs.Networks.{lapse_place, next_copy}
-use Rattle.hub_board.specs.Hubs.{Hubbed, begins, flag_of, flags_of, gift_for, gift_in, given_of, may_begin, noted, with_sent, with_steps, without}
+use Rattle.hub_board.specs.Hubs.{Hubbed, begins, flag_of, flags_of, gift_for, gift_in, given_of, may_begin, noted}
+use Rattle.hub_board.specs.Hubs.{with_sent, with_steps, without}
 use Rattle.hub_board.specs.Turning.{HasTurned, IsPrepared, Posted, entered}
 use Rattle.hub_board.specs.declared.given.Gift.{Gift}
 use Rattle.hub_board.specs.declared.given.Gift.TheVariants.{Message, Begun, Raised, Lapse}
 use Rattle.hub_board.specs.declared.given.Given.{Given}
-use Rattle.hub_board.specs.declared.given.Given.TheVariants.{Message as Came, Begun as Began, Raised as WasRaised, Lapse as Lapsed}
+use Rattle.hub_board.specs.declared.given.Given.TheVariants.{Message as Came, Begun as Began, Raised as WasRaised}
+use Rattle.hub_board.specs.declared.given.Given.TheVariants.{Lapse as Lapsed}
 
 -- what is told of the first that there is
 abbrev pick : Option MessageOf → Bool → Option (List ℕ) → Bool → Option Gift
@@ -55,7 +58,8 @@ module _ (old p n g e : Posted) (node : Node) (steps s1 s2 handed : List Step) (
       ∙ ap (λ (h : Hubbed). noted h node s2 f3) prepared.hub
       ∙ ap (λ (xs : List Step). noted (record old.hub { net = with_sent old.hub.net s1 }) node xs f3) b
       ∙ ap (λ (fs : List (List ℕ)). noted (record old.hub { net = with_sent old.hub.net s1 }) node steps fs) (c ∙ f)
-      ∙ ap (λ (xs : List Step). noted (record old.hub { net = with_sent old.hub.net xs }) node steps (flags_of old.hub node xs)) a
+      ∙ ap (λ (xs : List Step). noted (record old.hub { net = with_sent old.hub.net xs }) node steps
+      (flags_of old.hub node xs)) a
 
   pub turned : s1 ≡ steps → s2 ≡ steps → f3 ≡ flags → IsPrepared old p s1 → flags ≡ flags_of old.hub node s1
       → n ≡ record p { hub = noted p.hub node s2 f3 } → given ≡ given_of n.hub node (gift_for n.hub node)

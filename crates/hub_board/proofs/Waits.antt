@@ -1,5 +1,7 @@
 -- Lines that wait for flags, and where they stand.
-use Rattle.std.proofs.Common.{◌≡◌, ◌⊎◌, ℕ, zero, suc, ◌+◌, ◌<◌, ◌≤◌, ◌≢◌, ◌||◌, Bool, true, false, cond, List, [], ◌∷◌, ◌++◌, length, get_or, take, drop, map, slice_get, Some, is_some, inl, inr, refl, sym, ap, ◌∙◌, arith, true≢false}
+use Rattle.std.proofs.Common.{◌≡◌, ◌⊎◌, ℕ, zero, suc, ◌+◌, ◌<◌, ◌≤◌, ◌≢◌, ◌||◌, Bool, true, false, cond, List, []}
+use Rattle.std.proofs.Common.{◌∷◌, ◌++◌, length, get_or, take, drop, map, slice_get, Some, is_some, inl, inr, refl}
+use Rattle.std.proofs.Common.{sym, ap, ◌∙◌, arith, true≢false}
 use Rattle.std.specs.Cmp.Lexicographic.{same_text}
 use Rattle.std.proofs.lemmas.Bool.{ne_eqb}
 use Rattle.std.proofs.lemmas.List.{take_more, take_all, drop_all, length-take-le}
@@ -64,7 +66,8 @@ raises_next flag ms places i d l h q m got w =
     let before = waits_changed flag ms (get_or places i d) q m got w in
     in_rest places i q d l before.1 (h q m before.0 w)
 
-pub raises_same : (flag : List ℕ) (ms first : List Mark) (place : ℕ) → map (mark_raised flag) ms ≡ map (mark_raised flag) first
+pub raises_same : (flag : List ℕ) (ms first : List Mark) (place : ℕ) → map (mark_raised flag) ms ≡ map
+    (mark_raised flag) first
     → map (mark_raised flag) (changed_at ms place (mark_raised flag)) ≡ map (mark_raised flag) first
 raises_same flag ms first place e = map_changed flag ms place ∙ e
 
@@ -103,7 +106,8 @@ pub known_more : (marks : List Mark) (i : ℕ) (mark : Mark) (before now : List 
     → ((flag : List ℕ) → waits_for flag mark ≡ true → is_in (places_of now flag) i ≡ true)
     → AreKnown (take (i + 1) marks) now
 known_more marks i mark before now l e known stay new flag q m got w =
-    elim (pushed (take i marks) (get_or marks i mark) m q (ap (λ xs. slice_get xs q) (sym (take_more marks i mark l)) ∙ got)) [
+    elim (pushed (take i marks) (get_or marks i mark) m q (ap (λ xs. slice_get xs q) (sym (take_more marks i mark l))
+    ∙ got)) [
       | inl h ↦ stay flag q (known flag q m h w)
       | inr h ↦ (let at : length (take i marks) ≡ i = length-take-le i marks (omega (arith, l)) in
           ap (is_in (places_of now flag)) (h.0 ∙ at) ∙ new flag (ap (waits_for flag) (e ∙ h.1) ∙ w))

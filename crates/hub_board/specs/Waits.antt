@@ -6,7 +6,8 @@ use Rattle.hub_board.specs.declared.follow.Mark.{Mark}
 
 -- each line that waits for a flag stands at one of these places
 abbrev pub AreWaiting : List ℕ → List Mark → List ℕ → Type 0
-AreWaiting flag marks places = (place : ℕ) (mark : Mark) → slice_get marks place ≡ Some mark → waits_for flag mark ≡ true
+AreWaiting flag marks places = (place : ℕ) (mark : Mark) → slice_get marks place ≡ Some mark → waits_for flag mark
+    ≡ true
     → is_in places place ≡ true
 
 -- and so for each flag

@@ -1,12 +1,12 @@
 ghost use Rattle.std.specs.Prelude.{◌≡◌, ◌+◌, ◌≤◌, ◌<◌, ◌++◌, ◌&&◌, [], IfOk, OnOk, OnErr, false, if◌then◌else◌};
-ghost use Rattle.std.specs.Prelude.{length, not, map};
+ghost use Rattle.std.specs.Prelude.{is_some, length, not, map};
 ghost use Rattle.std.specs.Option.{option_map_or};
 ghost use Rattle.base_types.specs.Lists.{changed_at};
 ghost use Rattle.hub_board.specs.Follows.{with_gone, with_raised, if_flag, gone_in, place_of};
 ghost use Rattle.script_lines.specs.Sound.{same_node};
 ghost use Rattle.hub_board.specs.Follows.{setup_node, with_begun};
 ghost use Rattle.hub_board.specs.Hubs.{with_sent, flagged, all_raised, tied, flags_of, flag_at, noted, has_ended};
-ghost use Rattle.hub_board.specs.Hubs.{begins};
+ghost use Rattle.hub_board.specs.Hubs.{begins, flag_of};
 ghost use Rattle.hub_board.specs.Hubs.{may_begin, gift_for, gift_in, given_of, without, follow_at};
 ghost use Rattle.hub_board.specs.Hubs.{first_hub, nodes_of, servers_up_to};
 ghost use Rattle.hub_board.specs.Follows.{follow_of};
@@ -281,6 +281,27 @@ impl Board {
         ensures { result ≡ self.turns }
     {
         Items::from_vec(self.turns)
+    }
+
+    // Whether the flag was raised for which the node's next line waits.
+    fn has_flag(&self, node: Node) -> bool
+        ensures { result ≡ is_some (flag_of self.now.hub node) }
+    {
+        match self.follows.at(place_of(self.follows.as_slice(), node)) {
+            Some(follower) => follower.as_follow().has_flag(),
+            None => false,
+        }
+    }
+
+    /// Whether there is something for a node: what it is given in a turn that hands nothing in.
+    #[tactic(auto, using(crate::proofs::Giving::some_gift))]
+    pub fn has_gift(&self, node: Node) -> bool
+        ensures { result ≡ is_some (gift_for self.now.hub node) }
+    {
+        self.wire.has_copy(node)
+            || self.begins(node)
+            || self.has_flag(node)
+            || self.wire.has_lapse(node)
     }
 
     // Gives the first that there is for a node.

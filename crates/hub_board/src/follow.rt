@@ -213,8 +213,8 @@ impl Follow {
         take_flag(&mut self.marks, self.gone)
     }
 
-    // Whether the next line waits for a flag that was raised.
-    fn has_flag(&self) -> bool
+    /// Whether the next line waits for a flag that was raised.
+    pub(crate) fn has_flag(&self) -> bool
         ensures { result ≡ is_some (flag_for self.now) }
     {
         matches!(self.marks.at(self.gone), Some(Mark::Raised(_)))

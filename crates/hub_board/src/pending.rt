@@ -31,26 +31,28 @@ impl Pending {
         }
     }
 
-    /// Makes room for so many more steps, and for no more: all that is handed in stays to the end of the run. The only
-    /// error is that memory ran out; then nothing changes.
+    /// Makes room for so many more steps, and where there is none, for as many as there are at least. The only error is
+    /// that memory ran out; then nothing changes.
     pub fn reserve(&mut self, steps: usize) -> Result<(), NoMemory>
         ensures steps { self.new.steps ≡ self.old.steps }
         ensures room { OnOk result (steps ≤ self.new.spare) }
         ensures err { OnErr result (self.new ≡ self.old) }
     {
-        self.steps.reserve_exact(steps)?;
+        if self.steps.capacity().saturating_sub(self.steps.len()) < steps {
+            self.steps.reserve_exact(steps.max(self.steps.len()))?;
+        }
         Ok(())
     }
 
     /// Adds a step, whose lists keep no room for more. The only error is that memory ran out; then it isn't added. With
     /// room for it that can't be, and there is room for one less.
-    pub fn push(&mut self, step: Step) -> Result<(), NoMemory>
+    pub fn push(&mut self, mut step: Step) -> Result<(), NoMemory>
         ensures ok { OnOk result (self.new.steps ≡ self.old.steps ++ step ∷ []) }
         ensures err { OnErr result (self.new.steps ≡ self.old.steps) }
         ensures room { 0 < self.old.spare → IsOk result }
         ensures less { 0 < self.old.spare → self.new.spare + 1 ≡ self.old.spare }
     {
-        let step = fitted(step);
+        fit_lists(&mut step);
         if self.steps.len() < self.steps.capacity() {
             self.steps.push_reserved(step);
             return Ok(());
@@ -71,23 +73,25 @@ impl Pending {
         self.steps.as_slice()
     }
 
-    /// Hands the steps out. It takes no memory.
+    /// Hands the steps out, with no room for more: all that is handed in stays to the end of the run. It takes no
+    /// memory.
     pub fn into_items(self) -> Items<Step>
         ensures { result ≡ self.steps }
     {
-        Items::from_vec(self.steps)
+        let mut steps = self.steps;
+        steps.shrink_to_fit();
+        Items::from_vec(steps)
     }
 }
 
-// The step, of which the lists that nodes fill one by one have no room for more: it stays to the end of the run.
-fn fitted(mut step: Step) -> Step
-    ensures { result ≡ step }
+// The lists of a step that nodes fill one by one have no room for more: it stays to the end of the run.
+fn fit_lists(step: &mut Step)
+    ensures { step.new ≡ step.old }
 {
     fit(&mut step.answers);
     fit(&mut step.made);
     fit(&mut step.applied);
     fit(&mut step.sent);
-    step
 }
 
 // Gives back the room that a list has for more.

@@ -1,5 +1,6 @@
 -- A hub that was closed with the passes of nodes that are through, or that came to no end.
-use Rattle.std.proofs.Common.{◌≡◌, ℕ, ◌<◌, List, [], ◌∷◌, map, length, get_or, refl, sym, ap, ◌∙◌, subst, arith}
+use Rattle.std.proofs.Common.{◌≡◌, ⊎_elim, inl, inr, ℕ, ◌<◌, List, [], ◌∷◌, map, length, get_or, refl, sym, ap, ◌∙◌}
+use Rattle.std.proofs.Common.{subst, arith}
 use Rattle.base_types.specs.declared.ids.Node.{Node}
 use Rattle.base_types.specs.declared.ids.Node.TheVariants.{Host, Server}
 use Rattle.tree_answers.specs.declared.tree.Tree.{Tree}
@@ -17,11 +18,12 @@ use Rattle.hub_laws.specs.Keeping.{Round, steps_in}
 use Rattle.hub_laws.specs.Closings.{AreApart, HasHeld, HasKept, HasMade, IsClosed, KeepsOn}
 use Rattle.hub_laws.proofs.Apart.{nodes_are_apart}
 use Rattle.hub_laws.proofs.Closing.{closed_has_held}
-use Rattle.hub_drive.specs.Driving.{CanStart, HasDriven, HasStoodAfter, HasStopped, IsHubOf, StandAfter}
+use Rattle.hub_drive.specs.Driving.{AreLeft, CanStart, HasDriven, HasStoodAfter, HasStopped, IsHubOf, IsLeft}
+use Rattle.hub_drive.specs.Driving.{StandAfter}
 use Rattle.hub_drive.specs.Driving.{StandsAfter, beginning}
 use Rattle.hub_node.specs.Nodes.{Beginning, HandsIn, IsDone, Knows, MayHandIn, OwnMeets, Part, part_of}
 use Rattle.hub_node.specs.declared.node.NodeFault.{NodeFault}
-use Rattle.hub_drive.specs.Seats.{EachAt, HasStood, IsSeated, IsThrough}
+use Rattle.hub_drive.specs.Seats.{EachAt, HasComeTo, HasComeWith, HasStood, IsSeated, IsThrough}
 use Rattle.hub_drive.specs.declared.seat.Seat.{Seat}
 use Rattle.hub_drive.proofs.Filtered.{always_before, mine}
 use Rattle.hub_drive.proofs.Lists.{each_in, in_each, map_here, map_size}
@@ -58,8 +60,8 @@ module _ {N : Type 0} (tells : Type 0) (stands : Part → N → List Round → L
 
   -- and with those of nodes that have stood there
   pub sat_stood : (stays : N → N → Type 0) (failed : NodeFault → N → N → Type 0) (pass : NodeView) (n : N)
-      → HasStood stands stays failed run hub pass n → IsSat tells run hub pass
-  sat_stood stays failed pass n h =
+      (left : List Step) → HasStood stands stays failed run hub pass n left → IsSat tells run hub pass
+  sat_stood stays failed pass n left h =
       let part : Part = part_of run pass.node in
       let may : MayHandIn tells part h.past h.handed = hands_in h.before part h.past h.handed h.stood in record {
         rounds = h.rounds;
@@ -81,6 +83,9 @@ module _ {N : Type 0} (tells : Type 0) (stands : Part → N → List Round → L
 
   abbrev pass_of : Seat N → NodeView
   pass_of s = s.pass
+
+  abbrev left_of : Seat N → List Step
+  left_of s = s.steps.steps
 
   abbrev passes : List NodeView
   passes = map pass_of seats
@@ -225,7 +230,16 @@ module _ {N : Type 0} (tells : Type 0) (stands : Part → N → List Round → L
 
       -- nodes that came to no end
       module _ (stays : N → N → Type 0) (failed : NodeFault → N → N → Type 0)
-          (stood : (s : Seat N) → In s seats → HasStood stands stays failed run hub s.pass s.node) where
+          (stood : (s : Seat N) → In s seats → HasStood stands stays failed run hub s.pass s.node s.steps.steps) where
+        come : (s : Seat N) (rounds : List Round) (before : N)
+            → HasComeWith stands stays failed (part_of run s.pass.node) rounds before s.node s.steps.steps
+            → HasComeTo stands stays failed (part_of run s.pass.node) rounds before s.node
+        come s rounds before since = ⊎_elim
+            (λ (x : stands (part_of run s.pass.node) s.node rounds s.steps.steps × stays before s.node).
+            inl (s.steps.steps, x.0, x.1))
+            (λ (x : (fault : NodeFault) × failed fault before s.node). inr x)
+            since
+
         stood_after : (s : Seat N) → In s seats
             → HasStoodAfter stands stays failed run journal s.pass.node s.node
         stood_after s i =
@@ -237,7 +251,7 @@ module _ {N : Type 0} (tells : Type 0) (stands : Part → N → List Round → L
               handed = h.handed;
               stood = h.stood;
               whole = h.whole;
-              since = h.since;
+              since = come s h.rounds h.before h.since;
             }
 
         pub stopped : HasStopped tells stands stays failed script start epochs nodes journal
@@ -250,4 +264,44 @@ module _ {N : Type 0} (tells : Type 0) (stands : Part → N → List Round → L
           dutiful = dutiful_is;
           count = size ∙ many;
           stood = each_place (HasStoodAfter stands stays failed run journal) stood_after;
+        }
+
+        -- and what is left of them
+        left_by : (s : Seat N) → In s seats → IsLeft stands failed run journal s.pass.node s.node s.steps.steps
+        left_by s i =
+            let h = stood s i in record {
+              rounds = h.rounds;
+              own = own_is s i h.rounds h.made;
+              stands_on = ⊎_elim
+                  (λ (x : stands (part_of run s.pass.node) s.node h.rounds s.steps.steps × stays h.before s.node).
+                  inl x.0)
+                  (λ (x : (fault : NodeFault) × failed fault h.before s.node). inr (x.0, (h.before, x.1)))
+                  h.since;
+            }
+
+        left_at : (left : List (List Step)) → left ≡ map left_of seats → (i : ℕ) (n : N) (node : Node)
+            → i < length nodes → IsLeft stands failed run journal (get_or (nodes_of script) i node) (get_or nodes i n)
+            (get_or left i [])
+        left_at left lie i n node lt =
+            let same = size in
+            let here : i < length seats = omega (arith, lt, same) in
+            let d = first_seat seats i here in
+            let s : Seat N = get_or seats i d in
+            let node_is : get_or (nodes_of script) i node ≡ s.pass.node =
+            ap (λ l. get_or l i node) (sym are) ∙ map_here (λ (x : Seat N). x.pass.node) seats i d node here in
+            let n_is : get_or nodes i n ≡ s.node =
+            ap (λ l. get_or l i n) sit ∙ map_here (λ (x : Seat N). x.node) seats i d n here in
+            let left_is : get_or left i [] ≡ s.steps.steps =
+            ap (λ l. get_or l i []) lie ∙ map_here left_of seats i d [] here in
+            subst (λ (k : Node). IsLeft stands failed run journal k (get_or nodes i n) (get_or left i [])) (sym node_is)
+            (subst (λ (x : N). IsLeft stands failed run journal s.pass.node x (get_or left i [])) (sym n_is)
+            (subst (IsLeft stands failed run journal s.pass.node s.node) (sym left_is)
+            (in_each (λ (x : Seat N). IsLeft stands failed run journal x.pass.node x.node x.steps.steps) seats left_by
+            i d here)))
+
+        pub left_are : (left : List (List Step)) → left ≡ map left_of seats
+            → AreLeft stands failed run nodes left journal
+        left_are left lie = record {
+          count = ap (λ (l : List (List Step)). length l) lie ∙ map_size left_of seats ∙ sym size;
+          each = left_at left lie;
         }

@@ -14,7 +14,8 @@ use Rattle.run_rules.specs.Past.{In}
 use Rattle.run_rules.specs.declared.journal.Journal.{Journal}
 use Rattle.run_rules.specs.declared.step.Step.{Step}
 use Rattle.hub_laws.specs.Keeping.{Round, steps_in}
-use Rattle.hub_drive.specs.Driving.{AreNodes, CanStart, HasDriven, HasRested, HasStopped, HaveRested, IsFault, IsFree}
+use Rattle.hub_drive.specs.Driving.{AreLeft, AreNodes, CanStart, HasDriven, HasRested, HasStopped, HaveRested}
+use Rattle.hub_drive.specs.Driving.{IsFault, IsFree}
 use Rattle.hub_drive.specs.Driving.{IsHubOf, StandAfter}
 use Rattle.hub_drive.specs.Driving.{IsJournalOf, IsUndone, IsUndoneAt, ShowsFault, beginning}
 use Rattle.hub_node.specs.Nodes.{Beginning, HandsIn, HasBecome, IsDone, Knows, Part, part_of}
@@ -25,7 +26,7 @@ use Rattle.hub_drive.specs.declared.driver.DriveFault.{DriveFault}
 use Rattle.hub_drive.specs.declared.driver.DriveFault.TheVariants.{Store, Memory, Stuck}
 use Rattle.hub_drive.specs.declared.driver.Waiting.{Waiting}
 use Rattle.hub_drive.specs.declared.seat.Seat.{Seat}
-use Rattle.hub_drive.proofs.Closing.{IsSat, driven, sat_stood, sat_through, stand_after, stopped}
+use Rattle.hub_drive.proofs.Closing.{IsSat, driven, left_are, sat_stood, sat_through, stand_after, stopped}
 use Rattle.hub_drive.proofs.Lists.{each_in, map_here, map_size, maps_same, pairs_map, same_at}
 use Rattle.hub_drive.proofs.Turning.{stood_first}
 
@@ -208,8 +209,8 @@ module _ {N : Type 0} where
   pub all_stood : (stands : Part → N → List Round → List Step → Type 0) (stays : N → N → Type 0)
       (failed : NodeFault → N → N → Type 0) (hub : HubView) (run : Beginning) (olds news : List (Seat N))
       → PairsAt (HasGone stands stays failed hub) olds news → EachAt (IsIn stands run hub) olds
-      → EachAt (λ (s : Seat N). HasStood stands stays failed run hub s.pass s.node) olds
-      → EachAt (λ (s : Seat N). HasStood stands stays failed run hub s.pass s.node) news
+      → EachAt (λ (s : Seat N). HasStood stands stays failed run hub s.pass s.node s.steps.steps) olds
+      → EachAt (λ (s : Seat N). HasStood stands stays failed run hub s.pass s.node s.steps.steps) news
   all_stood stands stays failed hub run olds news h at stood i d lt =
       let n = h.count in
       let here : i < length olds = omega (arith, lt, n) in
@@ -220,7 +221,7 @@ module _ {N : Type 0} where
       (failed : NodeFault → N → N → Type 0) (so : (a : N) → stays a a) (hub : HubView) (run : Beginning)
       (seats : List (Seat N)) → EachAt (IsSeated stands run hub) seats
       → EachAt (λ (s : Seat N). (s.steps.steps ≡ []) × (s.fault ≡ None)) seats
-      → EachAt (λ (s : Seat N). HasStood stands stays failed run hub s.pass s.node) seats
+      → EachAt (λ (s : Seat N). HasStood stands stays failed run hub s.pass s.node s.steps.steps) seats
   first_stood stands stays failed so hub run seats at empty i d lt =
       stood_first stands stays failed so run hub (get_or seats i d) (at i d lt) (empty i d lt).0
 
@@ -323,24 +324,30 @@ module _ {N : Type 0} (tells : Type 0) (stands : Part → N → List Round → L
     (hands_in : (n : N) → HandsIn tells stands n) (script : Script) (start : Tree) (epochs : List ℕ)
     (can : CanStart script start epochs) (hub : HubView) (hub_is : IsHubOf script hub) (seats : List (Seat N))
     (are : map (λ (s : Seat N). s.pass.node) seats ≡ nodes_of script)
-    (stood : EachAt (λ (s : Seat N). HasStood stands stays failed (beginning script start epochs) hub s.pass s.node)
-    seats)
+    (stood : EachAt (λ (s : Seat N). HasStood stands stays failed (beginning script start epochs) hub s.pass s.node
+    s.steps.steps) seats)
     (nodes : List N) (passes : List NodeView) (sit : nodes ≡ map node_of seats)
     (have : passes ≡ map (λ (s : Seat N). s.pass) seats) (journal : Journal)
     (h : (turns : List Turn) × HasEnded hub turns passes × IsJournalOf start epochs turns journal) where
   stood_each : (s : Seat N) → In s seats
-      → HasStood stands stays failed (beginning script start epochs) hub s.pass s.node
+      → HasStood stands stays failed (beginning script start epochs) hub s.pass s.node s.steps.steps
   stood_each s i =
-      each_in (λ (x : Seat N). HasStood stands stays failed (beginning script start epochs) hub x.pass x.node)
-      seats s stood i
+      each_in (λ (x : Seat N). HasStood stands stays failed (beginning script start epochs) hub x.pass x.node
+      x.steps.steps) seats s stood i
 
   sat_each : (s : Seat N) → In s seats → IsSat tells (beginning script start epochs) hub s.pass
   sat_each s i =
-      sat_stood tells stands hands_in (beginning script start epochs) hub stays failed s.pass s.node (stood_each s i)
+      sat_stood tells stands hands_in (beginning script start epochs) hub stays failed s.pass s.node s.steps.steps
+      (stood_each s i)
 
   pub stopped_by : HasStopped tells stands stays failed script start epochs nodes journal
   stopped_by = stopped tells stands script start epochs can hub hub_is seats are sat_each h.0 journal
       h.2.starts h.2.epochs_are h.2.steps (subst (HasEnded hub h.0) have h.1) nodes sit stays failed stood_each
+
+  pub left_by : (left : List (List Step)) → left ≡ map (λ (s : Seat N). s.steps.steps) seats
+      → AreLeft stands failed (beginning script start epochs) nodes left journal
+  left_by left lie = left_are tells stands script start epochs can hub hub_is seats are sat_each h.0 journal
+      h.2.starts h.2.epochs_are h.2.steps (subst (HasEnded hub h.0) have h.1) nodes sit stays failed stood_each left lie
 
   -- those that are at rest stand where it brought them
   pub rests_by : EachAt (IsAtRest stands (beginning script start epochs) hub tells) seats

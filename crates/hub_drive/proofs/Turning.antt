@@ -29,7 +29,7 @@ use Rattle.hub_laws.specs.Closings.{HasMade, KeepsOn}
 use Rattle.hub_laws.proofs.Passing.{made_stays}
 use Rattle.hub_node.specs.Nodes.{Beginning, HandsIn, IsDone, IsGivenTo, Knows, MayHandIn, Part, part_of}
 use Rattle.hub_node.specs.declared.node.NodeFault.{NodeFault}
-use Rattle.hub_drive.specs.Seats.{HasComeTo, HasStood, IsAtRest, IsSeated, IsThrough}
+use Rattle.hub_drive.specs.Seats.{HasComeWith, HasStood, IsAtRest, IsSeated, IsThrough}
 use Rattle.hub_drive.specs.declared.seat.Seat.{Seat}
 
 untouched : (pass : NodeView) → IsRefused pass pass
@@ -123,10 +123,10 @@ module _ {N : Type 0} (tells : Type 0) (stands : Part → N → List Round → L
     }
 
     -- the node has handed in, and did its work, or something failed there
-    pub stood_on : (stays : N → N → Type 0) (failed : NodeFault → N → N → Type 0) (n : N)
-        → HasComeTo stands stays failed part (round ∷ seated.rounds) s.node n
-        → HasStood stands stays failed run hub pass n
-    stood_on stays failed n since =
+    pub stood_on : (stays : N → N → Type 0) (failed : NodeFault → N → N → Type 0) (n : N) (left : List Step)
+        → HasComeWith stands stays failed part (round ∷ seated.rounds) s.node n left
+        → HasStood stands stays failed run hub pass n left
+    stood_on stays failed n left since =
         let own : pass.node ≡ s.pass.node = ap (λ (p : NodeView). p.node) passed.pass_is in record {
           hub_is = ap (λ (p : NodeView). p.hub) passed.pass_is ∙ seated.hub_is;
           rounds = round ∷ seated.rounds;
@@ -139,8 +139,8 @@ module _ {N : Type 0} (tells : Type 0) (stands : Part → N → List Round → L
           stood = subst (λ (k : Node). stands (part_of run k) s.node seated.rounds s.steps.steps) (sym own)
               seated.stood;
           whole = refl;
-          since = subst (λ (k : Node). HasComeTo stands stays failed (part_of run k) (round ∷ seated.rounds) s.node n)
-              (sym own) since;
+          since = subst (λ (k : Node).
+              HasComeWith stands stays failed (part_of run k) (round ∷ seated.rounds) s.node n left) (sym own) since;
         }
 
     -- nothing came
@@ -164,8 +164,9 @@ module _ {N : Type 0} (tells : Type 0) (stands : Part → N → List Round → L
 -- nothing was handed in through a pass for want of memory
 pub stood_still : {N : Type 0} (stands : Part → N → List Round → List Step → Type 0) (stays : N → N → Type 0)
     (failed : NodeFault → N → N → Type 0) (run : Beginning) (hub : HubView) (old new : NodeView) (n : N)
-    → HasStood stands stays failed run hub old n → IsRefused old new → HasStood stands stays failed run hub new n
-stood_still stands stays failed run hub old new n h refused =
+    (left : List Step) → HasStood stands stays failed run hub old n left → IsRefused old new
+    → HasStood stands stays failed run hub new n left
+stood_still stands stays failed run hub old new n left h refused =
     let own : new.node ≡ old.node = ap (λ (p : NodeView). p.node) refused.pass_is in record {
       hub_is = ap (λ (p : NodeView). p.hub) refused.pass_is ∙ h.hub_is;
       rounds = h.rounds;
@@ -176,13 +177,15 @@ stood_still stands stays failed run hub old new n h refused =
       handed = h.handed;
       stood = subst (λ (k : Node). stands (part_of run k) h.before h.past h.handed) (sym own) h.stood;
       whole = h.whole;
-      since = subst (λ (k : Node). HasComeTo stands stays failed (part_of run k) h.rounds h.before n) (sym own) h.since;
+      since = subst (λ (k : Node). HasComeWith stands stays failed (part_of run k) h.rounds h.before n left) (sym own)
+          h.since;
     }
 
 -- one that sits there with nothing to hand in stands there
 pub stood_first : {N : Type 0} (stands : Part → N → List Round → List Step → Type 0) (stays : N → N → Type 0)
     (failed : NodeFault → N → N → Type 0) (so : (a : N) → stays a a) (run : Beginning) (hub : HubView) (s : Seat N)
-    → IsSeated stands run hub s → s.steps.steps ≡ [] → HasStood stands stays failed run hub s.pass s.node
+    → IsSeated stands run hub s → s.steps.steps ≡ []
+    → HasStood stands stays failed run hub s.pass s.node s.steps.steps
 stood_first stands stays failed so run hub s h none = record {
   hub_is = h.hub_is;
   rounds = h.rounds;
@@ -193,15 +196,15 @@ stood_first stands stays failed so run hub s h none = record {
   handed = [];
   stood = subst (stands (part_of run s.pass.node) s.node h.rounds) none h.stood;
   whole = refl;
-  since = inl ([], subst (stands (part_of run s.pass.node) s.node h.rounds) none h.stood, so s.node);
+  since = inl (h.stood, so s.node);
 }
 
 -- what has become of a node, by what came of its work
 pub came_by : {N T : Type 0} (stands : Part → N → List Round → List Step → Type 0) (stays : N → N → Type 0)
     (failed : NodeFault → N → N → Type 0) (part : Part) (rounds : List Round) (made : List Step) (before n : N)
     (r : Result T NodeFault) → OnOk r (stands part n rounds made) → OnOk r (stays before n)
-    → IfErr r (λ fault. failed fault before n) → HasComeTo stands stays failed part rounds before n
-came_by stands stays failed _ rounds made before n (Ok x) stood h f = inl (made, stood, h)
+    → IfErr r (λ fault. failed fault before n) → HasComeWith stands stays failed part rounds before n made
+came_by stands stays failed _ rounds made before n (Ok x) stood h f = inl (stood, h)
 came_by stands stays failed _ rounds made before n (Err fault) stood h f = inr (fault, f)
 
 -- what is neither of the others

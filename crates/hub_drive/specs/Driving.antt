@@ -1,6 +1,7 @@
 -- What comes of a run that nodes were driven through.
 use Rattle.std.specs.List.{filter}
-use Rattle.std.specs.Prelude.{List, None, Option, Some, [], false, length, map, slice_index_or, ◌<◌, ◌∷◌, ◌≡◌, ◌≤◌, ℕ}
+use Rattle.std.specs.Prelude.{List, None, Option, Some, [], false, length, map, slice_index_or, ◌<◌, ◌∷◌, ◌≡◌, ◌≤◌}
+use Rattle.std.specs.Prelude.{◌⊎◌, ℕ}
 use Rattle.base_types.specs.declared.ids.Node.{Node}
 use Rattle.base_types.specs.declared.limits.TheConstants.{HOSTS_MAX, SERVERS_MAX}
 use Rattle.tree_answers.specs.declared.tree.Tree.{Tree}
@@ -87,8 +88,8 @@ pub record HasDriven {N : Type 0} (tells : Type 0) (stands : Part → N → List
   pub stand : StandAfter stands (beginning script start epochs) journal nodes
 
 -- A node has stood where its own steps in a journal brought it: so it did as it was when it handed in the last of them,
--- or before its first turn. It stands there still, with some steps that it has made since and not handed in; or
--- something failed there since then.
+-- or before its first turn. It stands there still, with some steps that it has made since; or something failed there
+-- since then.
 pub record HasStoodAfter {N : Type 0} (stands : Part → N → List Round → List Step → Type 0) (stays : N → N → Type 0)
     (failed : NodeFault → N → N → Type 0) (run : Beginning) (journal : Journal) (node : Node) (n : N) : Type 0 where
   pub rounds : List Round
@@ -100,10 +101,30 @@ pub record HasStoodAfter {N : Type 0} (stands : Part → N → List Round → Li
   pub whole : steps_in rounds ≡ appended handed (steps_in past)
   pub since : HasComeTo stands stays failed (part_of run node) rounds before n
 
+-- What is left of a node beside a journal: it stands on its own steps there, and on these, which it has made since it
+-- handed any in, and so on no others; or something failed there.
+pub record IsLeft {N : Type 0} (stands : Part → N → List Round → List Step → Type 0)
+    (failed : NodeFault → N → N → Type 0) (run : Beginning) (journal : Journal) (node : Node) (n : N)
+    (left : List Step) : Type 0 where
+  pub rounds : List Round
+  pub own : own_steps journal node ≡ steps_in rounds
+  pub stands_on : stands (part_of run node) n rounds left
+      ⊎ ((fault : NodeFault) × ((before : N) × failed fault before n))
+
+-- it is so of each of the nodes of a run
+pub record AreLeft {N : Type 0} (stands : Part → N → List Round → List Step → Type 0)
+    (failed : NodeFault → N → N → Type 0) (run : Beginning) (nodes : List N) (left : List (List Step))
+    (journal : Journal) : Type 0 where
+  pub count : length left ≡ length nodes
+  pub each : (i : ℕ) (n : N) (node : Node) → i < length nodes
+      → IsLeft stands failed run journal (slice_index_or (nodes_of run.script) i node) (slice_index_or nodes i n)
+      (slice_index_or left i [])
+
 -- The run came to no end: the journal so far starts from the tree and in the epochs, and keeps to the plan of the
 -- script; each host's own steps meet its rules, and so it is with the servers where it is known what their stores keep;
--- then it is a run of the script, in which what is due is done. All steps that were handed in are in it: each node
--- stood where its own steps in it brought it when it handed in the last of them.
+-- then it is a run of the script, in which what is due is done. Each node stood where its own steps in it brought it,
+-- as it was when it handed in the last of them. Which steps it has made since, that aren't in it, is told by what is
+-- left (`AreLeft`).
 pub record HasStopped {N : Type 0} (tells : Type 0) (stands : Part → N → List Round → List Step → Type 0)
     (stays : N → N → Type 0) (failed : NodeFault → N → N → Type 0) (script : Script) (start : Tree) (epochs : List ℕ)
     (nodes : List N) (journal : Journal) : Type 0 where

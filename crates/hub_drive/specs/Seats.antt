@@ -54,11 +54,18 @@ abbrev pub HasComeTo : {N : Type 0} → (Part → N → List Round → List Step
 HasComeTo stands stays failed part rounds before n =
     ((made : List Step) × stands part n rounds made × stays before n) ⊎ ((fault : NodeFault) × failed fault before n)
 
--- What is known of a node with its pass, even where something failed there: these rounds have made the pass, and the
--- node has kept on in each. As it was when it handed in for the last time, or before its first turn, it stood on all
--- the steps of these rounds.
+-- the same, where it has made these since, which are left
+abbrev pub HasComeWith : {N : Type 0} → (Part → N → List Round → List Step → Type 0) → (N → N → Type 0)
+    → (NodeFault → N → N → Type 0) → Part → List Round → N → N → List Step → Type 0
+HasComeWith stands stays failed part rounds before n left =
+    (stands part n rounds left × stays before n) ⊎ ((fault : NodeFault) × failed fault before n)
+
+-- What is known of a node with its pass and the steps that are left, even where something failed there: these rounds
+-- have made the pass, and the node has kept on in each. As it was when it handed in for the last time, or before its
+-- first turn, it stood on all the steps of these rounds.
 pub record HasStood {N : Type 0} (stands : Part → N → List Round → List Step → Type 0) (stays : N → N → Type 0)
-    (failed : NodeFault → N → N → Type 0) (run : Beginning) (hub : HubView) (pass : NodeView) (n : N) : Type 0 where
+    (failed : NodeFault → N → N → Type 0) (run : Beginning) (hub : HubView) (pass : NodeView) (n : N)
+    (left : List Step) : Type 0 where
   pub hub_is : pass.hub ≡ hub.id
   pub rounds : List Round
   pub made : HasMade hub rounds pass
@@ -68,7 +75,7 @@ pub record HasStood {N : Type 0} (stands : Part → N → List Round → List St
   pub handed : List Step
   pub stood : stands (part_of run pass.node) before past handed
   pub whole : steps_in rounds ≡ appended handed (steps_in past)
-  pub since : HasComeTo stands stays failed (part_of run pass.node) rounds before n
+  pub since : HasComeWith stands stays failed (part_of run pass.node) rounds before n left
 
 -- What has become of a seat: it is its node's, and that sits there still, in whatever run it did; as long as nothing
 -- failed it has what stays of it, and where something has, that is so since then; where something failed before
@@ -80,8 +87,9 @@ pub record HasGone {N : Type 0} (stands : Part → N → List Round → List Ste
   pub stayed : new.fault ≡ None → stays old.node new.node
   pub fails : old.fault ≡ None → (fault : NodeFault) → new.fault ≡ Some fault → failed fault old.node new.node
   pub frozen : (old.fault ≡ None → ⊥) → (new.node ≡ old.node) × (new.fault ≡ old.fault)
-  pub held : (run : Beginning) → IsIn stands run hub old → HasStood stands stays failed run hub old.pass old.node
-      → HasStood stands stays failed run hub new.pass new.node
+  pub held : (run : Beginning) → IsIn stands run hub old
+      → HasStood stands stays failed run hub old.pass old.node old.steps.steps
+      → HasStood stands stays failed run hub new.pass new.node new.steps.steps
 
 -- it is so of each of a list
 abbrev pub EachAt : {A : Type 0} → (A → Type 0) → List A → Type 0

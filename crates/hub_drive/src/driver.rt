@@ -4,7 +4,7 @@ ghost use Rattle.std.specs.Prelude.{vec_capacity};
 ghost use Rattle.hub_board.specs.Hubs.{nodes_of};
 ghost use Rattle.hub_board.specs.declared.given.Turn.{Turn as TurnOf};
 ghost use Rattle.hub_turns.specs.Meetings.{HasEnded};
-ghost use Rattle.hub_drive.specs.Driving.{AreNodes, CanStart, HasDriven, HasStopped, IsFault, IsFree, IsHubOf};
+ghost use Rattle.hub_drive.specs.Driving.{AreLeft, AreNodes, CanStart, HasDriven, HasStopped, IsFault, IsFree, IsHubOf};
 ghost use Rattle.hub_drive.specs.Driving.{IsJournalOf, ShowsFault, StandAfter, beginning};
 ghost use Rattle.hub_drive.specs.declared.driver.DriveFault.TheVariants.{Memory as OutOfMemory, Stuck as StuckAt};
 ghost use Rattle.hub_drive.specs.declared.driver.Waiting.{Waiting as WaitingAt};
@@ -16,7 +16,7 @@ use crate::seat::Seat;
 use base_types::{Items, NoMemory};
 use hub_node::{Node, NodeFault};
 use hub_turns::{Hub, NodePass, Pending, Turn, steps_of};
-use run_rules::Journal;
+use run_rules::{Journal, Step};
 use script_lines::Script;
 use std::alloc::Global;
 use std::sync::Wait;
@@ -52,6 +52,8 @@ pub struct Driven<N> {
     pub result: Result<Journal, DriveFault>,
     /// Where the run came to no end, its journal so far, as far as there was memory for it.
     pub so_far: Option<Journal>,
+    /// Beside it, for each node, the steps that it has made and not handed in.
+    pub left: Vec<Items<Step>>,
 }
 
 // Nodes sit down, each with its pass. There is room for them.
@@ -81,24 +83,32 @@ fn seat_all<N: Node>(
     seats
 }
 
-// Nodes stand up, and hand their passes back. There is room for them.
-fn unseat<N: Node>(seats: Vec<Seat<N>>, nodes: &mut Vec<N>, passes: &mut Vec<NodePass>)
-    requires none { (nodes.old.items ≡ []) × (passes.old.items ≡ []) }
+// Nodes stand up, hand their passes back, and what is left with them. There is room for all.
+fn unseat<N: Node>(
+    seats: Vec<Seat<N>>,
+    nodes: &mut Vec<N>,
+    passes: &mut Vec<NodePass>,
+    left: &mut Vec<Items<Step>>,
+)
+    requires none { (nodes.old.items ≡ []) × (passes.old.items ≡ []) × (left.old.items ≡ []) }
     requires nodes_room { length seats.items ≤ vec_capacity nodes.old }
     requires passes_room { length seats.items ≤ vec_capacity passes.old }
+    requires left_room { length seats.items ≤ vec_capacity left.old }
     ensures nodes { nodes.new.items ≡ map (λ s. s.node) seats.items }
     ensures passes { passes.new.items ≡ map (λ s. s.pass) seats.items }
+    ensures left { left.new.items ≡ map (λ s. s.steps.steps) seats.items }
 {
     for seat in seats {
         let Seat {
             node,
             pass,
-            steps: _,
+            steps,
             fault: _,
             ended: _,
         } = seat;
         nodes.push_reserved(node);
         passes.push_reserved(pass);
+        left.push_reserved(steps.into_items());
     }
 }
 
@@ -191,39 +201,45 @@ fn stop<N: Node>(
     seats: Vec<Seat<N>>,
     mut nodes: Vec<N>,
     mut passes: Vec<NodePass>,
+    mut left: Vec<Items<Step>>,
     fault: DriveFault,
 ) -> Driven<N>
     requires can { CanStart script.now start epochs }
     requires hub { IsHubOf script.now hub }
     requires are { map (λ s. s.pass.node) seats.items ≡ nodes_of script.now }
     requires stood { EachAt (λ s. HasStood N.stands N.stays N.failed (beginning script.now start epochs) hub s.pass
-        s.node) seats.items }
+        s.node s.steps.steps) seats.items }
     requires rest { (w : WaitingAt) → fault ≡ StuckAt w
         → EachAt (IsAtRest N.stands (beginning script.now start epochs) hub N.tells) seats.items }
-    requires none { (nodes.items ≡ []) × (passes.items ≡ []) }
+    requires none { (nodes.items ≡ []) × (passes.items ≡ []) × (left.items ≡ []) }
     requires nodes_room { length seats.items ≤ vec_capacity nodes }
     requires passes_room { length seats.items ≤ vec_capacity passes }
+    requires left_room { length seats.items ≤ vec_capacity left }
     ensures nodes { result.nodes.items ≡ map (λ s. s.node) seats.items }
     ensures stopped { OnOk result.result ⊥ }
     ensures fault { IfErr result.result (λ f. (f ≡ fault) ⊎ IsFree f) }
     ensures so_far { IfSome result.so_far (λ journal.
         HasStopped N.tells N.stands N.stays N.failed script.now start epochs result.nodes.items journal) }
+    ensures left { IfSome result.so_far (λ journal.
+        AreLeft N.stands N.failed (beginning script.now start epochs) result.nodes.items result.left.items journal) }
     ensures lacks { IfErr result.result (λ f. result.so_far ≡ None → f ≡ OutOfMemory) }
     ensures stuck { (w : WaitingAt) → result.result ≡ Err (StuckAt w) → IfSome result.so_far (λ journal.
         StandAfter N.stands (beginning script.now start epochs) journal result.nodes.items) }
 {
     let _script = script;
-    unseat(seats, &mut nodes, &mut passes);
+    unseat(seats, &mut nodes, &mut passes, &mut left);
     match journal_of(alloc, hub, passes, start, epochs) {
         Ok(journal) => Driven {
             nodes,
             result: Err(fault),
             so_far: Some(journal),
+            left,
         },
         Err(NoMemory) => Driven {
             nodes,
             result: Err(DriveFault::Memory),
             so_far: None,
+            left,
         },
     }
 }
@@ -238,14 +254,16 @@ fn finish<N: Node>(
     seats: Vec<Seat<N>>,
     mut nodes: Vec<N>,
     mut passes: Vec<NodePass>,
+    mut left: Vec<Items<Step>>,
 ) -> Driven<N>
     requires can { CanStart script.now start epochs }
     requires hub { IsHubOf script.now hub }
     requires are { map (λ s. s.pass.node) seats.items ≡ nodes_of script.now }
     requires through { EachAt (IsThrough N.stands (beginning script.now start epochs) hub N.tells) seats.items }
-    requires none { (nodes.items ≡ []) × (passes.items ≡ []) }
+    requires none { (nodes.items ≡ []) × (passes.items ≡ []) × (left.items ≡ []) }
     requires nodes_room { length seats.items ≤ vec_capacity nodes }
     requires passes_room { length seats.items ≤ vec_capacity passes }
+    requires left_room { length seats.items ≤ vec_capacity left }
     ensures nodes { result.nodes.items ≡ map (λ s. s.node) seats.items }
     ensures driven { IfOk result.result
         (λ journal. HasDriven N.tells N.stands script.now start epochs result.nodes.items journal) }
@@ -253,12 +271,13 @@ fn finish<N: Node>(
     ensures none { result.so_far ≡ None }
 {
     let _script = script;
-    unseat(seats, &mut nodes, &mut passes);
+    unseat(seats, &mut nodes, &mut passes, &mut left);
     let result = close(alloc, hub, passes, start, epochs);
     Driven {
         nodes,
         result,
         so_far: None,
+        left,
     }
 }
 
@@ -278,6 +297,7 @@ fn run_at<N: Node + Send, R: Threads + Wait + Sync>(
     mut seats: Vec<Seat<N>>,
     nodes: Vec<N>,
     passes: Vec<NodePass>,
+    left: Vec<Items<Step>>,
     workers: u32,
 ) -> Driven<N>
     requires can { CanStart script.now start epochs }
@@ -286,10 +306,11 @@ fn run_at<N: Node + Send, R: Threads + Wait + Sync>(
     requires seated { EachAt (IsSeated N.stands (beginning script.now start epochs) hub) seats.items }
     requires well { EachAt (λ s. s.fault ≡ None) seats.items }
     requires stood { EachAt (λ s. HasStood N.stands N.stays N.failed (beginning script.now start epochs) hub s.pass
-        s.node) seats.items }
-    requires none { (nodes.items ≡ []) × (passes.items ≡ []) }
+        s.node s.steps.steps) seats.items }
+    requires none { (nodes.items ≡ []) × (passes.items ≡ []) × (left.items ≡ []) }
     requires nodes_room { length seats.items ≤ vec_capacity nodes }
     requires passes_room { length seats.items ≤ vec_capacity passes }
+    requires left_room { length seats.items ≤ vec_capacity left }
     ensures stayed { OnOk result.result (PairsAt N.stays (map (λ s. s.node) seats.items) result.nodes.items) }
     ensures became { PairsAt (HasBecome N.stays N.failed) (map (λ s. s.node) seats.items) result.nodes.items }
     ensures driven { IfOk result.result
@@ -299,17 +320,21 @@ fn run_at<N: Node + Send, R: Threads + Wait + Sync>(
         (map (λ s. s.node) seats.items) result.nodes.items fault) }
     ensures so_far { IfSome result.so_far (λ journal.
         HasStopped N.tells N.stands N.stays N.failed script.now start epochs result.nodes.items journal) }
+    ensures left { IfSome result.so_far (λ journal.
+        AreLeft N.stands N.failed (beginning script.now start epochs) result.nodes.items result.left.items journal) }
     ensures lacks { IfErr result.result (λ fault. result.so_far ≡ None → fault ≡ OutOfMemory) }
     ensures stuck { (w : WaitingAt) → result.result ≡ Err (StuckAt w) → IfSome result.so_far (λ journal.
         StandAfter N.stands (beginning script.now start epochs) journal result.nodes.items) }
 {
     let went = turn_until(rt, &hub, hosts_of(script), &mut seats, workers);
     if went.through {
-        return finish(alloc, script, start, epochs, hub, seats, nodes, passes);
+        return finish(
+            alloc, script, start, epochs, hub, seats, nodes, passes, left,
+        );
     }
     let fault = fault_of(went, seats.as_slice());
     stop(
-        alloc, script, start, epochs, hub, seats, nodes, passes, fault,
+        alloc, script, start, epochs, hub, seats, nodes, passes, left, fault,
     )
 }
 
@@ -317,17 +342,20 @@ fn run_at<N: Node + Send, R: Threads + Wait + Sync>(
 fn rooms<N: Drop>(
     alloc: Global,
     count: usize,
-) -> Result<(Vec<Seat<N>>, Vec<N>, Vec<NodePass>), NoMemory>
-    ensures { IfOk result (λ r. (r.0.items ≡ []) × (r.1.items ≡ []) × (r.2.items ≡ [])
-        × (count ≤ vec_capacity r.0) × (count ≤ vec_capacity r.1) × (count ≤ vec_capacity r.2)) }
+) -> Result<(Vec<Seat<N>>, Vec<N>, Vec<NodePass>, Vec<Items<Step>>), NoMemory>
+    ensures { IfOk result (λ r. (r.0.items ≡ []) × (r.1.items ≡ []) × (r.2.items ≡ []) × (r.3.items ≡ [])
+        × (count ≤ vec_capacity r.0) × (count ≤ vec_capacity r.1) × (count ≤ vec_capacity r.2)
+        × (count ≤ vec_capacity r.3)) }
 {
     let mut seats = Vec::new(alloc);
     let mut nodes = Vec::new(alloc);
     let mut passes = Vec::new(alloc);
+    let mut left = Vec::new(alloc);
     seats.reserve(count)?;
     nodes.reserve(count)?;
     passes.reserve(count)?;
-    Ok((seats, nodes, passes))
+    left.reserve(count)?;
+    Ok((seats, nodes, passes, left))
 }
 
 /// Drives the nodes of a script, the setup host first, then the other hosts and the servers: they take turns at a hub,
@@ -335,14 +363,15 @@ fn rooms<N: Drop>(
 /// known what the nodes' stores keep it is a run of the script from the tree, in which what is due is done, and is
 /// ended; and each node stands where its own steps in it have brought it.
 ///
-/// `Store` comes only where the store of that node failed twice, and `Stuck` only where all nodes have come to rest: in
-/// its newest round each handed in nothing and was given nothing, and none made anything; it names a node that isn't
+/// `Store` comes only where the store of that node failed twice, and `Stuck` only where all nodes have come to rest:
+/// in its newest round each handed in nothing and was given nothing, and none made anything; it names a node that isn't
 /// done by its own steps, by its place and with its next line. `Memory` may come at any time, as far as clauses say: it
 /// is meant where memory runs out. Where the run came to no end its journal so far comes beside the fault, but where
 /// memory lacks for it, and the fault is `Memory` then: it keeps to the plan of the script; where it is known what the
 /// nodes' stores keep it is a run of the script, in which what is due is done; and each node has stood where its own
-/// steps in it brought it, as it was when it handed in the last of them; where all have come to rest each stands there
-/// still.
+/// steps in it brought it, as it was when it handed in the last of them. Beside it comes what is left of each: as long
+/// as nothing failed there it stands on its own steps in the journal and on these, and on no others. Where all have
+/// come to rest each stands on those in the journal.
 ///
 /// The nodes come back in their order, whatever comes: where the run went to its end, with what stays of each; else
 /// each with that, or as it is where something failed there. It may wait for what never comes about.
@@ -366,15 +395,18 @@ pub fn drive<N: Node + Send, R: Threads + Wait + Sync>(
         fault) }
     ensures so_far { IfSome result.so_far (λ journal.
         HasStopped N.tells N.stands N.stays N.failed script.now start epochs result.nodes.items journal) }
+    ensures left { IfSome result.so_far (λ journal.
+        AreLeft N.stands N.failed (beginning script.now start epochs) result.nodes.items result.left.items journal) }
     ensures lacks { IfErr result.result (λ fault. result.so_far ≡ None → fault ≡ OutOfMemory) }
     ensures stuck { (w : WaitingAt) → result.result ≡ Err (StuckAt w) → IfSome result.so_far (λ journal.
         StandAfter N.stands (beginning script.now start epochs) journal result.nodes.items) }
 {
-    let Ok((seats, back, passes_back)) = rooms(alloc, nodes.len()) else {
+    let Ok((seats, back, passes_back, left)) = rooms(alloc, nodes.len()) else {
         return Driven {
             nodes,
             result: Err(DriveFault::Memory),
             so_far: None,
+            left: Vec::new(alloc),
         };
     };
     let Ok((hub, passes)) = Hub::new(script, &[]) else {
@@ -382,6 +414,7 @@ pub fn drive<N: Node + Send, R: Threads + Wait + Sync>(
             nodes,
             result: Err(DriveFault::Memory),
             so_far: None,
+            left: Vec::new(alloc),
         };
     };
     let seats = seat_all(alloc, nodes, passes, seats);
@@ -395,6 +428,7 @@ pub fn drive<N: Node + Send, R: Threads + Wait + Sync>(
         seats,
         back,
         passes_back,
+        left,
         workers,
     )
 }

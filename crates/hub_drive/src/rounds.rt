@@ -92,8 +92,8 @@ impl Words {
         self.events.wake_all();
     }
 
-    // Sleeps until something comes about behind what was seen; it may also wake for nothing. Answers false where workers
-    // haven't begun for long.
+    // Sleeps until something comes about behind what was seen; it may also wake for nothing. Answers false where
+    // workers haven't begun for long.
     fn sleep<R: Wait>(&self, rt: &R, seen: u64) -> bool {
         let word = (seen & u32::MAX as u64) as u32;
         if self.late.load(Ordering::SeqCst) == 0 {

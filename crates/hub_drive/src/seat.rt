@@ -38,8 +38,8 @@ fn take_turn<N: Node, R: Wait>(rt: &R, hub: &Hub, seat: &mut Seat<N>) -> Result<
         → (ended ≡ false → turned ≡ HasEnded → ⊥) → seat.new.fault ≡ None
         → IsAtRest N.stands run hub.now N.tells (record seat.new { ended = ended })) }
     ensures held { (run : Beginning) → IsSeated N.stands run hub.now seat.old
-        → HasStood N.stands N.stays N.failed run hub.now seat.old.pass seat.old.node
-        → HasStood N.stands N.stays N.failed run hub.now seat.new.pass seat.new.node }
+        → HasStood N.stands N.stays N.failed run hub.now seat.old.pass seat.old.node seat.old.steps.steps
+        → HasStood N.stands N.stays N.failed run hub.now seat.new.pass seat.new.node seat.new.steps.steps }
     ensures node { seat.new.pass.node ≡ seat.old.pass.node }
     ensures stays { OnOk result (N.stays seat.old.node seat.new.node) }
     ensures failed { IfErr result (λ fault. N.failed fault seat.old.node seat.new.node) }

@@ -1,5 +1,6 @@
 -- Each host is told once that the setup host has ended.
-use Rattle.std.proofs.Common.{◌≡◌, ℕ, ◌≤◌, Bool, true, false, ◌&&◌, not, cond, List, [], ◌∷◌, ◌++◌, map, Option, None, Some, is_some, refl, sym, ap, ◌∙◌, subst, arith}
+use Rattle.std.proofs.Common.{◌≡◌, ℕ, ◌≤◌, Bool, true, false, ◌&&◌, not, cond, List, [], ◌∷◌, ◌++◌, map, Option, None}
+use Rattle.std.proofs.Common.{Some, is_some, refl, sym, ap, ◌∙◌, subst, arith}
 use Rattle.std.specs.Prelude.{slice_get}
 use Rattle.std.specs.List.{count_by}
 use Rattle.std.specs.Option.{option_map, option_map_or}
@@ -10,7 +11,8 @@ use Rattle.script_lines.specs.Sound.{same_node}
 use Rattle.run_rules.specs.declared.step.Step.{Step}
 use Rattle.hub_wire.specs.Networks.{lapse_place, next_copy}
 use Rattle.hub_board.specs.Follows.{gone_in, place_of, with_begun, with_gone, with_raised, with_told}
-use Rattle.hub_board.specs.Hubs.{AreGiven, Hubbed, after, all_raised, begins, flag_of, flags_of, follow_at, gift_for, has_ended, may_begin, with_steps, with_turn, without}
+use Rattle.hub_board.specs.Hubs.{AreGiven, Hubbed, after, all_raised, begins, flag_of, flags_of, follow_at, gift_for}
+use Rattle.hub_board.specs.Hubs.{has_ended, may_begin, with_steps, with_turn, without}
 use Rattle.hub_board.specs.declared.follow.Follow.{Follow}
 use Rattle.hub_board.specs.declared.given.Gift.{Gift}
 use Rattle.hub_board.specs.declared.given.Gift.TheVariants.{Message, Begun, Raised, Lapse}
@@ -61,11 +63,13 @@ given_told hub r n (Some Raised) e =
 given_told hub r n (Some Begun) e =
     ap told (at_changed with_begun (λ f. refl) r hub.follows n) ∙ by_test (same_node r n) e
   where
-    by_test : (b : Bool) → (b && true) ≡ false → told (cond b (option_map with_begun (follow_at hub n)) (follow_at hub n)) ≡ told (follow_at hub n)
+    by_test : (b : Bool) → (b && true) ≡ false → told (cond b (option_map with_begun (follow_at hub n))
+        (follow_at hub n)) ≡ told (follow_at hub n)
     by_test true e = absurd (cc)
     by_test false e = refl
 
-is_first : (a b c d : Bool) → Some Begun ≡ cond a (Some Message) (cond b (Some Begun) (cond c (Some Raised) (cond d (Some Lapse) None)))
+is_first : (a b c d : Bool) → Some Begun ≡ cond a (Some Message)
+    (cond b (Some Begun) (cond c (Some Raised) (cond d (Some Lapse) None)))
     → b ≡ true
 is_first true b c d e = absurd (cc)
 is_first false true c d e = refl
@@ -108,7 +112,8 @@ told_then : (hub : Hubbed) (r n : Node) → same_node r n ≡ true → told (fol
     → told (follow_at (without (Some Begun) r hub) n) ≡ true
 told_then hub r n e was_not some =
     ap told (at_changed with_begun (λ f. refl) r hub.follows n)
-    ∙ ap (λ b. told (cond b (option_map with_begun (follow_at hub n)) (follow_at hub n))) e ∙ by_follow (follow_at hub n) some
+    ∙ ap (λ b. told (cond b (option_map with_begun (follow_at hub n)) (follow_at hub n))) e ∙ by_follow
+    (follow_at hub n) some
   where
     by_follow : (o : Option Follow) → option_map_or (λ (f : Follow). not f.begun) o false ≡ true
         → told (option_map with_begun o) ≡ true
@@ -138,7 +143,8 @@ module _ (node : Node) where
           let when = given_when hub2 t.node t.gift g.0 b.1 in
           let there = is_first (is_some (next_copy hub2.net t.node)) (may_begin t.node && begins hub2 t.node)
           (is_some (flag_of hub2 t.node)) (is_some (lapse_place hub2.net t.node)) (sym (begun_is t.gift b.1) ∙ g.0) in
-          let some = (both_true (has_ended hub2) (option_map_or (λ (f : Follow). not f.begun) (follow_at hub2 t.node) false)
+          let some = (both_true (has_ended hub2) (option_map_or (λ (f : Follow). not f.begun) (follow_at hub2 t.node)
+          false)
           (both_true (may_begin t.node) (begins hub2 t.node) there).1).1 in
           let was_not : told (follow_at hub2 node) ≡ false = subst (λ n. told (follow_at hub2 n) ≡ false) r when.2 in
           let now : told (follow_at (with_turn hub t) node) ≡ true =
@@ -148,7 +154,8 @@ module _ (node : Node) where
           let none = again.0 now in
           let c = sum_by-cons one_of t turns in
           let one : cond {A = ℕ} (tells t) 1 0 ≡ 1 = ap (λ b. cond b 1 0) e in (
-            (λ was. let clash : true ≡ false = sym was ∙ sym (handed_told hub t.node node t.steps) ∙ was_not in absurd (cc)),
+            (λ was. let clash : true ≡ false = sym was ∙ sym (handed_told hub t.node node t.steps) ∙ was_not in
+                absurd (cc)),
             omega arith,
           )
       by_test false e again =

@@ -1,5 +1,6 @@
 -- Causes of steps were sent before, and what is given is sound.
-use Rattle.std.proofs.Common.{◌≡◌, ◌⊎◌, ⊎_elim, inl, inr, ℕ, Bool, true, false, cond, List, [], ◌∷◌, refl, sym, ap, ◌∙◌, subst, eq-eqb, eqb-true}
+use Rattle.std.proofs.Common.{◌≡◌, ◌⊎◌, ⊎_elim, inl, inr, ℕ, Bool, true, false, cond, List, [], ◌∷◌, refl, sym, ap}
+use Rattle.std.proofs.Common.{◌∙◌, subst, eq-eqb, eqb-true}
 use Rattle.base_types.specs.declared.ids.HostId.{HostId}
 use Rattle.base_types.specs.declared.ids.Node.{Node}
 use Rattle.base_types.specs.declared.ids.Node.TheVariants.{Host, Server}
@@ -22,7 +23,8 @@ use Rattle.run_rules.specs.Plans.{receiver_by, sent_in}
 use Rattle.run_rules.specs.Runs.{IsFrom}
 use Rattle.run_rules.specs.Steps.{is_node, steps_of_host}
 use Rattle.run_rules.specs.declared.step.Cause.{Cause}
-use Rattle.run_rules.specs.declared.step.Cause.TheVariants.{Line, Restart, Message as CameBy, Lapse, Evict, End, Flushed}
+use Rattle.run_rules.specs.declared.step.Cause.TheVariants.{Line, Restart, Message as CameBy, Lapse, Evict, End}
+use Rattle.run_rules.specs.declared.step.Cause.TheVariants.{Flushed}
 use Rattle.run_rules.specs.declared.step.Step.{Step}
 use Rattle.hub_laws.proofs.Boards.{GivesSent}
 use Rattle.hub_laws.specs.Keeping.{Keeps, Round, round_of, rounds_of}
@@ -54,7 +56,8 @@ module _ (script : Script) where
 
   -- all steps of a run send their own
   pub all_own : (turns : List Turn) (hub : Hubbed) (own : Node → List Round)
-      → ((n : Node) → EachInTurn (Keeps script n) (rounds_of hub n turns) (own n)) → (s : Step) → In s (steps_of turns) → OwnSent s
+      → ((n : Node) → EachInTurn (Keeps script n) (rounds_of hub n turns) (own n)) → (s : Step) → In s
+      (steps_of turns) → OwnSent s
   all_own [] hub own keeps s i = absurd i
   all_own (t ∷ turns) hub own keeps s i =
       let round = round_of hub t in
@@ -64,7 +67,8 @@ module _ (script : Script) where
       subst (λ n. IsFrom n m × IsSound script.roster m) (sym (k.own s a)) (k.sends s a m j))
       (λ (b : In s (steps_of turns)).
       all_own turns (with_turn hub t) (known t.node round own)
-      (λ n. each_on (Keeps script n) (same_node t.node n) round (rounds_of (with_turn hub t) n turns) (own n) (keeps n)) s b)
+      (λ n. each_on (Keeps script n) (same_node t.node n) round (rounds_of (with_turn hub t) n turns) (own n)
+      (keeps n)) s b)
       (in_append s t.steps (steps_of turns) i)
 
   -- a step that sent a message
@@ -109,7 +113,8 @@ module _ (script : Script) where
   said m [] o e = absurd o
   said m (s ∷ past) o e = ⊎_elim
       (λ (u : In m s.sent × (IsFrom s.node m × IsSound script.roster m)).
-      subst (λ b. Said (cond b (s ∷ steps_of_host m.host past) (steps_of_host m.host past)) m.server m.epoch m.moves m.body)
+      subst (λ b. Said (cond b (s ∷ steps_of_host m.host past) (steps_of_host m.host past)) m.server m.epoch m.moves
+      m.body)
       (sym (from_host s.node m u.1.0 e)) (inl (m, u.0, refl, refl, refl, refl)))
       (λ (k : Sender m past). later (is_node s.node (Host m.host)) (said m past k e)) o
     where
@@ -124,7 +129,8 @@ module _ (script : Script) where
       (λ (e : a ≡ b). once_after (λ before c. c ≡ a) xs (b ∷ past) (inl (sym e)))
       (λ (k : In a xs). once_in_after a xs (b ∷ past) k) i
 
-  once_cause : (P : List Doing → Doing → Type 0) (c : Cause) (past : List Doing) → Once P past → Once P (after_cause c past)
+  once_cause : (P : List Doing → Doing → Type 0) (c : Cause) (past : List Doing) → Once P past → Once P
+      (after_cause c past)
   once_cause P (CameBy m) past h = inr h
   once_cause P (Restart line) past h = inr h
   once_cause P Flushed past h = inr h
@@ -133,7 +139,8 @@ module _ (script : Script) where
   once_cause P Evict past h = h
   once_cause P End past h = h
 
-  once_step : (P : List Doing → Doing → Type 0) (s : Step) (past : List Doing) → Once P past → Once P (after_step s past)
+  once_step : (P : List Doing → Doing → Type 0) (s : Step) (past : List Doing) → Once P past → Once P
+      (after_step s past)
   once_step P s past h =
       inr (once_after P (sending s.sent) (after_admitting s past)
       (once_after P (admitting s.admitted) (after_deciding s past)
@@ -155,8 +162,10 @@ module _ (script : Script) where
       before = doings_of (firsts m.server) m.server past
 
       later : (b : Bool) → SentTo (doings_of (firsts m.server) m.server past) m.host m.epoch m.moves m.body
-          → SentTo (cond b (after_step s (doings_of (firsts m.server) m.server past)) (doings_of (firsts m.server) m.server past)) m.host m.epoch m.moves m.body
-      later true h = once_step (λ bef a. a ≡ Sent m.host m.epoch m.moves m.body) s (doings_of (firsts m.server) m.server past) h
+          → SentTo (cond b (after_step s (doings_of (firsts m.server) m.server past))
+          (doings_of (firsts m.server) m.server past)) m.host m.epoch m.moves m.body
+      later true h = once_step (λ bef a. a ≡ Sent m.host m.epoch m.moves m.body) s
+          (doings_of (firsts m.server) m.server past) h
       later false h = h
 
   -- by whom a message is taken
@@ -169,15 +178,21 @@ module _ (script : Script) where
       let clash : false ≡ true = ap (λ x. same_node (receiver_by x m) (Host host)) (sym d) ∙ k.0 in absurd (cc))
       (λ (d : m.direction ≡ ToHost).
       let same : m.host ≡ host =
-      ap (λ n. let h : HostId = record { 0 = n } in h) (eqb-true m.host.0 host.0 (ap (λ x. same_node (receiver_by x m) (Host host)) (sym d) ∙ k.0)) in
-      (same, d, subst (λ h. SentTo (doings_of (firsts m.server) m.server past) h m.epoch m.moves m.body) same (sent_to firsts m past o d)))
+      ap (λ n. let h : HostId = record { 0 = n } in h) (eqb-true m.host.0 host.0
+      (ap (λ x. same_node (receiver_by x m) (Host host)) (sym d) ∙ k.0)) in (
+        same,
+        d,
+        subst (λ h. SentTo (doings_of (firsts m.server) m.server past) h m.epoch m.moves m.body) same
+            (sent_to firsts m past o d),
+      ))
       (way_of m past o)
   cause_sent firsts (Server server) past s a f = λ m e.
       let k = f m e in
       let o = sender_of m past a k.1 in ⊎_elim
       (λ (d : m.direction ≡ ToServer).
       let same : m.server ≡ server =
-      ap (λ n. let v : ServerId = record { 0 = n } in v) (eqb-true m.server.0 server.0 (ap (λ x. same_node (receiver_by x m) (Server server)) (sym d) ∙ k.0)) in
+      ap (λ n. let v : ServerId = record { 0 = n } in v) (eqb-true m.server.0 server.0
+      (ap (λ x. same_node (receiver_by x m) (Server server)) (sym d) ∙ k.0)) in
       (same, d, subst (λ v. Said (steps_of_host m.host past) v m.epoch m.moves m.body) same (said m past o d)))
       (λ (d : m.direction ≡ ToHost).
       let clash : false ≡ true = ap (λ x. same_node (receiver_by x m) (Server server)) (sym d) ∙ k.0 in absurd (cc))
@@ -197,5 +212,6 @@ module _ (script : Script) where
   gives_sound (t ∷ turns) hub past a h g =
       let later = own_more t.steps past (λ s i. h s (in_front s t.steps (steps_of turns) i)) a in (
         (λ m e. sound_of m (appended t.steps past) (sender_of m (appended t.steps past) later (g.0 m e))),
-        gives_sound turns (with_turn hub t) (appended t.steps past) later (λ s i. h s (in_back s t.steps (steps_of turns) i)) g.1,
+        gives_sound turns (with_turn hub t) (appended t.steps past) later
+            (λ s i. h s (in_back s t.steps (steps_of turns) i)) g.1,
       )

@@ -1,5 +1,6 @@
 -- The small run stands at a hub that was closed.
-use Rattle.std.proofs.Common.{◌≡◌, inl, inr, Bool, true, false, cond, List, [], ◌∷◌, ◌++◌, map, Option, refl, sym, ap, ◌∙◌, subst, arith, append_assoc}
+use Rattle.std.proofs.Common.{◌≡◌, inl, inr, Bool, true, false, cond, List, [], ◌∷◌, ◌++◌, map, Option, refl, sym, ap}
+use Rattle.std.proofs.Common.{◌∙◌, subst, arith, append_assoc}
 use Rattle.std.proofs.lemmas.List.{append-nil}
 use Rattle.std.proofs.lemmas.List.Elements.{All-map}
 use Rattle.base_types.specs.declared.ids.Node.{Node}
@@ -11,7 +12,8 @@ use Rattle.run_tokens.specs.JournalWorked.{script}
 use Rattle.run_rules.specs.Past.{EachInTurn, In, appended}
 use Rattle.run_tokens.specs.Worked.{client, site_one}
 use Rattle.hub_board.specs.Follows.{setup_node}
-use Rattle.hub_board.specs.Hubs.{AreGiven, Hubbed, after as after_turns, first_hub, gift_for, nodes_of, with_steps, with_turn}
+use Rattle.hub_board.specs.Hubs.{AreGiven, Hubbed, after as after_turns, first_hub, gift_for, nodes_of, with_steps}
+use Rattle.hub_board.specs.Hubs.{with_turn}
 use Rattle.hub_board.specs.Turning.{Posted, entered}
 use Rattle.hub_board.specs.declared.given.Given.{Given}
 use Rattle.hub_board.specs.declared.given.Turn.{Turn}
@@ -118,15 +120,19 @@ module _ (hub : HubView) where
       by_test : (b : Bool) → same_node t.node node ≡ b
           → ((more : List Round) → HasMade hub more (at_list node (xs ++ t ∷ []))
           → HasMade hub (appended (rounds_of now node ts) more) (at_list node (xs ++ t ∷ ts)))
-          → HasMade hub (appended (cond b (round_of (after_turns hub.first xs) t ∷ rounds_of now node ts) (rounds_of now node ts)) rounds)
+          → HasMade hub (appended (cond b (round_of (after_turns hub.first xs) t ∷ rounds_of now node ts)
+          (rounds_of now node ts)) rounds)
           (at_list node (xs ++ t ∷ ts))
       by_test true e again =
           again (round_of (after_turns hub.first xs) t ∷ rounds)
-          (made_goes_on hub rounds (at_list node xs) (at_list node (xs ++ t ∷ [])) (round_of (after_turns hub.first xs) t) h
-          (subst (λ n. HasPassed hub (at_list n xs) (at_list n (xs ++ t ∷ [])) t.steps (gave (after_turns hub.first xs) t))
+          (made_goes_on hub rounds (at_list node xs) (at_list node (xs ++ t ∷ []))
+          (round_of (after_turns hub.first xs) t) h
+          (subst (λ n. HasPassed hub (at_list n xs) (at_list n (xs ++ t ∷ [])) t.steps
+          (gave (after_turns hub.first xs) t))
           (node_same t.node node e) (own_turn xs t was given.0 all.0)))
       by_test false e again =
-          again rounds (made_stays hub rounds (at_list node xs) (at_list node (xs ++ t ∷ [])) h (other_turn node xs t e))
+          again rounds (made_stays hub rounds (at_list node xs) (at_list node (xs ++ t ∷ [])) h
+          (other_turn node xs t e))
 
 -- beside what its turns keep to
 record Beside (node : Node) (past : List Round) (now : Round) : Type 0 where

@@ -1,5 +1,6 @@
 -- Copies that were given and lapses, beside those that the script makes of the messages.
-use Rattle.std.proofs.Common.{◌≡◌, ◌⊎◌, ⊎_elim, inl, inr, ℕ, suc, ◌+◌, ◌≤◌, Bool, true, false, ◌&&◌, cond, List, [], ◌∷◌, ◌++◌, map, filter, refl, sym, ap, ◌∙◌, subst, arith}
+use Rattle.std.proofs.Common.{◌≡◌, ◌⊎◌, ⊎_elim, inl, inr, ℕ, suc, ◌+◌, ◌≤◌, Bool, true, false, ◌&&◌, cond, List, []}
+use Rattle.std.proofs.Common.{◌∷◌, ◌++◌, map, filter, refl, sym, ap, ◌∙◌, subst, arith}
 use Rattle.std.specs.List.{count_by, flat_map}
 use Rattle.std.proofs.lemmas.List.Sums.{sum_by-cons, sum_by-append}
 use Rattle.base_types.specs.Name.{same_name}
@@ -13,7 +14,8 @@ use Rattle.run_rules.specs.Past.{In}
 use Rattle.run_rules.specs.Plans.{Copy, CountIs, MayCome, Posting, all_left, copies_of, posted, resender}
 use Rattle.run_rules.specs.Runs.{IsRaised}
 use Rattle.run_rules.specs.declared.step.Cause.{Cause}
-use Rattle.run_rules.specs.declared.step.Cause.TheVariants.{Line, Restart, Message as CameBy, Lapse as LapsesBy, Evict, End, Flushed}
+use Rattle.run_rules.specs.declared.step.Cause.TheVariants.{Line, Restart, Message as CameBy, Lapse as LapsesBy}
+use Rattle.run_rules.specs.declared.step.Cause.TheVariants.{Evict, End, Flushed}
 use Rattle.run_rules.specs.declared.step.Step.{Step}
 use Rattle.run_rules.specs.declared.fate.Fate.{Fate}
 use Rattle.run_rules.specs.declared.fate.Fate.TheVariants.{Lost, Once, Twice}
@@ -74,7 +76,8 @@ module _ (script : Script) (past : List Step) where
   out_may (Held flag) h = absurd h
 
   before_flag : (flag : List ℕ) → IsRaised script past flag → (m : Message) (step : ℕ) (way : Way)
-      → (let p : Packet = record { message = m; way = way; step = step } in MayCome script past (raised_packet flag p).way)
+      → (let p : Packet = record { message = m; way = way; step = step } in MayCome script past
+      (raised_packet flag p).way)
       → MayCome script past way
   before_flag flag r m step Free h = tt
   before_flag flag r m step Delayed h = tt
@@ -101,7 +104,8 @@ module _ (script : Script) (past : List Step) where
     copies_same [] = tt
     copies_same (x ∷ xs) = (((λ h. h), (λ h. h)), copies_same xs)
 
-    given_same : (flags : List (List ℕ)) → ((flag : List ℕ) → In flag flags → IsRaised script past flag) → (zs : List Packet)
+    given_same : (flags : List (List ℕ)) → ((flag : List ℕ) → In flag flags → IsRaised script past flag)
+        → (zs : List Packet)
         → AreOut (map (raised_by flags) zs) → Same Fits (λ x. x ≡ m) (λ z. (raised_by flags z).message) zs
     given_same flags r [] out = tt
     given_same flags r (z ∷ zs) out = (
@@ -113,7 +117,8 @@ module _ (script : Script) (past : List Step) where
     )
 
 by_cause : (m : Message) (c : Cause) (rest : List Message) (n k : ℕ)
-    → ((c ≡ CameBy m) × ((n ≡ suc k) × CountIs (λ x. x ≡ m) rest k)) ⊎ ((c ≡ CameBy m → ⊥) × CountIs (λ x. x ≡ m) rest n)
+    → ((c ≡ CameBy m) × ((n ≡ suc k) × CountIs (λ x. x ≡ m) rest k))
+    ⊎ ((c ≡ CameBy m → ⊥) × CountIs (λ x. x ≡ m) rest n)
     → CountIs (λ x. x ≡ m) (message_of c ++ rest) n
 by_cause m (CameBy x) rest n k h = ⊎_elim
     (λ (u : (CameBy x ≡ CameBy m) × ((n ≡ suc k) × CountIs (λ y. y ≡ m) rest k)).
@@ -161,7 +166,8 @@ module _ (script : Script) (rooms : List ServerId) (flags : List (List ℕ)) (st
         → AreOut taken → (r : Node) (given : List Message) → Embeds given (messages taken) → (past own : List Step)
         → Embeds (messages_taken own) given → filter (is_to r) (messages_taken past) ≡ messages_taken own
         → (m : Message) → is_to r m ≡ true → (n k : ℕ) → CountIs (λ (t : Step). t.cause ≡ CameBy m) past n
-        → CountIs (λ (c : Copy). (c.message ≡ m) × MayCome script before c.way) (flat_map copies_of (posted script (all_sent steps))) k
+        → CountIs (λ (c : Copy). (c.message ≡ m) × MayCome script before c.way)
+        (flat_map copies_of (posted script (all_sent steps))) k
         → n ≤ k
     copies_fit net taken lapsed g out r given some past own mine own_is m to n k c d =
         let plain = (with_steps (fresh script rooms) steps).packets in
@@ -172,7 +178,8 @@ module _ (script : Script) (rooms : List ServerId) (flags : List (List ℕ)) (st
         subst (Embeds taken) (flagged_packets flags (with_steps (fresh script rooms) steps))
         (front taken net.packets all_net.packets g.packets) in
         let z = pulled f taken plain all in
-        let copies = count_back (Fits script before m) (λ (x : Copy). (x.message ≡ m) × MayCome script before x.way) copy_of plain k
+        let copies = count_back (Fits script before m) (λ (x : Copy). (x.message ≡ m) × MayCome script before x.way)
+        copy_of plain k
         (copies_same script before m plain)
         (subst (λ l. CountIs (λ (x : Copy). (x.message ≡ m) × MayCome script before x.way) l k) (sym p.copies) d) in
         let part = count_part (Fits script before m) z.0 plain k z.2 copies in
@@ -236,7 +243,8 @@ count_lapses r (s ∷ past) n c =
     × CountIs (λ (t : Step). (t.node ≡ r) × (t.cause ≡ LapsesBy)) past k)).
     let i = count_lapses r past u.1.0 u.1.2 in
     let yes : (same_node s.node r && is_lapse s.cause) ≡ true =
-    ap (λ x. same_node x r && is_lapse s.cause) u.0.0 ∙ ap (λ b. b && is_lapse s.cause) (node_self r) ∙ ap is_lapse u.0.1 in
+    ap (λ x. same_node x r && is_lapse s.cause) u.0.0 ∙ ap (λ b. b && is_lapse s.cause) (node_self r) ∙ ap is_lapse
+    u.0.1 in
     let one : cond {A = ℕ} (same_node s.node r && is_lapse s.cause) 1 0 ≡ 1 = ap (λ b. cond b 1 0) yes in
     let e = u.1.1 in omega arith)
     (λ (u : ((s.node ≡ r) × (s.cause ≡ LapsesBy) → ⊥)
@@ -289,7 +297,8 @@ due_of r p (Twice first second) e rest n k h = ⊎_elim
     h
 
 count_lost : (r : Node) (ps : List Posting) (k : ℕ)
-    → CountIs (λ (p : Posting). (p.fate ≡ Lost) × (resender p.message ≡ r)) ps k → lapses_to r (flat_map lost_due ps) ≡ k
+    → CountIs (λ (p : Posting). (p.fate ≡ Lost) × (resender p.message ≡ r)) ps k → lapses_to r (flat_map lost_due ps)
+    ≡ k
 count_lost r [] k c = sym c
 count_lost r (p ∷ ps) k c =
     let P = λ (q : Posting). (q.fate ≡ Lost) × (resender q.message ≡ r) in
@@ -318,7 +327,8 @@ module _ (script : Script) (rooms : List ServerId) (flags : List (List ℕ)) (st
       let part = part_count (λ x. same_node x r) lapsed (all_net script rooms flags steps).due
       (front lapsed net.due (all_net script rooms flags steps).due g.due) in
       let whole : lapses_to r (all_net script rooms flags steps).due
-      ≡ lapses_to r (map Server rooms) + lapses_to r (flat_map lost_due ps) = ap (lapses_to r) due ∙ sum_by-append count (map Server rooms) (flat_map lost_due ps) in
+      ≡ lapses_to r (map Server rooms) + lapses_to r (flat_map lost_due ps) = ap (lapses_to r) due ∙ sum_by-append
+      count (map Server rooms) (flat_map lost_due ps) in
       let a = count_lapses r past n c in
       let b = count_lost r ps k d in omega arith
 

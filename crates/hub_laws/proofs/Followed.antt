@@ -1,5 +1,6 @@
 -- What the board follows of each node's lines is how they have gone.
-use Rattle.std.proofs.Common.{◌≡◌, suc, ◌+◌, Bool, true, false, not, cond, List, [], ◌∷◌, map, Option, Some, refl, sym, ap, ◌∙◌, arith}
+use Rattle.std.proofs.Common.{◌≡◌, suc, ◌+◌, Bool, true, false, not, cond, List, [], ◌∷◌, map, Option, Some, refl}
+use Rattle.std.proofs.Common.{sym, ap, ◌∙◌, arith}
 use Rattle.std.specs.Prelude.{slice_get}
 use Rattle.std.specs.Option.{option_map}
 use Rattle.base_types.specs.Lists.{changed_at}
@@ -26,7 +27,8 @@ at_later f fs n e =
 place_here : (f : Follow) (fs : List Follow) (n : Node) → same_node f.node n ≡ true → place_of (f ∷ fs) n ≡ 0
 place_here f fs n e = ap (λ b. cond (not b) (1 + place_of fs n) 0) e
 
-place_later : (f : Follow) (fs : List Follow) (n : Node) → same_node f.node n ≡ false → place_of (f ∷ fs) n ≡ suc (place_of fs n)
+place_later : (f : Follow) (fs : List Follow) (n : Node) → same_node f.node n ≡ false → place_of (f ∷ fs) n ≡ suc
+    (place_of fs n)
 place_later f fs n e =
     let more : 1 + place_of fs n ≡ suc (place_of fs n) = omega arith in
     ap (λ b. cond (not b) (1 + place_of fs n) 0) e ∙ more
@@ -50,7 +52,8 @@ module _ (change : Follow → Follow) (keeps : (f : Follow) → (change f).node 
           → at (changed (f ∷ fs)) n ≡ cond (same_node node n) (option_map change (at (f ∷ fs) n)) (at (f ∷ fs) n)
       by_tests true e b k again =
           let is = node_same f.node node e in
-          let one : changed (f ∷ fs) ≡ change f ∷ fs = ap (λ p. changed_at (f ∷ fs) p change) (place_here f fs node e) in
+          let one : changed (f ∷ fs) ≡ change f ∷ fs = ap (λ p. changed_at (f ∷ fs) p change)
+          (place_here f fs node e) in
           ap (λ l. at l n) one ∙ by_second b k
         where
           by_second : (b : Bool) → same_node f.node n ≡ b
@@ -68,7 +71,8 @@ module _ (change : Follow → Follow) (keeps : (f : Follow) → (change f).node 
               ∙ ap (λ t. cond t (option_map change (at (f ∷ fs) n)) (at (f ∷ fs) n))
               (sym (ap (λ x. same_node x n) (sym is) ∙ k))
       by_tests false e b k again =
-          let one : changed (f ∷ fs) ≡ f ∷ changed fs = ap (λ p. changed_at (f ∷ fs) p change) (place_later f fs node e) in
+          let one : changed (f ∷ fs) ≡ f ∷ changed fs = ap (λ p. changed_at (f ∷ fs) p change)
+          (place_later f fs node e) in
           ap (λ l. at l n) one ∙ by_second b k
         where
           by_second : (b : Bool) → same_node f.node n ≡ b

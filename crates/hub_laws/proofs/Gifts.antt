@@ -1,5 +1,6 @@
 -- What a gift changes in the network, and what is then known as taken.
-use Rattle.std.proofs.Common.{◌≡◌, ℕ, suc, ◌+◌, ◌≤◌, Bool, true, false, not, ◌&&◌, cond, List, [], ◌∷◌, ◌++◌, length, map, Option, None, Some, is_some, nat_lt, refl, sym, ap, ◌∙◌, subst, arith}
+use Rattle.std.proofs.Common.{◌≡◌, ℕ, suc, ◌+◌, ◌≤◌, Bool, true, false, not, ◌&&◌, cond, List, [], ◌∷◌, ◌++◌, length}
+use Rattle.std.proofs.Common.{map, Option, None, Some, is_some, nat_lt, refl, sym, ap, ◌∙◌, subst, arith}
 use Rattle.std.specs.List.{count_by, position, prefix_len, remove}
 use Rattle.std.specs.Option.{option_map, option_map_or}
 use Rattle.std.proofs.lemmas.Bool.{ltb-true, ltb-false, lt-ltb, le-ltb}
@@ -61,7 +62,8 @@ some_behind p y ys fails h = by_test (nat_lt (place p ys) (length ys)) refl
     by_test false e =
         let le = ltb-false (place p ys) (length ys) e in
         let none : at (y ∷ ys) (suc (place p ys)) ≡ None =
-        ap (λ b. cond b (Some (suc (place p ys))) None) (le-ltb (suc (place p ys)) (suc (length ys)) (omega (arith, le))) in
+        ap (λ b. cond b (Some (suc (place p ys))) None) (le-ltb (suc (place p ys)) (suc (length ys))
+        (omega (arith, le))) in
         ap is_some (sym none) ∙ ap is_some (sym (place_behind p y ys fails)) ∙ h
 
 -- a list round the element that is removed
@@ -143,7 +145,8 @@ raised_none None = (refl, refl)
 raised_none (Some flag) = (refl, refl)
 
 -- a lapse is given where one is due
-is_due : (a b c d : Bool) → Some Lapse ≡ cond a (Some Message) (cond b (Some Begun) (cond c (Some Raised) (cond d (Some Lapse) None)))
+is_due : (a b c d : Bool) → Some Lapse ≡ cond a (Some Message)
+    (cond b (Some Begun) (cond c (Some Raised) (cond d (Some Lapse) None)))
     → d ≡ true
 is_due true b c d e = absurd (cc)
 is_due false true c d e = absurd (cc)

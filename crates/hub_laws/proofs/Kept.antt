@@ -1,5 +1,6 @@
 -- The small run keeps to what its nodes are given.
-use Rattle.std.proofs.Common.{◌≡◌, ⊎_elim, inl, inr, ℕ, ◌≤◌, Bool, true, false, cond, List, [], ◌∷◌, None, refl, sym, ap, ◌∙◌, subst, arith, Option}
+use Rattle.std.proofs.Common.{◌≡◌, ⊎_elim, inl, inr, ℕ, ◌≤◌, Bool, true, false, cond, List, [], ◌∷◌, None, refl, sym}
+use Rattle.std.proofs.Common.{ap, ◌∙◌, subst, arith, Option}
 use Rattle.base_types.specs.declared.ids.Node.{Node}
 use Rattle.base_types.specs.declared.ids.Node.TheVariants.{Host, Server}
 use Rattle.message_types.specs.Soundness.{IsSound}
@@ -19,7 +20,8 @@ use Rattle.run_tokens.specs.Worked.{client, greets, site_one, stat, to_host, to_
 use Rattle.run_rules.specs.declared.step.Cause.TheVariants.{Line as LineOf, Message as Came}
 use Rattle.run_rules.specs.declared.step.Step.{Step}
 use Rattle.hub_laws.specs.Example.{journal, turns}
-use Rattle.hub_laws.specs.Keeping.{Keeps, LineGoes, NodeKeeps, Round, lapses_given, lapses_taken, messages_given, messages_taken, round_of, rounds_of, steps_in}
+use Rattle.hub_laws.specs.Keeping.{Keeps, LineGoes, NodeKeeps, Round, lapses_given, lapses_taken, messages_given}
+use Rattle.hub_laws.specs.Keeping.{messages_taken, round_of, rounds_of, steps_in}
 use Rattle.hub_laws.specs.Taking.{Embeds}
 use Rattle.hub_laws.specs.Laws.{IsKept}
 use Rattle.hub_laws.proofs.Nodes.{node_same}
@@ -70,16 +72,22 @@ rests node past given e z = record {
 }
 
 no_await : (line : Line) (flag : List ℕ) → In line (lines_of script (Host client)) → line.deed ≡ Await flag → ⊥
-no_await line flag (inl e) d = let clash : MakesCall stat ≡ Await flag = sym (ap (λ (l : Line). l.deed) e) ∙ d in absurd (cc)
-no_await line flag (inr (inl e)) d = let clash : MakesCall stat ≡ Await flag = sym (ap (λ (l : Line). l.deed) e) ∙ d in absurd (cc)
+no_await line flag (inl e) d = let clash : MakesCall stat ≡ Await flag = sym (ap (λ (l : Line). l.deed) e) ∙ d in
+    absurd (cc)
+no_await line flag (inr (inl e)) d = let clash : MakesCall stat ≡ Await flag = sym (ap (λ (l : Line). l.deed) e) ∙ d
+    in absurd (cc)
 no_await line flag (inr (inr e)) d = absurd e
 
-greets_keeps : (past : List Round) → steps_in past ≡ [] → Keeps script (Host client) past (record { steps = greets ∷ []; given = None })
+greets_keeps : (past : List Round) → steps_in past ≡ [] → Keeps script (Host client) past
+    (record { steps = greets ∷ []; given = None })
 greets_keeps past none = record {
   own = λ s i. ⊎_elim (λ (e : s ≡ greets). ap (λ (x : Step). x.node) e) (λ (no : ⊥). absurd no) i;
   lines = (
     subst (λ own. LineGoes (lines_of script (Host client)) own greets) (sym none) (record {
-      line = λ n e. (record { number = 6; node = Host client; deed = MakesCall stat }, (refl, (let same : 6 ≡ n = cc in same)));
+      line = λ n e. (
+        record { number = 6; node = Host client; deed = MakesCall stat },
+        (refl, (let same : 6 ≡ n = cc in same)),
+      );
       restart = λ n e. absurd (cc);
     }),
     tt,
@@ -98,7 +106,8 @@ welcomes_keeps past none got = record {
   own = λ s i. ⊎_elim (λ (e : s ≡ welcomes). ap (λ (x : Step). x.node) e) (λ (no : ⊥). absurd no) i;
   lines = (record { line = λ n e. absurd (cc); restart = λ n e. absurd (cc) }, tt);
   awaits = λ s i n line flag c l d. ⊎_elim
-      (λ (e : s ≡ welcomes). let clash : Came (to_server 0 Hello) ≡ LineOf n = sym (ap (λ (x : Step). x.cause) e) ∙ c in absurd (cc))
+      (λ (e : s ≡ welcomes). let clash : Came (to_server 0 Hello) ≡ LineOf n = sym (ap (λ (x : Step). x.cause) e) ∙ c
+      in absurd (cc))
       (λ (no : ⊥). absurd no) i;
   sends = λ s i m j. ⊎_elim
       (λ (e : s ≡ welcomes). sound_from m (subst (λ (x : Step). In m x.sent) e j)) (λ (no : ⊥). absurd no) i;

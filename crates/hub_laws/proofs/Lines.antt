@@ -1,17 +1,20 @@
 -- Flags of lines that go are raised by steps.
-use Rattle.std.proofs.Common.{◌≡◌, ◌⊎◌, ⊎_elim, inl, inr, ℕ, zero, suc, ◌+◌, ◌≤◌, ◌<◌, cond, List, [], ◌∷◌, length, take, drop, Option, None, Some, refl, sym, ap, ◌∙◌, subst, arith}
+use Rattle.std.proofs.Common.{◌≡◌, ◌⊎◌, ⊎_elim, inl, inr, ℕ, zero, suc, ◌+◌, ◌≤◌, ◌<◌, cond, List, [], ◌∷◌, length}
+use Rattle.std.proofs.Common.{take, drop, Option, None, Some, refl, sym, ap, ◌∙◌, subst, arith}
 use Rattle.std.specs.Prelude.{slice_get}
 use Rattle.std.specs.List.{cons_option, filter_map}
 use Rattle.std.proofs.lemmas.List.Sums.{sum_by-cons}
 use Rattle.base_types.specs.declared.ids.Node.{Node}
 use Rattle.script_lines.specs.declared.script.Deed.{Deed}
-use Rattle.script_lines.specs.declared.script.Deed.TheVariants.{Call, Raise as RaiseLine, Await as AwaitLine, Stop, Restart as RestartLine}
+use Rattle.script_lines.specs.declared.script.Deed.TheVariants.{Call, Raise as RaiseLine, Await as AwaitLine, Stop}
+use Rattle.script_lines.specs.declared.script.Deed.TheVariants.{Restart as RestartLine}
 use Rattle.script_lines.specs.declared.script.Line.{Line}
 use Rattle.script_lines.specs.declared.script.Script.{Script}
 use Rattle.run_rules.specs.Past.{EachInTurn, In, Once, appended}
 use Rattle.run_rules.specs.Steps.{goes_with, lines_gone, lines_of}
 use Rattle.run_rules.specs.declared.step.Cause.{Cause}
-use Rattle.run_rules.specs.declared.step.Cause.TheVariants.{Line as LineOf, Restart, Message as CameBy, Lapse as LapsesBy, Evict, End, Flushed}
+use Rattle.run_rules.specs.declared.step.Cause.TheVariants.{Line as LineOf, Restart, Message as CameBy}
+use Rattle.run_rules.specs.declared.step.Cause.TheVariants.{Lapse as LapsesBy, Evict, End, Flushed}
 use Rattle.run_rules.specs.declared.step.Step.{Step}
 use Rattle.hub_board.specs.Follows.{gone_in, goes, mark_of, raise_of}
 use Rattle.hub_laws.specs.Keeping.{LineGoes}
@@ -46,7 +49,8 @@ deed_raises RestartLine flag e = absurd (cc)
 
 module _ (script : Script) (node : Node) (flag : List ℕ) where
   abbrev Raises : List Step → Step → Type 0
-  Raises before s = (n : ℕ) × (line : Line) × (s.cause ≡ LineOf n) × (In line (lines_of script s.node) × (line.number ≡ n))
+  Raises before s = (n : ℕ) × (line : Line) × (s.cause ≡ LineOf n)
+      × (In line (lines_of script s.node) × (line.number ≡ n))
       × (line.deed ≡ RaiseLine flag)
 
   abbrev next_flags : ℕ → ℕ → List (List ℕ)
@@ -65,7 +69,8 @@ module _ (script : Script) (node : Node) (flag : List ℕ) where
     where
       by_option : (o : Option (List ℕ)) → raised_at line ≡ o → In flag (cons_option o (next_flags (suc g) k))
           → (raised_at line ≡ Some flag) ⊎ In flag (next_flags (1 + g) k)
-      by_option None e h = inr (subst (λ n. In flag (next_flags n k)) (let next : suc g ≡ 1 + g = omega arith in next) h)
+      by_option None e h = inr (subst (λ n. In flag (next_flags n k))
+          (let next : suc g ≡ 1 + g = omega arith in next) h)
       by_option (Some name) e h = ⊎_elim
           (λ (u : flag ≡ name). inl (e ∙ ap Some (sym u)))
           (λ (u : In flag (next_flags (suc g) k)).
@@ -149,7 +154,8 @@ gone_after (s ∷ xs) own =
     same_goes Flushed = refl
 
 -- no more than there are
-pub gone_few : (lines : List Line) (xs own : List Step) → lines_gone own ≤ length lines → EachInTurn (LineGoes lines) xs own
+pub gone_few : (lines : List Line) (xs own : List Step) → lines_gone own ≤ length lines → EachInTurn (LineGoes lines)
+    xs own
     → lines_gone (appended xs own) ≤ length lines
 gone_few lines [] own few goes_so = few
 gone_few lines (s ∷ xs) own few goes_so = gone_few lines xs (s ∷ own) (by_cause s.cause refl) goes_so.1

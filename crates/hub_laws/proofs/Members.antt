@@ -75,7 +75,9 @@ copies_in script (m ∷ ms) earlier left c i =
     let fate = fate_of script earlier m left in
     let make : Way → Copy = λ way. record { message = m; way = way } in
     ⊎_elim
-    (λ (a : In c (map make (ways_in fate))). let j = in_map make c (ways_in fate) a in inl (ap (λ (x : Copy). x.message) j.2))
+    (λ (a : In c (map make (ways_in fate))). let j = in_map make c (ways_in fate) a in inl
+    (ap (λ (x : Copy). x.message) j.2))
     (λ (b : In c (flat_map copies_of (post script (earlier ++ m ∷ []) (left_after script earlier m left) ms))).
     inr (copies_in script ms (earlier ++ m ∷ []) (left_after script earlier m left) c b))
-    (in_append c (map make (ways_in fate)) (flat_map copies_of (post script (earlier ++ m ∷ []) (left_after script earlier m left) ms)) i)
+    (in_append c (map make (ways_in fate)) (flat_map copies_of
+    (post script (earlier ++ m ∷ []) (left_after script earlier m left) ms)) i)

@@ -1,5 +1,6 @@
 -- A journal of a board keeps to the plan of its script.
-use Rattle.std.proofs.Common.{◌≡◌, ⊎_elim, inl, inr, ℕ, ◌+◌, ◌≤◌, Some, Bool, true, false, cond, List, [], ◌∷◌, ◌++◌, map, filter, refl, sym, ap, ◌∙◌, subst, arith}
+use Rattle.std.proofs.Common.{◌≡◌, ⊎_elim, inl, inr, ℕ, ◌+◌, ◌≤◌, Some, Bool, true, false, cond, List, [], ◌∷◌, ◌++◌}
+use Rattle.std.proofs.Common.{map, filter, refl, sym, ap, ◌∙◌, subst, arith}
 use Rattle.std.specs.List.{flat_map}
 use Rattle.std.proofs.lemmas.List.{append-nil}
 use Rattle.std.proofs.lemmas.List.Concat.{flat_map-append}
@@ -19,12 +20,14 @@ use Rattle.run_rules.specs.declared.fate.Fate.TheVariants.{Lost}
 use Rattle.hub_wire.specs.Laws.{all_sent, with_steps}
 use Rattle.hub_wire.specs.Networks.{Network, fresh, with_step}
 use Rattle.hub_wire.specs.declared.packet.Packet.{Packet}
-use Rattle.hub_board.specs.Hubs.{AreGiven, Hubbed, flagged, flags_of, gift_for, with_sent, with_steps as with_handed, with_turn}
+use Rattle.hub_board.specs.Hubs.{AreGiven, Hubbed, flagged, flags_of, gift_for, with_sent, with_steps as with_handed}
+use Rattle.hub_board.specs.Hubs.{with_turn}
 use Rattle.hub_board.specs.Turning.{steps_of}
 use Rattle.hub_board.specs.declared.given.Given.TheVariants.{Message as Came}
 use Rattle.hub_board.specs.declared.given.Turn.{Turn}
 use Rattle.tree_answers.specs.declared.tree.Tree.{Tree}
-use Rattle.hub_laws.specs.Keeping.{Keeps, Round, gave, lapse_in, lapses_given, lapses_taken, message_in, message_of, messages_given, messages_taken, round_of, rounds_of, steps_in}
+use Rattle.hub_laws.specs.Keeping.{Keeps, Round, gave, lapse_in, lapses_given, lapses_taken, message_in, message_of}
+use Rattle.hub_laws.specs.Keeping.{messages_given, messages_taken, round_of, rounds_of, steps_in}
 use Rattle.hub_laws.proofs.Boards.{BoardRaises, GivesSent}
 use Rattle.hub_laws.specs.Taking.{Embeds}
 use Rattle.hub_laws.proofs.Embeds.{both_front, later_all}
@@ -33,7 +36,8 @@ use Rattle.hub_laws.proofs.Members.{embeds_in, in_append, in_front}
 use Rattle.hub_laws.proofs.Gifts.{Gives, gives, lapses_to, messages}
 use Rattle.hub_laws.proofs.Nets.{AreOut, Goes, flagged_more, flagged_step, raises, sends, steps_more}
 use Rattle.hub_laws.proofs.Nodes.{node_same, node_self}
-use Rattle.hub_laws.proofs.Rounds.{AllPass, is_to, lapses_end, lapses_mine, lapses_of, lapses_others, mine_more, others_more, pass_append, pass_front, pass_part, taken_part}
+use Rattle.hub_laws.proofs.Rounds.{AllPass, is_to, lapses_end, lapses_mine, lapses_of, lapses_others, mine_more}
+use Rattle.hub_laws.proofs.Rounds.{others_more, pass_append, pass_front, pass_part, taken_part}
 
 -- what steps sent, step by step
 abbrev pub sents : List Step → List (List Message)
@@ -51,7 +55,8 @@ pub once_after : {A : Type 0} (P : List A → A → Type 0) (xs past : List A) �
 once_after P [] past h = h
 once_after P (x ∷ xs) past h = once_after P xs (x ∷ past) (inr h)
 
-pub each_append : {A : Type 0} (P : List A → A → Type 0) (xs ys past : List A) → EachInTurn P xs past → EachInTurn P ys (appended xs past)
+pub each_append : {A : Type 0} (P : List A → A → Type 0) (xs ys past : List A) → EachInTurn P xs past → EachInTurn P
+    ys (appended xs past)
     → EachInTurn P (xs ++ ys) past
 each_append P [] ys past h k = k
 each_append P (x ∷ xs) ys past h k = (h.0, each_append P xs ys (x ∷ past) h.1 k)
@@ -69,7 +74,8 @@ each_on P false round rest past k = k
 pub each_now : (P : List Round → Round → Type 0) (r : Node) (round : Round) (rest past : List Round)
     → EachInTurn P (cond (same_node r r) (round ∷ rest) rest) past → P past round
 each_now P r round rest past k =
-    let mine : EachInTurn P (round ∷ rest) past = subst (λ b. EachInTurn P (cond b (round ∷ rest) rest) past) (node_self r) k in mine.0
+    let mine : EachInTurn P (round ∷ rest) past = subst (λ b. EachInTurn P (cond b (round ∷ rest) rest) past)
+    (node_self r) k in mine.0
 
 -- a step keeps to the plan, and its cause was sent, to its node
 pub record StepFits (script : Script) (start : List Tree) (past : List Step) (s : Step) : Type 0 where
@@ -144,7 +150,8 @@ module _ (script : Script) (start : List Tree) (rooms : List ServerId)
           let one = subst (λ x. AllPass (is_to r) (message_of x)) cause first in
           let here : In m (message_of s.cause) = subst (λ x. In m (message_of x)) (sym cause) (inl refl) in
           let came = embeds_in given (messages taken) m some
-          (embeds_in (messages_taken (s ∷ own)) given m e (in_front m (message_of s.cause) (messages_taken own) here)) in (
+          (embeds_in (messages_taken (s ∷ own)) given m e (in_front m (message_of s.cause) (messages_taken own)
+          here)) in (
             ap (λ n. is_to n m) node ∙ one.0,
             subst (In m) (sents_all past)
                 (taken_sent script rooms flags (sents past) net taken lapsed h.net_is m came),
@@ -211,18 +218,22 @@ module _ (script : Script) (start : List Tree) (rooms : List ServerId)
           hands.1.net_is)
 
       module _ (gift : t.gift ≡ gift_for handed t.node) where
-        given_then : Gives (all_net script rooms more_flags (sents later)) (with_turn hub t).net t.node round.given taken lapsed
-        given_then = gives handed t.node (all_net script rooms more_flags (sents later)) taken lapsed net_then h.out t.gift gift
+        given_then : Gives (all_net script rooms more_flags (sents later)) (with_turn hub t).net t.node round.given
+            taken lapsed
+        given_then = gives handed t.node (all_net script rooms more_flags (sents later)) taken lapsed net_then h.out
+            t.gift gift
 
         module _ (raised : (flag : List ℕ) → In flag (flags_of hub t.node t.steps) → IsRaised script later flag) where
-          abbrev g : Gives (all_net script rooms more_flags (sents later)) (with_turn hub t).net t.node round.given taken lapsed
+          abbrev g : Gives (all_net script rooms more_flags (sents later)) (with_turn hub t).net t.node round.given
+              taken lapsed
           g = given_then
 
           all_mine : AllPass (is_to t.node) (messages_taken (appended t.steps (steps_in (own t.node))))
           all_mine = pass_part (is_to t.node) (messages_taken (appended t.steps (steps_in (own t.node))))
               (messages_given (own t.node)) k.messages (h.to t.node)
 
-          given_by : (n : Node) (b : Bool) → Embeds (messages_given (cond b (round ∷ own n) (own n))) (messages g.taken_then)
+          given_by : (n : Node) (b : Bool) → Embeds (messages_given (cond b (round ∷ own n) (own n)))
+              (messages g.taken_then)
           given_by n true = subst (Embeds (messages_given (round ∷ own n))) (sym g.came)
               (both_front (message_in round.given) (messages_given (own n)) (messages taken) (h.given n))
           given_by n false = subst (Embeds (messages_given (own n))) (sym g.came)
@@ -237,7 +248,8 @@ module _ (script : Script) (start : List Tree) (rooms : List ServerId)
           mine_by : (n : Node) (b : Bool) → same_node t.node n ≡ b
               → filter (is_to n) (messages_taken later) ≡ messages_taken (steps_in (cond b (round ∷ own n) (own n)))
           mine_by n true e =
-              subst (λ x. filter (is_to x) (messages_taken later) ≡ messages_taken (appended t.steps (steps_in (own x))))
+              subst (λ x. filter (is_to x) (messages_taken later) ≡ messages_taken
+              (appended t.steps (steps_in (own x))))
               (node_same t.node n e)
               (mine_more t.node t.steps past (steps_in (own t.node)) (h.mine t.node) all_mine)
           mine_by n false e =
@@ -282,7 +294,8 @@ module _ (script : Script) (start : List Tree) (rooms : List ServerId)
             (taken_sent script rooms more_flags (sents later) (with_turn hub t).net g.taken_then g.lapsed_then g.goes m
             (subst (In m) (sym g.came) (in_front m (message_in (gave hub t)) (messages taken) here)))
 
-  pub planned_from : (turns : List Turn) (hub : Hubbed) (past : List Step) (own : Node → List Round) (flags : List (List ℕ))
+  pub planned_from : (turns : List Turn) (hub : Hubbed) (past : List Step) (own : Node → List Round)
+      (flags : List (List ℕ))
       (taken : List Packet) (lapsed : List Node) → Stands hub past own flags taken lapsed → AreGiven hub turns
       → ((n : Node) → EachInTurn (Keeps script n) (rounds_of hub n turns) (own n)) → BoardRaises script hub turns past
       → EachInTurn (StepFits script start) (steps_of turns) past × GivesSent hub turns past

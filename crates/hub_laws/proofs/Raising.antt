@@ -1,5 +1,6 @@
 -- The flags that the board takes as raised were raised by steps.
-use Rattle.std.proofs.Common.{◌≡◌, ℕ, zero, suc, ◌≤◌, Bool, true, false, ◌&&◌, cond, List, [], ◌∷◌, map, length, take, drop, Option, None, Some, is_some, refl, sym, ap, ◌∙◌, subst, arith}
+use Rattle.std.proofs.Common.{◌≡◌, ℕ, zero, suc, ◌≤◌, Bool, true, false, ◌&&◌, cond, List, [], ◌∷◌, map, length, take}
+use Rattle.std.proofs.Common.{drop, Option, None, Some, is_some, refl, sym, ap, ◌∙◌, subst, arith}
 use Rattle.std.specs.Prelude.{slice_get}
 use Rattle.std.specs.List.{cons_option, filter_map}
 use Rattle.std.specs.Option.{option_and_then, option_map, option_map_or}
@@ -14,8 +15,10 @@ use Rattle.run_rules.specs.Past.{EachInTurn, In, appended}
 use Rattle.run_rules.specs.Steps.{lines_gone, lines_of}
 use Rattle.run_rules.specs.declared.step.Step.{Step}
 use Rattle.hub_wire.specs.Networks.{lapse_place, next_copy}
-use Rattle.hub_board.specs.Follows.{flag_for, flag_in, gone_in, mark_raised, place_of, raise_of, told, with_begun, with_gone, with_raised, with_told}
-use Rattle.hub_board.specs.Hubs.{AreGiven, Hubbed, all_raised, begins, flag_of, flags_of, follow_at, gift_for, may_begin, with_steps, with_turn, without}
+use Rattle.hub_board.specs.Follows.{flag_for, flag_in, gone_in, mark_raised, place_of, raise_of, told, with_begun}
+use Rattle.hub_board.specs.Follows.{with_gone, with_raised, with_told}
+use Rattle.hub_board.specs.Hubs.{AreGiven, Hubbed, all_raised, begins, flag_of, flags_of, follow_at, gift_for}
+use Rattle.hub_board.specs.Hubs.{may_begin, with_steps, with_turn, without}
 use Rattle.hub_board.specs.declared.follow.Follow.{Follow}
 use Rattle.hub_board.specs.declared.follow.Mark.{Mark}
 use Rattle.hub_board.specs.declared.follow.Mark.TheVariants.{Plain, Raise, Await, Raised, Told}
@@ -51,7 +54,8 @@ same_flags : (marks : List Mark) (lines : List Line) (g h k : ℕ) → map raise
     → filter_map raise_of (take k (drop g marks)) ≡ filter_map raised_at (take k (drop h lines))
 same_flags marks lines g h k e same =
     found raise_of (take k (drop g marks))
-    ∙ ap (filter_map (λ o. o)) (map_get raise_of (drop g marks) k ∙ ap (take k) (map_rest raise_of marks g ∙ ap (drop g) e)
+    ∙ ap (filter_map (λ o. o)) (map_get raise_of (drop g marks) k ∙ ap (take k)
+    (map_rest raise_of marks g ∙ ap (drop g) e)
     ∙ ap (λ n. take k (drop n (map raised_at lines))) same ∙ ap (take k) (sym (map_rest raised_at lines h))
     ∙ sym (map_get raised_at (drop h lines) k))
     ∙ sym (found raised_at (take k (drop h lines)))
@@ -110,11 +114,14 @@ module _ (script : Script) where
       raised_all n own flags (map (with_raised flag) follows)
       (subst (Followed n own) (sym (at_all (with_raised flag) (λ f. refl) follows n))
       (kept_by (with_raised flag) n own
-      (λ f k. record { gone = k.gone; marks = raises_kept flag f.marks ∙ k.marks }) (slice_get follows (place_of follows n)) h))
+      (λ f k. record { gone = k.gone; marks = raises_kept flag f.marks ∙ k.marks })
+      (slice_get follows (place_of follows n)) h))
 
   -- lines go
-  gone_by : (n : Node) (own : List Step) (steps : List Step) → lines_gone (appended steps own) ≤ length (lines_of script n)
-      → (o : Option Follow) → Followed n own o → Followed n (appended steps own) (option_map (with_gone (gone_in steps)) o)
+  gone_by : (n : Node) (own : List Step) (steps : List Step) → lines_gone (appended steps own) ≤ length
+      (lines_of script n)
+      → (o : Option Follow) → Followed n own o → Followed n (appended steps own)
+      (option_map (with_gone (gone_in steps)) o)
   gone_by n own steps few None h = tt
   gone_by n own steps few (Some f) h = record {
     gone = (let more = gone_after steps own in
@@ -137,13 +144,15 @@ module _ (script : Script) where
           → Followed n (cond b (appended steps (own n)) (own n))
           (cond (same_node r n) (option_map (with_gone (gone_in steps)) (follow_at hub n)) (follow_at hub n))
       by_test true e =
-          subst (λ t. Followed n (appended steps (own n)) (cond t (option_map (with_gone (gone_in steps)) (follow_at hub n)) (follow_at hub n)))
+          subst (λ t. Followed n (appended steps (own n)) (cond t
+          (option_map (with_gone (gone_in steps)) (follow_at hub n)) (follow_at hub n)))
           (sym e)
           (gone_by n (own n) steps
           (subst (λ x. lines_gone (appended steps (own x)) ≤ length (lines_of script x)) (node_same r n e) few)
           (follow_at hub n) h)
       by_test false e =
-          subst (λ t. Followed n (own n) (cond t (option_map (with_gone (gone_in steps)) (follow_at hub n)) (follow_at hub n)))
+          subst (λ t. Followed n (own n) (cond t (option_map (with_gone (gone_in steps)) (follow_at hub n))
+          (follow_at hub n)))
           (sym e) h
 
   told_by : (n : Node) (own : List Step) (o : Option Follow) → is_some (option_and_then flag_for o) ≡ true
@@ -166,9 +175,11 @@ module _ (script : Script) where
   given hub r n own (Some RaisedGift) e h =
       let there = is_raised (is_some (next_copy hub.net r)) (may_begin r && begins hub r) (is_some (flag_of hub r))
       (is_some (lapse_place hub.net r)) e in
-      subst (Followed n own) (sym (at_changed with_told (λ f. refl) r hub.follows n)) (by_test (same_node r n) refl there)
+      subst (Followed n own) (sym (at_changed with_told (λ f. refl) r hub.follows n))
+      (by_test (same_node r n) refl there)
     where
-      is_raised : (a b c d : Bool) → Some RaisedGift ≡ cond a (Some Message) (cond b (Some BegunGift) (cond c (Some RaisedGift) (cond d (Some Lapse) None)))
+      is_raised : (a b c d : Bool) → Some RaisedGift ≡ cond a (Some Message)
+          (cond b (Some BegunGift) (cond c (Some RaisedGift) (cond d (Some Lapse) None)))
           → c ≡ true
       is_raised true b c d e = absurd (cc)
       is_raised false true c d e = absurd (cc)
@@ -200,7 +211,8 @@ module _ (script : Script) where
       → lines_gone (appended round.steps (steps_in (own r))) ≤ length (lines_of script r)
       → lines_gone (steps_in (cond b (round ∷ own n) (own n))) ≤ length (lines_of script n)
   few_then r n own round true e few more =
-      subst (λ x. lines_gone (appended round.steps (steps_in (own x))) ≤ length (lines_of script x)) (node_same r n e) more
+      subst (λ x. lines_gone (appended round.steps (steps_in (own x))) ≤ length (lines_of script x))
+      (node_same r n e) more
   few_then r n own round false e few more = few
 
   by_own : (n : Node) (own : Node → List Round) (round : Round) (b : Bool) (o : Option Follow)
@@ -234,7 +246,9 @@ module _ (script : Script) where
       let k = each_now (Keeps script r) r round (rounds_of (with_turn hub t) r turns) (own r) (keeps r) in (
         (λ flag i. flags_raised script r flag t.steps (steps_in (own r)) past k.own k.lines
             (flags_from r (steps_in (own r)) t.steps flag (follow_at hub r) (h.each r) i)),
-        raises_from turns (with_turn hub t) (appended t.steps past) (known r round own) (follows_then hub own t h gifts.0 k)
+        raises_from turns (with_turn hub t) (appended t.steps past) (known r round own)
+            (follows_then hub own t h gifts.0 k)
             gifts.1
-            (λ n. each_on (Keeps script n) (same_node r n) round (rounds_of (with_turn hub t) n turns) (own n) (keeps n)),
+            (λ n. each_on (Keeps script n) (same_node r n) round (rounds_of (with_turn hub t) n turns) (own n)
+            (keeps n)),
       )

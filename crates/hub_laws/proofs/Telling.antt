@@ -1,5 +1,6 @@
 -- Nodes are told of flags that steps raised.
-use Rattle.std.proofs.Common.{◌≡◌, ⊎_elim, inl, inr, ℕ, zero, suc, Bool, true, false, cond, List, [], ◌∷◌, map, Option, None, Some, refl, sym, ap, ◌∙◌, subst}
+use Rattle.std.proofs.Common.{◌≡◌, ⊎_elim, inl, inr, ℕ, zero, suc, Bool, true, false, cond, List, [], ◌∷◌, map}
+use Rattle.std.proofs.Common.{Option, None, Some, refl, sym, ap, ◌∙◌, subst}
 use Rattle.std.specs.Prelude.{slice_get}
 use Rattle.std.specs.Option.{option_and_then, option_map}
 use Rattle.base_types.specs.Lists.{changed_at}
@@ -12,8 +13,10 @@ use Rattle.run_rules.specs.Past.{EachInTurn, In, appended}
 use Rattle.run_rules.specs.Runs.{IsLine, IsRaised}
 use Rattle.run_rules.specs.declared.step.Step.{Step}
 use Rattle.hub_wire.specs.Networks.{next_copy}
-use Rattle.hub_board.specs.Follows.{flag_for, flag_in, gone_in, mark_raised, place_of, told, with_begun, with_gone, with_raised, with_told}
-use Rattle.hub_board.specs.Hubs.{Hubbed, all_raised, flag_of, flags_of, follow_at, given_of, with_steps, with_turn, without}
+use Rattle.hub_board.specs.Follows.{flag_for, flag_in, gone_in, mark_raised, place_of, told, with_begun, with_gone}
+use Rattle.hub_board.specs.Follows.{with_raised, with_told}
+use Rattle.hub_board.specs.Hubs.{Hubbed, all_raised, flag_of, flags_of, follow_at, given_of, with_steps, with_turn}
+use Rattle.hub_board.specs.Hubs.{without}
 use Rattle.hub_board.specs.Turning.{steps_of}
 use Rattle.hub_board.specs.declared.follow.Follow.{Follow}
 use Rattle.hub_board.specs.declared.follow.Mark.{Mark}
@@ -73,7 +76,8 @@ module _ (P : List ℕ → Type 0) where
   either_is change keeps true o h = kept_is change keeps o h
   either_is change keeps false o h = h
 
-  all_raised_is : (n : Node) (flags : List (List ℕ)) → ((flag : List ℕ) → In flag flags → P flag) → (follows : List Follow)
+  all_raised_is : (n : Node) (flags : List (List ℕ)) → ((flag : List ℕ) → In flag flags → P flag)
+      → (follows : List Follow)
       → FollowIs (slice_get follows (place_of follows n))
       → FollowIs (slice_get (all_raised flags follows) (place_of (all_raised flags follows) n))
   all_raised_is n [] p follows h = h
@@ -83,7 +87,8 @@ module _ (P : List ℕ → Type 0) where
       (kept_is (with_raised flag) (λ f k. raised_are flag (p flag (inl refl)) f.marks k)
       (slice_get follows (place_of follows n)) h))
 
-  handed_is : (hub : Hubbed) (r n : Node) (steps : List Step) → ((flag : List ℕ) → In flag (flags_of hub r steps) → P flag)
+  handed_is : (hub : Hubbed) (r n : Node) (steps : List Step)
+      → ((flag : List ℕ) → In flag (flags_of hub r steps) → P flag)
       → FollowIs (follow_at hub n) → FollowIs (follow_at (with_steps hub r steps) n)
   handed_is hub r n steps p h =
       let fs = changed_at hub.follows (place_of hub.follows r) (with_gone (gone_in steps)) in
@@ -120,7 +125,8 @@ module _ (P : List ℕ → Type 0) where
   follow_is None flag e h = absurd (cc)
   follow_is (Some f) flag e h = marks_is f.marks f.gone flag e h
 
-  raised_back : (o : Option (List ℕ)) (flag : List ℕ) → option_map (λ x. WasRaised x) o ≡ Some (WasRaised flag) → o ≡ Some flag
+  raised_back : (o : Option (List ℕ)) (flag : List ℕ) → option_map (λ x. WasRaised x) o ≡ Some (WasRaised flag) → o
+      ≡ Some flag
   raised_back None flag e = absurd (cc)
   raised_back (Some name) flag e = let same : name ≡ flag = cc in ap Some same
 

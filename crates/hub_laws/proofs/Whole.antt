@@ -1,11 +1,13 @@
 -- Whole runs at a board.
-use Rattle.std.proofs.Common.{◌≡◌, ℕ, Bool, true, false, cond, eqb, eqb-true, eq-eqb, List, [], ◌∷◌, map, filter, refl, sym, ap, ◌∙◌, subst, arith}
+use Rattle.std.proofs.Common.{◌≡◌, ℕ, Bool, true, false, cond, eqb, eqb-true, eq-eqb, List, [], ◌∷◌, map, filter}
+use Rattle.std.proofs.Common.{refl, sym, ap, ◌∙◌, subst, arith}
 use Rattle.base_types.specs.declared.ids.Node.{Node}
 use Rattle.base_types.specs.declared.ids.Node.TheVariants.{Host, Server}
 use Rattle.base_types.specs.declared.ids.ServerId.{ServerId}
 use Rattle.script_lines.specs.Sound.{same_node}
 use Rattle.script_lines.specs.declared.script.Deed.{Deed}
-use Rattle.script_lines.specs.declared.script.Deed.TheVariants.{Call, Raise as RaiseLine, Await as AwaitLine, Stop, Restart as RestartLine}
+use Rattle.script_lines.specs.declared.script.Deed.TheVariants.{Call, Raise as RaiseLine, Await as AwaitLine, Stop}
+use Rattle.script_lines.specs.declared.script.Deed.TheVariants.{Restart as RestartLine}
 use Rattle.script_lines.specs.declared.script.Line.{Line}
 use Rattle.script_lines.specs.declared.script.Script.{Script}
 use Rattle.run_rules.specs.Past.{Always, EachInTurn, appended}
@@ -120,7 +122,8 @@ kept_is_planned script rooms turns journal kept =
     let fits = kept_fits script rooms turns journal kept in
     subst (λ steps. Always (KeepsPlan script journal.start) (appended steps [])) (sym kept.steps)
     (always_after (KeepsPlan script journal.start) (steps_of turns) [] tt
-    (each_map (StepFits script journal.start) (KeepsPlan script journal.start) (λ past s f. f.plan) (steps_of turns) [] fits.0))
+    (each_map (StepFits script journal.start) (KeepsPlan script journal.start) (λ past s f. f.plan) (steps_of turns)
+    [] fits.0))
 
 pub kept_is_sent : KeptIsSent
 kept_is_sent script rooms turns journal kept =
@@ -160,7 +163,8 @@ module _ (script : Script) where
           subst (FollowIs (IsRaised script [])) (sym (at_here (follow_of script m) (map (follow_of script) ms) n e))
           (plain_marks (followed_lines script m))
       by_test false e again =
-          subst (FollowIs (IsRaised script [])) (sym (at_later (follow_of script m) (map (follow_of script) ms) n e)) again
+          subst (FollowIs (IsRaised script [])) (sym (at_later (follow_of script m) (map (follow_of script) ms) n e))
+          again
 
 pub kept_is_met : KeptIsMet
 kept_is_met script rooms turns journal kept =

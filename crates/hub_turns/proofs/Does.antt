@@ -1,5 +1,6 @@
 -- What a node's turn does keeps what stays of a board, and adds a turn at most.
-use Rattle.std.proofs.Common.{◌≡◌, ℕ, ◌+◌, ◌<◌, ◌≤◌, rules, true, List, [], ◌∷◌, ◌++◌, length, drop, Option, None, Some, Bool, false, eq-eqb, length-append, refl, sym, ap, subst, ◌∙◌, arith}
+use Rattle.std.proofs.Common.{◌≡◌, ℕ, ◌+◌, ◌<◌, ◌≤◌, rules, true, List, [], ◌∷◌, ◌++◌, length, drop, Option, None}
+use Rattle.std.proofs.Common.{Some, is_some, Bool, false, eq-eqb, length-append, refl, sym, ap, subst, ◌∙◌, arith}
 use Rattle.std.specs.Prelude.{IsSome, MatchBool, ◌↔◌}
 use Rattle.std.specs.Option.{option_to_list}
 use Rattle.std.proofs.lemmas.List.{append-nil}
@@ -11,13 +12,14 @@ use Rattle.script_lines.specs.Sound.{same_node}
 use Rattle.hub_cell.specs.Lists.{GrowsByOne, entries}
 use Rattle.hub_cell.specs.Passes.{CellView, IsTurn, PassView}
 use Rattle.hub_cell.proofs.Uses.{turn_makes, turn_stays}
-use Rattle.hub_board.specs.Hubs.{AreGiven, Hubbed, after, with_steps}
+use Rattle.hub_board.specs.Hubs.{AreGiven, Hubbed, after, gift_for, with_steps}
 use Rattle.hub_board.specs.Turning.{HasTurned, IsOf, IsUntouched, Posted, entered}
 use Rattle.hub_board.specs.declared.given.Gift.{Gift}
 use Rattle.hub_board.specs.declared.given.Given.{Given}
 use Rattle.hub_board.specs.declared.given.Turn.{Turn}
-use Rattle.hub_board.proofs.Goings.{goes_on}
-use Rattle.hub_turns.specs.Meetings.{AreSent, AreSound, Does, DoesIn, HasPassed, IsGivenSound, IsRefused, IsSame, IsUsed, Refused, Turned, first_of}
+use Rattle.hub_board.proofs.Goings.{goes_on, nothing_handed}
+use Rattle.hub_turns.specs.Meetings.{AreSent, AreSound, Does, DoesIn, HasPassed, IsGivenSound, IsReady, IsRefused}
+use Rattle.hub_turns.specs.Meetings.{IsSame, IsUsed, Refused, Turned, first_of}
 use Rattle.hub_turns.specs.Views.{AreOf, HubView, Met, NodeView}
 use Rattle.hub_turns.proofs.Sounds.{gift_sound, steps_sound}
 use Rattle.hub_turns.specs.declared.meeting.HubTurn.{HubTurn}
@@ -27,6 +29,33 @@ node_self : (n : Node) → same_node n n ≡ true
 node_self (Host h) = eq-eqb h.0 h.0 refl
 node_self (Server v) = eq-eqb v.0 v.0 refl
 
+-- a turn that hands nothing in, where there is nothing for the node
+none_is : {A : Type 0} (o : Option A) → is_some o ≡ false → None ≡ o
+none_is None e = refl
+none_is (Some x) e = absurd (cc)
+
+no_turn : (board : Posted) (node : Node) → is_some (gift_for board.hub node) ≡ false
+    → HasTurned board board node [] None
+no_turn board node e =
+    let same = nothing_handed board.hub node in record {
+      gift_is = None;
+      first = none_is (gift_for board.hub node) e ∙ ap (λ (h : Hubbed). gift_for h node) (sym same);
+      turns = sym (append-nil board.turns);
+      hub = sym same;
+      given_is = refl;
+    }
+
+pub nothing_done : (work : HubTurn) (board : Posted) → IsReady work → work.steps.steps ≡ []
+    → is_some (gift_for board.hub work.node) ≡ false → Does work board work board
+nothing_done work board ready none e =
+    let turned : Turned board board work work = record {
+      turned = subst (λ (ss : List Step). HasTurned board board work.node ss (first_of work.given.items)) (sym none)
+          (subst (HasTurned board board work.node []) (ap first_of (sym ready.empty)) (no_turn board work.node e));
+      left = none;
+      one = (let few = ap (λ (l : List Given). length l) ready.empty in omega arith);
+    } in
+    subst (λ b. MatchBool b (Refused board board work work) (Turned board board work work)) (sym ready.fresh) turned
+
 one_at_most : (node : Node) (steps : List Step) (gift : Option Gift) → length (entered node steps gift) ≤ 1
 one_at_most node [] None = omega arith
 one_at_most node [] (Some gift) = omega arith
@@ -35,8 +64,11 @@ one_at_most node (s ∷ steps) gift = omega arith
 by_flag : (b : Bool) (work work' : HubTurn) (before now : Posted)
     → MatchBool b (Refused before now work work') (Turned before now work work') → GrowsByOne before.turns now.turns
 by_flag true work work' before now d = ([], omega arith, d.untouched.turns ∙ sym (append-nil before.turns))
-by_flag false work work' before now d =
-    (entered work.node work.steps.steps d.turned.gift_is, one_at_most work.node work.steps.steps d.turned.gift_is, d.turned.turns)
+by_flag false work work' before now d = (
+  entered work.node work.steps.steps d.turned.gift_is,
+  one_at_most work.node work.steps.steps d.turned.gift_is,
+  d.turned.turns,
+)
 
 pub does_grows : (work work' : HubTurn) (before now : Posted) → Does work before work' now
     → GrowsByOne before.turns now.turns
@@ -91,12 +123,14 @@ pub given_sound : (first : Hubbed) (roster : Roster) (pass pass' : NodeView) (wo
     → IsUsed first roster pass pass' work work' → work'.refused ≡ false → AreSent roster work.steps.steps
     → (given : Option Given) → first_of work'.given.items ≡ given → IsGivenSound roster given
 given_sound first roster pass pass' work work' u went h given is =
-    let d = subst (λ b. MatchBool b (Refused u.before u.now work work') (Turned u.before u.now work work')) went u.done in
+    let d = subst (λ b. MatchBool b (Refused u.before u.now work work') (Turned u.before u.now work work')) went
+    u.done in
     subst (IsGivenSound roster) is
     (turned_sound roster u.before u.now work.node work.steps.steps (first_of work'.given.items) d.turned u.sound h).1
 
 -- what was made is the turn
-made_is : (before now : Posted) (es made : List Turn) → now.turns ≡ before.turns ++ es → now.turns ≡ before.turns ++ made
+made_is : (before now : Posted) (es made : List Turn) → now.turns ≡ before.turns ++ es → now.turns ≡ before.turns ++
+    made
     → made ≡ es
 made_is before now es made e m =
     sym (drop-append_seam before.turns made) ∙ ap (drop (length before.turns)) (sym m ∙ e)
@@ -107,11 +141,13 @@ abbrev pub hub_of : CellView Met → HubView
 hub_of cell = record { id = cell.id; nodes = cell.seats; first = cell.first.board.hub; roster = cell.first.roster }
 
 -- a turn of a node at a hub
-pub passed : (hub : HubView) (pass pass' : NodeView) (work work' : HubTurn) (u : IsUsed hub.first hub.roster pass pass' work work')
+pub passed : (hub : HubView) (pass pass' : NodeView) (work work' : HubTurn)
+    (u : IsUsed hub.first hub.roster pass pass' work work')
     → work.node ≡ pass.node → work'.refused ≡ false → (steps : List Step) → work.steps.steps ≡ steps
     → (given : Option Given) → first_of work'.given.items ≡ given → HasPassed hub pass pass' steps given
 passed hub pass pass' work work' u node went steps same given is =
-    let d = subst (λ b. MatchBool b (Refused u.before u.now work work') (Turned u.before u.now work work')) went u.done in
+    let d = subst (λ b. MatchBool b (Refused u.before u.now work work') (Turned u.before u.now work work')) went
+    u.done in
     let turned : HasTurned u.before u.now pass.node steps given =
     subst (λ g. HasTurned u.before u.now pass.node steps g) is
     (subst (λ ss. HasTurned u.before u.now pass.node ss (first_of work'.given.items)) same
@@ -132,7 +168,8 @@ passed hub pass pass' work work' u node went steps same given is =
       }) made;
     }
 
-pub given_one : (hub : HubView) (pass pass' : NodeView) (work work' : HubTurn) → IsUsed hub.first hub.roster pass pass' work work'
+pub given_one : (hub : HubView) (pass pass' : NodeView) (work work' : HubTurn) → IsUsed hub.first hub.roster pass
+    pass' work work'
     → work'.refused ≡ false → length work'.given.items ≤ 1
 given_one hub pass pass' work work' u went =
     (subst (λ b. MatchBool b (Refused u.before u.now work work') (Turned u.before u.now work work')) went u.done).one
@@ -157,10 +194,12 @@ popped_is (x ∷ items) rest None old new e len rest_len both variant few =
     absurd (no_some (variant.1 more))
 
 -- a turn for which memory ran out
-pub refused : (hub : HubView) (pass pass' : NodeView) (work work' : HubTurn) → IsUsed hub.first hub.roster pass pass' work work'
+pub refused : (hub : HubView) (pass pass' : NodeView) (work work' : HubTurn) → IsUsed hub.first hub.roster pass pass'
+    work work'
     → work'.refused ≡ true → IsRefused pass pass'
 refused hub pass pass' work work' u failed =
-    let d = subst (λ b. MatchBool b (Refused u.before u.now work work') (Turned u.before u.now work work')) failed u.done in
+    let d = subst (λ b. MatchBool b (Refused u.before u.now work work') (Turned u.before u.now work work')) failed
+    u.done in
     let none = made_is u.before u.now [] u.made (d.untouched.turns ∙ sym (append-nil u.before.turns)) u.grown in
     let seen : pass'.seen ≡ u.now.turns = ap (λ (p : NodeView). p.seen) u.pass_is in
     record {
@@ -172,6 +211,15 @@ refused hub pass pass' work work' u failed =
         made = (ap (λ es. pass.made ++ es) none ∙ append-nil pass.made) i;
       });
     }
+
+-- a pass that stays as it is
+pub stays_pass : (pass now : NodeView) → now ≡ pass → IsRefused pass now
+stays_pass pass now same =
+    subst (IsRefused pass) (sym same) (record { known = ([], sym (append-nil pass.seen)); pass_is = refl })
+
+-- what holds between two that are the same as these
+pub between : {A : Type 0} (R : A → A → Type 0) (a b c d : A) → b ≡ a → d ≡ c → R b c → R a d
+between R a b c d first last h = subst (R a) (sym last) (subst (λ x. R x c) first h)
 
 -- the pass stays its node's and the hub's
 pub same_pass : (first : Hubbed) (roster : Roster) (pass pass' : NodeView) (work work' : HubTurn)
@@ -222,7 +270,8 @@ module _ (first : Met) (node : Node) (pass pass' : PassView Turn) (work work' : 
       node = node;
       hub = (turn_stays (λ (m : Met). m.board.turns) (λ now. IsSame first now) DoesIn pass pass' work work' t).0 i;
       seen = ap (λ (p : PassView Turn). p.seen) t.pass_is i;
-      made = turn_makes (λ (m : Met). m.board.turns) (λ now. IsSame first now) DoesIn pass pass' work work' t t.added t.grown i;
+      made = turn_makes (λ (m : Met). m.board.turns) (λ now. IsSame first now) DoesIn pass pass' work work' t t.added
+          t.grown i;
     };
   }
 
@@ -230,7 +279,8 @@ module _ (first : Met) (node : Node) (pass pass' : PassView Turn) (work work' : 
   rests h = (
     (turn_stays (λ (m : Met). m.board.turns) (λ now. IsSame first now) DoesIn pass pass' work work' t).1 ∙ h.0,
     subst (AreOf node)
-        (sym (turn_makes (λ (m : Met). m.board.turns) (λ now. IsSame first now) DoesIn pass pass' work work' t t.added t.grown))
+        (sym (turn_makes (λ (m : Met). m.board.turns) (λ now. IsSame first now) DoesIn pass pass' work work' t
+        t.added t.grown))
         (own_more node (entries pass.made) t.added h.1
         (made_own work'.refused node work work' t.before.board t.after.board t.added is t.grown t.done.done)),
   )

@@ -1,5 +1,6 @@
 -- Passes of nodes, one more at a time, and what the passes at the end have.
-use Rattle.std.proofs.Common.{◌≡◌, ◌+◌, Bool, true, false, List, [], ◌∷◌, ◌++◌, map, length, refl, sym, ap, ◌∙◌, subst, arith, eqb-true}
+use Rattle.std.proofs.Common.{◌≡◌, ◌+◌, Bool, true, false, List, [], ◌∷◌, ◌++◌, map, length, refl, sym, ap, ◌∙◌}
+use Rattle.std.proofs.Common.{subst, arith, eqb-true}
 use Rattle.std.specs.List.{All, filter, sum_by}
 use Rattle.std.proofs.lemmas.List.{length-map}
 use Rattle.std.proofs.lemmas.List.Elements.{All-cons, All-head, All-map, All-nil, All-tail}
@@ -9,7 +10,8 @@ use Rattle.base_types.specs.declared.ids.Node.TheVariants.{Host, Server}
 use Rattle.script_lines.specs.Sound.{same_node}
 use Rattle.hub_cell.specs.Lists.{IsPrefix, IsShuffle, Weaves}
 use Rattle.hub_cell.specs.Passes.{AreAllPasses as AreSeats, CellView, IsClosed, PassView, TableId, parts_of}
-use Rattle.hub_cell.proofs.Shuffles.{FailsAll, PassesAll, filter_fails, filter_passes, filter_weaves, weaves_left_only, weaves_right_only}
+use Rattle.hub_cell.proofs.Shuffles.{FailsAll, PassesAll, filter_fails, filter_passes, filter_weaves}
+use Rattle.hub_cell.proofs.Shuffles.{weaves_left_only, weaves_right_only}
 use Rattle.hub_board.specs.Turning.{IsOf, Posted}
 use Rattle.hub_board.specs.declared.given.Turn.{Turn}
 use Rattle.hub_turns.specs.Meetings.{AreAllPasses, HasEnded, first_pass}
@@ -37,10 +39,12 @@ first_are_all hub nodes passes count are = record {
 -- the passes of the cell are all passes of the cell
 of_cell : (id : TableId) (passes : List NodeView) (bare : List (PassView Turn)) → AreBare passes bare
     → All (λ (p : NodeView). p.hub ≡ id) passes → All (λ (p : PassView Turn). p.cell ≡ id) bare
-of_cell id [] bare are h = subst (All (λ (p : PassView Turn). p.cell ≡ id)) (sym are) (All-nil (λ (p : PassView Turn). p.cell ≡ id))
+of_cell id [] bare are h = subst (All (λ (p : PassView Turn). p.cell ≡ id)) (sym are)
+    (All-nil (λ (p : PassView Turn). p.cell ≡ id))
 of_cell id (p ∷ passes) [] are h = absurd are
 of_cell id (p ∷ passes) (b ∷ bare) are h =
-    All-cons (λ (q : PassView Turn). q.cell ≡ id) b bare (are.0.cell ∙ All-head (λ (q : NodeView). q.hub ≡ id) p passes h)
+    All-cons (λ (q : PassView Turn). q.cell ≡ id) b bare (are.0.cell ∙ All-head (λ (q : NodeView). q.hub ≡ id) p
+    passes h)
     (of_cell id passes bare are.1 (All-tail (λ (q : NodeView). q.hub ≡ id) p passes h))
 
 seats_of : (passes : List NodeView) (bare : List (PassView Turn)) → AreBare passes bare
@@ -145,7 +149,8 @@ module _ (node : Node) where
 pub all_seats : (cell : CellView Met) (hub : HubView) (passes : List NodeView) (bare : List (PassView Turn))
     → cell.id ≡ hub.id → cell.seats ≡ hub.nodes → AreBare passes bare → AreAllPasses hub passes → AreSeats cell bare
 all_seats cell hub passes bare id seats are h = record {
-  of_cell = subst (λ i. All (λ (p : PassView Turn). p.cell ≡ i) bare) (sym id) (of_cell hub.id passes bare are h.of_hub);
+  of_cell = subst (λ i. All (λ (p : PassView Turn). p.cell ≡ i) bare) (sym id)
+      (of_cell hub.id passes bare are h.of_hub);
   all_seats = seats_of passes bare are ∙ h.all ∙ sym seats;
 }
 

@@ -1,5 +1,6 @@
 -- Where all that is sent is sound, so is all that is on its way, and what is given.
-use Rattle.std.proofs.Common.{◌≡◌, ◌⊎◌, ⊎_elim, inl, inr, ℕ, ◌+◌, Bool, true, false, List, [], ◌∷◌, ◌++◌, map, Option, None, Some, refl, sym, ap, ◌∙◌, subst}
+use Rattle.std.proofs.Common.{◌≡◌, ◌⊎◌, ⊎_elim, inl, inr, ℕ, ◌+◌, Bool, true, false, List, [], ◌∷◌, ◌++◌, map, Option}
+use Rattle.std.proofs.Common.{None, Some, refl, sym, ap, ◌∙◌, subst}
 use Rattle.std.specs.Prelude.{option_map, if◌then◌else◌}
 use Rattle.base_types.specs.declared.ids.Node.{Node}
 use Rattle.tree_calls.specs.declared.roster.Roster.{Roster}
@@ -15,7 +16,8 @@ use Rattle.run_rules.specs.Plans.{ways_in}
 use Rattle.run_rules.specs.declared.step.Step.{Step}
 use Rattle.run_rules.specs.declared.fate.Way.{Way}
 use Rattle.run_rules.specs.declared.fate.Way.TheVariants.{Free}
-use Rattle.hub_wire.specs.Networks.{Network, next_copy, next_fate, with_flag, with_message, with_messages, with_step, without_copy}
+use Rattle.hub_wire.specs.Networks.{Network, next_copy, next_fate, with_flag, with_message, with_messages, with_step}
+use Rattle.hub_wire.specs.Networks.{without_copy}
 use Rattle.hub_wire.specs.Packets.{is_held_by, raised_packet}
 use Rattle.hub_wire.specs.declared.packet.Packet.{Packet}
 use Rattle.hub_wire.proofs.Takes.{takes_first}
@@ -104,14 +106,16 @@ module _ (roster : Roster) where
             (in_more p t.packet t.earlier t.later (subst (In p) t.left i)))),
         (λ x is.
             let same : t.packet.message ≡ x = cc in
-            subst (IsSound roster) same (are t.packet (subst (In t.packet) (sym t.among) (in_middle t.packet t.earlier t.later)))),
+            subst (IsSound roster) same (are t.packet (subst (In t.packet) (sym t.among)
+            (in_middle t.packet t.earlier t.later)))),
       )
 
   came_is : (o : Option Message) (m : Message) → option_map (λ (x : Message). Came x) o ≡ Some (Came m) → o ≡ Some m
   came_is None m e = absurd (cc)
   came_is (Some x) m e = cc
 
-  raised_not : (o : Option (List ℕ)) (m : Message) → option_map (λ (flag : List ℕ). WasRaised flag) o ≡ Some (Came m) → ⊥
+  raised_not : (o : Option (List ℕ)) (m : Message) → option_map (λ (flag : List ℕ). WasRaised flag) o ≡ Some (Came m)
+      → ⊥
   raised_not None m e = absurd (cc)
   raised_not (Some x) m e = absurd (cc)
 

@@ -82,12 +82,13 @@ impl Hub {
         ensures same { (pass.new.node ≡ pass.old.node) × (pass.new.hub ≡ pass.old.hub) }
     {
         let alloc = steps.alloc();
-        let mut room = Vec::new(alloc);
-        room.reserve(1)?;
+        let Ok(room) = pass.take_room() else {
+            return Err(NoMemory);
+        };
         let mut turn = HubTurn {
             node: pass.node(),
-            steps: mem::replace(steps, Pending::new(alloc)),
             given: room,
+            steps: mem::replace(steps, Pending::new(alloc)),
             refused: false,
         };
         pass.take_turn(rt, &self.cell, &mut turn);
@@ -98,10 +99,12 @@ impl Hub {
             refused,
         } = turn;
         *steps = left;
+        let first = given.pop();
+        pass.put_room(given);
         if refused {
             return Err(NoMemory);
         }
-        Ok(given.pop())
+        Ok(first)
     }
 
     /// Gives the list of turns, for all passes that are out: it has what was made through them, each turn once, those
@@ -140,9 +143,9 @@ fn passes_of(
         let Some(pass) = cell.split(&mut first) else {
             unreachable!()
         };
-        passes.push(NodePass::new(nodes[place], pass))?;
+        passes.push(NodePass::new(alloc, nodes[place], pass))?;
     }
-    passes.push(NodePass::new(nodes[last], first))?;
+    passes.push(NodePass::new(alloc, nodes[last], first))?;
     Ok(passes)
 }
 

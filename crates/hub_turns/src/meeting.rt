@@ -1,3 +1,6 @@
+ghost use Rattle.std.specs.Prelude.{◌≡◌, [], false, is_some, true};
+ghost use Rattle.hub_board.specs.Hubs.{gift_for};
+
 use base_types::{NoMemory, Node};
 use hub_board::{Board, Given, Pending, Turn};
 use hub_cell::{Counted, Work};
@@ -45,6 +48,14 @@ pub struct HubTurn {
     pub refused: bool,
 }
 
+// Whether a turn of a node has nothing to do: it hands nothing in, and there is nothing for the node.
+fn is_idle(meeting: &Meeting, node: Node, steps: &Pending) -> bool
+    ensures { result ≡ true
+        → (steps.now.steps ≡ []) × (is_some (gift_for meeting.now.board.hub node) ≡ false) }
+{
+    steps.as_slice().is_empty() && !meeting.board.has_gift(node)
+}
+
 impl Work<Meeting> for HubTurn {
     ghost use Rattle.hub_turns.specs.Meetings.{AreSent, DoesIn, IsReady};
 
@@ -53,6 +64,9 @@ impl Work<Meeting> for HubTurn {
     ghost does = { DoesIn };
 
     fn work(&mut self, value: &mut Meeting) {
+        if is_idle(value, self.node, &self.steps) {
+            return;
+        }
         match value.board.turn(self.node, &mut self.steps) {
             Ok(Some(given)) => self.given.push_reserved(given),
             Ok(None) => {}

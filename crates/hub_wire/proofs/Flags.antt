@@ -1,5 +1,6 @@
 -- It is the same whether a flag is raised before a step or after it.
-use Rattle.std.proofs.Common.{◌≡◌, ℕ, ◌+◌, ◌-◌, ◌%◌, Bool, true, false, ◌&&◌, ◌||◌, cond, eqb, List, [], ◌∷◌, ◌++◌, map, Option, None, Some, is_some, unwrap_or, nat_lt, refl, sym, ap, ◌∙◌}
+use Rattle.std.proofs.Common.{◌≡◌, ℕ, ◌+◌, ◌-◌, ◌%◌, Bool, true, false, ◌&&◌, ◌||◌, cond, eqb, List, [], ◌∷◌, ◌++◌}
+use Rattle.std.proofs.Common.{map, Option, None, Some, is_some, unwrap_or, nat_lt, refl, sym, ap, ◌∙◌}
 use Rattle.std.specs.List.{find}
 use Rattle.std.specs.Option.{option_map}
 use Rattle.base_types.specs.Name.{same_name}
@@ -62,11 +63,13 @@ own_raised flag m l = by_test (is_raised_by flag l.line.flag)
     by_test true = refl
     by_test false = refl
 
-passed_raised : (flag : List ℕ) (m : Message) (l : Lacking) → passed m (raised_line flag l) ≡ raised_line flag (passed m l)
+passed_raised : (flag : List ℕ) (m : Message) (l : Lacking) → passed m (raised_line flag l) ≡ raised_line flag
+    (passed m l)
 passed_raised flag m l = by_tests (is_raised_by flag l.line.flag) refl (counts l.line m) refl
   where
     by_tests : (r : Bool) → is_raised_by flag l.line.flag ≡ r → (c : Bool) → counts l.line m ≡ c
-        → passed m (cond r (record l { line = record l.line { flag = None } }) l) ≡ raised_line flag (cond c (record l { lacking = l.lacking - 1 }) l)
+        → passed m (cond r (record l { line = record l.line { flag = None } }) l) ≡ raised_line flag
+        (cond c (record l { lacking = l.lacking - 1 }) l)
     by_tests true e true k =
         ap (λ b. let raised : Lacking = record l { line = record l.line { flag = None } } in
         cond b (record raised { lacking = raised.lacking - 1 }) raised) k
@@ -100,7 +103,8 @@ plans_raised flag m ls =
     ∙ at (find (is_own m) ls)
     ∙ sym (mapped_twice fate (raised_fate flag) (find (is_own m) ls))
   where
-    at : (o : Option Lacking) → option_map (λ l. planned_fate (raised_line flag l).line.deed (raised_line flag l).line.flag) o
+    at : (o : Option Lacking) → option_map (λ l. planned_fate (raised_line flag l).line.deed
+        (raised_line flag l).line.flag) o
         ≡ option_map (λ l. raised_fate flag (planned_fate l.line.deed l.line.flag)) o
     at None = refl
     at (Some l) = ap Some (line_raised flag l)
@@ -111,7 +115,8 @@ net_raised : (flag : List ℕ) (net : Option Net) (drawn : ℕ) (left : Left)
 net_raised flag None drawn left = refl
 net_raised flag (Some net) drawn left = by_word (word_after net.seed drawn)
   where
-    by_tests : (a b c : Bool) → raised_fate flag (cond a Lost (cond b (Twice Free Delayed) (cond c (Once Delayed) (Once Free))))
+    by_tests : (a b c : Bool) → raised_fate flag (cond a Lost
+        (cond b (Twice Free Delayed) (cond c (Once Delayed) (Once Free))))
         ≡ cond a Lost (cond b (Twice Free Delayed) (cond c (Once Delayed) (Once Free)))
     by_tests true b c = refl
     by_tests false true c = refl
@@ -179,7 +184,8 @@ packets_raised flag net m =
     ∙ sym (map_twice packet (raised_packet flag) (ways_in fate)))
     ∙ sym (map_append (raised_packet flag) net.packets (map packet (ways_in fate)))
 
-due_same : (flag : List ℕ) (net : Network) (m : Message) → (with_message (with_flag flag net) m).due ≡ (with_message net m).due
+due_same : (flag : List ℕ) (net : Network) (m : Message) → (with_message (with_flag flag net) m).due
+    ≡ (with_message net m).due
 due_same flag net m =
     ap (λ (f : Fate). net.due ++ due_by f m) (fates_raised flag net m)
     ∙ ap (λ ds. net.due ++ ds) (due_raised flag (next_fate net m) m)

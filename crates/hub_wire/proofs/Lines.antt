@@ -1,12 +1,14 @@
 -- The plan lines as a wire keeps them, after what each call does to them.
-use Rattle.std.proofs.Common.{◌≡◌, ℕ, zero, suc, ◌-◌, Bool, true, false, cond, List, [], ◌∷◌, map, take, None, Some, refl, sym, ap, ◌∙◌}
+use Rattle.std.proofs.Common.{◌≡◌, ℕ, zero, suc, ◌-◌, Bool, true, false, cond, List, [], ◌∷◌, map, take, None, Some}
+use Rattle.std.proofs.Common.{refl, sym, ap, ◌∙◌}
 use Rattle.std.specs.List.{find}
 use Rattle.std.specs.Option.{option_map}
 use Rattle.message_types.specs.declared.message.Message.{Message}
 use Rattle.script_lines.specs.declared.script.PlanLine.{PlanLine}
 use Rattle.run_rules.specs.Plans.{counts, planned_fate}
 use Rattle.run_rules.specs.declared.fate.Fate.{Fate}
-use Rattle.hub_wire.specs.Plans.{Lacking, accepted, counted_lines, forgotten, is_at, is_own, is_raised_by, passed, planned, raised_line, ready_lines, waiting_at, with_flag, with_message}
+use Rattle.hub_wire.specs.Plans.{Lacking, accepted, counted_lines, forgotten, is_at, is_own, is_raised_by, passed}
+use Rattle.hub_wire.specs.Plans.{planned, raised_line, ready_lines, waiting_at, with_flag, with_message}
 use Rattle.hub_wire.specs.declared.plan.Waiting.{Waiting}
 use Rattle.hub_wire.proofs.Maps.{find_mapped, map_same, map_twice}
 
@@ -36,7 +38,8 @@ counted_forgotten lines = map_twice forgotten counted lines
 pub ready_forgotten : (lines : List Waiting) → ready_lines (map forgotten lines) ≡ counted_lines lines
 ready_forgotten lines = map_twice forgotten ready lines
 
-pub counted_passed : (m : Message) (lines : List Waiting) → counted_lines (map (with_message m) lines) ≡ counted_lines lines
+pub counted_passed : (m : Message) (lines : List Waiting) → counted_lines (map (with_message m) lines)
+    ≡ counted_lines lines
 counted_passed m lines =
     map_twice (with_message m) counted lines ∙ map_same (λ w. counted (with_message m w)) counted same lines
   where
@@ -50,7 +53,8 @@ counted_passed m lines =
 pub ready_passed : (m : Message) (lines : List Waiting)
     → ready_lines (map (with_message m) lines) ≡ map (passed m) (ready_lines lines)
 ready_passed m lines =
-    map_twice (with_message m) ready lines ∙ map_same (λ w. ready (with_message m w)) (λ w. passed m (ready w)) same lines
+    map_twice (with_message m) ready lines ∙ map_same (λ w. ready (with_message m w)) (λ w. passed m (ready w)) same
+    lines
     ∙ sym (map_twice ready (passed m) lines)
   where
     by_test : (b : Bool) (w : Waiting) → ready (cond b (record w { ready = w.ready - 1 }) w)

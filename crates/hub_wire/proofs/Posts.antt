@@ -1,5 +1,6 @@
 -- The network does over a whole run what the script makes of the messages.
-use Rattle.std.proofs.Common.{◌≡◌, ℕ, suc, ◌+◌, ◌-◌, Bool, true, false, not, ◌&&◌, ◌||◌, cond, List, [], ◌∷◌, ◌++◌, map, length, is_some, unwrap_or, refl, sym, ap, subst, ◌∙◌, arith, append_assoc}
+use Rattle.std.proofs.Common.{◌≡◌, ℕ, suc, ◌+◌, ◌-◌, Bool, true, false, not, ◌&&◌, ◌||◌, cond, List, [], ◌∷◌, ◌++◌}
+use Rattle.std.proofs.Common.{map, length, is_some, unwrap_or, refl, sym, ap, subst, ◌∙◌, arith, append_assoc}
 use Rattle.std.specs.List.{find, flat_map, count_by}
 use Rattle.std.specs.Option.{option_map}
 use Rattle.std.proofs.lemmas.List.Concat.{flat_map-append}
@@ -58,12 +59,14 @@ one_more p xs x = sum_by_push (λ y. cond (p y) 1 0) xs x
 passed_same : (earlier : List Message) (m : Message) (line : PlanLine)
     → passed m (lacking_after earlier line) ≡ lacking_after (earlier ++ m ∷ []) line
 passed_same earlier m line =
-    by_test (counts line m) ∙ ap (λ c. record { line = line; lacking = line.n - c }) (sym (one_more (counts line) earlier m))
+    by_test (counts line m) ∙ ap (λ c. record { line = line; lacking = line.n - c })
+    (sym (one_more (counts line) earlier m))
   where
     by_test : (b : Bool) → (let l = lacking_after earlier line in cond b (record l { lacking = l.lacking - 1 }) l)
         ≡ record { line = line; lacking = line.n - (count_by (counts line) earlier + cond b 1 0) }
     by_test true =
-        let e : line.n - count_by (counts line) earlier - 1 ≡ line.n - (count_by (counts line) earlier + 1) = omega arith in
+        let e : line.n - count_by (counts line) earlier - 1 ≡ line.n - (count_by (counts line) earlier + 1) = omega
+        arith in
         ap (λ c. record { line = line; lacking = c }) e
     by_test false =
         let e : line.n - count_by (counts line) earlier ≡ line.n - (count_by (counts line) earlier + 0) = omega arith in
@@ -76,12 +79,15 @@ drawn_same false n = refl
 module _ (script : Script) (earlier : List Message) (left : Left) (net : Network) (m : Message) where
   fates_same : Stands script earlier left net → next_fate net m ≡ fate_of script earlier m left
   fates_same s =
-      ap (λ ls. cond (says_down m) (Once Free) (unwrap_or (planned ls m) (fate_in_net net.net net.drawn net.left))) s.lines
+      ap (λ ls. cond (says_down m) (Once Free) (unwrap_or (planned ls m) (fate_in_net net.net net.drawn net.left)))
+      s.lines
       ∙ ap (λ o. cond (says_down m) (Once Free) (unwrap_or o (fate_in_net net.net net.drawn net.left)))
       (planned_same script earlier m)
-      ∙ ap (λ n. cond (says_down m) (Once Free) (unwrap_or (planned_by script earlier m) (fate_in_net n net.drawn net.left)))
+      ∙ ap (λ n. cond (says_down m) (Once Free) (unwrap_or (planned_by script earlier m)
+      (fate_in_net n net.drawn net.left)))
       s.nets
-      ∙ ap (λ n. cond (says_down m) (Once Free) (unwrap_or (planned_by script earlier m) (fate_in_net script.net n net.left)))
+      ∙ ap (λ n. cond (says_down m) (Once Free) (unwrap_or (planned_by script earlier m)
+      (fate_in_net script.net n net.left)))
       s.drawn
       ∙ ap (λ l. cond (says_down m) (Once Free)
       (unwrap_or (planned_by script earlier m) (fate_in_net script.net (words_drawn earlier) l))) s.rest
@@ -114,7 +120,8 @@ module _ (script : Script) (earlier : List Message) (left : Left) (net : Network
 -- what is left of the net after these messages
 abbrev left_through : Script → List Message → Left → List Message → Left
 left_through script earlier left [] = left
-left_through script earlier left (m ∷ ms) = left_through script (earlier ++ m ∷ []) (left_after script earlier m left) ms
+left_through script earlier left (m ∷ ms) = left_through script (earlier ++ m ∷ [])
+    (left_after script earlier m left) ms
 
 post_one_more : (script : Script) (ms earlier : List Message) (left : Left) (m : Message)
     → post script earlier left (ms ++ m ∷ []) ≡ post script earlier left ms
@@ -136,7 +143,8 @@ left_one_more script [] earlier left m = ap (λ es. left_after script es m left)
 left_one_more script (x ∷ ms) earlier left m =
     let rest = left_after script earlier x left in
     left_one_more script ms (earlier ++ x ∷ []) rest m
-    ∙ ap (λ es. left_after script es m (left_through script (earlier ++ x ∷ []) rest ms)) (append_assoc earlier (x ∷ []) ms)
+    ∙ ap (λ es. left_after script es m (left_through script (earlier ++ x ∷ []) rest ms))
+    (append_assoc earlier (x ∷ []) ms)
 
 -- a network after these messages, which are all, and nothing was taken
 record After (script : Script) (rooms : List ServerId) (all : List Message) (net : Network) : Type 0 where
@@ -162,7 +170,8 @@ after_message script rooms all net m a =
       copies = map_append copy_of net.packets (map packet ways)
           ∙ ap (λ cs. cs ++ map copy_of (map packet ways)) a.copies
           ∙ ap (λ cs. flat_map copies_of (posted script all) ++ cs) (map_twice packet copy_of ways)
-          ∙ ap (λ (f : Fate). flat_map copies_of (posted script all) ++ map (λ way. copy_of (packet way)) (ways_in f)) fate
+          ∙ ap (λ (f : Fate). flat_map copies_of (posted script all) ++ map (λ way. copy_of (packet way))
+          (ways_in f)) fate
           ∙ sym (flat_one_more copies_of (posted script all) last)
           ∙ ap (flat_map copies_of) (sym more);
       due = ap (λ ds. ds ++ due_by (next_fate net m) m) a.due
@@ -178,10 +187,15 @@ after_messages : (script : Script) (rooms : List ServerId) (ms all : List Messag
 after_messages script rooms [] all net a =
     (subst (λ es. After script rooms es net) (sym (append_none all)) a, refl)
 after_messages script rooms (m ∷ ms) all net a =
-    let rest = after_messages script rooms ms (all ++ m ∷ []) (with_message net m) (after_message script rooms all net m a) in
-    (subst (λ es. After script rooms es (with_messages (with_message net m) ms)) (append_assoc all (m ∷ []) ms) rest.0, rest.1)
+    let rest = after_messages script rooms ms (all ++ m ∷ []) (with_message net m)
+    (after_message script rooms all net m a) in (
+      subst (λ es. After script rooms es (with_messages (with_message net m) ms)) (append_assoc all (m ∷ []) ms)
+          rest.0,
+      rest.1,
+    )
 
-after_step : (script : Script) (rooms : List ServerId) (all sent : List Message) (net : Network) → After script rooms all net
+after_step : (script : Script) (rooms : List ServerId) (all sent : List Message) (net : Network) → After script rooms
+    all net
     → After script rooms (all ++ sent) (with_step net sent) × ((with_step net sent).steps ≡ net.steps + 1)
 after_step script rooms all sent net a =
     after_messages script rooms sent all (record net { steps = net.steps + 1 })
@@ -191,15 +205,19 @@ after_step script rooms all sent net a =
       due = a.due;
     })
 
-after_steps : (script : Script) (rooms : List ServerId) (steps : List (List Message)) (all : List Message) (net : Network)
+after_steps : (script : Script) (rooms : List ServerId) (steps : List (List Message)) (all : List Message)
+    (net : Network)
     → After script rooms all net → After script rooms (all ++ all_sent steps) (with_steps net steps)
     × ((with_steps net steps).steps ≡ net.steps + length steps)
-after_steps script rooms [] all net a =
-    (subst (λ es. After script rooms es net) (sym (append_none all)) a, (let e : net.steps ≡ net.steps + 0 = omega arith in e))
+after_steps script rooms [] all net a = (
+  subst (λ es. After script rooms es net) (sym (append_none all)) a,
+  (let e : net.steps ≡ net.steps + 0 = omega arith in e),
+)
 after_steps script rooms (sent ∷ steps) all net a =
     let one = after_step script rooms all sent net a in
     let rest = after_steps script rooms steps (all ++ sent) (with_step net sent) one.0 in (
-      subst (λ es. After script rooms es (with_steps (with_step net sent) steps)) (append_assoc all sent (all_sent steps)) rest.0,
+      subst (λ es. After script rooms es (with_steps (with_step net sent) steps))
+          (append_assoc all sent (all_sent steps)) rest.0,
       rest.1 ∙ ap (λ n. n + length steps) one.1
           ∙ (let e : net.steps + 1 + length steps ≡ net.steps + suc (length steps) = omega arith in e),
     )
@@ -209,7 +227,8 @@ first_after script rooms = record {
   stands = record {
     nets = refl;
     lines = map_same lacking_first (lacking_after [])
-        (λ line. let e : line.n ≡ line.n - 0 = omega arith in ap (λ c. record { line = line; lacking = c }) e) script.plan;
+        (λ line. let e : line.n ≡ line.n - 0 = omega arith in ap (λ c. record { line = line; lacking = c }) e)
+        script.plan;
     drawn = refl;
     rest = refl;
   };

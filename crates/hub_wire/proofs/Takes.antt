@@ -1,5 +1,6 @@
 -- What is taken is the first that may arrive.
-use Rattle.std.proofs.Common.{◌≡◌, ℕ, suc, ◌+◌, ◌≤◌, ◌<◌, Bool, true, false, not, cond, List, [], ◌∷◌, ◌++◌, length, get_or, All, Option, Some, None, nat_lt, refl, ap, subst, ◌∙◌, arith, rules}
+use Rattle.std.proofs.Common.{◌≡◌, ℕ, suc, ◌+◌, ◌≤◌, ◌<◌, Bool, true, false, not, cond, List, [], ◌∷◌, ◌++◌, length}
+use Rattle.std.proofs.Common.{get_or, All, Option, Some, None, is_some, nat_lt, refl, ap, subst, ◌∙◌, arith, rules}
 use Rattle.std.specs.List.{find, position, prefix_len, remove}
 use Rattle.std.specs.Option.{option_map, option_map_or}
 use Rattle.std.proofs.lemmas.Bool.{cases_Bool, ltb-true, ltb-false, lt-ltb, le-ltb}
@@ -22,6 +23,10 @@ found_there p (y ∷ ys) x lt e = grind (arith, common_steps, cases_Bool (p y), 
 pub none_there : {X : Type 0} (p : X → Bool) (xs : List X) → length xs ≤ place p xs → None ≡ find p xs
 none_there p [] h = refl
 none_there p (y ∷ ys) h = grind (arith, common_steps, cases_Bool (p y), none_there p ys)
+
+pub some_there : {X : Type 0} (p : X → Bool) (xs : List X) → place p xs < length xs → true ≡ is_some (find p xs)
+some_there p [] lt = absurd (omega (arith, lt))
+some_there p (y ∷ ys) lt = grind (arith, common_steps, cases_Bool (p y), some_there p ys)
 
 module _ {X : Type 0} (p : X → Bool) (xs : List X) where
   -- where the place is known
@@ -92,7 +97,8 @@ split_first p y ys x h same = record {
   left = left_first p y ys h;
 }
 
-split_later : {X : Type 0} (p : X → Bool) (y : X) (ys : List X) (x : X) → p y ≡ false → Split p ys x → Split p (y ∷ ys) x
+split_later : {X : Type 0} (p : X → Bool) (y : X) (ys : List X) (x : X) → p y ≡ false → Split p ys x → Split p
+    (y ∷ ys) x
 split_later p y ys x h rest = record {
   earlier = y ∷ rest.earlier;
   later = rest.later;
@@ -134,7 +140,8 @@ all_stay p [] e = refl
 all_stay p (y ∷ ys) e = stay_either p y ys (p y) refl (all_stay p ys) e
 
 -- what a mapped option comes from
-mapped_from : {X Y : Type 0} (f : X → Y) (o : Option X) (y : Y) → option_map f o ≡ Some y → (x : X) × (o ≡ Some x) × (f x ≡ y)
+mapped_from : {X Y : Type 0} (f : X → Y) (o : Option X) (y : Y) → option_map f o ≡ Some y → (x : X) × (o ≡ Some x)
+    × (f x ≡ y)
 mapped_from f None y e = absurd (cc)
 mapped_from f (Some x) y e = (x, refl, (let same : f x ≡ y = cc in same))
 
@@ -160,6 +167,9 @@ takes_first net node =
             left = split.left;
           }),
       (λ e.
-          let none = mapped_none message (find p net.packets) e in
-          (none_passes p net.packets none, ap (λ (ps : List Packet). record net { packets = ps }) (all_stay p net.packets none))),
+          let none = mapped_none message (find p net.packets) e in (
+            none_passes p net.packets none,
+            ap (λ (ps : List Packet). record net { packets = ps })
+                (all_stay p net.packets none),
+          )),
     )

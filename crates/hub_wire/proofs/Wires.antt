@@ -10,13 +10,16 @@ use Rattle.run_rules.specs.Plans.{all_left}
 use Rattle.run_rules.specs.declared.fate.Left.{Left}
 use Rattle.hub_wire.specs.Networks.{Wired, both, fresh, with_flag as flagged, with_lines}
 use Rattle.hub_wire.specs.Packets.{raised_packet}
-use Rattle.hub_wire.specs.Plans.{accepted, counted_lines, forgotten, passed, ready_lines, waiting_at, with_flag, with_message}
+use Rattle.hub_wire.specs.Plans.{accepted, counted_lines, forgotten, passed, ready_lines, waiting_at, with_flag}
+use Rattle.hub_wire.specs.Plans.{with_message}
 use Rattle.hub_wire.specs.Views.{counted_network, ready_network}
 use Rattle.hub_wire.specs.declared.packet.Packet.{Packet}
 use Rattle.hub_wire.specs.declared.plan.Waiting.{Waiting}
 use Rattle.hub_wire.specs.declared.wire.Count.{Count}
 use Rattle.hub_wire.specs.declared.wire.Wire.TheInside.{Inside}
-use Rattle.hub_wire.proofs.Lines.{counted_accepted, counted_forgotten, counted_passed, counted_raised, counted_start, ready_accepted, ready_forgotten, ready_passed, ready_raised, ready_start, take_mapped}
+use Rattle.hub_wire.proofs.Lines.{counted_accepted, counted_forgotten, counted_passed, counted_raised, counted_start}
+use Rattle.hub_wire.proofs.Lines.{ready_accepted, ready_forgotten, ready_passed, ready_raised, ready_start}
+use Rattle.hub_wire.proofs.Lines.{take_mapped}
 
 abbrev pub wired : Inside → Wired
 wired w = record { counted = counted_network w; ready = ready_network w }
@@ -65,7 +68,8 @@ forget_view w lines packets due wire e f g view =
     } in
     same ∙ ap (λ (v : Wired). record { counted = v.counted; ready = v.counted }) view
 
-pub passed_view : (w : Inside) (lines : List Waiting) (m : Message) (wire : Wired) → lines ≡ map (with_message m) w.lines
+pub passed_view : (w : Inside) (lines : List Waiting) (m : Message) (wire : Wired) → lines ≡ map (with_message m)
+    w.lines
     → wired w ≡ wire
     → wired (record w { lines = lines }) ≡ record { counted = wire.counted; ready = with_lines (passed m) wire.ready }
 passed_view w lines m wire e view =
@@ -94,7 +98,8 @@ raised_view w lines packets flag wire e f view =
     } in
     same ∙ ap (both (flagged flag)) view
 
-pub new_view : (script : Script) (rooms : List ServerId) (lines : List Waiting) (packets : List Packet) (due : List Node)
+pub new_view : (script : Script) (rooms : List ServerId) (lines : List Waiting) (packets : List Packet)
+    (due : List Node)
     (left : Left) (n : ℕ) → lines ≡ map waiting_at script.plan → packets ≡ [] → due ≡ map Server rooms
     → left ≡ all_left script.net → n ≡ length due
     → (let count : Count = record { drawn = 0; left = left; steps = 0 } in

@@ -135,6 +135,14 @@ impl Wire {
         raise_packets(&mut self.packets, flag);
     }
 
+    /// Whether there is a copy for a node that may arrive.
+    pub fn has_copy(&self, node: Node) -> bool
+        requires { self.now.ready ≡ self.now.counted }
+        ensures { result ≡ is_some (next_copy self.now.counted node) }
+    {
+        place_of_next(self.packets.as_slice(), self.counted.steps, node).is_some()
+    }
+
     /// Gives the message of the earliest copy for a node that may arrive, and that copy is on its way no longer. It
     /// answers None exactly where there is none, and then nothing changes. No step may be made ready and not counted.
     /// It takes no memory.
@@ -147,6 +155,14 @@ impl Wire {
         let packet = self.packets.remove(place);
         self.packets_counted = self.packets.len();
         Some(packet.message)
+    }
+
+    /// Whether a lapse is due to a node.
+    pub fn has_lapse(&self, node: Node) -> bool
+        requires { self.now.ready ≡ self.now.counted }
+        ensures { result ≡ is_some (lapse_place self.now.counted node) }
+    {
+        place_of_due(self.due.as_slice(), node).is_some()
     }
 
     /// Takes one lapse that is due to a node, which is due no longer. It answers false exactly where none is due to it,

@@ -109,19 +109,17 @@ fn joined(spans: &[Span], span: Span, alloc: Global) -> Result<Items<Span>, NoMe
     ensures apart { IfOk result IsApart }
     ensures positions { IfOk result (Joins spans.now span) }
 {
-    let mut done = Items::new(alloc);
+    let front = spans.partition_point(|next| next.to < span.from);
     let mut merged = span;
-    for next in spans {
-        if next.to < merged.from {
-            done.push(*next)?;
-        } else if merged.to < next.from {
-            done.push(merged)?;
-            merged = *next;
-        } else {
-            merged = around(merged, *next);
-        }
+    let mut end = front;
+    while end < spans.len() && spans[end].from <= merged.to {
+        merged = around(merged, spans[end]);
+        end += 1;
     }
+    let mut done = Items::from_vec(Vec::with_capacity(alloc, spans.len().saturating_add(1))?);
+    done.extend(&spans[..front])?;
     done.push(merged)?;
+    done.extend(&spans[end..])?;
     Ok(done)
 }
 

@@ -8,7 +8,8 @@ use Rattle.hub_board.proofs.follower.place_of.Goals as goal
 
 pub returns-in-Some : goal.returns-in-Some
 returns-in-Some c =
-    (at_place (λ (f : Follow). same_node f.node c.args.node) c.args.follows.now c.in-Some.place (sym c.in-Some.ensures)).1
+    (at_place (λ (f : Follow). same_node f.node c.args.node) c.args.follows.now c.in-Some.place
+    (sym c.in-Some.ensures)).1
 
 pub returns-in-None : goal.returns-in-None
 returns-in-None c =

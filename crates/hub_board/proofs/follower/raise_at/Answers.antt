@@ -10,11 +10,13 @@ loop-place-preserved c =
     record {
       same = ap (map (mark_raised c.args.flag.now)) c.raise_mark.ensures
           ∙ raises_same c.args.flag.now c.loop-place.marks c.args.marks.now _ c.loop-place.invariant.same;
-      left = λ q m got. raises_next c.args.flag.now c.loop-place.marks c.args.places.now i _ w c.loop-place.invariant.left q m
+      left = λ q m got. raises_next c.args.flag.now c.loop-place.marks c.args.places.now i _ w
+          c.loop-place.invariant.left q m
           (ap (λ ms. slice_get ms q) (sym c.raise_mark.ensures) ∙ got);
     }
 
 pub returns : goal.returns
 returns c =
-    raises_done c.args.flag.now c.loop-place.marks c.args.marks.now c.args.places.now c.loop-place.place-index (omega arith)
+    raises_done c.args.flag.now c.loop-place.marks c.args.marks.now c.args.places.now c.loop-place.place-index
+    (omega arith)
     c.loop-place.invariant.same c.loop-place.invariant.left

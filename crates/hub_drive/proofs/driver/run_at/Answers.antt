@@ -66,6 +66,9 @@ stop-requires-clause-rest g c = λ w is.
 pub returns-then-went-clause-so_far : goal.returns-then-went-clause-so_far
 returns-then-went-clause-so_far g c = none_some c.finish.result.so_far _ c.finish.ensures.none
 
+pub returns-then-went-clause-left : goal.returns-then-went-clause-left
+returns-then-went-clause-left g c = none_some c.finish.result.so_far _ c.finish.ensures.none
+
 pub returns-then-went-clause-lacks : goal.returns-then-went-clause-lacks
 returns-then-went-clause-lacks g c =
     if_err c.finish.result.result _ _ (λ fault free none. is_memory fault free) c.finish.ensures.failed

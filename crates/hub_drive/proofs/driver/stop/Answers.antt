@@ -1,6 +1,6 @@
 use Rattle.std.proofs.Common.{◌≡◌, ◌∙◌, sym}
 use Rattle.hub_drive.specs.declared.driver.DriveFault.TheVariants.{Stuck}
-use Rattle.hub_drive.proofs.Driving.{close_ready, rests_by, seats_count, stopped_by}
+use Rattle.hub_drive.proofs.Driving.{close_ready, left_by, rests_by, seats_count, stopped_by}
 use Rattle.hub_drive.proofs.driver.stop.Goals as goal
 
 pub journal_of-requires : goal.journal_of-requires
@@ -15,6 +15,13 @@ returns-in-Ok-clause-so_far g c =
     c.args.start c.args.epochs c.requires.can c.args.hub c.requires.hub c.args.seats.items c.requires.are
     c.requires.stood c.unseat.new.nodes.items c.unseat.new.passes.items c.unseat.ensures.nodes
     c.unseat.ensures.passes c.in-Ok.journal c.in-Ok.ensures
+
+pub returns-in-Ok-clause-left : goal.returns-in-Ok-clause-left
+returns-in-Ok-clause-left g c =
+    left_by g.N.Node.tells g.N.Node.stands g.N.Node.stays g.N.Node.failed g.met.N.Node.hands_in c.args.script.now
+    c.args.start c.args.epochs c.requires.can c.args.hub c.requires.hub c.args.seats.items c.requires.are
+    c.requires.stood c.unseat.new.nodes.items c.unseat.new.passes.items c.unseat.ensures.nodes
+    c.unseat.ensures.passes c.in-Ok.journal c.in-Ok.ensures c.unseat.new.left.items c.unseat.ensures.left
 
 pub returns-in-Ok-clause-stuck : goal.returns-in-Ok-clause-stuck
 returns-in-Ok-clause-stuck g c = λ w e.

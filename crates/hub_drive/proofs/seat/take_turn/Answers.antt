@@ -1,7 +1,9 @@
-use Rattle.std.proofs.Common.{Ok, ap, refl, ◌∙◌, ◌∷◌}
+use Rattle.std.proofs.Common.{◌≡◌, Ok, ap, refl, subst, sym, ◌∙◌, ◌∷◌}
+use Rattle.hub_board.specs.Pendings.{Waiting}
 use Rattle.hub_board.specs.declared.given.Turned.TheVariants.{Ended as HasEnded}
 use Rattle.hub_laws.specs.Keeping.{Round}
 use Rattle.hub_node.specs.Nodes.{part_of}
+use Rattle.hub_drive.specs.Seats.{HasStood}
 use Rattle.hub_drive.specs.declared.seat.Seat.{Seat}
 use Rattle.hub_drive.proofs.Turning.{at_ok, came_by, given_to, if_at, if_both, is_idle, on_ok, rests_on, seated_on}
 use Rattle.hub_drive.proofs.Turning.{sends_sound, stood_on, stood_still, through_on}
@@ -89,7 +91,7 @@ returns-clause-held g c = λ run seated stood.
     let round : Round = record { steps = c.args.seat.now.steps.steps; given = c.in-Ok.given } in
     stood_on g.N.Node.tells g.N.Node.stands g.met.N.Node.hands_in c.args.hub.now c.args.seat.now run seated
     c.turn.new.pass c.in-Ok.given c.in-Ok.ensures.ok c.in-Ok.ensures.sound g.N.Node.stays g.N.Node.failed
-    c.work.new.self
+    c.work.new.self c.work.new.steps.steps
     (came_by g.N.Node.stands g.N.Node.stays g.N.Node.failed (part_of run c.args.seat.now.pass.node)
     (round ∷ seated.rounds) c.work.new.steps.steps c.args.seat.now.node c.work.new.self c.work.result
     (c.work.ensures.works (part_of run c.args.seat.now.pass.node) seated.rounds c.args.seat.now.steps.steps seated.stood
@@ -98,5 +100,9 @@ returns-clause-held g c = λ run seated stood.
 
 pub returns-in_default-clause-held : goal.returns-in_default-clause-held
 returns-in_default-clause-held g c = λ run seated stood.
-    stood_still g.N.Node.stands g.N.Node.stays g.N.Node.failed run c.args.hub.now c.args.seat.now.pass c.turn.new.pass
-    c.args.seat.now.node stood c.in_default.ensures.err
+    let kept : c.turn.new.steps.steps ≡ c.args.seat.now.steps.steps =
+    ap (λ (w : Waiting). w.steps) c.in_default.ensures.kept in
+    subst (HasStood g.N.Node.stands g.N.Node.stays g.N.Node.failed run c.args.hub.now c.turn.new.pass
+    c.args.seat.now.node) (sym kept)
+    (stood_still g.N.Node.stands g.N.Node.stays g.N.Node.failed run c.args.hub.now c.args.seat.now.pass c.turn.new.pass
+    c.args.seat.now.node c.args.seat.now.steps.steps stood c.in_default.ensures.err)

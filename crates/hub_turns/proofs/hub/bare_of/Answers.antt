@@ -13,7 +13,8 @@ loop-pass-preserved c =
       tt,
       tt,
       subst (AreBare (c.loop-pass.yielded ++ c.in-Some.pass ∷ [])) (sym c.push_reserved.ensures.items)
-          (bare_more c.loop-pass.yielded c.loop-pass.bare.items c.in-Some.pass c.into_pass.result i.2 c.into_pass.ensures),
+          (bare_more c.loop-pass.yielded c.loop-pass.bare.items c.in-Some.pass c.into_pass.result i.2
+          c.into_pass.ensures),
       c.push_reserved.ensures.capacity ∙ i.3,
       omega arith,
     )

@@ -8,7 +8,8 @@ loop-next-preserved c =
     rw c.max-at.ensures (finds_gap _ _ _ _ _ c.next-item.result _
     (rw c.min.ensures at c.in_ok-push_between.ensures.apart)
     (rw c.min.ensures at c.in_ok-push_between.ensures.positions)
-    (rw (next_of c.args.spans.now c.next-item.result c.loop-next.next-index c.loop-next-test.true c.next-item.is) at c.loop-next.invariant))
+    (rw (next_of c.args.spans.now c.next-item.result c.loop-next.next-index c.loop-next-test.true c.next-item.is) at
+    c.loop-next.invariant))
 
 pub returns : goal.returns
 returns c =

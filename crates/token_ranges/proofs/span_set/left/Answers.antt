@@ -9,4 +9,5 @@ loop-next-preserved c =
     (rw c.min.ensures at c.in_ok-push_between.ensures.positions)
     (rw c.max.ensures at c.in_ok-push_between-2.ensures.apart)
     (rw c.max.ensures at c.in_ok-push_between-2.ensures.positions)
-    (rw (next_of c.args.spans.now c.next-item.result c.loop-next.next-index c.loop-next-test.true c.next-item.is) at c.loop-next.invariant)
+    (rw (next_of c.args.spans.now c.next-item.result c.loop-next.next-index c.loop-next-test.true c.next-item.is) at
+    c.loop-next.invariant)

@@ -39,7 +39,8 @@ returns-then-take_lapse-clause-rest c =
     ap (λ (v : Wired). v.counted) c.take_copy.ensures.rest in
     let flag : None ≡ flag_of hub c.args.node = sym c.in_default-take_flag.is ∙ c.take_flag.ensures.flag in
     let lapse : is_some (lapse_place hub.net c.args.node) ≡ true =
-    sym (c.take_lapse.ensures.lapse ∙ ap (λ (n : Network). is_some (lapse_place n c.args.node)) net) ∙ c.if-take_lapse.true in
+    sym (c.take_lapse.ensures.lapse ∙ ap (λ (n : Network). is_some (lapse_place n c.args.node)) net)
+    ∙ c.if-take_lapse.true in
     let then : c.take_lapse.new.self.counted ≡ without_lapse c.args.node (without_copy c.args.node hub.net) =
     ap (λ (v : Wired). v.counted) c.take_lapse.ensures.rest ∙ ap (without_lapse c.args.node) net in
     give_view c.self.inside c.args.self.now c.take_lapse.new.self c.take_flag.new.follows c.args.node c.self.view_is
@@ -55,7 +56,8 @@ returns-clause-rest c =
     ap (λ (v : Wired). v.counted) c.take_copy.ensures.rest in
     let flag : None ≡ flag_of hub c.args.node = sym c.in_default-take_flag.is ∙ c.take_flag.ensures.flag in
     let lapse : is_some (lapse_place hub.net c.args.node) ≡ false =
-    sym (c.take_lapse.ensures.lapse ∙ ap (λ (n : Network). is_some (lapse_place n c.args.node)) net) ∙ c.if-take_lapse.false in
+    sym (c.take_lapse.ensures.lapse ∙ ap (λ (n : Network). is_some (lapse_place n c.args.node)) net)
+    ∙ c.if-take_lapse.false in
     let then : c.take_lapse.new.self.counted ≡ without_lapse c.args.node (without_copy c.args.node hub.net) =
     ap (λ (v : Wired). v.counted) c.take_lapse.ensures.rest ∙ ap (without_lapse c.args.node) net in
     give_view c.self.inside c.args.self.now c.take_lapse.new.self c.take_flag.new.follows c.args.node c.self.view_is

@@ -12,6 +12,8 @@ close-requires-after_bounds c κs =
 
 pub returns-clause-ok : goal.returns-clause-ok
 returns-clause-ok c =
-    ended c.args.self c.args.passes.items c.bare_of.result.items c.in-Ok.meeting.board c.into_turns.result c.bare_of.ensures
-    (subst (λ first. IsOf first c.in-Ok.meeting.board) (ap (λ (h : HubView). h.first) c.self.view_is) c.in-Ok.ensures.0.board)
+    ended c.args.self c.args.passes.items c.bare_of.result.items c.in-Ok.meeting.board c.into_turns.result
+    c.bare_of.ensures
+    (subst (λ first. IsOf first c.in-Ok.meeting.board) (ap (λ (h : HubView). h.first) c.self.view_is)
+    c.in-Ok.ensures.0.board)
     c.in-Ok.ensures.1 (c.into_turns.ensures ∙ ap (λ (m : Met). m.board.turns) c.meeting.view_is)

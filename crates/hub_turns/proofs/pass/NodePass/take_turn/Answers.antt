@@ -8,8 +8,9 @@ use Rattle.hub_turns.proofs.pass.NodePass.take_turn.Goals as goal
 pub invariant_of-self : goal.invariant_of-self
 invariant_of-self g c =
     let is = c.requires.node ∙ sym (ap (λ (v : NodeView). v.node) c.self.view_is) in
-    rests c.args.cell.now.first c.self.inside.node c.self.inside.pass c.turn.new.pass c.args.turn.now c.turn.new.work
-    is c.turn.ensures c.self.invariant
+    let held = rests c.args.cell.now.first c.self.inside.node c.self.inside.pass c.turn.new.pass c.args.turn.now
+    c.turn.new.work is c.turn.ensures (c.self.invariant.0, c.self.invariant.1) in
+    (held.0, held.1, c.self.invariant.2)
 
 pub returns : goal.returns
 returns g c =
@@ -20,7 +21,8 @@ returns g c =
       seen = c.turn.new.pass.seen;
       made = entries c.turn.new.pass.made;
     } in
-    subst (λ v. IsUsed c.args.cell.now.first.board.hub c.args.cell.now.first.roster v now c.args.turn.now c.turn.new.work) c.self.view_is
+    subst (λ v. IsUsed c.args.cell.now.first.board.hub c.args.cell.now.first.roster v now c.args.turn.now
+    c.turn.new.work) c.self.view_is
     (used c.args.cell.now.first c.self.inside.node c.self.inside.pass c.turn.new.pass c.args.turn.now
     c.turn.new.work is c.turn.ensures)
 

@@ -13,7 +13,8 @@ returns-in_err-place-clause-copy c =
 
 pub returns-clause-copy : goal.returns-clause-copy
 returns-clause-copy c =
-    copy_is c.self.inside c.args.self.now c.self.view_is c.requires c.args.node c.in_ok-place.place c.remove-packet.result
+    copy_is c.self.inside c.args.self.now c.self.view_is c.requires c.args.node c.in_ok-place.place
+    c.remove-packet.result
     (ap (λ ps. position (is_next ps c.self.inside.counted.steps c.args.node) ps) (sym c.as_slice.ensures)
     ∙ sym c.in_ok-place.ensures)
     c.remove-packet.ensures.value

@@ -12,6 +12,10 @@ returns-else-is_empty c =
     let spans : List Span = c.args.self.now in
     let differ : c.args.span.from ≡ c.args.span.to → ⊥ = λ same. false≢true (c.if-is_empty.ensures.1 same) in
     let filled : c.args.span.from < c.args.span.to = omega (arith, c.args.span.ordered) in
-    let e : c.has_around.result ≡ list_any (is_around c.args.span) spans = c.has_around.ensures ∙ ap (list_any (is_around c.args.span)) (c.as_slice.ensures ∙ c.self.view_is) in
-    let apart : IsApart spans = subst IsApart c.self.view_is c.self.invariant in
-    (λ h. one_has_all c.args.span spans (sym e ∙ h), λ all. e ∙ all_in_one 0 (FILE_BYTES_MAX + 1) c.args.span spans filled apart all)
+    let e : c.has_around.result ≡ list_any (is_around c.args.span) spans = c.has_around.ensures ∙ ap
+    (list_any (is_around c.args.span)) (c.as_slice.ensures ∙ c.self.view_is) in
+    let apart : IsApart spans = subst IsApart c.self.view_is c.self.invariant in (
+      λ h. one_has_all c.args.span spans (sym e ∙ h),
+      λ all. e ∙ all_in_one 0 (FILE_BYTES_MAX + 1) c.args.span spans
+          filled apart all,
+    )
