@@ -1,25 +1,31 @@
 -- What comes of hosts and servers that were driven to their end, or came to none.
-use Rattle.std.proofs.Common.{◌≡◌, ℕ, zero, suc, ◌+◌, ◌<◌, List, [], ◌∷◌, Some, map, length, get_or, slice_get, refl}
-use Rattle.std.proofs.Common.{sym, ap, ◌∙◌, subst, arith, Ok, Err, Result}
+use Rattle.std.proofs.Common.{◌≡◌, ◌⊎◌, ⊎_elim, inl, inr, ℕ, zero, suc, ◌+◌, ◌<◌, List, [], ◌∷◌, Some, map, length}
+use Rattle.std.proofs.Common.{get_or, slice_get, refl, sym, ap, ◌∙◌, subst, arith, Ok, Err, Result}
 use Rattle.std.specs.Prelude.{IfErr, IfSome, None, Option}
 use Rattle.base_types.specs.declared.ids.Node.{Node}
+use Rattle.base_types.specs.declared.ids.Node.TheVariants.{Server as OfServer}
+use Rattle.base_types.specs.declared.ids.ServerId.{ServerId}
 use Rattle.tree_answers.specs.declared.tree.Tree.{Tree}
 use Rattle.script_lines.specs.declared.script.Script.{Script}
 use Rattle.store_laws.specs.TreeKeeping.{KeepsOf}
 use Rattle.store_memory.specs.Views.{View}
 use Rattle.run_rules.specs.Kept.{filesets_kept}
+use Rattle.run_rules.specs.Past.{Always, appended}
 use Rattle.run_rules.specs.declared.journal.Journal.{Journal}
 use Rattle.run_rules.specs.declared.step.Step.{Step}
 use Rattle.run_promises.proofs.Promising.{tree_is}
 use Rattle.run_promises.specs.Promises.{HasRun, last_tree}
-use Rattle.hub_drive.specs.Driving.{HasDriven, HasStopped, StandAfter, StandsAfter, beginning}
+use Rattle.hub_drive.specs.Driving.{HasDriven, HasStoodAfter, HasStopped, StandAfter, StandsAfter, beginning}
+use Rattle.hub_board.specs.Hubs.{nodes_of}
 use Rattle.hub_node.specs.Either.{stands_any}
-use Rattle.hub_node.specs.declared.either.AnyNode.TheVariants.{Server}
+use Rattle.hub_node.specs.declared.either.AnyNode.TheVariants.{Host, Server}
 use Rattle.host_node.specs.Standing.{Stands as HostStands}
 use Rattle.server_node.proofs.Serving.{keeps_at_end, ready_at}
-use Rattle.server_node.specs.Standing.{Stands as ServerStands}
+use Rattle.server_node.specs.Standing.{HasCome, HasServed, Stands as ServerStands}
+use Rattle.store_state.specs.declared.state.StoreState.{StoreState}
 use Rattle.server_node.specs.declared.server.ServerNode.{ServerNode}
-use Rattle.service_hosts.specs.Hosting.{AreKeeping, HasHosted, HasHostedSoFar, KeepSoFar, epochs_of, kept_so_far}
+use Rattle.service_hosts.specs.Hosting.{AreKeeping, HasComeFrom, HasHosted, HasHostedSoFar, HasKept}
+use Rattle.service_hosts.specs.Hosting.{KeepSoFar, KeepsMore, epochs_of, kept_so_far, own_in}
 use Rattle.service_hosts.specs.Hosting.{stopped_by}
 use Rattle.service_hosts.specs.Nodes.{AreOver, NodeOf}
 use Rattle.service_hosts.specs.declared.running.HostsStopped.{HostsStopped}
@@ -27,11 +33,15 @@ use Rattle.service_hosts.specs.declared.running.HostsStopped.TheVariants.{Memory
 use Rattle.hub_drive.specs.declared.driver.DriveFault.{DriveFault}
 use Rattle.hub_drive.specs.declared.driver.DriveFault.TheVariants as drive
 use Rattle.hub_drive.specs.declared.driver.Waiting.{Waiting}
-use Rattle.hub_node.specs.Nodes.{part_of}
+use Rattle.hub_node.specs.Nodes.{OwnMeets, part_of}
 use Rattle.hub_node.specs.declared.node.NodeFault.{NodeFault}
+use Rattle.service_hosts.proofs.Driven.{FailedSo, StaysSo}
 use Rattle.service_hosts.proofs.Laid.{map_long, server_at_place}
 use Rattle.service_hosts.proofs.Paired.{store_of}
 use Rattle.service_hosts.proofs.Places.{server_at, server_place}
+
+come_none : (state : StoreState) → HasCome state state
+come_none state = record { acts = []; each = tt; running = tt; server = refl; roster = refl; state = refl }
 
 module _ {S : Type 0} (tells : Type 0) (view : S → View) (script : Script) (start : Tree) (epochs : List ℕ)
     (servers : script.servers ≡ length script.roster.capacity) (news : List (NodeOf S)) (journal : Journal) where
@@ -57,33 +67,41 @@ module _ {S : Type 0} (tells : Type 0) (view : S → View) (script : Script) (st
       let lt = r.within in
       record { node = r.node; here = r.here; is = r.is; within = omega (arith, lt) })
 
-  module _ (stand : StandAfter (stands_any HostStands (ServerStands tells view)) (beginning script start epochs) journal
-      news) where
-    stands_at : (stores : List S) (over : AreOver news (length script.roster.hosts + 1) stores) (k : ℕ)
-        (b : ServerNode S) → slice_get over.servers k ≡ Some b → k < script.servers → StandsSo k b
-    stands_at stores over k b here lt =
+  -- what holds of each node at its place holds of each server
+  module _ (Q : Node → NodeOf S → Type 0) (all : (i : ℕ) (n : NodeOf S) (node : Node) → i < length news
+      → Q (get_or (nodes_of script) i node) (get_or news i n)) where
+    server_so : (stores : List S) (over : AreOver news (length script.roster.hosts + 1) stores) (k : ℕ)
+        (b : ServerNode S) → slice_get over.servers k ≡ Some b → k < script.servers → Q (server_at (k + 1)) (Server b)
+    server_so stores over k b here lt =
         (let place = (length script.roster.hosts + 1) + k in
         let found = server_at_place news (length script.roster.hosts + 1) stores over k b here in
-        subst (λ (n : NodeOf S). StandsAfter (stands_any HostStands (ServerStands tells view))
-        (beginning script start epochs)
-        journal (server_at (k + 1)) n) (found.1 (Server b))
-        (subst (λ (n : Node). StandsAfter (stands_any HostStands (ServerStands tells view))
-        (beginning script start epochs)
-        journal n (get_or news place (Server b))) (server_place script k place (server_at 1) lt refl)
-        (stand place (Server b) (server_at 1) found.0)))
+        subst (λ (n : NodeOf S). Q (server_at (k + 1)) n) (found.1 (Server b))
+        (subst (λ (n : Node). Q n (get_or news place (Server b))) (server_place script k place (server_at 1) lt refl)
+        (all place (Server b) (server_at 1) found.0)))
 
-    -- what holds of each server's store
-    each_store : (P : ℕ → S → Type 0) → ((k : ℕ) (b : ServerNode S) → StandsSo k b → P k (store_of b))
+    -- and of its store
+    store_so : (P : ℕ → S → Type 0)
+        → ((k : ℕ) (b : ServerNode S) → Q (server_at (k + 1)) (Server b) → P k (store_of b))
         → (stores : List S) → AreOver news (length script.roster.hosts + 1) stores
         → length stores ≡ length script.roster.capacity → (k : ℕ) (store : S) → slice_get stores k ≡ Some store
         → P k store
-    each_store P h stores over count k store here =
+    store_so P h stores over count k store here =
         (let f : IsThere over.servers k store =
         found over.servers k store (ap (λ (l : List S). slice_get l k) over.over ∙ here) in
         let within = f.within in
         let many = sym (map_long store_of over.servers) ∙ ap (λ (l : List S). length l) over.over in
         let few : k < script.servers = omega (arith, within, many, count, servers) in
-        subst (P k) f.is (h k f.node (stands_at stores over k f.node f.here few)))
+        subst (P k) f.is (h k f.node (server_so stores over k f.node f.here few)))
+
+  module _ (stand : StandAfter (stands_any HostStands (ServerStands tells view)) (beginning script start epochs) journal
+      news) where
+    -- what holds of each server's store
+    each_store : (P : ℕ → S → Type 0) → ((k : ℕ) (b : ServerNode S) → StandsSo k b → P k (store_of b))
+        → (stores : List S) → AreOver news (length script.roster.hosts + 1) stores
+        → length stores ≡ length script.roster.capacity → (k : ℕ) (store : S) → slice_get stores k ≡ Some store
+        → P k store
+    each_store = store_so (StandsAfter (stands_any HostStands (ServerStands tells view)) (beginning script start epochs)
+        journal) stand
 
     ready_of : (k : ℕ) (b : ServerNode S) → StandsSo k b → (view (store_of b)).ready
     ready_of k b st =
@@ -134,20 +152,78 @@ module _ {S : Type 0} (tells : Type 0) (view : S → View) (script : Script) (st
       kept = are_keeping stores over count;
     }
 
+  -- a server has stood where its own steps in the journal brought it
+  abbrev HasStoodSo : Node → NodeOf S → Type 0
+  HasStoodSo = HasStoodAfter (stands_any HostStands (ServerStands tells view)) (StaysSo tells view)
+      (FailedSo tells view) (beginning script start epochs) journal
+
+  -- where it failed, it served till then
+  served_since : (before : NodeOf S) (b : ServerNode S)
+      → ((fault : NodeFault) × FailedSo tells view fault before (Server b))
+      → (a : ServerNode S) × (before ≡ Server a) × HasServed tells view a b
+  served_since (Host a) b h = absurd h.1
+  served_since (Server a) b h = (a, refl, h.1.served)
+
+  -- it stands there still, with some more steps
+  kept_still : tells → (k : ℕ) (b : ServerNode S) → journal.epochs ≡ epochs
+      → (st : HasStoodSo (server_at (k + 1)) (Server b)) → (more : List Step)
+      → ServerStands tells view (part_of (beginning script start epochs) (server_at (k + 1))) b st.rounds more
+      → KeepsMore script start journal (record { 0 = k + 1 }) (view (store_of b)).state
+  kept_still t k b are st more so =
+      let server : ServerId = record { 0 = k + 1 } in record {
+        more = more;
+        rules = subst (λ (e : List ℕ). Always (OwnMeets (beginning script start e) (OfServer server))
+            (appended more (own_in journal server))) (sym are)
+            (subst (λ (l : List Step). Always (OwnMeets (beginning script start epochs) (OfServer server))
+            (appended more l)) (sym st.own) (so.so.kept.meets t));
+        keeps = subst (λ (l : List Step). KeepsOf (filesets_kept start server (appended more l))
+            (view (store_of b)).state) (sym st.own) (so.so.keeps t).stands.keeps;
+      }
+
+  -- or it failed since then
+  kept_till : tells → (k : ℕ) (b : ServerNode S) → (st : HasStoodSo (server_at (k + 1)) (Server b))
+      → ((fault : NodeFault) × FailedSo tells view fault st.before (Server b))
+      → HasComeFrom (kept_so_far start journal (record { 0 = k + 1 })) (view (store_of b)).state
+  kept_till t k b st failed =
+      let run = beginning script start epochs in
+      let server : ServerId = record { 0 = k + 1 } in
+      let s = served_since st.before b failed in
+      let stood : ServerStands tells view (part_of run (OfServer server)) s.0 st.past st.handed =
+      subst (λ (n : NodeOf S).
+      stands_any HostStands (ServerStands tells view) (part_of run (OfServer server)) n st.past st.handed) s.1
+      st.stood in record {
+        kept = (view (store_of s.0)).state;
+        keeps = subst (λ (l : List Step). KeepsOf (filesets_kept start server l) (view (store_of s.0)).state)
+            (sym (st.own ∙ st.whole)) (stood.so.keeps t).stands.keeps;
+        come = s.2.went t (view (store_of s.0)).state (come_none (view (store_of s.0)).state);
+      }
+
+  kept_of : tells → journal.epochs ≡ epochs → (k : ℕ) (b : ServerNode S) → HasStoodSo (server_at (k + 1)) (Server b)
+      → HasKept script start journal (record { 0 = k + 1 }) (view (store_of b)).state
+  kept_of t are k b st = ⊎_elim
+      (λ (x : (made : List Step) × stands_any HostStands (ServerStands tells view)
+      (part_of (beginning script start epochs) (server_at (k + 1))) (Server b) st.rounds made
+      × StaysSo tells view st.before (Server b)). inl (kept_still t k b are st x.0 x.1))
+      (λ (x : (fault : NodeFault) × FailedSo tells view fault st.before (Server b)). inr (kept_till t k b st x))
+      st.since
+
   -- and where it came to no end
-  pub so_far_hosted : (stays : NodeOf S → NodeOf S → Type 0) (failed : NodeFault → NodeOf S → NodeOf S → Type 0)
-      → HasStopped (Unit {0} × tells) (stands_any HostStands (ServerStands tells view)) stays failed script start epochs
-      news journal → (stopped : HostsStopped) → ((waiting : Waiting) → stopped ≡ Stuck waiting
-      → StandAfter (stands_any HostStands (ServerStands tells view)) (beginning script start epochs) journal news)
+  pub so_far_hosted : HasStopped (Unit {0} × tells) (stands_any HostStands (ServerStands tells view))
+      (StaysSo tells view) (FailedSo tells view) script start epochs news journal → (stopped : HostsStopped)
+      → ((waiting : Waiting) → stopped ≡ Stuck waiting → StandAfter
+      (stands_any HostStands (ServerStands tells view)) (beginning script start epochs) journal news)
       → (olds stores : List S) → AreOver news (length script.roster.hosts + 1) stores
       → length stores ≡ length script.roster.capacity → (tells → epochs ≡ epochs_of view olds)
       → HasHostedSoFar tells view script start olds stores stopped journal
-  so_far_hosted stays failed d stopped rest olds stores over count are = record {
+  so_far_hosted d stopped rest olds stores over count are = record {
     starts = d.starts;
     epochs = λ t. d.epochs_are ∙ are t;
     planned = d.planned;
     run = λ t. d.run (tt, t);
     dutiful = λ t. d.dutiful (tt, t);
+    kept = λ t. store_so HasStoodSo d.stood
+        (λ k store. HasKept script start journal (record { 0 = k + 1 }) (view store).state) (kept_of t d.epochs_are)
+        stores over count;
     rested = λ waiting is. keep_so_far (rest waiting is) stores over count;
   }
 
@@ -168,23 +244,21 @@ stuck_of hosts drive.Memory w e = absurd (cc)
 -- so it is with the journal so far of nodes that were driven, by what the driver says
 pub so_far_by : {S : Type 0} (tells : Type 0) (view : S → View) (script : Script) (start : Tree) (epochs : List ℕ)
     (servers : script.servers ≡ length script.roster.capacity) (news : List (NodeOf S))
-    (stays : NodeOf S → NodeOf S → Type 0) (failed : NodeFault → NodeOf S → NodeOf S → Type 0)
     (so_far : Option Journal) (fault : DriveFault) (hosts : ℕ)
-    → IfSome so_far (HasStopped (Unit {0} × tells) (stands_any HostStands (ServerStands tells view)) stays failed script
-    start epochs news)
+    → IfSome so_far (HasStopped (Unit {0} × tells) (stands_any HostStands (ServerStands tells view))
+    (StaysSo tells view) (FailedSo tells view) script start epochs news)
     → ((w : Waiting) → fault ≡ drive.Stuck w → IfSome so_far (λ journal.
     StandAfter (stands_any HostStands (ServerStands tells view)) (beginning script start epochs) journal news))
     → (olds stores : List S) → AreOver news (length script.roster.hosts + 1) stores
     → length stores ≡ length script.roster.capacity → (tells → epochs ≡ epochs_of view olds)
     → IfSome so_far (HasHostedSoFar tells view script start olds stores (stopped_by hosts fault))
-so_far_by tells view script start epochs servers news stays failed so_far fault hosts h rest olds stores over count
-    are =
+so_far_by tells view script start epochs servers news so_far fault hosts h rest olds stores over count are =
     if_some so_far
-    (HasStopped (Unit {0} × tells) (stands_any HostStands (ServerStands tells view)) stays failed script start epochs
-    news)
+    (HasStopped (Unit {0} × tells) (stands_any HostStands (ServerStands tells view)) (StaysSo tells view)
+    (FailedSo tells view) script start epochs news)
     (HasHostedSoFar tells view script start olds stores (stopped_by hosts fault))
     (λ journal is d.
-    so_far_hosted tells view script start epochs servers news journal stays failed d (stopped_by hosts fault)
+    so_far_hosted tells view script start epochs servers news journal d (stopped_by hosts fault)
     (λ w e. some_at so_far journal
     (λ j. StandAfter (stands_any HostStands (ServerStands tells view)) (beginning script start epochs) j news) is
     (rest w (stuck_of hosts fault w e)))

@@ -1,5 +1,5 @@
 -- What comes of a script that hosts and servers run over the stores of servers.
-use Rattle.std.specs.Prelude.{List, Some, [], length, map, slice_get, slice_index_or, ℕ, ◌+◌, ◌-◌, ◌<◌, ◌∷◌, ◌≡◌}
+use Rattle.std.specs.Prelude.{List, Some, [], length, map, slice_get, slice_index_or, ℕ, ◌+◌, ◌-◌, ◌<◌, ◌∷◌, ◌≡◌, ◌⊎◌}
 use Rattle.tree_answers.specs.declared.tree.Tree.{Tree}
 use Rattle.script_lines.specs.declared.script.Script.{Script}
 use Rattle.store_laws.specs.TreeKeeping.{KeepsOf}
@@ -12,13 +12,19 @@ use Rattle.hub_drive.specs.declared.driver.Waiting.{Waiting}
 use Rattle.hub_node.specs.Either.{stands_any}
 use Rattle.host_node.specs.Standing.{Stands as HostStands}
 use Rattle.server_node.specs.Standing.{Stands as ServerStands}
+use Rattle.base_types.specs.declared.ids.Node.TheVariants.{Server}
 use Rattle.base_types.specs.declared.ids.ServerId.{ServerId}
+use Rattle.hub_node.specs.Nodes.{OwnMeets}
 use Rattle.run_rules.specs.Kept.{filesets_kept}
+use Rattle.run_rules.specs.Past.{Always, appended}
 use Rattle.run_rules.specs.Plans.{IsPlanned}
 use Rattle.run_rules.specs.Runs.{IsDutiful, IsRun, past_of}
 use Rattle.run_rules.specs.Steps.{steps_of_server}
 use Rattle.run_rules.specs.declared.journal.Journal.{Journal}
+use Rattle.run_rules.specs.declared.step.Step.{Step}
+use Rattle.server_node.specs.Standing.{HasCome}
 use Rattle.service_moves.specs.Stopping.{HasFailed}
+use Rattle.store_state.specs.declared.state.StoreState.{StoreState}
 use Rattle.run_promises.specs.Promises.{HasRun, last_tree}
 use Rattle.service_hosts.specs.Nodes.{AreOver, NodeOf, next_line}
 use Rattle.service_hosts.specs.declared.running.HostsStopped.{HostsStopped}
@@ -51,8 +57,8 @@ pub record HasHosted {S : Type 0} (tells : Type 0) (view : S → View) (script :
   pub kept : AreKeeping tells view (last_tree start journal) new
 
 -- Hosts and servers over these stores, in a run from a tree, have come to rest: in its newest round each handed in
--- nothing and was given nothing, and it has made nothing. One of them is named, with its next line: it isn't done by its
--- own steps, a server as far as the stores tell what they keep.
+-- nothing and was given nothing, and it has made nothing. One of them is named, with its next line: it isn't done by
+-- its own steps, a server as far as the stores tell what they keep.
 pub record IsStuck {S : Type 0} (tells : Type 0) (view : S → View) (script : Script) (start : Tree) (stores : List S)
     (waiting : Waiting) : Type 0 where
   pub node : waiting.node < length (nodes_of script)
@@ -71,9 +77,13 @@ IsStopped tells view script start old new (Failed server) = HasFailed view old n
 IsStopped tells view script start old new (Stuck waiting) = IsStuck tells view script start new waiting
 IsStopped tells view script start old new Memory = Unit {0}
 
+-- a server's own steps in a journal, the newest first
+abbrev pub own_in : Journal → ServerId → List Step
+own_in journal server = steps_of_server server (past_of journal)
+
 -- what a server keeps by the rules after all its steps in a journal that starts from this tree
 abbrev pub kept_so_far : Tree → Journal → ServerId → Tree
-kept_so_far start journal server = filesets_kept start server (steps_of_server server (past_of journal))
+kept_so_far start journal server = filesets_kept start server (own_in journal server)
 
 -- each store keeps what its server keeps by the rules after all its steps in a journal, and may be asked
 pub record KeepSoFar {S : Type 0} (tells : Type 0) (view : S → View) (start : Tree) (journal : Journal)
@@ -82,10 +92,32 @@ pub record KeepSoFar {S : Type 0} (tells : Type 0) (view : S → View) (start : 
   pub keeps : tells → (k : ℕ) (store : S) → slice_get stores k ≡ Some store
       → KeepsOf (kept_so_far start journal (record { 0 = k + 1 })) (view store).state
 
+-- A store keeps what its server keeps by the rules after all its steps in a journal from this tree, and some more
+-- behind them, or none, that it has made by its rules and that nobody has heard of.
+pub record KeepsMore (script : Script) (start : Tree) (journal : Journal) (server : ServerId) (state : StoreState)
+    : Type 0 where
+  pub more : List Step
+  pub rules : Always (OwnMeets (beginning script start journal.epochs) (Server server))
+      (appended more (own_in journal server))
+  pub keeps : KeepsOf (filesets_kept start server (appended more (own_in journal server))) state
+
+-- what a store keeps has come, by acts that its server may do while it runs, from what keeps a tree
+pub record HasComeFrom (tree : Tree) (state : StoreState) : Type 0 where
+  pub kept : StoreState
+  pub keeps : KeepsOf tree kept
+  pub come : HasCome kept state
+
+-- Each change that a server acknowledged in a journal from this tree is in its store: that keeps the server's steps in
+-- the journal, and perhaps some more; or, where the server failed while it made more, it has done acts of its server
+-- since it kept those.
+abbrev pub HasKept : Script → Tree → Journal → ServerId → StoreState → Type 0
+HasKept script start journal server state =
+    KeepsMore script start journal server state ⊎ HasComeFrom (kept_so_far start journal server) state
+
 -- Hosts and servers ran a script from a tree on, and came to no end: the journal so far starts from the tree, in the
 -- epochs of the stores, and keeps to the plan of the script; where the stores tell what they keep it is a run of the
--- script, in which what is due is done. Where all came to rest each store keeps what its server keeps by the rules
--- after all its steps in it.
+-- script, in which what is due is done. Each change that was acknowledged is in its store. Where all came to rest each
+-- store keeps its server's steps in the journal, and no more.
 pub record HasHostedSoFar {S : Type 0} (tells : Type 0) (view : S → View) (script : Script) (start : Tree)
     (old new : List S) (stopped : HostsStopped) (journal : Journal) : Type 0 where
   pub starts : journal.start ≡ start ∷ []
@@ -93,4 +125,6 @@ pub record HasHostedSoFar {S : Type 0} (tells : Type 0) (view : S → View) (scr
   pub planned : IsPlanned script journal
   pub run : tells → IsRun script journal
   pub dutiful : tells → IsDutiful script journal
+  pub kept : tells → (k : ℕ) (store : S) → slice_get new k ≡ Some store
+      → HasKept script start journal (record { 0 = k + 1 }) (view store).state
   pub rested : (waiting : Waiting) → stopped ≡ Stuck waiting → KeepSoFar tells view start journal new

@@ -128,6 +128,7 @@ fn drive_all<S: Store + Drop + Send, R: Threads + Wait + Sync>(
     let driven = drive(rt, alloc, script, start, epochs, nodes, workers);
     let result = driven.result;
     let so_far = driven.so_far;
+    drop(driven.left);
     let mut stores = room;
     take_stores(driven.nodes, &mut stores);
     match result {

@@ -1,7 +1,7 @@
 -- A script that ran from a tree on, by hosts and servers or on the tree alone.
 use Rattle.std.proofs.Common.{◌≡◌, ◌+◌, ◌++◌, ℕ, List, [], ◌∷◌, map, length, Some, Ok, Err, true, false, inl, inr}
 use Rattle.std.proofs.Common.{⊎_elim, refl, sym, ap, subst, ◌∙◌}
-use Rattle.std.specs.Prelude.{Result, IfErr, IfOk, slice_get, unwrap_or}
+use Rattle.std.specs.Prelude.{Result, IfErr, IfOk, IfSome, None, Option, slice_get, unwrap_or}
 use Rattle.service_hosts.proofs.Promised.{promises_are_kept}
 use Rattle.service_hosts.specs.Runs.{last_tree}
 use Rattle.run_rules.specs.Runs.{history_of}
@@ -9,7 +9,7 @@ use Rattle.run_rules.specs.declared.journal.Journal.{Journal}
 use Rattle.script_lines.specs.Sound.{IsSound}
 use Rattle.script_lines.specs.declared.script.Script.{Script}
 use Rattle.service_hosts.specs.Homes.{may_host}
-use Rattle.service_hosts.specs.Hosting.{HasHosted, IsStopped as IsHalted}
+use Rattle.service_hosts.specs.Hosting.{HasHosted, HasHostedSoFar, HasKept, IsStopped as IsHalted, kept_so_far}
 use Rattle.service_hosts.specs.declared.running.HostsStopped.{HostsStopped}
 use Rattle.service_hosts.specs.declared.running.HostsStopped.TheVariants as hosts
 use Rattle.service_moves.proofs.Doing.{steps_err, steps_none, steps_ok}
@@ -32,7 +32,8 @@ use Rattle.service_run.proofs.Lists.{mapped}
 use Rattle.service_run.proofs.Same.{asked_in, failed_in, same_in, same_self, states_in}
 use Rattle.service_run.specs.Courses.{no_tree, start_in}
 use Rattle.service_run.specs.Engine.{HasPlayed}
-use Rattle.service_run.specs.Steps.{HasRunFrom, HaveKept, IsClosedFrom, IsRunFrom, IsStoppedSo, course_of}
+use Rattle.service_run.specs.Steps.{HasRunFrom, HaveKept, HaveKeptSoFar, IsClosedFrom, IsRunFrom, IsStoppedSo}
+use Rattle.service_run.specs.Steps.{IsRestStop, IsToldStop, KeepsWhole, course_of}
 use Rattle.service_run.specs.declared.disks.Stopped.{Stopped}
 use Rattle.service_run.specs.declared.disks.Stopped.TheVariants.{Run, Stuck}
 use Rattle.service_run.specs.declared.outcome.Course.{Course}
@@ -162,6 +163,53 @@ module _ {S T : Type 0} (f : S → T) (view : T → View) where
       (λ (state : StoreState). state.epoch) (states_of view (map f stores))
   both_mapped [] = refl
   both_mapped (x ∷ stores) = ap (λ (l : List ℕ). (view (f x)).state.epoch ∷ l) (both_mapped stores)
+
+  -- what stores keep of what happened so far
+  module _ (tells : Type 0) (script : Script) (start : Tree) (olds news : List S) where
+    rested_in : (stopped : HostsStopped) (journal : Journal)
+        → HasHostedSoFar tells (λ s. view (f s)) script start olds news stopped journal → tells
+        → IsRestStop (course_of (Err stopped)) → (k : ℕ) (store : T) → slice_get (map f news) k ≡ Some store
+        → KeepsWhole (kept_so_far start journal (record { 0 = k + 1 })) (view store)
+    rested_in (hosts.Failed server) journal h told rest k store is = absurd rest
+    rested_in hosts.Memory journal h told rest k store is = absurd rest
+    rested_in (hosts.Stuck waiting) journal h told rest k store is =
+        let m = mapped f news k store is in
+        let all = h.rested waiting refl in
+        subst (λ (t : T). KeepsWhole (kept_so_far start journal (record { 0 = k + 1 })) (view t)) m.is
+        (record { ready = all.ready k m.from m.was; keeps = all.keeps told k m.from m.was })
+
+    kept_of : (stopped : HostsStopped) (journal : Journal)
+        → HasHostedSoFar tells (λ s. view (f s)) script start olds news stopped journal → tells
+        → HaveKeptSoFar view script start (map (λ (state : StoreState). state.epoch) (states_of view (map f olds)))
+        (course_of (Err stopped)) (map f news)
+    kept_of stopped journal h told = record {
+      journal = journal;
+      starts = h.starts;
+      epochs_are = h.epochs told ∙ both_mapped olds;
+      planned = h.planned;
+      run = h.run told;
+      dutiful = h.dutiful told;
+      kept = λ k store is.
+          (let m = mapped f news k store is in
+          subst (λ (t : T). HasKept script start journal (record { 0 = k + 1 }) (view t).state) m.is
+          (h.kept told k m.from m.was));
+      rested = rested_in stopped journal h told;
+    }
+
+    pub so_far_in : (result : Result Journal HostsStopped) (so_far : Option Journal)
+        → IfErr result (λ stopped. IfSome so_far
+        (HasHostedSoFar tells (λ s. view (f s)) script start olds news stopped))
+        → IfErr result (λ stopped. so_far ≡ None → stopped ≡ hosts.Memory) → tells → IsToldStop (course_of result)
+        → HaveKeptSoFar view script start (map (λ (state : StoreState). state.epoch) (states_of view (map f olds)))
+        (course_of result) (map f news)
+    so_far_in (Ok journal) so_far h lacks told stop = absurd stop
+    so_far_in (Err hosts.Memory) so_far h lacks told stop = absurd stop
+    so_far_in (Err (hosts.Failed server)) None h lacks told stop = (let clash = lacks refl in absurd (cc))
+    so_far_in (Err (hosts.Failed server)) (Some journal) h lacks told stop =
+        kept_of (hosts.Failed server) journal h told
+    so_far_in (Err (hosts.Stuck waiting)) None h lacks told stop = (let clash = lacks refl in absurd (cc))
+    so_far_in (Err (hosts.Stuck waiting)) (Some journal) h lacks told stop =
+        kept_of (hosts.Stuck waiting) journal h told
 
   module _ (tells : Type 0) (hosted : List T → Type 0) (script : Script) (start : Tree) where
     pub run_hosted : (olds news : List S) (result : Result Journal HostsStopped) → IsSound script → may_host script

@@ -52,8 +52,12 @@ use Rattle.store_laws.specs.TreeKeeping.{KeepsOf}
 use Rattle.service_run.proofs.Lists.{get_map, mapped}
 use Rattle.service_run.specs.Courses.{IsTold, KeepTree}
 use Rattle.service_run.specs.Disks.{kept_at, found_at, told_at, images, AreBack, AreFound, BeginsIn, HasDone, IsKept}
-use Rattle.service_run.specs.Disks.{AreKept, AreDurable, AreStill, HasServed, IsLeftBy, IsLeftBySteps}
-use Rattle.service_run.specs.Steps.{AreAsPlaced, HasWorked, RunsIn}
+use Rattle.run_rules.specs.declared.journal.Journal.{Journal}
+use Rattle.script_lines.specs.declared.script.Script.{Script}
+use Rattle.service_hosts.specs.Hosting.{HasKept, kept_so_far}
+use Rattle.service_run.specs.Disks.{AreKept, AreDurable, AreRested, AreStill, HasServed, IsKeptSoFar, IsLeftBy}
+use Rattle.service_run.specs.Disks.{IsLeftBySteps}
+use Rattle.service_run.specs.Steps.{AreAsPlaced, HasWorked, KeepsWhole, RunsIn}
 use Rattle.service_run.specs.declared.outcome.Course.{Course}
 use Rattle.service_run.specs.declared.outcome.Course.TheVariants.{Empty, Hosted, Played}
 
@@ -468,6 +472,54 @@ module _ {D : Type 0} (tells : Type 0) (view : D → DiskView) (roster : Roster)
               (sym its ∙ keeps.roster) found;
           keeps = keeps;
         })
+
+    -- and what each keeps of what happened so far
+    pub are_kept_so_far : tells → (script : Script) → script.roster ≡ roster → (start : Tree) (journal : Journal)
+        → ((k : ℕ) (store : ServerStore D) → slice_get left k ≡ Some store
+        → HasKept script start journal (record { 0 = k + 1 }) (store_view tells view store).state)
+        → (k : ℕ) (image : List ℕ) → slice_get (images view (disks_of left)) k ≡ Some image
+        → IsKeptSoFar script start journal (k + 1) image
+    are_kept_so_far t script its start journal kept k image is =
+        (let m = mapped (λ disk. (view disk).image) (disks_of left) k image is in
+        let a = at k m.from m.was in
+        let state = kept_state view a.after in
+        record {
+          state = state;
+          found = subst (λ (r : Roster). record_in r (server_of (k + 1)) image ≡ Some state) (sym its)
+              (subst (λ (l : List ℕ). record_in roster (server_of (k + 1)) l ≡ Some state) m.is
+              (has_found t (k + 1) k olds stores left m.from a));
+          kept = kept k (Disk a.after) a.in_left;
+        })
+
+    -- and where all came to rest, no more, and durably
+    pub are_rested : tells → (start : Tree) (journal : Journal) → ((k : ℕ) (store : ServerStore D)
+        → slice_get left k ≡ Some store
+        → KeepsWhole (kept_so_far start journal (record { 0 = k + 1 })) (store_view tells view store))
+        → AreRested view start journal (disks_of left)
+    are_rested t start journal whole = record {
+      kept = kept_at;
+      durable = λ k disk c is may.
+          (let a = at k disk is in
+          let settled : IsSettled (view disk) = subst (λ (d : D). IsSettled (view d)) a.is
+          (whole k (Disk a.after) a.in_left).ready.1.settled in
+          subst (λ (l : List ℕ). IsKept (kept_so_far start journal (server_of (k + 1))) (k + 1) l)
+          (sym (settled c may)) (kept_at k disk is));
+    }
+      where
+        kept_at : (k : ℕ) (disk : D) → slice_get (disks_of left) k ≡ Some disk
+            → IsKept (kept_so_far start journal (server_of (k + 1))) (k + 1) (view disk).image
+        kept_at k disk is =
+            (let a = at k disk is in
+            let state = kept_state view a.after in
+            let keeps = (whole k (Disk a.after) a.in_left).keeps in
+            let its : state.roster ≡ roster = a.same.roster ∙ ap (λ (s : StoreState). s.roster) a.opened.opened.state
+            ∙ a.opened.roster_is in
+            record {
+              state = state;
+              found = subst (λ (r : Roster). record_in r (server_of (k + 1)) (view disk).image ≡ Some state)
+                  (sym its ∙ keeps.roster) (has_found t (k + 1) k olds stores left disk a);
+              keeps = keeps;
+            })
 
     -- a store that may be asked is on a disk of which a crash leaves what a read gives
     pub are_durable : MayBeAsked (store_view tells view) left → (tree : Tree) → AreKept tree

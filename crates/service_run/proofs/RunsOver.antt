@@ -1,5 +1,6 @@
 -- What became of the disks of a run.
-use Rattle.std.proofs.Common.{◌≡◌, ◌<◌, ◌⊎◌, ℕ, List, length, inl, inr, ⊎_elim, Ok, Err, refl, sym, ap, subst, ◌∙◌}
+use Rattle.std.proofs.Common.{◌≡◌, ◌<◌, ◌+◌, ◌⊎◌, ℕ, List, length, inl, inr, ⊎_elim, Ok, Err, Some, refl, sym, ap}
+use Rattle.std.proofs.Common.{subst, ◌∙◌}
 use Rattle.std.specs.Prelude.{Bool, true, false, slice_get, Option, Result, IfOk, OnOk, OnErr}
 use Rattle.std.proofs.lemmas.Bool.{false≢true}
 use Rattle.base_types.specs.View.{View as DiskView}
@@ -32,20 +33,22 @@ use Rattle.script_commands.specs.declared.command.Play.{Play}
 use Rattle.service_run.proofs.Lists.{get_middle}
 use Rattle.service_run.proofs.Gone.{kept_in, planned_in}
 use Rattle.service_run.proofs.Opened.{are_found, begins_in, has_done, has_left, has_served, states_in, are_kept}
+use Rattle.service_run.proofs.Opened.{are_kept_so_far, are_rested}
 use Rattle.service_run.proofs.Opened.{are_durable, are_still, are_back, is_failing, unopened_back, open_count}
 use Rattle.service_run.specs.Checks.{IsDiskRefused}
 use Rattle.service_run.specs.Courses.{IsTold, last_in, start_in}
 use Rattle.service_run.specs.Disks.{found_at, images, AreBack, BeginsIn, GoByHosts, GoBySteps, IsAggregateRefused}
-use Rattle.service_run.specs.Disks.{IsStuckTold, RanOver, IsUnfit, IsStartOf, AreStill, AreKept, AreDurable}
+use Rattle.service_run.specs.Disks.{AreRested, IsKeptSoFar, IsStuckTold, RanOver, IsUnfit, IsStartOf, AreStill, AreKept}
+use Rattle.service_run.specs.Disks.{AreDurable}
 use Rattle.service_run.specs.Lines.{no_aggregate_line, stuck_line}
-use Rattle.service_run.specs.Outcomes.{has_run, is_end_of_run, IsEmpty, IsToldSo, RanSo, RefusedSo}
+use Rattle.service_run.specs.Outcomes.{has_run, is_end_of_run, stops_told, IsEmpty, IsToldSo, RanSo, RefusedSo}
 use Rattle.service_run.specs.Steps.{AreAsPlaced, HaveGone, IsKeptBy, IsOpeningRefused, IsRunRefused, IsRunOf, IsRunOn}
-use Rattle.service_run.specs.Steps.{HaveServed, IsPlaced, IsStopRefused, IsWithoutMemory}
+use Rattle.service_run.specs.Steps.{HaveServed, IsPlaced, IsRestStop, IsStopRefused, IsToldStop, IsWithoutMemory}
 use Rattle.service_run.specs.World.{Shown}
 use Rattle.service_run.specs.declared.disks.Stopped.{Stopped}
 use Rattle.service_run.specs.declared.disks.Stopped.TheVariants.{Run, Stuck}
 use Rattle.service_run.specs.declared.outcome.Course.{Course}
-use Rattle.service_run.specs.declared.outcome.Course.TheVariants.{Played}
+use Rattle.service_run.specs.declared.outcome.Course.TheVariants.{Hosted, Played}
 use Rattle.service_run.specs.declared.outcome.Outcome.{Outcome}
 use Rattle.service_run.specs.declared.outcome.Status.{Status}
 use Rattle.service_run.specs.declared.outcome.Status.TheVariants.{Done, NoCommand, NoScript, NoInput, NoOutput}
@@ -163,7 +166,7 @@ module _ {D writes : Type 0} (tells : Type 0) (view : D → DiskView) (script : 
   -- what became of the disks, however a run ended
   abbrev Ended : List D → List D → Type 0
   Ended olds news =
-      (tells → GoBySteps view script outcome olds news ⊎ GoByHosts view script olds news)
+      (tells → GoBySteps view script outcome olds news ⊎ GoByHosts view script outcome olds news)
       ⊎ ((has_run outcome.status ≡ false) × AreUnopened tells view script.roster 1 olds news)
 
   -- a run that didn't go, by why it didn't
@@ -336,9 +339,11 @@ module _ {D writes : Type 0} (tells : Type 0) (view : D → DiskView) (script : 
       }
 
     -- or hosts and servers had begun to run it
-    hosted_so : tells → HaveServed (store_view tells view) script (length olds) stores left → GoByHosts view script
-        olds news
-    hosted_so t served = record {
+    hosted_so : (result : Result Course Stopped) → tells
+        → HaveServed (store_view tells view) script (length olds) result stores left
+        → (stops_told outcome.status ≡ true → IsToldStop result) → (outcome.status ≡ IsStuck → IsRestStop result)
+        → GoByHosts view script outcome olds news
+    hosted_so result t served stops rests = record {
       start = start_from script.roster all;
       starts = record {
         all = all;
@@ -353,38 +358,72 @@ module _ {D writes : Type 0} (tells : Type 0) (view : D → DiskView) (script : 
       each = λ k old new was is.
           has_served tells view script.roster olds stores left are placed same t k old new was
           (ap (λ (l : List D). slice_get l k) (sym closed) ∙ is) (acts_at k served.begins) (served.each k);
+      so_far = λ told_stop.
+          (let h = served.so_far (stops told_stop) in
+          record {
+            journal = h.journal;
+            starts = h.starts;
+            epochs = begins_in tells view script.roster olds stores (λ _. t) are (Hosted h.journal) h.epochs_are;
+            planned = h.planned;
+            run = h.run;
+            dutiful = h.dutiful;
+            kept = subst (λ (l : List D). (k : ℕ) (image : List ℕ) → slice_get (images view l) k ≡ Some image
+                → IsKeptSoFar script (start_from script.roster all) h.journal (k + 1) image) (sym closed)
+                (are_kept_so_far tells view script.roster olds stores left are placed same t script refl
+                (start_from script.roster all) h.journal h.kept);
+            rested = λ is. subst (λ (l : List D). AreRested view (start_from script.roster all) h.journal l)
+                (sym closed) (are_rested tells view script.roster olds stores left are placed same t
+                (start_from script.roster all) h.journal (h.rested (rests is)));
+          });
     }
 
     ended_so : (result : Result Course Stopped) → (told → HaveGone (store_view tells view) script (length olds)
-        result stores left ⊎ HaveServed (store_view tells view) script (length olds) stores left)
-        → (has_run outcome.status ≡ true → IfOk result (λ run. outcome.course ≡ run) × (OnErr result ⊥)) → Ended olds
-        news
-    ended_so result gone own =
+        result stores left ⊎ HaveServed (store_view tells view) script (length olds) result stores left)
+        → (has_run outcome.status ≡ true → IfOk result (λ run. outcome.course ≡ run) × (OnErr result ⊥))
+        → (stops_told outcome.status ≡ true → IsToldStop result) → (outcome.status ≡ IsStuck → IsRestStop result)
+        → Ended olds news
+    ended_so result gone own stops rests =
         inl (λ t. ⊎_elim (λ (steps : HaveGone (store_view tells view) script (length olds) result stores left). inl
         (goes result t steps own))
-        (λ (served : HaveServed (store_view tells view) script (length olds) stores left). inr (hosted_so t served))
+        (λ (served : HaveServed (store_view tells view) script (length olds) result stores left).
+        inr (hosted_so result t served stops rests))
         (gone (so (λ _. t))))
 
     -- where it stopped
     ended : (stopped : Stopped) (wanted : Status) → is_refusal wanted ≡ true
         → ((outcome.status ≡ wanted) ⊎ (outcome.status ≡ NoMemory))
         → (told → HaveGone (store_view tells view) script (length olds) (Err stopped) stores left
-        ⊎ HaveServed (store_view tells view) script (length olds) stores left) → Ended olds news
-    ended stopped wanted h ends gone =
+        ⊎ HaveServed (store_view tells view) script (length olds) (Err stopped) stores left)
+        → (stops_told outcome.status ≡ true → IsToldStop (Err stopped))
+        → (outcome.status ≡ IsStuck → IsRestStop (Err stopped)) → Ended olds news
+    ended stopped wanted h ends gone stops rests =
         ended_so (Err stopped) gone (λ ran. never_ran outcome.status
-        (refusal_runs_not outcome.status (refused_is outcome.status wanted h ends)) ran)
+        (refusal_runs_not outcome.status (refused_is outcome.status wanted h ends)) ran) stops rests
+
+    -- where memory ran out no such stop is told
+    starved : outcome.status ≡ NoMemory → stops_told outcome.status ≡ true → ⊥
+    starved is told_stop =
+        (let clash : stops_told NoMemory ≡ true = subst (λ (s : Status). stops_told s ≡ true) is told_stop in
+        absurd (cc))
+
+    not_stuck : (wanted : Status) → (wanted ≡ IsStuck → ⊥)
+        → ((outcome.status ≡ wanted) ⊎ (outcome.status ≡ NoMemory)) → outcome.status ≡ IsStuck → ⊥
+    not_stuck wanted other (inl e) is = other (sym e ∙ is)
+    not_stuck wanted other (inr e) is = (let clash : NoMemory ≡ IsStuck = sym e ∙ is in absurd (cc))
 
     over_halted : (stopped : RunStopped) → IsStopped told (store_view tells view) all stores left stopped
         → (told → HaveGone (store_view tells view) script (length olds) (Err (Run stopped)) stores left
-        ⊎ HaveServed (store_view tells view) script (length olds) stores left)
+        ⊎ HaveServed (store_view tells view) script (length olds) (Err (Run stopped)) stores left)
         → IsRunRefused stopped outcome before after → RanOver tells view script outcome olds news before after
     over_halted (running.Failed server) is gone r =
-        over_failed olds news server.0 back_is (ended (Run (running.Failed server)) NoDisk refl r.ends gone)
+        over_failed olds news server.0 back_is (ended (Run (running.Failed server)) NoDisk refl r.ends gone (λ s. tt)
+        (not_stuck NoDisk (λ e. cc) r.ends))
         (subst (λ (l : List D). IsFailing view olds l server.0) (sym closed)
         (is_failing tells view script.roster olds stores left server.0 are placed is)) r
     over_halted (running.Unfit disk slot) is gone r =
         over_refused olds news disk (page_start (header_number slot)) back_is
-        (ended (Run (running.Unfit disk slot)) NoAggregate refl r.ends gone)
+        (ended (Run (running.Unfit disk slot)) NoAggregate refl r.ends gone (λ s. tt)
+        (not_stuck NoAggregate (λ e. cc) r.ends))
         (inr (λ t.
         (let stop = is (so (λ _. t)) in
         let unfit = stop.0 in
@@ -401,15 +440,16 @@ module _ {D writes : Type 0} (tells : Type 0) (view : D → DiskView) (script : 
               (are_still tells view script.roster olds stores left are placed same t stop.1),
         )))) r
     over_halted running.Memory is gone r = over_starved olds news back_is
-        (ended (Run running.Memory) NoMemory refl (inr r.ends) gone) r
+        (ended (Run running.Memory) NoMemory refl (inr r.ends) gone (starved r.ends)
+        (not_stuck NoMemory (λ e. cc) (inr r.ends))) r
 
     over_waits : (place : ℕ) (next : Option ℕ) → place < length (nodes_of script)
         → (told → HaveGone (store_view tells view) script (length olds) (Err (Stuck place next)) stores left
-        ⊎ HaveServed (store_view tells view) script (length olds) stores left)
+        ⊎ HaveServed (store_view tells view) script (length olds) (Err (Stuck place next)) stores left)
         → RefusedSo IsStuck (stuck_line script place next) outcome before after → RanOver tells view script outcome
         olds news before after
     over_waits place next within gone r = over_stuck olds news place next back_is
-        (ended (Stuck place next) IsStuck refl r.ends gone) within r
+        (ended (Stuck place next) IsStuck refl r.ends gone (λ s. tt) (λ s. tt)) within r
 
     over_went : (play : Play) (run : Course) → IsRunOf told (store_view tells view) script (length olds) (Ok run)
         stores left → IsToldSo play script run outcome before after
@@ -442,9 +482,27 @@ module _ {D writes : Type 0} (tells : Type 0) (view : D → DiskView) (script : 
       failed = λ e. absurd (told_not outcome.status NoDisk so_told.ends e refl (λ q. cc));
       refused = λ e. absurd (told_not outcome.status NoAggregate so_told.ends e refl (λ q. cc));
       stuck = λ e. absurd (told_not outcome.status IsStuck so_told.ends e refl (λ q. cc));
-      goes = ended_so (Ok run) is.goes (λ ran. (so_told.own ran, tt));
+      goes = ended_so (Ok run) is.goes (λ ran. (so_told.own ran, tt)) (λ s. absurd (never_stops so_told.ends s))
+          (λ e. absurd (told_not outcome.status IsStuck so_told.ends e refl (λ q. cc)));
     }
       where
+        never_stops : (has_run outcome.status ≡ true) ⊎ (outcome.status ≡ NoMemory)
+            → stops_told outcome.status ≡ true → ⊥
+        never_stops (inl ran) s = by_status outcome.status ran s
+          where
+            by_status : (status : Status) → has_run status ≡ true → stops_told status ≡ true → ⊥
+            by_status Done r s = absurd (cc)
+            by_status NoCommand r s = absurd (cc)
+            by_status NoScript r s = absurd (cc)
+            by_status NoInput r s = absurd (cc)
+            by_status NoOutput r s = absurd (cc)
+            by_status NoDisk r s = absurd (cc)
+            by_status NoAggregate r s = absurd (cc)
+            by_status NoMemory r s = absurd (cc)
+            by_status HasFaults r s = absurd (cc)
+            by_status IsStuck r s = absurd (cc)
+        never_stops (inr is) s = starved is s
+
         kept_so : tells → AreKept (last_in run) (images view news)
         kept_so t =
             subst (λ (l : List D). AreKept (last_in run) (images view l)) (sym closed)

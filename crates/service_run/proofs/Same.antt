@@ -27,6 +27,8 @@ use Rattle.std.proofs.Math.Logic.{∥∥₁_map}
 use Rattle.service_watch.proofs.Going.{first_views}
 use Rattle.service_run.proofs.Worked.{have_served}
 use Rattle.service_run.specs.Courses.{KeepTree, last_in}
+use Rattle.service_hosts.specs.Hosting.{HasKept, kept_so_far}
+use Rattle.service_run.specs.Steps.{HaveKeptSoFar, KeepsWhole}
 use Rattle.service_run.specs.Steps.{HasRunFrom, HasRunOver, HaveGone, HaveKept, IsRunFrom, IsRunOf, IsStoppedSo}
 use Rattle.service_run.specs.Steps.{HasWorked, HaveHosted, HaveServed, RunsIn}
 use Rattle.service_run.specs.declared.disks.Stopped.{Stopped}
@@ -127,17 +129,22 @@ module _ {S : Type 0} (view : S → View) where
         → (tells → HaveBegunAnew (states_of view olds) (states_of view mids))
         → (tells → (steps : List Step) × AreBeginning (states_at view olds) steps × DoSteps {T = Tree} {E = E} view
         (Ok start) steps olds mids)
-        → IsRunFrom tells view (HaveHosted (first_views view mids) view script start) script start result mids news
+        → IsRunFrom tells view (HaveHosted (first_views view mids) view script start
+        (map (λ (state : StoreState). state.epoch) (states_of view mids)) result) script start result mids news
         → IsRunOf tells view script disks result olds news
     run_from {E = E} worn olds mids news start result are same fit tree begun steps from = record {
       same = same_trans olds mids news same from.same;
       ran = ran result from.ran;
       stopped = halted result from.stopped;
       goes = λ told.
-          ⊎_elim (λ (hosted : HaveHosted (first_views view mids) view script start news). inr (have_served view {E = E}
+          ⊎_elim (λ (hosted : HaveHosted (first_views view mids) view script start
+          (map (λ (state : StoreState). state.epoch) (states_of view mids)) result news). inr (have_served view {E = E}
           script
-          disks worn olds mids news start are same from.same (fit told)
-          (subst (λ (t : Tree). may_host script t ≡ true) (tree told) hosted.0) (steps told) hosted.1))
+          disks worn olds mids news start result are same from.same (fit told)
+          (subst (λ (t : Tree). may_host script t ≡ true) (tree told) hosted.may) (steps told) hosted.worked
+          (λ stop. subst (λ (t : Tree). HaveKeptSoFar view script t
+          (map (λ (state : StoreState). state.epoch + 1) (states_of view olds)) result news) (tree told)
+          (subst (λ (l : List ℕ). HaveKeptSoFar view script start l result news) (begun told) (hosted.so_far stop)))))
           (λ (kept : HaveKept view script start result mids news). inl (gone told kept)) (from.goes told);
     }
       where
@@ -214,9 +221,32 @@ module _ {S T : Type 0} (f : S → T) (view : T → View) where
   stopped_in tells script disks olds news (Run Memory) is = tt
   stopped_in tells script disks olds news (Stuck place next) is = is
 
+  -- what they keep of what happened so far
+  kept_in : (script : Script) (start start_is : Tree) (epochs epochs_is : List ℕ) (result : Result Course Stopped)
+      (news : List S) → start ≡ start_is → epochs ≡ epochs_is
+      → HaveKeptSoFar (λ s. view (f s)) script start epochs result news
+      → HaveKeptSoFar view script start_is epochs_is result (map f news)
+  kept_in script start start_is epochs epochs_is result news tree are h =
+      subst (λ (t : Tree). HaveKeptSoFar view script t epochs_is result (map f news)) tree (record {
+        journal = h.journal;
+        starts = h.starts;
+        epochs_are = h.epochs_are ∙ are;
+        planned = h.planned;
+        run = h.run;
+        dutiful = h.dutiful;
+        kept = λ k store is.
+            (let m = mapped f news k store is in
+            subst (λ (t : T). HasKept script start h.journal (record { 0 = k + 1 }) (view t).state) m.is
+            (h.kept k m.from m.was));
+        rested = λ rest k store is.
+            (let m = mapped f news k store is in
+            subst (λ (t : T). KeepsWhole (kept_so_far start h.journal (record { 0 = k + 1 })) (view t)) m.is
+            (h.rested rest k m.from m.was));
+      })
+
   goes_in : (script : Script) (disks : ℕ) (result : Result Course Stopped) (olds news : List S) → HaveGone
-      (λ s. view (f s)) script disks result olds news ⊎ HaveServed (λ s. view (f s)) script disks olds news
-      → HaveGone view script disks result (map f olds) (map f news) ⊎ HaveServed view script disks (map f olds)
+      (λ s. view (f s)) script disks result olds news ⊎ HaveServed (λ s. view (f s)) script disks result olds news
+      → HaveGone view script disks result (map f olds) (map f news) ⊎ HaveServed view script disks result (map f olds)
       (map f news)
   goes_in script disks result olds news (inl gone) = inl (gone_in f view script disks result olds news
       (told_in disks olds) (states_in olds) gone)
@@ -234,6 +264,13 @@ module _ {S T : Type 0} (f : S → T) (view : T → View) where
         ∥∥₁_map (served.each k m.from n.from m.was n.was) (λ worked.
         subst (λ (t : T). HasWorked acts (view before) (view t)) n.is
         (subst (λ (t : T). HasWorked acts (view t) (view (f n.from))) m.is worked)));
+    so_far = λ stop. kept_in script (start_from script.roster (told_by (λ s. view (f s)) disks olds))
+        (start_from script.roster (told_by view disks (map f olds)))
+        (map (λ (state : StoreState). state.epoch + 1) (states_of (λ s. view (f s)) olds))
+        (map (λ (state : StoreState). state.epoch + 1) (states_of view (map f olds))) result news
+        (ap (λ l. start_from script.roster l) (sym (told_in disks olds)))
+        (ap (λ (l : List StoreState). map (λ (state : StoreState). state.epoch + 1) l) (sym (states_in olds)))
+        (served.so_far stop);
   })
 
   pub run_in : (tells : Type 0) (script : Script) (disks : ℕ) (result : Result Course Stopped) (olds news : List S)

@@ -25,7 +25,11 @@ use Rattle.service_stores.specs.Starting.{told_by, start_from}
 use Rattle.std.proofs.Math.Logic.{∥∥₁_map}
 use Rattle.service_watch.proofs.Going.{first_views, gone_first, left_first, left_more, left_then, view_at}
 use Rattle.service_watch.specs.Gone.{HasGone, HaveGone as HaveWorked, IsLeftOf}
-use Rattle.service_run.specs.Steps.{HasWorked, HaveServed}
+use Rattle.service_moves.specs.Stores.{states_of}
+use Rattle.std.specs.Prelude.{Result, map}
+use Rattle.service_run.specs.Steps.{HasWorked, HaveKeptSoFar, HaveServed, IsToldStop}
+use Rattle.service_run.specs.declared.disks.Stopped.{Stopped}
+use Rattle.service_run.specs.declared.outcome.Course.{Course}
 
 -- the acts with which a store began, and those that it did then
 pub worked_on : (begins : List Act) (old mid new : View) → mid.state ≡ state_after old.state begins → IsSameStore old
@@ -97,12 +101,16 @@ module _ {S : Type 0} (view : S → View) where
       { from = b.from; was = b.was; same = b.same })
 
   pub have_served : {E : Type 0} (script : Script) (disks worn : ℕ) (olds mids news : List S) (start : Tree)
+      (result : Result Course Stopped)
       → AreStores view script.roster worn 1 mids → AreSame view olds mids → AreSame view mids news
       → misfit (told_by view disks olds) ≡ None → may_host script (start_from script.roster
       (told_by view disks olds)) ≡ true
       → (steps : List Step) × AreBeginning (states_at view olds) steps × DoSteps {T = Tree} {E = E} view (Ok start)
-      steps olds mids → HaveWorked (first_views view mids) view news → HaveServed view script disks olds news
-  have_served script disks worn olds mids news start are first then fit may began worked = record {
+      steps olds mids → HaveWorked (first_views view mids) view news
+      → (IsToldStop result → HaveKeptSoFar view script (start_from script.roster (told_by view disks olds))
+      (map (λ (state : StoreState). state.epoch + 1) (states_of view olds)) result news)
+      → HaveServed view script disks result olds news
+  have_served script disks worn olds mids news start result are first then fit may began worked so_far = record {
     fit = fit;
     may = may;
     begins = began.0;
@@ -132,6 +140,7 @@ module _ {S : Type 0} (view : S → View) where
         left
         (seen_here mids k m.from (view after) m.was
         (subst (λ (j : ℕ). HasGone (view_at view mids j) (view after)) place gone))));
+    so_far = so_far;
   }
     where
       take_nil : (n : ℕ) → take {A = Step} n [] ≡ []

@@ -10,6 +10,7 @@ use Rattle.std.specs.Prelude.{
   false,
   List,
   [],
+  ◌∷◌,
   ◌++◌,
   length,
   map,
@@ -58,15 +59,20 @@ use Rattle.script_commands.specs.declared.command.Play.{Play}
 use Rattle.service_run.specs.Checks.{IsDiskRefused}
 use Rattle.service_hosts.specs.Runs.{nodes_of}
 use Rattle.service_hosts.specs.Homes.{may_host}
+use Rattle.service_hosts.specs.Hosting.{HasKept, kept_so_far}
+use Rattle.run_rules.specs.Plans.{IsPlanned}
+use Rattle.run_rules.specs.Runs.{IsDutiful, IsRun}
+use Rattle.run_rules.specs.declared.journal.Journal.{Journal}
 use Rattle.service_run.specs.Lines.{no_aggregate_line, stuck_line}
 use Rattle.service_run.specs.Courses.{IsTold, last_in, start_in, history_in}
-use Rattle.service_run.specs.Outcomes.{has_run, has_reached}
+use Rattle.service_run.specs.Outcomes.{has_run, has_reached, stops_told}
 use Rattle.service_run.specs.Output.{Wrote}
 use Rattle.service_run.specs.Scripts.{IsRead}
 use Rattle.service_run.specs.World.{Shown, World}
 use Rattle.service_run.specs.declared.outcome.Outcome.{Outcome}
 use Rattle.service_run.specs.declared.outcome.Course.{Course}
 use Rattle.service_run.specs.declared.outcome.Course.TheVariants.{Hosted, Played}
+use Rattle.service_run.specs.declared.outcome.Status.{Status}
 use Rattle.service_run.specs.declared.outcome.Status.TheVariants.{NoDisk, NoAggregate, Stuck}
 
 -- What the store of the server of a number keeps: the one on its disk, a new one where that is blank; a new one in
@@ -198,11 +204,50 @@ pub record HasServed (roster : Roster) (server : ServerId) (begins : List Act) (
   pub done : HasDone roster server (begins ++ acts) old.image new.image
   pub leaves : LeavesOnly (IsLeftByHosts roster server (begins ++ acts) old.image) old new
 
+-- a server begins a run by hosts and servers in the epoch that its store then has, one more than it had
+abbrev pub BeginsIn : Roster → List (List ℕ) → Course → Type 0
+BeginsIn roster images (Hosted journal) = (k epoch : ℕ) (state : StoreState)
+    → slice_get journal.epochs k ≡ Some epoch → found_at roster images k ≡ Some state → epoch ≡ state.epoch + 1
+BeginsIn roster images _ = Unit {0}
+
+-- A server's disk has a record in which is each change that the server acknowledged in a journal from this tree: it
+-- keeps what the server keeps by the rules after all its steps there, and perhaps some more; or, where the server
+-- failed while it made more, it came by acts of the server from one that keeps those.
+pub record IsKeptSoFar (script : Script) (start : Tree) (journal : Journal) (number : ℕ) (image : List ℕ)
+    : Type 0 where
+  pub state : StoreState
+  pub found : record_in script.roster (server_of number) image ≡ Some state
+  pub kept : HasKept script start journal (server_of number) state
+
+-- each disk keeps what its server keeps by the rules after all its steps in a journal from this tree, and no more; and
+-- so does whatever a crash right after leaves of it
+pub record AreRested {D : Type 0} (view : D → View) (start : Tree) (journal : Journal) (disks : List D) : Type 0 where
+  pub kept : (k : ℕ) (disk : D) → slice_get disks k ≡ Some disk
+      → IsKept (kept_so_far start journal (server_of (k + 1))) (k + 1) (view disk).image
+  pub durable : (k : ℕ) (disk : D) (c : List ℕ) → slice_get disks k ≡ Some disk → (view disk).may_leave c
+      → IsKept (kept_so_far start journal (server_of (k + 1))) (k + 1) c
+
+-- A run by hosts and servers that came to no end: the journal so far starts from the tree, in the epochs that the
+-- stores then have, and keeps to the plan of the script; it is a run of the script, in which what is due is done; and
+-- each disk has what its server acknowledged in it. Where all came to rest it has no more, durably.
+pub record HasGoneSoFar {D : Type 0} (view : D → View) (script : Script) (status : Status) (start : Tree)
+    (olds news : List D) : Type 0 where
+  pub journal : Journal
+  pub starts : journal.start ≡ start ∷ []
+  pub epochs : BeginsIn script.roster (images view olds) (Hosted journal)
+  pub planned : IsPlanned script journal
+  pub run : IsRun script journal
+  pub dutiful : IsDutiful script journal
+  pub kept : (k : ℕ) (image : List ℕ) → slice_get (images view news) k ≡ Some image
+      → IsKeptSoFar script start journal (k + 1) image
+  pub rested : status ≡ Stuck → AreRested view start journal news
+
 -- What became of disks over which hosts and servers ran a script, or began to: they can from the tree that the disks
 -- held. What an earlier run left of moves was settled and finished, each server began the run, and then it did some
--- acts of its own (there are such acts, which ∥ ∥₁ says); what they come to is told where the run went to its end, by
--- the tree that the disks keep then.
-pub record GoByHosts {D : Type 0} (view : D → View) (script : Script) (olds news : List D) : Type 0 where
+-- acts of its own (there are such acts, which ∥ ∥₁ says). What they come to is told where the run went to its end, by
+-- the tree that the disks keep then; and where it came to none but for want of memory, by what happened so far.
+pub record GoByHosts {D : Type 0} (view : D → View) (script : Script) (outcome : Outcome) (olds news : List D)
+    : Type 0 where
   pub start : Tree
   pub starts : IsStartOf script.roster (images view olds) start
   pub may : may_host script start ≡ true
@@ -210,6 +255,7 @@ pub record GoByHosts {D : Type 0} (view : D → View) (script : Script) (olds ne
   pub beginning : AreBeginning (found_at script.roster (images view olds)) begins
   pub each : (k : ℕ) (old new : D) → slice_get olds k ≡ Some old → slice_get news k ≡ Some new
       → ∥ HasServed script.roster (server_of (k + 1)) (acts_at k begins) (view old) (view new) ∥₁
+  pub so_far : stops_told outcome.status ≡ true → HasGoneSoFar view script outcome.status start olds news
 
 -- there are as many disks as before, and the count of faults of none fell
 pub record AreBack {D : Type 0} (view : D → View) (old new : List D) : Type 0 where
@@ -236,12 +282,6 @@ pub record IsAggregateRefused {D writes : Type 0} (tells : Type 0) (view : D →
       ⊎ (tells → IsUnfit roster (images view old) number place × AreStill roster (images view old) (images view new))
   pub wrote : writes → Wrote (no_aggregate_line number place) before after
 
--- a server begins a run by hosts and servers in the epoch that its store then has, one more than it had
-abbrev pub BeginsIn : Roster → List (List ℕ) → Course → Type 0
-BeginsIn roster images (Hosted journal) = (k epoch : ℕ) (state : StoreState)
-    → slice_get journal.epochs k ≡ Some epoch → found_at roster images k ≡ Some state → epoch ≡ state.epoch + 1
-BeginsIn roster images _ = Unit {0}
-
 -- Hosts and servers came to no end: a node is named, with the last of its lines that went.
 pub record IsStuckTold {writes : Type 0} (script : Script) (before after : Shown writes) : Type 0 where
   pub place : ℕ
@@ -267,7 +307,7 @@ pub record RanOver {D writes : Type 0} (tells : Type 0) (view : D → View) (scr
   pub failed : outcome.status ≡ NoDisk → IsDiskRefused view old new before after
   pub refused : outcome.status ≡ NoAggregate → IsAggregateRefused tells view script.roster old new before after
   pub stuck : outcome.status ≡ Stuck → IsStuckTold script before after
-  pub goes : (tells → GoBySteps view script outcome old new ⊎ GoByHosts view script old new)
+  pub goes : (tells → GoBySteps view script outcome old new ⊎ GoByHosts view script outcome old new)
       ⊎ ((has_run outcome.status ≡ false) × AreUnopened tells view script.roster 1 old new)
 
 -- the script that was read, or generated, was to run over the disks

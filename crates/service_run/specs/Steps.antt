@@ -17,6 +17,10 @@ use Rattle.service_hosts.specs.Runs.{nodes_of}
 use Rattle.tree_answers.specs.declared.tree.Tree.{Tree}
 use Rattle.run_rules.specs.declared.journal.Journal.{Journal}
 use Rattle.service_hosts.specs.Homes.{may_host}
+use Rattle.service_hosts.specs.Hosting.{HasKept, kept_so_far}
+use Rattle.store_laws.specs.TreeKeeping.{KeepsOf}
+use Rattle.run_rules.specs.Plans.{IsPlanned}
+use Rattle.run_rules.specs.Runs.{IsDutiful, IsRun}
 use Rattle.service_hosts.specs.declared.running.HostsStopped.{HostsStopped}
 use Rattle.service_hosts.specs.declared.running.HostsStopped.TheVariants as hosts
 use Rattle.service_plain.specs.Played.{IsPlayed}
@@ -94,9 +98,44 @@ abbrev pub IsStoppedSo : {S : Type 0} → Type 0 → (S → View) → Script →
 IsStoppedSo tells view script all old new (Run stopped) = IsStopped tells view all old new stopped
 IsStoppedSo tells view script all old new (Stuck place next) = place < length (nodes_of script)
 
--- hosts and servers can run the script from this tree, and the stores did acts since they were seen so
-abbrev pub HaveHosted : {S : Type 0} → (ℕ → View) → (S → View) → Script → Tree → List S → Type 0
-HaveHosted from view script start stores = (may_host script start ≡ true) × HaveWorked from view stores
+-- whether all hosts and servers came to rest
+abbrev pub IsRestStop : Result Course Stopped → Type 0
+IsRestStop (Err (Stuck place next)) = ⊤
+IsRestStop _ = ⊥
+
+-- a store may be asked, and keeps a tree
+pub record KeepsWhole (tree : Tree) (view : View) : Type 0 where
+  pub ready : view.ready
+  pub keeps : KeepsOf tree view.state
+
+-- A run by hosts and servers came to no end: the journal so far, of which each store keeps what its server
+-- acknowledged; where all came to rest, no more.
+pub record HaveKeptSoFar {S : Type 0} (view : S → View) (script : Script) (start : Tree) (epochs : List ℕ)
+    (result : Result Course Stopped) (stores : List S) : Type 0 where
+  pub journal : Journal
+  pub starts : journal.start ≡ start ∷ []
+  pub epochs_are : journal.epochs ≡ epochs
+  pub planned : IsPlanned script journal
+  pub run : IsRun script journal
+  pub dutiful : IsDutiful script journal
+  pub kept : (k : ℕ) (store : S) → slice_get stores k ≡ Some store
+      → HasKept script start journal (record { 0 = k + 1 }) (view store).state
+  pub rested : IsRestStop result → (k : ℕ) (store : S) → slice_get stores k ≡ Some store
+      → KeepsWhole (kept_so_far start journal (record { 0 = k + 1 })) (view store)
+
+-- whether a run stopped for another cause than want of memory
+abbrev pub IsToldStop : Result Course Stopped → Type 0
+IsToldStop (Ok course) = ⊥
+IsToldStop (Err (Run running.Memory)) = ⊥
+IsToldStop (Err _) = ⊤
+
+-- hosts and servers can run the script from this tree; the stores did acts since they were seen so; and where the run
+-- came to no end, but for want of memory, each keeps what its server acknowledged
+pub record HaveHosted {S : Type 0} (from : ℕ → View) (view : S → View) (script : Script) (start : Tree)
+    (epochs : List ℕ) (result : Result Course Stopped) (stores : List S) : Type 0 where
+  pub may : may_host script start ≡ true
+  pub worked : HaveWorked from view stores
+  pub so_far : IsToldStop result → HaveKeptSoFar view script start epochs result stores
 
 -- A script ran from a tree over stores that have begun the run, or why it didn't; each is still that of its server.
 -- Either it ran on the tree alone, or this holds of the stores.
@@ -149,13 +188,16 @@ pub record HasWorked (begins : List Act) (old new : View) : Type 0 where
   pub leaves : Leaves (IsLeftOf old.state (begins ++ acts)) old new
 
 -- or hosts and servers can run it from the tree that they kept, and they began to
-pub record HaveServed {S : Type 0} (view : S → View) (script : Script) (disks : ℕ) (old new : List S) : Type 0 where
+pub record HaveServed {S : Type 0} (view : S → View) (script : Script) (disks : ℕ) (result : Result Course Stopped)
+    (old new : List S) : Type 0 where
   pub fit : misfit (told_by view disks old) ≡ None
   pub may : may_host script (start_from script.roster (told_by view disks old)) ≡ true
   pub begins : List Step
   pub beginning : AreBeginning (states_at view old) begins
   pub each : (k : ℕ) (before after : S) → slice_get old k ≡ Some before → slice_get new k ≡ Some after
       → ∥ HasWorked (acts_at k begins) (view before) (view after) ∥₁
+  pub so_far : IsToldStop result → HaveKeptSoFar view script (start_from script.roster (told_by view disks old))
+      (map (λ state. state.epoch + 1) (states_of view old)) result new
 
 -- A script ran over stores, or why it didn't; each is still that of its server.
 pub record IsRunOf {S : Type 0} (tells : Type 0) (view : S → View) (script : Script) (disks : ℕ)
@@ -163,7 +205,7 @@ pub record IsRunOf {S : Type 0} (tells : Type 0) (view : S → View) (script : S
   pub same : AreSame view old new
   pub ran : IfOk result (HasRunOver tells view script disks old new)
   pub stopped : IfErr result (IsStoppedSo tells view script (told_by view disks old) old new)
-  pub goes : tells → HaveGone view script disks result old new ⊎ HaveServed view script disks old new
+  pub goes : tells → HaveGone view script disks result old new ⊎ HaveServed view script disks result old new
 
 -- each of these stores is on a disk where the other is
 abbrev pub AreAsPlaced : {D : Type 0} → List (ServerStore D) → List (ServerStore D) → Type 0

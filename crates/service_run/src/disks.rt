@@ -1,6 +1,6 @@
 //! The third and the fourth stage: the script runs over the stores of its servers, which are on disks or in memory, and
 //! what came of it is kept there and written.
-ghost use Rattle.std.specs.Prelude.{◌≡◌, ◌≤◌, ◌+◌, ◌^◌, true, false, [], None, length, vec_capacity};
+ghost use Rattle.std.specs.Prelude.{◌≡◌, ◌≤◌, ◌+◌, ◌^◌, true, false, [], None, length, map, vec_capacity};
 ghost use Rattle.disk_image.specs.Aggregate.{header_number};
 ghost use Rattle.disk_layout.specs.Places.{page_start};
 ghost use Rattle.message_types.specs.Soundness.{Each};
@@ -187,7 +187,9 @@ fn host_over<D: Disk + Drop + Send, C: Count + Send, O: Origin + Send, R: Thread
     requires seats_room { length seats.items ≤ vec_capacity seats }
     requires room { length disks.old.items + length seats.items ≤ vec_capacity disks.old }
     ensures { IsClosedFrom (seat_tells D.tells C.disks) (seat_view D.tells D.view)
-        (HaveHosted O.from (seat_view D.tells D.view) script.now start) (λ seats. disks_of (stores_in seats))
+        (HaveHosted O.from (seat_view D.tells D.view) script.now start
+        (map (λ state. state.epoch) (states_of (seat_view D.tells D.view) seats.items)) result)
+        (λ seats. disks_of (stores_in seats))
         script.now start result seats.items disks.old.items disks.new.items }
 {
     let mut seats = seats;
@@ -229,7 +231,9 @@ fn run_over<D: Disk + Drop + Send, C: Count + Send, O: Origin + Send, R: Threads
     requires seats_room { length seats.items ≤ vec_capacity seats }
     requires room { length disks.old.items + length seats.items ≤ vec_capacity disks.old }
     ensures { IsClosedFrom (seat_tells D.tells C.disks) (seat_view D.tells D.view)
-        (HaveHosted O.from (seat_view D.tells D.view) script.now start) (λ seats. disks_of (stores_in seats))
+        (HaveHosted O.from (seat_view D.tells D.view) script.now start
+        (map (λ state. state.epoch) (states_of (seat_view D.tells D.view) seats.items)) result)
+        (λ seats. disks_of (stores_in seats))
         script.now start result seats.items disks.old.items disks.new.items }
 {
     if may_host(script, &start) {

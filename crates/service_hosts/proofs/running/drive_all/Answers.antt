@@ -9,7 +9,7 @@ use Rattle.service_hosts.specs.declared.running.HostsStopped.TheVariants.{Memory
 use Rattle.std.specs.Prelude.{Err, IfSome, None}
 use Rattle.service_hosts.specs.Nodes.{AreOver, next_line}
 use Rattle.service_hosts.specs.declared.running.HostsStopped.{HostsStopped}
-use Rattle.service_hosts.proofs.Driven.{FailedSo, StaysSo, are_back, are_nodes, are_same, as_many, err_at, ok_at}
+use Rattle.service_hosts.proofs.Driven.{FailedSo, are_back, are_nodes, are_same, as_many, err_at, ok_at}
 use Rattle.service_hosts.proofs.Driven.{one_over, over_back}
 use Rattle.service_hosts.proofs.Driven.{stopped_so, stops_by, taken_back}
 use Rattle.service_hosts.proofs.Ending.{has_hosted, lacks_by, so_far_by}
@@ -157,8 +157,8 @@ returns-in-Err-clause-so_far g c = λ stores over epochs.
     subst (λ (s : HostsStopped). IfSome so_far
     (HasHostedSoFar tells view script start stores c.take_stores.new.stores.items s))
     (ap (λ (n : ℕ). stopped_by (n + 1) c.in-Err.fault) (sym c.len-hosts.ensures) ∙ sym c.stopped_by.ensures)
-    (so_far_by tells view script start c.args.epochs c.requires.sound.servers news (StaysSo tells view)
-    (FailedSo tells view) so_far c.in-Err.fault count c.drive-driven.ensures.so_far
+    (so_far_by tells view script start c.args.epochs c.requires.sound.servers news so_far c.in-Err.fault count
+    c.drive-driven.ensures.so_far
     (λ w e. c.drive-driven.ensures.stuck w (c.in-Err.is ∙ ap (λ f. Err f) e))
     stores c.take_stores.new.stores.items
     (subst (λ (l : List g.row.S.Denot). AreOver news count l) (sym taken)

@@ -7,11 +7,17 @@ use Rattle.service_stores.specs.Starting.{HaveBegun}
 use Rattle.service_watch.specs.Gone.{HaveGone as HaveWorked}
 use Rattle.service_watch.specs.Watching.{store_in as watched_in, stores_in as all_watched}
 use Rattle.store_laws.specs.MoveKeeping.{KeepAll}
-use Rattle.service_run.proofs.Hosts.{run_closed, run_hosted, run_unwatched}
+use Rattle.service_run.proofs.Hosts.{run_closed, run_hosted, run_unwatched, so_far_in}
 use Rattle.service_run.proofs.Same.{same_count, states_in, stores_in_are}
 use Rattle.service_run.proofs.Seated.{stored_count, watched_count}
 use Rattle.service_run.proofs.disks.host_over.Goals as goal
-use Rattle.service_run.specs.Steps.{HaveHosted, IsClosedFrom, IsRunFrom}
+use Rattle.service_run.specs.Steps.{HaveHosted, HaveKeptSoFar, IsClosedFrom, IsRunFrom, IsToldStop}
+use Rattle.service_run.specs.declared.disks.Stopped.{Stopped}
+use Rattle.service_run.specs.declared.disks.Stopped.TheVariants.{Run}
+use Rattle.service_run.specs.declared.outcome.Course.{Course}
+use Rattle.service_moves.specs.declared.stopped.RunStopped.TheVariants.{Memory}
+use Rattle.store_state.specs.declared.state.StoreState.{StoreState}
+use Rattle.std.specs.Prelude.{Err, Result, map}
 
 pub run_hosts-hosted-requires-clause-count : goal.run_hosts-hosted-requires-clause-count
 run_hosts-hosted-requires-clause-count g c κs w =
@@ -75,12 +81,25 @@ returns-in-Ok g c =
     let olds = c.in-Ok.watched.items in
     let news = hosted.result.stores.items in
     let after = c.unwatch.new.stores.items in
-    let side = HaveHosted g.O.Origin.from view script start in
+    let epochs = map (λ (state : StoreState). state.epoch) (states_of view seats) in
+    let side = HaveHosted g.O.Origin.from view script start epochs c.course_of.result in
     let back = c.unwatch.ensures.stores ∙ ap (λ l. all_watched news ++ l) c.in-Ok.ensures.taken
     ∙ append-nil (all_watched news) in
+    let worked : told → side (all_watched news) = λ t. record {
+      may = c.requires.homes;
+      worked = c.unwatch.ensures.gone t;
+      so_far = λ stop.
+          subst (λ l. HaveKeptSoFar view script start (map (λ (state : StoreState). state.epoch) (states_of view l))
+          c.course_of.result (all_watched news)) c.in-Ok.ensures.watched
+          (subst (λ (r : Result Course Stopped). HaveKeptSoFar view script start
+          (map (λ (state : StoreState). state.epoch) (states_of view (all_watched olds))) r (all_watched news))
+          (sym c.course_of.ensures)
+          (so_far_in watched_in view told script start olds news hosted.result.result hosted.result.so_far
+          hosted.ensures.so_far hosted.ensures.lacks t
+          (subst (λ (r : Result Course Stopped). IsToldStop r) c.course_of.ensures stop)));
+    } in
     let ran = run_hosted watched_in view told side script start olds news hosted.result.result c.requires.sound
-    c.requires.homes hosted.ensures.same hosted.ensures.hosted hosted.ensures.stopped
-    (λ t. (c.requires.homes, c.unwatch.ensures.gone t)) in
+    c.requires.homes hosted.ensures.same hosted.ensures.hosted hosted.ensures.stopped worked in
     let here = subst (λ l. IsRunFrom told view side script start c.course_of.result l after) c.in-Ok.ensures.watched
     (subst (λ l. IsRunFrom told view side script start c.course_of.result (all_watched olds) l) (sym back)
     (subst (λ r. IsRunFrom told view side script start r (all_watched olds) (all_watched news))
@@ -95,9 +114,12 @@ returns-in-Err g c =
     let script = c.args.script.now in
     let start = c.args.start in
     let seats = c.args.seats.items in
-    let side = HaveHosted g.O.Origin.from view script start in
+    let result : Result Course Stopped = Err (Run Memory) in
+    let epochs = map (λ (state : StoreState). state.epoch) (states_of view seats) in
+    let side = HaveHosted g.O.Origin.from view script start epochs result in
     run_closed view told side script start (λ seats. disks_of (stores_in seats)) seats seats _
     c.args.disks.now.items c.close_seats-in-Err.new.disks.items
     (run_unwatched view told side script start (2 ^ 40) seats c.requires.stores
-    (λ t. (c.requires.homes, c.requires.gone t)))
-    (c.close_seats-in-Err.ensures.back ∙ ap (λ l. disks_of (stores_in l) ++ c.args.disks.now.items) c.in-Err.ensures.back))
+    (λ t. record { may = c.requires.homes; worked = c.requires.gone t; so_far = λ stop. absurd stop }))
+    (c.close_seats-in-Err.ensures.back
+    ∙ ap (λ l. disks_of (stores_in l) ++ c.args.disks.now.items) c.in-Err.ensures.back))

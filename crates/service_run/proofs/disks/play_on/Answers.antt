@@ -1,3 +1,4 @@
+use Rattle.std.specs.Prelude.{map}
 use Rattle.std.proofs.Common.{◌≡◌, ◌≤◌, ◌+◌, ◌++◌, ◌^◌, ◌∙◌, List, Err, ap, length, subst, sym, arith}
 use Rattle.store_state.specs.declared.state.StoreState.{StoreState}
 use Rattle.service_disks.specs.Seats.{seat_tells, seat_view, stores_in}
@@ -131,7 +132,8 @@ returns-in-Ok-start_on g c =
     let began = c.in-Ok-start_on.ensures in
     let script = c.args.script.now in
     let start = c.in-Ok-start_on.start in
-    let from = subst (λ l. IsRunFrom told view (HaveHosted (first_views view l) view script start) script start
+    let from = subst (λ l. IsRunFrom told view (HaveHosted (first_views view l) view script start
+    (map (λ (state : StoreState). state.epoch) (states_of view l)) c.run_over.result) script start
     c.run_over.result l closed.left) back closed.over in
     let ran = run_from view told script c.args.count (2 ^ 40) lent news closed.left start c.run_over.result
     began.stores c.start_on.ensures.same began.fit began.tree began.begun began.does from in

@@ -8,6 +8,8 @@ use Rattle.service_run.proofs.Lists.{written_back}
 use Rattle.service_run.proofs.Same.{same_count}
 use Rattle.service_run.proofs.disks.run_over.Goals as goal
 use Rattle.service_run.specs.Steps.{HaveHosted, IsClosedFrom, IsRunFrom}
+use Rattle.std.specs.Prelude.{map}
+use Rattle.store_state.specs.declared.state.StoreState.{StoreState}
 
 pub play_over-result-requires-clause-kept : goal.play_over-result-requires-clause-kept
 play_over-result-requires-clause-kept g c = λ told.
@@ -23,7 +25,8 @@ returns g c =
     let lent = c.as_mut_slice.result.now in
     let news = c.play_over-result.new.stores in
     let ran = c.play_over-result.ensures in
-    let side = HaveHosted g.O.Origin.from view c.args.script.now c.args.start in
+    let side = HaveHosted g.O.Origin.from view c.args.script.now c.args.start
+    (map (λ (state : StoreState). state.epoch) (states_of view seats)) c.play_over-result.result in
     let same : length news ≡ length lent = same_count view lent news ran.same in
     let was : length lent ≡ length seats = ap length c.as_mut_slice.ensures.value in
     let len = c.as_mut_slice.ensures.len in
