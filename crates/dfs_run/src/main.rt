@@ -19,12 +19,11 @@ use disk_device::{FileDisk, FileFault};
 use script_commands::disk_names;
 use service_run::{Outcome, Status, refuse_disk, run};
 use std::alloc::{AllocError, Global};
-use std::env;
 use std::fs::File;
 use std::io::ErrorKind;
-use std::mem;
 use std::process::ExitCode;
 use std::rt::{Env, Files};
+use std::{env, mem};
 
 // Why there are no disks.
 #[derive(Clone, Copy)]
