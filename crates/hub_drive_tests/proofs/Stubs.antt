@@ -107,13 +107,13 @@ rest_none = record { places = (λ i d lt rests. absurd (omega (arith, lt))) }
 
 -- the last two are servers
 last_two : (i : ℕ) (node : Node) → 5 ≤ i → i < 7 → Knows ⊥ (get_or (hosts_up_to 4 ++ servers_up_to 2) i node) → ⊥
-last_two 0 node le lt knows = absurd (omega (arith, le))
-last_two 1 node le lt knows = absurd (omega (arith, le))
-last_two 2 node le lt knows = absurd (omega (arith, le))
-last_two 3 node le lt knows = absurd (omega (arith, le))
-last_two 4 node le lt knows = absurd (omega (arith, le))
-last_two 5 node le lt knows = knows
-last_two 6 node le lt knows = knows
+last_two zero node le lt knows = absurd (omega (arith, le))
+last_two (suc zero) node le lt knows = absurd (omega (arith, le))
+last_two (suc (suc zero)) node le lt knows = absurd (omega (arith, le))
+last_two (suc (suc (suc zero))) node le lt knows = absurd (omega (arith, le))
+last_two (suc (suc (suc (suc zero)))) node le lt knows = absurd (omega (arith, le))
+last_two (suc (suc (suc (suc (suc zero))))) node le lt knows = knows
+last_two (suc (suc (suc (suc (suc (suc zero)))))) node le lt knows = knows
 last_two (suc (suc (suc (suc (suc (suc (suc i))))))) node le lt knows = absurd (omega (arith, lt))
 
 nodes_are : (script : Script) → length script.roster.hosts ≡ 4 → script.servers ≡ 2
