@@ -1,6 +1,7 @@
 -- Bytes between quotes, and what follows them.
-use Rattle.std.proofs.Common.{◌≡◌, ℕ, zero, suc, ◌==◌, ◌||◌, nat_lt, Bool, true, false, if◌then◌else◌, ◌+◌, ◌<◌, ◌/◌, ◌%◌, List, [], ◌∷◌, ◌++◌, get_or, refl, sym, ap, subst, ◌∙◌, arith, append_assoc}
+use Rattle.std.proofs.Common.{◌≡◌, ℕ, zero, suc, ◌==◌, ◌||◌, nat_lt, Bool, true, false, if◌then◌else◌, ◌+◌, ◌<◌, ◌/◌, ◌%◌, List, [], ◌∷◌, ◌++◌, get_or, take, drop, length, ◌-◌, ◌≤◌, refl, sym, ap, subst, ◌∙◌, arith, append_assoc, append-nil}
 use Rattle.std.specs.Str.{IsAscii, IsUtf8}
+use Rattle.std.proofs.lemmas.List.{drop_more, get_or-drop, length-drop, take_more}
 use Rattle.std.proofs.lemmas.Str.{IsAscii-append, IsUtf8-from_ascii}
 use Rattle.std.proofs.lemmas.Str.Ascii.{IsAscii-nil}
 use Rattle.std.proofs.lemmas.Grind.{common_steps}
@@ -54,3 +55,41 @@ bytes_ascii (byte ∷ bytes) h =
 
 pub spelled_utf8 : (bytes text : List ℕ) → ((i : ℕ) → get_or bytes i 0 < 256) → text ≡ spelled_bytes bytes [] → IsUtf8 text
 spelled_utf8 bytes text h e = subst IsUtf8 (sym e) (IsUtf8-from_ascii (spelled_bytes bytes []) (bytes_ascii bytes h))
+
+-- the byte at a place, and what is left behind it
+spelled_at : (bytes : List ℕ) (at : ℕ) → at < length bytes → spelled_byte (get_or bytes at 0) [] ++ spelled_bytes (drop (at + 1) bytes) [] ≡ spelled_bytes (drop at bytes) []
+spelled_at bytes at lt =
+    sym (byte_more (get_or bytes at 0) (spelled_bytes (drop (at + 1) bytes) []))
+    ∙ ap (λ left. spelled_bytes left []) (sym (drop_more bytes at 0 lt))
+
+-- one byte more that stands as it is
+pub stands_more : (out bytes : List ℕ) (from at : ℕ) → from ≤ at → at < length bytes → spelled_byte (get_or bytes at 0) [] ≡ get_or bytes at 0 ∷ []
+    → (out ++ take (at + 1 - from) (drop from bytes)) ++ spelled_bytes (drop (at + 1) bytes) [] ≡ (out ++ take (at - from) (drop from bytes)) ++ spelled_bytes (drop at bytes) []
+stands_more out bytes from at le lt s =
+    let byte : ℕ = get_or bytes at 0 in
+    let rest : List ℕ = spelled_bytes (drop (at + 1) bytes) [] in
+    let piece : List ℕ = take (at - from) (drop from bytes) in
+    let count : at + 1 - from ≡ at - from + 1 = omega (arith, le) in
+    let long : at - from < length (drop from bytes) = omega (arith, le, lt, length-drop from bytes) in
+    let place : from + (at - from) ≡ at = omega (arith, le) in
+    let read : get_or (drop from bytes) (at - from) 0 ≡ byte = get_or-drop from bytes (at - from) 0 ∙ ap (λ k. get_or bytes k 0) place in
+    let longer : take (at + 1 - from) (drop from bytes) ≡ piece ++ spelled_byte byte []
+    = ap (λ k. take k (drop from bytes)) count ∙ take_more (drop from bytes) (at - from) 0 long ∙ ap (λ x. piece ++ (x ∷ [])) read ∙ ap (λ front. piece ++ front) (sym s) in
+    ap (λ front. (out ++ front) ++ rest) longer
+    ∙ ap (λ front. front ++ rest) (sym (append_assoc out piece (spelled_byte byte [])))
+    ∙ append_assoc (out ++ piece) (spelled_byte byte []) rest
+    ∙ ap (λ behind. (out ++ piece) ++ behind) (spelled_at bytes at lt)
+
+-- one byte more by an escape, after the piece before it
+pub escaped_more : (out bytes : List ℕ) (from at : ℕ) → at < length bytes
+    → (((out ++ take (at - from) (drop from bytes)) ++ spelled_byte (get_or bytes at 0) []) ++ take (at + 1 - (at + 1)) (drop (at + 1) bytes)) ++ spelled_bytes (drop (at + 1) bytes) []
+    ≡ (out ++ take (at - from) (drop from bytes)) ++ spelled_bytes (drop at bytes) []
+escaped_more out bytes from at lt =
+    let escape : List ℕ = spelled_byte (get_or bytes at 0) [] in
+    let rest : List ℕ = spelled_bytes (drop (at + 1) bytes) [] in
+    let before : List ℕ = out ++ take (at - from) (drop from bytes) in
+    let none : at + 1 - (at + 1) ≡ 0 = omega arith in
+    ap (λ k. ((before ++ escape) ++ take k (drop (at + 1) bytes)) ++ rest) none
+    ∙ ap (λ front. front ++ rest) (append-nil (before ++ escape))
+    ∙ append_assoc before escape rest
+    ∙ ap (λ behind. before ++ behind) (spelled_at bytes at lt)

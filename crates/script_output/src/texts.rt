@@ -1,5 +1,5 @@
 //! How numbers, words and bytes are written.
-ghost use Rattle.std.specs.Prelude.{◌≡◌, ◌<◌, ◌++◌, [], ◌∷◌, decimal, OnOk};
+ghost use Rattle.std.specs.Prelude.{◌≡◌, ◌<◌, ◌++◌, [], ◌∷◌, decimal, IsFalse, OnOk};
 ghost use Rattle.std.specs.List.{list_all};
 ghost use Rattle.script_words.specs.Words.{is_in};
 ghost use Rattle.script_words.specs.Spelling.{hex_of, spelled_byte, spelled_bytes};
@@ -38,15 +38,27 @@ pub(crate) fn push_quoted(out: &mut Items<u8>, bytes: &[u8]) -> Result<(), NoMem
     out.push(b'"')
 }
 
-/// Adds bytes as they stand between quotes.
+/// Adds bytes as they stand between quotes: those that need no escape in pieces.
 #[tactic(auto, using(crate::proofs::Spelled::byte_more))]
 pub(crate) fn push_spelled(out: &mut Items<u8>, bytes: &[u8]) -> Result<(), NoMemory>
     ensures { OnOk result (out.new ≡ out.old ++ spelled_bytes bytes.now []) }
 {
-    for byte in bytes {
-        push_byte(out, *byte)?;
+    let mut from = 0;
+    for (at, byte) in bytes.iter().enumerate() {
+        if is_escaped(*byte) {
+            out.extend(&bytes[from..at])?;
+            push_byte(out, *byte)?;
+            from = at + 1;
+        }
     }
-    Ok(())
+    out.extend(&bytes[from..])
+}
+
+// Whether a byte stands between quotes by an escape.
+fn is_escaped(byte: u8) -> bool
+    ensures { IsFalse result → spelled_byte byte [] ≡ byte ∷ [] }
+{
+    byte < 32 || byte > 126 || byte == b'"' || byte == b'\\'
 }
 
 // Adds a byte as it stands between quotes.

@@ -1,6 +1,7 @@
 -- Bytes that are read, and the unsaved ones that are put over them.
 use Rattle.std.proofs.Common.{◌≡◌, ℕ, zero, suc, ◌+◌, ◌-◌, ◌<◌, ◌==◌, true, false, List, [], ◌∷◌, ◌++◌, length, take, drop, get_or, set, replicate, min, refl, sym, ap, ◌∙◌, drop-cons, arith, inl, inr}
 use Rattle.std.proofs.lemmas.Grind.{common_steps}
+use Rattle.std.proofs.lemmas.List.{take-replicate}
 use Rattle.std.proofs.lemmas.Bool.Decides.{leb_tells}
 use Rattle.tree_objects.specs.declared.content.Unsaved.{Unsaved}
 use Rattle.tree_objects.specs.Files.{byte_over, bytes_over, resized, bytes_with}
@@ -35,6 +36,23 @@ over_nothing [] (suc from) n = over_none (suc from) n
 over_nothing (x ∷ xs) zero zero = resized_zero (x ∷ xs)
 over_nothing (x ∷ xs) zero (suc n) = resized_more x xs n ∙ ap (λ bytes. x ∷ bytes) (over_nothing xs zero n ∙ sym (over_shifted x xs zero n))
 over_nothing (x ∷ xs) (suc from) n = over_nothing xs from n ∙ sym (over_shifted x xs from n)
+
+-- the first bytes, of these and zeros behind them
+cut_back : (xs : List ℕ) (n : ℕ) → take n (xs ++ replicate (n - length xs) 0) ≡ resized xs n
+cut_back [] n =
+    let e : n - zero ≡ n = omega arith in
+    ap (λ k. take n (replicate k 0)) e ∙ take-replicate n n 0 (omega arith) ∙ sym (none_of n)
+  where
+    none_of : (n : ℕ) → resized [] n ≡ replicate n 0
+    none_of zero = resized_zero []
+    none_of (suc n) = resized_zeros n ∙ ap (λ bytes. 0 ∷ bytes) (none_of n)
+cut_back (x ∷ xs) zero = sym (resized_zero (x ∷ xs))
+cut_back (x ∷ xs) (suc n) =
+    let e : suc n - suc (length xs) ≡ n - length xs = omega arith in
+    ap (λ k. x ∷ take n (xs ++ replicate k 0)) e ∙ ap (λ bytes. x ∷ bytes) (cut_back xs n) ∙ sym (resized_more x xs n)
+
+pub lengthened : (kept : List ℕ) (n : ℕ) → take n (kept ++ replicate (n - length kept) 0) ≡ bytes_over kept [] 0 n
+lengthened kept n = cut_back kept n ∙ over_nothing kept zero n
 
 -- nothing stands behind the last byte
 pub drop_past : (kept : List ℕ) (from : ℕ) → drop (min from (length kept)) kept ≡ drop from kept

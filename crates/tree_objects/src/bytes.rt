@@ -1,4 +1,5 @@
-ghost use Rattle.std.specs.Prelude.{◌≡◌, ◌<◌, [], length, take, drop, slice_index_or, IfOk};
+ghost use Rattle.std.specs.Prelude.{◌≡◌, ◌<◌, ◌-◌, ◌++◌, ℕ, [], List, length, take, drop, replicate, slice_index_or};
+ghost use Rattle.std.specs.Prelude.{IfOk, OnErr, OnOk};
 ghost use Rattle.tree_objects.specs.Files.{
   present_length,
   present_bytes,
@@ -12,6 +13,7 @@ use crate::content::{Content, Object, Unsaved, UnsavedLength};
 use crate::unsaved::UnsavedBytes;
 use base_types::{Items, NoMemory};
 use std::alloc::Global;
+use std::mem;
 
 impl Object {
     /// Reads at most `len` bytes of a file from the position `from` on, and nothing of a directory.
@@ -95,11 +97,19 @@ pub(crate) fn bytes_over(
     ensures { IfOk result (λ bytes. bytes ≡ bytes_over kept.now unsaved.now from count) }
 {
     let mut bytes = kept_bytes(kept, from, count)?;
+    put_each(&mut bytes, unsaved, from);
+    Ok(bytes)
+}
+
+/// Puts unsaved bytes over those that start at the position `from`, where those are kept ones.
+pub(crate) fn put_each(bytes: &mut Items<u8>, unsaved: &[Unsaved], from: usize)
+    ensures { (kept : List ℕ) (count : ℕ) → bytes.old ≡ bytes_over kept [] from count
+        → bytes.new ≡ bytes_over kept unsaved.now from count }
+{
     for index in (0..unsaved.len()).rev() {
         let byte = byte_in(unsaved, index);
-        put_unsaved(&mut bytes, byte, from);
+        put_unsaved(bytes, byte, from);
     }
-    Ok(bytes)
 }
 
 fn byte_in(unsaved: &[Unsaved], index: usize) -> &Unsaved
@@ -145,4 +155,18 @@ pub(crate) fn resized(alloc: Global, bytes: &[u8], length: usize) -> Result<Item
     copy.extend_from_slice(&bytes[..end])?;
     copy.resize(length, 0)?;
     Ok(Items::from_vec(copy))
+}
+
+/// Adds zeros until there are so many bytes, where there are fewer. After `NoMemory` nothing has changed.
+pub(crate) fn lengthen(bytes: &mut Items<u8>, end: usize) -> Result<(), NoMemory>
+    ensures ok { OnOk result (bytes.new ≡ bytes.old ++ replicate (end - length bytes.old) 0) }
+    ensures err { OnErr result (bytes.new ≡ bytes.old) }
+{
+    let alloc = bytes.alloc();
+    let mut longer = mem::replace(bytes, Items::new(alloc)).into_vec();
+    let length = longer.len().max(end);
+    let done = longer.resize(length, 0);
+    *bytes = Items::from_vec(longer);
+    done?;
+    Ok(())
 }

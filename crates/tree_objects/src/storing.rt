@@ -78,7 +78,7 @@ impl Content {
         } = self
         {
             let end = stored.map_or(kept.len(), |stored| stored as usize);
-            *kept = unsaved.store(kept, host, spans, end)?;
+            unsaved.store(kept, host, spans, end)?;
             *length = length_left(stored, *length);
         }
         Ok(())

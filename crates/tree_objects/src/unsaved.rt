@@ -35,7 +35,7 @@ ghost use Rattle.tree_objects.specs.Files.{bytes_over};
 ghost use Rattle.tree_objects.specs.Positions.{positions_rise};
 ghost use Rattle.tree_objects.specs.Stores.{is_stored};
 
-use crate::bytes::bytes_over;
+use crate::bytes::{bytes_over, lengthen, put_each};
 use crate::content::Unsaved;
 use base_types::{HostId, Items, NoMemory, Plain, Span};
 use std::alloc::Global;
@@ -127,28 +127,38 @@ impl UnsavedBytes {
         drop_own(&mut self.bytes, host);
     }
 
-    /// Stores what a host has in these spans below the position `end`: its bytes go, and the answer is the first `end`
-    /// bytes that are kept from then on. After `NoMemory` nothing has changed.
+    /// Stores what a host has in these spans below the position `end`: its bytes go, over the kept ones, of which the
+    /// first `end` stay, with zeros where there are fewer. After `NoMemory` nothing has changed.
     pub(crate) fn store(
         &mut self,
-        kept: &Items<u8>,
+        kept: &mut Items<u8>,
         host: HostId,
         spans: &[Span],
         end: usize,
-    ) -> Result<Items<u8>, NoMemory>
-        ensures kept { IfOk result
-            (λ bytes. bytes ≡ bytes_over kept.now (filter (is_stored host spans.now end) self.old) 0 end) }
+    ) -> Result<(), NoMemory>
+        ensures kept { OnOk result
+            (kept.new ≡ bytes_over kept.old (filter (is_stored host spans.now end) self.old) 0 end) }
         ensures left { OnOk result
             (self.new ≡ filter (λ byte. not (is_stored host spans.now end byte)) self.old) }
-        ensures err { OnErr result (self.new ≡ self.old) }
+        ensures err { OnErr result ((self.new ≡ self.old) × (kept.new ≡ kept.old)) }
     {
         let bytes = self.bytes.as_slice();
         let cut = cut_of(bytes, spans, end);
         let part = &bytes[cut.from..cut.to];
         let (stored, left) = split_stored(self.bytes.alloc(), part, host, spans, end)?;
-        let stored = bytes_over(kept, stored.as_slice(), 0, end)?;
-        put_between(&mut self.bytes, cut, left)?;
-        Ok(stored)
+        let before = kept.len();
+        lengthen(kept, end)?;
+        match put_between(&mut self.bytes, cut, left) {
+            Ok(()) => {
+                kept.truncate(end);
+                put_each(kept, stored.as_slice(), 0);
+                Ok(())
+            }
+            Err(NoMemory) => {
+                kept.truncate(before);
+                Err(NoMemory)
+            }
+        }
     }
 }
 
