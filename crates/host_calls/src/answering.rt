@@ -1,5 +1,5 @@
 //! How an open call is answered.
-ghost use Rattle.std.specs.Prelude.{◌≡◌, ◌+◌, ℕ, List, [], length, true, None, Ok, Some, IfOk, OnOk};
+ghost use Rattle.std.specs.Prelude.{◌≡◌, ◌∷◌, ◌+◌, ℕ, List, [], length, true, None, Ok, Some, IfOk, OnOk};
 ghost use Rattle.std.specs.Prelude.{MatchOption, option_copied};
 ghost use Rattle.std.specs.Prelude.{if◌then◌else◌};
 ghost use Rattle.std.specs.List.{find};
@@ -27,6 +27,7 @@ use host_walk::{
     rights_on, whole_need,
 };
 use run_rules::{Answer, Labelled};
+use std::mem;
 use token_types::{Kind, Need, Token};
 use tree_calls::{Call, Facts, Refusal, Reply, Status, Which};
 
@@ -61,8 +62,17 @@ pub fn answer(
 {
     change(tables, draft, current.call, &verdict)?;
     let answer = answer_of(tables, current, verdict)?;
-    draft.answers.truncate(0);
-    draft.answers.push(answer)
+    put_alone(&mut draft.answers, answer)
+}
+
+// Makes this the only answer of a list, which has no room for more: it stays to the end of the run.
+fn put_alone(answers: &mut Items<Answer>, answer: Answer) -> Result<(), NoMemory>
+    ensures { OnOk result (answers.new ≡ answer ∷ []) }
+{
+    let mut alone = Vec::with_capacity(answers.alloc(), 1)?;
+    alone.push_reserved(answer);
+    drop(mem::replace(answers, Items::from_vec(alone)));
+    Ok(())
 }
 
 fn answer_of(

@@ -64,11 +64,11 @@ fn stopped_by(hosts: usize, fault: DriveFault) -> HostsStopped
 
 // The epochs of stores, and all nodes, over the stores, which leave their list. Where memory runs out they are in it
 // again.
-fn nodes_over<S: Store + Drop>(
+fn nodes_over<'a, S: Store + Drop>(
     alloc: Global,
-    script: &Script,
+    script: &'a Script,
     stores: &mut Vec<S>,
-) -> Result<(Items<u64>, Vec<NodeOf<S>>), NoMemory>
+) -> Result<(Items<u64>, Vec<NodeOf<'a, S>>), NoMemory>
     requires sound { IsSound script.now }
     requires count { length stores.old.items ≡ length script.now.roster.capacity }
     requires stores { AreStores S.view script.now.roster (2 ^ 40) 1 stores.old.items }
@@ -98,7 +98,7 @@ fn drive_all<S: Store + Drop + Send, R: Threads + Wait + Sync, G: Gate + Sync>(
     script: &Script,
     start: Tree,
     epochs: Items<u64>,
-    nodes: Vec<NodeOf<S>>,
+    nodes: Vec<NodeOf<'_, S>>,
     room: Vec<S>,
     workers: u32,
     gate: &G,
@@ -113,14 +113,14 @@ fn drive_all<S: Store + Drop + Send, R: Threads + Wait + Sync, G: Gate + Sync>(
     requires first { AreFirst S.tells S.view (beginning script.now start epochs) nodes.items }
     requires none { room.items ≡ [] }
     requires room { length script.now.roster.capacity ≤ vec_capacity room }
-    ensures same { (stores : List S) → AreOver nodes.items (length script.now.roster.hosts + 1) stores
+    ensures same { (stores : List S) → AreOver nodes.entry.items (length script.now.roster.hosts + 1) stores
         → AreStores S.view script.now.roster (2 ^ 40) 1 stores → AreSame S.view stores result.stores.items }
-    ensures hosted { (stores : List S) → AreOver nodes.items (length script.now.roster.hosts + 1) stores
+    ensures hosted { (stores : List S) → AreOver nodes.entry.items (length script.now.roster.hosts + 1) stores
         → AreStores S.view script.now.roster (2 ^ 40) 1 stores → (S.tells → epochs ≡ epochs_of S.view stores)
         → IfOk result.result (HasHosted S.tells S.view script.now start stores result.stores.items) }
-    ensures stopped { (stores : List S) → AreOver nodes.items (length script.now.roster.hosts + 1) stores
+    ensures stopped { (stores : List S) → AreOver nodes.entry.items (length script.now.roster.hosts + 1) stores
         → IfErr result.result (IsStopped S.tells S.view script.now start stores result.stores.items) }
-    ensures so_far { (stores : List S) → AreOver nodes.items (length script.now.roster.hosts + 1) stores
+    ensures so_far { (stores : List S) → AreOver nodes.entry.items (length script.now.roster.hosts + 1) stores
         → (S.tells → epochs ≡ epochs_of S.view stores) → IfErr result.result (λ stopped. IfSome result.so_far
         (HasHostedSoFar S.tells S.view script.now start stores result.stores.items stopped)) }
     ensures lacks { IfErr result.result (λ stopped. result.so_far ≡ None → stopped ≡ OutOfMemory) }

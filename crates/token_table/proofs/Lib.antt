@@ -1,4 +1,6 @@
 pub mod Sound
+pub mod Barred
+pub mod Parting
 pub mod Placing
 pub mod Shelving
 pub mod Running

@@ -11,7 +11,7 @@ use Rattle.base_types.specs.declared.ids.HostId.{HostId}
 use Rattle.base_types.specs.declared.ids.ServerId.{ServerId}
 use Rattle.token_types.specs.declared.token.Need.{Need}
 use Rattle.token_types.specs.declared.token.Token.{Token}
-use Rattle.token_table.specs.declared.shelf.Kept.TheVariants.{UpTo}
+use Rattle.token_table.specs.declared.places.Kept.TheVariants.{UpTo}
 use Rattle.token_table.specs.Places.{rank, ShelfView}
 use Rattle.token_table.specs.Shelves.{IsBefore, IsUpTo, keeps}
 use Rattle.token_table.specs.Tables.{token_for, tokens_from}

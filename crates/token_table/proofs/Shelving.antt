@@ -16,6 +16,7 @@ use Rattle.std.specs.Map.{keys_of, values_of, remove_entry, lookup}
 use Rattle.std.specs.Map.Calls.{RetainsPairs}
 use Rattle.std.specs.BTreeMap.{BTreeMap, is_at, insert_entry, values}
 use Rattle.std.specs.Ordering.{eq_by_cmp, is_eq, is_gt}
+use Rattle.base_types.specs.declared.ids.HostId.{HostId}
 use Rattle.base_types.specs.declared.ids.ServerId.{ServerId}
 use Rattle.token_types.specs.Conflicts.{same_id}
 use Rattle.token_types.specs.declared.token.Token.{Token}
@@ -23,7 +24,7 @@ use Rattle.token_types.specs.declared.token.TokenId.{TokenId}
 use Rattle.token_table.specs.Places.{rank, Place, place_of, place_cmp, FileKey, file_key, same_key}
 use Rattle.token_table.specs.Shelves.{IsBefore}
 use Rattle.token_table.specs.Places.{file_cmp, tokens_at, and_token, and_placed, placed, comes_before, IsShelf}
-use Rattle.token_table.specs.Tables.{without_id, has_id}
+use Rattle.token_table.specs.Tables.{without_id, has_id, of_host}
 use Rattle.std.specs.declared.cmp.Ordering.{Ordering}
 use Rattle.std.specs.declared.cmp.Ordering.TheVariants.{Less, Equal, Greater}
 use Rattle.token_table.proofs.Placing.{keyed, same_place, stands_behind, keys_both, same_keys}
@@ -223,6 +224,19 @@ module _ (server : ServerId) (epoch : ℕ) (tokens tokens' : BTreeMap Place Toke
     taken_entries removed =
         removed ∙ ap (remove_entry (is_at (place_cmp (place_of server epoch id)))) was.placed
         ∙ remove_keyed server epoch id (values tokens) apart
+
+    -- the tokens that other hosts have of a file stay
+    pub others_stay : (token : Token) → find (λ t. same_id t.id id) (values tokens) ≡ Some token → (key : FileKey) →
+        (other : HostId) → (token.host.0 == other.0) ≡ false →
+        of_host (without_id (tokens_at files key) id) other ≡ of_host (tokens_at files key) other
+    others_stay token found key other apart_host =
+        let its : Token → Bool = λ t. t.host.0 == other.0 in
+        ap (λ ts. of_host (without_id ts id) other) (was.by_file key)
+        ∙ ap (filter its) (filter_filter (λ t. not (same_id t.id id)) (in_file key) (values tokens))
+        ∙ filter_filter its (in_file key) (without_id (values tokens) id)
+        ∙ ap (filter (in_file key)) (filter_without server epoch id token its apart_host (values tokens) apart found)
+        ∙ filter_filter (in_file key) its (values tokens)
+        ∙ ap (λ ts. of_host ts other) (sym (was.by_file key))
 
     pub taken : tokens'.entries ≡ remove_entry (is_at (place_cmp (place_of server epoch id))) tokens.entries →
         (token : Token) → find (λ t. same_id t.id id) (values tokens) ≡ Some token →

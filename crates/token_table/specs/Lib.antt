@@ -4,3 +4,5 @@ pub mod Shelves
 pub mod TableLaws
 pub mod MarkLaws
 pub mod Marks
+pub mod Masks
+pub mod Parts

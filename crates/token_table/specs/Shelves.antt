@@ -8,8 +8,8 @@ use Rattle.std.specs.List.{filter}
 use Rattle.token_table.specs.Places.{rank, ShelfView, FileKey, same_key, tokens_at, placed, and_token, and_placed}
 use Rattle.std.specs.BTreeMap.{BTreeMap}
 use Rattle.token_table.specs.Tables.{Table, tokens_from}
-use Rattle.token_table.specs.declared.shelf.Kept.{Kept}
-use Rattle.token_table.specs.declared.shelf.Kept.TheVariants.{OfOthers, UpTo}
+use Rattle.token_table.specs.declared.places.Kept.{Kept}
+use Rattle.token_table.specs.declared.places.Kept.TheVariants.{OfOthers, UpTo}
 
 -- a table, of its list and its last sequence number
 abbrev pub table_of : ShelfView → ℕ → Table

@@ -6,9 +6,13 @@
 //! it was asked back.
 #![tactic(auto)]
 
+mod file_tokens;
 mod laws;
+mod masks;
 mod note_laws;
 mod notes;
+mod parts;
+mod places;
 mod shelf;
 mod table;
 

@@ -1,36 +1,26 @@
 //! Tokens in the order in which they were granted, with those of one file together.
-ghost use Rattle.std.specs.Prelude.{◌≡◌, ◌+◌, ◌<◌, ◌^◌, ◌≤◌, false, ◌∷◌, ◌++◌, [], length, insert, IfOk, OnOk, OnErr};
+ghost use Rattle.std.specs.Prelude.{◌≡◌, ◌==◌, ◌+◌, ◌<◌, ◌^◌, ◌≤◌, false, ◌∷◌, ◌++◌, [], length, insert};
+ghost use Rattle.std.specs.Prelude.{IfOk, OnOk, OnErr};
 ghost use Rattle.std.specs.List.{find, filter, All};
 ghost use Rattle.std.specs.Option.{option_copied};
 ghost use Rattle.std.specs.BTreeMap.{values};
-ghost use Rattle.token_types.specs.Conflicts.{same_id};
+ghost use Rattle.token_types.specs.Conflicts.{same_id, blocks};
 ghost use Rattle.token_table.specs.Places.{place_of, FileKey, file_key, same_key, tokens_at};
 ghost use Rattle.token_table.specs.Places.{comes_before, placed, AreByFile};
 ghost use Rattle.token_table.specs.Shelves.{IsBefore, IsUpTo, IsPutIn, IsPlacedIn, AreSameElsewhere, keeps};
 ghost use Rattle.token_table.specs.Shelves.{with_kept, with_next, with_placed};
 ghost use Rattle.token_table.specs.Tables.{has_id, of_file, of_host, without_id, token_for, tokens_from};
 
+use crate::file_tokens::FileTokens;
+use crate::places::{Kept, Place, keeps, place_of};
 use base_types::{Fid, HostId, Items, NoMemory, Plain, ServerId};
 use std::alloc::Global;
 use std::collections::BTreeMap;
 use std::marker::Model;
 use token_types::{Need, Token, TokenId};
 
-// Where a token stands: the sequence number of one that was granted in the present epoch, and 0 of each other one; then
-// the server, the epoch and the sequence number.
-type Place = (u64, (u8, (u64, u64)));
-
 // A file: its fileset, its anode and the unique number.
 type FileKey = (u32, (u32, u32));
-
-/// Which tokens stay.
-#[derive(Clone, Copy)]
-pub enum Kept {
-    /// Those of the hosts but for this one.
-    OfOthers(HostId),
-    /// Those up to this sequence number of the present epoch, and all of other epochs and servers.
-    UpTo(u64),
-}
 
 /// The tokens of a server in an epoch. Contracts see them as a list, in the order of their places.
 #[derive(Drop)]
@@ -39,7 +29,7 @@ pub struct Shelf {
     server: ServerId,
     epoch: u64,
     tokens: BTreeMap<Place, Token>,
-    files: BTreeMap<FileKey, Items<Token>>,
+    files: BTreeMap<FileKey, FileTokens>,
 }
 
 impl Model for Shelf {
@@ -131,6 +121,17 @@ impl Shelf {
             None => &[],
         }
     }
+
+    /// Tokens of a file, in their order, among which are all that are in the way of a host's needs.
+    pub fn near(&self, fid: Fid, host: HostId, needs: &[Need]) -> &[Token]
+        ensures { filter (blocks host needs.now) result.now
+            ≡ filter (blocks host needs.now) (of_file self.now.tokens fid) }
+    {
+        match self.files.get(&file_key(fid)) {
+            Some(tokens) => tokens.near(host, needs),
+            None => &[],
+        }
+    }
 }
 
 impl Shelf {
@@ -196,7 +197,7 @@ impl Shelf {
         self.tokens
             .retain(|_, token| keeps(server, epoch, kept, token));
         self.files.retain(|_, tokens| {
-            keep_each(tokens, server, epoch, kept);
+            tokens.keep(server, epoch, kept);
             true
         });
     }
@@ -210,7 +211,7 @@ impl Shelf {
             return None;
         }
         let token = self.tokens.remove(&place_of(self.server, self.epoch, id))?;
-        take_from_file(&mut self.files, file_key(token.fid), id);
+        take_from_file(&mut self.files, file_key(token.fid), token.host, id);
         Some(token)
     }
 }
@@ -247,7 +248,7 @@ fn list_of(alloc: Global, tokens: &BTreeMap<Place, Token>) -> Result<Items<Token
 }
 
 // The tokens of each file, in their order.
-fn files_of(alloc: Global, tokens: &[Token]) -> Result<BTreeMap<FileKey, Items<Token>>, NoMemory>
+fn files_of(alloc: Global, tokens: &[Token]) -> Result<BTreeMap<FileKey, FileTokens>, NoMemory>
     ensures { IfOk result (AreByFile tokens.now) }
 {
     let mut files = BTreeMap::new(alloc);
@@ -257,36 +258,10 @@ fn files_of(alloc: Global, tokens: &[Token]) -> Result<BTreeMap<FileKey, Items<T
     Ok(files)
 }
 
-fn place_of(server: ServerId, epoch: u64, id: TokenId) -> Place
-    ensures { result ≡ place_of server epoch id }
-{
-    let rank = if id.server == server && id.epoch == epoch {
-        id.seq
-    } else {
-        0
-    };
-    (rank, (id.server.0, (id.epoch, id.seq)))
-}
-
 fn file_key(fid: Fid) -> FileKey
     ensures { result ≡ file_key fid }
 {
     (fid.fileset.0, (fid.anode, fid.unique))
-}
-
-fn keeps(server: ServerId, epoch: u64, kept: Kept, token: &Token) -> bool
-    ensures { result ≡ keeps server epoch kept token.now }
-{
-    match kept {
-        Kept::OfOthers(host) => token.host != host,
-        Kept::UpTo(last) => place_of(server, epoch, token.id).0 <= last,
-    }
-}
-
-fn keep_each(tokens: &mut Items<Token>, server: ServerId, epoch: u64, kept: Kept)
-    ensures { tokens.new ≡ filter (keeps server epoch kept) tokens.old }
-{
-    tokens.retain(|token| keeps(server, epoch, kept, token));
 }
 
 /// The token that a server grants for a need, after `last` others of its epoch.
@@ -329,7 +304,7 @@ fn tokens_from(
 
 // Puts a token behind those of its file.
 fn put_in_file(
-    files: &mut BTreeMap<FileKey, Items<Token>>,
+    files: &mut BTreeMap<FileKey, FileTokens>,
     alloc: Global,
     token: Token,
 ) -> Result<(), NoMemory>
@@ -341,7 +316,7 @@ fn put_in_file(
         tokens.push(token)?;
         return Ok(());
     }
-    let mut tokens = Items::new(alloc);
+    let mut tokens = FileTokens::new(alloc);
     tokens.push(token)?;
     files.insert(key, tokens)?;
     Ok(())
@@ -349,7 +324,7 @@ fn put_in_file(
 
 // Puts a token in its place among those of its file.
 fn place_in_file(
-    files: &mut BTreeMap<FileKey, Items<Token>>,
+    files: &mut BTreeMap<FileKey, FileTokens>,
     alloc: Global,
     server: ServerId,
     epoch: u64,
@@ -363,14 +338,14 @@ fn place_in_file(
         put_placed(tokens, server, epoch, token)?;
         return Ok(());
     }
-    let mut tokens = Items::new(alloc);
+    let mut tokens = FileTokens::new(alloc);
     tokens.push(token)?;
     files.insert(key, tokens)?;
     Ok(())
 }
 
 fn put_placed(
-    tokens: &mut Items<Token>,
+    tokens: &mut FileTokens,
     server: ServerId,
     epoch: u64,
     token: Token,
@@ -403,22 +378,23 @@ fn comes_before(server: ServerId, epoch: u64, other: &Token, token: &Token) -> b
         .is_gt()
 }
 
-// Takes a token out of those of its file.
-fn take_from_file(files: &mut BTreeMap<FileKey, Items<Token>>, key: FileKey, id: TokenId)
+// Takes a token of a host out of those of its file.
+fn take_from_file(
+    files: &mut BTreeMap<FileKey, FileTokens>,
+    key: FileKey,
+    host: HostId,
+    id: TokenId,
+)
+    requires { (other : HostId) → (host.0 == other.0) ≡ false
+        → of_host (without_id (tokens_at files.old key) id) other ≡ of_host (tokens_at files.old key) other }
     ensures own { tokens_at files.new key ≡ without_id (tokens_at files.old key) id }
     ensures others { AreSameElsewhere key files.old files.new }
 {
     let Some(tokens) = files.get_mut(&key) else {
         return;
     };
-    drop_id(tokens, id);
+    tokens.drop_id(host, id);
     if tokens.is_empty() {
         files.remove(&key);
     }
-}
-
-fn drop_id(tokens: &mut Items<Token>, id: TokenId)
-    ensures { tokens.new ≡ without_id tokens.old id }
-{
-    tokens.retain(|token| token.id != id);
 }

@@ -8,7 +8,8 @@ ghost use Rattle.token_table.specs.Tables.{is_past};
 ghost use Rattle.token_table.specs.Shelves.{with_token};
 ghost use Rattle.token_table.specs.Tables.{of_file, names_file, in_the_way, AreThose, of_host, not_of_host};
 
-use crate::shelf::{Kept, Shelf};
+use crate::places::Kept;
+use crate::shelf::Shelf;
 use base_types::{Fid, HostId, Items, NoMemory, Plain, ServerId};
 use std::alloc::Global;
 use std::marker::Model;
@@ -72,13 +73,18 @@ impl TokenTable {
         ensures { result ≡ list_any (blocks host needs.now) self.now.tokens }
     {
         for (index, need) in needs.iter().enumerate() {
-            if !names_file(&needs[..index], need.fid)
-                && blocks_any(self.of_file(need.fid), host, needs)
-            {
+            if !names_file(&needs[..index], need.fid) && self.bars(need.fid, host, needs) {
                 return true;
             }
         }
         false
+    }
+
+    // Whether a token of a file is in the way of a host's needs.
+    fn bars(&self, fid: Fid, host: HostId, needs: &[Need]) -> bool
+        ensures { result ≡ list_any (blocks host needs.now) (of_file self.now.tokens fid) }
+    {
+        blocks_any(self.shelf.near(fid, host, needs), host, needs)
     }
 
     /// The tokens that are in the way of a host's needs: those of other hosts that conflict with one of them, file by
@@ -90,7 +96,8 @@ impl TokenTable {
         let mut tokens = Items::new(self.shelf.alloc());
         for (index, need) in needs.iter().enumerate() {
             if !names_file(&needs[..index], need.fid) {
-                push_blocking(&mut tokens, self.of_file(need.fid), host, needs)?;
+                let near = self.shelf.near(need.fid, host, needs);
+                push_blocking(&mut tokens, near, host, needs)?;
             }
         }
         Ok(tokens)

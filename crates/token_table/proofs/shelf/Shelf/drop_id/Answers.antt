@@ -6,8 +6,19 @@ use Rattle.token_types.specs.Conflicts.{same_id}
 use Rattle.token_table.specs.Tables.{without_id}
 use Rattle.token_table.specs.Places.{ShelfView, place_cmp, place_of}
 use Rattle.token_table.proofs.Placing.{lookup_placed}
-use Rattle.token_table.proofs.Shelving.{values_are, taken_entries, taken}
+use Rattle.token_table.proofs.Shelving.{others_stay, values_are, taken_entries, taken}
 use Rattle.token_table.proofs.shelf.Shelf.drop_id.Goals as goal
+
+pub take_from_file-requires : goal.take_from_file-requires
+take_from_file-requires c =
+    let s = c.self.inside in
+    let found : find (λ t. same_id t.id c.args.id) (values s.tokens) ≡ Some c.in_ok-token.token =
+    sym (lookup_placed s.server s.epoch c.args.id (values s.tokens))
+    ∙ ap (lookup (is_at (place_cmp (place_of s.server s.epoch c.args.id)))) (sym c.self.invariant.placed)
+    ∙ ap (λ k. lookup (is_at (place_cmp k)) s.tokens.entries) (sym c.place_of.ensures)
+    ∙ sym c.in_ok-token.ensures.value in
+    others_stay s.server s.epoch s.tokens s.tokens s.files s.files c.self.invariant c.args.id c.len.ensures.ordered
+    c.in_ok-token.token found c.file_key.result
 
 pub invariant_of-self-2 : goal.invariant_of-self-2
 invariant_of-self-2 c =

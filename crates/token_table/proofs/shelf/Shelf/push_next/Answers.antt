@@ -1,6 +1,6 @@
 use Rattle.std.proofs.Common.{[], ◌∷◌, ◌++◌, ap, sym, ◌∙◌, arith}
 use Rattle.std.specs.List.{filter}
-use Rattle.token_table.specs.declared.shelf.Kept.TheVariants.{UpTo}
+use Rattle.token_table.specs.declared.places.Kept.TheVariants.{UpTo}
 use Rattle.token_table.specs.Places.{ShelfView}
 use Rattle.token_table.specs.Shelves.{keeps}
 use Rattle.token_table.specs.Tables.{token_for}

@@ -4,12 +4,12 @@ use Rattle.token_types.specs.Conflicts.{blocks}
 use Rattle.token_table.proofs.Nearby.{near_any, near_end, found_near}
 use Rattle.token_table.proofs.table.TokenTable.is_in_the_way.Goals as goal
 
-pub returns-then-blocks_any : goal.returns-then-blocks_any
-returns-then-blocks_any c =
+pub returns-then-bars : goal.returns-then-bars
+returns-then-bars c =
     let test = blocks c.args.host c.args.needs.now in
     let now = c.args.self.now.tokens in
     let fresh = sym c.names_file.ensures ∙ c.if-not-names_file.true in
-    let here = ap (list_any test) (sym c.of_file.ensures) ∙ sym c.blocks_any.ensures ∙ c.if-blocks_any.true in
+    let here = sym c.bars.ensures ∙ c.if-bars.true in
     sym (found_near test now c.args.needs.now c.loop-index.index c.index-needs-index.result c.loop-index-test.true
     (sym c.index-needs-index.is) fresh here)
     ∙ sym c.loop-index.invariant ∙ near_any c.args.host c.args.needs.now now

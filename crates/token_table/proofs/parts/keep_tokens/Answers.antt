@@ -1,6 +1,6 @@
 use Rattle.std.proofs.Common.{rules}
 use Rattle.std.proofs.lemmas.Fn.{filter_same}
-use Rattle.token_table.proofs.shelf.keep_each.Goals as goal
+use Rattle.token_table.proofs.parts.keep_tokens.Goals as goal
 
 pub returns : goal.returns
 returns c = filter_same _ _ _ (λ x b f' k. search rules) _ _ c.retain.ensures
