@@ -17,7 +17,7 @@ use base_io::{StdSink, StdSource};
 use base_types::NoMemory;
 use disk_device::{FileDisk, FileFault};
 use script_commands::disk_names;
-use service_run::{Outcome, Status, refuse_disk, run};
+use service_run::{OpenGate, Outcome, Status, refuse_disk, run};
 use std::alloc::{AllocError, Global};
 use std::fs::File;
 use std::io::ErrorKind;
@@ -59,6 +59,7 @@ fn main(rt: HostRuntime) -> ExitCode {
                 &mut source,
                 &mut sink,
                 &mut disks,
+                &OpenGate,
             );
             tell_faults(&rt, names.as_slice(), disks.as_slice());
             code_of(outcome)

@@ -31,15 +31,15 @@ use tree_calls::Call;
 const OWN_STEPS_MAX: usize = 16;
 
 /// A host: its machine, its lines, and whether they may go.
-pub struct HostNode {
+pub struct HostNode<'a> {
     manager: Manager,
-    lines: OwnLines,
+    lines: OwnLines<'a>,
     between: Between,
     begun: bool,
     stopped: bool,
 }
 
-impl Drop for HostNode {
+impl Drop for HostNode<'_> {
     fn drop(self) {
         let HostNode {
             manager: _,
@@ -58,10 +58,10 @@ fn is_setup(host: HostId) -> bool
     host.0 == 0
 }
 
-impl HostNode {
+impl<'a> HostNode<'a> {
     /// A host of a script before its first step. The only error is NoMemory: where the script has no server, or more
     /// than 255, and else where memory ran out.
-    pub fn new(script: &Script, host: HostId) -> Result<HostNode, NoMemory>
+    pub fn new(script: &'a Script, host: HostId) -> Result<HostNode<'a>, NoMemory>
         requires user { IsSome (user_of script.now.roster host) }
         ensures { IfOk result (λ n. (run : Beginning) → run.script ≡ script.now → IsPlayable script.now
             → Stands (part_of run (IsHost host)) n [] []) }
@@ -429,7 +429,7 @@ fn deed_step(manager: &mut Manager, line: &Line) -> Result<Step, NoMemory>
     }
 }
 
-impl Node for HostNode {
+impl<'a> Node for HostNode<'a> {
     ghost use Rattle.host_node.specs.Standing.{Stands};
     ghost use Rattle.hub_node.specs.Lines.{next_number};
     ghost use Rattle.host_node.specs.Laws.{LacksMemory, hands_in, lacks};

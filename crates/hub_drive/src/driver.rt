@@ -11,6 +11,7 @@ ghost use Rattle.hub_drive.specs.declared.driver.Waiting.{Waiting as WaitingAt};
 ghost use Rattle.hub_drive.specs.Seats.{EachAt, HasStood, IsAtRest, IsSeated, IsThrough, PairsAt};
 ghost use Rattle.hub_node.specs.Nodes.{HasBecome};
 
+use crate::gate::Gate;
 use crate::rounds::{Went, turn_until};
 use crate::seat::Seat;
 use base_types::{Items, NoMemory};
@@ -287,7 +288,7 @@ fn hosts_of(script: &Script) -> usize {
 }
 
 // Takes turns at a hub, and closes it.
-fn run_at<N: Node + Send, R: Threads + Wait + Sync>(
+fn run_at<N: Node + Send, R: Threads + Wait + Sync, G: Gate + Sync>(
     rt: &R,
     alloc: Global,
     script: &Script,
@@ -299,6 +300,7 @@ fn run_at<N: Node + Send, R: Threads + Wait + Sync>(
     passes: Vec<NodePass>,
     left: Vec<Items<Step>>,
     workers: u32,
+    gate: &G,
 ) -> Driven<N>
     requires can { CanStart script.now start epochs }
     requires hub { IsHubOf script.now hub }
@@ -326,7 +328,7 @@ fn run_at<N: Node + Send, R: Threads + Wait + Sync>(
     ensures stuck { (w : WaitingAt) → result.result ≡ Err (StuckAt w) → IfSome result.so_far (λ journal.
         StandAfter N.stands (beginning script.now start epochs) journal result.nodes.items) }
 {
-    let went = turn_until(rt, &hub, hosts_of(script), &mut seats, workers);
+    let went = turn_until(rt, &hub, gate, hosts_of(script), &mut seats, workers);
     if went.through {
         return finish(
             alloc, script, start, epochs, hub, seats, nodes, passes, left,
@@ -374,8 +376,9 @@ fn rooms<N: Drop>(
 /// come to rest each stands on those in the journal.
 ///
 /// The nodes come back in their order, whatever comes: where the run went to its end, with what stays of each; else
-/// each with that, or as it is where something failed there. It may wait for what never comes about.
-pub fn drive<N: Node + Send, R: Threads + Wait + Sync>(
+/// each with that, or as it is where something failed there. It may wait for what never comes about. The gate is told
+/// before a node goes on; nothing rests on what it does.
+pub fn drive<N: Node + Send, R: Threads + Wait + Sync, G: Gate + Sync>(
     rt: &R,
     alloc: Global,
     script: &Script,
@@ -383,6 +386,7 @@ pub fn drive<N: Node + Send, R: Threads + Wait + Sync>(
     epochs: Items<u64>,
     nodes: Vec<N>,
     workers: u32,
+    gate: &G,
 ) -> Driven<N>
     requires can { CanStart script.now start epochs }
     requires nodes { AreNodes N.stands (beginning script.now start epochs) nodes.items }
@@ -430,5 +434,6 @@ pub fn drive<N: Node + Send, R: Threads + Wait + Sync>(
         passes_back,
         left,
         workers,
+        gate,
     )
 }

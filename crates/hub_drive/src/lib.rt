@@ -4,8 +4,10 @@
 
 mod dealing;
 mod driver;
+mod gate;
 mod rounds;
 mod seat;
 
 pub use driver::{DriveFault, Driven, Waiting, drive};
+pub use gate::{Gate, OpenGate};
 pub use seat::Seat;

@@ -4,6 +4,7 @@ ghost use Rattle.hub_drive.specs.Seats.{EachAt, HasGone, IsAtRest, IsHere, IsIn,
 ghost use Rattle.hub_node.specs.Nodes.{Beginning};
 
 use crate::dealing::{collect, deal, empty_bundles};
+use crate::gate::Gate;
 use crate::seat::{Seat, turn};
 use hub_node::Node;
 use hub_turns::{Hub, Turned};
@@ -25,7 +26,12 @@ pub(crate) struct Went {
 }
 
 /// Each node takes a turn, one after the other.
-pub(crate) fn turn_all<N: Node, R: Wait>(rt: &R, hub: &Hub, seats: &mut [Seat<N>]) -> Went
+pub(crate) fn turn_all<N: Node, R: Wait, G: Gate>(
+    rt: &R,
+    hub: &Hub,
+    gate: &G,
+    seats: &mut [Seat<N>],
+) -> Went
     requires { EachAt (IsHere N.stands hub.now) seats.old }
     ensures kept { EachAt (IsHere N.stands hub.now) seats.new }
     ensures through { (run : Beginning) → EachAt (IsIn N.stands run hub.now) seats.old → result.through ≡ true
@@ -40,7 +46,7 @@ pub(crate) fn turn_all<N: Node, R: Wait>(rt: &R, hub: &Hub, seats: &mut [Seat<N>
         stopped: false,
     };
     for k in 0..seats.len() {
-        let turned = turn(rt, hub, &mut seats[k]);
+        let turned = turn(rt, hub, gate, &mut seats[k]);
         went = went_on(went, turned, seats[k].fault.is_some());
     }
     went
@@ -128,7 +134,13 @@ impl Words {
 }
 
 // What one worker does: its nodes take turns as long as any worker has something to do, and nothing failed.
-fn work<N: Node, R: Wait>(rt: &R, hub: &Hub, words: &Words, seats: &mut [Seat<N>])
+fn work<N: Node, R: Wait, G: Gate>(
+    rt: &R,
+    hub: &Hub,
+    gate: &G,
+    words: &Words,
+    seats: &mut [Seat<N>],
+)
     requires { EachAt (IsHere N.stands hub.now) seats.old }
     ensures kept { EachAt (IsHere N.stands hub.now) seats.new }
     ensures gone { PairsAt (HasGone N.stands N.stays N.failed hub.now) seats.old seats.new }
@@ -136,7 +148,7 @@ fn work<N: Node, R: Wait>(rt: &R, hub: &Hub, words: &Words, seats: &mut [Seat<N>
     words.late.fetch_sub(1, Ordering::SeqCst);
     for _ in rt.forever() {
         let seen = words.events.load(Ordering::SeqCst);
-        let went = turn_all(rt, hub, seats);
+        let went = turn_all(rt, hub, gate, seats);
         if went.stopped {
             words.stop.store(1, Ordering::SeqCst);
             words.tell();
@@ -152,17 +164,24 @@ fn work<N: Node, R: Wait>(rt: &R, hub: &Hub, words: &Words, seats: &mut [Seat<N>
 }
 
 // A worker's nodes take turns.
-fn work_bundle<N: Node, R: Wait>(rt: &R, hub: &Hub, words: &Words, bundle: &mut Vec<Seat<N>>)
+fn work_bundle<N: Node, R: Wait, G: Gate>(
+    rt: &R,
+    hub: &Hub,
+    gate: &G,
+    words: &Words,
+    bundle: &mut Vec<Seat<N>>,
+)
     requires { EachAt (IsHere N.stands hub.now) bundle.old.items }
     ensures gone { PairsAt (HasGone N.stands N.stays N.failed hub.now) bundle.old.items bundle.new.items }
 {
-    work(rt, hub, words, bundle.as_mut_slice());
+    work(rt, hub, gate, words, bundle.as_mut_slice());
 }
 
 // Each bundle of nodes takes turns on a thread, where one can be started, until none has anything to do.
-fn turn_bundles<N: Node + Send, R: Threads + Wait + Sync>(
+fn turn_bundles<N: Node + Send, R: Threads + Wait + Sync, G: Gate + Sync>(
     rt: &R,
     hub: &Hub,
+    gate: &G,
     bundles: &mut [Vec<Seat<N>>],
 )
     requires some { 0 < length bundles.old }
@@ -181,14 +200,15 @@ fn turn_bundles<N: Node + Send, R: Threads + Wait + Sync>(
             requires { EachAt (IsHere N.stands hub.now) bundle.now.items }
             ensures gone { PairsAt (HasGone N.stands N.stays N.failed hub.entry.now) bundle.entry.now.items
                 bundle.exit.now.items }
-        { work_bundle(rt, hub, told, bundle) },
+        { work_bundle(rt, hub, gate, told, bundle) },
     );
 }
 
 // Nodes are dealt out, take turns on threads until none has anything to do, and are collected again.
-fn turn_dealt<N: Node + Send, R: Threads + Wait + Sync>(
+fn turn_dealt<N: Node + Send, R: Threads + Wait + Sync, G: Gate + Sync>(
     rt: &R,
     hub: &Hub,
+    gate: &G,
     hosts: usize,
     seats: &mut Vec<Seat<N>>,
     bundles: &mut [Vec<Seat<N>>],
@@ -200,15 +220,16 @@ fn turn_dealt<N: Node + Send, R: Threads + Wait + Sync>(
 {
     let count = seats.len();
     deal(hosts, seats, bundles);
-    turn_bundles(rt, hub, bundles);
+    turn_bundles(rt, hub, gate, bundles);
     collect(hosts, count, bundles, seats);
 }
 
 // Nodes take turns by so many workers at most, each on a thread, until none has anything to do. Where memory lacks for
 // that, those that have no worker take none.
-fn turn_by_workers<N: Node + Send, R: Threads + Wait + Sync>(
+fn turn_by_workers<N: Node + Send, R: Threads + Wait + Sync, G: Gate + Sync>(
     rt: &R,
     hub: &Hub,
+    gate: &G,
     hosts: usize,
     seats: &mut Vec<Seat<N>>,
     workers: u32,
@@ -221,12 +242,17 @@ fn turn_by_workers<N: Node + Send, R: Threads + Wait + Sync>(
         return;
     };
     if !bundles.is_empty() {
-        turn_dealt(rt, hub, hosts, seats, bundles.as_mut_slice());
+        turn_dealt(rt, hub, gate, hosts, seats, bundles.as_mut_slice());
     }
 }
 
 // Each node takes a turn.
-fn turn_list<N: Node, R: Wait>(rt: &R, hub: &Hub, seats: &mut Vec<Seat<N>>) -> Went
+fn turn_list<N: Node, R: Wait, G: Gate>(
+    rt: &R,
+    hub: &Hub,
+    gate: &G,
+    seats: &mut Vec<Seat<N>>,
+) -> Went
     requires here { EachAt (IsHere N.stands hub.now) seats.old.items }
     ensures through { (run : Beginning) → EachAt (IsIn N.stands run hub.now) seats.old.items → result.through ≡ true
         → EachAt (IsThrough N.stands run hub.now N.tells) seats.new.items }
@@ -234,13 +260,14 @@ fn turn_list<N: Node, R: Wait>(rt: &R, hub: &Hub, seats: &mut Vec<Seat<N>>) -> W
         → result.stopped ≡ false → EachAt (IsAtRest N.stands run hub.now N.tells) seats.new.items }
     ensures gone { PairsAt (HasGone N.stands N.stays N.failed hub.now) seats.old.items seats.new.items }
 {
-    turn_all(rt, hub, seats.as_mut_slice())
+    turn_all(rt, hub, gate, seats.as_mut_slice())
 }
 
 // Nodes take turns by their workers, where there are several, and then one turn each.
-fn turn_once<N: Node + Send, R: Threads + Wait + Sync>(
+fn turn_once<N: Node + Send, R: Threads + Wait + Sync, G: Gate + Sync>(
     rt: &R,
     hub: &Hub,
+    gate: &G,
     hosts: usize,
     seats: &mut Vec<Seat<N>>,
     workers: u32,
@@ -253,18 +280,19 @@ fn turn_once<N: Node + Send, R: Threads + Wait + Sync>(
     ensures gone { PairsAt (HasGone N.stands N.stays N.failed hub.now) seats.old.items seats.new.items }
 {
     if workers <= 1 {
-        return turn_list(rt, hub, seats);
+        return turn_list(rt, hub, gate, seats);
     }
-    turn_by_workers(rt, hub, hosts, seats, workers);
-    turn_list(rt, hub, seats)
+    turn_by_workers(rt, hub, gate, hosts, seats, workers);
+    turn_list(rt, hub, gate, seats)
 }
 
 /// Nodes, of which so many are hosts, the first, take turns until all are done, or nothing more can be done, as where
 /// something failed. Answers what came of a turn of each at last. With more than one worker they do so on threads, each
 /// kind dealt out in turn.
-pub(crate) fn turn_until<N: Node + Send, R: Threads + Wait + Sync>(
+pub(crate) fn turn_until<N: Node + Send, R: Threads + Wait + Sync, G: Gate + Sync>(
     rt: &R,
     hub: &Hub,
+    gate: &G,
     hosts: usize,
     seats: &mut Vec<Seat<N>>,
     workers: u32,
@@ -277,7 +305,7 @@ pub(crate) fn turn_until<N: Node + Send, R: Threads + Wait + Sync>(
     ensures gone { PairsAt (HasGone N.stands N.stays N.failed hub.now) seats.old.items seats.new.items }
 {
     for _ in rt.forever() {
-        let went = turn_once(rt, hub, hosts, seats, workers);
+        let went = turn_once(rt, hub, gate, hosts, seats, workers);
         let rested = !went.worked;
         if went.through || went.stopped || rested {
             return went;

@@ -4,6 +4,7 @@ ghost use Rattle.hub_board.specs.declared.given.Turned.TheVariants.{Ended as Has
 ghost use Rattle.hub_drive.specs.Seats.{HasGone, HasStood, IsAtRest, IsHere, IsIn, IsSeated, IsThrough};
 ghost use Rattle.hub_node.specs.Nodes.{Beginning};
 
+use crate::gate::Gate;
 use hub_node::{Node, NodeFault};
 use hub_turns::{Hub, NodePass, Pending, Turned};
 use std::sync::Wait;
@@ -26,8 +27,20 @@ fn was_done(turned: Turned) -> bool
     matches!(turned, Turned::Ended)
 }
 
+// The gate is told that a node goes on, where a line of it is left.
+fn tell<N: Node, G: Gate>(gate: &G, seat: &Seat<N>) {
+    if let Some(line) = seat.node.waiting() {
+        gate.before(seat.pass.node(), line);
+    }
+}
+
 // A turn of a node: its steps are handed in, it takes what it is given, and does what it can.
-fn take_turn<N: Node, R: Wait>(rt: &R, hub: &Hub, seat: &mut Seat<N>) -> Result<Turned, NodeFault>
+fn take_turn<N: Node, R: Wait, G: Gate>(
+    rt: &R,
+    hub: &Hub,
+    gate: &G,
+    seat: &mut Seat<N>,
+) -> Result<Turned, NodeFault>
     requires { (run : Beginning) × IsSeated N.stands run hub.now seat.old }
     ensures kept { (run : Beginning) → IsSeated N.stands run hub.now seat.old
         → OnOk result (IsSeated N.stands run hub.now seat.new) }
@@ -48,12 +61,18 @@ fn take_turn<N: Node, R: Wait>(rt: &R, hub: &Hub, seat: &mut Seat<N>) -> Result<
     let Ok(given) = hub.turn(rt, &mut seat.pass, &mut seat.steps) else {
         return Err(NodeFault::Memory);
     };
+    tell(gate, seat);
     seat.node.work(given, &mut seat.steps)
 }
 
 /// A turn of a node, where nothing failed there before. What fails is noted. One that handed steps in did something,
 /// since others may take what they send. It may wait for the turns of other threads.
-pub(crate) fn turn<N: Node, R: Wait>(rt: &R, hub: &Hub, seat: &mut Seat<N>) -> Turned
+pub(crate) fn turn<N: Node, R: Wait, G: Gate>(
+    rt: &R,
+    hub: &Hub,
+    gate: &G,
+    seat: &mut Seat<N>,
+) -> Turned
     requires { IsHere N.stands hub.now seat.old }
     ensures through { (run : Beginning) → IsIn N.stands run hub.now seat.old → result ≡ HasEnded
         → IsThrough N.stands run hub.now N.tells seat.new }
@@ -65,7 +84,7 @@ pub(crate) fn turn<N: Node, R: Wait>(rt: &R, hub: &Hub, seat: &mut Seat<N>) -> T
         return Turned::Idle;
     }
     let handed = !seat.steps.as_slice().is_empty();
-    match take_turn(rt, hub, seat) {
+    match take_turn(rt, hub, gate, seat) {
         Ok(turned) => {
             seat.ended = was_done(turned);
             if handed { Turned::Worked } else { turned }

@@ -1,6 +1,7 @@
 -- Nodes that make no steps are done, and may take part.
-use Rattle.std.proofs.Common.{◌≡◌, ℕ, Bool, true, false, cond, ◌==◌, List, [], ◌∷◌, Option, None, Some, is_some, inr}
-use Rattle.std.proofs.Common.{filter, length, ◌++◌, refl, sym, ap, ◌∙◌, subst, arith}
+use Rattle.std.proofs.Common.{◌≡◌, ◌<◌, ◌≤◌, ◌⊎◌, ⊎_elim, inl, inr, ℕ, zero, suc, Bool, true, false, cond, ◌==◌}
+use Rattle.std.proofs.Common.{List, [], ◌∷◌, Option, None, Some, is_some, filter, get_or, length, ◌++◌}
+use Rattle.std.proofs.Common.{refl, sym, ap, ◌∙◌, subst, arith}
 use Rattle.base_types.specs.declared.ids.HostId.{HostId}
 use Rattle.base_types.specs.declared.ids.Node.{Node}
 use Rattle.base_types.specs.declared.ids.Node.TheVariants.{Host, Server}
@@ -16,8 +17,27 @@ use Rattle.hub_board.specs.declared.given.Given.{Given}
 use Rattle.hub_laws.specs.Keeping.{Round, steps_in}
 use Rattle.hub_node.specs.Nodes.{Beginning, IsDone, Knows, Part}
 use Rattle.hub_drive.specs.Driving.{AreNodes, CanStart, beginning}
-use Rattle.hub_drive_tests.specs.Stubs.{StandsIdle}
+use Rattle.hub_drive_tests.specs.Stubs.{RestServers, StandsIdle, may_rest}
 use Rattle.hub_drive_tests.specs.declared.stub.Stub.{Stub}
+
+front_at : (xs ys : List Stub) (i : ℕ) (d : Stub) → i < length xs → get_or (xs ++ ys) i d ≡ get_or xs i d
+front_at [] ys i d lt = absurd (omega (arith, lt))
+front_at (x ∷ xs) ys zero d lt = refl
+front_at (x ∷ xs) ys (suc i) d lt = front_at xs ys i d (omega (arith, lt))
+
+push_at : (xs : List Stub) (x : Stub) (i : ℕ) (d : Stub) → i ≡ length xs → get_or (xs ++ x ∷ []) i d ≡ x
+push_at [] x zero d e = refl
+push_at [] x (suc i) d e = absurd (omega (arith, e))
+push_at (y ∷ xs) x zero d e = absurd (omega (arith, e))
+push_at (y ∷ xs) x (suc i) d e = push_at xs x i d (omega (arith, e))
+
+below_or_at : (xs : List Stub) (x : Stub) (i : ℕ) → i < length (xs ++ x ∷ []) → (i < length xs) ⊎ (i ≡ length xs)
+below_or_at [] x zero lt = inr refl
+below_or_at [] x (suc i) lt = absurd (omega (arith, lt))
+below_or_at (y ∷ xs) x zero lt = inl (omega arith)
+below_or_at (y ∷ xs) x (suc i) lt = ⊎_elim
+    (λ (less : i < length xs). inl (omega (arith, less))) (λ (same : i ≡ length xs). inr (omega (arith, same)))
+    (below_or_at xs x i (omega (arith, lt)))
 
 -- a host has no lines in such a script
 no_lines : (script : Script) (host : HostId) → script.setup ≡ [] → script.lines ≡ []
@@ -43,13 +63,14 @@ pub still_none : (past : List Round) (made : List Step) (given : Option Given) �
 still_none past made given nothing none = ap (λ l. appended l (steps_in past)) nothing ∙ none
 
 pub stands_on : (part : Part) (n new : Stub) (past : List Round) (made steps : List Step) (given : Option Given)
-    → StandsIdle part n past made → steps ≡ []
+    → StandsIdle part n past made → new.part ≡ n.part → steps ≡ []
     → StandsIdle part new (record { steps = made; given = given } ∷ past) steps
-stands_on part n new past made steps given stood none = record {
+stands_on part n new past made steps given stood same none = record {
   nothing = none;
   none = still_none past made given stood.nothing stood.none;
   setup = stood.setup;
   lines = stood.lines;
+  server = (λ rests. stood.server (sym (ap may_rest same) ∙ rests));
 }
 
 -- nothing was given
@@ -63,13 +84,58 @@ seven script hosts servers =
     ap (λ n. length (hosts_up_to n ++ servers_up_to script.servers)) hosts
     ∙ ap (λ n. length (hosts_up_to 4 ++ servers_up_to n)) servers
 
+-- one more
+at_push : (stubs : List Stub) (new d : Stub) (i : ℕ) → i < length (stubs ++ new ∷ [])
+    → (may_rest (get_or stubs i d).part ≡ true → i < length stubs → 5 ≤ i)
+    → (may_rest new.part ≡ true → 5 ≤ length stubs)
+    → may_rest (get_or (stubs ++ new ∷ []) i d).part ≡ true → 5 ≤ i
+at_push stubs new d i lt front last rests = ⊎_elim
+    (λ (less : i < length stubs).
+    front (subst (λ s. may_rest s.part ≡ true) (front_at stubs (new ∷ []) i d less) rests) less)
+    (λ (same : i ≡ length stubs). subst (λ n. 5 ≤ n) (sym same)
+    (last (subst (λ s. may_rest s.part ≡ true) (push_at stubs new i d same) rests)))
+    (below_or_at stubs new i lt)
+
+pub rest_push : (stubs : List Stub) (new : Stub) (place : ℕ) → RestServers stubs → length stubs ≡ place
+    → (may_rest new.part ≡ true → 5 ≤ place) → RestServers (stubs ++ new ∷ [])
+rest_push stubs new place rest many last = record {
+  places = (λ i d lt. at_push stubs new d i lt (λ rests less. rest.places i d less rests)
+      (λ rests. subst (λ n. 5 ≤ n) (sym many) (last rests)));
+}
+
+pub rest_none : RestServers []
+rest_none = record { places = (λ i d lt rests. absurd (omega (arith, lt))) }
+
+-- the last two are servers
+last_two : (i : ℕ) (node : Node) → 5 ≤ i → i < 7 → Knows ⊥ (get_or (hosts_up_to 4 ++ servers_up_to 2) i node) → ⊥
+last_two zero node le lt knows = absurd (omega (arith, le))
+last_two (suc zero) node le lt knows = absurd (omega (arith, le))
+last_two (suc (suc zero)) node le lt knows = absurd (omega (arith, le))
+last_two (suc (suc (suc zero))) node le lt knows = absurd (omega (arith, le))
+last_two (suc (suc (suc (suc zero)))) node le lt knows = absurd (omega (arith, le))
+last_two (suc (suc (suc (suc (suc zero))))) node le lt knows = knows
+last_two (suc (suc (suc (suc (suc (suc zero)))))) node le lt knows = knows
+last_two (suc (suc (suc (suc (suc (suc (suc i))))))) node le lt knows = absurd (omega (arith, lt))
+
+nodes_are : (script : Script) → length script.roster.hosts ≡ 4 → script.servers ≡ 2
+    → nodes_of script ≡ hosts_up_to 4 ++ servers_up_to 2
+nodes_are script hosts servers =
+    ap (λ n. hosts_up_to n ++ servers_up_to script.servers) hosts ∙ ap (λ n. hosts_up_to 4 ++ servers_up_to n) servers
+
 -- stubs can be the nodes of such a script
 pub may_take_part : (script : Script) (start : Tree) (epochs : List ℕ) (stubs : List Stub)
     → length script.roster.hosts ≡ 4 → script.servers ≡ 2 → script.setup ≡ [] → script.lines ≡ []
-    → length stubs ≡ 7 → AreNodes StandsIdle (beginning script start epochs) stubs
-may_take_part script start epochs stubs hosts servers setup lines many = record {
+    → length stubs ≡ 7 → RestServers stubs → AreNodes StandsIdle (beginning script start epochs) stubs
+may_take_part script start epochs stubs hosts servers setup lines many rest = record {
   count = many ∙ sym (seven script hosts servers);
-  fresh = (λ i n node lt. record { nothing = refl; none = refl; setup = setup; lines = lines });
+  fresh = (λ i n node lt. record {
+    nothing = refl;
+    none = refl;
+    setup = setup;
+    lines = lines;
+    server = (λ rests knows. last_two i node (rest.places i n lt rests) (subst (λ k. i < k) many lt)
+        (subst (λ l. Knows ⊥ (get_or l i node)) (nodes_are script hosts servers) knows));
+  });
 }
 
 pub can_start : (script : Script) (start : Tree) (epochs : List ℕ) → IsValid start → start.roster ≡ script.roster

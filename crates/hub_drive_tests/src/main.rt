@@ -1,6 +1,6 @@
 //! The driver by example, over nodes that make no steps. Each row of standard input says on how many workers they take
-//! turns, and what is tried: which two can be at work at once, or at which turn which of them fails. Every row that
-//! gets something else is printed, and at the end the number of rows.
+//! turns, and what is tried: which two can be at work at once, or at which turn which of them fails, or rests. Every
+//! row that gets something else is printed, and at the end the number of rows.
 #![tactic(auto)]
 
 mod running;
@@ -17,8 +17,9 @@ const WAIT: u64 = 100_000_000_000;
 const LOOK: u64 = 1_000_000;
 
 // A row `NAME | WORKERS TRIAL | GIVES`. TRIAL is `NODE waits NODE`, where the first waits in its first turn until the
-// other has begun its second; the same with `looks`, where it gives up soon; or `NODE fails TURN`. GIVES is `met`,
-// `missed`, or the place of the node that failed.
+// other has begun its second; the same with `looks`, where it gives up soon; `NODE fails TURN`; or `NODE rests TURN`,
+// of a server. GIVES is `met`, `missed`, the place of the node that failed, or that of one that isn't done, and its
+// line.
 #[derive(Clone, Copy)]
 struct Row<'a> {
     name: &'a str,
@@ -55,6 +56,10 @@ fn trial_of(text: &str) -> Option<Trial> {
             often: LOOK,
         }),
         "fails" => Some(Trial::Fails {
+            node,
+            turn: last.parse().ok()?,
+        }),
+        "rests" => Some(Trial::Rests {
             node,
             turn: last.parse().ok()?,
         }),

@@ -1,12 +1,13 @@
 //! Runs over stubs.
-ghost use Rattle.std.specs.Prelude.{◌≡◌, [], IfOk, length, true};
+ghost use Rattle.std.specs.Prelude.{◌≡◌, ◌≤◌, [], IfOk, length, true};
 ghost use Rattle.run_rules.specs.Runs.{IsValid};
 ghost use Rattle.tree_calls.specs.Limits.{keeps_limits};
+ghost use Rattle.hub_drive_tests.specs.Stubs.{RestServers, may_rest};
 
 use crate::stub::{Part, Stub};
 use anyhow::Result;
 use base_types::{CAPACITY_DEFAULT, Items, Name, NoMemory, User};
-use hub_drive::{DriveFault, Driven, drive};
+use hub_drive::{DriveFault, Driven, OpenGate, Waiting, drive};
 use script_lines::Script;
 use std::alloc::Global;
 use std::sync::atomic::AtomicU64;
@@ -17,6 +18,12 @@ use tree_calls::{HostLine, Roster};
 
 // How many nodes there are: the setup host, four other hosts and two servers.
 const NODES: usize = 7;
+
+// How many of them are hosts.
+const HOSTS: usize = 5;
+
+// The number of the next line of a node that rests.
+const LINE: u32 = 9;
 
 // How many turns each takes before it is done.
 const TURNS: u32 = 4;
@@ -32,6 +39,11 @@ pub enum Trial {
     },
     /// The store of a node fails at this turn, from 1 on.
     Fails {
+        node: usize,
+        turn: u32,
+    },
+    /// From this turn on, from 1, a server does nothing, and isn't done.
+    Rests {
         node: usize,
         turn: u32,
     },
@@ -82,7 +94,9 @@ fn start_of(alloc: Global, roster: &Roster) -> Result<Tree, NoMemory>
 }
 
 // What the node at a place does beside its turns.
-fn part_of(trial: Trial, place: usize) -> Part {
+fn part_of(trial: Trial, place: usize) -> Part
+    ensures { may_rest result ≡ true → 5 ≤ place }
+{
     match trial {
         Trial::Meets { node, other, often } => {
             if place == node {
@@ -100,19 +114,38 @@ fn part_of(trial: Trial, place: usize) -> Part {
                 Part::None
             }
         }
+        Trial::Rests { node, turn } => {
+            if place == node && HOSTS <= place {
+                Part::Rests(turn)
+            } else {
+                Part::None
+            }
+        }
     }
 }
 
+// The next line of a node with this part.
+fn line_of(part: Part) -> Option<u32> {
+    match part {
+        Part::Rests(_) => Some(LINE),
+        _ => None,
+    }
+}
+
+#[tactic(auto, using(crate::proofs::Stubs::rest_none, crate::proofs::Stubs::rest_push))]
 fn stubs_of(alloc: Global, trial: Trial, word: &Arc<AtomicU64, Global>) -> Result<Vec<Stub>>
-    ensures { IfOk result (λ stubs. length stubs.items ≡ 7) }
+    ensures many { IfOk result (λ stubs. length stubs.items ≡ 7) }
+    ensures rest { IfOk result (λ stubs. RestServers stubs.items) }
 {
     let mut stubs = Vec::new(alloc);
     for place in 0..NODES {
+        let part = part_of(trial, place);
         stubs.push(Stub {
             place,
-            part: part_of(trial, place),
+            part,
             left: TURNS,
             taken: 0,
+            line: line_of(part),
             word: Arc::try_clone(word)?,
             met: false,
         })?;
@@ -139,7 +172,17 @@ fn tell(alloc: Global, driven: &Driven<Stub>) -> Result<String> {
         Ok(_) if driven.nodes.iter().any(|stub| stub.met) => format!(in alloc; "met")?,
         Ok(_) => format!(in alloc; "missed")?,
         Err(DriveFault::Store(k)) => format!(in alloc; "{k}")?,
-        Err(_) => format!(in alloc; "stopped")?,
+        Err(DriveFault::Stuck(waiting)) => stuck(alloc, *waiting)?,
+        Err(DriveFault::Memory) => format!(in alloc; "stopped")?,
+    })
+}
+
+// Who waits, and at which line.
+fn stuck(alloc: Global, waiting: Waiting) -> Result<String> {
+    let node = waiting.node;
+    Ok(match waiting.line {
+        Some(line) => format!(in alloc; "{node} at line {line}")?,
+        None => format!(in alloc; "{node} at its end")?,
     })
 }
 
@@ -153,10 +196,11 @@ fn drive_stubs<R: Threads + Wait + Sync>(
 ) -> Result<String>
     requires epochs { length epochs ≡ 2 }
     requires stubs { length stubs.items ≡ 7 }
+    requires rest { RestServers stubs.items }
 {
     let script = script_of(alloc)?;
     let start = start_of(alloc, &script.roster)?;
-    let driven = drive(rt, alloc, &script, start, epochs, stubs, workers);
+    let driven = drive(rt, alloc, &script, start, epochs, stubs, workers, &OpenGate);
     tell(alloc, &driven)
 }
 

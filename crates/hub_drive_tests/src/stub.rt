@@ -1,6 +1,7 @@
 //! A node that makes no steps.
-ghost use Rattle.std.specs.Prelude.{◌≡◌, false};
+ghost use Rattle.std.specs.Prelude.{◌≡◌, false, true};
 ghost use Rattle.hub_board.specs.declared.given.Turned.TheVariants.{Idle, Worked};
+ghost use Rattle.hub_drive_tests.specs.Stubs.{may_rest};
 
 use hub_node::{Node, NodeFault};
 use hub_turns::{Given, Pending, Turned};
@@ -19,6 +20,8 @@ pub enum Part {
     Tells,
     /// Its store fails at this turn, from 1 on.
     Fails(u32),
+    /// From this turn on, from 1, it does nothing, and isn't done. It is a server.
+    Rests(u32),
 }
 
 /// A node that takes so many turns before it is done, and what it found.
@@ -29,6 +32,8 @@ pub struct Stub {
     pub part: Part,
     pub left: u32,
     pub taken: u32,
+    /// The number of its next line, if one is left.
+    pub line: Option<u32>,
     pub word: Arc<AtomicU64, Global>,
     pub met: bool,
 }
@@ -43,22 +48,40 @@ fn hears(word: &AtomicU64, often: u64) -> bool {
     false
 }
 
-// What came of a turn, with so many left.
-fn turned(came: bool, left: u32) -> Turned
+// What came of a turn, with so many left, of a node that may rest.
+fn turned(came: bool, left: u32, rests: bool) -> Turned
     ensures quiet { (result ≡ Worked → ⊥) → came ≡ false }
-    ensures busy { result ≡ Idle → ⊥ }
+    ensures idle { result ≡ Idle → rests ≡ true }
 {
-    if came || left > 0 {
+    if came {
+        return Turned::Worked;
+    }
+    if rests {
+        return Turned::Idle;
+    }
+    if left > 0 {
         return Turned::Worked;
     }
     Turned::Ended
 }
 
 impl Stub {
-    // What it does beside, in a turn that it has begun. Answers whether its store fails.
-    fn act(&mut self) -> bool {
+    // Whether it does nothing, in a turn that it has begun.
+    fn rests(&self) -> bool
+        ensures { result ≡ true → may_rest self.now.part ≡ true }
+    {
         match self.part {
-            Part::None => false,
+            Part::Rests(turn) => turn <= self.taken,
+            _ => false,
+        }
+    }
+
+    // What it does beside, in a turn that it has begun. Answers whether its store fails.
+    fn act(&mut self) -> bool
+        ensures { self.new.part ≡ self.old.part }
+    {
+        match self.part {
+            Part::None | Part::Rests(_) => false,
             Part::Waits(often) => {
                 if self.taken == 1 {
                     self.met = hears(&self.word, often);
@@ -78,7 +101,6 @@ impl Stub {
 
 impl Node for Stub {
     ghost use Rattle.hub_drive_tests.specs.Stubs.{StandsIdle, hands_in};
-    ghost use Rattle.std.specs.Prelude.{None};
 
     ghost tells = { ⊥ };
 
@@ -88,10 +110,10 @@ impl Node for Stub {
 
     ghost failed = { λ fault a b. Unit {0} };
 
-    ghost next = { λ n. None };
+    ghost next = { λ n. n.line };
 
     fn waiting(&self) -> Option<u32> {
-        None
+        self.line
     }
 
     fn work(&mut self, given: Option<Given>, steps: &mut Pending) -> Result<Turned, NodeFault> {
@@ -100,10 +122,11 @@ impl Node for Stub {
         let _none = steps;
         self.taken = self.taken.saturating_add(1);
         self.left = self.left.saturating_sub(1);
+        let rests = self.rests();
         if self.act() {
             return Err(NodeFault::Store);
         }
-        Ok(turned(came, self.left))
+        Ok(turned(came, self.left, rests))
     }
 
     ghost hands_in = { hands_in };

@@ -28,13 +28,13 @@ use std::alloc::Global;
 use store_memory::Store;
 
 /// A server: its machine, its store and its lines.
-pub struct ServerNode<S> {
+pub struct ServerNode<'a, S> {
     exporter: Exporter,
     keeper: Keeper<S>,
-    lines: OwnLines,
+    lines: OwnLines<'a>,
 }
 
-impl<S: Drop> Drop for ServerNode<S> {
+impl<'a, S: Drop> Drop for ServerNode<'a, S> {
     fn drop(self) {
         let ServerNode {
             exporter: _,
@@ -50,7 +50,7 @@ fn machine_of(
     script: &Script,
     server: ServerId,
     epoch: u64,
-) -> Result<(Exporter, OwnLines), NoMemory>
+) -> Result<(Exporter, OwnLines<'_>), NoMemory>
     ensures machine { IfOk result (λ r. IsNew r.0 server epoch script.now.roster) }
     ensures lines { IfOk result
         (λ r. r.1 ≡ record { lines = lines_of script.now (IsServer server); gone = 0; told = None }) }
@@ -67,10 +67,10 @@ fn is_restart(deed: &Deed) -> bool
     matches!(deed, Deed::Restart)
 }
 
-impl<S: Store + Drop> ServerNode<S> {
+impl<'a, S: Store + Drop> ServerNode<'a, S> {
     /// A server of a script before its first step, over its store, which has begun the run. The only error is that
     /// memory ran out; then the store comes back.
-    pub fn new(script: &Script, server: ServerId, store: S) -> Result<ServerNode<S>, S>
+    pub fn new(script: &'a Script, server: ServerId, store: S) -> Result<ServerNode<'a, S>, S>
         requires ready { (S.view store).ready }
         requires mendable { (S.view store).mendable }
         requires wear { (S.view store).wear ≤ 2 ^ 46 }
@@ -94,7 +94,7 @@ impl<S: Store + Drop> ServerNode<S> {
 
     /// Its store.
     pub fn into_store(self) -> S
-        ensures { result ≡ self.keeper.store }
+        ensures { result ≡ self.entry.keeper.store }
     {
         let ServerNode {
             exporter,
@@ -378,7 +378,7 @@ fn push(steps: &mut Pending, step: Step) -> Result<(), NodeFault>
     Ok(())
 }
 
-impl<S: Store + Drop> Node for ServerNode<S> {
+impl<'a, S: Store + Drop> Node for ServerNode<'a, S> {
     ghost use Rattle.server_node.specs.Standing.{HasFailedBy, HasServed, Stands};
     ghost use Rattle.hub_node.specs.Lines.{next_number};
     ghost use Rattle.server_node.specs.Laws.{fails_on, hands_in, lacks, stays_on, stays_so};

@@ -7,4 +7,5 @@ mod nodes;
 mod running;
 
 pub use homes::{may_host, unmoved_law};
+pub use hub_drive::{Gate, OpenGate};
 pub use running::{Hosted, HostsStopped, run_hosts};

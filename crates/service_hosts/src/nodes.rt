@@ -18,7 +18,7 @@ use std::alloc::Global;
 use store_memory::Store;
 
 /// A node over a store of this type.
-pub(crate) type NodeOf<S> = AnyNode<HostNode, ServerNode<S>>;
+pub(crate) type NodeOf<'a, S> = AnyNode<HostNode<'a>, ServerNode<'a, S>>;
 
 /// The epochs of stores, in their order.
 pub(crate) fn epochs_of<S: Store>(alloc: Global, stores: &[S]) -> Result<Items<u64>, NoMemory>
@@ -34,10 +34,10 @@ pub(crate) fn epochs_of<S: Store>(alloc: Global, stores: &[S]) -> Result<Items<u
 }
 
 /// Makes room for all nodes of a script, and the hosts, the setup host first. The only error is that memory ran out.
-pub(crate) fn hosts_for<S: Store + Drop>(
+pub(crate) fn hosts_for<'a, S: Store + Drop>(
     alloc: Global,
-    script: &Script,
-) -> Result<Vec<NodeOf<S>>, NoMemory>
+    script: &'a Script,
+) -> Result<Vec<NodeOf<'a, S>>, NoMemory>
     requires sound { IsSound script.now }
     ensures over { IfOk result (λ nodes. AreOver nodes.items (length script.now.roster.hosts + 1) []) }
     ensures first { (run : Beginning) → run.script ≡ script.now → IsPlayable script.now
@@ -62,7 +62,10 @@ fn put_first<T: Drop>(items: &mut Vec<T>, item: T)
 }
 
 // Adds the hosts of a script, the setup host first. There is room for them.
-fn add_hosts<S: Store + Drop>(script: &Script, nodes: &mut Vec<NodeOf<S>>) -> Result<(), NoMemory>
+fn add_hosts<'a, S: Store + Drop>(
+    script: &'a Script,
+    nodes: &mut Vec<NodeOf<'a, S>>,
+) -> Result<(), NoMemory>
     requires sound { IsSound script.now }
     requires none { nodes.old.items ≡ [] }
     requires room { length script.now.roster.hosts + 1 ≤ vec_capacity nodes.old }
@@ -81,10 +84,10 @@ fn add_hosts<S: Store + Drop>(script: &Script, nodes: &mut Vec<NodeOf<S>>) -> Re
 
 // Adds the servers of a script behind its hosts, each over its store, which leaves the list. There is room for them.
 // Where memory runs out the stores of those that weren't made are in the list still.
-fn add_servers<S: Store + Drop>(
-    script: &Script,
+fn add_servers<'a, S: Store + Drop>(
+    script: &'a Script,
     stores: &mut Vec<S>,
-    nodes: &mut Vec<NodeOf<S>>,
+    nodes: &mut Vec<NodeOf<'a, S>>,
 ) -> Result<(), NoMemory>
     requires sound { IsSound script.now }
     requires count { length stores.old.items ≡ length script.now.roster.capacity }
@@ -114,9 +117,9 @@ fn add_servers<S: Store + Drop>(
 
 // Takes the store of a node, where it is a server's, back into a list that has room for it, in front of those that are
 // there.
-fn take_store<S: Store + Drop>(node: NodeOf<S>, stores: &mut Vec<S>)
+fn take_store<S: Store + Drop>(node: NodeOf<'_, S>, stores: &mut Vec<S>)
     requires { length (store_under node) + length stores.old.items ≤ vec_capacity stores.old }
-    ensures stores { stores.new.items ≡ store_under node ++ stores.old.items }
+    ensures stores { stores.new.items ≡ store_under node.entry ++ stores.old.items }
     ensures room { vec_capacity stores.old ≤ vec_capacity stores.new }
 {
     if let AnyNode::Server(server) = node {
@@ -125,9 +128,9 @@ fn take_store<S: Store + Drop>(node: NodeOf<S>, stores: &mut Vec<S>)
 }
 
 /// Takes the stores of nodes back into a list that has room for them, in front of those that are there.
-pub(crate) fn take_stores<S: Store + Drop>(nodes: Vec<NodeOf<S>>, stores: &mut Vec<S>)
+pub(crate) fn take_stores<S: Store + Drop>(nodes: Vec<NodeOf<'_, S>>, stores: &mut Vec<S>)
     requires { length (stores_in nodes.items) + length stores.old.items ≤ vec_capacity stores.old }
-    ensures { stores.new.items ≡ stores_in nodes.items ++ stores.old.items }
+    ensures { stores.new.items ≡ stores_in nodes.entry.items ++ stores.old.items }
 {
     let mut nodes = nodes;
     while let Some(node) = nodes.pop() {
@@ -137,11 +140,11 @@ pub(crate) fn take_stores<S: Store + Drop>(nodes: Vec<NodeOf<S>>, stores: &mut V
 
 /// The nodes of a script, where there is room for all, over these stores, which leave their list. Where memory runs out
 /// they are in it again.
-pub(crate) fn with_servers<S: Store + Drop>(
-    script: &Script,
+pub(crate) fn with_servers<'a, S: Store + Drop>(
+    script: &'a Script,
     stores: &mut Vec<S>,
-    nodes: Vec<NodeOf<S>>,
-) -> Result<Vec<NodeOf<S>>, NoMemory>
+    nodes: Vec<NodeOf<'a, S>>,
+) -> Result<Vec<NodeOf<'a, S>>, NoMemory>
     requires sound { IsSound script.now }
     requires count { length stores.old.items ≡ length script.now.roster.capacity }
     requires stores { AreStores S.view script.now.roster (2 ^ 40) 1 stores.old.items }
@@ -151,7 +154,7 @@ pub(crate) fn with_servers<S: Store + Drop>(
     ensures over { IfOk result (λ all.
         AreOver all.items (length script.now.roster.hosts + 1) stores.old.items) }
     ensures first { (run : Beginning) → run.script ≡ script.now → CanAll S.tells S.view run 1 stores.old.items
-        → AreFirst S.tells S.view run nodes.items → IfOk result (λ all. AreFirst S.tells S.view run all.items) }
+        → AreFirst S.tells S.view run nodes.entry.items → IfOk result (λ all. AreFirst S.tells S.view run all.items) }
     ensures taken { OnOk result (stores.new.items ≡ []) }
     ensures room { OnOk result (vec_capacity stores.old ≤ vec_capacity stores.new) }
     ensures back { OnErr result (stores.new.items ≡ stores.old.items) }

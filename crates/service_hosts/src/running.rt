@@ -20,7 +20,7 @@ ghost use Rattle.store_laws.specs.MoveKeeping.{KeepAll};
 
 use crate::nodes::{NodeOf, epochs_of, hosts_for, take_stores, with_servers};
 use base_types::{Items, NoMemory, ServerId};
-use hub_drive::{DriveFault, Waiting, drive};
+use hub_drive::{DriveFault, Gate, Waiting, drive};
 use run_rules::Journal;
 use script_lines::Script;
 use std::alloc::Global;
@@ -64,11 +64,11 @@ fn stopped_by(hosts: usize, fault: DriveFault) -> HostsStopped
 
 // The epochs of stores, and all nodes, over the stores, which leave their list. Where memory runs out they are in it
 // again.
-fn nodes_over<S: Store + Drop>(
+fn nodes_over<'a, S: Store + Drop>(
     alloc: Global,
-    script: &Script,
+    script: &'a Script,
     stores: &mut Vec<S>,
-) -> Result<(Items<u64>, Vec<NodeOf<S>>), NoMemory>
+) -> Result<(Items<u64>, Vec<NodeOf<'a, S>>), NoMemory>
     requires sound { IsSound script.now }
     requires count { length stores.old.items ≡ length script.now.roster.capacity }
     requires stores { AreStores S.view script.now.roster (2 ^ 40) 1 stores.old.items }
@@ -92,15 +92,16 @@ fn nodes_over<S: Store + Drop>(
 }
 
 // The nodes are driven, and their stores taken back into a list that has room for them.
-fn drive_all<S: Store + Drop + Send, R: Threads + Wait + Sync>(
+fn drive_all<S: Store + Drop + Send, R: Threads + Wait + Sync, G: Gate + Sync>(
     rt: &R,
     alloc: Global,
     script: &Script,
     start: Tree,
     epochs: Items<u64>,
-    nodes: Vec<NodeOf<S>>,
+    nodes: Vec<NodeOf<'_, S>>,
     room: Vec<S>,
     workers: u32,
+    gate: &G,
 ) -> Hosted<S>
     requires sound { IsSound script.now }
     requires valid { IsValid start }
@@ -112,20 +113,20 @@ fn drive_all<S: Store + Drop + Send, R: Threads + Wait + Sync>(
     requires first { AreFirst S.tells S.view (beginning script.now start epochs) nodes.items }
     requires none { room.items ≡ [] }
     requires room { length script.now.roster.capacity ≤ vec_capacity room }
-    ensures same { (stores : List S) → AreOver nodes.items (length script.now.roster.hosts + 1) stores
+    ensures same { (stores : List S) → AreOver nodes.entry.items (length script.now.roster.hosts + 1) stores
         → AreStores S.view script.now.roster (2 ^ 40) 1 stores → AreSame S.view stores result.stores.items }
-    ensures hosted { (stores : List S) → AreOver nodes.items (length script.now.roster.hosts + 1) stores
+    ensures hosted { (stores : List S) → AreOver nodes.entry.items (length script.now.roster.hosts + 1) stores
         → AreStores S.view script.now.roster (2 ^ 40) 1 stores → (S.tells → epochs ≡ epochs_of S.view stores)
         → IfOk result.result (HasHosted S.tells S.view script.now start stores result.stores.items) }
-    ensures stopped { (stores : List S) → AreOver nodes.items (length script.now.roster.hosts + 1) stores
+    ensures stopped { (stores : List S) → AreOver nodes.entry.items (length script.now.roster.hosts + 1) stores
         → IfErr result.result (IsStopped S.tells S.view script.now start stores result.stores.items) }
-    ensures so_far { (stores : List S) → AreOver nodes.items (length script.now.roster.hosts + 1) stores
+    ensures so_far { (stores : List S) → AreOver nodes.entry.items (length script.now.roster.hosts + 1) stores
         → (S.tells → epochs ≡ epochs_of S.view stores) → IfErr result.result (λ stopped. IfSome result.so_far
         (HasHostedSoFar S.tells S.view script.now start stores result.stores.items stopped)) }
     ensures lacks { IfErr result.result (λ stopped. result.so_far ≡ None → stopped ≡ OutOfMemory) }
 {
     let hosts = script.roster.hosts.len() + 1;
-    let driven = drive(rt, alloc, script, start, epochs, nodes, workers);
+    let driven = drive(rt, alloc, script, start, epochs, nodes, workers, gate);
     let result = driven.result;
     let so_far = driven.so_far;
     drop(driven.left);
@@ -146,7 +147,8 @@ fn drive_all<S: Store + Drop + Send, R: Threads + Wait + Sync>(
 }
 
 /// Hosts and servers run a script from a tree, over the stores of the servers, which have begun the run, on so many
-/// workers. The stores come back in their order, whatever comes.
+/// workers. The gate is told before one of them goes on at a line; nothing rests on what it does. The stores come back
+/// in their order, whatever comes.
 ///
 /// `Failed` comes only where the store of a server failed twice, and `Stuck` only where all hosts and servers have come
 /// to rest: in its newest round each handed in nothing and was given nothing, and none has made anything; one that isn't
@@ -156,13 +158,14 @@ fn drive_all<S: Store + Drop + Send, R: Threads + Wait + Sync>(
 /// Where the run came to no end its journal so far comes back beside the cause, but where memory lacks for it, and the
 /// cause is `Memory` then: as far as the stores tell what they keep it is a run of the script in which what is due is
 /// done; and where all came to rest each store keeps what its server keeps by the rules after all its steps in it.
-pub fn run_hosts<S: Store + Drop + Send, R: Threads + Wait + Sync>(
+pub fn run_hosts<S: Store + Drop + Send, R: Threads + Wait + Sync, G: Gate + Sync>(
     rt: &R,
     alloc: Global,
     script: &Script,
     start: Tree,
     stores: Vec<S>,
     workers: u32,
+    gate: &G,
 ) -> Hosted<S>
     requires sound { IsSound script.now }
     requires sayable { AreSayable script.now }
@@ -183,7 +186,9 @@ pub fn run_hosts<S: Store + Drop + Send, R: Threads + Wait + Sync>(
 {
     let mut stores = stores;
     match nodes_over(alloc, script, &mut stores) {
-        Ok((epochs, nodes)) => drive_all(rt, alloc, script, start, epochs, nodes, stores, workers),
+        Ok((epochs, nodes)) => drive_all(
+            rt, alloc, script, start, epochs, nodes, stores, workers, gate,
+        ),
         Err(NoMemory) => {
             drop(start);
             Hosted {

@@ -36,7 +36,7 @@ use script_lines::Script;
 use service_disks::{
     Count, Seat, ServerStore, StoresRefused, close_seats, close_stores, open_stores, seat_stores,
 };
-use service_hosts::{HostsStopped, may_host, run_hosts};
+use service_hosts::{Gate, HostsStopped, may_host, run_hosts};
 use service_moves::RunStopped;
 use service_plain::Played;
 use service_stores::{keep, start_on};
@@ -165,7 +165,13 @@ fn course_of(hosted: Result<Journal, HostsStopped>) -> Result<Course, Stopped>
 
 // Hosts and servers run a script from a tree on, over the seats of stores, which are watched meanwhile, and closed
 // then.
-fn host_over<D: Disk + Drop + Send, C: Count + Send, O: Origin + Send, R: Threads + Wait + Sync>(
+fn host_over<
+    D: Disk + Drop + Send,
+    C: Count + Send,
+    O: Origin + Send,
+    R: Threads + Wait + Sync,
+    G: Gate + Sync,
+>(
     rt: &R,
     alloc: Global,
     script: &Script,
@@ -173,6 +179,7 @@ fn host_over<D: Disk + Drop + Send, C: Count + Send, O: Origin + Send, R: Thread
     seats: Vec<Seat<D, C>>,
     disks: &mut Vec<D>,
     workers: u32,
+    gate: &G,
 ) -> Result<Course, Stopped>
     requires sound { IsSound script.now }
     requires sayable { AreSayable script.now }
@@ -195,7 +202,7 @@ fn host_over<D: Disk + Drop + Send, C: Count + Send, O: Origin + Send, R: Thread
     let mut seats = seats;
     match watch::<Seat<D, C>, O>(alloc, &mut seats) {
         Ok(watched) => {
-            let hosted = run_hosts(rt, alloc, script, start, watched, workers);
+            let hosted = run_hosts(rt, alloc, script, start, watched, workers, gate);
             unwatch(hosted.stores, &mut seats);
             close_seats(disks, seats);
             course_of(hosted.result)
@@ -209,7 +216,13 @@ fn host_over<D: Disk + Drop + Send, C: Count + Send, O: Origin + Send, R: Thread
 }
 
 // A script runs over the seats of stores, and they are closed then: hosts and servers run it where they can.
-fn run_over<D: Disk + Drop + Send, C: Count + Send, O: Origin + Send, R: Threads + Wait + Sync>(
+fn run_over<
+    D: Disk + Drop + Send,
+    C: Count + Send,
+    O: Origin + Send,
+    R: Threads + Wait + Sync,
+    G: Gate + Sync,
+>(
     rt: &R,
     alloc: Global,
     script: &Script,
@@ -217,6 +230,7 @@ fn run_over<D: Disk + Drop + Send, C: Count + Send, O: Origin + Send, R: Threads
     mut seats: Vec<Seat<D, C>>,
     disks: &mut Vec<D>,
     workers: u32,
+    gate: &G,
 ) -> Result<Course, Stopped>
     requires sound { IsSound script.now }
     requires goes { stuck_at script.now.lines ≡ None }
@@ -237,7 +251,7 @@ fn run_over<D: Disk + Drop + Send, C: Count + Send, O: Origin + Send, R: Threads
         script.now start result seats.items disks.old.items disks.new.items }
 {
     if may_host(script, &start) {
-        return host_over::<D, C, O, R>(rt, alloc, script, start, seats, disks, workers);
+        return host_over::<D, C, O, R, G>(rt, alloc, script, start, seats, disks, workers, gate);
     }
     let result = play_over(alloc, script, start, seats.as_mut_slice());
     close_seats(disks, seats);
@@ -245,7 +259,7 @@ fn run_over<D: Disk + Drop + Send, C: Count + Send, O: Origin + Send, R: Threads
 }
 
 // Runs a script over the stores of its servers, of which so many in front are on disks, and closes them.
-fn play_on<D: Disk + Drop + Send, C: Count + Send, R: Threads + Wait + Sync>(
+fn play_on<D: Disk + Drop + Send, C: Count + Send, R: Threads + Wait + Sync, G: Gate + Sync>(
     rt: &R,
     alloc: Global,
     script: &Script,
@@ -253,6 +267,7 @@ fn play_on<D: Disk + Drop + Send, C: Count + Send, R: Threads + Wait + Sync>(
     stores: Vec<ServerStore<D>>,
     disks: &mut Vec<D>,
     workers: u32,
+    gate: &G,
 ) -> Result<Course, Stopped>
     requires sound { IsSound script.now }
     requires goes { stuck_at script.now.lines ≡ None }
@@ -274,7 +289,9 @@ fn play_on<D: Disk + Drop + Send, C: Count + Send, R: Threads + Wait + Sync>(
         }
     };
     match start_on(alloc, seats.as_mut_slice(), count, &script.roster) {
-        Ok(start) => { run_over::<D, C, Brand, R>(rt, alloc, script, start, seats, disks, workers) }
+        Ok(start) => {
+            run_over::<D, C, Brand, R, G>(rt, alloc, script, start, seats, disks, workers, gate)
+        }
         Err(stopped) => {
             close_seats(disks, seats);
             Err(Stopped::Run(stopped))
@@ -310,13 +327,14 @@ fn tell_run<K: Sink>(
 
 /// Runs a script over disks, the first as that of server 1, and writes what came of it. A server without a disk keeps
 /// its filesets in memory. All disks are in the list again then, in their order.
-pub(crate) fn run_script<K: Sink, D: Disk + Drop + Send, R: Threads + Wait + Sync>(
+pub(crate) fn run_script<K: Sink, D: Disk + Drop + Send, R: Threads + Wait + Sync, G: Gate + Sync>(
     rt: &R,
     alloc: Global,
     play: Play,
     script: Script,
     disks: &mut Vec<D>,
     sink: &mut K,
+    gate: &G,
 ) -> Outcome
     requires sound { IsSound script }
     requires goes { stuck_at script.lines ≡ None }
@@ -333,7 +351,7 @@ pub(crate) fn run_script<K: Sink, D: Disk + Drop + Send, R: Threads + Wait + Syn
         Err(refused) => return refuse_opening(alloc, refused, sink),
     };
     let workers = workers_of(play);
-    match play_on::<D, Brand, R>(rt, alloc, &script, count, stores, disks, workers) {
+    match play_on::<D, Brand, R, G>(rt, alloc, &script, count, stores, disks, workers, gate) {
         Ok(course) => tell_run(alloc, play, script, course, sink),
         Err(stopped) => refuse_stopped(alloc, &script, stopped, sink),
     }

@@ -15,4 +15,5 @@ mod top;
 pub use laws::{complete_law, losses_law, replies_law};
 pub use outcome::{Course, Outcome, Status};
 pub use output::refuse_disk;
+pub use service_hosts::{Gate, OpenGate};
 pub use top::run;

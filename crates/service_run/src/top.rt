@@ -23,6 +23,7 @@ use crate::output::{refuse, refuse_script};
 use crate::script::{NotRead, script_for};
 use base_types::{Disk, NoMemory, Sink, Source};
 use script_commands::{Command, Play, command_of};
+use service_hosts::Gate;
 use std::alloc::Global;
 use std::sync::Wait;
 use std::thread::Threads;
@@ -36,7 +37,8 @@ use std::thread::Threads;
 /// and at first none. Moves that an earlier run left unfinished are settled first, and those that go on are ended.
 /// Then hosts that cache under tokens, and servers over these stores, run the script from the tree of what the servers
 /// keep, on as many workers as the words say, with a network that the script plans; where a line of it moves a fileset,
-/// or one of the tree has moved, it runs on the tree alone.
+/// or one of the tree has moved, it runs on the tree alone. The gate is told before a host or server goes on at a line;
+/// nothing rests on what it does.
 ///
 /// Where the status is `Done` or `NoOutput`, the script ran to its end from the tree that the disks held, and what is
 /// written is what that run gave; of hosts and servers it keeps what `run_promises` says of each run. Each disk holds
@@ -71,13 +73,14 @@ use std::thread::Threads;
 /// `disk K ok` where it has no faults, and else `disk K PLACE rule N` for each of its faults; then `end`. It writes
 /// nothing to a disk.
 #[tactic(auto, using(crate::proofs::Checked::check_may_end, crate::proofs::Checked::check_has_words))]
-pub fn run<R: Source, K: Sink, D: Disk + Drop + Send, T: Threads + Wait + Sync>(
+pub fn run<R: Source, K: Sink, D: Disk + Drop + Send, T: Threads + Wait + Sync, G: Gate + Sync>(
     rt: &T,
     alloc: Global,
     words: &[String],
     source: &mut R,
     sink: &mut K,
     disks: &mut Vec<D>,
+    gate: &G,
 ) -> Outcome
     requires disks { AreNamed (disk_names (map string_bytes words.now)) (length disks.old.items) }
     ensures words { may_end (command_of (map string_bytes words.now)) result.status ≡ true }
@@ -105,7 +108,7 @@ pub fn run<R: Source, K: Sink, D: Disk + Drop + Send, T: Threads + Wait + Sync>(
         (shown K.tells (K.got sink.old) (K.faults sink.old)) (shown K.tells (K.got sink.new) (K.faults sink.new)) }
 {
     match command_of(alloc, words) {
-        Ok(Some(Command::Play(play))) => run_play(rt, alloc, play, source, sink, disks),
+        Ok(Some(Command::Play(play))) => run_play(rt, alloc, play, source, sink, disks, gate),
         Ok(Some(Command::Check { .. })) => check_disks(rt, alloc, disks.as_mut_slice(), sink),
         Ok(None) => refuse(alloc, Status::NoCommand, usage_line(), sink),
         Err(NoMemory) => without_run(alloc, Status::NoMemory),
@@ -113,13 +116,14 @@ pub fn run<R: Source, K: Sink, D: Disk + Drop + Send, T: Threads + Wait + Sync>(
 }
 
 // Reads the script of a command, or generates it, and runs it over disks.
-fn run_play<R: Source, K: Sink, D: Disk + Drop + Send, T: Threads + Wait + Sync>(
+fn run_play<R: Source, K: Sink, D: Disk + Drop + Send, T: Threads + Wait + Sync, G: Gate + Sync>(
     rt: &T,
     alloc: Global,
     play: Play,
     source: &mut R,
     sink: &mut K,
     disks: &mut Vec<D>,
+    gate: &G,
 ) -> Outcome
     requires within { IsPlayWithin play }
     requires disks { length disks.old.items ≡ disks_of play }
@@ -137,7 +141,7 @@ fn run_play<R: Source, K: Sink, D: Disk + Drop + Send, T: Threads + Wait + Sync>
     ensures empty { has_run result.status ≡ false → IsEmpty result }
 {
     match script_for(alloc, play, source) {
-        Ok(script) => run_script(rt, alloc, play, script, disks, sink),
+        Ok(script) => run_script(rt, alloc, play, script, disks, sink, gate),
         Err(NotRead::Input) => refuse(alloc, Status::NoInput, input_line(), sink),
         Err(NotRead::Script(why)) => refuse_script(alloc, why, sink),
         Err(NotRead::Memory) => without_run(alloc, Status::NoMemory),

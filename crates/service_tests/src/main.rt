@@ -4,6 +4,7 @@
 
 mod bytes;
 mod disk;
+mod gate;
 mod row;
 mod series;
 mod stage;
@@ -11,6 +12,7 @@ mod stage;
 use anyhow::Result;
 use base_io::{MemSink, MemSource};
 use disk::{NamedDisk, disk_called, disk_of};
+use gate::LineGate;
 use row::{Row, row_of};
 use series::{judge_series, series_of};
 use stage::run_over;
@@ -46,12 +48,16 @@ fn judge(
     let words = row.words.as_slice();
     let source = MemSource::new(alloc, row.script.as_slice(), row.failing_reads.as_slice())?;
     let sink = MemSink::new(alloc, row.failing_writes.as_slice())?;
-    let ran = run_over(rt, disks, words, source, sink)?;
+    let gate = LineGate::new(row.hold);
+    let ran = run_over(rt, disks, words, source, sink, &gate)?;
     let name = row.name.as_str();
     let status = ran.status;
     if status != row.status || !row.takes(ran.output.as_slice()) {
         let output = String::from_utf8_lossy(alloc, ran.output.as_slice())?;
         println!(rt; "{name}: {status} {output:?}")?;
+    }
+    if !gate.is_right() {
+        println!(rt; "{name}: the gate")?;
     }
     if is_check(words) && !are_held(disks, ran.left.as_slice())? {
         println!(rt; "{name}: a disk changed")?;

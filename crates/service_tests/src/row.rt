@@ -1,6 +1,7 @@
 //! The rows of the table: `NAME | WORDS | FAILING | SCRIPT | STATUS | OUTPUT`.
 
 use crate::bytes::bytes_of;
+use crate::gate::{Hold, hold_of};
 use anyhow::{Context, Result};
 use std::alloc::Global;
 
@@ -15,6 +16,8 @@ pub struct Row {
     pub failing_reads: Vec<u64>,
     /// The number of the call of the sink that fails, if one does.
     pub failing_writes: Vec<u64>,
+    /// The line at which a host is held, if one is.
+    pub hold: Option<Hold>,
     /// The input.
     pub script: Vec<u8>,
     /// The status that is wanted.
@@ -33,8 +36,8 @@ impl Row {
     }
 }
 
-/// Reads a row. FAILING is `-`, or `source` or `sink` and the number of the call that fails; the output `*` stands for
-/// any.
+/// Reads a row. FAILING is `-`, or `source` or `sink` and the number of the call that fails, or a hold at the gate; the
+/// output `*` stands for any.
 pub fn row_of(alloc: Global, line: &str) -> Result<Row> {
     let mut cells = line.split('|');
     let name = cells.next().context("a name")?.trim();
@@ -48,6 +51,7 @@ pub fn row_of(alloc: Global, line: &str) -> Result<Row> {
         words: words_of(alloc, words)?,
         failing_reads: call_after(alloc, failing, "source ")?,
         failing_writes: call_after(alloc, failing, "sink ")?,
+        hold: hold_of(failing)?,
         script: bytes_of(alloc, script)?,
         status: status.parse::<u8>().context("a status")?,
         output: wanted_of(alloc, output)?,

@@ -7,6 +7,7 @@ use crate::stage::{Ran, run_over};
 use anyhow::{Context, Result, bail};
 use base_io::{MemSink, MemSource};
 use script_commands::disk_names;
+use service_run::OpenGate;
 use std::alloc::Global;
 use std::sync::Wait;
 use std::thread::Threads;
@@ -159,6 +160,7 @@ fn ran_on(
         words,
         MemSource::new(alloc, script, &[])?,
         MemSink::new(alloc, &[])?,
+        &OpenGate,
     )
 }
 

@@ -11,7 +11,7 @@ use base_io::{MemSink, MemSource};
 use base_types::NoMemory;
 use disk_device::MemDisk;
 use script_commands::disk_names;
-use service_run::run;
+use service_run::{Gate, run};
 use std::alloc::Global;
 use std::sync::Wait;
 use std::thread::Threads;
@@ -34,10 +34,11 @@ pub fn run_over(
     words: &[String],
     mut source: MemSource,
     mut sink: MemSink,
+    gate: &(impl Gate + Sync),
 ) -> Result<Ran> {
     let alloc = rt.alloc();
     let mut made = disks_for(alloc, disks, words)?;
-    let outcome = run(rt, alloc, words, &mut source, &mut sink, &mut made);
+    let outcome = run(rt, alloc, words, &mut source, &mut sink, &mut made, gate);
     let status = outcome.status.code();
     drop(outcome);
     Ok(Ran {

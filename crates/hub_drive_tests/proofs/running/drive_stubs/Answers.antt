@@ -11,4 +11,4 @@ pub drive-driven-requires-clause-nodes : goal.drive-driven-requires-clause-nodes
 drive-driven-requires-clause-nodes g c κs w =
     may_take_part c.in_ok-script.script c.in_ok-start.start c.args.epochs c.args.stubs.items
     c.in_ok-script.ensures.hosts c.in_ok-script.ensures.servers c.in_ok-script.ensures.none.0
-    c.in_ok-script.ensures.none.1 c.requires.stubs
+    c.in_ok-script.ensures.none.1 c.requires.stubs c.requires.rest

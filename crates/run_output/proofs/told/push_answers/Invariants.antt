@@ -6,5 +6,5 @@ use Rattle.run_output.proofs.told.push_answers.Given as goal
 -- the replies so far, and those that are left
 abbrev pub invariant-loop-answer : goal.invariant-loop-answer
 invariant-loop-answer l =
-    l.answers ++ flat_map (answer_in l.host l.calls) (map call_entry (drop l.answer-index l.answer-items))
-    ≡ l.fn.answers ++ flat_map (answer_in l.host l.calls) (map call_entry l.more)
+    l.answers ++ flat_map (answer_in l.host l.calls) (map (λ answer. call_entry answer.now) (drop l.answer-index l.own))
+    ≡ l.fn.answers ++ flat_map (answer_in l.host l.calls) (map (λ answer. call_entry answer.now) l.own)

@@ -5,7 +5,7 @@ use Rattle.hub_drive_tests.proofs.stub.StubNode.work.Goals as goal
 
 pub returns-clause-works : goal.returns-clause-works
 returns-clause-works c = λ part past made st to.
-    stands_on part c.args.self.now _ past made c.args.steps.now.steps c.args.given st c.requires.none
+    stands_on part c.args.self.now _ past made c.args.steps.now.steps c.args.given st c.act.ensures c.requires.none
 
 pub returns-clause-quiet : goal.returns-clause-quiet
 returns-clause-quiet c = λ idle.
@@ -17,4 +17,5 @@ returns-clause-done c = λ part past made st to e knows.
 
 pub returns-clause-undone : goal.returns-clause-undone
 returns-clause-undone c = λ part past made st to e knows done.
-    let same : c.turned.result ≡ Idle = cc in c.turned.ensures.busy same
+    let same : c.turned.result ≡ Idle = cc in
+    st.server (c.rests-rests.ensures (c.turned.ensures.idle same)) knows
