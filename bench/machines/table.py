@@ -51,6 +51,6 @@ for name, row in (("a Read at once", "at_once"), ("of two files in turn", "in_tu
 for files, size in (10, 1024), (100, 1024), (1000, 1024), (1000, 64):
     print("The end of %d files with %d dirty bytes, server and host: %.1f million instructions" % (
         files, size, told_end(files, size) / 1e6))
-for files in 10, 960:
+for files in 10, 900:
     print(told("exporter 16 %d 1000" % files, ["--tool=none"])[0].strip())
 print(told("table 1562 1000", ["--tool=none"])[0].strip())
