@@ -44,11 +44,11 @@ cache = each(instructions, "cache %d")
 print("A Read of 64 bytes of the cache alone: %d instructions" % cache)
 for name, row in (("a Read at once", "at_once"), ("of two files in turn", "in_turn"), ("a Read", "read"),
                   ("a Write", "write")):
-    few, many, most = (each(instructions, "%s %d %%d" % (row, files)) for files in (6, 60, 600))
+    few, many, most = (each(instructions, "%s %d %%d" % (row, files)) for files in (6, 63, 630))
     taken = each(allocations, row + " 6 %d", 100, 200)
-    print("Covered, of 64 bytes, %s: %d instructions (%.1f times the cache's), with 60 and 600 files %d and %d; %.1f "
+    print("Covered, of 64 bytes, %s: %d instructions (%.1f times the cache's), with 63 and 630 files %d and %d; %.1f "
           "allocations" % (name, few, few / cache, many, most, taken))
-for files, size in (10, 1024), (100, 1024), (1000, 1024), (1000, 64):
+for files, size in (225, 1024), (450, 1024), (900, 1024), (900, 64):
     print("The end of %d files with %d dirty bytes, server and host: %.1f million instructions" % (
         files, size, told_end(files, size) / 1e6))
 for files in 10, 900:
