@@ -381,9 +381,9 @@ fn rooms<N: Drop>(
 /// is meant where memory runs out. Where the run came to no end there is a journal so far: it keeps to the plan of the
 /// script; where it is known what the nodes' stores keep it is a run of the script, in which what is due is done; and
 /// each node has stood where its own steps in it brought it, as it was when it handed in the last of them. It comes
-/// beside the fault, but where memory lacks for it, and the fault is `Memory` then. Beside it comes what is left of each
-/// node: as long as nothing failed there it stands on its own steps in the journal and on these, and on no others. Where
-/// all have come to rest each stands on those in the journal.
+/// beside the fault, but where memory lacks for it, and the fault is `Memory` then. Beside it comes what is left of
+/// each node: as long as nothing failed there it stands on its own steps in the journal and on these, and on no others.
+/// Where all have come to rest each stands on those in the journal.
 ///
 /// The nodes come back in their order, whatever comes: where the run went to its end, with what stays of each; else
 /// each with that, or as it is where something failed there. It may wait for what never comes about. The gate is told

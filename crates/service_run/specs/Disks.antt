@@ -65,7 +65,7 @@ use Rattle.run_rules.specs.Runs.{IsDutiful, IsRun}
 use Rattle.run_rules.specs.declared.journal.Journal.{Journal}
 use Rattle.service_run.specs.Lines.{no_aggregate_line, stuck_line}
 use Rattle.service_run.specs.Courses.{IsTold, last_in, start_in, history_in}
-use Rattle.service_run.specs.Outcomes.{has_run, has_reached, stops_told}
+use Rattle.service_run.specs.Outcomes.{has_run, has_reached}
 use Rattle.service_run.specs.Output.{Wrote}
 use Rattle.service_run.specs.Scripts.{IsRead}
 use Rattle.service_run.specs.World.{Shown, World}
@@ -227,9 +227,9 @@ pub record AreRested {D : Type 0} (view : D → View) (start : Tree) (journal : 
   pub durable : (k : ℕ) (disk : D) (c : List ℕ) → slice_get disks k ≡ Some disk → (view disk).may_leave c
       → IsKept (kept_so_far start journal (server_of (k + 1))) (k + 1) c
 
--- A run by hosts and servers that came to no end: the journal so far starts from the tree, in the epochs that the
--- stores then have, and keeps to the plan of the script; it is a run of the script, in which what is due is done; and
--- each disk has what its server acknowledged in it. Where all came to rest it has no more, durably.
+-- A run by hosts and servers, so far: there is a journal, which starts from the tree, in the epochs that the stores
+-- then have, and keeps to the plan of the script; it is a run of the script, in which what is due is done; and each disk
+-- has what its server acknowledged in it. Where all came to rest it has no more, durably.
 pub record HasGoneSoFar {D : Type 0} (view : D → View) (script : Script) (status : Status) (start : Tree)
     (olds news : List D) : Type 0 where
   pub journal : Journal
@@ -244,8 +244,8 @@ pub record HasGoneSoFar {D : Type 0} (view : D → View) (script : Script) (stat
 
 -- What became of disks over which hosts and servers ran a script, or began to: they can from the tree that the disks
 -- held. What an earlier run left of moves was settled and finished, each server began the run, and then it did some
--- acts of its own (there are such acts, which ∥ ∥₁ says). What they come to is told where the run went to its end, by
--- the tree that the disks keep then; and where it came to none but for want of memory, by what happened so far.
+-- acts of its own (there are such acts, which ∥ ∥₁ says). What they come to is told by what happened so far, however the
+-- run ended, and also where memory ran out; and where it went to its end, by the tree that the disks keep then.
 pub record GoByHosts {D : Type 0} (view : D → View) (script : Script) (outcome : Outcome) (olds news : List D)
     : Type 0 where
   pub start : Tree
@@ -255,7 +255,7 @@ pub record GoByHosts {D : Type 0} (view : D → View) (script : Script) (outcome
   pub beginning : AreBeginning (found_at script.roster (images view olds)) begins
   pub each : (k : ℕ) (old new : D) → slice_get olds k ≡ Some old → slice_get news k ≡ Some new
       → ∥ HasServed script.roster (server_of (k + 1)) (acts_at k begins) (view old) (view new) ∥₁
-  pub so_far : stops_told outcome.status ≡ true → HasGoneSoFar view script outcome.status start olds news
+  pub so_far : HasGoneSoFar view script outcome.status start olds news
 
 -- there are as many disks as before, and the count of faults of none fell
 pub record AreBack {D : Type 0} (view : D → View) (old new : List D) : Type 0 where
