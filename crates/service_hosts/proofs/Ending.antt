@@ -206,11 +206,11 @@ module _ {S : Type 0} (tells : Type 0) (view : S → View) (script : Script) (st
       }
 
   kept_of : tells → journal.epochs ≡ epochs → (k : ℕ) (b : ServerNode S) → HasStoodSo (server_at (k + 1)) (Server b)
-      → HasKept script start journal (record { 0 = k + 1 }) (view (store_of b)).state
+      → HasKept script start journal (record { 0 = k + 1 }) (view (store_of b))
   kept_of t are k b st = ⊎_elim
       (λ (x : (made : List Step) × stands_any HostStands (ServerStands tells view)
       (part_of (beginning script start epochs) (server_at (k + 1))) (Server b) st.rounds made
-      × StaysSo tells view st.before (Server b)). inl (kept_still t k b are st x.0 x.1))
+      × StaysSo tells view st.before (Server b)). inl (kept_still t k b are st x.0 x.1, x.1.ready.fit.ready))
       (λ (x : (fault : NodeFault) × FailedSo tells view fault st.before (Server b)). inr (kept_till t k b st x))
       st.since
 
@@ -229,15 +229,15 @@ module _ {S : Type 0} (tells : Type 0) (view : S → View) (script : Script) (st
     run = λ t. d.run (tt, t);
     dutiful = λ t. d.dutiful (tt, t);
     kept = λ t. store_so HasStoodSo d.stood
-        (λ k store. HasKept script start journal (record { 0 = k + 1 }) (view store).state) (kept_of t d.epochs_are)
+        (λ k store. HasKept script start journal (record { 0 = k + 1 }) (view store)) (kept_of t d.epochs_are)
         stores over count;
     rested = λ waiting is. keep_so_far (rest waiting is) stores over count;
   }
 
   -- or to its end
   kept_after : tells → journal.epochs ≡ epochs → (k : ℕ) (b : ServerNode S) → StandsSo k b
-      → HasKept script start journal (record { 0 = k + 1 }) (view (store_of b)).state
-  kept_after t are k b st = inl (kept_more t k b are st.rounds st.own [] st.stood)
+      → HasKept script start journal (record { 0 = k + 1 }) (view (store_of b))
+  kept_after t are k b st = inl (kept_more t k b are st.rounds st.own [] st.stood, st.stood.ready.fit.ready)
 
   pub so_far_ended : HasDriven (Unit {0} × tells) (stands_any HostStands (ServerStands tells view)) script start epochs
       news journal → (result : Result Journal HostsStopped)
@@ -251,7 +251,7 @@ module _ {S : Type 0} (tells : Type 0) (view : S → View) (script : Script) (st
     run = λ t. d.run (tt, t);
     dutiful = λ t. d.dutiful (tt, t);
     kept = λ t. each_store d.stand
-        (λ k store. HasKept script start journal (record { 0 = k + 1 }) (view store).state)
+        (λ k store. HasKept script start journal (record { 0 = k + 1 }) (view store))
         (kept_after t d.epochs_are) stores over count;
     rested = λ waiting is. keep_so_far d.stand stores over count;
   }

@@ -109,11 +109,12 @@ pub record HasComeFrom (tree : Tree) (state : StoreState) : Type 0 where
   pub come : HasCome kept state
 
 -- Each change that a server acknowledged in a journal from this tree is in its store: that keeps the server's steps in
--- the journal, and perhaps some more; or, where the server failed while it made more, it has done acts of its server
--- since it kept those.
-abbrev pub HasKept : Script → Tree → Journal → ServerId → StoreState → Type 0
-HasKept script start journal server state =
-    KeepsMore script start journal server state ⊎ HasComeFrom (kept_so_far start journal server) state
+-- the journal, and perhaps some more, and may be asked; or, where the server failed while it made more, it has done
+-- acts of its server since it kept those.
+abbrev pub HasKept : Script → Tree → Journal → ServerId → View → Type 0
+HasKept script start journal server view =
+    (KeepsMore script start journal server view.state × view.ready)
+    ⊎ HasComeFrom (kept_so_far start journal server) view.state
 
 -- Hosts and servers ran a script from a tree on, so far: the journal starts from the tree, in the epochs of the stores,
 -- and keeps to the plan of the script; where the stores tell what they keep it is a run of the script, in which what is
@@ -127,5 +128,5 @@ pub record HasHostedSoFar {S : Type 0} (tells : Type 0) (view : S → View) (scr
   pub run : tells → IsRun script journal
   pub dutiful : tells → IsDutiful script journal
   pub kept : tells → (k : ℕ) (store : S) → slice_get new k ≡ Some store
-      → HasKept script start journal (record { 0 = k + 1 }) (view store).state
+      → HasKept script start journal (record { 0 = k + 1 }) (view store)
   pub rested : (waiting : Waiting) → result ≡ Err (Stuck waiting) → KeepSoFar tells view start journal new

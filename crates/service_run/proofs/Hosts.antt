@@ -72,12 +72,12 @@ module _ {S : Type 0} (view : S → View) where
   }
 
   -- there was no memory to watch stores, and nothing has happened
-  pub nothing_so_far : (script : Script) (start : Tree) (stores : List S) → IsStart script.roster start
+  pub nothing_so_far : (script : Script) (start : Tree) (worn : ℕ) (stores : List S) → IsStart script.roster start
       → may_host script start ≡ true → length stores ≡ length script.roster.capacity
-      → KeepAll (λ host. 1) start (states_of view stores)
+      → AreStores view script.roster worn 1 stores → KeepAll (λ host. 1) start (states_of view stores)
       → HaveKeptSoFar view script start (map (λ (state : StoreState). state.epoch) (states_of view stores))
       (Err (Run Memory)) stores
-  nothing_so_far script start stores s may count kept =
+  nothing_so_far script start worn stores s may count are kept =
       let epochs = map (λ (state : StoreState). state.epoch) (states_of view stores) in
       let long = length-map (states_of view stores) (λ (state : StoreState). state.epoch)
       ∙ length-map stores (λ (store : S). (view store).state) ∙ count in record {
@@ -87,7 +87,7 @@ module _ {S : Type 0} (view : S → View) where
         planned = nothing_planned script start s may epochs long;
         run = nothing_runs script start s may epochs long;
         dutiful = nothing_due script start s may epochs long;
-        kept = nothing_keep view script start s may epochs long stores kept;
+        kept = nothing_keep view script start s may epochs long worn 1 stores are kept;
         rested = λ rest. absurd rest;
       }
 
@@ -217,7 +217,7 @@ module _ {S T : Type 0} (f : S → T) (view : T → View) where
           dutiful = h.dutiful told;
           kept = λ k store is.
               (let m = mapped f news k store is in
-              subst (λ (t : T). HasKept script start journal (record { 0 = k + 1 }) (view t).state) m.is
+              subst (λ (t : T). HasKept script start journal (record { 0 = k + 1 }) (view t)) m.is
               (h.kept told k m.from m.was));
           rested = rested_in result journal h told;
         }

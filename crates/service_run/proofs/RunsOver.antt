@@ -366,8 +366,8 @@ module _ {D writes : Type 0} (tells : Type 0) (view : D → DiskView) (script : 
             planned = h.planned;
             run = h.run;
             dutiful = h.dutiful;
-            kept = subst (λ (l : List D). (k : ℕ) (image : List ℕ) → slice_get (images view l) k ≡ Some image
-                → IsKeptSoFar script (start_from script.roster all) h.journal (k + 1) image) (sym closed)
+            kept = subst (λ (l : List D). (k : ℕ) (disk : D) → slice_get l k ≡ Some disk
+                → IsKeptSoFar script (start_from script.roster all) h.journal (k + 1) (view disk)) (sym closed)
                 (are_kept_so_far tells view script.roster olds stores left are placed same t script refl
                 (start_from script.roster all) h.journal h.kept);
             rested = λ is. subst (λ (l : List D). AreRested view (start_from script.roster all) h.journal l)

@@ -236,7 +236,7 @@ module _ {S T : Type 0} (f : S → T) (view : T → View) where
         dutiful = h.dutiful;
         kept = λ k store is.
             (let m = mapped f news k store is in
-            subst (λ (t : T). HasKept script start h.journal (record { 0 = k + 1 }) (view t).state) m.is
+            subst (λ (t : T). HasKept script start h.journal (record { 0 = k + 1 }) (view t)) m.is
             (h.kept k m.from m.was));
         rested = λ rest k store is.
             (let m = mapped f news k store is in

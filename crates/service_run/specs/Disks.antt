@@ -59,7 +59,7 @@ use Rattle.script_commands.specs.declared.command.Play.{Play}
 use Rattle.service_run.specs.Checks.{IsDiskRefused}
 use Rattle.service_hosts.specs.Runs.{nodes_of}
 use Rattle.service_hosts.specs.Homes.{may_host}
-use Rattle.service_hosts.specs.Hosting.{HasKept, kept_so_far}
+use Rattle.service_hosts.specs.Hosting.{HasComeFrom, KeepsMore, kept_so_far}
 use Rattle.run_rules.specs.Plans.{IsPlanned}
 use Rattle.run_rules.specs.Runs.{IsDutiful, IsRun}
 use Rattle.run_rules.specs.declared.journal.Journal.{Journal}
@@ -210,14 +210,21 @@ BeginsIn roster images (Hosted journal) = (k epoch : ℕ) (state : StoreState)
     → slice_get journal.epochs k ≡ Some epoch → found_at roster images k ≡ Some state → epoch ≡ state.epoch + 1
 BeginsIn roster images _ = Unit {0}
 
--- A server's disk has a record in which is each change that the server acknowledged in a journal from this tree: it
--- keeps what the server keeps by the rules after all its steps there, and perhaps some more; or, where the server
--- failed while it made more, it came by acts of the server from one that keeps those.
-pub record IsKeptSoFar (script : Script) (start : Tree) (journal : Journal) (number : ℕ) (image : List ℕ)
-    : Type 0 where
+-- the bytes of a server's disk have a record, of which this holds
+pub record HasRecordSo (roster : Roster) (number : ℕ) (P : StoreState → Type 0) (image : List ℕ) : Type 0 where
   pub state : StoreState
-  pub found : record_in script.roster (server_of number) image ≡ Some state
-  pub kept : HasKept script start journal (server_of number) state
+  pub found : record_in roster (server_of number) image ≡ Some state
+  pub so : P state
+
+-- A server's disk has a record in which is each change that the server acknowledged in a journal from this tree: it
+-- keeps what the server keeps by the rules after all its steps there, and perhaps some more, and so does whatever a
+-- crash right after leaves; or, where the server failed while it made more, it came by acts of the server from one
+-- that keeps those.
+abbrev pub IsKeptSoFar : Script → Tree → Journal → ℕ → View → Type 0
+IsKeptSoFar script start journal number disk =
+    ((c : List ℕ) → (c ≡ disk.image) ⊎ disk.may_leave c
+    → HasRecordSo script.roster number (KeepsMore script start journal (server_of number)) c)
+    ⊎ HasRecordSo script.roster number (HasComeFrom (kept_so_far start journal (server_of number))) disk.image
 
 -- each disk keeps what its server keeps by the rules after all its steps in a journal from this tree, and no more; and
 -- so does whatever a crash right after leaves of it
@@ -228,8 +235,8 @@ pub record AreRested {D : Type 0} (view : D → View) (start : Tree) (journal : 
       → IsKept (kept_so_far start journal (server_of (k + 1))) (k + 1) c
 
 -- A run by hosts and servers, so far: there is a journal, which starts from the tree, in the epochs that the stores
--- then have, and keeps to the plan of the script; it is a run of the script, in which what is due is done; and each disk
--- has what its server acknowledged in it. Where all came to rest it has no more, durably.
+-- then have, and keeps to the plan of the script; it is a run of the script, in which what is due is done; and each
+-- disk has what its server acknowledged in it. Where all came to rest it has no more, durably.
 pub record HasGoneSoFar {D : Type 0} (view : D → View) (script : Script) (status : Status) (start : Tree)
     (olds news : List D) : Type 0 where
   pub journal : Journal
@@ -238,8 +245,8 @@ pub record HasGoneSoFar {D : Type 0} (view : D → View) (script : Script) (stat
   pub planned : IsPlanned script journal
   pub run : IsRun script journal
   pub dutiful : IsDutiful script journal
-  pub kept : (k : ℕ) (image : List ℕ) → slice_get (images view news) k ≡ Some image
-      → IsKeptSoFar script start journal (k + 1) image
+  pub kept : (k : ℕ) (disk : D) → slice_get news k ≡ Some disk
+      → IsKeptSoFar script start journal (k + 1) (view disk)
   pub rested : status ≡ Stuck → AreRested view start journal news
 
 -- What became of disks over which hosts and servers ran a script, or began to: they can from the tree that the disks

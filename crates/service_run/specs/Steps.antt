@@ -119,7 +119,7 @@ pub record HaveKeptSoFar {S : Type 0} (view : S → View) (script : Script) (sta
   pub run : IsRun script journal
   pub dutiful : IsDutiful script journal
   pub kept : (k : ℕ) (store : S) → slice_get stores k ≡ Some store
-      → HasKept script start journal (record { 0 = k + 1 }) (view store).state
+      → HasKept script start journal (record { 0 = k + 1 }) (view store)
   pub rested : IsRestStop result → (k : ℕ) (store : S) → slice_get stores k ≡ Some store
       → KeepsWhole (kept_so_far start journal (record { 0 = k + 1 })) (view store)
 

@@ -72,5 +72,5 @@ returns-in-Err-clause-held g c =
     (
       nothing c.args.start (epochs_of view stores),
       nothing_hosted view g.S.Store.tells script c.args.start stores c.requires.start c.requires.homes c.requires.count
-          c.requires.kept (Err OutOfMemory) (λ w e. absurd (cc)),
+          (2 ^ 40) 1 c.requires.stores c.requires.kept (Err OutOfMemory) (λ w e. absurd (cc)),
     )

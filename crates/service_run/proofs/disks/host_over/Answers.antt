@@ -122,7 +122,8 @@ returns-in-Err g c =
       may = c.requires.homes;
       worked = c.requires.gone t;
       so_far =
-          nothing_so_far view script start seats c.requires.start c.requires.homes c.requires.count (c.requires.kept t);
+          nothing_so_far view script start (2 ^ 40) seats c.requires.start c.requires.homes c.requires.count
+              c.requires.stores (c.requires.kept t);
     }))
     (c.close_seats-in-Err.ensures.back
     ∙ ap (λ l. disks_of (stores_in l) ++ c.args.disks.now.items) c.in-Err.ensures.back))
