@@ -38,7 +38,7 @@ use Rattle.service_run.specs.Engine.{HasPlayed}
 use Rattle.service_run.specs.Steps.{HasRunFrom, HaveKept, HaveKeptSoFar, IsClosedFrom, IsRunFrom, IsStoppedSo}
 use Rattle.service_run.specs.Steps.{IsRestStop, KeepsWhole, course_of}
 use Rattle.service_run.specs.declared.disks.Stopped.{Stopped}
-use Rattle.service_run.specs.declared.disks.Stopped.TheVariants.{Run, Stuck}
+use Rattle.service_run.specs.declared.disks.Stopped.TheVariants.{Run}
 use Rattle.service_run.specs.declared.outcome.Course.{Course}
 use Rattle.service_run.specs.declared.outcome.Course.TheVariants.{Hosted, Played}
 
