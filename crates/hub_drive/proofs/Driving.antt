@@ -1,12 +1,13 @@
 -- The seats at the start of a run and at its end.
 use Rattle.std.proofs.Common.{◌≡◌, ⊎_elim, inl, inr, ℕ, ◌<◌, false, List, [], ◌∷◌, Option, None, Some}
 use Rattle.std.proofs.Common.{map, length, get_or, refl, sym, ap, ◌∙◌, subst, arith}
-use Rattle.std.specs.Prelude.{◌⊎◌, IfErr, IfOk, IfSome, OnOk, Result, Ok, Err}
+use Rattle.std.specs.Prelude.{◌⊎◌, IfErr, IfOk, IfSome, OnErr, OnOk, Result, Ok, Err}
 use Rattle.base_types.specs.declared.ids.Node.{Node}
 use Rattle.base_types.specs.declared.ids.Node.TheVariants.{Host}
 use Rattle.tree_answers.specs.declared.tree.Tree.{Tree}
 use Rattle.script_lines.specs.declared.script.Script.{Script}
 use Rattle.hub_board.specs.Hubs.{nodes_of}
+use Rattle.hub_board.specs.Turning.{steps_of}
 use Rattle.hub_board.specs.declared.given.Turn.{Turn}
 use Rattle.hub_turns.specs.Meetings.{HasEnded, first_pass}
 use Rattle.hub_turns.specs.Views.{HubView, NodeView}
@@ -42,6 +43,10 @@ if_err (Err e) P Q f h = f e h
 pub on_any : {T E P : Type 0} (r : Result T E) → P → OnOk r P
 on_any (Ok x) p = p
 on_any (Err e) p = tt
+
+pub on_err : {T E P : Type 0} (r : Result T E) → P → OnErr r P
+on_err (Ok x) p = tt
+on_err (Err e) p = p
 
 -- what comes never
 pub on_never : {T E : Type 0} (r : Result T E) (P : Type 0) → OnOk r ⊥ → OnOk r P
@@ -356,6 +361,62 @@ module _ {N : Type 0} (tells : Type 0) (stands : Part → N → List Round → L
       h.2.starts h.2.epochs_are h.2.steps (subst (HasEnded hub h.0) have h.1) nodes sit
       (λ s i. (let r = each_in (IsAtRest stands (beginning script start epochs) hub tells) seats s rest i in
       (r.seated, r.none)))
+
+-- such a run has a journal, whether or not it is at hand
+pub held_by : {N : Type 0} (tells : Type 0) (stands : Part → N → List Round → List Step → Type 0)
+    (stays : N → N → Type 0) (failed : NodeFault → N → N → Type 0)
+    (hands_in : (n : N) → HandsIn tells stands n) (script : Script) (start : Tree) (epochs : List ℕ)
+    (can : CanStart script start epochs) (hub : HubView) (hub_is : IsHubOf script hub) (seats : List (Seat N))
+    (are : map (λ (s : Seat N). s.pass.node) seats ≡ nodes_of script)
+    (stood : EachAt (λ (s : Seat N). HasStood stands stays failed (beginning script start epochs) hub s.pass s.node
+    s.steps.steps) seats)
+    (nodes : List N) (passes : List NodeView) → nodes ≡ map node_of seats
+    → passes ≡ map (λ (s : Seat N). s.pass) seats → ((turns : List Turn) × HasEnded hub turns passes)
+    → (journal : Journal) × HasStopped tells stands stays failed script start epochs nodes journal
+held_by {N} tells stands stays failed hands_in script start epochs can hub hub_is seats are stood nodes passes sit have
+    ended =
+    let journal : Journal = record { start = start ∷ []; epochs = epochs; steps = steps_of ended.0 } in (
+      journal,
+      stopped_by tells stands stays failed hands_in script start epochs can hub hub_is seats are stood nodes passes sit
+          have journal (ended.0, ended.1, record { starts = refl; epochs_are = refl; steps = refl }),
+    )
+
+-- and one that couldn't begin has one without a step
+pub none_held : {N : Type 0} (tells : Type 0) (stands : Part → N → List Round → List Step → Type 0)
+    (stays : N → N → Type 0) (failed : NodeFault → N → N → Type 0) (so : (a : N) → stays a a) (script : Script)
+    (start : Tree) (epochs : List ℕ) → CanStart script start epochs → (nodes : List N)
+    → AreNodes stands (beginning script start epochs) nodes
+    → (journal : Journal) × HasStopped tells stands stays failed script start epochs nodes journal
+none_held {N} tells stands stays failed so script start epochs can nodes are =
+    let journal : Journal = record { start = start ∷ []; epochs = epochs; steps = [] } in (
+      journal,
+      record {
+        starts = refl;
+        epochs_are = refl;
+        planned = tt;
+        rules = λ node i knows. tt;
+        run = λ told. record {
+          start = start;
+          starts = refl;
+          valid = can.valid;
+          roster = can.roster;
+          epochs = can.counted;
+          steps = tt;
+        };
+        dutiful = λ told. record { start = start; starts = refl; steps = tt };
+        count = are.count;
+        stood = λ i n node lt. record {
+          rounds = [];
+          own = refl;
+          before = get_or nodes i n;
+          past = [];
+          handed = [];
+          stood = are.fresh i n node lt;
+          whole = refl;
+          since = inl ([], are.fresh i n node lt, so (get_or nodes i n));
+        };
+      },
+    )
 
 pub seats_count : {N : Type 0} (script : Script) (seats : List (Seat N))
     → map (λ (s : Seat N). s.pass.node) seats ≡ nodes_of script → length seats ≡ length (nodes_of script)

@@ -1,6 +1,6 @@
 //! The driver.
-ghost use Rattle.std.specs.Prelude.{◌≡◌, ◌≤◌, ◌⊎◌, [], None, Err, IfOk, IfErr, IfSome, OnOk, List, false, length, map};
-ghost use Rattle.std.specs.Prelude.{vec_capacity};
+ghost use Rattle.std.specs.Prelude.{◌≡◌, ◌≤◌, ◌⊎◌, [], None, Err, IfOk, IfErr, IfSome, OnErr, OnOk, List, false, map};
+ghost use Rattle.std.specs.Prelude.{length, vec_capacity};
 ghost use Rattle.hub_board.specs.Hubs.{nodes_of};
 ghost use Rattle.hub_board.specs.declared.given.Turn.{Turn as TurnOf};
 ghost use Rattle.hub_turns.specs.Meetings.{HasEnded};
@@ -10,6 +10,7 @@ ghost use Rattle.hub_drive.specs.declared.driver.DriveFault.TheVariants.{Memory 
 ghost use Rattle.hub_drive.specs.declared.driver.Waiting.{Waiting as WaitingAt};
 ghost use Rattle.hub_drive.specs.Seats.{EachAt, HasStood, IsAtRest, IsSeated, IsThrough, PairsAt};
 ghost use Rattle.hub_node.specs.Nodes.{HasBecome};
+ghost use Rattle.run_rules.specs.declared.journal.Journal.{Journal as JournalOf};
 
 use crate::gate::Gate;
 use crate::rounds::{Went, turn_until};
@@ -147,7 +148,7 @@ fn fault_of<N: Node>(went: Went, seats: &[Seat<N>]) -> DriveFault
     DriveFault::Memory
 }
 
-// The journal of a hub that is closed.
+// The journal of a hub that is closed: the hub has its turns even where memory lacks to list their steps.
 fn journal_of(
     alloc: Global,
     hub: Hub,
@@ -156,15 +157,15 @@ fn journal_of(
     epochs: Items<u64>,
 ) -> Result<Journal, NoMemory>
     requires { (length passes.items ≡ hub.nodes) × EachAt (λ p. p.hub ≡ hub.id) passes.items }
-    ensures { IfOk result (λ journal. (turns : List TurnOf) × HasEnded hub turns passes.items
+    ensures ok { IfOk result (λ journal. (turns : List TurnOf) × HasEnded hub turns passes.items
         × IsJournalOf start epochs turns journal) }
+    ensures ended { (turns : List TurnOf) × HasEnded hub turns passes.items }
 {
+    let turns = hub.close(passes);
     let mut starts = Items::new(alloc);
-    starts.push(start)?;
-    let Ok(turns) = hub.close(passes) else {
-        return Err(NoMemory);
-    };
+    let started = starts.push(start);
     let steps = steps_of(alloc, turns)?;
+    started?;
     Ok(Journal {
         start: starts,
         epochs,
@@ -183,6 +184,7 @@ fn close(
     requires { (length passes.items ≡ hub.nodes) × EachAt (λ p. p.hub ≡ hub.id) passes.items }
     ensures ok { IfOk result (λ journal. (turns : List TurnOf) × HasEnded hub turns passes.items
         × IsJournalOf start epochs turns journal) }
+    ensures ended { (turns : List TurnOf) × HasEnded hub turns passes.items }
     ensures err { IfErr result (λ fault. IsFree fault) }
 {
     match journal_of(alloc, hub, passes, start, epochs) {
@@ -192,7 +194,7 @@ fn close(
 }
 
 // The nodes stand up again where the run came to no end, and the hub is closed: it has the journal so far. Where memory
-// lacks for that, it has run out.
+// lacks to list its steps, memory has run out.
 fn stop<N: Node>(
     alloc: Global,
     script: &Script,
@@ -221,6 +223,8 @@ fn stop<N: Node>(
     ensures fault { IfErr result.result (λ f. (f ≡ fault) ⊎ IsFree f) }
     ensures so_far { IfSome result.so_far (λ journal.
         HasStopped N.tells N.stands N.stays N.failed script.now start epochs result.nodes.items journal) }
+    ensures held { OnErr result.result ((journal : JournalOf)
+        × HasStopped N.tells N.stands N.stays N.failed script.now start epochs result.nodes.items journal) }
     ensures left { IfSome result.so_far (λ journal.
         AreLeft N.stands N.failed (beginning script.now start epochs) result.nodes.items result.left.items journal) }
     ensures lacks { IfErr result.result (λ f. result.so_far ≡ None → f ≡ OutOfMemory) }
@@ -261,6 +265,8 @@ fn finish<N: Node>(
     requires hub { IsHubOf script.now hub }
     requires are { map (λ s. s.pass.node) seats.items ≡ nodes_of script.now }
     requires through { EachAt (IsThrough N.stands (beginning script.now start epochs) hub N.tells) seats.items }
+    requires stood { EachAt (λ s. HasStood N.stands N.stays N.failed (beginning script.now start epochs) hub s.pass
+        s.node s.steps.steps) seats.items }
     requires none { (nodes.items ≡ []) × (passes.items ≡ []) × (left.items ≡ []) }
     requires nodes_room { length seats.items ≤ vec_capacity nodes }
     requires passes_room { length seats.items ≤ vec_capacity passes }
@@ -269,6 +275,8 @@ fn finish<N: Node>(
     ensures driven { IfOk result.result
         (λ journal. HasDriven N.tells N.stands script.now start epochs result.nodes.items journal) }
     ensures failed { IfErr result.result (λ fault. IsFree fault) }
+    ensures held { OnErr result.result ((journal : JournalOf)
+        × HasStopped N.tells N.stands N.stays N.failed script.now start epochs result.nodes.items journal) }
     ensures none { result.so_far ≡ None }
 {
     let _script = script;
@@ -322,6 +330,8 @@ fn run_at<N: Node + Send, R: Threads + Wait + Sync, G: Gate + Sync>(
         (map (λ s. s.node) seats.items) result.nodes.items fault) }
     ensures so_far { IfSome result.so_far (λ journal.
         HasStopped N.tells N.stands N.stays N.failed script.now start epochs result.nodes.items journal) }
+    ensures held { OnErr result.result ((journal : JournalOf)
+        × HasStopped N.tells N.stands N.stays N.failed script.now start epochs result.nodes.items journal) }
     ensures left { IfSome result.so_far (λ journal.
         AreLeft N.stands N.failed (beginning script.now start epochs) result.nodes.items result.left.items journal) }
     ensures lacks { IfErr result.result (λ fault. result.so_far ≡ None → fault ≡ OutOfMemory) }
@@ -368,12 +378,12 @@ fn rooms<N: Drop>(
 /// `Store` comes only where the store of that node failed twice, and `Stuck` only where all nodes have come to rest:
 /// in its newest round each handed in nothing and was given nothing, and none made anything; it names a node that isn't
 /// done by its own steps, by its place and with its next line. `Memory` may come at any time, as far as clauses say: it
-/// is meant where memory runs out. Where the run came to no end its journal so far comes beside the fault, but where
-/// memory lacks for it, and the fault is `Memory` then: it keeps to the plan of the script; where it is known what the
-/// nodes' stores keep it is a run of the script, in which what is due is done; and each node has stood where its own
-/// steps in it brought it, as it was when it handed in the last of them. Beside it comes what is left of each: as long
-/// as nothing failed there it stands on its own steps in the journal and on these, and on no others. Where all have
-/// come to rest each stands on those in the journal.
+/// is meant where memory runs out. Where the run came to no end there is a journal so far: it keeps to the plan of the
+/// script; where it is known what the nodes' stores keep it is a run of the script, in which what is due is done; and
+/// each node has stood where its own steps in it brought it, as it was when it handed in the last of them. It comes
+/// beside the fault, but where memory lacks for it, and the fault is `Memory` then. Beside it comes what is left of
+/// each node: as long as nothing failed there it stands on its own steps in the journal and on these, and on no others.
+/// Where all have come to rest each stands on those in the journal.
 ///
 /// The nodes come back in their order, whatever comes: where the run went to its end, with what stays of each; else
 /// each with that, or as it is where something failed there. It may wait for what never comes about. The gate is told
@@ -399,6 +409,8 @@ pub fn drive<N: Node + Send, R: Threads + Wait + Sync, G: Gate + Sync>(
         fault) }
     ensures so_far { IfSome result.so_far (λ journal.
         HasStopped N.tells N.stands N.stays N.failed script.now start epochs result.nodes.items journal) }
+    ensures held { OnErr result.result ((journal : JournalOf)
+        × HasStopped N.tells N.stands N.stays N.failed script.now start epochs result.nodes.items journal) }
     ensures left { IfSome result.so_far (λ journal.
         AreLeft N.stands N.failed (beginning script.now start epochs) result.nodes.items result.left.items journal) }
     ensures lacks { IfErr result.result (λ fault. result.so_far ≡ None → fault ≡ OutOfMemory) }

@@ -199,5 +199,5 @@ pub fn go_round<R: Threads + Wait + Sync>(
     let script = script_of(alloc)?;
     let (hub, passes) = Hub::new(&script, &[])?;
     let passes = went_round(rt, &hub, passes, apart, last)?;
-    hub.close(passes).map_err(|_| NoMemory)
+    Ok(hub.close(passes))
 }

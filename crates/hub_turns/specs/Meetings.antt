@@ -2,8 +2,6 @@
 use Rattle.std.specs.List.{All, filter}
 use Rattle.std.specs.Prelude.{List, MatchBool, None, Option, Some, [], ◌<◌, ◌≤◌, vec_capacity, vec_len, false}
 use Rattle.std.specs.Prelude.{length, map, ◌++◌, ◌∷◌, ◌≡◌}
-use Rattle.base_types.specs.declared.errors.CloseRefused.{CloseRefused}
-use Rattle.base_types.specs.declared.errors.CloseRefused.TheVariants.{Memory}
 use Rattle.base_types.specs.declared.ids.Node.{Node}
 use Rattle.tree_calls.specs.declared.roster.Roster.{Roster}
 use Rattle.message_types.specs.Soundness.{IsSound}
@@ -132,7 +130,3 @@ pub record HasEnded (hub : HubView) (turns : List Turn) (passes : List NodeView)
   -- where no other pass is of its node, what was made through a pass is exactly the node's turns
   pub own : (earlier later : List NodeView) (pass : NodeView) → passes ≡ earlier ++ pass ∷ later
       → All (λ p. same_node p.node pass.node ≡ false) (earlier ++ later) → turns_of pass.node turns ≡ pass.made
-
--- a hub that was not closed comes back as it was, and so do the passes
-abbrev pub IsBack : HubView → List NodeView → CloseRefused HubView NodeView → Type 0
-IsBack hub passes (Memory same back) = (same ≡ hub) × (back.items ≡ passes)

@@ -1,14 +1,14 @@
-ghost use Rattle.std.specs.Prelude.{◌≡◌, ◌+◌, ◌≤◌, [], IfOk, IfErr, OnOk, OnErr, length, map, vec_len};
+ghost use Rattle.std.specs.Prelude.{◌≡◌, ◌+◌, ◌≤◌, [], IfOk, OnOk, OnErr, length, map, vec_len};
 ghost use Rattle.std.specs.Prelude.{vec_capacity};
 ghost use Rattle.base_types.specs.declared.limits.TheConstants.{HOSTS_MAX, SERVERS_MAX};
 ghost use Rattle.hub_board.specs.Hubs.{first_hub, nodes_of};
 ghost use Rattle.hub_turns.specs.Views.{AreBare};
-ghost use Rattle.hub_turns.specs.Meetings.{first_pass, HasPassed, IsRefused, AreAllPasses, HasEnded, IsBack};
+ghost use Rattle.hub_turns.specs.Meetings.{first_pass, HasPassed, IsRefused, AreAllPasses, HasEnded};
 ghost use Rattle.hub_turns.specs.Meetings.{AreSent, IsGivenSound};
 
 use crate::meeting::{HubTurn, Meeting};
 use crate::pass::NodePass;
-use base_types::{CloseRefused, Items, NoMemory, Node, Plain, ServerId};
+use base_types::{Items, NoMemory, Node, Plain, ServerId};
 use hub_board::{Board, Given, Pending, Turn, nodes_of};
 use hub_cell::{Pass, TurnCell};
 use script_lines::Script;
@@ -21,15 +21,18 @@ use std::sync::Wait;
 /// who takes part.
 pub struct Hub {
     cell: TurnCell<Meeting>,
+    // where the passes are handed over at the end
+    room: Vec<Pass<Turn>>,
 }
 
 impl Drop for Hub {
     fn drop(self) {
-        let Hub { cell: _ } = self;
+        let Hub { cell: _, room: _ } = self;
     }
 }
 
 impl Model for Hub {
+    ghost use Rattle.std.specs.Prelude.{◌≡◌, ◌≤◌, [], vec_capacity};
     ghost use Rattle.hub_turns.specs.Views.{HubView};
 
     ghost Value = { HubView };
@@ -40,6 +43,8 @@ impl Model for Hub {
       first = h.cell.first.board.hub;
       roster = h.cell.first.roster;
     } };
+
+    ghost invariant = { λ h. (h.room.items ≡ []) × (h.cell.seats ≤ vec_capacity h.room) };
 }
 
 impl Hub {
@@ -57,9 +62,11 @@ impl Hub {
         let nodes = nodes_of(script)?;
         let board = Board::new(script, rooms)?;
         let roster = script.roster.copy()?;
+        let mut room = Vec::new(alloc);
+        room.reserve(nodes.len())?;
         let (cell, first) = TurnCell::new(alloc, Meeting { board, roster }, nodes.len() as u32)?;
         let passes = passes_of(alloc, &cell, first, nodes.as_slice())?;
-        Ok((Hub { cell }, passes))
+        Ok((Hub { cell, room }, passes))
     }
 
     /// Hands the node's steps in, and gives the first that there is for it (`Board::turn`). So what the turn gives is
@@ -108,21 +115,16 @@ impl Hub {
     }
 
     /// Gives the list of turns, for all passes that are out: it has what was made through them, each turn once, those
-    /// of one node in its order. Where memory runs out the hub and the passes come back as they were.
-    pub fn close(self, passes: Vec<NodePass>) -> Result<Items<Turn>, CloseRefused<Hub, NodePass>>
+    /// of one node in its order. It takes no memory, and waits for nobody.
+    pub fn close(self, passes: Vec<NodePass>) -> Items<Turn>
         requires { AreAllPasses self passes.items }
-        ensures ok { IfOk result (λ turns. HasEnded self turns passes.items) }
-        ensures err { IfErr result (λ refused. IsBack self passes.items refused) }
+        ensures { HasEnded self result passes.items }
     {
-        let mut bare = Vec::new(*passes.allocator());
-        if bare.reserve(passes.len()).is_err() {
-            return Err(CloseRefused::Memory(self, passes));
-        }
-        let Hub { cell } = self;
-        let Ok(meeting) = cell.close(bare_of(passes, bare)) else {
+        let Hub { cell, room } = self;
+        let Ok(meeting) = cell.close(bare_of(passes, room)) else {
             unreachable!()
         };
-        Ok(meeting.board.into_turns())
+        meeting.board.into_turns()
     }
 }
 

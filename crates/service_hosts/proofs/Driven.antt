@@ -1,7 +1,7 @@
 -- Hosts and servers that were driven, and the stores that came back.
 use Rattle.std.proofs.Common.{◌≡◌, ⊎_elim, ℕ, ◌+◌, ◌-◌, ◌<◌, ◌≤◌, List, [], ◌++◌, Err, Ok, Option}
 use Rattle.std.proofs.Common.{Result, map, length, get_or, sym, ap, ◌∙◌, subst, arith}
-use Rattle.std.specs.Prelude.{IfErr, IfOk}
+use Rattle.std.specs.Prelude.{IfErr, IfOk, OnErr}
 use Rattle.std.proofs.lemmas.List.{append-nil}
 use Rattle.tree_answers.specs.declared.tree.Tree.{Tree}
 use Rattle.tree_calls.specs.declared.roster.Roster.{Roster}
@@ -35,6 +35,9 @@ ok_at {A = A} {E = E} r x P e h = subst (λ (q : Result A E). IfOk q P) e h
 
 pub err_at : {A E : Type 0} (r : Result A E) (x : E) (P : E → Type 0) → r ≡ Err x → IfErr r P → P x
 err_at {A = A} {E = E} r x P e h = subst (λ (q : Result A E). IfErr q P) e h
+
+pub on_err_at : {A E : Type 0} (r : Result A E) (x : E) (P : Type 0) → r ≡ Err x → OnErr r P → P
+on_err_at {A = A} {E = E} r x P e h = subst (λ (q : Result A E). OnErr q P) e h
 
 -- the stores of nodes are theirs alone
 pub one_over : {S : Type 0} (nodes : List (NodeOf S)) (count : ℕ) (a b : List S) → AreOver nodes count a

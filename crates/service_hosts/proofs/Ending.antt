@@ -164,21 +164,28 @@ module _ {S : Type 0} (tells : Type 0) (view : S → View) (script : Script) (st
   served_since (Host a) b h = absurd h.1
   served_since (Server a) b h = (a, refl, h.1.served)
 
-  -- it stands there still, with some more steps
-  kept_still : tells → (k : ℕ) (b : ServerNode S) → journal.epochs ≡ epochs
-      → (st : HasStoodSo (server_at (k + 1)) (Server b)) → (more : List Step)
-      → ServerStands tells view (part_of (beginning script start epochs) (server_at (k + 1))) b st.rounds more
+  -- a server stands on its own steps in the journal, and on some more
+  kept_more : tells → (k : ℕ) (b : ServerNode S) → journal.epochs ≡ epochs → (rounds : List Round)
+      → own_in journal (record { 0 = k + 1 }) ≡ steps_in rounds → (more : List Step)
+      → ServerStands tells view (part_of (beginning script start epochs) (server_at (k + 1))) b rounds more
       → KeepsMore script start journal (record { 0 = k + 1 }) (view (store_of b)).state
-  kept_still t k b are st more so =
+  kept_more t k b are rounds own more so =
       let server : ServerId = record { 0 = k + 1 } in record {
         more = more;
         rules = subst (λ (e : List ℕ). Always (OwnMeets (beginning script start e) (OfServer server))
             (appended more (own_in journal server))) (sym are)
             (subst (λ (l : List Step). Always (OwnMeets (beginning script start epochs) (OfServer server))
-            (appended more l)) (sym st.own) (so.so.kept.meets t));
+            (appended more l)) (sym own) (so.so.kept.meets t));
         keeps = subst (λ (l : List Step). KeepsOf (filesets_kept start server (appended more l))
-            (view (store_of b)).state) (sym st.own) (so.so.keeps t).stands.keeps;
+            (view (store_of b)).state) (sym own) (so.so.keeps t).stands.keeps;
       }
+
+  -- it stands there still, with some more steps
+  kept_still : tells → (k : ℕ) (b : ServerNode S) → journal.epochs ≡ epochs
+      → (st : HasStoodSo (server_at (k + 1)) (Server b)) → (more : List Step)
+      → ServerStands tells view (part_of (beginning script start epochs) (server_at (k + 1))) b st.rounds more
+      → KeepsMore script start journal (record { 0 = k + 1 }) (view (store_of b)).state
+  kept_still t k b are st more so = kept_more t k b are st.rounds st.own more so
 
   -- or it failed since then
   kept_till : tells → (k : ℕ) (b : ServerNode S) → (st : HasStoodSo (server_at (k + 1)) (Server b))
@@ -199,32 +206,54 @@ module _ {S : Type 0} (tells : Type 0) (view : S → View) (script : Script) (st
       }
 
   kept_of : tells → journal.epochs ≡ epochs → (k : ℕ) (b : ServerNode S) → HasStoodSo (server_at (k + 1)) (Server b)
-      → HasKept script start journal (record { 0 = k + 1 }) (view (store_of b)).state
+      → HasKept script start journal (record { 0 = k + 1 }) (view (store_of b))
   kept_of t are k b st = ⊎_elim
       (λ (x : (made : List Step) × stands_any HostStands (ServerStands tells view)
       (part_of (beginning script start epochs) (server_at (k + 1))) (Server b) st.rounds made
-      × StaysSo tells view st.before (Server b)). inl (kept_still t k b are st x.0 x.1))
+      × StaysSo tells view st.before (Server b)). inl (kept_still t k b are st x.0 x.1, x.1.ready.fit.ready))
       (λ (x : (fault : NodeFault) × FailedSo tells view fault st.before (Server b)). inr (kept_till t k b st x))
       st.since
 
   -- and where it came to no end
   pub so_far_hosted : HasStopped (Unit {0} × tells) (stands_any HostStands (ServerStands tells view))
-      (StaysSo tells view) (FailedSo tells view) script start epochs news journal → (stopped : HostsStopped)
-      → ((waiting : Waiting) → stopped ≡ Stuck waiting → StandAfter
+      (StaysSo tells view) (FailedSo tells view) script start epochs news journal
+      → (result : Result Journal HostsStopped) → ((waiting : Waiting) → result ≡ Err (Stuck waiting) → StandAfter
       (stands_any HostStands (ServerStands tells view)) (beginning script start epochs) journal news)
       → (olds stores : List S) → AreOver news (length script.roster.hosts + 1) stores
       → length stores ≡ length script.roster.capacity → (tells → epochs ≡ epochs_of view olds)
-      → HasHostedSoFar tells view script start olds stores stopped journal
-  so_far_hosted d stopped rest olds stores over count are = record {
+      → HasHostedSoFar tells view script start olds stores result journal
+  so_far_hosted d result rest olds stores over count are = record {
     starts = d.starts;
     epochs = λ t. d.epochs_are ∙ are t;
     planned = d.planned;
     run = λ t. d.run (tt, t);
     dutiful = λ t. d.dutiful (tt, t);
     kept = λ t. store_so HasStoodSo d.stood
-        (λ k store. HasKept script start journal (record { 0 = k + 1 }) (view store).state) (kept_of t d.epochs_are)
+        (λ k store. HasKept script start journal (record { 0 = k + 1 }) (view store)) (kept_of t d.epochs_are)
         stores over count;
     rested = λ waiting is. keep_so_far (rest waiting is) stores over count;
+  }
+
+  -- or to its end
+  kept_after : tells → journal.epochs ≡ epochs → (k : ℕ) (b : ServerNode S) → StandsSo k b
+      → HasKept script start journal (record { 0 = k + 1 }) (view (store_of b))
+  kept_after t are k b st = inl (kept_more t k b are st.rounds st.own [] st.stood, st.stood.ready.fit.ready)
+
+  pub so_far_ended : HasDriven (Unit {0} × tells) (stands_any HostStands (ServerStands tells view)) script start epochs
+      news journal → (result : Result Journal HostsStopped)
+      → (olds stores : List S) → AreOver news (length script.roster.hosts + 1) stores
+      → length stores ≡ length script.roster.capacity → (tells → epochs ≡ epochs_of view olds)
+      → HasHostedSoFar tells view script start olds stores result journal
+  so_far_ended d result olds stores over count are = record {
+    starts = d.starts;
+    epochs = λ t. d.epochs_are ∙ are t;
+    planned = d.planned;
+    run = λ t. d.run (tt, t);
+    dutiful = λ t. d.dutiful (tt, t);
+    kept = λ t. each_store d.stand
+        (λ k store. HasKept script start journal (record { 0 = k + 1 }) (view store))
+        (kept_after t d.epochs_are) stores over count;
+    rested = λ waiting is. keep_so_far d.stand stores over count;
   }
 
 -- what is known of a journal, if there is one
@@ -241,29 +270,57 @@ stuck_of hosts (drive.Store k) w e = absurd (cc)
 stuck_of hosts (drive.Stuck v) w e = (let same : v ≡ w = cc in ap (λ x. drive.Stuck x) same)
 stuck_of hosts drive.Memory w e = absurd (cc)
 
+err_is : {E : Type 0} (x y : E) → Err {A = Journal} x ≡ Err y → x ≡ y
+err_is x y e = cc
+
 -- so it is with the journal so far of nodes that were driven, by what the driver says
-pub so_far_by : {S : Type 0} (tells : Type 0) (view : S → View) (script : Script) (start : Tree) (epochs : List ℕ)
+module _ {S : Type 0} (tells : Type 0) (view : S → View) (script : Script) (start : Tree) (epochs : List ℕ)
     (servers : script.servers ≡ length script.roster.capacity) (news : List (NodeOf S))
     (so_far : Option Journal) (fault : DriveFault) (hosts : ℕ)
-    → IfSome so_far (HasStopped (Unit {0} × tells) (stands_any HostStands (ServerStands tells view))
-    (StaysSo tells view) (FailedSo tells view) script start epochs news)
-    → ((w : Waiting) → fault ≡ drive.Stuck w → IfSome so_far (λ journal.
+    (h : IfSome so_far (HasStopped (Unit {0} × tells) (stands_any HostStands (ServerStands tells view))
+    (StaysSo tells view) (FailedSo tells view) script start epochs news))
+    (rest : (w : Waiting) → fault ≡ drive.Stuck w → IfSome so_far (λ journal.
     StandAfter (stands_any HostStands (ServerStands tells view)) (beginning script start epochs) journal news))
-    → (olds stores : List S) → AreOver news (length script.roster.hosts + 1) stores
-    → length stores ≡ length script.roster.capacity → (tells → epochs ≡ epochs_of view olds)
-    → IfSome so_far (HasHostedSoFar tells view script start olds stores (stopped_by hosts fault))
-so_far_by tells view script start epochs servers news so_far fault hosts h rest olds stores over count are =
-    if_some so_far
-    (HasStopped (Unit {0} × tells) (stands_any HostStands (ServerStands tells view)) (StaysSo tells view)
-    (FailedSo tells view) script start epochs news)
-    (HasHostedSoFar tells view script start olds stores (stopped_by hosts fault))
-    (λ journal is d.
-    so_far_hosted tells view script start epochs servers news journal d (stopped_by hosts fault)
-    (λ w e. some_at so_far journal
-    (λ j. StandAfter (stands_any HostStands (ServerStands tells view)) (beginning script start epochs) j news) is
-    (rest w (stuck_of hosts fault w e)))
-    olds stores over count are)
-    h
+    (olds stores : List S) (over : AreOver news (length script.roster.hosts + 1) stores)
+    (count : length stores ≡ length script.roster.capacity) (are : tells → epochs ≡ epochs_of view olds) where
+  stuck_by : (w : Waiting) → Err {A = Journal} (stopped_by hosts fault) ≡ Err (Stuck w) → fault ≡ drive.Stuck w
+  stuck_by w e = stuck_of hosts fault w (err_is (stopped_by hosts fault) (Stuck w) e)
+
+  pub so_far_by : IfSome so_far (HasHostedSoFar tells view script start olds stores (Err (stopped_by hosts fault)))
+  so_far_by =
+      if_some so_far
+      (HasStopped (Unit {0} × tells) (stands_any HostStands (ServerStands tells view)) (StaysSo tells view)
+      (FailedSo tells view) script start epochs news)
+      (HasHostedSoFar tells view script start olds stores (Err (stopped_by hosts fault)))
+      (λ journal is d.
+      so_far_hosted tells view script start epochs servers news journal d (Err (stopped_by hosts fault))
+      (λ w e. some_at so_far journal
+      (λ j. StandAfter (stands_any HostStands (ServerStands tells view)) (beginning script start epochs) j news) is
+      (rest w (stuck_by w e)))
+      olds stores over count are)
+      h
+
+  -- and there is one where none is at hand
+  abbrev Goes : Type 0
+  Goes = (journal : Journal) × HasHostedSoFar tells view script start olds stores (Err (stopped_by hosts fault)) journal
+
+  pub held_by : (so_far ≡ None → fault ≡ drive.Memory)
+      → ((journal : Journal) × HasStopped (Unit {0} × tells) (stands_any HostStands (ServerStands tells view))
+      (StaysSo tells view) (FailedSo tells view) script start epochs news journal) → Goes
+  held_by lacks held = by so_far refl
+    where
+      by : (o : Option Journal) → so_far ≡ o → Goes
+      by (Some journal) is = (
+        journal,
+        some_at so_far journal
+            (HasHostedSoFar tells view script start olds stores (Err (stopped_by hosts fault))) is so_far_by,
+      )
+      by None is = (
+        held.0,
+        so_far_hosted tells view script start epochs servers news held.0 held.1 (Err (stopped_by hosts fault))
+            (λ w e. (let clash : drive.Memory ≡ drive.Stuck w = sym (lacks is) ∙ stuck_by w e in absurd (cc)))
+            olds stores over count are,
+      )
 
 -- a journal that lacks, lacks for want of memory
 pub lacks_by : (result : Result Journal DriveFault) (so_far : Option Journal) (fault : DriveFault) (hosts : ℕ)

@@ -5,6 +5,7 @@ pub mod Paired
 pub mod Driven
 pub mod Starting
 pub mod Serving
+pub mod Nothing
 pub mod Ending
 pub mod Promised
 pub mod Unmoved

@@ -1,5 +1,6 @@
 -- What comes of a script that hosts and servers run over the stores of servers.
-use Rattle.std.specs.Prelude.{List, Some, [], length, map, slice_get, slice_index_or, ℕ, ◌+◌, ◌-◌, ◌<◌, ◌∷◌, ◌≡◌, ◌⊎◌}
+use Rattle.std.specs.Prelude.{Err, List, Result, Some, [], length, map, slice_get, slice_index_or, ℕ, ◌+◌, ◌-◌, ◌<◌}
+use Rattle.std.specs.Prelude.{◌∷◌, ◌≡◌, ◌⊎◌}
 use Rattle.tree_answers.specs.declared.tree.Tree.{Tree}
 use Rattle.script_lines.specs.declared.script.Script.{Script}
 use Rattle.store_laws.specs.TreeKeeping.{KeepsOf}
@@ -108,23 +109,24 @@ pub record HasComeFrom (tree : Tree) (state : StoreState) : Type 0 where
   pub come : HasCome kept state
 
 -- Each change that a server acknowledged in a journal from this tree is in its store: that keeps the server's steps in
--- the journal, and perhaps some more; or, where the server failed while it made more, it has done acts of its server
--- since it kept those.
-abbrev pub HasKept : Script → Tree → Journal → ServerId → StoreState → Type 0
-HasKept script start journal server state =
-    KeepsMore script start journal server state ⊎ HasComeFrom (kept_so_far start journal server) state
+-- the journal, and perhaps some more, and may be asked; or, where the server failed while it made more, it has done
+-- acts of its server since it kept those.
+abbrev pub HasKept : Script → Tree → Journal → ServerId → View → Type 0
+HasKept script start journal server view =
+    (KeepsMore script start journal server view.state × view.ready)
+    ⊎ HasComeFrom (kept_so_far start journal server) view.state
 
--- Hosts and servers ran a script from a tree on, and came to no end: the journal so far starts from the tree, in the
--- epochs of the stores, and keeps to the plan of the script; where the stores tell what they keep it is a run of the
--- script, in which what is due is done. Each change that was acknowledged is in its store. Where all came to rest each
--- store keeps its server's steps in the journal, and no more.
+-- Hosts and servers ran a script from a tree on, so far: the journal starts from the tree, in the epochs of the stores,
+-- and keeps to the plan of the script; where the stores tell what they keep it is a run of the script, in which what is
+-- due is done. Each change that was acknowledged is in its store. Where all came to rest each store keeps its server's
+-- steps in the journal, and no more.
 pub record HasHostedSoFar {S : Type 0} (tells : Type 0) (view : S → View) (script : Script) (start : Tree)
-    (old new : List S) (stopped : HostsStopped) (journal : Journal) : Type 0 where
+    (old new : List S) (result : Result Journal HostsStopped) (journal : Journal) : Type 0 where
   pub starts : journal.start ≡ start ∷ []
   pub epochs : tells → journal.epochs ≡ epochs_of view old
   pub planned : IsPlanned script journal
   pub run : tells → IsRun script journal
   pub dutiful : tells → IsDutiful script journal
   pub kept : tells → (k : ℕ) (store : S) → slice_get new k ≡ Some store
-      → HasKept script start journal (record { 0 = k + 1 }) (view store).state
-  pub rested : (waiting : Waiting) → stopped ≡ Stuck waiting → KeepSoFar tells view start journal new
+      → HasKept script start journal (record { 0 = k + 1 }) (view store)
+  pub rested : (waiting : Waiting) → result ≡ Err (Stuck waiting) → KeepSoFar tells view start journal new

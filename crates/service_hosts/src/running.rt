@@ -1,12 +1,13 @@
 //! Hosts and servers run a script.
 ghost use Rattle.std.specs.Prelude.{◌≡◌, ◌≤◌, ◌<◌, ◌+◌, ◌-◌, ◌^◌, ℕ, true, List, [], length, vec_capacity};
-ghost use Rattle.std.specs.Prelude.{IfErr, IfOk, IfSome, None, OnErr, OnOk};
+ghost use Rattle.std.specs.Prelude.{Err, IfErr, IfOk, IfSome, None, OnErr, OnOk};
 ghost use Rattle.base_types.specs.declared.limits.TheConstants.{SERVERS_MAX};
 ghost use Rattle.host_node.specs.Standing.{IsPlayable};
 ghost use Rattle.hub_drive.specs.Driving.{beginning};
 ghost use Rattle.hub_drive.specs.declared.driver.DriveFault.TheVariants.{Store as StoreFailed};
 ghost use Rattle.hub_node.specs.Nodes.{Beginning};
 ghost use Rattle.run_rules.specs.Runs.{IsValid};
+ghost use Rattle.run_rules.specs.declared.journal.Journal.{Journal as JournalOf};
 ghost use Rattle.script_lines.specs.Sound.{IsSound};
 ghost use Rattle.service_hosts.specs.Homes.{may_host};
 ghost use Rattle.service_hosts.specs.Hosting.{HasHosted, HasHostedSoFar, IsStopped, epochs_of, stopped_by};
@@ -122,7 +123,10 @@ fn drive_all<S: Store + Drop + Send, R: Threads + Wait + Sync, G: Gate + Sync>(
         → IfErr result.result (IsStopped S.tells S.view script.now start stores result.stores.items) }
     ensures so_far { (stores : List S) → AreOver nodes.entry.items (length script.now.roster.hosts + 1) stores
         → (S.tells → epochs ≡ epochs_of S.view stores) → IfErr result.result (λ stopped. IfSome result.so_far
-        (HasHostedSoFar S.tells S.view script.now start stores result.stores.items stopped)) }
+        (HasHostedSoFar S.tells S.view script.now start stores result.stores.items (Err stopped))) }
+    ensures held { (stores : List S) → AreOver nodes.entry.items (length script.now.roster.hosts + 1) stores
+        → (S.tells → epochs ≡ epochs_of S.view stores) → (journal : JournalOf)
+        × HasHostedSoFar S.tells S.view script.now start stores result.stores.items result.result journal }
     ensures lacks { IfErr result.result (λ stopped. result.so_far ≡ None → stopped ≡ OutOfMemory) }
 {
     let hosts = script.roster.hosts.len() + 1;
@@ -155,9 +159,10 @@ fn drive_all<S: Store + Drop + Send, R: Threads + Wait + Sync, G: Gate + Sync>(
 /// done by its own steps is named, with its next line. `Memory` may come at any time, as far as clauses say: it is meant
 /// where memory runs out. It may wait for what never comes about.
 ///
-/// Where the run came to no end its journal so far comes back beside the cause, but where memory lacks for it, and the
-/// cause is `Memory` then: as far as the stores tell what they keep it is a run of the script in which what is due is
-/// done; and where all came to rest each store keeps what its server keeps by the rules after all its steps in it.
+/// However it ended there is a journal so far: as far as the stores tell what they keep it is a run of the script in
+/// which what is due is done, and each change that was acknowledged in it is in its store; and where all came to rest
+/// each store keeps what its server keeps by the rules after all its steps in it. Where the run came to no end it comes
+/// back beside the cause, but where memory lacks for it, and the cause is `Memory` then.
 pub fn run_hosts<S: Store + Drop + Send, R: Threads + Wait + Sync, G: Gate + Sync>(
     rt: &R,
     alloc: Global,
@@ -181,7 +186,9 @@ pub fn run_hosts<S: Store + Drop + Send, R: Threads + Wait + Sync, G: Gate + Syn
     ensures stopped { IfErr result.result
         (IsStopped S.tells S.view script.now start stores.items result.stores.items) }
     ensures so_far { IfErr result.result (λ stopped. IfSome result.so_far
-        (HasHostedSoFar S.tells S.view script.now start stores.items result.stores.items stopped)) }
+        (HasHostedSoFar S.tells S.view script.now start stores.items result.stores.items (Err stopped))) }
+    ensures held { (journal : JournalOf)
+        × HasHostedSoFar S.tells S.view script.now start stores.items result.stores.items result.result journal }
     ensures lacks { IfErr result.result (λ stopped. result.so_far ≡ None → stopped ≡ OutOfMemory) }
 {
     let mut stores = stores;

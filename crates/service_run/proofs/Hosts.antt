@@ -1,7 +1,9 @@
 -- A script that ran from a tree on, by hosts and servers or on the tree alone.
 use Rattle.std.proofs.Common.{◌≡◌, ◌+◌, ◌++◌, ℕ, List, [], ◌∷◌, map, length, Some, Ok, Err, true, false, inl, inr}
 use Rattle.std.proofs.Common.{⊎_elim, refl, sym, ap, subst, ◌∙◌}
-use Rattle.std.specs.Prelude.{Result, IfErr, IfOk, IfSome, None, Option, slice_get, unwrap_or}
+use Rattle.std.specs.Prelude.{Result, IfErr, IfOk, slice_get, unwrap_or}
+use Rattle.std.proofs.lemmas.List.{length-map}
+use Rattle.service_hosts.proofs.Nothing.{nothing, nothing_due, nothing_keep, nothing_planned, nothing_runs}
 use Rattle.service_hosts.proofs.Promised.{promises_are_kept}
 use Rattle.service_hosts.specs.Runs.{last_tree}
 use Rattle.run_rules.specs.Runs.{history_of}
@@ -17,6 +19,7 @@ use Rattle.service_moves.specs.Stopping.{IsStopped}
 use Rattle.service_moves.specs.Stores.{AreSame, AreStores, states_of}
 use Rattle.service_moves.specs.declared.stopped.RunStopped.{RunStopped}
 use Rattle.service_moves.specs.declared.stopped.RunStopped.TheVariants.{Memory}
+use Rattle.service_plain.specs.Played.{IsStart}
 use Rattle.service_plain.specs.declared.played.Played.{Played as WasPlayed}
 use Rattle.service_stores.specs.Plans.{KeepsHistory}
 use Rattle.service_stores.specs.Steps.{MayBeAsked}
@@ -33,9 +36,9 @@ use Rattle.service_run.proofs.Same.{asked_in, failed_in, same_in, same_self, sta
 use Rattle.service_run.specs.Courses.{no_tree, start_in}
 use Rattle.service_run.specs.Engine.{HasPlayed}
 use Rattle.service_run.specs.Steps.{HasRunFrom, HaveKept, HaveKeptSoFar, IsClosedFrom, IsRunFrom, IsStoppedSo}
-use Rattle.service_run.specs.Steps.{IsRestStop, IsToldStop, KeepsWhole, course_of}
+use Rattle.service_run.specs.Steps.{IsRestStop, KeepsWhole, course_of}
 use Rattle.service_run.specs.declared.disks.Stopped.{Stopped}
-use Rattle.service_run.specs.declared.disks.Stopped.TheVariants.{Run, Stuck}
+use Rattle.service_run.specs.declared.disks.Stopped.TheVariants.{Run}
 use Rattle.service_run.specs.declared.outcome.Course.{Course}
 use Rattle.service_run.specs.declared.outcome.Course.TheVariants.{Hosted, Played}
 
@@ -67,6 +70,26 @@ module _ {S : Type 0} (view : S → View) where
     are = k.are;
     does = steps_err view result why k.steps old new k.does;
   }
+
+  -- there was no memory to watch stores, and nothing has happened
+  pub nothing_so_far : (script : Script) (start : Tree) (worn : ℕ) (stores : List S) → IsStart script.roster start
+      → may_host script start ≡ true → length stores ≡ length script.roster.capacity
+      → AreStores view script.roster worn 1 stores → KeepAll (λ host. 1) start (states_of view stores)
+      → HaveKeptSoFar view script start (map (λ (state : StoreState). state.epoch) (states_of view stores))
+      (Err (Run Memory)) stores
+  nothing_so_far script start worn stores s may count are kept =
+      let epochs = map (λ (state : StoreState). state.epoch) (states_of view stores) in
+      let long = length-map (states_of view stores) (λ (state : StoreState). state.epoch)
+      ∙ length-map stores (λ (store : S). (view store).state) ∙ count in record {
+        journal = nothing start epochs;
+        starts = refl;
+        epochs_are = refl;
+        planned = nothing_planned script start s may epochs long;
+        run = nothing_runs script start s may epochs long;
+        dutiful = nothing_due script start s may epochs long;
+        kept = nothing_keep view script start s may epochs long worn 1 stores are kept;
+        rested = λ rest. absurd rest;
+      }
 
   module _ (tells : Type 0) (hosted : List S → Type 0) (script : Script) (start : Tree) where
     -- there was no memory to run it on the tree
@@ -166,50 +189,38 @@ module _ {S T : Type 0} (f : S → T) (view : T → View) where
 
   -- what stores keep of what happened so far
   module _ (tells : Type 0) (script : Script) (start : Tree) (olds news : List S) where
-    rested_in : (stopped : HostsStopped) (journal : Journal)
-        → HasHostedSoFar tells (λ s. view (f s)) script start olds news stopped journal → tells
-        → IsRestStop (course_of (Err stopped)) → (k : ℕ) (store : T) → slice_get (map f news) k ≡ Some store
+    rested_in : (result : Result Journal HostsStopped) (journal : Journal)
+        → HasHostedSoFar tells (λ s. view (f s)) script start olds news result journal → tells
+        → IsRestStop (course_of result) → (k : ℕ) (store : T) → slice_get (map f news) k ≡ Some store
         → KeepsWhole (kept_so_far start journal (record { 0 = k + 1 })) (view store)
-    rested_in (hosts.Failed server) journal h told rest k store is = absurd rest
-    rested_in hosts.Memory journal h told rest k store is = absurd rest
-    rested_in (hosts.Stuck waiting) journal h told rest k store is =
+    rested_in (Ok done) journal h told rest k store is = absurd rest
+    rested_in (Err (hosts.Failed server)) journal h told rest k store is = absurd rest
+    rested_in (Err hosts.Memory) journal h told rest k store is = absurd rest
+    rested_in (Err (hosts.Stuck waiting)) journal h told rest k store is =
         let m = mapped f news k store is in
         let all = h.rested waiting refl in
         subst (λ (t : T). KeepsWhole (kept_so_far start journal (record { 0 = k + 1 })) (view t)) m.is
         (record { ready = all.ready k m.from m.was; keeps = all.keeps told k m.from m.was })
 
-    kept_of : (stopped : HostsStopped) (journal : Journal)
-        → HasHostedSoFar tells (λ s. view (f s)) script start olds news stopped journal → tells
-        → HaveKeptSoFar view script start (map (λ (state : StoreState). state.epoch) (states_of view (map f olds)))
-        (course_of (Err stopped)) (map f news)
-    kept_of stopped journal h told = record {
-      journal = journal;
-      starts = h.starts;
-      epochs_are = h.epochs told ∙ both_mapped olds;
-      planned = h.planned;
-      run = h.run told;
-      dutiful = h.dutiful told;
-      kept = λ k store is.
-          (let m = mapped f news k store is in
-          subst (λ (t : T). HasKept script start journal (record { 0 = k + 1 }) (view t).state) m.is
-          (h.kept told k m.from m.was));
-      rested = rested_in stopped journal h told;
-    }
-
-    pub so_far_in : (result : Result Journal HostsStopped) (so_far : Option Journal)
-        → IfErr result (λ stopped. IfSome so_far
-        (HasHostedSoFar tells (λ s. view (f s)) script start olds news stopped))
-        → IfErr result (λ stopped. so_far ≡ None → stopped ≡ hosts.Memory) → tells → IsToldStop (course_of result)
+    pub so_far_in : (result : Result Journal HostsStopped)
+        → ((journal : Journal) × HasHostedSoFar tells (λ s. view (f s)) script start olds news result journal) → tells
         → HaveKeptSoFar view script start (map (λ (state : StoreState). state.epoch) (states_of view (map f olds)))
         (course_of result) (map f news)
-    so_far_in (Ok journal) so_far h lacks told stop = absurd stop
-    so_far_in (Err hosts.Memory) so_far h lacks told stop = absurd stop
-    so_far_in (Err (hosts.Failed server)) None h lacks told stop = (let clash = lacks refl in absurd (cc))
-    so_far_in (Err (hosts.Failed server)) (Some journal) h lacks told stop =
-        kept_of (hosts.Failed server) journal h told
-    so_far_in (Err (hosts.Stuck waiting)) None h lacks told stop = (let clash = lacks refl in absurd (cc))
-    so_far_in (Err (hosts.Stuck waiting)) (Some journal) h lacks told stop =
-        kept_of (hosts.Stuck waiting) journal h told
+    so_far_in result held told =
+        let journal = held.0 in
+        let h = held.1 in record {
+          journal = journal;
+          starts = h.starts;
+          epochs_are = h.epochs told ∙ both_mapped olds;
+          planned = h.planned;
+          run = h.run told;
+          dutiful = h.dutiful told;
+          kept = λ k store is.
+              (let m = mapped f news k store is in
+              subst (λ (t : T). HasKept script start journal (record { 0 = k + 1 }) (view t)) m.is
+              (h.kept told k m.from m.was));
+          rested = rested_in result journal h told;
+        }
 
   module _ (tells : Type 0) (hosted : List T → Type 0) (script : Script) (start : Tree) where
     pub run_hosted : (olds news : List S) (result : Result Journal HostsStopped) → IsSound script → may_host script

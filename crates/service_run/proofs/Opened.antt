@@ -54,9 +54,9 @@ use Rattle.service_run.specs.Courses.{IsTold, KeepTree}
 use Rattle.service_run.specs.Disks.{kept_at, found_at, told_at, images, AreBack, AreFound, BeginsIn, HasDone, IsKept}
 use Rattle.run_rules.specs.declared.journal.Journal.{Journal}
 use Rattle.script_lines.specs.declared.script.Script.{Script}
-use Rattle.service_hosts.specs.Hosting.{HasKept, kept_so_far}
-use Rattle.service_run.specs.Disks.{AreKept, AreDurable, AreRested, AreStill, HasServed, IsKeptSoFar, IsLeftBy}
-use Rattle.service_run.specs.Disks.{IsLeftBySteps}
+use Rattle.service_hosts.specs.Hosting.{HasComeFrom, HasKept, KeepsMore, kept_so_far}
+use Rattle.service_run.specs.Disks.{AreKept, AreDurable, AreRested, AreStill, HasRecordSo, HasServed, IsKeptSoFar}
+use Rattle.service_run.specs.Disks.{IsLeftBy, IsLeftBySteps}
 use Rattle.service_run.specs.Steps.{AreAsPlaced, HasWorked, KeepsWhole, RunsIn}
 use Rattle.service_run.specs.declared.outcome.Course.{Course}
 use Rattle.service_run.specs.declared.outcome.Course.TheVariants.{Empty, Hosted, Played}
@@ -476,20 +476,25 @@ module _ {D : Type 0} (tells : Type 0) (view : D → DiskView) (roster : Roster)
     -- and what each keeps of what happened so far
     pub are_kept_so_far : tells → (script : Script) → script.roster ≡ roster → (start : Tree) (journal : Journal)
         → ((k : ℕ) (store : ServerStore D) → slice_get left k ≡ Some store
-        → HasKept script start journal (record { 0 = k + 1 }) (store_view tells view store).state)
-        → (k : ℕ) (image : List ℕ) → slice_get (images view (disks_of left)) k ≡ Some image
-        → IsKeptSoFar script start journal (k + 1) image
-    are_kept_so_far t script its start journal kept k image is =
-        (let m = mapped (λ disk. (view disk).image) (disks_of left) k image is in
-        let a = at k m.from m.was in
+        → HasKept script start journal (record { 0 = k + 1 }) (store_view tells view store))
+        → (k : ℕ) (disk : D) → slice_get (disks_of left) k ≡ Some disk
+        → IsKeptSoFar script start journal (k + 1) (view disk)
+    are_kept_so_far t script its start journal kept k disk is =
+        (let a = at k disk is in
         let state = kept_state view a.after in
-        record {
-          state = state;
-          found = subst (λ (r : Roster). record_in r (server_of (k + 1)) image ≡ Some state) (sym its)
-              (subst (λ (l : List ℕ). record_in roster (server_of (k + 1)) l ≡ Some state) m.is
-              (has_found t (k + 1) k olds stores left m.from a));
-          kept = kept k (Disk a.after) a.in_left;
-        })
+        let more = KeepsMore script start journal (server_of (k + 1)) in
+        let come = HasComeFrom (kept_so_far start journal (server_of (k + 1))) in
+        let found : record_in script.roster (server_of (k + 1)) (view disk).image ≡ Some state =
+        subst (λ (r : Roster). record_in r (server_of (k + 1)) (view disk).image ≡ Some state) (sym its)
+        (has_found t (k + 1) k olds stores left disk a) in
+        ⊎_elim
+        (λ (m : more state × (store_view tells view (Disk a.after)).ready).
+        (let settled : IsSettled (view disk) = subst (λ (d : D). IsSettled (view d)) a.is m.1.1.settled in
+        inl (λ c left_so. subst (λ (l : List ℕ). HasRecordSo script.roster (k + 1) more l)
+        (sym (⊎_elim (λ (e : c ≡ (view disk).image). e) (λ (may : (view disk).may_leave c). settled c may) left_so))
+        (record { state = state; found = found; so = m.0 }))))
+        (λ (n : come state). inr (record { state = state; found = found; so = n }))
+        (kept k (Disk a.after) a.in_left))
 
     -- and where all came to rest, no more, and durably
     pub are_rested : tells → (start : Tree) (journal : Journal) → ((k : ℕ) (store : ServerStore D)

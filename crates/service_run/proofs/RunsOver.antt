@@ -41,9 +41,9 @@ use Rattle.service_run.specs.Disks.{found_at, images, AreBack, BeginsIn, GoByHos
 use Rattle.service_run.specs.Disks.{AreRested, IsKeptSoFar, IsStuckTold, RanOver, IsUnfit, IsStartOf, AreStill, AreKept}
 use Rattle.service_run.specs.Disks.{AreDurable}
 use Rattle.service_run.specs.Lines.{no_aggregate_line, stuck_line}
-use Rattle.service_run.specs.Outcomes.{has_run, is_end_of_run, stops_told, IsEmpty, IsToldSo, RanSo, RefusedSo}
+use Rattle.service_run.specs.Outcomes.{has_run, is_end_of_run, IsEmpty, IsToldSo, RanSo, RefusedSo}
 use Rattle.service_run.specs.Steps.{AreAsPlaced, HaveGone, IsKeptBy, IsOpeningRefused, IsRunRefused, IsRunOf, IsRunOn}
-use Rattle.service_run.specs.Steps.{HaveServed, IsPlaced, IsRestStop, IsStopRefused, IsToldStop, IsWithoutMemory}
+use Rattle.service_run.specs.Steps.{HaveServed, IsPlaced, IsRestStop, IsStopRefused, IsWithoutMemory}
 use Rattle.service_run.specs.World.{Shown}
 use Rattle.service_run.specs.declared.disks.Stopped.{Stopped}
 use Rattle.service_run.specs.declared.disks.Stopped.TheVariants.{Run, Stuck}
@@ -341,9 +341,8 @@ module _ {D writes : Type 0} (tells : Type 0) (view : D → DiskView) (script : 
     -- or hosts and servers had begun to run it
     hosted_so : (result : Result Course Stopped) → tells
         → HaveServed (store_view tells view) script (length olds) result stores left
-        → (stops_told outcome.status ≡ true → IsToldStop result) → (outcome.status ≡ IsStuck → IsRestStop result)
-        → GoByHosts view script outcome olds news
-    hosted_so result t served stops rests = record {
+        → (outcome.status ≡ IsStuck → IsRestStop result) → GoByHosts view script outcome olds news
+    hosted_so result t served rests = record {
       start = start_from script.roster all;
       starts = record {
         all = all;
@@ -358,8 +357,8 @@ module _ {D writes : Type 0} (tells : Type 0) (view : D → DiskView) (script : 
       each = λ k old new was is.
           has_served tells view script.roster olds stores left are placed same t k old new was
           (ap (λ (l : List D). slice_get l k) (sym closed) ∙ is) (acts_at k served.begins) (served.each k);
-      so_far = λ told_stop.
-          (let h = served.so_far (stops told_stop) in
+      so_far =
+          (let h = served.so_far in
           record {
             journal = h.journal;
             starts = h.starts;
@@ -367,8 +366,8 @@ module _ {D writes : Type 0} (tells : Type 0) (view : D → DiskView) (script : 
             planned = h.planned;
             run = h.run;
             dutiful = h.dutiful;
-            kept = subst (λ (l : List D). (k : ℕ) (image : List ℕ) → slice_get (images view l) k ≡ Some image
-                → IsKeptSoFar script (start_from script.roster all) h.journal (k + 1) image) (sym closed)
+            kept = subst (λ (l : List D). (k : ℕ) (disk : D) → slice_get l k ≡ Some disk
+                → IsKeptSoFar script (start_from script.roster all) h.journal (k + 1) (view disk)) (sym closed)
                 (are_kept_so_far tells view script.roster olds stores left are placed same t script refl
                 (start_from script.roster all) h.journal h.kept);
             rested = λ is. subst (λ (l : List D). AreRested view (start_from script.roster all) h.journal l)
@@ -380,13 +379,12 @@ module _ {D writes : Type 0} (tells : Type 0) (view : D → DiskView) (script : 
     ended_so : (result : Result Course Stopped) → (told → HaveGone (store_view tells view) script (length olds)
         result stores left ⊎ HaveServed (store_view tells view) script (length olds) result stores left)
         → (has_run outcome.status ≡ true → IfOk result (λ run. outcome.course ≡ run) × (OnErr result ⊥))
-        → (stops_told outcome.status ≡ true → IsToldStop result) → (outcome.status ≡ IsStuck → IsRestStop result)
-        → Ended olds news
-    ended_so result gone own stops rests =
+        → (outcome.status ≡ IsStuck → IsRestStop result) → Ended olds news
+    ended_so result gone own rests =
         inl (λ t. ⊎_elim (λ (steps : HaveGone (store_view tells view) script (length olds) result stores left). inl
         (goes result t steps own))
         (λ (served : HaveServed (store_view tells view) script (length olds) result stores left).
-        inr (hosted_so result t served stops rests))
+        inr (hosted_so result t served rests))
         (gone (so (λ _. t))))
 
     -- where it stopped
@@ -394,17 +392,10 @@ module _ {D writes : Type 0} (tells : Type 0) (view : D → DiskView) (script : 
         → ((outcome.status ≡ wanted) ⊎ (outcome.status ≡ NoMemory))
         → (told → HaveGone (store_view tells view) script (length olds) (Err stopped) stores left
         ⊎ HaveServed (store_view tells view) script (length olds) (Err stopped) stores left)
-        → (stops_told outcome.status ≡ true → IsToldStop (Err stopped))
         → (outcome.status ≡ IsStuck → IsRestStop (Err stopped)) → Ended olds news
-    ended stopped wanted h ends gone stops rests =
+    ended stopped wanted h ends gone rests =
         ended_so (Err stopped) gone (λ ran. never_ran outcome.status
-        (refusal_runs_not outcome.status (refused_is outcome.status wanted h ends)) ran) stops rests
-
-    -- where memory ran out no such stop is told
-    starved : outcome.status ≡ NoMemory → stops_told outcome.status ≡ true → ⊥
-    starved is told_stop =
-        (let clash : stops_told NoMemory ≡ true = subst (λ (s : Status). stops_told s ≡ true) is told_stop in
-        absurd (cc))
+        (refusal_runs_not outcome.status (refused_is outcome.status wanted h ends)) ran) rests
 
     not_stuck : (wanted : Status) → (wanted ≡ IsStuck → ⊥)
         → ((outcome.status ≡ wanted) ⊎ (outcome.status ≡ NoMemory)) → outcome.status ≡ IsStuck → ⊥
@@ -416,13 +407,13 @@ module _ {D writes : Type 0} (tells : Type 0) (view : D → DiskView) (script : 
         ⊎ HaveServed (store_view tells view) script (length olds) (Err (Run stopped)) stores left)
         → IsRunRefused stopped outcome before after → RanOver tells view script outcome olds news before after
     over_halted (running.Failed server) is gone r =
-        over_failed olds news server.0 back_is (ended (Run (running.Failed server)) NoDisk refl r.ends gone (λ s. tt)
+        over_failed olds news server.0 back_is (ended (Run (running.Failed server)) NoDisk refl r.ends gone
         (not_stuck NoDisk (λ e. cc) r.ends))
         (subst (λ (l : List D). IsFailing view olds l server.0) (sym closed)
         (is_failing tells view script.roster olds stores left server.0 are placed is)) r
     over_halted (running.Unfit disk slot) is gone r =
         over_refused olds news disk (page_start (header_number slot)) back_is
-        (ended (Run (running.Unfit disk slot)) NoAggregate refl r.ends gone (λ s. tt)
+        (ended (Run (running.Unfit disk slot)) NoAggregate refl r.ends gone
         (not_stuck NoAggregate (λ e. cc) r.ends))
         (inr (λ t.
         (let stop = is (so (λ _. t)) in
@@ -440,7 +431,7 @@ module _ {D writes : Type 0} (tells : Type 0) (view : D → DiskView) (script : 
               (are_still tells view script.roster olds stores left are placed same t stop.1),
         )))) r
     over_halted running.Memory is gone r = over_starved olds news back_is
-        (ended (Run running.Memory) NoMemory refl (inr r.ends) gone (starved r.ends)
+        (ended (Run running.Memory) NoMemory refl (inr r.ends) gone
         (not_stuck NoMemory (λ e. cc) (inr r.ends))) r
 
     over_waits : (place : ℕ) (next : Option ℕ) → place < length (nodes_of script)
@@ -449,7 +440,7 @@ module _ {D writes : Type 0} (tells : Type 0) (view : D → DiskView) (script : 
         → RefusedSo IsStuck (stuck_line script place next) outcome before after → RanOver tells view script outcome
         olds news before after
     over_waits place next within gone r = over_stuck olds news place next back_is
-        (ended (Stuck place next) IsStuck refl r.ends gone (λ s. tt) (λ s. tt)) within r
+        (ended (Stuck place next) IsStuck refl r.ends gone (λ s. tt)) within r
 
     over_went : (play : Play) (run : Course) → IsRunOf told (store_view tells view) script (length olds) (Ok run)
         stores left → IsToldSo play script run outcome before after
@@ -482,27 +473,10 @@ module _ {D writes : Type 0} (tells : Type 0) (view : D → DiskView) (script : 
       failed = λ e. absurd (told_not outcome.status NoDisk so_told.ends e refl (λ q. cc));
       refused = λ e. absurd (told_not outcome.status NoAggregate so_told.ends e refl (λ q. cc));
       stuck = λ e. absurd (told_not outcome.status IsStuck so_told.ends e refl (λ q. cc));
-      goes = ended_so (Ok run) is.goes (λ ran. (so_told.own ran, tt)) (λ s. absurd (never_stops so_told.ends s))
+      goes = ended_so (Ok run) is.goes (λ ran. (so_told.own ran, tt))
           (λ e. absurd (told_not outcome.status IsStuck so_told.ends e refl (λ q. cc)));
     }
       where
-        never_stops : (has_run outcome.status ≡ true) ⊎ (outcome.status ≡ NoMemory)
-            → stops_told outcome.status ≡ true → ⊥
-        never_stops (inl ran) s = by_status outcome.status ran s
-          where
-            by_status : (status : Status) → has_run status ≡ true → stops_told status ≡ true → ⊥
-            by_status Done r s = absurd (cc)
-            by_status NoCommand r s = absurd (cc)
-            by_status NoScript r s = absurd (cc)
-            by_status NoInput r s = absurd (cc)
-            by_status NoOutput r s = absurd (cc)
-            by_status NoDisk r s = absurd (cc)
-            by_status NoAggregate r s = absurd (cc)
-            by_status NoMemory r s = absurd (cc)
-            by_status HasFaults r s = absurd (cc)
-            by_status IsStuck r s = absurd (cc)
-        never_stops (inr is) s = starved is s
-
         kept_so : tells → AreKept (last_in run) (images view news)
         kept_so t =
             subst (λ (l : List D). AreKept (last_in run) (images view l)) (sym closed)

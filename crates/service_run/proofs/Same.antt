@@ -142,9 +142,9 @@ module _ {S : Type 0} (view : S → View) where
           script
           disks worn olds mids news start result are same from.same (fit told)
           (subst (λ (t : Tree). may_host script t ≡ true) (tree told) hosted.may) (steps told) hosted.worked
-          (λ stop. subst (λ (t : Tree). HaveKeptSoFar view script t
+          (subst (λ (t : Tree). HaveKeptSoFar view script t
           (map (λ (state : StoreState). state.epoch + 1) (states_of view olds)) result news) (tree told)
-          (subst (λ (l : List ℕ). HaveKeptSoFar view script start l result news) (begun told) (hosted.so_far stop)))))
+          (subst (λ (l : List ℕ). HaveKeptSoFar view script start l result news) (begun told) hosted.so_far))))
           (λ (kept : HaveKept view script start result mids news). inl (gone told kept)) (from.goes told);
     }
       where
@@ -236,7 +236,7 @@ module _ {S T : Type 0} (f : S → T) (view : T → View) where
         dutiful = h.dutiful;
         kept = λ k store is.
             (let m = mapped f news k store is in
-            subst (λ (t : T). HasKept script start h.journal (record { 0 = k + 1 }) (view t).state) m.is
+            subst (λ (t : T). HasKept script start h.journal (record { 0 = k + 1 }) (view t)) m.is
             (h.kept k m.from m.was));
         rested = λ rest k store is.
             (let m = mapped f news k store is in
@@ -264,13 +264,13 @@ module _ {S T : Type 0} (f : S → T) (view : T → View) where
         ∥∥₁_map (served.each k m.from n.from m.was n.was) (λ worked.
         subst (λ (t : T). HasWorked acts (view before) (view t)) n.is
         (subst (λ (t : T). HasWorked acts (view t) (view (f n.from))) m.is worked)));
-    so_far = λ stop. kept_in script (start_from script.roster (told_by (λ s. view (f s)) disks olds))
+    so_far = kept_in script (start_from script.roster (told_by (λ s. view (f s)) disks olds))
         (start_from script.roster (told_by view disks (map f olds)))
         (map (λ (state : StoreState). state.epoch + 1) (states_of (λ s. view (f s)) olds))
         (map (λ (state : StoreState). state.epoch + 1) (states_of view (map f olds))) result news
         (ap (λ l. start_from script.roster l) (sym (told_in disks olds)))
         (ap (λ (l : List StoreState). map (λ (state : StoreState). state.epoch + 1) l) (sym (states_in olds)))
-        (served.so_far stop);
+        served.so_far;
   })
 
   pub run_in : (tells : Type 0) (script : Script) (disks : ℕ) (result : Result Course Stopped) (olds news : List S)

@@ -27,7 +27,7 @@ use Rattle.service_watch.proofs.Going.{first_views, gone_first, left_first, left
 use Rattle.service_watch.specs.Gone.{HasGone, HaveGone as HaveWorked, IsLeftOf}
 use Rattle.service_moves.specs.Stores.{states_of}
 use Rattle.std.specs.Prelude.{Result, map}
-use Rattle.service_run.specs.Steps.{HasWorked, HaveKeptSoFar, HaveServed, IsToldStop}
+use Rattle.service_run.specs.Steps.{HasWorked, HaveKeptSoFar, HaveServed}
 use Rattle.service_run.specs.declared.disks.Stopped.{Stopped}
 use Rattle.service_run.specs.declared.outcome.Course.{Course}
 
@@ -107,8 +107,8 @@ module _ {S : Type 0} (view : S → View) where
       (told_by view disks olds)) ≡ true
       → (steps : List Step) × AreBeginning (states_at view olds) steps × DoSteps {T = Tree} {E = E} view (Ok start)
       steps olds mids → HaveWorked (first_views view mids) view news
-      → (IsToldStop result → HaveKeptSoFar view script (start_from script.roster (told_by view disks olds))
-      (map (λ (state : StoreState). state.epoch + 1) (states_of view olds)) result news)
+      → HaveKeptSoFar view script (start_from script.roster (told_by view disks olds))
+      (map (λ (state : StoreState). state.epoch + 1) (states_of view olds)) result news
       → HaveServed view script disks result olds news
   have_served script disks worn olds mids news start result are first then fit may began worked so_far = record {
     fit = fit;

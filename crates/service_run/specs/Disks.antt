@@ -59,13 +59,13 @@ use Rattle.script_commands.specs.declared.command.Play.{Play}
 use Rattle.service_run.specs.Checks.{IsDiskRefused}
 use Rattle.service_hosts.specs.Runs.{nodes_of}
 use Rattle.service_hosts.specs.Homes.{may_host}
-use Rattle.service_hosts.specs.Hosting.{HasKept, kept_so_far}
+use Rattle.service_hosts.specs.Hosting.{HasComeFrom, KeepsMore, kept_so_far}
 use Rattle.run_rules.specs.Plans.{IsPlanned}
 use Rattle.run_rules.specs.Runs.{IsDutiful, IsRun}
 use Rattle.run_rules.specs.declared.journal.Journal.{Journal}
 use Rattle.service_run.specs.Lines.{no_aggregate_line, stuck_line}
 use Rattle.service_run.specs.Courses.{IsTold, last_in, start_in, history_in}
-use Rattle.service_run.specs.Outcomes.{has_run, has_reached, stops_told}
+use Rattle.service_run.specs.Outcomes.{has_run, has_reached}
 use Rattle.service_run.specs.Output.{Wrote}
 use Rattle.service_run.specs.Scripts.{IsRead}
 use Rattle.service_run.specs.World.{Shown, World}
@@ -210,14 +210,21 @@ BeginsIn roster images (Hosted journal) = (k epoch : ℕ) (state : StoreState)
     → slice_get journal.epochs k ≡ Some epoch → found_at roster images k ≡ Some state → epoch ≡ state.epoch + 1
 BeginsIn roster images _ = Unit {0}
 
--- A server's disk has a record in which is each change that the server acknowledged in a journal from this tree: it
--- keeps what the server keeps by the rules after all its steps there, and perhaps some more; or, where the server
--- failed while it made more, it came by acts of the server from one that keeps those.
-pub record IsKeptSoFar (script : Script) (start : Tree) (journal : Journal) (number : ℕ) (image : List ℕ)
-    : Type 0 where
+-- the bytes of a server's disk have a record, of which this holds
+pub record HasRecordSo (roster : Roster) (number : ℕ) (P : StoreState → Type 0) (image : List ℕ) : Type 0 where
   pub state : StoreState
-  pub found : record_in script.roster (server_of number) image ≡ Some state
-  pub kept : HasKept script start journal (server_of number) state
+  pub found : record_in roster (server_of number) image ≡ Some state
+  pub so : P state
+
+-- A server's disk has a record in which is each change that the server acknowledged in a journal from this tree: it
+-- keeps what the server keeps by the rules after all its steps there, and perhaps some more, and so does whatever a
+-- crash right after leaves; or, where the server failed while it made more, it came by acts of the server from one
+-- that keeps those.
+abbrev pub IsKeptSoFar : Script → Tree → Journal → ℕ → View → Type 0
+IsKeptSoFar script start journal number disk =
+    ((c : List ℕ) → (c ≡ disk.image) ⊎ disk.may_leave c
+    → HasRecordSo script.roster number (KeepsMore script start journal (server_of number)) c)
+    ⊎ HasRecordSo script.roster number (HasComeFrom (kept_so_far start journal (server_of number))) disk.image
 
 -- each disk keeps what its server keeps by the rules after all its steps in a journal from this tree, and no more; and
 -- so does whatever a crash right after leaves of it
@@ -227,9 +234,9 @@ pub record AreRested {D : Type 0} (view : D → View) (start : Tree) (journal : 
   pub durable : (k : ℕ) (disk : D) (c : List ℕ) → slice_get disks k ≡ Some disk → (view disk).may_leave c
       → IsKept (kept_so_far start journal (server_of (k + 1))) (k + 1) c
 
--- A run by hosts and servers that came to no end: the journal so far starts from the tree, in the epochs that the
--- stores then have, and keeps to the plan of the script; it is a run of the script, in which what is due is done; and
--- each disk has what its server acknowledged in it. Where all came to rest it has no more, durably.
+-- A run by hosts and servers, so far: there is a journal, which starts from the tree, in the epochs that the stores
+-- then have, and keeps to the plan of the script; it is a run of the script, in which what is due is done; and each
+-- disk has what its server acknowledged in it. Where all came to rest it has no more, durably.
 pub record HasGoneSoFar {D : Type 0} (view : D → View) (script : Script) (status : Status) (start : Tree)
     (olds news : List D) : Type 0 where
   pub journal : Journal
@@ -238,14 +245,14 @@ pub record HasGoneSoFar {D : Type 0} (view : D → View) (script : Script) (stat
   pub planned : IsPlanned script journal
   pub run : IsRun script journal
   pub dutiful : IsDutiful script journal
-  pub kept : (k : ℕ) (image : List ℕ) → slice_get (images view news) k ≡ Some image
-      → IsKeptSoFar script start journal (k + 1) image
+  pub kept : (k : ℕ) (disk : D) → slice_get news k ≡ Some disk
+      → IsKeptSoFar script start journal (k + 1) (view disk)
   pub rested : status ≡ Stuck → AreRested view start journal news
 
 -- What became of disks over which hosts and servers ran a script, or began to: they can from the tree that the disks
 -- held. What an earlier run left of moves was settled and finished, each server began the run, and then it did some
--- acts of its own (there are such acts, which ∥ ∥₁ says). What they come to is told where the run went to its end, by
--- the tree that the disks keep then; and where it came to none but for want of memory, by what happened so far.
+-- acts of its own (there are such acts, which ∥ ∥₁ says). What they come to is told by what happened so far, however the
+-- run ended, and also where memory ran out; and where it went to its end, by the tree that the disks keep then.
 pub record GoByHosts {D : Type 0} (view : D → View) (script : Script) (outcome : Outcome) (olds news : List D)
     : Type 0 where
   pub start : Tree
@@ -255,7 +262,7 @@ pub record GoByHosts {D : Type 0} (view : D → View) (script : Script) (outcome
   pub beginning : AreBeginning (found_at script.roster (images view olds)) begins
   pub each : (k : ℕ) (old new : D) → slice_get olds k ≡ Some old → slice_get news k ≡ Some new
       → ∥ HasServed script.roster (server_of (k + 1)) (acts_at k begins) (view old) (view new) ∥₁
-  pub so_far : stops_told outcome.status ≡ true → HasGoneSoFar view script outcome.status start olds news
+  pub so_far : HasGoneSoFar view script outcome.status start olds news
 
 -- there are as many disks as before, and the count of faults of none fell
 pub record AreBack {D : Type 0} (view : D → View) (old new : List D) : Type 0 where

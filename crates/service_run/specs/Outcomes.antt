@@ -54,12 +54,6 @@ is_end_of_run NoAggregate = true
 is_end_of_run Stuck = true
 is_end_of_run status = has_run status
 
--- whether a run stopped for another cause than want of memory, behind the opening of the disks
-abbrev pub stops_told : Status → Bool
-stops_told NoDisk = true
-stops_told Stuck = true
-stops_told _ = false
-
 -- whether it ends so only once it has reached the disks
 abbrev pub has_reached : Status → Bool
 has_reached NoDisk = true

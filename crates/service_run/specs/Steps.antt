@@ -108,8 +108,8 @@ pub record KeepsWhole (tree : Tree) (view : View) : Type 0 where
   pub ready : view.ready
   pub keeps : KeepsOf tree view.state
 
--- A run by hosts and servers came to no end: the journal so far, of which each store keeps what its server
--- acknowledged; where all came to rest, no more.
+-- A run by hosts and servers, so far: there is a journal, of which each store keeps what its server acknowledged;
+-- where all came to rest, no more.
 pub record HaveKeptSoFar {S : Type 0} (view : S → View) (script : Script) (start : Tree) (epochs : List ℕ)
     (result : Result Course Stopped) (stores : List S) : Type 0 where
   pub journal : Journal
@@ -119,23 +119,17 @@ pub record HaveKeptSoFar {S : Type 0} (view : S → View) (script : Script) (sta
   pub run : IsRun script journal
   pub dutiful : IsDutiful script journal
   pub kept : (k : ℕ) (store : S) → slice_get stores k ≡ Some store
-      → HasKept script start journal (record { 0 = k + 1 }) (view store).state
+      → HasKept script start journal (record { 0 = k + 1 }) (view store)
   pub rested : IsRestStop result → (k : ℕ) (store : S) → slice_get stores k ≡ Some store
       → KeepsWhole (kept_so_far start journal (record { 0 = k + 1 })) (view store)
 
--- whether a run stopped for another cause than want of memory
-abbrev pub IsToldStop : Result Course Stopped → Type 0
-IsToldStop (Ok course) = ⊥
-IsToldStop (Err (Run running.Memory)) = ⊥
-IsToldStop (Err _) = ⊤
-
--- hosts and servers can run the script from this tree; the stores did acts since they were seen so; and where the run
--- came to no end, but for want of memory, each keeps what its server acknowledged
+-- hosts and servers can run the script from this tree; the stores did acts since they were seen so; and however the
+-- run ended, each keeps what its server acknowledged
 pub record HaveHosted {S : Type 0} (from : ℕ → View) (view : S → View) (script : Script) (start : Tree)
     (epochs : List ℕ) (result : Result Course Stopped) (stores : List S) : Type 0 where
   pub may : may_host script start ≡ true
   pub worked : HaveWorked from view stores
-  pub so_far : IsToldStop result → HaveKeptSoFar view script start epochs result stores
+  pub so_far : HaveKeptSoFar view script start epochs result stores
 
 -- A script ran from a tree over stores that have begun the run, or why it didn't; each is still that of its server.
 -- Either it ran on the tree alone, or this holds of the stores.
@@ -196,7 +190,7 @@ pub record HaveServed {S : Type 0} (view : S → View) (script : Script) (disks 
   pub beginning : AreBeginning (states_at view old) begins
   pub each : (k : ℕ) (before after : S) → slice_get old k ≡ Some before → slice_get new k ≡ Some after
       → ∥ HasWorked (acts_at k begins) (view before) (view after) ∥₁
-  pub so_far : IsToldStop result → HaveKeptSoFar view script (start_from script.roster (told_by view disks old))
+  pub so_far : HaveKeptSoFar view script (start_from script.roster (told_by view disks old))
       (map (λ state. state.epoch + 1) (states_of view old)) result new
 
 -- A script ran over stores, or why it didn't; each is still that of its server.

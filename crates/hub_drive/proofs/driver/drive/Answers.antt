@@ -3,7 +3,7 @@ use Rattle.hub_board.specs.Hubs.{nodes_of}
 use Rattle.hub_turns.specs.Meetings.{first_pass}
 use Rattle.hub_turns.specs.Views.{NodeView}
 use Rattle.hub_drive.specs.Driving.{IsHubOf, beginning}
-use Rattle.hub_drive.proofs.Driving.{all_seated, first_stood, nodes_are}
+use Rattle.hub_drive.proofs.Driving.{all_seated, first_stood, nodes_are, none_held}
 use Rattle.hub_drive.proofs.Lists.{map_size}
 use Rattle.hub_drive.proofs.driver.drive.Goals as goal
 
@@ -57,3 +57,15 @@ run_at-requires-clause-stood g c κs w =
     c.seat_all-seats.ensures.nodes c.seat_all-seats.ensures.passes c.in-Ok-new.ensures.passes
     c.seat_all-seats.ensures.fresh)
     c.seat_all-seats.ensures.fresh
+
+pub returns-in_default-clause-held : goal.returns-in_default-clause-held
+returns-in_default-clause-held g c =
+    let met = g.met.N.Node g.world.𝓛 g.world.𝓜 g.world.𝓡 ((λ s x. x), (λ x. x), (λ x. x), (λ x. x)) in
+    none_held g.N.Node.tells g.N.Node.stands g.N.Node.stays g.N.Node.failed met.stays_so c.args.script.now c.args.start
+    c.args.epochs c.requires.can c.args.nodes.items c.requires.nodes
+
+pub returns-in_default-new-clause-held : goal.returns-in_default-new-clause-held
+returns-in_default-new-clause-held g c =
+    let met = g.met.N.Node g.world.𝓛 g.world.𝓜 g.world.𝓡 ((λ s x. x), (λ x. x), (λ x. x), (λ x. x)) in
+    none_held g.N.Node.tells g.N.Node.stands g.N.Node.stays g.N.Node.failed met.stays_so c.args.script.now c.args.start
+    c.args.epochs c.requires.can c.args.nodes.items c.requires.nodes

@@ -1,5 +1,5 @@
 use Rattle.std.proofs.Common.{◌∙◌, sym}
-use Rattle.hub_drive.proofs.Driving.{close_ready, driven_by, if_ok, seats_count}
+use Rattle.hub_drive.proofs.Driving.{close_ready, driven_by, held_by, if_ok, on_err, seats_count}
 use Rattle.hub_drive.proofs.driver.finish.Goals as goal
 
 pub close-result-requires : goal.close-result-requires
@@ -15,3 +15,11 @@ returns-clause-driven g c =
     c.args.epochs c.requires.can c.args.hub c.requires.hub c.args.seats.items c.requires.are c.requires.through
     c.unseat.new.nodes.items c.unseat.new.passes.items c.unseat.ensures.nodes c.unseat.ensures.passes)
     c.close-result.ensures.ok
+
+pub returns-clause-held : goal.returns-clause-held
+returns-clause-held g c =
+    on_err c.close-result.result
+    (held_by g.N.Node.tells g.N.Node.stands g.N.Node.stays g.N.Node.failed g.met.N.Node.hands_in c.args.script.now
+    c.args.start c.args.epochs c.requires.can c.args.hub c.requires.hub c.args.seats.items c.requires.are
+    c.requires.stood c.unseat.new.nodes.items c.unseat.new.passes.items c.unseat.ensures.nodes
+    c.unseat.ensures.passes c.close-result.ensures.ended)

@@ -21,6 +21,12 @@ finish-requires-clause-through g c =
     c.turn_until-went.ensures.through (beginning c.args.script.now c.args.start c.args.epochs)
     (λ i d lt well. c.requires.seated i d lt) c.if-went.true
 
+pub finish-requires-clause-stood : goal.finish-requires-clause-stood
+finish-requires-clause-stood g c =
+    all_stood g.N.Node.stands g.N.Node.stays g.N.Node.failed c.args.hub
+    (beginning c.args.script.now c.args.start c.args.epochs) c.args.seats.items c.turn_until-went.new.seats.items
+    c.turn_until-went.ensures.gone (λ i d lt well. c.requires.seated i d lt) c.requires.stood
+
 pub returns-then-went-clause-stayed : goal.returns-then-went-clause-stayed
 returns-then-went-clause-stayed g c =
     let run = beginning c.args.script.now c.args.start c.args.epochs in

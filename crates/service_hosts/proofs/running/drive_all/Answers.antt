@@ -1,18 +1,20 @@
 use Rattle.std.proofs.Common.{◌≡◌, ℕ, ◌+◌, ◌^◌, ◌∙◌, List, length, ap, refl, sym, subst, arith}
-use Rattle.hub_drive.specs.Driving.{HasDriven, IsFault, beginning}
+use Rattle.hub_drive.specs.Driving.{HasDriven, HasStopped, IsFault, beginning}
 use Rattle.hub_node.specs.Either.{stands_any}
 use Rattle.host_node.specs.Standing.{Stands as HostStands}
 use Rattle.server_node.specs.Standing.{Stands as ServerStands}
 use Rattle.service_moves.specs.Stores.{AreSame}
 use Rattle.service_hosts.specs.Hosting.{HasHostedSoFar, IsStopped, stopped_by}
 use Rattle.service_hosts.specs.declared.running.HostsStopped.TheVariants.{Memory as OutOfMemory}
-use Rattle.std.specs.Prelude.{Err, IfSome, None}
+use Rattle.std.specs.Prelude.{Err, IfSome, None, Ok}
+use Rattle.run_rules.specs.declared.journal.Journal.{Journal}
+use Rattle.hub_drive.specs.declared.driver.DriveFault.TheVariants as drive
 use Rattle.service_hosts.specs.Nodes.{AreOver, next_line}
 use Rattle.service_hosts.specs.declared.running.HostsStopped.{HostsStopped}
-use Rattle.service_hosts.proofs.Driven.{FailedSo, are_back, are_nodes, are_same, as_many, err_at, ok_at}
-use Rattle.service_hosts.proofs.Driven.{one_over, over_back}
+use Rattle.service_hosts.proofs.Driven.{FailedSo, StaysSo, are_back, are_nodes, are_same, as_many, err_at, ok_at}
+use Rattle.service_hosts.proofs.Driven.{on_err_at, one_over, over_back}
 use Rattle.service_hosts.proofs.Driven.{stopped_so, stops_by, taken_back}
-use Rattle.service_hosts.proofs.Ending.{has_hosted, lacks_by, so_far_by}
+use Rattle.service_hosts.proofs.Ending.{has_hosted, held_by, lacks_by, so_far_by, so_far_ended}
 use Rattle.service_hosts.proofs.Starting.{can_start, has_limits}
 use Rattle.service_hosts.proofs.running.drive_all.Goals as goal
 
@@ -155,7 +157,7 @@ returns-in-Err-clause-so_far g c = λ stores over epochs.
     c.args.room.items
     c.take_stores.ensures c.requires.none in
     subst (λ (s : HostsStopped). IfSome so_far
-    (HasHostedSoFar tells view script start stores c.take_stores.new.stores.items s))
+    (HasHostedSoFar tells view script start stores c.take_stores.new.stores.items (Err s)))
     (ap (λ (n : ℕ). stopped_by (n + 1) c.in-Err.fault) (sym c.len-hosts.ensures) ∙ sym c.stopped_by.ensures)
     (so_far_by tells view script start c.args.epochs c.requires.sound.servers news so_far c.in-Err.fault count
     c.drive-driven.ensures.so_far
@@ -172,3 +174,64 @@ returns-in-Err-clause-lacks g c = λ none.
     (ap (λ (n : ℕ). stopped_by (n + 1) c.in-Err.fault) (sym c.len-hosts.ensures) ∙ sym c.stopped_by.ensures)
     (lacks_by c.drive-driven.result.result c.drive-driven.result.so_far c.in-Err.fault count c.in-Err.is
     c.drive-driven.ensures.lacks none)
+
+pub returns-in-Ok-clause-held : goal.returns-in-Ok-clause-held
+returns-in-Ok-clause-held g c = λ stores over are.
+    let tells = g.S.Store.tells in
+    let view = g.S.Store.view in
+    let script = c.args.script.now in
+    let o = c.requires.over in
+    let count = length script.roster.hosts + 1 in
+    let olds = c.args.nodes.items in
+    let news = c.drive-driven.result.nodes.items in
+    let became = c.drive-driven.ensures.became in
+    let journal = c.in-Ok.journal in
+    let driven = ok_at c.drive-driven.result.result journal
+    (HasDriven (Unit {0} × tells) (stands_any HostStands (ServerStands tells view)) script c.args.start c.args.epochs
+    news)
+    c.in-Ok.is c.drive-driven.ensures.driven in
+    let long = as_many tells view olds news count stores over became
+    ∙ ap (λ (l : List g.row.S.Denot). length l) (one_over olds count stores o.0 over o.1.0) ∙ o.1.1.1 in
+    let taken = taken_back tells view olds news count stores over became c.take_stores.new.stores.items
+    c.args.room.items
+    c.take_stores.ensures c.requires.none in (
+      journal,
+      so_far_ended tells view script c.args.start c.args.epochs c.requires.sound.servers news journal driven
+          (Ok journal) stores c.take_stores.new.stores.items
+          (subst (λ (l : List g.row.S.Denot). AreOver news count l) (sym taken)
+          (over_back tells view olds news count stores over became))
+          (ap (λ (l : List g.row.S.Denot). length l) taken ∙ long) are,
+    )
+
+pub returns-in-Err-clause-held : goal.returns-in-Err-clause-held
+returns-in-Err-clause-held g c = λ stores over epochs.
+    let tells = g.S.Store.tells in
+    let view = g.S.Store.view in
+    let script = c.args.script.now in
+    let start = c.args.start in
+    let o = c.requires.over in
+    let count = length script.roster.hosts + 1 in
+    let olds = c.args.nodes.items in
+    let news = c.drive-driven.result.nodes.items in
+    let became = c.drive-driven.ensures.became in
+    let result = c.drive-driven.result.result in
+    let so_far = c.drive-driven.result.so_far in
+    let fault = c.in-Err.fault in
+    let after = c.take_stores.new.stores.items in
+    let long = as_many tells view olds news count stores over became
+    ∙ ap (λ (l : List g.row.S.Denot). length l) (one_over olds count stores o.0 over o.1.0) ∙ o.1.1.1 in
+    let taken = taken_back tells view olds news count stores over became after c.args.room.items
+    c.take_stores.ensures c.requires.none in
+    subst (λ (s : HostsStopped). (journal : Journal)
+    × HasHostedSoFar tells view script start stores after (Err s) journal)
+    (ap (λ (n : ℕ). stopped_by (n + 1) fault) (sym c.len-hosts.ensures) ∙ sym c.stopped_by.ensures)
+    (held_by tells view script start c.args.epochs c.requires.sound.servers news so_far fault count
+    c.drive-driven.ensures.so_far (λ w e. c.drive-driven.ensures.stuck w (c.in-Err.is ∙ ap (λ f. Err f) e))
+    stores after
+    (subst (λ (l : List g.row.S.Denot). AreOver news count l) (sym taken)
+    (over_back tells view olds news count stores over became))
+    (ap (λ (l : List g.row.S.Denot). length l) taken ∙ long) epochs
+    (err_at result fault (λ f. so_far ≡ None → f ≡ drive.Memory) c.in-Err.is c.drive-driven.ensures.lacks)
+    (on_err_at result fault ((journal : Journal) × HasStopped (Unit {0} × tells)
+    (stands_any HostStands (ServerStands tells view)) (StaysSo tells view) (FailedSo tells view) script start
+    c.args.epochs news journal) c.in-Err.is c.drive-driven.ensures.held))

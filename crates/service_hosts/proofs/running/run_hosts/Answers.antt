@@ -1,6 +1,10 @@
-use Rattle.std.proofs.Common.{◌^◌, ◌∙◌, List, refl, sym, subst, arith}
+use Rattle.std.proofs.Common.{◌^◌, ◌∙◌, Err, List, refl, sym, subst, arith}
 use Rattle.service_moves.specs.Stores.{AreSame}
 use Rattle.hub_drive.specs.Driving.{beginning}
+use Rattle.run_rules.specs.declared.journal.Journal.{Journal}
+use Rattle.service_hosts.specs.Hosting.{HasHostedSoFar, epochs_of}
+use Rattle.service_hosts.specs.declared.running.HostsStopped.TheVariants.{Memory as OutOfMemory}
+use Rattle.service_hosts.proofs.Nothing.{nothing, nothing_hosted}
 use Rattle.service_hosts.proofs.Paired.{same_as}
 use Rattle.service_hosts.proofs.Serving.{can_all}
 use Rattle.service_hosts.proofs.Starting.{is_valid, playable}
@@ -53,3 +57,20 @@ returns-in-Err-clause-same g c =
 pub returns-in-Ok-clause-so_far : goal.returns-in-Ok-clause-so_far
 returns-in-Ok-clause-so_far g c =
     c.drive_all.ensures.so_far c.args.stores.items c.in-Ok.ensures.over c.in-Ok.ensures.epochs
+
+pub returns-in-Ok-clause-held : goal.returns-in-Ok-clause-held
+returns-in-Ok-clause-held g c =
+    c.drive_all.ensures.held c.args.stores.items c.in-Ok.ensures.over c.in-Ok.ensures.epochs
+
+pub returns-in-Err-clause-held : goal.returns-in-Err-clause-held
+returns-in-Err-clause-held g c =
+    let view = g.S.Store.view in
+    let script = c.args.script.now in
+    let stores = c.args.stores.items in
+    subst (λ (l : List g.row.S.Denot). (journal : Journal) × HasHostedSoFar g.S.Store.tells view script c.args.start
+    stores l (Err OutOfMemory) journal) (sym c.in-Err.ensures.back)
+    (
+      nothing c.args.start (epochs_of view stores),
+      nothing_hosted view g.S.Store.tells script c.args.start stores c.requires.start c.requires.homes c.requires.count
+          (2 ^ 40) 1 c.requires.stores c.requires.kept (Err OutOfMemory) (λ w e. absurd (cc)),
+    )

@@ -7,11 +7,11 @@ use Rattle.service_stores.specs.Starting.{HaveBegun}
 use Rattle.service_watch.specs.Gone.{HaveGone as HaveWorked}
 use Rattle.service_watch.specs.Watching.{store_in as watched_in, stores_in as all_watched}
 use Rattle.store_laws.specs.MoveKeeping.{KeepAll}
-use Rattle.service_run.proofs.Hosts.{run_closed, run_hosted, run_unwatched, so_far_in}
+use Rattle.service_run.proofs.Hosts.{nothing_so_far, run_closed, run_hosted, run_unwatched, so_far_in}
 use Rattle.service_run.proofs.Same.{same_count, states_in, stores_in_are}
 use Rattle.service_run.proofs.Seated.{stored_count, watched_count}
 use Rattle.service_run.proofs.disks.host_over.Goals as goal
-use Rattle.service_run.specs.Steps.{HaveHosted, HaveKeptSoFar, IsClosedFrom, IsRunFrom, IsToldStop}
+use Rattle.service_run.specs.Steps.{HaveHosted, HaveKeptSoFar, IsClosedFrom, IsRunFrom}
 use Rattle.service_run.specs.declared.disks.Stopped.{Stopped}
 use Rattle.service_run.specs.declared.disks.Stopped.TheVariants.{Run}
 use Rattle.service_run.specs.declared.outcome.Course.{Course}
@@ -88,15 +88,13 @@ returns-in-Ok g c =
     let worked : told → side (all_watched news) = λ t. record {
       may = c.requires.homes;
       worked = c.unwatch.ensures.gone t;
-      so_far = λ stop.
+      so_far =
           subst (λ l. HaveKeptSoFar view script start (map (λ (state : StoreState). state.epoch) (states_of view l))
           c.course_of.result (all_watched news)) c.in-Ok.ensures.watched
           (subst (λ (r : Result Course Stopped). HaveKeptSoFar view script start
           (map (λ (state : StoreState). state.epoch) (states_of view (all_watched olds))) r (all_watched news))
           (sym c.course_of.ensures)
-          (so_far_in watched_in view told script start olds news hosted.result.result hosted.result.so_far
-          hosted.ensures.so_far hosted.ensures.lacks t
-          (subst (λ (r : Result Course Stopped). IsToldStop r) c.course_of.ensures stop)));
+          (so_far_in watched_in view told script start olds news hosted.result.result hosted.ensures.held t));
     } in
     let ran = run_hosted watched_in view told side script start olds news hosted.result.result c.requires.sound
     c.requires.homes hosted.ensures.same hosted.ensures.hosted hosted.ensures.stopped worked in
@@ -120,6 +118,12 @@ returns-in-Err g c =
     run_closed view told side script start (λ seats. disks_of (stores_in seats)) seats seats _
     c.args.disks.now.items c.close_seats-in-Err.new.disks.items
     (run_unwatched view told side script start (2 ^ 40) seats c.requires.stores
-    (λ t. record { may = c.requires.homes; worked = c.requires.gone t; so_far = λ stop. absurd stop }))
+    (λ t. record {
+      may = c.requires.homes;
+      worked = c.requires.gone t;
+      so_far =
+          nothing_so_far view script start (2 ^ 40) seats c.requires.start c.requires.homes c.requires.count
+              c.requires.stores (c.requires.kept t);
+    }))
     (c.close_seats-in-Err.ensures.back
     ∙ ap (λ l. disks_of (stores_in l) ++ c.args.disks.now.items) c.in-Err.ensures.back))

@@ -10,8 +10,8 @@ close-requires-after_bounds c κs =
     (ap (λ (h : HubView). h.id) c.self.view_is) (ap (λ (h : HubView). h.nodes) c.self.view_is) c.bare_of.ensures
     c.requires
 
-pub returns-clause-ok : goal.returns-clause-ok
-returns-clause-ok c =
+pub returns : goal.returns
+returns c =
     ended c.args.self c.args.passes.items c.bare_of.result.items c.in-Ok.meeting.board c.into_turns.result
     c.bare_of.ensures
     (subst (λ first. IsOf first c.in-Ok.meeting.board) (ap (λ (h : HubView). h.first) c.self.view_is)
