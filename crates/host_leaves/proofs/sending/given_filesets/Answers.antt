@@ -1,4 +1,4 @@
-use Rattle.std.proofs.Common.{[], ap, fold, sym, ◌∙◌}
+use Rattle.std.proofs.Common.{[], ap, fold, ◌∙◌}
 use Rattle.host_leaves.specs.Sending.{filesets_given}
 use Rattle.host_leaves.proofs.Slots.{given_in, with_slot}
 use Rattle.host_leaves.proofs.Steps.{fold_next, take_whole}
@@ -8,11 +8,11 @@ pub loop-slot-preserved : goal.loop-slot-preserved
 loop-slot-preserved c =
     c.in_ok-push_slot.ensures
     ∙ ap (λ filesets. with_slot filesets c.slot-item.result) c.loop-slot.invariant
-    ∙ fold_next c.slots.result.now c.loop-slot.slot-index c.slot-item.result c.loop-slot-test.true
+    ∙ fold_next c.slots-slots.result.now c.loop-slot.slot-index c.slot-item.result c.loop-slot-test.true
     c.slot-item.is with_slot []
 
 pub returns : goal.returns
 returns c =
     c.loop-slot.invariant
-    ∙ ap (fold with_slot []) (take_whole c.slots.result.now c.loop-slot.slot-index c.loop-slot-test.false)
-    ∙ given_in c.slots.result.now ∙ ap filesets_given c.slots.ensures
+    ∙ ap (fold with_slot []) (take_whole c.slots-slots.result.now c.loop-slot.slot-index c.loop-slot-test.false)
+    ∙ given_in c.slots-slots.result.now ∙ ap filesets_given c.slots-slots.ensures
