@@ -17,7 +17,7 @@ use crate::rounds::{Went, turn_until};
 use crate::seat::Seat;
 use base_types::{Items, NoMemory};
 use hub_node::{Node, NodeFault};
-use hub_turns::{Hub, NodePass, Pending, Turn, steps_of};
+use hub_turns::{ClosingRoom, Hub, NodePass, Pending, Turn, steps_of};
 use run_rules::{Journal, Step};
 use script_lines::Script;
 use std::alloc::Global;
@@ -153,15 +153,17 @@ fn journal_of(
     alloc: Global,
     hub: Hub,
     passes: Vec<NodePass>,
+    closing: ClosingRoom,
     start: Tree,
     epochs: Items<u64>,
 ) -> Result<Journal, NoMemory>
-    requires { (length passes.items ≡ hub.nodes) × EachAt (λ p. p.hub ≡ hub.id) passes.items }
+    requires passes { (length passes.items ≡ hub.nodes) × EachAt (λ p. p.hub ≡ hub.id) passes.items }
+    requires closing { hub.nodes ≤ closing }
     ensures ok { IfOk result (λ journal. (turns : List TurnOf) × HasEnded hub turns passes.items
         × IsJournalOf start epochs turns journal) }
     ensures ended { (turns : List TurnOf) × HasEnded hub turns passes.items }
 {
-    let turns = hub.close(passes);
+    let turns = hub.close(passes, closing);
     let mut starts = Items::new(alloc);
     let started = starts.push(start);
     let steps = steps_of(alloc, turns)?;
@@ -178,16 +180,18 @@ fn close(
     alloc: Global,
     hub: Hub,
     passes: Vec<NodePass>,
+    closing: ClosingRoom,
     start: Tree,
     epochs: Items<u64>,
 ) -> Result<Journal, DriveFault>
-    requires { (length passes.items ≡ hub.nodes) × EachAt (λ p. p.hub ≡ hub.id) passes.items }
+    requires passes { (length passes.items ≡ hub.nodes) × EachAt (λ p. p.hub ≡ hub.id) passes.items }
+    requires closing { hub.nodes ≤ closing }
     ensures ok { IfOk result (λ journal. (turns : List TurnOf) × HasEnded hub turns passes.items
         × IsJournalOf start epochs turns journal) }
     ensures ended { (turns : List TurnOf) × HasEnded hub turns passes.items }
     ensures err { IfErr result (λ fault. IsFree fault) }
 {
-    match journal_of(alloc, hub, passes, start, epochs) {
+    match journal_of(alloc, hub, passes, closing, start, epochs) {
         Ok(journal) => Ok(journal),
         Err(NoMemory) => Err(DriveFault::Memory),
     }
@@ -201,6 +205,7 @@ fn stop<N: Node>(
     start: Tree,
     epochs: Items<u64>,
     hub: Hub,
+    closing: ClosingRoom,
     seats: Vec<Seat<N>>,
     mut nodes: Vec<N>,
     mut passes: Vec<NodePass>,
@@ -209,6 +214,7 @@ fn stop<N: Node>(
 ) -> Driven<N>
     requires can { CanStart script.now start epochs }
     requires hub { IsHubOf script.now hub }
+    requires closing { hub.nodes ≤ closing }
     requires are { map (λ s. s.pass.node) seats.items ≡ nodes_of script.now }
     requires stood { EachAt (λ s. HasStood N.stands N.stays N.failed (beginning script.now start epochs) hub s.pass
         s.node s.steps.steps) seats.items }
@@ -233,7 +239,7 @@ fn stop<N: Node>(
 {
     let _script = script;
     unseat(seats, &mut nodes, &mut passes, &mut left);
-    match journal_of(alloc, hub, passes, start, epochs) {
+    match journal_of(alloc, hub, passes, closing, start, epochs) {
         Ok(journal) => Driven {
             nodes,
             result: Err(fault),
@@ -256,6 +262,7 @@ fn finish<N: Node>(
     start: Tree,
     epochs: Items<u64>,
     hub: Hub,
+    closing: ClosingRoom,
     seats: Vec<Seat<N>>,
     mut nodes: Vec<N>,
     mut passes: Vec<NodePass>,
@@ -263,6 +270,7 @@ fn finish<N: Node>(
 ) -> Driven<N>
     requires can { CanStart script.now start epochs }
     requires hub { IsHubOf script.now hub }
+    requires closing { hub.nodes ≤ closing }
     requires are { map (λ s. s.pass.node) seats.items ≡ nodes_of script.now }
     requires through { EachAt (IsThrough N.stands (beginning script.now start epochs) hub N.tells) seats.items }
     requires stood { EachAt (λ s. HasStood N.stands N.stays N.failed (beginning script.now start epochs) hub s.pass
@@ -281,7 +289,7 @@ fn finish<N: Node>(
 {
     let _script = script;
     unseat(seats, &mut nodes, &mut passes, &mut left);
-    let result = close(alloc, hub, passes, start, epochs);
+    let result = close(alloc, hub, passes, closing, start, epochs);
     Driven {
         nodes,
         result,
@@ -303,6 +311,7 @@ fn run_at<N: Node + Send, R: Threads + Wait + Sync, G: Gate + Sync>(
     start: Tree,
     epochs: Items<u64>,
     hub: Hub,
+    closing: ClosingRoom,
     mut seats: Vec<Seat<N>>,
     nodes: Vec<N>,
     passes: Vec<NodePass>,
@@ -312,6 +321,7 @@ fn run_at<N: Node + Send, R: Threads + Wait + Sync, G: Gate + Sync>(
 ) -> Driven<N>
     requires can { CanStart script.now start epochs }
     requires hub { IsHubOf script.now hub }
+    requires closing { hub.nodes ≤ closing }
     requires are { map (λ s. s.pass.node) seats.items ≡ nodes_of script.now }
     requires seated { EachAt (IsSeated N.stands (beginning script.now start epochs) hub) seats.items }
     requires well { EachAt (λ s. s.fault ≡ None) seats.items }
@@ -341,12 +351,12 @@ fn run_at<N: Node + Send, R: Threads + Wait + Sync, G: Gate + Sync>(
     let went = turn_until(rt, &hub, gate, hosts_of(script), &mut seats, workers);
     if went.through {
         return finish(
-            alloc, script, start, epochs, hub, seats, nodes, passes, left,
+            alloc, script, start, epochs, hub, closing, seats, nodes, passes, left,
         );
     }
     let fault = fault_of(went, seats.as_slice());
     stop(
-        alloc, script, start, epochs, hub, seats, nodes, passes, left, fault,
+        alloc, script, start, epochs, hub, closing, seats, nodes, passes, left, fault,
     )
 }
 
@@ -354,10 +364,19 @@ fn run_at<N: Node + Send, R: Threads + Wait + Sync, G: Gate + Sync>(
 fn rooms<N: Drop>(
     alloc: Global,
     count: usize,
-) -> Result<(Vec<Seat<N>>, Vec<N>, Vec<NodePass>, Vec<Items<Step>>), NoMemory>
+) -> Result<
+    (
+        Vec<Seat<N>>,
+        Vec<N>,
+        Vec<NodePass>,
+        Vec<Items<Step>>,
+        ClosingRoom,
+    ),
+    NoMemory,
+>
     ensures { IfOk result (λ r. (r.0.items ≡ []) × (r.1.items ≡ []) × (r.2.items ≡ []) × (r.3.items ≡ [])
         × (count ≤ vec_capacity r.0) × (count ≤ vec_capacity r.1) × (count ≤ vec_capacity r.2)
-        × (count ≤ vec_capacity r.3)) }
+        × (count ≤ vec_capacity r.3) × (count ≤ r.4)) }
 {
     let mut seats = Vec::new(alloc);
     let mut nodes = Vec::new(alloc);
@@ -367,7 +386,8 @@ fn rooms<N: Drop>(
     nodes.reserve(count)?;
     passes.reserve(count)?;
     left.reserve(count)?;
-    Ok((seats, nodes, passes, left))
+    let closing = ClosingRoom::new(alloc, count)?;
+    Ok((seats, nodes, passes, left, closing))
 }
 
 /// Drives the nodes of a script, the setup host first, then the other hosts and the servers: they take turns at a hub,
@@ -417,7 +437,7 @@ pub fn drive<N: Node + Send, R: Threads + Wait + Sync, G: Gate + Sync>(
     ensures stuck { (w : WaitingAt) → result.result ≡ Err (StuckAt w) → IfSome result.so_far (λ journal.
         StandAfter N.stands (beginning script.now start epochs) journal result.nodes.items) }
 {
-    let Ok((seats, back, passes_back, left)) = rooms(alloc, nodes.len()) else {
+    let Ok((seats, back, passes_back, left, closing)) = rooms(alloc, nodes.len()) else {
         return Driven {
             nodes,
             result: Err(DriveFault::Memory),
@@ -441,6 +461,7 @@ pub fn drive<N: Node + Send, R: Threads + Wait + Sync, G: Gate + Sync>(
         start,
         epochs,
         hub,
+        closing,
         seats,
         back,
         passes_back,

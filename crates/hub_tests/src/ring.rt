@@ -8,7 +8,7 @@ ghost use Rattle.hub_tests.specs.Rings.{IsRing};
 
 use crate::member::{Member, Way, first_answer};
 use base_types::{CAPACITY_DEFAULT, Items, NoMemory};
-use hub_turns::{Hub, NodePass, Turn};
+use hub_turns::{ClosingRoom, Hub, NodePass, Turn};
 use script_lines::Script;
 use std::alloc::Global;
 use std::sync::Wait;
@@ -198,6 +198,7 @@ pub fn go_round<R: Threads + Wait + Sync>(
 ) -> Result<Items<Turn>, NoMemory> {
     let script = script_of(alloc)?;
     let (hub, passes) = Hub::new(&script, &[])?;
+    let room = ClosingRoom::new(alloc, passes.len())?;
     let passes = went_round(rt, &hub, passes, apart, last)?;
-    Ok(hub.close(passes))
+    Ok(hub.close(passes, room))
 }

@@ -6,6 +6,7 @@ ghost use Rattle.hub_turns.specs.Views.{AreBare};
 ghost use Rattle.hub_turns.specs.Meetings.{first_pass, HasPassed, IsRefused, AreAllPasses, HasEnded};
 ghost use Rattle.hub_turns.specs.Meetings.{AreSent, IsGivenSound};
 
+use crate::closing::ClosingRoom;
 use crate::meeting::{HubTurn, Meeting};
 use crate::pass::NodePass;
 use base_types::{Items, NoMemory, Node, Plain, ServerId};
@@ -21,18 +22,15 @@ use std::sync::Wait;
 /// who takes part.
 pub struct Hub {
     cell: TurnCell<Meeting>,
-    // where the passes are handed over at the end
-    room: Vec<Pass<Turn>>,
 }
 
 impl Drop for Hub {
     fn drop(self) {
-        let Hub { cell: _, room: _ } = self;
+        let Hub { cell: _ } = self;
     }
 }
 
 impl Model for Hub {
-    ghost use Rattle.std.specs.Prelude.{◌≡◌, ◌≤◌, [], vec_capacity};
     ghost use Rattle.hub_turns.specs.Views.{HubView};
 
     ghost Value = { HubView };
@@ -43,8 +41,6 @@ impl Model for Hub {
       first = h.cell.first.board.hub;
       roster = h.cell.first.roster;
     } };
-
-    ghost invariant = { λ h. (h.room.items ≡ []) × (h.cell.seats ≤ vec_capacity h.room) };
 }
 
 impl Hub {
@@ -62,11 +58,9 @@ impl Hub {
         let nodes = nodes_of(script)?;
         let board = Board::new(script, rooms)?;
         let roster = script.roster.copy()?;
-        let mut room = Vec::new(alloc);
-        room.reserve(nodes.len())?;
         let (cell, first) = TurnCell::new(alloc, Meeting { board, roster }, nodes.len() as u32)?;
         let passes = passes_of(alloc, &cell, first, nodes.as_slice())?;
-        Ok((Hub { cell, room }, passes))
+        Ok((Hub { cell }, passes))
     }
 
     /// Hands the node's steps in, and gives the first that there is for it (`Board::turn`). So what the turn gives is
@@ -115,13 +109,14 @@ impl Hub {
     }
 
     /// Gives the list of turns, for all passes that are out: it has what was made through them, each turn once, those
-    /// of one node in its order. It takes no memory, and waits for nobody.
-    pub fn close(self, passes: Vec<NodePass>) -> Items<Turn>
-        requires { AreAllPasses self passes.items }
+    /// of one node in its order. There is room for the passes, so it takes no memory; and it waits for nobody.
+    pub fn close(self, passes: Vec<NodePass>, room: ClosingRoom) -> Items<Turn>
+        requires passes { AreAllPasses self passes.items }
+        requires room { self.nodes ≤ room }
         ensures { HasEnded self result passes.items }
     {
-        let Hub { cell, room } = self;
-        let Ok(meeting) = cell.close(bare_of(passes, room)) else {
+        let Hub { cell } = self;
+        let Ok(meeting) = cell.close(bare_of(passes, room.into_passes())) else {
             unreachable!()
         };
         meeting.board.into_turns()

@@ -2,8 +2,8 @@ use Rattle.std.proofs.Common.{◌∙◌, sym}
 use Rattle.hub_drive.proofs.Driving.{close_ready, driven_by, held_by, if_ok, on_err, seats_count}
 use Rattle.hub_drive.proofs.driver.finish.Goals as goal
 
-pub close-result-requires : goal.close-result-requires
-close-result-requires g c =
+pub close-result-requires-clause-passes : goal.close-result-requires-clause-passes
+close-result-requires-clause-passes g c =
     close_ready c.args.hub c.args.seats.items c.unseat.new.passes.items
     (λ i d lt. (c.requires.through i d lt).seated.hub_is) c.unseat.ensures.passes
     (seats_count c.args.script.now c.args.seats.items c.requires.are ∙ sym c.requires.hub.nodes)

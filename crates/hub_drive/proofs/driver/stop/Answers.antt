@@ -3,8 +3,8 @@ use Rattle.hub_drive.specs.declared.driver.DriveFault.TheVariants.{Stuck}
 use Rattle.hub_drive.proofs.Driving.{close_ready, held_by, left_by, rests_by, seats_count, stopped_by}
 use Rattle.hub_drive.proofs.driver.stop.Goals as goal
 
-pub journal_of-requires : goal.journal_of-requires
-journal_of-requires g c =
+pub journal_of-requires-clause-passes : goal.journal_of-requires-clause-passes
+journal_of-requires-clause-passes g c =
     close_ready c.args.hub c.args.seats.items c.unseat.new.passes.items
     (λ i d lt. (c.requires.stood i d lt).hub_is) c.unseat.ensures.passes
     (seats_count c.args.script.now c.args.seats.items c.requires.are ∙ sym c.requires.hub.nodes)

@@ -8,7 +8,7 @@ pub close-requires-after_bounds : goal.close-requires-after_bounds
 close-requires-after_bounds c κs =
     all_seats c.self.inside.cell c.args.self c.args.passes.items c.bare_of.result.items
     (ap (λ (h : HubView). h.id) c.self.view_is) (ap (λ (h : HubView). h.nodes) c.self.view_is) c.bare_of.ensures
-    c.requires
+    c.requires.passes
 
 pub returns : goal.returns
 returns c =

@@ -9,9 +9,3 @@ overflow_cast-len c =
     let are = ap length c.in_ok-nodes.ensures in
     let count = nodes_count c.args.script.now in
     let is = c.len.ensures in omega arith
-
-pub new-requires-2-clause-seats : goal.new-requires-2-clause-seats
-new-requires-2-clause-seats c κs =
-    let are = ap length c.in_ok-nodes.ensures in
-    let count = nodes_count c.args.script.now in
-    let is = c.len-2.ensures in omega arith
