@@ -270,8 +270,11 @@ stuck_of hosts (drive.Store k) w e = absurd (cc)
 stuck_of hosts (drive.Stuck v) w e = (let same : v ≡ w = cc in ap (λ x. drive.Stuck x) same)
 stuck_of hosts drive.Memory w e = absurd (cc)
 
-err_is : {E : Type 0} (x y : E) → Err {A = Journal} x ≡ Err y → x ≡ y
-err_is x y e = cc
+abbrev stop : HostsStopped → Result Journal HostsStopped
+stop why = Err why
+
+stop_is : (x y : HostsStopped) → stop x ≡ stop y → x ≡ y
+stop_is x y e = cc
 
 -- so it is with the journal so far of nodes that were driven, by what the driver says
 module _ {S : Type 0} (tells : Type 0) (view : S → View) (script : Script) (start : Tree) (epochs : List ℕ)
@@ -283,8 +286,8 @@ module _ {S : Type 0} (tells : Type 0) (view : S → View) (script : Script) (st
     StandAfter (stands_any HostStands (ServerStands tells view)) (beginning script start epochs) journal news))
     (olds stores : List S) (over : AreOver news (length script.roster.hosts + 1) stores)
     (count : length stores ≡ length script.roster.capacity) (are : tells → epochs ≡ epochs_of view olds) where
-  stuck_by : (w : Waiting) → Err {A = Journal} (stopped_by hosts fault) ≡ Err (Stuck w) → fault ≡ drive.Stuck w
-  stuck_by w e = stuck_of hosts fault w (err_is (stopped_by hosts fault) (Stuck w) e)
+  stuck_by : (w : Waiting) → stop (stopped_by hosts fault) ≡ stop (Stuck w) → fault ≡ drive.Stuck w
+  stuck_by w e = stuck_of hosts fault w (stop_is (stopped_by hosts fault) (Stuck w) e)
 
   pub so_far_by : IfSome so_far (HasHostedSoFar tells view script start olds stores (Err (stopped_by hosts fault)))
   so_far_by =
