@@ -9,3 +9,4 @@ pub mod Dropping
 pub mod ShownLaws
 pub mod Learning
 pub mod Parting
+pub mod Marked

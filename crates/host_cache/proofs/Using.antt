@@ -1,10 +1,11 @@
 -- Tokens that are used, and tokens that are dropped.
 use Rattle.std.proofs.Common.{◌≡◌, ◌≤◌, ◌<◌, ℕ, suc, ◌+◌, Bool, true, false, not, cond, ◌&&◌, ◌==◌, List}
 use Rattle.std.proofs.Common.{[], ◌∷◌, ◌++◌, length, None, refl, sym, ap}
-use Rattle.std.proofs.Common.{◌∙◌, subst, arith, if◌then◌else◌, append_assoc, length-append, drop, get_or}
+use Rattle.std.proofs.Common.{◌∙◌, subst, arith, if◌then◌else◌, append_assoc, length-append, take, drop, get_or}
 use Rattle.std.specs.List.{filter}
 use Rattle.std.proofs.lemmas.Bool.{and_parts}
 use Rattle.std.proofs.lemmas.Bool.Decides.{nat_tests}
+use Rattle.std.proofs.lemmas.List.{take_at}
 use Rattle.std.proofs.lemmas.List.Elements.{filter-append}
 use Rattle.base_types.specs.Ids.{same_fid}
 use Rattle.token_types.specs.declared.token.Need.{Need}
@@ -12,7 +13,7 @@ use Rattle.token_types.specs.declared.token.Token.{Token}
 use Rattle.token_types.specs.declared.token.TokenId.{TokenId}
 use Rattle.host_cache.specs.declared.held.Held.{Held}
 use Rattle.host_cache.specs.Holding.{is_id, brought, tokens_of, shows_byte, tells_of, helps}
-use Rattle.host_cache.specs.Holding.{helps_cover, helpers_first, first_by, used, IsOnce, promoted}
+use Rattle.host_cache.specs.Holding.{helps_cover, helpers_first, first_by, used, IsOnce, brought_all}
 use Rattle.host_cache.specs.Files.{FileKey, file_key, same_key, nothing, parts_at, Puts, IsRoomy}
 use Rattle.host_cache.specs.Parts.{Parts}
 use Rattle.host_cache.specs.Seen.{seen, after_used, of_key, IsKept}
@@ -25,6 +26,22 @@ abbrev pub helper : Need → Held → Bool
 helper need h = helps_cover need h.token
 
 -- ---- the order after helpers were brought to the front, one by one
+abbrev promoted : Need → List Token → List Held → List Held
+promoted need [] held = held
+promoted need (token ∷ tokens) held =
+    if helps_cover need token then brought token.id (promoted need tokens held) else promoted need tokens held
+
+brought_helpers : (need : Need) (tokens : List Token) (held : List Held) →
+    brought_all (filter (helps_cover need) tokens) held ≡ promoted need tokens held
+brought_helpers need [] held = refl
+brought_helpers need (t ∷ ts) held =
+    elim (helps_cover need t) as (λ b.
+    brought_all (cond b (t ∷ filter (helps_cover need) ts) (filter (helps_cover need) ts)) held
+    ≡ (if b then brought t.id (promoted need ts held) else promoted need ts held)) [
+      | true ↦ ap (brought t.id) (brought_helpers need ts held)
+      | false ↦ brought_helpers need ts held
+    ]
+
 id_itself : (a b c : ℕ) → (((a == a) && (b == b)) && (c == c)) ≡ true
 id_itself a b c = grind (arith, nat_tests)
 
@@ -105,10 +122,11 @@ helper_own : (need : Need) (h : Held) → helper need h ≡ true → same_key (f
     true
 helper_own need h e = (and_parts (same_fid h.token.fid need.fid) (helps h.token.kind need.kind) e).0
 
-pub promoted_used : (need : Need) (held : List Held) → IsOnce held →
-    promoted need (tokens_of (of_key (file_key need.fid) held)) held ≡ used need held
-promoted_used need held once =
-    promoted_from need (λ h. same_key (file_key h.token.fid) (file_key need.fid)) (helper_own need) [] held once
+pub brought_used : (need : Need) (held : List Held) → IsOnce held →
+    brought_all (filter (helps_cover need) (tokens_of (of_key (file_key need.fid) held))) held ≡ used need held
+brought_used need held once =
+    brought_helpers need (tokens_of (of_key (file_key need.fid) held)) held
+    ∙ promoted_from need (λ h. same_key (file_key h.token.fid) (file_key need.fid)) (helper_own need) [] held once
 
 -- of another file none helps
 none_helps : (need : Need) (key : FileKey) → same_key (file_key need.fid) key ≡ false → (held : List Held) →
@@ -203,9 +221,19 @@ nothing_used held files inv need none = none_first (helper need) held (counted h
             ]) e
 
 -- ---- the loops
-pub promoted_next : (need : Need) (tokens : List Token) (old : List Held) (i : ℕ) (token : Token) → i < length tokens →
+pub brought_next : (tokens : List Token) (old : List Held) (i : ℕ) (token : Token) → i < length tokens →
     token ≡ get_or tokens i token →
-    promoted need (drop i tokens) old
-    ≡ (if helps_cover need token then brought token.id (promoted need (drop (suc i) tokens) old)
-    else promoted need (drop (suc i) tokens) old)
-promoted_next need tokens old i token lt here = ap (λ ts. promoted need ts old) (drop_here tokens i token lt here)
+    brought_all (drop i tokens) old ≡ brought token.id (brought_all (drop (suc i) tokens) old)
+brought_next tokens old i token lt here = ap (λ ts. brought_all ts old) (drop_here tokens i token lt here)
+
+-- the helpers stand first
+module _ (need : Need) (tokens : List Token) where
+  abbrev not_helping : List Token
+  not_helping = filter (λ t. not (helps_cover need t)) tokens
+
+  pub front_within : length (filter (helps_cover need) tokens) ≤ length (helpers_first need tokens)
+  front_within = omega (arith, length-append (filter (helps_cover need) tokens) not_helping)
+
+  pub front_is : take (length (filter (helps_cover need) tokens)) (helpers_first need tokens)
+      ≡ filter (helps_cover need) tokens
+  front_is = take_at (filter (helps_cover need) tokens) not_helping (length (filter (helps_cover need) tokens)) refl

@@ -9,7 +9,7 @@ use Rattle.token_types.specs.declared.token.Need.{Need}
 use Rattle.token_types.specs.declared.token.TokenId.{TokenId}
 use Rattle.host_cache.specs.declared.held.Held.{Held}
 use Rattle.host_cache.specs.Bytes.{told_byte}
-use Rattle.host_cache.specs.Holding.{has_id, helps_cover, used, is_idle, last_of}
+use Rattle.host_cache.specs.Holding.{has_id, helps_cover, used, used_each, is_idle, last_of}
 use Rattle.host_cache.specs.Seen.{Seen, shows, after_drop, after_write}
 
 -- after a write each of its bytes is read at its place, and all else as before
@@ -59,6 +59,10 @@ pub record UsedAt (need : Need) (held : List Held) : Type 0 where
 
 abbrev pub Used : Type 0
 Used = (need : Need) (held : List Held) → UsedAt need held
+
+-- needs that were used one after the other, and are again, change nothing
+abbrev pub UsedAgain : Type 0
+UsedAgain = (needs : List Need) (held : List Held) → used_each needs (used_each needs held) ≡ used_each needs held
 
 -- the oldest token isn't in use, and all that are behind it are
 pub record OldestAt (held : List Held) (h : Held) : Type 0 where

@@ -85,8 +85,12 @@ helpers_first need tokens = first_by (helps_cover need) tokens
 abbrev pub used : Need → List Held → List Held
 used need held = first_by (λ h. helps_cover need h.token) held
 
--- with each of these tokens brought to the front that helps to cover a need, the first of them last
-abbrev pub promoted : Need → List Token → List Held → List Held
-promoted need [] held = held
-promoted need (token ∷ tokens) held =
-    if helps_cover need token then brought token.id (promoted need tokens held) else promoted need tokens held
+-- with needs used one after the other
+abbrev pub used_each : List Need → List Held → List Held
+used_each [] held = held
+used_each (need ∷ needs) held = used_each needs (used need held)
+
+-- with each of these tokens brought to the front, the first of them last
+abbrev pub brought_all : List Token → List Held → List Held
+brought_all [] held = held
+brought_all (token ∷ tokens) held = brought token.id (brought_all tokens held)

@@ -5,15 +5,15 @@ ghost use Rattle.std.specs.List.{find};
 ghost use Rattle.std.specs.Option.{option_map};
 ghost use Rattle.token_types.specs.Covers.{Covers, CoversBetween, CoversKind};
 ghost use Rattle.host_cache.specs.Holding.{IsOnce, has_id, is_id, tokens_of, is_idle, last_of};
-ghost use Rattle.host_cache.specs.Holding.{is_status, promoted};
+ghost use Rattle.host_cache.specs.Holding.{is_status, used_each};
 ghost use Rattle.host_cache.specs.Files.{FileKey, file_key, same_key, parts_at, HasRoom, Grows, Learns, Puts};
 ghost use Rattle.host_cache.specs.Files.{without_token, left, told_under, told_by};
 ghost use Rattle.host_cache.specs.Seen.{seen, after_add, after_drop, after_write};
 ghost use Rattle.host_cache.specs.Seen.{after_length, after_set_use, after_used, of_key};
 
 use crate::file::{File, FileKey, Shown, file_key};
-use crate::held::{Held, helps_cover, is_status};
-use crate::order::Order;
+use crate::held::{Held, is_status};
+use crate::recent::Recent;
 use base_types::{Fid, Items, NoMemory};
 use std::alloc::Global;
 use std::collections::HashMap;
@@ -27,7 +27,7 @@ use tree_calls::{DirEntry, Piece, Status};
 #[derive(Drop)]
 pub struct Cache {
     alloc: Global,
-    order: Order,
+    order: Recent,
     files: HashMap<FileKey, File>,
 }
 
@@ -46,7 +46,7 @@ impl Cache {
     pub fn new(alloc: Global) -> Result<Cache, NoMemory>
         ensures { IfOk result (λ cache. cache.held ≡ []) }
     {
-        let order = Order::new(alloc)?;
+        let order = Recent::new(alloc)?;
         Ok(Cache {
             alloc,
             order,
@@ -224,8 +224,22 @@ impl Cache {
         let Some(file) = self.files.get_mut(&file_key(need.fid)) else {
             return;
         };
-        promote_helpers(&mut self.order, file.tokens(), need);
-        file.bring_helpers(need);
+        let count = file.bring_helpers(need);
+        self.order.promote_all(file.first(count));
+    }
+
+    /// Uses needs, one after the other. Where they are those that were marked last and nothing else changed the order
+    /// since, no token is looked at.
+    pub fn mark_all(&mut self, needs: &[Need])
+        ensures { seen self.new ≡ record (seen self.old) { held = used_each needs.now self.old.held } }
+    {
+        if self.order.is_marked(needs) {
+            return;
+        }
+        for need in needs {
+            self.used(need);
+        }
+        self.order.note(needs);
     }
 
     /// How many tokens are held. It takes no memory.
@@ -266,17 +280,6 @@ fn told_under(kind: Kind, status: Option<&Status>) -> Option<&Status>
         return status;
     }
     None
-}
-
-// Brings those of a file's tokens to the front that help to cover a need, from the last to the first.
-fn promote_helpers(order: &mut Order, tokens: &[Token], need: &Need)
-    ensures { order.new ≡ promoted need.now tokens.now order.old }
-{
-    for index in (0..tokens.len()).rev() {
-        if helps_cover(&tokens[index], need) {
-            order.promote(tokens[index].id);
-        }
-    }
 }
 
 // Makes room for the bytes of a token. Nothing of what is kept changes, on an error too.
@@ -339,7 +342,7 @@ fn drop_from_file(files: &mut HashMap<FileKey, File>, fid: Fid, id: TokenId)
 }
 
 // Forgets the status of a file with which none of its tokens came.
-fn forget_status(files: &mut HashMap<FileKey, File>, order: &Order, fid: Fid)
+fn forget_status(files: &mut HashMap<FileKey, File>, order: &Recent, fid: Fid)
     ensures { Puts files.old.entries (file_key fid)
         (told_by order.now (parts_at files.old.entries (file_key fid))) files.new.entries }
 {

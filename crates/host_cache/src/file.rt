@@ -1,11 +1,11 @@
 //! What is kept of one file or directory.
-ghost use Rattle.std.specs.Prelude.{◌≡◌, ◌+◌, ◌<◌, ◌≤◌, length, option_copied, is_some, take, drop, IsTrue};
+ghost use Rattle.std.specs.Prelude.{◌≡◌, ◌+◌, ◌<◌, ◌≤◌, length, filter, option_copied, is_some, take, drop, IsTrue};
 ghost use Rattle.std.specs.Prelude.{OnOk, OnErr, ℕ, None, [], if◌then◌else◌};
 ghost use Rattle.std.specs.List.{list_any};
 ghost use Rattle.base_types.specs.Spans.{has_byte};
 ghost use Rattle.host_cache.specs.Files.{nothing, HasRoom, Grows, Learns, Writes, with_length, file_key, with_token};
 ghost use Rattle.host_cache.specs.Files.{with_status, with_entries, without_token};
-ghost use Rattle.host_cache.specs.Holding.{helpers_first, kind_has_byte, is_status};
+ghost use Rattle.host_cache.specs.Holding.{helpers_first, helps_cover, kind_has_byte, is_status};
 
 use crate::bytes;
 use crate::held::{bring_helpers, kind_has_byte};
@@ -231,11 +231,20 @@ impl File {
         }
     }
 
-    /// Brings the tokens that help to cover a need to the front.
-    pub(crate) fn bring_helpers(&mut self, need: &Need)
-        ensures { self.new ≡ record self.old { tokens = helpers_first need.now self.old.tokens } }
+    /// Brings the tokens that help to cover a need to the front, and counts them.
+    pub(crate) fn bring_helpers(&mut self, need: &Need) -> usize
+        ensures order { self.new ≡ record self.old { tokens = helpers_first need.now self.old.tokens } }
+        ensures count { result ≡ length (filter (helps_cover need.now) self.old.tokens) }
     {
-        bring_helpers(self.tokens.as_mut_slice(), need);
+        bring_helpers(self.tokens.as_mut_slice(), need)
+    }
+
+    /// So many of its tokens, from the first on.
+    pub(crate) fn first(&self, count: usize) -> &[Token]
+        requires { count ≤ length self.now.tokens }
+        ensures { result.now ≡ take count self.now.tokens }
+    {
+        &self.tokens.as_slice()[..count]
     }
 
     /// Forgets the status.

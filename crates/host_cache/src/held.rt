@@ -1,5 +1,5 @@
 //! Tokens that are held, and which of them help to cover a need.
-ghost use Rattle.std.specs.Prelude.{◌≡◌, ◌++◌, filter, not};
+ghost use Rattle.std.specs.Prelude.{◌≡◌, ◌++◌, filter, length, not};
 ghost use Rattle.host_cache.specs.Holding.{kind_has_byte, is_status, helps, helps_cover, helpers_first};
 
 use token_types::{Kind, Need, Token};
@@ -57,9 +57,11 @@ fn helps(kind: Kind, needed: Kind) -> bool
     }
 }
 
-/// Brings the tokens that help to cover a need to the front. The order among these stays, and that among the others.
-pub(crate) fn bring_helpers(tokens: &mut [Token], need: &Need)
-    ensures { tokens.new ≡ helpers_first need.now tokens.old }
+/// Brings the tokens that help to cover a need to the front, and counts them. The order among these stays, and that
+/// among the others.
+pub(crate) fn bring_helpers(tokens: &mut [Token], need: &Need) -> usize
+    ensures order { tokens.new ≡ helpers_first need.now tokens.old }
+    ensures count { result ≡ length (filter (helps_cover need.now) tokens.old) }
 {
     let mut front = 0;
     for index in 0..tokens.len() {
@@ -68,4 +70,5 @@ pub(crate) fn bring_helpers(tokens: &mut [Token], need: &Need)
             front += 1;
         }
     }
+    front
 }

@@ -8,6 +8,8 @@ mod file;
 mod held;
 mod laws;
 mod order;
+mod recent;
+mod same;
 
 pub use cache::Cache;
 pub use file::Shown;

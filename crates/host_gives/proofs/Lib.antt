@@ -3,3 +3,4 @@ pub mod Counting
 pub mod Staying
 pub mod Adding
 pub mod Going
+pub mod Emptied

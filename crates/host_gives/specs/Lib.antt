@@ -1,3 +1,4 @@
 pub mod Counters
+pub mod Slots
 pub mod Giving
 pub mod GiveLaws

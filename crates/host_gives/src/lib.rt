@@ -5,6 +5,7 @@
 mod counters;
 mod gives;
 mod laws;
+mod slots;
 
 pub use gives::Gives;
 pub use laws::gives_law;

@@ -9,3 +9,4 @@ pub mod Leaving
 pub mod Making
 pub mod Due
 pub mod Labels
+pub mod Slots

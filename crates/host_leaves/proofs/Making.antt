@@ -1,6 +1,7 @@
 -- A give-back that is made.
 use Rattle.std.proofs.Common.{Bool, Err, List, None, Ok, Option, Result, Some, [], ap, arith, cond, eqb-true, false}
 use Rattle.std.proofs.Common.{is_none, length, refl, subst, sym, true, ℕ, ◌+◌, ◌++◌, ◌==◌, ◌∙◌, ◌∷◌, ◌≡◌}
+use Rattle.std.specs.List.{list_any}
 use Rattle.std.specs.Result.{OnOk}
 use Rattle.base_types.specs.declared.ids.FilesetId.{FilesetId}
 use Rattle.host_gives.specs.Counters.{last_of}
@@ -98,3 +99,12 @@ module _ (m t : Tables) (fid : Fid) (giving leaving : List Token) where
       tables = tables_is new tables;
       draft_is = made ∙ ap (λ x. making x ended draft) is;
     }
+
+-- a fileset whose give-back is to be sent already
+pub noted_once : (m : Tables) (fileset : FilesetId) (draft : Draft) →
+    list_any (λ other. other.0 == fileset.0) draft.due ≡ true → draft ≡ noting_due m fileset draft
+noted_once m fileset draft e = either (is_none (outstanding m.gives fileset))
+  where
+    either : (b : Bool) → draft ≡ cond b (record draft { due = with_once draft.due fileset }) draft
+    either true = sym (ap (λ t. record draft { due = cond t draft.due (draft.due ++ fileset ∷ []) }) e)
+    either false = refl

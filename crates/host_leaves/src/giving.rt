@@ -22,7 +22,7 @@ ghost use Rattle.host_leaves.specs.Giving.{shown_without, with_give};
 
 use crate::dirtying::{cover_left, dirty_left, is_dirty_under, names, spans_within};
 use crate::owning::dirty_length;
-use crate::sending::{message_to, push_once, say};
+use crate::sending::{has_fileset, message_to, push_once, say};
 use base_types::{Fid, FilesetId, Items, NoMemory, Plain, Span};
 use host_cache::Cache;
 use host_dirty::Dirty;
@@ -249,7 +249,7 @@ fn named_of(
 fn has_to_give(tables: &Tables, token: &Token, spans: &[Span], length: Option<u32>) -> bool
     ensures { result ≡ has_to_give tables.now.gives.gives spans.now length token.now }
 {
-    tables.gives.names(token.id) || is_dirty_under(token, spans, length)
+    is_dirty_under(token, spans, length) || tables.gives.names(token.id)
 }
 
 // The numbers of those tokens that no give-back names, and then of some that aren't held.
@@ -460,6 +460,9 @@ fn message_of(tables: &Tables, give: &Give) -> Result<Message, NoMemory>
 fn note_due(tables: &Tables, draft: &mut Draft, fileset: FilesetId) -> Result<(), NoMemory>
     ensures { OnOk result (draft.new ≡ noting_due tables.now fileset draft.old) }
 {
+    if has_fileset(draft.due.as_slice(), fileset) {
+        return Ok(());
+    }
     if tables.gives.outstanding(fileset).is_some() {
         return Ok(());
     }

@@ -1,6 +1,7 @@
 //! What a host sends.
 ghost use Rattle.std.specs.Prelude.{◌≡◌, ◌==◌, IfOk, OnOk};
 ghost use Rattle.std.specs.List.{list_any};
+ghost use Rattle.std.specs.Option.{option_map_or};
 ghost use Rattle.host_leaves.specs.Sending.{asked_server, filesets_given, message_to, saying, sending_give};
 ghost use Rattle.host_leaves.specs.Sending.{sending_due, sending_request, with_fileset, with_once};
 
@@ -88,7 +89,8 @@ pub fn push_once(filesets: &mut Items<FilesetId>, fileset: FilesetId) -> Result<
     filesets.push(fileset)
 }
 
-fn has_fileset(filesets: &[FilesetId], fileset: FilesetId) -> bool
+/// Whether a fileset is in a list.
+pub(crate) fn has_fileset(filesets: &[FilesetId], fileset: FilesetId) -> bool
     ensures { result ≡ list_any (λ other. other.0 == fileset.0) filesets.now }
 {
     filesets.iter().any(|other| *other == fileset)
@@ -98,12 +100,22 @@ fn has_fileset(filesets: &[FilesetId], fileset: FilesetId) -> bool
 pub fn given_filesets(tables: &Tables) -> Result<Items<FilesetId>, NoMemory>
     ensures { IfOk result (λ filesets. filesets ≡ filesets_given tables.now.gives.gives) }
 {
-    let gives = tables.gives.all();
+    let slots = tables.gives.slots();
     let mut filesets = Items::new(tables.alloc);
-    for message in gives {
-        push_given(&mut filesets, message)?;
+    for slot in slots {
+        push_slot(&mut filesets, slot)?;
     }
     Ok(filesets)
+}
+
+// Adds the fileset of the give-back in a slot to a list, where there is one and it isn't there.
+fn push_slot(filesets: &mut Items<FilesetId>, slot: &Option<Message>) -> Result<(), NoMemory>
+    ensures { OnOk result (filesets.new ≡ option_map_or (with_fileset filesets.old) slot.now filesets.old) }
+{
+    match slot {
+        Some(message) => push_given(filesets, message),
+        None => Ok(()),
+    }
 }
 
 // Adds the fileset of a give-back to a list, where it isn't there.

@@ -88,7 +88,7 @@ fn end_parting(tables: &mut Tables, draft: &mut Draft) -> Result<bool, NoMemory>
     requires held { tables.old.cache.held ≡ [] }
     ensures { IfOk result (λ some. EndsNext tables.old draft.old tables.new draft.new some) }
 {
-    if !tables.gives.all().is_empty() {
+    if !tables.gives.is_empty() {
         return Ok(false);
     }
     say_byes(tables, draft)

@@ -218,7 +218,7 @@ impl Machine {
         if self.tables.cache.len() > 0 {
             return true;
         }
-        self.tables.gives.all().is_empty() && is_to_part(self.tables.sites.as_slice())
+        self.tables.gives.is_empty() && is_to_part(self.tables.sites.as_slice())
     }
 
     /// The token that was last used longest ago leaves; None where a call is open, or the host caches no more than it

@@ -49,7 +49,7 @@ fn look(gives: &Gives, word: &str, words: &mut Words, text: &mut Text) -> Result
             push_number(text, outstanding.map(number_of));
         }
         "last" => text.number("", gives.last(words.fileset())),
-        "all" => push_all(text, gives.all()),
+        "all" => push_all(text, gives.slots()),
         word => return look_at_names(gives, word, words, text),
     }
     Ok(())
@@ -148,9 +148,11 @@ fn number_of(message: &Message) -> u64 {
     }
 }
 
-fn push_all(text: &mut Text, gives: &[Message]) {
-    for give in gives {
-        text.number("", number_of(give));
-        text.word(" ");
+fn push_all(text: &mut Text, slots: &[Option<Message>]) {
+    for slot in slots {
+        if let Some(give) = slot {
+            text.number("", number_of(give));
+            text.word(" ");
+        }
     }
 }

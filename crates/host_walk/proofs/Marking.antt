@@ -1,11 +1,13 @@
 -- Needs that are marked one after the other.
 use Rattle.std.proofs.Common.{◌≡◌, ◌<◌, ◌+◌, ℕ, List, [], ◌∷◌, ◌++◌, length, take, get_or, refl, sym, ap, ◌∙◌}
+use Rattle.std.proofs.Common.{append_assoc}
 use Rattle.std.proofs.Math.Seq.{take-length}
 use Rattle.std.proofs.lemmas.List.{take_more}
 use Rattle.base_types.specs.declared.ids.Fid.{Fid}
 use Rattle.base_types.specs.declared.user.User.{User}
 use Rattle.token_types.specs.declared.token.Need.{Need}
 use Rattle.need_host.specs.Looks.{View}
+use Rattle.host_cache.specs.Holding.{used_each}
 use Rattle.host_cache.specs.Seen.{Seen, after_used}
 use Rattle.host_walk.specs.Marks.{marked_on, marks_of, used_all, way_of}
 use Rattle.host_walk.specs.Trying.{status_need, whole_need}
@@ -56,3 +58,18 @@ module _ (view : View) (user : User) (needs : List Need) (at : Fid) (path : List
     marks_lead fid e =
         sym (used_append (marks_of view user needs rest fid) (status_need at ∷ whole_need at ∷ []) shown)
         ∙ marks_by (Leads fid) e
+
+-- as the cache says it
+pub used_as_each : (needs : List Need) (shown : Seen) →
+    used_all needs shown ≡ record shown { held = used_each needs shown.held }
+used_as_each [] shown = refl
+used_as_each (need ∷ needs) shown = used_as_each needs (after_used shown need)
+
+-- ---- the needs at the end of a way, put down behind others
+pub put_more : (before : List Need) (at : Fid) (needs : List Need) (i : ℕ) (need : Need) → i < length needs →
+    need ≡ get_or needs i need →
+    (before ++ status_need at ∷ take i needs) ++ need ∷ [] ≡ before ++ status_need at ∷ take (i + 1) needs
+put_more before at needs i need low is =
+    append_assoc before (status_need at ∷ take i needs) (need ∷ [])
+    ∙ ap (λ ns. before ++ status_need at ∷ ns)
+    (sym (take_more needs i need low ∙ ap (λ n. take i needs ++ n ∷ []) (sym is)))

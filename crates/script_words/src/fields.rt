@@ -1,5 +1,4 @@
 ghost use Rattle.std.specs.Prelude.{◌≡◌, ◌≤◌, [], length, IfOk, IfSome};
-ghost use Rattle.base_types.specs.Name.{is_among};
 ghost use Rattle.script_words.specs.declared.fault.BadWhy.TheVariants.{Word};
 ghost use Rattle.script_words.specs.Outcome.{Gives, GivesBy, found, unless};
 ghost use Rattle.std.specs.List.{list_all};
@@ -26,7 +25,7 @@ ghost use Rattle.script_words.specs.Reading.{part_len};
 
 use crate::fault::{BadWhy, Fault};
 use base_types::{
-    HOSTS_MAX, HostId, Items, Name, NameRefused, NoMemory, Node, Plain, SERVERS_MAX, ServerId,
+    HOSTS_MAX, HostId, Items, Name, NameRefused, NoMemory, Node, SERVERS_MAX, ServerId,
     WRITE_BYTES_MAX,
 };
 use std::alloc::Global;
@@ -175,7 +174,7 @@ pub fn text_at(words: &Words, i: usize) -> Result<Items<u8>, Fault>
 {
     let word = word_at(words, i)?;
     if word.len() <= WRITE_BYTES_MAX {
-        Ok(word.copy()?)
+        Ok(word.to_items()?)
     } else {
         Err(Fault::Bad(BadWhy::Text))
     }
@@ -197,13 +196,6 @@ pub fn node_of(word: &[u8]) -> Option<Node>
         },
         _ => None,
     }
-}
-
-/// Whether a name is among those of a list.
-pub fn is_among(names: &Items<Name>, name: &Name) -> bool
-    ensures { result ≡ is_among names.now name.now }
-{
-    names.as_slice().iter().any(|other| *other == *name)
 }
 
 /// Whether a word is this one.

@@ -11,8 +11,8 @@ mod words;
 
 pub use fault::{BadWhy, Fault};
 pub use fields::{
-    Words, all_named, end_at, is_among, is_word, known, label_at, name_at, named, names_of,
-    node_of, number_at, small_at, text_at, unless, word_at,
+    Words, all_named, end_at, is_word, known, label_at, name_at, named, names_of, node_of,
+    number_at, small_at, text_at, unless, word_at,
 };
 pub use lines::next_line;
 pub use lists::list_at;

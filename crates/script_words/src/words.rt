@@ -22,6 +22,9 @@ use base_types::{Items, LINE_BYTES_MAX, NoMemory};
 use std::alloc::Global;
 use std::mem;
 
+// Words of a line, for which there is room at once.
+const WORDS_EXPECTED: usize = 8;
+
 /// Words that are read, one after the other.
 #[derive(Drop)]
 pub(crate) struct Reader {
@@ -207,13 +210,20 @@ impl Reader {
     }
 }
 
+// No words yet, with room for those of most lines.
+fn with_room(alloc: Global) -> Result<Items<Items<u8>>, NoMemory>
+    ensures { IfOk result (λ words. words ≡ []) }
+{
+    Ok(Items::from_vec(Vec::with_capacity(alloc, WORDS_EXPECTED)?))
+}
+
 // The words of a line's text.
 #[tactic(auto, unfolding(crate::specs::Words::words_of))]
 fn words_of(alloc: Global, text: &[u8]) -> Result<Items<Items<u8>>, Fault>
     ensures { Gives result (words_of text.now) }
 {
     let mut reader = Reader {
-        words: Items::new(alloc),
+        words: with_room(alloc)?,
         word: Items::new(alloc),
     };
     let mut rest = text;

@@ -1,4 +1,5 @@
 use Rattle.host_cache.proofs.ShownLaws.{written, told, dropped, used_law, oldest, none_oldest}
+use Rattle.host_cache.proofs.Marked.{used_again}
 use Rattle.host_cache.proofs.laws.cache_law.Goals as goal
 
 pub returns-clause-written : goal.returns-clause-written
@@ -12,6 +13,9 @@ returns-clause-dropped c = dropped
 
 pub returns-clause-used : goal.returns-clause-used
 returns-clause-used c = used_law
+
+pub returns-clause-again : goal.returns-clause-again
+returns-clause-again c = used_again
 
 pub returns-clause-oldest : goal.returns-clause-oldest
 returns-clause-oldest c = oldest

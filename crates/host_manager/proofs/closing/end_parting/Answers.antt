@@ -7,8 +7,8 @@ use Rattle.host_manager.proofs.closing.end_parting.Goals as goal
 
 pub returns-then-not-is_empty : goal.returns-then-not-is_empty
 returns-then-not-is_empty c =
-    Awaits c.requires.labels c.requires.held (λ e. some_by c.all.result.now
-    (sym c.if-not-is_empty.true ∙ c.is_empty.ensures) (c.all.ensures ∙ e)) refl refl
+    Awaits c.requires.labels c.requires.held (some_by c.args.tables.now.gives.gives
+    (sym c.if-not-is_empty.true ∙ c.is_empty.ensures)) refl refl
 
 pub returns : goal.returns
 returns c =
@@ -20,4 +20,4 @@ returns c =
     (λ some. IsTrue some ↔ (e.sent ≢ [])) (EndsNext m d new e) c.say_byes.ensures.tables c.say_byes.ensures.draft
     c.say_byes.ensures.some
     (λ some tables draft said. Parts some c.requires.labels c.requires.held
-    (sym c.all.ensures ∙ none_by c.all.result.now (sym c.if-not-is_empty.false ∙ c.is_empty.ensures)) tables draft said)
+    (none_by m.gives.gives (sym c.if-not-is_empty.false ∙ c.is_empty.ensures)) tables draft said)

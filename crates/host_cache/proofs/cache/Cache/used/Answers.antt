@@ -1,11 +1,11 @@
-use Rattle.std.proofs.Common.{◌≡◌, ap, sym, ◌∙◌, subst}
-use Rattle.host_cache.specs.Holding.{used, helpers_first, promoted}
+use Rattle.std.proofs.Common.{◌≡◌, ◌≤◌, ℕ, ap, sym, ◌∙◌, subst, filter, length, take}
+use Rattle.host_cache.specs.Holding.{used, helps_cover, helpers_first, brought_all}
 use Rattle.host_cache.specs.Files.{file_key, parts_at, Puts}
 use Rattle.host_cache.specs.Parts.{Parts}
 use Rattle.host_cache.specs.Seen.{Kept, seen, after_used, IsKept}
 use Rattle.host_cache.proofs.Filing.{lent_at, found_at, absent_at}
 use Rattle.host_cache.proofs.Seeing.{kept}
-use Rattle.host_cache.proofs.Using.{promoted_used, used_kept, used_seen, nothing_used}
+use Rattle.host_cache.proofs.Using.{brought_used, front_is, front_within, used_kept, used_seen, nothing_used}
 use Rattle.host_cache.proofs.cache.Cache.used.Goals as goal
 
 pub returns-in_default : goal.returns-in_default
@@ -26,42 +26,55 @@ invariant_of-self c =
     λ i. (c.get_mut.follows.holds-at-none i).entries in
     subst (IsKept c.self.inside.order) (sym e) c.self.invariant
 
-order : (c : goal.After-self-2-1) → c.promote_helpers.new.order ≡ used c.args.need.now c.self.inside.order
+pub first-requires : goal.first-requires
+first-requires c =
+    let need = c.args.need.now in
+    let old = c.in-Some.file.now.tokens in
+    subst (λ (n : ℕ). n ≤ length c.bring_helpers-count.new.self.tokens) (sym c.bring_helpers-count.ensures.count)
+    (subst (λ (p : Parts). length (filter (helps_cover need) old) ≤ length p.tokens) (sym c.bring_helpers-count.ensures.order)
+    (front_within need old))
+
+order : (c : goal.After-self-2-1) → c.promote_all.new.self ≡ used c.args.need.now c.self.inside.order
 order c =
     let s = c.self.inside in
-    let h = found_at s.files.entries (file_key c.args.need.now.fid) c.file_key.result c.file_key.ensures
+    let need = c.args.need.now in
+    let old = c.in-Some.file.now.tokens in
+    let h = found_at s.files.entries (file_key need.fid) c.file_key.result c.file_key.ensures
     c.in-Some.file.now c.in-Some.ensures.value in
-    c.promote_helpers.ensures
-    ∙ ap (λ ts. promoted c.args.need.now ts s.order)
-    (c.tokens.ensures ∙ ap (λ (p : Parts). p.tokens) (sym h) ∙ c.self.invariant.tokens (file_key c.args.need.now.fid))
-    ∙ promoted_used c.args.need.now s.order c.laws.ensures
+    let helpers : c.first.result.now ≡ filter (helps_cover need) old =
+    c.first.ensures ∙ ap (λ (p : Parts). take c.bring_helpers-count.result p.tokens) c.bring_helpers-count.ensures.order
+    ∙ ap (λ (n : ℕ). take n (helpers_first need old)) c.bring_helpers-count.ensures.count ∙ front_is need old in
+    c.promote_all.ensures
+    ∙ ap (λ ts. brought_all ts s.order) (helpers ∙ ap (filter (helps_cover need))
+    (ap (λ (p : Parts). p.tokens) (sym h) ∙ c.self.invariant.tokens (file_key need.fid)))
+    ∙ brought_used need s.order c.laws.ensures
 
 put : (c : goal.After-self-2-1) → let s = c.self.inside in
     Puts s.files.entries (file_key c.args.need.now.fid)
     (record (parts_at s.files.entries (file_key c.args.need.now.fid)) {
       tokens = helpers_first c.args.need.now (parts_at s.files.entries (file_key c.args.need.now.fid)).tokens;
-    }) (c.get_mut.follows.lender c.bring_helpers.new.self).entries
+    }) (c.get_mut.follows.lender c.bring_helpers-count.new.self).entries
 put c =
     let s = c.self.inside in
-    let w = c.bring_helpers.new.self in
+    let w = c.bring_helpers-count.new.self in
     let h = lent_at s.files.entries (file_key c.args.need.now.fid) c.file_key.result c.file_key.ensures
     (c.get_mut.follows.lender w).entries c.in-Some.file.now w c.in-Some.ensures.value (λ some.
     ((c.get_mut.follows.holds w).3 some).0) in
     subst (λ (p : Parts). Puts s.files.entries (file_key c.args.need.now.fid) p (c.get_mut.follows.lender w).entries)
-    (c.bring_helpers.ensures
+    (c.bring_helpers-count.ensures.order
     ∙ ap (λ (p : Parts). record p { tokens = helpers_first c.args.need.now p.tokens }) (sym h.1)) h.0
 
 pub invariant_of-self-2 : goal.invariant_of-self-2
 invariant_of-self-2 c =
     let s = c.self.inside in
-    subst (λ o. IsKept o (c.get_mut.follows.lender c.bring_helpers.new.self).entries) (sym (order c))
-    (used_kept s.order s.files.entries (c.get_mut.follows.lender c.bring_helpers.new.self).entries c.self.invariant
+    subst (λ o. IsKept o (c.get_mut.follows.lender c.bring_helpers-count.new.self).entries) (sym (order c))
+    (used_kept s.order s.files.entries (c.get_mut.follows.lender c.bring_helpers-count.new.self).entries c.self.invariant
     c.args.need.now (put c))
 
 pub returns : goal.returns
 returns c =
     let s = c.self.inside in
-    ap (λ o. seen (kept o (c.get_mut.follows.lender c.bring_helpers.new.self).entries)) (order c)
-    ∙ used_seen s.order s.files.entries (c.get_mut.follows.lender c.bring_helpers.new.self).entries c.self.invariant
+    ap (λ o. seen (kept o (c.get_mut.follows.lender c.bring_helpers-count.new.self).entries)) (order c)
+    ∙ used_seen s.order s.files.entries (c.get_mut.follows.lender c.bring_helpers-count.new.self).entries c.self.invariant
     c.args.need.now (put c)
     ∙ ap (λ (k : Kept). after_used (seen k) c.args.need.now) c.self.view_is

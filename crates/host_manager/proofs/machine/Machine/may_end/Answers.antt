@@ -13,4 +13,4 @@ returns-then-is_empty c =
     (may_end_is m true
     (none_held m.cache.held (λ l. let e = c.len.ensures in let f = c.if-len-gt0.false in absurd
     (omega (arith, l, e, f))))
-    (λ t. sym c.all.ensures ∙ none_by c.all.result.now (sym c.if-is_empty.true ∙ c.is_empty.ensures), λ g. refl))
+    (λ t. none_by m.gives.gives (sym c.if-is_empty.true ∙ c.is_empty.ensures), λ g. refl))
