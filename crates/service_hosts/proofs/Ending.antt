@@ -164,20 +164,21 @@ module _ {S : Type 0} (tells : Type 0) (view : S → View) (script : Script) (st
   served_since (Host a) b h = absurd h.1
   served_since (Server a) b h = (a, refl, h.1.served)
 
-  -- a server stands on its own steps in the journal, and on some more
-  kept_more : tells → (k : ℕ) (b : ServerNode S) → journal.epochs ≡ epochs → (rounds : List Round)
-      → own_in journal (record { 0 = k + 1 }) ≡ steps_in rounds → (more : List Step)
-      → ServerStands tells view (part_of (beginning script start epochs) (server_at (k + 1))) b rounds more
+  -- a store keeps its server's own steps in the journal, and some more
+  kept_more : (k : ℕ) (b : ServerNode S) → journal.epochs ≡ epochs → (own : List Step)
+      → own_in journal (record { 0 = k + 1 }) ≡ own → (more : List Step)
+      → Always (OwnMeets (beginning script start epochs) (server_at (k + 1))) (appended more own)
+      → KeepsOf (filesets_kept start (record { 0 = k + 1 }) (appended more own)) (view (store_of b)).state
       → KeepsMore script start journal (record { 0 = k + 1 }) (view (store_of b)).state
-  kept_more t k b are rounds own more so =
+  kept_more k b are own is more meets keeps =
       let server : ServerId = record { 0 = k + 1 } in record {
         more = more;
         rules = subst (λ (e : List ℕ). Always (OwnMeets (beginning script start e) (OfServer server))
             (appended more (own_in journal server))) (sym are)
             (subst (λ (l : List Step). Always (OwnMeets (beginning script start epochs) (OfServer server))
-            (appended more l)) (sym own) (so.so.kept.meets t));
+            (appended more l)) (sym is) meets);
         keeps = subst (λ (l : List Step). KeepsOf (filesets_kept start server (appended more l))
-            (view (store_of b)).state) (sym own) (so.so.keeps t).stands.keeps;
+            (view (store_of b)).state) (sym is) keeps;
       }
 
   -- it stands there still, with some more steps
@@ -185,7 +186,8 @@ module _ {S : Type 0} (tells : Type 0) (view : S → View) (script : Script) (st
       → (st : HasStoodSo (server_at (k + 1)) (Server b)) → (more : List Step)
       → ServerStands tells view (part_of (beginning script start epochs) (server_at (k + 1))) b st.rounds more
       → KeepsMore script start journal (record { 0 = k + 1 }) (view (store_of b)).state
-  kept_still t k b are st more so = kept_more t k b are st.rounds st.own more so
+  kept_still t k b are st more so =
+      kept_more k b are _ st.own more (so.so.kept.meets t) (so.so.keeps t).stands.keeps
 
   -- or it failed since then
   kept_till : tells → (k : ℕ) (b : ServerNode S) → (st : HasStoodSo (server_at (k + 1)) (Server b))
@@ -237,7 +239,10 @@ module _ {S : Type 0} (tells : Type 0) (view : S → View) (script : Script) (st
   -- or to its end
   kept_after : tells → journal.epochs ≡ epochs → (k : ℕ) (b : ServerNode S) → StandsSo k b
       → HasKept script start journal (record { 0 = k + 1 }) (view (store_of b))
-  kept_after t are k b st = inl (kept_more t k b are st.rounds st.own [] st.stood, st.stood.ready.fit.ready)
+  kept_after t are k b st = inl (
+    kept_more k b are _ st.own [] (st.stood.so.kept.meets t) (st.stood.so.keeps t).stands.keeps,
+    st.stood.ready.fit.ready,
+  )
 
   pub so_far_ended : HasDriven (Unit {0} × tells) (stands_any HostStands (ServerStands tells view)) script start epochs
       news journal → (result : Result Journal HostsStopped)
@@ -270,8 +275,11 @@ stuck_of hosts (drive.Store k) w e = absurd (cc)
 stuck_of hosts (drive.Stuck v) w e = (let same : v ≡ w = cc in ap (λ x. drive.Stuck x) same)
 stuck_of hosts drive.Memory w e = absurd (cc)
 
-err_is : {E : Type 0} (x y : E) → Err {A = Journal} x ≡ Err y → x ≡ y
-err_is x y e = cc
+abbrev stop : HostsStopped → Result Journal HostsStopped
+stop why = Err why
+
+stop_is : (x y : HostsStopped) → stop x ≡ stop y → x ≡ y
+stop_is x y e = cc
 
 -- so it is with the journal so far of nodes that were driven, by what the driver says
 module _ {S : Type 0} (tells : Type 0) (view : S → View) (script : Script) (start : Tree) (epochs : List ℕ)
@@ -283,8 +291,8 @@ module _ {S : Type 0} (tells : Type 0) (view : S → View) (script : Script) (st
     StandAfter (stands_any HostStands (ServerStands tells view)) (beginning script start epochs) journal news))
     (olds stores : List S) (over : AreOver news (length script.roster.hosts + 1) stores)
     (count : length stores ≡ length script.roster.capacity) (are : tells → epochs ≡ epochs_of view olds) where
-  stuck_by : (w : Waiting) → Err {A = Journal} (stopped_by hosts fault) ≡ Err (Stuck w) → fault ≡ drive.Stuck w
-  stuck_by w e = stuck_of hosts fault w (err_is (stopped_by hosts fault) (Stuck w) e)
+  stuck_by : (w : Waiting) → stop (stopped_by hosts fault) ≡ stop (Stuck w) → fault ≡ drive.Stuck w
+  stuck_by w e = stuck_of hosts fault w (stop_is (stopped_by hosts fault) (Stuck w) e)
 
   pub so_far_by : IfSome so_far (HasHostedSoFar tells view script start olds stores (Err (stopped_by hosts fault)))
   so_far_by =
