@@ -68,8 +68,7 @@ returns-in-Err-clause-held g c =
     let script = c.args.script.now in
     let stores = c.args.stores.items in
     subst (λ (l : List g.row.S.Denot). (journal : Journal) × HasHostedSoFar g.S.Store.tells view script c.args.start
-    stores l (Err OutOfMemory) journal) (sym c.in-Err.ensures.back)
-    (
+    stores l (Err OutOfMemory) journal) (sym c.in-Err.ensures.back) (
       nothing c.args.start (epochs_of view stores),
       nothing_hosted view g.S.Store.tells script c.args.start stores c.requires.start c.requires.homes c.requires.count
           (2 ^ 40) 1 c.requires.stores c.requires.kept (Err OutOfMemory) (λ w e. absurd (cc)),

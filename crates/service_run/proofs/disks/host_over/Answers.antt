@@ -123,7 +123,7 @@ returns-in-Err g c =
       worked = c.requires.gone t;
       so_far =
           nothing_so_far view script start (2 ^ 40) seats c.requires.start c.requires.homes c.requires.count
-              c.requires.stores (c.requires.kept t);
+          c.requires.stores (c.requires.kept t);
     }))
     (c.close_seats-in-Err.ensures.back
     ∙ ap (λ l. disks_of (stores_in l) ++ c.args.disks.now.items) c.in-Err.ensures.back))
