@@ -1,9 +1,11 @@
 -- What two words tell of a line.
-use Rattle.std.proofs.Common.{◌≡◌, ℕ, ◌<◌, ◌≤◌, List, [], ◌∷◌, ◌++◌, length, false, Option, Some, None, refl, arith}
+use Rattle.std.proofs.Common.{◌≡◌, ℕ, List, [], ◌∷◌, ◌++◌, false, Option, Some, None, refl}
 use Rattle.script_words.specs.Words.{Mode, Turn, turn_by, by_turn, words_from}
 use Rattle.script_words.specs.Words.Mode.{Between, Plain, Quoted, Escape, Hex, HalfHex, Closed}
 use Rattle.script_words.specs.Words.Turn.{Go, Add, End}
-use Rattle.script_words.specs.Fields.{asks, asking, is_word}
+use Rattle.script_words.specs.Fields.{asking, is_word}
+use Rattle.script_words.specs.Reading.{front_of}
+use Rattle.script_words.proofs.Reading.{front_is}
 
 -- the second word stays
 pub second_stays : (verb a b : List ℕ) (more : List (List ℕ)) (word : List ℕ) (mode : Mode) (text : List ℕ) → is_word b verb ≡ false → asking verb (words_from (a ∷ b ∷ more) word mode text) ≡ None
@@ -27,9 +29,7 @@ second_stays verb a b more word mode (byte ∷ text) e =
     by_way (Some (Add meant next)) go add end = add meant next
     by_way (Some End) go add end = end
 
--- where two words are read, or all, the answer is known
-pub asks_later : (verb : List ℕ) (words : List (List ℕ)) (word text : List ℕ) → asks verb words ≡ false → (0 < length text → 2 ≤ length words) → asking verb (words_from words word Between text) ≡ None
-asks_later verb words word [] other over = rw other refl
-asks_later verb [] word (byte ∷ text) other over = let two = over (omega arith) in absurd (omega arith)
-asks_later verb (a ∷ []) word (byte ∷ text) other over = let two = over (omega arith) in absurd (omega arith)
-asks_later verb (a ∷ b ∷ more) word (byte ∷ text) other over = second_stays verb a b more word Between (byte ∷ text) other
+-- where another word stands second, whatever comes behind it
+pub other_second : (verb text rest over a b : List ℕ) → front_of text ≡ Some (a, rest) → front_of rest ≡ Some (b, over) → is_word b verb ≡ false → asking verb (words_from [] [] Between text) ≡ None
+other_second verb text rest over a b first second other =
+    rw (front_is [] text a rest first, front_is (a ∷ []) rest b over second) (second_stays verb a b [] [] Between over other)

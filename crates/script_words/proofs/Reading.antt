@@ -1,11 +1,11 @@
 -- The steps of a reader of words say what its text says.
-use Rattle.std.proofs.Common.{◌≡◌, ℕ, suc, ◌+◌, ◌*◌, ◌%◌, ◌<◌, ◌==◌, List, [], ◌∷◌, ◌++◌, take, drop, Bool, true, false, not, cond, ◌&&◌, ◌||◌, nat_le, Option, Some, None, Ok, Err, refl, sym, ap, ◌∙◌, arith, append_assoc, append-nil}
+use Rattle.std.proofs.Common.{◌≡◌, ℕ, zero, suc, ◌+◌, ◌*◌, ◌%◌, ◌<◌, ◌==◌, List, [], ◌∷◌, ◌++◌, take, drop, Bool, true, false, not, cond, ◌&&◌, ◌||◌, nat_le, Option, Some, None, Ok, Err, refl, sym, ap, ◌∙◌, arith, append_assoc, append-nil}
 use Rattle.std.proofs.lemmas.Bool.{and_parts, eqb-true, leb-true, not-true}
 use Rattle.std.proofs.lemmas.Option.{same_Some}
 use Rattle.script_words.specs.declared.fault.BadWhy.TheVariants.{Text}
 use Rattle.script_words.specs.Words.{is_in, hex_digit, words_from}
 use Rattle.script_words.specs.Words.Mode.{Between, Plain, Quoted, Escape, Hex, Closed}
-use Rattle.script_words.specs.Reading.{space_len, plain_len, is_text, quoted_len, hex_byte, hex_at, escape_at, begins_plain, begins_run}
+use Rattle.script_words.specs.Reading.{space_len, plain_len, is_text, quoted_len, hex_byte, hex_at, escape_at, begins_plain, begins_run, behind, with_rest, front_at, front_of}
 
 -- a byte that is seen is no space
 pub no_space : (byte : ℕ) → is_in 33 126 byte ≡ true → (byte == 32) ≡ false
@@ -147,3 +147,41 @@ past_spaces words word (byte ∷ text) = by_byte (byte == 32) refl (past_spaces 
 
 pub spaces_read : (words : List (List ℕ)) (word text : List ℕ) (len : ℕ) → len ≡ space_len text → words_from words word Between text ≡ words_from words word Between (drop len text)
 spaces_read words word text len e = rw e (past_spaces words word text)
+
+-- a word without quotes in front, and what ends it
+pub closed_ends : (words : List (List ℕ)) (read text word rest : List ℕ) → with_rest read (behind text) ≡ Some (word, rest) → words_from words read Closed text ≡ words_from (words ++ word ∷ []) [] Between rest
+closed_ends words read [] word rest e =
+    let both : (read, []) ≡ (word, rest) = same_Some (read, []) (word, rest) e in
+    let is : read ≡ word = ap (λ p. p.0) both in
+    let left : [] ≡ rest = ap (λ p. p.1) both in
+    rw (← is, ← left) refl
+closed_ends words read (byte ∷ text) word rest e = by_byte (byte == 32) refl e
+  where
+    by_byte : (space : Bool) → (byte == 32) ≡ space → with_rest read (cond space (Some text) None) ≡ Some (word, rest) → words_from words read Closed (byte ∷ text) ≡ words_from (words ++ word ∷ []) [] Between rest
+    by_byte true k h =
+        let both : (read, text) ≡ (word, rest) = same_Some (read, text) (word, rest) h in
+        let is : read ≡ word = ap (λ p. p.0) both in
+        let left : text ≡ rest = ap (λ p. p.1) both in
+        rw (k, ← is, ← left) refl
+    by_byte false k h = absurd (cc)
+
+pub front_reads : (words : List (List ℕ)) (text word rest : List ℕ) → front_at text ≡ Some (word, rest) → words_from words [] Between text ≡ words_from (words ++ word ∷ []) [] Between rest
+front_reads words [] word rest e = absurd (cc)
+front_reads words (byte ∷ text) word rest e = by_begin (begins_plain (byte ∷ text)) refl e
+  where
+    by_space : (space : Bool) → (byte == 32) ≡ space → begins_plain (byte ∷ text) ≡ true → with_rest [] (cond space (Some text) None) ≡ Some (word, rest) → words_from words [] Between (byte ∷ text) ≡ words_from (words ++ word ∷ []) [] Between rest
+    by_space true k b h = let other = not-true (byte == 32) (and_parts (not (byte == 32)) (not (byte == 34)) b).0 in absurd (cc)
+    by_space false k b h = absurd (cc)
+
+    by_len : (len : ℕ) → plain_len (byte ∷ text) ≡ len → begins_plain (byte ∷ text) ≡ true → with_rest (take len (byte ∷ text)) (behind (drop len (byte ∷ text))) ≡ Some (word, rest) → words_from words [] Between (byte ∷ text) ≡ words_from (words ++ word ∷ []) [] Between rest
+    by_len zero k b h = by_space (byte == 32) refl b h
+    by_len (suc n) k b h =
+        plain_reads words (byte ∷ text) (suc n) b (sym k) (omega arith)
+        ∙ closed_ends words (take (suc n) (byte ∷ text)) (drop (suc n) (byte ∷ text)) word rest h
+
+    by_begin : (plain : Bool) → begins_plain (byte ∷ text) ≡ plain → cond plain (with_rest (take (plain_len (byte ∷ text)) (byte ∷ text)) (behind (drop (plain_len (byte ∷ text)) (byte ∷ text)))) None ≡ Some (word, rest) → words_from words [] Between (byte ∷ text) ≡ words_from (words ++ word ∷ []) [] Between rest
+    by_begin true b h = by_len (plain_len (byte ∷ text)) refl b h
+    by_begin false b h = absurd (cc)
+
+pub front_is : (words : List (List ℕ)) (text word rest : List ℕ) → front_of text ≡ Some (word, rest) → words_from words [] Between text ≡ words_from (words ++ word ∷ []) [] Between rest
+front_is words text word rest e = past_spaces words [] text ∙ front_reads words (drop (space_len text) text) word rest e

@@ -1,6 +1,6 @@
 -- The steps of a reader of words.
 use Rattle.std.specs.Prelude.{ℕ, suc, ◌+◌, ◌*◌, ◌%◌, ◌==◌, ◌&&◌, ◌||◌, Bool}
-use Rattle.std.specs.Prelude.{false, not, if◌then◌else◌, List, [], ◌∷◌, Option, Some, None}
+use Rattle.std.specs.Prelude.{false, not, if◌then◌else◌, List, [], ◌∷◌, take, drop, Option, Some, None}
 use Rattle.script_words.specs.Words.{is_in, hex_digit}
 
 -- how many bytes at the front stand for themselves outside quotes
@@ -48,3 +48,20 @@ begins_plain (byte ∷ bytes) = not (byte == 32) && not (byte == 34)
 abbrev pub begins_run : List ℕ → Bool
 begins_run [] = false
 begins_run (byte ∷ bytes) = not (byte == 34) && not (byte == 92)
+
+-- what follows a word that ends where this begins: all behind a space, or nothing
+abbrev pub behind : List ℕ → Option (List ℕ)
+behind [] = Some []
+behind (byte ∷ bytes) = if byte == 32 then Some bytes else None
+
+-- the word without quotes that a text begins with, behind spaces, and what follows it
+abbrev pub with_rest : List ℕ → Option (List ℕ) → Option (List ℕ × List ℕ)
+with_rest word None = None
+with_rest word (Some rest) = Some (word, rest)
+
+abbrev pub front_at : List ℕ → Option (List ℕ × List ℕ)
+front_at text =
+    if begins_plain text then with_rest (take (plain_len text) text) (behind (drop (plain_len text) text)) else None
+
+abbrev pub front_of : List ℕ → Option (List ℕ × List ℕ)
+front_of text = front_at (drop (space_len text) text)

@@ -1,4 +1,4 @@
-ghost use Rattle.std.specs.Prelude.{◌≡◌, ◌<◌, ◌≤◌, [], true, false, None, length, IfOk, IfSome, OnOk};
+ghost use Rattle.std.specs.Prelude.{◌≡◌, ◌<◌, ◌≤◌, [], true, false, Some, None, length, IfOk, IfSome, OnOk};
 ghost use Rattle.script_words.specs.Outcome.{Gives, Onward};
 ghost use Rattle.script_words.specs.Lines.{without_end, content, says_nothing};
 ghost use Rattle.script_words.specs.Spelling.{WordsAreReadBack};
@@ -6,6 +6,8 @@ ghost use Rattle.script_words.specs.Words.{hex_digit, said, words_of, words_of_l
 ghost use Rattle.script_words.specs.Words.Mode.{Between, Quoted, Escape, Closed};
 ghost use Rattle.script_words.specs.Fields.{asks, asking, words_asking};
 ghost use Rattle.script_words.specs.Reading.{
+  behind,
+  front_of,
   is_text,
   space_len,
   plain_len,
@@ -254,24 +256,54 @@ pub fn words_of_line(alloc: Global, line: &[u8]) -> Result<Items<Items<u8>>, Fau
     }
 }
 
-// Whether the second word of a text may be this one. Two words are read.
-#[tactic(auto, using(crate::proofs::Asking::asks_later), unfolding(crate::specs::Words::words_of))]
-fn may_ask(alloc: Global, text: &[u8], verb: &[u8]) -> Result<bool, NoMemory>
-    ensures { IfOk result (λ may. may ≡ false → asking verb.now (words_of text.now) ≡ None) }
+// What follows a word that ends where this begins: all behind a space, or nothing.
+fn behind(text: &[u8]) -> Option<&[u8]>
+    ensures { IfSome result (λ rest. behind text.now ≡ Some rest.now) }
 {
-    let mut reader = Reader {
-        words: Items::new(alloc),
-        word: Items::new(alloc),
-    };
-    let mut rest = text;
-    while !rest.is_empty() && reader.words.len() < 2 {
-        match reader.next(rest) {
-            Ok(after) => rest = after,
-            Err(Fault::Bad(_)) => return Ok(false),
-            Err(Fault::Memory) => return Err(NoMemory),
-        }
+    match text {
+        [] => Some(text),
+        [b' ', rest @ ..] => Some(rest),
+        _ => None,
     }
-    Ok(asks(&reader.words, verb))
+}
+
+// The word in front of a text, where it stands without quotes, and what follows the space behind it.
+fn front_of(text: &[u8]) -> Option<(&[u8], &[u8])>
+    ensures { IfSome result (λ (word, rest). front_of text.now ≡ Some (word.now, rest.now)) }
+{
+    let begun = text.split_at(space_len(text)).1;
+    if !begins_plain(begun) {
+        return None;
+    }
+    let (word, after) = begun.split_at(plain_len(begun));
+    match behind(after) {
+        Some(rest) => Some((word, rest)),
+        None => None,
+    }
+}
+
+// Whether a text begins with neither a space nor a quote.
+fn begins_plain(text: &[u8]) -> bool
+    ensures { result ≡ begins_plain text.now }
+{
+    match text {
+        [] | [b' ' | b'"', ..] => false,
+        _ => true,
+    }
+}
+
+// Whether the second word of a text may be this one: no other one stands there without quotes.
+#[tactic(auto, using(crate::proofs::Asking::other_second), unfolding(crate::specs::Words::words_of))]
+fn may_ask(text: &[u8], verb: &[u8]) -> bool
+    ensures { result ≡ false → asking verb.now (words_of text.now) ≡ None }
+{
+    let Some((_, rest)) = front_of(text) else {
+        return true;
+    };
+    match front_of(rest) {
+        Some((word, _)) => is_word(word, verb),
+        None => true,
+    }
 }
 
 // Whether the second of these words is this one.
@@ -284,8 +316,8 @@ fn asks(words: &Items<Items<u8>>, verb: &[u8]) -> bool
     }
 }
 
-/// The words of a line whose second word is this one; none of any other line, of which two words are read, nor of one
-/// that `words_of_line` refuses.
+/// The words of a line whose second word is this one; none of any other line, of which two words are looked at, nor
+/// of one that `words_of_line` refuses.
 #[tactic(auto, unfolding(crate::specs::Fields::words_asking, crate::specs::Words::words_of_line))]
 pub fn words_asking(
     alloc: Global,
@@ -294,7 +326,7 @@ pub fn words_asking(
 ) -> Result<Option<Items<Items<u8>>>, NoMemory>
     ensures { IfOk result (λ words. words ≡ words_asking line.now verb.now) }
 {
-    if !may_ask(alloc, content(line), verb)? {
+    if !may_ask(content(line), verb) {
         return Ok(None);
     }
     match words_of_line(alloc, line) {
