@@ -1,0 +1,261 @@
+//! Steps.
+ghost use Rattle.std.specs.Prelude.{◌≡◌, ◌++◌, OnOk};
+ghost use Rattle.json.specs.Tree.{json_tokens, members_tokens};
+ghost use Rattle.run_journal.specs.Steps.{done_members, held_members, stored_json};
+
+use base_types::{Fid, HostId, Items, NoMemory, Node, Span};
+use message_json::{Line, ToJson};
+use run_rules::{
+    Admission, Answer, Applied, Asked, Cause, Labelled, Leave, Request, Step, Wanted, Why, Written,
+};
+
+impl ToJson for Node {
+    ghost use Rattle.run_journal.specs.Steps.{node_json};
+
+    ghost json = { node_json };
+
+    #[tactic(auto, unfolding(crate::specs::Steps::node_json))]
+    fn put(&self, line: &mut Line) -> Result<(), NoMemory> {
+        match self {
+            Node::Host(host) => line.tagged("host", host),
+            Node::Server(server) => line.tagged("server", server),
+        }
+    }
+}
+
+impl ToJson for Cause {
+    ghost use Rattle.run_journal.specs.Steps.{cause_json};
+
+    ghost json = { cause_json };
+
+    #[tactic(auto, unfolding(crate::specs::Steps::cause_json))]
+    fn put(&self, line: &mut Line) -> Result<(), NoMemory> {
+        match self {
+            Cause::Line(number) => line.tagged("line", number),
+            Cause::Restart(number) => line.tagged("restart", number),
+            Cause::Message(message) => line.tagged("message", message),
+            Cause::Lapse => line.word("lapse"),
+            Cause::Evict => line.word("evict"),
+            Cause::End => line.word("end"),
+            Cause::Flushed => line.word("flushed"),
+        }
+    }
+}
+
+impl ToJson for Asked {
+    ghost use Rattle.run_journal.specs.Steps.{asked_json};
+
+    ghost json = { asked_json };
+
+    #[tactic(auto, unfolding(crate::specs::Steps::asked_json))]
+    fn put(&self, line: &mut Line) -> Result<(), NoMemory> {
+        line.open()?;
+        line.field("k", &self.k)?;
+        line.field("call", &self.call)?;
+        line.close()
+    }
+}
+
+impl ToJson for Answer {
+    ghost use Rattle.run_journal.specs.Steps.{answer_json};
+
+    ghost json = { answer_json };
+
+    #[tactic(auto, unfolding(crate::specs::Steps::answer_json))]
+    fn put(&self, line: &mut Line) -> Result<(), NoMemory> {
+        line.open()?;
+        line.field("host", &self.host)?;
+        line.field("k", &self.k)?;
+        line.field("call", &self.call)?;
+        line.field("reply", &self.reply)?;
+        line.field("first", &self.first)?;
+        line.close()
+    }
+}
+
+impl ToJson for Labelled {
+    ghost use Rattle.run_journal.specs.Steps.{labelled_json};
+
+    ghost json = { labelled_json };
+
+    #[tactic(auto, unfolding(crate::specs::Steps::labelled_json))]
+    fn put(&self, line: &mut Line) -> Result<(), NoMemory> {
+        line.open()?;
+        line.field("label", &self.label)?;
+        line.field("token", &self.token)?;
+        line.close()
+    }
+}
+
+impl ToJson for Why {
+    ghost use Rattle.run_journal.specs.Steps.{why_json};
+
+    ghost json = { why_json };
+
+    #[tactic(auto, unfolding(crate::specs::Steps::why_json))]
+    fn put(&self, line: &mut Line) -> Result<(), NoMemory> {
+        match self {
+            Why::Revoked => line.word("revoked"),
+            Why::Evicted => line.word("evicted"),
+            Why::ForCall => line.word("for_call"),
+            Why::Ended => line.word("ended"),
+            Why::Stopped => line.word("stopped"),
+        }
+    }
+}
+
+impl ToJson for Leave {
+    ghost use Rattle.run_journal.specs.Steps.{leave_json};
+
+    ghost json = { leave_json };
+
+    #[tactic(auto, unfolding(crate::specs::Steps::leave_json))]
+    fn put(&self, line: &mut Line) -> Result<(), NoMemory> {
+        line.open()?;
+        line.field("token", &self.token)?;
+        line.field("why", &self.why)?;
+        line.close()
+    }
+}
+
+impl ToJson for Request {
+    ghost use Rattle.run_journal.specs.Steps.{request_json};
+
+    ghost json = { request_json };
+
+    #[tactic(auto, unfolding(crate::specs::Steps::request_json))]
+    fn put(&self, line: &mut Line) -> Result<(), NoMemory> {
+        match self {
+            Request::Fetch(fetch) => line.tagged("fetch", fetch),
+            Request::Change(change) => line.tagged("change", change),
+        }
+    }
+}
+
+impl ToJson for Wanted {
+    ghost use Rattle.run_journal.specs.Steps.{wanted_json};
+
+    ghost json = { wanted_json };
+
+    #[tactic(auto, unfolding(crate::specs::Steps::wanted_json))]
+    fn put(&self, line: &mut Line) -> Result<(), NoMemory> {
+        line.open()?;
+        line.field("host", &self.host)?;
+        line.field("request", &self.request)?;
+        line.field("moves", &self.moves)?;
+        line.field("needs", &self.needs)?;
+        line.close()
+    }
+}
+
+impl ToJson for Written {
+    ghost use Rattle.run_journal.specs.Steps.{written_json};
+
+    ghost json = { written_json };
+
+    #[tactic(auto, unfolding(crate::specs::Steps::written_json))]
+    fn put(&self, line: &mut Line) -> Result<(), NoMemory> {
+        line.open()?;
+        line.field("fileset", &self.fileset)?;
+        line.field("number", &self.number)?;
+        line.field("answer", &self.answer)?;
+        line.close()
+    }
+}
+
+impl ToJson for Applied {
+    ghost use Rattle.run_journal.specs.Steps.{applied_json};
+
+    ghost json = { applied_json };
+
+    #[tactic(auto, unfolding(crate::specs::Steps::applied_json))]
+    fn put(&self, line: &mut Line) -> Result<(), NoMemory> {
+        match self {
+            Applied::Stored {
+                host,
+                fid,
+                spans,
+                length,
+            } => put_stored(line, *host, fid, spans, length),
+            Applied::Replied(answer) => line.tagged("replied", answer),
+            Applied::IsDown(host) => line.tagged("is_down", host),
+            Applied::Wants(wanted) => line.tagged("wants", wanted),
+            Applied::Done(written) => line.tagged("done", written),
+        }
+    }
+}
+
+// Adds what became kept of a host's give-back.
+#[tactic(auto, unfolding(message_json::specs::Values::tagged))]
+fn put_stored(
+    line: &mut Line,
+    host: HostId,
+    fid: &Fid,
+    spans: &Items<Span>,
+    length: &Option<u32>,
+) -> Result<(), NoMemory>
+    ensures { OnOk result
+        (line.new ≡ line.old ++ json_tokens (stored_json host fid.now spans.now length.now)) }
+{
+    line.begin("stored")?;
+    line.field("host", &host)?;
+    line.field("fid", fid)?;
+    line.field("spans", spans)?;
+    line.field("length", length)?;
+    line.end()
+}
+
+impl ToJson for Admission {
+    ghost use Rattle.run_journal.specs.Steps.{admission_json};
+
+    ghost json = { admission_json };
+
+    #[tactic(auto, unfolding(crate::specs::Steps::admission_json))]
+    fn put(&self, line: &mut Line) -> Result<(), NoMemory> {
+        line.open()?;
+        line.field("host", &self.host)?;
+        line.field("tokens", &self.tokens)?;
+        line.close()
+    }
+}
+
+impl ToJson for Step {
+    ghost use Rattle.run_journal.specs.Steps.{step_json};
+
+    ghost json = { step_json };
+
+    #[tactic(auto, unfolding(crate::specs::Steps::step_json))]
+    fn put(&self, line: &mut Line) -> Result<(), NoMemory> {
+        line.open()?;
+        line.field("node", &self.node)?;
+        line.field("cause", &self.cause)?;
+        line.field("asked", &self.asked)?;
+        put_held(line, self)
+    }
+}
+
+// Adds what a host did, and then the rest of a step.
+#[tactic(auto, unfolding(crate::specs::Steps::held_members))]
+fn put_held(line: &mut Line, step: &Step) -> Result<(), NoMemory>
+    ensures { OnOk result (line.new ≡ line.old ++ members_tokens (held_members step.now)) }
+{
+    line.field("taken", &step.taken)?;
+    line.field("answers", &step.answers)?;
+    line.field("wrote", &step.wrote)?;
+    line.field("begun", &step.begun)?;
+    line.field("made", &step.made)?;
+    line.field("dropped", &step.dropped)?;
+    put_done(line, step)
+}
+
+// Adds what a server did, and what was sent, and closes the step.
+#[tactic(auto, unfolding(crate::specs::Steps::done_members))]
+fn put_done(line: &mut Line, step: &Step) -> Result<(), NoMemory>
+    ensures { OnOk result (line.new ≡ line.old ++ members_tokens (done_members step.now)) }
+{
+    line.field("applied", &step.applied)?;
+    line.field("admitted", &step.admitted)?;
+    line.field("sent", &step.sent)?;
+    line.field("reserved", &step.reserved)?;
+    line.close()
+}
