@@ -118,14 +118,16 @@ impl Line {
         Ok(())
     }
 
-    fn begin_list(&mut self) -> Result<(), NoMemory>
+    /// Opens a list.
+    pub fn begin_list(&mut self) -> Result<(), NoMemory>
         ensures { OnOk result (self.new ≡ self.old ++ begin_array ∷ []) }
     {
         self.writer.begin_array()?;
         Ok(())
     }
 
-    fn end_list(&mut self) -> Result<(), NoMemory>
+    /// Closes a list.
+    pub fn end_list(&mut self) -> Result<(), NoMemory>
         ensures { OnOk result (self.new ≡ self.old ++ end_array ∷ []) }
     {
         self.writer.end_array()?;

@@ -2,6 +2,7 @@
 //! roster in it and the first epochs, and then a line for each step. The names of members are those of the fields.
 #![tactic(auto)]
 
+mod line;
 mod steps;
 mod text;
 mod trees;

@@ -3,13 +3,14 @@ ghost use Rattle.std.specs.Prelude.{◌≡◌, ◌++◌, OnOk};
 ghost use Rattle.json.specs.Tree.{json_tokens, members_tokens};
 ghost use Rattle.run_journal.specs.Steps.{done_members, held_members, stored_json};
 
+use crate::line::{ToLine, put_field, put_tagged};
 use base_types::{Fid, HostId, Items, NoMemory, Node, Span};
-use message_json::{Line, ToJson};
+use message_json::Line;
 use run_rules::{
     Admission, Answer, Applied, Asked, Cause, Labelled, Leave, Request, Step, Wanted, Why, Written,
 };
 
-impl ToJson for Node {
+impl ToLine for Node {
     ghost use Rattle.run_journal.specs.Steps.{node_json};
 
     ghost json = { node_json };
@@ -23,7 +24,7 @@ impl ToJson for Node {
     }
 }
 
-impl ToJson for Cause {
+impl ToLine for Cause {
     ghost use Rattle.run_journal.specs.Steps.{cause_json};
 
     ghost json = { cause_json };
@@ -42,7 +43,7 @@ impl ToJson for Cause {
     }
 }
 
-impl ToJson for Asked {
+impl ToLine for Asked {
     ghost use Rattle.run_journal.specs.Steps.{asked_json};
 
     ghost json = { asked_json };
@@ -56,7 +57,7 @@ impl ToJson for Asked {
     }
 }
 
-impl ToJson for Answer {
+impl ToLine for Answer {
     ghost use Rattle.run_journal.specs.Steps.{answer_json};
 
     ghost json = { answer_json };
@@ -73,7 +74,7 @@ impl ToJson for Answer {
     }
 }
 
-impl ToJson for Labelled {
+impl ToLine for Labelled {
     ghost use Rattle.run_journal.specs.Steps.{labelled_json};
 
     ghost json = { labelled_json };
@@ -87,7 +88,7 @@ impl ToJson for Labelled {
     }
 }
 
-impl ToJson for Why {
+impl ToLine for Why {
     ghost use Rattle.run_journal.specs.Steps.{why_json};
 
     ghost json = { why_json };
@@ -104,7 +105,7 @@ impl ToJson for Why {
     }
 }
 
-impl ToJson for Leave {
+impl ToLine for Leave {
     ghost use Rattle.run_journal.specs.Steps.{leave_json};
 
     ghost json = { leave_json };
@@ -113,12 +114,12 @@ impl ToJson for Leave {
     fn put(&self, line: &mut Line) -> Result<(), NoMemory> {
         line.open()?;
         line.field("token", &self.token)?;
-        line.field("why", &self.why)?;
+        put_field(line, "why", &self.why)?;
         line.close()
     }
 }
 
-impl ToJson for Request {
+impl ToLine for Request {
     ghost use Rattle.run_journal.specs.Steps.{request_json};
 
     ghost json = { request_json };
@@ -132,7 +133,7 @@ impl ToJson for Request {
     }
 }
 
-impl ToJson for Wanted {
+impl ToLine for Wanted {
     ghost use Rattle.run_journal.specs.Steps.{wanted_json};
 
     ghost json = { wanted_json };
@@ -141,14 +142,14 @@ impl ToJson for Wanted {
     fn put(&self, line: &mut Line) -> Result<(), NoMemory> {
         line.open()?;
         line.field("host", &self.host)?;
-        line.field("request", &self.request)?;
+        put_field(line, "request", &self.request)?;
         line.field("moves", &self.moves)?;
         line.field("needs", &self.needs)?;
         line.close()
     }
 }
 
-impl ToJson for Written {
+impl ToLine for Written {
     ghost use Rattle.run_journal.specs.Steps.{written_json};
 
     ghost json = { written_json };
@@ -158,12 +159,12 @@ impl ToJson for Written {
         line.open()?;
         line.field("fileset", &self.fileset)?;
         line.field("number", &self.number)?;
-        line.field("answer", &self.answer)?;
+        put_field(line, "answer", &self.answer)?;
         line.close()
     }
 }
 
-impl ToJson for Applied {
+impl ToLine for Applied {
     ghost use Rattle.run_journal.specs.Steps.{applied_json};
 
     ghost json = { applied_json };
@@ -177,10 +178,10 @@ impl ToJson for Applied {
                 spans,
                 length,
             } => put_stored(line, *host, fid, spans, length),
-            Applied::Replied(answer) => line.tagged("replied", answer),
+            Applied::Replied(answer) => put_tagged(line, "replied", answer),
             Applied::IsDown(host) => line.tagged("is_down", host),
-            Applied::Wants(wanted) => line.tagged("wants", wanted),
-            Applied::Done(written) => line.tagged("done", written),
+            Applied::Wants(wanted) => put_tagged(line, "wants", wanted),
+            Applied::Done(written) => put_tagged(line, "done", written),
         }
     }
 }
@@ -205,7 +206,7 @@ fn put_stored(
     line.end()
 }
 
-impl ToJson for Admission {
+impl ToLine for Admission {
     ghost use Rattle.run_journal.specs.Steps.{admission_json};
 
     ghost json = { admission_json };
@@ -219,7 +220,7 @@ impl ToJson for Admission {
     }
 }
 
-impl ToJson for Step {
+impl ToLine for Step {
     ghost use Rattle.run_journal.specs.Steps.{step_json};
 
     ghost json = { step_json };
@@ -227,9 +228,9 @@ impl ToJson for Step {
     #[tactic(auto, unfolding(crate::specs::Steps::step_json))]
     fn put(&self, line: &mut Line) -> Result<(), NoMemory> {
         line.open()?;
-        line.field("node", &self.node)?;
-        line.field("cause", &self.cause)?;
-        line.field("asked", &self.asked)?;
+        put_field(line, "node", &self.node)?;
+        put_field(line, "cause", &self.cause)?;
+        put_field(line, "asked", &self.asked)?;
         put_held(line, self)
     }
 }
@@ -240,11 +241,11 @@ fn put_held(line: &mut Line, step: &Step) -> Result<(), NoMemory>
     ensures { OnOk result (line.new ≡ line.old ++ members_tokens (held_members step.now)) }
 {
     line.field("taken", &step.taken)?;
-    line.field("answers", &step.answers)?;
+    put_field(line, "answers", &step.answers)?;
     line.field("wrote", &step.wrote)?;
-    line.field("begun", &step.begun)?;
+    put_field(line, "begun", &step.begun)?;
     line.field("made", &step.made)?;
-    line.field("dropped", &step.dropped)?;
+    put_field(line, "dropped", &step.dropped)?;
     put_done(line, step)
 }
 
@@ -253,8 +254,8 @@ fn put_held(line: &mut Line, step: &Step) -> Result<(), NoMemory>
 fn put_done(line: &mut Line, step: &Step) -> Result<(), NoMemory>
     ensures { OnOk result (line.new ≡ line.old ++ members_tokens (done_members step.now)) }
 {
-    line.field("applied", &step.applied)?;
-    line.field("admitted", &step.admitted)?;
+    put_field(line, "applied", &step.applied)?;
+    put_field(line, "admitted", &step.admitted)?;
     line.field("sent", &step.sent)?;
     line.field("reserved", &step.reserved)?;
     line.close()

@@ -6,9 +6,10 @@ ghost use Rattle.json.specs.Print.{print};
 ghost use Rattle.json.specs.Tree.{json_tokens};
 ghost use Rattle.run_journal.specs.Text.{head_json, journal_text, line_text, step_text};
 
+use crate::line::{ToLine, put_field};
 use base_io::write_all;
 use base_types::{Items, NoMemory, Sink};
-use message_json::{Line, ToJson};
+use message_json::Line;
 use run_rules::{Journal, Step};
 use std::alloc::Global;
 use thiserror::Error;
@@ -76,7 +77,7 @@ fn put_head(line: &mut Line, journal: &Journal) -> Result<(), NoMemory>
 {
     line.open()?;
     line.field("version", &1_u32)?;
-    line.field("start", &journal.start)?;
+    put_field(line, "start", &journal.start)?;
     line.field("epochs", &journal.epochs)?;
     line.close()
 }

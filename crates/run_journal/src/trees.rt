@@ -4,14 +4,15 @@ ghost use Rattle.json.specs.Tree.{json_tokens};
 ghost use Rattle.run_journal.specs.Trees.{file_json};
 ghost use Rattle.message_json.specs.Values.{list};
 
+use crate::line::{ToLine, put_field, put_list};
 use base_types::{AccessList, Items, NoMemory};
-use message_json::{Line, ToJson};
+use message_json::Line;
 use tree_answers::{Away, LockUse, OpenUse, ServerRoom, Tree};
 use tree_calls::{HostLine, Roster};
 use tree_filesets::Fileset;
 use tree_objects::{Anode, Content, Object, Unsaved, UnsavedBytes, UnsavedLength};
 
-impl ToJson for HostLine {
+impl ToLine for HostLine {
     ghost use Rattle.run_journal.specs.Trees.{host_line_json};
 
     ghost json = { host_line_json };
@@ -25,7 +26,7 @@ impl ToJson for HostLine {
     }
 }
 
-impl ToJson for Roster {
+impl ToLine for Roster {
     ghost use Rattle.run_journal.specs.Trees.{roster_json};
 
     ghost json = { roster_json };
@@ -34,13 +35,13 @@ impl ToJson for Roster {
     fn put(&self, line: &mut Line) -> Result<(), NoMemory> {
         line.open()?;
         line.field("users", &self.users)?;
-        line.field("hosts", &self.hosts)?;
+        put_field(line, "hosts", &self.hosts)?;
         line.field("capacity", &self.capacity)?;
         line.close()
     }
 }
 
-impl ToJson for Unsaved {
+impl ToLine for Unsaved {
     ghost use Rattle.run_journal.specs.Trees.{unsaved_json};
 
     ghost json = { unsaved_json };
@@ -55,17 +56,17 @@ impl ToJson for Unsaved {
     }
 }
 
-impl ToJson for UnsavedBytes {
+impl ToLine for UnsavedBytes {
     ghost use Rattle.run_journal.specs.Trees.{unsaved_json};
 
     ghost json = { list unsaved_json };
 
     fn put(&self, line: &mut Line) -> Result<(), NoMemory> {
-        line.list(self.as_slice())
+        put_list(line, self.as_slice())
     }
 }
 
-impl ToJson for UnsavedLength {
+impl ToLine for UnsavedLength {
     ghost use Rattle.run_journal.specs.Trees.{unsaved_length_json};
 
     ghost json = { unsaved_length_json };
@@ -79,7 +80,7 @@ impl ToJson for UnsavedLength {
     }
 }
 
-impl ToJson for Content {
+impl ToLine for Content {
     ghost use Rattle.run_journal.specs.Trees.{content_json};
 
     ghost json = { content_json };
@@ -115,12 +116,12 @@ fn put_file(
     line.begin("file")?;
     line.field("list", list)?;
     line.field_bytes("kept", kept.as_slice())?;
-    line.field("unsaved", unsaved)?;
-    line.field("length", length)?;
+    put_field(line, "unsaved", unsaved)?;
+    put_field(line, "length", length)?;
     line.end()
 }
 
-impl ToJson for Object {
+impl ToLine for Object {
     ghost use Rattle.run_journal.specs.Trees.{object_json};
 
     ghost json = { object_json };
@@ -130,12 +131,12 @@ impl ToJson for Object {
         line.open()?;
         line.field("owner", &self.owner)?;
         line.field("group", &self.group)?;
-        line.field("content", &self.content)?;
+        put_field(line, "content", &self.content)?;
         line.close()
     }
 }
 
-impl ToJson for Anode {
+impl ToLine for Anode {
     ghost use Rattle.run_journal.specs.Trees.{anode_json};
 
     ghost json = { anode_json };
@@ -144,12 +145,12 @@ impl ToJson for Anode {
     fn put(&self, line: &mut Line) -> Result<(), NoMemory> {
         line.open()?;
         line.field("unique", &self.unique)?;
-        line.field("object", &self.object)?;
+        put_field(line, "object", &self.object)?;
         line.close()
     }
 }
 
-impl ToJson for Fileset {
+impl ToLine for Fileset {
     ghost use Rattle.run_journal.specs.Trees.{fileset_json};
 
     ghost json = { fileset_json };
@@ -163,12 +164,12 @@ impl ToJson for Fileset {
         line.field("read_only", &self.read_only)?;
         line.field("objects", &self.objects)?;
         line.field("moves", &self.moves)?;
-        line.field("anodes", &self.anodes)?;
+        put_field(line, "anodes", &self.anodes)?;
         line.close()
     }
 }
 
-impl ToJson for ServerRoom {
+impl ToLine for ServerRoom {
     ghost use Rattle.run_journal.specs.Trees.{room_json};
 
     ghost json = { room_json };
@@ -182,7 +183,7 @@ impl ToJson for ServerRoom {
     }
 }
 
-impl ToJson for LockUse {
+impl ToLine for LockUse {
     ghost use Rattle.run_journal.specs.Trees.{lock_json};
 
     ghost json = { lock_json };
@@ -199,7 +200,7 @@ impl ToJson for LockUse {
     }
 }
 
-impl ToJson for OpenUse {
+impl ToLine for OpenUse {
     ghost use Rattle.run_journal.specs.Trees.{open_use_json};
 
     ghost json = { open_use_json };
@@ -215,7 +216,7 @@ impl ToJson for OpenUse {
     }
 }
 
-impl ToJson for Away {
+impl ToLine for Away {
     ghost use Rattle.run_journal.specs.Trees.{away_json};
 
     ghost json = { away_json };
@@ -232,7 +233,7 @@ impl ToJson for Away {
     }
 }
 
-impl ToJson for Tree {
+impl ToLine for Tree {
     ghost use Rattle.run_journal.specs.Trees.{tree_json};
 
     ghost json = { tree_json };
@@ -240,12 +241,12 @@ impl ToJson for Tree {
     #[tactic(auto, unfolding(crate::specs::Trees::tree_json))]
     fn put(&self, line: &mut Line) -> Result<(), NoMemory> {
         line.open()?;
-        line.field("roster", &self.roster)?;
-        line.field("servers", &self.servers)?;
-        line.field("filesets", &self.filesets)?;
-        line.field("away", &self.away)?;
-        line.field("locks", &self.locks)?;
-        line.field("opens", &self.opens)?;
+        put_field(line, "roster", &self.roster)?;
+        put_field(line, "servers", &self.servers)?;
+        put_field(line, "filesets", &self.filesets)?;
+        put_field(line, "away", &self.away)?;
+        put_field(line, "locks", &self.locks)?;
+        put_field(line, "opens", &self.opens)?;
         line.close()
     }
 }
