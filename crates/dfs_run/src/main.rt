@@ -4,9 +4,12 @@
 //! of it failed, its name and the system's reason go to standard error.
 //!
 //! Under `run --journal FILE ..` the journal of the run goes to FILE, once the disks are closed, as
-//! `service_journal::tell_journal` says, whose code is the number with which the program ends.
+//! `tell_journal` says, whose code is the number with which the program ends.
 #![tactic(auto)]
 
+mod asked;
+mod journal;
+mod lines;
 mod streams;
 
 ghost use Rattle.std.specs.Prelude.{◌≡◌, length, map, IfOk};
@@ -15,12 +18,13 @@ ghost use Rattle.script_commands.specs.Command.{disk_names};
 ghost use Rattle.service_run.specs.Checks.{AreNamed};
 ghost use Rattle.service_run.specs.Outcomes.{code_of};
 
+use crate::asked::take_journal;
+use crate::journal::{Ended, refuse_file, tell_journal};
 use crate::streams::Streams;
 use base_io::{StdSink, StdSource};
 use base_types::{NoMemory, Sink};
 use disk_device::{FileDisk, FileFault};
 use script_commands::disk_names;
-use service_journal::{Ended, refuse_file, take_journal, tell_journal};
 use service_run::{OpenGate, Outcome, Status, refuse_disk, run};
 use std::alloc::{AllocError, Global};
 use std::fs::File;
@@ -68,7 +72,7 @@ fn main(rt: HostRuntime) -> ExitCode {
             );
             tell_faults(&rt, names.as_slice(), disks.as_slice());
             drop(disks);
-            ended(&rt, outcome, journal, &mut sink)
+            finish(&rt, outcome, journal, &mut sink)
         }
         Err(NotOpened::Refused(number)) => code_of(refuse_disk(rt.alloc(), number, &mut sink)),
         Err(NotOpened::Memory) => Status::NoMemory.code(),
@@ -86,7 +90,7 @@ fn code_of(outcome: Outcome) -> u8
 }
 
 // The number with which the program ends, once the journal of the run is in the file of this name, if one is asked for.
-fn ended<K: Sink>(
+fn finish<K: Sink>(
     rt: &(impl Files<File = File> + Eprint + AllocGlobal),
     outcome: Outcome,
     journal: Option<String>,

@@ -11,9 +11,9 @@ use Rattle.service_run.specs.Outcomes.{code_of, has_run}
 use Rattle.service_run.specs.Output.{Wrote}
 use Rattle.service_run.specs.World.{Shown}
 use Rattle.service_run.specs.declared.outcome.Status.TheVariants.{NoMemory as OutOfMemory}
-use Rattle.service_journal.specs.Lines.{fault_line, hosts_line}
-use Rattle.service_journal.specs.declared.tell.Ended.{Ended}
-use Rattle.service_journal.specs.declared.tell.Ended.TheVariants.{Ran, NoJournal, NoMemory}
+use Rattle.dfs_run.specs.Lines.{fault_line, hosts_line}
+use Rattle.dfs_run.specs.declared.journal.Ended.{Ended}
+use Rattle.dfs_run.specs.declared.journal.Ended.TheVariants.{Ran, NoJournal, NoMemory}
 
 -- the number with which the program ends
 abbrev pub ended_code : Ended → ℕ

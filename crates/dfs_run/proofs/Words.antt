@@ -3,7 +3,7 @@ use Rattle.std.proofs.Common.{◌≡◌, ℕ, ◌<◌, true, List, [], ◌∷◌
 use Rattle.std.specs.Prelude.{option_map, slice_index_or}
 use Rattle.std.specs.List.{remove}
 use Rattle.std.specs.String.{String, string_bytes}
-use Rattle.service_journal.specs.Words.{asks_for_journal, journal_name, run_words}
+use Rattle.dfs_run.specs.Words.{asks_for_journal, journal_name, run_words}
 
 pub long : (words : List String) → asks_for_journal (map string_bytes words) ≡ true → 2 < length words
 long [] h = cc

@@ -1,7 +1,7 @@
 //! The words that ask for a journal.
 ghost use Rattle.std.specs.Prelude.{◌≡◌, map, option_map};
 ghost use Rattle.std.specs.String.{string_bytes};
-ghost use Rattle.service_journal.specs.Words.{asks_for_journal, journal_name, run_words};
+ghost use Rattle.dfs_run.specs.Words.{asks_for_journal, journal_name, run_words};
 
 use script_words::is_word;
 
@@ -19,7 +19,7 @@ fn asks_for_journal(words: &[String]) -> bool
 
 /// Takes `--journal FILE` out of the words `run --journal FILE ..`, and gives FILE; other words stay.
 #[tactic(auto, using(crate::proofs::Words::long, crate::proofs::Words::name_is, crate::proofs::Words::rest_is))]
-pub fn take_journal(words: &mut Vec<String>) -> Option<String>
+pub(crate) fn take_journal(words: &mut Vec<String>) -> Option<String>
     ensures name { option_map string_bytes result ≡ journal_name (map string_bytes words.old.items) }
     ensures rest { map string_bytes words.new.items ≡ run_words (map string_bytes words.old.items) }
 {

@@ -1,6 +1,6 @@
 //! The lines that say why there is no journal.
 ghost use Rattle.std.specs.Prelude.{◌≡◌};
-ghost use Rattle.service_journal.specs.Lines.{fault_line, file_line, hosts_line};
+ghost use Rattle.dfs_run.specs.Lines.{fault_line, file_line, hosts_line};
 
 /// The line where the file of a journal can't be made.
 #[tactic(auto, unfolding(crate::specs::Lines::file_line))]

@@ -4,9 +4,9 @@ ghost use Rattle.service_run.specs.declared.outcome.Status.{Status as StatusOf};
 ghost use Rattle.service_run.specs.Outcomes.{has_run};
 ghost use Rattle.service_run.specs.Output.{Wrote};
 ghost use Rattle.service_run.specs.World.{shown};
-ghost use Rattle.service_journal.specs.declared.tell.Ended.TheVariants.{Ran, NoJournal as WithoutJournal};
-ghost use Rattle.service_journal.specs.Lines.{fault_line, file_line, hosts_line};
-ghost use Rattle.service_journal.specs.Told.{ended_code, journal_in, JournalToldSo, RunToldSo};
+ghost use Rattle.dfs_run.specs.declared.journal.Ended.TheVariants.{Ran, NoJournal as WithoutJournal};
+ghost use Rattle.dfs_run.specs.Lines.{fault_line, file_line, hosts_line};
+ghost use Rattle.dfs_run.specs.Told.{ended_code, journal_in, JournalToldSo, RunToldSo};
 
 use crate::lines::{fault_line, file_line, hosts_line};
 use base_io::write_all;
@@ -18,7 +18,7 @@ use std::alloc::Global;
 
 /// How a run ended of which a journal was asked for.
 #[derive(Clone, Copy)]
-pub enum Ended {
+pub(crate) enum Ended {
     /// As the run did.
     Ran(Status),
     /// The run came to its end, and its file has no journal, or a part of it.
@@ -29,7 +29,7 @@ pub enum Ended {
 
 impl Ended {
     /// The number with which the program ends: that of the run, 10 without a journal, or 7 without memory.
-    pub fn code(self) -> u8
+    pub(crate) fn code(self) -> u8
         ensures { result ≡ ended_code self }
     {
         match self {
@@ -52,7 +52,7 @@ fn has_run(status: Status) -> bool
 /// Of a run that came to no end there is none: it ends as it did, and nothing is written. Where the file failed, it got
 /// a part of the journal, from its front, and `journal: write fault` is written; where the script ran on the file tree
 /// alone, which has no journal, `journal: no hosts`. `NoMemory` comes where memory runs out, and writes nothing.
-pub fn tell_journal<J: Sink, K: Sink>(
+pub(crate) fn tell_journal<J: Sink, K: Sink>(
     alloc: Global,
     outcome: &Outcome,
     file: &mut J,
@@ -96,7 +96,7 @@ fn tell_hosted<J: Sink, K: Sink>(
 }
 
 /// Writes `journal: no file`, where the file of a journal can't be made: the run ended, and there is no journal.
-pub fn refuse_file<K: Sink>(sink: &mut K) -> Ended
+pub(crate) fn refuse_file<K: Sink>(sink: &mut K) -> Ended
     ensures none { result ≡ WithoutJournal }
     ensures wrote { K.tells → Wrote file_line
         (shown K.tells (K.got sink.old) (K.faults sink.old)) (shown K.tells (K.got sink.new) (K.faults sink.new)) }
