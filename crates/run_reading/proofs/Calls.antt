@@ -183,7 +183,7 @@ unfolding user_json user_of
 user_is x t =
     let a0 = letters_is x.name t.0 in
     let a1 = list_is (Each IsByte) letters_of letters letters_is x.groups t.1 in
-    (rw (a0.0, a1.0), (a0.1, a1.1, tt))
+    (rw (a0.0, a1.0), (a0.1, (a1.1, tt)))
 
 pub who_is : (x : Who) → TypedWho x → IsRead who_of who_json x
 unfolding tagged who_json who_of
@@ -203,7 +203,7 @@ unfolding access_entry_json access_entry_of
 access_entry_is x t =
     let a0 = who_is x.who t.0 in
     let a1 = whole_is x.rights t.1 in
-    (rw (a0.0, a1.0), (a0.1, a1.1, tt))
+    (rw (a0.0, a1.0), (a0.1, (a1.1, tt)))
 
 pub place_is : (x : Place) → TypedPlace x → IsRead place_of place_json x
 unfolding place_json place_of
@@ -211,7 +211,7 @@ place_is x t =
     let a0 = whole_is x.server.0 t.0 in
     let a1 = letters_is x.fileset t.1 in
     let a2 = list_is (Each IsByte) letters_of letters letters_is x.path t.2 in
-    (rw (a0.0, a1.0, a2.0), (a0.1, a1.1, a2.1, tt))
+    (rw (a0.0, a1.0, a2.0), (a0.1, (a1.1, (a2.1, tt))))
 
 pub which_is : (x : Which) → IsRead which_of which_json x
 unfolding tagged which_json which_of
@@ -226,7 +226,7 @@ call_is (NewFileset server name objects owner) t =
     let a1 = letters_is name t.1 in
     let a2 = whole_is objects t.2 in
     let a3 = user_is owner t.3 in
-    (rw (a0.0, a1.0, a2.0, a3.0), ((a0.1, a1.1, a2.1, a3.1, tt), tt))
+    (rw (a0.0, a1.0, a2.0, a3.0), ((a0.1, (a1.1, (a2.1, (a3.1, tt)))), tt))
 call_is (Create place) t =
     let a0 = place_is place t in
     (rw a0.0, ((a0.1, tt), tt))
@@ -239,31 +239,31 @@ call_is (Remove place) t =
 call_is (Rename from to) t =
     let a0 = place_is from t.0 in
     let a1 = place_is to t.1 in
-    (rw (a0.0, a1.0), ((a0.1, a1.1, tt), tt))
+    (rw (a0.0, a1.0), ((a0.1, (a1.1, tt)), tt))
 call_is (Truncate place len) t =
     let a0 = place_is place t.0 in
     let a1 = whole_is len t.1 in
-    (rw (a0.0, a1.0), ((a0.1, a1.1, tt), tt))
+    (rw (a0.0, a1.0), ((a0.1, (a1.1, tt)), tt))
 call_is (SetAcl place which entries) t =
     let a0 = place_is place t.0 in
     let a1 = which_is which in
     let a2 = list_is TypedAccessEntry access_entry_of access_entry_json access_entry_is entries t.1 in
-    (rw (a0.0, a1.0, a2.0), ((a0.1, a1.1, a2.1, tt), tt))
+    (rw (a0.0, a1.0, a2.0), ((a0.1, (a1.1, (a2.1, tt))), tt))
 call_is (CloneFileset server fileset new) t =
     let a0 = whole_is server.0 t.0 in
     let a1 = letters_is fileset t.1 in
     let a2 = letters_is new t.2 in
-    (rw (a0.0, a1.0, a2.0), ((a0.1, a1.1, a2.1, tt), tt))
+    (rw (a0.0, a1.0, a2.0), ((a0.1, (a1.1, (a2.1, tt))), tt))
 call_is (Read place from len) t =
     let a0 = place_is place t.0 in
     let a1 = whole_is from t.1 in
     let a2 = whole_is len t.2 in
-    (rw (a0.0, a1.0, a2.0), ((a0.1, a1.1, a2.1, tt), tt))
+    (rw (a0.0, a1.0, a2.0), ((a0.1, (a1.1, (a2.1, tt))), tt))
 call_is (Write place from bytes) t =
     let a0 = place_is place t.0 in
     let a1 = whole_is from t.1 in
     let a2 = letters_is bytes t.2 in
-    (rw (a0.0, a1.0, a2.0), ((a0.1, a1.1, a2.1, tt), tt))
+    (rw (a0.0, a1.0, a2.0), ((a0.1, (a1.1, (a2.1, tt))), tt))
 call_is (ListNames place) t =
     let a0 = place_is place t in
     (rw a0.0, ((a0.1, tt), tt))
@@ -273,7 +273,7 @@ call_is (Stat place) t =
 call_is (GetAcl place which) t =
     let a0 = place_is place t in
     let a1 = which_is which in
-    (rw (a0.0, a1.0), ((a0.1, a1.1, tt), tt))
+    (rw (a0.0, a1.0), ((a0.1, (a1.1, tt)), tt))
 call_is (Sync place) t =
     let a0 = place_is place t in
     (rw a0.0, ((a0.1, tt), tt))
@@ -282,7 +282,7 @@ call_is (Lock label place writing from len) t =
     let a1 = place_is place t.1 in
     let a3 = whole_is from t.2 in
     let a4 = whole_is len t.3 in
-    (rw (a0.0, a1.0, a3.0, a4.0), ((a0.1, a1.1, tt, a3.1, a4.1, tt), tt))
+    (rw (a0.0, a1.0, a3.0, a4.0), ((a0.1, (a1.1, (tt, (a3.1, (a4.1, tt))))), tt))
 call_is (Unlock label) t =
     let a0 = letters_is label t in
     (rw a0.0, ((a0.1, tt), tt))
@@ -290,7 +290,7 @@ call_is (OpenFile label place kind) t =
     let a0 = letters_is label t.0 in
     let a1 = place_is place t.1 in
     let a2 = open_is kind in
-    (rw (a0.0, a1.0, a2.0), ((a0.1, a1.1, a2.1, tt), tt))
+    (rw (a0.0, a1.0, a2.0), ((a0.1, (a1.1, (a2.1, tt))), tt))
 call_is (CloseFile label) t =
     let a0 = letters_is label t in
     (rw a0.0, ((a0.1, tt), tt))
@@ -298,7 +298,7 @@ call_is (MoveFileset server fileset to) t =
     let a0 = whole_is server.0 t.0 in
     let a1 = letters_is fileset t.1 in
     let a2 = whole_is to.0 t.2 in
-    (rw (a0.0, a1.0, a2.0), ((a0.1, a1.1, a2.1, tt), tt))
+    (rw (a0.0, a1.0, a2.0), ((a0.1, (a1.1, (a2.1, tt))), tt))
 
 pub refusal_is : (x : Refusal) → TypedRefusal x → IsRead refusal_of refusal_json x
 unfolding tagged refusal_json refusal_of
@@ -332,7 +332,7 @@ facts_is x t =
     let a1 = whole_is x.length t.0 in
     let a2 = letters_is x.owner t.1 in
     let a3 = whole_is x.rights t.2 in
-    (rw (a1.0, a2.0, a3.0), (tt, a1.1, a2.1, a3.1, tt))
+    (rw (a1.0, a2.0, a3.0), (tt, (a1.1, (a2.1, (a3.1, tt)))))
 
 pub reply_is : (x : Reply) → TypedReply x → IsRead reply_of reply_json x
 unfolding tagged reply_json reply_of

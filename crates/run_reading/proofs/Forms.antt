@@ -108,7 +108,7 @@ letter : (one two : Bool) (x : ℕ) (far rest more : List ℕ) → nat_lt x 128 
 letter true two x far rest more p q h e = rw (p, e)
 letter false false x far rest more p q h e = absurd (omega (arith, h, ltb-false x 2048 q))
 letter false true x far rest more p q h e =
-    let k : nat_lt (192 + x / 64) 128 ≡ false = le-ltb 128 (192 + x / 64) (omega arith) in
+    let k : nat_lt (192 + x / 64) 128 ≡ false = le-ltb (192 + x / 64) 128 (omega arith) in
     let whole : ((192 + x / 64) - 192) * 64 + ((128 + x % 64) - 128) ≡ x = omega arith in
     rw (k, whole, e)
 
@@ -199,4 +199,4 @@ span_is s =
     let w = s.within in
     let a = whole_is s.from (omega arith) in
     let b = whole_is s.to (omega arith) in
-    (ap₂ between a.0 b.0 ∙ between_ends s, (a.1, b.1, tt))
+    (ap₂ between a.0 b.0 ∙ between_ends s, (a.1, (b.1, tt)))

@@ -95,9 +95,9 @@ plain_no x h e =
 
 byte_cases : (a b : Bool) (x : ℕ) → a ≡ nat_lt 0 (escape_letter x)
     → NoFeed (cond a (92 ∷ escape_letter x ∷ []) (cond b (92 ∷ 117 ∷ 48 ∷ 48 ∷ digit_char (x / 16) ∷ digit_char (x % 16) ∷ []) (x ∷ [])))
-byte_cases true b x h = ((λ e. omega (arith, e)), letter_no x, tt)
+byte_cases true b x h = ((λ e. omega (arith, e)), (letter_no x, tt))
 byte_cases false true x h =
-    ((λ e. omega (arith, e)), (λ e. omega (arith, e)), (λ e. omega (arith, e)), (λ e. omega (arith, e)), digit_no (x / 16), digit_no (x % 16), tt)
+    ((λ e. omega (arith, e)), ((λ e. omega (arith, e)), ((λ e. omega (arith, e)), ((λ e. omega (arith, e)), (digit_no (x / 16), (digit_no (x % 16), tt))))))
 byte_cases false false x h = (plain_no x (sym h), tt)
 
 escape_byte_no : (x : ℕ) → NoFeed (escape_byte x)
@@ -126,10 +126,10 @@ token_no token.end_array g = one_no 93 (λ e. omega (arith, e))
 token_no (token.key s) g = no_feed_append (quoted s) (58 ∷ []) (quoted_no s) (one_no 58 (λ e. omega (arith, e)))
 token_no (token.string s) g = quoted_no s
 token_no (token.number s) g = rw g.2 (digits_no (decimal g.0) (decimal_is_IsNumeral g.0 g.1).0.1)
-token_no (token.boolean true) g = ((λ e. omega (arith, e)), (λ e. omega (arith, e)), (λ e. omega (arith, e)), (λ e. omega (arith, e)), tt)
+token_no (token.boolean true) g = ((λ e. omega (arith, e)), ((λ e. omega (arith, e)), ((λ e. omega (arith, e)), ((λ e. omega (arith, e)), tt))))
 token_no (token.boolean false) g =
-    ((λ e. omega (arith, e)), (λ e. omega (arith, e)), (λ e. omega (arith, e)), (λ e. omega (arith, e)), (λ e. omega (arith, e)), tt)
-token_no token.null g = ((λ e. omega (arith, e)), (λ e. omega (arith, e)), (λ e. omega (arith, e)), (λ e. omega (arith, e)), tt)
+    ((λ e. omega (arith, e)), ((λ e. omega (arith, e)), ((λ e. omega (arith, e)), ((λ e. omega (arith, e)), ((λ e. omega (arith, e)), tt)))))
+token_no token.null g = ((λ e. omega (arith, e)), ((λ e. omega (arith, e)), ((λ e. omega (arith, e)), ((λ e. omega (arith, e)), tt))))
 token_no token.bad g = tt
 
 comma_no : (b : Bool) → NoFeed (cond b (44 ∷ []) [])

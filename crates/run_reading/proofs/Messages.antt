@@ -275,7 +275,7 @@ fetch_is x t =
     let a0 = whole_is x.number t.0 in
     let a1 = fid_is x.fid t.1 in
     let a2 = list_is TypedNeed need_of need_json need_is x.needs t.2 in
-    (rw (a0.0, a1.0, a2.0), (a0.1, a1.1, a2.1, tt))
+    (rw (a0.0, a1.0, a2.0), (a0.1, (a1.1, (a2.1, tt))))
 
 pub change_is : (x : Change) → TypedChange x → IsRead change_of change_json x
 unfolding change_json change_of
@@ -285,7 +285,7 @@ change_is x t =
     let a2 = fid_is x.fid t.2 in
     let a4 = whole_is x.k t.3 in
     let a5 = call_is x.call t.4 in
-    (rw (a0.0, a1.0, a2.0, a4.0, a5.0), (a0.1, a1.1, a2.1, tt, a4.1, a5.1, tt))
+    (rw (a0.0, a1.0, a2.0, a4.0, a5.0), (a0.1, (a1.1, (a2.1, (tt, (a4.1, (a5.1, tt)))))))
 
 pub bring_is : (x : Bring) → TypedBring x → IsRead bring_of bring_json x
 unfolding bring_json bring_of
@@ -294,7 +294,7 @@ bring_is x t =
     let a1 = fid_is x.fid t.1 in
     let a2 = whole_is x.stamp t.2 in
     let a3 = list_is TypedToken token_of token_json token_is x.tokens t.3 in
-    (rw (a0.0, a1.0, a2.0, a3.0), (a0.1, a1.1, a2.1, a3.1, tt))
+    (rw (a0.0, a1.0, a2.0, a3.0), (a0.1, (a1.1, (a2.1, (a3.1, tt)))))
 
 pub grant_is : (x : Grant) → TypedGrant x → IsRead grant_of grant_json x
 unfolding grant_json grant_of
@@ -303,7 +303,7 @@ grant_is x t =
     let a1 = maybe_is TypedStatus status_of status_json status_is status_some x.status t.1 in
     let a2 = list_is TypedPiece piece_of piece_json piece_is x.pieces t.2 in
     let a3 = list_is TypedDirEntry entry_of entry_json entry_is x.entries t.3 in
-    (rw (a0.0, a1.0, a2.0, a3.0), (a0.1, a1.1, a2.1, a3.1, tt))
+    (rw (a0.0, a1.0, a2.0, a3.0), (a0.1, (a1.1, (a2.1, (a3.1, tt)))))
 
 pub outcome_is : (x : DoneIs) → TypedDoneIs x → IsRead outcome_of outcome_json x
 unfolding tagged outcome_json outcome_of
@@ -325,7 +325,7 @@ done_is x t =
     let a0 = whole_is x.fileset.0 t.0 in
     let a1 = outcome_is x.outcome t.1 in
     let a2 = bring_is x.bring t.2 in
-    (rw (a0.0, a1.0, a2.0), (a0.1, a1.1, a2.1, tt))
+    (rw (a0.0, a1.0, a2.0), (a0.1, (a1.1, (a2.1, tt))))
 
 pub revoke_is : (x : Revoke) → TypedRevoke x → IsRead revoke_of revoke_json x
 unfolding revoke_json revoke_of
@@ -333,21 +333,21 @@ revoke_is x t =
     let a0 = fid_is x.fid t.0 in
     let a1 = whole_is x.stamp t.1 in
     let a2 = list_is TypedTokenId id_of id_json id_is x.ids t.2 in
-    (rw (a0.0, a1.0, a2.0), (a0.1, a1.1, a2.1, tt))
+    (rw (a0.0, a1.0, a2.0), (a0.1, (a1.1, (a2.1, tt))))
 
 pub named_is : (x : Named) → TypedNamed x → IsRead named_of named_json x
 unfolding named_json named_of
 named_is x t =
     let a0 = fid_is x.fid t.0 in
     let a1 = list_is TypedTokenId id_of id_json id_is x.ids t.1 in
-    (rw (a0.0, a1.0), (a0.1, a1.1, tt))
+    (rw (a0.0, a1.0), (a0.1, (a1.1, tt)))
 
 pub ends_is : (x : Ends) → TypedEnds x → IsRead ends_of ends_json x
 unfolding ends_json ends_of
 ends_is x t =
     let a0 = whole_is x.k t.0 in
     let a1 = call_is x.call t.1 in
-    (rw (a0.0, a1.0), (a0.1, a1.1, tt))
+    (rw (a0.0, a1.0), (a0.1, (a1.1, tt)))
 
 pub ends_some : (x : Ends) → is_null (ends_json x) ≡ false
 unfolding ends_json
@@ -362,14 +362,14 @@ give_is x t =
     let a3 = list_is TypedPiece piece_of piece_json piece_is x.pieces t.3 in
     let a4 = maybe_is IsWhole whole_of whole whole_is whole_some x.length t.4 in
     let a5 = maybe_is TypedEnds ends_of ends_json ends_is ends_some x.ends t.5 in
-    (rw (a0.0, a1.0, a2.0, a3.0, a4.0, a5.0), (a0.1, a1.1, a2.1, a3.1, a4.1, a5.1, tt))
+    (rw (a0.0, a1.0, a2.0, a3.0, a4.0, a5.0), (a0.1, (a1.1, (a2.1, (a3.1, (a4.1, (a5.1, tt)))))))
 
 pub applied_is : (x : AppliedGive) → TypedAppliedGive x → IsRead applied_of applied_json x
 unfolding applied_json applied_of
 applied_is x t =
     let a0 = whole_is x.fileset.0 t.0 in
     let a1 = whole_is x.number t.1 in
-    (rw (a0.0, a1.0), (a0.1, a1.1, tt))
+    (rw (a0.0, a1.0), (a0.1, (a1.1, tt)))
 
 pub outstanding_is : (x : Outstanding) → TypedOutstanding x → IsRead outstanding_of outstanding_json x
 unfolding outstanding_json outstanding_of
@@ -378,28 +378,28 @@ outstanding_is x t =
     let a1 = whole_is x.moves t.1 in
     let a2 = whole_is x.give t.2 in
     let a3 = whole_is x.change t.3 in
-    (rw (a0.0, a1.0, a2.0, a3.0), (a0.1, a1.1, a2.1, a3.1, tt))
+    (rw (a0.0, a1.0, a2.0, a3.0), (a0.1, (a1.1, (a2.1, (a3.1, tt)))))
 
 pub reclaim_is : (x : Reclaim) → TypedReclaim x → IsRead reclaim_of reclaim_json x
 unfolding reclaim_json reclaim_of
 reclaim_is x t =
     let a0 = list_is TypedToken token_of token_json token_is x.tokens t.0 in
     let a1 = list_is TypedOutstanding outstanding_of outstanding_json outstanding_is x.numbers t.1 in
-    (rw (a0.0, a1.0), (a0.1, a1.1, tt))
+    (rw (a0.0, a1.0), (a0.1, (a1.1, tt)))
 
 pub reclaimed_is : (x : Reclaimed) → TypedReclaimed x → IsRead reclaimed_of reclaimed_json x
 unfolding reclaimed_json reclaimed_of
 reclaimed_is x t =
     let a0 = list_is TypedAppliedGive applied_of applied_json applied_is x.applied t.0 in
     let a1 = list_is TypedTokenId id_of id_json id_is x.left_out t.1 in
-    (rw (a0.0, a1.0), (a0.1, a1.1, tt))
+    (rw (a0.0, a1.0), (a0.1, (a1.1, tt)))
 
 pub not_here_is : (x : NotHere) → TypedNotHere x → IsRead not_here_of not_here_json x
 unfolding not_here_json not_here_of
 not_here_is x t =
     let a0 = whole_is x.fileset.0 t.0 in
     let a1 = whole_is x.to.0 t.1 in
-    (rw (a0.0, a1.0), (a0.1, a1.1, tt))
+    (rw (a0.0, a1.0), (a0.1, (a1.1, tt)))
 
 pub ship_is : (x : Ship) → TypedShip x → IsRead ship_of ship_json x
 unfolding ship_json ship_of
@@ -409,7 +409,7 @@ ship_is x t =
     let a2 = whole_is x.fileset.0 t.2 in
     let a3 = whole_is x.at t.3 in
     let a4 = part_is x.part t.4 in
-    (rw (a0.0, a1.0, a2.0, a3.0, a4.0), (a0.1, a1.1, a2.1, a3.1, a4.1, tt))
+    (rw (a0.0, a1.0, a2.0, a3.0, a4.0), (a0.1, (a1.1, (a2.1, (a3.1, (a4.1, tt))))))
 
 pub shipped_is : (x : Shipped) → TypedShipped x → IsRead shipped_of shipped_json x
 unfolding shipped_json shipped_of
@@ -418,7 +418,7 @@ shipped_is x t =
     let a1 = whole_is x.ship t.1 in
     let a2 = whole_is x.at t.2 in
     let a3 = reply_is x.reply t.3 in
-    (rw (a0.0, a1.0, a2.0, a3.0), (a0.1, a1.1, a2.1, a3.1, tt))
+    (rw (a0.0, a1.0, a2.0, a3.0), (a0.1, (a1.1, (a2.1, (a3.1, tt)))))
 
 pub body_is : (x : Body) → TypedBody x → IsRead body_of body_json x
 unfolding tagged body_json body_of
@@ -484,4 +484,4 @@ message_is x t =
     let a3 = whole_is x.epoch t.2 in
     let a4 = whole_is x.moves t.3 in
     let a5 = body_is x.body t.4 in
-    (rw (a0.0, a1.0, a2.0, a3.0, a4.0, a5.0), (a0.1, a1.1, a2.1, a3.1, a4.1, a5.1, tt))
+    (rw (a0.0, a1.0, a2.0, a3.0, a4.0, a5.0), (a0.1, (a1.1, (a2.1, (a3.1, (a4.1, (a5.1, tt)))))))

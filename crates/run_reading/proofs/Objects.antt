@@ -88,7 +88,7 @@ unfolding piece_json piece_of
 piece_is x t =
     let a0 = whole_is x.from t.0 in
     let a1 = letters_is x.bytes t.1 in
-    (rw (a0.0, a1.0), (a0.1, a1.1, tt))
+    (rw (a0.0, a1.0), (a0.1, (a1.1, tt)))
 
 pub entry_is : (x : DirEntry) → TypedDirEntry x → IsRead entry_of entry_json x
 unfolding entry_json entry_of
@@ -96,7 +96,7 @@ entry_is x t =
     let a0 = letters_is x.name t.0 in
     let a1 = whole_is x.anode t.1 in
     let a2 = whole_is x.unique t.2 in
-    (rw (a0.0, a1.0, a2.0), (a0.1, a1.1, a2.1, tt))
+    (rw (a0.0, a1.0, a2.0), (a0.1, (a1.1, (a2.1, tt))))
 
 pub status_is : (x : Status) → TypedStatus x → IsRead status_of status_json x
 unfolding status_json status_of
@@ -105,7 +105,7 @@ status_is x t =
     let a3 = letters_is x.owner t.1 in
     let a4 = letters_is x.group t.2 in
     let a5 = list_is (Each TypedAccessEntry) (list_of access_entry_of) (list access_entry_json) (list_is TypedAccessEntry access_entry_of access_entry_json access_entry_is) x.lists t.3 in
-    (rw (a2.0, a3.0, a4.0, a5.0), (tt, tt, a2.1, a3.1, a4.1, a5.1, tt))
+    (rw (a2.0, a3.0, a4.0, a5.0), (tt, (tt, (a2.1, (a3.1, (a4.1, (a5.1, tt)))))))
 
 pub status_some : (x : Status) → is_null (status_json x) ≡ false
 unfolding status_json
@@ -118,7 +118,7 @@ record_is x t =
     let a1 = whole_is x.give t.1 in
     let a2 = whole_is x.code t.2 in
     let a3 = whole_is x.right t.3 in
-    (rw (a0.0, a1.0, a2.0, a3.0), (a0.1, a1.1, a2.1, a3.1, tt))
+    (rw (a0.0, a1.0, a2.0, a3.0), (a0.1, (a1.1, (a2.1, (a3.1, tt)))))
 
 pub mover_is : (x : Mover) → TypedMover x → IsRead mover_of mover_json x
 unfolding mover_json mover_of
@@ -127,7 +127,7 @@ mover_is x t =
     let a1 = whole_is x.number t.1 in
     let a2 = whole_is x.k t.2 in
     let a3 = call_is x.call t.3 in
-    (rw (a0.0, a1.0, a2.0, a3.0), (a0.1, a1.1, a2.1, a3.1, tt))
+    (rw (a0.0, a1.0, a2.0, a3.0), (a0.1, (a1.1, (a2.1, (a3.1, tt)))))
 
 pub part_is : (x : ShipPart) → TypedShipPart x → IsRead part_of part_json x
 unfolding tagged part_json part_of
@@ -136,11 +136,11 @@ part_is (Head name objects records mover) t =
     let a1 = whole_is objects t.1 in
     let a2 = list_is TypedRecord record_of record_json record_is records t.2 in
     let a3 = mover_is mover t.3 in
-    (rw (a0.0, a1.0, a2.0, a3.0), ((a0.1, a1.1, a2.1, a3.1, tt), tt))
+    (rw (a0.0, a1.0, a2.0, a3.0), ((a0.1, (a1.1, (a2.1, (a3.1, tt)))), tt))
 part_is (Object anode unique status pieces entries) t =
     let a0 = whole_is anode t.0 in
     let a1 = whole_is unique t.1 in
     let a2 = maybe_is TypedStatus status_of status_json status_is status_some status t.2 in
     let a3 = list_is TypedPiece piece_of piece_json piece_is pieces t.3 in
     let a4 = list_is TypedDirEntry entry_of entry_json entry_is entries t.4 in
-    (rw (a0.0, a1.0, a2.0, a3.0, a4.0), ((a0.1, a1.1, a2.1, a3.1, a4.1, tt), tt))
+    (rw (a0.0, a1.0, a2.0, a3.0, a4.0), ((a0.1, (a1.1, (a2.1, (a3.1, (a4.1, tt))))), tt))

@@ -74,7 +74,7 @@ fid_is x t =
     let a0 = whole_is x.fileset.0 t.0 in
     let a1 = whole_is x.anode t.1 in
     let a2 = whole_is x.unique t.2 in
-    (rw (a0.0, a1.0, a2.0), (a0.1, a1.1, a2.1, tt))
+    (rw (a0.0, a1.0, a2.0), (a0.1, (a1.1, (a2.1, tt))))
 
 pub fid_some : (x : Fid) → is_null (fid_json x) ≡ false
 unfolding fid_json
@@ -94,17 +94,17 @@ id_is x t =
     let a0 = whole_is x.server.0 t.0 in
     let a1 = whole_is x.epoch t.1 in
     let a2 = whole_is x.seq t.2 in
-    (rw (a0.0, a1.0, a2.0), (a0.1, a1.1, a2.1, tt))
+    (rw (a0.0, a1.0, a2.0), (a0.1, (a1.1, (a2.1, tt))))
 
 pub kind_is : (x : Kind) → IsRead kind_of kind_json x
 unfolding tagged kind_json kind_of
 kind_is (Bytes update span) =
     let a1 = span_is span in
-    (rw a1.0, ((tt, a1.1, tt), tt))
+    (rw a1.0, ((tt, (a1.1, tt)), tt))
 kind_is (Status update) = (refl, ((tt, tt), tt))
 kind_is (Lock writing span) =
     let a1 = span_is span in
-    (rw a1.0, ((tt, a1.1, tt), tt))
+    (rw a1.0, ((tt, (a1.1, tt)), tt))
 kind_is (Opening it) =
     let a0 = open_is it in
     (rw a0.0, (a0.1, tt))
@@ -116,11 +116,11 @@ token_is x t =
     let a1 = whole_is x.host.0 t.1 in
     let a2 = fid_is x.fid t.2 in
     let a3 = kind_is x.kind in
-    (rw (a0.0, a1.0, a2.0, a3.0), (a0.1, a1.1, a2.1, a3.1, tt))
+    (rw (a0.0, a1.0, a2.0, a3.0), (a0.1, (a1.1, (a2.1, (a3.1, tt)))))
 
 pub need_is : (x : Need) → TypedNeed x → IsRead need_of need_json x
 unfolding need_json need_of
 need_is x t =
     let a0 = fid_is x.fid t in
     let a1 = kind_is x.kind in
-    (rw (a0.0, a1.0), (a0.1, a1.1, tt))
+    (rw (a0.0, a1.0), (a0.1, (a1.1, tt)))

@@ -218,7 +218,7 @@ unfolding asked_json asked_of
 asked_is x t =
     let a0 = whole_is x.k t.0 in
     let a1 = call_is x.call t.1 in
-    (rw (a0.0, a1.0), (a0.1, a1.1, tt))
+    (rw (a0.0, a1.0), (a0.1, (a1.1, tt)))
 
 pub asked_some : (x : Asked) → is_null (asked_json x) ≡ false
 unfolding asked_json
@@ -231,14 +231,14 @@ answer_is x t =
     let a1 = whole_is x.k t.1 in
     let a2 = call_is x.call t.2 in
     let a3 = reply_is x.reply t.3 in
-    (rw (a0.0, a1.0, a2.0, a3.0), (a0.1, a1.1, a2.1, a3.1, tt, tt))
+    (rw (a0.0, a1.0, a2.0, a3.0), (a0.1, (a1.1, (a2.1, (a3.1, (tt, tt))))))
 
 pub labelled_is : (x : Labelled) → TypedLabelled x → IsRead labelled_of labelled_json x
 unfolding labelled_json labelled_of
 labelled_is x t =
     let a0 = letters_is x.label t.0 in
     let a1 = token_is x.token t.1 in
-    (rw (a0.0, a1.0), (a0.1, a1.1, tt))
+    (rw (a0.0, a1.0), (a0.1, (a1.1, tt)))
 
 pub why_is : (x : Why) → IsRead why_of why_json x
 unfolding tagged why_json why_of
@@ -253,7 +253,7 @@ unfolding leave_json leave_of
 leave_is x t =
     let a0 = token_is x.token t in
     let a1 = why_is x.why in
-    (rw (a0.0, a1.0), (a0.1, a1.1, tt))
+    (rw (a0.0, a1.0), (a0.1, (a1.1, tt)))
 
 pub request_is : (x : Request) → TypedRequest x → IsRead request_of request_json x
 unfolding tagged request_json request_of
@@ -271,7 +271,7 @@ wanted_is x t =
     let a1 = request_is x.request t.1 in
     let a2 = whole_is x.moves t.2 in
     let a3 = list_is TypedNeed need_of need_json need_is x.needs t.3 in
-    (rw (a0.0, a1.0, a2.0, a3.0), (a0.1, a1.1, a2.1, a3.1, tt))
+    (rw (a0.0, a1.0, a2.0, a3.0), (a0.1, (a1.1, (a2.1, (a3.1, tt)))))
 
 pub written_is : (x : Written) → TypedWritten x → IsRead written_of written_json x
 unfolding written_json written_of
@@ -279,7 +279,7 @@ written_is x t =
     let a0 = whole_is x.fileset.0 t.0 in
     let a1 = whole_is x.number t.1 in
     let a2 = answer_is x.answer t.2 in
-    (rw (a0.0, a1.0, a2.0), (a0.1, a1.1, a2.1, tt))
+    (rw (a0.0, a1.0, a2.0), (a0.1, (a1.1, (a2.1, tt))))
 
 pub applied_is : (x : Applied) → TypedApplied x → IsRead applied_of applied_json x
 unfolding tagged applied_json applied_of
@@ -288,7 +288,7 @@ applied_is (Stored host fid spans len) t =
     let a1 = fid_is fid t.1 in
     let a2 = all_is span_of span_json span_is spans in
     let a3 = maybe_is IsWhole whole_of whole whole_is whole_some len t.2 in
-    (rw (a0.0, a1.0, a2.0, a3.0), ((a0.1, a1.1, a2.1, a3.1, tt), tt))
+    (rw (a0.0, a1.0, a2.0, a3.0), ((a0.1, (a1.1, (a2.1, (a3.1, tt)))), tt))
 applied_is (Replied it) t =
     let a0 = answer_is it t in
     (rw a0.0, (a0.1, tt))
@@ -307,7 +307,7 @@ unfolding admission_json admission_of
 admission_is x t =
     let a0 = whole_is x.host.0 t.0 in
     let a1 = list_is TypedToken token_of token_json token_is x.tokens t.1 in
-    (rw (a0.0, a1.0), (a0.1, a1.1, tt))
+    (rw (a0.0, a1.0), (a0.1, (a1.1, tt)))
 
 pub step_is : (x : Step) → TypedStep x → IsRead step_of step_json x
 unfolding step_json step_of held_members done_members
@@ -325,4 +325,4 @@ step_is x t =
     let a10 = list_is TypedAdmission admission_of admission_json admission_is x.admitted t.10 in
     let a11 = list_is TypedMessage message_of message_json message_is x.sent t.11 in
     let a12 = list_is TypedToken token_of token_json token_is x.reserved t.12 in
-    (rw (a0.0, a1.0, a2.0, a3.0, a4.0, a5.0, a6.0, a7.0, a8.0, a9.0, a10.0, a11.0, a12.0), (a0.1, a1.1, a2.1, a3.1, a4.1, a5.1, a6.1, a7.1, a8.1, a9.1, a10.1, a11.1, a12.1, tt))
+    (rw (a0.0, a1.0, a2.0, a3.0, a4.0, a5.0, a6.0, a7.0, a8.0, a9.0, a10.0, a11.0, a12.0), (a0.1, (a1.1, (a2.1, (a3.1, (a4.1, (a5.1, (a6.1, (a7.1, (a8.1, (a9.1, (a10.1, (a11.1, (a12.1, tt))))))))))))))

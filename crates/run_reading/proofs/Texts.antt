@@ -37,7 +37,7 @@ epochs_is x t = list_is IsWhole whole_of whole whole_is x.epochs t.1
 
 head_good : (x : Journal) → TypedJournal x → Good (head_json x)
 unfolding head_json
-head_good x t = ((whole_is 1 (omega arith)).1, (trees_is x t).1, (epochs_is x t).1, tt)
+head_good x t = ((whole_is 1 (omega arith)).1, ((trees_is x t).1, ((epochs_is x t).1, tt)))
 
 starts_same : (a b : Journal) → TypedJournal a → TypedJournal b → head_json a ≡ head_json b → a.start ≡ b.start
 unfolding head_json

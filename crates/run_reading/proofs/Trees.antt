@@ -174,7 +174,7 @@ unfolding host_line_json host_line_of
 host_line_is x t =
     let a0 = whole_is x.user t.0 in
     let a1 = whole_is x.limit t.1 in
-    (rw (a0.0, a1.0), (a0.1, a1.1, tt))
+    (rw (a0.0, a1.0), (a0.1, (a1.1, tt)))
 
 pub roster_is : (x : Roster) → TypedRoster x → IsRead roster_of roster_json x
 unfolding roster_json roster_of
@@ -182,7 +182,7 @@ roster_is x t =
     let a0 = list_is TypedUser user_of user_json user_is x.users t.0 in
     let a1 = list_is TypedHostLine host_line_of host_line_json host_line_is x.hosts t.1 in
     let a2 = list_is IsWhole whole_of whole whole_is x.capacity t.2 in
-    (rw (a0.0, a1.0, a2.0), (a0.1, a1.1, a2.1, tt))
+    (rw (a0.0, a1.0, a2.0), (a0.1, (a1.1, (a2.1, tt))))
 
 pub unsaved_is : (x : Unsaved) → TypedUnsaved x → IsRead unsaved_of unsaved_json x
 unfolding unsaved_json unsaved_of
@@ -190,14 +190,14 @@ unsaved_is x t =
     let a0 = whole_is x.at t.0 in
     let a1 = whole_is x.value t.1 in
     let a2 = whole_is x.writer.0 t.2 in
-    (rw (a0.0, a1.0, a2.0), (a0.1, a1.1, a2.1, tt))
+    (rw (a0.0, a1.0, a2.0), (a0.1, (a1.1, (a2.1, tt))))
 
 pub unsaved_length_is : (x : UnsavedLength) → TypedUnsavedLength x → IsRead unsaved_length_of unsaved_length_json x
 unfolding unsaved_length_json unsaved_length_of
 unsaved_length_is x t =
     let a0 = whole_is x.length t.0 in
     let a1 = whole_is x.writer.0 t.1 in
-    (rw (a0.0, a1.0), (a0.1, a1.1, tt))
+    (rw (a0.0, a1.0), (a0.1, (a1.1, tt)))
 
 pub unsaved_length_some : (x : UnsavedLength) → is_null (unsaved_length_json x) ≡ false
 unfolding unsaved_length_json
@@ -208,13 +208,13 @@ unfolding tagged content_json content_of
 content_is (Dir entries lists) t =
     let a0 = list_is TypedDirEntry entry_of entry_json entry_is entries t.0 in
     let a1 = list_is (Each TypedAccessEntry) (list_of access_entry_of) (list access_entry_json) (list_is TypedAccessEntry access_entry_of access_entry_json access_entry_is) lists t.1 in
-    (rw (a0.0, a1.0), ((a0.1, a1.1, tt), tt))
+    (rw (a0.0, a1.0), ((a0.1, (a1.1, tt)), tt))
 content_is (File entries kept unsaved len) t =
     let a0 = list_is TypedAccessEntry access_entry_of access_entry_json access_entry_is entries t.0 in
     let a1 = letters_is kept t.1 in
     let a2 = list_is TypedUnsaved unsaved_of unsaved_json unsaved_is unsaved t.2 in
     let a3 = maybe_is TypedUnsavedLength unsaved_length_of unsaved_length_json unsaved_length_is unsaved_length_some len t.3 in
-    (rw (a0.0, a1.0, a2.0, a3.0), ((a0.1, a1.1, a2.1, a3.1, tt), tt))
+    (rw (a0.0, a1.0, a2.0, a3.0), ((a0.1, (a1.1, (a2.1, (a3.1, tt)))), tt))
 
 pub object_is : (x : Object) → TypedObject x → IsRead object_of object_json x
 unfolding object_json object_of
@@ -222,7 +222,7 @@ object_is x t =
     let a0 = letters_is x.owner t.0 in
     let a1 = letters_is x.group t.1 in
     let a2 = content_is x.content t.2 in
-    (rw (a0.0, a1.0, a2.0), (a0.1, a1.1, a2.1, tt))
+    (rw (a0.0, a1.0, a2.0), (a0.1, (a1.1, (a2.1, tt))))
 
 pub object_some : (x : Object) → is_null (object_json x) ≡ false
 unfolding object_json
@@ -233,7 +233,7 @@ unfolding anode_json anode_of
 anode_is x t =
     let a0 = whole_is x.unique t.0 in
     let a1 = maybe_is TypedObject object_of object_json object_is object_some x.object t.1 in
-    (rw (a0.0, a1.0), (a0.1, a1.1, tt))
+    (rw (a0.0, a1.0), (a0.1, (a1.1, tt)))
 
 pub fileset_is : (x : Fileset) → TypedFileset x → IsRead fileset_of fileset_json x
 unfolding fileset_json fileset_of
@@ -244,14 +244,14 @@ fileset_is x t =
     let a4 = whole_is x.objects t.3 in
     let a5 = whole_is x.moves t.4 in
     let a6 = list_is TypedAnode anode_of anode_json anode_is x.anodes t.5 in
-    (rw (a0.0, a1.0, a2.0, a4.0, a5.0, a6.0), (a0.1, a1.1, a2.1, tt, a4.1, a5.1, a6.1, tt))
+    (rw (a0.0, a1.0, a2.0, a4.0, a5.0, a6.0), (a0.1, (a1.1, (a2.1, (tt, (a4.1, (a5.1, (a6.1, tt))))))))
 
 pub room_is : (x : ServerRoom) → TypedServerRoom x → IsRead room_of room_json x
 unfolding room_json room_of
 room_is x t =
     let a0 = whole_is x.capacity t.0 in
     let a1 = whole_is x.next t.1 in
-    (rw (a0.0, a1.0), (a0.1, a1.1, tt))
+    (rw (a0.0, a1.0), (a0.1, (a1.1, tt)))
 
 pub lock_is : (x : LockUse) → TypedLockUse x → IsRead lock_of lock_json x
 unfolding lock_json lock_of
@@ -260,7 +260,7 @@ lock_is x t =
     let a1 = letters_is x.label t.1 in
     let a2 = fid_is x.fid t.2 in
     let a4 = span_is x.span in
-    (rw (a0.0, a1.0, a2.0, a4.0), (a0.1, a1.1, a2.1, tt, a4.1, tt))
+    (rw (a0.0, a1.0, a2.0, a4.0), (a0.1, (a1.1, (a2.1, (tt, (a4.1, tt))))))
 
 pub open_use_is : (x : OpenUse) → TypedOpenUse x → IsRead open_use_of open_use_json x
 unfolding open_use_json open_use_of
@@ -269,7 +269,7 @@ open_use_is x t =
     let a1 = letters_is x.label t.1 in
     let a2 = fid_is x.fid t.2 in
     let a3 = open_is x.kind in
-    (rw (a0.0, a1.0, a2.0, a3.0), (a0.1, a1.1, a2.1, a3.1, tt))
+    (rw (a0.0, a1.0, a2.0, a3.0), (a0.1, (a1.1, (a2.1, (a3.1, tt)))))
 
 pub away_is : (x : Away) → TypedAway x → IsRead away_of away_json x
 unfolding away_json away_of
@@ -278,7 +278,7 @@ away_is x t =
     let a1 = whole_is x.fileset.0 t.1 in
     let a2 = letters_is x.name t.2 in
     let a3 = whole_is x.to.0 t.3 in
-    (rw (a0.0, a1.0, a2.0, a3.0), (a0.1, a1.1, a2.1, a3.1, tt, tt))
+    (rw (a0.0, a1.0, a2.0, a3.0), (a0.1, (a1.1, (a2.1, (a3.1, (tt, tt))))))
 
 pub tree_is : (x : Tree) → TypedTree x → IsRead tree_of tree_json x
 unfolding tree_json tree_of
@@ -289,4 +289,4 @@ tree_is x t =
     let a3 = list_is TypedAway away_of away_json away_is x.away t.3 in
     let a4 = list_is TypedLockUse lock_of lock_json lock_is x.locks t.4 in
     let a5 = list_is TypedOpenUse open_use_of open_use_json open_use_is x.opens t.5 in
-    (rw (a0.0, a1.0, a2.0, a3.0, a4.0, a5.0), (a0.1, a1.1, a2.1, a3.1, a4.1, a5.1, tt))
+    (rw (a0.0, a1.0, a2.0, a3.0, a4.0, a5.0), (a0.1, (a1.1, (a2.1, (a3.1, (a4.1, (a5.1, tt)))))))
