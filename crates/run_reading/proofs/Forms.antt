@@ -5,7 +5,6 @@ use Rattle.std.specs.List.{flat_map}
 use Rattle.std.specs.Char.{encode_utf8}
 use Rattle.std.specs.Coded.{le_prop}
 use Rattle.std.specs.Str.Parse.{digits_value}
-use Rattle.std.proofs.Math.Nat.{min-le_right}
 use Rattle.std.proofs.lemmas.Fmt.{decimal_is_IsNumeral}
 use Rattle.std.proofs.lemmas.Bool.{le-ltb, ltb-false}
 use Rattle.json.specs.Json.{Json, null, boolean, number, string, array, object, Items, no_items, item, Members, no_members, member}
@@ -172,7 +171,7 @@ made a b h k = record { from = a; to = b; ordered = h; within = k }
 
 -- the span of these ends, where they are those of one
 abbrev between : ℕ → ℕ → Span
-between from to = made (min from (min to 65536)) (min to 65536) (min-le_right from (min to 65536)) (min-le_right to 65536)
+between from to = made (min from (min to 65536)) (min to 65536) (omega arith) (omega arith)
 
 same_ends : (a b : ℕ) (h h' : a ≤ b) (k k' : b ≤ 65536) → made a b h k ≡ made a b h' k'
 same_ends a b h h' k k' = ap (λ (v : a ≤ b). made a b v k) (le_prop h h') ∙ ap (λ (v : b ≤ 65536). made a b h' v) (le_prop k k')

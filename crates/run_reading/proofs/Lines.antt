@@ -1,11 +1,11 @@
 -- A line of JSON tells the JSON, and the first line of a text ends at its first line feed.
-use Rattle.std.proofs.Common.{◌≡◌, ◌≢◌, ◌∙◌, ℕ, ◌+◌, ◌<◌, ◌≤◌, ◌^◌, ◌/◌, ◌%◌, List, [], ◌∷◌, ◌++◌, Bool, true, false, cond, Some, decimal, refl, sym, ap, subst, arith}
+use Rattle.std.proofs.Common.{◌≡◌, ◌≢◌, ◌∙◌, ℕ, ◌+◌, ◌<◌, ◌≤◌, ◌^◌, ◌/◌, ◌%◌, ◌==◌, ◌||◌, List, [], ◌∷◌, ◌++◌, Bool, true, false, cond, Option, Some, None, decimal, refl, sym, ap, ap₂, subst, arith}
 use Rattle.std.specs.Prelude.{⊤, nat_lt}
 use Rattle.std.specs.Char.{digit_char}
 use Rattle.std.specs.List.{flat_map}
 use Rattle.std.specs.Str.Parse.{AllDigits}
 use Rattle.std.proofs.lemmas.Fmt.{decimal_is_IsNumeral}
-use Rattle.std.proofs.lemmas.Bool.Decides.{nat_tests}
+use Rattle.std.proofs.lemmas.Bool.{eqb-true}
 use Rattle.std.proofs.lemmas.Str.Parse.{digit_from_value}
 use Rattle.json.specs.Json.{Json, null, boolean, number, string, array, object, Items, no_items, item, Members, no_members, member, value}
 use Rattle.json.specs.Lex.{tokens}
@@ -81,11 +81,26 @@ NoFeed bytes = Each (λ byte. byte ≢ 10) bytes
 no_feed_append : (xs ys : List ℕ) → NoFeed xs → NoFeed ys → NoFeed (xs ++ ys)
 no_feed_append xs ys p q = each_append (λ byte. byte ≢ 10) xs ys p q
 
+digit_at : (b : Bool) (n : ℕ) → cond b (48 + n) (87 + n) ≢ 10
+digit_at true n e = omega (arith, e)
+digit_at false n e = omega (arith, e)
+
 digit_no : (n : ℕ) → digit_char n ≢ 10
-digit_no n e = grind (arith, nat_tests, e)
+digit_no n e = digit_at (nat_lt n 10) n e
+
+letter_at : (a b c d f g h : Bool) (x : ℕ) → (x == 34) ≡ a → (x == 92) ≡ b
+    → cond (a || b) x (cond c 98 (cond d 102 (cond f 110 (cond g 114 (cond h 116 0))))) ≢ 10
+letter_at true b c d f g h x p q e = omega (arith, e, eqb-true x 34 p)
+letter_at false true c d f g h x p q e = omega (arith, e, eqb-true x 92 q)
+letter_at false false true d f g h x p q e = omega (arith, e)
+letter_at false false false true f g h x p q e = omega (arith, e)
+letter_at false false false false true g h x p q e = omega (arith, e)
+letter_at false false false false false true h x p q e = omega (arith, e)
+letter_at false false false false false false true x p q e = omega (arith, e)
+letter_at false false false false false false false x p q e = omega (arith, e)
 
 letter_no : (x : ℕ) → escape_letter x ≢ 10
-letter_no x e = grind (arith, nat_tests, e)
+letter_no x e = letter_at (x == 34) (x == 92) (x == 8) (x == 12) (x == 10) (x == 13) (x == 9) x refl refl e
 
 -- what has no letter of its own is no line feed
 plain_no : (x : ℕ) → nat_lt 0 (escape_letter x) ≡ false → x ≢ 10
@@ -153,13 +168,20 @@ tokens_same a b p q e =
     sym (tokens-print (json_tokens a) (printable (json_tokens a) (tokens_good a p)))
     ∙ ap tokens e ∙ tokens-print (json_tokens b) (printable (json_tokens b) (tokens_good b q))
 
+-- what was read of tokens
+abbrev read_of : Option (Json × List Token) → Json
+read_of None = null
+read_of (Some read) = read.0
+
+read_same : (a b : Json) (d : ℕ) → depth a ≤ d → depth b ≤ d → json_tokens a ≡ json_tokens b → a ≡ b
+read_same a b d p q e =
+    let x = value-json_tokens a d [] p in
+    let y = value-json_tokens b d [] q in
+    sym (ap read_of x) ∙ ap (λ ts. read_of (value d (ts ++ []))) e ∙ ap read_of y
+
 pub json_same : (a b : Json) → Good a → Good b → print (json_tokens a) ≡ print (json_tokens b) → a ≡ b
 json_same a b p q e =
-    let d = depth a + depth b in
-    let x : value d (json_tokens a ++ []) ≡ Some (a, []) = value-json_tokens a d [] (omega arith) in
-    let y : value d (json_tokens b ++ []) ≡ Some (b, []) = value-json_tokens b d [] (omega arith) in
-    let z : Some (a, []) ≡ Some (b, []) = sym x ∙ ap (λ ts. value d (ts ++ [])) (tokens_same a b p q e) ∙ y in
-    cc
+    read_same a b (depth a + depth b) (omega arith) (omega arith) (tokens_same a b p q e)
 
 -- ---- lines
 
@@ -171,7 +193,7 @@ split (x ∷ xs) (y ∷ ys) r s p q e =
     let h : x ≡ y = cc in
     let k : (xs ++ 10 ∷ []) ++ r ≡ (ys ++ 10 ∷ []) ++ s = cc in
     let t = split xs ys r s p.1 q.1 k in
-    (cc, t.1)
+    (ap₂ (λ v vs. v ∷ vs) h t.0, t.1)
 
 some_line : (xs r : List ℕ) → (xs ++ 10 ∷ []) ++ r ≢ []
 some_line [] r e = cc
