@@ -161,7 +161,6 @@ impl Line {
     }
 
     /// Adds a list.
-    #[tactic(auto, using(crate::proofs::Lists::list_tokens))]
     pub fn list<T: ToJson>(&mut self, values: &[T]) -> Result<(), NoMemory>
         ensures { OnOk result (self.new ≡ self.old ++ json_tokens (list T.json values.now)) }
     {

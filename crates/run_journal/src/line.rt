@@ -37,7 +37,6 @@ pub fn put_tagged<T: ToLine>(line: &mut Line, name: &str, value: &T) -> Result<(
 }
 
 /// Adds a list.
-#[tactic(auto, using(message_json::proofs::Lists::list_tokens))]
 pub fn put_list<T: ToLine>(line: &mut Line, values: &[T]) -> Result<(), NoMemory>
     ensures { OnOk result (line.new ≡ line.old ++ json_tokens (list T.json values.now)) }
 {
