@@ -115,15 +115,19 @@ done_members step =
     (member (codes "sent") (list message_json step.sent)
     (member (codes "reserved") (list token_json step.reserved) no_members)))
 
--- and before it what a host did
+-- before it what a host began to use, gave back and let go of
+unfoldable pub given_members : Step → Members
+given_members step =
+    member (codes "begun") (list labelled_json step.begun)
+    (member (codes "made") (list give_json step.made)
+    (member (codes "dropped") (list leave_json step.dropped) (done_members step)))
+
+-- and before it what a host took, answered and wrote
 unfoldable pub held_members : Step → Members
 held_members step =
     member (codes "taken") (list token_json step.taken)
     (member (codes "answers") (list answer_json step.answers)
-    (member (codes "wrote") (maybe fid_json step.wrote)
-    (member (codes "begun") (list labelled_json step.begun)
-    (member (codes "made") (list give_json step.made)
-    (member (codes "dropped") (list leave_json step.dropped) (done_members step))))))
+    (member (codes "wrote") (maybe fid_json step.wrote) (given_members step)))
 
 unfoldable pub step_json : Step → Json
 step_json step = object

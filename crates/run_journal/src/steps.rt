@@ -1,7 +1,7 @@
 //! Steps.
 ghost use Rattle.std.specs.Prelude.{◌≡◌, ◌++◌, OnOk};
 ghost use Rattle.json.specs.Tree.{json_tokens, members_tokens};
-ghost use Rattle.run_journal.specs.Steps.{done_members, held_members, stored_json};
+ghost use Rattle.run_journal.specs.Steps.{done_members, given_members, held_members, stored_json};
 
 use crate::line::{ToLine, put_field, put_tagged};
 use base_types::{Fid, HostId, Items, NoMemory, Node, Span};
@@ -235,7 +235,7 @@ impl ToLine for Step {
     }
 }
 
-// Adds what a host did, and then the rest of a step.
+// Adds what a host was given and what it answered, and then the rest of a step.
 #[tactic(auto, unfolding(crate::specs::Steps::held_members))]
 fn put_held(line: &mut Line, step: &Step) -> Result<(), NoMemory>
     ensures { OnOk result (line.new ≡ line.old ++ members_tokens (held_members step.now)) }
@@ -243,6 +243,14 @@ fn put_held(line: &mut Line, step: &Step) -> Result<(), NoMemory>
     line.field("taken", &step.taken)?;
     put_field(line, "answers", &step.answers)?;
     line.field("wrote", &step.wrote)?;
+    put_given(line, step)
+}
+
+// Adds what a host gave up or began, and then the rest of a step.
+#[tactic(auto, unfolding(crate::specs::Steps::given_members))]
+fn put_given(line: &mut Line, step: &Step) -> Result<(), NoMemory>
+    ensures { OnOk result (line.new ≡ line.old ++ members_tokens (given_members step.now)) }
+{
     put_field(line, "begun", &step.begun)?;
     line.field("made", &step.made)?;
     put_field(line, "dropped", &step.dropped)?;

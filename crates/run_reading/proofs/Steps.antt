@@ -13,6 +13,7 @@ use Rattle.run_journal.specs.Steps.{
   asked_json,
   cause_json,
   done_members,
+  given_members,
   held_members,
   labelled_json,
   leave_json,
@@ -310,7 +311,7 @@ admission_is x t =
     (rw (a0.0, a1.0), (a0.1, (a1.1, tt)))
 
 pub step_is : (x : Step) → TypedStep x → IsRead step_of step_json x
-unfolding step_json step_of held_members done_members
+unfolding step_json step_of held_members given_members done_members
 step_is x t =
     let a0 = node_is x.node t.0 in
     let a1 = cause_is x.cause t.1 in

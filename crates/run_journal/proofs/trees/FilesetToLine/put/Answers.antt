@@ -7,12 +7,29 @@ use Rattle.run_journal.proofs.trees.FilesetToLine.put.Goals as goal
 pub returns : goal.returns
 unfolding fileset_json
 returns c =
-    let all = object_grown (members_in (fileset_json c.args.self.now)) c.args.line.now c.open.new.self c.put_field.new.line c.in_ok-open.ensures
-          (c.field.new.self, c.in_ok-field.ensures,
-          (c.field-2.new.self, c.in_ok-field-2.ensures,
-          (c.field-3.new.self, c.in_ok-field-3.ensures,
-          (c.field-4.new.self, c.in_ok-field-4.ensures,
-          (c.field-5.new.self, c.in_ok-field-5.ensures,
-          (c.field-6.new.self, c.in_ok-field-6.ensures,
-          (c.put_field.new.line, c.in_ok-put_field.ensures, refl))))))) in
+    let all = object_grown (members_in (fileset_json c.args.self.now)) c.args.line.now c.open.new.self c.put_field.new.line c.in_ok-open.ensures (
+      c.field.new.self,
+      c.in_ok-field.ensures,
+      (
+        c.field-2.new.self,
+        c.in_ok-field-2.ensures,
+        (
+          c.field-3.new.self,
+          c.in_ok-field-3.ensures,
+          (
+            c.field-4.new.self,
+            c.in_ok-field-4.ensures,
+            (
+              c.field-5.new.self,
+              c.in_ok-field-5.ensures,
+              (
+                c.field-6.new.self,
+                c.in_ok-field-6.ensures,
+                (c.put_field.new.line, c.in_ok-put_field.ensures, refl),
+              ),
+            ),
+          ),
+        ),
+      ),
+    ) in
     subst (λ after. OnOk c.close.result (c.close.new.self ≡ after)) all c.close.ensures
