@@ -246,7 +246,7 @@ fn put_held(line: &mut Line, step: &Step) -> Result<(), NoMemory>
     put_given(line, step)
 }
 
-// Adds what a host gave up or began, and then the rest of a step.
+// Adds what a host began to use, gave back and let go of, and then the rest of a step.
 #[tactic(auto, unfolding(crate::specs::Steps::given_members))]
 fn put_given(line: &mut Line, step: &Step) -> Result<(), NoMemory>
     ensures { OnOk result (line.new ≡ line.old ++ members_tokens (given_members step.now)) }
