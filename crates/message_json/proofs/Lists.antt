@@ -2,7 +2,7 @@
 use Rattle.std.proofs.Common.{◌≡◌, List, [], ◌∷◌, ◌++◌, map, refl, ap, append_assoc}
 use Rattle.std.specs.List.{flat_map}
 use Rattle.json.specs.Json.{Json}
-use Rattle.json.specs.Token.{Token, begin_array, end_array}
+use Rattle.json.specs.Token.{begin_array, end_array}
 use Rattle.json.specs.Tree.{json_tokens, items_tokens}
 use Rattle.json.specs.Value.{items_of}
 use Rattle.message_json.specs.Values.{list}

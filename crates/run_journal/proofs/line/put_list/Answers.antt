@@ -1,4 +1,4 @@
-use Rattle.std.proofs.Common.{◌≡◌, ◌++◌, append_assoc, subst}
+use Rattle.std.proofs.Common.{◌≡◌, append_assoc, subst}
 use Rattle.std.specs.Prelude.{OnOk}
 use Rattle.message_json.proofs.Lists.{list_tokens}
 use Rattle.run_journal.proofs.line.put_list.Goals as goal
