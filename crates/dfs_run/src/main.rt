@@ -2,8 +2,14 @@
 //! writes what came of it to standard output; or it checks disks. The words are those of the top call,
 //! `service_run::run`, whose status is the number with which the program ends. Where a file can't be opened, or a call
 //! of it failed, its name and the system's reason go to standard error.
+//!
+//! Under `run --journal FILE ..` the journal of the run goes to FILE, once the disks are closed, as
+//! `tell_journal` says, whose code is the number with which the program ends.
 #![tactic(auto)]
 
+mod asked;
+mod journal;
+mod lines;
 mod streams;
 
 ghost use Rattle.std.specs.Prelude.{◌≡◌, length, map, IfOk};
@@ -12,9 +18,11 @@ ghost use Rattle.script_commands.specs.Command.{disk_names};
 ghost use Rattle.service_run.specs.Checks.{AreNamed};
 ghost use Rattle.service_run.specs.Outcomes.{code_of};
 
+use crate::asked::take_journal;
+use crate::journal::{Ended, refuse_file, tell_journal};
 use crate::streams::Streams;
 use base_io::{StdSink, StdSource};
-use base_types::NoMemory;
+use base_types::{NoMemory, Sink};
 use disk_device::{FileDisk, FileFault};
 use script_commands::disk_names;
 use service_run::{OpenGate, Outcome, Status, refuse_disk, run};
@@ -44,9 +52,10 @@ fn main(rt: HostRuntime) -> ExitCode {
     let streams = Streams::hold(&rt, &rt.stdin(), &rt.stdout(), &rt.stderr());
     let mut source = StdSource::new(rt.stdin());
     let mut sink = StdSink::new(rt.stdout());
-    let Ok(words) = words(&rt) else {
+    let Ok(mut words) = words(&rt) else {
         return ExitCode::from(Status::NoMemory.code());
     };
+    let journal = take_journal(&mut words);
     let Ok(names) = names_in(rt.alloc(), words.as_slice()) else {
         return ExitCode::from(Status::NoMemory.code());
     };
@@ -62,7 +71,8 @@ fn main(rt: HostRuntime) -> ExitCode {
                 &OpenGate,
             );
             tell_faults(&rt, names.as_slice(), disks.as_slice());
-            code_of(outcome)
+            drop(disks);
+            finish(&rt, outcome, journal, &mut sink)
         }
         Err(NotOpened::Refused(number)) => code_of(refuse_disk(rt.alloc(), number, &mut sink)),
         Err(NotOpened::Memory) => Status::NoMemory.code(),
@@ -77,6 +87,38 @@ fn code_of(outcome: Outcome) -> u8
     let code = outcome.status.code();
     mem::forget(outcome);
     code
+}
+
+// The number with which the program ends, once the journal of the run is in the file of this name, if one is asked for.
+fn finish<K: Sink>(
+    rt: &(impl Files<File = File> + Eprint + AllocGlobal),
+    outcome: Outcome,
+    journal: Option<String>,
+    sink: &mut K,
+) -> u8 {
+    let Some(name) = journal else {
+        return code_of(outcome);
+    };
+    let ended = journaled(rt, &outcome, name.as_str(), sink);
+    mem::forget(outcome);
+    ended.code()
+}
+
+// Writes the journal of a run to a new file of this name: one that is there already may be a disk. Why it can't be
+// made goes to standard error.
+fn journaled<K: Sink>(
+    rt: &(impl Files<File = File> + Eprint + AllocGlobal),
+    outcome: &Outcome,
+    name: &str,
+    sink: &mut K,
+) -> Ended {
+    match File::create_new(rt, name) {
+        Ok(file) => tell_journal(rt.alloc(), outcome, &mut StdSink::new(file), sink),
+        Err(error) => {
+            tell(rt, name, FileFault::from(error));
+            refuse_file(sink)
+        }
+    }
 }
 
 // The words after the program's name. Where one isn't UTF-8 there are none, which are in no grammar.
