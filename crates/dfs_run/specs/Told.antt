@@ -1,5 +1,5 @@
 -- What is told of a journal once a run has ended.
-use Rattle.std.specs.Prelude.{ℕ, List, Bool, true, false, Option, Some, None, if◌then◌else◌, ◌≡◌, ◌++◌}
+use Rattle.std.specs.Prelude.{ℕ, List, Bool, true, false, Option, Some, None, if◌then◌else◌, ◌≡◌, ◌≢◌, ◌++◌}
 use Rattle.base_io.specs.Whole.{IsAppendedInPart}
 use Rattle.base_types.specs.Faults.{RoseBy}
 use Rattle.run_rules.specs.declared.journal.Journal.{Journal}
@@ -27,13 +27,14 @@ journal_in (Hosted journal) = Some journal
 journal_in _ = None
 
 -- the journal went to its file, by how it ended: the whole of it; a part, from its front, where the file failed, which
--- a line says; nothing
+-- a line says, and nothing else does; nothing
 pub record JournalToldSo {files told : Type 0} (outcome : Outcome) (journal : Journal) (ended : Ended)
     (file after_file : Shown files) (sink after_sink : Shown told) : Type 0 where
   pub all : files → ended ≡ Ran outcome.status → after_file.bytes ≡ file.bytes ++ journal_text journal
   pub part : files → ended ≡ NoJournal → IsAppendedInPart file.bytes (journal_text journal) after_file.bytes
   pub failed : ended ≡ NoJournal → RoseBy 1 file.faults after_file.faults
   pub line : told → ended ≡ NoJournal → Wrote fault_line sink after_sink
+  pub silent : ended ≢ NoJournal → after_sink ≡ sink
   pub nothing : ended ≡ NoMemory → after_file ≡ file
 
 -- of a run that came to its end the journal is told, where hosts and servers made it; else a line says that they didn't

@@ -1,10 +1,12 @@
 -- Which words ask for a journal.
 use Rattle.std.specs.Prelude.{ℕ, Bool, false, ◌&&◌, if◌then◌else◌, List, ◌∷◌, ◌++◌, take, drop, Option, None, slice_get, codes}
 use Rattle.script_words.specs.Fields.{is_word}
+use Rattle.script_commands.specs.Disks.{is_disk_name}
 
--- whether words are `run --journal FILE ..`
+-- whether words are `run --journal FILE ..`; FILE is as the name of a disk
 abbrev pub asks_for_journal : List (List ℕ) → Bool
-asks_for_journal (first ∷ option ∷ file ∷ words) = is_word first (codes "run") && is_word option (codes "--journal")
+asks_for_journal (first ∷ option ∷ file ∷ words) =
+    is_word first (codes "run") && is_word option (codes "--journal") && is_disk_name file
 asks_for_journal _ = false
 
 -- FILE of them

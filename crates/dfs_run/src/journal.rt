@@ -1,5 +1,5 @@
 //! How a journal is told once its run has ended.
-ghost use Rattle.std.specs.Prelude.{◌≡◌, true, false};
+ghost use Rattle.std.specs.Prelude.{◌≡◌};
 ghost use Rattle.service_run.specs.declared.outcome.Status.{Status as StatusOf};
 ghost use Rattle.service_run.specs.Outcomes.{has_run};
 ghost use Rattle.service_run.specs.Output.{Wrote};
@@ -40,18 +40,18 @@ impl Ended {
     }
 }
 
-// Whether a script ran to its end.
-fn has_run(status: Status) -> bool
+/// Whether a script ran to its end, so that its journal is told.
+pub(crate) fn has_run(status: Status) -> bool
     ensures { result ≡ has_run status }
 {
     matches!(status, Status::Done | Status::NoOutput)
 }
 
-/// Writes the journal of a run to its file, once the disks are closed, and says on the sink where that fails.
+/// Writes the journal of a run that came to its end to its file, and says on the sink where that fails.
 ///
-/// Of a run that came to no end there is none: it ends as it did, and nothing is written. Where the file failed, it got
-/// a part of the journal, from its front, and `journal: write fault` is written; where the script ran on the file tree
-/// alone, which has no journal, `journal: no hosts`. `NoMemory` comes where memory runs out, and writes nothing.
+/// Where the file failed, it got a part of the journal, from its front, and `journal: write fault` is written; where the
+/// script ran on the file tree alone, which has no journal, `journal: no hosts`, and nothing goes to the file.
+/// `NoMemory` comes where memory runs out, and writes nothing.
 pub(crate) fn tell_journal<J: Sink, K: Sink>(
     alloc: Global,
     outcome: &Outcome,
@@ -59,16 +59,10 @@ pub(crate) fn tell_journal<J: Sink, K: Sink>(
     sink: &mut K,
 ) -> Ended
     ensures own { (status : StatusOf) → result ≡ Ran status → status ≡ outcome.now.status }
-    ensures stopped { has_run outcome.now.status ≡ false → result ≡ Ran outcome.now.status }
-    ensures untouched { has_run outcome.now.status ≡ false → (file.new ≡ file.old) × (sink.new ≡ sink.old) }
-    ensures told { has_run outcome.now.status ≡ true →
-        RunToldSo (journal_in outcome.now.course) outcome.now result
+    ensures told { RunToldSo (journal_in outcome.now.course) outcome.now result
         (shown J.tells (J.got file.old) (J.faults file.old)) (shown J.tells (J.got file.new) (J.faults file.new))
         (shown K.tells (K.got sink.old) (K.faults sink.old)) (shown K.tells (K.got sink.new) (K.faults sink.new)) }
 {
-    if !has_run(outcome.status) {
-        return Ended::Ran(outcome.status);
-    }
     match &outcome.course {
         Course::Hosted(journal) => tell_hosted(alloc, outcome, journal, file, sink),
         Course::Played(_) | Course::Empty => refuse(hosts_line(), sink),

@@ -12,14 +12,14 @@ mod journal;
 mod lines;
 mod streams;
 
-ghost use Rattle.std.specs.Prelude.{◌≡◌, length, map, IfOk};
+ghost use Rattle.std.specs.Prelude.{◌≡◌, length, map, None, false, IfOk};
 ghost use Rattle.std.specs.String.{string_bytes};
 ghost use Rattle.script_commands.specs.Command.{disk_names};
 ghost use Rattle.service_run.specs.Checks.{AreNamed};
-ghost use Rattle.service_run.specs.Outcomes.{code_of};
+ghost use Rattle.service_run.specs.Outcomes.{code_of, has_run};
 
 use crate::asked::take_journal;
-use crate::journal::{Ended, refuse_file, tell_journal};
+use crate::journal::{Ended, has_run, refuse_file, tell_journal};
 use crate::streams::Streams;
 use base_io::{StdSink, StdSource};
 use base_types::{NoMemory, Sink};
@@ -89,16 +89,23 @@ fn code_of(outcome: Outcome) -> u8
     code
 }
 
-// The number with which the program ends, once the journal of the run is in the file of this name, if one is asked for.
+// The number with which the program ends. Of a run that came to its end the journal is written to the file of this name,
+// if one is asked for.
 fn finish<K: Sink>(
     rt: &(impl Files<File = File> + Eprint + AllocGlobal),
     outcome: Outcome,
     journal: Option<String>,
     sink: &mut K,
-) -> u8 {
+) -> u8
+    ensures unasked { journal ≡ None → result ≡ code_of outcome.status }
+    ensures stopped { has_run outcome.status ≡ false → result ≡ code_of outcome.status }
+{
     let Some(name) = journal else {
         return code_of(outcome);
     };
+    if !has_run(outcome.status) {
+        return code_of(outcome);
+    }
     let ended = journaled(rt, &outcome, name.as_str(), sink);
     mem::forget(outcome);
     ended.code()
