@@ -1,19 +1,18 @@
 //! How a journal is told once its run has ended.
 ghost use Rattle.std.specs.Prelude.{◌≡◌};
-ghost use Rattle.service_run.specs.declared.outcome.Status.{Status as StatusOf};
 ghost use Rattle.service_run.specs.Outcomes.{has_run};
 ghost use Rattle.service_run.specs.Output.{Wrote};
 ghost use Rattle.service_run.specs.World.{shown};
-ghost use Rattle.dfs_run.specs.declared.journal.Ended.TheVariants.{Ran, NoJournal as WithoutJournal};
+ghost use Rattle.dfs_run.specs.declared.journal.Ended.TheVariants.{NoJournal as WithoutJournal};
 ghost use Rattle.dfs_run.specs.Lines.{fault_line, file_line, hosts_line};
-ghost use Rattle.dfs_run.specs.Told.{ended_code, journal_in, JournalToldSo, RunToldSo};
+ghost use Rattle.dfs_run.specs.Told.{ended_code, IsToldSo};
 
 use crate::lines::{fault_line, file_line, hosts_line};
 use base_io::write_all;
 use base_types::Sink;
 use run_journal::{NotWritten, write_journal};
 use run_rules::Journal;
-use service_run::{Course, Outcome, Status};
+use service_run::Status;
 use std::alloc::Global;
 
 /// How a run ended of which a journal was asked for.
@@ -21,7 +20,7 @@ use std::alloc::Global;
 pub(crate) enum Ended {
     /// As the run did.
     Ran(Status),
-    /// The run came to its end, and its file has no journal, or a part of it.
+    /// The run came to its end; its journal isn't in the file, or a part of it alone.
     NoJournal,
     /// The run came to its end; then memory ran out, and its file got nothing.
     NoMemory,
@@ -47,43 +46,23 @@ pub(crate) fn has_run(status: Status) -> bool
     matches!(status, Status::Done | Status::NoOutput)
 }
 
-/// Writes the journal of a run that came to its end to its file, and says on the sink where that fails.
+/// Writes the journal of a run that ended so to its file, and says on the sink where that fails.
 ///
-/// Where the file failed, it got a part of the journal, from its front, and `journal: write fault` is written; where the
-/// script ran on the file tree alone, which has no journal, `journal: no hosts`, and nothing goes to the file.
+/// Where the file failed, it got a part of the journal, from its front, and `journal: write fault` is written.
 /// `NoMemory` comes where memory runs out, and writes nothing.
 pub(crate) fn tell_journal<J: Sink, K: Sink>(
     alloc: Global,
-    outcome: &Outcome,
-    file: &mut J,
-    sink: &mut K,
-) -> Ended
-    ensures own { (status : StatusOf) → result ≡ Ran status → status ≡ outcome.now.status }
-    ensures told { RunToldSo (journal_in outcome.now.course) outcome.now result
-        (shown J.tells (J.got file.old) (J.faults file.old)) (shown J.tells (J.got file.new) (J.faults file.new))
-        (shown K.tells (K.got sink.old) (K.faults sink.old)) (shown K.tells (K.got sink.new) (K.faults sink.new)) }
-{
-    match &outcome.course {
-        Course::Hosted(journal) => tell_hosted(alloc, outcome, journal, file, sink),
-        Course::Played(_) | Course::Empty => refuse(hosts_line(), sink),
-    }
-}
-
-// Writes the journal of hosts and servers to its file.
-fn tell_hosted<J: Sink, K: Sink>(
-    alloc: Global,
-    outcome: &Outcome,
+    status: Status,
     journal: &Journal,
     file: &mut J,
     sink: &mut K,
 ) -> Ended
-    ensures own { (status : StatusOf) → result ≡ Ran status → status ≡ outcome.now.status }
-    ensures told { JournalToldSo outcome.now journal.now result
+    ensures { IsToldSo journal.now status result
         (shown J.tells (J.got file.old) (J.faults file.old)) (shown J.tells (J.got file.new) (J.faults file.new))
         (shown K.tells (K.got sink.old) (K.faults sink.old)) (shown K.tells (K.got sink.new) (K.faults sink.new)) }
 {
     match write_journal(alloc, journal, file) {
-        Ok(()) => Ended::Ran(outcome.status),
+        Ok(()) => Ended::Ran(status),
         Err(NotWritten::Failed) => refuse(fault_line(), sink),
         Err(NotWritten::Memory) => Ended::NoMemory,
     }
@@ -96,6 +75,15 @@ pub(crate) fn refuse_file<K: Sink>(sink: &mut K) -> Ended
         (shown K.tells (K.got sink.old) (K.faults sink.old)) (shown K.tells (K.got sink.new) (K.faults sink.new)) }
 {
     refuse(file_line(), sink)
+}
+
+/// Writes `journal: no hosts`, where a script ran on the file tree alone, which has no journal.
+pub(crate) fn refuse_course<K: Sink>(sink: &mut K) -> Ended
+    ensures none { result ≡ WithoutJournal }
+    ensures wrote { K.tells → Wrote hosts_line
+        (shown K.tells (K.got sink.old) (K.faults sink.old)) (shown K.tells (K.got sink.new) (K.faults sink.new)) }
+{
+    refuse(hosts_line(), sink)
 }
 
 // Writes why there is no journal. Where the sink fails, it got a part of the line.

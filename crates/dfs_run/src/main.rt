@@ -19,13 +19,13 @@ ghost use Rattle.service_run.specs.Checks.{AreNamed};
 ghost use Rattle.service_run.specs.Outcomes.{code_of, has_run};
 
 use crate::asked::take_journal;
-use crate::journal::{Ended, has_run, refuse_file, tell_journal};
+use crate::journal::{Ended, has_run, refuse_course, refuse_file, tell_journal};
 use crate::streams::Streams;
 use base_io::{StdSink, StdSource};
 use base_types::{NoMemory, Sink};
 use disk_device::{FileDisk, FileFault};
 use script_commands::disk_names;
-use service_run::{OpenGate, Outcome, Status, refuse_disk, run};
+use service_run::{Course, OpenGate, Outcome, Status, refuse_disk, run};
 use std::alloc::{AllocError, Global};
 use std::fs::File;
 use std::io::ErrorKind;
@@ -119,8 +119,14 @@ fn journaled<K: Sink>(
     name: &str,
     sink: &mut K,
 ) -> Ended {
+    let Course::Hosted(journal) = &outcome.course else {
+        return refuse_course(sink);
+    };
     match File::create_new(rt, name) {
-        Ok(file) => tell_journal(rt.alloc(), outcome, &mut StdSink::new(file), sink),
+        Ok(file) => {
+            let mut file = StdSink::new(file);
+            tell_journal(rt.alloc(), outcome.status, journal, &mut file, sink)
+        }
         Err(error) => {
             tell(rt, name, FileFault::from(error));
             refuse_file(sink)
