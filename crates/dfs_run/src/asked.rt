@@ -28,7 +28,6 @@ fn asks_for_journal(words: &[String]) -> bool
 }
 
 /// Takes `--journal FILE` out of the words `run --journal FILE ..`, and gives FILE; other words stay.
-#[tactic(auto, using(crate::proofs::Asking::long, crate::proofs::Asking::name_is, crate::proofs::Asking::rest_is))]
 pub(crate) fn take_journal(words: &mut Vec<String>) -> Option<String>
     ensures name { option_map string_bytes result ≡ journal_name (map string_bytes words.old.items) }
     ensures rest { map string_bytes words.new.items ≡ run_words (map string_bytes words.old.items) }
