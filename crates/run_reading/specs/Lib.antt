@@ -1,3 +1,0 @@
-pub mod Messages
-pub mod Journals
-pub mod Laws
