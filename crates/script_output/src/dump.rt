@@ -215,7 +215,7 @@ fn push_run(out: &mut Items<u8>, from: usize, bytes: &[u8]) -> Result<(), NoMemo
 }
 
 // The bytes before the first that is zero.
-#[tactic(auto, using(crate::proofs::Runs::zero_found, crate::proofs::Runs::none_found, crate::proofs::Runs::some_before))]
+#[tactic(auto, using(crate::proofs::Runs::zero_found, crate::proofs::Runs::none_found, crate::proofs::Runs::some_before,))]
 fn before_zero(bytes: &[u8]) -> &[u8]
     ensures value { result.now ≡ before_zero bytes.now }
     ensures within { length result.now ≤ length bytes.now }
