@@ -1,0 +1,88 @@
+//! What a picture shows of a run.
+
+use crate::asking::Asking;
+use crate::files::Files;
+use crate::holds::Holds;
+use crate::ways::Ways;
+
+/// A node's line.
+#[derive(Clone, Copy, PartialEq, Eq)]
+pub(crate) enum Lane {
+    /// That of a host.
+    Host(u64),
+    /// That of a server.
+    Server(u64),
+}
+
+/// A file, a directory, or none, by its numbers.
+#[derive(Clone, Copy, PartialEq, Eq, PartialOrd, Ord)]
+pub(crate) struct FileId {
+    /// The fileset's.
+    pub fileset: u64,
+    /// The anode's.
+    pub anode: u64,
+    /// The how-manieth object of the anode it is.
+    pub unique: u64,
+}
+
+/// By what a step is shown.
+#[derive(Clone, Copy, PartialEq, Eq)]
+pub(crate) enum Sign {
+    /// A line, which a host's stop isn't.
+    Line,
+    /// A message was taken.
+    Message,
+    /// Time passed, a token was evicted, or what was written down is on the disk.
+    Own,
+    /// A server starts anew.
+    Restart,
+    /// A host goes down.
+    Stop,
+    /// A host's lines have gone.
+    End,
+}
+
+/// A call beside a node's line.
+#[derive(Drop)]
+pub(crate) struct Said {
+    /// The call, and its reply where it is answered.
+    pub words: String,
+    /// Whether the host answered it in the step that began it: from its cache.
+    pub is_cached: bool,
+}
+
+/// A step.
+#[derive(Drop)]
+pub(crate) struct Event {
+    /// Where it is.
+    pub lane: Lane,
+    /// By what it is shown.
+    pub sign: Sign,
+    /// What caused it.
+    pub title: String,
+    /// The calls that it begins and answers.
+    pub said: Vec<Said>,
+    /// The paths of these calls.
+    pub paths: Vec<String>,
+    /// The files that its tokens and messages are about.
+    pub files: Vec<FileId>,
+}
+
+/// What a picture shows of a run.
+#[derive(Drop)]
+pub struct Run {
+    /// How many hosts there are, beside the setup host.
+    pub(crate) hosts: u64,
+    /// How many servers there are.
+    pub(crate) servers: u64,
+    /// The steps.
+    pub(crate) events: Vec<Event>,
+    /// The messages.
+    pub(crate) ways: Ways,
+    /// The tokens.
+    pub(crate) holds: Holds,
+    /// The calls that are open.
+    pub(crate) asking: Asking,
+    /// Which files have which paths.
+    pub(crate) files: Files,
+}
