@@ -1,7 +1,8 @@
 //! Draws the journal of a run: `dfs_picture FILE > run.svg`. A file that is no journal is refused by line and cause.
 #![tactic(auto)]
 
-use run_picture::{Run, Shown, picture_of, read_run};
+use run_events::{Run, read_run};
+use run_picture::{Shown, picture_of};
 use std::alloc::AllocError;
 use std::process::ExitCode;
 use std::rt::{Env, Files};

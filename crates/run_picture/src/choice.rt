@@ -1,8 +1,6 @@
 //! What is shown of a run.
 
-use crate::holds::Hold;
-use crate::run::{Event, FileId, Lane, Run};
-use crate::ways::Arrow;
+use run_events::{Arrow, Event, FileId, Hold, Lane, Run};
 use std::alloc::{AllocError, Global};
 
 /// What is shown of a run: the steps from one number to another, of these what concerns a host and a file, where they

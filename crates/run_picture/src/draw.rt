@@ -1,12 +1,12 @@
 //! The picture.
 
 use crate::choice::{Choice, Shown};
-use crate::holds::{Hold, HoldKind};
 use crate::page::Page;
-use crate::run::{Event, Lane, Run, Said, Sign};
-use crate::svg::{Point, SHORT};
-use crate::text::Text;
-use crate::ways::Arrow;
+use crate::svg::{
+    Point, SHORT, put_at, put_class, put_escaped, put_line, put_rect, put_shape, put_short,
+    put_words,
+};
+use run_events::{Arrow, Event, Hold, HoldKind, Lane, Run, Said, Sign, Text};
 use std::alloc::{AllocError, Global};
 
 // A message is late that is taken so many steps after it was sent.
@@ -53,23 +53,20 @@ pub fn picture_of(alloc: Global, run: &Run, shown: Shown<'_>) -> Result<String, 
 
 fn open(svg: &mut Text, page: &Page) {
     svg.word(OPENED);
-    svg.at("width", page.width());
-    svg.at("height", page.height());
+    put_at(svg, "width", page.width());
+    put_at(svg, "height", page.height());
     svg.word(">\n");
     svg.word(STYLE);
     svg.word(TIP);
-    let size = Point {
-        x: page.width(),
-        y: page.height(),
-    };
-    svg.filled("page", Point { x: 0, y: 0 }, size, "");
+    let size = Point::new(page.width(), page.height());
+    put_rect(svg, "page", Point::new(0, 0), size, "");
 }
 
 fn put_lives(svg: &mut Text, page: &Page) {
     for nth in 0..page.lanes() {
         let x = page.x(page.lane(nth));
         let to = page.y(page.end());
-        svg.line("life", Point { x, y: page.y(0) }, Point { x, y: to }, "");
+        put_line(svg, "life", Point::new(x, page.y(0)), Point::new(x, to), "");
     }
 }
 
@@ -77,9 +74,9 @@ fn put_names(svg: &mut Text, page: &Page) {
     for nth in 0..page.lanes() {
         let lane = page.lane(nth);
         svg.word("<text");
-        svg.class("name");
-        svg.at("x", page.x(lane));
-        svg.at("y", page.y(0).saturating_sub(20));
+        put_class(svg, "name");
+        put_at(svg, "x", page.x(lane));
+        put_at(svg, "y", page.y(0).saturating_sub(20));
         svg.word(">");
         put_lane(svg, lane);
         svg.word("</text>\n");
@@ -104,9 +101,9 @@ fn put_foot(svg: &mut Text, run: &Run, shown: Shown<'_>, page: &Page) {
     let y = page.y(page.end());
     let count = run.events.len() as u64;
     svg.word("<text");
-    svg.class("note");
-    svg.at("x", 10);
-    svg.at("y", y.saturating_add(18));
+    put_class(svg, "note");
+    put_at(svg, "x", 10);
+    put_at(svg, "y", y.saturating_add(18));
     svg.word(">steps ");
     svg.number(shown.from);
     svg.word(" to ");
@@ -120,16 +117,16 @@ fn put_foot(svg: &mut Text, run: &Run, shown: Shown<'_>, page: &Page) {
 
 fn put_note(svg: &mut Text, y: u64, words: &str) {
     svg.word("<text");
-    svg.class("note");
-    svg.at("x", 10);
-    svg.at("y", y);
+    put_class(svg, "note");
+    put_at(svg, "x", 10);
+    put_at(svg, "y", y);
     svg.word(">");
-    svg.escaped(words);
+    put_escaped(svg, words);
     svg.word("</text>\n");
 }
 
 fn put_holds(svg: &mut Text, run: &Run, choice: &Choice<'_>, page: &Page) {
-    for hold in run.holds.all.iter() {
+    for hold in run.holds.iter() {
         if choice.has_hold(hold) {
             put_hold(svg, page, hold);
         }
@@ -146,17 +143,17 @@ fn put_hold(svg: &mut Text, page: &Page, hold: &Hold) {
         return;
     }
     let beside = hold.place.saturating_mul(8).saturating_add(12);
-    let at = Point {
-        x: page.x(Lane::Host(hold.host)).saturating_sub(beside),
-        y: page.y(from),
-    };
+    let at = Point::new(
+        page.x(Lane::Host(hold.host)).saturating_sub(beside),
+        page.y(from),
+    );
     let height = page.y(until).saturating_sub(at.y);
     svg.word("<rect");
-    svg.class(hold_class(hold.kind, hold.is_update));
-    svg.at("x", at.x);
-    svg.at("y", at.y);
-    svg.at("width", 6);
-    svg.at("height", height);
+    put_class(svg, hold_class(hold.kind, hold.is_update));
+    put_at(svg, "x", at.x);
+    put_at(svg, "y", at.y);
+    put_at(svg, "width", 6);
+    put_at(svg, "height", height);
     svg.word("><title>");
     put_hold_title(svg, hold);
     svg.word("</title></rect>\n");
@@ -176,14 +173,14 @@ fn hold_class(kind: HoldKind, is_update: bool) -> &'static str {
 
 // What is held, from which step to which, and why it left.
 fn put_hold_title(svg: &mut Text, hold: &Hold) {
-    svg.escaped(hold.words.as_str());
+    put_escaped(svg, hold.words.as_str());
     svg.word(", from step ");
     put_step(svg, hold.from);
     if let Some(until) = hold.until {
         svg.word(" to ");
         put_step(svg, until);
         svg.word(": ");
-        svg.escaped(hold.why.as_str());
+        put_escaped(svg, hold.why.as_str());
     }
 }
 
@@ -193,7 +190,7 @@ fn put_step(svg: &mut Text, step: usize) {
 }
 
 fn put_arrows(svg: &mut Text, run: &Run, choice: &Choice<'_>, page: &Page) {
-    for arrow in run.ways.arrows.iter() {
+    for arrow in run.arrows.iter() {
         if choice.has_arrow(arrow) {
             put_arrow(svg, page, arrow);
         }
@@ -214,14 +211,8 @@ fn put_arrow(svg: &mut Text, page: &Page, arrow: &Arrow) {
 
 // The way of a message to the step that took it.
 fn put_way(svg: &mut Text, page: &Page, arrow: &Arrow, nth: usize, step: usize) {
-    let from = Point {
-        x: page.x(arrow.sender),
-        y: page.y(page.row(arrow.from)),
-    };
-    let to = Point {
-        x: page.x(arrow.to),
-        y: page.y(page.row(step)),
-    };
+    let from = Point::new(page.x(arrow.sender), page.y(page.row(arrow.from)));
+    let to = Point::new(page.x(arrow.to), page.y(page.row(step)));
     let class = if nth > 0 {
         "again"
     } else if step.saturating_sub(arrow.from) > LATE {
@@ -229,44 +220,38 @@ fn put_way(svg: &mut Text, page: &Page, arrow: &Arrow, nth: usize, step: usize) 
     } else {
         "sent"
     };
-    svg.line(class, from, to, "");
-    let middle = Point {
-        x: from.x.saturating_add(to.x) / 2,
-        y: (from.y.saturating_add(to.y) / 2).saturating_sub(3),
-    };
+    put_line(svg, class, from, to, "");
+    let middle = Point::new(
+        from.x.saturating_add(to.x) / 2,
+        (from.y.saturating_add(to.y) / 2).saturating_sub(3),
+    );
     put_kind(svg, middle, arrow, Some(step));
 }
 
 // A lost message goes half the way, and ends in a cross.
 fn put_lost(svg: &mut Text, page: &Page, arrow: &Arrow) {
-    let from = Point {
-        x: page.x(arrow.sender),
-        y: page.y(page.row(arrow.from)),
-    };
-    let to = Point {
-        x: from.x.saturating_add(page.x(arrow.to)) / 2,
-        y: from.y.saturating_add(14),
-    };
-    svg.line("lost", from, to, "");
-    svg.shape("cross", to, "m-5 -5l10 10m0 -10l-10 10", "lost");
-    let middle = Point {
-        x: to.x,
-        y: to.y.saturating_sub(8),
-    };
+    let from = Point::new(page.x(arrow.sender), page.y(page.row(arrow.from)));
+    let to = Point::new(
+        from.x.saturating_add(page.x(arrow.to)) / 2,
+        from.y.saturating_add(14),
+    );
+    put_line(svg, "lost", from, to, "");
+    put_shape(svg, "cross", to, "m-5 -5l10 10m0 -10l-10 10", "lost");
+    let middle = Point::new(to.x, to.y.saturating_sub(8));
     put_kind(svg, middle, arrow, None);
 }
 
 // What a message says, with the steps that sent and took it as its title.
 fn put_kind(svg: &mut Text, at: Point, arrow: &Arrow, taken: Option<usize>) {
     svg.word("<text");
-    svg.class("kind");
-    svg.at("x", at.x);
-    svg.at("y", at.y);
+    put_class(svg, "kind");
+    put_at(svg, "x", at.x);
+    put_at(svg, "y", at.y);
     svg.word(">");
-    svg.shortened(arrow.label.as_str());
+    put_short(svg, arrow.label.as_str());
     svg.word("<title>");
-    svg.escaped(arrow.label.as_str());
-    svg.escaped(arrow.title.as_str());
+    put_escaped(svg, arrow.label.as_str());
+    put_escaped(svg, arrow.title.as_str());
     svg.word(", sent at step ");
     put_step(svg, arrow.from);
     match taken {
@@ -288,16 +273,13 @@ fn put_events(svg: &mut Text, run: &Run, page: &Page) {
 }
 
 fn put_event(svg: &mut Text, page: &Page, step: usize, event: &Event) {
-    let at = Point {
-        x: page.x(event.lane),
-        y: page.y(page.row(step)),
-    };
+    let at = Point::new(page.x(event.lane), page.y(page.row(step)));
     put_number(svg, at.y, step);
     let is_cached = event.said.iter().any(|said| said.is_cached);
     put_sign(svg, at, event.sign, is_cached, event.title.as_str());
     let mut x = at.x.saturating_add(beside(event.sign));
     for said in event.said.iter() {
-        put_said(svg, Point { x, y: at.y }, said);
+        put_said(svg, Point::new(x, at.y), said);
         x = x.saturating_add(width_of(said));
     }
 }
@@ -319,9 +301,9 @@ fn width_of(said: &Said) -> u64 {
 
 fn put_number(svg: &mut Text, y: u64, step: usize) {
     svg.word("<text");
-    svg.class("number");
-    svg.at("x", 8);
-    svg.at("y", y.saturating_add(4));
+    put_class(svg, "number");
+    put_at(svg, "x", 8);
+    put_at(svg, "y", y.saturating_add(4));
     svg.word(">");
     put_step(svg, step);
     svg.word("</text>\n");
@@ -329,11 +311,7 @@ fn put_number(svg: &mut Text, y: u64, step: usize) {
 
 fn put_said(svg: &mut Text, at: Point, said: &Said) {
     let class = if said.is_cached { "cached" } else { "call" };
-    let low = Point {
-        x: at.x,
-        y: at.y.saturating_add(4),
-    };
-    svg.words(class, low, said.words.as_str());
+    put_words(svg, class, at.below(4), said.words.as_str());
 }
 
 // A step's shape: a box for what begins or ends a node, a triangle for an answer from cache, a dot for a line, a ring for
@@ -343,22 +321,15 @@ fn put_sign(svg: &mut Text, at: Point, sign: Sign, is_cached: bool, title: &str)
         Sign::Restart => put_box(svg, at, "restart", title),
         Sign::Stop => put_box(svg, at, "stop", title),
         Sign::End => put_box(svg, at, "end", title),
-        Sign::Line if is_cached => svg.shape("hit", at, "m0 -6l6 10h-12", title),
-        Sign::Line => svg.shape("dot", at, "m-4 -4h8v8h-8", title),
-        Sign::Message => svg.shape("dot", at, "m-2 -2h4v4h-4", title),
-        Sign::Own => svg.shape("own", at, "m0 -5l5 5l-5 5l-5 -5", title),
+        Sign::Line if is_cached => put_shape(svg, "hit", at, "m0 -6l6 10h-12", title),
+        Sign::Line => put_shape(svg, "dot", at, "m-4 -4h8v8h-8", title),
+        Sign::Message => put_shape(svg, "dot", at, "m-2 -2h4v4h-4", title),
+        Sign::Own => put_shape(svg, "own", at, "m0 -5l5 5l-5 5l-5 -5", title),
     }
 }
 
 fn put_box(svg: &mut Text, at: Point, word: &str, title: &str) {
-    let corner = Point {
-        x: at.x.saturating_sub(26),
-        y: at.y.saturating_sub(9),
-    };
-    svg.filled("box", corner, Point { x: 52, y: 18 }, title);
-    let low = Point {
-        x: at.x,
-        y: at.y.saturating_add(4),
-    };
-    svg.words("boxed", low, word);
+    let corner = Point::new(at.x.saturating_sub(26), at.y.saturating_sub(9));
+    put_rect(svg, "box", corner, Point::new(52, 18), title);
+    put_words(svg, "boxed", at.below(4), word);
 }

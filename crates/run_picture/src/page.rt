@@ -1,7 +1,7 @@
 //! Where everything is on the page. Lengths are in points.
 
 use crate::choice::Choice;
-use crate::run::{Lane, Run};
+use run_events::{Lane, Run};
 use std::alloc::{AllocError, Global};
 
 // Between two lines.
@@ -126,7 +126,7 @@ impl Page {
 // Which steps sent or took a message that is shown.
 fn marks_of(alloc: Global, run: &Run, choice: &Choice<'_>) -> Result<Vec<bool>, AllocError> {
     let mut marks = vec![in alloc; false; run.events.len()]?;
-    for arrow in run.ways.arrows.iter() {
+    for arrow in run.arrows.iter() {
         if choice.has_arrow(arrow) {
             mark(&mut marks, arrow.from);
             mark_all(&mut marks, arrow.taken.as_slice());

@@ -1,13 +1,12 @@
-//! What a picture shows of a run.
+//! What can be seen of a run.
 
-use crate::asking::Asking;
 use crate::files::Files;
-use crate::holds::Holds;
-use crate::ways::Ways;
+use crate::holds::Hold;
+use crate::ways::Arrow;
 
 /// A node's line.
 #[derive(Clone, Copy, PartialEq, Eq)]
-pub(crate) enum Lane {
+pub enum Lane {
     /// That of a host.
     Host(u64),
     /// That of a server.
@@ -16,7 +15,7 @@ pub(crate) enum Lane {
 
 /// A file, a directory, or none, by its numbers.
 #[derive(Clone, Copy, PartialEq, Eq, PartialOrd, Ord)]
-pub(crate) struct FileId {
+pub struct FileId {
     /// The fileset's.
     pub fileset: u64,
     /// The anode's.
@@ -27,7 +26,7 @@ pub(crate) struct FileId {
 
 /// By what a step is shown.
 #[derive(Clone, Copy, PartialEq, Eq)]
-pub(crate) enum Sign {
+pub enum Sign {
     /// A line, which a host's stop isn't.
     Line,
     /// A message was taken.
@@ -44,7 +43,7 @@ pub(crate) enum Sign {
 
 /// A call beside a node's line.
 #[derive(Drop)]
-pub(crate) struct Said {
+pub struct Said {
     /// The call, and its reply where it is answered.
     pub words: String,
     /// Whether the host answered it in the step that began it: from its cache.
@@ -53,7 +52,7 @@ pub(crate) struct Said {
 
 /// A step.
 #[derive(Drop)]
-pub(crate) struct Event {
+pub struct Event {
     /// Where it is.
     pub lane: Lane,
     /// By what it is shown.
@@ -68,21 +67,19 @@ pub(crate) struct Event {
     pub files: Vec<FileId>,
 }
 
-/// What a picture shows of a run.
+/// What can be seen of a run.
 #[derive(Drop)]
 pub struct Run {
     /// How many hosts there are, beside the setup host.
-    pub(crate) hosts: u64,
+    pub hosts: u64,
     /// How many servers there are.
-    pub(crate) servers: u64,
+    pub servers: u64,
     /// The steps.
-    pub(crate) events: Vec<Event>,
-    /// The messages.
-    pub(crate) ways: Ways,
-    /// The tokens.
-    pub(crate) holds: Holds,
-    /// The calls that are open.
-    pub(crate) asking: Asking,
+    pub events: Vec<Event>,
+    /// The messages, as they were sent.
+    pub arrows: Vec<Arrow>,
+    /// The tokens, as they were taken.
+    pub holds: Vec<Hold>,
     /// Which files have which paths.
-    pub(crate) files: Files,
+    pub files: Files,
 }

@@ -4,14 +4,14 @@ use std::alloc::{AllocError, Global};
 
 /// Text that is put together. Where memory runs out, that is noted, and told at the end.
 #[derive(Drop)]
-pub(crate) struct Text {
+pub struct Text {
     text: String,
     has_failed: bool,
 }
 
 impl Text {
     /// No text.
-    pub(crate) fn new(alloc: Global) -> Text {
+    pub fn new(alloc: Global) -> Text {
         Text {
             text: String::new(alloc),
             has_failed: false,
@@ -19,7 +19,7 @@ impl Text {
     }
 
     /// The text, if all of it was written.
-    pub(crate) fn into_text(self) -> Result<String, AllocError> {
+    pub fn into_text(self) -> Result<String, AllocError> {
         let Text { text, has_failed } = self;
         if has_failed {
             return Err(AllocError);
@@ -28,19 +28,19 @@ impl Text {
     }
 
     /// Adds text as it is.
-    pub(crate) fn word(&mut self, word: &str) {
+    pub fn word(&mut self, word: &str) {
         let written = self.text.push_str(word);
         self.has_failed |= written.is_err();
     }
 
     /// Adds a letter as it is.
-    pub(crate) fn letter(&mut self, letter: char) {
+    pub fn letter(&mut self, letter: char) {
         let written = self.text.push(letter);
         self.has_failed |= written.is_err();
     }
 
     /// Adds a number.
-    pub(crate) fn number(&mut self, number: u64) {
+    pub fn number(&mut self, number: u64) {
         let text = &mut self.text;
         let written = write!(text, "{number}");
         self.has_failed |= written.is_err();

@@ -2,16 +2,17 @@
 
 use crate::asking::{answered, begun, decided};
 use crate::members::{case_of, list_at, name_of, number_at};
+use crate::reader::Reader;
 use crate::refused::Why;
-use crate::run::{Event, FileId, Lane, Run, Said, Sign};
+use crate::run::{Event, FileId, Lane, Said, Sign};
 use crate::text::Text;
 use crate::ways::{body_file, label_of, receiver};
 use crate::words::put_path;
 use serde_json::Value;
 use std::alloc::{AllocError, Global};
 
-impl Run {
-    /// Adds a step. Where it is none, the run is as before, but for what parts of the step said.
+impl Reader {
+    /// Adds a step. Where it is none, the reader isn't used any more.
     pub(crate) fn add_step(&mut self, alloc: Global, step: &Value) -> Result<(), Why> {
         let lane = step.get("node").and_then(lane_of).ok_or(Why::Node)?;
         if !self.has_lane(lane) {

@@ -32,7 +32,7 @@ struct Request {
 
 /// Which files have which paths, at any time of the run.
 #[derive(Drop)]
-pub(crate) struct Files {
+pub struct Files {
     filesets: BTreeSet<Fileset>,
     named: BTreeSet<Named>,
     // The names of the filesets that hosts ask to enter.
@@ -162,7 +162,7 @@ impl Files {
     }
 
     /// The files that ever had a path, as far as it is known.
-    pub(crate) fn at_path(&self, alloc: Global, path: &str) -> Result<Vec<FileId>, AllocError> {
+    pub fn at_path(&self, alloc: Global, path: &str) -> Result<Vec<FileId>, AllocError> {
         let mut names = path.split('/').filter(|name| !name.is_empty());
         let mut files = match names.next() {
             Some(name) => self.roots(alloc, name)?,

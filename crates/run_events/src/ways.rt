@@ -11,7 +11,7 @@ use std::collections::BTreeMap;
 
 /// A message on its way.
 #[derive(Drop)]
-pub(crate) struct Arrow {
+pub struct Arrow {
     /// Who sent it.
     pub sender: Lane,
     /// To whom it goes.
@@ -33,8 +33,8 @@ pub(crate) struct Arrow {
 /// The messages of a run, as they were sent.
 #[derive(Drop)]
 pub(crate) struct Ways {
-    /// Each of them.
-    pub arrows: Vec<Arrow>,
+    // Each of them.
+    arrows: Vec<Arrow>,
     // Of those that are the same, as JSON, the place of the one that is taken next: the one sent last of those that
     // weren't taken, else the one sent last of all.
     next: BTreeMap<String, usize>,
@@ -47,6 +47,12 @@ impl Ways {
             arrows: Vec::new(alloc),
             next: BTreeMap::new(alloc),
         }
+    }
+
+    /// Each of them.
+    pub(crate) fn into_arrows(self) -> Vec<Arrow> {
+        let Ways { arrows, next: _ } = self;
+        arrows
     }
 
     /// A step takes a message.

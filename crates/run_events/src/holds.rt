@@ -14,7 +14,7 @@ const PLACES: u64 = 12;
 
 /// A kind of tokens, as it is drawn.
 #[derive(Clone, Copy, PartialEq, Eq)]
-pub(crate) enum HoldKind {
+pub enum HoldKind {
     /// Bytes, or a directory's names.
     Bytes,
     /// What is known of a file beside its bytes.
@@ -27,7 +27,7 @@ pub(crate) enum HoldKind {
 
 /// A token that a host holds.
 #[derive(Drop)]
-pub(crate) struct Hold {
+pub struct Hold {
     /// The host.
     pub host: u64,
     /// The file.
@@ -66,8 +66,8 @@ struct Beside {
 /// The tokens that hosts hold and held.
 #[derive(Drop)]
 pub(crate) struct Holds {
-    /// Each of them, as they were taken.
-    pub all: Vec<Hold>,
+    // Each of them, as they were taken.
+    all: Vec<Hold>,
     // Those that are held, by their place in the list.
     held: BTreeMap<TokenKey, usize>,
     // The places where one stands.
@@ -82,6 +82,16 @@ impl Holds {
             held: BTreeMap::new(alloc),
             used: BTreeSet::new(alloc),
         }
+    }
+
+    /// Each of them, as they were taken.
+    pub(crate) fn into_holds(self) -> Vec<Hold> {
+        let Holds {
+            all,
+            held: _,
+            used: _,
+        } = self;
+        all
     }
 
     /// A host takes a token.
